@@ -1,0 +1,5 @@
+pub mod Told
+pub mod Held
+pub mod Files
+pub mod Loaded
+pub mod CalmFiles

@@ -1,0 +1,87 @@
+ghost use Rattle.std.specs.Prelude.{◌≡◌, ◌<◌, ◌≤◌, ◌++◌, [], Some, length, min, take, IfOk, IsOkUnless, OnErr};
+
+use crate::file_bytes::FileBytes;
+use crate::sink::{Sink, SinkFault};
+use std::alloc::Global;
+use std::marker::Model;
+
+/// Bytes that are written to memory in pieces of a greatest length. A write fails only where
+/// memory is wanting.
+#[derive(Drop)]
+pub struct CalmSink {
+    bytes: FileBytes,
+    most: usize,
+}
+
+impl Model for CalmSink {
+    ghost use Rattle.std.specs.Prelude.{◌<◌};
+    ghost use Rattle.oct_io.specs.Held.{Receipt};
+
+    ghost Value = { Receipt };
+
+    ghost view = { λ s. record { written = s.bytes; most = s.most } };
+
+    ghost invariant = { λ s. 0 < s.most };
+}
+
+impl CalmSink {
+    /// A sink with nothing written to it, of which a write takes `most` bytes at most.
+    pub fn new(alloc: Global, most: usize) -> Self
+        requires { 0 < most }
+        ensures written { result.written ≡ [] }
+        ensures most { result.most ≡ most }
+    {
+        CalmSink {
+            bytes: FileBytes::new(alloc),
+            most,
+        }
+    }
+
+    /// The bytes that were written so far.
+    pub fn written(&self) -> &[u8]
+        ensures { result.now ≡ self.now.written }
+    {
+        self.bytes.as_slice()
+    }
+}
+
+impl Sink for CalmSink {
+    ghost written = { λ s. Some s.written };
+
+    ghost faults = { λ _. 0 };
+
+    fn write(&mut self, piece: &[u8]) -> Result<usize, SinkFault>
+        ensures full { IfOk result (λ n. n ≡ min self.old.most (length piece.now)) }
+        ensures most { self.new.most ≡ self.old.most }
+        ensures within { IfOk result (λ n. n ≤ length piece.now) }
+        ensures some { IfOk result (λ n. 0 < length piece.now → 0 < n) }
+        ensures appended { IfOk result (λ n. self.new.written ≡ self.old.written ++ take n piece.now) }
+        ensures err { OnErr result (self.new.written ≡ self.old.written) }
+        ensures memory { IsOkUnless result SinkFault.Memory }
+    {
+        let count = self.most.min(piece.len());
+        let (taken, _) = piece.split_at(count);
+        self.bytes.extend_from_slice(taken)?;
+        Ok(count)
+    }
+}
+
+#[cfg(test)]
+mod tests {
+    use super::*;
+    use crate::sink::write_all;
+    use std::test::Fail;
+
+    #[test]
+    fn a_sink_of_three_bytes_a_write_gets_whole_pieces(rt: HostRuntime) -> Result<(), Fail> {
+        let mut sink = CalmSink::new(rt.alloc(), 3);
+        write_all(&mut sink, b"")?;
+        write_all(&mut sink, b"occupied")?;
+        assert_eq!(rt; sink.written(), b"occupied".as_slice());
+        assert_eq!(rt; sink.write(b" or free")?, 3);
+        assert_eq!(rt; sink.write(b"")?, 0);
+        assert_eq!(rt; sink.write(b" ")?, 1);
+        assert_eq!(rt; sink.written(), b"occupied or ".as_slice());
+        Ok(())
+    }
+}

@@ -1,0 +1,75 @@
+ghost use Rattle.std.specs.Prelude.{◌≡◌, Some, IfOk, IsOkUnless, OnErr, OnOk, option_copied};
+
+use crate::file_bytes::FileBytes;
+use crate::store::{LARGEST_FILE, Loaded, Store, StoreFault};
+use std::alloc::Global;
+use std::collections::BTreeMap;
+
+/// Files in memory. A load or save fails only where memory is wanting.
+#[derive(Drop)]
+pub struct CalmStore {
+    alloc: Global,
+    files: BTreeMap<String, FileBytes>,
+}
+
+impl CalmStore {
+    ghost use Rattle.oct_io.specs.CalmFiles.{files_of};
+    ghost use Rattle.oct_io.specs.Files.{no_files};
+
+    /// A store with no files.
+    pub fn new(alloc: Global) -> Self
+        ensures { files_of result ≡ no_files }
+    {
+        CalmStore {
+            alloc,
+            files: BTreeMap::new(alloc),
+        }
+    }
+
+    /// The bytes of the file of this name, or `None` where there is no such file.
+    pub fn file(&self, name: &str) -> Option<&[u8]>
+        ensures { option_copied result ≡ files_of self.now name.now }
+    {
+        match self.files.get(name) {
+            Some(bytes) => Some(bytes.as_slice()),
+            None => None,
+        }
+    }
+}
+
+impl Store for CalmStore {
+    ghost use Rattle.oct_io.specs.CalmFiles.{files_of};
+    ghost use Rattle.oct_io.specs.Files.{KeepsOthers, with_file};
+    ghost use Rattle.oct_io.specs.Loaded.{loaded_of, IsWithinLimit};
+
+    ghost files = { λ s. Some (files_of s) };
+
+    ghost faults = { λ _. 0 };
+
+    fn load(&mut self, alloc: Global, name: &str) -> Result<Loaded, StoreFault>
+        ensures same { files_of self.new ≡ files_of self.old }
+        ensures found { IfOk result (λ loaded. loaded ≡ loaded_of (files_of self.old name.now)) }
+        ensures limit { IfOk result IsWithinLimit }
+        ensures memory { IsOkUnless result StoreFault.Memory }
+    {
+        let Some(bytes) = self.file(name) else {
+            return Ok(Loaded::Missing);
+        };
+        if bytes.len() > LARGEST_FILE {
+            return Ok(Loaded::TooLarge);
+        }
+        Ok(Loaded::Bytes(FileBytes::from_slice(alloc, bytes)?))
+    }
+
+    fn save(&mut self, name: &str, bytes: &[u8]) -> Result<(), StoreFault>
+        ensures saved { OnOk result (files_of self.new ≡ with_file (files_of self.old) name.now bytes.now) }
+        ensures others { OnErr result (KeepsOthers (Some (files_of self.old)) (Some (files_of self.new)) name.now) }
+        ensures err { OnErr result (files_of self.new ≡ files_of self.old) }
+        ensures memory { IsOkUnless result StoreFault.Memory }
+    {
+        let key = String::from_str(self.alloc, name)?;
+        let value = FileBytes::from_slice(self.alloc, bytes)?;
+        self.files.insert(key, value)?;
+        Ok(())
+    }
+}

@@ -1,0 +1,120 @@
+ghost use Rattle.std.specs.Prelude.{◌≡◌, ◌<◌, ◌≤◌, ◌↔◌, None, length, IfOk, OnErr, OnOk};
+ghost use Rattle.std.specs.IoError.{error_kind};
+ghost use Rattle.std.specs.Io.KnownBytes.{WriteAppends};
+ghost use Rattle.oct_io.specs.Told.{counted, Rose};
+
+use crate::sink::{Sink, SinkFault};
+use std::io;
+use std::io::{ErrorKind, Write};
+use std::marker::Model;
+
+/// A writer of std, which tells nothing of its bytes.
+#[derive(Drop)]
+pub struct StdSink<W: Write + Drop> {
+    writer: W,
+    faults: u64,
+}
+
+impl<W: Write + Drop> Model for StdSink<W> {
+    ghost use Rattle.oct_io.specs.Held.{Stream};
+
+    ghost Value = { Stream };
+
+    ghost view = { λ s. record { told = W.contents s.writer; faults = s.faults } };
+}
+
+impl<W: Write + Drop> StdSink<W> {
+    /// A sink over this writer, of which no write has failed yet.
+    pub fn new(writer: W) -> Self
+        ensures told { result.told ≡ W.contents writer }
+        ensures faults { result.faults ≡ 0 }
+    {
+        StdSink { writer, faults: 0 }
+    }
+}
+
+/// What the error of a writer is to a sink: want of memory stays that, and all else is a failure.
+fn fault_of(error: &io::Error) -> SinkFault
+    ensures { (result ≡ SinkFault.Memory) ↔ (error_kind error.now ≡ ErrorKind.OutOfMemory) }
+{
+    match error.kind() {
+        ErrorKind::OutOfMemory => SinkFault::Memory,
+        _ => SinkFault::Failed,
+    }
+}
+
+impl<W: Write + Drop> Sink for StdSink<W> {
+    ghost written = { λ _. None };
+
+    ghost faults = { λ s. s.faults };
+
+    /// A writer that takes nothing of a piece that isn't empty has failed. Each error is counted,
+    /// want of memory too.
+    fn write(&mut self, piece: &[u8]) -> Result<usize, SinkFault>
+        ensures passes { WriteAppends self.old.told self.new.told result piece.now }
+        ensures within { IfOk result (λ n. n ≤ length piece.now) }
+        ensures some { IfOk result (λ n. 0 < length piece.now → 0 < n) }
+        ensures stays { OnOk result (self.new.faults ≡ self.old.faults) }
+        ensures counted { OnErr result (self.new.faults ≡ counted self.old.faults) }
+        ensures later { self.old.faults ≤ self.new.faults }
+        ensures cause { OnErr result (Rose self.old.faults self.new.faults) }
+    {
+        let fault = match self.writer.write(piece) {
+            Ok(count) if count > 0 || piece.is_empty() => return Ok(count),
+            Ok(_) => SinkFault::Failed,
+            Err(error) => fault_of(&error),
+        };
+        self.faults = self.faults.saturating_add(1);
+        Err(fault)
+    }
+}
+
+#[cfg(test)]
+mod tests {
+    use super::*;
+    use crate::sink::write_all;
+    use std::test::Fail;
+
+    // Takes one byte, then none, then is out of memory, and then fails.
+    #[derive(Drop)]
+    struct Filling {
+        writes: u8,
+    }
+
+    impl Write for Filling {
+        fn write(&mut self, piece: &[u8]) -> io::Result<usize> {
+            self.writes = self.writes.saturating_add(1);
+            match self.writes {
+                1 => Ok(piece.len().min(1)),
+                2 => Ok(0),
+                3 => Err(io::Error::from(ErrorKind::OutOfMemory)),
+                _ => Err(io::Error::from(ErrorKind::Other)),
+            }
+        }
+
+        fn flush(&mut self) -> io::Result<()> {
+            Ok(())
+        }
+    }
+
+    #[test]
+    fn a_writer_gets_its_bytes_and_its_failures_are_counted(rt: HostRuntime) -> Result<(), Fail> {
+        let mut sink = StdSink::new(Vec::new(rt.alloc()));
+        write_all(&mut sink, b"ok\n")?;
+        assert_eq!(rt; sink.write(b"")?, 0);
+        assert_eq!(rt; sink.writer.as_slice(), b"ok\n".as_slice());
+        assert_eq!(rt; sink.faults, 0);
+
+        let mut sink = StdSink::new(Filling { writes: 0 });
+        assert_eq!(rt; write_all(&mut sink, b"ok\n"), Err(SinkFault::Failed));
+        assert_eq!(rt; sink.faults, 1);
+        assert_eq!(rt; sink.write(b"ok\n"), Err(SinkFault::Memory));
+        assert_eq!(rt; sink.faults, 2);
+        assert_eq!(rt; sink.write(b"ok\n"), Err(SinkFault::Failed));
+        assert_eq!(rt; sink.faults, 3);
+        sink.faults = u64::MAX;
+        assert_eq!(rt; sink.write(b"ok\n"), Err(SinkFault::Failed));
+        assert_eq!(rt; sink.faults, u64::MAX);
+        Ok(())
+    }
+}

@@ -1,0 +1,101 @@
+ghost use Rattle.std.specs.Prelude.{◌≡◌, ◌≤◌, None, length, IfOk, OnErr, OnOk};
+ghost use Rattle.std.specs.Io.KnownBytes.{ReadConsumes};
+ghost use Rattle.oct_io.specs.Told.{counted, Rose};
+
+use crate::source::{Failed, Source};
+use std::io::Read;
+use std::marker::Model;
+
+/// A reader of std, which tells nothing of its bytes.
+#[derive(Drop)]
+pub struct StdSource<R: Read + Drop> {
+    reader: R,
+    faults: u64,
+}
+
+impl<R: Read + Drop> Model for StdSource<R> {
+    ghost use Rattle.oct_io.specs.Held.{Stream};
+
+    ghost Value = { Stream };
+
+    ghost view = { λ s. record { told = R.remaining s.reader; faults = s.faults } };
+}
+
+impl<R: Read + Drop> StdSource<R> {
+    /// A source over this reader, of which no read has failed yet.
+    pub fn new(reader: R) -> Self
+        ensures told { result.told ≡ R.remaining reader }
+        ensures faults { result.faults ≡ 0 }
+    {
+        StdSource { reader, faults: 0 }
+    }
+}
+
+impl<R: Read + Drop> Source for StdSource<R> {
+    ghost left = { λ _. None };
+
+    ghost faults = { λ s. s.faults };
+
+    fn read(&mut self, buffer: &mut [u8]) -> Result<usize, Failed>
+        ensures passes { ReadConsumes self.old.told self.new.told result buffer.new }
+        ensures within { IfOk result (λ n. n ≤ length buffer.old) }
+        ensures stays { OnOk result (self.new.faults ≡ self.old.faults) }
+        ensures counted { OnErr result (self.new.faults ≡ counted self.old.faults) }
+        ensures later { self.old.faults ≤ self.new.faults }
+        ensures cause { OnErr result (Rose self.old.faults self.new.faults) }
+    {
+        match self.reader.read(buffer) {
+            Ok(count) => Ok(count),
+            Err(_) => {
+                self.faults = self.faults.saturating_add(1);
+                Err(Failed)
+            }
+        }
+    }
+}
+
+#[cfg(test)]
+mod tests {
+    use super::*;
+    use std::io;
+    use std::test::Fail;
+
+    // Gives a byte at every other read, and fails at those between.
+    #[derive(Drop)]
+    struct Faltering {
+        fails: bool,
+    }
+
+    impl Read for Faltering {
+        fn read(&mut self, buffer: &mut [u8]) -> io::Result<usize> {
+            self.fails = !self.fails;
+            if self.fails || buffer.is_empty() {
+                return Err(io::Error::from(io::ErrorKind::Other));
+            }
+            buffer[0] = b'x';
+            Ok(1)
+        }
+    }
+
+    #[test]
+    fn a_reader_gives_its_bytes_and_its_failures_are_counted(rt: HostRuntime) -> Result<(), Fail> {
+        let mut buffer = [0u8; 4];
+        let mut source = StdSource::new(b"hit 0".as_slice());
+        for expected in [b"hit ".as_slice(), b"0".as_slice(), b"".as_slice()] {
+            let count = source.read(&mut buffer)?;
+            assert_eq!(rt; &buffer[..count], expected);
+        }
+        assert_eq!(rt; source.faults, 0);
+
+        let mut source = StdSource::new(Faltering { fails: false });
+        assert_eq!(rt; source.read(&mut buffer), Err(Failed));
+        assert_eq!(rt; source.read(&mut buffer), Ok(1));
+        assert_eq!(rt; source.read(&mut buffer), Err(Failed));
+        assert_eq!(rt; source.faults, 2);
+        source.faults = u64::MAX;
+        assert_eq!(rt; source.read(&mut buffer), Ok(1));
+        assert_eq!(rt; source.read(&mut buffer), Err(Failed));
+        assert_eq!(rt; source.faults, u64::MAX);
+        Ok(())
+    }
+}

@@ -1,0 +1,126 @@
+ghost use Rattle.std.specs.Prelude.{◌≡◌, ◌≤◌, ℕ, Option, IfOk, IfSome, IsErrOf, OnErr, OnOk};
+ghost use Rattle.oct_io.specs.declared.store.StoreFault.TheVariants.{Memory};
+ghost use Rattle.oct_io.specs.Told.{Rose};
+
+use crate::file_bytes::FileBytes;
+use oct_num::Memory;
+use std::alloc::{AllocError, AllocFailed, Global};
+use thiserror::Error;
+
+/// The most bytes of a file that a store loads: `2^30`.
+pub const LARGEST_FILE: usize = 1 << 30;
+
+/// Why a store did not load or save a file.
+#[derive(Clone, Copy, Debug, PartialEq, Eq, Error)]
+pub enum StoreFault {
+    /// The file could not be read or written.
+    #[error("the file could not be read or written")]
+    Failed,
+
+    /// Memory is wanting.
+    #[error("out of memory")]
+    Memory,
+}
+
+impl From<Memory> for StoreFault {
+    ghost from_gives = { λ _ e. e ≡ Memory };
+
+    fn from(_: Memory) -> Self {
+        StoreFault::Memory
+    }
+}
+
+impl From<AllocError> for StoreFault {
+    ghost from_gives = { λ _ e. e ≡ Memory };
+
+    fn from(_: AllocError) -> Self {
+        StoreFault::Memory
+    }
+}
+
+impl<T: Drop> From<AllocFailed<T>> for StoreFault {
+    ghost from_gives = { λ _ e. e ≡ Memory };
+
+    fn from(_: AllocFailed<T>) -> Self {
+        StoreFault::Memory
+    }
+}
+
+/// What a store has under a name.
+#[derive(Debug, Drop)]
+pub enum Loaded {
+    /// The bytes of the file, at most `2^30`.
+    Bytes(FileBytes),
+
+    /// There is no such file.
+    Missing,
+
+    /// The file has more than `2^30` bytes.
+    TooLarge,
+}
+
+/// Files by name.
+pub trait Store {
+    ghost use Rattle.oct_io.specs.Files.{Files, saved, KeepsOthers};
+    ghost use Rattle.oct_io.specs.Loaded.{loaded_of, IsWithinLimit};
+
+    /// The bytes of each name, where the store tells them.
+    ghost files: { Self → Option Files };
+
+    /// How many loads and saves have failed so far. The count never falls, and stays at
+    /// `2^64 - 1`.
+    ghost faults: { Self → ℕ };
+
+    /// The bytes of the file of this name. A load changes no file.
+    fn load(&mut self, alloc: Global, name: &str) -> Result<Loaded, StoreFault>
+        ensures same { files self.new ≡ files self.old }
+        ensures found { IfOk result (λ loaded. IfSome (files self.old) (λ files. loaded ≡ loaded_of (files name.now))) }
+        ensures limit { IfOk result IsWithinLimit }
+        ensures later { faults self.old ≤ faults self.new }
+        ensures cause { IsErrOf result StoreFault.Failed → Rose (faults self.old) (faults self.new) };
+
+    /// Puts these bytes under the name, in place of a file that stands there. After an error the
+    /// file of this name may be any, and all others are as before.
+    fn save(&mut self, name: &str, bytes: &[u8]) -> Result<(), StoreFault>
+        ensures saved { OnOk result (files self.new ≡ saved (files self.old) name.now bytes.now) }
+        ensures others { OnErr result (KeepsOthers (files self.old) (files self.new) name.now) }
+        ensures later { faults self.old ≤ faults self.new }
+        ensures cause { IsErrOf result StoreFault.Failed → Rose (faults self.old) (faults self.new) };
+}
+
+#[cfg(test)]
+mod tests {
+    use super::*;
+    use crate::calm_store::CalmStore;
+    use crate::folder_store::FolderStore;
+    use std::fs;
+    use std::process::Abort;
+    use std::test::Fail;
+
+    // Saves two files, one of them twice, and loads them and one that isn't there.
+    fn keeps_files<F: Store>(rt: &impl Abort, alloc: Global, store: &mut F) -> Result<(), Fail> {
+        assert!(rt; matches!(store.load(alloc, "one.bt")?, Loaded::Missing));
+        store.save("one.bt", b"first")?;
+        store.save("two.bt", b"")?;
+        store.save("one.bt", b"then")?;
+        let one = store.load(alloc, "one.bt")?;
+        assert!(rt; matches!(&one, Loaded::Bytes(bytes) if bytes.as_slice() == b"then".as_slice()));
+        let two = store.load(alloc, "two.bt")?;
+        assert!(rt; matches!(&two, Loaded::Bytes(bytes) if bytes.is_empty()));
+        assert!(rt; matches!(store.load(alloc, "one")?, Loaded::Missing));
+        Ok(())
+    }
+
+    #[test]
+    fn files_are_kept_by_name(rt: HostRuntime) -> Result<(), Fail> {
+        let mut calm = CalmStore::new(rt.alloc());
+        keeps_files(&rt, rt.alloc(), &mut calm)?;
+        assert_eq!(rt; calm.file("one.bt"), Some(b"then".as_slice()));
+        assert_eq!(rt; calm.file("three.bt"), None);
+
+        keeps_files(&rt, rt.alloc(), &mut FolderStore::new(&rt))?;
+        fs::remove_file(&rt, "one.bt")?;
+        fs::remove_file(&rt, "two.bt")?;
+        Ok(())
+    }
+}

@@ -1,0 +1,2 @@
+pub mod Voxel
+pub mod Values

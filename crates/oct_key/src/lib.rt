@@ -1,0 +1,23 @@
+//! Points, voxels, and the voxel that holds a point.
+//!
+//! Space is cut into cubes of one edge length, the resolution. The map has 65,536 of them on each axis, and a point whose
+//! coordinate is c has the key `floor(c / resolution) + 32768` on that axis, as in the OctoMap library. Lengths are whole nanometres,
+//! so that no rounding error moves a point to a neighbour. A voxel takes its lower faces and not its upper ones.
+//!
+//! What the contracts promise:
+//!
+//! - [`Res::new`] accepts exactly the resolutions from 0.1 mm to 100 m, and each [`Res`] that exists is one of them.
+//! - [`Res::key_of`] is the floor rule, and also what the rule is for: the voxel that is answered holds the point, no other voxel of
+//!   the map does, and where none is answered no voxel of the map holds it.
+//!
+//! No call allocates, fails by memory or touches anything but its arguments. The crates of a map stand on this one, and cite its
+//! definitions: `Voxel` and `Values` for what a map means, `with_value` for a change of one voxel, `key_at` and `Holds` for where a
+//! point lies, and `key_cmp` for the order of voxels, by x, y and z.
+
+#![tactic(auto)]
+
+mod point;
+mod resolution;
+
+pub use point::{Key, Point};
+pub use resolution::{BadResolution, Res};

@@ -1,0 +1,17 @@
+/// A point, in nanometres.
+#[derive(Clone, Copy, Debug, PartialEq, Eq)]
+pub struct Point {
+    pub x: i64,
+    pub y: i64,
+    pub z: i64,
+}
+
+/// A voxel, by its place on each axis. The voxels just above the origin have 32768 there.
+///
+/// The order is by x, then by y, then by z.
+#[derive(Clone, Copy, Debug, PartialEq, Eq, PartialOrd, Ord)]
+pub struct Key {
+    pub x: u16,
+    pub y: u16,
+    pub z: u16,
+}

@@ -1,0 +1,5 @@
+pub mod Decimal
+pub mod Sign
+pub mod Form
+pub mod Metres
+pub mod Whole

@@ -1,0 +1,43 @@
+-- The reading of a metres text: its nanometres, or its fault.
+use Rattle.std.specs.Prelude.{ℕ, ◌+◌, ℤ, Bool, ◌||◌, not, List, [], ◌∷◌, length, drop, take_while, nat_lt, nat_eq, if◌then◌else◌, Result, Ok, Err}
+use Rattle.std.specs.List.{prefix_len}
+use Rattle.oct_num.specs.Decimal.{is_digit}
+use Rattle.oct_num.specs.Form.{nanometres}
+use Rattle.oct_num.specs.Sign.{sign_text, signed_number, has_minus, without_minus}
+use Rattle.oct_num.specs.declared.metres.NumFault.{NumFault}
+use Rattle.oct_num.specs.declared.metres.NumFault.TheVariants.{Syntax, Digits}
+
+-- the digits behind the point in what follows the digits before it, from index `point` on
+unfoldable pub fraction_of : ℕ → List ℕ → Result (List ℕ) NumFault
+fraction_of point [] = Ok []
+fraction_of point (byte ∷ rest) =
+    let count = prefix_len is_digit rest in
+    if not (nat_eq byte 46) then Err (Syntax point)
+    else if nat_eq count 0 || nat_lt count (length rest) then Err (Syntax (point + 1 + count))
+    else Ok rest
+
+-- the nanometres of at most seven digits before the point and at most nine behind it
+unfoldable pub limited_nanometres : ℕ → List ℕ → Result (List ℕ) NumFault → Result ℕ NumFault
+limited_nanometres start whole (Err fault) = Err fault
+limited_nanometres start whole (Ok fraction) =
+    if nat_lt 7 (length whole) then Err (Digits (start + 7))
+    else if nat_lt 9 (length fraction) then Err (Digits (start + length whole + 1 + 9))
+    else Ok (nanometres whole fraction)
+
+-- the nanometres of a metres text behind its sign, from index `start` on
+unfoldable pub magnitude_of : ℕ → List ℕ → Result ℕ NumFault
+magnitude_of start text =
+    let count = prefix_len is_digit text in
+    if nat_eq count 0 then Err (Syntax start)
+    else limited_nanometres start (take_while is_digit text) (fraction_of (start + count) (drop count text))
+
+-- the same answer about a number with this sign
+abbrev pub signed_answer : Bool → Result ℕ NumFault → Result ℤ NumFault
+signed_answer minus (Ok n) = Ok (signed_number minus n)
+signed_answer minus (Err fault) = Err fault
+
+-- the nanometres of a metres text
+unfoldable pub metres_of : List ℕ → Result ℤ NumFault
+metres_of text =
+    let minus = has_minus text in
+    signed_answer minus (magnitude_of (length (sign_text minus)) (without_minus text))

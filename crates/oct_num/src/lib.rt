@@ -1,0 +1,36 @@
+//! Numbers as decimal text, and division that rounds down.
+//!
+//! Lengths are whole nanometres in an `i64`, written as decimal metres: `-1.25` stands for
+//! -1,250,000,000. The crate promises, for every text and number:
+//!
+//! - `read_metres` answers the nanometres of exactly the texts of an optional minus, one to seven
+//!   digits, and optionally a point and one to nine digits. To every other text it answers where
+//!   the text stops being a number, or which digit is one too many.
+//! - `read_whole` answers the number of exactly the texts of an optional minus and one to eighteen
+//!   digits.
+//! - `push_whole` appends the decimal text of a number, or leaves the bytes as they were.
+//! - `floor_div` rounds down for negative numbers too.
+//!
+//! A reader takes off the sign, splits the digits at the front from what follows them, and
+//! computes in unsigned numbers; the sign comes last. Each is stated twice: as a function from
+//! texts to answers (`metres_of`, `whole_of`), which other definitions compute with, and by the
+//! form of the text alone (`IsMetres`, `BreaksAt`, `HasExcess`, `IsWholeNumber`), which says
+//! nothing of how the text is read.
+//!
+//! `Memory` is the error of every call that fails only for want of memory.
+//!
+//! It's the lowest crate: keys, the words of a command line, the script and the replies stand on
+//! it.
+#![tactic(auto)]
+
+mod decimal;
+mod division;
+mod memory;
+mod metres;
+mod sign;
+mod whole;
+
+pub use division::floor_div;
+pub use memory::Memory;
+pub use metres::{NumFault, read_metres};
+pub use whole::{push_whole, read_whole};

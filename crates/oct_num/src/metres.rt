@@ -1,0 +1,201 @@
+ghost use Rattle.std.specs.Prelude.{◌≡◌, ◌↔◌, ℕ, ◌+◌, ◌^◌, ◌<◌, ◌≤◌, ℤ, unsigned_abs, length, MatchResult, Ok, Err, IfOk};
+ghost use Rattle.std.specs.List.{AllPass};
+ghost use Rattle.oct_num.specs.Decimal.{is_digit};
+ghost use Rattle.oct_num.specs.Metres.{fraction_of, limited_nanometres, magnitude_of, metres_of};
+ghost use Rattle.oct_num.specs.Form.{IsMetres, HasExcess, BreaksAt};
+
+use crate::decimal::{digits_value, split_digits};
+use crate::sign::{split_sign, with_sign};
+use thiserror::Error;
+
+const MOST_WHOLE_DIGITS: usize = 7;
+
+const MOST_FRACTION_DIGITS: usize = 9;
+
+const NANOMETRES_PER_METRE: u64 = 1_000_000_000;
+
+/// Why a text isn't a length in metres. `at` is the index of a byte of the text, from 0 on; a
+/// minus sign counts too.
+#[derive(Clone, Copy, Debug, PartialEq, Eq, Error)]
+pub enum NumFault {
+    /// Not a decimal number, of any count of digits. No such number goes on with the byte at this
+    /// index, or the index is the text's length and the text ends early.
+    #[error("no decimal number at byte {at}")]
+    Syntax { at: u64 },
+    /// A decimal number, but the digit at this index is the eighth before the point, or else the
+    /// tenth behind it.
+    #[error("a digit too many at byte {at}")]
+    Digits { at: u64 },
+}
+
+/// Reads a length in decimal metres, and answers its nanometres.
+///
+/// The text is an optional `-`, one to seven digits, and optionally a point and one to nine
+/// digits, a form of this project's own. Leading zeros count as digits, and `-0` is 0. The form
+/// is judged before the count of digits: `12345678.` is `Syntax` at 9.
+#[tactic(auto, unfolding(crate::specs::Metres::metres_of))]
+pub fn read_metres(text: &[u8]) -> Result<i64, NumFault>
+    ensures exact { result ≡ metres_of text.now }
+    ensures reach { IfOk result (λ nm. unsigned_abs nm < 10 ^ 16) }
+
+    // The same answers by the form of the text alone.
+    ensures value { (nm : ℤ) → (result ≡ Ok nm) ↔ IsMetres text.now nm }
+    ensures syntax { (at : ℕ) → (result ≡ Err (NumFault.Syntax at)) ↔ BreaksAt text.now at }
+    ensures digits { (at : ℕ) → (result ≡ Err (NumFault.Digits at)) ↔ HasExcess text.now at }
+{
+    let (minus, magnitude) = split_sign(text);
+    let nanometres = read_magnitude(u64::from(minus), magnitude)?;
+    Ok(with_sign(minus, nanometres))
+}
+
+/// Reads a length behind its sign. The text stands from index `start` on.
+#[tactic(auto, unfolding(crate::specs::Metres::magnitude_of))]
+fn read_magnitude(start: u64, text: &[u8]) -> Result<u64, NumFault>
+    requires near { start ≤ 1 }
+    requires short { length text.now < 2 ^ 63 }
+    ensures exact { result ≡ magnitude_of start text.now }
+    ensures reach { IfOk result (λ nm. nm < 10 ^ 16) }
+{
+    let (whole, rest) = split_digits(text);
+    if whole.is_empty() {
+        return Err(NumFault::Syntax { at: start });
+    }
+    let fraction = read_fraction(start + whole.len() as u64, rest)?;
+    read_limited(start, whole, fraction)
+}
+
+/// The digits behind the point, in what follows the digits before it.
+#[tactic(auto, unfolding(crate::specs::Metres::fraction_of))]
+fn read_fraction(point: u64, rest: &[u8]) -> Result<&[u8], NumFault>
+    requires short { point + length rest.now < 2 ^ 64 }
+    ensures exact { MatchResult result
+        (λ fraction. fraction_of point rest.now ≡ Ok fraction.now)
+        (λ fault. fraction_of point rest.now ≡ Err fault) }
+    ensures digits { IfOk result (λ fraction. AllPass is_digit fraction.now) }
+{
+    match rest {
+        [] => Ok(rest),
+        [b'.', behind @ ..] => {
+            let (fraction, other) = split_digits(behind);
+            if fraction.is_empty() || !other.is_empty() {
+                return Err(NumFault::Syntax {
+                    at: point + 1 + fraction.len() as u64,
+                });
+            }
+            Ok(fraction)
+        }
+        _ => Err(NumFault::Syntax { at: point }),
+    }
+}
+
+/// The nanometres of these digits, if they are few enough.
+#[tactic(auto, unfolding(crate::specs::Metres::limited_nanometres))]
+fn read_limited(start: u64, whole: &[u8], fraction: &[u8]) -> Result<u64, NumFault>
+    requires near { start ≤ 1 }
+    requires whole { AllPass is_digit whole.now }
+    requires fraction { AllPass is_digit fraction.now }
+    ensures exact { result ≡ limited_nanometres start whole.now (Ok fraction.now) }
+    ensures reach { IfOk result (λ nm. nm < 10 ^ 16) }
+{
+    if whole.len() > MOST_WHOLE_DIGITS {
+        let at = start + MOST_WHOLE_DIGITS as u64;
+        return Err(NumFault::Digits { at });
+    }
+    if fraction.len() > MOST_FRACTION_DIGITS {
+        let at = start + whole.len() as u64 + 1 + MOST_FRACTION_DIGITS as u64;
+        return Err(NumFault::Digits { at });
+    }
+    let scale = 10u64.pow((MOST_FRACTION_DIGITS - fraction.len()) as u32);
+    Ok(digits_value(whole) * NANOMETRES_PER_METRE + digits_value(fraction) * scale)
+}
+
+#[cfg(test)]
+mod tests {
+    use super::*;
+    use std::test::Fail;
+
+    const NM: i64 = 1_000_000_000;
+
+    #[test]
+    fn reads_metres_as_nanometres(rt: HostRuntime) {
+        for (text, want) in [
+            ("0", 0),
+            ("1", NM),
+            ("-1", -NM),
+            ("0.05", 50_000_000),
+            ("1.5", 1_500_000_000),
+            ("007.250", 7_250_000_000),
+            ("-0", 0),
+            ("-0.0", 0),
+            ("0000000", 0),
+            ("0.000000001", 1),
+            ("-0.000000001", -1),
+            ("1234567.123456789", 1_234_567_123_456_789),
+            ("9999999.999999999", 9_999_999_999_999_999),
+            ("-9999999.999999999", -9_999_999_999_999_999),
+        ] {
+            assert_eq!(rt; read_metres(text.as_bytes()), Ok(want), "at {text:?}");
+        }
+    }
+
+    #[test]
+    fn finds_where_a_text_stops_being_a_number(rt: HostRuntime) {
+        for (text, at) in [
+            ("", 0),
+            ("-", 1),
+            (".5", 0),
+            ("-.5", 1),
+            ("1.", 2),
+            ("5.", 2),
+            ("-1.", 3),
+            ("1..2", 2),
+            ("1.2.3", 3),
+            ("1,5", 1),
+            ("+1", 0),
+            ("--1", 1),
+            ("1-", 1),
+            ("1.-5", 2),
+            ("1e5", 1),
+            ("1.5e3", 3),
+            (" 1", 0),
+            ("1 ", 1),
+            ("nan", 0),
+            ("½", 0),
+            ("12345678.", 9),
+            ("12345678x", 8),
+            ("1.1234567890x", 12),
+        ] {
+            let want = Err(NumFault::Syntax { at });
+            assert_eq!(rt; read_metres(text.as_bytes()), want, "at {text:?}");
+        }
+    }
+
+    #[test]
+    fn finds_the_first_digit_too_many(rt: HostRuntime) {
+        for (text, at) in [
+            ("12345678", 7),
+            ("-12345678", 8),
+            ("00000001", 7),
+            ("123456789.5", 7),
+            ("1.1234567890", 11),
+            ("-1.1234567890", 12),
+            ("1234567.0000000000", 17),
+            ("12345678.1234567890", 7),
+        ] {
+            let want = Err(NumFault::Digits { at });
+            assert_eq!(rt; read_metres(text.as_bytes()), want, "at {text:?}");
+        }
+    }
+
+    #[test]
+    fn prints_the_faults(rt: HostRuntime) -> Result<(), Fail> {
+        let syntax = NumFault::Syntax { at: 3 };
+        let digits = NumFault::Digits { at: 7 };
+        let text = format!(in rt.alloc(); "{syntax}; {digits}")?;
+        assert_eq!(rt;
+            text.as_str(),
+            "no decimal number at byte 3; a digit too many at byte 7"
+        );
+        Ok(())
+    }
+}

@@ -1,0 +1,98 @@
+ghost use Rattle.std.specs.Prelude.{◌≡◌, ◌↔◌, ◌^◌, ◌<◌, ◌++◌, ℤ, unsigned_abs, OnOk, OnErr, Some, IfSome};
+ghost use Rattle.std.specs.Fmt.{signed_decimal};
+ghost use Rattle.oct_num.specs.Whole.{natural_of, whole_of, IsWholeNumber};
+
+use crate::decimal::{are_digits, digits_value};
+use crate::memory::Memory;
+use crate::sign::{split_sign, with_sign};
+use itoa::Buffer;
+
+const MOST_DIGITS: usize = 18;
+
+/// Reads a whole number: an optional `-` and one to eighteen digits, a form of this project's own
+/// whose numbers all fit an `i64`. Every other text is `None`. Leading zeros count as digits, and
+/// `-0` is 0.
+#[tactic(auto, unfolding(crate::specs::Whole::whole_of))]
+pub fn read_whole(text: &[u8]) -> Option<i64>
+    ensures exact { result ≡ whole_of text.now }
+    ensures reach { IfSome result (λ n. unsigned_abs n < 10 ^ 18) }
+    ensures number { (n : ℤ) → (result ≡ Some n) ↔ IsWholeNumber text.now n }
+{
+    let (minus, digits) = split_sign(text);
+    let magnitude = read_natural(digits)?;
+    Some(with_sign(minus, magnitude))
+}
+
+/// Reads one to eighteen digits.
+#[tactic(auto, using(crate::proofs::DigitRuns::list_all_digits), unfolding(crate::specs::Whole::natural_of))]
+fn read_natural(digits: &[u8]) -> Option<u64>
+    ensures exact { result ≡ natural_of digits.now }
+    ensures reach { IfSome result (λ n. n < 10 ^ 18) }
+{
+    if digits.is_empty() || digits.len() > MOST_DIGITS || !are_digits(digits) {
+        return None;
+    }
+    Some(digits_value(digits))
+}
+
+/// Appends the decimal text of a number, as `itoa` writes it: a `-` if it's below 0, and its
+/// digits without leading zeros. After `Memory` nothing was appended.
+pub fn push_whole(out: &mut Vec<u8>, n: i64) -> Result<(), Memory>
+    ensures ok { OnOk result (out.new.items ≡ out.old.items ++ signed_decimal n) }
+    ensures err { OnErr result (out.new.items ≡ out.old.items) }
+{
+    let mut buffer = Buffer::new();
+    out.extend_from_slice(buffer.format(n).as_bytes())?;
+    Ok(())
+}
+
+#[cfg(test)]
+mod tests {
+    use super::*;
+    use std::test::Fail;
+
+    #[test]
+    fn reads_whole_numbers(rt: HostRuntime) {
+        for (text, want) in [
+            ("0", Some(0)),
+            ("-0", Some(0)),
+            ("42", Some(42)),
+            ("-42", Some(-42)),
+            ("007", Some(7)),
+            ("999999999999999999", Some(999_999_999_999_999_999)),
+            ("-999999999999999999", Some(-999_999_999_999_999_999)),
+            ("000000000000000001", Some(1)),
+            ("1000000000000000000", None),
+            ("0000000000000000001", None),
+            ("-0000000000000000001", None),
+            ("", None),
+            ("-", None),
+            ("--1", None),
+            ("+1", None),
+            (" 1", None),
+            ("1 ", None),
+            ("1.0", None),
+            ("1e3", None),
+            ("1-", None),
+        ] {
+            assert_eq!(rt; read_whole(text.as_bytes()), want, "at {text:?}");
+        }
+    }
+
+    #[test]
+    fn appends_whole_numbers(rt: HostRuntime) -> Result<(), Fail> {
+        for (n, want) in [
+            (0, "n=0"),
+            (7, "n=7"),
+            (-1, "n=-1"),
+            (1_000_000, "n=1000000"),
+            (i64::MAX, "n=9223372036854775807"),
+            (i64::MIN, "n=-9223372036854775808"),
+        ] {
+            let mut out = Vec::from_slice(rt.alloc(), b"n=")?;
+            push_whole(&mut out, n)?;
+            assert_eq!(rt; out.as_slice(), want.as_bytes(), "at {n}");
+        }
+        Ok(())
+    }
+}

@@ -1,0 +1,122 @@
+ghost use Rattle.std.specs.Prelude.{◌≡◌};
+ghost use Rattle.oct_odds.specs.Odds.{odds_of};
+ghost use Rattle.oct_odds.specs.Update.{IsSmallEvent, IsWithin};
+
+use super::*;
+use std::process::Abort;
+
+/// The value after an event that comes again and again, which must be these values in turn.
+fn repeat(
+    rt: &impl Abort,
+    model: &OddsModel,
+    event: Event,
+    start: Option<i32>,
+    wanted: &[i32],
+) -> Option<i32>
+    requires event { IsSmallEvent event }
+    requires within { IsWithin (odds_of model.now) start }
+    ensures { IsWithin (odds_of model.now) result }
+{
+    let mut value = start;
+    for want in wanted {
+        value = model.apply(event, value);
+        assert_eq!(rt; value, Some(*want), "at {want}");
+    }
+    value
+}
+
+#[test]
+fn clamps_each_sum_at_once(rt: HostRuntime) {
+    let model = OddsModel::default();
+    let hit = Event::Add(model.hit);
+    let miss = Event::Add(model.miss);
+
+    let high = repeat(&rt, &model, hit, None, &[850, 1700, 2550, 3400, 3500, 3500]);
+    repeat(&rt, &model, miss, high, &[3100, 2700]);
+
+    let low = repeat(
+        &rt,
+        &model,
+        miss,
+        None,
+        &[-400, -800, -1200, -1600, -2000, -2000],
+    );
+    repeat(&rt, &model, hit, low, &[-1150, -300, 550]);
+}
+
+#[test]
+fn applies_each_event(rt: HostRuntime) {
+    let model = OddsModel::default();
+    assert_eq!(rt; model.apply(Event::Add(0), None), Some(0));
+    assert_eq!(rt; model.apply(Event::Add(-9000), Some(3500)), Some(-2000));
+    assert_eq!(rt; model.apply(Event::Add(1_000_000), Some(3500)), Some(3500));
+    assert_eq!(rt; model.apply(Event::Set(9000), None), Some(3500));
+    assert_eq!(rt; model.apply(Event::Set(-9000), Some(3500)), Some(-2000));
+    assert_eq!(rt; model.apply(Event::Set(7), Some(3500)), Some(7));
+    assert_eq!(rt; model.apply(Event::Forget, Some(3500)), None);
+    assert_eq!(rt; model.apply(Event::Forget, None), None);
+    assert_eq!(rt; model.apply(Event::Likely, Some(0)), Some(3500));
+    assert_eq!(rt; model.apply(Event::Likely, Some(-1)), Some(-2000));
+    assert_eq!(rt; model.apply(Event::Likely, None), None);
+}
+
+#[test]
+fn compares_with_the_threshold(rt: HostRuntime) {
+    let model = OddsModel::default();
+    for (value, want) in [
+        (None, Class::Unknown),
+        (Some(-2000), Class::Free),
+        (Some(-1150), Class::Free),
+        (Some(-300), Class::Free),
+        (Some(-1), Class::Free),
+        (Some(0), Class::Occupied),
+        (Some(550), Class::Occupied),
+        (Some(3500), Class::Occupied),
+    ] {
+        assert_eq!(rt; model.class(value), want, "at {value:?}");
+    }
+}
+
+#[test]
+fn names_the_first_field_at_fault(rt: HostRuntime) {
+    for (hit, miss, min, max, thr, want) in [
+        (850, -400, -2000, 3500, 0, None),
+        (1, -1, 0, 1, 1, None),
+        (1, -1, -1, 0, 0, None),
+        (
+            1_000_000, -1_000_000, -1_000_000, 1_000_000, 1_000_000, None,
+        ),
+        (0, -400, -2000, 3500, 0, Some(OddsField::Hit)),
+        (1_000_001, -400, -2000, 3500, 0, Some(OddsField::Hit)),
+        (i32::MIN, 0, 1, -1, 5, Some(OddsField::Hit)),
+        (850, 0, -2000, 3500, 0, Some(OddsField::Miss)),
+        (850, -1_000_001, 1, 3500, 0, Some(OddsField::Miss)),
+        (850, i32::MIN, -2000, 3500, 0, Some(OddsField::Miss)),
+        (850, -400, 1, 3500, 2, Some(OddsField::Min)),
+        (850, -400, -1_000_001, -1, 0, Some(OddsField::Min)),
+        (850, -400, -2000, -1, 0, Some(OddsField::Max)),
+        (850, -400, -2000, 1_000_001, 2_000_000, Some(OddsField::Max)),
+        (850, -400, -2000, 3500, -2000, Some(OddsField::Thr)),
+        (850, -400, -2000, 3500, 3501, Some(OddsField::Thr)),
+        (850, -400, 0, 0, 0, Some(OddsField::Thr)),
+        (850, -400, -2000, 3500, i32::MAX, Some(OddsField::Thr)),
+    ] {
+        let found = match OddsModel::new(hit, miss, min, max, thr) {
+            Ok(_) => None,
+            Err(e) => Some(e.which),
+        };
+        assert_eq!(rt; found, want, "at {hit} {miss} {min} {max} {thr}");
+    }
+}
+
+#[test]
+fn prints_the_field_at_fault(rt: HostRuntime) {
+    let fault = BadModel {
+        which: OddsField::Thr,
+    };
+    let text = format!(in rt.alloc(); "{fault}").unwrap_or(String::new(rt.alloc()));
+    assert_eq!(rt;
+        text.as_str(),
+        "the field Thr of the log-odds model is out of range"
+    );
+}

@@ -1,0 +1,9 @@
+pub mod Cuts
+pub mod WordSplits
+pub mod Begun
+pub mod Progresses
+pub mod Feeding
+pub mod Bounds
+pub mod Foldings
+pub mod Replying
+pub mod Endings

@@ -1,0 +1,101 @@
+//! What a session is set up with, and how a run ends.
+ghost use Rattle.std.specs.Prelude.{◌≡◌, ◌≤◌, ◌^◌};
+ghost use Rattle.octomap_cli.specs.Stops.{stop_of_sink, status_of};
+ghost use Rattle.octomap_cli.specs.declared.options.Stop.TheVariants as stop;
+
+use oct_io::{Failed, SinkFault};
+use oct_key::Res;
+use oct_num::Memory;
+use oct_odds::OddsModel;
+use thiserror::Error;
+
+/// The largest number of bytes that a script may have.
+pub const MOST_BYTES: u64 = 1 << 40;
+
+/// What a session is set up with.
+#[derive(Clone, Copy, Debug, PartialEq, Eq)]
+pub struct Options {
+    /// The edge of a voxel.
+    pub res: Res,
+    /// The log-odds of hits, and their limits.
+    pub odds: OddsModel,
+    /// The most bytes that the script may have.
+    pub max_bytes: u64,
+    pub ghost few: { max_bytes ≤ 2 ^ 40 },
+}
+
+/// How a run ended. The numbers are those that the program ends with.
+#[derive(Clone, Copy, Debug, PartialEq, Eq)]
+pub enum Status {
+    /// The input was read to its end, and nothing was refused.
+    Done = 0,
+    /// The input was read to its end, and at least one line was refused.
+    Refused = 1,
+    /// The words ask for no task. Nothing was read or written.
+    Usage = 2,
+    /// The input has more bytes than it may have.
+    TooLong = 4,
+    /// The source failed.
+    ReadFault = 5,
+    /// The sink failed.
+    WriteFault = 6,
+    /// Memory ran out.
+    Memory = 7,
+}
+
+/// Why a session stopped before the end of its script.
+#[derive(Clone, Copy, Debug, PartialEq, Eq, Error)]
+pub enum Stop {
+    /// The script has more bytes than it may have.
+    #[error("input too long")]
+    TooLong,
+    /// The source failed.
+    #[error("read fault")]
+    ReadFault,
+    /// The sink failed.
+    #[error("write fault")]
+    WriteFault,
+    /// Memory ran out.
+    #[error("out of memory")]
+    Memory,
+}
+
+impl From<Memory> for Stop {
+    ghost from_gives = { λ _ e. e ≡ stop.Memory };
+
+    fn from(_: Memory) -> Self {
+        Stop::Memory
+    }
+}
+
+impl From<Failed> for Stop {
+    ghost from_gives = { λ _ e. e ≡ stop.ReadFault };
+
+    fn from(_: Failed) -> Self {
+        Stop::ReadFault
+    }
+}
+
+impl From<SinkFault> for Stop {
+    ghost from_gives = { λ fault e. e ≡ stop_of_sink fault };
+
+    fn from(fault: SinkFault) -> Self {
+        match fault {
+            SinkFault::Failed => Stop::WriteFault,
+            SinkFault::Memory => Stop::Memory,
+        }
+    }
+}
+
+impl From<Stop> for Status {
+    ghost from_gives = { λ e status. status ≡ status_of e };
+
+    fn from(stop: Stop) -> Self {
+        match stop {
+            Stop::TooLong => Status::TooLong,
+            Stop::ReadFault => Status::ReadFault,
+            Stop::WriteFault => Status::WriteFault,
+            Stop::Memory => Status::Memory,
+        }
+    }
+}

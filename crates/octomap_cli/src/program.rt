@@ -1,0 +1,53 @@
+//! The top call of the program.
+ghost use Rattle.std.specs.Prelude.{◌≡◌, ◌≢◌, ◌≤◌, IfSome, Some, None};
+ghost use Rattle.oct_io.specs.Files.{Files};
+ghost use Rattle.oct_io.specs.Told.{Rose};
+ghost use Rattle.octomap_cli.specs.Task.{task_of, bytes_of};
+ghost use Rattle.octomap_cli.specs.Ending.{MayEnd, IsWhole, answer};
+
+use crate::options::Status;
+use crate::service::serve;
+use crate::task::{Usage, read_words};
+use oct_io::{Sink, Source, Store};
+use std::alloc::Global;
+
+/// Does what the words ask for, which don't have the program's own name.
+///
+/// The replies to a script are those of the plain fold over each single voxel: the clause `answer`
+/// says, status by status, what is written, what is left of the input, and that both are those of
+/// the answer to the task on these bytes. It speaks wherever source and sink tell their bytes, as
+/// those in memory do. A fault comes only where the count of that object rose in this call.
+pub fn run<S: Source, K: Sink, F: Store>(
+    alloc: Global,
+    words: &[String],
+    source: &mut S,
+    sink: &mut K,
+    store: &mut F,
+) -> Status
+    ensures answer { IfSome (S.left source.old) (λ bytes. (files : Files)
+        → MayEnd (task_of (bytes_of words.now)) files bytes (S.left source.new) (K.written sink.old) (K.written sink.new) result) }
+
+    // The files are those of the answer; no task writes one yet.
+    ensures files { IfSome (F.files store.old) (λ files. IfSome (S.left source.old) (λ bytes. IsWhole result
+        → F.files store.new ≡ Some (answer (task_of (bytes_of words.now)) files bytes).files)) }
+    ensures store { store.new ≡ store.old }
+
+    // Words without a task read and write nothing.
+    ensures usage { task_of (bytes_of words.now) ≡ None → result ≡ Status.Usage }
+    ensures only { result ≡ Status.Usage → task_of (bytes_of words.now) ≡ None }
+    ensures unread { result ≡ Status.Usage → source.new ≡ source.old }
+    ensures unwritten { result ≡ Status.Usage → sink.new ≡ sink.old }
+
+    // Each fault has its cause, and where no count rose the answer comes, or memory ran out.
+    ensures source_later { S.faults source.old ≤ S.faults source.new }
+    ensures sink_later { K.faults sink.old ≤ K.faults sink.new }
+    ensures read_fault { result ≡ Status.ReadFault → Rose (S.faults source.old) (S.faults source.new) }
+    ensures write_fault { result ≡ Status.WriteFault → Rose (K.faults sink.old) (K.faults sink.new) }
+    ensures complete { ¬ Rose (S.faults source.old) (S.faults source.new) → ¬ Rose (K.faults sink.old) (K.faults sink.new)
+        → result ≢ Status.Memory → IsWhole result }
+{
+    match read_words(words) {
+        Ok(task) => serve(alloc, task.options(), source, sink, store),
+        Err(Usage) => Status::Usage,
+    }
+}
