@@ -30,7 +30,7 @@ pub within_updated : (odds : Odds) (k : Voxel) (old new : Values) (value : Value
     (q : Voxel) (n : ℤ) → new q ≡ Some n → (odds.min ≤ℤ n) × (n ≤ℤ odds.max)
 within_updated odds k old new value here all updates q n e =
     within_some odds (cond (is_at (key_cmp k) q) value (old q)) n (sym (updates q) ∙ e)
-        (cond_within odds (is_at (key_cmp k) q) value (old q) here (some_within odds (old q) (all q)))
+    (cond_within odds (is_at (key_cmp k) q) value (old q) here (some_within odds (old q) (all q)))
 
 same_values : (m n : BTreeMap Voxel ℤ) → IsUnchanged m n → (q : Voxel) → get key_cmp n q ≡ get key_cmp m q
 same_values m n e q = ap (λ entries. lookup (is_at (key_cmp q)) entries) e

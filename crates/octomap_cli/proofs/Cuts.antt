@@ -39,8 +39,9 @@ first_onto b parts h = record { first = b ∷ h.first; others = h.others; is = a
 parts_first : (bytes : List ℕ) → HasFirst (parts_of bytes)
 parts_first [] = record { first = []; others = []; is = refl }
 parts_first (b ∷ bytes) = elim (is_line_feed b) as (λ v. HasFirst (cond v ([] ∷ parts_of bytes) (onto_first b (parts_of bytes)))) [
-    true ↦ record { first = []; others = parts_of bytes; is = refl }
-  | false ↦ first_onto b (parts_of bytes) (parts_first bytes) ]
+  | true ↦ record { first = []; others = parts_of bytes; is = refl }
+  | false ↦ first_onto b (parts_of bytes) (parts_first bytes)
+]
 
 -- what a cut has, behind what it had
 abbrev further : Cut → List (List ℕ) → Cut
@@ -61,9 +62,10 @@ further_byte c b parts h =
 cut_parts : (c : Cut) (bytes : List ℕ) → fold with_byte c bytes ≡ further c (parts_of bytes)
 cut_parts c [] = rw (append-nil c.rest) (cut_made _ _ _ _ (sym (append-nil c.lines)) refl)
 cut_parts c (b ∷ bytes) = elim (is_line_feed b) as (λ v. fold with_byte (cond v (record { lines = c.lines ++ ended (line_of c.rest) ∷ []; rest = [] }) (record { lines = c.lines; rest = c.rest ++ b ∷ [] })) bytes
-        ≡ further c (cond v ([] ∷ parts_of bytes) (onto_first b (parts_of bytes)))) [
-    true ↦ cut_parts (record { lines = c.lines ++ ended (line_of c.rest) ∷ []; rest = [] }) bytes ∙ further_feed c (parts_of bytes) (parts_first bytes)
-  | false ↦ cut_parts (record { lines = c.lines; rest = c.rest ++ b ∷ [] }) bytes ∙ further_byte c b (parts_of bytes) (parts_first bytes) ]
+    ≡ further c (cond v ([] ∷ parts_of bytes) (onto_first b (parts_of bytes)))) [
+      | true ↦ cut_parts (record { lines = c.lines ++ ended (line_of c.rest) ∷ []; rest = [] }) bytes ∙ further_feed c (parts_of bytes) (parts_first bytes)
+      | false ↦ cut_parts (record { lines = c.lines; rest = c.rest ++ b ∷ [] }) bytes ∙ further_byte c b (parts_of bytes) (parts_first bytes)
+    ]
 
 -- a cut has the lines and the rest of its bytes
 cut_is : (bytes : List ℕ) → cut_of bytes ≡ record { lines = ended_lines bytes; rest = rest_of bytes }
@@ -117,24 +119,27 @@ rest_is bytes = ap (λ (c : Cut). c.rest) (sym (cut_is bytes))
 
 -- a piece in which no line ends joins the rest
 pub joined_piece : (bytes piece : List ℕ) → prefix_len is_in_line piece ≡ length piece → (ended_lines (bytes ++ piece) ≡ ended_lines bytes) × (rest_of (bytes ++ piece) ≡ rest_of bytes ++ piece)
-joined_piece bytes piece h =
-    (lines_are (bytes ++ piece) ∙ ap (λ (c : Cut). c.lines) (cut_joined bytes piece h) ∙ sym (lines_are bytes),
-     rest_is (bytes ++ piece) ∙ ap (λ (c : Cut). c.rest) (cut_joined bytes piece h) ∙ ap (λ x. x ++ piece) (sym (rest_is bytes)))
+joined_piece bytes piece h = (
+  lines_are (bytes ++ piece) ∙ ap (λ (c : Cut). c.lines) (cut_joined bytes piece h) ∙ sym (lines_are bytes),
+  rest_is (bytes ++ piece) ∙ ap (λ (c : Cut). c.rest) (cut_joined bytes piece h) ∙ ap (λ x. x ++ piece) (sym (rest_is bytes)),
+)
 
 -- a piece up to and with its first line feed ends the line
 pub ended_piece : (bytes piece : List ℕ) (n : ℕ) → n ≡ prefix_len is_in_line piece → n < length piece →
     (ended_lines (bytes ++ take (n + 1) piece) ≡ ended_lines bytes ++ ended (line_of (rest_of bytes ++ take n piece)) ∷ []) × (rest_of (bytes ++ take (n + 1) piece) ≡ [])
-ended_piece bytes piece n e h =
-    (lines_are (bytes ++ take (n + 1) piece) ∙ ap (λ (c : Cut). c.lines) (cut_ended bytes piece n e h)
-        ∙ ap (λ x. x ++ ended (line_of ((cut_of bytes).rest ++ take n piece)) ∷ []) (sym (lines_are bytes)) ∙ ap (λ x. ended_lines bytes ++ ended (line_of (x ++ take n piece)) ∷ []) (sym (rest_is bytes)),
-     rest_is (bytes ++ take (n + 1) piece) ∙ ap (λ (c : Cut). c.rest) (cut_ended bytes piece n e h))
+ended_piece bytes piece n e h = (
+  lines_are (bytes ++ take (n + 1) piece) ∙ ap (λ (c : Cut). c.lines) (cut_ended bytes piece n e h)
+      ∙ ap (λ x. x ++ ended (line_of ((cut_of bytes).rest ++ take n piece)) ∷ []) (sym (lines_are bytes)) ∙ ap (λ x. ended_lines bytes ++ ended (line_of (x ++ take n piece)) ∷ []) (sym (rest_is bytes)),
+  rest_is (bytes ++ take (n + 1) piece) ∙ ap (λ (c : Cut). c.rest) (cut_ended bytes piece n e h),
+)
 
 -- the lines of some bytes begin those of more bytes
 lines_begin : (c : Cut) (more : List ℕ) → (lines : List Line) × ((fold with_byte c more).lines ≡ c.lines ++ lines)
 lines_begin c [] = ([], sym (append-nil c.lines))
-lines_begin c (b ∷ more) = elim (is_line_feed b) as (λ v. (lines : List Line) × ((fold with_byte (cond v (record { lines = c.lines ++ ended (line_of c.rest) ∷ []; rest = [] }) (record { lines = c.lines; rest = c.rest ++ b ∷ [] })) more).lines ≡ c.lines ++ lines))
-    [ true ↦ (let (lines, e) = lines_begin (record { lines = c.lines ++ ended (line_of c.rest) ∷ []; rest = [] }) more in (ended (line_of c.rest) ∷ lines, e ∙ append_assoc c.lines (ended (line_of c.rest) ∷ []) lines))
-    | false ↦ lines_begin (record { lines = c.lines; rest = c.rest ++ b ∷ [] }) more ]
+lines_begin c (b ∷ more) = elim (is_line_feed b) as (λ v. (lines : List Line) × ((fold with_byte (cond v (record { lines = c.lines ++ ended (line_of c.rest) ∷ []; rest = [] }) (record { lines = c.lines; rest = c.rest ++ b ∷ [] })) more).lines ≡ c.lines ++ lines)) [
+  | true ↦ (let (lines, e) = lines_begin (record { lines = c.lines ++ ended (line_of c.rest) ∷ []; rest = [] }) more in (ended (line_of c.rest) ∷ lines, e ∙ append_assoc c.lines (ended (line_of c.rest) ∷ []) lines))
+  | false ↦ lines_begin (record { lines = c.lines; rest = c.rest ++ b ∷ [] }) more
+]
 
 pub ended_lines-append : (bytes more : List ℕ) → (lines : List Line) × (ended_lines (bytes ++ more) ≡ ended_lines bytes ++ lines)
 ended_lines-append bytes more =
@@ -153,8 +158,9 @@ line_short bytes h = cond-false _ _ _ (le-ltb 4096 (length bytes) h)
 pub joined_line : (rest bytes : List ℕ) → joined (line_of rest) bytes ≡ line_of (rest ++ bytes)
 joined_line rest bytes =
     elim (cases_lt 4096 (length rest)) [
-      inl h ↦ (let long : 4096 < length (rest ++ bytes) = omega (arith, length-append rest bytes) in rw (line_long rest h, line_long (rest ++ bytes) long) refl)
-    | inr h ↦ rw (line_short rest h) refl ]
+      | inl h ↦ (let long : 4096 < length (rest ++ bytes) = omega (arith, length-append rest bytes) in rw (line_long rest h, line_long (rest ++ bytes) long) refl)
+      | inr h ↦ rw (line_short rest h) refl
+    ]
 
 has_first : (b : ℕ) (rest : List ℕ) → has_bytes (line_of (b ∷ rest)) ≡ true
 has_first b rest = elim (nat_lt 4096 (length (b ∷ rest))) as (λ v. has_bytes (cond v Long (Text (b ∷ rest))) ≡ true) [ true ↦ refl | false ↦ refl ]

@@ -39,7 +39,7 @@ session_long o files bytes more = rw (lt-leb (length bytes) o.max_bytes more) re
 pub within_session : (o : Setup) (files : Files) (bytes front back : List ℕ) → bytes ≡ front ++ back → length front ≤ o.max_bytes →
     (text : List ℕ) × ((session o files bytes).text ≡ (progress o files (ended_lines front)).text ++ text)
 within_session o files bytes front back parts few = elim (cases_lt o.max_bytes (length bytes)) [
-    inl more ↦ (
+  | inl more ↦ (
       let n : ℕ = o.max_bytes - length front in
       let size : o.max_bytes ≡ length front + n = omega arith in
       let e : take o.max_bytes bytes ≡ front ++ take n back = ap (λ k. take k bytes) size ∙ ap (λ x. take (length front + n) x) parts ∙ take-append-add front back n in
@@ -50,7 +50,8 @@ within_session o files bytes front back parts few = elim (cases_lt o.max_bytes (
       let more : List Line = s.0 ++ last_line (rest_of bytes) in
       let e : all_lines bytes ≡ ended_lines front ++ more = ap (λ x. x ++ last_line (rest_of bytes)) (ap ended_lines parts ∙ s.1) ∙ append_assoc (ended_lines front) s.0 (last_line (rest_of bytes)) in
       let t = progress_grows o files (ended_lines front) more in
-      (t.0, ap (λ a. a.text) (session_short o files bytes small) ∙ ap (λ x. (progress o files x).text) e ∙ t.1)) ]
+      (t.0, ap (λ a. a.text) (session_short o files bytes small) ∙ ap (λ x. (progress o files x).text) e ∙ t.1))
+]
 
 -- a prefix of those replies is a prefix of the whole answer
 begun_session : (o : Setup) (files : Files) (bytes front back : List ℕ) (old new : Option (List ℕ)) → bytes ≡ front ++ back → length front ≤ o.max_bytes →
@@ -106,16 +107,17 @@ none_left (Some l) after n moved nothing none = rw moved (ap (λ x. drop n x) no
 pub ends_read_fault : (o : Setup) (files : Files) (bytes : List ℕ) (left after w v : Option (List ℕ)) (s : Session) (taken : ℕ) → after ≡ left → taken ≤ o.max_bytes →
     IsReading o files bytes left w v s taken → MayEnd (Some (task.Session o)) files bytes after w v (status_of ReadFault)
 ends_read_fault o files bytes left after w v s taken same few at =
-    let size : length (take taken bytes) ≤ o.max_bytes = omega (arith, length-take taken bytes) in
-    (begun_session o files bytes (take taken bytes) (drop taken bytes) w v (sym (take-append-drop taken bytes)) size (begun_whole _ w v at.at.reached.written),
-     record { taken = taken; few = few; input = record { within = at.input.within; rest = same ∙ at.input.rest }; written = at.at.reached.written })
+    let size : length (take taken bytes) ≤ o.max_bytes = omega (arith, length-take taken bytes) in (
+      begun_session o files bytes (take taken bytes) (drop taken bytes) w v (sym (take-append-drop taken bytes)) size (begun_whole _ w v at.at.reached.written),
+      record { taken = taken; few = few; input = record { within = at.input.within; rest = same ∙ at.input.rest }; written = at.at.reached.written },
+    )
 
 -- a script within a read: what was taken before, what of the piece may be taken, and what is behind it
 parts_of : (bytes piece : List ℕ) (taken n room : ℕ) → piece ≡ take n (drop taken bytes) → bytes ≡ (take taken bytes ++ take room piece) ++ (drop room piece ++ drop n (drop taken bytes))
 parts_of bytes piece taken n room is =
     sym (take-append-drop taken bytes)
     ∙ ap (λ x. take taken bytes ++ x) (sym (take-append-drop n (drop taken bytes)) ∙ ap (λ x. x ++ drop n (drop taken bytes)) (sym is ∙ sym (take-append-drop room piece))
-        ∙ append_assoc (take room piece) (drop room piece) (drop n (drop taken bytes)))
+    ∙ append_assoc (take room piece) (drop room piece) (drop n (drop taken bytes)))
     ∙ sym (append_assoc (take taken bytes) (take room piece) (drop room piece ++ drop n (drop taken bytes)))
 
 -- a prefix of the answers to what of the piece may be taken
@@ -137,12 +139,13 @@ stops_long o files bytes buffer piece left after w u t taken n room few size mos
     let long : o.max_bytes < length bytes = omega (arith, k.within) in
     let room_in : take room (drop taken bytes) ≡ take room piece = sym (ap (λ x. take room x) p ∙ take-take room n (drop taken bytes) (omega arith)) in
     let front : take o.max_bytes bytes ≡ take taken bytes ++ take room piece =
-        ap (λ m. take m bytes) (let e : o.max_bytes ≡ taken + room = omega arith in e) ∙ take-add taken room bytes ∙ ap (λ x. take taken bytes ++ x) room_in in
-    (record {
-       written = at.reached.written ∙ ap (λ x. appended w (progress o files (ended_lines x)).text) (sym front) ∙ ap (λ a. appended w a.text) (sym (session_long o files bytes long));
-       same_status = ap (λ a. a.status) (session_long o files bytes long);
-     },
-     subst (λ m. HasTaken m bytes after) (let e : taken + n ≡ o.max_bytes + 1 = omega arith in e) k)
+    ap (λ m. take m bytes) (let e : o.max_bytes ≡ taken + room = omega arith in e) ∙ take-add taken room bytes ∙ ap (λ x. take taken bytes ++ x) room_in in (
+      record {
+        written = at.reached.written ∙ ap (λ x. appended w (progress o files (ended_lines x)).text) (sym front) ∙ ap (λ a. appended w a.text) (sym (session_long o files bytes long));
+        same_status = ap (λ a. a.status) (session_long o files bytes long);
+      },
+      subst (λ m. HasTaken m bytes after) (let e : taken + n ≡ o.max_bytes + 1 = omega arith in e) k,
+    )
 
 -- a stop within what a read gave
 pub ends_stop : (o : Setup) (files : Files) (bytes buffer piece : List ℕ) (left after w v u : Option (List ℕ)) (s t : Session) (taken n room : ℕ) (stop : Stop) →
@@ -151,12 +154,14 @@ pub ends_stop : (o : Setup) (files : Files) (bytes buffer piece : List ℕ) (lef
     IsReading o files bytes left w v s taken → MayEnd (Some (task.Session o)) files bytes after w u (status_of stop)
 ends_stop o files bytes buffer piece left after w v u s t taken n room TooLong few size most moved same enough is len stops at =
     let p = stops files w (take taken bytes) at.at in stops_long o files bytes buffer piece left after w u t taken n room few size most moved same enough is len p.0 at.input p.1
-ends_stop o files bytes buffer piece left after w v u s t taken n room WriteFault few size most moved same enough is len stops at =
-    (stops_begun o files bytes buffer piece left w u taken n room few size same is at.input (stops files w (take taken bytes) at.at),
-     record { taken = taken + n; few = omega arith; input = taken_more bytes left after taken n at.input moved enough })
-ends_stop o files bytes buffer piece left after w v u s t taken n room Memory few size most moved same enough is len stops at =
-    (stops_begun o files bytes buffer piece left w u taken n room few size same is at.input (stops files w (take taken bytes) at.at),
-     record { taken = taken + n; few = omega arith; input = taken_more bytes left after taken n at.input moved enough })
+ends_stop o files bytes buffer piece left after w v u s t taken n room WriteFault few size most moved same enough is len stops at = (
+  stops_begun o files bytes buffer piece left w u taken n room few size same is at.input (stops files w (take taken bytes) at.at),
+  record { taken = taken + n; few = omega arith; input = taken_more bytes left after taken n at.input moved enough },
+)
+ends_stop o files bytes buffer piece left after w v u s t taken n room Memory few size most moved same enough is len stops at = (
+  stops_begun o files bytes buffer piece left w u taken n room few size same is at.input (stops files w (take taken bytes) at.at),
+  record { taken = taken + n; few = omega arith; input = taken_more bytes left after taken n at.input moved enough },
+)
 ends_stop o files bytes buffer piece left after w v u s t taken n room ReadFault few size most moved same enough is len stops at = absurd (stops files w (take taken bytes) at.at)
 
 -- a prefix of the whole answer, at a stop of the sink
@@ -196,7 +201,7 @@ ends_last o files bytes left w v u s taken stop few none only begins at =
     let whole : take taken bytes ≡ bytes = take_all taken bytes (omega arith) in
     let short : length bytes ≤ o.max_bytes = omega arith in
     let begun : IsBegun (session o files bytes).text w u =
-        subst (λ x. IsBegun x.text w u) (sym (session_short o files bytes short)) (subst (λ x. IsBegun (progress o files (all_lines x)).text w u) whole (begins files w (take taken bytes) at.at)) in
+    subst (λ x. IsBegun x.text w u) (sym (session_short o files bytes short)) (subst (λ x. IsBegun (progress o files (all_lines x)).text w u) whole (begins files w (take taken bytes) at.at)) in
     begun_ends o files bytes left w u stop only begun (record { taken = taken; few = omega arith; input = at.input })
 
 ended_as : (o : Setup) (files : Files) (bytes : List ℕ) (left w v : Option (List ℕ)) (refused : Bool) (status : Status) → status ≡ status_at_end refused →
@@ -225,7 +230,7 @@ pub stop_ends : {T : Type 0} (r : Result T Stop) (stop : Stop) (o : Setup) (buff
 stop_ends (Ok x) stop o buffer piece left after v u s t taken n room is few size most moved same enough front len stops = tt
 stop_ends (Err x) stop o buffer piece left after v u s t taken n room is few size most moved same enough front len stops = λ files bytes w at.
     subst (λ y. MayEnd (Some (task.Session o)) files bytes after w u (status_of y)) (sym is)
-        (ends_stop o files bytes buffer piece left after w v u s t taken n room stop few size most moved same enough front len stops at)
+    (ends_stop o files bytes buffer piece left after w v u s t taken n room stop few size most moved same enough front len stops at)
 
 -- the answer to the last line, at the end of the input
 pub last_read : {E : Type 0} (r : Result (Unit {0}) E) (o : Setup) (left after a v u : Option (List ℕ)) (s m t : Session) (taken : ℕ) → taken ≤ o.max_bytes → IfSome after (λ l. l ≡ []) →
@@ -266,8 +271,9 @@ files_kept o p (line ∷ lines) = files_kept o (after_line o p line) lines
 
 session_files : (o : Setup) (files : Files) (bytes : List ℕ) → (session o files bytes).files ≡ files
 session_files o files bytes = elim (cases_lt o.max_bytes (length bytes)) [
-    inl more ↦ ap (λ a. a.files) (session_long o files bytes more) ∙ files_kept o (start files) (ended_lines (take o.max_bytes bytes))
-  | inr few ↦ ap (λ a. a.files) (session_short o files bytes few) ∙ files_kept o (start files) (all_lines bytes) ]
+  | inl more ↦ ap (λ a. a.files) (session_long o files bytes more) ∙ files_kept o (start files) (ended_lines (take o.max_bytes bytes))
+  | inr few ↦ ap (λ a. a.files) (session_short o files bytes few) ∙ files_kept o (start files) (all_lines bytes)
+]
 
 answer_files : (t : Option task.Task) (files : Files) (bytes : List ℕ) → (answer t files bytes).files ≡ files
 answer_files None files bytes = refl

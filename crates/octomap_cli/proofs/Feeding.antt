@@ -61,9 +61,10 @@ line_ended : (bytes piece : List ℕ) (line kept : Line) (n taken : ℕ) → n �
     (ended_lines (bytes ++ take taken piece) ≡ ended_lines bytes ++ line ∷ []) × (rest_of (bytes ++ take taken piece) ≡ [])
 line_ended bytes piece line kept n taken m more count is ends =
     let same : ended (line_of (rest_of bytes ++ take n piece)) ≡ line = ap ended (sym (joined_line (rest_of bytes) (take n piece)) ∙ ap (λ x. joined x (take n piece)) (sym is)) ∙ sym ends in
-    let cut = ended_piece bytes piece n m more in
-    (ap (λ k. ended_lines (bytes ++ take k piece)) count ∙ cut.0 ∙ ap (λ x. ended_lines bytes ++ x ∷ []) same,
-     ap (λ k. rest_of (bytes ++ take k piece)) count ∙ cut.1)
+    let cut = ended_piece bytes piece n m more in (
+      ap (λ k. ended_lines (bytes ++ take k piece)) count ∙ cut.0 ∙ ap (λ x. ended_lines bytes ++ x ∷ []) same,
+      ap (λ k. rest_of (bytes ++ take k piece)) count ∙ cut.1,
+    )
 
 -- a piece up to a line feed, and the answer to the line that it ends
 pub at_ended : (o : Setup) (files : Files) (w v u : Option (List ℕ)) (s m t : Session) (bytes piece : List ℕ) (has_ended : Bool) (taken : ℕ) →
@@ -98,8 +99,8 @@ begun_ended (Err x) o v u s m piece has_ended tells fed line map answered refuse
     let cut = line_ended bytes piece m.lines s.lines n (n + 1) refl more refl at.line (fed_line s.lines m.lines piece has_ended true fed line) in
     let lines : ended_lines (bytes ++ take (n + 1) piece) ≡ ended_lines bytes ++ m.lines ∷ [] = cut.0 in
     let begun : IsBegun (progress o files (ended_lines (bytes ++ take (n + 1) piece))).text w u =
-        subst (λ (p : Progress). IsBegun p.text w u) (sym (ap (λ x. progress o files x) lines ∙ progress_push o files (ended_lines bytes) m.lines))
-            (begins w (progress o files (ended_lines bytes)) (moved o w v s m (progress o files (ended_lines bytes)) at.reached map answered refused)) in
+    subst (λ (p : Progress). IsBegun p.text w u) (sym (ap (λ x. progress o files x) lines ∙ progress_push o files (ended_lines bytes) m.lines))
+    (begins w (progress o files (ended_lines bytes)) (moved o w v s m (progress o files (ended_lines bytes)) at.reached map answered refused)) in
     let whole : (bytes ++ take (n + 1) piece) ++ drop (n + 1) piece ≡ bytes ++ piece = append_assoc bytes (take (n + 1) piece) (drop (n + 1) piece) ∙ ap (λ x. bytes ++ x) (take-append-drop (n + 1) piece) in
     subst (λ x. IsBegun (progress o files (ended_lines x)).text w u) whole (begun_bytes o files (bytes ++ take (n + 1) piece) (drop (n + 1) piece) w u begun)
 

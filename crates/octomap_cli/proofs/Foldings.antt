@@ -31,9 +31,9 @@ edit_push : (o : Setup) (h : History) (p : Point) (edit : Edit) (k : Voxel) → 
     value_after o (h ++ Edited p edit ∷ []) ≡ with_value (value_after o h) k (applied o.odds (edit_event o.odds edit) (value_after o h k))
 edit_push o h p edit k there =
     let at : (q : Voxel) → value_after o (h ++ Edited p edit ∷ []) q ≡ with_value (value_after o h) k (applied o.odds (edit_event o.odds edit) (value_after o h k)) q = λ q.
-        value_push o h (Edited p edit) q
-        ∙ ap (λ t. after_event o.odds (event_at t (edit_event o.odds edit) q) (value_after o h q)) there
-        ∙ event_there o.odds (edit_event o.odds edit) k q (value_after o h) (is_same_voxel k q) refl in
+    value_push o h (Edited p edit) q
+    ∙ ap (λ t. after_event o.odds (event_at t (edit_event o.odds edit) q) (value_after o h q)) there
+    ∙ event_there o.odds (edit_event o.odds edit) k q (value_after o h) (is_same_voxel k q) refl in
     fun_ext at
 
 -- the map after an edit of a voxel

@@ -28,8 +28,9 @@ words_behind_blank b line e = rw e refl
 pub words_behind_blanks : (line : List ℕ) → words_of (drop (prefix_len is_blank line) line) ≡ words_of line
 words_behind_blanks [] = refl
 words_behind_blanks (b ∷ line) = elim (either (is_blank b)) [
-    inl e ↦ rw (e, one_more (prefix_len is_blank line)) (words_behind_blanks line)
-  | inr e ↦ ap (λ n. words_of (drop n (b ∷ line))) (no_blanks b line e) ]
+  | inl e ↦ rw (e, one_more (prefix_len is_blank line)) (words_behind_blanks line)
+  | inr e ↦ ap (λ n. words_of (drop n (b ∷ line))) (no_blanks b line e)
+]
 
 -- a line, cut behind the bytes before its first blank
 pub record IsCutAtBlank (line : List ℕ) : Type 0 where
@@ -40,11 +41,13 @@ pub record IsCutAtBlank (line : List ℕ) : Type 0 where
 pub cut_at_blank : (line : List ℕ) → IsCutAtBlank line
 cut_at_blank [] = record { parts = []; first = refl; behind = refl }
 cut_at_blank (b ∷ line) = elim (either (is_blank b)) [
-    inl e ↦ record { parts = slice_split is_blank line; first = rw e refl; behind = ap (λ n. words_of (drop n (b ∷ line))) (no_word b line e) ∙ words_behind_blank b line e }
+  | inl e ↦ record { parts = slice_split is_blank line; first = rw e refl; behind = ap (λ n. words_of (drop n (b ∷ line))) (no_word b line e) ∙ words_behind_blank b line e }
   | inr e ↦ (let c = cut_at_blank line in record {
-      parts = c.parts;
-      first = rw (e, one_more (prefix_len is_in_word line), c.first) refl;
-      behind = rw (e, one_more (prefix_len is_in_word line)) c.behind; }) ]
+    parts = c.parts;
+    first = rw (e, one_more (prefix_len is_in_word line), c.first) refl;
+    behind = rw (e, one_more (prefix_len is_in_word line)) c.behind;
+  })
+]
 
 some_word : (word : List ℕ) → 0 < length word → is_word word ≡ true
 some_word [] h = absurd (omega arith)
@@ -62,8 +65,9 @@ words_first line h =
 pub ends_behind_blanks : (line : List ℕ) → prefix_len is_in_word (drop (prefix_len is_blank line) line) ≡ 0 → drop (prefix_len is_blank line) line ≡ []
 ends_behind_blanks [] h = refl
 ends_behind_blanks (b ∷ line) h = elim (either (is_blank b)) [
-    inl e ↦ rw (e, one_more (prefix_len is_blank line)) (ends_behind_blanks line (rw (e, one_more (prefix_len is_blank line)) at h))
-  | inr e ↦ absurd (let z : suc (prefix_len is_in_word line) ≡ 0 = sym (word_more b line e) ∙ ap (λ n. prefix_len is_in_word (drop n (b ∷ line))) (sym (no_blanks b line e)) ∙ h in omega arith) ]
+  | inl e ↦ rw (e, one_more (prefix_len is_blank line)) (ends_behind_blanks line (rw (e, one_more (prefix_len is_blank line)) at h))
+  | inr e ↦ absurd (let z : suc (prefix_len is_in_word line) ≡ 0 = sym (word_more b line e) ∙ ap (λ n. prefix_len is_in_word (drop n (b ∷ line))) (sym (no_blanks b line e)) ∙ h in omega arith)
+]
 
 -- a line of which no word is left
 pub no_word_left : (line text word rest : List ℕ) (n m : ℕ) → n ≡ prefix_len is_blank line → text ≡ drop n line → m ≡ prefix_len is_in_word text →

@@ -82,7 +82,11 @@ fn read_get(p: Point, words: &mut Words<'_>) -> Option<Command>
     if words.next().is_some() {
         return None;
     }
-    Some(if depth == 16 { Command::Get { p } } else { Command::NotYet })
+    Some(if depth == 16 {
+        Command::Get { p }
+    } else {
+        Command::NotYet
+    })
 }
 
 #[tactic(auto, unfolding(crate::specs::Commands::command_from))]

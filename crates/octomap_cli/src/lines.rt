@@ -81,7 +81,11 @@ impl Lines {
     pub fn text(&self) -> Option<&[u8]>
         ensures { option_map (λ text. text.now) result ≡ text_in self.now }
     {
-        if self.is_long { None } else { Some(self.bytes.as_slice()) }
+        if self.is_long {
+            None
+        } else {
+            Some(self.bytes.as_slice())
+        }
     }
 
     /// Whether the line has any byte.

@@ -45,9 +45,8 @@ mod words;
 use crate::options::Status;
 use crate::program::run;
 use oct_io::{FolderStore, StdSink, StdSource};
-use std::env;
-use std::io;
 use std::process::ExitCode;
+use std::{env, io};
 
 /// The name of a status, which is written to standard error.
 fn name_of(status: Status) -> Option<&'static str> {

@@ -37,7 +37,11 @@ fn read_front<S: Source>(source: &mut S, buffer: &mut [u8], most: usize) -> Resu
 fn wanted(room: u64) -> usize
     ensures { result ≡ min (room + 1) BUFFER }
 {
-    if room < BUFFER as u64 { room as usize + 1 } else { BUFFER }
+    if room < BUFFER as u64 {
+        room as usize + 1
+    } else {
+        BUFFER
+    }
 }
 
 /// Takes what a read gave, of which the last byte may be one more than the script may have.
@@ -160,5 +164,9 @@ pub fn serve<S: Source, K: Sink, F: Store>(
 fn done_or_refused(refused: bool) -> Status
     ensures { result ≡ status_at_end refused }
 {
-    if refused { Status::Refused } else { Status::Done }
+    if refused {
+        Status::Refused
+    } else {
+        Status::Done
+    }
 }

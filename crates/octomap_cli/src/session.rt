@@ -208,7 +208,12 @@ impl Session {
     }
 
     /// Takes the bytes up to and with the next line feed, and answers the line that it ends: how many bytes.
-    fn advance<K: Sink>(&mut self, options: &Options, piece: &[u8], sink: &mut K) -> Result<usize, Stop>
+    fn advance<K: Sink>(
+        &mut self,
+        options: &Options,
+        piece: &[u8],
+        sink: &mut K,
+    ) -> Result<usize, Stop>
         requires small { self.old.answered < 2 ^ 63 }
         requires some { 0 < length piece.now }
         ensures ok { IfOk result (λ n. (files : Files) (w : Option (List ℕ)) (bytes : List ℕ)
@@ -233,7 +238,12 @@ impl Session {
     }
 
     /// Takes a piece of the script, and answers each line that ends in it.
-    pub fn take<K: Sink>(&mut self, options: &Options, piece: &[u8], sink: &mut K) -> Result<(), Stop>
+    pub fn take<K: Sink>(
+        &mut self,
+        options: &Options,
+        piece: &[u8],
+        sink: &mut K,
+    ) -> Result<(), Stop>
         requires { self.old.answered + length piece.now < 2 ^ 63 }
         ensures ok { OnOk result ((files : Files) (w : Option (List ℕ)) (bytes : List ℕ)
             → IsAt (setup_of options.now) files w (K.written sink.old) self.old bytes

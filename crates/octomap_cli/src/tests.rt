@@ -43,8 +43,14 @@ fn first_scripts(rt: HostRuntime) -> Result<(), Fail> {
         ("", ""),
         ("hit 0 0 0\nget 0 0 0 16\n", "ok\nknown 850 occupied\n"),
         ("hit 0 0 0\nget -0.05 -0.05 -0.05 16\n", "ok\nunknown\n"),
-        ("hit 0.05 0.05 0.05\nget 0.099999999 0 0 16\nget 0.1 0 0 16\n", "ok\nknown 850 occupied\nunknown\n"),
-        ("hit 0 0 0\nhit 0 0 0\nhit 0 0 0\nhit 0 0 0\nhit 0 0 0\nget 0 0 0 16\n", "ok\nok\nok\nok\nok\nknown 3500 occupied\n"),
+        (
+            "hit 0.05 0.05 0.05\nget 0.099999999 0 0 16\nget 0.1 0 0 16\n",
+            "ok\nknown 850 occupied\nunknown\n",
+        ),
+        (
+            "hit 0 0 0\nhit 0 0 0\nhit 0 0 0\nhit 0 0 0\nhit 0 0 0\nget 0 0 0 16\n",
+            "ok\nok\nok\nok\nok\nknown 3500 occupied\n",
+        ),
     ] {
         let (status, text) = session(&rt, script.as_bytes())?;
         assert_eq!(rt; status, Status::Done, "at {script:?}");
@@ -57,10 +63,19 @@ fn first_scripts(rt: HostRuntime) -> Result<(), Fail> {
 fn answers_of_this_stage(rt: HostRuntime) -> Result<(), Fail> {
     let (status, text) = session(&rt, b"hit 0 0\nrefresh\nget 0 0 0 15\n")?;
     assert_eq!(rt; status, Status::Refused);
-    assert_eq!(rt; text.as_slice(), b"refused 29 Syntax line 1\nrefused 36 NotYet\nrefused 36 NotYet\n".as_slice());
-    let (status, text) = session(&rt, b"hit 0 0 0 lazy\nquit\nget 0 0 0 0016\nget 0 0 0 12345678\n")?;
+    assert_eq!(rt;
+        text.as_slice(),
+        b"refused 29 Syntax line 1\nrefused 36 NotYet\nrefused 36 NotYet\n".as_slice()
+    );
+    let (status, text) = session(
+        &rt,
+        b"hit 0 0 0 lazy\nquit\nget 0 0 0 0016\nget 0 0 0 12345678\n",
+    )?;
     assert_eq!(rt; status, Status::Refused);
-    assert_eq!(rt; text.as_slice(), b"refused 36 NotYet\nrefused 36 NotYet\nunknown\nrefused 29 Syntax line 4\n".as_slice());
+    assert_eq!(rt;
+        text.as_slice(),
+        b"refused 36 NotYet\nrefused 36 NotYet\nunknown\nrefused 29 Syntax line 4\n".as_slice()
+    );
     Ok(())
 }
 
@@ -107,7 +122,10 @@ fn coordinates_at_the_faces_of_the_map(rt: HostRuntime) -> Result<(), Fail> {
     }
     let (status, text) = session(&rt, b"hit 4000 0 0\nget 0 0 0 16\n")?;
     assert_eq!(rt; status, Status::Refused);
-    assert_eq!(rt; text.as_slice(), b"refused 24 Outside point 1\nunknown\n".as_slice());
+    assert_eq!(rt;
+        text.as_slice(),
+        b"refused 24 Outside point 1\nunknown\n".as_slice()
+    );
     Ok(())
 }
 
@@ -115,12 +133,18 @@ fn coordinates_at_the_faces_of_the_map(rt: HostRuntime) -> Result<(), Fail> {
 fn line_ends_blanks_and_comments(rt: HostRuntime) -> Result<(), Fail> {
     for (script, replies) in [
         ("hit 0 0 0\r\nget 0 0 0 16", "ok\nknown 850 occupied\n"),
-        ("\n \t\n# hit 0\n  # hit\n\r\nhit 0 0\n", "refused 29 Syntax line 6\n"),
+        (
+            "\n \t\n# hit 0\n  # hit\n\r\nhit 0 0\n",
+            "refused 29 Syntax line 6\n",
+        ),
         ("\t hit \t 0  0\t0 \t\n", "ok\n"),
         ("get 0 0 0 16\r", "refused 29 Syntax line 1\n"),
         ("\r", "refused 36 NotYet\n"),
         ("#\r", ""),
-        ("hit 0 0 0 x\nhit x 0 0\nhit\nget 0 0 0\n", "refused 29 Syntax line 1\nrefused 29 Syntax line 2\nrefused 29 Syntax line 3\nrefused 29 Syntax line 4\n"),
+        (
+            "hit 0 0 0 x\nhit x 0 0\nhit\nget 0 0 0\n",
+            "refused 29 Syntax line 1\nrefused 29 Syntax line 2\nrefused 29 Syntax line 3\nrefused 29 Syntax line 4\n",
+        ),
     ] {
         let (_, text) = session(&rt, script.as_bytes())?;
         assert_eq!(rt; text.as_slice(), replies.as_bytes(), "at {script:?}");
@@ -143,7 +167,11 @@ fn lines_of_4096_bytes_are_read_and_longer_ones_are_not(rt: HostRuntime) -> Resu
         }
         script.extend_from_slice(end.as_bytes())?;
         let (_, text) = session(&rt, &script)?;
-        assert_eq!(rt; text.as_slice(), reply.as_bytes(), "{blanks} blanks and {end:?}");
+        assert_eq!(rt;
+            text.as_slice(),
+            reply.as_bytes(),
+            "{blanks} blanks and {end:?}"
+        );
     }
     Ok(())
 }
@@ -152,9 +180,19 @@ fn lines_of_4096_bytes_are_read_and_longer_ones_are_not(rt: HostRuntime) -> Resu
 fn any_cut_of_the_input_and_of_the_output_is_the_same(rt: HostRuntime) -> Result<(), Fail> {
     for most_read in [1usize, 2, 7, 4096] {
         for most_written in [3usize, 4096] {
-            let (status, text) = answer(&rt, &["session", "0.1"], b"hit 0 0 0\r\n\nget 0 0 0 16\nhit\nget 1 0 0 16", most_read, most_written)?;
+            let (status, text) = answer(
+                &rt,
+                &["session", "0.1"],
+                b"hit 0 0 0\r\n\nget 0 0 0 16\nhit\nget 1 0 0 16",
+                most_read,
+                most_written,
+            )?;
             assert_eq!(rt; status, Status::Refused, "{most_read} bytes a read");
-            assert_eq!(rt; text.as_slice(), b"ok\nknown 850 occupied\nrefused 29 Syntax line 4\nunknown\n".as_slice(), "{most_read} bytes a read");
+            assert_eq!(rt;
+                text.as_slice(),
+                b"ok\nknown 850 occupied\nrefused 29 Syntax line 4\nunknown\n".as_slice(),
+                "{most_read} bytes a read"
+            );
         }
     }
     Ok(())
@@ -179,7 +217,13 @@ fn byte_limits_before_in_and_after_a_line(rt: HostRuntime) -> Result<(), Fail> {
         };
         let mut source = CalmSource::new(FileBytes::from_slice(rt.alloc(), script)?, 5);
         let mut sink = CalmSink::new(rt.alloc(), 100);
-        let status = serve(rt.alloc(), &options, &mut source, &mut sink, &mut CalmStore::new(rt.alloc()));
+        let status = serve(
+            rt.alloc(),
+            &options,
+            &mut source,
+            &mut sink,
+            &mut CalmStore::new(rt.alloc()),
+        );
         assert_eq!(rt; status, ends, "at most {max_bytes}");
         assert_eq!(rt; sink.written(), replies.as_bytes(), "at most {max_bytes}");
     }
@@ -251,7 +295,13 @@ fn a_read_that_fails_leaves_the_replies_to_what_was_read(rt: HostRuntime) -> Res
         faults: 0,
     };
     let mut sink = CalmSink::new(rt.alloc(), 100);
-    let status = serve(rt.alloc(), &options, &mut source, &mut sink, &mut CalmStore::new(rt.alloc()));
+    let status = serve(
+        rt.alloc(),
+        &options,
+        &mut source,
+        &mut sink,
+        &mut CalmStore::new(rt.alloc()),
+    );
     assert_eq!(rt; status, Status::ReadFault);
     assert_eq!(rt; source.faults, 1);
     assert_eq!(rt; sink.written(), b"ok\nknown 850 occupied\n".as_slice());
@@ -265,12 +315,21 @@ fn a_write_that_fails_ends_the_session(rt: HostRuntime) -> Result<(), Fail> {
         odds: OddsModel::default(),
         max_bytes: 1000,
     };
-    let mut source = CalmSource::new(FileBytes::from_slice(rt.alloc(), b"hit 0 0 0\nget 0 0 0 16\n")?, 100);
+    let mut source = CalmSource::new(
+        FileBytes::from_slice(rt.alloc(), b"hit 0 0 0\nget 0 0 0 16\n")?,
+        100,
+    );
     let mut sink = FullSink {
         taken: None,
         faults: 0,
     };
-    let status = serve(rt.alloc(), &options, &mut source, &mut sink, &mut CalmStore::new(rt.alloc()));
+    let status = serve(
+        rt.alloc(),
+        &options,
+        &mut source,
+        &mut sink,
+        &mut CalmStore::new(rt.alloc()),
+    );
     assert_eq!(rt; status, Status::WriteFault);
     assert_eq!(rt; sink.taken, Some(b'o'));
     assert_eq!(rt; sink.faults, 1);

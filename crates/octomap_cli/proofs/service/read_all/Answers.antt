@@ -6,12 +6,12 @@ use Rattle.octomap_cli.proofs.service.read_all.Goals as goal
 pub returns-then-count-eq0-clause-done : goal.returns-then-count-eq0-clause-done
 returns-then-count-eq0-clause-done g c =
     last_read _ (setup_of c.args.options.now) _ _ _ _ _ _ _ _ _ c.in_ok-count.ensures.fits (c.in_ok-count.ensures.end c.if-count-eq0.true)
-        (λ files bytes w at. c.in_ok-count.ensures.goes files bytes w (c.reading.invariant.at files bytes w at)) c.end.ensures.ok
+    (λ files bytes w at. c.in_ok-count.ensures.goes files bytes w (c.reading.invariant.at files bytes w at)) c.end.ensures.ok
 
 pub returns-then-count-eq0-clause-stops : goal.returns-then-count-eq0-clause-stops
 returns-then-count-eq0-clause-stops g c =
     last_stop _ (setup_of c.args.options.now) _ _ _ _ _ _ _ _ c.in_ok-count.ensures.fits (c.in_ok-count.ensures.end c.if-count-eq0.true)
-        (λ files bytes w at. c.in_ok-count.ensures.goes files bytes w (c.reading.invariant.at files bytes w at)) c.end.ensures.only c.end.ensures.err
+    (λ files bytes w at. c.in_ok-count.ensures.goes files bytes w (c.reading.invariant.at files bytes w at)) c.end.ensures.only c.end.ensures.err
 
 pub reading-preserved : goal.reading-preserved
 reading-preserved g c = record {

@@ -10,9 +10,9 @@ returns-in_err-count-clause-stops g c =
 pub returns-in_err-take_front-clause-stops : goal.returns-in_err-take_front-clause-stops
 returns-in_err-take_front-clause-stops g c =
     stop_ends _ _ (setup_of c.args.options.now) _ _ _ _ _ _ _ _ c.args.taken _ _ c.from_residual-in_err-take_front.ensures.1 c.requires.few refl (omega (arith, c.in_ok-count.ensures.within, c.wanted.ensures))
-        c.in_ok-count.ensures.moved c.in_ok-count.ensures.bytes c.in_ok-count.ensures.enough c.split_at.ensures.front c.split_at.ensures.front_len c.in_err-take_front.ensures.stops
+    c.in_ok-count.ensures.moved c.in_ok-count.ensures.bytes c.in_ok-count.ensures.enough c.split_at.ensures.front c.split_at.ensures.front_len c.in_err-take_front.ensures.stops
 
 pub returns-clause-goes : goal.returns-clause-goes
 returns-clause-goes g c = λ files bytes w at.
     reading_more (setup_of c.args.options.now) files bytes _ _ _ _ w _ _ _ _ c.args.taken _ c.in_ok-count.ensures.moved c.in_ok-count.ensures.bytes c.in_ok-count.ensures.enough
-        c.split_at.ensures.front c.in_ok-take_front.ensures.ok at
+    c.split_at.ensures.front c.in_ok-take_front.ensures.ok at

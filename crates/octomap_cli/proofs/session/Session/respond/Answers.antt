@@ -6,9 +6,9 @@ use Rattle.octomap_cli.proofs.session.Session.respond.Goals as goal
 pub returns-in_err-write_all-clause-err : goal.returns-in_err-write_all-clause-err
 returns-in_err-write_all-clause-err g c =
     begun_err _ (setup_of c.args.options.now) _ _ c.args.self.now c.deref.result.now _ (λ p at. c.deref.ensures.value ∙ c.in_ok-answer.ensures.text p at)
-        c.in_err-write_all.ensures.err.2
+    c.in_err-write_all.ensures.err.2
 
 pub returns-clause-ok : goal.returns-clause-ok
 returns-clause-ok g c = λ w p at.
     reached_line _ w _ _ c.args.self.now _ p c.args.self.now.lines c.deref.result.now at (c.in_ok-answer.ensures.between p at.between)
-        (c.deref.ensures.value ∙ c.in_ok-answer.ensures.text p at.between) c.in_ok-write_all.ensures.ok
+    (c.deref.ensures.value ∙ c.in_ok-answer.ensures.text p at.between) c.in_ok-write_all.ensures.ok
