@@ -4,4 +4,6 @@ pub mod FormBreaks
 pub mod FormLaw
 pub mod FormReading
 pub mod MetresReading
+pub mod Nearest
+pub mod Roots
 pub mod WholeLaw

@@ -3,3 +3,4 @@ pub mod Sign
 pub mod Form
 pub mod Metres
 pub mod Whole
+pub mod Rounding

@@ -1,4 +1,4 @@
-//! Numbers as decimal text, and division that rounds down.
+//! Numbers as decimal text, and division and roots that round by a rule.
 //!
 //! Lengths are whole nanometres in an `i64`, written as decimal metres: `-1.25` stands for
 //! -1,250,000,000. The crate promises, for every text and number:
@@ -10,27 +10,34 @@
 //!   digits.
 //! - `push_whole` appends the decimal text of a number, or leaves the bytes as they were.
 //! - `floor_div` rounds down for negative numbers too.
+//! - `round_half_up` answers the nearest whole number to a fraction, and the upper one at a tie.
+//! - `ceil_sqrt` answers the least whole number whose square is at least a number.
 //!
-//! A reader takes off the sign, splits the digits at the front from what follows them, and
+//! A reader of texts takes off the sign, splits the digits at the front from what follows them, and
 //! computes in unsigned numbers; the sign comes last. Each is stated twice: as a function from
 //! texts to answers (`metres_of`, `whole_of`), which other definitions compute with, and by the
 //! form of the text alone (`IsMetres`, `BreaksAt`, `HasExcess`, `IsWholeNumber`), which says
-//! nothing of how the text is read.
+//! nothing of how the text is read. Rounding too is stated twice: as the floor of `(2n + d) / (2d)`
+//! (`half_up`), and as the number that no other one is nearer than (`IsNearest`).
 //!
 //! `Memory` is the error of every call that fails only for want of memory.
 //!
-//! It's the lowest crate: keys, the words of a command line, the script and the replies stand on
-//! it.
+//! It's the lowest crate: keys, poses, beams, the words of a command line, the script and the
+//! replies stand on it.
 #![tactic(auto)]
 
 mod decimal;
 mod division;
 mod memory;
 mod metres;
+mod root;
+mod rounding;
 mod sign;
 mod whole;
 
 pub use division::floor_div;
 pub use memory::Memory;
 pub use metres::{NumFault, read_metres};
+pub use root::ceil_sqrt;
+pub use rounding::round_half_up;
 pub use whole::{push_whole, read_whole};

@@ -1,0 +1,41 @@
+ghost use Rattle.std.specs.Prelude.{◌≡◌, ℕ, ◌*◌, ◌^◌, ◌≤◌};
+
+/// The square root of `n`, rounded up: the least whole number whose square is at least `n`. So
+/// `ceil_sqrt(4)` is 2, and `ceil_sqrt(5)` is 3.
+pub fn ceil_sqrt(n: u128) -> u64
+    requires { n ≤ 2 ^ 112 }
+    ensures enough { n ≤ result * result }
+    ensures least { (root : ℕ) → n ≤ root * root → result ≤ root }
+    ensures reach { result ≤ 2 ^ 56 }
+{
+    let floor = n.isqrt();
+    let root = if floor * floor < n { floor + 1 } else { floor };
+    root as u64
+}
+
+#[cfg(test)]
+mod tests {
+    use super::*;
+
+    #[test]
+    fn rounds_roots_up(rt: HostRuntime) {
+        for (n, want) in [
+            (0, 0),
+            (1, 1),
+            (2, 2),
+            (3, 2),
+            (4, 2),
+            (5, 3),
+            (9, 3),
+            (10, 4),
+            (1 << 110, 1 << 55),
+            ((1 << 110) - 1, 1 << 55),
+            ((1 << 110) + 1, (1 << 55) + 1),
+            ((1 << 112) - 1, 1 << 56),
+            (1 << 112, 1 << 56),
+        ] {
+            assert!(rt; n <= 1 << 112);
+            assert_eq!(rt; ceil_sqrt(n), want, "at {n}");
+        }
+    }
+}

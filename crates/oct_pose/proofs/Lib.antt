@@ -1,0 +1,5 @@
+pub mod Bounds
+pub mod Differences
+pub mod Hamilton
+pub mod Nearness
+pub mod Turns

@@ -1,0 +1,9 @@
+use Rattle.std.proofs.Common.{rules}
+use Rattle.oct_pose.proofs.Turns.{IsBounded-y_row, y_row_is}
+use Rattle.oct_pose.proofs.rotation.Quaternion.y_row.Goals as goal
+
+pub returns-clause-value : goal.returns-clause-value
+returns-clause-value c = y_row_is c.args.self _ _ _ (search rules) (search rules) (search rules)
+
+pub returns-clause-bounded : goal.returns-clause-bounded
+returns-clause-bounded c = rw (returns-clause-value c) (IsBounded-y_row c.args.self)

@@ -1,0 +1,4 @@
+pub mod Reach
+pub mod Rotation
+pub mod Hamilton
+pub mod Posed

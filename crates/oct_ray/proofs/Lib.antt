@@ -1,0 +1,12 @@
+pub mod Moments
+pub mod Crossings
+pub mod KeyLists
+pub mod Tracks
+pub mod Visits
+pub mod Differences
+pub mod Faces
+pub mod Segments
+pub mod Starts
+pub mod MapFaces
+pub mod Cuts
+pub mod Ends

@@ -1,0 +1,5 @@
+pub mod Segment
+pub mod Moment
+pub mod Axis
+pub mod Track
+pub mod Range

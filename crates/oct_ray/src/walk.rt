@@ -1,0 +1,96 @@
+ghost use Rattle.std.specs.Prelude.{◌≡◌, ◌+◌, ◌-◌, ◌*◌, ◌≤◌, length, slice_get, IsSome};
+ghost use Rattle.std.specs.Iterator.{YieldsFirst, item_count};
+ghost use Rattle.oct_key.specs.Voxel.{IsResolution, key_at};
+ghost use Rattle.oct_ray.specs.Segment.{IsWalkAlong};
+
+use crate::axis::Axis;
+use crate::track::{Track, advance, has_ended};
+use oct_key::{Key, Point, Res};
+use std::iter::FusedIterator;
+use std::marker::Model;
+
+/// The voxels that a beam meets, in the order of its way. Contracts see it as the list of the voxels still to come.
+#[derive(Debug, Drop)]
+pub struct Walk {
+    x: Track,
+    y: Track,
+    z: Track,
+    more: bool,
+}
+
+impl Model for Walk {
+    ghost use Rattle.std.specs.Prelude.{List};
+    ghost use Rattle.oct_key.specs.Voxel.{Voxel};
+
+    ghost Value = { List Voxel };
+
+    ghost use Rattle.oct_ray.specs.Track.{keys_to_come, IsWalking};
+
+    ghost view = { keys_to_come };
+
+    ghost invariant = { IsWalking };
+}
+
+impl Walk {
+    /// The walk from `o` to `e`, points of the map in nanometres: each voxel that holds a point of the closed segment between them.
+    ///
+    /// A voxel has its lower faces and not its upper ones. From one point to itself there is the one voxel that holds it.
+    pub fn new(res: Res, o: Point, e: Point) -> Walk
+        requires origin { IsSome (key_at res o) }
+        requires end { IsSome (key_at res e) }
+        ensures walk { IsWalkAlong res o e result }
+        ensures first { slice_get result 0 ≡ key_at res o }
+        ensures last { slice_get result (length result - 1) ≡ key_at res e }
+        ensures few { length result ≤ 3 * 65535 + 1 }
+    {
+        let edge = edge_of(res);
+        let x = Axis::new(edge, o.x, e.x);
+        let y = Axis::new(edge, o.y, e.y);
+        let z = Axis::new(edge, o.z, e.z);
+        Walk {
+            x: Track::new(&x, &y, &z),
+            y: Track::new(&y, &z, &x),
+            z: Track::new(&z, &x, &y),
+            more: true,
+        }
+    }
+}
+
+/// The edge of a voxel, in nanometres.
+fn edge_of(res: Res) -> u64
+    ensures value { result ≡ res }
+    ensures range { IsResolution result }
+{
+    res.nm() as u64
+}
+
+impl Iterator for Walk {
+    type Item = Key;
+
+    ghost next_gives = { YieldsFirst (λ rest. rest) };
+
+    ghost remaining = { item_count (λ rest. rest) };
+
+    /// The next voxel, or `None` where the last one was given.
+    fn next(&mut self) -> Option<Key> {
+        if !self.more {
+            return None;
+        }
+        let key = Key {
+            x: self.x.key,
+            y: self.y.key,
+            z: self.z.key,
+        };
+        if has_ended(&self.x, &self.y, &self.z) {
+            self.more = false;
+        } else {
+            advance(&mut self.x, &mut self.y, &mut self.z);
+        }
+        Some(key)
+    }
+}
+
+impl FusedIterator for Walk {}
+
+#[cfg(test)]
+mod tests;

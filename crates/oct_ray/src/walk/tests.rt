@@ -1,0 +1,283 @@
+ghost use Rattle.std.specs.Prelude.{◌≤◌};
+
+use super::*;
+use std::alloc::{AllocError, Global};
+use std::process::Abort;
+use std::test::Fail;
+
+/// A tenth of a metre.
+const TENTH: i64 = 100_000_000;
+
+/// The key of the voxels just above the origin.
+const MIDDLE: u16 = 32_768;
+
+/// A walk between two points of the map.
+fn walk(rt: &impl Abort, res: Res, o: Point, e: Point) -> Walk {
+    assert!(rt; res.key_of(o).is_some() && res.key_of(e).is_some());
+    Walk::new(res, o, e)
+}
+
+/// The point at so many hundredths of a metre.
+fn hundredths(x: i16, y: i16, z: i16) -> Point {
+    Point {
+        x: i64::from(x) * 10_000_000,
+        y: i64::from(y) * 10_000_000,
+        z: i64::from(z) * 10_000_000,
+    }
+}
+
+/// The key so many voxels from the middle.
+fn key(x: i16, y: i16, z: i16) -> Key {
+    Key {
+        x: MIDDLE.wrapping_add_signed(x),
+        y: MIDDLE.wrapping_add_signed(y),
+        z: MIDDLE.wrapping_add_signed(z),
+    }
+}
+
+#[test]
+fn lists_the_voxels_of_a_beam_in_order(rt: HostRuntime) -> Result<(), Fail> {
+    let res = Res::new(TENTH)?;
+    for (o, e, want) in [
+        // A corner touched in one point: the voxel that holds it is met.
+        (
+            hundredths(5, 15, 5),
+            hundredths(15, 5, 5),
+            &[key(0, 1, 0), key(1, 1, 0), key(1, 0, 0)][..],
+        ),
+        // An exact diagonal meets no voxel beside it.
+        (
+            hundredths(5, 5, 5),
+            hundredths(25, 25, 5),
+            &[key(0, 0, 0), key(1, 1, 0), key(2, 2, 0)],
+        ),
+        (
+            hundredths(5, 5, 5),
+            hundredths(-15, -15, -15),
+            &[key(0, 0, 0), key(-1, -1, -1), key(-2, -2, -2)],
+        ),
+        // A point to itself, inside and on faces.
+        (hundredths(5, -5, 5), hundredths(5, -5, 5), &[key(0, -1, 0)]),
+        (
+            hundredths(0, 10, -10),
+            hundredths(0, 10, -10),
+            &[key(0, 1, -1)],
+        ),
+        // Along each axis from a face, up and down.
+        (
+            hundredths(0, 0, 0),
+            hundredths(20, 0, 0),
+            &[key(0, 0, 0), key(1, 0, 0), key(2, 0, 0)],
+        ),
+        (
+            hundredths(0, 0, 0),
+            hundredths(-20, 0, 0),
+            &[key(0, 0, 0), key(-1, 0, 0), key(-2, 0, 0)],
+        ),
+        (
+            hundredths(0, 10, 0),
+            hundredths(0, 25, 0),
+            &[key(0, 1, 0), key(0, 2, 0)],
+        ),
+        (
+            hundredths(0, 10, 0),
+            hundredths(0, -1, 0),
+            &[key(0, 1, 0), key(0, 0, 0), key(0, -1, 0)],
+        ),
+        (
+            hundredths(0, 0, -10),
+            hundredths(0, 0, 10),
+            &[key(0, 0, -1), key(0, 0, 0), key(0, 0, 1)],
+        ),
+        (
+            hundredths(0, 0, -10),
+            hundredths(0, 0, -21),
+            &[key(0, 0, -1), key(0, 0, -2), key(0, 0, -3)],
+        ),
+        // Two steps on one axis for each on another.
+        (
+            hundredths(5, 5, 5),
+            hundredths(25, 15, 5),
+            &[key(0, 0, 0), key(1, 0, 0), key(1, 1, 0), key(2, 1, 0)],
+        ),
+    ] {
+        let keys: Vec<Key> = walk(&rt, res, o, e).collect(rt.alloc())?;
+        assert_eq!(rt; keys.as_slice(), want, "from {o:?} to {e:?}");
+    }
+    Ok(())
+}
+
+#[test]
+fn walks_back_in_the_exact_reverse(rt: HostRuntime) -> Result<(), Fail> {
+    let res = Res::new(TENTH)?;
+    let points = [
+        hundredths(5, 15, 5),
+        hundredths(15, 5, 5),
+        hundredths(0, 0, 0),
+        hundredths(30, 30, -30),
+        hundredths(-30, 20, 10),
+        hundredths(7, -13, 29),
+        hundredths(-20, -20, -20),
+        hundredths(40, -40, 0),
+    ];
+    for o in &points {
+        for e in &points {
+            let there: Vec<Key> = walk(&rt, res, *o, *e).collect(rt.alloc())?;
+            let mut back: Vec<Key> = walk(&rt, res, *e, *o).collect(rt.alloc())?;
+            back.reverse();
+            assert_eq!(rt; there, back, "from {o:?} to {e:?}");
+        }
+    }
+    Ok(())
+}
+
+#[test]
+fn walks_across_the_whole_map(rt: HostRuntime) -> Result<(), Fail> {
+    for nm in [100_000, TENTH, 100_000_000_000] {
+        let res = Res::new(nm)?;
+        let edge = res.nm();
+        let half = 32_768 * edge;
+        let third = edge / 3;
+        for (o, e, voxels) in [
+            // From corner to corner: each step is through an exact corner.
+            (cube(-half), cube(half - 1), 65_536),
+            (cube(half - 1), cube(-half), 65_536),
+            // One axis rises and one falls: a falling axis leaves its voxel a nanometre behind the face.
+            (
+                Point {
+                    x: -half,
+                    y: half - 1,
+                    z: 0,
+                },
+                Point {
+                    x: half - 1,
+                    y: -half,
+                    z: 0,
+                },
+                131_071,
+            ),
+            // No two axes cross together: the longest list of a beam.
+            (
+                Point {
+                    x: -half,
+                    y: -half + third,
+                    z: -half + 2 * third,
+                },
+                Point {
+                    x: half - 1 - 2 * third,
+                    y: half - 1 - third,
+                    z: half - 1,
+                },
+                196_606,
+            ),
+        ] {
+            let keys: Vec<Key> = walk(&rt, res, o, e).collect(rt.alloc())?;
+            assert_eq!(rt; keys.first().copied(), res.key_of(o), "from {o:?}");
+            assert_eq!(rt; keys.last().copied(), res.key_of(e), "to {e:?}");
+            assert_eq!(rt; keys.len(), voxels, "from {o:?} to {e:?}");
+        }
+    }
+    Ok(())
+}
+
+/// The point with this number on each axis.
+fn cube(c: i64) -> Point {
+    Point { x: c, y: c, z: c }
+}
+
+/// The key of the lowest voxels of a block of three on each axis around the middle.
+const LOWEST: u16 = MIDDLE - 1;
+
+/// A number for each axis, from the lower corner of the block.
+#[derive(Clone, Copy, Debug)]
+struct Offset {
+    x: u8,
+    y: u8,
+    z: u8,
+}
+
+/// Whether the place `p` / 24 between `o` and `e`, in half edges, lies in the voxels of a number on an axis.
+fn lies_between(o: u8, e: u8, key: u8, p: u8) -> bool
+    requires { p ≤ 24 }
+{
+    let from_o = u16::from(24 - p) * u16::from(o);
+    let from_e = u16::from(p) * u16::from(e);
+    let place = u32::from(from_o) + u32::from(from_e);
+    let face = 24 * 2 * u32::from(key);
+    face <= place && place < face + 24 * 2
+}
+
+/// The first place of a beam, in 24ths, that lies in a voxel. A beam that spans at most four half edges on each axis crosses faces at
+/// 12ths of its way alone, so that a 24th lies in each voxel that it meets.
+fn first_place(o: Offset, e: Offset, k: Offset) -> Option<u8> {
+    for p in 0..25 {
+        if lies_between(o.x, e.x, k.x, p)
+            && lies_between(o.y, e.y, k.y, p)
+            && lies_between(o.z, e.z, k.z, p)
+        {
+            return Some(p);
+        }
+    }
+    None
+}
+
+/// All offsets with these numbers on their axes.
+fn offsets(alloc: Global, numbers: &[u8]) -> Result<Vec<Offset>, AllocError> {
+    let mut offsets = Vec::new(alloc);
+    for x in numbers {
+        for y in numbers {
+            for z in numbers {
+                offsets.push(Offset {
+                    x: *x,
+                    y: *y,
+                    z: *z,
+                })?;
+            }
+        }
+    }
+    Ok(offsets)
+}
+
+/// The coordinate so many half edges above the lower corner of the block, in hundredths of a metre.
+fn coordinate(half_edges: u8) -> i16 {
+    5 * i16::from(half_edges) - 10
+}
+
+/// The point at an offset in half edges.
+fn point(at: Offset) -> Point {
+    hundredths(coordinate(at.x), coordinate(at.y), coordinate(at.z))
+}
+
+/// The number of a key in the block.
+fn number(key: u16) -> u8 {
+    u8::try_from(key.wrapping_sub(LOWEST)).unwrap_or(u8::MAX)
+}
+
+#[test]
+fn lists_what_the_definition_asks_voxel_by_voxel(rt: HostRuntime) -> Result<(), Fail> {
+    let res = Res::new(TENTH)?;
+    let block = offsets(rt.alloc(), &[0, 1, 2])?;
+    let points = offsets(rt.alloc(), &[0, 1, 3, 4])?;
+    for o in &points {
+        for e in &points {
+            let keys: Vec<Key> = walk(&rt, res, point(*o), point(*e)).collect(rt.alloc())?;
+            let mut past = None;
+            for k in &keys {
+                let voxel = Offset {
+                    x: number(k.x),
+                    y: number(k.y),
+                    z: number(k.z),
+                };
+                let place = first_place(*o, *e, voxel);
+                assert!(rt; past < place, "{k:?} from {o:?} to {e:?}");
+                past = place;
+            }
+            let met = block
+                .iter()
+                .filter(|k| first_place(*o, *e, **k).is_some())
+                .count();
+            assert_eq!(rt; keys.len(), met, "from {o:?} to {e:?}");
+        }
+    }
+    Ok(())
+}
