@@ -12,10 +12,10 @@
 //!   No coordinate of the answer is further than 3 * 10^16 nm from the translation's.
 //!
 //! The product stands as a table of nine factors of the point's coordinates, in whole numbers of at most 2^32. The weighted sums are of
-//! 128 bits, and the one division is the last step, so that nothing is lost before it. That no factor exceeds the square of the
+//! 128 bits, and only then divided, once, so that nothing is lost before it. That no factor exceeds the square of the
 //! quaternion's length is why a turned point stays near.
 //!
-//! No call allocates or touches anything but its arguments. Scans stand on this crate, since their points are seen from a pose.
+//! No call allocates or touches anything but its arguments. Scans are to stand on this crate, since their points are seen from a pose.
 
 #![tactic(auto)]
 

@@ -1,3 +1,4 @@
+-- One axis of a segment, the faces that it crosses, and which of three axes crosses next.
 use Rattle.std.specs.Prelude.{◌≡◌, ℕ, zero, suc, ◌+◌, ◌-◌, ◌*◌, ◌/◌, ◌%◌, ◌^◌, ◌<◌, ◌≤◌, max, Bool, true, false, cond, not, leb, eqb, ◌&&◌, ◌||◌, List, [], ◌∷◌, ℤ, pos, neg_ℤ, ◌-ℤ◌, ◌≤ℤ◌, ◌<ℤ◌}
 use Rattle.oct_key.specs.Voxel.{Voxel}
 use Rattle.oct_ray.specs.declared.axis.Axis.{Axis}

@@ -1,3 +1,4 @@
+-- Moments on the way along a segment, and their order.
 use Rattle.std.specs.Prelude.{ℕ, ◌+◌, ◌*◌, ◌<◌, ◌≤◌}
 
 -- a moment on the way along a segment: at the place num/den, or, where late is 1, just behind it

@@ -1,3 +1,4 @@
+-- How far points are from one another, and where a beam is cut.
 use Rattle.std.specs.Prelude.{◌≡◌, ℕ, ◌+◌, ◌*◌, ◌≤◌, ℤ, pos, ◌+ℤ◌, ◌-ℤ◌, ◌*ℤ◌, unsigned_abs}
 use Rattle.std.specs.Int.RustNames.{int_div}
 use Rattle.oct_key.specs.declared.point.Point.{Point}

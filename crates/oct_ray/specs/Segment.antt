@@ -1,3 +1,4 @@
+-- The voxels that a segment meets, and their order on the way.
 use Rattle.std.specs.Prelude.{◌≢◌, ℕ, ◌*◌, ◌<◌, ◌≤◌, List, ℤ, pos, ◌+ℤ◌, ◌-ℤ◌, ◌*ℤ◌, ◌≤ℤ◌, ◌<ℤ◌, All, AllPairs, Contains}
 use Rattle.oct_key.specs.Voxel.{Voxel, lower_face}
 use Rattle.oct_key.specs.declared.point.Point.{Point}

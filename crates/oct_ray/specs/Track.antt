@@ -1,3 +1,4 @@
+-- What a walk keeps of its axes, and the voxels that it has still to give.
 use Rattle.std.specs.Prelude.{◌≡◌, ℕ, zero, suc, ◌+◌, ◌-◌, ◌*◌, ◌^◌, ◌<◌, ◌≤◌, Bool, true, false, cond, ◌&&◌, eqb, leb, List, [], ◌∷◌}
 use Rattle.oct_key.specs.Voxel.{Voxel}
 use Rattle.oct_ray.specs.declared.axis.Axis.{Axis}

@@ -13,6 +13,8 @@ fn cuts_toward_the_origin_with_the_signs_of_the_beam(rt: HostRuntime) {
     // The root of 18 is rounded up to 5, and 6 / 5 toward 0.
     assert_eq!(rt; cut(zero, point(-3, -3, 0), 2), point(-1, -1, 0));
     assert_eq!(rt; cut(zero, point(3, 3, 0), 2), point(1, 1, 0));
+    // 9 / 5: with a length of 4 it would be 9 / 4.
+    assert_eq!(rt; cut(zero, point(-3, -3, 0), 3), point(-1, -1, 0));
     // From another origin: -12 / 5 and 16 / 5.
     assert_eq!(rt; cut(point(10, -10, 5), point(7, -6, 5), 4), point(8, -7, 5));
     // No range at all.

@@ -142,7 +142,7 @@ fn walks_across_the_whole_map(rt: HostRuntime) -> Result<(), Fail> {
             // From corner to corner: each step is through an exact corner.
             (cube(-half), cube(half - 1), 65_536),
             (cube(half - 1), cube(-half), 65_536),
-            // One axis rises and one falls: a falling axis leaves its voxel a nanometre behind the face.
+            // One axis rises and one falls, and starts a nanometre nearer to its first face: no two faces are crossed together.
             (
                 Point {
                     x: -half,
