@@ -1,2 +1,4 @@
 pub mod Voxel
 pub mod Values
+pub mod Block
+pub mod CubeOf

@@ -9,15 +9,22 @@
 //! - [`Res::new`] accepts exactly the resolutions from 0.1 mm to 100 m, and each [`Res`] that exists is one of them.
 //! - [`Res::key_of`] is the floor rule, and also what the rule is for: the voxel that is answered holds the point, no other voxel of
 //!   the map does, and where none is answered no voxel of the map holds it.
+//! - [`Block::of`] is the one block of its depth that holds the voxel, and [`child_index`] says which of that block's eight children
+//!   holds it. A [`Block::child`] holds exactly the voxels of its block with that index, and [`Block::parent`] goes back.
+//!
+//! A block is a cube of 2^(16 - depth) voxels on each axis: depth 0 is the whole map, and each block is cut in half on each axis into
+//! the eight of the next depth, down to depth 16, where a block is a voxel.
 //!
 //! No call allocates, fails by memory or touches anything but its arguments. The crates of a map stand on this one, and cite its
 //! definitions: `Voxel` and `Values` for what a map means, `with_value` for a change of one voxel, `key_at` and `Holds` for where a
-//! point lies, and `key_cmp` for the order of voxels, by x, y and z.
+//! point lies, `key_cmp` for the order of voxels, by x, y and z, and `block_of`, `child_of` and `HoldsVoxel` for the blocks.
 
 #![tactic(auto)]
 
+mod block;
 mod point;
 mod resolution;
 
+pub use block::{Block, child_index};
 pub use point::{Key, Point};
 pub use resolution::{BadResolution, Res};
