@@ -1,9 +1,9 @@
 -- The voxel that the floor rule gives holds the point, and no other voxel of the map does.
-use Rattle.std.proofs.Common.{◌≡◌, ℕ, suc, ◌*◌, ◌<◌, ◌≤◌, ℤ, pos, negsuc, ◌+ℤ◌, ◌-ℤ◌, ◌*ℤ◌, ◌≤ℤ◌, ◌<ℤ◌, Option, Some, None, IfSome, IfNone, arith, refl, sym, ap, ◌∙◌}
+use Rattle.std.proofs.Common.{◌≡◌, ℕ, ◌<◌, ◌≤◌, ℤ, pos, negsuc, ◌+ℤ◌, ◌-ℤ◌, ◌*ℤ◌, ◌≤ℤ◌, ◌<ℤ◌, Option, Some, None, IfSome, IfNone, arith, refl, sym, ap, ◌∙◌}
 use Rattle.std.proofs.lemmas.Int.{ints, by_lt_z}
-use Rattle.std.proofs.Math.Nat.{mul-le-mul_right}
 use Rattle.std.specs.Int.{int_div_euclid}
 use Rattle.oct_num.proofs.Floor.{floor_low, floor_high}
+use Rattle.oct_num.proofs.Nearest.{apart}
 use Rattle.oct_key.specs.declared.point.Point.{Point}
 use Rattle.oct_key.specs.Voxel.{Voxel, IsInMap, Holds, HoldsOnAxis, in_range, axis_key, key_from, key_at}
 
@@ -15,22 +15,12 @@ some_from_range (negsuc n) key h = cc
 range_from_below : (key : ℕ) → key < 65536 → in_range (pos key) ≡ Some key
 range_from_below key below = grind arith
 
--- cubes of a smaller number end before those of a greater one begin
-apart : (q m : ℤ) (edge : ℕ) → q <ℤ m → (q *ℤ pos edge +ℤ pos edge) ≤ℤ (m *ℤ pos edge)
-apart (pos a) (pos b) edge h =
-    let more : suc a * edge ≤ b * edge = mul-le-mul_right edge (omega (arith, ints)) in
-    omega (arith, ints)
-apart (negsuc a) (pos b) edge h = omega (arith, ints)
-apart (negsuc a) (negsuc b) edge h =
-    let more : suc b * edge ≤ a * edge = mul-le-mul_right edge (omega (arith, ints)) in
-    omega (arith, ints)
-apart (pos a) (negsuc b) edge h = absurd (omega (arith, ints))
-
 -- a coordinate lies in the interval of one number alone
-same_floor : (q m c : ℤ) (edge : ℕ) → (q *ℤ pos edge) ≤ℤ c → c <ℤ (q *ℤ pos edge +ℤ pos edge) → (m *ℤ pos edge) ≤ℤ c → c <ℤ (m *ℤ pos edge +ℤ pos edge) → q ≡ m
-same_floor q m c edge low high low' high' =
-    by_lt_z q m (λ below. absurd (omega (arith, ints, apart q m edge below)))
-    (λ not_below. by_lt_z m q (λ above. absurd (omega (arith, ints, apart m q edge above))) (λ not_above. omega (arith, ints)))
+same_floor : (q m c : ℤ) (edge : ℕ) → 1 ≤ edge → (q *ℤ pos edge) ≤ℤ c → c <ℤ (q *ℤ pos edge +ℤ pos edge) → (m *ℤ pos edge) ≤ℤ c → c <ℤ (m *ℤ pos edge +ℤ pos edge) → q ≡ m
+same_floor q m c edge positive low high low' high' =
+    let some : pos 1 ≤ℤ pos edge = omega (arith, ints) in
+    by_lt_z q m (λ below. absurd (omega (arith, ints, apart q m (pos edge) some below)))
+    (λ not_below. by_lt_z m q (λ above. absurd (omega (arith, ints, apart m q (pos edge) some above))) (λ not_above. omega (arith, ints)))
 
 holds_from_key : (edge key : ℕ) (c : ℤ) → 1 ≤ edge → axis_key edge c ≡ Some key → HoldsOnAxis edge key c
 holds_from_key edge key c positive h =
@@ -40,7 +30,7 @@ holds_from_key edge key c positive h =
 
 key_from_holds : (edge key : ℕ) (c : ℤ) → 1 ≤ edge → key < 65536 → HoldsOnAxis edge key c → axis_key edge c ≡ Some key
 key_from_holds edge key c positive below h =
-    let floor : int_div_euclid c (pos edge) ≡ (pos key -ℤ pos 32768) = same_floor _ _ c edge (floor_low c (pos edge) (omega (arith, ints))) (floor_high c (pos edge) (omega (arith, ints))) h.0 h.1 in
+    let floor : int_div_euclid c (pos edge) ≡ (pos key -ℤ pos 32768) = same_floor _ _ c edge positive (floor_low c (pos edge) (omega (arith, ints))) (floor_high c (pos edge) (omega (arith, ints))) h.0 h.1 in
     let is : (int_div_euclid c (pos edge) +ℤ pos 32768) ≡ pos key = omega (arith, ints) in
     ap in_range is ∙ range_from_below key below
 

@@ -1,3 +1,4 @@
+pub mod Differences
 pub mod DigitRuns
 pub mod Floor
 pub mod FormBreaks

@@ -4,7 +4,7 @@ use Rattle.oct_key.specs.declared.point.Point.{Point}
 use Rattle.oct_pose.specs.declared.rotation.Quaternion.{Quaternion}
 use Rattle.oct_pose.specs.Hamilton.{turned}
 use Rattle.oct_pose.specs.Rotation.{x_row, y_row, z_row, weighted}
-use Rattle.oct_pose.proofs.Differences.{parts, natural, plus, minus, negated, times, equal}
+use Rattle.oct_num.proofs.Differences.{parts, natural, plus, minus, negated, times, equal}
 
 pub turned_x : (q : Quaternion) (p : Point) → (turned q p).x ≡ weighted (x_row q) p
 turned_x q p =

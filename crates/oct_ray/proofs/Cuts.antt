@@ -1,21 +1,13 @@
 -- Where a beam is cut.
-use Rattle.std.proofs.Common.{◌≡◌, ℕ, ◌+◌, ◌*◌, ◌/◌, ◌^◌, ◌<◌, ◌≤◌, inl, inr, refl, arith, ◌∙◌, ap, ℤ, pos, negsuc, neg_ℤ, ◌+ℤ◌, ◌-ℤ◌, ◌*ℤ◌, ◌≤ℤ◌, unsigned_abs}
-use Rattle.std.proofs.lemmas.Bool.{cases_lt}
+use Rattle.std.proofs.Common.{◌≡◌, ℕ, ◌+◌, ◌*◌, ◌/◌, ◌^◌, ◌<◌, ◌≤◌, refl, arith, ◌∙◌, ap, ℤ, pos, negsuc, neg_ℤ, ◌+ℤ◌, ◌-ℤ◌, ◌*ℤ◌, ◌≤ℤ◌, unsigned_abs}
 use Rattle.std.proofs.lemmas.Int.{ints, by_lt_z}
 use Rattle.std.proofs.lemmas.Nat.{mul-le}
 use Rattle.std.proofs.Math.Nat.{div-le_of_le-mul, mul-le-mul_left, mul-le-mul_right, le_of_mul-le-mul_right, mul-pos}
 use Rattle.std.specs.Int.RustNames.{int_div}
 use borrow.Author.Differences.{up, down, product_is, quot_is}
+use Rattle.oct_num.proofs.Roots.{root_lt, root_le}
 use Rattle.oct_key.specs.declared.point.Point.{Point}
 use Rattle.oct_ray.specs.Range.{IsCutEnd, axis_distance, cut_coordinate, square_distance}
-
--- of two numbers the one with the smaller square is smaller
-root_lt : (a b : ℕ) → a * a < b * b → a < b
-root_lt a b h = elim (cases_lt a b) [ inl less ↦ less | inr more ↦ let squares : b * b ≤ a * a = mul-le _ _ _ _ more more in absurd (omega arith) ]
-
--- of two numbers the one whose square is no greater is no greater
-root_le : (a b : ℕ) → a * a ≤ b * b → a ≤ b
-root_le a b h = elim (cases_lt b a) [ inl more ↦ let squares : (b + 1) * (b + 1) ≤ a * a = mul-le _ _ _ _ (omega arith) (omega arith) in absurd (omega arith) | inr no_more ↦ no_more ]
 
 -- a range below the distance is below the length
 pub range_lt : (range r square s l : ℕ) → range ≡ r → square ≡ s → r * r < s → square ≤ l * l → range < l

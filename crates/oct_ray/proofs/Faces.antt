@@ -6,37 +6,37 @@ use Rattle.oct_ray.specs.Segment.{IsBetweenFaces}
 use Rattle.oct_ray.specs.Moment.{Moment}
 use Rattle.oct_ray.specs.Axis.{HasRoom, lateness}
 use Rattle.oct_ray.specs.declared.axis.Axis.{Axis}
-use Rattle.oct_ray.proofs.Differences.{IsDiff, diff_minus, diff_plus, diff_scale, diff_scale_left, diff_le, diff_le_back, diff_lt, diff_lt_back}
+use Rattle.oct_num.proofs.Differences.{IsDifference, natural, of_naturals, plus, scaled, scaled_left, le, lt, from_le, from_lt}
 use Rattle.oct_ray.proofs.Visits.{IsAt, IsDueAfter, key_after}
 use Rattle.oct_ray.proofs.Crossings.{product_plus_one}
 
-face_diff : (k R q : ℕ) → IsDiff (((pos k -ℤ pos 32768) *ℤ pos R) *ℤ pos q) (k * R * q) (32768 * R * q)
-face_diff k R q = diff_scale _ (k * R) (32768 * R) q (diff_scale _ k 32768 R (diff_minus k 32768))
+face_diff : (k R q : ℕ) → IsDifference (((pos k -ℤ pos 32768) *ℤ pos R) *ℤ pos q) (k * R * q) (32768 * R * q)
+face_diff k R q = scaled q (scaled R (of_naturals k 32768))
 
-next_face_diff : (k R q : ℕ) → IsDiff ((((pos k -ℤ pos 32768) *ℤ pos R) +ℤ pos R) *ℤ pos q) ((k * R + R) * q) ((32768 * R + 0) * q)
-next_face_diff k R q = diff_scale _ (k * R + R) (32768 * R + 0) q (diff_plus _ (pos R) (k * R) (32768 * R) R 0 (diff_scale _ k 32768 R (diff_minus k 32768)) (record { same = omega arith }))
+next_face_diff : (k R q : ℕ) → IsDifference ((((pos k -ℤ pos 32768) *ℤ pos R) +ℤ pos R) *ℤ pos q) ((k * R + R) * q) ((32768 * R + 0) * q)
+next_face_diff k R q = scaled q (plus (scaled R (of_naturals k 32768)) (natural R))
 
-line_diff : (o e : ℤ) (v u d c p q : ℕ) → IsDiff o v u → IsDiff (e -ℤ o) d c → IsDiff ((o *ℤ pos q) +ℤ (pos p *ℤ (e -ℤ o))) (v * q + p * d) (u * q + p * c)
-line_diff o e v u d c p q h k = diff_plus _ _ (v * q) (u * q) (p * d) (p * c) (diff_scale o v u q h) (diff_scale_left (e -ℤ o) d c p k)
+line_diff : (o e : ℤ) (v u d c p q : ℕ) → IsDifference o v u → IsDifference (e -ℤ o) d c → IsDifference ((o *ℤ pos q) +ℤ (pos p *ℤ (e -ℤ o))) (v * q + p * d) (u * q + p * c)
+line_diff o e v u d c p q h k = plus (scaled q h) (scaled_left p k)
 
 -- between the faces of the voxel k, in whole numbers from 0: the line starts at K * R + r, and goes up by d, or down by c
-within_out : (R : ℕ) (o e : ℤ) (K r d c k p q : ℕ) → IsDiff o (K * R + r) (32768 * R) → IsDiff (e -ℤ o) d c → IsBetweenFaces R o e k p q →
+within_out : (R : ℕ) (o e : ℤ) (K r d c k p q : ℕ) → IsDifference o (K * R + r) (32768 * R) → IsDifference (e -ℤ o) d c → IsBetweenFaces R o e k p q →
     (k * R * q + p * c ≤ (K * R + r) * q + p * d) × ((K * R + r) * q + p * d < (k * R + R) * q + p * c)
 within_out R o e K r d c k p q h g w =
     let f = face_diff k R q in
     let n = next_face_diff k R q in
     let l = line_diff o e (K * R + r) (32768 * R) d c p q h g in
-    let a = diff_le _ _ _ _ _ _ f l w.lower in
-    let b = diff_lt _ _ _ _ _ _ l n w.upper in
+    let a = le f l w.lower in
+    let b = lt l n w.upper in
     (omega arith, omega arith)
 
-within_in : (R : ℕ) (o e : ℤ) (K r d c k p q : ℕ) → IsDiff o (K * R + r) (32768 * R) → IsDiff (e -ℤ o) d c →
+within_in : (R : ℕ) (o e : ℤ) (K r d c k p q : ℕ) → IsDifference o (K * R + r) (32768 * R) → IsDifference (e -ℤ o) d c →
     k * R * q + p * c ≤ (K * R + r) * q + p * d → (K * R + r) * q + p * d < (k * R + R) * q + p * c → IsBetweenFaces R o e k p q
 within_in R o e K r d c k p q h g a b =
     let f = face_diff k R q in
     let n = next_face_diff k R q in
     let l = line_diff o e (K * R + r) (32768 * R) d c p q h g in
-    record { lower = diff_le_back _ _ _ _ _ _ f l (omega arith); upper = diff_lt_back _ _ _ _ _ _ l n (omega arith) }
+    record { lower = from_le f l (omega arith); upper = from_lt l n (omega arith) }
 
 abbrev pub place : ℕ → ℕ → Moment
 place p q = record { num = p; den = q; late = 0 }
@@ -198,8 +198,8 @@ pub record IsLaid (edge : ℕ) (o e : ℤ) (a : Axis) : Type 0 where
   pub edge_is : edge ≡ a.edge
   pub r : ℕ
   pub D : ℕ
-  pub at : IsDiff o (a.key * a.edge + r) (32768 * a.edge)
-  pub way : (IsDiff (e -ℤ o) D 0 × IsLaidUp a r D) ⊎ (IsDiff (e -ℤ o) 0 D × IsLaidDown a r D)
+  pub at : IsDifference o (a.key * a.edge + r) (32768 * a.edge)
+  pub way : (IsDifference (e -ℤ o) D 0 × IsLaidUp a r D) ⊎ (IsDifference (e -ℤ o) 0 D × IsLaidDown a r D)
 
 pub laid_timed : (edge : ℕ) (o e : ℤ) (a : Axis) → IsLaid edge o e a → IsDueAfter a (place 0 1)
 laid_timed edge o e a l = elim l.way [ inl w ↦ up_timed a l.r l.D w.1 | inr w ↦ down_timed a l.r l.D w.1 ]

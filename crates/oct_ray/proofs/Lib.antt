@@ -3,7 +3,6 @@ pub mod Crossings
 pub mod KeyLists
 pub mod Tracks
 pub mod Visits
-pub mod Differences
 pub mod Faces
 pub mod Segments
 pub mod Starts

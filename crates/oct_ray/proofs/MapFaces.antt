@@ -7,16 +7,16 @@ use Rattle.oct_key.specs.Voxel.{Voxel, HoldsOnAxis, IsResolution, lower_face, ke
 use Rattle.oct_key.specs.declared.point.Point.{Point}
 use Rattle.oct_key.proofs.Faces.{Holds-key_at, IsInMap-key_at}
 use Rattle.oct_ray.specs.Axis.{IsOnMap}
-use Rattle.oct_ray.proofs.Differences.{IsDiff, diff_minus, diff_scale, diff_plus, diff_le, diff_lt}
+use Rattle.oct_num.proofs.Differences.{IsDifference, parts, natural, of_naturals, scaled, plus, le, lt}
 
 -- what a voxel of the map holds on an axis lies on the map
 on_map : (edge key : ℕ) (c : ℤ) → key < 65536 → HoldsOnAxis edge key c → IsOnMap edge c
 on_map edge key c below h =
-    let itself : IsDiff c (up c) (down c) = record { same = omega arith } in
-    let face : IsDiff (lower_face edge key) (key * edge) (32768 * edge) = diff_scale _ key 32768 edge (diff_minus key 32768) in
-    let next : IsDiff (lower_face edge key +ℤ pos edge) (key * edge + edge) (32768 * edge + 0) = diff_plus _ (pos edge) _ _ edge 0 face (record { same = omega arith }) in
-    let low = diff_le _ _ _ _ _ _ face itself h.0 in
-    let high = diff_lt _ _ _ _ _ _ itself next h.1 in
+    let itself : IsDifference c (up c) (down c) = parts c in
+    let face : IsDifference (lower_face edge key) (key * edge) (32768 * edge) = scaled edge (of_naturals key 32768) in
+    let next : IsDifference (lower_face edge key +ℤ pos edge) (key * edge + edge) (32768 * edge + 0) = plus face (natural edge) in
+    let low = le face itself h.0 in
+    let high = lt itself next h.1 in
     let room : (key + 1) * edge ≤ 65536 * edge = mul-le-mul_right edge (omega arith) in
     (omega (arith, ints), omega (arith, ints))
 

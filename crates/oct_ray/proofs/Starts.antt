@@ -10,7 +10,7 @@ use Rattle.oct_ray.specs.Segment.{IsWalkAlong}
 use Rattle.oct_ray.specs.Axis.{axis_keys}
 use Rattle.oct_ray.specs.declared.axis.Axis.{Axis}
 use Rattle.oct_key.specs.declared.point.Point.{Point}
-use Rattle.oct_ray.proofs.Differences.{IsDiff}
+use Rattle.oct_num.proofs.Differences.{IsDifference}
 use Rattle.oct_ray.proofs.Faces.{IsLaid, IsLaidUp, IsLaidDown, up_late, down_late, row_below}
 use Rattle.oct_ray.specs.Track.{IsTrackOf, AreTracks, keys_to_come}
 use Rattle.oct_ray.specs.declared.track.Track.{Track}
@@ -20,14 +20,14 @@ use Rattle.oct_ray.proofs.Tracks.{make_walk, keys_are}
 use Rattle.oct_ray.proofs.Segments.{IsSet, keys_walk}
 
 -- what a height says of a coordinate
-height_diff : (edge a : ℕ) (c : ℤ) → c ≡ (pos a -ℤ pos (32768 * edge)) → IsDiff c a (32768 * edge)
+height_diff : (edge a : ℕ) (c : ℤ) → c ≡ (pos a -ℤ pos (32768 * edge)) → IsDifference c a (32768 * edge)
 height_diff edge a c h = record { same = omega (arith, ints) }
 
 -- how far the end lies from the origin, where it lies no lower, and where it lies lower
-move_up : (o e : ℤ) (a b u : ℕ) → IsDiff o a u → IsDiff e b u → a ≤ b → IsDiff (e -ℤ o) (b - a) 0
+move_up : (o e : ℤ) (a b u : ℕ) → IsDifference o a u → IsDifference e b u → a ≤ b → IsDifference (e -ℤ o) (b - a) 0
 move_up o e a b u h k l = record { same = omega (arith, ints, h.same, k.same) }
 
-move_down : (o e : ℤ) (a b u : ℕ) → IsDiff o a u → IsDiff e b u → b < a → IsDiff (e -ℤ o) 0 (a - b)
+move_down : (o e : ℤ) (a b u : ℕ) → IsDifference o a u → IsDifference e b u → b < a → IsDifference (e -ℤ o) 0 (a - b)
 move_down o e a b u h k l = record { same = omega (arith, ints, h.same, k.same) }
 
 split : (a edge : ℕ) → 0 < edge → ((a / edge) * edge + a % edge ≡ a) × (a % edge < edge)
@@ -82,7 +82,7 @@ laid_from edge o e a b x ho he ix l =
     let de = height_diff edge b e he in
     let e0 : x.key * edge ≡ (a / edge) * edge = ap (λ (n : ℕ). n * edge) l.key in
     let e2 : x.key * x.edge ≡ x.key * edge = ap (λ (n : ℕ). x.key * n) l.edges in
-    let from : IsDiff o (x.key * x.edge + a % edge) (32768 * x.edge) = record { same = omega (arith, da.same, l.edges) } in
+    let from : IsDifference o (x.key * x.edge + a % edge) (32768 * x.edge) = record { same = omega (arith, da.same, l.edges) } in
     elim (cases_lt b a) [
       | inl lt ↦ record { edge_is = sym l.edges; r = a % edge; D = a - b; at = from; way = inr (move_down o e a b (32768 * edge) da de lt, laid_down edge a b x ix l lt) }
       | inr ge ↦ record { edge_is = sym l.edges; r = a % edge; D = b - a; at = from; way = inl (move_up o e a b (32768 * edge) da de ge, laid_up edge a b x ix l ge) }

@@ -1,5 +1,5 @@
--- Integers as differences of natural numbers, so that products of sums can be compared.
-use Rattle.std.proofs.Common.{◌≡◌, ℕ, ◌+◌, ◌*◌, ℤ, pos, neg_ℤ, ◌+ℤ◌, ◌-ℤ◌, ◌*ℤ◌, arith, ap}
+-- Whole numbers as differences of natural ones, so that sums and products are reckoned and compared without signs.
+use Rattle.std.proofs.Common.{◌≡◌, ℕ, ◌+◌, ◌*◌, ◌<◌, ◌≤◌, ℤ, pos, neg_ℤ, ◌+ℤ◌, ◌-ℤ◌, ◌*ℤ◌, ◌≤ℤ◌, ◌<ℤ◌, arith, ap}
 use Rattle.std.proofs.lemmas.Int.{ints}
 use borrow.Author.Differences.{up, down, product_is}
 
@@ -12,6 +12,9 @@ parts z = record { same = omega arith }
 
 pub natural : (n : ℕ) → IsDifference (pos n) n 0
 natural n = record { same = omega (arith, ints) }
+
+pub of_naturals : (a b : ℕ) → IsDifference (pos a -ℤ pos b) a b
+of_naturals a b = record { same = omega (arith, ints) }
 
 pub plus : {y z : ℤ} {a b c d : ℕ} → IsDifference y a b → IsDifference z c d → IsDifference (y +ℤ z) (a + c) (b + d)
 plus h k = record { same = omega (arith, ints, h.same, k.same) }
@@ -32,6 +35,26 @@ times {y = y} {z = z} {a = a} {b = b} {c = c} {d = d} h k =
     let e = cross (up y) (down y) a b (up z) (down z) c d h.same k.same in
     record { same = omega (arith, is.0, is.1, e) }
 
+-- the product with a natural number, which may stand on either side
+pub scaled : {z : ℤ} {a b : ℕ} → (n : ℕ) → IsDifference z a b → IsDifference (z *ℤ pos n) (a * n) (b * n)
+scaled {z = z} n h = record { same = omega (arith, product_is z (pos n), ap (λ m. m * n) h.same) }
+
+pub scaled_left : {z : ℤ} {a b : ℕ} → (n : ℕ) → IsDifference z a b → IsDifference (pos n *ℤ z) (n * a) (n * b)
+scaled_left {z = z} n h = record { same = omega (arith, product_is (pos n) z, ap (λ m. n * m) h.same) }
+
 -- equal differences are one number
 pub equal : {y z : ℤ} {a b c d : ℕ} → IsDifference y a b → IsDifference z c d → a + d ≡ b + c → y ≡ z
 equal h k e = omega (arith, ints, h.same, k.same, e)
+
+-- numbers compare as their differences do
+pub le : {y z : ℤ} {a b c d : ℕ} → IsDifference y a b → IsDifference z c d → y ≤ℤ z → a + d ≤ c + b
+le h k l = omega (arith, ints, h.same, k.same, l)
+
+pub lt : {y z : ℤ} {a b c d : ℕ} → IsDifference y a b → IsDifference z c d → y <ℤ z → a + d < c + b
+lt h k l = omega (arith, ints, h.same, k.same, l)
+
+pub from_le : {y z : ℤ} {a b c d : ℕ} → IsDifference y a b → IsDifference z c d → a + d ≤ c + b → y ≤ℤ z
+from_le h k l = omega (arith, ints, h.same, k.same, l)
+
+pub from_lt : {y z : ℤ} {a b c d : ℕ} → IsDifference y a b → IsDifference z c d → a + d < c + b → y <ℤ z
+from_lt h k l = omega (arith, ints, h.same, k.same, l)
