@@ -2,3 +2,4 @@ pub mod Voxel
 pub mod Values
 pub mod Block
 pub mod CubeOf
+pub mod Morton

@@ -11,20 +11,29 @@
 //!   the map does, and where none is answered no voxel of the map holds it.
 //! - [`Block::of`] is the one block of its depth that holds the voxel, and [`child_index`] says which of that block's eight children
 //!   holds it. A [`Block::child`] holds exactly the voxels of its block with that index, and [`Block::parent`] goes back.
+//! - [`morton`] is the code of a voxel whose bits are those of its three numbers in turn, and [`from_morton`] the one voxel of a code.
+//!   Two voxels lie in one block of a depth exactly where their codes have the same leading bits, three for each level down to there,
+//!   and the three bits after them are the index of the child. So voxels in the order of their codes come block by block.
+//! - [`PointList`] and [`KeyList`] keep what they are given, in order.
 //!
 //! A block is a cube of 2^(16 - depth) voxels on each axis: depth 0 is the whole map, and each block is cut in half on each axis into
 //! the eight of the next depth, down to depth 16, where a block is a voxel.
 //!
-//! No call allocates, fails by memory or touches anything but its arguments. The crates of a map stand on this one, and cite its
-//! definitions: `Voxel` and `Values` for what a map means, `with_value` for a change of one voxel, `key_at` and `Holds` for where a
-//! point lies, `key_cmp` for the order of voxels, by x, y and z, and `block_of`, `child_of` and `HoldsVoxel` for the blocks.
+//! No call but `push` of a list allocates, and none touches anything but its arguments. The crates of a map stand on this one, and
+//! cite its definitions: `Voxel` and `Values` for what a map means, `with_value` for a change of one voxel, `key_at` and `Holds` for
+//! where a point lies, `key_cmp` for the order of voxels by x, y and z, `morton_of` for that along the Z-order curve (Morton 1966), and
+//! `block_of`, `child_of` and `HoldsVoxel` for the blocks.
 
 #![tactic(auto)]
 
 mod block;
+mod lists;
+mod morton_code;
 mod point;
 mod resolution;
 
 pub use block::{Block, child_index};
+pub use lists::{KeyList, PointList};
+pub use morton_code::{from_morton, morton};
 pub use point::{Key, Point};
 pub use resolution::{BadResolution, Res};

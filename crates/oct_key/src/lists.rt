@@ -1,0 +1,122 @@
+ghost use Rattle.std.specs.Prelude.{◌≡◌, ◌++◌, ◌∷◌, [], OnErr, OnOk};
+
+use crate::point::{Key, Point};
+use oct_num::Memory;
+use std::alloc::Global;
+use std::marker::Model;
+
+/// Points. Contracts see them as a list.
+#[derive(Debug, Drop)]
+pub struct PointList {
+    points: Vec<Point>,
+}
+
+impl Model for PointList {
+    ghost use Rattle.std.specs.Prelude.{List};
+    ghost use Rattle.oct_key.specs.declared.point.Point.{Point};
+
+    ghost Value = { List Point };
+
+    ghost view = { λ list. list.points.items };
+}
+
+impl PointList {
+    /// No points.
+    pub fn new(alloc: Global) -> Self
+        ensures { result ≡ [] }
+    {
+        PointList {
+            points: Vec::new(alloc),
+        }
+    }
+
+    /// The points in order.
+    pub fn as_slice(&self) -> &[Point]
+        ensures { result.now ≡ self.now }
+    {
+        self.points.as_slice()
+    }
+
+    /// Adds a point at the end. Where memory is wanting, the list stays as it is.
+    pub fn push(&mut self, point: Point) -> Result<(), Memory>
+        ensures ok { OnOk result (self.new ≡ self.old ++ point ∷ []) }
+        ensures err { OnErr result (self.new ≡ self.old) }
+    {
+        self.points.push(point)?;
+        Ok(())
+    }
+}
+
+/// Keys of voxels. Contracts see them as a list.
+#[derive(Debug, Drop)]
+pub struct KeyList {
+    keys: Vec<Key>,
+}
+
+impl Model for KeyList {
+    ghost use Rattle.std.specs.Prelude.{List};
+    ghost use Rattle.oct_key.specs.Voxel.{Voxel};
+
+    ghost Value = { List Voxel };
+
+    ghost view = { λ list. list.keys.items };
+}
+
+impl KeyList {
+    /// No keys.
+    pub fn new(alloc: Global) -> Self
+        ensures { result ≡ [] }
+    {
+        KeyList {
+            keys: Vec::new(alloc),
+        }
+    }
+
+    /// The keys in order.
+    pub fn as_slice(&self) -> &[Key]
+        ensures { result.now ≡ self.now }
+    {
+        self.keys.as_slice()
+    }
+
+    /// Adds a key at the end. Where memory is wanting, the list stays as it is.
+    pub fn push(&mut self, key: Key) -> Result<(), Memory>
+        ensures ok { OnOk result (self.new ≡ self.old ++ key ∷ []) }
+        ensures err { OnErr result (self.new ≡ self.old) }
+    {
+        self.keys.push(key)?;
+        Ok(())
+    }
+}
+
+#[cfg(test)]
+mod tests {
+    use super::*;
+    use std::test::Fail;
+
+    #[test]
+    fn points_and_keys_stand_in_the_order_of_their_adding(rt: HostRuntime) -> Result<(), Fail> {
+        let mut points = PointList::new(rt.alloc());
+        assert!(rt; points.as_slice().is_empty());
+        let low = Point { x: -1, y: 0, z: 2 };
+        let high = Point { x: 3, y: -4, z: 5 };
+        for point in [high, low, high] {
+            points.push(point)?;
+        }
+        assert_eq!(rt; points.as_slice(), [high, low, high].as_slice());
+
+        let mut keys = KeyList::new(rt.alloc());
+        assert!(rt; keys.as_slice().is_empty());
+        let near = Key { x: 1, y: 2, z: 3 };
+        let far = Key {
+            x: 65_535,
+            y: 0,
+            z: 32_768,
+        };
+        for key in [far, near, far] {
+            keys.push(key)?;
+        }
+        assert_eq!(rt; keys.as_slice(), [far, near, far].as_slice());
+        Ok(())
+    }
+}

@@ -1,0 +1,81 @@
+ghost use Rattle.std.specs.Prelude.{◌≡◌, ℕ, ◌-◌, ◌*◌, ◌/◌, ◌%◌, ◌^◌, ◌<◌, ◌≤◌, ◌↔◌};
+ghost use Rattle.oct_key.specs.Voxel.{Voxel, IsInMap};
+ghost use Rattle.oct_key.specs.Block.{block_of, child_index_of};
+ghost use Rattle.oct_key.specs.Morton.{morton_of, code_prefix, interleaved, gathered};
+
+use crate::point::Key;
+
+/// The Morton code of a voxel: bit 3j is bit j of its number on x, bit 3j + 1 that of the number on y, and bit 3j + 2 that on z.
+///
+/// In the order of these codes, which is that of the Z-order curve, the voxels of each block stand together.
+pub fn morton(k: Key) -> u64
+    ensures exact { result ≡ morton_of k }
+    ensures below { result < 2 ^ 48 }
+    ensures child { (depth : ℕ) → depth ≤ 15 → result / 2 ^ (3 * (15 - depth)) % 8 ≡ child_index_of depth k }
+    ensures block { (l : Voxel) → IsInMap l → (depth : ℕ) → depth ≤ 16 → (code_prefix depth result ≡ code_prefix depth (morton_of l)) ↔ (block_of depth k ≡ block_of depth l) }
+{
+    spread_bits(k.x) + (spread_bits(k.y) << 1) + (spread_bits(k.z) << 2)
+}
+
+/// The voxel of a Morton code.
+pub fn from_morton(m: u64) -> Key
+    requires { m < 2 ^ 48 }
+    ensures exact { morton_of result ≡ m }
+    ensures only { (k : Voxel) → IsInMap k → morton_of k ≡ m → k ≡ result }
+{
+    Key {
+        x: gather_bits(m),
+        y: gather_bits(m >> 1),
+        z: gather_bits(m >> 2),
+    }
+}
+
+/// The number with each bit moved to three times its place.
+fn spread_bits(n: u16) -> u64
+    ensures exact { result ≡ interleaved 16 n 0 0 }
+    ensures below { result < 2 ^ 46 }
+{
+    let n = u64::from(n);
+    let bytes = (n | (n << 16)) & 0xff00_00ff;
+    let nibbles = (bytes | (bytes << 8)) & 0xf0_0f00_f00f;
+    let pairs = (nibbles | (nibbles << 4)) & 0xc30_c30c_30c3;
+    (pairs | (pairs << 2)) & 0x2492_4924_9249
+}
+
+/// The bits of every third place, side by side.
+fn gather_bits(m: u64) -> u16
+    requires { m < 2 ^ 48 }
+    ensures { result ≡ gathered 16 m }
+{
+    let bits = m & 0x2492_4924_9249;
+    let pairs = (bits | (bits >> 2)) & 0xc30_c30c_30c3;
+    let nibbles = (pairs | (pairs >> 4)) & 0xf0_0f00_f00f;
+    let bytes = (nibbles | (nibbles >> 8)) & 0xff00_00ff;
+    ((bytes | (bytes >> 16)) & 0xffff) as u16
+}
+
+#[cfg(test)]
+mod tests {
+    use super::*;
+
+    #[test]
+    fn interleaves_the_bits_of_a_voxel(rt: HostRuntime) {
+        for (x, y, z, code) in [
+            (0, 0, 0, 0),
+            (1, 0, 0, 1),
+            (0, 1, 0, 2),
+            (0, 0, 1, 4),
+            (2, 0, 0, 8),
+            (3, 5, 6, 0o653),
+            (0, 65_535, 0, 0o2222_2222_2222_2222),
+            (65_535, 0, 65_535, 0o5555_5555_5555_5555),
+            (32_768, 32_768, 32_768, 0o7000_0000_0000_0000),
+            (32_770, 32_768, 32_767, 0o3444_4444_4444_4454),
+            (0x1234, 0x5678, 0x9abc, 0o4207_4270_4277_6500),
+        ] {
+            let k = Key { x, y, z };
+            assert_eq!(rt; morton(k), code, "at {k:?}");
+            assert_eq!(rt; from_morton(code), k, "at {code:o}");
+        }
+    }
+}
