@@ -1,1 +1,4 @@
 pub mod Events
+pub mod Blocks
+pub mod Depths
+pub mod Counts

@@ -1,0 +1,160 @@
+-- The list of a block's voxels has each voxel that it holds, once, and no other.
+use Rattle.std.proofs.Common.{◌≡◌, ℕ, zero, suc, ◌+◌, ◌-◌, ◌*◌, ◌^◌, ◌<◌, ◌≤◌, ◌↔◌, Bool, true, false, cond, [], get_or, refl, sym, subst, ◌∙◌, ap, arith, pow_pos}
+use Rattle.std.specs.Prelude.{count_by}
+use Rattle.std.specs.List.{All, Contains, list_all, list_any}
+use Rattle.std.proofs.Math.Nat.{mul-le-mul_right}
+use Rattle.std.proofs.lemmas.Nat.{pow-add}
+use Rattle.std.proofs.lemmas.List.Sums.{AllPass-from_list_all, list_all-from_AllPass}
+use Rattle.std.proofs.lemmas.List.Folds.{Any-from_list_any, list_any-from_Any}
+use Rattle.std.proofs.lemmas.List.Elements.{All-contains, All-cons, All-nil}
+use Rattle.oct_key.specs.Voxel.{Voxel, IsInMap}
+use Rattle.oct_key.specs.Values.{is_same_voxel}
+use Rattle.oct_key.specs.Block.{Cube, IsBlock, HoldsVoxel, HoldsNumber, side, child_of, child_index_of, lowest_voxel}
+use Rattle.oct_key.proofs.Blocks.{child_index_below, depth_child_of, lowest_held, child_holds}
+use Rattle.oct_key.proofs.Order.{is_same_voxel_exact, is_same_voxel_refl}
+use Rattle.oct_values.specs.Blocks.{child_numbers, voxels_below, voxels_of}
+use Rattle.oct_values.proofs.Eights.{sum_by-flat_map, one_of_eight, none_of_eight, all_eight, number_of_eight, All-flat_map, Contains-flat_map}
+
+-- the numbers that a block of the map holds are numbers of the map
+number_in_map : (d n v : ℕ) → d ≤ 16 → n < 2 ^ d → HoldsNumber d n v → v < 65536
+number_in_map d n v l h (low, high) =
+    let some : 0 < 2 ^ (16 - d) = pow_pos (16 - d) in
+    let next : (n + 1) * 2 ^ (16 - d) ≤ 2 ^ d * 2 ^ (16 - d) = mul-le-mul_right (2 ^ (16 - d)) (omega arith) in
+    let all : d + (16 - d) ≡ 16 = omega arith in
+    let whole : 2 ^ d * 2 ^ (16 - d) ≡ 65536 = sym (pow-add 2 d (16 - d)) ∙ ap (λ (m : ℕ). 2 ^ m) all in
+    omega (arith, next, whole, high)
+
+-- the voxels that a block of the map holds are voxels of the map
+pub held_in_map : (b : Cube) (k : Voxel) → IsBlock b → HoldsVoxel b k → IsInMap k
+held_in_map b k ok h =
+    record {
+      x = number_in_map b.depth b.x k.x ok.depth ok.x h.x;
+      y = number_in_map b.depth b.y k.y ok.depth ok.y h.y;
+      z =
+          number_in_map b.depth b.z k.z ok.depth ok.z h.z;
+    }
+
+-- a block of depth 16 holds one number on an axis
+only_number : (d n v : ℕ) → d ≡ 16 → HoldsNumber d n v → v ≡ n * side d
+only_number d n v e h =
+    let level : 16 - d ≡ 0 = omega arith in
+    let one : 2 ^ (16 - d) ≡ 1 = ap (λ (m : ℕ). 2 ^ m) level in
+    let low : n * 2 ^ (16 - d) ≤ v = h.0 in
+    let high : v < (n + 1) * 2 ^ (16 - d) = h.1 in
+    let low_is : n * 1 ≤ v = rw one at low in
+    let high_is : v < (n + 1) * 1 = rw one at high in
+    let is : v ≡ n * 1 = omega arith in
+    rw one is
+
+-- voxels of the same numbers are one
+same_voxel : (a b : Voxel) → a.x ≡ b.x → a.y ≡ b.y → a.z ≡ b.z → a ≡ b
+same_voxel a b x y z =
+    let voxel : ℕ → ℕ → ℕ → Voxel = λ x y z. record { x = x; y = y; z = z } in
+    let e : voxel a.x a.y a.z ≡ voxel b.x b.y b.z = rw (x, y, z) refl in
+    e
+
+-- a block of depth 16 holds its lowest voxel alone
+pub only_voxel : (b : Cube) (k : Voxel) → b.depth ≡ 16 → HoldsVoxel b k → k ≡ lowest_voxel b
+only_voxel b k e h =
+    same_voxel k (lowest_voxel b) (only_number b.depth b.x k.x e h.x) (only_number b.depth b.y k.y e h.y)
+    (only_number b.depth b.z k.z e h.z)
+
+-- a child stands one depth less above the voxels
+pub child_depths : (b : Cube) (h i : ℕ) → b.depth + suc h ≡ 16 → (child_of b i).depth + h ≡ 16
+child_depths b h i d = let deep = depth_child_of b i in omega arith
+
+-- a voxel of a child is one of the block
+pub held_by_parent : (b : Cube) (i : ℕ) (k : Voxel) → b.depth < 16 → i < 8 → HoldsVoxel (child_of b i) k → HoldsVoxel b k
+held_by_parent b i k low li h = ((child_holds b i k low li).0 h).0
+
+-- a voxel of the block is one of the child that its index says
+pub held_by_child : (b : Cube) (k : Voxel) → b.depth < 16 → HoldsVoxel b k → HoldsVoxel (child_of b (child_index_of b.depth k)) k
+held_by_child b k low h = (child_holds b (child_index_of b.depth k) k low (child_index_below b.depth k)).1 (h, refl)
+
+-- the listed voxels are voxels of the block
+voxels_held : (h : ℕ) (b : Cube) → b.depth + h ≡ 16 → All (HoldsVoxel b) (voxels_below h b)
+unfolding voxels_below
+voxels_held zero b d = All-cons (HoldsVoxel b) (lowest_voxel b) [] (lowest_held b) (All-nil (HoldsVoxel b))
+voxels_held (suc h) b d =
+    All-flat_map (HoldsVoxel b) (λ i. voxels_below h (child_of b i)) child_numbers
+    (all_eight (λ i. All (HoldsVoxel b) (voxels_below h (child_of b i))) (λ i li.
+    (let low : b.depth < 16 = omega arith in
+    let each = voxels_held h (child_of b i) (child_depths b h i d) in
+    λ n k l. held_by_parent b i (get_or (voxels_below h (child_of b i)) n k) low li (each n k l))))
+
+-- the voxels of a block are listed
+voxels_listed : (h : ℕ) (b : Cube) (k : Voxel) → b.depth + h ≡ 16 → HoldsVoxel b k → Contains (voxels_below h b) k
+unfolding voxels_below
+voxels_listed zero b k d held = (0, omega arith, sym (only_voxel b k (omega arith) held))
+voxels_listed (suc h) b k d held =
+    let low : b.depth < 16 = omega arith in
+    let i : ℕ = child_index_of b.depth k in
+    Contains-flat_map (λ i. voxels_below h (child_of b i)) child_numbers (child_index_of b.depth k) k
+    (number_of_eight (child_index_of b.depth k) (child_index_below b.depth k))
+    (voxels_listed h (child_of b (child_index_of b.depth k)) k (child_depths b h (child_index_of b.depth k) d) (held_by_child b k low held))
+
+-- a voxel that the block doesn't hold isn't counted
+voxels_none : (h : ℕ) (b : Cube) (k : Voxel) → b.depth + h ≡ 16 → (HoldsVoxel b k → ⊥) → count_by (is_same_voxel k) (voxels_below h b) ≡ 0
+unfolding voxels_below
+voxels_none zero b k d out = not_same (is_same_voxel k (lowest_voxel b)) refl
+  where
+    not_same : (same : Bool) → is_same_voxel k (lowest_voxel b) ≡ same → ◌≡◌ {A = ℕ} (0 + cond (is_same_voxel k (lowest_voxel b)) 1 0) 0
+    not_same true e = absurd (out (subst (HoldsVoxel b) (sym (is_same_voxel_exact k (lowest_voxel b) e)) (lowest_held b)))
+    not_same false e = rw e refl
+voxels_none (suc h) b k d out =
+    let low : b.depth < 16 = omega arith in
+    sum_by-flat_map (λ q. cond (is_same_voxel k q) 1 0) (λ i. voxels_below h (child_of b i)) child_numbers
+    ∙ none_of_eight (λ i. count_by (is_same_voxel k) (voxels_below h (child_of b i)))
+    (λ i li. voxels_none h (child_of b i) k (child_depths b h i d) (λ held. out (held_by_parent b i k low li held)))
+
+-- a voxel of the block is counted once
+voxels_once : (h : ℕ) (b : Cube) (k : Voxel) → b.depth + h ≡ 16 → HoldsVoxel b k → count_by (is_same_voxel k) (voxels_below h b) ≡ 1
+unfolding voxels_below
+voxels_once zero b k d held =
+    let e : lowest_voxel b ≡ k = sym (only_voxel b k (omega arith) held) in
+    let same : is_same_voxel k (lowest_voxel b) ≡ true = ap (is_same_voxel k) e ∙ is_same_voxel_refl k in
+    rw same refl
+voxels_once (suc h) b k d held =
+    let low : b.depth < 16 = omega arith in
+    sum_by-flat_map (λ q. cond (is_same_voxel k q) 1 0) (λ i. voxels_below h (child_of b i)) child_numbers
+    ∙ one_of_eight (λ i. count_by (is_same_voxel k) (voxels_below h (child_of b i))) (child_index_of b.depth k) (child_index_below b.depth k)
+    (voxels_once h (child_of b (child_index_of b.depth k)) k (child_depths b h (child_index_of b.depth k) d) (held_by_child b k low held))
+    (λ j lj other. voxels_none h (child_of b j) k (child_depths b h j d) (λ there. other (sym ((child_holds b j k low lj).0 there).1)))
+
+-- how many depths a block of the map stands above the voxels
+pub depths_above : (b : Cube) → IsBlock b → b.depth + (16 - b.depth) ≡ 16
+depths_above b ok = let l = ok.depth in omega arith
+
+-- the voxels that are listed for a block are held by it
+pub all_held : (b : Cube) → IsBlock b → All (HoldsVoxel b) (voxels_of b)
+all_held b ok = voxels_held (16 - b.depth) b (depths_above b ok)
+
+-- the voxels that a block holds are listed for it
+pub each_listed : (b : Cube) (k : Voxel) → IsBlock b → HoldsVoxel b k → Contains (voxels_of b) k
+each_listed b k ok held = voxels_listed (16 - b.depth) b k (depths_above b ok) held
+
+-- a voxel is listed exactly where the block holds it
+pub listed_exactly : (b : Cube) (k : Voxel) → IsBlock b → HoldsVoxel b k ↔ Contains (voxels_of b) k
+listed_exactly b k ok = (each_listed b k ok, λ there. All-contains (HoldsVoxel b) (voxels_of b) k (all_held b ok) there)
+
+-- and once
+pub listed_once : (b : Cube) (k : Voxel) → IsBlock b → HoldsVoxel b k → count_by (is_same_voxel k) (voxels_of b) ≡ 1
+listed_once b k ok held = voxels_once (16 - b.depth) b k (depths_above b ok) held
+
+-- a test that each voxel of the block passes
+pub all_pass : (p : Voxel → Bool) (b : Cube) → IsBlock b → ((k : Voxel) → HoldsVoxel b k → p k ≡ true) → list_all p (voxels_of b) ≡ true
+all_pass p b ok h = list_all-from_AllPass p (voxels_of b) (λ n k l. h (get_or (voxels_of b) n k) (all_held b ok n k l))
+
+pub each_passes : (p : Voxel → Bool) (b : Cube) → IsBlock b → list_all p (voxels_of b) ≡ true → (k : Voxel) → HoldsVoxel b k → p k ≡ true
+each_passes p b ok h k held = All-contains (λ k. p k ≡ true) (voxels_of b) k (AllPass-from_list_all p (voxels_of b) h) (each_listed b k ok held)
+
+-- a test that some voxel of the block passes
+pub some_passes : (p : Voxel → Bool) (b : Cube) (k : Voxel) → IsBlock b → HoldsVoxel b k → p k ≡ true → list_any p (voxels_of b) ≡ true
+some_passes p b k ok held h =
+    let (n, l, is) = each_listed b k ok held in
+    list_any-from_Any p (voxels_of b) (n, k, l, is, h)
+
+pub one_passes : (p : Voxel → Bool) (b : Cube) → IsBlock b → list_any p (voxels_of b) ≡ true → (k : Voxel) × HoldsVoxel b k × (p k ≡ true)
+one_passes p b ok h =
+    let (n, k, l, is, passes) = Any-from_list_any p (voxels_of b) h in
+    (k, All-contains (HoldsVoxel b) (voxels_of b) k (all_held b ok) (n, l, is), passes)

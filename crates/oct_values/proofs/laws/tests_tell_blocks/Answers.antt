@@ -1,0 +1,8 @@
+use Rattle.oct_values.proofs.Uniform.{uniform_exactly, known_exactly}
+use Rattle.oct_values.proofs.laws.tests_tell_blocks.Goals as goal
+
+pub returns-clause-uniform : goal.returns-clause-uniform
+returns-clause-uniform c = λ values b ok. uniform_exactly values b ok
+
+pub returns-clause-known : goal.returns-clause-known
+returns-clause-known c = λ values b ok. known_exactly values b ok
