@@ -1,0 +1,3 @@
+pub mod Entries
+pub mod Free
+pub mod Ids

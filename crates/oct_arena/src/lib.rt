@@ -1,0 +1,33 @@
+//! The groups of eight nodes that an octree is made of, and the arena that keeps them.
+//!
+//! A [`Node`] says what is known of a block of voxels: nothing, one value for all of it, or that its eight children are in a
+//! [`Group`]. A group keeps which block it belongs to, its home, so that two blocks never share one. Groups stand in a
+//! [`NodeArena`], each under a [`GroupId`] of its own, and a node links a group by that id.
+//!
+//! An arena is seen as a list of entries, where an id is the number of an entry: a group, or none where the entry is vacant. What
+//! the contracts promise:
+//!
+//! - [`NodeArena::take`] puts the group that it is given into a vacant entry, [`NodeArena::give`] makes the entry vacant again, and
+//!   [`NodeArena::set_node`] changes one node of one group. Nothing else changes: each says the whole list after the call.
+//! - [`NodeArena::node`] and [`NodeArena::home`] answer what was put there. They are asked for groups that are there alone.
+//! - [`NodeArena::reserve`] appends vacant entries until there are as many as asked for, and at most 1,023 more. It appends none
+//!   where there are enough. No group moves to another id, also where memory runs out.
+//! - [`NodeArena::live`] and [`NodeArena::spare`] are the numbers of groups and of vacant entries.
+//!
+//! `reserve` is the only call that asks for memory. So a caller that reserves first what an edit may need can't fail on the way
+//! and leave half of it done.
+//!
+//! The entries are a vector, and the numbers of the vacant ones a second vector, which has room for the numbers of all entries, so
+//! that giving a group back always finds room. All calls but `reserve` take a few steps, however many groups there are. `reserve`
+//! takes a few steps for each entry that it appends, and doubles the room where it has to get more. New entries are taken in the
+//! order of their ids, so groups that are made one after another lie side by side.
+//!
+//! The tree stands on this crate, and cites `Groups`, `entry`, `IsLive`, `node_at` and `home_at`. `IsArena` is what each list of an
+//! arena has: at most 2^31 + 1,023 entries, and eight nodes in each group.
+#![tactic(auto)]
+
+mod arena;
+mod node;
+
+pub use arena::NodeArena;
+pub use node::{Group, GroupId, Node};
