@@ -1,0 +1,7 @@
+use Rattle.std.proofs.Common.{◌≡◌, ◌<◌, ℕ}
+use Rattle.oct_arena.specs.Entries.{node_at}
+use Rattle.oct_arena.specs.declared.node.Node.TheVariants.{Absent}
+use Rattle.oct_tree.proofs.nodes.is_absent.Given as goal
+
+abbrev pub invariant-loop-i : goal.invariant-loop-i
+invariant-loop-i l = (j : ℕ) → j < l.i → node_at l.arena l.id.number j ≡ Absent

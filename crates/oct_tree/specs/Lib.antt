@@ -1,0 +1,6 @@
+pub mod Nodes
+pub mod Places
+pub mod Survey
+pub mod Tree
+pub mod Shape
+pub mod Changes

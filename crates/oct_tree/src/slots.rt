@@ -1,0 +1,63 @@
+//! Reading and writing the node of a place, in the arena or at the root.
+
+ghost use Rattle.std.specs.Prelude.{◌≡◌, ◌+◌, ◌<◌, ◌≤◌, ◌≢◌, Some, None, slice_set};
+ghost use Rattle.oct_key.specs.CubeOf.{cube_of};
+ghost use Rattle.oct_arena.specs.Entries.{IsLive, spare};
+ghost use Rattle.oct_tree.specs.Places.{IsPlaceOf, IsAboveVoxels, node_at_place, block_at_place, groups_with, root_with};
+
+use crate::place::Place;
+use oct_arena::{GroupId, Node, NodeArena};
+use oct_key::Block;
+
+/// The node at the place.
+pub(crate) fn read(arena: &NodeArena, root: Node, p: Place) -> Node
+    requires { IsPlaceOf arena.now p }
+    ensures { result ≡ node_at_place arena.now root p }
+{
+    match p {
+        Place::Root => root,
+        Place::Slot(id, i) => arena.node(id, i),
+    }
+}
+
+/// The block of the node at the place.
+pub(crate) fn block(arena: &NodeArena, p: Place) -> Block
+    requires place { IsPlaceOf arena.now p }
+    requires home { IsAboveVoxels arena.now p }
+    ensures { block_at_place arena.now p ≡ Some (cube_of result) }
+{
+    match p {
+        Place::Root => Block {
+            depth: 0,
+            x: 0,
+            y: 0,
+            z: 0,
+        },
+        Place::Slot(id, i) => arena.home(id).child(i),
+    }
+}
+
+/// Puts the node at the place.
+pub(crate) fn write(arena: &mut NodeArena, root: &mut Node, p: Place, n: Node)
+    requires { IsPlaceOf arena.old p }
+    ensures groups { arena.new ≡ groups_with arena.old p n }
+    ensures root { root.new ≡ root_with root.old p n }
+    ensures spare { spare arena.new ≡ spare arena.old }
+{
+    match p {
+        Place::Root => *root = n,
+        Place::Slot(id, i) => arena.set_node(id, i, n),
+    }
+}
+
+/// Gives back the group, and puts the node at the place.
+pub(crate) fn give_back(arena: &mut NodeArena, root: &mut Node, p: Place, id: GroupId, n: Node)
+    requires live { IsLive arena.old id.number }
+    requires place { IsPlaceOf (slice_set arena.old id.number None) p }
+    ensures groups { arena.new ≡ groups_with (slice_set arena.old id.number None) p n }
+    ensures root { root.new ≡ root_with root.old p n }
+    ensures spare { spare arena.new ≡ spare arena.old + 1 }
+{
+    arena.give(id);
+    write(arena, root, p, n);
+}
