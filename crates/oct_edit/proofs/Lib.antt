@@ -1,0 +1,12 @@
+pub mod Insides
+pub mod Locals
+pub mod Paths
+pub mod Closings
+pub mod Frames
+pub mod Joins
+pub mod Voxels
+pub mod Rooms
+pub mod Ends
+pub mod Clamps
+pub mod Grown
+pub mod Descents
