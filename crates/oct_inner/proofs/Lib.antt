@@ -1,0 +1,5 @@
+pub mod Nested
+pub mod Within
+pub mod Refreshes
+pub mod Prunes
+pub mod Formed
