@@ -1,0 +1,235 @@
+ghost use Rattle.std.specs.Prelude.{◌≡◌, ℕ, ◌+◌, ◌^◌, ◌<◌, ◌≤◌, ◌||◌, Bool, false, IsTrue, [], IsOk, OnOk, OnErr, Some, None, Err};
+ghost use Rattle.oct_key.specs.Voxel.{Voxel, IsInMap, key_at};
+ghost use Rattle.oct_odds.specs.Odds.{odds_of};
+ghost use Rattle.oct_odds.specs.Update.{IsSmallEvent};
+ghost use Rattle.oct_values.specs.Events.{event_at, updated};
+ghost use Rattle.oct_values.specs.Counts.{group_count, node_count};
+ghost use Rattle.oct_arena.specs.declared.node.Node.{Node};
+ghost use Rattle.oct_arena.specs.Entries.{live, spare};
+ghost use Rattle.oct_tree.specs.Tree.{value_at};
+ghost use Rattle.oct_tree.specs.Shape.{IsFresh, IsPruned};
+ghost use Rattle.oct_tree.specs.Changes.{SameValues, IsGrown};
+ghost use Rattle.oct_edit.specs.Touch.{IsSaturated, IsLazyEdit, IsTidyAlong, KeepsGroups, KeepsInner};
+ghost use Rattle.oct_inner.specs.Changes.{IsSameButInner, IsShrunk};
+ghost use Rattle.oct_map.specs.declared.fault.MapFault.{MapFault};
+ghost use Rattle.oct_map.specs.Answers.{room_answer, edit_answer, edit_need, get_answer, IsAnswerOrMemory};
+
+use crate::fault::MapFault;
+use crate::limits::Limits;
+use oct_edit::touch;
+use oct_inner::{prune, refresh};
+use oct_key::{Block, Key, Point, Res};
+use oct_odds::{Event, OddsModel};
+use oct_query::{Counts, counts, query};
+use oct_tree::OccTree;
+use std::alloc::Global;
+use std::marker::Model;
+
+/// The groups that an edit of one voxel may need: one for each depth from 0 to 15.
+const EDIT_NEED: u128 = 16;
+
+/// The depth of the voxels.
+const VOXELS: u32 = 16;
+
+/// An occupancy map: a value for each voxel, or none where nothing is known of it.
+#[derive(Drop)]
+pub struct OccMap {
+    tree: OccTree,
+    is_stale: bool,
+    limits: Limits,
+}
+
+impl Model for OccMap {
+    ghost use Rattle.oct_map.specs.Map.{Map, IsMap};
+
+    ghost Value = { Map };
+
+    ghost view = { λ m. record { tree = m.tree; is_stale = m.is_stale; max_groups = m.limits.max_groups } };
+
+    ghost invariant = { λ m. IsMap (record { tree = m.tree; is_stale = m.is_stale; max_groups = m.limits.max_groups }) };
+}
+
+impl OccMap {
+    ghost use Rattle.oct_map.specs.Map.{Map, IsMap, IsSameSetup, HasRoomFor, values_of};
+
+    /// The map of the unknown world. Takes no memory.
+    pub fn new(alloc: Global, res: Res, odds: OddsModel, limits: Limits) -> OccMap
+        ensures exact { result ≡ record { tree = record { groups = []; root = Node.Absent; res = res; odds = odds_of odds }; is_stale = false; max_groups = limits.max_groups } }
+        ensures unknown { (k : Voxel) → values_of result k ≡ None }
+        ensures map { IsMap result }
+    {
+        OccMap {
+            tree: OccTree::new(alloc, res, odds),
+            is_stale: false,
+            limits,
+        }
+    }
+
+    /// The tree of the map.
+    pub fn tree(&self) -> &OccTree
+        ensures exact { result.now ≡ self.now.tree }
+        ensures needed { group_count (values_of self.now) ≤ self.now.max_groups }
+        ensures map { IsMap self.now }
+    {
+        &self.tree
+    }
+
+    /// Whether inner values may be out of date: a lazy edit came after the last refresh.
+    pub fn is_stale(&self) -> bool
+        ensures exact { result ≡ self.now.is_stale }
+        ensures map { IsMap self.now }
+    {
+        self.is_stale
+    }
+
+    /// Applies the event to the voxel that holds the point.
+    ///
+    /// A lazy edit leaves inner values and pruning to a later refresh. The map prunes itself only where its groups and sixteen more are
+    /// more than it may have, and refuses the edit as full only where they still are then.
+    pub fn edit(&mut self, p: Point, event: Event, lazy: bool) -> Result<(), MapFault>
+        requires { IsSmallEvent event }
+        ensures answer { IsAnswerOrMemory (edit_answer self.old.tree.res self.old.max_groups (values_of self.old) p) result }
+        ensures memory { result ≡ Err MapFault.Memory
+            → IsOk (edit_answer self.old.tree.res self.old.max_groups (values_of self.old) p) × (spare self.old.tree.groups < edit_need) }
+        ensures ok { OnOk result (SameValues (updated self.old.tree.odds (event_at (key_at self.old.tree.res p) event) (values_of self.old))
+            (values_of self.new)) }
+        ensures err { OnErr result (SameValues (values_of self.old) (values_of self.new)) }
+        ensures stale { OnOk result (self.new.is_stale ≡ (self.old.is_stale || lazy)) }
+        ensures still { OnErr result (self.new.is_stale ≡ self.old.is_stale) }
+        ensures pruned { (IsTrue lazy → ⊥) → IsPruned self.old.tree → IsPruned self.new.tree }
+        ensures outside { key_at self.old.tree.res p ≡ None → self.new ≡ self.old }
+        ensures refused { HasRoomFor self.old edit_need → OnErr result (IsGrown self.old.tree self.new.tree) }
+        ensures kept { (k : Voxel) → key_at self.old.tree.res p ≡ Some k → HasRoomFor self.old edit_need → KeepsGroups self.old.tree self.new.tree k }
+        ensures inner { (k : Voxel) → key_at self.old.tree.res p ≡ Some k → HasRoomFor self.old edit_need → KeepsInner self.old.tree self.new.tree k }
+        ensures path { (k : Voxel) → key_at self.old.tree.res p ≡ Some k → (IsSaturated self.old.tree.odds event (values_of self.old k) → ⊥)
+            → (IsTrue lazy → ⊥) → OnOk result (IsTidyAlong self.new.tree k) }
+        ensures full { (groups need : ℕ) → result ≡ Err (MapFault.Full groups need) → IsPruned self.new.tree × IsShrunk self.old.tree self.new.tree }
+        ensures entries { live self.old.tree.groups + spare self.old.tree.groups ≤ live self.new.tree.groups + spare self.new.tree.groups }
+        ensures lazily { IsTrue lazy → HasRoomFor self.old edit_need → OnOk result (IsLazyEdit self.old.tree self.new.tree) }
+        ensures saturated { (k : Voxel) → key_at self.old.tree.res p ≡ Some k → HasRoomFor self.old edit_need
+            → IsSaturated self.old.tree.odds event (values_of self.old k) → OnOk result (IsGrown self.old.tree self.new.tree) }
+        ensures setup { IsSameSetup self.old self.new }
+        ensures map { IsMap self.new }
+    {
+        let Some(k) = self.tree.res().key_of(p) else {
+            return Err(MapFault::Outside { point: 1 });
+        };
+        self.make_room(EDIT_NEED)?;
+        touch(&mut self.tree, k, event, lazy);
+        self.is_stale |= lazy;
+        Ok(())
+    }
+
+    /// The largest known value among the voxels of the block of that depth around the point, or `None` where all of them are unknown.
+    pub fn get(&self, p: Point, depth: u32) -> Result<Option<i32>, MapFault>
+        ensures answer { result ≡ get_answer self.now.tree.res self.now.is_stale (values_of self.now) p depth }
+        ensures map { IsMap self.now }
+    {
+        let Some(k) = self.tree.res().key_of(p) else {
+            return Err(MapFault::Outside { point: 1 });
+        };
+        if depth > VOXELS {
+            return Err(MapFault::BadDepth);
+        }
+        if self.is_stale && depth < VOXELS {
+            return Err(MapFault::Stale);
+        }
+        Ok(query(&self.tree, Block::of(k, depth as u8)))
+    }
+
+    /// Prunes the map, and answers how many groups and nodes it has: the least that its values need.
+    pub fn counts(&mut self) -> Counts
+        ensures groups { result.groups ≡ group_count (values_of self.old) }
+        ensures nodes { result.nodes ≡ node_count (values_of self.old) }
+        ensures values { SameValues (values_of self.old) (values_of self.new) }
+        ensures stale { self.new.is_stale ≡ self.old.is_stale }
+        ensures pruned { IsPruned self.new.tree }
+        ensures same { IsPruned self.old.tree → self.new ≡ self.old }
+        ensures groups_kept { IsShrunk self.old.tree self.new.tree }
+        ensures setup { IsSameSetup self.old self.new }
+        ensures map { IsMap self.new }
+    {
+        self.prune();
+        counts(&self.tree)
+    }
+
+    /// Makes the inner values those of the voxels again, after lazy edits.
+    pub fn refresh(&mut self)
+        ensures fresh { IsFresh self.new.tree }
+        ensures nodes { IsSameButInner self.old.tree self.new.tree }
+        ensures values { SameValues (values_of self.old) (values_of self.new) }
+        ensures stale { self.new.is_stale ≡ false }
+        ensures pruned { IsPruned self.old.tree → IsPruned self.new.tree }
+        ensures setup { IsSameSetup self.old self.new }
+        ensures map { IsMap self.new }
+    {
+        refresh(&mut self.tree);
+        self.is_stale = false;
+    }
+
+    /// Gives back the groups that the values don't need.
+    pub fn prune(&mut self)
+        ensures pruned { IsPruned self.new.tree }
+        ensures same { IsPruned self.old.tree → self.new ≡ self.old }
+        ensures groups { IsShrunk self.old.tree self.new.tree }
+        ensures values { SameValues (values_of self.old) (values_of self.new) }
+        ensures stale { self.new.is_stale ≡ self.old.is_stale }
+        ensures setup { IsSameSetup self.old self.new }
+        ensures map { IsMap self.new }
+    {
+        prune(&mut self.tree);
+    }
+
+    /// Makes room for so many groups, or refuses. Prunes the map only where there isn't room otherwise.
+    fn make_room(&mut self, need: u128) -> Result<(), MapFault>
+        requires { need < 2 ^ 127 }
+        ensures answer { IsAnswerOrMemory (room_answer self.old.max_groups (values_of self.old) need) result }
+        ensures memory { result ≡ Err MapFault.Memory → IsOk (room_answer self.old.max_groups (values_of self.old) need) × (spare self.old.tree.groups < need) }
+        ensures room { OnOk result (need ≤ spare self.new.tree.groups) }
+        ensures few { OnOk result (live self.new.tree.groups + need ≤ self.new.max_groups) }
+        ensures kept { HasRoomFor self.old need → IsGrown self.old.tree self.new.tree }
+        ensures full { (groups more : ℕ) → result ≡ Err (MapFault.Full groups more) → IsPruned self.new.tree × IsShrunk self.old.tree self.new.tree }
+        ensures entries { live self.old.tree.groups + spare self.old.tree.groups ≤ live self.new.tree.groups + spare self.new.tree.groups }
+        ensures values { SameValues (values_of self.old) (values_of self.new) }
+        ensures stale { self.new.is_stale ≡ self.old.is_stale }
+        ensures pruned { IsPruned self.old.tree → IsPruned self.new.tree }
+        ensures setup { IsSameSetup self.old self.new }
+        ensures map { IsMap self.new }
+    {
+        self.prune_to_fit(need)?;
+        self.tree.reserve(need as u32)?;
+        Ok(())
+    }
+
+    /// Prunes the map where so many groups more are more than it may have, and refuses where they still are then.
+    fn prune_to_fit(&mut self, need: u128) -> Result<(), MapFault>
+        requires { need < 2 ^ 127 }
+        ensures answer { result ≡ room_answer self.old.max_groups (values_of self.old) need }
+        ensures few { OnOk result (live self.new.tree.groups + need ≤ self.new.max_groups) }
+        ensures kept { HasRoomFor self.old need → self.new ≡ self.old }
+        ensures shrunk { IsShrunk self.old.tree self.new.tree }
+        ensures full { OnErr result (IsPruned self.new.tree) }
+        ensures spare { spare self.old.tree.groups ≤ spare self.new.tree.groups }
+        ensures values { SameValues (values_of self.old) (values_of self.new) }
+        ensures stale { self.new.is_stale ≡ self.old.is_stale }
+        ensures pruned { IsPruned self.old.tree → IsPruned self.new.tree }
+        ensures setup { IsSameSetup self.old self.new }
+        ensures map { IsMap self.new }
+    {
+        let most = u128::from(self.limits.max_groups);
+        if u128::from(self.tree.arena().live()) + need > most {
+            self.prune();
+            let groups = self.tree.arena().live();
+            if u128::from(groups) + need > most {
+                return Err(MapFault::Full {
+                    groups: u64::from(groups),
+                    need,
+                });
+            }
+        }
+        Ok(())
+    }
+}
+
+#[cfg(test)]
+mod tests;
