@@ -1,0 +1,9 @@
+pub mod Lists
+pub mod Levels
+pub mod Counts
+pub mod CodeLists
+pub mod Reaches
+pub mod Gathering
+pub mod BeamCuts
+pub mod OutsideEnds
+pub mod Settled

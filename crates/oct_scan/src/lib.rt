@@ -1,0 +1,37 @@
+//! Scans: what the beams of a range sensor do to the voxels of a map.
+//!
+//! A scan is a pose and the points that a sensor saw from there. A beam goes from the pose's place to each posed point, and is cut where
+//! it is longer than the sensor's range. The voxel of an end is hit, and the voxels on the way are freed, as in the OctoMap library
+//! (Hornung et al. 2013). A voxel that one beam hits stays hit where another beam passes through it, and a beam that is cut says nothing
+//! of the voxel where it was cut.
+//!
+//! What the contracts promise:
+//!
+//! - [`update_set`] answers exactly the voxels that are hit and exactly those that are freed, by definitions that ask about one voxel
+//!   and all beams (`IsHit`, `IsFreed`). Both lists ascend by Morton code, without repeats.
+//! - [`UpdateSet::need`] is the number of blocks of depth 0 to 15 that hold such a voxel (`IsNeed`): so many groups of a tree at most
+//!   have to be made for them.
+//! - A scan is refused for its origin, for the first beam that ends outside the map, or for the first beam with which the voxels met
+//!   exceed the limit, in this order and exactly then; want of memory alone may come at any time.
+//!
+//! The beams are made first, so that all ends are judged before a voxel is counted. Then each beam is walked once, and the Morton codes
+//! of its voxels are appended to one list, and that of its end to a second one. A beam that exceeds the limit is counted to its end and
+//! not kept, so that the lists never have more codes than the limit allows. Both lists are sorted, and repeats dropped. Of the sorted
+//! codes each adds the blocks that don't hold the one before it, which the highest different bit of the two tells. The frees are the
+//! codes without those of the hits.
+//!
+//! `update_set` allocates, and touches nothing but its arguments. The scan command of a map is to stand on this crate, and to cite
+//! `IsHit`, `IsFreed`, `IsNeed` and `IsRefusedFor`.
+
+#![tactic(auto)]
+
+mod beam;
+mod cells;
+mod codes;
+mod fault;
+mod scan;
+mod update;
+
+pub use fault::ScanFault;
+pub use scan::Scan;
+pub use update::{UpdateSet, update_set};
