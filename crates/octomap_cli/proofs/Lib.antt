@@ -1,9 +1,2 @@
-pub mod Cuts
-pub mod WordSplits
-pub mod Begun
-pub mod Progresses
-pub mod Feeding
-pub mod Bounds
-pub mod Foldings
-pub mod Replying
-pub mod Endings
+pub mod Choosing
+pub mod Runs

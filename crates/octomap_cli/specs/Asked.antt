@@ -1,5 +1,5 @@
 -- A task in the words of the definitions.
-use Rattle.octomap_cli.specs.Setup.{setup_of}
+use Rattle.oct_session.specs.Setup.{setup_of}
 use Rattle.octomap_cli.specs.Task.{Session}
 use Rattle.octomap_cli.specs.Task as meant
 use Rattle.octomap_cli.specs.declared.task.Task.{Task}

@@ -1,13 +1,4 @@
-pub mod Lines
-pub mod Stops
 pub mod Words
-pub mod Commands
-pub mod Replies
-pub mod Setup
-pub mod Values
-pub mod History
-pub mod Session
 pub mod Task
 pub mod Asked
 pub mod Ending
-pub mod Standing

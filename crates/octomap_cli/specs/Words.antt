@@ -1,24 +1,26 @@
--- The words of a line.
-use Rattle.std.specs.Prelude.{ℕ, List, [], ◌∷◌, filter, nat_eq, ◌||◌, not, Bool, true, false}
-use Rattle.std.specs.List.{slice_split}
+-- The words of the command line, and the options among them.
+use Rattle.std.specs.Prelude.{List, [], ◌∷◌, map, String, string_bytes, bytes_eq, codes, Option, Some, None, Bool, true, false, is_some, not, ◌&&◌, ◌||◌, if◌then◌else◌}
+use Rattle.std.specs.declared.alloc.Global.{Global}
+use Rattle.oct_script.specs.Words.{Word}
 
--- the bytes of a word
-abbrev pub Word : Type 0
-Word = List ℕ
+-- the bytes of each word
+abbrev pub bytes_of : List (String Global) → List Word
+bytes_of words = map string_bytes words
 
--- a space or a tab
-abbrev pub is_blank : ℕ → Bool
-is_blank b = nat_eq b 32 || nat_eq b 9
+-- the names of the options of a session
+abbrev pub is_option : Word → Bool
+is_option word =
+    bytes_eq word (codes "--hit") || bytes_eq word (codes "--miss") || bytes_eq word (codes "--min") || bytes_eq word (codes "--max") || bytes_eq word (codes "--thr")
+    || bytes_eq word (codes "--max-bytes")
 
--- any other byte
-abbrev pub is_in_word : ℕ → Bool
-is_in_word b = not (is_blank b)
+-- the word behind a name, where the name is given; the words are pairs of a name and a value
+unfoldable pub value_of : Word → List Word → Option Word
+value_of name [] = None
+value_of name (other ∷ []) = None
+value_of name (other ∷ value ∷ words) = if bytes_eq other name then Some value else value_of name words
 
--- at least one byte
-abbrev pub is_word : Word → Bool
-is_word [] = false
-is_word (b ∷ word) = true
-
--- the words of a line: the parts between its blanks, of which the empty ones count for nothing
-abbrev pub words_of : List ℕ → List Word
-words_of line = filter is_word (slice_split is_blank line)
+-- the words are pairs of an option and its value, in any order, and no option is given twice
+unfoldable pub are_options : List Word → Bool
+are_options [] = true
+are_options (name ∷ []) = false
+are_options (name ∷ value ∷ words) = is_option name && not (is_some (value_of name words)) && are_options words

@@ -9,57 +9,36 @@
 //!
 //! # What it promises
 //!
-//! The contract of [`program::run`], proved: for every script, what is written and the status are
-//! those of the plain fold over each single voxel. Stopped by a fault or by want of memory, what was
+//! The contract of [`program::run`], proved: for every script, where source and sink tell their bytes,
+//! what is written and the status are those of the plain fold over each single voxel. Stopped by a fault or by want of memory, what was
 //! written is a prefix of that; on a read fault it is exactly the replies to the lines that lie whole
-//! in the bytes taken. `specs/Ending.antt` says this status by status, over the definitions of lines
-//! (`Lines`), words (`Words`), commands (`Commands`), one voxel's fold (`History`), replies (`Replies`)
-//! and the session (`Session`).
+//! in the bytes taken. `specs/Ending.antt` says this over the tasks that the words of the command line
+//! ask for (`Words`, `Task`) and over the session of `oct_session`.
 //!
 //! # How it works
 //!
-//! `service` reads pieces of at most 16 KiB and hands each to `session`, which feeds them line by line
-//! to `lines`, reads a line as a command (`command`, over `words`), does it on the `voxel_map`, and
-//! writes the reply's text (`reply`) by one call of the sink. `task` reads the words of the command
-//! line, `options` holds what a session is set up with and how a run ends, and `main` joins all this
-//! to the standard input and output and to the current folder.
+//! `words` finds the options among the words of the command line, `task` reads the task that they ask
+//! for, `program` hands it to the loop of `oct_session`, and `main` joins all this to the standard
+//! input and output and to the current folder.
 //!
 //! # Who stands on it
 //!
-//! Nothing: this is the top. It stands on `oct_num`, `oct_key`, `oct_odds` and `oct_io`.
+//! Nothing: this is the top. It stands on `oct_session` for the loop, on `oct_num`, `oct_key` and
+//! `oct_odds` for the numbers of the command line, on `oct_script` for what a number is, and on
+//! `oct_io` for the world.
 #![tactic(auto)]
 
-mod command;
-mod lines;
-mod options;
 mod program;
-mod reply;
-mod service;
-mod session;
 mod task;
 #[cfg(test)]
 mod tests;
-mod voxel_map;
 mod words;
 
-use crate::options::Status;
 use crate::program::run;
 use oct_io::{FolderStore, StdSink, StdSource};
+use oct_session::Status;
 use std::process::ExitCode;
 use std::{env, io};
-
-/// The name of a status, which is written to standard error.
-fn name_of(status: Status) -> Option<&'static str> {
-    match status {
-        Status::Done => None,
-        Status::Refused => Some("octomap: refused"),
-        Status::Usage => Some("octomap: usage"),
-        Status::TooLong => Some("octomap: input too long"),
-        Status::ReadFault => Some("octomap: read fault"),
-        Status::WriteFault => Some("octomap: write fault"),
-        Status::Memory => Some("octomap: out of memory"),
-    }
-}
 
 /// The words of the command line, without the program's own name.
 fn words_from(rt: &HostRuntime) -> io::Result<Vec<String>> {
@@ -81,8 +60,8 @@ fn main(rt: HostRuntime) -> ExitCode {
         Err(error) if error.kind() == io::ErrorKind::OutOfMemory => Status::Memory,
         Err(_) => Status::Usage,
     };
-    if let Some(name) = name_of(status) {
-        let _ = eprintln!(rt; "{name}");
+    if status != Status::Done {
+        let _ = eprintln!(rt; "octomap: {status}");
     }
     ExitCode::from(status as u8)
 }

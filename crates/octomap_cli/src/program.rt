@@ -2,13 +2,14 @@
 ghost use Rattle.std.specs.Prelude.{◌≡◌, ◌≢◌, ◌≤◌, IfSome, Some, None};
 ghost use Rattle.oct_io.specs.Files.{Files};
 ghost use Rattle.oct_io.specs.Told.{Rose};
-ghost use Rattle.octomap_cli.specs.Task.{task_of, bytes_of};
-ghost use Rattle.octomap_cli.specs.Ending.{MayEnd, IsWhole, answer};
+ghost use Rattle.oct_session.specs.Ending.{IsWhole};
+ghost use Rattle.octomap_cli.specs.Words.{bytes_of};
+ghost use Rattle.octomap_cli.specs.Task.{task_of};
+ghost use Rattle.octomap_cli.specs.Ending.{MayEnd, answer};
 
-use crate::options::Status;
-use crate::service::serve;
 use crate::task::{Usage, read_words};
 use oct_io::{Sink, Source, Store};
+use oct_session::{Status, serve};
 use std::alloc::Global;
 
 /// Does what the words ask for, which don't have the program's own name.

@@ -1,14 +1,18 @@
 //! What the words of the command line ask for.
-ghost use Rattle.std.specs.Prelude.{◌≡◌, ◌≤◌, option_map, Option, Some, None};
+ghost use Rattle.std.specs.Prelude.{◌≡◌, ◌≤◌, ◌^◌, option_map, Option, Some, None, IfSome};
 ghost use Rattle.std.specs.Result.{result_ok};
-ghost use Rattle.octomap_cli.specs.Setup.{setup_of};
-ghost use Rattle.octomap_cli.specs.Task.{Session as a_session, resolution_of, task_of, bytes_of};
+ghost use Rattle.oct_odds.specs.Odds.{odds_of, IsSmall};
+ghost use Rattle.oct_session.specs.Setup.{setup_of};
+ghost use Rattle.octomap_cli.specs.Words.{bytes_of};
+ghost use Rattle.octomap_cli.specs.Task.{Session as a_session, resolution_of, byte_count_of, chosen_number, chosen_model, chosen_limit, setup_from, task_of};
 ghost use Rattle.octomap_cli.specs.Asked.{asked};
 
-use crate::options::{MOST_BYTES, Options};
+use crate::words::{are_options, value_of};
 use oct_key::Res;
-use oct_num::read_metres;
+use oct_num::{read_metres, read_whole};
 use oct_odds::OddsModel;
+use oct_script::number_of;
+use oct_session::{MOST_BYTES, Options};
 use thiserror::Error;
 
 /// A task of the program.
@@ -42,19 +46,78 @@ fn read_resolution(word: &[u8]) -> Option<Res>
     Res::new(nm).ok()
 }
 
-/// Reads the words of the command line, which don't have the program's own name: `session RES`.
+/// Reads a number of bytes: one to eighteen digits, at most [`MOST_BYTES`].
+fn read_byte_count(word: &[u8]) -> Option<u64>
+    ensures exact { result ≡ byte_count_of word.now }
+    ensures few { IfSome result (λ n. n ≤ 2 ^ 40) }
+{
+    if word.first() == Some(&b'-') {
+        return None;
+    }
+    let n = u64::try_from(read_whole(word)?).ok()?;
+    if n > MOST_BYTES { None } else { Some(n) }
+}
+
+/// The log-odds that an option of this name chooses.
+fn choose_number(words: &[String], name: &[u8], default: i32) -> Option<i32>
+    requires { IsSmall default }
+    ensures exact { result ≡ chosen_number (bytes_of words.now) name.now default }
+    ensures small { IfSome result IsSmall }
+{
+    match value_of(words, name) {
+        None => Some(default),
+        Some(word) => number_of(word),
+    }
+}
+
+/// The model that the options choose.
+#[tactic(auto, unfolding(crate::specs::Task::chosen_model))]
+fn choose_model(words: &[String]) -> Option<OddsModel>
+    ensures { option_map odds_of result ≡ chosen_model (bytes_of words.now) }
+{
+    let default = OddsModel::default();
+    let hit = choose_number(words, b"--hit", default.hit)?;
+    let miss = choose_number(words, b"--miss", default.miss)?;
+    let min = choose_number(words, b"--min", default.min)?;
+    let max = choose_number(words, b"--max", default.max)?;
+    let thr = choose_number(words, b"--thr", default.thr)?;
+    OddsModel::new(hit, miss, min, max, thr).ok()
+}
+
+/// The most bytes of a script that the options choose.
+#[tactic(auto, unfolding(crate::specs::Task::chosen_limit))]
+fn choose_limit(words: &[String]) -> Option<u64>
+    ensures exact { result ≡ chosen_limit (bytes_of words.now) }
+    ensures few { IfSome result (λ n. n ≤ 2 ^ 40) }
+{
+    match value_of(words, b"--max-bytes") {
+        None => Some(MOST_BYTES),
+        Some(word) => read_byte_count(word),
+    }
+}
+
+/// Reads the options of a session at a resolution.
+fn read_options(res: &[u8], words: &[String]) -> Option<Options>
+    ensures { option_map setup_of result ≡ setup_from (resolution_of res.now) (chosen_model (bytes_of words.now)) (chosen_limit (bytes_of words.now)) }
+{
+    Some(Options {
+        res: read_resolution(res)?,
+        odds: choose_model(words)?,
+        max_bytes: choose_limit(words)?,
+    })
+}
+
+/// Reads the words of the command line, which don't have the program's own name: `session RES` and
+/// pairs of an option and its value, in any order, each option at most once.
 #[tactic(auto, unfolding(crate::specs::Task::task_of))]
 pub fn read_words(words: &[String]) -> Result<Task, Usage>
     ensures { option_map asked (result_ok result) ≡ task_of (bytes_of words.now) }
 {
     match words {
-        [command, res] if command.as_bytes() == b"session".as_slice() => {
-            let res = read_resolution(res.as_bytes()).ok_or(Usage)?;
-            Ok(Task::Session(Options {
-                res,
-                odds: OddsModel::default(),
-                max_bytes: MOST_BYTES,
-            }))
+        [command, res, options @ ..]
+            if command.as_bytes() == b"session".as_slice() && are_options(options) => {
+            let options = read_options(res.as_bytes(), options).ok_or(Usage)?;
+            Ok(Task::Session(options))
         }
         _ => Err(Usage),
     }

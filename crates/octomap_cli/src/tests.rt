@@ -1,14 +1,20 @@
-//! Scripts and their replies, by the program's top call and by its loop.
+//! Scripts and their replies, by the program's top call.
 ghost use Rattle.std.specs.Prelude.{◌≤◌, ◌<◌, ◌^◌, None};
 ghost use Rattle.oct_io.specs.Told.{Rose};
 
-use crate::options::{Options, Status};
 use crate::program::run;
-use crate::service::serve;
 use oct_io::{CalmSink, CalmSource, CalmStore, Failed, FileBytes, Sink, SinkFault, Source};
-use oct_key::Res;
-use oct_odds::OddsModel;
+use oct_session::Status;
 use std::test::Fail;
+
+/// The words of a command line.
+fn owned(rt: &HostRuntime, words: &[&str]) -> Result<Vec<String>, Fail> {
+    let mut texts = Vec::new(rt.alloc());
+    for word in words {
+        texts.push(String::from_str(rt.alloc(), word)?)?;
+    }
+    Ok(texts)
+}
 
 /// Runs the program on its words and a script, from memory to memory.
 fn answer(
@@ -21,10 +27,7 @@ fn answer(
     requires read { 0 < most_read }
     requires written { 0 < most_written }
 {
-    let mut texts = Vec::new(rt.alloc());
-    for word in words {
-        texts.push(String::from_str(rt.alloc(), word)?)?;
-    }
+    let texts = owned(rt, words)?;
     let mut source = CalmSource::new(FileBytes::from_slice(rt.alloc(), script)?, most_read);
     let mut sink = CalmSink::new(rt.alloc(), most_written);
     let mut store = CalmStore::new(rt.alloc());
@@ -38,7 +41,7 @@ fn session(rt: &HostRuntime, script: &[u8]) -> Result<(Status, Vec<u8>), Fail> {
 }
 
 #[test]
-fn first_scripts(rt: HostRuntime) -> Result<(), Fail> {
+fn values_are_clamped_at_each_step(rt: HostRuntime) -> Result<(), Fail> {
     for (script, replies) in [
         ("", ""),
         ("hit 0 0 0\nget 0 0 0 16\n", "ok\nknown 850 occupied\n"),
@@ -48,8 +51,20 @@ fn first_scripts(rt: HostRuntime) -> Result<(), Fail> {
             "ok\nknown 850 occupied\nunknown\n",
         ),
         (
-            "hit 0 0 0\nhit 0 0 0\nhit 0 0 0\nhit 0 0 0\nhit 0 0 0\nget 0 0 0 16\n",
-            "ok\nok\nok\nok\nok\nknown 3500 occupied\n",
+            "hit 0 0 0\nhit 0 0 0\nhit 0 0 0\nhit 0 0 0\nhit 0 0 0\nget 0 0 0 16\nhit 0 0 0\nget 0 0 0 16\nmiss 0 0 0\nget 0 0 0 16\n",
+            "ok\nok\nok\nok\nok\nknown 3500 occupied\nok\nknown 3500 occupied\nok\nknown 3100 occupied\n",
+        ),
+        (
+            "miss 0 0 0\nmiss 0 0 0\nmiss 0 0 0\nmiss 0 0 0\nmiss 0 0 0\nmiss 0 0 0\nget 0 0 0 16\nhit 0 0 0\nget 0 0 0 16\nhit 0 0 0\nget 0 0 0 16\nhit 0 0 0\nget 0 0 0 16\n",
+            "ok\nok\nok\nok\nok\nok\nknown -2000 free\nok\nknown -1150 free\nok\nknown -300 free\nok\nknown 550 occupied\n",
+        ),
+        (
+            "set 0 0 0 9000\nget 0 0 0 16\nadd 0 0 0 -9000\nget 0 0 0 16\nforget 0 0 0\nget 0 0 0 16\n",
+            "ok\nknown 3500 occupied\nok\nknown -2000 free\nok\nunknown\n",
+        ),
+        (
+            "add 0 0 0 0\nget 0 0 0 16\nset 0 0 0 -1\nget 0 0 0 16\nset 1 0 0 1000000\nget 0 0 0 16\n",
+            "ok\nknown 0 occupied\nok\nknown -1 free\nok\nknown -1 free\n",
         ),
     ] {
         let (status, text) = session(&rt, script.as_bytes())?;
@@ -60,22 +75,55 @@ fn first_scripts(rt: HostRuntime) -> Result<(), Fail> {
 }
 
 #[test]
-fn answers_of_this_stage(rt: HostRuntime) -> Result<(), Fail> {
-    let (status, text) = session(&rt, b"hit 0 0\nrefresh\nget 0 0 0 15\n")?;
-    assert_eq!(rt; status, Status::Refused);
-    assert_eq!(rt;
-        text.as_slice(),
-        b"refused 29 Syntax line 1\nrefused 36 NotYet\nrefused 36 NotYet\n".as_slice()
-    );
-    let (status, text) = session(
-        &rt,
-        b"hit 0 0 0 lazy\nquit\nget 0 0 0 0016\nget 0 0 0 12345678\n",
-    )?;
-    assert_eq!(rt; status, Status::Refused);
-    assert_eq!(rt;
-        text.as_slice(),
-        b"refused 36 NotYet\nrefused 36 NotYet\nunknown\nrefused 29 Syntax line 4\n".as_slice()
-    );
+fn quit_ends_the_session(rt: HostRuntime) -> Result<(), Fail> {
+    for (script, replies, ends) in [
+        ("hit 0 0 0\nquit\nhit 0 0 0\n", "ok\n", Status::Done),
+        ("quit", "", Status::Done),
+        (" quit\t\r\nhit\n", "", Status::Done),
+        (
+            "hit\nquit\nrefresh",
+            "refused 29 Syntax line 1 column 4\n",
+            Status::Refused,
+        ),
+        (
+            "quit 1\nhit 0 0 0\n",
+            "refused 29 Syntax line 1 column 6\nok\n",
+            Status::Refused,
+        ),
+        ("quit\r", "refused 36 NotYet\n", Status::Refused),
+        ("# quit\nhit 0 0 0\n", "ok\n", Status::Done),
+    ] {
+        let (status, text) = session(&rt, script.as_bytes())?;
+        assert_eq!(rt; status, ends, "at {script:?}");
+        assert_eq!(rt; text.as_slice(), replies.as_bytes(), "at {script:?}");
+    }
+    Ok(())
+}
+
+#[test]
+fn refusals_name_line_and_column(rt: HostRuntime) -> Result<(), Fail> {
+    for (script, replies) in [
+        (
+            "get 0 0\nhit 0 0 x\nhit 4000 0 0\n",
+            "refused 29 Syntax line 1 column 8\nrefused 29 Syntax line 2 column 9\nrefused 24 Outside point 1\n",
+        ),
+        (
+            "refresh\nget 0 0 0 15\nhit 0 0 0 lazy\nget 0 0 0 0016\nget 0 0 0 12345678\n",
+            "refused 36 NotYet\nrefused 36 NotYet\nrefused 36 NotYet\nunknown\nrefused 29 Syntax line 5 column 11\n",
+        ),
+        (
+            "hit 0 0 0 x\nhit x 0 0\nhit\nget 0 0 0\nset 0 0 0 1000001\n",
+            "refused 29 Syntax line 1 column 11\nrefused 29 Syntax line 2 column 5\nrefused 29 Syntax line 3 column 4\nrefused 29 Syntax line 4 column 10\nrefused 29 Syntax line 5 column 11\n",
+        ),
+        (
+            "miss 0 3276.8 0\nget 0 3276.7 0 16\n",
+            "refused 24 Outside point 1\nunknown\n",
+        ),
+    ] {
+        let (status, text) = session(&rt, script.as_bytes())?;
+        assert_eq!(rt; status, Status::Refused, "at {script:?}");
+        assert_eq!(rt; text.as_slice(), replies.as_bytes(), "at {script:?}");
+    }
     Ok(())
 }
 
@@ -92,10 +140,64 @@ fn words_that_ask_for_nothing_read_and_write_nothing(rt: HostRuntime) -> Result<
         &["session", "100.000000001"],
         &["session", "1e-1"],
         &["--help"],
+        &["session", "--hit", "850", "0.1"],
+        &["session", "0.1", "--hit"],
+        &["session", "0.1", "--hit=850"],
+        &["session", "0.1", "--hits", "850"],
+        &["session", "0.1", "--max-groups", "16"],
+        &["session", "0.1", "--hit", "850", "--hit", "850"],
+        &["session", "0.1", "--hit", "850", "--thr", "0", "--hit", "1"],
+        &["session", "0.1", "--hit", "0"],
+        &["session", "0.1", "--hit", "-1"],
+        &["session", "0.1", "--hit", "1000001"],
+        &["session", "0.1", "--hit", "00000850"],
+        &["session", "0.1", "--hit", "+850"],
+        &["session", "0.1", "--hit", ""],
+        &["session", "0.1", "--miss", "0"],
+        &["session", "0.1", "--miss", "-1000001"],
+        &["session", "0.1", "--min", "1"],
+        &["session", "0.1", "--min", "0"],
+        &["session", "0.1", "--max", "-1"],
+        &["session", "0.1", "--thr", "3501"],
+        &["session", "0.1", "--thr", "-2000"],
+        &["session", "0.1", "--max-bytes", "1099511627777"],
+        &["session", "0.1", "--max-bytes", "-0"],
+        &["session", "0.1", "--max-bytes", "0000000000000000010"],
+        &["session", "0.1", "--max-bytes", "ten"],
     ] {
         let (status, text) = answer(&rt, words, b"hit 0 0 0\n", 4096, 4096)?;
         assert_eq!(rt; status, Status::Usage, "at {words:?}");
         assert!(rt; text.is_empty(), "at {words:?}");
+    }
+    Ok(())
+}
+
+#[test]
+fn options_choose_the_model(rt: HostRuntime) -> Result<(), Fail> {
+    for (words, value) in [
+        (
+            ["--hit", "1000000", "--max", "1000000"].as_slice(),
+            "1000000 occupied",
+        ),
+        (&["--hit", "0000001"], "1 occupied"),
+        (
+            &["--thr", "851", "--max-bytes", "1099511627776"],
+            "850 free",
+        ),
+        (&["--max", "0"], "0 occupied"),
+        (
+            &[
+                "--max", "3", "--thr", "3", "--hit", "7", "--min", "0", "--miss", "-1000000",
+            ],
+            "3 occupied",
+        ),
+        (&["--min", "-1000000", "--thr", "-999999"], "850 occupied"),
+    ] {
+        let mut all = Vec::from_slice(rt.alloc(), &["session", "0.1"])?;
+        all.extend_from_slice(words)?;
+        let (_, text) = answer(&rt, &all, b"hit 0 0 0\nget 0 0 0 16\n", 4096, 4096)?;
+        let replies = format!(in rt.alloc(); "ok\nknown {value}\n")?;
+        assert_eq!(rt; text.as_slice(), replies.as_bytes(), "at {words:?}");
     }
     Ok(())
 }
@@ -134,17 +236,13 @@ fn line_ends_blanks_and_comments(rt: HostRuntime) -> Result<(), Fail> {
     for (script, replies) in [
         ("hit 0 0 0\r\nget 0 0 0 16", "ok\nknown 850 occupied\n"),
         (
-            "\n \t\n# hit 0\n  # hit\n\r\nhit 0 0\n",
-            "refused 29 Syntax line 6\n",
+            "\n \t\n# hit 0\n  # hit\n\r\nhit 0 0 \n",
+            "refused 29 Syntax line 6 column 9\n",
         ),
         ("\t hit \t 0  0\t0 \t\n", "ok\n"),
-        ("get 0 0 0 16\r", "refused 29 Syntax line 1\n"),
+        ("get 0 0 0 16\r", "refused 29 Syntax line 1 column 11\n"),
         ("\r", "refused 36 NotYet\n"),
         ("#\r", ""),
-        (
-            "hit 0 0 0 x\nhit x 0 0\nhit\nget 0 0 0\n",
-            "refused 29 Syntax line 1\nrefused 29 Syntax line 2\nrefused 29 Syntax line 3\nrefused 29 Syntax line 4\n",
-        ),
     ] {
         let (_, text) = session(&rt, script.as_bytes())?;
         assert_eq!(rt; text.as_slice(), replies.as_bytes(), "at {script:?}");
@@ -154,14 +252,28 @@ fn line_ends_blanks_and_comments(rt: HostRuntime) -> Result<(), Fail> {
 
 #[test]
 fn lines_of_4096_bytes_are_read_and_longer_ones_are_not(rt: HostRuntime) -> Result<(), Fail> {
-    for (blanks, end, reply) in [
-        (4087, "\n", "ok\n"),
-        (4088, "\n", "refused 36 NotYet\n"),
-        (4086, "\r\n", "ok\n"),
-        (4087, "\r\n", "refused 36 NotYet\n"),
-        (4088, "", "refused 36 NotYet\n"),
+    for (front, blanks, end, reply) in [
+        ("hit 0 0 0", 4087, "\n", "ok\n"),
+        ("hit 0 0 0", 4088, "\n", "refused 30 LongLine line 1\n"),
+        ("hit 0 0 0", 4086, "\r\n", "ok\n"),
+        ("hit 0 0 0", 4087, "\r\n", "refused 30 LongLine line 1\n"),
+        ("hit 0 0 0", 4088, "", "refused 30 LongLine line 1\n"),
+        ("", 4097, "\n", "refused 30 LongLine line 1\n"),
+        (
+            "# a comment",
+            4096,
+            "\nget 0 0 0 16",
+            "refused 30 LongLine line 1\nunknown\n",
+        ),
+        (
+            "quit",
+            4093,
+            "\nhit 0 0 0\n",
+            "refused 30 LongLine line 1\nok\n",
+        ),
+        ("quit", 4092, "\nhit 0 0 0\n", ""),
     ] {
-        let mut script = Vec::from_slice(rt.alloc(), b"hit 0 0 0")?;
+        let mut script = Vec::from_slice(rt.alloc(), front.as_bytes())?;
         for _ in 0..blanks {
             script.push(b' ')?;
         }
@@ -170,7 +282,7 @@ fn lines_of_4096_bytes_are_read_and_longer_ones_are_not(rt: HostRuntime) -> Resu
         assert_eq!(rt;
             text.as_slice(),
             reply.as_bytes(),
-            "{blanks} blanks and {end:?}"
+            "{front:?}, {blanks} blanks and {end:?}"
         );
     }
     Ok(())
@@ -183,14 +295,14 @@ fn any_cut_of_the_input_and_of_the_output_is_the_same(rt: HostRuntime) -> Result
             let (status, text) = answer(
                 &rt,
                 &["session", "0.1"],
-                b"hit 0 0 0\r\n\nget 0 0 0 16\nhit\nget 1 0 0 16",
+                b"hit 0 0 0\r\n\nget 0 0 0 16\nhit\nget 1 0 0 16\nquit\nhit 0 0 0",
                 most_read,
                 most_written,
             )?;
             assert_eq!(rt; status, Status::Refused, "{most_read} bytes a read");
             assert_eq!(rt;
                 text.as_slice(),
-                b"ok\nknown 850 occupied\nrefused 29 Syntax line 4\nunknown\n".as_slice(),
+                b"ok\nknown 850 occupied\nrefused 29 Syntax line 4 column 4\nunknown\n".as_slice(),
                 "{most_read} bytes a read"
             );
         }
@@ -200,32 +312,44 @@ fn any_cut_of_the_input_and_of_the_output_is_the_same(rt: HostRuntime) -> Result
 
 #[test]
 fn byte_limits_before_in_and_after_a_line(rt: HostRuntime) -> Result<(), Fail> {
-    let script = b"hit 0 0 0\nget 0 0 0 16\n";
-    for (max_bytes, replies, ends) in [
-        (0u64, "", Status::TooLong),
-        (9, "", Status::TooLong),
-        (10, "ok\n", Status::TooLong),
-        (22, "ok\n", Status::TooLong),
-        (23, "ok\nknown 850 occupied\n", Status::Done),
-        (24, "ok\nknown 850 occupied\n", Status::Done),
+    let two = "hit 0 0 0\nget 0 0 0 16\n";
+    let quit = "hit 0 0 0\nquit\nhit 0 0 0\n";
+    for (script, limit, replies, ends) in [
+        ("", "0", "", Status::Done),
+        (two, "0", "", Status::TooLong),
+        (two, "9", "", Status::TooLong),
+        (two, "10", "ok\n", Status::TooLong),
+        (two, "22", "ok\n", Status::TooLong),
+        (two, "23", "ok\nknown 850 occupied\n", Status::Done),
+        (two, "24", "ok\nknown 850 occupied\n", Status::Done),
+        (
+            "hit\nhit 0 0 0\n",
+            "13",
+            "refused 29 Syntax line 1 column 4\n",
+            Status::TooLong,
+        ),
+        (quit, "14", "ok\n", Status::TooLong),
+        (quit, "15", "ok\n", Status::Done),
+        (quit, "16", "ok\n", Status::Done),
+        (
+            "hit\nquit\nhit",
+            "9",
+            "refused 29 Syntax line 1 column 4\n",
+            Status::Refused,
+        ),
+        ("hit 0 0 0\nquit", "14", "ok\n", Status::Done),
+        ("hit 0 0 0\nquit", "13", "ok\n", Status::TooLong),
     ] {
-        let res = Res::new(100_000_000)?;
-        let options = Options {
-            res,
-            odds: OddsModel::default(),
-            max_bytes,
-        };
-        let mut source = CalmSource::new(FileBytes::from_slice(rt.alloc(), script)?, 5);
-        let mut sink = CalmSink::new(rt.alloc(), 100);
-        let status = serve(
-            rt.alloc(),
-            &options,
-            &mut source,
-            &mut sink,
-            &mut CalmStore::new(rt.alloc()),
-        );
-        assert_eq!(rt; status, ends, "at most {max_bytes}");
-        assert_eq!(rt; sink.written(), replies.as_bytes(), "at most {max_bytes}");
+        for most_read in [1usize, 5, 4096] {
+            let words = ["session", "0.1", "--max-bytes", limit];
+            let (status, text) = answer(&rt, &words, script.as_bytes(), most_read, 100)?;
+            assert_eq!(rt; status, ends, "{script:?}, at most {limit}");
+            assert_eq!(rt;
+                text.as_slice(),
+                replies.as_bytes(),
+                "{script:?}, at most {limit}"
+            );
+        }
     }
     Ok(())
 }
@@ -284,37 +408,43 @@ impl Sink for FullSink {
 
 #[test]
 fn a_read_that_fails_leaves_the_replies_to_what_was_read(rt: HostRuntime) -> Result<(), Fail> {
-    let options = Options {
-        res: Res::new(100_000_000)?,
-        odds: OddsModel::default(),
-        max_bytes: 1000,
-    };
-    let mut source = TornSource {
-        bytes: b"hit 0 0 0\nget 0 0 0 16\nget 0",
-        reads: 0,
-        faults: 0,
-    };
-    let mut sink = CalmSink::new(rt.alloc(), 100);
-    let status = serve(
-        rt.alloc(),
-        &options,
-        &mut source,
-        &mut sink,
-        &mut CalmStore::new(rt.alloc()),
-    );
-    assert_eq!(rt; status, Status::ReadFault);
-    assert_eq!(rt; source.faults, 1);
-    assert_eq!(rt; sink.written(), b"ok\nknown 850 occupied\n".as_slice());
+    for (bytes, replies, ends, faults) in [
+        (
+            "hit 0 0 0\nget 0 0 0 16\nget 0",
+            "ok\nknown 850 occupied\n",
+            Status::ReadFault,
+            1,
+        ),
+        (
+            "hit 0 0 0\nhit 0 0 0 x\nquit",
+            "ok\nrefused 29 Syntax line 2 column 11\n",
+            Status::ReadFault,
+            1,
+        ),
+        ("hit 0 0 0\nquit\n", "ok\n", Status::Done, 0),
+    ] {
+        let mut source = TornSource {
+            bytes: bytes.as_bytes(),
+            reads: 0,
+            faults: 0,
+        };
+        let mut sink = CalmSink::new(rt.alloc(), 100);
+        let status = run(
+            rt.alloc(),
+            &owned(&rt, &["session", "0.1", "--max-bytes", "1000"])?,
+            &mut source,
+            &mut sink,
+            &mut CalmStore::new(rt.alloc()),
+        );
+        assert_eq!(rt; status, ends, "at {bytes:?}");
+        assert_eq!(rt; source.faults, faults, "at {bytes:?}");
+        assert_eq!(rt; sink.written(), replies.as_bytes(), "at {bytes:?}");
+    }
     Ok(())
 }
 
 #[test]
 fn a_write_that_fails_ends_the_session(rt: HostRuntime) -> Result<(), Fail> {
-    let options = Options {
-        res: Res::new(100_000_000)?,
-        odds: OddsModel::default(),
-        max_bytes: 1000,
-    };
     let mut source = CalmSource::new(
         FileBytes::from_slice(rt.alloc(), b"hit 0 0 0\nget 0 0 0 16\n")?,
         100,
@@ -323,9 +453,9 @@ fn a_write_that_fails_ends_the_session(rt: HostRuntime) -> Result<(), Fail> {
         taken: None,
         faults: 0,
     };
-    let status = serve(
+    let status = run(
         rt.alloc(),
-        &options,
+        &owned(&rt, &["session", "0.1"])?,
         &mut source,
         &mut sink,
         &mut CalmStore::new(rt.alloc()),

@@ -1,57 +1,45 @@
-//! The words of a line, which are parted by blanks.
-ghost use Rattle.std.specs.Prelude.{◌≡◌, ◌≤◌, length};
-ghost use Rattle.std.specs.List.{prefix_len};
-ghost use Rattle.std.specs.Iterator.{YieldsFirstRef, item_count};
-ghost use Rattle.octomap_cli.specs.Words.{is_blank, is_in_word, words_of};
+//! The words of the command line, and the options among them.
+ghost use Rattle.std.specs.Prelude.{◌≡◌, Option, option_map, string_bytes};
+ghost use Rattle.octomap_cli.specs.Words.{bytes_of, is_option, value_of, are_options};
 
-/// An iterator over the words of a line, from the left.
-#[derive(Clone, Copy, Debug)]
-pub struct Words<'a> {
-    /// What stands behind the last word that was given.
-    rest: &'a [u8],
+/// Whether a word is the name of an option.
+fn is_option(word: &[u8]) -> bool
+    ensures { result ≡ is_option word.now }
+{
+    word == b"--hit".as_slice()
+        || word == b"--miss".as_slice()
+        || word == b"--min".as_slice()
+        || word == b"--max".as_slice()
+        || word == b"--thr".as_slice()
+        || word == b"--max-bytes".as_slice()
 }
 
-impl<'a> Words<'a> {
-    /// All words of the line.
-    pub fn new(line: &'a [u8]) -> Self
-        ensures { words_of result.rest.now ≡ words_of line.now }
-    {
-        Words { rest: line }
+/// The word behind a name, where the name is given. The words are pairs of a name and a value.
+#[tactic(auto, unfolding(crate::specs::Words::value_of))]
+pub fn value_of<'a>(words: &'a [String], name: &[u8]) -> Option<&'a [u8]>
+    ensures { option_map (λ word. word.now) result ≡ value_of name.now (bytes_of words.now) }
+{
+    let mut rest = words;
+    while let [other, value, more @ ..] = rest {
+        if other.as_bytes() == name {
+            return Some(value.as_bytes());
+        }
+        rest = more;
     }
+    None
 }
 
-/// Whether a byte is a space or a tab.
-fn is_blank(b: u8) -> bool
-    ensures { result ≡ is_blank b }
+/// Whether the words are pairs of an option and its value, and no option is given twice.
+#[tactic(auto, unfolding(crate::specs::Words::are_options))]
+pub fn are_options(words: &[String]) -> bool
+    ensures { result ≡ are_options (bytes_of words.now) }
 {
-    b == b' ' || b == b'\t'
-}
-
-fn count_blanks(text: &[u8]) -> usize
-    ensures count { result ≡ prefix_len is_blank text.now }
-    ensures within { result ≤ length text.now }
-{
-    text.iter().take_while(|b| is_blank(**b)).count()
-}
-
-fn count_word(text: &[u8]) -> usize
-    ensures count { result ≡ prefix_len is_in_word text.now }
-    ensures within { result ≤ length text.now }
-{
-    text.iter().take_while(|b| !is_blank(**b)).count()
-}
-
-impl<'a> Iterator for Words<'a> {
-    type Item = &'a [u8];
-
-    ghost next_gives = { YieldsFirstRef (λ w. words_of w.rest.now) };
-
-    ghost remaining = { item_count (λ w. words_of w.rest.now) };
-
-    fn next(&mut self) -> Option<&'a [u8]> {
-        let (_, text) = self.rest.split_at(count_blanks(self.rest));
-        let (word, rest) = text.split_at(count_word(text));
-        self.rest = rest;
-        if word.is_empty() { None } else { Some(word) }
+    let mut rest = words;
+    while let [name, _, more @ ..] = rest {
+        if !is_option(name.as_bytes()) || value_of(more, name.as_bytes()).is_some() {
+            return false;
+        }
+        rest = more;
     }
+    rest.is_empty()
 }

@@ -1,0 +1,20 @@
+use Rattle.std.proofs.Common.{◌+◌, length, ap, ◌∙◌}
+use Rattle.oct_script.specs.Commands.{command_in, command_of}
+use Rattle.oct_script.proofs.Leaving.{means_answer, leaves_answer}
+use Rattle.oct_script.proofs.Parsing.{line_is}
+use Rattle.oct_script.proofs.parser.parse.Goals as goal
+
+pub returns-clause-exact : goal.returns-clause-exact
+unfolding command_of
+returns-clause-exact c =
+    c.read_line.ensures.exact ∙ line_is c.new.result.end c.new.result.words
+    ∙ ap (λ end. command_in end c.new.result.words) c.new.ensures.end
+    ∙ ap (λ words. command_in (length c.args.line.now + 1) words) c.new.ensures.words
+
+pub returns-clause-means : goal.returns-clause-means
+unfolding command_of
+returns-clause-means c = means_answer _ _ _ (returns-clause-exact c)
+
+pub returns-clause-leaves : goal.returns-clause-leaves
+unfolding command_of
+returns-clause-leaves c = leaves_answer _ _ _ (returns-clause-exact c)

@@ -1,0 +1,162 @@
+//! The line that is being read.
+ghost use Rattle.std.specs.Prelude.{◌≡◌, ◌+◌, ◌≤◌, List, ℕ, ◌++◌, [], ◌∷◌, length, take, nat_lt, not, ◌&&◌, if◌then◌else◌, true, false};
+ghost use Rattle.std.specs.List.{prefix_len};
+ghost use Rattle.oct_script.specs.Lines.{LineSoFar, Text, unread, is_long, ended, joined, is_in_line, has_bytes, last_line, rest_of, IsReading, HasJoined, HasEnded};
+
+use arrayvec::ArrayVec;
+use std::marker::Model;
+
+/// The most bytes that a line may have before its line feed; a longer one is long, and isn't kept.
+pub const LONGEST_LINE: usize = 4096;
+
+/// The line that is being read, which takes the bytes of a script in any cut and never allocates.
+#[derive(Drop)]
+pub struct Lines {
+    bytes: ArrayVec<u8, LONGEST_LINE>,
+    /// Whether the line has more bytes than are kept.
+    overran: bool,
+    /// Whether the line's line feed has come.
+    ended: bool,
+}
+
+impl Model for Lines {
+    ghost use Rattle.std.specs.Prelude.{if◌then◌else◌};
+    ghost use Rattle.oct_script.specs.Lines.{LineSoFar, Text, Long};
+
+    ghost Value = { LineSoFar };
+
+    ghost view = { λ l. record { line = if l.overran then Long else Text l.bytes.items; has_ended = l.ended } };
+}
+
+/// What was taken of a piece.
+#[derive(Clone, Copy, Debug, PartialEq, Eq)]
+pub struct Fed {
+    /// How many bytes were taken, from the front of the piece.
+    pub taken: usize,
+    /// Whether a line feed was the last of them.
+    pub ended: bool,
+}
+
+/// The number of bytes before the first line feed.
+fn count_in_line(piece: &[u8]) -> usize
+    ensures count { result ≡ prefix_len is_in_line piece.now }
+    ensures within { result ≤ length piece.now }
+{
+    piece.iter().take_while(|b| **b != b'\n').count()
+}
+
+impl Lines {
+    /// The first line, of which nothing has been read.
+    pub fn new() -> Self
+        ensures empty { result ≡ unread }
+        ensures reads { IsReading result [] }
+    {
+        Lines {
+            bytes: ArrayVec::new(),
+            overran: false,
+            ended: false,
+        }
+    }
+
+    /// Takes bytes up to and with the next line feed. The line mustn't have ended since the last [`Lines::next`].
+    ///
+    /// However a script is cut, the lines that are told to have ended are its lines: fed with `piece` after any bytes
+    /// that have left this line unended, no line has ended in the bytes taken, or this one has, with the last of them.
+    pub fn feed(&mut self, piece: &[u8]) -> Fed
+        requires { self.old.has_ended ≡ false }
+        ensures ended { result.ended ≡ nat_lt (prefix_len is_in_line piece.now) (length piece.now) }
+        ensures taken { result.taken ≡ prefix_len is_in_line piece.now + (if result.ended then 1 else 0) }
+        ensures within { result.taken ≤ length piece.now }
+        ensures same { self.new.has_ended ≡ result.ended }
+        ensures line { let line = joined self.old.line (take (prefix_len is_in_line piece.now) piece.now) in
+            self.new.line ≡ (if result.ended then ended line else line) }
+        ensures joins { result.ended ≡ false → (bytes : List ℕ) → IsReading self.old bytes
+            → HasJoined self.new bytes (bytes ++ take result.taken piece.now) }
+        ensures ends { result.ended ≡ true → (bytes : List ℕ) → IsReading self.old bytes
+            → HasEnded self.new bytes (bytes ++ take result.taken piece.now) }
+    {
+        self.take_front(piece)
+    }
+
+    /// The text of the line, which mustn't be long, without its end.
+    pub fn text(&self) -> &[u8]
+        requires { is_long self.now.line ≡ false }
+        ensures text { self.now.line ≡ Text result.now }
+        ensures few { length result.now ≤ LONGEST_LINE }
+    {
+        self.bytes.as_slice()
+    }
+
+    /// Whether the line is long: more than 4,096 bytes before its line feed, or in all where none has come.
+    pub fn is_long(&self) -> bool
+        ensures { result ≡ is_long self.now.line }
+    {
+        self.overran
+    }
+
+    /// Whether bytes of an unended line stand, which are the last line where the script ends here.
+    pub fn has_rest(&self) -> bool
+        ensures exact { result ≡ (not self.now.has_ended && has_bytes self.now.line) }
+        ensures last { (bytes : List ℕ) → IsReading self.now bytes
+            → last_line (rest_of bytes) ≡ (if result then self.now.line ∷ [] else []) }
+    {
+        !self.ended && (self.overran || !self.bytes.is_empty())
+    }
+
+    /// Begins the next line.
+    pub fn next(&mut self)
+        ensures empty { self.new ≡ unread }
+        ensures reads { (bytes : List ℕ) → rest_of bytes ≡ [] → IsReading self.new bytes }
+    {
+        self.bytes.clear();
+        self.overran = false;
+        self.ended = false;
+    }
+
+    /// Takes bytes up to and with the next line feed.
+    fn take_front(&mut self, piece: &[u8]) -> Fed
+        requires { self.old.has_ended ≡ false }
+        ensures ended { result.ended ≡ nat_lt (prefix_len is_in_line piece.now) (length piece.now) }
+        ensures taken { result.taken ≡ prefix_len is_in_line piece.now + (if result.ended then 1 else 0) }
+        ensures within { result.taken ≤ length piece.now }
+        ensures same { self.new.has_ended ≡ result.ended }
+        ensures line { let line = joined self.old.line (take (prefix_len is_in_line piece.now) piece.now) in
+            self.new.line ≡ (if result.ended then ended line else line) }
+    {
+        let count = count_in_line(piece);
+        let (front, rest) = piece.split_at(count);
+        self.join(front);
+        if rest.is_empty() {
+            return Fed {
+                taken: count,
+                ended: false,
+            };
+        }
+        self.end();
+        Fed {
+            taken: count + 1,
+            ended: true,
+        }
+    }
+
+    /// Adds bytes to the line, which is long once they don't fit.
+    fn join(&mut self, bytes: &[u8])
+        ensures line { self.new.line ≡ joined self.old.line bytes.now }
+        ensures same { self.new.has_ended ≡ self.old.has_ended }
+    {
+        if !self.overran && self.bytes.try_extend_from_slice(bytes).is_err() {
+            self.overran = true;
+        }
+    }
+
+    /// Ends the line, and drops one carriage return at its end.
+    fn end(&mut self)
+        ensures line { self.new.line ≡ ended self.old.line }
+        ensures same { self.new.has_ended ≡ true }
+    {
+        if self.bytes.last() == Some(&b'\r') {
+            self.bytes.pop();
+        }
+        self.ended = true;
+    }
+}

@@ -1,0 +1,402 @@
+-- How a session ends.
+use Rattle.std.proofs.Common.{◌≡◌, ℕ, ◌+◌, ◌-◌, ◌<◌, ◌≤◌, List, [], ◌∷◌, ◌++◌, length, take, drop, Bool, true, false, cond, Option, Some, None, IfSome, Result, Ok, Err, OnOk, OnErr, IfErr, IsErrAnd, inl, inr, refl, sym, ap, subst, ◌∙◌, arith, append_assoc, length-append, length-drop}
+use Rattle.std.specs.List.{fold}
+use Rattle.std.proofs.Math.Seq.{take-add, take-append-add}
+use Rattle.std.proofs.lemmas.List.{take-append-drop, take_all, drop-drop, length-take, take-take}
+use Rattle.std.proofs.lemmas.Bool.{lt-leb, le-leb, cases_lt}
+use Rattle.oct_io.specs.Files.{Files}
+use Rattle.oct_io.specs.Told.{appended, dropped}
+use Rattle.oct_io.proofs.Appending.{appended_nil}
+use Rattle.oct_odds.specs.Odds.{odds_of}
+use Rattle.oct_script.specs.Lines.{Line, LineSoFar, unread, ended_lines, rest_of, last_line, all_lines}
+use Rattle.oct_script.proofs.Cuts.{ended_lines-append}
+use Rattle.oct_session.specs.declared.options.Status.{Status}
+use Rattle.oct_session.specs.declared.options.Status.TheVariants as status
+use Rattle.oct_session.specs.declared.options.Stop.{Stop}
+use Rattle.oct_session.specs.declared.options.Stop.TheVariants.{TooLong, ReadFault, WriteFault, Memory}
+use Rattle.oct_session.specs.declared.session.Session.{Session}
+use Rattle.oct_session.specs.Ending.{HasTaken, HasTakenAtMost, IsReadToEnd, IsBegun, MayEnd, IsWhole, replies_within, has_quit_within}
+use Rattle.oct_session.specs.Session.{Progress, Answer, start, after_line, answered, progress, session, finished, cut_short, status_at_end}
+use Rattle.oct_session.specs.Setup.{Setup}
+use Rattle.oct_session.specs.Standing.{HasReached, IsAt, HasServed, IsThrough, StopsIn}
+use Rattle.oct_session.specs.Stops.{status_of, IsSinkStop}
+use Rattle.oct_session.specs.Values.{values_of}
+use Rattle.oct_session.proofs.Progresses.{progress_grows, replies_grow, progress_behind_quit, bytes_behind_quit}
+use Rattle.oct_session.proofs.Begun.{begun_more, begun_whole}
+
+-- the session of a script that isn't too long
+pub session_short : (o : Setup) (files : Files) (bytes : List ℕ) → length bytes ≤ o.max_bytes → session o files bytes ≡ finished (progress o files (all_lines bytes))
+unfolding session
+session_short o files bytes few = rw (le-leb (length bytes) o.max_bytes few) refl
+
+-- the session of a script that is too long
+pub session_long : (o : Setup) (files : Files) (bytes : List ℕ) → o.max_bytes < length bytes → session o files bytes ≡ cut_short (progress o files (ended_lines (take o.max_bytes bytes)))
+unfolding session
+session_long o files bytes more = rw (lt-leb (length bytes) o.max_bytes more) refl
+
+cut_text : (p : Progress) → (cut_short p).text ≡ p.text
+cut_text p = elim p.has_quit as (λ v. (cond v (finished p) (record { text = p.text; files = p.files; status = status.TooLong })).text ≡ p.text) [ true ↦ refl | false ↦ refl ]
+
+cut_files : (p : Progress) → (cut_short p).files ≡ p.files
+cut_files p = elim p.has_quit as (λ v. (cond v (finished p) (record { text = p.text; files = p.files; status = status.TooLong })).files ≡ p.files) [ true ↦ refl | false ↦ refl ]
+
+cut_quit : (p : Progress) → p.has_quit ≡ true → cut_short p ≡ finished p
+cut_quit p quit = rw quit refl
+
+cut_status : (p : Progress) → p.has_quit ≡ false → (cut_short p).status ≡ status.TooLong
+cut_status p running = rw running refl
+
+-- the first bytes that count, of a script that is too long
+front_long : (most : ℕ) (bytes front back : List ℕ) → bytes ≡ front ++ back → length front ≤ most → take most bytes ≡ front ++ take (most - length front) back
+front_long most bytes front back parts few =
+    let n : ℕ = most - length front in
+    let size : most ≡ length front + n = omega arith in
+    ap (λ k. take k bytes) size ∙ ap (λ x. take (length front + n) x) parts ∙ take-append-add front back n
+
+-- all lines of a script begin with those that end in its front
+lines_short : (bytes front back : List ℕ) → bytes ≡ front ++ back → (more : List Line) × (all_lines bytes ≡ ended_lines front ++ more)
+lines_short bytes front back parts =
+    let s = ended_lines-append front back in
+    (s.0 ++ last_line (rest_of bytes), ap (λ x. x ++ last_line (rest_of bytes)) (ap ended_lines parts ∙ s.1) ∙ append_assoc (ended_lines front) s.0 (last_line (rest_of bytes)))
+
+-- the replies to the lines that end in a front of the script, within the limit, begin the whole answer
+pub within_session : (o : Setup) (files : Files) (bytes front back : List ℕ) → bytes ≡ front ++ back → length front ≤ o.max_bytes →
+    (text : List ℕ) × ((session o files bytes).text ≡ replies_within o files front ++ text)
+within_session o files bytes front back parts few = elim (cases_lt o.max_bytes (length bytes)) [
+  | inl more ↦ (
+      let s = replies_grow o files front (take (o.max_bytes - length front) back) in (
+        s.0,
+        ap (λ (a : Answer). a.text) (session_long o files bytes more) ∙ cut_text (progress o files (ended_lines (take o.max_bytes bytes)))
+            ∙ ap (replies_within o files) (front_long o.max_bytes bytes front back parts few) ∙ s.1,
+      ))
+  | inr small ↦ (
+      let s = lines_short bytes front back parts in
+      let t = progress_grows o files (ended_lines front) s.0 in
+      (t.0, ap (λ (a : Answer). a.text) (session_short o files bytes small) ∙ ap (λ x. (progress o files x).text) s.1 ∙ t.1))
+]
+
+-- a `quit` line that ends in a front of the script, within the limit, finishes the session
+pub session_quit : (o : Setup) (files : Files) (bytes front back : List ℕ) → bytes ≡ front ++ back → length front ≤ o.max_bytes → has_quit_within o files front ≡ true →
+    session o files bytes ≡ finished (progress o files (ended_lines front))
+session_quit o files bytes front back parts few quit = elim (cases_lt o.max_bytes (length bytes)) [
+  | inl more ↦ (
+      let same : progress o files (ended_lines (take o.max_bytes bytes)) ≡ progress o files (ended_lines front) =
+      ap (λ x. progress o files (ended_lines x)) (front_long o.max_bytes bytes front back parts few) ∙ bytes_behind_quit o files front (take (o.max_bytes - length front) back) quit in
+      session_long o files bytes more ∙ ap cut_short same ∙ cut_quit (progress o files (ended_lines front)) quit)
+  | inr small ↦ (
+      let s = lines_short bytes front back parts in
+      session_short o files bytes small ∙ ap (λ x. finished (progress o files x)) s.1 ∙ ap finished (progress_behind_quit o files (ended_lines front) s.0 quit))
+]
+
+-- a prefix of those replies is a prefix of the whole answer
+begun_session : (o : Setup) (files : Files) (bytes front back : List ℕ) (old new : Option (List ℕ)) → bytes ≡ front ++ back → length front ≤ o.max_bytes →
+    IsBegun (replies_within o files front) old new → IsBegun (session o files bytes).text old new
+begun_session o files bytes front back old new parts few begun = let s = within_session o files bytes front back parts few in begun_more _ _ s.0 old new s.1 begun
+
+-- before the first read
+pub serving_start : (o : Setup) (files : Files) (bytes : List ℕ) (w : Option (List ℕ)) (s : Session) → values_of s.map ≡ (λ k. None) → odds_of s.map.odds ≡ o.odds →
+    s.lines ≡ unread → s.answered ≡ 0 → s.refused ≡ false → s.has_quit ≡ false → HasServed o files bytes (Some bytes) w w s 0
+serving_start o files bytes w s values odds line answered refused running = record {
+  input = record { within = omega arith; rest = refl };
+  at = record {
+    reached = record {
+      between = record { map = record { odds = odds; values = values }; answered = answered; refused = refused; has_quit = running };
+      written = appended_nil w;
+    };
+    line = λ goes_on. record { line = ap (λ (x : LineSoFar). x.line) line; unended = ap (λ (x : LineSoFar). x.has_ended) line };
+  };
+}
+
+-- what a read moved to the front of the buffer
+piece_is : (bytes buffer piece : List ℕ) (left : Option (List ℕ)) (taken n : ℕ) → HasTaken taken bytes left → IfSome left (λ l. take n buffer ≡ take n l) → piece ≡ take n buffer →
+    piece ≡ take n (drop taken bytes)
+piece_is bytes buffer piece left taken n input moved is = is ∙ subst (λ (x : Option (List ℕ)). IfSome x (λ l. take n buffer ≡ take n l)) input.rest moved
+
+-- what is taken after a read
+taken_more : (bytes : List ℕ) (left after : Option (List ℕ)) (taken n : ℕ) → HasTaken taken bytes left → after ≡ dropped n left → IfSome left (λ l. n ≤ length l) → HasTaken (taken + n) bytes after
+taken_more bytes left after taken n input moved enough =
+    let few : n ≤ length (drop taken bytes) = subst (λ (x : Option (List ℕ)). IfSome x (λ l. n ≤ length l)) input.rest enough in
+    record {
+      within = omega (arith, few, length-drop taken bytes, input.within);
+      rest = moved ∙ ap (dropped n) input.rest ∙ ap Some (drop-drop n taken bytes);
+    }
+
+-- what a read gave: the numbers of what was taken before, of what it gave, and of what of it may be taken, and the bytes
+pub record IsRead (o : Setup) (buffer piece : List ℕ) (left after : Option (List ℕ)) (taken n room : ℕ) : Type 0 where
+  pub few : taken ≤ o.max_bytes
+  pub size : room ≡ o.max_bytes - taken
+  pub most : n ≤ room + 1
+  pub moved : after ≡ dropped n left
+  pub same : IfSome left (λ l. take n buffer ≡ take n l)
+  pub enough : IfSome left (λ l. n ≤ length l)
+  pub is : piece ≡ take n buffer
+  pub len : length piece ≡ n
+
+-- a read whose bytes were all taken
+pub serving_more : (o : Setup) (files : Files) (bytes buffer piece : List ℕ) (left after w v u : Option (List ℕ)) (s t : Session) (taken n room : ℕ) → IsRead o buffer piece left after taken n room → length piece ≤ room →
+    ((files : Files) (w : Option (List ℕ)) (bytes : List ℕ) → IsAt o files w v s bytes → IsAt o files w u t (bytes ++ take room piece)) →
+    HasServed o files bytes left w v s taken → HasServed o files bytes after w u t (taken + n)
+serving_more o files bytes buffer piece left after w v u s t taken n room read fits goes at =
+    let p : piece ≡ take n (drop taken bytes) = piece_is bytes buffer piece left taken n at.input read.same read.is in
+    let whole : take room piece ≡ take n (drop taken bytes) = take_all room piece fits ∙ p in
+    record {
+      input = taken_more bytes left after taken n at.input read.moved read.enough;
+      at = subst (λ x. IsAt o files w u t x) (ap (λ x. take taken bytes ++ x) whole ∙ sym (take-add taken n bytes)) (goes files w (take taken bytes) at.at);
+    }
+
+-- the input failed
+ends_read_fault : (o : Setup) (files : Files) (bytes : List ℕ) (left after w v : Option (List ℕ)) (s : Session) (taken : ℕ) → after ≡ left → taken ≤ o.max_bytes → s.has_quit ≡ false →
+    HasServed o files bytes left w v s taken → MayEnd o files bytes after w v (status_of ReadFault)
+ends_read_fault o files bytes left after w v s taken same few running at =
+    let size : length (take taken bytes) ≤ o.max_bytes = omega (arith, length-take taken bytes) in (
+      begun_session o files bytes (take taken bytes) (drop taken bytes) w v (sym (take-append-drop taken bytes)) size (begun_whole _ w v at.at.reached.written),
+      record {
+        taken = taken;
+        few = few;
+        input = record { within = at.input.within; rest = same ∙ at.input.rest };
+        no_quit = sym at.at.reached.between.has_quit ∙ running;
+        written = at.at.reached.written;
+      },
+    )
+
+-- a script within a read: what was taken before, what of the piece may be taken, and what is behind it
+parts_within : (bytes piece : List ℕ) (taken n room : ℕ) → piece ≡ take n (drop taken bytes) → bytes ≡ (take taken bytes ++ take room piece) ++ (drop room piece ++ drop n (drop taken bytes))
+parts_within bytes piece taken n room is =
+    sym (take-append-drop taken bytes)
+    ∙ ap (λ x. take taken bytes ++ x) (sym (take-append-drop n (drop taken bytes)) ∙ ap (λ x. x ++ drop n (drop taken bytes)) (sym is ∙ sym (take-append-drop room piece))
+    ∙ append_assoc (take room piece) (drop room piece) (drop n (drop taken bytes)))
+    ∙ sym (append_assoc (take taken bytes) (take room piece) (drop room piece ++ drop n (drop taken bytes)))
+
+-- what of it counts lies within the limit
+few_within : (bytes piece : List ℕ) (taken room most : ℕ) → taken ≤ most → room ≡ most - taken → length (take taken bytes ++ take room piece) ≤ most
+few_within bytes piece taken room most few size = omega (arith, length-append (take taken bytes) (take room piece), length-take taken bytes, length-take room piece)
+
+-- the first bytes that count, of what was taken
+counted : (bytes piece : List ℕ) (taken n room most : ℕ) → taken ≤ most → room ≡ most - taken → taken ≤ length bytes → piece ≡ take n (drop taken bytes) →
+    take most (take (taken + n) bytes) ≡ take taken bytes ++ take room piece
+counted bytes piece taken n room most few size within is =
+    let front : take (taken + n) bytes ≡ take taken bytes ++ piece = take-add taken n bytes ∙ ap (λ x. take taken bytes ++ x) (sym is) in
+    let most_is : most ≡ length (take taken bytes) + room = omega (arith, length-take taken bytes) in
+    ap (λ x. take most x) front ∙ ap (λ k. take k (take taken bytes ++ piece)) most_is ∙ take-append-add (take taken bytes) piece room
+
+-- a `quit` line in what a read gave
+serving_quit : (o : Setup) (files : Files) (bytes buffer piece : List ℕ) (left after w v u : Option (List ℕ)) (s t : Session) (taken n room : ℕ) → IsRead o buffer piece left after taken n room → t.has_quit ≡ true →
+    ((files : Files) (w : Option (List ℕ)) (bytes : List ℕ) → IsAt o files w v s bytes → IsAt o files w u t (bytes ++ take room piece)) →
+    HasServed o files bytes left w v s taken → IsThrough o files bytes after w u t
+serving_quit o files bytes buffer piece left after w v u s t taken n room read quit goes at =
+    let p : piece ≡ take n (drop taken bytes) = piece_is bytes buffer piece left taken n at.input read.same read.is in
+    let reached : IsAt o files w u t (take taken bytes ++ take room piece) = goes files w (take taken bytes) at.at in
+    let ends : has_quit_within o files (take taken bytes ++ take room piece) ≡ true = sym reached.reached.between.has_quit ∙ quit in
+    record {
+      last = progress o files (ended_lines (take taken bytes ++ take room piece));
+      reached = reached.reached;
+      whole = session_quit o files bytes (take taken bytes ++ take room piece) (drop room piece ++ drop n (drop taken bytes)) (parts_within bytes piece taken n room p)
+          (few_within bytes piece taken room o.max_bytes read.few read.size) ends;
+      end = record {
+        taken = taken + n;
+        few = omega (arith, read.few, read.size, read.most);
+        input = taken_more bytes left after taken n at.input read.moved read.enough;
+        end = inr (ap (has_quit_within o files) (counted bytes piece taken n room o.max_bytes read.few read.size at.input.within p) ∙ ends);
+      };
+    }
+
+-- a prefix of the answers to what of the piece may be taken
+stops_begun : (o : Setup) (files : Files) (bytes buffer piece : List ℕ) (left after w u : Option (List ℕ)) (taken n room : ℕ) → IsRead o buffer piece left after taken n room → HasTaken taken bytes left →
+    IsBegun (replies_within o files (take taken bytes ++ take room piece)) w u → IsBegun (session o files bytes).text w u
+stops_begun o files bytes buffer piece left after w u taken n room read input begun =
+    let p : piece ≡ take n (drop taken bytes) = piece_is bytes buffer piece left taken n input read.same read.is in
+    begun_session o files bytes (take taken bytes ++ take room piece) (drop room piece ++ drop n (drop taken bytes)) w u (parts_within bytes piece taken n room p)
+    (few_within bytes piece taken room o.max_bytes read.few read.size) begun
+
+-- at most one byte more than the script may have was taken
+stops_taken : (o : Setup) (bytes buffer piece : List ℕ) (left after : Option (List ℕ)) (taken n room : ℕ) → IsRead o buffer piece left after taken n room → HasTaken taken bytes left → HasTakenAtMost (o.max_bytes + 1) bytes after
+stops_taken o bytes buffer piece left after taken n room read input = record {
+  taken = taken + n;
+  few = omega (arith, read.few, read.size, read.most);
+  input = taken_more bytes left after taken n input read.moved read.enough;
+}
+
+-- more bytes than the script may have
+stops_long : (o : Setup) (files : Files) (bytes buffer piece : List ℕ) (left after w u : Option (List ℕ)) (t : Session) (taken n room : ℕ) → IsRead o buffer piece left after taken n room → room < length piece → t.has_quit ≡ false →
+    HasTaken taken bytes left → IsAt o files w u t (take taken bytes ++ take room piece) → MayEnd o files bytes after w u status.TooLong
+stops_long o files bytes buffer piece left after w u t taken n room read more running input at =
+    let p : piece ≡ take n (drop taken bytes) = piece_is bytes buffer piece left taken n input read.same read.is in
+    let k = taken_more bytes left after taken n input read.moved read.enough in
+    let all : taken + n ≡ o.max_bytes + 1 = omega (arith, read.few, read.size, read.most, read.len) in
+    let long : o.max_bytes < length bytes = omega (arith, k.within) in
+    let front : take o.max_bytes bytes ≡ take taken bytes ++ take room piece =
+    sym (take-take o.max_bytes (taken + n) bytes (omega arith)) ∙ counted bytes piece taken n room o.max_bytes read.few read.size input.within p in
+    let q : Progress = progress o files (ended_lines (take taken bytes ++ take room piece)) in
+    let answer : session o files bytes ≡ cut_short q = session_long o files bytes long ∙ ap (λ x. cut_short (progress o files (ended_lines x))) front in (
+      record {
+        written = at.reached.written ∙ ap (appended w) (sym (ap (λ (a : Answer). a.text) answer ∙ cut_text q));
+        same_status = ap (λ (a : Answer). a.status) answer ∙ cut_status q (sym at.reached.between.has_quit ∙ running);
+      },
+      subst (λ m. HasTaken m bytes after) all k,
+    )
+
+-- a stop within what a read gave
+ends_stop : (o : Setup) (files : Files) (bytes buffer piece : List ℕ) (left after w v u : Option (List ℕ)) (s t : Session) (taken n room : ℕ) (stop : Stop) → IsRead o buffer piece left after taken n room →
+    ((files : Files) (w : Option (List ℕ)) (bytes : List ℕ) → IsAt o files w v s bytes → StopsIn o files w u t bytes piece room stop) →
+    HasServed o files bytes left w v s taken → MayEnd o files bytes after w u (status_of stop)
+ends_stop o files bytes buffer piece left after w v u s t taken n room TooLong read stops at =
+    let p = stops files w (take taken bytes) at.at in stops_long o files bytes buffer piece left after w u t taken n room read p.0 p.1 at.input p.2
+ends_stop o files bytes buffer piece left after w v u s t taken n room WriteFault read stops at =
+    (stops_begun o files bytes buffer piece left after w u taken n room read at.input (stops files w (take taken bytes) at.at), stops_taken o bytes buffer piece left after taken n room read at.input)
+ends_stop o files bytes buffer piece left after w v u s t taken n room Memory read stops at =
+    (stops_begun o files bytes buffer piece left after w u taken n room read at.input (stops files w (take taken bytes) at.at), stops_taken o bytes buffer piece left after taken n room read at.input)
+ends_stop o files bytes buffer piece left after w v u s t taken n room ReadFault read stops at = absurd (stops files w (take taken bytes) at.at)
+
+-- a prefix of the whole answer, at a stop of the sink
+begun_ends : (o : Setup) (files : Files) (bytes : List ℕ) (left w u : Option (List ℕ)) (stop : Stop) → IsSinkStop stop → IsBegun (session o files bytes).text w u →
+    HasTakenAtMost (o.max_bytes + 1) bytes left → MayEnd o files bytes left w u (status_of stop)
+begun_ends o files bytes left w u WriteFault only begun input = (begun, input)
+begun_ends o files bytes left w u Memory only begun input = (begun, input)
+begun_ends o files bytes left w u TooLong only begun input = absurd only
+begun_ends o files bytes left w u ReadFault only begun input = absurd only
+
+-- where nothing is left, all bytes were taken
+all_taken : (bytes : List ℕ) (left : Option (List ℕ)) (taken : ℕ) → HasTaken taken bytes left → IfSome left (λ l. l ≡ []) → length bytes ≡ taken
+all_taken bytes left taken input none =
+    let e : drop taken bytes ≡ [] = subst (λ (x : Option (List ℕ)). IfSome x (λ l. l ≡ [])) input.rest none in
+    omega (arith, ap length e, length-drop taken bytes, input.within)
+
+-- the end of the input
+through_end : (o : Setup) (files : Files) (bytes : List ℕ) (left w v u : Option (List ℕ)) (s t : Session) (taken : ℕ) → taken ≤ o.max_bytes → IfSome left (λ l. l ≡ []) →
+    ((files : Files) (w : Option (List ℕ)) (bytes : List ℕ) → IsAt o files w v s bytes → HasReached o w u t (progress o files (all_lines bytes))) →
+    HasServed o files bytes left w v s taken → IsThrough o files bytes left w u t
+through_end o files bytes left w v u s t taken few none goes at =
+    let size : length bytes ≡ taken = all_taken bytes left taken at.input none in
+    let whole : take taken bytes ≡ bytes = take_all taken bytes (omega arith) in
+    let e : drop taken bytes ≡ [] = subst (λ (x : Option (List ℕ)). IfSome x (λ l. l ≡ [])) at.input.rest none in
+    record {
+      last = progress o files (all_lines bytes);
+      reached = subst (λ x. HasReached o w u t (progress o files (all_lines x))) whole (goes files w (take taken bytes) at.at);
+      whole = session_short o files bytes (omega arith);
+      end = record { taken = taken; few = omega arith; input = at.input; end = inl (at.input.rest ∙ ap Some e) };
+    }
+
+-- a stop in the answer to the last line
+ends_last : (o : Setup) (files : Files) (bytes : List ℕ) (left w v u : Option (List ℕ)) (s : Session) (taken : ℕ) (stop : Stop) → taken ≤ o.max_bytes → IfSome left (λ l. l ≡ []) → IsSinkStop stop →
+    ((files : Files) (w : Option (List ℕ)) (bytes : List ℕ) → IsAt o files w v s bytes → IsBegun (progress o files (all_lines bytes)).text w u) →
+    HasServed o files bytes left w v s taken → MayEnd o files bytes left w u (status_of stop)
+ends_last o files bytes left w v u s taken stop few none only begins at =
+    let size : length bytes ≡ taken = all_taken bytes left taken at.input none in
+    let whole : take taken bytes ≡ bytes = take_all taken bytes (omega arith) in
+    let short : length bytes ≤ o.max_bytes = omega arith in
+    let begun : IsBegun (session o files bytes).text w u =
+    subst (λ (x : Answer). IsBegun x.text w u) (sym (session_short o files bytes short)) (subst (λ x. IsBegun (progress o files (all_lines x)).text w u) whole (begins files w (take taken bytes) at.at)) in
+    begun_ends o files bytes left w u stop only begun (record { taken = taken; few = omega arith; input = at.input })
+
+ended_as : (o : Setup) (files : Files) (bytes : List ℕ) (left w v : Option (List ℕ)) (refused : Bool) (status : Status) → status ≡ status_at_end refused →
+    (session o files bytes).status ≡ status_at_end refused → v ≡ appended w (session o files bytes).text → IsReadToEnd o files bytes left → MayEnd o files bytes left w v status
+ended_as o files bytes left w v true status is same written end = rw is (record { written = written; same_status = same }, end)
+ended_as o files bytes left w v false status is same written end = rw is (record { written = written; same_status = same }, end)
+
+-- the whole script was answered
+ends_through : (o : Setup) (files : Files) (bytes : List ℕ) (left w v : Option (List ℕ)) (s : Session) (status : Status) → status ≡ status_at_end s.refused →
+    IsThrough o files bytes left w v s → MayEnd o files bytes left w v status
+ends_through o files bytes left w v s status is through =
+    ended_as o files bytes left w v s.refused status is (ap (λ (a : Answer). a.status) through.whole ∙ ap status_at_end (sym through.reached.between.refused))
+    (through.reached.written ∙ ap (λ (a : Answer). appended w a.text) (sym through.whole)) through.end
+
+-- a call that gives up where the input failed
+pub fault_ends : {T : Type 0} (r : Result T Stop) (o : Setup) (left after v : Option (List ℕ)) (s : Session) (taken : ℕ) → IsErrAnd r (λ stop. stop ≡ ReadFault) → after ≡ left → taken ≤ o.max_bytes → s.has_quit ≡ false →
+    IfErr r (λ stop. (files : Files) (bytes : List ℕ) (w : Option (List ℕ)) → HasServed o files bytes left w v s taken → MayEnd o files bytes after w v (status_of stop))
+fault_ends (Ok x) o left after v s taken is same few running = tt
+fault_ends (Err stop) o left after v s taken is same few running = λ files bytes w at.
+    subst (λ x. MayEnd o files bytes after w v (status_of x)) (sym is) (ends_read_fault o files bytes left after w v s taken same few running at)
+
+-- a call that gives up within what a read gave
+pub stop_ends : {T : Type 0} (r : Result T Stop) (stop : Stop) (o : Setup) (buffer piece : List ℕ) (left after v u : Option (List ℕ)) (s t : Session) (taken n room : ℕ) → IsErrAnd r (λ x. x ≡ stop) →
+    IsRead o buffer piece left after taken n room →
+    ((files : Files) (w : Option (List ℕ)) (bytes : List ℕ) → IsAt o files w v s bytes → StopsIn o files w u t bytes piece room stop) →
+    IfErr r (λ x. (files : Files) (bytes : List ℕ) (w : Option (List ℕ)) → HasServed o files bytes left w v s taken → MayEnd o files bytes after w u (status_of x))
+stop_ends (Ok x) stop o buffer piece left after v u s t taken n room is read stops = tt
+stop_ends (Err x) stop o buffer piece left after v u s t taken n room is read stops = λ files bytes w at.
+    subst (λ y. MayEnd o files bytes after w u (status_of y)) (sym is) (ends_stop o files bytes buffer piece left after w v u s t taken n room stop read stops at)
+
+-- a call that goes on behind a read
+pub goes_on : (o : Setup) (buffer piece : List ℕ) (left after v u : Option (List ℕ)) (s t : Session) (taken n room : ℕ) → IsRead o buffer piece left after taken n room → (t.has_quit ≡ false → length piece ≤ room) →
+    ((files : Files) (w : Option (List ℕ)) (bytes : List ℕ) → IsAt o files w v s bytes → IsAt o files w u t (bytes ++ take room piece)) →
+    t.has_quit ≡ false → (files : Files) (bytes : List ℕ) (w : Option (List ℕ)) → HasServed o files bytes left w v s taken → HasServed o files bytes after w u t (taken + n)
+goes_on o buffer piece left after v u s t taken n room read fits goes running files bytes w at = serving_more o files bytes buffer piece left after w v u s t taken n room read (fits running) goes at
+
+-- a call that meets a `quit` line in what a read gave
+pub quits_in : (o : Setup) (buffer piece : List ℕ) (left after v u : Option (List ℕ)) (s t : Session) (taken n room : ℕ) → IsRead o buffer piece left after taken n room →
+    ((files : Files) (w : Option (List ℕ)) (bytes : List ℕ) → IsAt o files w v s bytes → IsAt o files w u t (bytes ++ take room piece)) →
+    t.has_quit ≡ true → (files : Files) (bytes : List ℕ) (w : Option (List ℕ)) → HasServed o files bytes left w v s taken → IsThrough o files bytes after w u t
+quits_in o buffer piece left after v u s t taken n room read goes quit files bytes w at = serving_quit o files bytes buffer piece left after w v u s t taken n room read quit goes at
+
+-- a read that gives up, behind reads that didn't
+pub after_stop : {T : Type 0} (r : Result T Stop) (stop : Stop) (o : Setup) (left after end a v u : Option (List ℕ)) (s m : Session) (taken : ℕ) → IsErrAnd r (λ x. x ≡ stop) →
+    ((files : Files) (bytes : List ℕ) (w : Option (List ℕ)) → HasServed o files bytes left w a s 0 → HasServed o files bytes after w v m taken) →
+    ((files : Files) (bytes : List ℕ) (w : Option (List ℕ)) → HasServed o files bytes after w v m taken → MayEnd o files bytes end w u (status_of stop)) →
+    IfErr r (λ x. (files : Files) (bytes : List ℕ) (w : Option (List ℕ)) → HasServed o files bytes left w a s 0 → MayEnd o files bytes end w u (status_of x))
+after_stop (Ok x) stop o left after end a v u s m taken is goes stops = tt
+after_stop (Err x) stop o left after end a v u s m taken is goes stops = λ files bytes w at.
+    subst (λ y. MayEnd o files bytes end w u (status_of y)) (sym is) (stops files bytes w (goes files bytes w at))
+
+-- the answer to the last line, at the end of the input
+pub last_read : {E : Type 0} (r : Result (Unit {0}) E) (o : Setup) (left after a v u : Option (List ℕ)) (s m t : Session) (taken : ℕ) → taken ≤ o.max_bytes → IfSome after (λ l. l ≡ []) →
+    ((files : Files) (bytes : List ℕ) (w : Option (List ℕ)) → HasServed o files bytes left w a s 0 → HasServed o files bytes after w v m taken) →
+    OnOk r ((files : Files) (w : Option (List ℕ)) (bytes : List ℕ) → IsAt o files w v m bytes → HasReached o w u t (progress o files (all_lines bytes))) →
+    OnOk r ((files : Files) (bytes : List ℕ) (w : Option (List ℕ)) → HasServed o files bytes left w a s 0 → IsThrough o files bytes after w u t)
+last_read (Ok x) o left after a v u s m t taken few none goes answers = λ files bytes w at. through_end o files bytes after w v u m t taken few none answers (goes files bytes w at)
+last_read (Err x) o left after a v u s m t taken few none goes answers = tt
+
+-- a stop in that answer
+pub last_stop : (r : Result (Unit {0}) Stop) (o : Setup) (left after a v u : Option (List ℕ)) (s m : Session) (taken : ℕ) → taken ≤ o.max_bytes → IfSome after (λ l. l ≡ []) →
+    ((files : Files) (bytes : List ℕ) (w : Option (List ℕ)) → HasServed o files bytes left w a s 0 → HasServed o files bytes after w v m taken) → IfErr r IsSinkStop →
+    OnErr r ((files : Files) (w : Option (List ℕ)) (bytes : List ℕ) → IsAt o files w v m bytes → IsBegun (progress o files (all_lines bytes)).text w u) →
+    IfErr r (λ stop. (files : Files) (bytes : List ℕ) (w : Option (List ℕ)) → HasServed o files bytes left w a s 0 → MayEnd o files bytes after w u (status_of stop))
+last_stop (Ok x) o left after a v u s m taken few none goes only begins = tt
+last_stop (Err stop) o left after a v u s m taken few none goes only begins = λ files bytes w at. ends_last o files bytes after w v u m taken stop few none only begins (goes files bytes w at)
+
+-- a session as it begins
+pub record IsNew (o : Setup) (s : Session) : Type 0 where
+  pub values : values_of s.map ≡ (λ k. None)
+  pub odds : odds_of s.map.odds ≡ o.odds
+  pub line : s.lines ≡ unread
+  pub answered : s.answered ≡ 0
+  pub refused : s.refused ≡ false
+  pub running : s.has_quit ≡ false
+
+-- a session that has read its script
+pub serve_read : (o : Setup) (left after v u : Option (List ℕ)) (s t : Session) (status : Status) → IsNew o s →
+    status ≡ status_at_end t.refused → ((files : Files) (bytes : List ℕ) (w : Option (List ℕ)) → HasServed o files bytes left w v s 0 → IsThrough o files bytes after w u t) →
+    IfSome left (λ bytes. (files : Files) → MayEnd o files bytes after v u status)
+serve_read o None after v u s t status new is reads = tt
+serve_read o (Some bytes) after v u s t status new is reads = λ files.
+    ends_through o files bytes after v u t status is (reads files bytes v (serving_start o files bytes v s new.values new.odds new.line new.answered new.refused new.running))
+
+-- a session that has stopped
+pub serve_stop : (o : Setup) (left after v u : Option (List ℕ)) (s : Session) (stop : Stop) (status : Status) → IsNew o s →
+    status ≡ status_of stop → ((files : Files) (bytes : List ℕ) (w : Option (List ℕ)) → HasServed o files bytes left w v s 0 → MayEnd o files bytes after w u (status_of stop)) →
+    IfSome left (λ bytes. (files : Files) → MayEnd o files bytes after v u status)
+serve_stop o None after v u s stop status new is stops = tt
+serve_stop o (Some bytes) after v u s stop status new is stops = λ files.
+    subst (λ x. MayEnd o files bytes after v u x) (sym is) (stops files bytes v (serving_start o files bytes v s new.values new.odds new.line new.answered new.refused new.running))
+
+-- a line leaves the files as they are
+line_files : (o : Setup) (p : Progress) (line : Line) → (after_line o p line).files ≡ p.files
+line_files o p line = elim p.has_quit as (λ v. (cond v p (answered o p line)).files ≡ p.files) [ true ↦ refl | false ↦ refl ]
+
+files_kept : (o : Setup) (p : Progress) (lines : List Line) → (fold (after_line o) p lines).files ≡ p.files
+files_kept o p [] = refl
+files_kept o p (line ∷ lines) = files_kept o (after_line o p line) lines ∙ line_files o p line
+
+-- and so does a session
+pub session_files : (o : Setup) (files : Files) (bytes : List ℕ) → (session o files bytes).files ≡ files
+session_files o files bytes = elim (cases_lt o.max_bytes (length bytes)) [
+  | inl more ↦ ap (λ (a : Answer). a.files) (session_long o files bytes more) ∙ cut_files (progress o files (ended_lines (take o.max_bytes bytes)))
+      ∙ files_kept o (start files) (ended_lines (take o.max_bytes bytes))
+  | inr few ↦ ap (λ (a : Answer). a.files) (session_short o files bytes few) ∙ files_kept o (start files) (all_lines bytes)
+]
+
+-- where the files are told, they are those of the answer
+pub files_told : (o : Setup) (told new : Option Files) (left : Option (List ℕ)) (s : Status) → new ≡ told →
+    IfSome told (λ files. IfSome left (λ bytes. IsWhole s → new ≡ Some (session o files bytes).files))
+files_told o None new left s same = tt
+files_told o (Some files) new None s same = tt
+files_told o (Some files) new (Some bytes) s same = λ whole. same ∙ ap Some (sym (session_files o files bytes))

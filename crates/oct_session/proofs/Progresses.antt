@@ -1,0 +1,105 @@
+-- A session over more lines.
+use Rattle.std.proofs.Common.{◌≡◌, ℕ, List, [], ◌∷◌, ◌++◌, take, true, false, cond, Option, Result, Ok, Err, OnErr, refl, sym, ap, subst, ◌∙◌, append_assoc, append-nil}
+use Rattle.std.specs.List.{fold}
+use Rattle.std.proofs.lemmas.List.Sums.{fold-append, fold_push}
+use Rattle.oct_io.specs.Files.{Files}
+use Rattle.oct_io.specs.Told.{appended}
+use Rattle.oct_io.proofs.Appending.{appended_twice}
+use Rattle.oct_script.specs.Lines.{Line, ended_lines}
+use Rattle.oct_script.specs.Replies.{text_of}
+use Rattle.oct_script.proofs.Cuts.{ended_lines-append}
+use Rattle.oct_session.specs.declared.session.Session.{Session}
+use Rattle.oct_session.specs.Ending.{IsBegun, replies_within, has_quit_within}
+use Rattle.oct_session.specs.Session.{Progress, start, reply_to, answered, after_line, progress}
+use Rattle.oct_session.specs.Setup.{Setup}
+use Rattle.oct_session.specs.Standing.{IsBetween, HasReached}
+use Rattle.oct_session.proofs.Begun.{begun_more, begun_behind, begun_whole}
+
+-- one line more
+pub progress_push : (o : Setup) (files : Files) (lines : List Line) (line : Line) → progress o files (lines ++ line ∷ []) ≡ after_line o (progress o files lines) line
+progress_push o files lines line = fold_push (after_line o) (start files) lines line
+
+-- a session that goes on answers the line
+pub after_answered : (o : Setup) (p : Progress) (line : Line) → p.has_quit ≡ false → after_line o p line ≡ answered o p line
+after_answered o p line running = rw running refl
+
+after_quit : (o : Setup) (p : Progress) (line : Line) → p.has_quit ≡ true → after_line o p line ≡ p
+after_quit o p line quit = rw quit refl
+
+-- a session that has ended stays where it is
+lines_behind_quit : (o : Setup) (p : Progress) (lines : List Line) → p.has_quit ≡ true → fold (after_line o) p lines ≡ p
+lines_behind_quit o p [] quit = refl
+lines_behind_quit o p (line ∷ lines) quit = ap (λ x. fold (after_line o) x lines) (after_quit o p line quit) ∙ lines_behind_quit o p lines quit
+
+-- lines behind a `quit` have no effect
+pub progress_behind_quit : (o : Setup) (files : Files) (lines more : List Line) → (progress o files lines).has_quit ≡ true → progress o files (lines ++ more) ≡ progress o files lines
+progress_behind_quit o files lines more quit = fold-append (after_line o) (start files) lines more ∙ lines_behind_quit o (progress o files lines) more quit
+
+-- neither have bytes
+pub bytes_behind_quit : (o : Setup) (files : Files) (bytes more : List ℕ) → has_quit_within o files bytes ≡ true →
+    progress o files (ended_lines (bytes ++ more)) ≡ progress o files (ended_lines bytes)
+bytes_behind_quit o files bytes more quit =
+    let s = ended_lines-append bytes more in
+    ap (λ lines. progress o files lines) s.1 ∙ progress_behind_quit o files (ended_lines bytes) s.0 quit
+
+-- a line leaves the replies that were there, and writes more behind them
+line_grows : (o : Setup) (p : Progress) (line : Line) → (more : List ℕ) × ((after_line o p line).text ≡ p.text ++ more)
+line_grows o p line = elim p.has_quit as (λ v. (more : List ℕ) × ((cond v p (answered o p line)).text ≡ p.text ++ more)) [
+  | true ↦ ([], sym (append-nil p.text))
+  | false ↦ (text_of (reply_to o p line), refl)
+]
+
+text_grows : (o : Setup) (p : Progress) (lines : List Line) → (more : List ℕ) × ((fold (after_line o) p lines).text ≡ p.text ++ more)
+text_grows o p [] = ([], sym (append-nil p.text))
+text_grows o p (line ∷ lines) =
+    let s = text_grows o (after_line o p line) lines in
+    let t = line_grows o p line in
+    (t.0 ++ s.0, s.1 ∙ ap (λ x. x ++ s.0) t.1 ∙ append_assoc p.text t.0 s.0)
+
+-- more lines leave the replies that were there, and write more behind them
+pub progress_grows : (o : Setup) (files : Files) (lines more : List Line) → (text : List ℕ) × ((progress o files (lines ++ more)).text ≡ (progress o files lines).text ++ text)
+progress_grows o files lines more =
+    let s = text_grows o (progress o files lines) more in
+    (s.0, ap (λ (p : Progress). p.text) (fold-append (after_line o) (start files) lines more) ∙ s.1)
+
+-- so do more bytes
+pub replies_grow : (o : Setup) (files : Files) (bytes more : List ℕ) → (text : List ℕ) × (replies_within o files (bytes ++ more) ≡ replies_within o files bytes ++ text)
+replies_grow o files bytes more =
+    let s = ended_lines-append bytes more in
+    let t = progress_grows o files (ended_lines bytes) s.0 in
+    (t.0, ap (λ lines. (progress o files lines).text) s.1 ∙ t.1)
+
+-- what was written for some bytes is a prefix of what is written for more
+pub begun_bytes : (o : Setup) (files : Files) (bytes more : List ℕ) (old new : Option (List ℕ)) → IsBegun (replies_within o files bytes) old new → IsBegun (replies_within o files (bytes ++ more)) old new
+begun_bytes o files bytes more old new b = let s = replies_grow o files bytes more in begun_more _ _ s.0 old new s.1 b
+
+-- whether the session goes on
+running_at : (o : Setup) (s : Session) (p : Progress) → IsBetween o s p → s.has_quit ≡ false → p.has_quit ≡ false
+running_at o s p at running = sym at.has_quit ∙ running
+
+-- a line that is answered whole
+pub reached_line : (o : Setup) (w v u : Option (List ℕ)) (s t : Session) (p : Progress) (line : Line) (text : List ℕ) → s.has_quit ≡ false →
+    HasReached o w v s p → IsBetween o t (after_line o p line) → text ≡ text_of (reply_to o p line) → u ≡ appended v text → HasReached o w u t (after_line o p line)
+reached_line o w v u s t p line text running at between e written = record {
+  between = between;
+  written = written ∙ ap (λ x. appended x text) at.written ∙ appended_twice w p.text text ∙ ap (λ x. appended w (p.text ++ x)) e
+      ∙ ap (λ (x : Progress). appended w x.text) (sym (after_answered o p line (running_at o s p at.between running)));
+}
+
+-- a line that is answered in part
+begun_line : (o : Setup) (w v u : Option (List ℕ)) (s : Session) (p : Progress) (line : Line) (text : List ℕ) → s.has_quit ≡ false →
+    HasReached o w v s p → text ≡ text_of (reply_to o p line) → (n : ℕ) → u ≡ appended v (take n text) → IsBegun (after_line o p line).text w u
+begun_line o w v u s p line text running at e n written =
+    subst (λ (x : Progress). IsBegun x.text w u) (sym (after_answered o p line (running_at o s p at.between running)))
+    (begun_behind p.text (text_of (reply_to o p line)) n w v u at.written (written ∙ ap (λ x. appended v (take n x)) e))
+
+-- a line that isn't answered
+pub begun_before : (o : Setup) (w v : Option (List ℕ)) (s : Session) (p : Progress) (line : Line) → HasReached o w v s p → IsBegun (after_line o p line).text w v
+begun_before o w v s p line at = let t = line_grows o p line in begun_more p.text _ t.0 w v t.1 (begun_whole p.text w v at.written)
+
+-- what an error leaves, where a part of the answer was written before it
+pub begun_err : {T E : Type 0} (r : Result T E) (o : Setup) (v u : Option (List ℕ)) (s : Session) (text : List ℕ) (n : ℕ) → s.has_quit ≡ false →
+    ((p : Progress) → IsBetween o s p → text ≡ text_of (reply_to o p s.lines.line)) → u ≡ appended v (take n text) →
+    OnErr r ((w : Option (List ℕ)) (p : Progress) → HasReached o w v s p → IsBegun (after_line o p s.lines.line).text w u)
+begun_err (Ok x) o v u s text n running same written = tt
+begun_err (Err x) o v u s text n running same written = λ w p at. begun_line o w v u s p s.lines.line text running at (same p at.between) n written

@@ -1,0 +1,20 @@
+use Rattle.std.proofs.Common.{◌≡◌, ℕ, ◌-◌, ◌≤◌, List, Option, false}
+use Rattle.oct_io.specs.Files.{Files}
+use Rattle.oct_session.specs.Setup.{setup_of}
+use Rattle.oct_session.specs.Standing.{HasServed}
+use Rattle.oct_session.proofs.service.read_all.Given as goal
+
+abbrev pub invariant-reading : goal.invariant-reading
+invariant-reading g l = record {
+  few : l.taken ≤ l.options.max_bytes;
+  running : l.session.has_quit ≡ false;
+  unended : l.session.lines.has_ended ≡ false;
+  answered : l.session.answered ≤ l.taken;
+  at : (files : Files) (bytes : List ℕ) (w : Option (List ℕ)) → HasServed (setup_of l.options) files bytes (g.S.Source.left l.fn.source) w (g.K.Sink.written l.fn.sink) l.fn.session 0
+      → HasServed (setup_of l.options) files bytes (g.S.Source.left l.source) w (g.K.Sink.written l.sink) l.session l.taken;
+  source_later : g.S.Source.faults l.fn.source ≤ g.S.Source.faults l.source;
+  sink_later : g.K.Sink.faults l.fn.sink ≤ g.K.Sink.faults l.sink;
+}
+
+abbrev pub decreases-reading : goal.decreases-reading
+decreases-reading g l = l.options.max_bytes - l.taken

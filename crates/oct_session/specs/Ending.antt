@@ -1,0 +1,75 @@
+-- What a session writes, and how it may end.
+use Rattle.std.specs.Prelude.{◌≡◌, ◌⊎◌, ℕ, ◌+◌, ◌≤◌, List, [], ◌++◌, length, take, drop, Bool, true, false, Option, Some}
+use Rattle.oct_io.specs.Files.{Files}
+use Rattle.oct_io.specs.Told.{appended}
+use Rattle.oct_script.specs.Lines.{ended_lines}
+use Rattle.oct_session.specs.Session.{Answer, progress, session}
+use Rattle.oct_session.specs.Setup.{Setup}
+use Rattle.oct_session.specs.declared.options.Status.{Status}
+use Rattle.oct_session.specs.declared.options.Status.TheVariants.{Done, Refused, Usage, TooLong, ReadFault, WriteFault, Memory}
+
+-- the replies to the lines that end within these bytes
+abbrev pub replies_within : Setup → Files → List ℕ → List ℕ
+replies_within o files bytes = (progress o files (ended_lines bytes)).text
+
+-- whether a `quit` line ends within these bytes
+abbrev pub has_quit_within : Setup → Files → List ℕ → Bool
+has_quit_within o files bytes = (progress o files (ended_lines bytes)).has_quit
+
+-- the whole answer was written, and its status is this one
+pub record IsAnswered (whole : Answer) (old new : Option (List ℕ)) (status : Status) : Type 0 where
+  pub written : new ≡ appended old whole.text
+  pub same_status : whole.status ≡ status
+
+-- a prefix of the text was written
+pub record IsBegun (text : List ℕ) (old new : Option (List ℕ)) : Type 0 where
+  pub done : List ℕ
+  pub rest : List ℕ
+  pub written : new ≡ appended old done
+  pub split : text ≡ done ++ rest
+
+-- so many bytes of the input were taken, and no more
+pub record HasTaken (taken : ℕ) (bytes : List ℕ) (left : Option (List ℕ)) : Type 0 where
+  pub within : taken ≤ length bytes
+  pub rest : left ≡ Some (drop taken bytes)
+
+-- at most so many bytes of the input were taken
+pub record HasTakenAtMost (most : ℕ) (bytes : List ℕ) (left : Option (List ℕ)) : Type 0 where
+  pub taken : ℕ
+  pub few : taken ≤ most
+  pub input : HasTaken taken bytes left
+
+-- the script was read to its end: nothing is left of it, or a `quit` line ended within the bytes taken, of which `max_bytes` count
+pub record IsReadToEnd (o : Setup) (files : Files) (bytes : List ℕ) (left : Option (List ℕ)) : Type 0 where
+  pub taken : ℕ
+  pub few : taken ≤ o.max_bytes + 1
+  pub input : HasTaken taken bytes left
+  pub end : (left ≡ Some []) ⊎ (has_quit_within o files (take o.max_bytes (take taken bytes)) ≡ true)
+
+-- the input failed within the limit and before a `quit` line had ended, and exactly the replies to the lines that end within the bytes taken were written
+pub record IsCutOff (o : Setup) (files : Files) (bytes : List ℕ) (left old new : Option (List ℕ)) : Type 0 where
+  pub taken : ℕ
+  pub few : taken ≤ o.max_bytes
+  pub input : HasTaken taken bytes left
+  pub no_quit : has_quit_within o files (take taken bytes) ≡ false
+  pub written : new ≡ appended old (replies_within o files (take taken bytes))
+
+-- how a session over these bytes may end, status by status: what is left of the input, and what was written
+abbrev pub MayEnd : Setup → Files → List ℕ → Option (List ℕ) → Option (List ℕ) → Option (List ℕ) → Status → Type 0
+MayEnd o files bytes left old new Done = IsAnswered (session o files bytes) old new Done × IsReadToEnd o files bytes left
+MayEnd o files bytes left old new Refused = IsAnswered (session o files bytes) old new Refused × IsReadToEnd o files bytes left
+MayEnd o files bytes left old new Usage = ⊥
+MayEnd o files bytes left old new TooLong = IsAnswered (session o files bytes) old new TooLong × HasTaken (o.max_bytes + 1) bytes left
+MayEnd o files bytes left old new ReadFault = IsBegun (session o files bytes).text old new × IsCutOff o files bytes left old new
+MayEnd o files bytes left old new WriteFault = IsBegun (session o files bytes).text old new × HasTakenAtMost (o.max_bytes + 1) bytes left
+MayEnd o files bytes left old new Memory = IsBegun (session o files bytes).text old new × HasTakenAtMost (o.max_bytes + 1) bytes left
+
+-- a status that comes with the whole answer
+abbrev pub IsWhole : Status → Type 0
+IsWhole Done = Unit {0}
+IsWhole Refused = Unit {0}
+IsWhole Usage = Unit {0}
+IsWhole TooLong = Unit {0}
+IsWhole ReadFault = ⊥
+IsWhole WriteFault = ⊥
+IsWhole Memory = ⊥

@@ -1,0 +1,140 @@
+//! What a session is set up with, and how a run ends.
+ghost use Rattle.std.specs.Prelude.{◌≡◌, ◌≤◌, ◌^◌};
+ghost use Rattle.oct_session.specs.Stops.{stop_of_sink, status_of};
+ghost use Rattle.oct_session.specs.declared.options.Stop.TheVariants as stop;
+
+use oct_io::{Failed, SinkFault};
+use oct_key::Res;
+use oct_num::Memory;
+use oct_odds::OddsModel;
+use std::fmt;
+use thiserror::Error;
+
+/// The largest number of bytes that a script may have.
+pub const MOST_BYTES: u64 = 1 << 40;
+
+/// What a session is set up with.
+#[derive(Clone, Copy, Debug, PartialEq, Eq)]
+pub struct Options {
+    /// The edge of a voxel.
+    pub res: Res,
+    /// The log-odds of hits, and their limits.
+    pub odds: OddsModel,
+    /// The most bytes that the script may have.
+    pub max_bytes: u64,
+    pub ghost few: { max_bytes ≤ 2 ^ 40 },
+}
+
+/// How a run ended. The numbers are those that the program ends with.
+#[derive(Clone, Copy, Debug, PartialEq, Eq)]
+pub enum Status {
+    /// The input was read to its end or to `quit`, and nothing was refused.
+    Done = 0,
+    /// The input was read to its end or to `quit`, and at least one line was refused.
+    Refused = 1,
+    /// The words ask for no task. Nothing was read or written.
+    Usage = 2,
+    /// The input has more bytes than it may have.
+    TooLong = 4,
+    /// The source failed.
+    ReadFault = 5,
+    /// The sink failed.
+    WriteFault = 6,
+    /// Memory ran out.
+    Memory = 7,
+}
+
+impl fmt::Display for Status {
+    fn fmt<W: fmt::Write>(&self, f: &mut fmt::Formatter<W>) -> fmt::Result {
+        f.write_str(match self {
+            Status::Done => "done",
+            Status::Refused => "refused",
+            Status::Usage => "usage",
+            Status::TooLong => "input too long",
+            Status::ReadFault => "read fault",
+            Status::WriteFault => "write fault",
+            Status::Memory => "out of memory",
+        })
+    }
+}
+
+/// Why a session stopped before the end of its script.
+#[derive(Clone, Copy, Debug, PartialEq, Eq, Error)]
+pub enum Stop {
+    /// The script has more bytes than it may have.
+    #[error("input too long")]
+    TooLong,
+    /// The source failed.
+    #[error("read fault")]
+    ReadFault,
+    /// The sink failed.
+    #[error("write fault")]
+    WriteFault,
+    /// Memory ran out.
+    #[error("out of memory")]
+    Memory,
+}
+
+impl From<Memory> for Stop {
+    ghost from_gives = { λ _ e. e ≡ stop.Memory };
+
+    fn from(_: Memory) -> Self {
+        Stop::Memory
+    }
+}
+
+impl From<Failed> for Stop {
+    ghost from_gives = { λ _ e. e ≡ stop.ReadFault };
+
+    fn from(_: Failed) -> Self {
+        Stop::ReadFault
+    }
+}
+
+impl From<SinkFault> for Stop {
+    ghost from_gives = { λ fault e. e ≡ stop_of_sink fault };
+
+    fn from(fault: SinkFault) -> Self {
+        match fault {
+            SinkFault::Failed => Stop::WriteFault,
+            SinkFault::Memory => Stop::Memory,
+        }
+    }
+}
+
+impl From<Stop> for Status {
+    ghost from_gives = { λ e status. status ≡ status_of e };
+
+    fn from(stop: Stop) -> Self {
+        match stop {
+            Stop::TooLong => Status::TooLong,
+            Stop::ReadFault => Status::ReadFault,
+            Stop::WriteFault => Status::WriteFault,
+            Stop::Memory => Status::Memory,
+        }
+    }
+}
+
+#[cfg(test)]
+mod tests {
+    use super::*;
+    use std::test::Fail;
+
+    #[test]
+    fn statuses_have_their_numbers_and_names(rt: HostRuntime) -> Result<(), Fail> {
+        for (status, number, name) in [
+            (Status::Done, 0, "done"),
+            (Status::Refused, 1, "refused"),
+            (Status::Usage, 2, "usage"),
+            (Status::TooLong, 4, "input too long"),
+            (Status::ReadFault, 5, "read fault"),
+            (Status::WriteFault, 6, "write fault"),
+            (Status::Memory, 7, "out of memory"),
+        ] {
+            let text = format!(in rt.alloc(); "{status}")?;
+            assert_eq!(rt; text.as_str(), name);
+            assert_eq!(rt; status as u8, number);
+        }
+        Ok(())
+    }
+}

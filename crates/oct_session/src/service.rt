@@ -1,0 +1,198 @@
+//! The loop of a session: from the bytes of a source to the replies in a sink.
+ghost use Rattle.std.specs.Prelude.{◌≡◌, ◌≢◌, ℕ, ◌+◌, ◌-◌, ◌^◌, ◌<◌, ◌≤◌, List, [], ◌++◌, length, min, take, OnOk, OnErr, IfOk, IfErr, IfSome, IsErrOf, Option, Some, Err, true, false};
+ghost use Rattle.oct_io.specs.Files.{Files};
+ghost use Rattle.oct_io.specs.Told.{dropped, Rose};
+ghost use Rattle.oct_session.specs.Setup.{setup_of};
+ghost use Rattle.oct_session.specs.Session.{session as whole_session, status_at_end};
+ghost use Rattle.oct_session.specs.Ending.{MayEnd, IsWhole};
+ghost use Rattle.oct_session.specs.Standing.{IsAt, HasServed, IsThrough, StopsIn};
+ghost use Rattle.oct_session.specs.Stops.{status_of};
+
+use crate::options::{Options, Status, Stop};
+use crate::session::Session;
+use oct_io::{Failed, Sink, Source, Store};
+use std::alloc::Global;
+
+/// The bytes that a read may give at most.
+const BUFFER: usize = 16 * 1024;
+
+/// Reads at most so many bytes to the front of a buffer.
+fn read_front<S: Source>(source: &mut S, buffer: &mut [u8], most: usize) -> Result<usize, Failed>
+    requires some { 0 < most }
+    requires room { most ≤ length buffer.old }
+    ensures within { IfOk result (λ n. n ≤ most) }
+    ensures moved { IfOk result (λ n. S.left source.new ≡ dropped n (S.left source.old)) }
+    ensures bytes { IfOk result (λ n. IfSome (S.left source.old) (λ left. take n buffer.new ≡ take n left)) }
+    ensures enough { IfOk result (λ n. IfSome (S.left source.old) (λ left. n ≤ length left)) }
+    ensures end { IfOk result (λ n. n ≡ 0 → IfSome (S.left source.old) (λ left. left ≡ [])) }
+    ensures err { OnErr result (S.left source.new ≡ S.left source.old) }
+    ensures later { S.faults source.old ≤ S.faults source.new }
+    ensures cause { OnErr result (Rose (S.faults source.old) (S.faults source.new)) }
+{
+    source.read(&mut buffer[..most])
+}
+
+/// How many bytes to ask for, where so many may still be taken: one more tells that the script is too long.
+fn wanted(room: u64) -> usize
+    ensures { result ≡ min (room + 1) BUFFER }
+{
+    if room < BUFFER as u64 {
+        room as usize + 1
+    } else {
+        BUFFER
+    }
+}
+
+/// Takes what a read gave, of which the last byte may be one more than the script may have.
+fn take_front<K: Sink>(
+    options: &Options,
+    session: &mut Session,
+    piece: &[u8],
+    room: u64,
+    sink: &mut K,
+) -> Result<(), Stop>
+    requires small { session.old.answered + length piece.now < 2 ^ 63 }
+    requires unended { session.old.lines.has_ended ≡ false }
+    ensures ok { OnOk result ((files : Files) (w : Option (List ℕ)) (bytes : List ℕ)
+        → IsAt (setup_of options.now) files w (K.written sink.old) session.old bytes
+        → IsAt (setup_of options.now) files w (K.written sink.new) session.new (bytes ++ take room piece.now)) }
+    ensures fits { OnOk result (session.new.has_quit ≡ false → length piece.now ≤ room) }
+    ensures stops { IfErr result (λ stop. (files : Files) (w : Option (List ℕ)) (bytes : List ℕ)
+        → IsAt (setup_of options.now) files w (K.written sink.old) session.old bytes
+        → StopsIn (setup_of options.now) files w (K.written sink.new) session.new bytes piece.now room stop) }
+    ensures unended { OnOk result (session.new.lines.has_ended ≡ false) }
+    ensures answered { OnOk result (session.new.answered ≤ session.old.answered + length piece.now) }
+    ensures later { K.faults sink.old ≤ K.faults sink.new }
+    ensures cause { IsErrOf result Stop.WriteFault → Rose (K.faults sink.old) (K.faults sink.new) }
+    ensures only { result ≢ Err Stop.ReadFault }
+{
+    if piece.len() as u64 <= room {
+        return session.take(options, piece, sink);
+    }
+    let (front, _) = piece.split_at(room as usize);
+    session.take(options, front, sink)?;
+    if session.has_quit {
+        Ok(())
+    } else {
+        Err(Stop::TooLong)
+    }
+}
+
+/// One read, and the answers to what it gave: how many bytes, of which none tell the end of the script.
+fn turn<S: Source, K: Sink>(
+    options: &Options,
+    session: &mut Session,
+    source: &mut S,
+    sink: &mut K,
+    buffer: &mut [u8],
+    taken: u64,
+) -> Result<usize, Stop>
+    requires running { session.old.has_quit ≡ false }
+    requires unended { session.old.lines.has_ended ≡ false }
+    requires small { session.old.answered ≤ taken }
+    requires few { taken ≤ options.now.max_bytes }
+    requires wide { BUFFER ≤ length buffer.old }
+    ensures goes { IfOk result (λ n. session.new.has_quit ≡ false → (files : Files) (bytes : List ℕ) (w : Option (List ℕ))
+        → HasServed (setup_of options.now) files bytes (S.left source.old) w (K.written sink.old) session.old taken
+        → HasServed (setup_of options.now) files bytes (S.left source.new) w (K.written sink.new) session.new (taken + n)) }
+    ensures quits { OnOk result (session.new.has_quit ≡ true → (files : Files) (bytes : List ℕ) (w : Option (List ℕ))
+        → HasServed (setup_of options.now) files bytes (S.left source.old) w (K.written sink.old) session.old taken
+        → IsThrough (setup_of options.now) files bytes (S.left source.new) w (K.written sink.new) session.new) }
+    ensures end { IfOk result (λ n. n ≡ 0 → IfSome (S.left source.new) (λ left. left ≡ [])) }
+    ensures stops { IfErr result (λ stop. (files : Files) (bytes : List ℕ) (w : Option (List ℕ))
+        → HasServed (setup_of options.now) files bytes (S.left source.old) w (K.written sink.old) session.old taken
+        → MayEnd (setup_of options.now) files bytes (S.left source.new) w (K.written sink.new) (status_of stop)) }
+    ensures fits { IfOk result (λ n. session.new.has_quit ≡ false → taken + n ≤ options.now.max_bytes) }
+    ensures unended { OnOk result (session.new.lines.has_ended ≡ false) }
+    ensures answered { IfOk result (λ n. session.new.answered ≤ taken + n) }
+    ensures source_later { S.faults source.old ≤ S.faults source.new }
+    ensures sink_later { K.faults sink.old ≤ K.faults sink.new }
+    ensures read_fault { IsErrOf result Stop.ReadFault → Rose (S.faults source.old) (S.faults source.new) }
+    ensures write_fault { IsErrOf result Stop.WriteFault → Rose (K.faults sink.old) (K.faults sink.new) }
+{
+    let room = options.max_bytes - taken;
+    let count = read_front(source, buffer, wanted(room))?;
+    let (piece, _) = buffer.split_at(count);
+    take_front(options, session, piece, room, sink)?;
+    Ok(count)
+}
+
+/// Reads the script to its end or to `quit`, and answers what a read gave before the next one.
+fn read_all<S: Source, K: Sink>(
+    options: &Options,
+    session: &mut Session,
+    source: &mut S,
+    sink: &mut K,
+) -> Result<(), Stop>
+    requires none { session.old.answered ≡ 0 }
+    requires running { session.old.has_quit ≡ false }
+    requires unended { session.old.lines.has_ended ≡ false }
+    ensures done { OnOk result ((files : Files) (bytes : List ℕ) (w : Option (List ℕ))
+        → HasServed (setup_of options.now) files bytes (S.left source.old) w (K.written sink.old) session.old 0
+        → IsThrough (setup_of options.now) files bytes (S.left source.new) w (K.written sink.new) session.new) }
+    ensures stops { IfErr result (λ stop. (files : Files) (bytes : List ℕ) (w : Option (List ℕ))
+        → HasServed (setup_of options.now) files bytes (S.left source.old) w (K.written sink.old) session.old 0
+        → MayEnd (setup_of options.now) files bytes (S.left source.new) w (K.written sink.new) (status_of stop)) }
+    ensures source_later { S.faults source.old ≤ S.faults source.new }
+    ensures sink_later { K.faults sink.old ≤ K.faults sink.new }
+    ensures read_fault { IsErrOf result Stop.ReadFault → Rose (S.faults source.old) (S.faults source.new) }
+    ensures write_fault { IsErrOf result Stop.WriteFault → Rose (K.faults sink.old) (K.faults sink.new) }
+{
+    let mut buffer = [0u8; BUFFER];
+    let mut taken = 0u64;
+    'reading: loop {
+        let count = turn(options, session, source, sink, &mut buffer, taken)?;
+        if session.has_quit {
+            return Ok(());
+        }
+        if count == 0 {
+            return session.end(options, sink);
+        }
+        taken += count as u64;
+    }
+}
+
+/// Answers a script line by line, to its end or to its `quit`, and answers what a read gave before the next one.
+///
+/// The clause `answer` says, status by status, what is written and what is left of the input. It speaks wherever source and sink
+/// tell their bytes, as those in memory do. A fault comes only where the count of that object rose in this call. Bytes behind the
+/// line of `quit` have no effect, and some of them may have been taken.
+pub fn serve<S: Source, K: Sink, F: Store>(
+    alloc: Global,
+    options: &Options,
+    source: &mut S,
+    sink: &mut K,
+    store: &mut F,
+) -> Status
+    ensures answer { IfSome (S.left source.old) (λ bytes. (files : Files)
+        → MayEnd (setup_of options.now) files bytes (S.left source.new) (K.written sink.old) (K.written sink.new) result) }
+    ensures files { IfSome (F.files store.old) (λ files. IfSome (S.left source.old) (λ bytes. IsWhole result
+        → F.files store.new ≡ Some (whole_session (setup_of options.now) files bytes).files)) }
+    ensures store { store.new ≡ store.old }
+    ensures usage { result ≢ Status.Usage }
+
+    // Each fault has its cause, and where no count rose the answer comes, or memory ran out.
+    ensures source_later { S.faults source.old ≤ S.faults source.new }
+    ensures sink_later { K.faults sink.old ≤ K.faults sink.new }
+    ensures read_fault { result ≡ Status.ReadFault → Rose (S.faults source.old) (S.faults source.new) }
+    ensures write_fault { result ≡ Status.WriteFault → Rose (K.faults sink.old) (K.faults sink.new) }
+    ensures complete { ¬ Rose (S.faults source.old) (S.faults source.new) → ¬ Rose (K.faults sink.old) (K.faults sink.new)
+        → result ≢ Status.Memory → IsWhole result }
+{
+    let mut session = Session::new(alloc, options.odds);
+    match read_all(options, &mut session, source, sink) {
+        Ok(()) => done_or_refused(session.refused),
+        Err(stop) => Status::from(stop),
+    }
+}
+
+/// The status of a session that has read its script to the end.
+fn done_or_refused(refused: bool) -> Status
+    ensures { result ≡ status_at_end refused }
+{
+    if refused {
+        Status::Refused
+    } else {
+        Status::Done
+    }
+}

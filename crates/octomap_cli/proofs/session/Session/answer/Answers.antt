@@ -1,9 +1,0 @@
-use Rattle.std.proofs.Common.{◌||◌, ap, refl}
-use Rattle.octomap_cli.specs.Setup.{setup_of}
-use Rattle.octomap_cli.proofs.Replying.{between_line}
-use Rattle.octomap_cli.proofs.session.Session.answer.Goals as goal
-
-pub returns-clause-between : goal.returns-clause-between
-returns-clause-between c = λ p at.
-    between_line (setup_of c.args.options.now) c.args.self.now _ p _ _ at c.read_line-command.ensures c.in_ok-reply.ensures.reply c.in_ok-reply.ensures.map
-    refl (ap (λ b. c.args.self.now.refused || b) c.is_refused.ensures)
