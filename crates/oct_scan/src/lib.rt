@@ -11,6 +11,8 @@
 //!   and all beams (`IsHit`, `IsFreed`). Both lists ascend by Morton code, without repeats.
 //! - [`UpdateSet::need`] is the number of blocks of depth 0 to 15 that hold such a voxel (`IsNeed`): so many groups of a tree at most
 //!   have to be made for them.
+//! - Where a beam is cut is computed by `cut_end`, and [`cut_ends_are_exact`] says that this is the one point of the rule (`IsCutEnd` of
+//!   `oct_ray`).
 //! - A scan is refused for its origin, for the first beam that ends outside the map, or for the first beam with which the voxels met
 //!   exceed the limit, in this order and exactly then; want of memory alone may come at any time.
 //!
@@ -29,9 +31,11 @@ mod beam;
 mod cells;
 mod codes;
 mod fault;
+mod laws;
 mod scan;
 mod update;
 
 pub use fault::ScanFault;
+pub use laws::cut_ends_are_exact;
 pub use scan::Scan;
 pub use update::{UpdateSet, update_set};
