@@ -22,7 +22,7 @@
 //!
 //! [`FileBytes`] is a list of bytes. The definitions that contracts cite are in `specs/`: `Told` for the bytes and the counts,
 //! `Files` for files by name, `Loaded` for the answers of a load. Laws of appending and of saving are in `proofs/Appending.antt`
-//! and `proofs/Filing.antt`. The readers and writers of scripts, maps and snapshots stand on this crate.
+//! and `proofs/Filing.antt`. Sessions and the program stand on this crate.
 
 #![tactic(auto)]
 

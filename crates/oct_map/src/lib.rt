@@ -22,7 +22,7 @@
 //! It works by the calls of the crates below: room is made by pruning and by reserving groups, and then the edit can't fail. The number of
 //! groups after it is bounded block by block: each new group's home is one of the sixteen blocks around the voxel.
 //!
-//! Sessions of commands are to stand on this crate.
+//! Sessions of commands stand on this crate.
 
 #![tactic(auto)]
 

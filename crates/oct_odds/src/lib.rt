@@ -13,7 +13,7 @@
 //!   asked for. A value that lies within the bounds stays within them.
 //! - [`OddsModel::class`] is the comparison with the threshold.
 //!
-//! No call allocates, fails by memory or touches anything but its arguments. Trees, histories and files of maps stand on this crate,
+//! No call allocates, fails by memory or touches anything but its arguments. Values of voxels, trees, maps and sessions stand on this crate,
 //! and cite its definitions: `Odds` and `odds_of` for the five numbers, `Value` for what is known of a voxel, `applied` and `class_of`.
 
 #![tactic(auto)]

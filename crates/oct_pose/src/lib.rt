@@ -15,7 +15,7 @@
 //! 128 bits, and only then divided, once, so that nothing is lost before it. That no factor exceeds the square of the
 //! quaternion's length is why a turned point stays near.
 //!
-//! No call allocates or touches anything but its arguments. Scans are to stand on this crate, since their points are seen from a pose.
+//! No call allocates or touches anything but its arguments. Scans stand on this crate, since their points are seen from a pose.
 
 #![tactic(auto)]
 

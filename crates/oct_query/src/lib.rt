@@ -10,7 +10,7 @@
 //! pruned trees have no more, and then a well-formed one has no more nodes than `node_count` says. [`groups_are_needed`] and
 //! [`pruned_is_least`] say why, and what follows for two trees of the same values.
 //!
-//! Neither call takes memory. The crates of the map, of files and of snapshots stand on this one.
+//! Neither call takes memory. The map stands on this crate.
 #![tactic(auto)]
 
 mod depths;

@@ -21,8 +21,8 @@
 //! for the comparisons with both other axes, so that a step is a few additions and comparisons, and no product or division. All
 //! numbers are whole and fit 128 bits, so no rounding error skips a voxel.
 //!
-//! No call allocates or fails. Scans and ray queries are to stand on this crate, and to cite `Meets`, `Precedes`, `IsPlaceOf`,
-//! `IsWalkAlong` and `IsCutEnd`.
+//! No call allocates or fails. Scans stand on this crate, and cite `Meets`, `Precedes`, `IsPlaceOf`, `IsWalkAlong` and
+//! `IsCutEnd`.
 
 #![tactic(auto)]
 

@@ -22,8 +22,8 @@
 //! codes each adds the blocks that don't hold the one before it, which the highest different bit of the two tells. The frees are the
 //! codes without those of the hits.
 //!
-//! `update_set` allocates, and touches nothing but its arguments. The scan command of a map is to stand on this crate, and to cite
-//! `IsHit`, `IsFreed`, `IsNeed` and `IsRefusedFor`.
+//! `update_set` allocates, and touches nothing but its arguments. The scans of a map stand on this crate, and cite `IsHit`,
+//! `IsFreed`, `IsNeed` and `IsRefusedFor`.
 
 #![tactic(auto)]
 

@@ -23,7 +23,7 @@
 //!
 //! `at` reads at most sixteen nodes of the arena, `settle` the eight of one group once, and no call but `reserve` allocates.
 //!
-//! Edits, queries, files and the map stand on this crate. They cite the definitions in `specs/`, and `proofs/` has the lemmas for them: how
+//! Edits, passes, queries and the map stand on this crate. They cite the definitions in `specs/`, and `proofs/` has the lemmas for them: how
 //! paths run and which places they read (`Paths`), which blocks a change leaves alone (`Frames`), and what joins the two (`Links`).
 
 #![tactic(auto)]
