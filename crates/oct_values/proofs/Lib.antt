@@ -5,3 +5,4 @@ pub mod Listed
 pub mod Uniform
 pub mod Largest
 pub mod Children
+pub mod Reached

@@ -2,3 +2,4 @@ pub mod Events
 pub mod Blocks
 pub mod Depths
 pub mod Counts
+pub mod Needs

@@ -6,6 +6,8 @@ ghost use Rattle.oct_key.specs.Block.{Cube, IsBlock, HoldsVoxel};
 ghost use Rattle.oct_odds.specs.Update.{Value};
 ghost use Rattle.oct_values.specs.Blocks.{voxels_of, blocks_above_voxels, is_same_block};
 ghost use Rattle.oct_values.specs.Depths.{IsLargestIn, depth_value};
+ghost use Rattle.oct_values.specs.Events.{Events};
+ghost use Rattle.oct_values.specs.Needs.{IsReached, is_reached, event_need};
 ghost use Rattle.oct_values.specs.Counts.{IsUniform, IsKnownIn, is_uniform, is_known_in, group_count, node_count};
 
 /// The list of a block's voxels has each voxel that the block holds, once, and no other.
@@ -24,6 +26,7 @@ pub fn blocks_are_listed_once()
 pub fn tests_tell_blocks()
     ensures uniform { (values : Values) (b : Cube) → IsBlock b → IsTrue (is_uniform values b) ↔ IsUniform values b }
     ensures known { (values : Values) (b : Cube) → IsBlock b → IsTrue (is_known_in values b) ↔ IsKnownIn values b }
+    ensures reached { (events : Events) (b : Cube) → IsBlock b → IsTrue (is_reached events b) ↔ IsReached events b }
 {}
 
 /// Each block has exactly one answer, and going through its voxels finds it.
@@ -31,9 +34,10 @@ pub fn blocks_have_one_answer()
     ensures { (values : Values) (b : Cube) (answer : Value) → IsBlock b → IsLargestIn values b answer ↔ (answer ≡ depth_value values b) }
 {}
 
-/// What blocks answer and how many groups and nodes are needed depends on the values of the map's voxels alone.
+/// What blocks answer and how many groups and nodes are needed depends on the values and events of the map's voxels alone.
 pub fn answers_are_of_the_map()
     ensures groups { (v w : Values) → ((k : Voxel) → IsInMap k → v k ≡ w k) → group_count v ≡ group_count w }
     ensures nodes { (v w : Values) → ((k : Voxel) → IsInMap k → v k ≡ w k) → node_count v ≡ node_count w }
     ensures depths { (v w : Values) (b : Cube) → IsBlock b → ((k : Voxel) → IsInMap k → v k ≡ w k) → depth_value v b ≡ depth_value w b }
+    ensures needs { (d e : Events) → ((k : Voxel) → IsInMap k → d k ≡ e k) → event_need d ≡ event_need e }
 {}
