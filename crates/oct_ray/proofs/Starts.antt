@@ -30,7 +30,7 @@ move_up o e a b u h k l = record { same = omega (arith, ints, h.same, k.same) }
 move_down : (o e : ℤ) (a b u : ℕ) → IsDifference o a u → IsDifference e b u → b < a → IsDifference (e -ℤ o) 0 (a - b)
 move_down o e a b u h k l = record { same = omega (arith, ints, h.same, k.same) }
 
-split : (a edge : ℕ) → 0 < edge → ((a / edge) * edge + a % edge ≡ a) × (a % edge < edge)
+pub split : (a edge : ℕ) → 0 < edge → ((a / edge) * edge + a % edge ≡ a) × (a % edge < edge)
 split a edge h = omega arith
 
 -- an axis that the code makes is laid as it says, where it rises, and where it falls
@@ -115,7 +115,7 @@ pub record IsMade (edge : ℕ) (o e : Point) (a b c : Axis) : Type 0 where
   pub of_b : IsAxisOf edge o.y e.y b
   pub of_c : IsAxisOf edge o.z e.z c
 
-made_set : (edge : ℕ) (o e : Point) (a b c : Axis) → IsMade edge o e a b c → IsSet edge o e a b c
+pub made_set : (edge : ℕ) (o e : Point) (a b c : Axis) → IsMade edge o e a b c → IsSet edge o e a b c
 made_set edge o e a b c m = record {
   is_x = m.is_a;
   is_y = m.is_b;

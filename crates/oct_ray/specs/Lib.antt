@@ -3,3 +3,4 @@ pub mod Moment
 pub mod Axis
 pub mod Track
 pub mod Range
+pub mod Met

@@ -12,6 +12,8 @@
 //!   of how the walk goes: a voxel is met if some place p/q of the segment lies between its faces on each axis.
 //! - A [`Walk`] is seen as the list of the voxels that it has still to give, at most 3 * 65,535 + 1 of them. As an iterator it takes
 //!   off the first, and gives `None` exactly where the list is empty.
+//! - `met_by` computes the same list from the two points, and [`segments_are_walked`] says that it is that list, so that whoever
+//!   counts or asks for met voxels can name them.
 //! - [`cut`] moves the end of a beam toward the origin, to `o + (e - o) * r / length`, rounded toward the origin on each axis, where
 //!   the length is rounded up. The cut end lies within the range.
 //!
@@ -21,15 +23,17 @@
 //! for the comparisons with both other axes, so that a step is a few additions and comparisons, and no product or division. All
 //! numbers are whole and fit 128 bits, so no rounding error skips a voxel.
 //!
-//! No call allocates or fails. Scans stand on this crate, and cite `Meets`, `Precedes`, `IsPlaceOf`, `IsWalkAlong` and
-//! `IsCutEnd`.
+//! No call allocates or fails. Scans stand on this crate, and cite `Meets`, `Precedes`, `IsPlaceOf`, `IsWalkAlong`,
+//! `met_by` and `IsCutEnd`.
 
 #![tactic(auto)]
 
 mod axis;
+mod laws;
 mod range;
 mod track;
 mod walk;
 
+pub use laws::segments_are_walked;
 pub use range::{cut, square_distance};
 pub use walk::Walk;

@@ -5,6 +5,9 @@ use Rattle.std.specs.List.Sorted.{IsStrictlyIncreasing, IsStrictlySortedBy, IsPe
 use Rattle.std.specs.List.Retain.{IsFiltered, DiffersFromLast}
 use Rattle.std.specs.Ordering.{nat_cmp, eq_by_cmp}
 use Rattle.std.proofs.lemmas.Cmp.{nat_cmp_total}
+use Rattle.std.specs.Cmp.{unsigned_Decides}
+use Rattle.std.proofs.lemmas.Cmp.{nat_eq_equiv}
+use Rattle.std.proofs.lemmas.Map.Made.{IsDistinct-from_AllPairs, is_member-Decides, length-le_from_is_member}
 use Rattle.std.proofs.lemmas.Map.Keys.{IsStrictlyIncreasing-from_sorted}
 use Rattle.std.proofs.lemmas.List.Filters.{dedup_is}
 use Rattle.std.proofs.lemmas.List.Sorted.{Contains-permutation, IsPermutation-sym}
@@ -109,6 +112,27 @@ difference_listed (x ∷ xs) (y ∷ ys) c up up' part h un = elim (eqb_tells y x
         | inr k ↦ contains_later x c (difference xs (y ∷ ys)) (difference_listed xs (y ∷ ys) c (rises_tail x xs up) up' (part_other x y xs ys up' part below) k un)
       ])
 ]
+
+-- with the other list it is as long as the one
+pub difference_long : (xs ys : List ℕ) → Rises xs → Rises ys → IsPart ys xs → length (difference xs ys) + length ys ≡ length xs
+difference_long [] [] up up' part = omega (arith, ap length (without_none []))
+difference_long [] (y ∷ ys) up up' part = absurd (contains_none y (part y (contains_here y ys)))
+difference_long (x ∷ xs) [] up up' part = omega (arith, ap length (without_none (x ∷ xs)))
+difference_long (x ∷ xs) (y ∷ ys) up up' part = elim (eqb_tells y x) [
+  | inl p ↦
+      let rest = difference_long xs ys (rises_tail x xs up) (rises_tail y ys up') (part_same x y xs ys up' part p.1) in
+      omega (arith, rest, ap length (without_same x y xs ys p.1))
+  | inr p ↦
+      let rest = difference_long xs (y ∷ ys) (rises_tail x xs up) up' (part_other x y xs ys up' part (part_below x y xs ys up part p.1)) in
+      omega (arith, rest, ap length (without_other x y xs ys p.1))
+]
+
+-- a list that rises is no longer than a list that has its numbers
+pub no_longer : (xs ys : List ℕ) → Rises xs → IsPart xs ys → length xs ≤ length ys
+no_longer xs ys up part =
+    let apart : AllPairs (λ m n. m ≢ n) xs = λ i j d l m e. let below = up i j d l m in omega (arith, below, e) in
+    length-le_from_is_member nat_eq_equiv xs ys (IsDistinct-from_AllPairs unsigned_Decides xs apart)
+    (λ c h. (is_member-Decides unsigned_Decides ys c).1 (part c ((is_member-Decides unsigned_Decides xs c).0 h)))
 
 -- and still rises
 pub difference_rises : (xs ys : List ℕ) → Rises xs → Rises ys → IsPart ys xs → Rises (difference xs ys)

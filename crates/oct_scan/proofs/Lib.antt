@@ -7,3 +7,6 @@ pub mod Gathering
 pub mod BeamCuts
 pub mod OutsideEnds
 pub mod Settled
+pub mod Tests
+pub mod Faults
+pub mod Totals

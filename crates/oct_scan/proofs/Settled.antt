@@ -1,7 +1,8 @@
 -- What the update of gathered codes says of each voxel.
-use Rattle.std.proofs.Common.{◌≡◌, ℕ, ◌^◌, ◌<◌, ◌↔◌, inl, inr, false, List, map, refl, sym, subst, ◌∙◌, ap}
+use Rattle.std.proofs.Common.{◌≡◌, ℕ, ◌+◌, ◌^◌, ◌<◌, ◌≤◌, ◌↔◌, inl, inr, false, List, map, length, refl, sym, subst, ◌∙◌, ap, arith}
 use Rattle.std.specs.List.{All, Contains}
 use Rattle.std.specs.List.Sorted.{IsStrictlyIncreasing}
+use Rattle.std.proofs.lemmas.List.{length-map}
 use Rattle.std.proofs.lemmas.List.Elements.{All-contains}
 use Rattle.oct_key.specs.Voxel.{Voxel, IsInMap}
 use Rattle.oct_key.specs.Morton.{morton_of}
@@ -10,43 +11,43 @@ use Rattle.oct_key.proofs.Faces.{IsInMap-key_at}
 use Rattle.oct_key.proofs.Interleavings.{morton_injective}
 use Rattle.oct_ray.specs.Segment.{Meets}
 use Rattle.oct_scan.specs.declared.beam.Beam.{Beam}
-use Rattle.oct_scan.specs.declared.scan.Scan.{Scan}
-use Rattle.oct_scan.specs.Beam.{origin_of, beams_of}
+use Rattle.oct_scan.specs.Beam.{origin_of, beams_of, Sighting}
 use Rattle.oct_scan.specs.Scanned.{EndsIn, IsHit, IsFreed, IsScanned, IsNeed}
 use Rattle.oct_scan.specs.Codes.{difference, voxel_of, block_count}
 use Rattle.oct_scan.specs.Gathered.{IsMarked, IsEnd, AreGathered}
-use Rattle.oct_scan.specs.Update.{Update, IsAscending, IsSettled}
+use Rattle.oct_values.specs.Events.{IsAscending}
+use Rattle.oct_scan.specs.Update.{Update, IsSettled}
 use Rattle.oct_scan.proofs.Lists.{all_contained, contains_tells}
-use Rattle.oct_scan.proofs.CodeLists.{IsPart, difference_from, difference_listed, difference_rises, increasing_from, rises_from, voxels_in_map, codes_of_voxels, voxel_listed, code_listed, same_bound}
+use Rattle.oct_scan.proofs.CodeLists.{IsPart, difference_from, difference_listed, difference_rises, difference_long, no_longer, increasing_from, rises_from, voxels_in_map, codes_of_voxels, voxel_listed, code_listed, same_bound}
 use Rattle.oct_scan.proofs.Counts.{AreCounted, count_blocks_of}
 use Rattle.oct_scan.proofs.Gathering.{gathered_below, hits_below}
 
 -- what was gathered along the beams of a scan, and what was made of it
-pub record IsUpdate (edge : ℕ) (scan : Scan) (scanned hits : List ℕ) (u : Update) : Type 0 where
+pub record IsUpdate (edge : ℕ) (scan : Sighting) (scanned hits : List ℕ) (u : Update) : Type 0 where
   pub gathered : AreGathered edge (origin_of scan) (beams_of scan) scanned hits
   pub settled : IsSettled scanned hits u
 
 -- an update of beams that are those of a scan
-pub is_update : (edge : ℕ) (scan : Scan) (bs : List Beam) (s h : List ℕ) (u : Update) → bs ≡ beams_of scan → AreGathered edge (origin_of scan) bs s h → IsSettled s h u → IsUpdate edge scan s h u
+pub is_update : (edge : ℕ) (scan : Sighting) (bs : List Beam) (s h : List ℕ) (u : Update) → bs ≡ beams_of scan → AreGathered edge (origin_of scan) bs s h → IsSettled s h u → IsUpdate edge scan s h u
 is_update edge scan bs s h u same g settled = record { gathered = subst (λ bs. AreGathered edge (origin_of scan) bs s h) same g; settled = settled }
 
-codes_below : (edge : ℕ) (scan : Scan) (s h : List ℕ) (u : Update) (a : IsUpdate edge scan s h u) → All (λ c. c < 2 ^ 48) a.settled.codes
+codes_below : (edge : ℕ) (scan : Sighting) (s h : List ℕ) (u : Update) (a : IsUpdate edge scan s h u) → All (λ c. c < 2 ^ 48) a.settled.codes
 codes_below edge scan s h u a = same_bound s a.settled.codes (2 ^ 48) a.settled.same_codes (gathered_below edge (origin_of scan) (beams_of scan) s h a.gathered)
 
-hit_codes_below : (edge : ℕ) (scan : Scan) (s h : List ℕ) (u : Update) (a : IsUpdate edge scan s h u) → All (λ c. c < 2 ^ 48) a.settled.hit_codes
+hit_codes_below : (edge : ℕ) (scan : Sighting) (s h : List ℕ) (u : Update) (a : IsUpdate edge scan s h u) → All (λ c. c < 2 ^ 48) a.settled.hit_codes
 hit_codes_below edge scan s h u a = same_bound h a.settled.hit_codes (2 ^ 48) a.settled.same_hits (hits_below edge (origin_of scan) (beams_of scan) s h a.gathered)
 
-hits_part : (edge : ℕ) (scan : Scan) (s h : List ℕ) (u : Update) (a : IsUpdate edge scan s h u) → IsPart a.settled.hit_codes a.settled.codes
+hits_part : (edge : ℕ) (scan : Sighting) (s h : List ℕ) (u : Update) (a : IsUpdate edge scan s h u) → IsPart a.settled.hit_codes a.settled.codes
 hits_part edge scan s h u a = λ c m. (a.settled.same_codes c).0 (a.gathered.part c ((a.settled.same_hits c).1 m))
 
 -- a voxel of the map is hit exactly where its code is a code of a hit
-hit_from_code : (edge : ℕ) (scan : Scan) (s h : List ℕ) (u : Update) (a : IsUpdate edge scan s h u) (k : Voxel) → IsInMap k → Contains a.settled.hit_codes (morton_of k) → IsHit edge scan k
+hit_from_code : (edge : ℕ) (scan : Sighting) (s h : List ℕ) (u : Update) (a : IsUpdate edge scan s h u) (k : Voxel) → IsInMap k → Contains a.settled.hit_codes (morton_of k) → IsHit edge scan k
 hit_from_code edge scan s h u a k on_k m =
     let r = (a.gathered.ends (morton_of k)).0 ((a.settled.same_hits (morton_of k)).1 m) in
     let same : r.2.voxel ≡ k = morton_injective r.2.voxel k r.2.on_map on_k (sym r.2.coded) in
     (r.1.0, r.0, r.1.1, r.1.2, (r.2.whole, subst (λ v. EndsIn edge v r.0) same r.2.ended))
 
-code_of_hit : (edge : ℕ) (scan : Scan) (s h : List ℕ) (u : Update) (a : IsUpdate edge scan s h u) (k : Voxel) → IsHit edge scan k → IsInMap k × Contains a.settled.hit_codes (morton_of k)
+code_of_hit : (edge : ℕ) (scan : Sighting) (s h : List ℕ) (u : Update) (a : IsUpdate edge scan s h u) (k : Voxel) → IsHit edge scan k → IsInMap k × Contains a.settled.hit_codes (morton_of k)
 code_of_hit edge scan s h u a k m =
     let b : Beam = m.1 in
     let whole : b.is_cut ≡ false = m.4.0 in
@@ -56,7 +57,7 @@ code_of_hit edge scan s h u a k m =
     (on_k, (a.settled.same_hits (morton_of k)).0 ((a.gathered.ends (morton_of k)).1 (b, (m.0, m.2, m.3), end)))
 
 -- the hits are the voxels that are hit
-pub hits_are : (edge : ℕ) (scan : Scan) (s h : List ℕ) (u : Update) → IsUpdate edge scan s h u → (k : Voxel) → Contains u.hits k ↔ IsHit edge scan k
+pub hits_are : (edge : ℕ) (scan : Sighting) (s h : List ℕ) (u : Update) → IsUpdate edge scan s h u → (k : Voxel) → Contains u.hits k ↔ IsHit edge scan k
 hits_are edge scan s h u a k =
     let to : Contains u.hits k → IsHit edge scan k = λ m.
     let listed : Contains (map voxel_of a.settled.hit_codes) k = subst (λ l. Contains l k) a.settled.hits_are m in
@@ -66,14 +67,14 @@ hits_are edge scan s h u a k =
     subst (λ l. Contains l k) (sym a.settled.hits_are) (voxel_listed a.settled.hit_codes k r.0 r.1) in
     (to, from)
 
-left_from : (edge : ℕ) (scan : Scan) (s h : List ℕ) (u : Update) (a : IsUpdate edge scan s h u) (c : ℕ) → Contains (difference a.settled.codes a.settled.hit_codes) c → Contains a.settled.codes c × ¬ Contains a.settled.hit_codes c
+left_from : (edge : ℕ) (scan : Sighting) (s h : List ℕ) (u : Update) (a : IsUpdate edge scan s h u) (c : ℕ) → Contains (difference a.settled.codes a.settled.hit_codes) c → Contains a.settled.codes c × ¬ Contains a.settled.hit_codes c
 left_from edge scan s h u a c m = difference_from a.settled.codes a.settled.hit_codes c (rises_from a.settled.codes a.settled.codes_rise) (rises_from a.settled.hit_codes a.settled.hits_rise) (hits_part edge scan s h u a) m
 
-left_below : (edge : ℕ) (scan : Scan) (s h : List ℕ) (u : Update) (a : IsUpdate edge scan s h u) → All (λ c. c < 2 ^ 48) (difference a.settled.codes a.settled.hit_codes)
+left_below : (edge : ℕ) (scan : Sighting) (s h : List ℕ) (u : Update) (a : IsUpdate edge scan s h u) → All (λ c. c < 2 ^ 48) (difference a.settled.codes a.settled.hit_codes)
 left_below edge scan s h u a = all_contained (λ c. c < 2 ^ 48) (difference a.settled.codes a.settled.hit_codes) (λ c m. All-contains (λ c. c < 2 ^ 48) a.settled.codes c (codes_below edge scan s h u a) (left_from edge scan s h u a c m).0)
 
 -- a voxel of the map whose code is left is freed
-freed_from_code : (edge : ℕ) (scan : Scan) (s h : List ℕ) (u : Update) (a : IsUpdate edge scan s h u) (k : Voxel) → IsInMap k → Contains (difference a.settled.codes a.settled.hit_codes) (morton_of k) → IsFreed edge scan k
+freed_from_code : (edge : ℕ) (scan : Sighting) (s h : List ℕ) (u : Update) (a : IsUpdate edge scan s h u) (k : Voxel) → IsInMap k → Contains (difference a.settled.codes a.settled.hit_codes) (morton_of k) → IsFreed edge scan k
 freed_from_code edge scan s h u a k on_k m =
     let parts = left_from edge scan s h u a (morton_of k) m in
     let unhit : ¬ IsHit edge scan k = λ hit. parts.1 (code_of_hit edge scan s h u a k hit).1 in
@@ -82,7 +83,7 @@ freed_from_code edge scan s h u a k on_k m =
     let met : Meets edge (origin_of scan) r.0.end k = subst (Meets edge (origin_of scan) r.0.end) same r.2.met in
     (unhit, (r.1.0, r.0, r.1.1, r.1.2, (met, λ ended. unhit (r.1.0, r.0, r.1.1, r.1.2, (r.2.whole (subst (λ v. EndsIn edge v r.0) (sym same) ended), ended)))))
 
-code_of_freed : (edge : ℕ) (scan : Scan) (s h : List ℕ) (u : Update) (a : IsUpdate edge scan s h u) (k : Voxel) → IsFreed edge scan k → IsInMap k × Contains (difference a.settled.codes a.settled.hit_codes) (morton_of k)
+code_of_freed : (edge : ℕ) (scan : Sighting) (s h : List ℕ) (u : Update) (a : IsUpdate edge scan s h u) (k : Voxel) → IsFreed edge scan k → IsInMap k × Contains (difference a.settled.codes a.settled.hit_codes) (morton_of k)
 code_of_freed edge scan s h u a k (unhit, m) =
     let b : Beam = m.1 in
     let met : Meets edge (origin_of scan) b.end k = m.4.0 in
@@ -92,7 +93,7 @@ code_of_freed edge scan s h u a k (unhit, m) =
     (on_k, difference_listed a.settled.codes a.settled.hit_codes (morton_of k) (rises_from a.settled.codes a.settled.codes_rise) (rises_from a.settled.hit_codes a.settled.hits_rise) (hits_part edge scan s h u a) there (λ hit. unhit (hit_from_code edge scan s h u a k on_k hit)))
 
 -- the frees are the voxels that are freed
-pub frees_are : (edge : ℕ) (scan : Scan) (s h : List ℕ) (u : Update) → IsUpdate edge scan s h u → (k : Voxel) → Contains u.frees k ↔ IsFreed edge scan k
+pub frees_are : (edge : ℕ) (scan : Sighting) (s h : List ℕ) (u : Update) → IsUpdate edge scan s h u → (k : Voxel) → Contains u.frees k ↔ IsFreed edge scan k
 frees_are edge scan s h u a k =
     let to : Contains u.frees k → IsFreed edge scan k = λ m.
     let listed : Contains (map voxel_of (difference a.settled.codes a.settled.hit_codes)) k = subst (λ l. Contains l k) a.settled.frees_are m in
@@ -103,28 +104,37 @@ frees_are edge scan s h u a k =
     (to, from)
 
 -- both ascend
-pub hits_ascend : (edge : ℕ) (scan : Scan) (s h : List ℕ) (u : Update) → IsUpdate edge scan s h u → IsAscending u.hits
+pub hits_ascend : (edge : ℕ) (scan : Sighting) (s h : List ℕ) (u : Update) → IsUpdate edge scan s h u → IsAscending u.hits
 hits_ascend edge scan s h u a = subst IsStrictlyIncreasing (sym (ap (map morton_of) a.settled.hits_are ∙ codes_of_voxels a.settled.hit_codes (hit_codes_below edge scan s h u a))) a.settled.hits_rise
 
-pub frees_ascend : (edge : ℕ) (scan : Scan) (s h : List ℕ) (u : Update) → IsUpdate edge scan s h u → IsAscending u.frees
+pub frees_ascend : (edge : ℕ) (scan : Sighting) (s h : List ℕ) (u : Update) → IsUpdate edge scan s h u → IsAscending u.frees
 frees_ascend edge scan s h u a =
     subst IsStrictlyIncreasing (sym (ap (map morton_of) a.settled.frees_are ∙ codes_of_voxels (difference a.settled.codes a.settled.hit_codes) (left_below edge scan s h u a)))
     (increasing_from (difference a.settled.codes a.settled.hit_codes) (difference_rises a.settled.codes a.settled.hit_codes (rises_from a.settled.codes a.settled.codes_rise) (rises_from a.settled.hit_codes a.settled.hits_rise) (hits_part edge scan s h u a)))
 
-scanned_from_code : (edge : ℕ) (scan : Scan) (s h : List ℕ) (u : Update) (a : IsUpdate edge scan s h u) (k : Voxel) → IsInMap k → Contains a.settled.codes (morton_of k) → IsScanned edge scan k
+-- both together are no more than the codes that were gathered
+pub few_are : (edge : ℕ) (scan : Sighting) (s h : List ℕ) (u : Update) → IsUpdate edge scan s h u → length u.hits + length u.frees ≤ length s
+few_are edge scan s h u a =
+    let codes : List ℕ = a.settled.codes in
+    let hits : List ℕ = a.settled.hit_codes in
+    let split = difference_long codes hits (rises_from codes a.settled.codes_rise) (rises_from hits a.settled.hits_rise) (hits_part edge scan s h u a) in
+    let few = no_longer codes s (rises_from codes a.settled.codes_rise) (λ c there. (a.settled.same_codes c).1 there) in
+    omega (arith, split, few, ap length a.settled.hits_are, length-map hits voxel_of, ap length a.settled.frees_are, length-map (difference codes hits) voxel_of)
+
+scanned_from_code : (edge : ℕ) (scan : Sighting) (s h : List ℕ) (u : Update) (a : IsUpdate edge scan s h u) (k : Voxel) → IsInMap k → Contains a.settled.codes (morton_of k) → IsScanned edge scan k
 scanned_from_code edge scan s h u a k on_k m = elim (contains_tells a.settled.hit_codes (morton_of k)) [
   | inl hit ↦ inl (hit_from_code edge scan s h u a k on_k hit)
   | inr other ↦ inr (freed_from_code edge scan s h u a k on_k (difference_listed a.settled.codes a.settled.hit_codes (morton_of k) (rises_from a.settled.codes a.settled.codes_rise) (rises_from a.settled.hit_codes a.settled.hits_rise) (hits_part edge scan s h u a) m other))
 ]
 
-code_of_scanned : (edge : ℕ) (scan : Scan) (s h : List ℕ) (u : Update) (a : IsUpdate edge scan s h u) (k : Voxel) → IsScanned edge scan k → IsInMap k × Contains a.settled.codes (morton_of k)
+pub code_of_scanned : (edge : ℕ) (scan : Sighting) (s h : List ℕ) (u : Update) (a : IsUpdate edge scan s h u) (k : Voxel) → IsScanned edge scan k → IsInMap k × Contains a.settled.codes (morton_of k)
 code_of_scanned edge scan s h u a k m = elim m [
   | inl hit ↦ let r = code_of_hit edge scan s h u a k hit in (r.0, hits_part edge scan s h u a (morton_of k) r.1)
   | inr freed ↦ let r = code_of_freed edge scan s h u a k freed in (r.0, (left_from edge scan s h u a (morton_of k) r.1).0)
 ]
 
 -- the need is that of the voxels that the scan changes
-pub need_is : (edge : ℕ) (scan : Scan) (s h : List ℕ) (u : Update) → IsUpdate edge scan s h u → IsNeed edge scan u.need
+pub need_is : (edge : ℕ) (scan : Sighting) (s h : List ℕ) (u : Update) → IsUpdate edge scan s h u → IsNeed edge scan u.need
 need_is edge scan s h u a =
     let ks : List Voxel = map voxel_of a.settled.codes in
     let same : map morton_of ks ≡ a.settled.codes = codes_of_voxels a.settled.codes (codes_below edge scan s h u a) in

@@ -2,7 +2,6 @@
 use Rattle.std.specs.Prelude.{◌≡◌, ℕ, List, map, Contains, ◌↔◌}
 use Rattle.std.specs.List.Sorted.{IsStrictlyIncreasing}
 use Rattle.oct_key.specs.Voxel.{Voxel}
-use Rattle.oct_key.specs.Morton.{morton_of}
 use Rattle.oct_scan.specs.Codes.{difference, voxel_of, block_count}
 
 -- the voxels that are hit and those that are freed, and how many blocks hold them
@@ -10,10 +9,6 @@ pub record Update : Type 0 where
   pub hits : List Voxel
   pub frees : List Voxel
   pub need : ℕ
-
--- each voxel has a greater Morton code than the one before it
-abbrev pub IsAscending : List Voxel → Type 0
-IsAscending ks = IsStrictlyIncreasing (map morton_of ks)
 
 -- working word: what is made of codes that were gathered
 pub record IsSettled (scanned hits : List ℕ) (u : Update) : Type 0 where

@@ -11,6 +11,10 @@
 //!   and all beams (`IsHit`, `IsFreed`). Both lists ascend by Morton code, without repeats.
 //! - [`UpdateSet::need`] is the number of blocks of depth 0 to 15 that hold such a voxel (`IsNeed`): so many groups of a tree at most
 //!   have to be made for them.
+//! - What a scan does is a function of its numbers as well, for whoever defines the answers of a session: `scan_outcome` gives each
+//!   voxel its event or none, `hit_count` and `free_count` count over the whole map, and `scan_fault` is why the scan is refused, or
+//!   none. [`outcomes_are_exact`] says that these tests and this fault mean what the words above mean, and [`update_set`] says what it
+//!   answers in both.
 //! - Where a beam is cut is computed by `cut_end`, and [`cut_ends_are_exact`] says that this is the one point of the rule (`IsCutEnd` of
 //!   `oct_ray`).
 //! - A scan is refused for its origin, for the first beam that ends outside the map, or for the first beam with which the voxels met
@@ -23,7 +27,7 @@
 //! codes without those of the hits.
 //!
 //! `update_set` allocates, and touches nothing but its arguments. The scans of a map stand on this crate, and cite `IsHit`,
-//! `IsFreed`, `IsNeed` and `IsRefusedFor`.
+//! `IsFreed`, `IsNeed` and `IsRefusedFor`, or `scan_outcome`, `hit_count`, `free_count`, `cells_met` and `scan_fault`.
 
 #![tactic(auto)]
 
@@ -36,6 +40,6 @@ mod scan;
 mod update;
 
 pub use fault::ScanFault;
-pub use laws::cut_ends_are_exact;
+pub use laws::{cut_ends_are_exact, outcomes_are_exact};
 pub use scan::Scan;
 pub use update::{UpdateSet, update_set};

@@ -1,10 +1,14 @@
-ghost use Rattle.std.specs.Prelude.{◌≡◌, ℕ, ◌^◌, ◌<◌, ◌≤◌, pos, ◌≤ℤ◌, ◌<ℤ◌, ◌↔◌, All, Contains, IfOk, IfErr, IfSome, vec_len};
-ghost use Rattle.oct_key.specs.Voxel.{Voxel};
+ghost use Rattle.std.specs.Prelude.{◌≡◌, ◌≢◌, ℕ, ◌+◌, ◌^◌, ◌<◌, ◌≤◌, pos, ◌≤ℤ◌, ◌<ℤ◌, ◌↔◌, length, Some, None, All, Contains, IfOk, IfErr, IfSome, vec_len};
+ghost use Rattle.oct_key.specs.Voxel.{Voxel, IsInMap};
+ghost use Rattle.oct_odds.specs.declared.event.Event.{Event};
+ghost use Rattle.oct_values.specs.Events.{IsAscending, scan_events};
+ghost use Rattle.oct_values.specs.Needs.{event_need};
 ghost use Rattle.oct_pose.specs.Reach.{IsInReach};
-ghost use Rattle.oct_scan.specs.Beam.{origin_of, beams_of};
+ghost use Rattle.oct_scan.specs.Beam.{origin_of, beams_of, sighting_of};
 ghost use Rattle.oct_scan.specs.Scanned.{IsHit, IsFreed, IsNeed};
 ghost use Rattle.oct_scan.specs.Answer.{IsInside, MeetAtMost, IsRefusedFor};
-ghost use Rattle.oct_scan.specs.Update.{IsAscending, IsSettled};
+ghost use Rattle.oct_scan.specs.Outcome.{scan_outcome, hit_count, free_count, scan_fault};
+ghost use Rattle.oct_scan.specs.Update.{IsSettled};
 
 use crate::beam::beams_of;
 use crate::cells::{Cells, gather};
@@ -69,15 +73,24 @@ pub fn update_set(
     requires range { IfSome scan.now.range (λ r. (pos 0 ≤ℤ r) × (r <ℤ pos (10 ^ 16))) }
     requires max_cells { max_cells ≤ 2 ^ 27 }
 
-    ensures hits { IfOk result (λ set. (k : Voxel) → Contains set.hits k ↔ IsHit res scan.now k) }
-    ensures frees { IfOk result (λ set. (k : Voxel) → Contains set.frees k ↔ IsFreed res scan.now k) }
+    ensures hits { IfOk result (λ set. (k : Voxel) → Contains set.hits k ↔ IsHit res (sighting_of scan.now) k) }
+    ensures frees { IfOk result (λ set. (k : Voxel) → Contains set.frees k ↔ IsFreed res (sighting_of scan.now) k) }
     ensures hits_ascend { IfOk result (λ set. IsAscending set.hits) }
     ensures frees_ascend { IfOk result (λ set. IsAscending set.frees) }
-    ensures need { IfOk result (λ set. IsNeed res scan.now set.need) }
+    ensures need { IfOk result (λ set. IsNeed res (sighting_of scan.now) set.need) }
 
-    ensures inside { IfOk result (λ _. IsInside res scan.now) }
-    ensures within { IfOk result (λ _. MeetAtMost res (origin_of scan.now) (beams_of scan.now) max_cells) }
-    ensures refused { IfErr result (IsRefusedFor res scan.now max_cells) }
+    ensures inside { IfOk result (λ _. IsInside res (sighting_of scan.now)) }
+    ensures within { IfOk result (λ _. MeetAtMost res (origin_of (sighting_of scan.now)) (beams_of (sighting_of scan.now)) max_cells) }
+    ensures refused { IfErr result (IsRefusedFor res (sighting_of scan.now) max_cells) }
+
+    ensures events { IfOk result (λ set. (hit miss : Event) (k : Voxel) → IsInMap k → scan_events set.hits hit set.frees miss k ≡ scan_outcome res hit miss (sighting_of scan.now) k) }
+    ensures hit_count { IfOk result (λ set. length set.hits ≡ hit_count res (sighting_of scan.now)) }
+    ensures free_count { IfOk result (λ set. length set.frees ≡ free_count res (sighting_of scan.now)) }
+    ensures few { IfOk result (λ set. length set.hits + length set.frees ≤ max_cells) }
+    ensures needed { IfOk result (λ set. (hit miss : Event) → set.need ≡ event_need (scan_outcome res hit miss (sighting_of scan.now))) }
+
+    ensures accepted { IfOk result (λ _. scan_fault res (sighting_of scan.now) max_cells ≡ None) }
+    ensures fault { IfErr result (λ f. f ≢ ScanFault.Memory → scan_fault res (sighting_of scan.now) max_cells ≡ Some f) }
 {
     let origin = scan.pose.t;
     if res.key_of(origin).is_none() {

@@ -1,0 +1,48 @@
+-- The voxels that a segment meets, found by walking along it.
+use Rattle.std.specs.Prelude.{ℕ, ◌+◌, ◌-◌, ◌*◌, ◌/◌, ◌%◌, max, true, false, nat_eq, nat_le, if◌then◌else◌, List, ℤ, pos, ◌+ℤ◌, unsigned_abs}
+use Rattle.oct_key.specs.Voxel.{Voxel}
+use Rattle.oct_key.specs.declared.point.Point.{Point}
+use Rattle.oct_ray.specs.declared.axis.Axis.{Axis}
+use Rattle.oct_ray.specs.Axis.{axis_keys}
+
+-- how high a coordinate of the map lies above its lower face
+abbrev pub height_of : ℕ → ℤ → ℕ
+height_of edge c = unsigned_abs (c +ℤ pos (32768 * edge))
+
+-- the axis that rises from a to b above the map's lower face
+abbrev pub rising_axis : ℕ → ℕ → ℕ → Axis
+rising_axis edge a b = record {
+  key = a / edge;
+  rises = true;
+  crossings = b / edge - a / edge;
+  distance = if nat_eq a b then 2 else edge - a % edge;
+  span = max 1 (b - a);
+  edge = edge;
+}
+
+-- the axis that falls from a to b above the map's lower face
+abbrev pub falling_axis : ℕ → ℕ → ℕ → Axis
+falling_axis edge a b = record {
+  key = a / edge;
+  rises = false;
+  crossings = a / edge - b / edge;
+  distance = a % edge;
+  span = a - b;
+  edge = edge;
+}
+
+-- the axis from a to b above the map's lower face
+abbrev pub axis_between : ℕ → ℕ → ℕ → Axis
+axis_between edge a b = if nat_le a b then rising_axis edge a b else falling_axis edge a b
+
+-- the axis of the segment between two coordinates of the map
+unfoldable pub axis_of : ℕ → ℤ → ℤ → Axis
+axis_of edge o e = axis_between edge (height_of edge o) (height_of edge e)
+
+-- the voxels from where three axes stand until none of them has a crossing left
+abbrev pub keys_along : Axis → Axis → Axis → List Voxel
+keys_along x y z = axis_keys (x.crossings + y.crossings + z.crossings) x y z
+
+-- the voxels that the segment between two points of the map meets, in the order of its way
+unfoldable pub met_by : ℕ → Point → Point → List Voxel
+met_by edge o e = keys_along (axis_of edge o.x e.x) (axis_of edge o.y e.y) (axis_of edge o.z e.z)
