@@ -1,3 +1,4 @@
+pub mod UnderWay
 pub mod Insides
 pub mod Locals
 pub mod Paths
@@ -10,3 +11,13 @@ pub mod Ends
 pub mod Clamps
 pub mod Grown
 pub mod Descents
+pub mod Keys
+pub mod Shares
+pub mod Rounds
+pub mod Needs
+pub mod Expansions
+pub mod Fews
+pub mod Rests
+pub mod Ways
+pub mod Homes
+pub mod Wholes

@@ -1,2 +1,4 @@
 pub mod Touch
 pub mod Steps
+pub mod Scan
+pub mod Parts
