@@ -1,4 +1,4 @@
-ghost use Rattle.std.specs.Prelude.{◌≡◌, ℕ, ◌+◌, ◌^◌, ◌<◌, ◌≤◌, ◌||◌, Bool, false, IsTrue, [], IsOk, OnOk, OnErr, Some, None, Err};
+ghost use Rattle.std.specs.Prelude.{◌≡◌, ℕ, ◌+◌, ◌^◌, ◌<◌, ◌≤◌, ◌||◌, pos, ◌≤ℤ◌, ◌<ℤ◌, Bool, false, IsTrue, [], All, IfSome, IsSome, IsOk, OnOk, OnErr, Some, None, Err};
 ghost use Rattle.oct_key.specs.Voxel.{Voxel, IsInMap, key_at};
 ghost use Rattle.oct_odds.specs.Odds.{odds_of};
 ghost use Rattle.oct_odds.specs.Update.{IsSmallEvent};
@@ -10,17 +10,23 @@ ghost use Rattle.oct_tree.specs.Tree.{value_at};
 ghost use Rattle.oct_tree.specs.Shape.{IsFresh, IsPruned};
 ghost use Rattle.oct_tree.specs.Changes.{SameValues, IsGrown};
 ghost use Rattle.oct_edit.specs.Touch.{IsSaturated, IsLazyEdit, IsTidyAlong, KeepsGroups, KeepsInner};
+ghost use Rattle.oct_edit.specs.Scan.{KeepsUnreached, KeepsUnreachedInner};
 ghost use Rattle.oct_inner.specs.Changes.{IsSameButInner, IsShrunk};
+ghost use Rattle.oct_pose.specs.Reach.{IsInReach};
+ghost use Rattle.oct_scan.specs.Beam.{sighting_of};
+ghost use Rattle.oct_scan.specs.Outcome.{scan_fault};
 ghost use Rattle.oct_map.specs.declared.fault.MapFault.{MapFault};
-ghost use Rattle.oct_map.specs.Answers.{room_answer, edit_answer, edit_need, get_answer, IsAnswerOrMemory};
+ghost use Rattle.oct_map.specs.Answers.{room_answer, edit_answer, edit_need, scan_answer, get_answer, IsAnswerOrMemory};
+ghost use Rattle.oct_map.specs.Outcome.{outcome_in, need_in, ExpandsForChange};
 
 use crate::fault::MapFault;
 use crate::limits::Limits;
-use oct_edit::touch;
+use oct_edit::{ScanUpdate, touch, touch_all};
 use oct_inner::{prune, refresh};
 use oct_key::{Block, Key, Point, Res};
 use oct_odds::{Event, OddsModel};
 use oct_query::{Counts, counts, query};
+use oct_scan::{Scan, update_set};
 use oct_tree::OccTree;
 use std::alloc::Global;
 use std::marker::Model;
@@ -31,12 +37,20 @@ const EDIT_NEED: u128 = 16;
 /// The depth of the voxels.
 const VOXELS: u32 = 16;
 
+/// How many voxels a scan hit, and how many it freed.
+#[derive(Clone, Copy, Debug, PartialEq, Eq)]
+pub struct ScanDone {
+    pub hits: u64,
+    pub frees: u64,
+}
+
 /// An occupancy map: a value for each voxel, or none where nothing is known of it.
 #[derive(Drop)]
 pub struct OccMap {
     tree: OccTree,
     is_stale: bool,
     limits: Limits,
+    alloc: Global,
 }
 
 impl Model for OccMap {
@@ -44,9 +58,9 @@ impl Model for OccMap {
 
     ghost Value = { Map };
 
-    ghost view = { λ m. record { tree = m.tree; is_stale = m.is_stale; max_groups = m.limits.max_groups } };
+    ghost view = { λ m. record { tree = m.tree; is_stale = m.is_stale; max_groups = m.limits.max_groups; max_cells = m.limits.max_cells } };
 
-    ghost invariant = { λ m. IsMap (record { tree = m.tree; is_stale = m.is_stale; max_groups = m.limits.max_groups }) };
+    ghost invariant = { λ m. IsMap (record { tree = m.tree; is_stale = m.is_stale; max_groups = m.limits.max_groups; max_cells = m.limits.max_cells }) };
 }
 
 impl OccMap {
@@ -54,7 +68,7 @@ impl OccMap {
 
     /// The map of the unknown world. Takes no memory.
     pub fn new(alloc: Global, res: Res, odds: OddsModel, limits: Limits) -> OccMap
-        ensures exact { result ≡ record { tree = record { groups = []; root = Node.Absent; res = res; odds = odds_of odds }; is_stale = false; max_groups = limits.max_groups } }
+        ensures exact { result ≡ record { tree = record { groups = []; root = Node.Absent; res = res; odds = odds_of odds }; is_stale = false; max_groups = limits.max_groups; max_cells = limits.max_cells } }
         ensures unknown { (k : Voxel) → values_of result k ≡ None }
         ensures map { IsMap result }
     {
@@ -62,6 +76,7 @@ impl OccMap {
             tree: OccTree::new(alloc, res, odds),
             is_stale: false,
             limits,
+            alloc,
         }
     }
 
@@ -74,7 +89,7 @@ impl OccMap {
         &self.tree
     }
 
-    /// Whether inner values may be out of date: a lazy edit came after the last refresh.
+    /// Whether inner values may be out of date: a lazy edit or scan came after the last refresh.
     pub fn is_stale(&self) -> bool
         ensures exact { result ≡ self.now.is_stale }
         ensures map { IsMap self.now }
@@ -97,6 +112,7 @@ impl OccMap {
         ensures stale { OnOk result (self.new.is_stale ≡ (self.old.is_stale || lazy)) }
         ensures still { OnErr result (self.new.is_stale ≡ self.old.is_stale) }
         ensures pruned { (IsTrue lazy → ⊥) → IsPruned self.old.tree → IsPruned self.new.tree }
+        ensures still_pruned { OnErr result (IsPruned self.old.tree → IsPruned self.new.tree) }
         ensures outside { key_at self.old.tree.res p ≡ None → self.new ≡ self.old }
         ensures refused { HasRoomFor self.old edit_need → OnErr result (IsGrown self.old.tree self.new.tree) }
         ensures kept { (k : Voxel) → key_at self.old.tree.res p ≡ Some k → HasRoomFor self.old edit_need → KeepsGroups self.old.tree self.new.tree k }
@@ -104,6 +120,7 @@ impl OccMap {
         ensures path { (k : Voxel) → key_at self.old.tree.res p ≡ Some k → (IsSaturated self.old.tree.odds event (values_of self.old k) → ⊥)
             → (IsTrue lazy → ⊥) → OnOk result (IsTidyAlong self.new.tree k) }
         ensures full { (groups need : ℕ) → result ≡ Err (MapFault.Full groups need) → IsPruned self.new.tree × IsShrunk self.old.tree self.new.tree }
+        ensures live { OnErr result (live self.new.tree.groups ≤ live self.old.tree.groups) }
         ensures entries { live self.old.tree.groups + spare self.old.tree.groups ≤ live self.new.tree.groups + spare self.new.tree.groups }
         ensures lazily { IsTrue lazy → HasRoomFor self.old edit_need → OnOk result (IsLazyEdit self.old.tree self.new.tree) }
         ensures saturated { (k : Voxel) → key_at self.old.tree.res p ≡ Some k → HasRoomFor self.old edit_need
@@ -118,6 +135,51 @@ impl OccMap {
         touch(&mut self.tree, k, event, lazy);
         self.is_stale |= lazy;
         Ok(())
+    }
+
+    /// Applies a hit to each voxel that the scan hits, and a miss to each one that it frees, by the map's model of log-odds.
+    ///
+    /// A scan is refused before any voxel changes: first for its own fault, and then as full where the groups that the values need and
+    /// those that the scan may need are more than the limit. The map prunes itself only where its own groups and those are. A lazy scan
+    /// leaves inner values and pruning to a later refresh.
+    pub fn scan(&mut self, scan: &Scan, lazy: bool) -> Result<ScanDone, MapFault>
+        requires points { All IsInReach scan.now.points }
+        requires range { IfSome scan.now.range (λ r. (pos 0 ≤ℤ r) × (r <ℤ pos (10 ^ 16))) }
+        ensures answer { IsAnswerOrMemory (scan_answer self.old.tree.res self.old.tree.odds self.old.max_groups self.old.max_cells (values_of self.old) (sighting_of scan.now)) result }
+        ensures ok { OnOk result (SameValues (updated self.old.tree.odds (outcome_in self.old (sighting_of scan.now)) (values_of self.old)) (values_of self.new)) }
+        ensures err { OnErr result (SameValues (values_of self.old) (values_of self.new)) }
+        ensures stale { OnOk result (self.new.is_stale ≡ (self.old.is_stale || lazy)) }
+        ensures still { OnErr result (self.new.is_stale ≡ self.old.is_stale) }
+        ensures pruned { (IsTrue lazy → ⊥) → IsPruned self.old.tree → IsPruned self.new.tree }
+        ensures still_pruned { OnErr result (IsPruned self.old.tree → IsPruned self.new.tree) }
+        ensures faulty { IsSome (scan_fault self.old.tree.res (sighting_of scan.now) self.old.max_cells) → self.new ≡ self.old }
+        ensures refused { HasRoomFor self.old (need_in self.old (sighting_of scan.now)) → OnErr result (IsGrown self.old.tree self.new.tree) }
+        ensures kept { HasRoomFor self.old (need_in self.old (sighting_of scan.now)) → KeepsUnreached self.old.tree self.new.tree (outcome_in self.old (sighting_of scan.now)) }
+        ensures inner { HasRoomFor self.old (need_in self.old (sighting_of scan.now)) → KeepsUnreachedInner self.old.tree self.new.tree (outcome_in self.old (sighting_of scan.now)) }
+        ensures path { (IsTrue lazy → ⊥) → (k : Voxel) → IsInMap k → IsSome (outcome_in self.old (sighting_of scan.now) k) → OnOk result (IsTidyAlong self.new.tree k) }
+        ensures full { (groups need : ℕ) → result ≡ Err (MapFault.Full groups need) → IsPruned self.new.tree × IsShrunk self.old.tree self.new.tree }
+        ensures live { OnErr result (live self.new.tree.groups ≤ live self.old.tree.groups) }
+        ensures entries { live self.old.tree.groups + spare self.old.tree.groups ≤ live self.new.tree.groups + spare self.new.tree.groups }
+        ensures lazily { IsTrue lazy → HasRoomFor self.old (need_in self.old (sighting_of scan.now)) → OnOk result (IsLazyEdit self.old.tree self.new.tree) }
+        ensures expanded { HasRoomFor self.old (need_in self.old (sighting_of scan.now)) → OnOk result (ExpandsForChange self.old.tree self.new.tree (outcome_in self.old (sighting_of scan.now))) }
+        ensures setup { IsSameSetup self.old self.new }
+        ensures map { IsMap self.new }
+    {
+        let odds = self.tree.odds();
+        let set = update_set(self.alloc, scan, self.tree.res(), self.limits.max_cells)?;
+        self.make_room(u128::from(set.need()))?;
+        let update = ScanUpdate {
+            hits: set.hits().as_slice(),
+            hit: Event::Add(odds.hit),
+            frees: set.frees().as_slice(),
+            miss: Event::Add(odds.miss),
+        };
+        touch_all(&mut self.tree, update, lazy);
+        self.is_stale |= lazy;
+        Ok(ScanDone {
+            hits: update.hits.len() as u64,
+            frees: update.frees.len() as u64,
+        })
     }
 
     /// The largest known value among the voxels of the block of that depth around the point, or `None` where all of them are unknown.
@@ -153,7 +215,7 @@ impl OccMap {
         counts(&self.tree)
     }
 
-    /// Makes the inner values those of the voxels again, after lazy edits.
+    /// Makes the inner values those of the voxels again, after lazy edits and scans.
     pub fn refresh(&mut self)
         ensures fresh { IsFresh self.new.tree }
         ensures nodes { IsSameButInner self.old.tree self.new.tree }
@@ -189,6 +251,7 @@ impl OccMap {
         ensures few { OnOk result (live self.new.tree.groups + need ≤ self.new.max_groups) }
         ensures kept { HasRoomFor self.old need → IsGrown self.old.tree self.new.tree }
         ensures full { (groups more : ℕ) → result ≡ Err (MapFault.Full groups more) → IsPruned self.new.tree × IsShrunk self.old.tree self.new.tree }
+        ensures live { OnErr result (live self.new.tree.groups ≤ live self.old.tree.groups) }
         ensures entries { live self.old.tree.groups + spare self.old.tree.groups ≤ live self.new.tree.groups + spare self.new.tree.groups }
         ensures values { SameValues (values_of self.old) (values_of self.new) }
         ensures stale { self.new.is_stale ≡ self.old.is_stale }
