@@ -1,10 +1,10 @@
 -- Where words leave the forms that they begin.
-use Rattle.std.proofs.Common.{◌≡◌, ◌≢◌, ℕ, ◌<◌, List, [], ◌∷◌, ◌++◌, length, true, false, cond, inl, inr, Option, Some, None, option_and_then, Result, Ok, Err, IfOk, IfErr, refl, sym, ap, subst, ◌∙◌, append_assoc, append-nil, length-append, arith}
+use Rattle.std.proofs.Common.{◌≡◌, ◌≢◌, ℕ, List, [], ◌∷◌, ◌++◌, Bool, true, false, not, cond, ◌⊎◌, inl, inr, Option, Some, None, option_and_then, Result, Ok, Err, IfOk, IfErr, refl, sym, ap, subst, ◌∙◌, append_assoc, append-nil}
 use Rattle.std.specs.List.{filter_map, cons_option}
 use Rattle.std.specs.Option.{ok_or}
 use Rattle.oct_script.specs.Commands.{fault, all_behind, ended_command, if_any, command_by, is_comment, command_in}
-use Rattle.oct_script.specs.Faults.{texts, behind_all, possible, LeavesAt, IsMeant}
-use Rattle.oct_script.specs.Grammar.{Form, behind, grammar}
+use Rattle.oct_script.specs.Faults.{texts, behind_all, possible, BeginsOneOf, LeavesAt, IsMeant}
+use Rattle.oct_script.specs.Grammar.{Form, behind, forms_of}
 use Rattle.oct_script.specs.Words.{Word, PlacedWord}
 use Rattle.oct_script.specs.declared.command.Syntax.{Syntax}
 use Rattle.oct_script.specs.declared.command.Command.{Command}
@@ -60,24 +60,25 @@ stops_at : (column : ℕ) (s : Syntax) → ◌≡◌ {A = Result Command Syntax}
 stops_at column s e = let f : fault column ≡ s = cc in ap (λ (x : Syntax). x.column) (sym f)
 
 -- one word more
-leaves_next : (forms : List Form) (end : ℕ) (all front words : List PlacedWord) (word : PlacedWord) (s : Syntax) (next : List Form) → next ≡ possible forms (front ++ word ∷ []) →
-    if_any next (command_by next end words) (Err (fault word.column)) ≡ Err s → all ≡ front ++ (word ∷ words) → 0 < length front → possible forms front ≢ [] →
-    ((further : List PlacedWord) → command_by (possible forms further) end words ≡ Err s → all ≡ further ++ words → 0 < length further → possible forms further ≢ [] → LeavesAt forms end all s.column) →
-    LeavesAt forms end all s.column
-leaves_next forms end all front words word s [] m e split some begins goes_on =
-    record { front = front; rest = word ∷ words; split = split; some = some; begins = begins; stuck = (sym m, stops_at word.column s e) }
-leaves_next forms end all front words word s (form ∷ next) m e split some begins goes_on =
-    goes_on (front ++ word ∷ []) (subst (λ x. command_by x end words ≡ Err s) m e) (split ∙ one_behind front words word) (omega (arith, length-append front (word ∷ [])))
+leaves_next : (here elsewhere : List Form) (end : ℕ) (all front words : List PlacedWord) (word : PlacedWord) (s : Syntax) (next : List Form) →
+    next ≡ possible here (front ++ word ∷ []) → if_any next (command_by next end words) (Err (fault word.column)) ≡ Err s → all ≡ front ++ (word ∷ words) →
+    BeginsOneOf here all ⊎ BeginsOneOf elsewhere all → possible here front ≢ [] →
+    ((further : List PlacedWord) → command_by (possible here further) end words ≡ Err s → all ≡ further ++ words → possible here further ≢ [] → LeavesAt here elsewhere end all s.column) →
+    LeavesAt here elsewhere end all s.column
+leaves_next here elsewhere end all front words word s [] m e split known begins goes_on =
+    record { front = front; rest = word ∷ words; split = split; known = known; begins = begins; stuck = (sym m, stops_at word.column s e) }
+leaves_next here elsewhere end all front words word s (form ∷ next) m e split known begins goes_on =
+    goes_on (front ++ word ∷ []) (subst (λ x. command_by x end words ≡ Err s) m e) (split ∙ one_behind front words word)
     (λ none. let bad : ◌≡◌ {A = List Form} (form ∷ next) [] = m ∙ none in cc)
 
-leaves : (forms : List Form) (end : ℕ) (all front words : List PlacedWord) (s : Syntax) → command_by (possible forms front) end words ≡ Err s →
-    all ≡ front ++ words → 0 < length front → possible forms front ≢ [] → LeavesAt forms end all s.column
+leaves : (here elsewhere : List Form) (end : ℕ) (all front words : List PlacedWord) (s : Syntax) → command_by (possible here front) end words ≡ Err s →
+    all ≡ front ++ words → BeginsOneOf here all ⊎ BeginsOneOf elsewhere all → possible here front ≢ [] → LeavesAt here elsewhere end all s.column
 unfolding command_by
-leaves forms end all front [] s e split some begins =
-    record { front = front; rest = []; split = split; some = some; begins = begins; stuck = ends_at (ended_command (possible forms front)) end s e }
-leaves forms end all front (word ∷ words) s e split some begins =
-    leaves_next forms end all front words word s (all_behind word.text (possible forms front)) (possible_more forms front word) e split some begins
-    (λ further e split some begins. leaves forms end all further words s e split some begins)
+leaves here elsewhere end all front [] s e split known begins =
+    record { front = front; rest = []; split = split; known = known; begins = begins; stuck = ends_at (ended_command (possible here front)) end s e }
+leaves here elsewhere end all front (word ∷ words) s e split known begins =
+    leaves_next here elsewhere end all front words word s (all_behind word.text (possible here front)) (possible_more here front word) e split known begins
+    (λ further e split begins. leaves here elsewhere end all further words s e split known begins)
 
 means_end : (o : Option Command) (end : ℕ) (c : Command) → ok_or o (fault end) ≡ Ok c → o ≡ Some c
 means_end None end c e = cc
@@ -99,43 +100,74 @@ means forms end front (word ∷ words) c e =
     means_next forms end front words word c (all_behind word.text (possible forms front)) (possible_more forms front word) e (means forms end (front ++ word ∷ []) words c)
 
 -- the words of a line that isn't a comment
-meant_words : (forms next : List Form) (end : ℕ) (words : List PlacedWord) (first : PlacedWord) (c : Command) → next ≡ possible forms (first ∷ []) → is_comment first.text ≡ false →
-    if_any next (command_by next end words) (Ok NotYet) ≡ Ok c → IsMeant forms (first ∷ words) c
-meant_words forms [] end words first c m plain e = let f : c ≡ NotYet = cc in inr (inl (plain, sym m, f))
-meant_words forms (form ∷ next) end words first c m plain e =
-    inr (inr (plain, means forms end (first ∷ []) words c (subst (λ x. command_by x end words ≡ Ok c) m e)))
+meant_words : (here elsewhere next others : List Form) (end : ℕ) (words : List PlacedWord) (first : PlacedWord) (c : Command) →
+    next ≡ possible here (first ∷ []) → others ≡ possible elsewhere (first ∷ []) → is_comment first.text ≡ false →
+    if_any next (command_by next end words) (if_any others (Err (fault first.column)) (Ok NotYet)) ≡ Ok c → IsMeant here elsewhere (first ∷ words) c
+meant_words here elsewhere [] [] end words first c m n plain e = let f : c ≡ NotYet = cc in inr (inl (plain, sym m, sym n, f))
+meant_words here elsewhere [] (form ∷ others) end words first c m n plain e = cc
+meant_words here elsewhere (form ∷ next) others end words first c m n plain e =
+    inr (inr (plain, means here end (first ∷ []) words c (subst (λ x. command_by x end words ≡ Ok c) m e)))
 
-leaving_words : (forms next : List Form) (end : ℕ) (words : List PlacedWord) (first : PlacedWord) (s : Syntax) → next ≡ possible forms (first ∷ []) →
-    if_any next (command_by next end words) (Ok NotYet) ≡ Err s → LeavesAt forms end (first ∷ words) s.column
-leaving_words forms [] end words first s m e = cc
-leaving_words forms (form ∷ next) end words first s m e =
-    leaves forms end (first ∷ words) (first ∷ []) words s (subst (λ x. command_by x end words ≡ Err s) m e) refl (omega arith)
-    (λ none. let bad : ◌≡◌ {A = List Form} (form ∷ next) [] = m ∙ none in cc)
+begins_some : (forms next : List Form) (form : Form) (words : List PlacedWord) → (form ∷ next) ≡ possible forms words → possible forms words ≢ []
+begins_some forms next form words m none = let bad : ◌≡◌ {A = List Form} (form ∷ next) [] = m ∙ none in cc
+
+leaving_words : (here elsewhere next others : List Form) (end : ℕ) (words : List PlacedWord) (first : PlacedWord) (s : Syntax) → possible here [] ≢ [] →
+    next ≡ possible here (first ∷ []) → others ≡ possible elsewhere (first ∷ []) →
+    if_any next (command_by next end words) (if_any others (Err (fault first.column)) (Ok NotYet)) ≡ Err s → LeavesAt here elsewhere end (first ∷ words) s.column
+leaving_words here elsewhere [] [] end words first s some m n e = cc
+leaving_words here elsewhere [] (form ∷ others) end words first s some m n e = record {
+  front = [];
+  rest = first ∷ words;
+  split = refl;
+  known = inr (begins_some elsewhere others form (first ∷ []) n);
+  begins = some;
+  stuck = (sym m, stops_at first.column s e);
+}
+leaving_words here elsewhere (form ∷ next) others end words first s some m n e =
+    leaves here elsewhere end (first ∷ words) (first ∷ []) words s (subst (λ x. command_by x end words ≡ Err s) m e) refl
+    (inl (begins_some here next form (first ∷ []) m)) (begins_some here next form (first ∷ []) m)
+
+-- some form stands inside the block of a scan, and some outside
+some_form : (inside : Bool) → possible (forms_of inside) [] ≢ []
+some_form true none = cc
+some_form false none = cc
+
+-- what the first of these words begins here, and elsewhere
+abbrev here_behind : Bool → PlacedWord → List Form
+here_behind inside first = all_behind first.text (forms_of inside)
 
 -- a line in the grammar
-pub line_means : (end : ℕ) (words : List PlacedWord) (c : Command) → command_in end words ≡ Ok c → IsMeant grammar words c
+pub line_means : (inside : Bool) (end : ℕ) (words : List PlacedWord) (c : Command) → command_in inside end words ≡ Ok c →
+    IsMeant (forms_of inside) (forms_of (not inside)) words c
 unfolding command_in
-line_means end [] c e = let f : c ≡ Blank = cc in f
-line_means end (first ∷ words) c e = elim (is_comment first.text) as (λ b. is_comment first.text ≡ b →
-    cond b (Ok Blank) (if_any (all_behind first.text grammar) (command_by (all_behind first.text grammar) end words) (Ok NotYet)) ≡ Ok c → IsMeant grammar (first ∷ words) c) [
+line_means inside end [] c e = let f : c ≡ Blank = cc in f
+line_means inside end (first ∷ words) c e = elim (is_comment first.text) as (λ b. is_comment first.text ≡ b →
+    cond b (Ok Blank) (if_any (here_behind inside first) (command_by (here_behind inside first) end words) (if_any (here_behind (not inside) first) (Err (fault first.column)) (Ok NotYet))) ≡ Ok c →
+    IsMeant (forms_of inside) (forms_of (not inside)) (first ∷ words) c) [
       | true ↦ λ comment e. let f : c ≡ Blank = cc in inl (comment, f)
-      | false ↦ λ plain e. meant_words grammar (all_behind first.text grammar) end words first c (possible_first grammar first) plain e
+      | false ↦ λ plain e. meant_words (forms_of inside) (forms_of (not inside)) (here_behind inside first) (here_behind (not inside) first) end words first c
+          (possible_first (forms_of inside) first) (possible_first (forms_of (not inside)) first) plain e
     ] refl e
 
 -- a line that leaves the grammar
-pub line_leaves : (end : ℕ) (words : List PlacedWord) (s : Syntax) → command_in end words ≡ Err s → LeavesAt grammar end words s.column
+pub line_leaves : (inside : Bool) (end : ℕ) (words : List PlacedWord) (s : Syntax) → command_in inside end words ≡ Err s →
+    LeavesAt (forms_of inside) (forms_of (not inside)) end words s.column
 unfolding command_in
-line_leaves end [] s e = cc
-line_leaves end (first ∷ words) s e = elim (is_comment first.text) as (λ b.
-    cond b (Ok Blank) (if_any (all_behind first.text grammar) (command_by (all_behind first.text grammar) end words) (Ok NotYet)) ≡ Err s → LeavesAt grammar end (first ∷ words) s.column) [
+line_leaves inside end [] s e = cc
+line_leaves inside end (first ∷ words) s e = elim (is_comment first.text) as (λ b.
+    cond b (Ok Blank) (if_any (here_behind inside first) (command_by (here_behind inside first) end words) (if_any (here_behind (not inside) first) (Err (fault first.column)) (Ok NotYet))) ≡ Err s →
+    LeavesAt (forms_of inside) (forms_of (not inside)) end (first ∷ words) s.column) [
       | true ↦ λ e. cc
-      | false ↦ λ e. leaving_words grammar (all_behind first.text grammar) end words first s (possible_first grammar first) e
+      | false ↦ λ e. leaving_words (forms_of inside) (forms_of (not inside)) (here_behind inside first) (here_behind (not inside) first) end words first s (some_form inside)
+          (possible_first (forms_of inside) first) (possible_first (forms_of (not inside)) first) e
     ] e
 
-pub means_answer : (r : Result Command Syntax) (end : ℕ) (words : List PlacedWord) → r ≡ command_in end words → IfOk r (IsMeant grammar words)
-means_answer (Ok c) end words e = line_means end words c (sym e)
-means_answer (Err s) end words e = tt
+pub means_answer : (r : Result Command Syntax) (inside : Bool) (end : ℕ) (words : List PlacedWord) → r ≡ command_in inside end words →
+    IfOk r (IsMeant (forms_of inside) (forms_of (not inside)) words)
+means_answer (Ok c) inside end words e = line_means inside end words c (sym e)
+means_answer (Err s) inside end words e = tt
 
-pub leaves_answer : (r : Result Command Syntax) (end : ℕ) (words : List PlacedWord) → r ≡ command_in end words → IfErr r (λ s. LeavesAt grammar end words s.column)
-leaves_answer (Ok c) end words e = tt
-leaves_answer (Err s) end words e = line_leaves end words s (sym e)
+pub leaves_answer : (r : Result Command Syntax) (inside : Bool) (end : ℕ) (words : List PlacedWord) → r ≡ command_in inside end words →
+    IfErr r (λ s. LeavesAt (forms_of inside) (forms_of (not inside)) end words s.column)
+leaves_answer (Ok c) inside end words e = tt
+leaves_answer (Err s) inside end words e = line_leaves inside end words s (sym e)

@@ -5,3 +5,4 @@ pub mod Leaving
 pub mod Parsing
 pub mod Pieces
 pub mod VerbWords
+pub mod Depths

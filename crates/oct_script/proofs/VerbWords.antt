@@ -1,18 +1,22 @@
 -- Long words, byte by byte.
-use Rattle.std.proofs.Common.{◌≡◌, ℕ, List, [], ◌∷◌, length, get_or, Some, refl, arith}
-use Rattle.oct_script.specs.Reading.{verb_of}
-use Rattle.oct_script.specs.declared.parser.Verb.TheVariants.{Forget}
+use Rattle.std.proofs.Common.{◌≡◌, ℕ, List, [], ◌∷◌, length, get_or, refl, arith}
 
--- the word `forget`
-pub spells_forget : (w : List ℕ) → length w ≡ 6 →
-    get_or w 0 0 ≡ 102 → get_or w 1 0 ≡ 111 → get_or w 2 0 ≡ 114 → get_or w 3 0 ≡ 103 → get_or w 4 0 ≡ 101 → get_or w 5 0 ≡ 116 →
-    Some Forget ≡ verb_of w
-unfolding verb_of
-spells_forget [] l p q r s t u = absurd (omega arith)
-spells_forget (a ∷ []) l p q r s t u = absurd (omega arith)
-spells_forget (a ∷ b ∷ []) l p q r s t u = absurd (omega arith)
-spells_forget (a ∷ b ∷ c ∷ []) l p q r s t u = absurd (omega arith)
-spells_forget (a ∷ b ∷ c ∷ d ∷ []) l p q r s t u = absurd (omega arith)
-spells_forget (a ∷ b ∷ c ∷ d ∷ e ∷ []) l p q r s t u = absurd (omega arith)
-spells_forget (a ∷ b ∷ c ∷ d ∷ e ∷ f ∷ []) l p q r s t u = rw (p, q, r, s, t, u) refl
-spells_forget (a ∷ b ∷ c ∷ d ∷ e ∷ f ∷ g ∷ w) l p q r s t u = absurd (omega arith)
+-- six bytes
+pub six : (w : List ℕ) (a b c d e f : ℕ) → length w ≡ 6 →
+    get_or w 0 0 ≡ a → get_or w 1 0 ≡ b → get_or w 2 0 ≡ c → get_or w 3 0 ≡ d → get_or w 4 0 ≡ e → get_or w 5 0 ≡ f →
+    w ≡ a ∷ b ∷ c ∷ d ∷ e ∷ f ∷ []
+six [] a b c d e f l p q r s t u = absurd (omega arith)
+six (k ∷ []) a b c d e f l p q r s t u = absurd (omega arith)
+six (k ∷ m ∷ []) a b c d e f l p q r s t u = absurd (omega arith)
+six (k ∷ m ∷ n ∷ []) a b c d e f l p q r s t u = absurd (omega arith)
+six (k ∷ m ∷ n ∷ o ∷ []) a b c d e f l p q r s t u = absurd (omega arith)
+six (k ∷ m ∷ n ∷ o ∷ v ∷ []) a b c d e f l p q r s t u = absurd (omega arith)
+six (k ∷ m ∷ n ∷ o ∷ v ∷ x ∷ []) a b c d e f l p q r s t u = rw (p, q, r, s, t, u) refl
+six (k ∷ m ∷ n ∷ o ∷ v ∷ x ∷ y ∷ w) a b c d e f l p q r s t u = absurd (omega arith)
+
+-- seven bytes
+pub seven : (w : List ℕ) (a b c d e f g : ℕ) → length w ≡ 7 →
+    get_or w 0 0 ≡ a → get_or w 1 0 ≡ b → get_or w 2 0 ≡ c → get_or w 3 0 ≡ d → get_or w 4 0 ≡ e → get_or w 5 0 ≡ f → get_or w 6 0 ≡ g →
+    w ≡ a ∷ b ∷ c ∷ d ∷ e ∷ f ∷ g ∷ []
+seven [] a b c d e f g l p q r s t u v = absurd (omega arith)
+seven (k ∷ w) a b c d e f g l p q r s t u v = rw (p, six w b c d e f g (omega arith) q r s t u v) refl

@@ -3,7 +3,7 @@ use Rattle.std.proofs.Common.{◌≡◌, ℕ, suc, ◌+◌, ◌<◌, ◌≤◌, 
 use Rattle.std.proofs.lemmas.List.{length-take}
 use Rattle.std.proofs.lemmas.List.Sums.{prefix_len-le-length}
 use Rattle.std.specs.List.{prefix_len, filter, slice_split}
-use Rattle.oct_script.specs.Words.{Word, PlacedWord, is_blank, is_in_word, is_word, placed, words_from}
+use Rattle.oct_script.specs.Words.{Word, PlacedWord, is_blank, is_in_word, is_word, placed, words_from, placed_words, first_text}
 
 either : (b : Bool) → (b ≡ true) ⊎ (b ≡ false)
 either true = inl refl
@@ -135,3 +135,13 @@ word_taken column place further line blanks text word rest n m count few front b
     w ∷ words_from k (drop (prefix_len is_in_word text) text)) (sym more)
     ∙ ap (λ x. let w : PlacedWord = record { text = word; column = place } in w ∷ words_from further x)
     (sym (after ∙ ap (λ k. drop k text) size))
+
+-- the bytes between the blanks in front and the next blank are the first word
+pub first_word_is : (line text word : List ℕ) (n m : ℕ) →
+    n ≡ prefix_len is_blank line → n ≤ length line → text ≡ drop n line → m ≡ prefix_len is_in_word text → m ≤ length text → word ≡ take m text →
+    word ≡ first_text (placed_words line)
+first_word_is line text [] n m count few behind size within first =
+    sym (ap first_text (no_word_left 1 line text [] n m count behind size first within refl))
+first_word_is line text (b ∷ word) n m count few behind size within first =
+    sym (ap first_text (word_taken 1 (1 + length (take n line)) (1 + length (take n line) + length (b ∷ word)) line (take n line) text (b ∷ word) (drop m text) n m
+    count few refl behind size first refl (omega arith) refl refl))

@@ -1,16 +1,17 @@
 -- The command of a line.
-use Rattle.std.specs.Prelude.{ℕ, ◌+◌, List, [], ◌∷◌, length, nat_eq, slice_index, if◌then◌else◌, Bool, Option, Some, None, Result, Ok, Err, ⊤}
+use Rattle.std.specs.Prelude.{ℕ, ◌+◌, ◌^◌, ◌<◌, ℤ, pos, ◌≤ℤ◌, ◌<ℤ◌, not, false, List, [], ◌∷◌, length, nat_eq, slice_index, if◌then◌else◌, Bool, Option, Some, None, Result, Ok, Err, IfSome, ⊤, codes, bytes_eq}
 use Rattle.std.specs.List.{filter_map}
 use Rattle.std.specs.Option.{ok_or}
 use Rattle.oct_odds.specs.Odds.{IsSmall}
-use Rattle.oct_script.specs.Grammar.{Form, Ends, behind, grammar}
-use Rattle.oct_script.specs.Words.{Word, PlacedWord, placed_words}
+use Rattle.oct_pose.specs.Reach.{IsInReach}
+use Rattle.oct_script.specs.Grammar.{Form, Ends, behind, forms_of}
+use Rattle.oct_script.specs.Words.{Word, PlacedWord, placed_words, first_text}
 use Rattle.oct_script.specs.declared.command.Syntax.{Syntax}
 use Rattle.oct_script.specs.declared.command.Edit.{Edit}
 use Rattle.oct_script.specs.declared.command.Edit.TheVariants.{Hit, Miss, Add, Set, Forget}
 use Rattle.oct_script.specs.declared.command.Command.{Command}
 use Rattle.oct_script.specs.declared.command.Command.TheVariants as command
-use Rattle.oct_script.specs.declared.command.Command.TheVariants.{Blank, Get, Quit, NotYet}
+use Rattle.oct_script.specs.declared.command.Command.TheVariants.{Blank, Get, Counts, Refresh, Prune, Quit, Scan, Beam, End, NotYet}
 
 -- the fault at a column
 abbrev pub fault : ℕ → Syntax
@@ -42,17 +43,23 @@ command_by forms end (word ∷ words) =
 abbrev pub is_comment : Word → Bool
 is_comment first = nat_eq (slice_index first 0) 35
 
--- the command of a line's words, where the line ends before a column: a line that needs no reply is blank, and one whose first word
--- is that of no form is not built yet
-unfoldable pub command_in : ℕ → List PlacedWord → Result Command Syntax
-command_in end [] = Ok Blank
-command_in end (first ∷ words) =
+-- the command of a line's words, where the line ends before a column, inside the block of a scan or outside: a line that needs no reply
+-- is blank; one whose first word begins a form elsewhere alone is at fault there, and one whose first word begins none is not built yet
+unfoldable pub command_in : Bool → ℕ → List PlacedWord → Result Command Syntax
+command_in inside end [] = Ok Blank
+command_in inside end (first ∷ words) =
+    let here = all_behind first.text (forms_of inside) in
+    let elsewhere = all_behind first.text (forms_of (not inside)) in
     if is_comment first.text then Ok Blank
-    else if_any (all_behind first.text grammar) (command_by (all_behind first.text grammar) end words) (Ok NotYet)
+    else if_any here (command_by here end words) (if_any elsewhere (Err (fault first.column)) (Ok NotYet))
 
--- the command of a line that isn't long, or the column where it leaves the grammar
-unfoldable pub command_of : List ℕ → Result Command Syntax
-command_of line = command_in (length line + 1) (placed_words line)
+-- the command of a line that isn't long, inside the block of a scan or outside, or the column where it leaves the grammar
+unfoldable pub command_of : Bool → List ℕ → Result Command Syntax
+command_of inside line = command_in inside (length line + 1) (placed_words line)
+
+-- a line that opens the block of a scan, whatever its other words are
+abbrev pub opens_scan : List ℕ → Bool
+opens_scan line = bytes_eq (first_text (placed_words line)) (codes "scan")
 
 -- the number in the edit, if any, has a magnitude of at most a million
 abbrev pub IsSmallEdit : Edit → Type 0
@@ -62,10 +69,21 @@ IsSmallEdit (Add n) = IsSmall n
 IsSmallEdit (Set n) = IsSmall n
 IsSmallEdit Forget = ⊤
 
--- the number in the command's edit, if any, has a magnitude of at most a million
+-- a range, if there is one, is from 0 and below ten thousand kilometres, in nanometres
+abbrev pub IsRange : Option ℤ → Type 0
+IsRange range = IfSome range (λ r. (pos 0 ≤ℤ r) × (r <ℤ pos (10 ^ 16)))
+
+-- the numbers in a command are small: that of an edit has a magnitude of at most a million, a depth has at most seven digits, and the points
+-- of a scan and its range stay below ten thousand kilometres
 abbrev pub IsSmallCommand : Command → Type 0
 IsSmallCommand Blank = ⊤
-IsSmallCommand (command.Edit p e) = IsSmallEdit e
-IsSmallCommand (Get p) = ⊤
+IsSmallCommand (command.Edit p e lazy) = IsSmallEdit e
+IsSmallCommand (Get p depth) = depth < 10000000
+IsSmallCommand Counts = ⊤
+IsSmallCommand Refresh = ⊤
+IsSmallCommand Prune = ⊤
 IsSmallCommand Quit = ⊤
+IsSmallCommand (Scan head) = IsInReach head.t × IsRange head.range
+IsSmallCommand (Beam p) = IsInReach p
+IsSmallCommand End = ⊤
 IsSmallCommand NotYet = ⊤

@@ -1,16 +1,16 @@
 -- How the parser reads the words of a line, one after another. No public clause rests on this.
-use Rattle.std.specs.Prelude.{ℕ, ℤ, List, [], ◌∷◌, if◌then◌else◌, Option, Some, None, Result, Ok, Err, codes, bytes_eq}
+use Rattle.std.specs.Prelude.{ℕ, ℤ, Bool, true, false, not, List, [], ◌∷◌, if◌then◌else◌, Option, Some, None, Result, Ok, Err, codes, bytes_eq}
 use Rattle.oct_key.specs.declared.point.Point.{Point}
 use Rattle.oct_script.specs.Commands.{fault, is_comment}
-use Rattle.oct_script.specs.Grammar.{length_of, number_of, depth_of, query}
+use Rattle.oct_script.specs.Grammar.{length_of, number_of, depth_of, component_of, range_of}
 use Rattle.oct_script.specs.Words.{Word, PlacedWord}
 use Rattle.oct_script.specs.declared.command.Syntax.{Syntax}
 use Rattle.oct_script.specs.declared.command.Edit.{Edit}
 use Rattle.oct_script.specs.declared.command.Edit.TheVariants as edit
 use Rattle.oct_script.specs.declared.command.Command.{Command}
 use Rattle.oct_script.specs.declared.command.Command.TheVariants as command
-use Rattle.oct_script.specs.declared.parser.Verb.{Verb}
-use Rattle.oct_script.specs.declared.parser.Verb.TheVariants.{Hit, Miss, Add, Set, Forget, Get, Quit}
+use Rattle.oct_script.specs.declared.verbs.Verb.{Verb}
+use Rattle.oct_script.specs.declared.verbs.Verb.TheVariants.{Hit, Miss, Add, Set, Forget, Get, Counts, Refresh, Prune, Quit, Scan, Beam, End}
 
 -- the words of a line that are still to be read, and the column behind the line
 pub record Unread : Type 0 where
@@ -23,13 +23,13 @@ abbrev pub ◌>>=◌ : {A B : Type 0} → Result A Syntax → (A → Result B Sy
 Ok a >>= next = next a
 Err s >>= next = Err s
 
--- a number and the words behind it, or, where there is none, the fault at a column
-abbrev pub number_or : ℕ → List PlacedWord → Option ℤ → Result (ℤ × List PlacedWord) Syntax
+-- what a word spells and the words behind it, or, where it spells nothing, the fault at a column
+abbrev pub number_or : {A : Type 0} → ℕ → List PlacedWord → Option A → Result (A × List PlacedWord) Syntax
 number_or column words None = Err (fault column)
 number_or column words (Some n) = Ok (n, words)
 
--- the number that the next word spells, and the words behind it
-unfoldable pub number_in : (Word → Option ℤ) → ℕ → List PlacedWord → Result (ℤ × List PlacedWord) Syntax
+-- what the next word spells, and the words behind it
+unfoldable pub number_in : {A : Type 0} → (Word → Option A) → ℕ → List PlacedWord → Result (A × List PlacedWord) Syntax
 number_in read end [] = Err (fault end)
 number_in read end (word ∷ words) = number_or word.column words (read word.text)
 
@@ -41,21 +41,36 @@ point_in end words = do
   z ← number_in length_of end y.1
   Ok (record { x = x.0; y = y.0; z = z.0 }, z.1)
 
--- no word more
-unfoldable pub end_in : Command → List PlacedWord → Result Command Syntax
-end_in c [] = Ok c
-end_in c (word ∷ words) = Err (fault word.column)
+-- the fault of a word where the line should have ended
+unfoldable pub excess : List PlacedWord → Option Syntax
+excess [] = None
+excess (word ∷ words) = Some (fault word.column)
 
--- what may stand behind an edit: nothing, or `lazy`
-unfoldable pub edit_end_in : Command → List PlacedWord → Result Command Syntax
-edit_end_in c [] = Ok c
-edit_end_in c (word ∷ words) = if bytes_eq word.text (codes "lazy") then end_in command.NotYet words else Err (fault word.column)
+-- this answer, unless there is a fault
+abbrev pub unless_fault : {A : Type 0} → A → Option Syntax → Result A Syntax
+unless_fault a None = Ok a
+unless_fault a (Some s) = Err s
+
+-- no word more
+abbrev pub end_in : {A : Type 0} → A → List PlacedWord → Result A Syntax
+end_in a words = unless_fault a (excess words)
+
+-- nothing, or `lazy`: whether it's there
+unfoldable pub lazy_in : List PlacedWord → Result Bool Syntax
+lazy_in [] = Ok false
+lazy_in (word ∷ words) = if bytes_eq word.text (codes "lazy") then end_in true words else Err (fault word.column)
+
+-- [lazy], behind an edit of a point
+unfoldable pub edit_end_in : Point → Edit → List PlacedWord → Result Command Syntax
+edit_end_in p e words = do
+  lazy ← lazy_in words
+  Ok (command.Edit p e lazy)
 
 -- X Y Z [lazy]
 unfoldable pub edit_in : Edit → ℕ → List PlacedWord → Result Command Syntax
 edit_in e end words = do
   p ← point_in end words
-  edit_end_in (command.Edit p.0 e) p.1
+  edit_end_in p.0 e p.1
 
 -- X Y Z N
 unfoldable pub point_number_in : ℕ → List PlacedWord → Result (Point × ℤ × List PlacedWord) Syntax
@@ -68,14 +83,38 @@ point_number_in end words = do
 unfoldable pub number_edit_in : (ℤ → Edit) → ℕ → List PlacedWord → Result Command Syntax
 number_edit_in edit end words = do
   r ← point_number_in end words
-  edit_end_in (command.Edit r.0 (edit r.1)) r.2
+  edit_end_in r.0 (edit r.1) r.2
 
 -- X Y Z D
 unfoldable pub query_in : ℕ → List PlacedWord → Result Command Syntax
 query_in end words = do
   p ← point_in end words
   d ← number_in depth_of end p.1
-  end_in (query p.0 d.0) d.1
+  end_in (command.Get p.0 d.0) d.1
+
+-- Q Q Q Q
+unfoldable pub rotation_in : ℕ → List PlacedWord → Result (ℤ × ℤ × ℤ × ℤ × List PlacedWord) Syntax
+rotation_in end words = do
+  w ← number_in component_of end words
+  x ← number_in component_of end w.1
+  y ← number_in component_of end x.1
+  z ← number_in component_of end y.1
+  Ok (w.0, x.0, y.0, z.0, z.1)
+
+-- X Y Z Q Q Q Q RANGE [lazy]
+unfoldable pub scan_in : ℕ → List PlacedWord → Result Command Syntax
+scan_in end words = do
+  t ← point_in end words
+  q ← rotation_in end t.1
+  range ← number_in range_of end q.4
+  lazy ← lazy_in range.1
+  Ok (command.Scan (record { t = t.0; w = q.0; x = q.1; y = q.2; z = q.3; range = range.0; lazy = lazy }))
+
+-- X Y Z, in the block of a scan
+unfoldable pub beam_in : ℕ → List PlacedWord → Result Command Syntax
+beam_in end words = do
+  p ← point_in end words
+  end_in (command.Beam p.0) p.1
 
 -- the first word that this one is
 unfoldable pub verb_of : Word → Option Verb
@@ -86,8 +125,20 @@ verb_of word =
     else if bytes_eq word (codes "set") then Some Set
     else if bytes_eq word (codes "forget") then Some Forget
     else if bytes_eq word (codes "get") then Some Get
+    else if bytes_eq word (codes "counts") then Some Counts
+    else if bytes_eq word (codes "refresh") then Some Refresh
+    else if bytes_eq word (codes "prune") then Some Prune
     else if bytes_eq word (codes "quit") then Some Quit
+    else if bytes_eq word (codes "scan") then Some Scan
+    else if bytes_eq word (codes "p") then Some Beam
+    else if bytes_eq word (codes "end") then Some End
     else None
+
+-- the word may begin a line inside the block of a scan, or outside
+abbrev pub stands : Bool → Verb → Bool
+stands inside Beam = inside
+stands inside End = inside
+stands inside _ = not inside
 
 -- what stands behind a first word
 unfoldable pub behind_verb : Verb → ℕ → List PlacedWord → Result Command Syntax
@@ -97,14 +148,21 @@ behind_verb Add end words = number_edit_in edit.Add end words
 behind_verb Set end words = number_edit_in edit.Set end words
 behind_verb Forget end words = edit_in edit.Forget end words
 behind_verb Get end words = query_in end words
+behind_verb Counts end words = end_in command.Counts words
+behind_verb Refresh end words = end_in command.Refresh words
+behind_verb Prune end words = end_in command.Prune words
 behind_verb Quit end words = end_in command.Quit words
+behind_verb Scan end words = scan_in end words
+behind_verb Beam end words = beam_in end words
+behind_verb End end words = end_in command.End words
 
--- the words behind a first word that is one of these, or of a command that isn't built
-abbrev pub behind_first : Option Verb → ℕ → List PlacedWord → Result Command Syntax
-behind_first None end words = Ok command.NotYet
-behind_first (Some verb) end words = behind_verb verb end words
+-- the words behind a first word at a column, which is one of these, or begins no command that is built
+unfoldable pub behind_first : Bool → ℕ → Option Verb → ℕ → List PlacedWord → Result Command Syntax
+behind_first inside column None end words = Ok command.NotYet
+behind_first inside column (Some verb) end words = if stands inside verb then behind_verb verb end words else Err (fault column)
 
 -- a line
-unfoldable pub line_in : ℕ → List PlacedWord → Result Command Syntax
-line_in end [] = Ok command.Blank
-line_in end (first ∷ words) = if is_comment first.text then Ok command.Blank else behind_first (verb_of first.text) end words
+unfoldable pub line_in : Bool → ℕ → List PlacedWord → Result Command Syntax
+line_in inside end [] = Ok command.Blank
+line_in inside end (first ∷ words) =
+    if is_comment first.text then Ok command.Blank else behind_first inside first.column (verb_of first.text) end words

@@ -36,3 +36,8 @@ words_from column text = filter (λ part. is_word part.text) (placed column (sli
 -- the words of a line
 abbrev pub placed_words : List ℕ → List PlacedWord
 placed_words line = words_from 1 line
+
+-- the first of these words, or no bytes where there is none
+abbrev pub first_text : List PlacedWord → Word
+first_text [] = []
+first_text (first ∷ words) = first.text

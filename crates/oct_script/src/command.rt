@@ -17,18 +17,47 @@ pub enum Edit {
     Forget,
 }
 
+/// The head of a scan: where the sensor was, how it was turned, and how far its beams count.
+#[derive(Clone, Copy, Debug, PartialEq, Eq)]
+pub struct ScanHead {
+    /// Where the sensor was, in nanometres.
+    pub t: Point,
+    /// The quaternion that turns what the sensor saw into the map, `w` being its real part. All four may be 0.
+    pub w: i16,
+    pub x: i16,
+    pub y: i16,
+    pub z: i16,
+    /// Where a longer beam is cut, in nanometres, if beams are cut at all.
+    pub range: Option<i64>,
+    /// Whether inner values are left to a later refresh.
+    pub lazy: bool,
+}
+
 /// What a line asks for.
 #[derive(Clone, Copy, Debug, PartialEq, Eq)]
 pub enum Command {
     /// Nothing: an empty line, one of blanks, or a comment.
     Blank,
-    /// An edit of the voxel that holds the point `p`.
-    Edit { p: Point, e: Edit },
-    /// The value of the voxel that holds the point `p`.
-    Get { p: Point },
+    /// An edit of the voxel that holds the point `p`. A lazy one leaves the inner values to a later refresh.
+    Edit { p: Point, e: Edit, lazy: bool },
+    /// A scan, whose block begins behind this line.
+    Scan(ScanHead),
+    /// A point that the open scan saw, from the sensor.
+    Beam(Point),
+    /// The end of the open scan's block.
+    End,
+    /// The value of the block of this depth that holds the point `p`. The depth has at most seven digits, and may be
+    /// above that of a voxel.
+    Get { p: Point, depth: u32 },
+    /// The numbers of groups and nodes.
+    Counts,
+    /// All inner values are made anew.
+    Refresh,
+    /// All groups of equal leaves collapse.
+    Prune,
     /// The end of the session.
     Quit,
-    /// A command, or a form of one, that isn't built yet.
+    /// A command that isn't built yet.
     NotYet,
 }
 

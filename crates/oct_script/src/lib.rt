@@ -1,7 +1,8 @@
 //! Scripts: their lines, the commands that the lines ask for, and the texts of the replies.
 //!
 //! A script is bytes. [`Lines`] takes them in pieces, as they come, and holds the line that is being read; [`parse`]
-//! reads a line as a [`Command`]; [`push_reply`] appends the text of a [`Reply`]. What a command does isn't known here.
+//! reads a line as a [`Command`]; [`push_reply`] appends the text of a [`Reply`]. What a command does isn't known here,
+//! nor whether a scan is open: the caller says so.
 //!
 //! What the contracts promise:
 //!
@@ -10,26 +11,32 @@
 //!   long, and of it nothing more is kept or known. What remains at the end is the last line, where it has any byte.
 //! - [`parse`] answers what the grammar says, to the column: `grammar` in `specs/Grammar.antt` is a table of forms, word by
 //!   word, and `command_of` in `specs/Commands.antt` goes through a line's words with the forms that may still stand. The
-//!   first word that none of them takes is the fault; where a word is missing it is the end of the line. `specs/Faults.antt`
+//!   first word that none of them takes is the fault; where a word is missing it is the end of the line. Inside the block of
+//!   a scan `block_grammar` stands in its place, and a first word of the other table is the fault. `specs/Faults.antt`
 //!   says the same of whole lines: which form a line has, and behind which longest front of it no form goes on.
+//! - [`opens_scan`] tells whether a line's first word is `scan`, whatever its other words are: such a line opens a block.
 //! - [`push_reply`] appends exactly `reply_text` of `specs/Replies.antt`, or nothing where memory runs out.
 //!
 //! `lines` keeps a line in an `ArrayVec` of 4,096 bytes, and `words` goes through it from the left; neither allocates.
-//! `parser` reads word by word, with one small function for each part of a form, in one pass. `specs/Reading.antt` says
-//! how, for the proofs; the grammar doesn't rest on it.
+//! `numbers` says what a word spells, and `verbs` which command a first word begins. `parser` reads word by word, with
+//! one small function for each part of a form, in one pass. `specs/Reading.antt` says how, for the proofs; the grammar
+//! doesn't rest on it.
 //!
 //! Sessions stand on this crate.
 #![tactic(auto)]
 
 mod command;
 mod lines;
+mod numbers;
 mod parser;
 mod reply;
 #[cfg(test)]
 mod tests;
+mod verbs;
 mod words;
 
-pub use command::{Command, Edit, Syntax};
+pub use command::{Command, Edit, ScanHead, Syntax};
 pub use lines::{Fed, LONGEST_LINE, Lines};
-pub use parser::{number_of, parse};
-pub use reply::{Refusal, Reply, push_reply};
+pub use numbers::number_of;
+pub use parser::{opens_scan, parse};
+pub use reply::{Refusal, Reply, ScanDone, push_reply};

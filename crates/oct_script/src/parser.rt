@@ -1,95 +1,19 @@
 //! How a line is read as a command.
-ghost use Rattle.std.specs.Prelude.{◌≡◌, ◌+◌, ◌≤◌, ℤ, length, MatchResult, IfOk, IfErr, IfSome, Some, Ok, Err};
+ghost use Rattle.std.specs.Prelude.{◌≡◌, ◌+◌, ◌^◌, ◌<◌, ◌≤◌, unsigned_abs, length, not, MatchResult, IfOk, IfErr, Some, None, Ok, Err};
 ghost use Rattle.oct_odds.specs.Odds.{IsSmall};
-ghost use Rattle.oct_script.specs.Words.{Word, placed_words};
-ghost use Rattle.oct_script.specs.Grammar.{length_of, number_of, depth_of, query, grammar};
+ghost use Rattle.oct_pose.specs.Reach.{IsInReach};
+ghost use Rattle.oct_script.specs.Words.{placed_words};
+ghost use Rattle.oct_script.specs.Grammar.{length_of, number_of, depth_of, component_of, range_of, forms_of};
 ghost use Rattle.oct_script.specs.Faults.{IsMeant, LeavesAt};
-ghost use Rattle.oct_num.specs.Sign.{without_minus};
-ghost use Rattle.oct_script.specs.Commands.{command_of, IsSmallEdit, IsSmallCommand};
-ghost use Rattle.oct_script.specs.Reading.{number_in, point_in, point_number_in, end_in, edit_end_in, edit_in, number_edit_in, query_in, verb_of, behind_verb, line_in};
+ghost use Rattle.oct_script.specs.Commands.{command_of, opens_scan, IsSmallEdit, IsRange, IsSmallCommand};
+ghost use Rattle.oct_script.specs.Reading.{number_in, point_in, point_number_in, rotation_in, excess, end_in, lazy_in, edit_end_in, edit_in, number_edit_in, query_in, scan_in, beam_in, verb_of, behind_verb, behind_first, line_in};
 
-use crate::command::{Command, Edit, Syntax};
+use crate::command::{Command, Edit, ScanHead, Syntax};
 use crate::lines::LONGEST_LINE;
-use crate::words::Words;
+use crate::numbers::{component_of, depth_of, length_of, number_of, range_of};
+use crate::verbs::{Verb, verb_of};
+use crate::words::{WordAt, Words, first_word};
 use oct_key::Point;
-use oct_num::{read_metres, read_whole};
-
-/// The greatest magnitude of an N, a number of log-odds in a line.
-const GREATEST_NUMBER: u64 = 1_000_000;
-
-/// The most digits of an N or a D.
-const MOST_DIGITS: usize = 7;
-
-/// The first word of a command that is built.
-#[derive(Clone, Copy, Debug, PartialEq, Eq)]
-enum Verb {
-    Hit,
-    Miss,
-    Add,
-    Set,
-    Forget,
-    Get,
-    Quit,
-}
-
-/// The verb that a word is.
-#[tactic(auto, unfolding(crate::specs::Reading::verb_of))]
-fn verb_of(word: &[u8]) -> Option<Verb>
-    ensures { result ≡ verb_of word.now }
-{
-    match word {
-        b"hit" => Some(Verb::Hit),
-        b"miss" => Some(Verb::Miss),
-        b"add" => Some(Verb::Add),
-        b"set" => Some(Verb::Set),
-        b"forget" => Some(Verb::Forget),
-        b"get" => Some(Verb::Get),
-        b"quit" => Some(Verb::Quit),
-        _ => None,
-    }
-}
-
-/// The length that an X, Y or Z spells.
-fn length_of(word: &[u8]) -> Option<i64>
-    ensures { result ≡ length_of word.now }
-{
-    read_metres(word).ok()
-}
-
-/// The digits of a text that may begin with a minus.
-fn without_minus(text: &[u8]) -> &[u8]
-    ensures { result.now ≡ without_minus text.now }
-{
-    match text {
-        [b'-', digits @ ..] => digits,
-        _ => text,
-    }
-}
-
-/// The number that a word spells: an optional `-` and one to seven digits, of a magnitude of at most 1,000,000.
-pub fn number_of(word: &[u8]) -> Option<i32>
-    ensures exact { result ≡ number_of word.now }
-    ensures small { IfSome result IsSmall }
-{
-    if without_minus(word).len() > MOST_DIGITS {
-        return None;
-    }
-    let n = read_whole(word)?;
-    if n.unsigned_abs() > GREATEST_NUMBER {
-        return None;
-    }
-    Some(n as i32)
-}
-
-/// The depth that a D spells.
-fn depth_of(word: &[u8]) -> Option<i64>
-    ensures { result ≡ depth_of word.now }
-{
-    if word.len() > MOST_DIGITS || word.first() == Some(&b'-') {
-        return None;
-    }
-    read_whole(word)
-}
 
 /// Reads an X, a Y or a Z.
 #[tactic(auto, unfolding(crate::specs::Reading::number_in))]
@@ -97,6 +21,7 @@ fn read_length(words: &mut Words<'_>) -> Result<i64, Syntax>
     ensures exact { MatchResult result (λ n. number_in length_of words.old.end words.old.words ≡ Ok (n, words.new.words))
         (λ s. number_in length_of words.old.end words.old.words ≡ Err s) }
     ensures end { words.new.end ≡ words.old.end }
+    ensures reach { IfOk result (λ n. unsigned_abs n < 10 ^ 16) }
 {
     let word = words.take_word()?;
     length_of(word.text).ok_or(word.fault())
@@ -116,13 +41,36 @@ fn read_number(words: &mut Words<'_>) -> Result<i32, Syntax>
 
 /// Reads a D.
 #[tactic(auto, unfolding(crate::specs::Reading::number_in))]
-fn read_depth(words: &mut Words<'_>) -> Result<i64, Syntax>
+fn read_depth(words: &mut Words<'_>) -> Result<u32, Syntax>
     ensures exact { MatchResult result (λ n. number_in depth_of words.old.end words.old.words ≡ Ok (n, words.new.words))
         (λ s. number_in depth_of words.old.end words.old.words ≡ Err s) }
     ensures end { words.new.end ≡ words.old.end }
+    ensures small { IfOk result (λ depth. depth < 10000000) }
 {
     let word = words.take_word()?;
     depth_of(word.text).ok_or(word.fault())
+}
+
+/// Reads a Q.
+#[tactic(auto, unfolding(crate::specs::Reading::number_in))]
+fn read_component(words: &mut Words<'_>) -> Result<i16, Syntax>
+    ensures exact { MatchResult result (λ n. number_in component_of words.old.end words.old.words ≡ Ok (n, words.new.words))
+        (λ s. number_in component_of words.old.end words.old.words ≡ Err s) }
+    ensures end { words.new.end ≡ words.old.end }
+{
+    let word = words.take_word()?;
+    component_of(word.text).ok_or(word.fault())
+}
+
+/// Reads a RANGE.
+#[tactic(auto, unfolding(crate::specs::Reading::number_in))]
+fn read_range(words: &mut Words<'_>) -> Result<Option<i64>, Syntax>
+    ensures exact { MatchResult result (λ range. number_in range_of words.old.end words.old.words ≡ Ok (range, words.new.words))
+        (λ s. number_in range_of words.old.end words.old.words ≡ Err s) }
+    ensures within { IfOk result IsRange }
+{
+    let word = words.take_word()?;
+    range_of(word.text).ok_or(word.fault())
 }
 
 /// Reads `X Y Z`.
@@ -131,6 +79,7 @@ fn read_point(words: &mut Words<'_>) -> Result<Point, Syntax>
     ensures exact { MatchResult result (λ p. point_in words.old.end words.old.words ≡ Ok (p, words.new.words))
         (λ s. point_in words.old.end words.old.words ≡ Err s) }
     ensures end { words.new.end ≡ words.old.end }
+    ensures reach { IfOk result IsInReach }
 {
     let x = read_length(words)?;
     let y = read_length(words)?;
@@ -138,33 +87,41 @@ fn read_point(words: &mut Words<'_>) -> Result<Point, Syntax>
     Ok(Point { x, y, z })
 }
 
-/// Reads the end of a line, whose command is known.
-#[tactic(auto, unfolding(crate::specs::Reading::end_in))]
-fn read_end(command: Command, words: &mut Words<'_>) -> Result<Command, Syntax>
-    requires { IsSmallCommand command }
-    ensures exact { result ≡ end_in command words.old.words }
-    ensures small { IfOk result IsSmallCommand }
+/// Reads the end of a line.
+#[tactic(auto, unfolding(crate::specs::Reading::excess))]
+fn read_end(words: &mut Words<'_>) -> Result<(), Syntax>
+    ensures exact { MatchResult result (λ _. excess words.old.words ≡ None) (λ s. excess words.old.words ≡ Some s) }
 {
     match words.next_word() {
-        None => Ok(command),
+        None => Ok(()),
         Some(word) => Err(word.fault()),
     }
 }
 
-/// Reads what may stand behind an edit: nothing, or `lazy`.
-#[tactic(auto, unfolding(crate::specs::Reading::edit_end_in))]
-fn read_edit_end(edit: Command, words: &mut Words<'_>) -> Result<Command, Syntax>
-    requires { IsSmallCommand edit }
-    ensures exact { result ≡ edit_end_in edit words.old.words }
-    ensures small { IfOk result IsSmallCommand }
+/// Reads the end of a line, or `lazy` before it: whether it's there.
+#[tactic(auto, unfolding(crate::specs::Reading::lazy_in))]
+fn read_lazy(words: &mut Words<'_>) -> Result<bool, Syntax>
+    ensures exact { MatchResult result (λ lazy. lazy_in words.old.words ≡ Ok lazy) (λ s. lazy_in words.old.words ≡ Err s) }
 {
     let Some(word) = words.next_word() else {
-        return Ok(edit);
+        return Ok(false);
     };
     if word.text != b"lazy".as_slice() {
         return Err(word.fault());
     }
-    read_end(Command::NotYet, words)
+    read_end(words)?;
+    Ok(true)
+}
+
+/// Reads `[lazy]`, behind an edit of a point.
+#[tactic(auto, unfolding(crate::specs::Reading::edit_end_in))]
+fn read_edit_end(p: Point, e: Edit, words: &mut Words<'_>) -> Result<Command, Syntax>
+    requires { IsSmallEdit e }
+    ensures exact { result ≡ edit_end_in p e words.old.words }
+    ensures small { IfOk result IsSmallCommand }
+{
+    let lazy = read_lazy(words)?;
+    Ok(Command::Edit { p, e, lazy })
 }
 
 /// Reads `X Y Z [lazy]`, behind the verb of an edit.
@@ -175,7 +132,7 @@ fn read_edit(e: Edit, words: &mut Words<'_>) -> Result<Command, Syntax>
     ensures small { IfOk result IsSmallCommand }
 {
     let p = read_point(words)?;
-    read_edit_end(Command::Edit { p, e }, words)
+    read_edit_end(p, e, words)
 }
 
 /// Reads `X Y Z N`.
@@ -198,7 +155,7 @@ fn read_add(words: &mut Words<'_>) -> Result<Command, Syntax>
     ensures small { IfOk result IsSmallCommand }
 {
     let (p, n) = read_point_number(words)?;
-    read_edit_end(Command::Edit { p, e: Edit::Add(n) }, words)
+    read_edit_end(p, Edit::Add(n), words)
 }
 
 /// Reads `X Y Z N [lazy]`, behind `set`.
@@ -208,19 +165,7 @@ fn read_set(words: &mut Words<'_>) -> Result<Command, Syntax>
     ensures small { IfOk result IsSmallCommand }
 {
     let (p, n) = read_point_number(words)?;
-    read_edit_end(Command::Edit { p, e: Edit::Set(n) }, words)
-}
-
-/// The query of a point at a depth, of which only that of a voxel is built.
-fn query(p: Point, depth: i64) -> Command
-    ensures exact { result ≡ query p depth }
-    ensures small { IsSmallCommand result }
-{
-    if depth == 16 {
-        Command::Get { p }
-    } else {
-        Command::NotYet
-    }
+    read_edit_end(p, Edit::Set(n), words)
 }
 
 /// Reads `X Y Z D`, behind `get`.
@@ -231,7 +176,64 @@ fn read_query(words: &mut Words<'_>) -> Result<Command, Syntax>
 {
     let p = read_point(words)?;
     let depth = read_depth(words)?;
-    read_end(query(p, depth), words)
+    read_end(words)?;
+    Ok(Command::Get { p, depth })
+}
+
+/// Reads `Q Q Q Q`, the numbers of a quaternion from its real part on.
+#[tactic(auto, unfolding(crate::specs::Reading::rotation_in))]
+fn read_rotation(words: &mut Words<'_>) -> Result<(i16, i16, i16, i16), Syntax>
+    ensures exact { MatchResult result (λ q. rotation_in words.old.end words.old.words ≡ Ok (q.0, q.1, q.2, q.3, words.new.words))
+        (λ s. rotation_in words.old.end words.old.words ≡ Err s) }
+    ensures end { words.new.end ≡ words.old.end }
+{
+    let w = read_component(words)?;
+    let x = read_component(words)?;
+    let y = read_component(words)?;
+    let z = read_component(words)?;
+    Ok((w, x, y, z))
+}
+
+/// Reads `X Y Z Q Q Q Q RANGE [lazy]`, behind `scan`.
+#[tactic(auto, unfolding(crate::specs::Reading::scan_in))]
+fn read_scan(words: &mut Words<'_>) -> Result<Command, Syntax>
+    ensures exact { result ≡ scan_in words.old.end words.old.words }
+    ensures small { IfOk result IsSmallCommand }
+{
+    let t = read_point(words)?;
+    let (w, x, y, z) = read_rotation(words)?;
+    let range = read_range(words)?;
+    let lazy = read_lazy(words)?;
+    Ok(Command::Scan(ScanHead {
+        t,
+        w,
+        x,
+        y,
+        z,
+        range,
+        lazy,
+    }))
+}
+
+/// Reads `X Y Z`, behind `p`.
+#[tactic(auto, unfolding(crate::specs::Reading::beam_in))]
+fn read_beam(words: &mut Words<'_>) -> Result<Command, Syntax>
+    ensures exact { result ≡ beam_in words.old.end words.old.words }
+    ensures small { IfOk result IsSmallCommand }
+{
+    let p = read_point(words)?;
+    read_end(words)?;
+    Ok(Command::Beam(p))
+}
+
+/// Reads the end of a line whose one word is its command.
+fn read_alone(command: Command, words: &mut Words<'_>) -> Result<Command, Syntax>
+    requires { IsSmallCommand command }
+    ensures exact { result ≡ end_in command words.old.words }
+    ensures small { IfOk result IsSmallCommand }
+{
+    read_end(words)?;
+    Ok(command)
 }
 
 /// Reads what stands behind a verb.
@@ -247,14 +249,39 @@ fn read_behind(verb: Verb, words: &mut Words<'_>) -> Result<Command, Syntax>
         Verb::Set => read_set(words),
         Verb::Forget => read_edit(Edit::Forget, words),
         Verb::Get => read_query(words),
-        Verb::Quit => read_end(Command::Quit, words),
+        Verb::Counts => read_alone(Command::Counts, words),
+        Verb::Refresh => read_alone(Command::Refresh, words),
+        Verb::Prune => read_alone(Command::Prune, words),
+        Verb::Quit => read_alone(Command::Quit, words),
+        Verb::Scan => read_scan(words),
+        Verb::Beam => read_beam(words),
+        Verb::End => read_alone(Command::End, words),
     }
+}
+
+/// Reads what stands behind the first word of a line.
+#[tactic(auto, unfolding(crate::specs::Reading::behind_first))]
+fn read_behind_first(
+    first: &WordAt<'_>,
+    inside: bool,
+    words: &mut Words<'_>,
+) -> Result<Command, Syntax>
+    ensures exact { result ≡ behind_first inside first.now.column (verb_of first.now.text.now) words.old.end words.old.words }
+    ensures small { IfOk result IsSmallCommand }
+{
+    let Some(verb) = verb_of(first.text) else {
+        return Ok(Command::NotYet);
+    };
+    if !verb.stands(inside) {
+        return Err(first.fault());
+    }
+    read_behind(verb, words)
 }
 
 /// Reads a line from its first word on.
 #[tactic(auto, unfolding(crate::specs::Reading::line_in))]
-fn read_line(words: &mut Words<'_>) -> Result<Command, Syntax>
-    ensures exact { result ≡ line_in words.old.end words.old.words }
+fn read_line(inside: bool, words: &mut Words<'_>) -> Result<Command, Syntax>
+    ensures exact { result ≡ line_in inside words.old.end words.old.words }
     ensures small { IfOk result IsSmallCommand }
 {
     let Some(first) = words.next_word() else {
@@ -263,25 +290,29 @@ fn read_line(words: &mut Words<'_>) -> Result<Command, Syntax>
     if first.text.first() == Some(&b'#') {
         return Ok(Command::Blank);
     }
-    match verb_of(first.text) {
-        None => Ok(Command::NotYet),
-        Some(verb) => read_behind(verb, words),
-    }
+    read_behind_first(&first, inside, words)
 }
 
-/// Reads a line, which isn't long, as a command of the script.
+/// Reads a line, which isn't long, as a command of the script. It stands inside the block of an open scan, or outside.
 ///
 /// A line that needs no reply is [`Command::Blank`]: an empty line, one of blanks, and a comment. Any other line whose
-/// first word is none of `hit`, `miss`, `add`, `set`, `forget`, `get` and `quit` is [`Command::NotYet`], and so are the
-/// forms that aren't built: an edit with `lazy`, and `get` at a depth other than 16. A line that isn't in the grammar is
-/// a [`Syntax`], with the column of the first word that can't stand there, or one more than the line's length where a
-/// word is missing.
-pub fn parse(line: &[u8]) -> Result<Command, Syntax>
+/// first word begins no form of the grammar, here or elsewhere, is [`Command::NotYet`]. A line that isn't in the grammar
+/// is a [`Syntax`], with the column of the first word that can't stand there, or one more than the line's length where a
+/// word is missing. Inside a block only `p X Y Z` and `end` are in the grammar, and outside they aren't.
+pub fn parse(line: &[u8], inside: bool) -> Result<Command, Syntax>
     requires { length line.now ≤ LONGEST_LINE }
-    ensures exact { result ≡ command_of line.now }
-    ensures means { IfOk result (IsMeant grammar (placed_words line.now)) }
-    ensures leaves { IfErr result (λ s. LeavesAt grammar (length line.now + 1) (placed_words line.now) s.column) }
+    ensures exact { result ≡ command_of inside line.now }
+    ensures means { IfOk result (IsMeant (forms_of inside) (forms_of (not inside)) (placed_words line.now)) }
+    ensures leaves { IfErr result (λ s.
+        LeavesAt (forms_of inside) (forms_of (not inside)) (length line.now + 1) (placed_words line.now) s.column) }
     ensures small { IfOk result IsSmallCommand }
 {
-    read_line(&mut Words::new(line))
+    read_line(inside, &mut Words::new(line))
+}
+
+/// Whether a line opens the block of a scan, if it isn't long: whether its first word is `scan`, whatever its other words are.
+pub fn opens_scan(line: &[u8]) -> bool
+    ensures { result ≡ opens_scan line.now }
+{
+    first_word(line) == b"scan".as_slice()
 }

@@ -2,32 +2,62 @@
 ghost use Rattle.std.specs.Prelude.{◌≡◌, ◌++◌, OnOk, OnErr, Option, Some, None, decimal, take, vec_len};
 ghost use Rattle.oct_script.specs.Replies.{class_name, refusal_text, reply_text};
 
-use itoa::Buffer;
+use itoa::{Buffer, Integer};
 use oct_num::{Memory, push_whole};
 use oct_odds::Class;
+use oct_query::Counts;
 
-/// Why a line was refused.
+/// How many voxels a scan hit, and how many it freed.
+#[derive(Clone, Copy, Debug, PartialEq, Eq)]
+pub struct ScanDone {
+    pub hits: u64,
+    pub frees: u64,
+}
+
+/// Why a line or the block of a scan was refused.
 #[derive(Clone, Copy, Debug, PartialEq, Eq)]
 pub enum Refusal {
+    /// The numbers of the scan's quaternion are all 0.
+    ZeroQuaternion,
+    /// The scan's origin lies outside the map.
+    OriginOutside,
+    /// The beam to the point of this index, from 0 on, ends outside the map.
+    PointOutside { index: u64 },
+    /// With the beam to the point of this index, from 0 on, the beams meet more voxels than the map allows: so many.
+    TooManyCells { index: u64, cells: u64 },
+    /// The map is stale, and the depth is that of no voxel.
+    Stale,
+    /// These groups and those that the command may need are more than the map may have.
+    Full { groups: u64, need: u128 },
     /// The point of this number, from 1 on, lies outside the map.
     Outside { point: u8 },
+    /// The depth is above that of a voxel.
+    BadDepth,
     /// The line of this number, from 1 on, isn't in the grammar from this column on.
     Syntax { line: u64, column: u32 },
     /// The line of this number, from 1 on, has more than 4,096 bytes.
     LongLine { line: u64 },
+    /// The script ended inside the scan block that began on the line of this number, from 1 on.
+    OpenScan { line: u64 },
+    /// The point on the line of this number, from 1 on, is one more than a scan may have.
+    TooManyPoints { line: u64 },
     /// The command isn't built yet.
     NotYet,
 }
 
-/// The reply to a line.
+/// The reply to a line or to the block of a scan.
 #[derive(Clone, Copy, Debug, PartialEq, Eq)]
 pub enum Reply {
     /// The command was done.
     Ok,
-    /// The value of a voxel in thousandths of log-odds, and its class.
+    /// The value of a voxel or a block in thousandths of log-odds, and its class.
     Known { value: i32, class: Class },
-    /// The voxel has no value.
+    /// Nothing is known of the voxel or the block.
     Unknown,
+    /// The scan was done.
+    Scanned(ScanDone),
+    /// How many groups and nodes there are.
+    Counted(Counts),
     /// Nothing was done.
     Refused(Refusal),
 }
@@ -44,13 +74,28 @@ fn name_of(class: Class) -> &'static str
 }
 
 /// Appends a text and the decimal text of a number behind it.
-fn append_field(out: &mut Vec<u8>, before: &[u8], n: u64) -> Result<(), Memory>
-    ensures ok { OnOk result (out.new.items ≡ out.old.items ++ (before.now ++ decimal n)) }
+fn append_field<I: Integer>(out: &mut Vec<u8>, before: &[u8], n: I) -> Result<(), Memory>
+    ensures ok { OnOk result (out.new.items ≡ out.old.items ++ (before.now ++ I.text n)) }
     ensures err { OnErr result (take (vec_len out.old) out.new.items ≡ out.old.items) }
 {
     out.extend_from_slice(before)?;
     out.extend_from_slice(Buffer::new().format(n).as_bytes())?;
     Ok(())
+}
+
+/// Appends two texts, each with the decimal text of a number behind it.
+fn append_fields<I: Integer, J: Integer>(
+    out: &mut Vec<u8>,
+    before: &[u8],
+    n: I,
+    between: &[u8],
+    m: J,
+) -> Result<(), Memory>
+    ensures ok { OnOk result (out.new.items ≡ out.old.items ++ ((before.now ++ I.text n) ++ (between.now ++ J.text m))) }
+    ensures err { OnErr result (take (vec_len out.old) out.new.items ≡ out.old.items) }
+{
+    append_field(out, before, n)?;
+    append_field(out, between, m)
 }
 
 /// Appends a refusal's number, name and fields.
@@ -59,12 +104,24 @@ fn append_refusal(out: &mut Vec<u8>, refusal: Refusal) -> Result<(), Memory>
     ensures err { OnErr result (take (vec_len out.old) out.new.items ≡ out.old.items) }
 {
     match refusal {
-        Refusal::Outside { point } => append_field(out, b"24 Outside point ", u64::from(point))?,
+        Refusal::ZeroQuaternion => out.extend_from_slice(b"5 ZeroQuaternion")?,
+        Refusal::OriginOutside => out.extend_from_slice(b"6 OriginOutside")?,
+        Refusal::PointOutside { index } => append_field(out, b"7 PointOutside index ", index)?,
+        Refusal::TooManyCells { index, cells } => {
+            append_fields(out, b"8 TooManyCells index ", index, b" cells ", cells)?;
+        }
+        Refusal::Stale => out.extend_from_slice(b"22 Stale")?,
+        Refusal::Full { groups, need } => {
+            append_fields(out, b"23 Full groups ", groups, b" need ", need)?;
+        }
+        Refusal::Outside { point } => append_field(out, b"24 Outside point ", point)?,
+        Refusal::BadDepth => out.extend_from_slice(b"25 BadDepth")?,
         Refusal::Syntax { line, column } => {
-            append_field(out, b"29 Syntax line ", line)?;
-            append_field(out, b" column ", u64::from(column))?;
+            append_fields(out, b"29 Syntax line ", line, b" column ", column)?;
         }
         Refusal::LongLine { line } => append_field(out, b"30 LongLine line ", line)?,
+        Refusal::OpenScan { line } => append_field(out, b"31 OpenScan line ", line)?,
+        Refusal::TooManyPoints { line } => append_field(out, b"32 TooManyPoints line ", line)?,
         Refusal::NotYet => out.extend_from_slice(b"36 NotYet")?,
     }
     Ok(())
@@ -85,6 +142,14 @@ fn append_reply(out: &mut Vec<u8>, reply: Reply) -> Result<(), Memory>
             out.extend_from_slice(b"\n")?;
         }
         Reply::Unknown => out.extend_from_slice(b"unknown\n")?,
+        Reply::Scanned(done) => {
+            append_fields(out, b"ok hits ", done.hits, b" frees ", done.frees)?;
+            out.extend_from_slice(b"\n")?;
+        }
+        Reply::Counted(counts) => {
+            append_fields(out, b"groups ", counts.groups, b" nodes ", counts.nodes)?;
+            out.extend_from_slice(b"\n")?;
+        }
         Reply::Refused(refusal) => {
             out.extend_from_slice(b"refused ")?;
             append_refusal(out, refusal)?;

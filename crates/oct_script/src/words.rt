@@ -1,7 +1,7 @@
 //! The words of a line, which are parted by blanks, and where they stand.
 ghost use Rattle.std.specs.Prelude.{◌≡◌, ◌+◌, ◌≤◌, [], ◌∷◌, length, MatchOption, MatchResult};
 ghost use Rattle.std.specs.List.{prefix_len};
-ghost use Rattle.oct_script.specs.Words.{is_blank, is_in_word, words_from, placed_words};
+ghost use Rattle.oct_script.specs.Words.{is_blank, is_in_word, words_from, placed_words, first_text};
 
 use crate::command::Syntax;
 use crate::lines::LONGEST_LINE;
@@ -67,6 +67,15 @@ fn count_word(text: &[u8]) -> usize
     ensures within { result ≤ length text.now }
 {
     text.iter().take_while(|b| !is_blank(**b)).count()
+}
+
+/// The first word of a line of any length. It has no byte where the line has no word.
+pub fn first_word(line: &[u8]) -> &[u8]
+    ensures { result.now ≡ first_text (placed_words line.now) }
+{
+    let (_, text) = line.split_at(count_blanks(line));
+    let (word, _) = text.split_at(count_word(text));
+    word
 }
 
 impl<'a> Words<'a> {

@@ -7,14 +7,14 @@ use Rattle.oct_script.proofs.parser.parse.Goals as goal
 pub returns-clause-exact : goal.returns-clause-exact
 unfolding command_of
 returns-clause-exact c =
-    c.read_line.ensures.exact ∙ line_is c.new.result.end c.new.result.words
-    ∙ ap (λ end. command_in end c.new.result.words) c.new.ensures.end
-    ∙ ap (λ words. command_in (length c.args.line.now + 1) words) c.new.ensures.words
+    c.read_line.ensures.exact ∙ line_is c.args.inside c.new.result.end c.new.result.words
+    ∙ ap (λ end. command_in c.args.inside end c.new.result.words) c.new.ensures.end
+    ∙ ap (λ words. command_in c.args.inside (length c.args.line.now + 1) words) c.new.ensures.words
 
 pub returns-clause-means : goal.returns-clause-means
 unfolding command_of
-returns-clause-means c = means_answer _ _ _ (returns-clause-exact c)
+returns-clause-means c = means_answer _ _ _ _ (returns-clause-exact c)
 
 pub returns-clause-leaves : goal.returns-clause-leaves
 unfolding command_of
-returns-clause-leaves c = leaves_answer _ _ _ (returns-clause-exact c)
+returns-clause-leaves c = leaves_answer _ _ _ _ (returns-clause-exact c)
