@@ -64,7 +64,7 @@ pub trait Sink {
 /// Writes the whole piece. After an error a prefix of it was written.
 pub fn write_all<K: Sink>(sink: &mut K, piece: &[u8]) -> Result<(), SinkFault>
     ensures ok { OnOk result (K.written sink.new ≡ appended (K.written sink.old) piece.now) }
-    ensures err { OnErr result ((n : ℕ) × (n ≤ length piece.now)
+    ensures err { OnErr result ((n : ℕ) × (n < length piece.now)
         × (K.written sink.new ≡ appended (K.written sink.old) (take n piece.now))) }
     ensures later { K.faults sink.old ≤ K.faults sink.new }
     ensures cause { IsErrOf result SinkFault.Failed → Rose (K.faults sink.old) (K.faults sink.new) }

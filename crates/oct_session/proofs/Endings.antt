@@ -1,13 +1,13 @@
 -- How a session ends.
-use Rattle.std.proofs.Common.{◌≡◌, ℕ, ◌+◌, ◌-◌, ◌<◌, ◌≤◌, List, [], ◌∷◌, ◌++◌, length, take, drop, Bool, true, false, cond, Option, Some, None, IfSome, Result, Ok, Err, OnOk, OnErr, IfErr, IsErrAnd, inl, inr, refl, sym, ap, subst, ◌∙◌, arith, append_assoc, length-append, length-drop}
+use Rattle.std.proofs.Common.{◌≡◌, ℕ, ◌+◌, ◌-◌, ◌<◌, ◌≤◌, List, [], ◌∷◌, ◌++◌, length, take, drop, Bool, true, false, cond, Option, Some, None, IfSome, Result, Ok, Err, OnOk, OnErr, IfErr, IsErrAnd, inl, inr, refl, sym, ap, subst, ◌∙◌, arith, append_assoc, append-nil, length-append, length-drop}
 use Rattle.std.specs.List.{fold}
 use Rattle.std.proofs.Math.Seq.{take-add, take-append-add}
 use Rattle.std.proofs.lemmas.List.{take-append-drop, take_all, drop-drop, length-take, take-take}
-use Rattle.std.proofs.lemmas.Bool.{lt-leb, le-leb, cases_lt}
+use Rattle.std.proofs.lemmas.Bool.{lt-ltb, le-ltb, cases_lt}
 use Rattle.oct_io.specs.Files.{Files}
 use Rattle.oct_io.specs.Told.{appended, dropped}
 use Rattle.oct_io.proofs.Appending.{appended_nil}
-use Rattle.oct_odds.specs.Odds.{odds_of}
+use Rattle.oct_map.specs.Map.{Map}
 use Rattle.oct_script.specs.Lines.{Line, LineSoFar, unread, ended_lines, rest_of, last_line, all_lines}
 use Rattle.oct_script.proofs.Cuts.{ended_lines-append}
 use Rattle.oct_session.specs.declared.options.Status.{Status}
@@ -15,24 +15,40 @@ use Rattle.oct_session.specs.declared.options.Status.TheVariants as status
 use Rattle.oct_session.specs.declared.options.Stop.{Stop}
 use Rattle.oct_session.specs.declared.options.Stop.TheVariants.{TooLong, ReadFault, WriteFault, Memory}
 use Rattle.oct_session.specs.declared.session.Session.{Session}
-use Rattle.oct_session.specs.Ending.{HasTaken, HasTakenAtMost, IsReadToEnd, IsBegun, MayEnd, IsWhole, replies_within, has_quit_within}
-use Rattle.oct_session.specs.Session.{Progress, Answer, start, after_line, answered, progress, session, finished, cut_short, status_at_end}
+use Rattle.oct_session.specs.Ending.{HasTaken, HasTakenAtMost, IsReadToEnd, MayEnd, IsWhole, IsBegun, replies_within, has_quit_within, most_read}
+use Rattle.oct_session.specs.Leaving.{StandsFor, IsHalted, HasHalted, Leaves}
+use Rattle.oct_session.specs.Session.{Progress, Answer, start, after_line, answered, progress, lines_of, last_progress, session, finished, cut_short, closed, is_too_long, status_at_end}
 use Rattle.oct_session.specs.Setup.{Setup}
-use Rattle.oct_session.specs.Standing.{HasReached, IsAt, HasServed, IsThrough, StopsIn}
+use Rattle.oct_session.specs.Standing.{StopsAtEnd, HasReached, IsAt, HasServed, IsThrough, HasEndedAs, StopsIn}
 use Rattle.oct_session.specs.Stops.{status_of, IsSinkStop}
-use Rattle.oct_session.specs.Values.{values_of}
-use Rattle.oct_session.proofs.Progresses.{progress_grows, replies_grow, progress_behind_quit, bytes_behind_quit}
+use Rattle.oct_session.proofs.Progresses.{progress_grows, progress_behind_quit, no_quit_before}
+use Rattle.oct_session.proofs.Halting.{halted_more, halted_begun, between_begun, closed_quit, closed_history, closed_files, closed_grows}
 use Rattle.oct_session.proofs.Begun.{begun_more, begun_whole}
 
+-- the lines of a script that isn't too long
+lines_short : (o : Setup) (bytes : List ℕ) → length bytes ≤ o.max_bytes → lines_of o bytes ≡ all_lines bytes
+unfolding lines_of
+lines_short o bytes few = rw (le-ltb o.max_bytes (length bytes) few) refl
+
+-- the lines of a script that is too long
+lines_long : (o : Setup) (bytes : List ℕ) → o.max_bytes < length bytes → lines_of o bytes ≡ ended_lines (take o.max_bytes bytes)
+unfolding lines_of
+lines_long o bytes more = rw (lt-ltb o.max_bytes (length bytes) more) refl
+
 -- the session of a script that isn't too long
-pub session_short : (o : Setup) (files : Files) (bytes : List ℕ) → length bytes ≤ o.max_bytes → session o files bytes ≡ finished (progress o files (all_lines bytes))
+session_short : (o : Setup) (files : Files) (bytes : List ℕ) → length bytes ≤ o.max_bytes → session o files bytes ≡ finished (closed (last_progress o files bytes))
 unfolding session
-session_short o files bytes few = rw (le-leb (length bytes) o.max_bytes few) refl
+session_short o files bytes few = rw (le-ltb o.max_bytes (length bytes) few) refl
+
+-- the same, by the test
+session_whole : (o : Setup) (files : Files) (bytes : List ℕ) → is_too_long o bytes ≡ false → session o files bytes ≡ finished (closed (last_progress o files bytes))
+unfolding session
+session_whole o files bytes short = rw short refl
 
 -- the session of a script that is too long
-pub session_long : (o : Setup) (files : Files) (bytes : List ℕ) → o.max_bytes < length bytes → session o files bytes ≡ cut_short (progress o files (ended_lines (take o.max_bytes bytes)))
+session_long : (o : Setup) (files : Files) (bytes : List ℕ) → o.max_bytes < length bytes → session o files bytes ≡ cut_short (last_progress o files bytes)
 unfolding session
-session_long o files bytes more = rw (lt-leb (length bytes) o.max_bytes more) refl
+session_long o files bytes more = rw (lt-ltb o.max_bytes (length bytes) more) refl
 
 cut_text : (p : Progress) → (cut_short p).text ≡ p.text
 cut_text p = elim p.has_quit as (λ v. (cond v (finished p) (record { text = p.text; files = p.files; status = status.TooLong })).text ≡ p.text) [ true ↦ refl | false ↦ refl ]
@@ -46,6 +62,17 @@ cut_quit p quit = rw quit refl
 cut_status : (p : Progress) → p.has_quit ≡ false → (cut_short p).status ≡ status.TooLong
 cut_status p running = rw running refl
 
+-- what the session of a script that is too long writes are the replies to its lines
+text_long : (o : Setup) (files : Files) (bytes : List ℕ) → o.max_bytes < length bytes → (session o files bytes).text ≡ (last_progress o files bytes).text
+text_long o files bytes more = ap (λ (a : Answer). a.text) (session_long o files bytes more) ∙ cut_text (last_progress o files bytes)
+
+-- what a session writes begins with the replies to its lines
+session_text : (o : Setup) (files : Files) (bytes : List ℕ) → (text : List ℕ) × ((session o files bytes).text ≡ (last_progress o files bytes).text ++ text)
+session_text o files bytes = elim (cases_lt o.max_bytes (length bytes)) [
+  | inl more ↦ ([], text_long o files bytes more ∙ sym (append-nil (last_progress o files bytes).text))
+  | inr few ↦ (let s = closed_grows (last_progress o files bytes) in (s.0, ap (λ (a : Answer). a.text) (session_short o files bytes few) ∙ s.1))
+]
+
 -- the first bytes that count, of a script that is too long
 front_long : (most : ℕ) (bytes front back : List ℕ) → bytes ≡ front ++ back → length front ≤ most → take most bytes ≡ front ++ take (most - length front) back
 front_long most bytes front back parts few =
@@ -53,39 +80,39 @@ front_long most bytes front back parts few =
     let size : most ≡ length front + n = omega arith in
     ap (λ k. take k bytes) size ∙ ap (λ x. take (length front + n) x) parts ∙ take-append-add front back n
 
--- all lines of a script begin with those that end in its front
-lines_short : (bytes front back : List ℕ) → bytes ≡ front ++ back → (more : List Line) × (all_lines bytes ≡ ended_lines front ++ more)
-lines_short bytes front back parts =
-    let s = ended_lines-append front back in
-    (s.0 ++ last_line (rest_of bytes), ap (λ x. x ++ last_line (rest_of bytes)) (ap ended_lines parts ∙ s.1) ∙ append_assoc (ended_lines front) s.0 (last_line (rest_of bytes)))
+-- the lines of a script begin with those that end in a front of it, within the limit
+lines_within : (o : Setup) (bytes front back : List ℕ) → bytes ≡ front ++ back → length front ≤ o.max_bytes → (more : List Line) × (lines_of o bytes ≡ ended_lines front ++ more)
+lines_within o bytes front back parts few = elim (cases_lt o.max_bytes (length bytes)) [
+  | inl more ↦ (
+      let s = ended_lines-append front (take (o.max_bytes - length front) back) in
+      (s.0, lines_long o bytes more ∙ ap ended_lines (front_long o.max_bytes bytes front back parts few) ∙ s.1))
+  | inr small ↦ (
+      let s = ended_lines-append front back in (
+        s.0 ++ last_line (rest_of bytes),
+        lines_short o bytes small ∙ ap (λ x. x ++ last_line (rest_of bytes)) (ap ended_lines parts ∙ s.1) ∙ append_assoc (ended_lines front) s.0 (last_line (rest_of bytes)),
+      ))
+]
 
 -- the replies to the lines that end in a front of the script, within the limit, begin the whole answer
 pub within_session : (o : Setup) (files : Files) (bytes front back : List ℕ) → bytes ≡ front ++ back → length front ≤ o.max_bytes →
     (text : List ℕ) × ((session o files bytes).text ≡ replies_within o files front ++ text)
-within_session o files bytes front back parts few = elim (cases_lt o.max_bytes (length bytes)) [
-  | inl more ↦ (
-      let s = replies_grow o files front (take (o.max_bytes - length front) back) in (
-        s.0,
-        ap (λ (a : Answer). a.text) (session_long o files bytes more) ∙ cut_text (progress o files (ended_lines (take o.max_bytes bytes)))
-            ∙ ap (replies_within o files) (front_long o.max_bytes bytes front back parts few) ∙ s.1,
-      ))
-  | inr small ↦ (
-      let s = lines_short bytes front back parts in
-      let t = progress_grows o files (ended_lines front) s.0 in
-      (t.0, ap (λ (a : Answer). a.text) (session_short o files bytes small) ∙ ap (λ x. (progress o files x).text) s.1 ∙ t.1))
-]
+within_session o files bytes front back parts few =
+    let s = lines_within o bytes front back parts few in
+    let t = progress_grows o files (ended_lines front) s.0 in
+    let u = session_text o files bytes in
+    (t.0 ++ u.0, u.1 ∙ ap (λ x. (progress o files x).text ++ u.0) s.1 ∙ ap (λ x. x ++ u.0) t.1 ∙ append_assoc (replies_within o files front) t.0 u.0)
 
--- a `quit` line that ends in a front of the script, within the limit, finishes the session
-pub session_quit : (o : Setup) (files : Files) (bytes front back : List ℕ) → bytes ≡ front ++ back → length front ≤ o.max_bytes → has_quit_within o files front ≡ true →
-    session o files bytes ≡ finished (progress o files (ended_lines front))
-session_quit o files bytes front back parts few quit = elim (cases_lt o.max_bytes (length bytes)) [
-  | inl more ↦ (
-      let same : progress o files (ended_lines (take o.max_bytes bytes)) ≡ progress o files (ended_lines front) =
-      ap (λ x. progress o files (ended_lines x)) (front_long o.max_bytes bytes front back parts few) ∙ bytes_behind_quit o files front (take (o.max_bytes - length front) back) quit in
-      session_long o files bytes more ∙ ap cut_short same ∙ cut_quit (progress o files (ended_lines front)) quit)
-  | inr small ↦ (
-      let s = lines_short bytes front back parts in
-      session_short o files bytes small ∙ ap (λ x. finished (progress o files x)) s.1 ∙ ap finished (progress_behind_quit o files (ended_lines front) s.0 quit))
+-- a `quit` line that ends in a front of the script, within the limit, ends the session
+last_quit : (o : Setup) (files : Files) (bytes front back : List ℕ) → bytes ≡ front ++ back → length front ≤ o.max_bytes → has_quit_within o files front ≡ true →
+    last_progress o files bytes ≡ progress o files (ended_lines front)
+last_quit o files bytes front back parts few quit =
+    let s = lines_within o bytes front back parts few in ap (λ x. progress o files x) s.1 ∙ progress_behind_quit o files (ended_lines front) s.0 quit
+
+-- and finishes it
+session_quit : (o : Setup) (files : Files) (bytes : List ℕ) → (last_progress o files bytes).has_quit ≡ true → session o files bytes ≡ finished (closed (last_progress o files bytes))
+session_quit o files bytes quit = elim (cases_lt o.max_bytes (length bytes)) [
+  | inl more ↦ session_long o files bytes more ∙ cut_quit (last_progress o files bytes) quit ∙ ap finished (sym (closed_quit (last_progress o files bytes) quit))
+  | inr small ↦ session_short o files bytes small
 ]
 
 -- a prefix of those replies is a prefix of the whole answer
@@ -93,17 +120,51 @@ begun_session : (o : Setup) (files : Files) (bytes front back : List ℕ) (old n
     IsBegun (replies_within o files front) old new → IsBegun (session o files bytes).text old new
 begun_session o files bytes front back old new parts few begun = let s = within_session o files bytes front back parts few in begun_more _ _ s.0 old new s.1 begun
 
+-- a halt within a front of the script is a halt of the session
+halted_session : (o : Setup) (files : Files) (bytes front back : List ℕ) (old new : Option (List ℕ)) (m : Map) → bytes ≡ front ++ back → length front ≤ o.max_bytes →
+    IsHalted o files (ended_lines front) old new m → HasHalted o files bytes old new m
+halted_session o files bytes front back old new m parts few halted =
+    let s = lines_within o bytes front back parts few in inl (subst (λ x. IsHalted o files x old new m) (sym s.1) (halted_more o files (ended_lines front) s.0 old new m halted))
+
+halted_as : (o : Setup) (files : Files) (bytes : List ℕ) (left w u : Option (List ℕ)) (m : Map) (stop : Stop) → IsSinkStop stop → HasHalted o files bytes w u m →
+    IsBegun (session o files bytes).text w u → HasTakenAtMost (o.max_bytes + 1) bytes left → HasEndedAs o files bytes left w u m (status_of stop)
+halted_as o files bytes left w u m WriteFault only halted begun input = record { answer = (begun, input); leaves = halted }
+halted_as o files bytes left w u m Memory only halted begun input = record { answer = (begun, input); leaves = halted }
+halted_as o files bytes left w u m TooLong only halted begun input = absurd only
+halted_as o files bytes left w u m ReadFault only halted begun input = absurd only
+
+-- what a session that was halted has written is a prefix of the whole answer
+halted_text : (o : Setup) (files : Files) (bytes : List ℕ) (w u : Option (List ℕ)) (m : Map) → HasHalted o files bytes w u m → IsBegun (session o files bytes).text w u
+halted_text o files bytes w u m (inl halted) = let s = session_text o files bytes in begun_more _ _ s.0 w u s.1 (halted_begun o files (lines_of o bytes) w u m halted)
+halted_text o files bytes w u m (inr end) =
+    subst (λ x. IsBegun x w u) (sym (ap (λ (a : Answer). a.text) (session_whole o files bytes end.0)))
+    (between_begun o (last_progress o files bytes) (closed (last_progress o files bytes)) w u m end.1)
+
+-- how a session ends that was halted by its sink, or by want of memory
+halted_ends : (o : Setup) (files : Files) (bytes : List ℕ) (left w u : Option (List ℕ)) (m : Map) (stop : Stop) → IsSinkStop stop → HasHalted o files bytes w u m →
+    HasTakenAtMost (o.max_bytes + 1) bytes left → HasEndedAs o files bytes left w u m (status_of stop)
+halted_ends o files bytes left w u m stop only halted input =
+    halted_as o files bytes left w u m stop only halted (halted_text o files bytes w u m halted) input
+
+-- map and session as they begin
+pub record IsNew (o : Setup) (m : Map) (s : Session) : Type 0 where
+  pub stands : StandsFor o m []
+  pub line : s.lines ≡ unread
+  pub answered : s.answered ≡ 0
+  pub block : s.block ≡ None
+  pub refused : s.refused ≡ false
+  pub running : s.has_quit ≡ false
+
 -- before the first read
-pub serving_start : (o : Setup) (files : Files) (bytes : List ℕ) (w : Option (List ℕ)) (s : Session) → values_of s.map ≡ (λ k. None) → odds_of s.map.odds ≡ o.odds →
-    s.lines ≡ unread → s.answered ≡ 0 → s.refused ≡ false → s.has_quit ≡ false → HasServed o files bytes (Some bytes) w w s 0
-serving_start o files bytes w s values odds line answered refused running = record {
+pub serving_start : (o : Setup) (files : Files) (bytes : List ℕ) (w : Option (List ℕ)) (m : Map) (s : Session) → IsNew o m s → HasServed o files bytes (Some bytes) w w m s 0
+serving_start o files bytes w m s new = record {
   input = record { within = omega arith; rest = refl };
   at = record {
     reached = record {
-      between = record { map = record { odds = odds; values = values }; answered = answered; refused = refused; has_quit = running };
+      between = record { stands = new.stands; answered = new.answered; block = new.block; refused = new.refused; has_quit = new.running };
       written = appended_nil w;
     };
-    line = λ goes_on. record { line = ap (λ (x : LineSoFar). x.line) line; unended = ap (λ (x : LineSoFar). x.has_ended) line };
+    line = λ goes_on. record { line = ap (λ (x : LineSoFar). x.line) new.line; unended = ap (λ (x : LineSoFar). x.has_ended) new.line };
   };
 }
 
@@ -126,6 +187,7 @@ pub record IsRead (o : Setup) (buffer piece : List ℕ) (left after : Option (Li
   pub few : taken ≤ o.max_bytes
   pub size : room ≡ o.max_bytes - taken
   pub most : n ≤ room + 1
+  pub at_once : n ≤ most_read
   pub moved : after ≡ dropped n left
   pub same : IfSome left (λ l. take n buffer ≡ take n l)
   pub enough : IfSome left (λ l. n ≤ length l)
@@ -133,31 +195,36 @@ pub record IsRead (o : Setup) (buffer piece : List ℕ) (left after : Option (Li
   pub len : length piece ≡ n
 
 -- a read whose bytes were all taken
-pub serving_more : (o : Setup) (files : Files) (bytes buffer piece : List ℕ) (left after w v u : Option (List ℕ)) (s t : Session) (taken n room : ℕ) → IsRead o buffer piece left after taken n room → length piece ≤ room →
-    ((files : Files) (w : Option (List ℕ)) (bytes : List ℕ) → IsAt o files w v s bytes → IsAt o files w u t (bytes ++ take room piece)) →
-    HasServed o files bytes left w v s taken → HasServed o files bytes after w u t (taken + n)
-serving_more o files bytes buffer piece left after w v u s t taken n room read fits goes at =
+pub serving_more : (o : Setup) (files : Files) (bytes buffer piece : List ℕ) (left after w v u : Option (List ℕ)) (l m : Map) (s t : Session) (taken n room : ℕ) → IsRead o buffer piece left after taken n room → length piece ≤ room →
+    ((files : Files) (w : Option (List ℕ)) (bytes : List ℕ) → IsAt o files w v l s bytes → IsAt o files w u m t (bytes ++ take room piece)) →
+    HasServed o files bytes left w v l s taken → HasServed o files bytes after w u m t (taken + n)
+serving_more o files bytes buffer piece left after w v u l m s t taken n room read fits goes at =
     let p : piece ≡ take n (drop taken bytes) = piece_is bytes buffer piece left taken n at.input read.same read.is in
     let whole : take room piece ≡ take n (drop taken bytes) = take_all room piece fits ∙ p in
     record {
       input = taken_more bytes left after taken n at.input read.moved read.enough;
-      at = subst (λ x. IsAt o files w u t x) (ap (λ x. take taken bytes ++ x) whole ∙ sym (take-add taken n bytes)) (goes files w (take taken bytes) at.at);
+      at = subst (λ x. IsAt o files w u m t x) (ap (λ x. take taken bytes ++ x) whole ∙ sym (take-add taken n bytes)) (goes files w (take taken bytes) at.at);
     }
 
 -- the input failed
-ends_read_fault : (o : Setup) (files : Files) (bytes : List ℕ) (left after w v : Option (List ℕ)) (s : Session) (taken : ℕ) → after ≡ left → taken ≤ o.max_bytes → s.has_quit ≡ false →
-    HasServed o files bytes left w v s taken → MayEnd o files bytes after w v (status_of ReadFault)
-ends_read_fault o files bytes left after w v s taken same few running at =
-    let size : length (take taken bytes) ≤ o.max_bytes = omega (arith, length-take taken bytes) in (
-      begun_session o files bytes (take taken bytes) (drop taken bytes) w v (sym (take-append-drop taken bytes)) size (begun_whole _ w v at.at.reached.written),
-      record {
-        taken = taken;
-        few = few;
-        input = record { within = at.input.within; rest = same ∙ at.input.rest };
-        no_quit = sym at.at.reached.between.has_quit ∙ running;
-        written = at.at.reached.written;
-      },
-    )
+ends_read_fault : (o : Setup) (files : Files) (bytes : List ℕ) (left after w v : Option (List ℕ)) (m : Map) (s : Session) (taken : ℕ) → after ≡ left → taken ≤ o.max_bytes → s.has_quit ≡ false →
+    HasServed o files bytes left w v m s taken → HasEndedAs o files bytes after w v m (status_of ReadFault)
+ends_read_fault o files bytes left after w v m s taken same few running at =
+    let size : length (take taken bytes) ≤ o.max_bytes = omega (arith, length-take taken bytes) in
+    let input : HasTaken taken bytes after = record { within = at.input.within; rest = same ∙ at.input.rest } in
+    record {
+      answer = (
+        begun_session o files bytes (take taken bytes) (drop taken bytes) w v (sym (take-append-drop taken bytes)) size (begun_whole _ w v at.at.reached.written),
+        record {
+          taken = taken;
+          few = few;
+          input = input;
+          no_quit = sym at.at.reached.between.has_quit ∙ running;
+          written = at.at.reached.written;
+        },
+      );
+      leaves = record { taken = taken; input = input; stands = at.at.reached.between.stands };
+    }
 
 -- a script within a read: what was taken before, what of the piece may be taken, and what is behind it
 parts_within : (bytes piece : List ℕ) (taken n room : ℕ) → piece ≡ take n (drop taken bytes) → bytes ≡ (take taken bytes ++ take room piece) ++ (drop room piece ++ drop n (drop taken bytes))
@@ -180,80 +247,74 @@ counted bytes piece taken n room most few size within is =
     ap (λ x. take most x) front ∙ ap (λ k. take k (take taken bytes ++ piece)) most_is ∙ take-append-add (take taken bytes) piece room
 
 -- a `quit` line in what a read gave
-serving_quit : (o : Setup) (files : Files) (bytes buffer piece : List ℕ) (left after w v u : Option (List ℕ)) (s t : Session) (taken n room : ℕ) → IsRead o buffer piece left after taken n room → t.has_quit ≡ true →
-    ((files : Files) (w : Option (List ℕ)) (bytes : List ℕ) → IsAt o files w v s bytes → IsAt o files w u t (bytes ++ take room piece)) →
-    HasServed o files bytes left w v s taken → IsThrough o files bytes after w u t
-serving_quit o files bytes buffer piece left after w v u s t taken n room read quit goes at =
+serving_quit : (o : Setup) (files : Files) (bytes buffer piece : List ℕ) (left after w v u : Option (List ℕ)) (l m : Map) (s t : Session) (taken n room : ℕ) → IsRead o buffer piece left after taken n room → s.has_quit ≡ false → t.has_quit ≡ true →
+    ((files : Files) (w : Option (List ℕ)) (bytes : List ℕ) → IsAt o files w v l s bytes → IsAt o files w u m t (bytes ++ take room piece)) →
+    HasServed o files bytes left w v l s taken → IsThrough o files bytes after w u m t
+serving_quit o files bytes buffer piece left after w v u l m s t taken n room read running quit goes at =
     let p : piece ≡ take n (drop taken bytes) = piece_is bytes buffer piece left taken n at.input read.same read.is in
-    let reached : IsAt o files w u t (take taken bytes ++ take room piece) = goes files w (take taken bytes) at.at in
-    let ends : has_quit_within o files (take taken bytes ++ take room piece) ≡ true = sym reached.reached.between.has_quit ∙ quit in
+    let front : List ℕ = take taken bytes ++ take room piece in
+    let reached : IsAt o files w u m t front = goes files w (take taken bytes) at.at in
+    let ends : has_quit_within o files front ≡ true = sym reached.reached.between.has_quit ∙ quit in
+    let last : last_progress o files bytes ≡ progress o files (ended_lines front) =
+    last_quit o files bytes front (drop room piece ++ drop n (drop taken bytes)) (parts_within bytes piece taken n room p) (few_within bytes piece taken room o.max_bytes read.few read.size) ends in
     record {
-      last = progress o files (ended_lines (take taken bytes ++ take room piece));
-      reached = reached.reached;
-      whole = session_quit o files bytes (take taken bytes ++ take room piece) (drop room piece ++ drop n (drop taken bytes)) (parts_within bytes piece taken n room p)
-          (few_within bytes piece taken room o.max_bytes read.few read.size) ends;
+      reached = subst (λ x. HasReached o w u m t x) (sym (closed_quit (last_progress o files bytes) (ap (λ (x : Progress). x.has_quit) last ∙ ends) ∙ last)) reached.reached;
+      whole = session_quit o files bytes (ap (λ (x : Progress). x.has_quit) last ∙ ends);
       end = record {
         taken = taken + n;
         few = omega (arith, read.few, read.size, read.most);
         input = taken_more bytes left after taken n at.input read.moved read.enough;
-        end = inr (ap (has_quit_within o files) (counted bytes piece taken n room o.max_bytes read.few read.size at.input.within p) ∙ ends);
+        end = inr (record {
+          quits = ap (has_quit_within o files) (counted bytes piece taken n room o.max_bytes read.few read.size at.input.within p) ∙ ends;
+          at_once = no_quit_before o files bytes (taken + n - most_read) taken (omega (arith, read.at_once)) (sym at.at.reached.between.has_quit ∙ running);
+        });
       };
     }
 
--- a prefix of the answers to what of the piece may be taken
-stops_begun : (o : Setup) (files : Files) (bytes buffer piece : List ℕ) (left after w u : Option (List ℕ)) (taken n room : ℕ) → IsRead o buffer piece left after taken n room → HasTaken taken bytes left →
-    IsBegun (replies_within o files (take taken bytes ++ take room piece)) w u → IsBegun (session o files bytes).text w u
-stops_begun o files bytes buffer piece left after w u taken n room read input begun =
+-- a halt in what of the piece may be taken
+stops_halted : (o : Setup) (files : Files) (bytes buffer piece : List ℕ) (left after w u : Option (List ℕ)) (m : Map) (taken n room : ℕ) (stop : Stop) → IsSinkStop stop → IsRead o buffer piece left after taken n room →
+    HasTaken taken bytes left → IsHalted o files (ended_lines (take taken bytes ++ take room piece)) w u m → HasEndedAs o files bytes after w u m (status_of stop)
+stops_halted o files bytes buffer piece left after w u m taken n room stop only read input halted =
     let p : piece ≡ take n (drop taken bytes) = piece_is bytes buffer piece left taken n input read.same read.is in
-    begun_session o files bytes (take taken bytes ++ take room piece) (drop room piece ++ drop n (drop taken bytes)) w u (parts_within bytes piece taken n room p)
-    (few_within bytes piece taken room o.max_bytes read.few read.size) begun
-
--- at most one byte more than the script may have was taken
-stops_taken : (o : Setup) (bytes buffer piece : List ℕ) (left after : Option (List ℕ)) (taken n room : ℕ) → IsRead o buffer piece left after taken n room → HasTaken taken bytes left → HasTakenAtMost (o.max_bytes + 1) bytes after
-stops_taken o bytes buffer piece left after taken n room read input = record {
-  taken = taken + n;
-  few = omega (arith, read.few, read.size, read.most);
-  input = taken_more bytes left after taken n input read.moved read.enough;
-}
+    halted_ends o files bytes after w u m stop only
+    (halted_session o files bytes (take taken bytes ++ take room piece) (drop room piece ++ drop n (drop taken bytes)) w u m (parts_within bytes piece taken n room p)
+    (few_within bytes piece taken room o.max_bytes read.few read.size) halted)
+    (record { taken = taken + n; few = omega (arith, read.few, read.size, read.most); input = taken_more bytes left after taken n input read.moved read.enough })
 
 -- more bytes than the script may have
-stops_long : (o : Setup) (files : Files) (bytes buffer piece : List ℕ) (left after w u : Option (List ℕ)) (t : Session) (taken n room : ℕ) → IsRead o buffer piece left after taken n room → room < length piece → t.has_quit ≡ false →
-    HasTaken taken bytes left → IsAt o files w u t (take taken bytes ++ take room piece) → MayEnd o files bytes after w u status.TooLong
-stops_long o files bytes buffer piece left after w u t taken n room read more running input at =
+stops_long : (o : Setup) (files : Files) (bytes buffer piece : List ℕ) (left after w u : Option (List ℕ)) (m : Map) (t : Session) (taken n room : ℕ) → IsRead o buffer piece left after taken n room → room < length piece → t.has_quit ≡ false →
+    HasTaken taken bytes left → IsAt o files w u m t (take taken bytes ++ take room piece) → HasEndedAs o files bytes after w u m status.TooLong
+stops_long o files bytes buffer piece left after w u m t taken n room read more running input at =
     let p : piece ≡ take n (drop taken bytes) = piece_is bytes buffer piece left taken n input read.same read.is in
     let k = taken_more bytes left after taken n input read.moved read.enough in
     let all : taken + n ≡ o.max_bytes + 1 = omega (arith, read.few, read.size, read.most, read.len) in
     let long : o.max_bytes < length bytes = omega (arith, k.within) in
     let front : take o.max_bytes bytes ≡ take taken bytes ++ take room piece =
     sym (take-take o.max_bytes (taken + n) bytes (omega arith)) ∙ counted bytes piece taken n room o.max_bytes read.few read.size input.within p in
-    let q : Progress = progress o files (ended_lines (take taken bytes ++ take room piece)) in
-    let answer : session o files bytes ≡ cut_short q = session_long o files bytes long ∙ ap (λ x. cut_short (progress o files (ended_lines x))) front in (
-      record {
-        written = at.reached.written ∙ ap (appended w) (sym (ap (λ (a : Answer). a.text) answer ∙ cut_text q));
-        same_status = ap (λ (a : Answer). a.status) answer ∙ cut_status q (sym at.reached.between.has_quit ∙ running);
-      },
-      subst (λ m. HasTaken m bytes after) all k,
-    )
+    let last : last_progress o files bytes ≡ progress o files (ended_lines (take taken bytes ++ take room piece)) = ap (λ x. progress o files x) (lines_long o bytes long ∙ ap ended_lines front) in
+    let reached : HasReached o w u m t (last_progress o files bytes) = subst (λ x. HasReached o w u m t x) (sym last) at.reached in
+    record {
+      answer = (
+        record {
+          written = reached.written ∙ ap (appended w) (sym (text_long o files bytes long));
+          same_status = ap (λ (a : Answer). a.status) (session_long o files bytes long) ∙ cut_status (last_progress o files bytes) (sym reached.between.has_quit ∙ running);
+        },
+        subst (λ x. HasTaken x bytes after) all k,
+      );
+      leaves = reached.between.stands;
+    }
 
 -- a stop within what a read gave
-ends_stop : (o : Setup) (files : Files) (bytes buffer piece : List ℕ) (left after w v u : Option (List ℕ)) (s t : Session) (taken n room : ℕ) (stop : Stop) → IsRead o buffer piece left after taken n room →
-    ((files : Files) (w : Option (List ℕ)) (bytes : List ℕ) → IsAt o files w v s bytes → StopsIn o files w u t bytes piece room stop) →
-    HasServed o files bytes left w v s taken → MayEnd o files bytes after w u (status_of stop)
-ends_stop o files bytes buffer piece left after w v u s t taken n room TooLong read stops at =
-    let p = stops files w (take taken bytes) at.at in stops_long o files bytes buffer piece left after w u t taken n room read p.0 p.1 at.input p.2
-ends_stop o files bytes buffer piece left after w v u s t taken n room WriteFault read stops at =
-    (stops_begun o files bytes buffer piece left after w u taken n room read at.input (stops files w (take taken bytes) at.at), stops_taken o bytes buffer piece left after taken n room read at.input)
-ends_stop o files bytes buffer piece left after w v u s t taken n room Memory read stops at =
-    (stops_begun o files bytes buffer piece left after w u taken n room read at.input (stops files w (take taken bytes) at.at), stops_taken o bytes buffer piece left after taken n room read at.input)
-ends_stop o files bytes buffer piece left after w v u s t taken n room ReadFault read stops at = absurd (stops files w (take taken bytes) at.at)
-
--- a prefix of the whole answer, at a stop of the sink
-begun_ends : (o : Setup) (files : Files) (bytes : List ℕ) (left w u : Option (List ℕ)) (stop : Stop) → IsSinkStop stop → IsBegun (session o files bytes).text w u →
-    HasTakenAtMost (o.max_bytes + 1) bytes left → MayEnd o files bytes left w u (status_of stop)
-begun_ends o files bytes left w u WriteFault only begun input = (begun, input)
-begun_ends o files bytes left w u Memory only begun input = (begun, input)
-begun_ends o files bytes left w u TooLong only begun input = absurd only
-begun_ends o files bytes left w u ReadFault only begun input = absurd only
+ends_stop : (o : Setup) (files : Files) (bytes buffer piece : List ℕ) (left after w v u : Option (List ℕ)) (l m : Map) (s t : Session) (taken n room : ℕ) (stop : Stop) → IsRead o buffer piece left after taken n room →
+    ((files : Files) (w : Option (List ℕ)) (bytes : List ℕ) → IsAt o files w v l s bytes → StopsIn o files w u m t bytes piece room stop) →
+    HasServed o files bytes left w v l s taken → HasEndedAs o files bytes after w u m (status_of stop)
+ends_stop o files bytes buffer piece left after w v u l m s t taken n room TooLong read stops at =
+    let p = stops files w (take taken bytes) at.at in stops_long o files bytes buffer piece left after w u m t taken n room read p.0 p.1 at.input p.2
+ends_stop o files bytes buffer piece left after w v u l m s t taken n room WriteFault read stops at =
+    stops_halted o files bytes buffer piece left after w u m taken n room WriteFault tt read at.input (stops files w (take taken bytes) at.at)
+ends_stop o files bytes buffer piece left after w v u l m s t taken n room Memory read stops at =
+    stops_halted o files bytes buffer piece left after w u m taken n room Memory tt read at.input (stops files w (take taken bytes) at.at)
+ends_stop o files bytes buffer piece left after w v u l m s t taken n room ReadFault read stops at = absurd (stops files w (take taken bytes) at.at)
 
 -- where nothing is left, all bytes were taken
 all_taken : (bytes : List ℕ) (left : Option (List ℕ)) (taken : ℕ) → HasTaken taken bytes left → IfSome left (λ l. l ≡ []) → length bytes ≡ taken
@@ -262,121 +323,133 @@ all_taken bytes left taken input none =
     omega (arith, ap length e, length-drop taken bytes, input.within)
 
 -- the end of the input
-through_end : (o : Setup) (files : Files) (bytes : List ℕ) (left w v u : Option (List ℕ)) (s t : Session) (taken : ℕ) → taken ≤ o.max_bytes → IfSome left (λ l. l ≡ []) →
-    ((files : Files) (w : Option (List ℕ)) (bytes : List ℕ) → IsAt o files w v s bytes → HasReached o w u t (progress o files (all_lines bytes))) →
-    HasServed o files bytes left w v s taken → IsThrough o files bytes left w u t
-through_end o files bytes left w v u s t taken few none goes at =
-    let size : length bytes ≡ taken = all_taken bytes left taken at.input none in
-    let whole : take taken bytes ≡ bytes = take_all taken bytes (omega arith) in
-    let e : drop taken bytes ≡ [] = subst (λ (x : Option (List ℕ)). IfSome x (λ l. l ≡ [])) at.input.rest none in
-    record {
-      last = progress o files (all_lines bytes);
-      reached = subst (λ x. HasReached o w u t (progress o files (all_lines x))) whole (goes files w (take taken bytes) at.at);
-      whole = session_short o files bytes (omega arith);
-      end = record { taken = taken; few = omega arith; input = at.input; end = inl (at.input.rest ∙ ap Some e) };
-    }
-
--- a stop in the answer to the last line
-ends_last : (o : Setup) (files : Files) (bytes : List ℕ) (left w v u : Option (List ℕ)) (s : Session) (taken : ℕ) (stop : Stop) → taken ≤ o.max_bytes → IfSome left (λ l. l ≡ []) → IsSinkStop stop →
-    ((files : Files) (w : Option (List ℕ)) (bytes : List ℕ) → IsAt o files w v s bytes → IsBegun (progress o files (all_lines bytes)).text w u) →
-    HasServed o files bytes left w v s taken → MayEnd o files bytes left w u (status_of stop)
-ends_last o files bytes left w v u s taken stop few none only begins at =
+through_end : (o : Setup) (files : Files) (bytes : List ℕ) (left w v u : Option (List ℕ)) (l m : Map) (s t : Session) (taken : ℕ) → taken ≤ o.max_bytes → IfSome left (λ l. l ≡ []) →
+    ((files : Files) (w : Option (List ℕ)) (bytes : List ℕ) → IsAt o files w v l s bytes → HasReached o w u m t (closed (progress o files (all_lines bytes)))) →
+    HasServed o files bytes left w v l s taken → IsThrough o files bytes left w u m t
+through_end o files bytes left w v u l m s t taken few none goes at =
     let size : length bytes ≡ taken = all_taken bytes left taken at.input none in
     let whole : take taken bytes ≡ bytes = take_all taken bytes (omega arith) in
     let short : length bytes ≤ o.max_bytes = omega arith in
-    let begun : IsBegun (session o files bytes).text w u =
-    subst (λ (x : Answer). IsBegun x.text w u) (sym (session_short o files bytes short)) (subst (λ x. IsBegun (progress o files (all_lines x)).text w u) whole (begins files w (take taken bytes) at.at)) in
-    begun_ends o files bytes left w u stop only begun (record { taken = taken; few = omega arith; input = at.input })
+    let e : drop taken bytes ≡ [] = subst (λ (x : Option (List ℕ)). IfSome x (λ l. l ≡ [])) at.input.rest none in
+    record {
+      reached = subst (λ x. HasReached o w u m t (closed (progress o files x))) (ap all_lines whole ∙ sym (lines_short o bytes short)) (goes files w (take taken bytes) at.at);
+      whole = session_short o files bytes short;
+      end = record { taken = taken; few = omega arith; input = at.input; end = inl (at.input.rest ∙ ap Some e) };
+    }
 
-ended_as : (o : Setup) (files : Files) (bytes : List ℕ) (left w v : Option (List ℕ)) (refused : Bool) (status : Status) → status ≡ status_at_end refused →
-    (session o files bytes).status ≡ status_at_end refused → v ≡ appended w (session o files bytes).text → IsReadToEnd o files bytes left → MayEnd o files bytes left w v status
-ended_as o files bytes left w v true status is same written end = rw is (record { written = written; same_status = same }, end)
-ended_as o files bytes left w v false status is same written end = rw is (record { written = written; same_status = same }, end)
+-- a halt at the last line, or at the end behind it
+stopped_end : (o : Setup) (files : Files) (bytes : List ℕ) (w u : Option (List ℕ)) (m : Map) → length bytes ≤ o.max_bytes → StopsAtEnd o files (lines_of o bytes) w u m → HasHalted o files bytes w u m
+stopped_end o files bytes w u m short (inl halted) = inl halted
+stopped_end o files bytes w u m short (inr end) = inr (le-ltb o.max_bytes (length bytes) short, end)
+
+-- a stop in the answer to the last line
+ends_last : (o : Setup) (files : Files) (bytes : List ℕ) (left w v u : Option (List ℕ)) (l m : Map) (s : Session) (taken : ℕ) (stop : Stop) → taken ≤ o.max_bytes → IfSome left (λ l. l ≡ []) → IsSinkStop stop →
+    ((files : Files) (w : Option (List ℕ)) (bytes : List ℕ) → IsAt o files w v l s bytes → StopsAtEnd o files (all_lines bytes) w u m) →
+    HasServed o files bytes left w v l s taken → HasEndedAs o files bytes left w u m (status_of stop)
+ends_last o files bytes left w v u l m s taken stop few none only halts at =
+    let size : length bytes ≡ taken = all_taken bytes left taken at.input none in
+    let whole : take taken bytes ≡ bytes = take_all taken bytes (omega arith) in
+    let short : length bytes ≤ o.max_bytes = omega arith in
+    halted_ends o files bytes left w u m stop only
+    (stopped_end o files bytes w u m short
+    (subst (λ x. StopsAtEnd o files x w u m) (ap all_lines whole ∙ sym (lines_short o bytes short)) (halts files w (take taken bytes) at.at)))
+    (record { taken = taken; few = omega arith; input = at.input })
+
+ended_as : (o : Setup) (files : Files) (bytes : List ℕ) (left w v : Option (List ℕ)) (m : Map) (refused : Bool) (status : Status) → status ≡ status_at_end refused →
+    (session o files bytes).status ≡ status_at_end refused → v ≡ appended w (session o files bytes).text → IsReadToEnd o files bytes left → StandsFor o m (last_progress o files bytes).history →
+    HasEndedAs o files bytes left w v m status
+ended_as o files bytes left w v m true status is same written end stands =
+    subst (HasEndedAs o files bytes left w v m) (sym is) (record { answer = (record { written = written; same_status = same }, end); leaves = stands })
+ended_as o files bytes left w v m false status is same written end stands =
+    subst (HasEndedAs o files bytes left w v m) (sym is) (record { answer = (record { written = written; same_status = same }, end); leaves = stands })
 
 -- the whole script was answered
-ends_through : (o : Setup) (files : Files) (bytes : List ℕ) (left w v : Option (List ℕ)) (s : Session) (status : Status) → status ≡ status_at_end s.refused →
-    IsThrough o files bytes left w v s → MayEnd o files bytes left w v status
-ends_through o files bytes left w v s status is through =
-    ended_as o files bytes left w v s.refused status is (ap (λ (a : Answer). a.status) through.whole ∙ ap status_at_end (sym through.reached.between.refused))
+ends_through : (o : Setup) (files : Files) (bytes : List ℕ) (left w v : Option (List ℕ)) (m : Map) (s : Session) (status : Status) → status ≡ status_at_end s.refused →
+    IsThrough o files bytes left w v m s → HasEndedAs o files bytes left w v m status
+ends_through o files bytes left w v m s status is through =
+    ended_as o files bytes left w v m s.refused status is (ap (λ (a : Answer). a.status) through.whole ∙ ap status_at_end (sym through.reached.between.refused))
     (through.reached.written ∙ ap (λ (a : Answer). appended w a.text) (sym through.whole)) through.end
+    (subst (λ h. StandsFor o m h) (closed_history (last_progress o files bytes)) through.reached.between.stands)
 
 -- a call that gives up where the input failed
-pub fault_ends : {T : Type 0} (r : Result T Stop) (o : Setup) (left after v : Option (List ℕ)) (s : Session) (taken : ℕ) → IsErrAnd r (λ stop. stop ≡ ReadFault) → after ≡ left → taken ≤ o.max_bytes → s.has_quit ≡ false →
-    IfErr r (λ stop. (files : Files) (bytes : List ℕ) (w : Option (List ℕ)) → HasServed o files bytes left w v s taken → MayEnd o files bytes after w v (status_of stop))
-fault_ends (Ok x) o left after v s taken is same few running = tt
-fault_ends (Err stop) o left after v s taken is same few running = λ files bytes w at.
-    subst (λ x. MayEnd o files bytes after w v (status_of x)) (sym is) (ends_read_fault o files bytes left after w v s taken same few running at)
+pub fault_ends : {T : Type 0} (r : Result T Stop) (o : Setup) (left after v : Option (List ℕ)) (m : Map) (s : Session) (taken : ℕ) → IsErrAnd r (λ stop. stop ≡ ReadFault) → after ≡ left → taken ≤ o.max_bytes → s.has_quit ≡ false →
+    IfErr r (λ stop. (files : Files) (bytes : List ℕ) (w : Option (List ℕ)) → HasServed o files bytes left w v m s taken → HasEndedAs o files bytes after w v m (status_of stop))
+fault_ends (Ok x) o left after v m s taken is same few running = tt
+fault_ends (Err stop) o left after v m s taken is same few running = λ files bytes w at.
+    subst (λ x. HasEndedAs o files bytes after w v m (status_of x)) (sym is) (ends_read_fault o files bytes left after w v m s taken same few running at)
 
 -- a call that gives up within what a read gave
-pub stop_ends : {T : Type 0} (r : Result T Stop) (stop : Stop) (o : Setup) (buffer piece : List ℕ) (left after v u : Option (List ℕ)) (s t : Session) (taken n room : ℕ) → IsErrAnd r (λ x. x ≡ stop) →
+pub stop_ends : {T : Type 0} (r : Result T Stop) (stop : Stop) (o : Setup) (buffer piece : List ℕ) (left after v u : Option (List ℕ)) (l m : Map) (s t : Session) (taken n room : ℕ) → IsErrAnd r (λ x. x ≡ stop) →
     IsRead o buffer piece left after taken n room →
-    ((files : Files) (w : Option (List ℕ)) (bytes : List ℕ) → IsAt o files w v s bytes → StopsIn o files w u t bytes piece room stop) →
-    IfErr r (λ x. (files : Files) (bytes : List ℕ) (w : Option (List ℕ)) → HasServed o files bytes left w v s taken → MayEnd o files bytes after w u (status_of x))
-stop_ends (Ok x) stop o buffer piece left after v u s t taken n room is read stops = tt
-stop_ends (Err x) stop o buffer piece left after v u s t taken n room is read stops = λ files bytes w at.
-    subst (λ y. MayEnd o files bytes after w u (status_of y)) (sym is) (ends_stop o files bytes buffer piece left after w v u s t taken n room stop read stops at)
+    ((files : Files) (w : Option (List ℕ)) (bytes : List ℕ) → IsAt o files w v l s bytes → StopsIn o files w u m t bytes piece room stop) →
+    IfErr r (λ x. (files : Files) (bytes : List ℕ) (w : Option (List ℕ)) → HasServed o files bytes left w v l s taken → HasEndedAs o files bytes after w u m (status_of x))
+stop_ends (Ok x) stop o buffer piece left after v u l m s t taken n room is read stops = tt
+stop_ends (Err x) stop o buffer piece left after v u l m s t taken n room is read stops = λ files bytes w at.
+    subst (λ y. HasEndedAs o files bytes after w u m (status_of y)) (sym is) (ends_stop o files bytes buffer piece left after w v u l m s t taken n room stop read stops at)
 
 -- a call that goes on behind a read
-pub goes_on : (o : Setup) (buffer piece : List ℕ) (left after v u : Option (List ℕ)) (s t : Session) (taken n room : ℕ) → IsRead o buffer piece left after taken n room → (t.has_quit ≡ false → length piece ≤ room) →
-    ((files : Files) (w : Option (List ℕ)) (bytes : List ℕ) → IsAt o files w v s bytes → IsAt o files w u t (bytes ++ take room piece)) →
-    t.has_quit ≡ false → (files : Files) (bytes : List ℕ) (w : Option (List ℕ)) → HasServed o files bytes left w v s taken → HasServed o files bytes after w u t (taken + n)
-goes_on o buffer piece left after v u s t taken n room read fits goes running files bytes w at = serving_more o files bytes buffer piece left after w v u s t taken n room read (fits running) goes at
+pub goes_on : (o : Setup) (buffer piece : List ℕ) (left after v u : Option (List ℕ)) (l m : Map) (s t : Session) (taken n room : ℕ) → IsRead o buffer piece left after taken n room → (t.has_quit ≡ false → length piece ≤ room) →
+    ((files : Files) (w : Option (List ℕ)) (bytes : List ℕ) → IsAt o files w v l s bytes → IsAt o files w u m t (bytes ++ take room piece)) →
+    t.has_quit ≡ false → (files : Files) (bytes : List ℕ) (w : Option (List ℕ)) → HasServed o files bytes left w v l s taken → HasServed o files bytes after w u m t (taken + n)
+goes_on o buffer piece left after v u l m s t taken n room read fits goes running files bytes w at =
+    serving_more o files bytes buffer piece left after w v u l m s t taken n room read (fits running) goes at
 
 -- a call that meets a `quit` line in what a read gave
-pub quits_in : (o : Setup) (buffer piece : List ℕ) (left after v u : Option (List ℕ)) (s t : Session) (taken n room : ℕ) → IsRead o buffer piece left after taken n room →
-    ((files : Files) (w : Option (List ℕ)) (bytes : List ℕ) → IsAt o files w v s bytes → IsAt o files w u t (bytes ++ take room piece)) →
-    t.has_quit ≡ true → (files : Files) (bytes : List ℕ) (w : Option (List ℕ)) → HasServed o files bytes left w v s taken → IsThrough o files bytes after w u t
-quits_in o buffer piece left after v u s t taken n room read goes quit files bytes w at = serving_quit o files bytes buffer piece left after w v u s t taken n room read quit goes at
+pub quits_in : (o : Setup) (buffer piece : List ℕ) (left after v u : Option (List ℕ)) (l m : Map) (s t : Session) (taken n room : ℕ) → IsRead o buffer piece left after taken n room → s.has_quit ≡ false →
+    ((files : Files) (w : Option (List ℕ)) (bytes : List ℕ) → IsAt o files w v l s bytes → IsAt o files w u m t (bytes ++ take room piece)) →
+    t.has_quit ≡ true → (files : Files) (bytes : List ℕ) (w : Option (List ℕ)) → HasServed o files bytes left w v l s taken → IsThrough o files bytes after w u m t
+quits_in o buffer piece left after v u l m s t taken n room read running goes quit files bytes w at = serving_quit o files bytes buffer piece left after w v u l m s t taken n room read running quit goes at
 
 -- a read that gives up, behind reads that didn't
-pub after_stop : {T : Type 0} (r : Result T Stop) (stop : Stop) (o : Setup) (left after end a v u : Option (List ℕ)) (s m : Session) (taken : ℕ) → IsErrAnd r (λ x. x ≡ stop) →
-    ((files : Files) (bytes : List ℕ) (w : Option (List ℕ)) → HasServed o files bytes left w a s 0 → HasServed o files bytes after w v m taken) →
-    ((files : Files) (bytes : List ℕ) (w : Option (List ℕ)) → HasServed o files bytes after w v m taken → MayEnd o files bytes end w u (status_of stop)) →
-    IfErr r (λ x. (files : Files) (bytes : List ℕ) (w : Option (List ℕ)) → HasServed o files bytes left w a s 0 → MayEnd o files bytes end w u (status_of x))
-after_stop (Ok x) stop o left after end a v u s m taken is goes stops = tt
-after_stop (Err x) stop o left after end a v u s m taken is goes stops = λ files bytes w at.
-    subst (λ y. MayEnd o files bytes end w u (status_of y)) (sym is) (stops files bytes w (goes files bytes w at))
+pub after_stop : {T : Type 0} (r : Result T Stop) (stop : Stop) (o : Setup) (left after end a v u : Option (List ℕ)) (k l m : Map) (s t : Session) (taken : ℕ) → IsErrAnd r (λ x. x ≡ stop) →
+    ((files : Files) (bytes : List ℕ) (w : Option (List ℕ)) → HasServed o files bytes left w a k s 0 → HasServed o files bytes after w v l t taken) →
+    ((files : Files) (bytes : List ℕ) (w : Option (List ℕ)) → HasServed o files bytes after w v l t taken → HasEndedAs o files bytes end w u m (status_of stop)) →
+    IfErr r (λ x. (files : Files) (bytes : List ℕ) (w : Option (List ℕ)) → HasServed o files bytes left w a k s 0 → HasEndedAs o files bytes end w u m (status_of x))
+after_stop (Ok x) stop o left after end a v u k l m s t taken is goes stops = tt
+after_stop (Err x) stop o left after end a v u k l m s t taken is goes stops = λ files bytes w at.
+    subst (λ y. HasEndedAs o files bytes end w u m (status_of y)) (sym is) (stops files bytes w (goes files bytes w at))
 
 -- the answer to the last line, at the end of the input
-pub last_read : {E : Type 0} (r : Result (Unit {0}) E) (o : Setup) (left after a v u : Option (List ℕ)) (s m t : Session) (taken : ℕ) → taken ≤ o.max_bytes → IfSome after (λ l. l ≡ []) →
-    ((files : Files) (bytes : List ℕ) (w : Option (List ℕ)) → HasServed o files bytes left w a s 0 → HasServed o files bytes after w v m taken) →
-    OnOk r ((files : Files) (w : Option (List ℕ)) (bytes : List ℕ) → IsAt o files w v m bytes → HasReached o w u t (progress o files (all_lines bytes))) →
-    OnOk r ((files : Files) (bytes : List ℕ) (w : Option (List ℕ)) → HasServed o files bytes left w a s 0 → IsThrough o files bytes after w u t)
-last_read (Ok x) o left after a v u s m t taken few none goes answers = λ files bytes w at. through_end o files bytes after w v u m t taken few none answers (goes files bytes w at)
-last_read (Err x) o left after a v u s m t taken few none goes answers = tt
+pub last_read : {E : Type 0} (r : Result (Unit {0}) E) (o : Setup) (left after a v u : Option (List ℕ)) (k l m : Map) (s t e : Session) (taken : ℕ) → taken ≤ o.max_bytes → IfSome after (λ l. l ≡ []) →
+    ((files : Files) (bytes : List ℕ) (w : Option (List ℕ)) → HasServed o files bytes left w a k s 0 → HasServed o files bytes after w v l t taken) →
+    OnOk r ((files : Files) (w : Option (List ℕ)) (bytes : List ℕ) → IsAt o files w v l t bytes → HasReached o w u m e (closed (progress o files (all_lines bytes)))) →
+    OnOk r ((files : Files) (bytes : List ℕ) (w : Option (List ℕ)) → HasServed o files bytes left w a k s 0 → IsThrough o files bytes after w u m e)
+last_read (Ok x) o left after a v u k l m s t e taken few none goes answers = λ files bytes w at. through_end o files bytes after w v u l m t e taken few none answers (goes files bytes w at)
+last_read (Err x) o left after a v u k l m s t e taken few none goes answers = tt
 
 -- a stop in that answer
-pub last_stop : (r : Result (Unit {0}) Stop) (o : Setup) (left after a v u : Option (List ℕ)) (s m : Session) (taken : ℕ) → taken ≤ o.max_bytes → IfSome after (λ l. l ≡ []) →
-    ((files : Files) (bytes : List ℕ) (w : Option (List ℕ)) → HasServed o files bytes left w a s 0 → HasServed o files bytes after w v m taken) → IfErr r IsSinkStop →
-    OnErr r ((files : Files) (w : Option (List ℕ)) (bytes : List ℕ) → IsAt o files w v m bytes → IsBegun (progress o files (all_lines bytes)).text w u) →
-    IfErr r (λ stop. (files : Files) (bytes : List ℕ) (w : Option (List ℕ)) → HasServed o files bytes left w a s 0 → MayEnd o files bytes after w u (status_of stop))
-last_stop (Ok x) o left after a v u s m taken few none goes only begins = tt
-last_stop (Err stop) o left after a v u s m taken few none goes only begins = λ files bytes w at. ends_last o files bytes after w v u m taken stop few none only begins (goes files bytes w at)
-
--- a session as it begins
-pub record IsNew (o : Setup) (s : Session) : Type 0 where
-  pub values : values_of s.map ≡ (λ k. None)
-  pub odds : odds_of s.map.odds ≡ o.odds
-  pub line : s.lines ≡ unread
-  pub answered : s.answered ≡ 0
-  pub refused : s.refused ≡ false
-  pub running : s.has_quit ≡ false
+pub last_stop : (r : Result (Unit {0}) Stop) (o : Setup) (left after a v u : Option (List ℕ)) (k l m : Map) (s t : Session) (taken : ℕ) → taken ≤ o.max_bytes → IfSome after (λ l. l ≡ []) →
+    ((files : Files) (bytes : List ℕ) (w : Option (List ℕ)) → HasServed o files bytes left w a k s 0 → HasServed o files bytes after w v l t taken) → IfErr r IsSinkStop →
+    OnErr r ((files : Files) (w : Option (List ℕ)) (bytes : List ℕ) → IsAt o files w v l t bytes → StopsAtEnd o files (all_lines bytes) w u m) →
+    IfErr r (λ stop. (files : Files) (bytes : List ℕ) (w : Option (List ℕ)) → HasServed o files bytes left w a k s 0 → HasEndedAs o files bytes after w u m (status_of stop))
+last_stop (Ok x) o left after a v u k l m s t taken few none goes only halts = tt
+last_stop (Err stop) o left after a v u k l m s t taken few none goes only halts = λ files bytes w at. ends_last o files bytes after w v u l m t taken stop few none only halts (goes files bytes w at)
 
 -- a session that has read its script
-pub serve_read : (o : Setup) (left after v u : Option (List ℕ)) (s t : Session) (status : Status) → IsNew o s →
-    status ≡ status_at_end t.refused → ((files : Files) (bytes : List ℕ) (w : Option (List ℕ)) → HasServed o files bytes left w v s 0 → IsThrough o files bytes after w u t) →
-    IfSome left (λ bytes. (files : Files) → MayEnd o files bytes after v u status)
-serve_read o None after v u s t status new is reads = tt
-serve_read o (Some bytes) after v u s t status new is reads = λ files.
-    ends_through o files bytes after v u t status is (reads files bytes v (serving_start o files bytes v s new.values new.odds new.line new.answered new.refused new.running))
+pub serve_read : (o : Setup) (left after v u : Option (List ℕ)) (l m : Map) (s t : Session) (status : Status) → IsNew o l s → status ≡ status_at_end t.refused →
+    ((files : Files) (bytes : List ℕ) (w : Option (List ℕ)) → HasServed o files bytes left w v l s 0 → IsThrough o files bytes after w u m t) →
+    IfSome left (λ bytes. (files : Files) → HasEndedAs o files bytes after v u m status)
+serve_read o None after v u l m s t status new is reads = tt
+serve_read o (Some bytes) after v u l m s t status new is reads = λ files. ends_through o files bytes after v u m t status is (reads files bytes v (serving_start o files bytes v l s new))
 
 -- a session that has stopped
-pub serve_stop : (o : Setup) (left after v u : Option (List ℕ)) (s : Session) (stop : Stop) (status : Status) → IsNew o s →
-    status ≡ status_of stop → ((files : Files) (bytes : List ℕ) (w : Option (List ℕ)) → HasServed o files bytes left w v s 0 → MayEnd o files bytes after w u (status_of stop)) →
+pub serve_stop : (o : Setup) (left after v u : Option (List ℕ)) (l m : Map) (s : Session) (stop : Stop) (status : Status) → IsNew o l s → status ≡ status_of stop →
+    ((files : Files) (bytes : List ℕ) (w : Option (List ℕ)) → HasServed o files bytes left w v l s 0 → HasEndedAs o files bytes after w u m (status_of stop)) →
+    IfSome left (λ bytes. (files : Files) → HasEndedAs o files bytes after v u m status)
+serve_stop o None after v u l m s stop status new is stops = tt
+serve_stop o (Some bytes) after v u l m s stop status new is stops = λ files. subst (λ x. HasEndedAs o files bytes after v u m x) (sym is) (stops files bytes v (serving_start o files bytes v l s new))
+
+-- what was written, and what is left of the input
+pub told_answer : (o : Setup) (left after v u : Option (List ℕ)) (m : Map) (status : Status) → IfSome left (λ bytes. (files : Files) → HasEndedAs o files bytes after v u m status) →
     IfSome left (λ bytes. (files : Files) → MayEnd o files bytes after v u status)
-serve_stop o None after v u s stop status new is stops = tt
-serve_stop o (Some bytes) after v u s stop status new is stops = λ files.
-    subst (λ x. MayEnd o files bytes after v u x) (sym is) (stops files bytes v (serving_start o files bytes v s new.values new.odds new.line new.answered new.refused new.running))
+told_answer o None after v u m status ended = tt
+told_answer o (Some bytes) after v u m status ended = λ files. (ended files).answer
+
+-- what the map stands for
+pub told_map : (o : Setup) (left after v u : Option (List ℕ)) (m : Map) (status : Status) → IfSome left (λ bytes. (files : Files) → HasEndedAs o files bytes after v u m status) →
+    IfSome left (λ bytes. (files : Files) → Leaves o files bytes after v u m status)
+told_map o None after v u m status ended = tt
+told_map o (Some bytes) after v u m status ended = λ files. (ended files).leaves
 
 -- a line leaves the files as they are
 line_files : (o : Setup) (p : Progress) (line : Line) → (after_line o p line).files ≡ p.files
@@ -387,11 +460,10 @@ files_kept o p [] = refl
 files_kept o p (line ∷ lines) = files_kept o (after_line o p line) lines ∙ line_files o p line
 
 -- and so does a session
-pub session_files : (o : Setup) (files : Files) (bytes : List ℕ) → (session o files bytes).files ≡ files
+session_files : (o : Setup) (files : Files) (bytes : List ℕ) → (session o files bytes).files ≡ files
 session_files o files bytes = elim (cases_lt o.max_bytes (length bytes)) [
-  | inl more ↦ ap (λ (a : Answer). a.files) (session_long o files bytes more) ∙ cut_files (progress o files (ended_lines (take o.max_bytes bytes)))
-      ∙ files_kept o (start files) (ended_lines (take o.max_bytes bytes))
-  | inr few ↦ ap (λ (a : Answer). a.files) (session_short o files bytes few) ∙ files_kept o (start files) (all_lines bytes)
+  | inl more ↦ ap (λ (a : Answer). a.files) (session_long o files bytes more) ∙ cut_files (last_progress o files bytes) ∙ files_kept o (start files) (lines_of o bytes)
+  | inr few ↦ ap (λ (a : Answer). a.files) (session_short o files bytes few) ∙ closed_files (last_progress o files bytes) ∙ files_kept o (start files) (lines_of o bytes)
 ]
 
 -- where the files are told, they are those of the answer

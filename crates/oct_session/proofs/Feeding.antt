@@ -1,15 +1,17 @@
 -- A piece of a script, line by line.
-use Rattle.std.proofs.Common.{◌≡◌, ℕ, ◌+◌, ◌≤◌, List, [], ◌∷◌, ◌++◌, length, take, drop, Option, Result, Ok, Err, OnErr, Bool, true, false, cond, sym, ap, subst, ◌∙◌, append_assoc, append-nil}
+use Rattle.std.proofs.Common.{◌≡◌, ℕ, ◌+◌, ◌≤◌, List, [], ◌∷◌, ◌++◌, length, take, drop, Option, Result, Ok, Err, OnOk, OnErr, Bool, true, false, cond, inr, sym, ap, subst, ◌∙◌, append_assoc, append-nil}
 use Rattle.std.proofs.Math.Seq.{take-add}
 use Rattle.std.proofs.lemmas.List.{take_all, take-append-drop}
 use Rattle.oct_io.specs.Files.{Files}
+use Rattle.oct_map.specs.Map.{Map}
 use Rattle.oct_script.specs.Lines.{Line, LineSoFar, unread, ended_lines, rest_of, all_lines, last_line, line_of, IsReading, HasJoined, HasEnded}
 use Rattle.oct_session.specs.declared.session.Session.{Session}
-use Rattle.oct_session.specs.Ending.{IsBegun, replies_within}
-use Rattle.oct_session.specs.Session.{Progress, after_line, progress}
+use Rattle.oct_session.specs.Session.{Progress, after_line, progress, closed}
 use Rattle.oct_session.specs.Setup.{Setup}
-use Rattle.oct_session.specs.Standing.{StandsFor, HasReached, IsAt}
-use Rattle.oct_session.proofs.Progresses.{progress_push, begun_bytes, bytes_behind_quit}
+use Rattle.oct_session.specs.Leaving.{IsHaltedBetween, IsHalted}
+use Rattle.oct_session.specs.Standing.{HasReached, IsAt, StopsAtEnd}
+use Rattle.oct_session.proofs.Halting.{halted_last, halted_bytes}
+use Rattle.oct_session.proofs.Progresses.{progress_push, bytes_behind_quit}
 
 -- some bytes of a piece, and then more of them
 pieces : (bytes piece rest : List ℕ) (i n : ℕ) → rest ≡ drop i piece → bytes ++ take (i + n) piece ≡ (bytes ++ take i piece) ++ take n rest
@@ -17,11 +19,12 @@ pieces bytes piece rest i n e =
     ap (λ x. bytes ++ x) (take-add i n piece ∙ ap (λ x. take i piece ++ take n x) (sym e)) ∙ sym (append_assoc bytes (take i piece) (take n rest))
 
 -- a session that has other bytes of the line that stands
-moved : (o : Setup) (w v : Option (List ℕ)) (s t : Session) (p : Progress) → HasReached o w v s p → t.map ≡ s.map → t.answered ≡ s.answered → t.refused ≡ s.refused → t.has_quit ≡ s.has_quit → HasReached o w v t p
-moved o w v s t p at map answered refused quit = record {
+moved : (o : Setup) (w v : Option (List ℕ)) (m : Map) (s t : Session) (p : Progress) → HasReached o w v m s p → t.answered ≡ s.answered → t.block ≡ s.block → t.refused ≡ s.refused → t.has_quit ≡ s.has_quit → HasReached o w v m t p
+moved o w v m s t p at answered block refused quit = record {
   between = record {
-    map = subst (λ m. StandsFor o m p.history) (sym map) at.between.map;
+    stands = at.between.stands;
     answered = answered ∙ at.between.answered;
+    block = block ∙ at.between.block;
     refused = refused ∙ at.between.refused;
     has_quit = quit ∙ at.between.has_quit;
   };
@@ -29,12 +32,12 @@ moved o w v s t p at map answered refused quit = record {
 }
 
 -- a piece in which no line ends joins the line that stands
-pub at_joined : (o : Setup) (files : Files) (w v : Option (List ℕ)) (s t : Session) (bytes more : List ℕ) → s.has_quit ≡ false → (IsReading s.lines bytes → HasJoined t.lines bytes more) →
-    t.map ≡ s.map → t.answered ≡ s.answered → t.refused ≡ s.refused → t.has_quit ≡ s.has_quit → IsAt o files w v s bytes → IsAt o files w v t more
-at_joined o files w v s t bytes more running joins map answered refused quit at =
+pub at_joined : (o : Setup) (files : Files) (w v : Option (List ℕ)) (m : Map) (s t : Session) (bytes more : List ℕ) → s.has_quit ≡ false → (IsReading s.lines bytes → HasJoined t.lines bytes more) →
+    t.answered ≡ s.answered → t.block ≡ s.block → t.refused ≡ s.refused → t.has_quit ≡ s.has_quit → IsAt o files w v m s bytes → IsAt o files w v m t more
+at_joined o files w v m s t bytes more running joins answered block refused quit at =
     let joined : HasJoined t.lines bytes more = joins (at.line running) in
     record {
-      reached = subst (λ x. HasReached o w v t (progress o files x)) (sym joined.lines) (moved o w v s t (progress o files (ended_lines bytes)) at.reached map answered refused quit);
+      reached = subst (λ x. HasReached o w v m t (progress o files x)) (sym joined.lines) (moved o w v m s t (progress o files (ended_lines bytes)) at.reached answered block refused quit);
       line = λ goes_on. joined.reads;
     }
 
@@ -43,91 +46,121 @@ reads_next : (line : LineSoFar) (bytes : List ℕ) → line ≡ unread → rest_
 reads_next line bytes is none = record { line = ap (λ (x : LineSoFar). x.line) is ∙ ap line_of (sym none); unended = ap (λ (x : LineSoFar). x.has_ended) is }
 
 -- a piece up to a line feed, and the answer to the line that it ends
-pub at_ended : (o : Setup) (files : Files) (w v u : Option (List ℕ)) (s m t : Session) (bytes more : List ℕ) → s.has_quit ≡ false → (IsReading s.lines bytes → HasEnded m.lines bytes more) →
-    m.map ≡ s.map → m.answered ≡ s.answered → m.refused ≡ s.refused → m.has_quit ≡ s.has_quit →
-    ((w : Option (List ℕ)) (p : Progress) → HasReached o w v m p → HasReached o w u t (after_line o p m.lines.line)) → t.lines ≡ unread →
-    IsAt o files w v s bytes → IsAt o files w u t more
-at_ended o files w v u s m t bytes more running ends map answered refused quit answers next at =
-    let done : HasEnded m.lines bytes more = ends (at.line running) in
+pub at_ended : (o : Setup) (files : Files) (w v u : Option (List ℕ)) (m n : Map) (s f t : Session) (bytes more : List ℕ) → s.has_quit ≡ false → (IsReading s.lines bytes → HasEnded f.lines bytes more) →
+    f.answered ≡ s.answered → f.block ≡ s.block → f.refused ≡ s.refused → f.has_quit ≡ s.has_quit →
+    ((w : Option (List ℕ)) (p : Progress) → HasReached o w v m f p → HasReached o w u n t (after_line o p f.lines.line)) → t.lines ≡ unread →
+    IsAt o files w v m s bytes → IsAt o files w u n t more
+at_ended o files w v u m n s f t bytes more running ends answered block refused quit answers next at =
+    let done : HasEnded f.lines bytes more = ends (at.line running) in
     record {
-      reached = subst (λ x. HasReached o w u t x) (sym (ap (λ x. progress o files x) done.lines ∙ progress_push o files (ended_lines bytes) m.lines.line))
-          (answers w (progress o files (ended_lines bytes)) (moved o w v s m (progress o files (ended_lines bytes)) at.reached map answered refused quit));
+      reached = subst (λ x. HasReached o w u n t x) (sym (ap (λ x. progress o files x) done.lines ∙ progress_push o files (ended_lines bytes) f.lines.line))
+          (answers w (progress o files (ended_lines bytes)) (moved o w v m s f (progress o files (ended_lines bytes)) at.reached answered block refused quit));
       line = λ goes_on. reads_next t.lines more next done.rest;
     }
 
--- a piece up to a line feed, and a prefix of the answer to the line that it ends
-pub begun_ended : {T E : Type 0} (r : Result T E) (o : Setup) (v u : Option (List ℕ)) (s m : Session) (piece : List ℕ) (n : ℕ) → s.has_quit ≡ false →
-    ((bytes : List ℕ) → IsReading s.lines bytes → HasEnded m.lines bytes (bytes ++ take n piece)) →
-    m.map ≡ s.map → m.answered ≡ s.answered → m.refused ≡ s.refused → m.has_quit ≡ s.has_quit →
-    ((w : Option (List ℕ)) (p : Progress) → HasReached o w v m p → IsBegun (after_line o p m.lines.line).text w u) →
-    OnErr r ((files : Files) (w : Option (List ℕ)) (bytes : List ℕ) → IsAt o files w v s bytes → IsBegun (replies_within o files (bytes ++ piece)) w u)
-begun_ended (Ok x) o v u s m piece n running ends map answered refused quit begins = tt
-begun_ended (Err x) o v u s m piece n running ends map answered refused quit begins = λ files w bytes at.
-    let done : HasEnded m.lines bytes (bytes ++ take n piece) = ends bytes (at.line running) in
-    let begun : IsBegun (replies_within o files (bytes ++ take n piece)) w u =
-    subst (λ (p : Progress). IsBegun p.text w u) (sym (ap (λ x. progress o files x) done.lines ∙ progress_push o files (ended_lines bytes) m.lines.line))
-    (begins w (progress o files (ended_lines bytes)) (moved o w v s m (progress o files (ended_lines bytes)) at.reached map answered refused quit)) in
-    let whole : (bytes ++ take n piece) ++ drop n piece ≡ bytes ++ piece = append_assoc bytes (take n piece) (drop n piece) ∙ ap (λ x. bytes ++ x) (take-append-drop n piece) in
-    subst (λ x. IsBegun (replies_within o files x) w u) whole (begun_bytes o files (bytes ++ take n piece) (drop n piece) w u begun)
+-- a piece up to a line feed, and a halt at the line that it ends
+pub halted_ended : {T E : Type 0} (r : Result T E) (o : Setup) (v u : Option (List ℕ)) (m n : Map) (s f : Session) (piece : List ℕ) (k : ℕ) → s.has_quit ≡ false →
+    ((bytes : List ℕ) → IsReading s.lines bytes → HasEnded f.lines bytes (bytes ++ take k piece)) →
+    f.answered ≡ s.answered → f.block ≡ s.block → f.refused ≡ s.refused → f.has_quit ≡ s.has_quit →
+    ((w : Option (List ℕ)) (p : Progress) → HasReached o w v m f p → IsHaltedBetween o p (after_line o p f.lines.line) w u n) →
+    OnErr r ((files : Files) (w : Option (List ℕ)) (bytes : List ℕ) → IsAt o files w v m s bytes → IsHalted o files (ended_lines (bytes ++ piece)) w u n)
+halted_ended (Ok x) o v u m n s f piece k running ends answered block refused quit halts = tt
+halted_ended (Err x) o v u m n s f piece k running ends answered block refused quit halts = λ files w bytes at.
+    let done : HasEnded f.lines bytes (bytes ++ take k piece) = ends bytes (at.line running) in
+    let halted : IsHalted o files (ended_lines (bytes ++ take k piece)) w u n =
+    subst (λ x. IsHalted o files x w u n) (sym done.lines)
+    (halted_last o files (ended_lines bytes) f.lines.line w u n
+    (halts w (progress o files (ended_lines bytes)) (moved o w v m s f (progress o files (ended_lines bytes)) at.reached answered block refused quit))) in
+    let whole : (bytes ++ take k piece) ++ drop k piece ≡ bytes ++ piece = append_assoc bytes (take k piece) (drop k piece) ∙ ap (λ x. bytes ++ x) (take-append-drop k piece) in
+    subst (λ x. IsHalted o files (ended_lines x) w u n) whole (halted_bytes o files (bytes ++ take k piece) (drop k piece) w u n halted)
 
 -- a step more through a piece
-pub at_more : (o : Setup) (w v u : Option (List ℕ)) (s t : Session) (files : Files) (bytes piece rest : List ℕ) (i n : ℕ) → rest ≡ drop i piece →
-    ((files : Files) (w : Option (List ℕ)) (bytes : List ℕ) → IsAt o files w v s bytes → IsAt o files w u t (bytes ++ take n rest)) →
-    IsAt o files w v s (bytes ++ take i piece) → IsAt o files w u t (bytes ++ take (i + n) piece)
-at_more o w v u s t files bytes piece rest i n e step at = subst (λ x. IsAt o files w u t x) (sym (pieces bytes piece rest i n e)) (step files w (bytes ++ take i piece) at)
+pub at_more : (o : Setup) (w v u : Option (List ℕ)) (m n : Map) (s t : Session) (files : Files) (bytes piece rest : List ℕ) (i k : ℕ) → rest ≡ drop i piece →
+    ((files : Files) (w : Option (List ℕ)) (bytes : List ℕ) → IsAt o files w v m s bytes → IsAt o files w u n t (bytes ++ take k rest)) →
+    IsAt o files w v m s (bytes ++ take i piece) → IsAt o files w u n t (bytes ++ take (i + k) piece)
+at_more o w v u m n s t files bytes piece rest i k e step at = subst (λ x. IsAt o files w u n t x) (sym (pieces bytes piece rest i k e)) (step files w (bytes ++ take i piece) at)
 
--- a step that gives up within a piece
-pub begun_more_of : {T E : Type 0} (r : Result T E) (o : Setup) (a v u : Option (List ℕ)) (s t : Session) (piece rest : List ℕ) (i : ℕ) → rest ≡ drop i piece →
-    ((files : Files) (w : Option (List ℕ)) (bytes : List ℕ) → IsAt o files w a s bytes → IsAt o files w v t (bytes ++ take i piece)) →
-    ((files : Files) (w : Option (List ℕ)) (bytes : List ℕ) → IsAt o files w v t bytes → IsBegun (replies_within o files (bytes ++ rest)) w u) →
-    OnErr r ((files : Files) (w : Option (List ℕ)) (bytes : List ℕ) → IsAt o files w a s bytes → IsBegun (replies_within o files (bytes ++ piece)) w u)
-begun_more_of (Ok x) o a v u s t piece rest i e goes begins = tt
-begun_more_of (Err x) o a v u s t piece rest i e goes begins = λ files w bytes at.
+-- a step that halts within a piece
+pub halted_within : {T E : Type 0} (r : Result T E) (o : Setup) (a v u : Option (List ℕ)) (l m n : Map) (s t : Session) (piece rest : List ℕ) (i : ℕ) → rest ≡ drop i piece →
+    ((files : Files) (w : Option (List ℕ)) (bytes : List ℕ) → IsAt o files w a l s bytes → IsAt o files w v m t (bytes ++ take i piece)) →
+    ((files : Files) (w : Option (List ℕ)) (bytes : List ℕ) → IsAt o files w v m t bytes → IsHalted o files (ended_lines (bytes ++ rest)) w u n) →
+    OnErr r ((files : Files) (w : Option (List ℕ)) (bytes : List ℕ) → IsAt o files w a l s bytes → IsHalted o files (ended_lines (bytes ++ piece)) w u n)
+halted_within (Ok x) o a v u l m n s t piece rest i e goes halts = tt
+halted_within (Err x) o a v u l m n s t piece rest i e goes halts = λ files w bytes at.
     let whole : (bytes ++ take i piece) ++ rest ≡ bytes ++ piece = append_assoc bytes (take i piece) rest ∙ ap (λ x. bytes ++ (take i piece ++ x)) e ∙ ap (λ x. bytes ++ x) (take-append-drop i piece) in
-    subst (λ x. IsBegun (replies_within o files x) w u) whole (begins files w (bytes ++ take i piece) (goes files w bytes at))
+    subst (λ x. IsHalted o files (ended_lines x) w u n) whole (halts files w (bytes ++ take i piece) (goes files w bytes at))
 
 -- a piece that was taken whole
-pub at_whole : (o : Setup) (files : Files) (w v : Option (List ℕ)) (s : Session) (bytes piece : List ℕ) (i : ℕ) → length piece ≤ i → IsAt o files w v s (bytes ++ take i piece) → IsAt o files w v s (bytes ++ piece)
-at_whole o files w v s bytes piece i all at = subst (λ x. IsAt o files w v s (bytes ++ x)) (take_all i piece all) at
+pub at_whole : (o : Setup) (files : Files) (w v : Option (List ℕ)) (m : Map) (s : Session) (bytes piece : List ℕ) (i : ℕ) → length piece ≤ i → IsAt o files w v m s (bytes ++ take i piece) → IsAt o files w v m s (bytes ++ piece)
+at_whole o files w v m s bytes piece i all at = subst (λ x. IsAt o files w v m s (bytes ++ x)) (take_all i piece all) at
+
+-- a piece of which all may be taken
+pub fits_whole : {T E : Type 0} (r : Result T E) (o : Setup) (v u : Option (List ℕ)) (m n : Map) (s t : Session) (piece : List ℕ) (room : ℕ) → length piece ≤ room →
+    OnOk r ((files : Files) (w : Option (List ℕ)) (bytes : List ℕ) → IsAt o files w v m s bytes → IsAt o files w u n t (bytes ++ piece)) →
+    OnOk r ((files : Files) (w : Option (List ℕ)) (bytes : List ℕ) → IsAt o files w v m s bytes → IsAt o files w u n t (bytes ++ take room piece))
+fits_whole r o v u m n s t piece room fits goes =
+    subst (λ x. OnOk r ((files : Files) (w : Option (List ℕ)) (bytes : List ℕ) → IsAt o files w v m s bytes → IsAt o files w u n t (bytes ++ x))) (sym (take_all room piece fits)) goes
+
+-- a piece of which the front was taken
+pub at_front : (o : Setup) (v u : Option (List ℕ)) (m n : Map) (s t : Session) (piece front : List ℕ) (room : ℕ) → front ≡ take room piece →
+    ((files : Files) (w : Option (List ℕ)) (bytes : List ℕ) → IsAt o files w v m s bytes → IsAt o files w u n t (bytes ++ front)) →
+    (files : Files) (w : Option (List ℕ)) (bytes : List ℕ) → IsAt o files w v m s bytes → IsAt o files w u n t (bytes ++ take room piece)
+at_front o v u m n s t piece front room is goes files w bytes at = subst (λ x. IsAt o files w u n t (bytes ++ x)) is (goes files w bytes at)
 
 -- bytes behind a `quit` have no effect
-pub at_quit : (o : Setup) (files : Files) (w v : Option (List ℕ)) (s : Session) (bytes piece : List ℕ) (i : ℕ) → s.has_quit ≡ true → IsAt o files w v s (bytes ++ take i piece) → IsAt o files w v s (bytes ++ piece)
-at_quit o files w v s bytes piece i quit at =
+pub at_quit : (o : Setup) (files : Files) (w v : Option (List ℕ)) (m : Map) (s : Session) (bytes piece : List ℕ) (i : ℕ) → s.has_quit ≡ true → IsAt o files w v m s (bytes ++ take i piece) → IsAt o files w v m s (bytes ++ piece)
+at_quit o files w v m s bytes piece i quit at =
     let whole : (bytes ++ take i piece) ++ drop i piece ≡ bytes ++ piece = append_assoc bytes (take i piece) (drop i piece) ∙ ap (λ x. bytes ++ x) (take-append-drop i piece) in
     let same : progress o files (ended_lines ((bytes ++ take i piece) ++ drop i piece)) ≡ progress o files (ended_lines (bytes ++ take i piece)) =
     bytes_behind_quit o files (bytes ++ take i piece) (drop i piece) (sym at.reached.between.has_quit ∙ quit) in
-    subst (λ x. IsAt o files w v s x) whole (record { reached = subst (λ x. HasReached o w v s x) (sym same) at.reached; line = λ goes_on. cc })
+    subst (λ x. IsAt o files w v m s x) whole (record { reached = subst (λ x. HasReached o w v m s x) (sym same) at.reached; line = λ goes_on. cc })
 
 -- all lines, where the line that stands is the last one
-last_progress : (o : Setup) (files : Files) (bytes : List ℕ) (line : Line) → last_line (rest_of bytes) ≡ line ∷ [] →
-    progress o files (all_lines bytes) ≡ after_line o (progress o files (ended_lines bytes)) line
-last_progress o files bytes line last = ap (λ x. progress o files (ended_lines bytes ++ x)) last ∙ progress_push o files (ended_lines bytes) line
+last_lines : (bytes : List ℕ) (line : Line) → last_line (rest_of bytes) ≡ line ∷ [] → all_lines bytes ≡ ended_lines bytes ++ line ∷ []
+last_lines bytes line last = ap (λ x. ended_lines bytes ++ x) last
 
 -- what stands of a line where the script ends
 standing : (s : Session) (bytes : List ℕ) (has_rest b : Bool) → has_rest ≡ b → last_line (rest_of bytes) ≡ cond has_rest (s.lines.line ∷ []) [] → last_line (rest_of bytes) ≡ cond b (s.lines.line ∷ []) []
 standing s bytes has_rest b is last = subst (λ x. last_line (rest_of bytes) ≡ cond x (s.lines.line ∷ []) []) is last
 
 -- the last line, answered, where the script has ended
-pub end_line : (o : Setup) (files : Files) (w v u : Option (List ℕ)) (s t : Session) (bytes : List ℕ) (has_rest : Bool) → s.has_quit ≡ false → has_rest ≡ true →
-    ((bytes : List ℕ) → IsReading s.lines bytes → last_line (rest_of bytes) ≡ cond has_rest (s.lines.line ∷ []) []) → IsAt o files w v s bytes →
-    HasReached o w u t (after_line o (progress o files (ended_lines bytes)) s.lines.line) → HasReached o w u t (progress o files (all_lines bytes))
-end_line o files w v u s t bytes has_rest running some last at reached =
-    subst (λ x. HasReached o w u t x) (sym (last_progress o files bytes s.lines.line (standing s bytes has_rest true some (last bytes (at.line running))))) reached
+pub end_line : (o : Setup) (files : Files) (w v u : Option (List ℕ)) (m n : Map) (s t : Session) (bytes : List ℕ) (has_rest : Bool) → s.has_quit ≡ false → has_rest ≡ true →
+    ((bytes : List ℕ) → IsReading s.lines bytes → last_line (rest_of bytes) ≡ cond has_rest (s.lines.line ∷ []) []) → IsAt o files w v m s bytes →
+    HasReached o w u n t (after_line o (progress o files (ended_lines bytes)) s.lines.line) → HasReached o w u n t (progress o files (all_lines bytes))
+end_line o files w v u m n s t bytes has_rest running some last at reached =
+    let lines : all_lines bytes ≡ ended_lines bytes ++ s.lines.line ∷ [] = last_lines bytes s.lines.line (standing s bytes has_rest true some (last bytes (at.line running))) in
+    subst (λ x. HasReached o w u n t x) (sym (ap (λ x. progress o files x) lines ∙ progress_push o files (ended_lines bytes) s.lines.line)) reached
 
--- a prefix of its answer
-pub end_begun : {T E : Type 0} (r : Result T E) (o : Setup) (v u : Option (List ℕ)) (s : Session) (has_rest : Bool) → s.has_quit ≡ false → has_rest ≡ true →
+-- a halt at it
+pub end_halted : {T E : Type 0} (r : Result T E) (o : Setup) (v u : Option (List ℕ)) (m n : Map) (s : Session) (has_rest : Bool) → s.has_quit ≡ false → has_rest ≡ true →
     ((bytes : List ℕ) → IsReading s.lines bytes → last_line (rest_of bytes) ≡ cond has_rest (s.lines.line ∷ []) []) →
-    OnErr r ((w : Option (List ℕ)) (p : Progress) → HasReached o w v s p → IsBegun (after_line o p s.lines.line).text w u) →
-    OnErr r ((files : Files) (w : Option (List ℕ)) (bytes : List ℕ) → IsAt o files w v s bytes → IsBegun (progress o files (all_lines bytes)).text w u)
-end_begun (Ok x) o v u s has_rest running some last begins = tt
-end_begun (Err x) o v u s has_rest running some last begins = λ files w bytes at.
-    subst (λ (p : Progress). IsBegun p.text w u) (sym (last_progress o files bytes s.lines.line (standing s bytes has_rest true some (last bytes (at.line running)))))
-    (begins w (progress o files (ended_lines bytes)) at.reached)
+    OnErr r ((w : Option (List ℕ)) (p : Progress) → HasReached o w v m s p → IsHaltedBetween o p (after_line o p s.lines.line) w u n) →
+    OnErr r ((files : Files) (w : Option (List ℕ)) (bytes : List ℕ) → IsAt o files w v m s bytes → IsHalted o files (all_lines bytes) w u n)
+end_halted (Ok x) o v u m n s has_rest running some last halts = tt
+end_halted (Err x) o v u m n s has_rest running some last halts = λ files w bytes at.
+    let lines : all_lines bytes ≡ ended_lines bytes ++ s.lines.line ∷ [] = last_lines bytes s.lines.line (standing s bytes has_rest true some (last bytes (at.line running))) in
+    subst (λ x. IsHalted o files x w u n) (sym lines) (halted_last o files (ended_lines bytes) s.lines.line w u n (halts w (progress o files (ended_lines bytes)) at.reached))
 
 -- where the script ends with a line feed, all its lines are answered
-pub end_none : (o : Setup) (files : Files) (w v : Option (List ℕ)) (s : Session) (bytes : List ℕ) (has_rest : Bool) → s.has_quit ≡ false → has_rest ≡ false →
-    ((bytes : List ℕ) → IsReading s.lines bytes → last_line (rest_of bytes) ≡ cond has_rest (s.lines.line ∷ []) []) → IsAt o files w v s bytes →
-    HasReached o w v s (progress o files (all_lines bytes))
-end_none o files w v s bytes has_rest running none last at =
+pub end_none : (o : Setup) (files : Files) (w v : Option (List ℕ)) (m : Map) (s : Session) (bytes : List ℕ) (has_rest : Bool) → s.has_quit ≡ false → has_rest ≡ false →
+    ((bytes : List ℕ) → IsReading s.lines bytes → last_line (rest_of bytes) ≡ cond has_rest (s.lines.line ∷ []) []) → IsAt o files w v m s bytes →
+    HasReached o w v m s (progress o files (all_lines bytes))
+end_none o files w v m s bytes has_rest running none last at =
     let nothing : last_line (rest_of bytes) ≡ [] = standing s bytes has_rest false none (last bytes (at.line running)) in
-    subst (λ x. HasReached o w v s (progress o files x)) (sym (ap (λ x. ended_lines bytes ++ x) nothing ∙ append-nil (ended_lines bytes))) at.reached
+    subst (λ x. HasReached o w v m s (progress o files x)) (sym (ap (λ x. ended_lines bytes ++ x) nothing ∙ append-nil (ended_lines bytes))) at.reached
+
+-- the end of the script, behind its last line
+pub end_closed : {T E : Type 0} (r : Result T E) (o : Setup) (a v u : Option (List ℕ)) (m n : Map) (s t e : Session) →
+    ((files : Files) (w : Option (List ℕ)) (bytes : List ℕ) → IsAt o files w a m s bytes → HasReached o w v n t (progress o files (all_lines bytes))) →
+    OnOk r ((o : Setup) (m : Map) (w : Option (List ℕ)) (p : Progress) → HasReached o w v m t p → HasReached o w u m e (closed p)) →
+    OnOk r ((files : Files) (w : Option (List ℕ)) (bytes : List ℕ) → IsAt o files w a m s bytes → HasReached o w u n e (closed (progress o files (all_lines bytes))))
+end_closed (Ok x) o a v u m n s t e goes closes = λ files w bytes at. closes o n w (progress o files (all_lines bytes)) (goes files w bytes at)
+end_closed (Err x) o a v u m n s t e goes closes = tt
+
+-- a halt there
+pub end_stopped : {T E : Type 0} (r : Result T E) (o : Setup) (a v u : Option (List ℕ)) (m n : Map) (s t : Session) →
+    ((files : Files) (w : Option (List ℕ)) (bytes : List ℕ) → IsAt o files w a m s bytes → HasReached o w v n t (progress o files (all_lines bytes))) →
+    OnErr r ((o : Setup) (m : Map) (w : Option (List ℕ)) (p : Progress) → HasReached o w v m t p → IsHaltedBetween o p (closed p) w u m) →
+    OnErr r ((files : Files) (w : Option (List ℕ)) (bytes : List ℕ) → IsAt o files w a m s bytes → StopsAtEnd o files (all_lines bytes) w u n)
+end_stopped (Ok x) o a v u m n s t goes halts = tt
+end_stopped (Err x) o a v u m n s t goes halts = λ files w bytes at. inr (halts o n w (progress o files (all_lines bytes)) (goes files w bytes at))

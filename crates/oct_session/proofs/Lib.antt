@@ -1,7 +1,12 @@
+pub mod Zeros
 pub mod Begun
 pub mod Progresses
+pub mod Heard
+pub mod Halting
 pub mod Feeding
-pub mod Bounds
 pub mod Foldings
+pub mod Answering
 pub mod Replying
+pub mod Effects
+pub mod Somehow
 pub mod Endings

@@ -1,19 +1,20 @@
 -- A session over more lines.
-use Rattle.std.proofs.Common.{◌≡◌, ℕ, List, [], ◌∷◌, ◌++◌, take, true, false, cond, Option, Result, Ok, Err, OnErr, refl, sym, ap, subst, ◌∙◌, append_assoc, append-nil}
+use Rattle.std.proofs.Common.{◌≡◌, ℕ, ◌≤◌, List, [], ◌∷◌, ◌++◌, take, drop, Bool, true, false, cond, Option, refl, sym, ap, ◌∙◌, append_assoc, append-nil}
 use Rattle.std.specs.List.{fold}
+use Rattle.std.proofs.lemmas.List.{take-take, take-append-drop}
 use Rattle.std.proofs.lemmas.List.Sums.{fold-append, fold_push}
 use Rattle.oct_io.specs.Files.{Files}
 use Rattle.oct_io.specs.Told.{appended}
 use Rattle.oct_io.proofs.Appending.{appended_twice}
+use Rattle.oct_map.specs.Map.{Map}
 use Rattle.oct_script.specs.Lines.{Line, ended_lines}
 use Rattle.oct_script.specs.Replies.{text_of}
 use Rattle.oct_script.proofs.Cuts.{ended_lines-append}
 use Rattle.oct_session.specs.declared.session.Session.{Session}
-use Rattle.oct_session.specs.Ending.{IsBegun, replies_within, has_quit_within}
-use Rattle.oct_session.specs.Session.{Progress, start, reply_to, answered, after_line, progress}
+use Rattle.oct_session.specs.Ending.{replies_within, has_quit_within}
+use Rattle.oct_session.specs.Session.{Progress, start, effect_of, answered, after_line, progress}
 use Rattle.oct_session.specs.Setup.{Setup}
 use Rattle.oct_session.specs.Standing.{IsBetween, HasReached}
-use Rattle.oct_session.proofs.Begun.{begun_more, begun_behind, begun_whole}
 
 -- one line more
 pub progress_push : (o : Setup) (files : Files) (lines : List Line) (line : Line) → progress o files (lines ++ line ∷ []) ≡ after_line o (progress o files lines) line
@@ -42,11 +43,21 @@ bytes_behind_quit o files bytes more quit =
     let s = ended_lines-append bytes more in
     ap (λ lines. progress o files lines) s.1 ∙ progress_behind_quit o files (ended_lines bytes) s.0 quit
 
+no_quit_by : (o : Setup) (files : Files) (bytes more : List ℕ) (b : Bool) → has_quit_within o files bytes ≡ b → has_quit_within o files (bytes ++ more) ≡ false → b ≡ false
+no_quit_by o files bytes more true is running = let same = ap (λ (p : Progress). p.has_quit) (bytes_behind_quit o files bytes more is) in cc
+no_quit_by o files bytes more false is running = refl
+
+-- where no `quit` line ends within some bytes, none ends within the first of them
+pub no_quit_before : (o : Setup) (files : Files) (bytes : List ℕ) (k taken : ℕ) → k ≤ taken → has_quit_within o files (take taken bytes) ≡ false → has_quit_within o files (take k bytes) ≡ false
+no_quit_before o files bytes k taken few running =
+    no_quit_by o files (take k bytes) (drop k (take taken bytes)) (has_quit_within o files (take k bytes)) refl
+    (ap (has_quit_within o files) (ap (λ x. x ++ drop k (take taken bytes)) (sym (take-take k taken bytes few)) ∙ take-append-drop k (take taken bytes)) ∙ running)
+
 -- a line leaves the replies that were there, and writes more behind them
 line_grows : (o : Setup) (p : Progress) (line : Line) → (more : List ℕ) × ((after_line o p line).text ≡ p.text ++ more)
 line_grows o p line = elim p.has_quit as (λ v. (more : List ℕ) × ((cond v p (answered o p line)).text ≡ p.text ++ more)) [
   | true ↦ ([], sym (append-nil p.text))
-  | false ↦ (text_of (reply_to o p line), refl)
+  | false ↦ (text_of (effect_of o p line).reply, refl)
 ]
 
 text_grows : (o : Setup) (p : Progress) (lines : List Line) → (more : List ℕ) × ((fold (after_line o) p lines).text ≡ p.text ++ more)
@@ -69,37 +80,15 @@ replies_grow o files bytes more =
     let t = progress_grows o files (ended_lines bytes) s.0 in
     (t.0, ap (λ lines. (progress o files lines).text) s.1 ∙ t.1)
 
--- what was written for some bytes is a prefix of what is written for more
-pub begun_bytes : (o : Setup) (files : Files) (bytes more : List ℕ) (old new : Option (List ℕ)) → IsBegun (replies_within o files bytes) old new → IsBegun (replies_within o files (bytes ++ more)) old new
-begun_bytes o files bytes more old new b = let s = replies_grow o files bytes more in begun_more _ _ s.0 old new s.1 b
-
 -- whether the session goes on
-running_at : (o : Setup) (s : Session) (p : Progress) → IsBetween o s p → s.has_quit ≡ false → p.has_quit ≡ false
-running_at o s p at running = sym at.has_quit ∙ running
+running_at : (o : Setup) (m : Map) (s : Session) (p : Progress) → IsBetween o m s p → s.has_quit ≡ false → p.has_quit ≡ false
+running_at o m s p at running = sym at.has_quit ∙ running
 
 -- a line that is answered whole
-pub reached_line : (o : Setup) (w v u : Option (List ℕ)) (s t : Session) (p : Progress) (line : Line) (text : List ℕ) → s.has_quit ≡ false →
-    HasReached o w v s p → IsBetween o t (after_line o p line) → text ≡ text_of (reply_to o p line) → u ≡ appended v text → HasReached o w u t (after_line o p line)
-reached_line o w v u s t p line text running at between e written = record {
+pub reached_line : (o : Setup) (w v u : Option (List ℕ)) (m n : Map) (s t : Session) (p : Progress) (line : Line) (text : List ℕ) → s.has_quit ≡ false →
+    HasReached o w v m s p → IsBetween o n t (after_line o p line) → text ≡ text_of (effect_of o p line).reply → u ≡ appended v text → HasReached o w u n t (after_line o p line)
+reached_line o w v u m n s t p line text running at between e written = record {
   between = between;
   written = written ∙ ap (λ x. appended x text) at.written ∙ appended_twice w p.text text ∙ ap (λ x. appended w (p.text ++ x)) e
-      ∙ ap (λ (x : Progress). appended w x.text) (sym (after_answered o p line (running_at o s p at.between running)));
+      ∙ ap (λ (x : Progress). appended w x.text) (sym (after_answered o p line (running_at o m s p at.between running)));
 }
-
--- a line that is answered in part
-begun_line : (o : Setup) (w v u : Option (List ℕ)) (s : Session) (p : Progress) (line : Line) (text : List ℕ) → s.has_quit ≡ false →
-    HasReached o w v s p → text ≡ text_of (reply_to o p line) → (n : ℕ) → u ≡ appended v (take n text) → IsBegun (after_line o p line).text w u
-begun_line o w v u s p line text running at e n written =
-    subst (λ (x : Progress). IsBegun x.text w u) (sym (after_answered o p line (running_at o s p at.between running)))
-    (begun_behind p.text (text_of (reply_to o p line)) n w v u at.written (written ∙ ap (λ x. appended v (take n x)) e))
-
--- a line that isn't answered
-pub begun_before : (o : Setup) (w v : Option (List ℕ)) (s : Session) (p : Progress) (line : Line) → HasReached o w v s p → IsBegun (after_line o p line).text w v
-begun_before o w v s p line at = let t = line_grows o p line in begun_more p.text _ t.0 w v t.1 (begun_whole p.text w v at.written)
-
--- what an error leaves, where a part of the answer was written before it
-pub begun_err : {T E : Type 0} (r : Result T E) (o : Setup) (v u : Option (List ℕ)) (s : Session) (text : List ℕ) (n : ℕ) → s.has_quit ≡ false →
-    ((p : Progress) → IsBetween o s p → text ≡ text_of (reply_to o p s.lines.line)) → u ≡ appended v (take n text) →
-    OnErr r ((w : Option (List ℕ)) (p : Progress) → HasReached o w v s p → IsBegun (after_line o p s.lines.line).text w u)
-begun_err (Ok x) o v u s text n running same written = tt
-begun_err (Err x) o v u s text n running same written = λ w p at. begun_line o w v u s p s.lines.line text running at (same p at.between) n written

@@ -1,5 +1,5 @@
 -- What a session writes, and how it may end.
-use Rattle.std.specs.Prelude.{◌≡◌, ◌⊎◌, ℕ, ◌+◌, ◌≤◌, List, [], ◌++◌, length, take, drop, Bool, true, false, Option, Some}
+use Rattle.std.specs.Prelude.{◌≡◌, ◌⊎◌, ℕ, ◌+◌, ◌-◌, ◌≤◌, List, [], ◌++◌, length, take, drop, Bool, true, false, Option, Some}
 use Rattle.oct_io.specs.Files.{Files}
 use Rattle.oct_io.specs.Told.{appended}
 use Rattle.oct_script.specs.Lines.{ended_lines}
@@ -39,12 +39,21 @@ pub record HasTakenAtMost (most : ℕ) (bytes : List ℕ) (left : Option (List �
   pub few : taken ≤ most
   pub input : HasTaken taken bytes left
 
--- the script was read to its end: nothing is left of it, or a `quit` line ended within the bytes taken, of which `max_bytes` count
+-- the most bytes that one read asks for
+abbrev pub most_read : ℕ
+most_read = 16384
+
+-- a `quit` line ended within the bytes taken, of which `max_bytes` count, and none had ended before the last read
+pub record HasQuitIn (o : Setup) (files : Files) (bytes : List ℕ) (taken : ℕ) : Type 0 where
+  pub quits : has_quit_within o files (take o.max_bytes (take taken bytes)) ≡ true
+  pub at_once : has_quit_within o files (take (taken - most_read) bytes) ≡ false
+
+-- the script was read to its end: nothing is left of it, or a `quit` line ended in the last read
 pub record IsReadToEnd (o : Setup) (files : Files) (bytes : List ℕ) (left : Option (List ℕ)) : Type 0 where
   pub taken : ℕ
   pub few : taken ≤ o.max_bytes + 1
   pub input : HasTaken taken bytes left
-  pub end : (left ≡ Some []) ⊎ (has_quit_within o files (take o.max_bytes (take taken bytes)) ≡ true)
+  pub end : (left ≡ Some []) ⊎ HasQuitIn o files bytes taken
 
 -- the input failed within the limit and before a `quit` line had ended, and exactly the replies to the lines that end within the bytes taken were written
 pub record IsCutOff (o : Setup) (files : Files) (bytes : List ℕ) (left old new : Option (List ℕ)) : Type 0 where

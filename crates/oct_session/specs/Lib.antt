@@ -1,7 +1,10 @@
 pub mod Stops
 pub mod Setup
-pub mod Values
 pub mod History
+pub mod ScanSoFar
+pub mod Commands
+pub mod ScanBlock
 pub mod Session
 pub mod Ending
+pub mod Leaving
 pub mod Standing

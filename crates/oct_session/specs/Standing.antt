@@ -1,56 +1,108 @@
--- The session at work: what it holds for the bytes that it has taken.
-use Rattle.std.specs.Prelude.{◌≡◌, ℕ, ◌<◌, List, ◌++◌, length, take, Option, false}
+-- The map and the session at work: what they hold for the bytes that were taken.
+use Rattle.std.specs.Prelude.{◌≡◌, ℕ, ◌<◌, ◌⊎◌, List, ◌++◌, length, take, Option, IsSome, Result, Ok, Err, false}
 use Rattle.oct_io.specs.Files.{Files}
 use Rattle.oct_io.specs.Told.{appended}
-use Rattle.oct_odds.specs.Odds.{odds_of}
-use Rattle.oct_script.specs.Lines.{ended_lines, IsReading}
+use Rattle.oct_map.specs.Map.{Map}
+use Rattle.oct_script.specs.declared.command.Command.{Command}
+use Rattle.oct_script.specs.declared.reply.Refusal.{Refusal}
+use Rattle.oct_script.specs.declared.reply.Reply.{Reply}
+use Rattle.oct_script.specs.Lines.{Line, ended_lines, IsReading}
+use Rattle.oct_session.specs.declared.options.Status.{Status}
 use Rattle.oct_session.specs.declared.options.Stop.{Stop}
 use Rattle.oct_session.specs.declared.options.Stop.TheVariants.{TooLong, ReadFault, WriteFault, Memory}
 use Rattle.oct_session.specs.declared.session.Session.{Session}
-use Rattle.oct_session.specs.declared.voxel_map.VoxelMap.{VoxelMap}
-use Rattle.oct_session.specs.Ending.{HasTaken, IsBegun, IsReadToEnd, replies_within}
-use Rattle.oct_session.specs.History.{History, value_after}
-use Rattle.oct_session.specs.Session.{Progress, progress, session, finished}
+use Rattle.oct_session.specs.Ending.{HasTaken, IsReadToEnd, MayEnd}
+use Rattle.oct_session.specs.Leaving.{StandsFor, IsHalted, IsHaltedAtEnd, Leaves}
+use Rattle.oct_session.specs.History.{History}
+use Rattle.oct_session.specs.Session.{Progress, Effect, effect_of, after_line, progress, closed, session, finished, last_progress}
+use Rattle.oct_session.specs.Commands.{reply, action_of, accepted}
+use Rattle.oct_session.specs.ScanBlock.{block_reply, block_action}
 use Rattle.oct_session.specs.Setup.{Setup}
-use Rattle.oct_session.specs.Values.{values_of}
+use Rattle.oct_session.specs.declared.block.Block.{Block}
+use Rattle.oct_session.specs.declared.lines.LineDone.{LineDone}
 
--- the map has the log-odds of the session, and for each voxel its value after this history
-pub record StandsFor (o : Setup) (map : VoxelMap) (history : History) : Type 0 where
-  pub odds : odds_of map.odds ≡ o.odds
-  pub values : values_of map ≡ value_after o history
+-- something was answered and done on a map that stood for some history: this is the reply to the history, and these are the actions, done
+-- unless the reply is a refusal
+abbrev pub HasAnswered : Setup → (History → Option Reply) → History → Map → Map → Option Reply → Type 0
+HasAnswered o reply actions old new answer =
+    (history : History) → StandsFor o old history → (answer ≡ reply history) × StandsFor o new (history ++ accepted answer actions)
 
--- the session stands between two lines, where that was done so far
-pub record IsBetween (o : Setup) (session : Session) (p : Progress) : Type 0 where
-  pub map : StandsFor o session.map p.history
+-- that, or memory was wanting, for something that has a reply, and nothing was done
+abbrev pub HasDone : {E : Type 0} → Setup → (History → Option Reply) → History → Map → Map → Result (Option Reply) E → Type 0
+HasDone o reply actions old new (Ok answer) = HasAnswered o reply actions old new answer
+HasDone o reply actions old new (Err fault) = (history : History) → StandsFor o old history → IsSome (reply history) × StandsFor o new history
+
+-- a line's command outside a block was answered and done, or memory was wanting
+abbrev pub HasObeyed : {E : Type 0} → Setup → Map → Map → Result Command Refusal → Result (Option Reply) E → Type 0
+HasObeyed o old new command result = HasDone o (λ history. reply o history command) (action_of command) old new result
+
+-- a block that its `end` has closed was answered and done, or memory was wanting
+abbrev pub HasScanned : {E : Type 0} → Setup → Map → Map → Block → Result (Option Reply) E → Type 0
+HasScanned o old new block result = HasDone o (λ history. block_reply o history block) (block_action block) old new result
+
+-- a line had its effect on a map that stood for some history
+abbrev pub TakesEffect : Setup → (History → Effect) → Map → Map → LineDone → Type 0
+TakesEffect o effect old new outcome = (history : History) → StandsFor o old history
+    → (outcome.reply ≡ (effect history).reply) × (outcome.block ≡ (effect history).block) × StandsFor o new (history ++ (effect history).added)
+
+-- a line has a reply, or a block is open behind it
+abbrev pub IsHeard : Effect → Type 0
+IsHeard effect = IsSome effect.reply ⊎ IsSome effect.block
+
+-- a line had its effect, or memory was wanting, for a line that is heard, and nothing was done
+abbrev pub HasEffect : {E : Type 0} → Setup → (History → Effect) → Map → Map → Result LineDone E → Type 0
+HasEffect o effect old new (Ok outcome) = TakesEffect o effect old new outcome
+HasEffect o effect old new (Err fault) = (history : History) → StandsFor o old history → IsHeard (effect history) × StandsFor o new history
+
+-- memory was wanting at a line that is heard: the map stands for the lines before this one, or for this one as well
+abbrev pub StandsBeside : Setup → Map → Progress → Line → Type 0
+StandsBeside o map p line = IsHeard (effect_of o p line) × (StandsFor o map p.history ⊎ StandsFor o map (after_line o p line).history)
+
+-- map and session stand between two lines, where that was done so far
+pub record IsBetween (o : Setup) (map : Map) (session : Session) (p : Progress) : Type 0 where
+  pub stands : StandsFor o map p.history
   pub answered : session.answered ≡ p.lines
+  pub block : session.block ≡ p.block
   pub refused : session.refused ≡ p.refused
   pub has_quit : session.has_quit ≡ p.has_quit
 
--- the session stands there, and since `old` its replies so far were written
-pub record HasReached (o : Setup) (old new : Option (List ℕ)) (session : Session) (p : Progress) : Type 0 where
-  pub between : IsBetween o session p
+-- they stand there, and since `old` the replies so far were written
+pub record HasReached (o : Setup) (old new : Option (List ℕ)) (map : Map) (session : Session) (p : Progress) : Type 0 where
+  pub between : IsBetween o map session p
   pub written : new ≡ appended old p.text
 
 -- the session was given these bytes: the lines that end within them are answered, and, unless it has ended, the rest is kept
-pub record IsAt (o : Setup) (files : Files) (old new : Option (List ℕ)) (session : Session) (bytes : List ℕ) : Type 0 where
-  pub reached : HasReached o old new session (progress o files (ended_lines bytes))
+pub record IsAt (o : Setup) (files : Files) (old new : Option (List ℕ)) (map : Map) (session : Session) (bytes : List ℕ) : Type 0 where
+  pub reached : HasReached o old new map session (progress o files (ended_lines bytes))
   pub line : session.has_quit ≡ false → IsReading session.lines bytes
 
+-- the session was given some bytes
+abbrev pub IsAtSome : Setup → Files → Option (List ℕ) → Option (List ℕ) → Map → Session → Type 0
+IsAtSome o files old new map session = (bytes : List ℕ) × IsAt o files old new map session bytes
+
 -- the session was given the bytes that were taken of its input
-pub record HasServed (o : Setup) (files : Files) (bytes : List ℕ) (left old new : Option (List ℕ)) (session : Session) (taken : ℕ) : Type 0 where
+pub record HasServed (o : Setup) (files : Files) (bytes : List ℕ) (left old new : Option (List ℕ)) (map : Map) (session : Session) (taken : ℕ) : Type 0 where
   pub input : HasTaken taken bytes left
-  pub at : IsAt o files old new session (take taken bytes)
+  pub at : IsAt o files old new map session (take taken bytes)
 
 -- the session has answered its script, and has read it to its end
-pub record IsThrough (o : Setup) (files : Files) (bytes : List ℕ) (left old new : Option (List ℕ)) (s : Session) : Type 0 where
-  pub last : Progress
-  pub reached : HasReached o old new s last
-  pub whole : session o files bytes ≡ finished last
+pub record IsThrough (o : Setup) (files : Files) (bytes : List ℕ) (left old new : Option (List ℕ)) (map : Map) (s : Session) : Type 0 where
+  pub reached : HasReached o old new map s (closed (last_progress o files bytes))
+  pub whole : session o files bytes ≡ finished (closed (last_progress o files bytes))
   pub end : IsReadToEnd o files bytes left
 
+-- the session was halted at one of the last lines, or at the end of the script behind them
+abbrev pub StopsAtEnd : Setup → Files → List Line → Option (List ℕ) → Option (List ℕ) → Map → Type 0
+StopsAtEnd o files lines old new map = IsHalted o files lines old new map ⊎ IsHaltedAtEnd o files lines old new map
+
+-- how a session over these bytes may end, and what it then leaves of the map
+pub record HasEndedAs (o : Setup) (files : Files) (bytes : List ℕ) (left old new : Option (List ℕ)) (map : Map) (status : Status) : Type 0 where
+  pub answer : MayEnd o files bytes left old new status
+  pub leaves : Leaves o files bytes left old new map status
+
 -- how a session that was given these bytes may stop in a piece, of which so many bytes may be taken
-abbrev pub StopsIn : Setup → Files → Option (List ℕ) → Option (List ℕ) → Session → List ℕ → List ℕ → ℕ → Stop → Type 0
-StopsIn o files old new session bytes piece room TooLong = (room < length piece) × (session.has_quit ≡ false) × IsAt o files old new session (bytes ++ take room piece)
-StopsIn o files old new session bytes piece room WriteFault = IsBegun (replies_within o files (bytes ++ take room piece)) old new
-StopsIn o files old new session bytes piece room Memory = IsBegun (replies_within o files (bytes ++ take room piece)) old new
-StopsIn o files old new session bytes piece room ReadFault = ⊥
+abbrev pub StopsIn : Setup → Files → Option (List ℕ) → Option (List ℕ) → Map → Session → List ℕ → List ℕ → ℕ → Stop → Type 0
+StopsIn o files old new map session bytes piece room TooLong = (room < length piece) × (session.has_quit ≡ false) × IsAt o files old new map session (bytes ++ take room piece)
+StopsIn o files old new map session bytes piece room WriteFault = IsHalted o files (ended_lines (bytes ++ take room piece)) old new map
+StopsIn o files old new map session bytes piece room Memory = IsHalted o files (ended_lines (bytes ++ take room piece)) old new map
+StopsIn o files old new map session bytes piece room ReadFault = ⊥

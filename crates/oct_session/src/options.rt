@@ -5,6 +5,7 @@ ghost use Rattle.oct_session.specs.declared.options.Stop.TheVariants as stop;
 
 use oct_io::{Failed, SinkFault};
 use oct_key::Res;
+use oct_map::Limits;
 use oct_num::Memory;
 use oct_odds::OddsModel;
 use std::fmt;
@@ -20,6 +21,8 @@ pub struct Options {
     pub res: Res,
     /// The log-odds of hits, and their limits.
     pub odds: OddsModel,
+    /// How large the map may grow, and how much a scan may meet.
+    pub limits: Limits,
     /// The most bytes that the script may have.
     pub max_bytes: u64,
     pub ghost few: { max_bytes ≤ 2 ^ 40 },
@@ -30,7 +33,7 @@ pub struct Options {
 pub enum Status {
     /// The input was read to its end or to `quit`, and nothing was refused.
     Done = 0,
-    /// The input was read to its end or to `quit`, and at least one line was refused.
+    /// The input was read to its end or to `quit`, and at least one reply was a refusal.
     Refused = 1,
     /// The words ask for no task. Nothing was read or written.
     Usage = 2,

@@ -5,12 +5,14 @@ ghost use Rattle.oct_io.specs.Told.{dropped, Rose};
 ghost use Rattle.oct_session.specs.Setup.{setup_of};
 ghost use Rattle.oct_session.specs.Session.{session as whole_session, status_at_end};
 ghost use Rattle.oct_session.specs.Ending.{MayEnd, IsWhole};
-ghost use Rattle.oct_session.specs.Standing.{IsAt, HasServed, IsThrough, StopsIn};
+ghost use Rattle.oct_session.specs.Leaving.{StandsFor, StandsForSome, Leaves};
+ghost use Rattle.oct_session.specs.Standing.{IsAt, IsAtSome, HasServed, IsThrough, HasEndedAs, StopsIn};
 ghost use Rattle.oct_session.specs.Stops.{status_of};
 
 use crate::options::{Options, Status, Stop};
 use crate::session::Session;
 use oct_io::{Failed, Sink, Source, Store};
+use oct_map::OccMap;
 use std::alloc::Global;
 
 /// The bytes that a read may give at most.
@@ -46,6 +48,7 @@ fn wanted(room: u64) -> usize
 /// Takes what a read gave, of which the last byte may be one more than the script may have.
 fn take_front<K: Sink>(
     options: &Options,
+    map: &mut OccMap,
     session: &mut Session,
     piece: &[u8],
     room: u64,
@@ -54,12 +57,12 @@ fn take_front<K: Sink>(
     requires small { session.old.answered + length piece.now < 2 ^ 63 }
     requires unended { session.old.lines.has_ended ≡ false }
     ensures ok { OnOk result ((files : Files) (w : Option (List ℕ)) (bytes : List ℕ)
-        → IsAt (setup_of options.now) files w (K.written sink.old) session.old bytes
-        → IsAt (setup_of options.now) files w (K.written sink.new) session.new (bytes ++ take room piece.now)) }
+        → IsAt (setup_of options.now) files w (K.written sink.old) map.old session.old bytes
+        → IsAt (setup_of options.now) files w (K.written sink.new) map.new session.new (bytes ++ take room piece.now)) }
     ensures fits { OnOk result (session.new.has_quit ≡ false → length piece.now ≤ room) }
     ensures stops { IfErr result (λ stop. (files : Files) (w : Option (List ℕ)) (bytes : List ℕ)
-        → IsAt (setup_of options.now) files w (K.written sink.old) session.old bytes
-        → StopsIn (setup_of options.now) files w (K.written sink.new) session.new bytes piece.now room stop) }
+        → IsAt (setup_of options.now) files w (K.written sink.old) map.old session.old bytes
+        → StopsIn (setup_of options.now) files w (K.written sink.new) map.new session.new bytes piece.now room stop) }
     ensures unended { OnOk result (session.new.lines.has_ended ≡ false) }
     ensures answered { OnOk result (session.new.answered ≤ session.old.answered + length piece.now) }
     ensures later { K.faults sink.old ≤ K.faults sink.new }
@@ -67,10 +70,10 @@ fn take_front<K: Sink>(
     ensures only { result ≢ Err Stop.ReadFault }
 {
     if piece.len() as u64 <= room {
-        return session.take(options, piece, sink);
+        return session.take(options, map, piece, sink);
     }
     let (front, _) = piece.split_at(room as usize);
-    session.take(options, front, sink)?;
+    session.take(options, map, front, sink)?;
     if session.has_quit {
         Ok(())
     } else {
@@ -81,6 +84,7 @@ fn take_front<K: Sink>(
 /// One read, and the answers to what it gave: how many bytes, of which none tell the end of the script.
 fn turn<S: Source, K: Sink>(
     options: &Options,
+    map: &mut OccMap,
     session: &mut Session,
     source: &mut S,
     sink: &mut K,
@@ -93,15 +97,19 @@ fn turn<S: Source, K: Sink>(
     requires few { taken ≤ options.now.max_bytes }
     requires wide { BUFFER ≤ length buffer.old }
     ensures goes { IfOk result (λ n. session.new.has_quit ≡ false → (files : Files) (bytes : List ℕ) (w : Option (List ℕ))
-        → HasServed (setup_of options.now) files bytes (S.left source.old) w (K.written sink.old) session.old taken
-        → HasServed (setup_of options.now) files bytes (S.left source.new) w (K.written sink.new) session.new (taken + n)) }
+        → HasServed (setup_of options.now) files bytes (S.left source.old) w (K.written sink.old) map.old session.old taken
+        → HasServed (setup_of options.now) files bytes (S.left source.new) w (K.written sink.new) map.new session.new (taken + n)) }
     ensures quits { OnOk result (session.new.has_quit ≡ true → (files : Files) (bytes : List ℕ) (w : Option (List ℕ))
-        → HasServed (setup_of options.now) files bytes (S.left source.old) w (K.written sink.old) session.old taken
-        → IsThrough (setup_of options.now) files bytes (S.left source.new) w (K.written sink.new) session.new) }
+        → HasServed (setup_of options.now) files bytes (S.left source.old) w (K.written sink.old) map.old session.old taken
+        → IsThrough (setup_of options.now) files bytes (S.left source.new) w (K.written sink.new) map.new session.new) }
     ensures end { IfOk result (λ n. n ≡ 0 → IfSome (S.left source.new) (λ left. left ≡ [])) }
     ensures stops { IfErr result (λ stop. (files : Files) (bytes : List ℕ) (w : Option (List ℕ))
-        → HasServed (setup_of options.now) files bytes (S.left source.old) w (K.written sink.old) session.old taken
-        → MayEnd (setup_of options.now) files bytes (S.left source.new) w (K.written sink.new) (status_of stop)) }
+        → HasServed (setup_of options.now) files bytes (S.left source.old) w (K.written sink.old) map.old session.old taken
+        → HasEndedAs (setup_of options.now) files bytes (S.left source.new) w (K.written sink.new) map.new (status_of stop)) }
+    ensures given { OnOk result ((files : Files) (w : Option (List ℕ)) → IsAtSome (setup_of options.now) files w (K.written sink.old) map.old session.old
+        → IsAtSome (setup_of options.now) files w (K.written sink.new) map.new session.new) }
+    ensures stands { OnErr result ((files : Files) (w : Option (List ℕ)) → IsAtSome (setup_of options.now) files w (K.written sink.old) map.old session.old
+        → StandsForSome (setup_of options.now) map.new) }
     ensures fits { IfOk result (λ n. session.new.has_quit ≡ false → taken + n ≤ options.now.max_bytes) }
     ensures unended { OnOk result (session.new.lines.has_ended ≡ false) }
     ensures answered { IfOk result (λ n. session.new.answered ≤ taken + n) }
@@ -113,13 +121,14 @@ fn turn<S: Source, K: Sink>(
     let room = options.max_bytes - taken;
     let count = read_front(source, buffer, wanted(room))?;
     let (piece, _) = buffer.split_at(count);
-    take_front(options, session, piece, room, sink)?;
+    take_front(options, map, session, piece, room, sink)?;
     Ok(count)
 }
 
 /// Reads the script to its end or to `quit`, and answers what a read gave before the next one.
 fn read_all<S: Source, K: Sink>(
     options: &Options,
+    map: &mut OccMap,
     session: &mut Session,
     source: &mut S,
     sink: &mut K,
@@ -128,11 +137,13 @@ fn read_all<S: Source, K: Sink>(
     requires running { session.old.has_quit ≡ false }
     requires unended { session.old.lines.has_ended ≡ false }
     ensures done { OnOk result ((files : Files) (bytes : List ℕ) (w : Option (List ℕ))
-        → HasServed (setup_of options.now) files bytes (S.left source.old) w (K.written sink.old) session.old 0
-        → IsThrough (setup_of options.now) files bytes (S.left source.new) w (K.written sink.new) session.new) }
+        → HasServed (setup_of options.now) files bytes (S.left source.old) w (K.written sink.old) map.old session.old 0
+        → IsThrough (setup_of options.now) files bytes (S.left source.new) w (K.written sink.new) map.new session.new) }
     ensures stops { IfErr result (λ stop. (files : Files) (bytes : List ℕ) (w : Option (List ℕ))
-        → HasServed (setup_of options.now) files bytes (S.left source.old) w (K.written sink.old) session.old 0
-        → MayEnd (setup_of options.now) files bytes (S.left source.new) w (K.written sink.new) (status_of stop)) }
+        → HasServed (setup_of options.now) files bytes (S.left source.old) w (K.written sink.old) map.old session.old 0
+        → HasEndedAs (setup_of options.now) files bytes (S.left source.new) w (K.written sink.new) map.new (status_of stop)) }
+    ensures stands { (files : Files) (w : Option (List ℕ)) → IsAtSome (setup_of options.now) files w (K.written sink.old) map.old session.old
+        → StandsForSome (setup_of options.now) map.new }
     ensures source_later { S.faults source.old ≤ S.faults source.new }
     ensures sink_later { K.faults sink.old ≤ K.faults sink.new }
     ensures read_fault { IsErrOf result Stop.ReadFault → Rose (S.faults source.old) (S.faults source.new) }
@@ -141,31 +152,38 @@ fn read_all<S: Source, K: Sink>(
     let mut buffer = [0u8; BUFFER];
     let mut taken = 0u64;
     'reading: loop {
-        let count = turn(options, session, source, sink, &mut buffer, taken)?;
+        let count = turn(options, map, session, source, sink, &mut buffer, taken)?;
         if session.has_quit {
             return Ok(());
         }
         if count == 0 {
-            return session.end(options, sink);
+            return session.end(options, map, sink);
         }
         taken += count as u64;
     }
 }
 
-/// Answers a script line by line, to its end or to its `quit`, and answers what a read gave before the next one.
+/// Answers a script line by line and block by block, to its end or to its `quit`, and answers what a read gave before the next one. It
+/// works on the map that it is lent: a map that is set up as the options say, in which each voxel is unknown and which isn't stale.
 ///
-/// The clause `answer` says, status by status, what is written and what is left of the input. It speaks wherever source and sink
-/// tell their bytes, as those in memory do. A fault comes only where the count of that object rose in this call. Bytes behind the
-/// line of `quit` have no effect, and some of them may have been taken.
+/// The clause `answer` says, status by status, what is written and what is left of the input, and the clause `map` what the map then
+/// stands for. They speak wherever source and sink tell their bytes, as those in memory do; that the map stands for some history is said for
+/// any of them. A fault comes only where the count of that object rose in this call. Bytes behind the line of `quit` have no effect, and those
+/// that one read gave with it may have been taken.
 pub fn serve<S: Source, K: Sink, F: Store>(
     alloc: Global,
     options: &Options,
+    map: &mut OccMap,
     source: &mut S,
     sink: &mut K,
     store: &mut F,
 ) -> Status
+    requires { StandsFor (setup_of options.now) map.old [] }
     ensures answer { IfSome (S.left source.old) (λ bytes. (files : Files)
         → MayEnd (setup_of options.now) files bytes (S.left source.new) (K.written sink.old) (K.written sink.new) result) }
+    ensures map { IfSome (S.left source.old) (λ bytes. (files : Files)
+        → Leaves (setup_of options.now) files bytes (S.left source.new) (K.written sink.old) (K.written sink.new) map.new result) }
+    ensures stands { StandsForSome (setup_of options.now) map.new }
     ensures files { IfSome (F.files store.old) (λ files. IfSome (S.left source.old) (λ bytes. IsWhole result
         → F.files store.new ≡ Some (whole_session (setup_of options.now) files bytes).files)) }
     ensures store { store.new ≡ store.old }
@@ -179,8 +197,8 @@ pub fn serve<S: Source, K: Sink, F: Store>(
     ensures complete { ¬ Rose (S.faults source.old) (S.faults source.new) → ¬ Rose (K.faults sink.old) (K.faults sink.new)
         → result ≢ Status.Memory → IsWhole result }
 {
-    let mut session = Session::new(alloc, options.odds);
-    match read_all(options, &mut session, source, sink) {
+    let mut session = Session::new(alloc);
+    match read_all(options, map, &mut session, source, sink) {
         Ok(()) => done_or_refused(session.refused),
         Err(stop) => Status::from(stop),
     }
@@ -196,3 +214,6 @@ fn done_or_refused(refused: bool) -> Status
         Status::Done
     }
 }
+
+#[cfg(test)]
+mod tests;

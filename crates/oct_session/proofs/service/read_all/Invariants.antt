@@ -1,7 +1,7 @@
 use Rattle.std.proofs.Common.{◌≡◌, ℕ, ◌-◌, ◌≤◌, List, Option, false}
 use Rattle.oct_io.specs.Files.{Files}
 use Rattle.oct_session.specs.Setup.{setup_of}
-use Rattle.oct_session.specs.Standing.{HasServed}
+use Rattle.oct_session.specs.Standing.{HasServed, IsAtSome}
 use Rattle.oct_session.proofs.service.read_all.Given as goal
 
 abbrev pub invariant-reading : goal.invariant-reading
@@ -10,8 +10,9 @@ invariant-reading g l = record {
   running : l.session.has_quit ≡ false;
   unended : l.session.lines.has_ended ≡ false;
   answered : l.session.answered ≤ l.taken;
-  at : (files : Files) (bytes : List ℕ) (w : Option (List ℕ)) → HasServed (setup_of l.options) files bytes (g.S.Source.left l.fn.source) w (g.K.Sink.written l.fn.sink) l.fn.session 0
-      → HasServed (setup_of l.options) files bytes (g.S.Source.left l.source) w (g.K.Sink.written l.sink) l.session l.taken;
+  at : (files : Files) (bytes : List ℕ) (w : Option (List ℕ)) → HasServed (setup_of l.options) files bytes (g.S.Source.left l.fn.source) w (g.K.Sink.written l.fn.sink) l.fn.map l.fn.session 0
+      → HasServed (setup_of l.options) files bytes (g.S.Source.left l.source) w (g.K.Sink.written l.sink) l.map l.session l.taken;
+  given : (files : Files) (w : Option (List ℕ)) → IsAtSome (setup_of l.options) files w (g.K.Sink.written l.fn.sink) l.fn.map l.fn.session → IsAtSome (setup_of l.options) files w (g.K.Sink.written l.sink) l.map l.session;
   source_later : g.S.Source.faults l.fn.source ≤ g.S.Source.faults l.source;
   sink_later : g.K.Sink.faults l.fn.sink ≤ g.K.Sink.faults l.sink;
 }

@@ -1,19 +1,21 @@
 use Rattle.std.proofs.Common.{arith, refl}
 use Rattle.oct_session.specs.Setup.{setup_of}
 use Rattle.oct_session.proofs.Endings.{fault_ends, stop_ends, goes_on, quits_in}
+use Rattle.oct_session.proofs.Somehow.{some_same, some_stop, some_more}
 use Rattle.oct_session.proofs.service.turn.Goals as goal
 
 pub returns-in_err-count-clause-stops : goal.returns-in_err-count-clause-stops
 returns-in_err-count-clause-stops g c =
-    fault_ends _ (setup_of c.args.options.now) _ _ _ c.args.session.now c.args.taken c.from_residual.ensures.1 c.in_err-count.ensures.err c.requires.few c.requires.running
+    fault_ends _ (setup_of c.args.options.now) _ _ _ c.args.map.now c.args.session.now c.args.taken c.from_residual.ensures.1 c.in_err-count.ensures.err c.requires.few c.requires.running
 
 pub returns-in_err-take_front-clause-stops : goal.returns-in_err-take_front-clause-stops
 returns-in_err-take_front-clause-stops g c =
-    stop_ends _ _ (setup_of c.args.options.now) _ _ _ _ _ _ _ _ c.args.taken _ _ c.from_residual-in_err-take_front.ensures.1
+    stop_ends _ _ (setup_of c.args.options.now) _ _ _ _ _ _ _ _ _ _ c.args.taken _ _ c.from_residual-in_err-take_front.ensures.1
     (record {
       few = c.requires.few;
       size = refl;
       most = omega (arith, c.in_ok-count.ensures.within, c.wanted.ensures);
+      at_once = omega (arith, c.in_ok-count.ensures.within, c.wanted.ensures);
       moved = c.in_ok-count.ensures.moved;
       same = c.in_ok-count.ensures.bytes;
       enough = c.in_ok-count.ensures.enough;
@@ -24,11 +26,12 @@ returns-in_err-take_front-clause-stops g c =
 
 pub returns-clause-goes : goal.returns-clause-goes
 returns-clause-goes g c =
-    goes_on (setup_of c.args.options.now) _ _ _ _ _ _ _ _ c.args.taken _ _
+    goes_on (setup_of c.args.options.now) _ _ _ _ _ _ _ _ _ _ c.args.taken _ _
     (record {
       few = c.requires.few;
       size = refl;
       most = omega (arith, c.in_ok-count.ensures.within, c.wanted.ensures);
+      at_once = omega (arith, c.in_ok-count.ensures.within, c.wanted.ensures);
       moved = c.in_ok-count.ensures.moved;
       same = c.in_ok-count.ensures.bytes;
       enough = c.in_ok-count.ensures.enough;
@@ -39,15 +42,27 @@ returns-clause-goes g c =
 
 pub returns-clause-quits : goal.returns-clause-quits
 returns-clause-quits g c =
-    quits_in (setup_of c.args.options.now) _ _ _ _ _ _ _ _ c.args.taken _ _
+    quits_in (setup_of c.args.options.now) _ _ _ _ _ _ _ _ _ _ c.args.taken _ _
     (record {
       few = c.requires.few;
       size = refl;
       most = omega (arith, c.in_ok-count.ensures.within, c.wanted.ensures);
+      at_once = omega (arith, c.in_ok-count.ensures.within, c.wanted.ensures);
       moved = c.in_ok-count.ensures.moved;
       same = c.in_ok-count.ensures.bytes;
       enough = c.in_ok-count.ensures.enough;
       is = c.split_at.ensures.front;
       len = c.split_at.ensures.front_len;
     })
-    c.in_ok-take_front.ensures.ok
+    c.requires.running c.in_ok-take_front.ensures.ok
+
+pub returns-in_err-count-clause-stands : goal.returns-in_err-count-clause-stands
+returns-in_err-count-clause-stands g c = some_same _ (setup_of c.args.options.now) _ c.args.map.now c.args.session.now
+
+pub returns-in_err-take_front-clause-stands : goal.returns-in_err-take_front-clause-stands
+returns-in_err-take_front-clause-stands g c =
+    some_stop _ (setup_of c.args.options.now) _ _ c.args.map.now c.take_front.new.map c.args.session.now c.take_front.new.session _ _ _ c.in_err-take_front.ensures.stops
+
+pub returns-clause-given : goal.returns-clause-given
+returns-clause-given g c =
+    some_more (setup_of c.args.options.now) _ _ c.args.map.now c.take_front.new.map c.args.session.now c.take_front.new.session _ c.in_ok-take_front.ensures.ok

@@ -7,8 +7,8 @@ use Rattle.oct_session.proofs.session.Session.take.Given as goal
 abbrev pub invariant-loop-taken : goal.invariant-loop-taken
 invariant-loop-taken g l = record {
   within : l.taken ≤ length l.piece;
-  at : (files : Files) (w : Option (List ℕ)) (bytes : List ℕ) → IsAt (setup_of l.options) files w (g.K.Sink.written l.fn.sink) l.fn.self bytes
-      → IsAt (setup_of l.options) files w (g.K.Sink.written l.sink) l.self (bytes ++ take l.taken l.piece);
+  at : (files : Files) (w : Option (List ℕ)) (bytes : List ℕ) → IsAt (setup_of l.options) files w (g.K.Sink.written l.fn.sink) l.fn.map l.fn.self bytes
+      → IsAt (setup_of l.options) files w (g.K.Sink.written l.sink) l.map l.self (bytes ++ take l.taken l.piece);
   unended : l.self.lines.has_ended ≡ false;
   answered : l.self.answered ≤ l.fn.self.answered + l.taken;
   later : g.K.Sink.faults l.fn.sink ≤ g.K.Sink.faults l.sink;

@@ -1,0 +1,94 @@
+-- What has a reply, and that no reply is empty.
+use Rattle.std.proofs.Common.{◌≢◌, ℕ, ◌<◌, List, ◌++◌, length, true, false, cond, is_none, Option, Some, None, IsSome, Result, Ok, Err, refl, arith, length-append}
+use Rattle.std.specs.Prelude.{⊤, codes, decimal}
+use Rattle.oct_key.specs.declared.point.Point.{Point}
+use Rattle.oct_key.specs.Values.{Values}
+use Rattle.oct_key.specs.Voxel.{Voxel, key_at}
+use Rattle.oct_map.specs.Answers.{edit_answer, edit_answer_at, edit_need, is_full, room_answer, scan_answer_by}
+use Rattle.oct_map.specs.Outcome.{need_of, done_of}
+use Rattle.oct_map.specs.declared.fault.MapFault.{MapFault}
+use Rattle.oct_map.specs.declared.fault.MapFault.TheVariants as map_fault
+use Rattle.oct_map.specs.declared.map.ScanDone.{ScanDone}
+use Rattle.oct_scan.specs.Answer.{first_outside}
+use Rattle.oct_scan.specs.Beam.{Sighting, origin_of}
+use Rattle.oct_scan.specs.Outcome.{scan_fault, point_fault, cells_fault, first_excess}
+use Rattle.oct_scan.specs.declared.fault.ScanFault.{ScanFault}
+use Rattle.oct_scan.specs.declared.fault.ScanFault.TheVariants as scan_fault_of
+use Rattle.oct_script.specs.declared.reply.Refusal.TheVariants as refusal
+use Rattle.oct_values.specs.Counts.{group_count}
+use Rattle.oct_script.specs.declared.reply.Reply.{Reply}
+use Rattle.oct_script.specs.declared.reply.Reply.TheVariants as reply_of
+use Rattle.oct_script.specs.Replies.{text_of, reply_text, class_name, scan_text, counts_text, refusal_text}
+use Rattle.oct_session.specs.Commands.{edit_reply}
+use Rattle.oct_session.specs.History.{History, value_after}
+use Rattle.oct_session.specs.ScanBlock.{is_zero, scan_reply, block_reply}
+use Rattle.oct_session.specs.ScanSoFar.{ScanSoFar, sighting_so_far}
+use Rattle.oct_session.specs.Setup.{Setup}
+use Rattle.oct_session.specs.declared.block.Block.TheVariants.{Scanning}
+use Rattle.std.specs.Fmt.{signed_decimal}
+
+-- a text with a beginning
+begins : (front back : List ℕ) → 0 < length front → 0 < length (front ++ back)
+begins front back some = omega (arith, length-append front back, some)
+
+reply_some : (r : Reply) → 0 < length (reply_text r)
+reply_some reply_of.Ok = omega arith
+reply_some (reply_of.Known value class) = begins (codes "known ") (signed_decimal value ++ codes " " ++ class_name class ++ codes "\n") (omega arith)
+reply_some reply_of.Unknown = omega arith
+reply_some (reply_of.Scanned done) = begins (scan_text done) (codes "\n")
+    (begins (codes "ok hits " ++ decimal done.hits) (codes " frees " ++ decimal done.frees) (begins (codes "ok hits ") (decimal done.hits) (omega arith)))
+reply_some (reply_of.Counted counts) = begins (counts_text counts) (codes "\n")
+    (begins (codes "groups " ++ decimal counts.groups) (codes " nodes " ++ decimal counts.nodes) (begins (codes "groups ") (decimal counts.groups) (omega arith)))
+reply_some (reply_of.Refused r) = begins (codes "refused ") (refusal_text r ++ codes "\n") (omega arith)
+
+-- a reply has a text
+pub text_some : (r : Option Reply) → IsSome r → 0 < length (text_of r)
+text_some None some = cc
+text_some (Some r) some = reply_some r
+
+room_some : (most : ℕ) (values : Values) (need : ℕ) → IsSome (edit_reply (room_answer most values need))
+room_some most values need =
+    elim (is_full most values need) as (λ b. IsSome (edit_reply (cond {A = Result ⊤ MapFault} b (Err (map_fault.Full (group_count values) need)) (Ok tt)))) [ true ↦ refl | false ↦ refl ]
+
+edit_some_at : (most : ℕ) (values : Values) (key : Option Voxel) → IsSome (edit_reply (edit_answer_at most values key))
+edit_some_at most values None = refl
+edit_some_at most values (Some k) = room_some most values edit_need
+
+-- an edit has a reply
+pub edit_some : (res most : ℕ) (values : Values) (p : Point) → IsSome (edit_reply (edit_answer res most values p))
+edit_some res most values p = edit_some_at most values (key_at res p)
+
+point_known : (edge : ℕ) (s : Sighting) (outside excess : Option ℕ) → point_fault outside (cells_fault edge s excess) ≢ Some scan_fault_of.Memory
+point_known edge s None None = λ is. cc
+point_known edge s None (Some index) = λ is. cc
+point_known edge s (Some index) excess = λ is. cc
+
+-- why a scan is refused is not want of memory
+fault_known : (edge : ℕ) (s : Sighting) (most : ℕ) → scan_fault edge s most ≢ Some scan_fault_of.Memory
+unfolding scan_fault
+fault_known edge s most =
+    elim (is_none (key_at edge (origin_of s)))
+    as (λ b. cond b (Some scan_fault_of.OriginOutside) (point_fault (first_outside edge s) (cells_fault edge s (first_excess edge s most))) ≢ Some scan_fault_of.Memory) [
+      | true ↦ (λ is. cc)
+      | false ↦ point_known edge s (first_outside edge s) (first_excess edge s most)
+    ]
+
+scan_some_by : (fault : Option ScanFault) (most : ℕ) (values : Values) (need : ℕ) (done : ScanDone) → fault ≢ Some scan_fault_of.Memory → IsSome (scan_reply (scan_answer_by fault (room_answer most values need) done))
+scan_some_by None most values need done known =
+    elim (is_full most values need)
+    as (λ b. IsSome (scan_reply (scan_answer_by None (cond {A = Result ⊤ MapFault} b (Err (map_fault.Full (group_count values) need)) (Ok tt)) done))) [ true ↦ refl | false ↦ refl ]
+scan_some_by (Some scan_fault_of.OriginOutside) most values need done known = refl
+scan_some_by (Some (scan_fault_of.PointOutside index)) most values need done known = refl
+scan_some_by (Some (scan_fault_of.TooManyCells index cells)) most values need done known = refl
+scan_some_by (Some scan_fault_of.Memory) most values need done known = absurd (known refl)
+
+-- a block that is closed has a reply
+pub block_some : (o : Setup) (h : History) (scan : ScanSoFar) → IsSome (block_reply o h (Scanning scan))
+block_some o h scan =
+    let s : Sighting = sighting_so_far scan in
+    elim (is_zero scan.head)
+    as (λ b. IsSome (cond b (Some (reply_of.Refused refusal.ZeroQuaternion))
+    (scan_reply (scan_answer_by (scan_fault o.res s o.max_cells) (room_answer o.max_groups (value_after o h) (need_of o.res o.odds s)) (done_of o.res s))))) [
+      | true ↦ refl
+      | false ↦ scan_some_by (scan_fault o.res s o.max_cells) o.max_groups (value_after o h) (need_of o.res o.odds s) (done_of o.res s) (fault_known o.res s o.max_cells)
+    ]

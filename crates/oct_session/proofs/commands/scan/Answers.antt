@@ -1,0 +1,16 @@
+use Rattle.std.proofs.Common.{sym}
+use Rattle.oct_scan.specs.Beam.{sighting_of}
+use Rattle.oct_session.proofs.Replying.{scan_done, scan_refused}
+use Rattle.oct_session.proofs.commands.scan.Goals as goal
+
+pub returns-in-Ok-scan : goal.returns-in-Ok-scan
+returns-in-Ok-scan c = λ o.
+    scan_done o c.args.map.now c.scan.new.self c.args.pending (sighting_of c.in-Ok.scan) c.is_lazy-lazy.result c.in-Ok-scan.done
+    (sym c.in-Ok.ensures.zero) c.in-Ok.ensures.sighting c.is_lazy-lazy.ensures c.in-Ok-scan.ensures.answer c.in-Ok-scan.ensures.ok c.in-Ok-scan.ensures.stale
+    c.scan.ensures.pruned c.scan.ensures.setup
+
+pub returns : goal.returns
+returns c = λ o.
+    scan_refused c.refuse.result o c.args.map.now c.scan.new.self c.args.pending (sighting_of c.in-Ok.scan) c.in-Err.fault
+    (sym c.in-Ok.ensures.zero) c.in-Ok.ensures.sighting c.refuse.ensures.ok c.refuse.ensures.some c.in-Err.ensures.answer c.in-Err.ensures.err c.in-Err.ensures.still
+    c.in-Err.ensures.still_pruned c.scan.ensures.setup

@@ -1,0 +1,169 @@
+//! What commands do to the map, and what they answer.
+ghost use Rattle.std.specs.Prelude.{◌≡◌, OnErr, IfOk, Option, Some, IsSome, Ok};
+ghost use Rattle.oct_odds.specs.Odds.{odds_of};
+ghost use Rattle.oct_odds.specs.Update.{IsSmallEvent};
+ghost use Rattle.oct_map.specs.declared.fault.MapFault.{MapFault};
+ghost use Rattle.oct_script.specs.Commands.{IsSmallEdit, IsSmallCommand};
+ghost use Rattle.oct_session.specs.Setup.{Setup, setup_of};
+ghost use Rattle.oct_session.specs.History.{edit_event};
+ghost use Rattle.oct_session.specs.Commands.{refusal_of, fault_reply, value_reply};
+ghost use Rattle.oct_session.specs.Standing.{HasObeyed, HasScanned};
+
+use crate::block::{Block, PendingScan};
+use crate::options::Options;
+use oct_key::Point;
+use oct_map::{MapFault, OccMap};
+use oct_num::Memory;
+use oct_odds::{Event, OddsModel};
+use oct_script::{Command, Edit, Refusal, Reply, ScanDone};
+
+/// The event of an edit.
+fn event_of(odds: &OddsModel, e: Edit) -> Event
+    requires { IsSmallEdit e }
+    ensures exact { result ≡ edit_event (odds_of odds.now) e }
+    ensures small { IsSmallEvent result }
+{
+    match e {
+        Edit::Hit => Event::Add(odds.hit),
+        Edit::Miss => Event::Add(odds.miss),
+        Edit::Add(change) => Event::Add(change),
+        Edit::Set(value) => Event::Set(value),
+        Edit::Forget => Event::Forget,
+    }
+}
+
+/// The reply that shows a value.
+fn show(odds: &OddsModel, value: Option<i32>) -> Reply
+    ensures { result ≡ value_reply (odds_of odds.now) value }
+{
+    match value {
+        None => Reply::Unknown,
+        Some(known) => Reply::Known {
+            value: known,
+            class: odds.class(value),
+        },
+    }
+}
+
+/// What a refusal of the map says, unless memory ran out.
+fn refusal_of(fault: MapFault) -> Result<Refusal, Memory>
+    ensures ok { IfOk result (λ refusal. refusal_of fault ≡ Some refusal) }
+    ensures err { OnErr result (fault ≡ MapFault.Memory) }
+{
+    match fault {
+        MapFault::Outside { point } => Ok(Refusal::Outside { point }),
+        MapFault::BadDepth => Ok(Refusal::BadDepth),
+        MapFault::Stale => Ok(Refusal::Stale),
+        MapFault::Full { groups, need } => Ok(Refusal::Full { groups, need }),
+        MapFault::OriginOutside => Ok(Refusal::OriginOutside),
+        MapFault::PointOutside { index } => Ok(Refusal::PointOutside { index }),
+        MapFault::TooManyCells { index, cells } => Ok(Refusal::TooManyCells { index, cells }),
+        MapFault::Memory => Err(Memory),
+    }
+}
+
+/// The reply to a call that the map refuses, unless memory ran out.
+fn refuse(fault: MapFault) -> Result<Option<Reply>, Memory>
+    ensures ok { IfOk result (λ reply. reply ≡ fault_reply fault) }
+    ensures some { IfOk result IsSome }
+    ensures err { OnErr result (fault ≡ MapFault.Memory) }
+{
+    let refusal = refusal_of(fault)?;
+    Ok(Some(Reply::Refused(refusal)))
+}
+
+/// Does an edit of the voxel that holds a point, and answers it.
+fn edit(
+    options: &Options,
+    map: &mut OccMap,
+    p: Point,
+    e: Edit,
+    lazy: bool,
+) -> Result<Option<Reply>, Memory>
+    requires { IsSmallEdit e }
+    ensures { HasObeyed (setup_of options.now) map.old map.new (Ok (Command.Edit p e lazy)) result }
+{
+    let event = event_of(&options.odds, e);
+    match map.edit(p, event, lazy) {
+        Ok(()) => Ok(Some(Reply::Ok)),
+        Err(fault) => refuse(fault),
+    }
+}
+
+/// Asks for the value of the block of that depth around a point, and answers it.
+fn query(options: &Options, map: &OccMap, p: Point, depth: u32) -> Result<Option<Reply>, Memory>
+    ensures { HasObeyed (setup_of options.now) map.now map.now (Ok (Command.Get p depth)) result }
+{
+    match map.get(p, depth) {
+        Ok(value) => Ok(Some(show(&options.odds, value))),
+        Err(fault) => refuse(fault),
+    }
+}
+
+/// Does what a command says, and answers its reply.
+fn obey(options: &Options, map: &mut OccMap, command: Command) -> Result<Option<Reply>, Memory>
+    requires { IsSmallCommand command }
+    ensures { HasObeyed (setup_of options.now) map.old map.new (Ok command) result }
+{
+    match command {
+        Command::Blank | Command::Quit => Ok(None),
+        Command::Scan(_) | Command::Beam(_) | Command::End => Ok(None),
+        Command::NotYet => Ok(Some(Reply::Refused(Refusal::NotYet))),
+        Command::Edit { p, e, lazy } => edit(options, map, p, e, lazy),
+        Command::Get { p, depth } => query(options, map, p, depth),
+        Command::Counts => {
+            let counts = map.counts();
+            Ok(Some(Reply::Counted(counts)))
+        }
+        Command::Refresh => {
+            map.refresh();
+            Ok(Some(Reply::Ok))
+        }
+        Command::Prune => {
+            map.prune();
+            Ok(Some(Reply::Ok))
+        }
+    }
+}
+
+/// Does what a line outside a block says, and answers its reply. Without memory nothing was done.
+pub fn execute(
+    options: &Options,
+    map: &mut OccMap,
+    command: Result<Command, Refusal>,
+) -> Result<Option<Reply>, Memory>
+    requires { IfOk command IsSmallCommand }
+    ensures { HasObeyed (setup_of options.now) map.old map.new command result }
+{
+    match command {
+        Ok(command) => obey(options, map, command),
+        Err(refusal) => Ok(Some(Reply::Refused(refusal))),
+    }
+}
+
+/// Does a scan whose points have all been read, and answers it.
+fn scan(map: &mut OccMap, pending: PendingScan) -> Result<Option<Reply>, Memory>
+    ensures { (o : Setup) → HasScanned o map.old map.new (Block.Scanning pending) result }
+{
+    let lazy = pending.is_lazy();
+    let Ok(scan) = pending.into_scan() else {
+        return Ok(Some(Reply::Refused(Refusal::ZeroQuaternion)));
+    };
+    match map.scan(&scan, lazy) {
+        Ok(done) => Ok(Some(Reply::Scanned(ScanDone {
+            hits: done.hits,
+            frees: done.frees,
+        }))),
+        Err(fault) => refuse(fault),
+    }
+}
+
+/// Does what a block says that its `end` has closed, and answers its one reply. Without memory nothing was done.
+pub fn finish(map: &mut OccMap, block: Block) -> Result<Option<Reply>, Memory>
+    ensures { (o : Setup) → HasScanned o map.old map.new block result }
+{
+    match block {
+        Block::Spoilt(refusal) => Ok(Some(Reply::Refused(refusal))),
+        Block::Scanning(pending) => scan(map, pending),
+    }
+}
