@@ -15,25 +15,19 @@ use Rattle.octomap_cli.specs.Words.{value_of, are_options}
 pub data Task : Type 0 where
   Session : Setup → Task
 
--- a resolution from 0.0001 m to 100 m, in nanometres
-abbrev pub resolution_from : Option ℤ → Option ℕ
-resolution_from None = None
-resolution_from (Some (negsuc n)) = None
-resolution_from (Some (pos nm)) = if nat_lt nm 100000 || nat_lt 100000000000 nm then None else Some nm
+-- a number in a range, both ends included
+abbrev pub within : ℕ → ℕ → Option ℤ → Option ℕ
+within low high None = None
+within low high (Some (negsuc n)) = None
+within low high (Some (pos n)) = if nat_lt n low || nat_lt high n then None else Some n
 
--- the resolution that a word spells, as a length in metres
+-- the resolution that a word spells: a length in metres, from 0.0001 m to 100 m, in nanometres
 abbrev pub resolution_of : Word → Option ℕ
-resolution_of word = resolution_from (result_ok (metres_of word))
+resolution_of word = within 100000 100000000000 (result_ok (metres_of word))
 
--- a number of bytes, of at most 2^40
-abbrev pub byte_count_from : Option ℤ → Option ℕ
-byte_count_from None = None
-byte_count_from (Some (negsuc n)) = None
-byte_count_from (Some (pos n)) = if nat_lt (2 ^ 40) n then None else Some n
-
--- the number of bytes that a word spells: one to eighteen digits
-abbrev pub byte_count_of : Word → Option ℕ
-byte_count_of word = if has_minus word then None else byte_count_from (whole_of word)
+-- the number in a range that a word spells: one to eighteen digits
+abbrev pub count_of : ℕ → ℕ → Word → Option ℕ
+count_of low high word = if has_minus word then None else within low high (whole_of word)
 
 -- what the word behind an option spells, or the default where the option isn't given
 abbrev pub chosen : {A : Type 0} → (Word → Option A) → A → Option Word → Option A
@@ -63,17 +57,33 @@ chosen_model words = odds_from
     (chosen_number words (codes "--max") default_odds.max)
     (chosen_number words (codes "--thr") default_odds.thr)
 
+-- the number in a range that an option of this name chooses
+abbrev pub chosen_count : List Word → Word → ℕ → ℕ → ℕ → Option ℕ
+chosen_count words name default low high = chosen (count_of low high) default (value_of name words)
+
+-- the most groups of the map that the options choose
+unfoldable pub chosen_groups : List Word → Option ℕ
+chosen_groups words = chosen_count words (codes "--max-groups") (2 ^ 24) 16 (2 ^ 26)
+
+-- the most voxels that a scan may meet, as the options choose
+unfoldable pub chosen_cells : List Word → Option ℕ
+chosen_cells words = chosen_count words (codes "--max-cells") (2 ^ 26) 1 (2 ^ 27)
+
 -- the most bytes of a script that the options choose
-unfoldable pub chosen_limit : List Word → Option ℕ
-chosen_limit words = chosen byte_count_of (2 ^ 40) (value_of (codes "--max-bytes") words)
+unfoldable pub chosen_bytes : List Word → Option ℕ
+chosen_bytes words = chosen_count words (codes "--max-bytes") (2 ^ 40) 0 (2 ^ 40)
 
 -- what a session is set up with, where all of it is there
-abbrev pub setup_from : Option ℕ → Option Odds → Option ℕ → Option Setup
-setup_from (Some res) (Some odds) (Some max_bytes) = Some (record { res = res; odds = odds; max_bytes = max_bytes })
-setup_from _ _ _ = None
+abbrev pub setup_from : Option ℕ → Option Odds → Option ℕ → Option ℕ → Option ℕ → Option Setup
+setup_from (Some res) (Some odds) (Some groups) (Some cells) (Some bytes) = Some (record { res = res; odds = odds; max_groups = groups; max_cells = cells; max_bytes = bytes })
+setup_from _ _ _ _ _ = None
+
+-- what the session of these words is set up with: a resolution, and options behind it
+abbrev pub setup_asked : Word → List Word → Option Setup
+setup_asked res options = setup_from (resolution_of res) (chosen_model options) (chosen_groups options) (chosen_cells options) (chosen_bytes options)
 
 -- the task that the words ask for: `session RES` and options; all other words have none
 unfoldable pub task_of : List Word → Option Task
 task_of (command ∷ res ∷ options) =
-    if bytes_eq command (codes "session") && are_options options then option_map Session (setup_from (resolution_of res) (chosen_model options) (chosen_limit options)) else None
+    if bytes_eq command (codes "session") && are_options options then option_map Session (setup_asked res options) else None
 task_of _ = None

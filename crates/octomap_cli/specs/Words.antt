@@ -11,7 +11,7 @@ bytes_of words = map string_bytes words
 abbrev pub is_option : Word → Bool
 is_option word =
     bytes_eq word (codes "--hit") || bytes_eq word (codes "--miss") || bytes_eq word (codes "--min") || bytes_eq word (codes "--max") || bytes_eq word (codes "--thr")
-    || bytes_eq word (codes "--max-bytes")
+    || bytes_eq word (codes "--max-groups") || bytes_eq word (codes "--max-cells") || bytes_eq word (codes "--max-bytes")
 
 -- the word behind a name, where the name is given; the words are pairs of a name and a value
 unfoldable pub value_of : Word → List Word → Option Word

@@ -1,15 +1,18 @@
 //! The top call of the program.
-ghost use Rattle.std.specs.Prelude.{◌≡◌, ◌≢◌, ◌≤◌, IfSome, Some, None};
+ghost use Rattle.std.specs.Prelude.{◌≡◌, ◌≢◌, ◌≤◌, [], IfSome, Some, None};
 ghost use Rattle.oct_io.specs.Files.{Files};
 ghost use Rattle.oct_io.specs.Told.{Rose};
 ghost use Rattle.oct_session.specs.Ending.{IsWhole};
+ghost use Rattle.oct_session.specs.Leaving.{StandsFor};
+ghost use Rattle.oct_session.specs.Setup.{setup_of};
 ghost use Rattle.octomap_cli.specs.Words.{bytes_of};
 ghost use Rattle.octomap_cli.specs.Task.{task_of};
 ghost use Rattle.octomap_cli.specs.Ending.{MayEnd, answer};
 
 use crate::task::{Usage, read_words};
 use oct_io::{Sink, Source, Store};
-use oct_session::{Status, serve};
+use oct_map::OccMap;
+use oct_session::{Options, Status, serve};
 use std::alloc::Global;
 
 /// Does what the words ask for, which don't have the program's own name.
@@ -48,7 +51,18 @@ pub fn run<S: Source, K: Sink, F: Store>(
         → result ≢ Status.Memory → IsWhole result }
 {
     match read_words(words) {
-        Ok(task) => serve(alloc, task.options(), source, sink, store),
+        Ok(task) => {
+            let options = task.options();
+            let mut map = map_for(alloc, options);
+            serve(alloc, options, &mut map, source, sink, store)
+        }
         Err(Usage) => Status::Usage,
     }
+}
+
+/// The map of the unknown world, set up as a session is.
+fn map_for(alloc: Global, options: &Options) -> OccMap
+    ensures { StandsFor (setup_of options.now) result [] }
+{
+    OccMap::new(alloc, options.res, options.odds, options.limits)
 }

@@ -4,16 +4,48 @@ ghost use Rattle.std.specs.Result.{result_ok};
 ghost use Rattle.oct_odds.specs.Odds.{odds_of, IsSmall};
 ghost use Rattle.oct_session.specs.Setup.{setup_of};
 ghost use Rattle.octomap_cli.specs.Words.{bytes_of};
-ghost use Rattle.octomap_cli.specs.Task.{Session as a_session, resolution_of, byte_count_of, chosen_number, chosen_model, chosen_limit, setup_from, task_of};
+ghost use Rattle.octomap_cli.specs.Task.{Session as a_session, resolution_of, count_of, chosen_number, chosen_count, chosen_model, chosen_groups, chosen_cells, chosen_bytes, setup_asked, task_of};
 ghost use Rattle.octomap_cli.specs.Asked.{asked};
 
 use crate::words::{are_options, value_of};
 use oct_key::Res;
+use oct_map::Limits;
 use oct_num::{read_metres, read_whole};
 use oct_odds::OddsModel;
 use oct_script::number_of;
 use oct_session::{MOST_BYTES, Options};
 use thiserror::Error;
+
+/// The numbers that an option may choose, both ends included, and the one that stands where it isn't given.
+#[derive(Clone, Copy)]
+struct Choice {
+    low: u64,
+    high: u64,
+    default: u64,
+    ghost above: { low ≤ default },
+    ghost below: { default ≤ high },
+}
+
+/// How many groups a map may have: at least those that one edit may need.
+const GROUPS: Choice = Choice {
+    low: 16,
+    high: 1 << 26,
+    default: 1 << 24,
+};
+
+/// How many voxels a scan may meet.
+const CELLS: Choice = Choice {
+    low: 1,
+    high: 1 << 27,
+    default: 1 << 26,
+};
+
+/// How many bytes a script may have.
+const BYTES: Choice = Choice {
+    low: 0,
+    high: MOST_BYTES,
+    default: MOST_BYTES,
+};
 
 /// A task of the program.
 #[derive(Clone, Copy, Debug, PartialEq, Eq)]
@@ -46,16 +78,16 @@ fn read_resolution(word: &[u8]) -> Option<Res>
     Res::new(nm).ok()
 }
 
-/// Reads a number of bytes: one to eighteen digits, at most [`MOST_BYTES`].
-fn read_byte_count(word: &[u8]) -> Option<u64>
-    ensures exact { result ≡ byte_count_of word.now }
-    ensures few { IfSome result (λ n. n ≤ 2 ^ 40) }
+/// Reads a number from `low` to `high`: one to eighteen digits.
+fn read_count(word: &[u8], low: u64, high: u64) -> Option<u64>
+    ensures exact { result ≡ count_of low high word.now }
+    ensures within { IfSome result (λ n. (low ≤ n) × (n ≤ high)) }
 {
     if word.first() == Some(&b'-') {
         return None;
     }
     let n = u64::try_from(read_whole(word)?).ok()?;
-    if n > MOST_BYTES { None } else { Some(n) }
+    if n < low || n > high { None } else { Some(n) }
 }
 
 /// The log-odds that an option of this name chooses.
@@ -84,26 +116,57 @@ fn choose_model(words: &[String]) -> Option<OddsModel>
     OddsModel::new(hit, miss, min, max, thr).ok()
 }
 
+/// The number that an option of this name chooses.
+fn choose_count(words: &[String], name: &[u8], choice: Choice) -> Option<u64>
+    ensures exact { result ≡ chosen_count (bytes_of words.now) name.now choice.default choice.low choice.high }
+    ensures within { IfSome result (λ n. (choice.low ≤ n) × (n ≤ choice.high)) }
+{
+    match value_of(words, name) {
+        None => Some(choice.default),
+        Some(word) => read_count(word, choice.low, choice.high),
+    }
+}
+
+/// The most groups of the map that the options choose.
+#[tactic(auto, unfolding(crate::specs::Task::chosen_groups))]
+fn choose_groups(words: &[String]) -> Option<u32>
+    ensures exact { result ≡ chosen_groups (bytes_of words.now) }
+    ensures within { IfSome result (λ n. (16 ≤ n) × (n ≤ 2 ^ 26)) }
+{
+    let groups = choose_count(words, b"--max-groups", GROUPS)?;
+    Some(groups as u32)
+}
+
+/// The most voxels that a scan may meet, as the options choose.
+#[tactic(auto, unfolding(crate::specs::Task::chosen_cells))]
+fn choose_cells(words: &[String]) -> Option<u64>
+    ensures exact { result ≡ chosen_cells (bytes_of words.now) }
+    ensures within { IfSome result (λ n. (1 ≤ n) × (n ≤ 2 ^ 27)) }
+{
+    choose_count(words, b"--max-cells", CELLS)
+}
+
 /// The most bytes of a script that the options choose.
-#[tactic(auto, unfolding(crate::specs::Task::chosen_limit))]
-fn choose_limit(words: &[String]) -> Option<u64>
-    ensures exact { result ≡ chosen_limit (bytes_of words.now) }
+#[tactic(auto, unfolding(crate::specs::Task::chosen_bytes))]
+fn choose_bytes(words: &[String]) -> Option<u64>
+    ensures exact { result ≡ chosen_bytes (bytes_of words.now) }
     ensures few { IfSome result (λ n. n ≤ 2 ^ 40) }
 {
-    match value_of(words, b"--max-bytes") {
-        None => Some(MOST_BYTES),
-        Some(word) => read_byte_count(word),
-    }
+    choose_count(words, b"--max-bytes", BYTES)
 }
 
 /// Reads the options of a session at a resolution.
 fn read_options(res: &[u8], words: &[String]) -> Option<Options>
-    ensures { option_map setup_of result ≡ setup_from (resolution_of res.now) (chosen_model (bytes_of words.now)) (chosen_limit (bytes_of words.now)) }
+    ensures { option_map setup_of result ≡ setup_asked res.now (bytes_of words.now) }
 {
     Some(Options {
         res: read_resolution(res)?,
         odds: choose_model(words)?,
-        max_bytes: choose_limit(words)?,
+        limits: Limits {
+            max_groups: choose_groups(words)?,
+            max_cells: choose_cells(words)?,
+        },
+        max_bytes: choose_bytes(words)?,
     })
 }
 

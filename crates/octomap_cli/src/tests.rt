@@ -2,6 +2,9 @@
 ghost use Rattle.std.specs.Prelude.{◌≤◌, ◌<◌, ◌^◌, None};
 ghost use Rattle.oct_io.specs.Told.{Rose};
 
+mod fold;
+mod scans;
+
 use crate::program::run;
 use oct_io::{CalmSink, CalmSource, CalmStore, Failed, FileBytes, Sink, SinkFault, Source};
 use oct_session::Status;
@@ -75,6 +78,113 @@ fn values_are_clamped_at_each_step(rt: HostRuntime) -> Result<(), Fail> {
 }
 
 #[test]
+fn blocks_answer_their_largest_value_once_refreshed(rt: HostRuntime) -> Result<(), Fail> {
+    for (script, replies, ends) in [
+        (
+            "hit 0 0 0\nget -0.05 -0.05 -0.05 16\nget -0.05 -0.05 -0.05 1\nget -0.05 -0.05 -0.05 0\n",
+            "ok\nunknown\nunknown\nknown 850 occupied\n",
+            Status::Done,
+        ),
+        (
+            "hit 0 0 0\nmiss 0.1 0 0\nget 0.1 0 0 15\nget 0.1 0 0 16\n",
+            "ok\nok\nknown 850 occupied\nknown -400 free\n",
+            Status::Done,
+        ),
+        (
+            "hit 0 0 0 lazy\nget 0 0 0 16\nget 0 0 0 15\nrefresh\nget 0 0 0 15\n",
+            "ok\nknown 850 occupied\nrefused 22 Stale\nok\nknown 850 occupied\n",
+            Status::Refused,
+        ),
+        (
+            "set 0 0 0 3500\nhit 0 0 0 lazy\nprune\ncounts\nget 4000 0 0 17\nget 0 0 0 17\nget 0 0 0 0\n",
+            "ok\nok\nok\ngroups 16 nodes 17\nrefused 24 Outside point 1\nrefused 25 BadDepth\nrefused 22 Stale\n",
+            Status::Refused,
+        ),
+    ] {
+        let (status, text) = session(&rt, script.as_bytes())?;
+        assert_eq!(rt; status, ends, "at {script:?}");
+        assert_eq!(rt; text.as_slice(), replies.as_bytes(), "at {script:?}");
+    }
+    Ok(())
+}
+
+/// The eight voxels beside the corner of the origin.
+const CORNER: [&str; 8] = [
+    "0 0 0",
+    "0.1 0 0",
+    "0 0.1 0",
+    "0.1 0.1 0",
+    "0 0 0.1",
+    "0.1 0 0.1",
+    "0 0.1 0.1",
+    "0.1 0.1 0.1",
+];
+
+#[test]
+fn counts_are_the_least_that_the_values_need(rt: HostRuntime) -> Result<(), Fail> {
+    let mut equal = String::new(rt.alloc());
+    let mut different = String::new(rt.alloc());
+    for (index, point) in CORNER.iter().enumerate() {
+        writeln!(equal, "hit {point}")?;
+        for _ in 0..=index {
+            writeln!(different, "hit {point}")?;
+        }
+    }
+    for (script, counted) in [
+        ("", "groups 0 nodes 0\n"),
+        ("hit 0 0 0\n", "groups 16 nodes 17\n"),
+        ("hit 0 0 0\nforget 0 0 0\n", "groups 0 nodes 0\n"),
+        (equal.as_str(), "groups 15 nodes 16\n"),
+        (different.as_str(), "groups 16 nodes 24\n"),
+    ] {
+        let asked = format!(in rt.alloc(); "{script}counts\n")?;
+        let (status, text) = session(&rt, asked.as_bytes())?;
+        assert_eq!(rt; status, Status::Done, "at {script:?}");
+        assert!(rt; text.ends_with(counted.as_bytes()), "at {script:?}");
+    }
+    Ok(())
+}
+
+#[test]
+fn a_full_map_refuses_edits(rt: HostRuntime) -> Result<(), Fail> {
+    let mut lazily = String::new(rt.alloc());
+    for point in CORNER {
+        writeln!(lazily, "hit {point} lazy")?;
+    }
+    let lazily = format!(in rt.alloc(); "{lazily}counts\nhit 1 0 0\n")?;
+    for (most, script, replies, ends) in [
+        (
+            "16",
+            "hit 0 0 0\nhit 1 0 0\nget 0 0 0 0\nget 1 0 0 16\n",
+            "ok\nrefused 23 Full groups 16 need 16\nknown 850 occupied\nunknown\n",
+            Status::Refused,
+        ),
+        (
+            "31",
+            "hit 0 0 0 lazy\nhit 0.1 0 0 lazy\nget 0.1 0 0 16\n",
+            "ok\nrefused 23 Full groups 16 need 16\nunknown\n",
+            Status::Refused,
+        ),
+        (
+            "32",
+            lazily.as_str(),
+            "ok\nok\nok\nok\nok\nok\nok\nok\ngroups 15 nodes 16\nok\n",
+            Status::Done,
+        ),
+    ] {
+        let words = ["session", "0.1", "--max-groups", most];
+        let (status, text) = answer(&rt, &words, script.as_bytes(), 4096, 4096)?;
+        assert_eq!(rt; status, ends, "{script:?}, at most {most}");
+        assert_eq!(rt;
+            text.as_slice(),
+            replies.as_bytes(),
+            "{script:?}, at most {most}"
+        );
+    }
+    Ok(())
+}
+
+#[test]
 fn quit_ends_the_session(rt: HostRuntime) -> Result<(), Fail> {
     for (script, replies, ends) in [
         ("hit 0 0 0\nquit\nhit 0 0 0\n", "ok\n", Status::Done),
@@ -104,12 +214,20 @@ fn quit_ends_the_session(rt: HostRuntime) -> Result<(), Fail> {
 fn refusals_name_line_and_column(rt: HostRuntime) -> Result<(), Fail> {
     for (script, replies) in [
         (
-            "get 0 0\nhit 0 0 x\nhit 4000 0 0\n",
-            "refused 29 Syntax line 1 column 8\nrefused 29 Syntax line 2 column 9\nrefused 24 Outside point 1\n",
+            "get 0 0\nhit 0 0 x\nhit 4000 0 0\nget 0 0 0 17\n",
+            "refused 29 Syntax line 1 column 8\nrefused 29 Syntax line 2 column 9\nrefused 24 Outside point 1\nrefused 25 BadDepth\n",
         ),
         (
-            "refresh\nget 0 0 0 15\nhit 0 0 0 lazy\nget 0 0 0 0016\nget 0 0 0 12345678\n",
-            "refused 36 NotYet\nrefused 36 NotYet\nrefused 36 NotYet\nunknown\nrefused 29 Syntax line 5 column 11\n",
+            "box 0 0 0 0 0 0 hit\nsave m\nlist 0 0 0 1 1 1 16\ncast 0 0 0 1 0 0\nget 0 0 0 0016\nget 0 0 0 12345678\n",
+            "refused 36 NotYet\nrefused 36 NotYet\nrefused 36 NotYet\nrefused 36 NotYet\nunknown\nrefused 29 Syntax line 6 column 11\n",
+        ),
+        (
+            "p 1 0 0\n end\nend 1\np\n",
+            "refused 29 Syntax line 1 column 1\nrefused 29 Syntax line 2 column 2\nrefused 29 Syntax line 3 column 1\nrefused 29 Syntax line 4 column 1\n",
+        ),
+        (
+            "hit 0 0 0 lazy lazy\ncounts 1\nrefresh lazy\nprune x\nhit 0 0 lazy\n",
+            "refused 29 Syntax line 1 column 16\nrefused 29 Syntax line 2 column 8\nrefused 29 Syntax line 3 column 9\nrefused 29 Syntax line 4 column 7\nrefused 29 Syntax line 5 column 9\n",
         ),
         (
             "hit 0 0 0 x\nhit x 0 0\nhit\nget 0 0 0\nset 0 0 0 1000001\n",
@@ -144,7 +262,13 @@ fn words_that_ask_for_nothing_read_and_write_nothing(rt: HostRuntime) -> Result<
         &["session", "0.1", "--hit"],
         &["session", "0.1", "--hit=850"],
         &["session", "0.1", "--hits", "850"],
-        &["session", "0.1", "--max-groups", "16"],
+        &["session", "0.1", "--max-groups", "15"],
+        &["session", "0.1", "--max-groups", "67108865"],
+        &["session", "0.1", "--max-groups", "-16"],
+        &["session", "0.1", "--max-groups", "x"],
+        &["session", "0.1", "--max-cells", "0"],
+        &["session", "0.1", "--max-cells", "134217729"],
+        &["session", "0.1", "--max-cell", "16"],
         &["session", "0.1", "--hit", "850", "--hit", "850"],
         &["session", "0.1", "--hit", "850", "--thr", "0", "--hit", "1"],
         &["session", "0.1", "--hit", "0"],
@@ -192,6 +316,12 @@ fn options_choose_the_model(rt: HostRuntime) -> Result<(), Fail> {
             "3 occupied",
         ),
         (&["--min", "-1000000", "--thr", "-999999"], "850 occupied"),
+        (&["--max-groups", "16", "--max-cells", "1"], "850 occupied"),
+        (&["--max-cells", "134217728"], "850 occupied"),
+        (
+            &["--max-groups", "000000000067108864", "--max-bytes", "23"],
+            "850 occupied",
+        ),
     ] {
         let mut all = Vec::from_slice(rt.alloc(), &["session", "0.1"])?;
         all.extend_from_slice(words)?;

@@ -11,6 +11,8 @@ fn is_option(word: &[u8]) -> bool
         || word == b"--min".as_slice()
         || word == b"--max".as_slice()
         || word == b"--thr".as_slice()
+        || word == b"--max-groups".as_slice()
+        || word == b"--max-cells".as_slice()
         || word == b"--max-bytes".as_slice()
 }
 
