@@ -1,10 +1,10 @@
 -- A piece of a script, line by line.
-use Rattle.std.proofs.Common.{◌≡◌, ℕ, ◌+◌, ◌≤◌, List, [], ◌∷◌, ◌++◌, length, take, drop, Option, Result, Ok, Err, OnOk, OnErr, Bool, true, false, cond, inr, sym, ap, subst, ◌∙◌, append_assoc, append-nil}
+use Rattle.std.proofs.Common.{◌≡◌, ℕ, ◌+◌, ◌≤◌, List, [], ◌∷◌, ◌++◌, length, take, drop, Option, Result, Ok, Err, OnOk, OnErr, Bool, true, false, cond, inr, sym, ap, subst, ◌∙◌, append_assoc}
 use Rattle.std.proofs.Math.Seq.{take-add}
 use Rattle.std.proofs.lemmas.List.{take_all, take-append-drop}
 use Rattle.oct_io.specs.Files.{Files}
 use Rattle.oct_map.specs.Map.{Map}
-use Rattle.oct_script.specs.Lines.{Line, LineSoFar, unread, ended_lines, rest_of, all_lines, last_line, line_of, IsReading, HasJoined, HasEnded}
+use Rattle.oct_script.specs.Lines.{Line, LineSoFar, unread, ended_lines, rest_of, all_lines, last_line, line_of, IsReading, HasEnded}
 use Rattle.oct_session.specs.declared.session.Session.{Session}
 use Rattle.oct_session.specs.Session.{Progress, after_line, progress, closed}
 use Rattle.oct_session.specs.Setup.{Setup}
@@ -30,16 +30,6 @@ moved o w v m s t p at answered block refused quit = record {
   };
   written = at.written;
 }
-
--- a piece in which no line ends joins the line that stands
-pub at_joined : (o : Setup) (files : Files) (w v : Option (List ℕ)) (m : Map) (s t : Session) (bytes more : List ℕ) → s.has_quit ≡ false → (IsReading s.lines bytes → HasJoined t.lines bytes more) →
-    t.answered ≡ s.answered → t.block ≡ s.block → t.refused ≡ s.refused → t.has_quit ≡ s.has_quit → IsAt o files w v m s bytes → IsAt o files w v m t more
-at_joined o files w v m s t bytes more running joins answered block refused quit at =
-    let joined : HasJoined t.lines bytes more = joins (at.line running) in
-    record {
-      reached = subst (λ x. HasReached o w v m t (progress o files x)) (sym joined.lines) (moved o w v m s t (progress o files (ended_lines bytes)) at.reached answered block refused quit);
-      line = λ goes_on. joined.reads;
-    }
 
 -- a new line reads behind a line feed
 reads_next : (line : LineSoFar) (bytes : List ℕ) → line ≡ unread → rest_of bytes ≡ [] → IsReading line bytes
@@ -123,14 +113,6 @@ last_lines bytes line last = ap (λ x. ended_lines bytes ++ x) last
 standing : (s : Session) (bytes : List ℕ) (has_rest b : Bool) → has_rest ≡ b → last_line (rest_of bytes) ≡ cond has_rest (s.lines.line ∷ []) [] → last_line (rest_of bytes) ≡ cond b (s.lines.line ∷ []) []
 standing s bytes has_rest b is last = subst (λ x. last_line (rest_of bytes) ≡ cond x (s.lines.line ∷ []) []) is last
 
--- the last line, answered, where the script has ended
-pub end_line : (o : Setup) (files : Files) (w v u : Option (List ℕ)) (m n : Map) (s t : Session) (bytes : List ℕ) (has_rest : Bool) → s.has_quit ≡ false → has_rest ≡ true →
-    ((bytes : List ℕ) → IsReading s.lines bytes → last_line (rest_of bytes) ≡ cond has_rest (s.lines.line ∷ []) []) → IsAt o files w v m s bytes →
-    HasReached o w u n t (after_line o (progress o files (ended_lines bytes)) s.lines.line) → HasReached o w u n t (progress o files (all_lines bytes))
-end_line o files w v u m n s t bytes has_rest running some last at reached =
-    let lines : all_lines bytes ≡ ended_lines bytes ++ s.lines.line ∷ [] = last_lines bytes s.lines.line (standing s bytes has_rest true some (last bytes (at.line running))) in
-    subst (λ x. HasReached o w u n t x) (sym (ap (λ x. progress o files x) lines ∙ progress_push o files (ended_lines bytes) s.lines.line)) reached
-
 -- a halt at it
 pub end_halted : {T E : Type 0} (r : Result T E) (o : Setup) (v u : Option (List ℕ)) (m n : Map) (s : Session) (has_rest : Bool) → s.has_quit ≡ false → has_rest ≡ true →
     ((bytes : List ℕ) → IsReading s.lines bytes → last_line (rest_of bytes) ≡ cond has_rest (s.lines.line ∷ []) []) →
@@ -140,14 +122,6 @@ end_halted (Ok x) o v u m n s has_rest running some last halts = tt
 end_halted (Err x) o v u m n s has_rest running some last halts = λ files w bytes at.
     let lines : all_lines bytes ≡ ended_lines bytes ++ s.lines.line ∷ [] = last_lines bytes s.lines.line (standing s bytes has_rest true some (last bytes (at.line running))) in
     subst (λ x. IsHalted o files x w u n) (sym lines) (halted_last o files (ended_lines bytes) s.lines.line w u n (halts w (progress o files (ended_lines bytes)) at.reached))
-
--- where the script ends with a line feed, all its lines are answered
-pub end_none : (o : Setup) (files : Files) (w v : Option (List ℕ)) (m : Map) (s : Session) (bytes : List ℕ) (has_rest : Bool) → s.has_quit ≡ false → has_rest ≡ false →
-    ((bytes : List ℕ) → IsReading s.lines bytes → last_line (rest_of bytes) ≡ cond has_rest (s.lines.line ∷ []) []) → IsAt o files w v m s bytes →
-    HasReached o w v m s (progress o files (all_lines bytes))
-end_none o files w v m s bytes has_rest running none last at =
-    let nothing : last_line (rest_of bytes) ≡ [] = standing s bytes has_rest false none (last bytes (at.line running)) in
-    subst (λ x. HasReached o w v m s (progress o files x)) (sym (ap (λ x. ended_lines bytes ++ x) nothing ∙ append-nil (ended_lines bytes))) at.reached
 
 -- the end of the script, behind its last line
 pub end_closed : {T E : Type 0} (r : Result T E) (o : Setup) (a v u : Option (List ℕ)) (m n : Map) (s t e : Session) →

@@ -11,7 +11,7 @@ use Rattle.oct_script.specs.Lines.{Line, ended_lines}
 use Rattle.oct_script.specs.Replies.{text_of}
 use Rattle.oct_script.proofs.Cuts.{ended_lines-append}
 use Rattle.oct_session.specs.declared.session.Session.{Session}
-use Rattle.oct_session.specs.Ending.{replies_within, has_quit_within}
+use Rattle.oct_session.specs.Ending.{has_quit_within}
 use Rattle.oct_session.specs.Session.{Progress, start, effect_of, answered, after_line, progress}
 use Rattle.oct_session.specs.Setup.{Setup}
 use Rattle.oct_session.specs.Standing.{IsBetween, HasReached}
@@ -72,13 +72,6 @@ pub progress_grows : (o : Setup) (files : Files) (lines more : List Line) → (t
 progress_grows o files lines more =
     let s = text_grows o (progress o files lines) more in
     (s.0, ap (λ (p : Progress). p.text) (fold-append (after_line o) (start files) lines more) ∙ s.1)
-
--- so do more bytes
-pub replies_grow : (o : Setup) (files : Files) (bytes more : List ℕ) → (text : List ℕ) × (replies_within o files (bytes ++ more) ≡ replies_within o files bytes ++ text)
-replies_grow o files bytes more =
-    let s = ended_lines-append bytes more in
-    let t = progress_grows o files (ended_lines bytes) s.0 in
-    (t.0, ap (λ lines. (progress o files lines).text) s.1 ∙ t.1)
 
 -- whether the session goes on
 running_at : (o : Setup) (m : Map) (s : Session) (p : Progress) → IsBetween o m s p → s.has_quit ≡ false → p.has_quit ≡ false

@@ -24,7 +24,6 @@ use Rattle.oct_script.specs.declared.command.Command.{Command}
 use Rattle.oct_script.specs.declared.command.Command.TheVariants as command
 use Rattle.oct_script.specs.declared.command.Edit.{Edit}
 use Rattle.oct_script.specs.declared.reply.Refusal.{Refusal}
-use Rattle.oct_script.specs.declared.reply.Refusal.TheVariants as refusal
 use Rattle.oct_script.specs.declared.reply.Reply.{Reply}
 use Rattle.oct_script.specs.declared.reply.Reply.TheVariants as reply_of
 use Rattle.oct_script.specs.Replies.{is_refusal}
@@ -35,7 +34,7 @@ use Rattle.oct_session.specs.ScanBlock.{is_zero, scan_reply, block_reply, block_
 use Rattle.oct_session.specs.ScanSoFar.{ScanSoFar, sighting_so_far}
 use Rattle.oct_session.specs.Setup.{Setup}
 use Rattle.oct_session.specs.Standing.{HasAnswered, HasObeyed, HasScanned}
-use Rattle.oct_session.specs.declared.block.Block.TheVariants.{Scanning, Spoilt}
+use Rattle.oct_session.specs.declared.block.Block.TheVariants.{Scanning}
 use Rattle.oct_session.proofs.Answering.{same_edit, same_get, same_scan}
 use Rattle.oct_session.proofs.Heard.{edit_some, block_some}
 use Rattle.oct_session.proofs.Foldings.{stands_same, stands_edited, stands_scanned, stands_refreshed, stands_pruned}
@@ -56,16 +55,9 @@ Scans o m n scan r = HasAnswered o (λ h. block_reply o h (Scanning scan)) (bloc
 stands_kept : (o : Setup) (m : Map) (h more : History) → more ≡ [] → StandsFor o m h → StandsFor o m (h ++ more)
 stands_kept o m h more none at = subst (λ x. StandsFor o m x) (sym (ap (λ x. h ++ x) none ∙ append-nil h)) at
 
--- a command that the map isn't asked for
-pub quiet : (o : Setup) (m : Map) (c : Result Command Refusal) (r : Option Reply) → action_of c ≡ [] → ((h : History) → r ≡ reply o h c) → Obeys o m m c r
-quiet o m c r none is = λ h at. (is h, stands_kept o m h (accepted r (action_of c)) (accepted_none r (action_of c) none) at)
-
 -- what was answered to the command that was read
 pub answered_as : (o : Setup) (m n : Map) (c read : Command) (r : Option Reply) → c ≡ read → Obeys o m n (Ok read) r → Obeys o m n (Ok c) r
 answered_as o m n c read r is done = subst (λ x. Obeys o m n (Ok x) r) (sym is) done
-
-pub obeyed_as : {E : Type 0} (o : Setup) (m n : Map) (c read : Result Command Refusal) (r : Result (Option Reply) E) → c ≡ read → HasObeyed o m n read r → HasObeyed o m n c r
-obeyed_as o m n c read r is done = subst (λ x. HasObeyed o m n x r) (sym is) done
 
 -- a reply to a refusal of the map is a refusal
 refuses : (f : MapFault) (r : Option Reply) → IsSome r → r ≡ fault_reply f → is_refusal r ≡ true
@@ -148,11 +140,6 @@ pub refresh_done : (o : Setup) (m n : Map) → SameValues (values_of m) (values_
     Obeys o m n (Ok command.Refresh) (Some reply_of.Ok)
 refresh_done o m n values fresh pruned setup = λ h at. (refl, stands_refreshed o m n h values fresh pruned setup at)
 
--- a prune
-pub prune_done : (o : Setup) (m n : Map) → SameValues (values_of m) (values_of n) → n.is_stale ≡ m.is_stale → IsPruned n.tree → IsSameSetup m n →
-    Obeys o m n (Ok command.Prune) (Some reply_of.Ok)
-prune_done o m n values stale pruned setup = λ h at. (refl, stands_pruned o m n h values stale pruned setup at)
-
 -- the reply to a scan whose quaternion isn't 0
 scan_replied : (o : Setup) (m : Map) (h : History) (scan : ScanSoFar) (s : Sighting) (r : Result ScanDone MapFault) → is_zero scan.head ≡ false → s ≡ sighting_so_far scan → StandsFor o m h →
     r ≡ scan_answer m.tree.res m.tree.odds m.max_groups m.max_cells (values_of m) s → scan_reply r ≡ block_reply o h (Scanning scan)
@@ -182,11 +169,3 @@ scan_refused (Ok a) o m n scan s f turns saw is some (inl answer) values stale p
 )
 scan_refused (Ok a) o m n scan s f turns saw is some (inr memory) values stale pruned setup = absurd (no_reply f a some is cc)
 scan_refused (Err x) o m n scan s f turns saw is some answer values stale pruned setup = λ h at. (block_some o h scan, stands_same o m n h values stale pruned setup at)
-
--- a scan whose quaternion is 0
-pub scan_zero : (o : Setup) (m : Map) (scan : ScanSoFar) → is_zero scan.head ≡ true → Scans o m m scan (Some (reply_of.Refused refusal.ZeroQuaternion))
-scan_zero o m scan zero = λ h at. (rw zero refl, stands_kept o m h [] refl at)
-
--- a block that a fault has spoilt
-pub spoilt_done : (o : Setup) (m : Map) (r : Refusal) → HasAnswered o (λ h. block_reply o h (Spoilt r)) (block_action (Spoilt r)) m m (Some (reply_of.Refused r))
-spoilt_done o m r = λ h at. (refl, stands_kept o m h [] refl at)
