@@ -5,6 +5,8 @@ pub mod FormBreaks
 pub mod FormLaw
 pub mod FormReading
 pub mod MetresReading
+pub mod MetresWriting
+pub mod Fronts
 pub mod Nearest
 pub mod Roots
 pub mod WholeLaw

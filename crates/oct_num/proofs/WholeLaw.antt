@@ -11,7 +11,7 @@ use Rattle.oct_num.proofs.FormReading.{plain_digits, without_minus_plain}
 use Rattle.oct_num.proofs.FormLaw.{sign_split}
 
 -- one to eighteen digits are read
-natural_read : (digits : List ℕ) → AreDigits digits → length digits ≤ 18 → natural_of digits ≡ Some (decimal_value digits)
+pub natural_read : (digits : List ℕ) → AreDigits digits → length digits ≤ 18 → natural_of digits ≡ Some (decimal_value digits)
 unfolding natural_of
 natural_read digits are few =
     let some : length digits ≡ 0 → ⊥ = λ e. omega (arith, e, are.some) in

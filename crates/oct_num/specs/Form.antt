@@ -1,10 +1,11 @@
 -- The form of a metres text, and where a text stops being of it, apart from how it is read.
-use Rattle.std.specs.Prelude.{◌≡◌, ◌⊎◌, ℕ, ◌+◌, ◌-◌, ◌*◌, ◌^◌, ◌<◌, ◌≤◌, ℤ, Bool, List, [], ◌∷◌, ◌++◌, length}
+use Rattle.std.specs.Prelude.{◌≡◌, ◌⊎◌, ℕ, ◌+◌, ◌-◌, ◌*◌, ◌^◌, ◌<◌, ◌≤◌, ℤ, Bool, List, [], ◌∷◌}
+use Rattle.std.specs.Prelude.{◌++◌, length}
 use Rattle.std.specs.List.{AllPass}
 use Rattle.oct_num.specs.Decimal.{is_digit, decimal_value, AreDigits}
 use Rattle.oct_num.specs.Sign.{sign_text, signed_number}
 
--- the nanometres that the digits before the point and the digits behind it stand for
+-- the nanometres that the digits before the point and the digits after it stand for
 abbrev pub nanometres : List ℕ → List ℕ → ℕ
 nanometres whole fraction = decimal_value whole * 10 ^ 9 + decimal_value fraction * 10 ^ (9 - length fraction)
 
@@ -22,14 +23,15 @@ pub record IsForm (text : List ℕ) : Type 0 where
   pub before : AreDigits whole
   pub behind : AllPass is_digit fraction
 
--- the text of these nanometres: of the form, with at most seven digits before the point and nine behind it
+-- the text of these nanometres: of the form, with at most seven digits before the point and nine
+-- after it
 pub record IsMetres (text : List ℕ) (nm : ℤ) : Type 0 where
   pub form : IsForm text
   pub before : length form.whole ≤ 7
   pub behind : length form.fraction ≤ 9
   pub value : nm ≡ signed_number form.minus (nanometres form.whole form.fraction)
 
--- the index of the eighth digit before the point, or else of the tenth behind it
+-- the index of the eighth digit before the point, or else of the tenth after it
 abbrev pub IsExcessAt : ℕ → List ℕ → List ℕ → ℕ → Type 0
 IsExcessAt start whole fraction at =
     ((7 < length whole) × (at ≡ start + 7))
@@ -58,3 +60,9 @@ pub record BreaksAt (text : List ℕ) (at : ℕ) : Type 0 where
   pub place : at ≡ length front
   pub begins : CanGoOn front
   pub stuck : IsStuck front rest
+
+-- the text begins with the text of these nanometres, and the rest stands after it
+pub record BeginsWith (text : List ℕ) (nm : ℤ) (rest : List ℕ) : Type 0 where
+  pub front : List ℕ
+  pub spelled : text ≡ front ++ rest
+  pub metres : IsMetres front nm

@@ -6,19 +6,22 @@
 //! - `read_metres` answers the nanometres of exactly the texts of an optional minus, one to seven
 //!   digits, and optionally a point and one to nine digits. To every other text it answers where
 //!   the text stops being a number, or which digit is one too many.
+//! - `split_metres` takes such a length off the front of a text, as far as its digits go.
 //! - `read_whole` answers the number of exactly the texts of an optional minus and one to eighteen
-//!   digits.
+//!   digits, and `read_natural` that of exactly the texts of one to eighteen digits.
+//! - `metres_text` writes nanometres as the shortest text that is read as them; `push_metres`
+//!   appends it, or leaves the bytes as they were.
 //! - `push_whole` appends the decimal text of a number, or leaves the bytes as they were.
 //! - `floor_div` rounds down for negative numbers too.
 //! - `round_half_up` answers the nearest whole number to a fraction, and the upper one at a tie.
 //! - `ceil_sqrt` answers the least whole number whose square is at least a number.
 //!
-//! A reader of texts takes off the sign, splits the digits at the front from what follows them, and
-//! computes in unsigned numbers; the sign comes last. Each is stated twice: as a function from
-//! texts to answers (`metres_of`, `whole_of`), which other definitions compute with, and by the
-//! form of the text alone (`IsMetres`, `BreaksAt`, `HasExcess`, `IsWholeNumber`), which says
-//! nothing of how the text is read. Rounding too is stated twice: as the floor of `(2n + d) / (2d)`
-//! (`half_up`), and as the number that no other one is nearer than (`IsNearest`).
+//! A reader of texts takes off the sign (`split_sign`), splits the digits at the front from what
+//! follows them, and computes in unsigned numbers; the sign comes last. Each is stated twice: as a
+//! function from texts to answers (`metres_of`, `whole_of`), which other definitions compute with,
+//! and by the form of the text alone (`IsMetres`, `BreaksAt`, `HasExcess`, `IsWholeNumber`), which
+//! says nothing of how the text is read. Rounding too is stated twice: as the floor of `(2n + d) /
+//! (2d)` (`half_up`), and as the number that no other one is nearer than (`IsNearest`).
 //!
 //! `Memory` is the error of every call that fails only for want of memory.
 //!
@@ -30,6 +33,7 @@ mod decimal;
 mod division;
 mod memory;
 mod metres;
+mod metres_writing;
 mod root;
 mod rounding;
 mod sign;
@@ -37,7 +41,9 @@ mod whole;
 
 pub use division::floor_div;
 pub use memory::Memory;
-pub use metres::{NumFault, read_metres};
+pub use metres::{NumFault, read_metres, split_metres};
+pub use metres_writing::{metres_text, push_metres};
 pub use root::ceil_sqrt;
 pub use rounding::round_half_up;
-pub use whole::{push_whole, read_whole};
+pub use sign::split_sign;
+pub use whole::{push_whole, read_natural, read_whole};

@@ -1,8 +1,12 @@
-ghost use Rattle.std.specs.Prelude.{◌≡◌, ◌↔◌, ℕ, ◌+◌, ◌^◌, ◌<◌, ◌≤◌, ℤ, unsigned_abs, length, MatchResult, Ok, Err, IfOk};
+ghost use Rattle.std.specs.Prelude.{◌≡◌, ◌↔◌, ℕ, ◌+◌, ◌-◌, ◌^◌, ◌<◌, ◌≤◌, ℤ, unsigned_abs, length};
+ghost use Rattle.std.specs.Prelude.{◌++◌, drop, MatchResult, Ok, Err, IfOk, MatchOption, Some};
+ghost use Rattle.std.specs.Prelude.{None, IfSome};
 ghost use Rattle.std.specs.List.{AllPass};
 ghost use Rattle.oct_num.specs.Decimal.{is_digit};
 ghost use Rattle.oct_num.specs.Metres.{fraction_of, limited_nanometres, magnitude_of, metres_of};
-ghost use Rattle.oct_num.specs.Form.{IsMetres, HasExcess, BreaksAt};
+ghost use Rattle.oct_num.specs.Metres.{fraction_front, fraction_rest, metres_front};
+ghost use Rattle.oct_num.specs.Form.{nanometres, fraction_text, IsMetres, HasExcess, BreaksAt};
+ghost use Rattle.oct_num.specs.Form.{BeginsWith};
 
 use crate::decimal::{digits_value, split_digits};
 use crate::sign::{split_sign, with_sign};
@@ -23,7 +27,7 @@ pub enum NumFault {
     #[error("no decimal number at byte {at}")]
     Syntax { at: u64 },
     /// A decimal number, but the digit at this index is the eighth before the point, or else the
-    /// tenth behind it.
+    /// tenth after it.
     #[error("a digit too many at byte {at}")]
     Digits { at: u64 },
 }
@@ -48,7 +52,54 @@ pub fn read_metres(text: &[u8]) -> Result<i64, NumFault>
     Ok(with_sign(minus, nanometres))
 }
 
-/// Reads a length behind its sign. The text stands from index `start` on.
+/// Takes the length in decimal metres that a text begins with: its nanometres, and the rest of the
+/// text. Its digits go as far as they can, and a point belongs to it where a digit follows. `None`
+/// comes where the text begins with no digit after its sign, or with too many.
+#[tactic(auto, unfolding(crate::specs::Metres::metres_front))]
+pub fn split_metres(text: &[u8]) -> Option<(i64, &[u8])>
+    ensures exact { MatchOption result (metres_front text.now ≡ None)
+        (λ split. metres_front text.now ≡ Some (split.0, split.1.now)) }
+    ensures begins { IfSome result (λ split. BeginsWith text.now split.0 split.1.now) }
+    ensures reach { IfSome result (λ split. unsigned_abs split.0 < 10 ^ 16) }
+    ensures within { IfSome result (λ split. length split.1.now ≤ length text.now) }
+{
+    let (minus, magnitude) = split_sign(text);
+    let (whole, behind) = split_digits(magnitude);
+    let (fraction, rest) = split_fraction(behind);
+    if whole.is_empty() {
+        return None;
+    }
+    if whole.len() > MOST_WHOLE_DIGITS {
+        return None;
+    }
+    if fraction.len() > MOST_FRACTION_DIGITS {
+        return None;
+    }
+    Some((with_sign(minus, nanometres(whole, fraction)), rest))
+}
+
+/// The digits after the point that a text begins with, if any follow it, and the rest of the text.
+fn split_fraction(text: &[u8]) -> (&[u8], &[u8])
+    ensures fraction { result.0.now ≡ fraction_front text.now }
+    ensures rest { result.1.now ≡ fraction_rest text.now }
+    ensures digits { AllPass is_digit result.0.now }
+    ensures spelled { text.now ≡ fraction_text result.0.now ++ result.1.now }
+    ensures within { length result.1.now ≤ length text.now }
+{
+    match text {
+        [b'.', behind @ ..] => {
+            let (fraction, rest) = split_digits(behind);
+            if fraction.is_empty() {
+                (fraction, text)
+            } else {
+                (fraction, rest)
+            }
+        }
+        _ => text.split_at(0),
+    }
+}
+
+/// Reads a length after its sign. The text stands from index `start` on.
 #[tactic(auto, unfolding(crate::specs::Metres::magnitude_of))]
 fn read_magnitude(start: u64, text: &[u8]) -> Result<u64, NumFault>
     requires near { start ≤ 1 }
@@ -64,7 +115,7 @@ fn read_magnitude(start: u64, text: &[u8]) -> Result<u64, NumFault>
     read_limited(start, whole, fraction)
 }
 
-/// The digits behind the point, in what follows the digits before it.
+/// The digits after the point, in what follows the digits before it.
 #[tactic(auto, unfolding(crate::specs::Metres::fraction_of))]
 fn read_fraction(point: u64, rest: &[u8]) -> Result<&[u8], NumFault>
     requires short { point + length rest.now < 2 ^ 64 }
@@ -105,8 +156,39 @@ fn read_limited(start: u64, whole: &[u8], fraction: &[u8]) -> Result<u64, NumFau
         let at = start + whole.len() as u64 + 1 + MOST_FRACTION_DIGITS as u64;
         return Err(NumFault::Digits { at });
     }
-    let scale = 10u64.pow((MOST_FRACTION_DIGITS - fraction.len()) as u32);
-    Ok(digits_value(whole) * NANOMETRES_PER_METRE + digits_value(fraction) * scale)
+    Ok(nanometres(whole, fraction))
+}
+
+/// The nanometres of these digits before the point and after it.
+fn nanometres(whole: &[u8], fraction: &[u8]) -> u64
+    requires whole { AllPass is_digit whole.now }
+    requires fraction { AllPass is_digit fraction.now }
+    requires before { length whole.now ≤ 7 }
+    requires behind { length fraction.now ≤ 9 }
+    ensures exact { result ≡ nanometres whole.now fraction.now }
+    ensures reach { result < 10 ^ 16 }
+{
+    let scale = nanometres_per_unit(fraction.len());
+    digits_value(whole) * NANOMETRES_PER_METRE + digits_value(fraction) * scale
+}
+
+/// The nanometres of one unit in the last of these digits after the point.
+fn nanometres_per_unit(digits: usize) -> u64
+    requires { digits ≤ 9 }
+    ensures { result ≡ 10 ^ (9 - digits) }
+{
+    match digits {
+        0 => 1_000_000_000,
+        1 => 100_000_000,
+        2 => 10_000_000,
+        3 => 1_000_000,
+        4 => 100_000,
+        5 => 10_000,
+        6 => 1_000,
+        7 => 100,
+        8 => 10,
+        _ => 1,
+    }
 }
 
 #[cfg(test)]

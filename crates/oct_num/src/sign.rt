@@ -2,7 +2,7 @@ ghost use Rattle.std.specs.Prelude.{◌≡◌, ◌^◌, ◌<◌, ◌≤◌, leng
 ghost use Rattle.oct_num.specs.Sign.{signed_number, has_minus, without_minus};
 
 /// Whether a text begins with a minus, and the text without it.
-pub(crate) fn split_sign(text: &[u8]) -> (bool, &[u8])
+pub fn split_sign(text: &[u8]) -> (bool, &[u8])
     ensures minus { result.0 ≡ has_minus text.now }
     ensures rest { result.1.now ≡ without_minus text.now }
     ensures short { length result.1.now ≤ length text.now }

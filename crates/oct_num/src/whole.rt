@@ -23,9 +23,10 @@ pub fn read_whole(text: &[u8]) -> Option<i64>
     Some(with_sign(minus, magnitude))
 }
 
-/// Reads one to eighteen digits.
+/// Reads a number of one to eighteen digits. Every other text is `None`. Leading zeros count as
+/// digits.
 #[tactic(auto, using(crate::proofs::DigitRuns::list_all_digits), unfolding(crate::specs::Whole::natural_of))]
-fn read_natural(digits: &[u8]) -> Option<u64>
+pub fn read_natural(digits: &[u8]) -> Option<u64>
     ensures exact { result ≡ natural_of digits.now }
     ensures reach { IfSome result (λ n. n < 10 ^ 18) }
 {

@@ -1,0 +1,119 @@
+ghost use Rattle.std.specs.Prelude.{◌≡◌, ℕ, List, ◌+◌, ◌^◌, ◌<◌, ◌≤◌, ◌++◌, unsigned_abs, length, Ok, OnOk, OnErr};
+ghost use Rattle.std.specs.Int.{is_negative};
+ghost use Rattle.arrayvec.specs.ArrayString.{array_string_len};
+ghost use Rattle.oct_num.specs.Form.{IsMetres, fraction_text};
+ghost use Rattle.oct_num.specs.Metres.{metres_of};
+ghost use Rattle.oct_num.specs.MetresText.{leading_digits, metres_text};
+ghost use Rattle.oct_num.specs.Sign.{sign_text};
+
+use crate::memory::Memory;
+use arrayvec::ArrayString;
+use itoa::Buffer;
+
+const NANOMETRES_PER_METRE: u64 = 1_000_000_000;
+
+/// The text of a length in decimal metres: a minus where it's below 0, the whole metres, and,
+/// where nanometres are left, a point and their digits without zeros at the end. So zero is `0`,
+/// and 50,000,000 nm are `0.05`.
+pub fn metres_text(nm: i64) -> ArrayString<24>
+    ensures exact { result.bytes ≡ metres_text nm }
+
+    // It's read as these nanometres, and no shorter text is.
+    ensures read { unsigned_abs nm < 10 ^ 16 → metres_of result.bytes ≡ Ok nm }
+    ensures shortest { (text : List ℕ) → IsMetres text nm → length result.bytes ≤ length text }
+{
+    let magnitude = nm.unsigned_abs();
+    let mut text = sign_text(nm);
+    text.push_str(Buffer::new().format(magnitude / NANOMETRES_PER_METRE));
+    push_fraction(&mut text, magnitude % NANOMETRES_PER_METRE);
+    text
+}
+
+/// A minus for a number below 0, and nothing for every other one.
+fn sign_text(nm: i64) -> ArrayString<24>
+    ensures { result.bytes ≡ sign_text (is_negative nm) }
+{
+    let mut text = ArrayString::new();
+    if nm < 0 {
+        text.push('-');
+    }
+    text
+}
+
+/// Appends a point and the digits of these nanometres, or nothing for none.
+fn push_fraction(text: &mut ArrayString<24>, nm: u64)
+    requires few { nm < 10 ^ 9 }
+    requires room { array_string_len text.old ≤ 12 }
+    ensures appended { text.new.bytes ≡ text.old.bytes ++ fraction_text (leading_digits 9 nm) }
+{
+    if nm > 0 {
+        text.push('.');
+        push_digits(text, 9, nm);
+    }
+}
+
+/// Appends the digits of a number of this many digits, up to the last one that isn't 0.
+fn push_digits(text: &mut ArrayString<24>, places: u32, n: u64)
+    requires most { places ≤ 9 }
+    requires few { n < 10 ^ places }
+    requires room { array_string_len text.old + places ≤ 24 }
+    ensures appended { text.new.bytes ≡ text.old.bytes ++ leading_digits places n }
+{
+    if n > 0 {
+        let unit = 10u64.pow(places - 1);
+        text.push(char::from(b'0' + (n / unit) as u8));
+        push_digits(text, places - 1, n % unit);
+    }
+}
+
+/// Appends the text of a length in decimal metres, as [`metres_text`] has it. After `Memory`
+/// nothing was appended.
+pub fn push_metres(out: &mut Vec<u8>, nm: i64) -> Result<(), Memory>
+    ensures ok { OnOk result (out.new.items ≡ out.old.items ++ metres_text nm) }
+    ensures err { OnErr result (out.new.items ≡ out.old.items) }
+{
+    out.extend_from_slice(metres_text(nm).as_bytes())?;
+    Ok(())
+}
+
+#[cfg(test)]
+mod tests {
+    use super::*;
+    use crate::metres::read_metres;
+    use std::test::Fail;
+
+    const NM: i64 = 1_000_000_000;
+
+    #[test]
+    fn writes_nanometres_as_metres(rt: HostRuntime) -> Result<(), Fail> {
+        for (nm, want) in [
+            (0, "0"),
+            (NM, "1"),
+            (-NM, "-1"),
+            (10 * NM, "10"),
+            (50_000_000, "0.05"),
+            (100_000_000, "0.1"),
+            (-170_000_000, "-0.17"),
+            (1_623_000_000, "1.623"),
+            (100_000, "0.0001"),
+            (1, "0.000000001"),
+            (-1, "-0.000000001"),
+            (9_999_999_999_999_999, "9999999.999999999"),
+            (i64::MAX, "9223372036.854775807"),
+            (i64::MIN, "-9223372036.854775808"),
+        ] {
+            assert_eq!(rt; metres_text(nm).as_str(), want, "at {nm}");
+            let mut out = Vec::from_slice(rt.alloc(), b"res ")?;
+            push_metres(&mut out, nm)?;
+            assert_eq!(rt; out.len(), 4 + want.len(), "at {nm}");
+        }
+        Ok(())
+    }
+
+    #[test]
+    fn reads_back_what_it_writes(rt: HostRuntime) {
+        for nm in [0, 1, -1, 50_000_000, -170_000_000, 9_999_999_999_999_999] {
+            assert_eq!(rt; read_metres(metres_text(nm).as_bytes()), Ok(nm), "at {nm}");
+        }
+    }
+}
