@@ -1,12 +1,15 @@
 -- How blocks lie in one another, and which voxels they hold.
-use Rattle.std.proofs.Common.{◌≡◌, ℕ, suc, ◌+◌, ◌-◌, ◌*◌, ◌/◌, ◌%◌, ◌^◌, ◌<◌, ◌≤◌, ◌↔◌, refl, sym, subst, ◌∙◌, ap, arith, add-one, pow_pos, bit_and}
+use Rattle.std.proofs.Common.{◌≡◌, ℕ, suc, ◌+◌, ◌-◌, ◌*◌, ◌/◌, ◌%◌, ◌^◌, ◌<◌, ◌≤◌, ◌↔◌, true, ◌&&◌, refl, sym, subst, ◌∙◌, ap, arith, add-one, pow_pos, bit_and}
 use Rattle.std.proofs.Math.Nat.{div-div-eq-div-mul, pow-suc, pow-succ', div-mul-le_self, lt-div-mul-add, div-eq_of_lt-le, div-lt_iff_lt-mul, mul-lt-mul_of_pos_right}
 use Rattle.std.proofs.lemmas.Nat.{and_mask, pow-add}
 use Rattle.std.proofs.Math.Bridge.{le_prop}
+use Rattle.std.proofs.lemmas.Bool.{eqb-true, and_parts}
+use Rattle.std.proofs.lemmas.Bool.Decides.{nat_tests}
+use Rattle.std.specs.Prelude.{nat_eq}
 use Rattle.oct_key.specs.declared.block.Block.{Block}
 use Rattle.oct_key.specs.Voxel.{Voxel, IsInMap}
 use Rattle.oct_key.specs.CubeOf.{cube_of}
-use Rattle.oct_key.specs.Block.{Cube, IsBlock, HoldsNumber, HoldsVoxel, block_of, child_of, parent_of, number_of_child, child_index_of, root_block, lowest_voxel}
+use Rattle.oct_key.specs.Block.{Cube, IsBlock, HoldsNumber, HoldsVoxel, is_same_block, block_of, child_of, parent_of, number_of_child, child_index_of, root_block, lowest_voxel}
 
 -- a quotient by the next power of two is half of the one by this
 half_quotient : (n h : ℕ) → n / 2 ^ suc h ≡ n / 2 ^ h / 2
@@ -33,6 +36,18 @@ same_cube a b d x y z =
     let cube : ℕ → ℕ → ℕ → ℕ → Cube = λ d x y z. record { depth = d; x = x; y = y; z = z } in
     let e : cube a.depth a.x a.y a.z ≡ cube b.depth b.x b.y b.z = rw (d, x, y, z) refl in
     e
+
+-- the test is passed by one block alone
+pub is_same_block_exact : (a b : Cube) → is_same_block a b ≡ true → a ≡ b
+is_same_block_exact a b h =
+    let z = and_parts (nat_eq a.depth b.depth && nat_eq a.x b.x && nat_eq a.y b.y) (nat_eq a.z b.z) h in
+    let y = and_parts (nat_eq a.depth b.depth && nat_eq a.x b.x) (nat_eq a.y b.y) z.0 in
+    let x = and_parts (nat_eq a.depth b.depth) (nat_eq a.x b.x) y.0 in
+    same_cube a b (eqb-true a.depth b.depth x.0) (eqb-true a.x b.x x.1) (eqb-true a.y b.y y.1) (eqb-true a.z b.z z.1)
+
+-- a block passes the test with itself
+pub is_same_block_refl : (b : Cube) → is_same_block b b ≡ true
+is_same_block_refl b = grind (arith, nat_tests)
 
 -- the step of a block to a child that is h levels above the voxels
 step_at : (d h : ℕ) (k : Voxel) → d + h ≡ 15 → block_of (d + 1) k ≡ child_of (block_of d k) (child_index_of d k)
@@ -64,6 +79,10 @@ in_child d i b k ld li e = child_injective (block_of d k) b (child_index_of d k)
 -- a voxel of the map is numbered on each axis from 0 to 65535
 all_numbers : (n : ℕ) → n < 65536 → HoldsNumber 0 0 n
 all_numbers n below = (omega arith, omega arith)
+
+-- the root is a block
+pub root_in_map : IsBlock root_block
+root_in_map = record { depth = omega arith; x = omega arith; y = omega arith; z = omega arith }
 
 -- the block of the whole map holds each voxel of it
 pub root_holds : (k : Voxel) → IsInMap k → HoldsVoxel root_block k
@@ -107,10 +126,6 @@ block_of_held b k h = same_cube _ _ refl (quotient_is b.depth b.x k.x h.x) (quot
 -- the block that the division gives holds the voxel
 pub held_by_block_of : (b : Cube) (k : Voxel) → block_of b.depth k ≡ b → HoldsVoxel b k
 held_by_block_of b k h = subst (λ c. HoldsVoxel c k) h (block_of_holds b.depth k)
-
--- a block holds exactly the voxels whose block of that depth it is
-pub holds_exactly : (b : Cube) (k : Voxel) → HoldsVoxel b k ↔ (block_of b.depth k ≡ b)
-holds_exactly b k = (block_of_held b k, held_by_block_of b k)
 
 -- of the blocks of a depth, one alone holds a voxel
 pub only_block : (d : ℕ) (k : Voxel) (b : Cube) → b.depth ≡ d → HoldsVoxel b k → b ≡ block_of d k
@@ -184,11 +199,6 @@ child_of_parent b l = same_cube _ _ (omega arith) (omega arith) (omega arith) (o
 pub parent_of_child : (b : Cube) (i : ℕ) → parent_of (child_of b i) ≡ b
 unfolding child_of parent_of
 parent_of_child b i = same_cube _ _ (omega arith) (omega arith) (omega arith) (omega arith)
-
--- a child is the one of its parent that its index says
-pub number_of_this_child : (b : Cube) (i : ℕ) → i < 8 → number_of_child (child_of b i) ≡ i
-unfolding child_of number_of_child
-number_of_this_child b i l = omega arith
 
 -- the block of a voxel that is one less deep is the parent
 pub parent_of_block_of : (d : ℕ) (k : Voxel) → d < 16 → parent_of (block_of (d + 1) k) ≡ block_of d k

@@ -1,6 +1,8 @@
 pub mod Blocks
+pub mod Nested
 pub mod Spreads
 pub mod Interleavings
-pub mod Changes
 pub mod Faces
-pub mod Order
+pub mod SameVoxels
+pub mod Held
+pub mod Carries

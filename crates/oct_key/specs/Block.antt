@@ -1,5 +1,5 @@
 -- Blocks: the cubes of voxels that halve the map again and again, and which of them holds a voxel.
-use Rattle.std.specs.Prelude.{ℕ, ◌+◌, ◌-◌, ◌*◌, ◌/◌, ◌%◌, ◌^◌, ◌<◌, ◌≤◌}
+use Rattle.std.specs.Prelude.{ℕ, Bool, ◌&&◌, nat_eq, ◌+◌, ◌-◌, ◌*◌, ◌/◌, ◌%◌, ◌^◌, ◌<◌, ◌≤◌}
 use Rattle.oct_key.specs.Voxel.{Voxel}
 
 -- a cube of voxels, by its depth and by its number on each axis among the cubes of that depth
@@ -16,7 +16,7 @@ pub record IsBlock (b : Cube) : Type 0 where
   pub y : b.y < 2 ^ b.depth
   pub z : b.z < 2 ^ b.depth
 
--- a block of this depth has so many voxels on each axis
+-- how many voxels a block of this depth has on each axis
 abbrev pub side : ℕ → ℕ
 side depth = 2 ^ (16 - depth)
 
@@ -30,13 +30,29 @@ pub record HoldsVoxel (b : Cube) (k : Voxel) : Type 0 where
   pub y : HoldsNumber b.depth b.y k.y
   pub z : HoldsNumber b.depth b.z k.z
 
--- the block of a depth that holds a voxel: each number is divided by the side, without the remainder
-unfoldable pub block_of : ℕ → Voxel → Cube
-block_of depth k = record { depth = depth; x = k.x / side depth; y = k.y / side depth; z = k.z / side depth }
+-- a block lies within another: the other holds its voxels
+abbrev pub LiesIn : Cube → Cube → Type 0
+LiesIn c b = (k : Voxel) → HoldsVoxel c k → HoldsVoxel b k
 
--- child i of a block, from 0 to 7: bit 0 says which half on the x axis, bit 1 on the y axis, bit 2 on the z axis
+-- whether the two are one block
+abbrev pub is_same_block : Cube → Cube → Bool
+is_same_block a b = nat_eq a.depth b.depth && nat_eq a.x b.x && nat_eq a.y b.y && nat_eq a.z b.z
+
+-- the block of a depth that holds a voxel: each number is divided by the side, without the
+-- remainder
+unfoldable pub block_of : ℕ → Voxel → Cube
+block_of depth k =
+    record { depth = depth; x = k.x / side depth; y = k.y / side depth; z = k.z / side depth }
+
+-- child i of a block, from 0 to 7: bit 0 says which half on the x axis, bit 1 on the y axis, bit 2
+-- on the z axis
 unfoldable pub child_of : Cube → ℕ → Cube
-child_of b i = record { depth = b.depth + 1; x = 2 * b.x + i % 2; y = 2 * b.y + i / 2 % 2; z = 2 * b.z + i / 4 % 2 }
+child_of b i = record {
+  depth = b.depth + 1;
+  x = 2 * b.x + i % 2;
+  y = 2 * b.y + i / 2 % 2;
+  z = 2 * b.z + i / 4 % 2;
+}
 
 -- the block whose child a block is
 unfoldable pub parent_of : Cube → Cube
@@ -48,7 +64,8 @@ number_of_child b = b.x % 2 + 2 * (b.y % 2) + 4 * (b.z % 2)
 
 -- which child of the block of a depth holds a voxel: bit 15 - depth of each of its numbers
 unfoldable pub child_index_of : ℕ → Voxel → ℕ
-child_index_of depth k = k.x / 2 ^ (15 - depth) % 2 + 2 * (k.y / 2 ^ (15 - depth) % 2) + 4 * (k.z / 2 ^ (15 - depth) % 2)
+child_index_of depth k = k.x / 2 ^ (15 - depth) % 2 + 2 * (k.y / 2 ^ (15 - depth) % 2)
+    + 4 * (k.z / 2 ^ (15 - depth) % 2)
 
 -- the block of the whole map
 abbrev pub root_block : Cube

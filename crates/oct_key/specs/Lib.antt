@@ -3,3 +3,4 @@ pub mod Values
 pub mod Block
 pub mod CubeOf
 pub mod Morton
+pub mod Dilated

@@ -1,8 +1,6 @@
--- Voxels: their numbers, the space that each holds, and their order.
+-- Voxels: their numbers, and the space that each holds.
 use Rattle.std.specs.Prelude.{ℕ, ◌<◌, ◌≤◌, ℤ, pos, negsuc, ◌+ℤ◌, ◌-ℤ◌, ◌*ℤ◌, ◌≤ℤ◌, ◌<ℤ◌, Option, Some, None, nat_lt, if◌then◌else◌}
 use Rattle.std.specs.Int.{int_div_euclid}
-use Rattle.std.specs.Ordering.{nat_cmp, ordering_then}
-use Rattle.std.specs.declared.cmp.Ordering.{Ordering}
 use Rattle.oct_key.specs.declared.point.Point.{Point}
 use Rattle.oct_key.specs.declared.point.Key.{Key}
 
@@ -24,7 +22,8 @@ IsResolution edge = (100000 ≤ edge) × (edge ≤ 100000000000)
 abbrev pub lower_face : ℕ → ℕ → ℤ
 lower_face edge key = (pos key -ℤ pos 32768) *ℤ pos edge
 
--- the voxels of a number hold a coordinate on an axis: with their lower face, without their upper one
+-- the voxels of a number hold a coordinate on an axis: with their lower face, without their upper
+-- one
 abbrev pub HoldsOnAxis : ℕ → ℕ → ℤ → Type 0
 HoldsOnAxis edge key c = (lower_face edge key ≤ℤ c) × (c <ℤ (lower_face edge key +ℤ pos edge))
 
@@ -51,7 +50,3 @@ key_from _ _ _ = None
 -- the voxel that holds a point, or none outside the map
 abbrev pub key_at : ℕ → Point → Option Voxel
 key_at edge p = key_from (axis_key edge p.x) (axis_key edge p.y) (axis_key edge p.z)
-
--- the order of voxels: by x, then by y, then by z
-abbrev pub key_cmp : Voxel → Voxel → Ordering
-key_cmp a b = ordering_then (nat_cmp a.x b.x) (ordering_then (nat_cmp a.y b.y) (nat_cmp a.z b.z))

@@ -4,8 +4,8 @@ ghost use Rattle.oct_key.specs.Block.{block_of, child_of, child_index_of};
 
 use crate::point::Key;
 
-/// A cube of 2^(16 - depth) voxels on each axis, by its place among the blocks of its depth. The block of depth 0 is the whole map, and
-/// a block of depth 16 is a voxel.
+/// A cube of 2^(16 - depth) voxels on each axis, by its place among the blocks of its depth. The
+/// block of depth 0 is the whole map, and a block of depth 16 is a voxel.
 #[derive(Clone, Copy, Debug, PartialEq, Eq)]
 pub struct Block {
     pub depth: u8,
@@ -39,14 +39,16 @@ impl Block {
         }
     }
 
-    /// Child i of the block. Bit 0 of i says which half of the block it lies in on the x axis, bit 1 on the y axis, and bit 2 on the
-    /// z axis.
+    /// Child i of the block. Bit 0 of i says which half of the block it lies in on the x axis, bit
+    /// 1 on the y axis, and bit 2 on the z axis.
     #[tactic(auto, unfolding(crate::specs::Block::child_of))]
     pub fn child(&self, i: u8) -> Block
         requires depth { self.now.depth ≤ 15 }
         requires index { i ≤ 7 }
         ensures exact { cube_of result ≡ child_of (cube_of self.now) i }
-        ensures holds { (k : Voxel) → IsInMap k → HoldsVoxel (cube_of result) k ↔ (HoldsVoxel (cube_of self.now) k × (child_index_of self.now.depth k ≡ i)) }
+        ensures holds { (k : Voxel) → IsInMap k
+            → HoldsVoxel (cube_of result) k
+            ↔ (HoldsVoxel (cube_of self.now) k × (child_index_of self.now.depth k ≡ i)) }
     {
         Block {
             depth: self.depth + 1,
@@ -61,7 +63,8 @@ impl Block {
     pub fn parent(&self) -> Block
         requires { 1 ≤ self.now.depth }
         ensures exact { cube_of result ≡ parent_of (cube_of self.now) }
-        ensures child { child_of (cube_of result) (number_of_child (cube_of self.now)) ≡ cube_of self.now }
+        ensures child { child_of (cube_of result) (number_of_child (cube_of self.now))
+            ≡ cube_of self.now }
     {
         Block {
             depth: self.depth - 1,

@@ -1,38 +1,50 @@
 //! Points, voxels, and the voxel that holds a point.
 //!
-//! Space is cut into cubes of one edge length, the resolution. The map has 65,536 of them on each axis, and a point whose
-//! coordinate is c has the key `floor(c / resolution) + 32768` on that axis, as in the OctoMap library. Lengths are whole nanometres,
-//! so that no rounding error moves a point to a neighbour. A voxel takes its lower faces and not its upper ones.
+//! Space is cut into cubes of one edge length, the resolution. The map has 65,536 of them on each
+//! axis, and a point whose coordinate is c has the key `floor(c / resolution) + 32768` on that
+//! axis, as in the OctoMap library. Lengths are whole nanometres, so that no rounding error moves a
+//! point to a neighbour. A voxel takes its lower faces and not its upper ones.
 //!
 //! What the contracts promise:
 //!
-//! - [`Res::new`] accepts exactly the resolutions from 0.1 mm to 100 m, and each [`Res`] that exists is one of them.
-//! - [`Res::key_of`] is the floor rule, and also what the rule is for: the voxel that is answered holds the point, no other voxel of
-//!   the map does, and where none is answered no voxel of the map holds it.
-//! - [`Block::of`] is the one block of its depth that holds the voxel, and [`child_index`] says which of that block's eight children
-//!   holds it. A [`Block::child`] holds exactly the voxels of its block with that index, and [`Block::parent`] goes back.
-//! - [`morton`] is the code of a voxel whose bits are those of its three numbers in turn, and [`from_morton`] the one voxel of a code.
-//!   Two voxels lie in one block of a depth exactly where their codes have the same leading bits, three for each level down to there,
-//!   and the three bits after them are the index of the child. So voxels in the order of their codes come block by block.
+//! - [`Res::new`] accepts exactly the resolutions from 0.1 mm to 100 m, and each [`Res`] that
+//!   exists is one of them.
+//! - [`Res::key_of`] is the floor rule, and also what the rule is for: the voxel that is answered
+//!   holds the point, no other voxel of the map does, and where none is answered no voxel of the
+//!   map holds it.
+//! - [`Block::of`] is the one block of its depth that holds the voxel, and [`child_index`] says
+//!   which of that block's eight children holds it. A [`Block::child`] holds exactly the voxels of
+//!   its block with that index, and [`Block::parent`] goes back.
+//! - [`morton`] is the code of a voxel whose bits are those of its three numbers in turn, and
+//!   [`from_morton`] the one voxel of a code. Two voxels lie in one block of a depth exactly where
+//!   their codes have the same leading bits, three for each level down to there, and the three bits
+//!   after them are the index of the child. So voxels in the order of their codes come block by
+//!   block.
+//! - [`Dilated`] is a number whose bits stand where its axis has them in a code. It is counted up
+//!   and down as it stands, and [`morton_of_axes`] makes the code of three of them.
 //! - [`PointList`] and [`KeyList`] keep what they are given, in order.
 //!
-//! A block is a cube of 2^(16 - depth) voxels on each axis: depth 0 is the whole map, and each block is cut in half on each axis into
-//! the eight of the next depth, down to depth 16, where a block is a voxel.
+//! A block is a cube of 2^(16 - depth) voxels on each axis: depth 0 is the whole map, and each
+//! block is cut in half on each axis into the eight of the next depth, down to depth 16, where a
+//! block is a voxel.
 //!
-//! No call but `push` of a list allocates, and none touches anything but its arguments. The crates of a map stand on this one, and
-//! cite its definitions: `Voxel` and `Values` for what a map means, `with_value` for a change of one voxel, `key_at` and `Holds` for
-//! where a point lies, `key_cmp` for the order of voxels by x, y and z, `morton_of` for that along the Z-order curve (Morton 1966), and
-//! `block_of`, `child_of` and `HoldsVoxel` for the blocks.
+//! No call but `push` of a list allocates, and none touches anything but its arguments. The crates
+//! of a map stand on this one, and cite its definitions: `Voxel`, `Values` and `SameValues` for
+//! what a map means, `key_at` and `Holds` for where a point lies, `morton_of` for the order of
+//! voxels along the Z-order curve (Morton 1966), and `block_of`, `child_of`, `HoldsVoxel` and
+//! `LiesIn` for the blocks.
 
 #![tactic(auto)]
 
 mod block;
+mod dilated;
 mod lists;
 mod morton_code;
 mod point;
 mod resolution;
 
 pub use block::{Block, child_index};
+pub use dilated::{Dilated, morton_of_axes};
 pub use lists::{KeyList, PointList};
 pub use morton_code::{from_morton, morton};
 pub use point::{Key, Point};

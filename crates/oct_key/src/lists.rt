@@ -37,7 +37,7 @@ impl PointList {
         self.points.as_slice()
     }
 
-    /// Adds a point at the end. Where memory is wanting, the list stays as it is.
+    /// Adds a point at the end. Where memory runs out, the list stays as it is.
     pub fn push(&mut self, point: Point) -> Result<(), Memory>
         ensures ok { OnOk result (self.new ≡ self.old ++ point ∷ []) }
         ensures err { OnErr result (self.new ≡ self.old) }
@@ -79,7 +79,7 @@ impl KeyList {
         self.keys.as_slice()
     }
 
-    /// Adds a key at the end. Where memory is wanting, the list stays as it is.
+    /// Adds a key at the end. Where memory runs out, the list stays as it is.
     pub fn push(&mut self, key: Key) -> Result<(), Memory>
         ensures ok { OnOk result (self.new ≡ self.old ++ key ∷ []) }
         ensures err { OnErr result (self.new ≡ self.old) }

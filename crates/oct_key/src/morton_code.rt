@@ -5,14 +5,19 @@ ghost use Rattle.oct_key.specs.Morton.{morton_of, code_prefix, interleaved, gath
 
 use crate::point::Key;
 
-/// The Morton code of a voxel: bit 3j is bit j of its number on x, bit 3j + 1 that of the number on y, and bit 3j + 2 that on z.
+/// The Morton code of a voxel: bit 3j is bit j of its number on x, bit 3j + 1 that of the number on
+/// y, and bit 3j + 2 that on z.
 ///
-/// In the order of these codes, which is that of the Z-order curve, the voxels of each block stand together.
+/// In the order of these codes, which is that of the Z-order curve, the voxels of each block stand
+/// together.
 pub fn morton(k: Key) -> u64
     ensures exact { result ≡ morton_of k }
     ensures below { result < 2 ^ 48 }
-    ensures child { (depth : ℕ) → depth ≤ 15 → result / 2 ^ (3 * (15 - depth)) % 8 ≡ child_index_of depth k }
-    ensures block { (l : Voxel) → IsInMap l → (depth : ℕ) → depth ≤ 16 → (code_prefix depth result ≡ code_prefix depth (morton_of l)) ↔ (block_of depth k ≡ block_of depth l) }
+    ensures child { (depth : ℕ) → depth ≤ 15
+        → result / 2 ^ (3 * (15 - depth)) % 8 ≡ child_index_of depth k }
+    ensures block { (l : Voxel) → IsInMap l → (depth : ℕ) → depth ≤ 16
+        → (code_prefix depth result ≡ code_prefix depth (morton_of l))
+        ↔ (block_of depth k ≡ block_of depth l) }
 {
     spread_bits(k.x) + (spread_bits(k.y) << 1) + (spread_bits(k.z) << 2)
 }
@@ -31,7 +36,7 @@ pub fn from_morton(m: u64) -> Key
 }
 
 /// The number with each bit moved to three times its place.
-fn spread_bits(n: u16) -> u64
+pub fn spread_bits(n: u16) -> u64
     ensures exact { result ≡ interleaved 16 n 0 0 }
     ensures below { result < 2 ^ 46 }
 {

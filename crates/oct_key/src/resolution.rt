@@ -14,7 +14,8 @@ const LARGEST: i64 = 100_000_000_000;
 /// The key of the voxels just above the origin.
 const MIDDLE: i128 = 32_768;
 
-/// A resolution: the edge of a voxel, from 0.1 mm to 100 m. Contracts see it as its number of nanometres.
+/// A resolution: the edge of a voxel, from 0.1 mm to 100 m. Contracts see it as its number of
+/// nanometres.
 #[derive(Clone, Copy, Debug, PartialEq, Eq)]
 pub struct Res {
     nm: u64,
@@ -36,7 +37,8 @@ impl Model for Res {
 pub struct BadResolution;
 
 impl Res {
-    /// A resolution of that many nanometres. Refuses exactly the numbers outside 100,000 to 100,000,000,000.
+    /// A resolution of that many nanometres. Refuses exactly the numbers outside 100,000 to
+    /// 100,000,000,000.
     pub fn new(nm: i64) -> Result<Res, BadResolution>
         ensures accepted { IsOk result ↔ ((pos 100000 ≤ℤ nm) × (nm ≤ℤ pos 100000000000)) }
         ensures ok { IfOk result (λ res. pos res ≡ nm) }
@@ -55,7 +57,8 @@ impl Res {
         self.nm as i64
     }
 
-    /// The voxel that holds a point, or `None` where no voxel of the map does: some coordinate is too small or too large.
+    /// The voxel that holds a point, or `None` where no voxel of the map does: some coordinate is
+    /// too small or too large.
     pub fn key_of(&self, p: Point) -> Option<Key>
         ensures exact { result ≡ key_at self.now p }
         ensures holds { IfSome result (λ k. Holds self.now k p) }

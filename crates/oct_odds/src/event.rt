@@ -1,13 +1,15 @@
 /// What happens to one voxel. Log-odds are in thousandths.
 #[derive(Clone, Copy, Debug, PartialEq, Eq)]
 pub enum Event {
-    /// This much is added to the value, which counts as 0 where the voxel is unknown, and the sum is clamped.
+    /// This much is added to the value, which counts as 0 where the voxel is unknown, and the sum
+    /// is clamped.
     Add(i32),
     /// The value becomes this one, clamped.
     Set(i32),
     /// The voxel becomes unknown.
     Forget,
-    /// The value becomes the largest where the voxel is occupied, and the smallest where it is free (maximum likelihood).
+    /// The value becomes the largest where the voxel is occupied, and the smallest where it is free
+    /// (maximum likelihood).
     Likely,
 }
 

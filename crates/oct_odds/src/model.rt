@@ -6,8 +6,8 @@ use thiserror::Error;
 
 /// How observations change the log-odds of a voxel, in thousandths, and how these are read.
 ///
-/// Each model meets `min ≤ 0 ≤ max`, `min < thr ≤ max`, `hit > 0` and `miss < 0`, and no magnitude is above 1,000,000.
-/// The names follow the sensor model of Hornung et al. 2013.
+/// Each model meets `min ≤ 0 ≤ max`, `min < thr ≤ max`, `hit > 0` and `miss < 0`, and no magnitude
+/// is above 1,000,000. The names follow the sensor model of Hornung et al. 2013.
 #[derive(Clone, Copy, Debug, PartialEq, Eq)]
 pub struct OddsModel {
     /// What a hit adds.
@@ -42,7 +42,8 @@ pub enum OddsField {
     Thr,
 }
 
-/// Numbers that make no model. The field is the first one, in the order hit, miss, min, max, thr, whose own condition fails.
+/// Numbers that make no model. The field is the first one, in the order hit, miss, min, max, thr,
+/// whose own condition fails.
 #[derive(Clone, Copy, Debug, PartialEq, Eq, Error)]
 #[error("the field {which:?} of the log-odds model is out of range")]
 pub struct BadModel {
@@ -59,7 +60,8 @@ impl OddsModel {
         ensures sound { IsOk result ↔ IsSound (odds hit miss min max thr) }
         ensures ok { IfOk result (λ model. odds_of model ≡ odds hit miss min max thr) }
         ensures none_bad { IfOk result (λ _. first_bad_field (odds hit miss min max thr) ≡ None) }
-        ensures first_bad { IfErr result (λ e. first_bad_field (odds hit miss min max thr) ≡ Some e.which) }
+        ensures first_bad { IfErr result
+            (λ e. first_bad_field (odds hit miss min max thr) ≡ Some e.which) }
     {
         match first_bad_field(hit, miss, min, max, thr) {
             Some(which) => Err(BadModel { which }),
@@ -115,7 +117,8 @@ impl OddsModel {
 
 /// A hit adds 0.85, a miss takes off 0.4, the bounds are −2 and 3.5 and the threshold is 0.
 ///
-/// The first four are the example values of Hornung et al. 2013. The threshold, the log-odds of one half, is this project's own choice.
+/// The first four are the example values of Hornung et al. 2013. The threshold, the log-odds of one
+/// half, is this project's own choice.
 impl Default for OddsModel {
     ghost use Rattle.std.specs.Prelude.{◌≡◌};
     ghost use Rattle.oct_odds.specs.Odds.{odds_of, default_odds};

@@ -1,75 +1,18 @@
 -- The list of a block's voxels has each voxel that it holds, once, and no other.
-use Rattle.std.proofs.Common.{◌≡◌, ℕ, zero, suc, ◌+◌, ◌-◌, ◌*◌, ◌^◌, ◌<◌, ◌≤◌, ◌↔◌, Bool, true, false, cond, [], get_or, refl, sym, subst, ◌∙◌, ap, arith, pow_pos}
+use Rattle.std.proofs.Common.{◌≡◌, ℕ, zero, suc, ◌+◌, ◌-◌, ◌<◌, ◌↔◌, Bool, true, false, cond, [], get_or, refl, sym, subst, ◌∙◌, ap, arith}
 use Rattle.std.specs.Prelude.{count_by}
 use Rattle.std.specs.List.{All, Contains, list_all, list_any}
-use Rattle.std.proofs.Math.Nat.{mul-le-mul_right}
-use Rattle.std.proofs.lemmas.Nat.{pow-add}
 use Rattle.std.proofs.lemmas.List.Sums.{AllPass-from_list_all, list_all-from_AllPass}
 use Rattle.std.proofs.lemmas.List.Folds.{Any-from_list_any, list_any-from_Any}
 use Rattle.std.proofs.lemmas.List.Elements.{All-contains, All-cons, All-nil}
-use Rattle.oct_key.specs.Voxel.{Voxel, IsInMap}
+use Rattle.oct_key.specs.Voxel.{Voxel}
 use Rattle.oct_key.specs.Values.{is_same_voxel}
-use Rattle.oct_key.specs.Block.{Cube, IsBlock, HoldsVoxel, HoldsNumber, side, child_of, child_index_of, lowest_voxel}
-use Rattle.oct_key.proofs.Blocks.{child_index_below, depth_child_of, lowest_held, child_holds}
-use Rattle.oct_key.proofs.Order.{is_same_voxel_exact, is_same_voxel_refl}
+use Rattle.oct_key.specs.Block.{Cube, IsBlock, HoldsVoxel, child_of, child_index_of, lowest_voxel}
+use Rattle.oct_key.proofs.Blocks.{child_index_below, lowest_held, child_holds}
+use Rattle.oct_key.proofs.Held.{only_voxel, child_depths, held_by_parent, held_by_child, depths_above}
+use Rattle.oct_key.proofs.SameVoxels.{is_same_voxel_exact, is_same_voxel_refl}
 use Rattle.oct_values.specs.Blocks.{child_numbers, voxels_below, voxels_of}
 use Rattle.oct_values.proofs.Eights.{sum_by-flat_map, one_of_eight, none_of_eight, all_eight, number_of_eight, All-flat_map, Contains-flat_map}
-
--- the numbers that a block of the map holds are numbers of the map
-number_in_map : (d n v : ℕ) → d ≤ 16 → n < 2 ^ d → HoldsNumber d n v → v < 65536
-number_in_map d n v l h (low, high) =
-    let some : 0 < 2 ^ (16 - d) = pow_pos (16 - d) in
-    let next : (n + 1) * 2 ^ (16 - d) ≤ 2 ^ d * 2 ^ (16 - d) = mul-le-mul_right (2 ^ (16 - d)) (omega arith) in
-    let all : d + (16 - d) ≡ 16 = omega arith in
-    let whole : 2 ^ d * 2 ^ (16 - d) ≡ 65536 = sym (pow-add 2 d (16 - d)) ∙ ap (λ (m : ℕ). 2 ^ m) all in
-    omega (arith, next, whole, high)
-
--- the voxels that a block of the map holds are voxels of the map
-pub held_in_map : (b : Cube) (k : Voxel) → IsBlock b → HoldsVoxel b k → IsInMap k
-held_in_map b k ok h =
-    record {
-      x = number_in_map b.depth b.x k.x ok.depth ok.x h.x;
-      y = number_in_map b.depth b.y k.y ok.depth ok.y h.y;
-      z =
-          number_in_map b.depth b.z k.z ok.depth ok.z h.z;
-    }
-
--- a block of depth 16 holds one number on an axis
-only_number : (d n v : ℕ) → d ≡ 16 → HoldsNumber d n v → v ≡ n * side d
-only_number d n v e h =
-    let level : 16 - d ≡ 0 = omega arith in
-    let one : 2 ^ (16 - d) ≡ 1 = ap (λ (m : ℕ). 2 ^ m) level in
-    let low : n * 2 ^ (16 - d) ≤ v = h.0 in
-    let high : v < (n + 1) * 2 ^ (16 - d) = h.1 in
-    let low_is : n * 1 ≤ v = rw one at low in
-    let high_is : v < (n + 1) * 1 = rw one at high in
-    let is : v ≡ n * 1 = omega arith in
-    rw one is
-
--- voxels of the same numbers are one
-same_voxel : (a b : Voxel) → a.x ≡ b.x → a.y ≡ b.y → a.z ≡ b.z → a ≡ b
-same_voxel a b x y z =
-    let voxel : ℕ → ℕ → ℕ → Voxel = λ x y z. record { x = x; y = y; z = z } in
-    let e : voxel a.x a.y a.z ≡ voxel b.x b.y b.z = rw (x, y, z) refl in
-    e
-
--- a block of depth 16 holds its lowest voxel alone
-pub only_voxel : (b : Cube) (k : Voxel) → b.depth ≡ 16 → HoldsVoxel b k → k ≡ lowest_voxel b
-only_voxel b k e h =
-    same_voxel k (lowest_voxel b) (only_number b.depth b.x k.x e h.x) (only_number b.depth b.y k.y e h.y)
-    (only_number b.depth b.z k.z e h.z)
-
--- a child stands one depth less above the voxels
-pub child_depths : (b : Cube) (h i : ℕ) → b.depth + suc h ≡ 16 → (child_of b i).depth + h ≡ 16
-child_depths b h i d = let deep = depth_child_of b i in omega arith
-
--- a voxel of a child is one of the block
-pub held_by_parent : (b : Cube) (i : ℕ) (k : Voxel) → b.depth < 16 → i < 8 → HoldsVoxel (child_of b i) k → HoldsVoxel b k
-held_by_parent b i k low li h = ((child_holds b i k low li).0 h).0
-
--- a voxel of the block is one of the child that its index says
-pub held_by_child : (b : Cube) (k : Voxel) → b.depth < 16 → HoldsVoxel b k → HoldsVoxel (child_of b (child_index_of b.depth k)) k
-held_by_child b k low h = (child_holds b (child_index_of b.depth k) k low (child_index_below b.depth k)).1 (h, refl)
 
 -- the listed voxels are voxels of the block
 voxels_held : (h : ℕ) (b : Cube) → b.depth + h ≡ 16 → All (HoldsVoxel b) (voxels_below h b)
@@ -120,10 +63,6 @@ voxels_once (suc h) b k d held =
     ∙ one_of_eight (λ i. count_by (is_same_voxel k) (voxels_below h (child_of b i))) (child_index_of b.depth k) (child_index_below b.depth k)
     (voxels_once h (child_of b (child_index_of b.depth k)) k (child_depths b h (child_index_of b.depth k) d) (held_by_child b k low held))
     (λ j lj other. voxels_none h (child_of b j) k (child_depths b h j d) (λ there. other (sym ((child_holds b j k low lj).0 there).1)))
-
--- how many depths a block of the map stands above the voxels
-pub depths_above : (b : Cube) → IsBlock b → b.depth + (16 - b.depth) ≡ 16
-depths_above b ok = let l = ok.depth in omega arith
 
 -- the voxels that are listed for a block are held by it
 pub all_held : (b : Cube) → IsBlock b → All (HoldsVoxel b) (voxels_of b)

@@ -11,7 +11,8 @@ use Rattle.oct_key.specs.Block.{Cube, IsBlock, HoldsVoxel}
 use Rattle.oct_odds.specs.Update.{Value}
 use Rattle.oct_values.specs.Blocks.{voxels_of}
 use Rattle.oct_values.specs.Depths.{IsLargestIn, larger, depth_value}
-use Rattle.oct_values.proofs.Held.{held_in_map, each_listed, listed_exactly}
+use Rattle.oct_values.proofs.Held.{each_listed, listed_exactly}
+use Rattle.oct_key.proofs.Held.{held_in_map}
 
 -- the second is known where the first is, and no smaller
 abbrev pub IsNoLess : Value → Value → Type 0

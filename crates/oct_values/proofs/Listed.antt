@@ -1,33 +1,16 @@
 -- The list of the blocks above the voxels has each block of depth 0 to 15, once, and no other.
 use Rattle.std.proofs.Common.{◌≡◌, ℕ, zero, suc, ◌+◌, ◌<◌, ◌≤◌, Bool, true, false, cond, List, [], ◌∷◌, inl, inr, refl, sym, subst, ◌∙◌, ap, arith}
-use Rattle.std.specs.Prelude.{◌&&◌, nat_eq, sum_by, count_by}
+use Rattle.std.specs.Prelude.{sum_by, count_by}
 use Rattle.std.specs.List.{All, flat_map}
-use Rattle.std.proofs.lemmas.Bool.{eqb-true, and_parts, cases_eq}
-use Rattle.std.proofs.lemmas.Bool.Decides.{nat_tests}
+use Rattle.std.proofs.lemmas.Bool.{cases_eq}
 use Rattle.std.proofs.lemmas.List.Elements.{All-cons, All-nil}
 use Rattle.std.proofs.lemmas.List.Sums.{sum_by-cons}
-use Rattle.oct_key.specs.Block.{Cube, IsBlock, HoldsVoxel, block_of, child_of, child_index_of, root_block, lowest_voxel}
-use Rattle.oct_key.proofs.Blocks.{child_index_below, depth_child_of, lowest_held, lowest_in_map, child_in_map, child_holds, same_cube, block_of_held, root_holds}
-use Rattle.oct_values.specs.Blocks.{child_numbers, blocks_below, blocks_above_voxels, is_same_block}
+use Rattle.oct_key.specs.Block.{Cube, IsBlock, HoldsVoxel, block_of, child_of, child_index_of, root_block, lowest_voxel, is_same_block}
+use Rattle.oct_key.proofs.Blocks.{child_index_below, depth_child_of, lowest_held, lowest_in_map, child_in_map, child_holds, is_same_block_exact, is_same_block_refl, block_of_held, root_in_map, root_holds}
+use Rattle.oct_values.specs.Blocks.{child_numbers, blocks_below, blocks_above_voxels}
 use Rattle.oct_values.proofs.Eights.{sum_by-flat_map, one_of_eight, none_of_eight, all_eight, All-flat_map}
 use Rattle.oct_values.proofs.Sums.{first_of_all, rest_of_all}
-use Rattle.oct_values.proofs.Held.{child_depths, held_by_parent, held_by_child}
-
--- the test is passed by one block alone
-pub is_same_block_exact : (a b : Cube) → is_same_block a b ≡ true → a ≡ b
-is_same_block_exact a b h =
-    let z = and_parts (nat_eq a.depth b.depth && nat_eq a.x b.x && nat_eq a.y b.y) (nat_eq a.z b.z) h in
-    let y = and_parts (nat_eq a.depth b.depth && nat_eq a.x b.x) (nat_eq a.y b.y) z.0 in
-    let x = and_parts (nat_eq a.depth b.depth) (nat_eq a.x b.x) y.0 in
-    same_cube a b (eqb-true a.depth b.depth x.0) (eqb-true a.x b.x x.1) (eqb-true a.y b.y y.1) (eqb-true a.z b.z z.1)
-
--- a block passes the test with itself
-pub is_same_block_refl : (b : Cube) → is_same_block b b ≡ true
-is_same_block_refl b = grind (arith, nat_tests)
-
--- the root is a block
-pub root_in_map : IsBlock root_block
-root_in_map = record { depth = omega arith; x = omega arith; y = omega arith; z = omega arith }
+use Rattle.oct_key.proofs.Held.{child_depths, held_by_parent, held_by_child}
 
 -- the blocks of a list are blocks of the map, and no voxels
 blocks_in_map : (h : ℕ) (b : Cube) → IsBlock b → b.depth + h ≡ 16 → All (λ c. IsBlock c × (c.depth ≤ 15)) (blocks_below h b)

@@ -6,7 +6,8 @@ use Rattle.oct_key.specs.Block.{Cube, IsBlock, HoldsVoxel}
 use Rattle.oct_values.specs.Blocks.{voxels_of, blocks_above_voxels}
 use Rattle.oct_values.specs.Events.{Events}
 use Rattle.oct_values.specs.Needs.{IsReached, is_reached, event_need}
-use Rattle.oct_values.proofs.Held.{held_in_map, all_held, some_passes, one_passes}
+use Rattle.oct_values.proofs.Held.{all_held, some_passes, one_passes}
+use Rattle.oct_key.proofs.Held.{held_in_map}
 use Rattle.oct_values.proofs.Listed.{all_above_voxels}
 use Rattle.oct_values.proofs.Sums.{All-follows, list_any-same, count_by-same}
 

@@ -6,13 +6,14 @@ use Rattle.std.proofs.lemmas.Bool.{false≢true}
 use Rattle.oct_key.specs.Voxel.{Voxel, IsInMap}
 use Rattle.oct_key.specs.Values.{Values}
 use Rattle.oct_key.specs.Block.{Cube, IsBlock, HoldsVoxel, child_of, root_block, lowest_voxel}
-use Rattle.oct_key.proofs.Blocks.{lowest_held, lowest_in_map, child_in_map}
+use Rattle.oct_key.proofs.Blocks.{lowest_held, lowest_in_map, child_in_map, root_in_map}
 use Rattle.oct_odds.specs.Update.{Value}
 use Rattle.oct_values.specs.Blocks.{child_numbers, voxels_of, blocks_above_voxels}
 use Rattle.oct_values.specs.Counts.{IsUniform, IsKnownIn, is_same_value, is_uniform, is_known_in, group_count, known_children, node_count}
 use Rattle.oct_values.proofs.Eights.{all_eight}
-use Rattle.oct_values.proofs.Held.{held_in_map, all_held, all_pass, each_passes, some_passes, one_passes}
-use Rattle.oct_values.proofs.Listed.{root_in_map, all_above_voxels}
+use Rattle.oct_values.proofs.Held.{all_held, all_pass, each_passes, some_passes, one_passes}
+use Rattle.oct_key.proofs.Held.{held_in_map}
+use Rattle.oct_values.proofs.Listed.{all_above_voxels}
 use Rattle.oct_values.proofs.Sums.{All-follows, sum_by-same, list_all-same, list_any-same, count_by-same}
 
 -- a value passes the test with itself, and with no other

@@ -25,7 +25,8 @@ is_same_value (Some m) (Some n) = int_eq m n
 
 -- whether the block is uniform: each of its voxels has the value of the lowest one
 unfoldable pub is_uniform : Values → Cube → Bool
-is_uniform values b = list_all (λ k. is_same_value (values k) (values (lowest_voxel b))) (voxels_of b)
+is_uniform values b =
+    list_all (λ k. is_same_value (values k) (values (lowest_voxel b))) (voxels_of b)
 
 -- whether some voxel of the block is known
 unfoldable pub is_known_in : Values → Cube → Bool
@@ -39,10 +40,13 @@ group_count values = count_by (λ b. not (is_uniform values b)) blocks_above_vox
 abbrev pub known_children : Values → Cube → ℕ
 known_children values b = count_by (λ i. is_known_in values (child_of b i)) child_numbers
 
--- how many nodes a block needs for its children: none where it is uniform, else one for each child that holds a known voxel
+-- how many nodes a block needs for its children: none where it is uniform, else one for each child
+-- that holds a known voxel
 abbrev pub needed_nodes : Values → Cube → ℕ
 needed_nodes values b = if is_uniform values b then 0 else known_children values b
 
--- none where all voxels are unknown; else one for the root, and those that each block of depth 0 to 15 needs for its children
+-- none where all voxels are unknown; else one for the root, and those that each block of depth 0 to
+-- 15 needs for its children
 unfoldable pub node_count : Values → ℕ
-node_count values = if is_known_in values root_block then 1 + sum_by (needed_nodes values) blocks_above_voxels else 0
+node_count values =
+    if is_known_in values root_block then 1 + sum_by (needed_nodes values) blocks_above_voxels else 0

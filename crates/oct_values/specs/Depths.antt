@@ -12,7 +12,8 @@ pub record IsLargestKnown (values : Values) (b : Cube) (largest : ℤ) : Type 0 
   pub there : (k : Voxel) × HoldsVoxel b k × (values k ≡ Some largest)
   pub most : (k : Voxel) (value : ℤ) → HoldsVoxel b k → values k ≡ Some value → value ≤ℤ largest
 
--- the answer of a block: none where each of its voxels is unknown, else the largest known value among them
+-- the answer of a block: none where each of its voxels is unknown, else the largest known value
+-- among them
 abbrev pub IsLargestIn : Values → Cube → Value → Type 0
 IsLargestIn values b None = (k : Voxel) → HoldsVoxel b k → values k ≡ None
 IsLargestIn values b (Some largest) = IsLargestKnown values b largest

@@ -26,9 +26,11 @@ is_listed voxels k = list_any (is_same_voxel k) voxels
 abbrev pub IsAscending : List Voxel → Type 0
 IsAscending voxels = IsStrictlyIncreasing (map morton_of voxels)
 
--- the events of a scan: one on the voxels that are hit, another one on those that are freed and not hit, and nothing elsewhere
+-- the events of a scan: one on the voxels that are hit, another one on those that are freed and not
+-- hit, and nothing elsewhere
 abbrev pub scan_events : List Voxel → Event → List Voxel → Event → Events
-scan_events hits hit frees miss k = if is_listed hits k then Some hit else if is_listed frees k then Some miss else None
+scan_events hits hit frees miss k =
+    if is_listed hits k then Some hit else if is_listed frees k then Some miss else None
 
 -- a value after an event, or after nothing
 abbrev pub after_event : Odds → Option Event → Value → Value

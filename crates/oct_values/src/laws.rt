@@ -1,10 +1,10 @@
 ghost use Rattle.std.specs.Prelude.{◌≡◌, ◌≤◌, ◌↔◌, IsTrue, count_by};
 ghost use Rattle.std.specs.List.{All, Contains};
 ghost use Rattle.oct_key.specs.Voxel.{Voxel, IsInMap};
-ghost use Rattle.oct_key.specs.Values.{Values, is_same_voxel};
-ghost use Rattle.oct_key.specs.Block.{Cube, IsBlock, HoldsVoxel};
+ghost use Rattle.oct_key.specs.Values.{Values, SameValues, is_same_voxel};
+ghost use Rattle.oct_key.specs.Block.{Cube, IsBlock, HoldsVoxel, is_same_block};
 ghost use Rattle.oct_odds.specs.Update.{Value};
-ghost use Rattle.oct_values.specs.Blocks.{voxels_of, blocks_above_voxels, is_same_block};
+ghost use Rattle.oct_values.specs.Blocks.{voxels_of, blocks_above_voxels};
 ghost use Rattle.oct_values.specs.Depths.{IsLargestIn, depth_value};
 ghost use Rattle.oct_values.specs.Events.{Events};
 ghost use Rattle.oct_values.specs.Needs.{IsReached, is_reached, event_need};
@@ -13,31 +13,40 @@ ghost use Rattle.oct_values.specs.Counts.{IsUniform, IsKnownIn, is_uniform, is_k
 /// The list of a block's voxels has each voxel that the block holds, once, and no other.
 pub fn voxels_are_listed_once()
     ensures held { (b : Cube) (k : Voxel) → IsBlock b → HoldsVoxel b k ↔ Contains (voxels_of b) k }
-    ensures once { (b : Cube) (k : Voxel) → IsBlock b → HoldsVoxel b k → count_by (is_same_voxel k) (voxels_of b) ≡ 1 }
+    ensures once { (b : Cube) (k : Voxel) → IsBlock b → HoldsVoxel b k
+        → count_by (is_same_voxel k) (voxels_of b) ≡ 1 }
 {}
 
 /// The list of the blocks above the voxels has each block of depth 0 to 15, once, and no other.
 pub fn blocks_are_listed_once()
     ensures held { All (λ b. IsBlock b × (b.depth ≤ 15)) blocks_above_voxels }
-    ensures once { (b : Cube) → IsBlock b → b.depth ≤ 15 → count_by (is_same_block b) blocks_above_voxels ≡ 1 }
+    ensures once { (b : Cube) → IsBlock b → b.depth ≤ 15
+        → count_by (is_same_block b) blocks_above_voxels ≡ 1 }
 {}
 
 /// The tests by which blocks are counted say what they say in words of voxels.
 pub fn tests_tell_blocks()
-    ensures uniform { (values : Values) (b : Cube) → IsBlock b → IsTrue (is_uniform values b) ↔ IsUniform values b }
-    ensures known { (values : Values) (b : Cube) → IsBlock b → IsTrue (is_known_in values b) ↔ IsKnownIn values b }
-    ensures reached { (events : Events) (b : Cube) → IsBlock b → IsTrue (is_reached events b) ↔ IsReached events b }
+    ensures uniform { (values : Values) (b : Cube) → IsBlock b
+        → IsTrue (is_uniform values b) ↔ IsUniform values b }
+    ensures known { (values : Values) (b : Cube) → IsBlock b
+        → IsTrue (is_known_in values b) ↔ IsKnownIn values b }
+    ensures reached { (events : Events) (b : Cube) → IsBlock b
+        → IsTrue (is_reached events b) ↔ IsReached events b }
 {}
 
 /// Each block has exactly one answer, and going through its voxels finds it.
 pub fn blocks_have_one_answer()
-    ensures { (values : Values) (b : Cube) (answer : Value) → IsBlock b → IsLargestIn values b answer ↔ (answer ≡ depth_value values b) }
+    ensures { (values : Values) (b : Cube) (answer : Value) → IsBlock b
+        → IsLargestIn values b answer ↔ (answer ≡ depth_value values b) }
 {}
 
-/// What blocks answer and how many groups and nodes are needed depends on the values and events of the map's voxels alone.
+/// What blocks answer and how many groups and nodes are needed depends on the values and events of
+/// the map's voxels alone.
 pub fn answers_are_of_the_map()
-    ensures groups { (v w : Values) → ((k : Voxel) → IsInMap k → v k ≡ w k) → group_count v ≡ group_count w }
-    ensures nodes { (v w : Values) → ((k : Voxel) → IsInMap k → v k ≡ w k) → node_count v ≡ node_count w }
-    ensures depths { (v w : Values) (b : Cube) → IsBlock b → ((k : Voxel) → IsInMap k → v k ≡ w k) → depth_value v b ≡ depth_value w b }
-    ensures needs { (d e : Events) → ((k : Voxel) → IsInMap k → d k ≡ e k) → event_need d ≡ event_need e }
+    ensures groups { (v w : Values) → SameValues v w → group_count v ≡ group_count w }
+    ensures nodes { (v w : Values) → SameValues v w → node_count v ≡ node_count w }
+    ensures depths { (v w : Values) (b : Cube) → IsBlock b → SameValues v w
+        → depth_value v b ≡ depth_value w b }
+    ensures needs { (d e : Events) → ((k : Voxel) → IsInMap k → d k ≡ e k)
+        → event_need d ≡ event_need e }
 {}

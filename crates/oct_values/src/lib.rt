@@ -1,23 +1,27 @@
-//! What an occupancy map means, with no tree in it: a value for each voxel, what events make of it, what a block answers, and how
-//! many groups and nodes a tree of these values needs at least.
+//! What an occupancy map means, with no tree in it: a value for each voxel, what events make of it,
+//! what a block answers, and how many groups and nodes a tree of these values needs at least.
 //!
-//! The definitions stand in `specs/`, just above voxels and blocks (`oct_key`) and the step of one voxel (`oct_odds`):
+//! The definitions stand in `specs/`, just above voxels and blocks (`oct_key`) and the step of one
+//! voxel (`oct_odds`):
 //!
-//! - `Events`: which voxels an edit touches and how. `event_at` is an event on one voxel, `scan_events` those of a scan, `after_event`
-//!   the step of one value, and `updated` the step of all of them.
-//! - `Blocks`: `voxels_of` lists the voxels that a block holds, and `blocks_above_voxels` the blocks of depth 0 to 15. Sums and counts
-//!   go over these lists.
-//! - `Depths`: `IsLargestIn` says what a block answers: the largest known value among its voxels, or none where each of them is
-//!   unknown. `depth_value` computes it.
-//! - `Counts`: `IsUniform` says that all voxels of a block have one value, where unknown counts as a value. `group_count` is the
-//!   number of blocks of depth 0 to 15 that aren't uniform. `node_count` is 0 where all voxels are unknown, else one more than the
-//!   children of these blocks that hold a known voxel.
-//! - `Needs`: `IsReached` says that some voxel of a block has an event. `event_need` is the number of such blocks of depth 0 to 15: so
-//!   many groups at most have to be made for the events.
+//! - `Events`: which voxels an edit touches and how. `event_at` is an event on one voxel,
+//!   `scan_events` those of a scan, `after_event` the step of one value, and `updated` the step of
+//!   all of them.
+//! - `Blocks`: `voxels_of` lists the voxels that a block holds, and `blocks_above_voxels` the
+//!   blocks of depth 0 to 15. Sums and counts go over these lists.
+//! - `Depths`: `IsLargestIn` says what a block answers: the largest known value among its voxels,
+//!   or none where each of them is unknown. `depth_value` computes it.
+//! - `Counts`: `IsUniform` says that all voxels of a block have one value, where unknown counts as
+//!   a value. `group_count` is the number of blocks of depth 0 to 15 that aren't uniform.
+//!   `node_count` is 0 where all voxels are unknown, else one more than the children of these
+//!   blocks that hold a known voxel.
+//! - `Needs`: `IsReached` says that some voxel of a block has an event. `event_need` is the number
+//!   of such blocks of depth 0 to 15: so many groups at most have to be made for the events.
 //!
-//! Its functions do nothing and promise much: each is a law, so that nobody has to trust a list, a test or a fold. Each block and each
-//! voxel is listed once, the tests say what they say in words of voxels, and a block has one answer. The tree, its edits and queries,
-//! the session and the files are held against these words.
+//! Its functions do nothing and promise much: each is a law, so that nobody has to trust a list, a
+//! test or a fold. Each block and each voxel is listed once, the tests say what they say in words
+//! of voxels, and a block has one answer. Scans, the tree's edits and queries, the map and
+//! the session are held against these words.
 #![tactic(auto)]
 
 mod laws;

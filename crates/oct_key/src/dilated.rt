@@ -1,0 +1,85 @@
+ghost use Rattle.std.specs.Prelude.{◌≡◌, ◌+◌, ◌-◌, ◌^◌, ◌<◌};
+ghost use Rattle.oct_key.specs.Voxel.{IsInMap};
+ghost use Rattle.oct_key.specs.Morton.{gathered, morton_of};
+ghost use Rattle.oct_key.specs.Dilated.{dilated, IsDilated};
+
+use crate::morton_code::spread_bits;
+use std::marker::Model;
+
+/// Every third place of a code, from bit 0 on.
+const PLACES: u64 = 0x2492_4924_9249;
+
+/// One, with ones in all places between, so that a carry goes through them.
+const ONE_FILLED: u64 = 0xdb6d_b6db_6db7;
+
+/// A number of 16 bits with each bit at three times its place, as the code of a voxel has those of
+/// one axis. Contracts see it as the number. It is counted up and down as it stands.
+#[derive(Debug, Drop)]
+pub struct Dilated {
+    bits: u64,
+}
+
+impl Model for Dilated {
+    ghost use Rattle.std.specs.Prelude.{ℕ};
+    ghost use Rattle.oct_key.specs.Morton.{gathered};
+    ghost use Rattle.oct_key.specs.Dilated.{IsDilated};
+
+    ghost Value = { ℕ };
+
+    ghost view = { λ d. gathered 16 d.bits };
+
+    ghost invariant = { λ d. IsDilated d.bits };
+}
+
+impl Dilated {
+    /// The number with its bits at these places.
+    pub fn new(n: u16) -> Dilated
+        ensures { result ≡ n }
+    {
+        Dilated {
+            bits: spread_bits(n),
+        }
+    }
+
+    /// Adds one.
+    pub fn increment(&mut self)
+        requires { self.old + 1 < 65536 }
+        ensures { self.new ≡ self.old + 1 }
+    {
+        self.bits = bits_after(self.bits);
+    }
+
+    /// Takes one away.
+    pub fn decrement(&mut self)
+        requires { 0 < self.old }
+        ensures { self.new ≡ self.old - 1 }
+    {
+        self.bits = bits_before(self.bits);
+    }
+}
+
+/// The Morton code of the voxel of these three numbers, as [`morton`](crate::morton) makes it.
+pub fn morton_of_axes(x: &Dilated, y: &Dilated, z: &Dilated) -> u64
+    ensures exact { result ≡ morton_of (record { x = x.now; y = y.now; z = z.now }) }
+    ensures in_map { IsInMap (record { x = x.now; y = y.now; z = z.now }) }
+    ensures below { result < 2 ^ 48 }
+{
+    x.bits + (y.bits << 1) + (z.bits << 2)
+}
+
+/// The bits of the next number; behind the last one those of 0.
+fn bits_after(bits: u64) -> u64
+    requires { IsDilated bits }
+    ensures { result ≡ dilated (gathered 16 bits + 1) }
+{
+    (bits + ONE_FILLED) & PLACES
+}
+
+/// The bits of the number before.
+fn bits_before(bits: u64) -> u64
+    requires bits { IsDilated bits }
+    requires some { 0 < gathered 16 bits }
+    ensures { result ≡ dilated (gathered 16 bits - 1) }
+{
+    (bits - 1) & PLACES
+}
