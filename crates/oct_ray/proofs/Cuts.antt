@@ -2,7 +2,7 @@
 use Rattle.std.proofs.Common.{◌≡◌, ℕ, ◌+◌, ◌*◌, ◌/◌, ◌^◌, ◌<◌, ◌≤◌, refl, arith, ◌∙◌, ap, ℤ, pos, negsuc, neg_ℤ, ◌+ℤ◌, ◌-ℤ◌, ◌*ℤ◌, ◌≤ℤ◌, unsigned_abs}
 use Rattle.std.proofs.lemmas.Int.{ints, by_lt_z}
 use Rattle.std.proofs.lemmas.Nat.{mul-le}
-use Rattle.std.proofs.Math.Nat.{div-le_of_le-mul, mul-le-mul_left, mul-le-mul_right, le_of_mul-le-mul_right, mul-pos}
+use Rattle.std.proofs.Math.Nat.{mul-le-mul_right, le_of_mul-le-mul_right, mul-pos}
 use Rattle.std.specs.Int.RustNames.{int_div}
 use borrow.Author.Differences.{up, down, product_is, quot_is}
 use Rattle.oct_num.proofs.Roots.{root_lt, root_le}
@@ -16,10 +16,6 @@ range_lt range r square s l e f h k = rw e (root_lt r l (omega arith))
 -- a distance on an axis is at most the length
 pub distance_le : (d s : ℕ) → d * d ≤ s → s ≤ 2 ^ 112 → d ≤ 2 ^ 56
 distance_le d s h k = root_le d (2 ^ 56) (omega arith)
-
--- a part of a distance is at most the distance
-pub part_le : (d r l : ℕ) → r < l → (d * r) / l ≤ d
-part_le d r l h = let p : d * r ≤ d * l = mul-le-mul_left d (omega arith) in div-le_of_le-mul l (omega arith)
 
 -- a quotient that is rounded toward 0, from its parts above and below 0
 quotient_parts : (d : ℤ) (r l : ℕ) → (up (int_div (d *ℤ pos r) (pos l)) ≡ (up d * r) / l) × (down (int_div (d *ℤ pos r) (pos l)) ≡ (down d * r) / l)

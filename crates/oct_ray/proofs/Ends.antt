@@ -8,7 +8,7 @@ use Rattle.oct_key.specs.declared.point.Point.{Point}
 use Rattle.oct_key.proofs.Faces.{Holds-key_at}
 use Rattle.oct_ray.specs.Segment.{IsBetweenFaces, IsPlaceOf}
 use Rattle.oct_ray.specs.Moment.{Moment, NotAfter, IsMoment}
-use Rattle.oct_ray.specs.Axis.{HasRoom, axis_after, axis_keys, crosses, crossing, voxel_of}
+use Rattle.oct_ray.specs.Axis.{HasRoom, axis_after, axis_keys, crosses, crossing, axis_voxel}
 use Rattle.oct_ray.specs.declared.axis.Axis.{Axis}
 use Rattle.oct_ray.proofs.Moments.{moment_lt_le}
 use Rattle.oct_ray.proofs.Crossings.{crossings_left, crosses-crossings, axis_after-HasRoom, lateness-le, crossings_left-fall}
@@ -53,7 +53,7 @@ visit_once x y z s k l m r v w =
     (ap (key_after z) (at_once z v.h w.h m r.is_z im v.at_z w.at_z)) ∙ sym w.key_is
 
 -- at the origin the axes stand where they begin
-first_visit : (x y z : Axis) → IsReady x y z (place 0 1) → VisitAt x y z (place 0 1) (voxel_of x y z) (place 0 1)
+first_visit : (x y z : Axis) → IsReady x y z (place 0 1) → VisitAt x y z (place 0 1) (axis_voxel x y z) (place 0 1)
 first_visit x y z r = record {
   positive = omega arith;
   prompt = refl;
@@ -105,7 +105,7 @@ last_place : (edge : ℕ) (o e : Point) (k : Voxel) → Holds edge k e → IsPla
 last_place edge o e k h = record { positive = omega arith; within = omega arith; x = last_between edge o.x e.x k.x h.x; y = last_between edge o.y e.y k.y h.y; z = last_between edge o.z e.z k.z h.z }
 
 -- the list of the axes begins where they stand
-axis_keys_first : (f : ℕ) (x y z : Axis) → slice_get (axis_keys f x y z) 0 ≡ Some (voxel_of x y z)
+axis_keys_first : (f : ℕ) (x y z : Axis) → slice_get (axis_keys f x y z) 0 ≡ Some (axis_voxel x y z)
 unfolding axis_keys
 axis_keys_first zero x y z = refl
 axis_keys_first (suc f) x y z = refl
@@ -132,17 +132,17 @@ ends_later ks ls l m k h w e = record { earlier = l ∷ w.earlier; is = h ∙ ap
 -- the list of the axes ends where none has a crossing left
 axis_keys_last : (f : ℕ) (x y z : Axis) → HasRoom x → HasRoom y → HasRoom z → crossings_left x y z ≤ f → EndsWith (axis_keys f x y z) (last_voxel x y z)
 axis_keys_last zero x y z ix iy iz h =
-    ends_alone _ (voxel_of x y z) _ (keys_end zero x y z (zero_is (crossings_left x y z) (omega arith)))
+    ends_alone _ (axis_voxel x y z) _ (keys_end zero x y z (zero_is (crossings_left x y z) (omega arith)))
     (same_key _ _ _ _ _ _ (key_at_rest x (omega arith)) (key_at_rest y (omega arith)) (key_at_rest z (omega arith)))
 axis_keys_last (suc f) x y z ix iy iz h =
     elim (eqb (crossings_left x y z) 0) as (λ b. eqb (crossings_left x y z) 0 ≡ b → EndsWith (axis_keys (suc f) x y z) (last_voxel x y z)) [
       | true ↦ λ e.
           let none = zero_from (crossings_left x y z) e in
-          ends_alone _ (voxel_of x y z) _ (keys_end (suc f) x y z e)
+          ends_alone _ (axis_voxel x y z) _ (keys_end (suc f) x y z e)
           (same_key _ _ _ _ _ _ (key_at_rest x (omega arith)) (key_at_rest y (omega arith)) (key_at_rest z (omega arith)))
       | false ↦ λ e.
           let fall = crossings_left-fall x y z ix iy iz e in
-          ends_later _ _ (voxel_of x y z) _ _ (keys_suc f x y z e)
+          ends_later _ _ (axis_voxel x y z) _ _ (keys_suc f x y z e)
           (axis_keys_last f (axis_after (crosses x y z) x) (axis_after (crosses y z x) y) (axis_after (crosses z x y) z)
           (axis_after-HasRoom (crosses x y z) x (crosses-crossings x y z) ix)
           (axis_after-HasRoom (crosses y z x) y (crosses-crossings y z x) iy)
@@ -169,7 +169,7 @@ last_element ks k w = rw w.is (ap (slice_get (w.earlier ++ k ∷ [])) (length-en
 first_key : (edge : ℕ) (o e : Point) (x y z : Axis) (k : Voxel) (f : ℕ) → 1 ≤ edge → IsSet edge o e x y z → key_at edge o ≡ Some k → slice_get (axis_keys f x y z) 0 ≡ key_at edge o
 first_key edge o e x y z k f positive l h =
     let v = place_visit edge o e x y z l k 0 1 (first_place edge o e k (Holds-key_at edge o k positive h)) in
-    axis_keys_first f x y z ∙ ap Some (visit_once x y z (place 0 1) (voxel_of x y z) k (place 0 1) (set_ready edge o e x y z l) (first_visit x y z (set_ready edge o e x y z l)) v) ∙ sym h
+    axis_keys_first f x y z ∙ ap Some (visit_once x y z (place 0 1) (axis_voxel x y z) k (place 0 1) (set_ready edge o e x y z l) (first_visit x y z (set_ready edge o e x y z l)) v) ∙ sym h
 
 -- and ends with the voxel that holds the end
 last_of_keys : (edge : ℕ) (o e : Point) (x y z : Axis) (k : Voxel) (f : ℕ) → 1 ≤ edge → crossings_left x y z ≤ f → IsSet edge o e x y z → key_at edge e ≡ Some k → slice_get (axis_keys f x y z) (length (axis_keys f x y z) - 1) ≡ key_at edge e

@@ -2,7 +2,7 @@
 use Rattle.std.proofs.Common.{◌≡◌, ℕ, zero, suc, ◌-◌, ◌<◌, ◌≤◌, true, false, eqb, List, [], ◌∷◌, refl, arith, inl, inr, ◌⊎◌, sym, ◌∙◌, ap, length, slice_index_or, Contains}
 use Rattle.std.proofs.lemmas.Bool.Decides.{nat_tests}
 use Rattle.oct_ray.specs.Axis.{HasRoom, crosses, axis_after}
-use Rattle.oct_ray.specs.Axis.{axis_keys, voxel_of}
+use Rattle.oct_ray.specs.Axis.{axis_keys, axis_voxel}
 use Rattle.oct_ray.specs.declared.axis.Axis.{Axis}
 use Rattle.oct_key.specs.Voxel.{Voxel}
 use Rattle.oct_ray.proofs.Crossings.{crossings_left, crossings_left-fall, axis_after-HasRoom, crosses-crossings}
@@ -17,11 +17,11 @@ pub nonzero_from : (n : ℕ) → eqb n 0 ≡ false → 0 < n
 nonzero_from n h = grind (arith, nat_tests)
 
 pub keys_suc : (f : ℕ) (x y z : Axis) → eqb (crossings_left x y z) 0 ≡ false →
-    axis_keys (suc f) x y z ≡ voxel_of x y z ∷ axis_keys f (axis_after (crosses x y z) x) (axis_after (crosses y z x) y) (axis_after (crosses z x y) z)
+    axis_keys (suc f) x y z ≡ axis_voxel x y z ∷ axis_keys f (axis_after (crosses x y z) x) (axis_after (crosses y z x) y) (axis_after (crosses z x y) z)
 unfolding axis_keys
 keys_suc f x y z e = rw e refl
 
-pub keys_end : (f : ℕ) (x y z : Axis) → eqb (crossings_left x y z) 0 ≡ true → axis_keys f x y z ≡ voxel_of x y z ∷ []
+pub keys_end : (f : ℕ) (x y z : Axis) → eqb (crossings_left x y z) 0 ≡ true → axis_keys f x y z ≡ axis_voxel x y z ∷ []
 unfolding axis_keys
 keys_end zero x y z e = refl
 keys_end (suc f) x y z e = rw e refl
@@ -35,7 +35,7 @@ keys_enough (suc f) (suc g) x y z ix iy iz hf hg =
       | true ↦ λ e. keys_end (suc f) x y z e ∙ sym (keys_end (suc g) x y z e)
       | false ↦ λ e.
           let fall = crossings_left-fall x y z ix iy iz e in
-          keys_suc f x y z e ∙ ap (λ ks. voxel_of x y z ∷ ks)
+          keys_suc f x y z e ∙ ap (λ ks. axis_voxel x y z ∷ ks)
           (keys_enough f g _ _ _
           (axis_after-HasRoom (crosses x y z) x (crosses-crossings x y z) ix)
           (axis_after-HasRoom (crosses y z x) y (crosses-crossings y z x) iy)
@@ -46,12 +46,12 @@ keys_enough (suc f) (suc g) x y z ix iy iz hf hg =
 -- the keys of a walk that isn't at its end
 pub keys_more : (x y z x' y' z' : Axis) → HasRoom x → HasRoom y → HasRoom z → eqb (crossings_left x y z) 0 ≡ false →
     x' ≡ axis_after (crosses x y z) x → y' ≡ axis_after (crosses y z x) y → z' ≡ axis_after (crosses z x y) z →
-    axis_keys (crossings_left x y z) x y z ≡ voxel_of x y z ∷ axis_keys (crossings_left x' y' z') x' y' z'
+    axis_keys (crossings_left x y z) x y z ≡ axis_voxel x y z ∷ axis_keys (crossings_left x' y' z') x' y' z'
 keys_more x y z x' y' z' ix iy iz e ex ey ez = rw (ex, ey, ez) (
     let f = nonzero_from (crossings_left x y z) e in
     let fall = crossings_left-fall x y z ix iy iz e in
     let s : crossings_left x y z ≡ suc (crossings_left x y z - 1) = omega arith in
-    ap (λ n. axis_keys n x y z) s ∙ keys_suc (crossings_left x y z - 1) x y z e ∙ ap (λ ks. voxel_of x y z ∷ ks)
+    ap (λ n. axis_keys n x y z) s ∙ keys_suc (crossings_left x y z - 1) x y z e ∙ ap (λ ks. axis_voxel x y z ∷ ks)
     (keys_enough (crossings_left x y z - 1) _ _ _ _
     (axis_after-HasRoom (crosses x y z) x (crosses-crossings x y z) ix)
     (axis_after-HasRoom (crosses y z x) y (crosses-crossings y z x) iy)

@@ -9,4 +9,4 @@ pub mod Starts
 pub mod MapFaces
 pub mod Cuts
 pub mod Ends
-pub mod Mets
+pub mod ComputedAxes

@@ -5,7 +5,7 @@ use Rattle.std.proofs.lemmas.Nat.{mul-lt}
 use Rattle.oct_ray.specs.Moment.{NotAfter, Before}
 use Rattle.oct_ray.specs.Axis.{HasRoom, crosses, axis_after, not_after}
 use Rattle.oct_ray.specs.Track.{track_after, crosses_now, has_ended, track_voxel, track_keys, keys_to_come, IsEnding, IsTrackOf, AreTracks, CanPass}
-use Rattle.oct_ray.specs.Axis.{axis_keys, voxel_of}
+use Rattle.oct_ray.specs.Axis.{axis_keys, axis_voxel}
 use Rattle.oct_ray.specs.declared.axis.Axis.{Axis}
 use Rattle.oct_ray.specs.declared.track.Track.{Track}
 use Rattle.oct_ray.specs.declared.walk.Walk.TheInside.{Inside}
@@ -141,7 +141,7 @@ AreTracks-track_after x y z r h =
       track_c = IsTrackOf-equal _ _ z _ _ _ x.pace y.pace fz (IsTrackOf-track_after (crosses r.c r.a r.b) z r.c r.a r.b _ _ x.pace y.pace r.track_c r.track_a.pace r.track_b.pace (sym r.same_c) (r.same_b ∙ sym r.same_c) sa.0 sb.0);
     }
 
-key_is : (x y z : Track) (r : AreTracks x y z) → track_voxel x y z ≡ voxel_of r.a r.b r.c
+key_is : (x y z : Track) (r : AreTracks x y z) → track_voxel x y z ≡ axis_voxel r.a r.b r.c
 key_is x y z r = same_key _ _ _ _ _ _ r.track_a.key r.track_b.key r.track_c.key
 
 track_keys_end : (f : ℕ) (x y z : Track) → has_ended x y z ≡ true → track_keys f x y z ≡ track_voxel x y z ∷ []
@@ -163,7 +163,7 @@ track_keys_are (suc f) x y z r =
       | false ↦ λ e.
           track_keys_suc f x y z e
           ∙ ap (λ k. k ∷ track_keys f (track_after (crosses_now x y z) x y.pace z.pace) (track_after (crosses_now y z x) y z.pace x.pace) (track_after (crosses_now z x y) z x.pace y.pace)) (key_is x y z r)
-          ∙ ap (λ ks. voxel_of r.a r.b r.c ∷ ks) (track_keys_are f _ _ _ (AreTracks-track_after x y z r e))
+          ∙ ap (λ ks. axis_voxel r.a r.b r.c ∷ ks) (track_keys_are f _ _ _ (AreTracks-track_after x y z r e))
           ∙ sym (keys_suc f r.a r.b r.c (sym (end_is x y z r) ∙ e))
     ] refl
 

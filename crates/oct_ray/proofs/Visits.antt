@@ -5,7 +5,7 @@ use Rattle.std.proofs.Math.Nat.{mul-pos}
 use Rattle.std.proofs.lemmas.Bool.Decides.{nat_tests}
 use Rattle.oct_ray.specs.Moment.{Moment, NotAfter, Before, IsMoment}
 use Rattle.oct_ray.specs.Axis.{HasRoom, crosses, axis_after, after_crossing, lateness, crossing, not_after}
-use Rattle.oct_ray.specs.Axis.{axis_keys, voxel_of}
+use Rattle.oct_ray.specs.Axis.{axis_keys, axis_voxel}
 use Rattle.oct_ray.specs.declared.axis.Axis.{Axis}
 use Rattle.oct_key.specs.Voxel.{Voxel}
 use Rattle.oct_ray.proofs.Moments.{moment_trans, moment_total, moment_le_lt, moment_lt_le, between, between_from, between_to}
@@ -213,13 +213,13 @@ same_key a b c a' b' c' e f g = rw (e, f, g) refl
 pub key_after-zero : (a : Axis) → key_after a 0 ≡ a.key
 key_after-zero a = grind arith
 
-key_first : (x y z : Axis) → voxel_after x y z 0 0 0 ≡ voxel_of x y z
+key_first : (x y z : Axis) → voxel_after x y z 0 0 0 ≡ axis_voxel x y z
 key_first x y z = same_key _ _ _ _ _ _ (key_after-zero x) (key_after-zero y) (key_after-zero z)
 
 -- the head of the keys is visited, between s and any moment n before which no axis crosses
 head_visit : (x y z : Axis) (s n : Moment) → IsReady x y z s → IsMoment n → Before s n → NotAfter n past_end →
     (0 < x.crossings → NotAfter n (next_crossing x)) → (0 < y.crossings → NotAfter n (next_crossing y)) → (0 < z.crossings → NotAfter n (next_crossing z)) →
-    VisitAt x y z s (voxel_of x y z) (between s n)
+    VisitAt x y z s (axis_voxel x y z) (between s n)
 head_visit x y z s n r w b e lx ly lz =
     let m = between s n in
     let im : IsMoment m = (omega (arith, r.moment), omega arith) in
@@ -265,12 +265,12 @@ not_yet_left : (t : Bool) (a : Axis) (n : Moment) → StandsAt t a n → 0 < a.c
 not_yet_left false a n w l = omega (arith, w.later refl l)
 not_yet_left true a n w l = w.not_yet refl
 
-head_before : (x y z : Axis) (s n : Moment) → IsReady x y z s → IsNext x y z s n → VisitAt x y z s (voxel_of x y z) (between s n)
+head_before : (x y z : Axis) (s n : Moment) → IsReady x y z s → IsNext x y z s n → VisitAt x y z s (axis_voxel x y z) (between s n)
 head_before x y z s n r w =
     head_visit x y z s n r w.moment w.after (omega (arith, w.ends, w.moment))
     (not_yet_left (crosses x y z) x n w.at_x) (not_yet_left (crosses y z x) y n w.at_y) (not_yet_left (crosses z x y) z n w.at_z)
 
-head_last : (x y z : Axis) (s : Moment) → IsReady x y z s → crossings_left x y z ≡ 0 → VisitAt x y z s (voxel_of x y z) (between s past_end)
+head_last : (x y z : Axis) (s : Moment) → IsReady x y z s → crossings_left x y z ≡ 0 → VisitAt x y z s (axis_voxel x y z) (between s past_end)
 head_last x y z s r e =
     head_visit x y z s past_end r (omega arith, omega arith) (omega (arith, r.ends)) (omega arith)
     (λ l. absurd (omega arith)) (λ l. absurd (omega arith)) (λ l. absurd (omega arith))
@@ -279,9 +279,9 @@ pub record Visit (ax ay az : Axis) (s : Moment) (k : Voxel) : Type 0 where
   pub place : Moment
   pub visit : VisitAt ax ay az s k place
 
-head : (x y z : Axis) (s : Moment) → IsReady x y z s → Visit x y z s (voxel_of x y z)
+head : (x y z : Axis) (s : Moment) → IsReady x y z s → Visit x y z s (axis_voxel x y z)
 head x y z s r =
-    elim (eqb (crossings_left x y z) 0) as (λ b. eqb (crossings_left x y z) 0 ≡ b → Visit x y z s (voxel_of x y z)) [
+    elim (eqb (crossings_left x y z) 0) as (λ b. eqb (crossings_left x y z) 0 ≡ b → Visit x y z s (axis_voxel x y z)) [
       | true ↦ λ e. record { place = between s past_end; visit = head_last x y z s r (zero_from (crossings_left x y z) e) }
       | false ↦ λ e. let n = next_moment x y z s r e in record { place = between s n.0; visit = head_before x y z s n.0 r n.1 }
     ] refl
@@ -296,17 +296,17 @@ lists_equal ks ls k e h = subst (λ (w : List Voxel). Lists w k) e h
 pub keys_visited : (f : ℕ) (x y z : Axis) (s : Moment) → IsReady x y z s → (k : Voxel) → Lists (axis_keys f x y z) k → Visit x y z s k
 unfolding axis_keys
 keys_visited zero x y z s r k h = elim h [
-  | inl e ↦ equal_visit x y z s (voxel_of x y z) k e (head x y z s r)
+  | inl e ↦ equal_visit x y z s (axis_voxel x y z) k e (head x y z s r)
   | inr b ↦ absurd b
 ]
 keys_visited (suc f) x y z s r k h =
     elim (eqb (crossings_left x y z) 0) as (λ b. eqb (crossings_left x y z) 0 ≡ b → Visit x y z s k) [
-      | true ↦ λ e. elim (lists_equal (axis_keys (suc f) x y z) (voxel_of x y z ∷ []) k (keys_end (suc f) x y z e) h) [
-        | inl q ↦ equal_visit x y z s (voxel_of x y z) k q (head x y z s r)
+      | true ↦ λ e. elim (lists_equal (axis_keys (suc f) x y z) (axis_voxel x y z ∷ []) k (keys_end (suc f) x y z e) h) [
+        | inl q ↦ equal_visit x y z s (axis_voxel x y z) k q (head x y z s r)
         | inr b ↦ absurd b
       ]
-      | false ↦ λ e. elim (lists_equal (axis_keys (suc f) x y z) (voxel_of x y z ∷ next_keys f x y z) k (keys_suc f x y z e) h) [
-        | inl q ↦ equal_visit x y z s (voxel_of x y z) k q (head x y z s r)
+      | false ↦ λ e. elim (lists_equal (axis_keys (suc f) x y z) (axis_voxel x y z ∷ next_keys f x y z) k (keys_suc f x y z e) h) [
+        | inl q ↦ equal_visit x y z s (axis_voxel x y z) k q (head x y z s r)
         | inr t ↦
             let n = next_moment x y z s r e in
             let v = keys_visited f _ _ _ n.0 (next_ready x y z s n.0 r n.1) k t in
@@ -362,7 +362,7 @@ unmoved t a n m j ia it im w b i =
 at_rest : (a : Axis) (j : ℕ) (m : Moment) → a.crossings ≡ 0 → IsAt a j m → key_after a j ≡ a.key
 at_rest a j m e i = let z : j ≡ 0 = omega (arith, i.within) in ap (key_after a) z ∙ key_after-zero a
 
-rest_listed : (x y z : Axis) (s : Moment) (k : Voxel) (m : Moment) → crossings_left x y z ≡ 0 → VisitAt x y z s k m → voxel_of x y z ≡ k
+rest_listed : (x y z : Axis) (s : Moment) (k : Voxel) (m : Moment) → crossings_left x y z ≡ 0 → VisitAt x y z s k m → axis_voxel x y z ≡ k
 rest_listed x y z s k m e v =
     sym (v.key_is ∙ same_key _ _ _ _ _ _ (at_rest x v.i m (omega arith) v.at_x) (at_rest y v.j m (omega arith) v.at_y) (at_rest z v.h m (omega arith) v.at_z))
 
@@ -372,12 +372,12 @@ unfolding axis_keys
 visits_listed zero x y z s r h k m v = inl (rest_listed x y z s k m (omega arith) v)
 visits_listed (suc f) x y z s r h k m v =
     elim (eqb (crossings_left x y z) 0) as (λ b. eqb (crossings_left x y z) 0 ≡ b → Lists (axis_keys (suc f) x y z) k) [
-      | true ↦ λ e. lists_equal (voxel_of x y z ∷ []) (axis_keys (suc f) x y z) k (sym (keys_end (suc f) x y z e)) (inl (rest_listed x y z s k m (zero_from (crossings_left x y z) e) v))
+      | true ↦ λ e. lists_equal (axis_voxel x y z ∷ []) (axis_keys (suc f) x y z) k (sym (keys_end (suc f) x y z e)) (inl (rest_listed x y z s k m (zero_from (crossings_left x y z) e) v))
       | false ↦ λ e.
           let n = next_moment x y z s r e in
           let im : IsMoment m = (v.positive, omega (arith, v.prompt)) in
           let fall = crossings_left-fall x y z r.is_x r.is_y r.is_z e in
-          lists_equal (voxel_of x y z ∷ next_keys f x y z) (axis_keys (suc f) x y z) k (sym (keys_suc f x y z e)) (
+          lists_equal (axis_voxel x y z ∷ next_keys f x y z) (axis_keys (suc f) x y z) k (sym (keys_suc f x y z e)) (
           elim (moment_total n.0 m) [
             | inl after ↦ inr (visits_listed f _ _ _ n.0 (next_ready x y z s n.0 r n.1) (omega arith) k m (visit_on x y z s n.0 k m r n.1 v after))
             | inr b ↦ inl (sym (v.key_is ∙ same_key _ _ _ _ _ _
@@ -411,10 +411,10 @@ turn_equal : (P : Voxel → Moment → Type 0) (ks ls : List Voxel) → ks ≡ l
 turn_equal P ks ls e h = subst (λ (w : List Voxel). InTurnBy P w) e h
 
 -- a visit at the next moment or later is of another voxel
-visit_differs : (x y z : Axis) (s n : Moment) (l : Voxel) (m : Moment) → IsReady x y z s → IsNext x y z s n → eqb (crossings_left x y z) 0 ≡ false → VisitAt x y z s l m → NotAfter n m → voxel_of x y z ≢ l
+visit_differs : (x y z : Axis) (s n : Moment) (l : Voxel) (m : Moment) → IsReady x y z s → IsNext x y z s n → eqb (crossings_left x y z) 0 ≡ false → VisitAt x y z s l m → NotAfter n m → axis_voxel x y z ≢ l
 visit_differs x y z s n l m r w e v after = λ q.
     let im : IsMoment m = (v.positive, omega (arith, v.prompt)) in
-    let same : voxel_of x y z ≡ voxel_after x y z v.i v.j v.h = q ∙ v.key_is in
+    let same : axis_voxel x y z ≡ voxel_after x y z v.i v.j v.h = q ∙ v.key_is in
     let moved : (t : Bool) (a : Axis) (j : ℕ) → HasRoom a → t ≡ true → StandsAt t a n → IsAt a j m → key_after a j ≢ a.key = λ t a j ia h f i.
     key_after_moves a j ia (at_moved a j m (f.crossings h) (moment_trans (next_crossing a) n m (next_crossing-IsMoment a ia) w.moment im (f.now h) after) i) i.within in
     elim (some_crosses x y z r.is_x r.is_y r.is_z e) [
@@ -431,11 +431,11 @@ unfolding axis_keys
 keys_in_turn zero x y z s P r p = (λ l b. absurd b, tt)
 keys_in_turn (suc f) x y z s P r p =
     elim (eqb (crossings_left x y z) 0) as (λ b. eqb (crossings_left x y z) 0 ≡ b → InTurnBy P (axis_keys (suc f) x y z)) [
-      | true ↦ λ e. turn_equal P (voxel_of x y z ∷ []) (axis_keys (suc f) x y z) (sym (keys_end (suc f) x y z e)) (λ l b. absurd b, tt)
+      | true ↦ λ e. turn_equal P (axis_voxel x y z ∷ []) (axis_keys (suc f) x y z) (sym (keys_end (suc f) x y z e)) (λ l b. absurd b, tt)
       | false ↦ λ e.
           let n = next_moment x y z s r e in
           let r' = next_ready x y z s n.0 r n.1 in
-          turn_equal P (voxel_of x y z ∷ next_keys f x y z) (axis_keys (suc f) x y z) (sym (keys_suc f x y z e)) (
+          turn_equal P (axis_voxel x y z ∷ next_keys f x y z) (axis_keys (suc f) x y z) (sym (keys_suc f x y z e)) (
             λ l h.
                 let v = keys_visited f _ _ _ n.0 r' l h in
                 let back = visit_back x y z s n.0 l v.place r n.1 v.visit in
@@ -444,7 +444,7 @@ keys_in_turn (suc f) x y z s P r p =
                 record {
                   first = between s n.0;
                   second = v.place;
-                  is_first = p (voxel_of x y z) (between s n.0) (head_before x y z s n.0 r n.1);
+                  is_first = p (axis_voxel x y z) (between s n.0) (head_before x y z s n.0 r n.1);
                   is_second = p l v.place back;
                   less = omega (arith, less, v.visit.prompt);
                   differ = visit_differs x y z s n.0 l v.place r n.1 e back v.visit.from;

@@ -19,7 +19,8 @@ pub record HasRoom (a : Axis) : Type 0 where
   pub rising : a.rises ≡ true → a.key + a.crossings < 2 ^ 16
   pub falling : a.rises ≡ false → a.crossings ≤ a.key
 
--- a rising axis, from a to b above the map's lower face: its first crossing is the upper face of its origin's voxels, or lies behind its end if it spans nothing
+-- a rising axis, from a to b above the map's lower face: its first crossing is the upper face of
+-- its origin's voxels, or lies behind its end if it spans nothing
 pub record IsRisingAxis (edge a b : ℕ) (axis : Axis) : Type 0 where
   pub rises : axis.rises ≡ true
   pub first : a < b → axis.distance + a % edge ≡ edge
@@ -27,7 +28,8 @@ pub record IsRisingAxis (edge a b : ℕ) (axis : Axis) : Type 0 where
   pub span : axis.span ≡ max 1 (b - a)
   pub last : axis.key + axis.crossings ≡ b / edge
 
--- a falling axis, from a to b above the map's lower face: its first crossing is the lower face of its origin's voxels
+-- a falling axis, from a to b above the map's lower face: its first crossing is the lower face of
+-- its origin's voxels
 pub record IsFallingAxis (edge a b : ℕ) (axis : Axis) : Type 0 where
   pub falls : axis.rises ≡ false
   pub first : axis.distance ≡ a % edge
@@ -59,7 +61,14 @@ crossing a i = record { num = a.distance + i * a.edge; den = a.span; late = late
 
 -- an axis behind its next crossing
 abbrev pub after_crossing : Axis → Axis
-after_crossing a = record { key = cond a.rises (a.key + 1) (a.key - 1); rises = a.rises; crossings = a.crossings - 1; distance = a.distance + a.edge; span = a.span; edge = a.edge }
+after_crossing a = record {
+  key = cond a.rises (a.key + 1) (a.key - 1);
+  rises = a.rises;
+  crossings = a.crossings - 1;
+  distance = a.distance + a.edge;
+  span = a.span;
+  edge = a.edge;
+}
 
 -- an axis behind its next crossing, where that comes now
 abbrev pub axis_after : Bool → Axis → Axis
@@ -68,21 +77,26 @@ axis_after false a = a
 
 -- whether the next crossing of a comes no later than that of b
 abbrev pub not_after : Axis → Axis → Bool
-not_after a b = leb (2 * (a.distance * b.span) + lateness a) (2 * (b.distance * a.span) + lateness b)
+not_after a b =
+    leb (2 * (a.distance * b.span) + lateness a) (2 * (b.distance * a.span) + lateness b)
 
 -- whether a crosses next, alone or beside b and c
 abbrev pub crosses : Axis → Axis → Axis → Bool
-crosses a b c = not (eqb a.crossings 0) && ((eqb b.crossings 0 || not_after a b) && (eqb c.crossings 0 || not_after a c))
+crosses a b c =
+    not (eqb a.crossings 0) && ((eqb b.crossings 0 || not_after a b)
+    && (eqb c.crossings 0 || not_after a c))
 
 -- the voxel where three axes stand
-abbrev pub voxel_of : Axis → Axis → Axis → Voxel
-voxel_of x y z = record { x = x.key; y = y.key; z = z.key }
+abbrev pub axis_voxel : Axis → Axis → Axis → Voxel
+axis_voxel x y z = record { x = x.key; y = y.key; z = z.key }
 
 -- the voxels from where three axes stand, at most fuel + 1 of them
 unfoldable pub axis_keys : ℕ → Axis → Axis → Axis → List Voxel
-axis_keys zero x y z = voxel_of x y z ∷ []
+axis_keys zero x y z = axis_voxel x y z ∷ []
 axis_keys (suc fuel) x y z =
-    voxel_of x y z ∷ elim (eqb (x.crossings + y.crossings + z.crossings) 0) [
+    axis_voxel x y z ∷ elim (eqb (x.crossings + y.crossings + z.crossings) 0) [
       | true ↦ []
-      | false ↦ axis_keys fuel (axis_after (crosses x y z) x) (axis_after (crosses y z x) y) (axis_after (crosses z x y) z)
+      | false ↦ axis_keys fuel
+          (axis_after (crosses x y z) x) (axis_after (crosses y z x) y)
+          (axis_after (crosses z x y) z)
     ]

@@ -4,3 +4,4 @@ pub mod Axis
 pub mod Track
 pub mod Range
 pub mod Met
+pub mod Given

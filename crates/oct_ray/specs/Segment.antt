@@ -3,7 +3,8 @@ use Rattle.std.specs.Prelude.{◌≢◌, ℕ, ◌*◌, ◌<◌, ◌≤◌, List,
 use Rattle.oct_key.specs.Voxel.{Voxel, lower_face}
 use Rattle.oct_key.specs.declared.point.Point.{Point}
 
--- p/q of the way from o to e on an axis lies on the lower face of the voxels of a number or above it, and below their upper face
+-- p/q of the way from o to e on an axis lies on the lower face of the voxels of a number or above
+-- it, and below their upper face
 pub record IsBetweenFaces (edge : ℕ) (o e : ℤ) (key p q : ℕ) : Type 0 where
   pub lower : (lower_face edge key *ℤ pos q) ≤ℤ ((o *ℤ pos q) +ℤ (pos p *ℤ (e -ℤ o)))
   pub upper : ((o *ℤ pos q) +ℤ (pos p *ℤ (e -ℤ o))) <ℤ ((lower_face edge key +ℤ pos edge) *ℤ pos q)
@@ -32,7 +33,8 @@ pub record Precedes (edge : ℕ) (o e : Point) (k l : Voxel) : Type 0 where
   pub place' : IsPlaceOf edge o e l p' q'
   pub less : p * q' < p' * q
 
--- the voxels that the segment from o to e meets, all of them and no others, each once, each before all later ones
+-- the voxels that the segment from o to e meets, all of them and no others, each once, each before
+-- all later ones
 pub record IsWalkAlong (edge : ℕ) (o e : Point) (ks : List Voxel) : Type 0 where
   pub met : All (Meets edge o e) ks
   pub listed : (k : Voxel) → Meets edge o e k → Contains ks k

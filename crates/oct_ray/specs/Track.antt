@@ -6,9 +6,17 @@ use Rattle.oct_ray.specs.declared.track.Track.{Track}
 use Rattle.oct_ray.specs.declared.walk.Walk.TheInside.{Inside}
 use Rattle.oct_ray.specs.Axis.{HasRoom, lateness}
 
--- a track behind its next crossing, where that comes now; p and q are the paces of the next axis and of the third
+-- a track behind its next crossing, where that comes now; p and q are the paces of the next axis
+-- and of the third
 abbrev pub track_after : Bool → Track → ℕ → ℕ → Track
-track_after true a p q = record { key = cond a.rises (a.key + 1) (a.key - 1); rises = a.rises; crossings = a.crossings - 1; beside_next = a.beside_next + p; beside_third = a.beside_third + q; pace = a.pace }
+track_after true a p q = record {
+  key = cond a.rises (a.key + 1) (a.key - 1);
+  rises = a.rises;
+  crossings = a.crossings - 1;
+  beside_next = a.beside_next + p;
+  beside_third = a.beside_third + q;
+  pace = a.pace;
+}
 track_after false a p q = a
 
 -- whether the next crossing of a comes no later than those of b and c
@@ -29,12 +37,18 @@ track_keys zero x y z = track_voxel x y z ∷ []
 track_keys (suc fuel) x y z =
     track_voxel x y z ∷ elim (has_ended x y z) [
       | true ↦ []
-      | false ↦ track_keys fuel (track_after (crosses_now x y z) x y.pace z.pace) (track_after (crosses_now y z x) y z.pace x.pace) (track_after (crosses_now z x y) z x.pace y.pace)
+      | false ↦ track_keys fuel
+          (track_after (crosses_now x y z) x y.pace z.pace)
+          (track_after (crosses_now y z x) y z.pace x.pace)
+          (track_after (crosses_now z x y) z x.pace y.pace)
     ]
 
 -- the voxels that a walk has still to give
 abbrev pub keys_to_come : Inside → List Voxel
-keys_to_come w = elim w.more [ true ↦ track_keys (w.x.crossings + w.y.crossings + w.z.crossings) w.x w.y w.z | false ↦ [] ]
+keys_to_come w = elim w.more [
+  | true ↦ track_keys (w.x.crossings + w.y.crossings + w.z.crossings) w.x w.y w.z
+  | false ↦ []
+]
 
 -- the crossings to come lie on the segment, and one more would lie behind its end
 pub record IsEnding (a : Axis) : Type 0 where

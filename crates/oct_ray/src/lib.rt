@@ -1,30 +1,38 @@
-//! Beams: the voxels that a beam meets, and where a beam ends that is longer than the sensor's range.
+//! Beams: the voxels that a beam meets, and where a beam ends that is longer than the sensor's
+//! range.
 //!
-//! A beam is the straight segment from the sensor, its origin, to a measured point, its end. A scan makes the voxels on the way of
-//! its beams free, so it has to know each of them exactly. A voxel takes its lower faces and not its upper ones, as in `oct_key`, and
-//! a beam meets each voxel that contains a point of its closed segment. So where a beam passes through the corner of voxels exactly,
-//! it goes on to the voxel across, and meets one beside only where that one has the corner.
+//! A beam is the straight segment from the sensor, its origin, to a measured point, its end. A scan
+//! makes the voxels on the way of its beams free, so it has to know each of them exactly. A voxel
+//! takes its lower faces and not its upper ones, as in `oct_key`, and a beam meets each voxel that
+//! contains a point of its closed segment. So where a beam passes through the corner of voxels
+//! exactly, it goes on to the voxel across, and meets one beside only where that one has the
+//! corner.
 //!
 //! What the contracts promise:
 //!
-//! - [`Walk::new`] makes the list of exactly the voxels that the segment meets: each of them once, each before all that come later
-//!   on the way, the first with the origin and the last with the end. The voxels are asked one by one, by whole numbers, with no word
-//!   of how the walk goes: a voxel is met if some place p/q of the segment lies between its faces on each axis.
-//! - A [`Walk`] is seen as the list of the voxels that it has still to give, at most 3 * 65,535 + 1 of them. As an iterator it takes
-//!   off the first, and gives `None` exactly where the list is empty.
-//! - `met_by` computes the same list from the two points, and [`segments_are_walked`] says that it is that list, so that whoever
-//!   counts or asks for met voxels can name them.
-//! - [`cut`] moves the end of a beam toward the origin, to `o + (e - o) * r / length`, rounded toward the origin on each axis, where
-//!   the length is rounded up. The cut end lies within the range.
+//! - [`Walk::new`] makes the list of exactly the voxels that the segment meets: each of them once,
+//!   each before all that come later on the way, the first with the origin and the last with the
+//!   end. The voxels are asked one by one, by whole numbers, with no word of how the walk goes: a
+//!   voxel is met if some place p/q of the segment lies between its faces on each axis.
+//! - A [`Walk`] is seen as the list of the voxels that it has still to give, at most 3 * 65,535 + 1
+//!   of them. As an iterator it takes off the first, and gives `None` exactly where the list is
+//!   empty.
+//! - `met_by` computes the same list from the two points, and [`segments_are_walked`] says that it
+//!   is that list, so that whoever counts or asks for met voxels can name them.
+//! - [`cut`] moves the end of a beam toward the origin, to `o + (e - o) * r / length`, rounded
+//!   toward the origin on each axis, where the length is rounded up. The cut end lies within the
+//!   range.
 //!
-//! The walk goes from crossing to crossing. Each axis of the segment crosses the faces of voxels at places a voxel's edge apart, as
-//! fractions over the axis's span; the walk keeps the next one of each axis and takes the least, or all that are least together. At
-//! one place an axis that rises crosses before one that falls, since a voxel has its lower faces. The fractions are kept multiplied
-//! for the comparisons with both other axes, so that a step is a few additions and comparisons, and no product or division. All
-//! numbers are whole and fit 128 bits, so no rounding error skips a voxel.
+//! The walk goes from crossing to crossing. Each axis of the segment crosses the faces of voxels at
+//! places a voxel's edge apart, as fractions over the axis's span; the walk keeps the next one of
+//! each axis and takes the least, or all that are least together. At one place an axis that rises
+//! crosses before one that falls, since a voxel has its lower faces. The fractions are kept
+//! multiplied for the comparisons with both other axes, so that a step is a few additions and
+//! comparisons, and no product or division. All numbers are whole and fit 128 bits, so no rounding
+//! error skips a voxel.
 //!
-//! No call allocates or fails. Scans stand on this crate, and cite `Meets`, `Precedes`, `IsPlaceOf`, `IsWalkAlong`,
-//! `met_by` and `IsCutEnd`.
+//! No call allocates or fails. Scans stand on this crate, and cite `Meets`, `Precedes`,
+//! `IsPlaceOf`, `IsWalkAlong`, `met_by` and `IsCutEnd`.
 
 #![tactic(auto)]
 

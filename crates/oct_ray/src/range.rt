@@ -4,10 +4,12 @@ ghost use Rattle.oct_ray.specs.Range.{IsCutEnd, axis_distance, cut_coordinate, s
 use oct_key::Point;
 use oct_num::ceil_sqrt;
 
-/// Where the beam from `o` to `e` is cut that is longer than the range `r`, all in nanometres: `o + (e - o) * r / length`, rounded toward
-/// `o` on each axis. The length is that of the beam, rounded up, so that no cut end lies beyond the range.
+/// Where the beam from `o` to `e` is cut that is longer than the range `r`, all in nanometres: `o +
+/// (e - o) * r / length`, rounded toward `o` on each axis. The length is that of the beam, rounded
+/// up, so that no cut end lies beyond the range.
 ///
-/// A beam is longer than the range where [`square_distance`] of its ends is above the range's square.
+/// A beam is longer than the range where [`square_distance`] of its ends is above the range's
+/// square.
 pub fn cut(o: Point, e: Point, r: i64) -> Point
     requires range { pos 0 ≤ℤ r }
     requires beyond { unsigned_abs r * unsigned_abs r < square_distance o e }
@@ -35,7 +37,8 @@ fn cut_point(o: Point, e: Point, range: u64, length: u64) -> Point
     }
 }
 
-/// The square of the distance of two points, in square nanometres. It fits where they are at most `2^56` nm apart.
+/// The square of the distance of two points, in square nanometres. It fits where they are at most
+/// `2^56` nm apart.
 pub fn square_distance(o: Point, e: Point) -> u128
     requires { square_distance o e ≤ 2 ^ 112 }
     ensures { result ≡ square_distance o e }

@@ -4,16 +4,19 @@ ghost use Rattle.oct_ray.specs.Axis.{HasRoom};
 ghost use Rattle.oct_ray.specs.Track.{CanPass, IsTrackOf, crosses_now, has_ended, track_after};
 
 use crate::axis::Axis;
+use oct_key::Dilated;
 
-/// What a walk keeps of an axis: where it stands, and at which place of the segment it next crosses a face.
+/// What a walk keeps of an axis: where it stands, and at which place of the segment it next crosses
+/// a face.
 ///
-/// A place is a fraction over the axis's span. To be compared with those of another axis it is kept multiplied by the span of that
-/// one, so that no step multiplies. It is doubled, and one more on an axis that falls: a voxel has its lower faces and not its upper
-/// ones, so that at one place the axes that rise cross before those that fall.
-#[derive(Clone, Copy, Debug)]
+/// A place is a fraction over the axis's span. To be compared with those of another axis it is kept
+/// multiplied by the span of that one, so that no step multiplies. It is doubled, and one more on
+/// an axis that falls: a voxel has its lower faces and not its upper ones, so that at one place the
+/// axes that rise cross before those that fall.
+#[derive(Debug, Drop)]
 pub struct Track {
-    /// The number of the voxels where the walk stands.
-    pub key: u16,
+    /// The number of the voxels where the walk stands, with its bits where a code has them.
+    pub key: Dilated,
     /// Whether the axis rises.
     pub rises: bool,
     /// How many crossings are still to come.
@@ -36,7 +39,7 @@ impl Track {
     {
         let late = u128::from(!axis.rises);
         Track {
-            key: axis.key,
+            key: Dilated::new(axis.key),
             rises: axis.rises,
             crossings: axis.crossings,
             beside_next: 2 * (axis.distance as u128 * next.span as u128) + late,
@@ -59,9 +62,9 @@ impl Track {
     {
         if now {
             if self.rises {
-                self.key += 1;
+                self.key.increment();
             } else {
-                self.key -= 1;
+                self.key.decrement();
             }
             self.crossings -= 1;
             self.beside_next += next_pace;

@@ -1,15 +1,17 @@
-ghost use Rattle.std.specs.Prelude.{◌≡◌, ◌+◌, ◌-◌, ◌*◌, ◌≤◌, length, slice_get, IsSome};
+ghost use Rattle.std.specs.Prelude.{◌≡◌, ◌+◌, ◌-◌, ◌*◌, ◌^◌, ◌<◌, ◌≤◌, [], length, slice_get, IsSome, IfSome, IfNone};
 ghost use Rattle.std.specs.Iterator.{YieldsFirst, item_count};
 ghost use Rattle.oct_key.specs.Voxel.{IsResolution, key_at};
 ghost use Rattle.oct_ray.specs.Segment.{IsWalkAlong};
+ghost use Rattle.oct_ray.specs.Given.{HasGiven};
 
 use crate::axis::Axis;
 use crate::track::{Track, advance, has_ended};
-use oct_key::{Key, Point, Res};
+use oct_key::{Key, Point, Res, from_morton, morton_of_axes};
 use std::iter::FusedIterator;
 use std::marker::Model;
 
-/// The voxels that a beam meets, in the order of its way. Contracts see it as the list of the voxels still to come.
+/// The voxels that a beam meets, in the order of its way. Contracts see it as the list of the
+/// voxels still to come.
 #[derive(Debug, Drop)]
 pub struct Walk {
     x: Track,
@@ -32,9 +34,11 @@ impl Model for Walk {
 }
 
 impl Walk {
-    /// The walk from `o` to `e`, points of the map in nanometres: each voxel that holds a point of the closed segment between them.
+    /// The walk from `o` to `e`, points of the map in nanometres: each voxel that holds a point of
+    /// the closed segment between them.
     ///
-    /// A voxel has its lower faces and not its upper ones. From one point to itself there is the one voxel that holds it.
+    /// A voxel has its lower faces and not its upper ones. From one point to itself there is the
+    /// one voxel that holds it.
     pub fn new(res: Res, o: Point, e: Point) -> Walk
         requires origin { IsSome (key_at res o) }
         requires end { IsSome (key_at res e) }
@@ -53,6 +57,25 @@ impl Walk {
             z: Track::new(&z, &x, &y),
             more: true,
         }
+    }
+
+    /// The Morton code of the next voxel, or `None` where the last one was given. It is made from
+    /// the numbers of the three axes as the walk keeps them, so that no bits are moved.
+    pub fn next_code(&mut self) -> Option<u64>
+        ensures next { IfSome result (HasGiven self.old self.new) }
+        ensures below { IfSome result (λ code. code < 2 ^ 48) }
+        ensures none { IfNone result ((self.old ≡ []) × (self.new ≡ [])) }
+    {
+        if !self.more {
+            return None;
+        }
+        let code = morton_of_axes(&self.x.key, &self.y.key, &self.z.key);
+        if has_ended(&self.x, &self.y, &self.z) {
+            self.more = false;
+        } else {
+            advance(&mut self.x, &mut self.y, &mut self.z);
+        }
+        Some(code)
     }
 }
 
@@ -73,20 +96,8 @@ impl Iterator for Walk {
 
     /// The next voxel, or `None` where the last one was given.
     fn next(&mut self) -> Option<Key> {
-        if !self.more {
-            return None;
-        }
-        let key = Key {
-            x: self.x.key,
-            y: self.y.key,
-            z: self.z.key,
-        };
-        if has_ended(&self.x, &self.y, &self.z) {
-            self.more = false;
-        } else {
-            advance(&mut self.x, &mut self.y, &mut self.z);
-        }
-        Some(key)
+        let code = self.next_code()?;
+        Some(from_morton(code))
     }
 }
 

@@ -1,26 +1,19 @@
 -- Lists of codes: what is left of one without another, and the voxels of codes.
-use Rattle.std.proofs.Common.{◌≡◌, ◌≢◌, ℕ, ◌+◌, ◌/◌, ◌^◌, ◌<◌, ◌≤◌, ◌↔◌, inl, inr, eqb, List, [], ◌∷◌, ◌++◌, map, length, get_or, drop, append_assoc, refl, sym, subst, ◌∙◌, ap, arith}
+use Rattle.std.proofs.Common.{◌≡◌, ◌≢◌, ℕ, ◌+◌, ◌^◌, ◌<◌, ◌≤◌, ◌↔◌, inl, inr, List, [], ◌∷◌, map, length, refl, sym, subst, ◌∙◌, ap, arith}
 use Rattle.std.specs.List.{All, AllPairs, Contains}
-use Rattle.std.specs.List.Sorted.{IsStrictlyIncreasing, IsStrictlySortedBy, IsPermutation, IsSorted}
-use Rattle.std.specs.List.Retain.{IsFiltered, DiffersFromLast}
-use Rattle.std.specs.Ordering.{nat_cmp, eq_by_cmp}
-use Rattle.std.proofs.lemmas.Cmp.{nat_cmp_total}
+use Rattle.std.specs.List.Sorted.{IsStrictlyIncreasing}
 use Rattle.std.specs.Cmp.{unsigned_Decides}
 use Rattle.std.proofs.lemmas.Cmp.{nat_eq_equiv}
 use Rattle.std.proofs.lemmas.Map.Made.{IsDistinct-from_AllPairs, is_member-Decides, length-le_from_is_member}
-use Rattle.std.proofs.lemmas.Map.Keys.{IsStrictlyIncreasing-from_sorted}
-use Rattle.std.proofs.lemmas.List.Filters.{dedup_is}
-use Rattle.std.proofs.lemmas.List.Sorted.{Contains-permutation, IsPermutation-sym}
 use Rattle.std.proofs.lemmas.List.Elements.{All-contains, All-head, All-tail}
-use Rattle.std.proofs.lemmas.List.Kept.{AllPairs-cons, AllPairs-from_increasing, Contains-dedup_nat, Contains-from_dedup, IsStrictlySortedBy-dedup}
-use Rattle.std.proofs.lemmas.List.{drop_more, drop_all, append-nil}
-use Rattle.std.proofs.lemmas.Bool.{cases_lt}
-use Rattle.std.proofs.lemmas.Bool.Decides.{eqb_tells, nat_tests}
+use Rattle.std.proofs.lemmas.List.Kept.{AllPairs-cons, AllPairs-from_increasing}
+use Rattle.std.proofs.lemmas.Bool.Decides.{eqb_tells}
 use Rattle.oct_key.specs.Voxel.{Voxel, IsInMap}
 use Rattle.oct_key.specs.Morton.{morton_of}
-use Rattle.oct_key.proofs.Interleavings.{morton_of_gathered, gathered_in_map, morton_injective, morton_below}
-use Rattle.oct_scan.specs.Codes.{difference, voxel_of}
-use Rattle.oct_scan.proofs.Lists.{contains_none, contains_here, contains_later, contains_cases, contains_map, contains_from_map, all_contained, pairs_nil, pairs_head, pairs_tail}
+use Rattle.oct_brick.specs.Voxels.{coded_voxel}
+use Rattle.oct_brick.proofs.CodedVoxels.{coded_voxel-IsInMap, morton_of-coded_voxel, coded_voxel-morton_of}
+use Rattle.oct_scan.specs.Codes.{difference}
+use Rattle.oct_brick.proofs.Lists.{contains_none, contains_here, contains_later, contains_cases, contains_map, contains_from_map, all_contained, pairs_nil, pairs_head, pairs_tail}
 
 pub without_none : (xs : List ℕ) → difference xs [] ≡ xs
 unfolding difference
@@ -43,14 +36,14 @@ without_other x y xs ys e = elim (eqb_tells y x) [ inl p ↦ absurd (e p.1) | in
 abbrev pub Rises : List ℕ → Type 0
 Rises xs = AllPairs (λ m n. m < n) xs
 
-above_head : (x : ℕ) (xs : List ℕ) (c : ℕ) → Rises (x ∷ xs) → Contains xs c → x < c
+pub above_head : (x : ℕ) (xs : List ℕ) (c : ℕ) → Rises (x ∷ xs) → Contains xs c → x < c
 above_head x xs c up h = All-contains (λ n. x < n) xs c (pairs_head (λ m n. m < n) x xs up) h
 
-rises_tail : (x : ℕ) (xs : List ℕ) → Rises (x ∷ xs) → Rises xs
+pub rises_tail : (x : ℕ) (xs : List ℕ) → Rises (x ∷ xs) → Rises xs
 rises_tail x xs up = pairs_tail (λ m n. m < n) x xs up
 
 -- what a list has that is greater than its first number stands behind that
-past_head : (x c : ℕ) (xs : List ℕ) → Contains (x ∷ xs) c → x < c → Contains xs c
+pub past_head : (x c : ℕ) (xs : List ℕ) → Contains (x ∷ xs) c → x < c → Contains xs c
 past_head x c xs h l = elim (contains_cases x c xs h) [ inl e ↦ absurd (omega arith) | inr k ↦ k ]
 
 -- what stands in a list that rises isn't below its first number
@@ -156,76 +149,27 @@ pub rises_from : (xs : List ℕ) → IsStrictlyIncreasing xs → Rises xs
 rises_from xs up = AllPairs-from_increasing xs up
 
 -- codes of the map and their voxels
-pub voxel_of-IsInMap : (c : ℕ) → IsInMap (voxel_of c)
-voxel_of-IsInMap c = gathered_in_map c (c / 2) (c / 4) _ _ _ refl refl refl
-
-pub morton_of-voxel_of : (c : ℕ) → c < 2 ^ 48 → morton_of (voxel_of c) ≡ c
-morton_of-voxel_of c l = morton_of_gathered c _ _ _ l refl refl refl
-
-pub voxel_of-morton_of : (k : Voxel) → IsInMap k → voxel_of (morton_of k) ≡ k
-voxel_of-morton_of k on_k = morton_injective (voxel_of (morton_of k)) k (voxel_of-IsInMap (morton_of k)) on_k (morton_of-voxel_of (morton_of k) (morton_below k))
-
-pub codes_of_voxels : (cs : List ℕ) → All (λ c. c < 2 ^ 48) cs → map morton_of (map voxel_of cs) ≡ cs
+pub codes_of_voxels : (cs : List ℕ) → All (λ c. c < 2 ^ 48) cs → map morton_of (map coded_voxel cs) ≡ cs
 codes_of_voxels [] below = refl
-codes_of_voxels (c ∷ cs) below = rw (morton_of-voxel_of c (All-head (λ c. c < 2 ^ 48) c cs below), codes_of_voxels cs (All-tail (λ c. c < 2 ^ 48) c cs below)) refl
+codes_of_voxels (c ∷ cs) below = rw (morton_of-coded_voxel c (All-head (λ c. c < 2 ^ 48) c cs below), codes_of_voxels cs (All-tail (λ c. c < 2 ^ 48) c cs below)) refl
 
-pub voxels_in_map : (cs : List ℕ) → All IsInMap (map voxel_of cs)
-voxels_in_map cs = all_contained IsInMap (map voxel_of cs) (λ k h. let r = contains_from_map voxel_of cs k h in subst IsInMap r.2 (voxel_of-IsInMap r.0))
+pub voxels_in_map : (cs : List ℕ) → All IsInMap (map coded_voxel cs)
+voxels_in_map cs = all_contained IsInMap (map coded_voxel cs) (λ k h. let r = contains_from_map coded_voxel cs k h in subst IsInMap r.2 (coded_voxel-IsInMap r.0))
 
 -- a voxel of the map stands among the voxels of the codes exactly where its code is one of them
-pub voxel_listed : (cs : List ℕ) (k : Voxel) → IsInMap k → Contains cs (morton_of k) → Contains (map voxel_of cs) k
-voxel_listed cs k on_k h = subst (λ m. Contains (map voxel_of cs) m) (voxel_of-morton_of k on_k) (contains_map voxel_of cs (morton_of k) h)
+pub voxel_listed : (cs : List ℕ) (k : Voxel) → IsInMap k → Contains cs (morton_of k) → Contains (map coded_voxel cs) k
+voxel_listed cs k on_k h = subst (λ m. Contains (map coded_voxel cs) m) (coded_voxel-morton_of k on_k) (contains_map coded_voxel cs (morton_of k) h)
 
-pub code_listed : (cs : List ℕ) (k : Voxel) → All (λ c. c < 2 ^ 48) cs → Contains (map voxel_of cs) k → Contains cs (morton_of k)
+pub code_listed : (cs : List ℕ) (k : Voxel) → All (λ c. c < 2 ^ 48) cs → Contains (map coded_voxel cs) k → Contains cs (morton_of k)
 code_listed cs k below h =
-    let r = contains_from_map voxel_of cs k h in
-    let e : r.0 ≡ morton_of k = sym (morton_of-voxel_of r.0 (All-contains (λ c. c < 2 ^ 48) cs r.0 below r.1)) ∙ ap morton_of r.2 in
+    let r = contains_from_map coded_voxel cs k h in
+    let e : r.0 ≡ morton_of k = sym (morton_of-coded_voxel r.0 (All-contains (λ c. c < 2 ^ 48) cs r.0 below r.1)) ∙ ap morton_of r.2 in
     subst (Contains cs) e r.1
-
-same_by_cmp : (x y : ℕ) → eqb x y ≡ eq_by_cmp nat_cmp x y
-same_by_cmp x y = grind (arith, nat_tests)
-
--- sorted and without repeats, numbers are the same
-pub sorted_to : (xs ys zs : List ℕ) (c : ℕ) → IsPermutation xs ys → IsFiltered (DiffersFromLast eqb) [] ys zs → Contains xs c → Contains zs c
-sorted_to xs ys zs c moved kept h = subst (λ l. Contains l c) (sym (dedup_is eqb ys zs kept)) (Contains-dedup_nat ys c (Contains-permutation xs ys c moved h))
-
-pub sorted_from : (xs ys zs : List ℕ) (c : ℕ) → IsPermutation xs ys → IsFiltered (DiffersFromLast eqb) [] ys zs → Contains zs c → Contains xs c
-sorted_from xs ys zs c moved kept h = Contains-permutation ys xs c (IsPermutation-sym xs ys moved) (Contains-from_dedup eqb ys c (subst (λ l. Contains l c) (dedup_is eqb ys zs kept) h))
-
--- and rise
-pub sorted_rises : (ys zs : List ℕ) → IsSorted nat_cmp ys → IsFiltered (DiffersFromLast eqb) [] ys zs → IsStrictlyIncreasing zs
-sorted_rises ys zs up kept = IsStrictlyIncreasing-from_sorted zs (subst (IsStrictlySortedBy nat_cmp) (sym (dedup_is eqb ys zs kept)) (IsStrictlySortedBy-dedup nat_cmp_total same_by_cmp ys up))
 
 -- a bound of one list holds of a list with the same numbers
 pub same_bound : (xs ys : List ℕ) (n : ℕ) → ((c : ℕ) → Contains xs c ↔ Contains ys c) → All (λ c. c < n) xs → All (λ c. c < n) ys
 same_bound xs ys n same h = all_contained (λ c. c < n) ys (λ c k. All-contains (λ c. c < n) xs c h ((same c).1 k))
 
--- a code that the other list has at its place is passed over
-pub passed_over : (keys : List Voxel) (codes others : List ℕ) (i at : ℕ) → i < length codes → at < length others → get_or others at 0 ≡ get_or codes i 0 → keys ++ map voxel_of (difference (drop i codes) (drop at others)) ≡ map voxel_of (difference codes others) → keys ++ map voxel_of (difference (drop (i + 1) codes) (drop (at + 1) others)) ≡ map voxel_of (difference codes others)
-passed_over keys codes others i at l m same h =
-    ap (λ l. keys ++ map voxel_of l) (sym (without_same (get_or codes i 0) (get_or others at 0) (drop (i + 1) codes) (drop (at + 1) others) same)
-    ∙ sym (ap (λ l. difference l (get_or others at 0 ∷ drop (at + 1) others)) (drop_more codes i 0 l)) ∙ sym (ap (difference (drop i codes)) (drop_more others at 0 m))) ∙ h
-
--- what the other list goes on with, where it isn't this code, leaves it
-kept_code : (code : ℕ) (codes others : List ℕ) (at : ℕ) → (at < length others → get_or others at 0 ≢ code) → difference (code ∷ codes) (drop at others) ≡ code ∷ difference codes (drop at others)
-kept_code code codes others at other = elim (cases_lt at (length others)) [
-  | inl l ↦ ap (difference (code ∷ codes)) (drop_more others at 0 l) ∙ without_other code (get_or others at 0) codes (drop (at + 1) others) (other l) ∙ ap (λ l. code ∷ difference codes l) (sym (drop_more others at 0 l))
-  | inr l ↦ ap (difference (code ∷ codes)) (drop_all at others l) ∙ without_none (code ∷ codes) ∙ ap (λ l. code ∷ l) (sym (without_none codes)) ∙ ap (λ l. code ∷ difference codes l) (sym (drop_all at others l))
-]
-
--- another code's voxel is added
-pub taken_up : (keys keys' : List Voxel) (codes others : List ℕ) (i at : ℕ) (k : Voxel) → i < length codes → (at < length others → get_or others at 0 ≢ get_or codes i 0) → k ≡ voxel_of (get_or codes i 0) → keys' ≡ keys ++ k ∷ [] → keys ++ map voxel_of (difference (drop i codes) (drop at others)) ≡ map voxel_of (difference codes others) → keys' ++ map voxel_of (difference (drop (i + 1) codes) (drop at others)) ≡ map voxel_of (difference codes others)
-taken_up keys keys' codes others i at k l other is added h =
-    let code : ℕ = get_or codes i 0 in
-    ap (λ l. l ++ map voxel_of (difference (drop (i + 1) codes) (drop at others))) (added ∙ ap (λ k. keys ++ k ∷ []) is)
-    ∙ append_assoc keys (voxel_of code ∷ []) (map voxel_of (difference (drop (i + 1) codes) (drop at others)))
-    ∙ ap (λ l. keys ++ map voxel_of l) (sym (kept_code code (drop (i + 1) codes) others at other) ∙ sym (ap (λ l. difference l (drop at others)) (drop_more codes i 0 l)))
-    ∙ h
-
-pub all_written : (keys : List Voxel) (codes others : List ℕ) (i at : ℕ) → length codes ≤ i → keys ++ map voxel_of (difference (drop i codes) (drop at others)) ≡ map voxel_of (difference codes others) → keys ≡ map voxel_of (difference codes others)
-all_written keys codes others i at l h =
-    sym (append-nil keys) ∙ ap (λ l. keys ++ map voxel_of l) (sym (nothing_is (drop at others)) ∙ ap (λ l. difference l (drop at others)) (sym (drop_all i codes l))) ∙ h
-
 -- the voxel that has a code is the one that is gathered from it
-pub voxel_is : (k : Voxel) (code : ℕ) → code < 2 ^ 48 → ((l : Voxel) → IsInMap l → morton_of l ≡ code → l ≡ k) → k ≡ voxel_of code
-voxel_is k code below only = sym (only (voxel_of code) (voxel_of-IsInMap code) (morton_of-voxel_of code below))
+pub voxel_is : (k : Voxel) (code : ℕ) → code < 2 ^ 48 → ((l : Voxel) → IsInMap l → morton_of l ≡ code → l ≡ k) → k ≡ coded_voxel code
+voxel_is k code below only = sym (only (coded_voxel code) (coded_voxel-IsInMap code) (morton_of-coded_voxel code below))

@@ -1,22 +1,22 @@
 -- Codes that are gathered beam by beam.
-use Rattle.std.proofs.Common.{◌≡◌, ◌≢◌, ℕ, suc, ◌+◌, ◌-◌, ◌^◌, ◌<◌, ◌≤◌, ◌⊎◌, inl, inr, true, false, Bool, cond, List, [], ◌∷◌, ◌++◌, map, length, take, get_or, Some, None, Option, refl, sym, subst, ◌∙◌, ap, arith, append_assoc}
-use Rattle.std.specs.Prelude.{slice_get, IsSome}
+use Rattle.std.proofs.Common.{◌≡◌, ◌≢◌, ℕ, suc, ◌+◌, ◌-◌, ◌^◌, ◌<◌, ◌≤◌, ◌⊎◌, inl, inr, true, false, Bool, cond, List, [], ◌∷◌, ◌++◌, map, length, take, get_or, Some, Option, refl, sym, subst, ◌∙◌, ap, arith, append_assoc}
+use Rattle.std.specs.Prelude.{slice_get}
 use Rattle.std.specs.List.{All, AllPairs, Contains}
 use Rattle.std.proofs.lemmas.List.Elements.{All-contains, Contains-push, Contains-push_cases, Contains-append_left, Contains-append_right, Contains-append_cases}
-use Rattle.std.proofs.lemmas.List.{length-append, length-map, length_push, map-append, take_more}
-use Rattle.oct_key.specs.Voxel.{Voxel, IsInMap, key_at}
+use Rattle.std.proofs.lemmas.List.{length-append, length-map, length_push, take_more}
+use Rattle.oct_key.specs.Voxel.{Voxel, IsInMap}
 use Rattle.oct_key.specs.Morton.{morton_of}
 use Rattle.oct_key.specs.declared.point.Point.{Point}
-use Rattle.oct_ray.specs.Segment.{Meets, IsWalkAlong}
+use Rattle.oct_ray.specs.Segment.{Meets}
 use Rattle.oct_scan.specs.declared.beam.Beam.{Beam}
 use Rattle.oct_scan.specs.Scanned.{EndsIn}
 use Rattle.oct_scan.specs.Answer.{MeetsSoMany, MeetInAll}
 use Rattle.oct_scan.specs.Gathered.{IsMarked, IsEnd, SomeBeam, AreGathered, IsBeamAdded, end_codes}
-use Rattle.oct_scan.proofs.Lists.{contains_none, contains_here, contains_cases, contains_map, contains_from_map, all_contained, pairs_head, pairs_tail}
+use Rattle.oct_brick.proofs.Lists.{contains_none, contains_here, contains_cases, contains_map, contains_from_map, all_contained, pairs_head, pairs_tail}
 use Rattle.oct_key.proofs.Interleavings.{morton_below}
 
 -- the last element of a list whose elements differ is none of the others
-once_last : {X : Type 0} (front : List X) (k x : X) → AllPairs (λ a b. a ≢ b) (front ++ k ∷ []) → Contains front x → x ≢ k
+pub once_last : {X : Type 0} (front : List X) (k x : X) → AllPairs (λ a b. a ≢ b) (front ++ k ∷ []) → Contains front x → x ≢ k
 once_last [] k x once h = absurd (contains_none x h)
 once_last (y ∷ front) k x once h = elim (contains_cases y x front h) [
   | inl e ↦ λ s. All-contains (λ b. y ≢ b) (front ++ k ∷ []) k (pairs_head (λ a b. a ≢ b) y (front ++ k ∷ []) once) (Contains-push front k) (e ∙ s)
@@ -162,35 +162,6 @@ few_more edge o b met s s' h h' a =
     let front : List ℕ = map morton_of a.front in
     let end_few : (t : Bool) (m : ℕ) → length (cond t [] (m ∷ [])) ≤ 1 = λ t m. few_end t m in
     omega (arith, ap length a.marks, length-append (s ++ front) (end_codes b a.end), length-append s front, length-map a.front morton_of, end_few b.is_cut (morton_of a.end), length_push a.front a.end, a.counted)
-
-some_of : (r : Option Voxel) → IsSome r → (k : Voxel) × (r ≡ Some k)
-some_of None h = absurd (let e : ⊥ = cc in e)
-some_of (Some k) h = (k, refl)
-
--- a walk whose codes were added, and whose last code was judged, is a beam added
-pub beam_added : (edge : ℕ) (o : Point) (b : Beam) (met : ℕ) (s mid s' h h' : List ℕ) (walk : List Voxel) → IsWalkAlong edge o b.end walk → slice_get walk (length walk - 1) ≡ key_at edge b.end → IsSome (key_at edge b.end) → All IsInMap walk → met ≡ length walk → mid ≡ s ++ map morton_of walk →
-    ((front : List ℕ) (code : ℕ) → mid ≡ front ++ code ∷ [] → (s' ≡ front ++ cond b.is_cut [] (code ∷ [])) × (h' ≡ h ++ cond b.is_cut [] (code ∷ []))) → IsBeamAdded edge o b met s s' h h'
-beam_added edge o b met s mid s' h h' walk along last some on_map counted added judged =
-    let k = some_of (key_at edge b.end) some in
-    let parts = ends_with walk k.0 (last ∙ k.1) in
-    let codes : mid ≡ (s ++ map morton_of parts.0) ++ morton_of k.0 ∷ [] =
-    added ∙ ap (λ l. s ++ map morton_of l) parts.1 ∙ ap (λ l. s ++ l) (map-append morton_of parts.0 (k.0 ∷ [])) ∙ sym (append_assoc s (map morton_of parts.0) (morton_of k.0 ∷ [])) in
-    let r = judged (s ++ map morton_of parts.0) (morton_of k.0) codes in
-    record {
-      front = parts.0;
-      end = k.0;
-      walk = subst (IsWalkAlong edge o b.end) parts.1 along;
-      on_map = subst (All IsInMap) parts.1 on_map;
-      ended = k.1;
-      counted = sym (counted ∙ ap length parts.1);
-      marks = r.0;
-      ends = r.1;
-    }
-
--- one code more of a walk
-pub pushed_more : (c c' s : List ℕ) (ks ks' : List Voxel) (k : Voxel) (m : ℕ) → c' ≡ c ++ m ∷ [] → m ≡ morton_of k → ks ≡ k ∷ ks' → c ++ map morton_of ks ≡ s → c' ++ map morton_of ks' ≡ s
-pushed_more c c' s ks ks' k m ec em eks e =
-    ap (λ l. l ++ map morton_of ks') (ec ∙ ap (λ n. c ++ n ∷ []) em) ∙ append_assoc c (morton_of k ∷ []) (map morton_of ks') ∙ ap (λ l. c ++ map morton_of l) (sym eks) ∙ e
 
 -- the codes that beams mark are codes of the map
 pub gathered_below : (edge : ℕ) (o : Point) (bs : List Beam) (s h : List ℕ) → AreGathered edge o bs s h → All (λ c. c < 2 ^ 48) s

@@ -1,7 +1,7 @@
 -- On which levels two Morton codes differ.
 use Rattle.std.proofs.Common.{◌≡◌, ◌≢◌, ℕ, zero, suc, ◌+◌, ◌*◌, ◌/◌, ◌%◌, ◌^◌, ◌<◌, ◌≤◌, ◌⊎◌, inl, inr, refl, sym, ◌∙◌, ap, arith, bit_xor}
 use Rattle.std.proofs.Math.Nat.{div-div-eq-div-mul, pow-succ', pow-le-pow_right}
-use Rattle.std.proofs.lemmas.Nat.{xor_shr, xor_lt, pow_pos}
+use Rattle.std.proofs.lemmas.Nat.{xor_shr, pow_pos}
 use Rattle.std.proofs.lemmas.Bool.{cases_lt}
 use Rattle.std.proofs.lemmas.Nat.Bits.{bit_at_xor, bit_at-zero, bit_at-lt, same_from_bits}
 use Rattle.std.specs.Int.{bit_at}
@@ -13,11 +13,11 @@ use Rattle.oct_scan.specs.Codes.{levels_apart}
 deeper : (n j : ℕ) → n / 8 ^ suc j ≡ n / 8 / 8 ^ j
 deeper n j = ap (λ (m : ℕ). n / m) (pow-succ' 8 j) ∙ sym (div-div-eq-div-mul n 8 (8 ^ j))
 
-levels_same_top : (n a b : ℕ) → a / 8 ≡ b / 8 → levels_apart (suc n) a b ≡ 0
+pub levels_same_top : (n a b : ℕ) → a / 8 ≡ b / 8 → levels_apart (suc n) a b ≡ 0
 unfolding levels_apart
 levels_same_top n a b e = elim (eqb_tells (a / 8) (b / 8)) [ inl p ↦ rw p.0 refl | inr p ↦ absurd (p.1 e) ]
 
-levels_other_top : (n a b : ℕ) → a / 8 ≢ b / 8 → levels_apart (suc n) a b ≡ 1 + levels_apart n (a / 8) (b / 8)
+pub levels_other_top : (n a b : ℕ) → a / 8 ≢ b / 8 → levels_apart (suc n) a b ≡ 1 + levels_apart n (a / 8) (b / 8)
 unfolding levels_apart
 levels_other_top n a b e = elim (eqb_tells (a / 8) (b / 8)) [ inl p ↦ absurd (e p.1) | inr p ↦ rw p.0 refl ]
 
@@ -98,7 +98,3 @@ small_power r x low high = elim (cases_lt r 48) [
   | inl l ↦ l
   | inr l ↦ absurd (let grows : 2 ^ 48 ≤ 2 ^ r = pow-le-pow_right (omega arith) l in omega (arith, grows))
 ]
-
--- the levels on which two codes of the map differ
-pub levels_of_codes : (a b r : ℕ) → a < b → b < 2 ^ 48 → 2 ^ r ≤ bit_xor a b → bit_xor a b < 2 * 2 ^ r → levels_apart 15 a b ≡ r / 3
-levels_of_codes a b r l below low high = levels_by_bit 15 a b r low high (small_power r (bit_xor a b) low (xor_lt 48 a b (omega arith) below))

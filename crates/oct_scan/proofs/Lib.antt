@@ -1,4 +1,3 @@
-pub mod Lists
 pub mod Levels
 pub mod Counts
 pub mod CodeLists
@@ -6,6 +5,9 @@ pub mod Reaches
 pub mod Gathering
 pub mod BeamCuts
 pub mod OutsideEnds
+pub mod Holding
+pub mod BrickCounts
+pub mod Settling
 pub mod Settled
 pub mod Tests
 pub mod Faults

@@ -13,11 +13,12 @@ use Rattle.oct_ray.specs.Segment.{Meets}
 use Rattle.oct_scan.specs.declared.beam.Beam.{Beam}
 use Rattle.oct_scan.specs.Beam.{origin_of, beams_of, Sighting}
 use Rattle.oct_scan.specs.Scanned.{EndsIn, IsHit, IsFreed, IsScanned, IsNeed}
-use Rattle.oct_scan.specs.Codes.{difference, voxel_of, block_count}
+use Rattle.oct_brick.specs.Voxels.{coded_voxel}
+use Rattle.oct_scan.specs.Codes.{difference, block_count}
 use Rattle.oct_scan.specs.Gathered.{IsMarked, IsEnd, AreGathered}
 use Rattle.oct_values.specs.Events.{IsAscending}
 use Rattle.oct_scan.specs.Update.{Update, IsSettled}
-use Rattle.oct_scan.proofs.Lists.{all_contained, contains_tells}
+use Rattle.oct_brick.proofs.Lists.{all_contained, contains_tells}
 use Rattle.oct_scan.proofs.CodeLists.{IsPart, difference_from, difference_listed, difference_rises, difference_long, no_longer, increasing_from, rises_from, voxels_in_map, codes_of_voxels, voxel_listed, code_listed, same_bound}
 use Rattle.oct_scan.proofs.Counts.{AreCounted, count_blocks_of}
 use Rattle.oct_scan.proofs.Gathering.{gathered_below, hits_below}
@@ -60,8 +61,8 @@ code_of_hit edge scan s h u a k m =
 pub hits_are : (edge : ℕ) (scan : Sighting) (s h : List ℕ) (u : Update) → IsUpdate edge scan s h u → (k : Voxel) → Contains u.hits k ↔ IsHit edge scan k
 hits_are edge scan s h u a k =
     let to : Contains u.hits k → IsHit edge scan k = λ m.
-    let listed : Contains (map voxel_of a.settled.hit_codes) k = subst (λ l. Contains l k) a.settled.hits_are m in
-    hit_from_code edge scan s h u a k (All-contains IsInMap (map voxel_of a.settled.hit_codes) k (voxels_in_map a.settled.hit_codes) listed) (code_listed a.settled.hit_codes k (hit_codes_below edge scan s h u a) listed) in
+    let listed : Contains (map coded_voxel a.settled.hit_codes) k = subst (λ l. Contains l k) a.settled.hits_are m in
+    hit_from_code edge scan s h u a k (All-contains IsInMap (map coded_voxel a.settled.hit_codes) k (voxels_in_map a.settled.hit_codes) listed) (code_listed a.settled.hit_codes k (hit_codes_below edge scan s h u a) listed) in
     let from : IsHit edge scan k → Contains u.hits k = λ m.
     let r = code_of_hit edge scan s h u a k m in
     subst (λ l. Contains l k) (sym a.settled.hits_are) (voxel_listed a.settled.hit_codes k r.0 r.1) in
@@ -96,8 +97,8 @@ code_of_freed edge scan s h u a k (unhit, m) =
 pub frees_are : (edge : ℕ) (scan : Sighting) (s h : List ℕ) (u : Update) → IsUpdate edge scan s h u → (k : Voxel) → Contains u.frees k ↔ IsFreed edge scan k
 frees_are edge scan s h u a k =
     let to : Contains u.frees k → IsFreed edge scan k = λ m.
-    let listed : Contains (map voxel_of (difference a.settled.codes a.settled.hit_codes)) k = subst (λ l. Contains l k) a.settled.frees_are m in
-    freed_from_code edge scan s h u a k (All-contains IsInMap (map voxel_of (difference a.settled.codes a.settled.hit_codes)) k (voxels_in_map (difference a.settled.codes a.settled.hit_codes)) listed) (code_listed (difference a.settled.codes a.settled.hit_codes) k (left_below edge scan s h u a) listed) in
+    let listed : Contains (map coded_voxel (difference a.settled.codes a.settled.hit_codes)) k = subst (λ l. Contains l k) a.settled.frees_are m in
+    freed_from_code edge scan s h u a k (All-contains IsInMap (map coded_voxel (difference a.settled.codes a.settled.hit_codes)) k (voxels_in_map (difference a.settled.codes a.settled.hit_codes)) listed) (code_listed (difference a.settled.codes a.settled.hit_codes) k (left_below edge scan s h u a) listed) in
     let from : IsFreed edge scan k → Contains u.frees k = λ m.
     let r = code_of_freed edge scan s h u a k m in
     subst (λ l. Contains l k) (sym a.settled.frees_are) (voxel_listed (difference a.settled.codes a.settled.hit_codes) k r.0 r.1) in
@@ -119,7 +120,7 @@ few_are edge scan s h u a =
     let hits : List ℕ = a.settled.hit_codes in
     let split = difference_long codes hits (rises_from codes a.settled.codes_rise) (rises_from hits a.settled.hits_rise) (hits_part edge scan s h u a) in
     let few = no_longer codes s (rises_from codes a.settled.codes_rise) (λ c there. (a.settled.same_codes c).1 there) in
-    omega (arith, split, few, ap length a.settled.hits_are, length-map hits voxel_of, ap length a.settled.frees_are, length-map (difference codes hits) voxel_of)
+    omega (arith, split, few, ap length a.settled.hits_are, length-map hits coded_voxel, ap length a.settled.frees_are, length-map (difference codes hits) coded_voxel)
 
 scanned_from_code : (edge : ℕ) (scan : Sighting) (s h : List ℕ) (u : Update) (a : IsUpdate edge scan s h u) (k : Voxel) → IsInMap k → Contains a.settled.codes (morton_of k) → IsScanned edge scan k
 scanned_from_code edge scan s h u a k on_k m = elim (contains_tells a.settled.hit_codes (morton_of k)) [
@@ -136,7 +137,7 @@ code_of_scanned edge scan s h u a k m = elim m [
 -- the need is that of the voxels that the scan changes
 pub need_is : (edge : ℕ) (scan : Sighting) (s h : List ℕ) (u : Update) → IsUpdate edge scan s h u → IsNeed edge scan u.need
 need_is edge scan s h u a =
-    let ks : List Voxel = map voxel_of a.settled.codes in
+    let ks : List Voxel = map coded_voxel a.settled.codes in
     let same : map morton_of ks ≡ a.settled.codes = codes_of_voxels a.settled.codes (codes_below edge scan s h u a) in
     let n : AreCounted ks (block_count (map morton_of ks)) = count_blocks_of ks (voxels_in_map a.settled.codes) (subst IsStrictlyIncreasing (sym same) a.settled.codes_rise) in
     record {

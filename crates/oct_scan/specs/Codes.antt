@@ -1,7 +1,7 @@
 -- Working words for lists of Morton codes.
 use Rattle.std.specs.Prelude.{ℕ, zero, suc, ◌+◌, ◌/◌, List, [], ◌∷◌, ◌==◌, if◌then◌else◌, Option, Some, None}
-use Rattle.oct_key.specs.Voxel.{Voxel}
-use Rattle.oct_key.specs.Morton.{gathered}
+use Rattle.oct_brick.specs.declared.brick.Brick.{Brick}
+use Rattle.oct_brick.specs.Masks.{octet_count}
 
 -- the codes of a list without those of another
 unfoldable pub difference : List ℕ → List ℕ → List ℕ
@@ -18,7 +18,8 @@ levels_apart (suc most) a b = if a / 8 == b / 8 then 0 else 1 + levels_apart mos
 abbrev pub new_blocks : ℕ → ℕ → ℕ
 new_blocks before code = levels_apart 15 before code
 
--- how many blocks of depth 0 to 15 hold the voxel of a code and not that of the code before it, where one comes before
+-- how many blocks of depth 0 to 15 hold the voxel of a code and not that of the code before it,
+-- where one comes before
 abbrev pub blocks_added : Option ℕ → ℕ → ℕ
 blocks_added None code = 16
 blocks_added (Some before) code = new_blocks before code
@@ -32,6 +33,21 @@ blocks_after last (code ∷ codes) = blocks_added last code + blocks_after (Some
 abbrev pub block_count : List ℕ → ℕ
 block_count codes = blocks_after None codes
 
--- the voxel of a code
-abbrev pub voxel_of : ℕ → Voxel
-voxel_of code = record { x = gathered 16 code; y = gathered 16 (code / 2); z = gathered 16 (code / 4) }
+-- how many blocks of depth 0 to 14 hold the brick of a code and not that of the code before it
+abbrev pub new_bricks : ℕ → ℕ → ℕ
+new_bricks before code = 1 + levels_apart 13 before code
+
+-- the same, where one comes before
+abbrev pub bricks_added : Option ℕ → ℕ → ℕ
+bricks_added None code = 15
+bricks_added (Some before) code = new_bricks before code
+
+-- the blocks that each of these bricks adds to those of the brick before it, and its octets
+unfoldable pub bricks_after : Option ℕ → List Brick → ℕ
+bricks_after last [] = 0
+bricks_after last (b ∷ bs) =
+    bricks_added last b.code + octet_count 8 b.scanned + bricks_after (Some b.code) bs
+
+-- how many blocks hold a voxel of these bricks, in their order
+abbrev pub brick_count : List Brick → ℕ
+brick_count bricks = bricks_after None bricks

@@ -1,44 +1,55 @@
 //! Scans: what the beams of a range sensor do to the voxels of a map.
 //!
-//! A scan is a pose and the points that a sensor saw from there. A beam goes from the pose's place to each posed point, and is cut where
-//! it is longer than the sensor's range. The voxel of an end is hit, and the voxels on the way are freed, as in the OctoMap library
-//! (Hornung et al. 2013). A voxel that one beam hits stays hit where another beam passes through it, and a beam that is cut says nothing
-//! of the voxel where it was cut.
+//! A scan is a pose and the points that a sensor saw from there. A beam goes from the pose's place
+//! to each posed point, and is cut where it is longer than the sensor's range. The voxel of an end
+//! is hit, and the voxels on the way are freed, as in the OctoMap library (Hornung et al. 2013). A
+//! voxel that one beam hits stays hit where another beam passes through it, and a beam that is cut
+//! says nothing of the voxel where it was cut.
 //!
 //! What the contracts promise:
 //!
-//! - [`update_set`] answers exactly the voxels that are hit and exactly those that are freed, by definitions that ask about one voxel
-//!   and all beams (`IsHit`, `IsFreed`). Both lists ascend by Morton code, without repeats.
-//! - [`UpdateSet::need`] is the number of blocks of depth 0 to 15 that hold such a voxel (`IsNeed`): so many groups of a tree at most
-//!   have to be made for them.
-//! - What a scan does is a function of its numbers as well, for whoever defines the answers of a session: `scan_outcome` gives each
-//!   voxel its event or none, `hit_count` and `free_count` count over the whole map, and `scan_fault` is why the scan is refused, or
-//!   none. [`outcomes_are_exact`] says that these tests and this fault mean what the words above mean, and [`update_set`] says what it
-//!   answers in both.
-//! - Where a beam is cut is computed by `cut_end`, and [`cut_ends_are_exact`] says that this is the one point of the rule (`IsCutEnd` of
-//!   `oct_ray`).
-//! - A scan is refused for its origin, for the first beam that ends outside the map, or for the first beam with which the voxels met
-//!   exceed the limit, in this order and exactly then; want of memory alone may come at any time.
+//! - [`update_bricks`] answers exactly the voxels that are hit and exactly those that are freed, by
+//!   definitions that ask about one voxel and all beams (`IsHit`, `IsFreed`), and how many of each
+//!   there are. The voxels come as bricks of `oct_brick`; [`update_set`] gives them as two lists
+//!   that ascend by Morton code, without repeats, and promises the same of these.
+//! - [`UpdateBricks::need`] is the number of blocks of depth 0 to 15 that hold such a voxel
+//!   (`IsNeed`): at most that many groups of a tree have to be made for them.
+//! - What a scan does is a function of its numbers as well, for whoever defines the answers of a
+//!   session: `scan_outcome` gives each voxel its event or none, `hit_count` and `free_count` count
+//!   over the whole map, and `scan_fault` is why the scan is refused, or none.
+//!   [`outcomes_are_exact`] says that these tests and this fault mean what the words above mean,
+//!   and both calls say what they answer in both.
+//! - Where a beam is cut is computed by `cut_end`, and [`cut_ends_are_exact`] says that this is the
+//!   one point of the rule (`IsCutEnd` of `oct_ray`).
+//! - A scan is refused for its origin, for the first beam that ends outside the map, or for the
+//!   first beam with which the voxels met exceed the limit, in this order and exactly then; out of
+//!   memory alone may come at any time.
 //!
-//! The beams are made first, so that all ends are judged before a voxel is counted. Then each beam is walked once, and the Morton codes
-//! of its voxels are appended to one list, and that of its end to a second one. A beam that exceeds the limit is counted to its end and
-//! not kept, so that the lists never have more codes than the limit allows. Both lists are sorted, and repeats dropped. Of the sorted
-//! codes each adds the blocks that don't hold the one before it, which the highest different bit of the two tells. The frees are the
-//! codes without those of the hits.
+//! The beams are made first, so that all ends are judged before a voxel is counted. Then each beam
+//! is walked once. Its voxels go into the brick where the beam is, which is appended to a list when
+//! the beam leaves it, and the end goes into a brick of its own. A beam that exceeds the limit is
+//! counted to its end and not kept, so that there are never more bricks than the limit allows. The
+//! bricks are sorted by their codes, and those of one code joined. Of the sorted bricks each adds
+//! the blocks that don't hold the one before it, which the highest different bit of the two codes
+//! tells, and its own octets.
 //!
-//! `update_set` allocates, and touches nothing but its arguments. The scans of a map stand on this crate, and cite `IsHit`,
-//! `IsFreed`, `IsNeed` and `IsRefusedFor`, or `scan_outcome`, `hit_count`, `free_count`, `cells_met` and `scan_fault`.
+//! Both calls allocate, and touch nothing but their arguments. The scans of a map stand on this
+//! crate, and cite `IsHit`, `IsFreed`, `IsNeed` and `IsRefusedFor`, or `scan_outcome`, `hit_count`,
+//! `free_count`, `cells_met` and `scan_fault`.
 
 #![tactic(auto)]
 
 mod beam;
+mod bricks;
 mod cells;
-mod codes;
 mod fault;
+mod keys;
 mod laws;
+mod need;
 mod scan;
 mod update;
 
+pub use bricks::{UpdateBricks, update_bricks};
 pub use fault::ScanFault;
 pub use laws::{cut_ends_are_exact, outcomes_are_exact};
 pub use scan::Scan;

@@ -1,4 +1,4 @@
-ghost use Rattle.std.specs.Prelude.{◌≡◌, ◌≢◌, ℕ, ◌+◌, ◌^◌, ◌<◌, ◌≤◌, pos, ◌≤ℤ◌, ◌<ℤ◌, ◌↔◌, length, Some, None, All, Contains, IfOk, IfErr, IfSome, vec_len};
+ghost use Rattle.std.specs.Prelude.{◌≡◌, ◌≢◌, ◌+◌, ◌^◌, ◌≤◌, pos, ◌≤ℤ◌, ◌<ℤ◌, ◌↔◌, length, Some, None, All, Contains, IfOk, IfErr, IfSome};
 ghost use Rattle.oct_key.specs.Voxel.{Voxel, IsInMap};
 ghost use Rattle.oct_odds.specs.declared.event.Event.{Event};
 ghost use Rattle.oct_values.specs.Events.{IsAscending, scan_events};
@@ -8,19 +8,20 @@ ghost use Rattle.oct_scan.specs.Beam.{origin_of, beams_of, sighting_of};
 ghost use Rattle.oct_scan.specs.Scanned.{IsHit, IsFreed, IsNeed};
 ghost use Rattle.oct_scan.specs.Answer.{IsInside, MeetAtMost, IsRefusedFor};
 ghost use Rattle.oct_scan.specs.Outcome.{scan_outcome, hit_count, free_count, scan_fault};
-ghost use Rattle.oct_scan.specs.Update.{IsSettled};
+ghost use Rattle.oct_brick.specs.Bricks.{IsBrick};
+ghost use Rattle.oct_brick.specs.Voxels.{hit_voxels, freed_voxels};
 
-use crate::beam::beams_of;
-use crate::cells::{Cells, gather};
-use crate::codes::{count_blocks, keys_without, sort_codes};
+use crate::bricks::{UpdateBricks, update_bricks};
 use crate::fault::ScanFault;
+use crate::keys::keys_of;
 use crate::scan::Scan;
 use oct_key::{KeyList, Res};
 use oct_num::Memory;
 use std::alloc::Global;
 use std::marker::Model;
 
-/// What a scan does to a map: the voxels that are hit, those that are freed, and how many groups of a tree that may need.
+/// What a scan does to a map, as lists: the voxels that are hit, those that are freed, and how many
+/// groups of a tree that may need.
 #[derive(Debug, Drop)]
 pub struct UpdateSet {
     hits: KeyList,
@@ -59,10 +60,12 @@ impl UpdateSet {
     }
 }
 
-/// What a scan does to each voxel of a map of this resolution, where its beams meet at most so many voxels.
+/// What a scan does to each voxel of a map of this resolution, as lists of voxels, where its beams
+/// meet no more voxels than `max_cells`.
 ///
-/// A scan is refused first where its origin lies outside the map, then for the first beam that ends outside, and then for the first
-/// beam with which the beams meet too many voxels, where a voxel counts once for each beam that meets it.
+/// A scan is refused first where its origin lies outside the map, then for the first beam that ends
+/// outside, and then for the first beam with which the beams meet too many voxels, where a voxel
+/// counts once for each beam that meets it.
 pub fn update_set(
     alloc: Global,
     scan: &Scan,
@@ -73,50 +76,52 @@ pub fn update_set(
     requires range { IfSome scan.now.range (λ r. (pos 0 ≤ℤ r) × (r <ℤ pos (10 ^ 16))) }
     requires max_cells { max_cells ≤ 2 ^ 27 }
 
-    ensures hits { IfOk result (λ set. (k : Voxel) → Contains set.hits k ↔ IsHit res (sighting_of scan.now) k) }
-    ensures frees { IfOk result (λ set. (k : Voxel) → Contains set.frees k ↔ IsFreed res (sighting_of scan.now) k) }
+    ensures hits { IfOk result (λ set. (k : Voxel) →
+        Contains set.hits k ↔ IsHit res (sighting_of scan.now) k) }
+    ensures frees { IfOk result (λ set. (k : Voxel) →
+        Contains set.frees k ↔ IsFreed res (sighting_of scan.now) k) }
     ensures hits_ascend { IfOk result (λ set. IsAscending set.hits) }
     ensures frees_ascend { IfOk result (λ set. IsAscending set.frees) }
     ensures need { IfOk result (λ set. IsNeed res (sighting_of scan.now) set.need) }
 
     ensures inside { IfOk result (λ _. IsInside res (sighting_of scan.now)) }
-    ensures within { IfOk result (λ _. MeetAtMost res (origin_of (sighting_of scan.now)) (beams_of (sighting_of scan.now)) max_cells) }
+    ensures within { IfOk result (λ _. MeetAtMost res (origin_of (sighting_of scan.now))
+        (beams_of (sighting_of scan.now)) max_cells) }
     ensures refused { IfErr result (IsRefusedFor res (sighting_of scan.now) max_cells) }
 
-    ensures events { IfOk result (λ set. (hit miss : Event) (k : Voxel) → IsInMap k → scan_events set.hits hit set.frees miss k ≡ scan_outcome res hit miss (sighting_of scan.now) k) }
-    ensures hit_count { IfOk result (λ set. length set.hits ≡ hit_count res (sighting_of scan.now)) }
-    ensures free_count { IfOk result (λ set. length set.frees ≡ free_count res (sighting_of scan.now)) }
+    ensures events { IfOk result (λ set. (hit miss : Event) (k : Voxel) → IsInMap k →
+        scan_events set.hits hit set.frees miss k ≡
+        scan_outcome res hit miss (sighting_of scan.now) k) }
+    ensures hit_count { IfOk result (λ set.
+        length set.hits ≡ hit_count res (sighting_of scan.now)) }
+    ensures free_count { IfOk result (λ set.
+        length set.frees ≡ free_count res (sighting_of scan.now)) }
     ensures few { IfOk result (λ set. length set.hits + length set.frees ≤ max_cells) }
-    ensures needed { IfOk result (λ set. (hit miss : Event) → set.need ≡ event_need (scan_outcome res hit miss (sighting_of scan.now))) }
+    ensures needed { IfOk result (λ set. (hit miss : Event) →
+        set.need ≡ event_need (scan_outcome res hit miss (sighting_of scan.now))) }
 
     ensures accepted { IfOk result (λ _. scan_fault res (sighting_of scan.now) max_cells ≡ None) }
-    ensures fault { IfErr result (λ f. f ≢ ScanFault.Memory → scan_fault res (sighting_of scan.now) max_cells ≡ Some f) }
+    ensures fault { IfErr result (λ f. f ≢ ScanFault.Memory →
+        scan_fault res (sighting_of scan.now) max_cells ≡ Some f) }
 {
-    let origin = scan.pose.t;
-    if res.key_of(origin).is_none() {
-        return Err(ScanFault::OriginOutside);
-    }
-    let beams = beams_of(alloc, scan, res)?;
-    let cells = gather(alloc, res, origin, &beams, max_cells)?;
-    let set = settle(alloc, cells)?;
+    let update = update_bricks(alloc, scan, res, max_cells)?;
+    let set = list_voxels(alloc, &update)?;
     Ok(set)
 }
 
-/// The update that these codes make.
-fn settle(alloc: Global, cells: Cells) -> Result<UpdateSet, Memory>
-    requires few { vec_len cells.scanned ≤ 2 ^ 27 }
-    requires scanned { All (λ code. code < 2 ^ 48) cells.scanned.items }
-    requires hits { All (λ code. code < 2 ^ 48) cells.hits.items }
-    ensures { IfOk result (IsSettled cells.scanned.items cells.hits.items) }
+/// The same update as lists.
+fn list_voxels(alloc: Global, update: &UpdateBricks) -> Result<UpdateSet, Memory>
+    requires { All IsBrick update.now.bricks }
+    ensures hits { IfOk result (λ set. set.hits ≡ hit_voxels update.now.bricks) }
+    ensures frees { IfOk result (λ set. set.frees ≡ freed_voxels update.now.bricks) }
+    ensures need { IfOk result (λ set. set.need ≡ update.now.need) }
 {
-    let mut codes = cells.scanned;
-    let mut hits = cells.hits;
-    sort_codes(&mut codes);
-    sort_codes(&mut hits);
-    let need = count_blocks(&codes);
-    let frees = keys_without(alloc, &codes, &hits)?;
-    let hits = keys_without(alloc, &hits, &[])?;
-    Ok(UpdateSet { hits, frees, need })
+    let (hits, frees) = keys_of(alloc, update.bricks())?;
+    Ok(UpdateSet {
+        hits,
+        frees,
+        need: update.need(),
+    })
 }
 
 #[cfg(test)]

@@ -1,4 +1,4 @@
-use Rattle.oct_ray.proofs.Mets.{met_by_walks}
+use Rattle.oct_ray.proofs.ComputedAxes.{met_by_walks}
 use Rattle.oct_ray.proofs.laws.segments_are_walked.Goals as goal
 
 pub returns : goal.returns

@@ -1,0 +1,10 @@
+pub mod Lists
+pub mod Bits
+pub mod MaskCodes
+pub mod BrickCodes
+pub mod Merging
+pub mod OctetCounts
+pub mod Rising
+pub mod CodedVoxels
+pub mod Places
+pub mod Makers

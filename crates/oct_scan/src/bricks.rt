@@ -1,0 +1,175 @@
+ghost use Rattle.std.specs.Prelude.{◌≡◌, ◌≢◌, ℕ, ◌+◌, ◌^◌, ◌≤◌, pos, ◌≤ℤ◌, ◌<ℤ◌, ◌↔◌, length, Some, None, List, All, Contains, IfOk, IfErr, IfSome};
+ghost use Rattle.oct_key.specs.Voxel.{Voxel, IsInMap};
+ghost use Rattle.oct_odds.specs.declared.event.Event.{Event};
+ghost use Rattle.oct_values.specs.Events.{IsAscending, scan_events};
+ghost use Rattle.oct_values.specs.Needs.{event_need};
+ghost use Rattle.oct_pose.specs.Reach.{IsInReach};
+ghost use Rattle.oct_scan.specs.Beam.{origin_of, beams_of, sighting_of};
+ghost use Rattle.oct_scan.specs.Scanned.{IsHit, IsFreed, IsNeed};
+ghost use Rattle.oct_scan.specs.Answer.{IsInside, MeetAtMost, IsRefusedFor};
+ghost use Rattle.oct_scan.specs.Outcome.{scan_outcome, hit_count, free_count, scan_fault};
+ghost use Rattle.oct_brick.specs.Bricks.{IsBrick, AreAscending};
+ghost use Rattle.oct_brick.specs.Voxels.{hit_voxels, freed_voxels};
+ghost use Rattle.oct_scan.specs.Gathered.{HoldCodes};
+ghost use Rattle.oct_scan.specs.Update.{IsSettled, listed};
+
+use crate::beam::beams_of;
+use crate::cells::gather;
+use crate::fault::ScanFault;
+use crate::need::count_blocks;
+use crate::scan::Scan;
+use oct_brick::{Brick, merge_bricks};
+use oct_key::Res;
+use oct_num::Memory;
+use std::alloc::Global;
+use std::marker::Model;
+
+/// What a scan does to a map, as bricks: the voxels that are hit and those that are freed, how many
+/// there are, and how many groups of a tree they may need.
+#[derive(Debug, Drop)]
+pub struct UpdateBricks {
+    bricks: Vec<Brick>,
+    hit_count: u64,
+    free_count: u64,
+    need: u64,
+}
+
+impl Model for UpdateBricks {
+    ghost use Rattle.oct_scan.specs.Update.{BrickUpdate};
+
+    ghost Value = { BrickUpdate };
+
+    ghost view = { λ set. record {
+      bricks = set.bricks.items;
+      hit_count = set.hit_count;
+      free_count = set.free_count;
+      need = set.need;
+    } };
+}
+
+impl UpdateBricks {
+    /// The bricks, ascending by their codes, each once.
+    pub fn bricks(&self) -> &[Brick]
+        ensures { result.now ≡ self.now.bricks }
+    {
+        self.bricks.as_slice()
+    }
+
+    /// How many voxels are hit.
+    pub fn hit_count(&self) -> u64
+        ensures { result ≡ self.now.hit_count }
+    {
+        self.hit_count
+    }
+
+    /// How many voxels are freed.
+    pub fn free_count(&self) -> u64
+        ensures { result ≡ self.now.free_count }
+    {
+        self.free_count
+    }
+
+    /// How many blocks of depth 0 to 15 hold a voxel that is hit or freed.
+    pub fn need(&self) -> u64
+        ensures { result ≡ self.now.need }
+    {
+        self.need
+    }
+}
+
+/// What a scan does to each voxel of a map of this resolution, as bricks, where its beams meet no
+/// more voxels than `max_cells`. The clauses speak of the lists that
+/// [`update_set`](crate::update_set) makes; none is made here.
+///
+/// A scan is refused first where its origin lies outside the map, then for the first beam that ends
+/// outside, and then for the first beam with which the beams meet too many voxels, where a voxel
+/// counts once for each beam that meets it.
+pub fn update_bricks(
+    alloc: Global,
+    scan: &Scan,
+    res: Res,
+    max_cells: u64,
+) -> Result<UpdateBricks, ScanFault>
+    requires points { All IsInReach scan.now.points }
+    requires range { IfSome scan.now.range (λ r. (pos 0 ≤ℤ r) × (r <ℤ pos (10 ^ 16))) }
+    requires max_cells { max_cells ≤ 2 ^ 27 }
+
+    ensures bricks { IfOk result (λ set. All IsBrick set.bricks) }
+    ensures ascend { IfOk result (λ set. AreAscending set.bricks) }
+    ensures hits_counted { IfOk result (λ set. set.hit_count ≡ length (hit_voxels set.bricks)) }
+    ensures frees_counted { IfOk result (λ set. set.free_count ≡ length (freed_voxels set.bricks)) }
+    ensures hits { IfOk result (λ set. (k : Voxel) →
+        Contains (hit_voxels set.bricks) k ↔ IsHit res (sighting_of scan.now) k) }
+    ensures frees { IfOk result (λ set. (k : Voxel) →
+        Contains (freed_voxels set.bricks) k ↔ IsFreed res (sighting_of scan.now) k) }
+    ensures hits_ascend { IfOk result (λ set. IsAscending (hit_voxels set.bricks)) }
+    ensures frees_ascend { IfOk result (λ set. IsAscending (freed_voxels set.bricks)) }
+    ensures need { IfOk result (λ set. IsNeed res (sighting_of scan.now) set.need) }
+
+    ensures inside { IfOk result (λ _. IsInside res (sighting_of scan.now)) }
+    ensures within { IfOk result (λ _. MeetAtMost res (origin_of (sighting_of scan.now))
+        (beams_of (sighting_of scan.now)) max_cells) }
+    ensures refused { IfErr result (IsRefusedFor res (sighting_of scan.now) max_cells) }
+
+    ensures events { IfOk result (λ set. (hit miss : Event) (k : Voxel) → IsInMap k →
+        scan_events (hit_voxels set.bricks) hit (freed_voxels set.bricks) miss k ≡
+        scan_outcome res hit miss (sighting_of scan.now) k) }
+    ensures hit_count { IfOk result (λ set. set.hit_count ≡ hit_count res (sighting_of scan.now)) }
+    ensures free_count { IfOk result (λ set.
+        set.free_count ≡ free_count res (sighting_of scan.now)) }
+    ensures few { IfOk result (λ set. set.hit_count + set.free_count ≤ max_cells) }
+    ensures needed { IfOk result (λ set. (hit miss : Event) →
+        set.need ≡ event_need (scan_outcome res hit miss (sighting_of scan.now))) }
+
+    ensures accepted { IfOk result (λ _. scan_fault res (sighting_of scan.now) max_cells ≡ None) }
+    ensures fault { IfErr result (λ f. f ≢ ScanFault.Memory →
+        scan_fault res (sighting_of scan.now) max_cells ≡ Some f) }
+{
+    let origin = scan.pose.t;
+    if res.key_of(origin).is_none() {
+        return Err(ScanFault::OriginOutside);
+    }
+    let beams = beams_of(alloc, scan, res)?;
+    let bricks = gather(alloc, res, origin, &beams, max_cells)?;
+    let set = settle(alloc, bricks)?;
+    Ok(set)
+}
+
+/// The update that these bricks make.
+fn settle(alloc: Global, bricks: Vec<Brick>) -> Result<UpdateBricks, Memory>
+    requires { All IsBrick bricks.items }
+    ensures settled { IfOk result (λ set. (scanned hits : List ℕ) →
+        HoldCodes bricks.items scanned hits →
+        ((code : ℕ) → Contains hits code → Contains scanned code) →
+        IsSettled scanned hits (listed set)) }
+    ensures bricks { IfOk result (λ set. All IsBrick set.bricks) }
+    ensures ascend { IfOk result (λ set. AreAscending set.bricks) }
+    ensures hits_counted { IfOk result (λ set. set.hit_count ≡ length (hit_voxels set.bricks)) }
+    ensures frees_counted { IfOk result (λ set. set.free_count ≡ length (freed_voxels set.bricks)) }
+{
+    let bricks = merge_bricks(alloc, bricks)?;
+    let need = count_blocks(&bricks);
+    let (hit_count, free_count) = count_voxels(&bricks);
+    Ok(UpdateBricks {
+        bricks,
+        hit_count,
+        free_count,
+        need,
+    })
+}
+
+/// How many voxels of these bricks are hit, and how many are freed.
+fn count_voxels(bricks: &[Brick]) -> (u64, u64)
+    requires bricks { All IsBrick bricks.now }
+    requires ascend { AreAscending bricks.now }
+    ensures hits { result.0 ≡ length (hit_voxels bricks.now) }
+    ensures frees { result.1 ≡ length (freed_voxels bricks.now) }
+{
+    let mut hits = 0;
+    let mut frees = 0;
+    for &brick in bricks {
+        hits += u64::from(brick.hits.count_ones());
+        frees += u64::from(brick.frees().count_ones());
+    }
+    (hits, frees)
+}
