@@ -1,15 +1,11 @@
 -- The bytes that a source or a sink tells of, and the counts of faults.
-use Rattle.std.specs.Prelude.{◌≡◌, ◌⊎◌, ◌+◌, ◌-◌, ◌^◌, ◌<◌, ◌++◌, List, ℕ, drop, min, Option, Some, None}
+use Rattle.std.specs.Prelude.{◌≡◌, ◌⊎◌, ◌+◌, ◌-◌, ◌^◌, ◌++◌, List, ℕ, drop, Option, Some, None}
 
--- a count of faults rose, or stands at its last value, where it stays
+-- a count rose by one, or stays where it stands at its last value
 abbrev pub Rose : ℕ → ℕ → Type 0
-Rose old new = (old < new) ⊎ (old ≡ 2 ^ 64 - 1)
+Rose old new = (new ≡ old + 1) ⊎ ((old ≡ 2 ^ 64 - 1) × (new ≡ old))
 
--- a count of faults after one fault more, where it stays at its last value
-abbrev pub counted : ℕ → ℕ
-counted faults = min (faults + 1) (2 ^ 64 - 1)
-
--- the bytes written, where they are told, with more bytes behind them
+-- the bytes written, where they are told, and then more bytes
 abbrev pub appended : Option (List ℕ) → List ℕ → Option (List ℕ)
 appended None bytes = None
 appended (Some written) bytes = Some (written ++ bytes)

@@ -1,16 +1,18 @@
-ghost use Rattle.std.specs.Prelude.{◌≡◌, ◌<◌, ◌≤◌, ◌++◌, [], Some, length, min, take, IfOk, IsOkUnless, OnErr};
+ghost use Rattle.std.specs.Prelude.{◌≡◌, ◌<◌, ◌≤◌, ◌++◌, [], Some, length, min, take, IfOk, IsErrOf, IsOkUnless, OnErr, OnOk};
+ghost use Rattle.oct_io.specs.Told.{Rose};
 
 use crate::file_bytes::FileBytes;
 use crate::sink::{Sink, SinkFault};
 use std::alloc::Global;
 use std::marker::Model;
 
-/// Bytes that are written to memory in pieces of a greatest length. A write fails only where
-/// memory is wanting.
+/// Bytes that are written to memory in pieces of a greatest length. A write gives up only where
+/// memory runs out, which is counted.
 #[derive(Drop)]
 pub struct CalmSink {
     bytes: FileBytes,
     most: usize,
+    shortages: u64,
 }
 
 impl Model for CalmSink {
@@ -19,7 +21,7 @@ impl Model for CalmSink {
 
     ghost Value = { Receipt };
 
-    ghost view = { λ s. record { written = s.bytes; most = s.most } };
+    ghost view = { λ s. record { written = s.bytes; most = s.most; shortages = s.shortages } };
 
     ghost invariant = { λ s. 0 < s.most };
 }
@@ -30,10 +32,12 @@ impl CalmSink {
         requires { 0 < most }
         ensures written { result.written ≡ [] }
         ensures most { result.most ≡ most }
+        ensures shortages { result.shortages ≡ 0 }
     {
         CalmSink {
             bytes: FileBytes::new(alloc),
             most,
+            shortages: 0,
         }
     }
 
@@ -50,18 +54,27 @@ impl Sink for CalmSink {
 
     ghost faults = { λ _. 0 };
 
+    ghost shortages = { λ s. s.shortages };
+
     fn write(&mut self, piece: &[u8]) -> Result<usize, SinkFault>
         ensures full { IfOk result (λ n. n ≡ min self.old.most (length piece.now)) }
         ensures most { self.new.most ≡ self.old.most }
         ensures within { IfOk result (λ n. n ≤ length piece.now) }
         ensures some { IfOk result (λ n. 0 < length piece.now → 0 < n) }
-        ensures appended { IfOk result (λ n. self.new.written ≡ self.old.written ++ take n piece.now) }
+        ensures appended { IfOk result
+            (λ n. self.new.written ≡ self.old.written ++ take n piece.now) }
         ensures err { OnErr result (self.new.written ≡ self.old.written) }
-        ensures memory { IsOkUnless result SinkFault.Memory }
+        ensures calm { IsOkUnless result SinkFault.Memory }
+        ensures stays { OnOk result (self.new.shortages ≡ self.old.shortages) }
+        ensures memory { IsErrOf result SinkFault.Memory
+            → Rose self.old.shortages self.new.shortages }
     {
         let count = self.most.min(piece.len());
         let (taken, _) = piece.split_at(count);
-        self.bytes.extend_from_slice(taken)?;
+        if self.bytes.extend_from_slice(taken).is_err() {
+            self.shortages = self.shortages.saturating_add(1);
+            return Err(SinkFault::Memory);
+        }
         Ok(count)
     }
 }

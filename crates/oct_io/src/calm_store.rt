@@ -5,7 +5,7 @@ use crate::store::{LARGEST_FILE, Loaded, Store, StoreFault};
 use std::alloc::Global;
 use std::collections::BTreeMap;
 
-/// Files in memory. A load or save fails only where memory is wanting.
+/// Files in memory. A load or save gives up only where memory runs out.
 #[derive(Drop)]
 pub struct CalmStore {
     alloc: Global,
@@ -50,7 +50,7 @@ impl Store for CalmStore {
         ensures same { files_of self.new ≡ files_of self.old }
         ensures found { IfOk result (λ loaded. loaded ≡ loaded_of (files_of self.old name.now)) }
         ensures limit { IfOk result IsWithinLimit }
-        ensures memory { IsOkUnless result StoreFault.Memory }
+        ensures calm { IsOkUnless result StoreFault.Memory }
     {
         let Some(bytes) = self.file(name) else {
             return Ok(Loaded::Missing);
@@ -62,10 +62,12 @@ impl Store for CalmStore {
     }
 
     fn save(&mut self, name: &str, bytes: &[u8]) -> Result<(), StoreFault>
-        ensures saved { OnOk result (files_of self.new ≡ with_file (files_of self.old) name.now bytes.now) }
-        ensures others { OnErr result (KeepsOthers (Some (files_of self.old)) (Some (files_of self.new)) name.now) }
+        ensures saved { OnOk result
+            (files_of self.new ≡ with_file (files_of self.old) name.now bytes.now) }
+        ensures others { OnErr result
+            (KeepsOthers (Some (files_of self.old)) (Some (files_of self.new)) name.now) }
         ensures err { OnErr result (files_of self.new ≡ files_of self.old) }
-        ensures memory { IsOkUnless result StoreFault.Memory }
+        ensures calm { IsOkUnless result StoreFault.Memory }
     {
         let key = String::from_str(self.alloc, name)?;
         let value = FileBytes::from_slice(self.alloc, bytes)?;

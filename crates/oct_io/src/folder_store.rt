@@ -1,7 +1,7 @@
-ghost use Rattle.std.specs.Prelude.{◌≡◌, ◌≤◌, ◌↔◌, None, IfOk, IsErrOf, OnOk};
+ghost use Rattle.std.specs.Prelude.{◌≡◌, ◌↔◌, Some, None, Ok, Err, IfOk, IsErrOf, OnOk};
 ghost use Rattle.std.specs.IoError.{error_kind};
-ghost use Rattle.oct_io.specs.Loaded.{IsWithinLimit};
-ghost use Rattle.oct_io.specs.Told.{counted, Rose};
+ghost use Rattle.oct_io.specs.Loaded.{loaded_of, IsWithinLimit};
+ghost use Rattle.oct_io.specs.Told.{Rose};
 
 use crate::file_bytes::FileBytes;
 use crate::store::{LARGEST_FILE, Loaded, Store, StoreFault};
@@ -35,12 +35,11 @@ impl<R: Files + Drop> FolderStore<R> {
         FolderStore { rt, faults: 0 }
     }
 
-    /// Counts a fault of the runtime, unless it is want of memory.
+    /// Counts a fault of the runtime, unless memory ran out.
     fn fault_of(&mut self, error: &io::Error) -> StoreFault
-        ensures memory { (result ≡ StoreFault.Memory) ↔ (error_kind error.now ≡ ErrorKind.OutOfMemory) }
+        ensures memory { (result ≡ StoreFault.Memory)
+            ↔ (error_kind error.now ≡ ErrorKind.OutOfMemory) }
         ensures stays { result ≡ StoreFault.Memory → self.new.faults ≡ self.old.faults }
-        ensures counted { result ≡ StoreFault.Failed → self.new.faults ≡ counted self.old.faults }
-        ensures later { self.old.faults ≤ self.new.faults }
         ensures cause { result ≡ StoreFault.Failed → Rose self.old.faults self.new.faults }
     {
         if error.kind() == ErrorKind::OutOfMemory {
@@ -49,27 +48,46 @@ impl<R: Files + Drop> FolderStore<R> {
         self.faults = self.faults.saturating_add(1);
         StoreFault::Failed
     }
+
+    /// What a load answers where a file can't be opened: that there is none exactly where the
+    /// runtime says so, and else a fault.
+    fn unopened(&mut self, error: &io::Error) -> Result<Loaded, StoreFault>
+        ensures missing { (result ≡ Ok Loaded.Missing) ↔ (error_kind error.now ≡ ErrorKind.NotFound) }
+        ensures memory { (result ≡ Err StoreFault.Memory)
+            ↔ (error_kind error.now ≡ ErrorKind.OutOfMemory) }
+        ensures only { IfOk result (λ loaded. loaded ≡ Loaded.Missing) }
+        ensures stays { OnOk result (self.new.faults ≡ self.old.faults) }
+        ensures short { IsErrOf result StoreFault.Memory → self.new.faults ≡ self.old.faults }
+        ensures cause { IsErrOf result StoreFault.Failed → Rose self.old.faults self.new.faults }
+    {
+        if error.kind() == ErrorKind::NotFound {
+            return Ok(Loaded::Missing);
+        }
+        Err(self.fault_of(error))
+    }
+}
+
+/// The bytes that were read of a file, unless they are more than the limit.
+fn within_limit(bytes: Vec<u8>) -> Loaded
+    ensures { result ≡ loaded_of (Some bytes.items) }
+{
+    if bytes.len() > LARGEST_FILE {
+        return Loaded::TooLarge;
+    }
+    Loaded::Bytes(FileBytes::from(bytes))
 }
 
 /// The bytes of a file, of which at most one more than the limit is read.
-fn read_file<R: Files>(rt: &R, alloc: Global, name: &str) -> io::Result<Loaded>
+fn read_file<R: Files>(file: R::File, alloc: Global) -> io::Result<Loaded>
     ensures { IfOk result IsWithinLimit }
 {
-    let file = match fs::open(rt, name) {
-        Ok(file) => file,
-        Err(error) if error.kind() == ErrorKind::NotFound => return Ok(Loaded::Missing),
-        Err(error) => return Err(error),
-    };
     let limit = LARGEST_FILE as u64;
     if file.metadata()?.len() > limit {
         return Ok(Loaded::TooLarge);
     }
     let mut bytes = Vec::new(alloc);
     file.take(limit + 1).read_to_end(&mut bytes)?;
-    if bytes.len() > LARGEST_FILE {
-        return Ok(Loaded::TooLarge);
-    }
-    Ok(Loaded::Bytes(FileBytes::from(bytes)))
+    Ok(within_limit(bytes))
 }
 
 impl<R: Files + Drop> Store for FolderStore<R> {
@@ -81,21 +99,20 @@ impl<R: Files + Drop> Store for FolderStore<R> {
         ensures limit { IfOk result IsWithinLimit }
         ensures stays { OnOk result (self.new.faults ≡ self.old.faults) }
         ensures memory { IsErrOf result StoreFault.Memory → self.new.faults ≡ self.old.faults }
-        ensures counted { IsErrOf result StoreFault.Failed → self.new.faults ≡ counted self.old.faults }
-        ensures later { self.old.faults ≤ self.new.faults }
         ensures cause { IsErrOf result StoreFault.Failed → Rose self.old.faults self.new.faults }
     {
-        match read_file(&self.rt, alloc, name) {
-            Ok(loaded) => Ok(loaded),
-            Err(error) => Err(self.fault_of(&error)),
+        match fs::open(&self.rt, name) {
+            Ok(file) => match read_file::<R>(file, alloc) {
+                Ok(loaded) => Ok(loaded),
+                Err(error) => Err(self.fault_of(&error)),
+            },
+            Err(error) => self.unopened(&error),
         }
     }
 
     fn save(&mut self, name: &str, bytes: &[u8]) -> Result<(), StoreFault>
         ensures stays { OnOk result (self.new.faults ≡ self.old.faults) }
         ensures memory { IsErrOf result StoreFault.Memory → self.new.faults ≡ self.old.faults }
-        ensures counted { IsErrOf result StoreFault.Failed → self.new.faults ≡ counted self.old.faults }
-        ensures later { self.old.faults ≤ self.new.faults }
         ensures cause { IsErrOf result StoreFault.Failed → Rose self.old.faults self.new.faults }
     {
         match fs::write(&self.rt, name, bytes) {
@@ -120,14 +137,19 @@ mod tests {
         assert!(rt; matches!(store.load(alloc, "no_folder/map.bt")?, Loaded::Missing));
         assert_eq!(rt; store.faults, 0);
 
-        // A folder can be opened, and has no bytes to read.
+        // A folder can be opened, and has no bytes to read. A file has no files in it, which is
+        // another fault than that there is no such file.
         assert!(rt; matches!(store.load(alloc, "."), Err(StoreFault::Failed)));
         assert_eq!(rt; store.faults, 1);
+        store.save("map.bt", b"bytes")?;
+        assert!(rt; matches!(store.load(alloc, "map.bt/map.bt"), Err(StoreFault::Failed)));
+        assert_eq!(rt; store.faults, 2);
+        fs::remove_file(&rt, "map.bt")?;
         assert_eq!(rt;
             store.save("no_folder/map.bt", b"bytes"),
             Err(StoreFault::Failed)
         );
-        assert_eq!(rt; store.faults, 2);
+        assert_eq!(rt; store.faults, 3);
         Ok(())
     }
 }

@@ -1,28 +1,33 @@
 //! Bytes in, bytes out, and files by name.
 //!
-//! A program that turns bytes into bytes is written against three traits: a [`Source`] is read, a [`Sink`] is written, and a
-//! [`Store`] keeps files by name. Each may tell in its contracts what it holds, as those in memory do, and counts its faults in any
-//! case, so that a caller can be held to blame a fault only where there was one.
+//! A program that turns bytes into bytes is written against three traits: a [`Source`] is read, a
+//! [`Sink`] is written, and a [`Store`] keeps files by name. Each may tell in its contracts what it
+//! holds, as those in memory do, and counts its faults in any case, so that a caller can be held to
+//! blame a fault only where there was one.
 //!
 //! What the contracts promise:
 //!
-//! - [`Source::read`] moves the next bytes to the front of a buffer. It answers 0 for a buffer that isn't empty exactly at the end
-//!   of the input.
-//! - [`Sink::write`] takes bytes from the front of a piece, at least one where there is one. [`write_all`] writes the whole piece,
-//!   and after an error a prefix of it was written.
-//! - [`Store::save`] sets the bytes of one name and touches no other. [`Store::load`] gives them back, or says that there is no such
-//!   file, or that it has more than `2^30` bytes.
-//! - `Failed` comes only where the count of faults rose in the call, or stands at `2^64 - 1`, where such a count stays. Want of
-//!   memory is an answer of its own.
+//! - [`Source::read`] moves the next bytes to the front of a buffer. It answers 0 for a buffer that
+//!   isn't empty exactly at the end of the input.
+//! - [`Sink::write`] takes bytes from the front of a piece, at least one where there is one.
+//!   [`write_all`] writes the whole piece, and after an error a prefix of it was written.
+//! - [`Store::save`] sets the bytes of one name and touches no other. [`Store::load`] gives them back,
+//!   or says that there is no such file, or that it has more than `2^30` bytes.
+//! - `Failed` raises the count of faults by one, or leaves it at `2^64 - 1`, where it stays; no other
+//!   answer changes it. So who calls again after a fault is found out by the count. A write that runs
+//!   out of memory raises the sink's count of shortages in the same way.
 //!
-//! There are two forms of each. [`CalmSource`], [`CalmSink`] and [`CalmStore`] live in memory, tell all that they hold and never
-//! fault; the tests and the proofs about whole programs run on them. [`StdSource`], [`StdSink`] and [`FolderStore`] are the edge to
-//! the system: a few lines each over a reader, a writer and the files of the current folder. What the system does is told by no
-//! contract, so of these it is proved that they are safe, count their faults and pass on what a reader or writer of std tells.
+//! There are two forms of each. [`CalmSource`], [`CalmSink`] and [`CalmStore`] live in memory, tell all
+//! that they hold and never fault; the tests and the proofs about whole programs run on them.
+//! [`StdSource`], [`StdSink`] and [`FolderStore`] are the edge to the system: a few lines each over a
+//! reader, a writer and the files of the current folder. What the system does is told by no contract,
+//! so of these it is proved that they are safe, count their faults, pass on what a reader or writer of
+//! std tells, and take an error of opening a file for a missing file exactly where it says so.
 //!
-//! [`FileBytes`] is a list of bytes. The definitions that contracts cite are in `specs/`: `Told` for the bytes and the counts,
-//! `Files` for files by name, `Loaded` for the answers of a load. Laws of appending and of saving are in `proofs/Appending.antt`
-//! and `proofs/Filing.antt`. Sessions and the program stand on this crate.
+//! [`FileBytes`] is a list of bytes. The definitions that contracts cite are in `specs/`: `Told` for
+//! the bytes and the counts, `Files` for files by name, `Loaded` for the answers of a load. Laws of
+//! appending and of saving are in `proofs/Appending.antt` and `proofs/Filing.antt`. Sessions and the
+//! program stand on this crate.
 
 #![tactic(auto)]
 

@@ -13,7 +13,7 @@ pub enum SinkFault {
     #[error("the sink could not be written to")]
     Failed,
 
-    /// Memory is wanting.
+    /// Memory ran out.
     #[error("out of memory")]
     Memory,
 }
@@ -47,18 +47,28 @@ pub trait Sink {
     /// The bytes that were written so far, where the sink tells them.
     ghost written: { Self → Option (List ℕ) };
 
-    /// How many writes have failed so far. The count never falls, and stays at `2^64 - 1`.
+    /// How many writes have failed so far. The count stays at `2^64 - 1`.
     ghost faults: { Self → ℕ };
+
+    /// How many writes have run out of memory so far. The count stays at `2^64 - 1`.
+    ghost shortages: { Self → ℕ };
 
     /// Takes bytes from the front of the piece, and answers how many, at least one of a piece
     /// that isn't empty. After an error nothing was taken.
     fn write(&mut self, piece: &[u8]) -> Result<usize, SinkFault>
         ensures within { IfOk result (λ n. n ≤ length piece.now) }
         ensures some { IfOk result (λ n. 0 < length piece.now → 0 < n) }
-        ensures appended { IfOk result (λ n. written self.new ≡ appended (written self.old) (take n piece.now)) }
+        ensures appended { IfOk result
+            (λ n. written self.new ≡ appended (written self.old) (take n piece.now)) }
         ensures err { OnErr result (written self.new ≡ written self.old) }
-        ensures later { faults self.old ≤ faults self.new }
-        ensures cause { IsErrOf result SinkFault.Failed → Rose (faults self.old) (faults self.new) };
+
+        // Each error is counted once, and nothing else is counted.
+        ensures stays { OnOk result
+            ((faults self.new ≡ faults self.old) × (shortages self.new ≡ shortages self.old)) }
+        ensures failed { IsErrOf result SinkFault.Failed
+            → Rose (faults self.old) (faults self.new) × (shortages self.new ≡ shortages self.old) }
+        ensures memory { IsErrOf result SinkFault.Memory
+            → (faults self.new ≡ faults self.old) × Rose (shortages self.old) (shortages self.new) };
 }
 
 /// Writes the whole piece. After an error a prefix of it was written.
@@ -66,8 +76,14 @@ pub fn write_all<K: Sink>(sink: &mut K, piece: &[u8]) -> Result<(), SinkFault>
     ensures ok { OnOk result (K.written sink.new ≡ appended (K.written sink.old) piece.now) }
     ensures err { OnErr result ((n : ℕ) × (n < length piece.now)
         × (K.written sink.new ≡ appended (K.written sink.old) (take n piece.now))) }
-    ensures later { K.faults sink.old ≤ K.faults sink.new }
-    ensures cause { IsErrOf result SinkFault.Failed → Rose (K.faults sink.old) (K.faults sink.new) }
+
+    // Where it gives up, exactly one write of the sink did, for the same reason.
+    ensures stays { OnOk result
+        ((K.faults sink.new ≡ K.faults sink.old) × (K.shortages sink.new ≡ K.shortages sink.old)) }
+    ensures failed { IsErrOf result SinkFault.Failed → Rose (K.faults sink.old) (K.faults sink.new)
+        × (K.shortages sink.new ≡ K.shortages sink.old) }
+    ensures memory { IsErrOf result SinkFault.Memory → (K.faults sink.new ≡ K.faults sink.old)
+        × Rose (K.shortages sink.old) (K.shortages sink.new) }
 {
     let mut done = 0usize;
     while done < piece.len() {

@@ -1,4 +1,4 @@
-ghost use Rattle.std.specs.Prelude.{◌≡◌, ◌<◌, ◌≤◌, List, [], ℕ, Option, length, take, IfOk, IfSome, OnErr};
+ghost use Rattle.std.specs.Prelude.{◌≡◌, ◌<◌, ◌≤◌, List, [], ℕ, Option, length, take, IfOk, IfSome, OnErr, OnOk};
 ghost use Rattle.oct_io.specs.Told.{dropped, Rose};
 
 use thiserror::Error;
@@ -13,7 +13,7 @@ pub trait Source {
     /// The bytes that are still to come, where the source tells them.
     ghost left: { Self → Option (List ℕ) };
 
-    /// How many reads have failed so far. The count never falls, and stays at `2^64 - 1`.
+    /// How many reads have failed so far. The count stays at `2^64 - 1`.
     ghost faults: { Self → ℕ };
 
     /// Moves the next bytes to the front of the buffer, and answers how many they are.
@@ -23,10 +23,12 @@ pub trait Source {
     fn read(&mut self, buffer: &mut [u8]) -> Result<usize, Failed>
         ensures within { IfOk result (λ n. n ≤ length buffer.old) }
         ensures moved { IfOk result (λ n. left self.new ≡ dropped n (left self.old)) }
-        ensures bytes { IfOk result (λ n. IfSome (left self.old) (λ left. take n buffer.new ≡ take n left)) }
+        ensures bytes { IfOk result (λ n. IfSome (left self.old)
+            (λ left. take n buffer.new ≡ take n left)) }
         ensures some { IfOk result (λ n. IfSome (left self.old) (λ left. n ≤ length left)) }
-        ensures end { IfOk result (λ n. n ≡ 0 → 0 < length buffer.old → IfSome (left self.old) (λ left. left ≡ [])) }
+        ensures end { IfOk result (λ n. n ≡ 0 → 0 < length buffer.old
+            → IfSome (left self.old) (λ left. left ≡ [])) }
         ensures err { OnErr result (left self.new ≡ left self.old) }
-        ensures later { faults self.old ≤ faults self.new }
+        ensures stays { OnOk result (faults self.new ≡ faults self.old) }
         ensures cause { OnErr result (Rose (faults self.old) (faults self.new)) };
 }

@@ -1,7 +1,7 @@
-ghost use Rattle.std.specs.Prelude.{◌≡◌, ◌<◌, ◌≤◌, ◌↔◌, None, length, IfOk, OnErr, OnOk};
+ghost use Rattle.std.specs.Prelude.{◌≡◌, ◌<◌, ◌≤◌, ◌↔◌, None, length, IfOk, IsErrOf, OnOk};
 ghost use Rattle.std.specs.IoError.{error_kind};
 ghost use Rattle.std.specs.Io.KnownBytes.{WriteAppends};
-ghost use Rattle.oct_io.specs.Told.{counted, Rose};
+ghost use Rattle.oct_io.specs.Told.{Rose};
 
 use crate::sink::{Sink, SinkFault};
 use std::io;
@@ -13,27 +13,37 @@ use std::marker::Model;
 pub struct StdSink<W: Write + Drop> {
     writer: W,
     faults: u64,
+    shortages: u64,
 }
 
 impl<W: Write + Drop> Model for StdSink<W> {
-    ghost use Rattle.oct_io.specs.Held.{Stream};
+    ghost use Rattle.oct_io.specs.Held.{Writing};
 
-    ghost Value = { Stream };
+    ghost Value = { Writing };
 
-    ghost view = { λ s. record { told = W.contents s.writer; faults = s.faults } };
+    ghost view = { λ s. record {
+      told = W.contents s.writer;
+      faults = s.faults;
+      shortages = s.shortages;
+    } };
 }
 
 impl<W: Write + Drop> StdSink<W> {
-    /// A sink over this writer, of which no write has failed yet.
+    /// A sink over this writer, of which no write has failed or run out of memory yet.
     pub fn new(writer: W) -> Self
         ensures told { result.told ≡ W.contents writer }
         ensures faults { result.faults ≡ 0 }
+        ensures shortages { result.shortages ≡ 0 }
     {
-        StdSink { writer, faults: 0 }
+        StdSink {
+            writer,
+            faults: 0,
+            shortages: 0,
+        }
     }
 }
 
-/// What the error of a writer is to a sink: want of memory stays that, and all else is a failure.
+/// What the error of a writer is to a sink: out of memory stays that, and all else is a failure.
 fn fault_of(error: &io::Error) -> SinkFault
     ensures { (result ≡ SinkFault.Memory) ↔ (error_kind error.now ≡ ErrorKind.OutOfMemory) }
 {
@@ -48,23 +58,29 @@ impl<W: Write + Drop> Sink for StdSink<W> {
 
     ghost faults = { λ s. s.faults };
 
-    /// A writer that takes nothing of a piece that isn't empty has failed. Each error is counted,
-    /// want of memory too.
+    ghost shortages = { λ s. s.shortages };
+
+    /// A writer that takes nothing of a piece that isn't empty has failed.
     fn write(&mut self, piece: &[u8]) -> Result<usize, SinkFault>
         ensures passes { WriteAppends self.old.told self.new.told result piece.now }
         ensures within { IfOk result (λ n. n ≤ length piece.now) }
         ensures some { IfOk result (λ n. 0 < length piece.now → 0 < n) }
-        ensures stays { OnOk result (self.new.faults ≡ self.old.faults) }
-        ensures counted { OnErr result (self.new.faults ≡ counted self.old.faults) }
-        ensures later { self.old.faults ≤ self.new.faults }
-        ensures cause { OnErr result (Rose self.old.faults self.new.faults) }
+        ensures stays { OnOk result ((self.new.faults ≡ self.old.faults)
+            × (self.new.shortages ≡ self.old.shortages)) }
+        ensures failed { IsErrOf result SinkFault.Failed → Rose self.old.faults self.new.faults
+            × (self.new.shortages ≡ self.old.shortages) }
+        ensures memory { IsErrOf result SinkFault.Memory → (self.new.faults ≡ self.old.faults)
+            × Rose self.old.shortages self.new.shortages }
     {
         let fault = match self.writer.write(piece) {
             Ok(count) if count > 0 || piece.is_empty() => return Ok(count),
             Ok(_) => SinkFault::Failed,
             Err(error) => fault_of(&error),
         };
-        self.faults = self.faults.saturating_add(1);
+        match fault {
+            SinkFault::Failed => self.faults = self.faults.saturating_add(1),
+            SinkFault::Memory => self.shortages = self.shortages.saturating_add(1),
+        }
         Err(fault)
     }
 }
@@ -109,9 +125,9 @@ mod tests {
         assert_eq!(rt; write_all(&mut sink, b"ok\n"), Err(SinkFault::Failed));
         assert_eq!(rt; sink.faults, 1);
         assert_eq!(rt; sink.write(b"ok\n"), Err(SinkFault::Memory));
-        assert_eq!(rt; sink.faults, 2);
+        assert_eq!(rt; (sink.faults, sink.shortages), (1, 1));
         assert_eq!(rt; sink.write(b"ok\n"), Err(SinkFault::Failed));
-        assert_eq!(rt; sink.faults, 3);
+        assert_eq!(rt; (sink.faults, sink.shortages), (2, 1));
         sink.faults = u64::MAX;
         assert_eq!(rt; sink.write(b"ok\n"), Err(SinkFault::Failed));
         assert_eq!(rt; sink.faults, u64::MAX);

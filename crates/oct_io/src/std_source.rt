@@ -1,6 +1,6 @@
 ghost use Rattle.std.specs.Prelude.{◌≡◌, ◌≤◌, None, length, IfOk, OnErr, OnOk};
 ghost use Rattle.std.specs.Io.KnownBytes.{ReadConsumes};
-ghost use Rattle.oct_io.specs.Told.{counted, Rose};
+ghost use Rattle.oct_io.specs.Told.{Rose};
 
 use crate::source::{Failed, Source};
 use std::io::Read;
@@ -14,9 +14,9 @@ pub struct StdSource<R: Read + Drop> {
 }
 
 impl<R: Read + Drop> Model for StdSource<R> {
-    ghost use Rattle.oct_io.specs.Held.{Stream};
+    ghost use Rattle.oct_io.specs.Held.{Reading};
 
-    ghost Value = { Stream };
+    ghost Value = { Reading };
 
     ghost view = { λ s. record { told = R.remaining s.reader; faults = s.faults } };
 }
@@ -40,8 +40,6 @@ impl<R: Read + Drop> Source for StdSource<R> {
         ensures passes { ReadConsumes self.old.told self.new.told result buffer.new }
         ensures within { IfOk result (λ n. n ≤ length buffer.old) }
         ensures stays { OnOk result (self.new.faults ≡ self.old.faults) }
-        ensures counted { OnErr result (self.new.faults ≡ counted self.old.faults) }
-        ensures later { self.old.faults ≤ self.new.faults }
         ensures cause { OnErr result (Rose self.old.faults self.new.faults) }
     {
         match self.reader.read(buffer) {

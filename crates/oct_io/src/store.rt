@@ -1,4 +1,4 @@
-ghost use Rattle.std.specs.Prelude.{◌≡◌, ◌≤◌, ℕ, Option, IfOk, IfSome, IsErrOf, OnErr, OnOk};
+ghost use Rattle.std.specs.Prelude.{◌≡◌, ℕ, Option, IfOk, IfSome, IsErrOf, OnErr, OnOk};
 ghost use Rattle.oct_io.specs.declared.store.StoreFault.TheVariants.{Memory};
 ghost use Rattle.oct_io.specs.Told.{Rose};
 
@@ -17,7 +17,7 @@ pub enum StoreFault {
     #[error("the file could not be read or written")]
     Failed,
 
-    /// Memory is wanting.
+    /// Memory ran out.
     #[error("out of memory")]
     Memory,
 }
@@ -67,16 +67,17 @@ pub trait Store {
     /// The bytes of each name, where the store tells them.
     ghost files: { Self → Option Files };
 
-    /// How many loads and saves have failed so far. The count never falls, and stays at
-    /// `2^64 - 1`.
+    /// How many loads and saves have failed so far. The count stays at `2^64 - 1`.
     ghost faults: { Self → ℕ };
 
     /// The bytes of the file of this name. A load changes no file.
     fn load(&mut self, alloc: Global, name: &str) -> Result<Loaded, StoreFault>
         ensures same { files self.new ≡ files self.old }
-        ensures found { IfOk result (λ loaded. IfSome (files self.old) (λ files. loaded ≡ loaded_of (files name.now))) }
+        ensures found { IfOk result (λ loaded. IfSome (files self.old)
+            (λ files. loaded ≡ loaded_of (files name.now))) }
         ensures limit { IfOk result IsWithinLimit }
-        ensures later { faults self.old ≤ faults self.new }
+        ensures stays { OnOk result (faults self.new ≡ faults self.old) }
+        ensures memory { IsErrOf result StoreFault.Memory → faults self.new ≡ faults self.old }
         ensures cause { IsErrOf result StoreFault.Failed → Rose (faults self.old) (faults self.new) };
 
     /// Puts these bytes under the name, in place of a file that stands there. After an error the
@@ -84,7 +85,8 @@ pub trait Store {
     fn save(&mut self, name: &str, bytes: &[u8]) -> Result<(), StoreFault>
         ensures saved { OnOk result (files self.new ≡ saved (files self.old) name.now bytes.now) }
         ensures others { OnErr result (KeepsOthers (files self.old) (files self.new) name.now) }
-        ensures later { faults self.old ≤ faults self.new }
+        ensures stays { OnOk result (faults self.new ≡ faults self.old) }
+        ensures memory { IsErrOf result StoreFault.Memory → faults self.new ≡ faults self.old }
         ensures cause { IsErrOf result StoreFault.Failed → Rose (faults self.old) (faults self.new) };
 }
 

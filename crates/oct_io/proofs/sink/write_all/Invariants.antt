@@ -6,7 +6,8 @@ abbrev pub invariant-loop-done : goal.invariant-loop-done
 invariant-loop-done g l = record {
   within : l.done ≤ length l.piece;
   written : g.K.Sink.written l.sink ≡ appended (g.K.Sink.written l.fn.sink) (take l.done l.piece);
-  later : g.K.Sink.faults l.fn.sink ≤ g.K.Sink.faults l.sink;
+  faults : g.K.Sink.faults l.sink ≡ g.K.Sink.faults l.fn.sink;
+  shortages : g.K.Sink.shortages l.sink ≡ g.K.Sink.shortages l.fn.sink;
 }
 
 abbrev pub decreases-loop-done : goal.decreases-loop-done
