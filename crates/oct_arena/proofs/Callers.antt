@@ -1,6 +1,9 @@
 -- Which groups stay live, for those who use an arena.
-use Rattle.std.proofs.Common.{◌≡◌, ◌≢◌, ℕ, ◌<◌, length, sym, ap, ◌∙◌, refl, inl, inr}
+use Rattle.std.proofs.Common.{◌≡◌, ◌≢◌, ℕ, ◌<◌, List, [], ◌∷◌, ◌++◌, length, sym, ap, ◌∙◌, refl, inl, inr}
 use Rattle.std.specs.Prelude.{Option, Some, None, is_some, slice_set}
+use Rattle.std.specs.List.{All}
+use Rattle.std.proofs.lemmas.List.Elements.{All-push, All-weaker}
+use Rattle.oct_arena.specs.declared.node.GroupId.{GroupId}
 use Rattle.std.proofs.lemmas.Bool.{cases_eq, false≢true}
 use Rattle.oct_arena.specs.declared.node.Group.{Group}
 use Rattle.oct_arena.specs.declared.node.Node.{Node}
@@ -37,4 +40,12 @@ live_past_set_node gs after id i j n e at live = elim (cases_eq j id) [
   | inr other ↦ ap is_some (ap (λ xs. entry xs j) e ∙ entry_set_other gs id j (with_node (entry gs id) i n) other) ∙ live
 ]
 
-pub ruleset callers = (live_taken, live_apart, taken_apart, live_past_take, live_past_give, live_past_set_node)
+-- what is live stays so where another group is taken, and that one joins it
+pub all_past_take : (gs after : Groups) (id : GroupId) (g : Group) (ids : List GroupId) → after ≡ slice_set gs id.number (Some g) → entry gs id.number ≡ None → id.number < length gs
+    → All (λ (i : GroupId). IsLive gs i.number) ids → All (λ (i : GroupId). IsLive after i.number) (ids ++ id ∷ [])
+all_past_take gs after id g ids e none l all =
+    All-push (λ (i : GroupId). IsLive after i.number) ids id
+    (All-weaker (λ (i : GroupId). IsLive gs i.number) (λ (i : GroupId). IsLive after i.number) (λ i live. live_past_take gs after id.number i.number g e none live) ids all)
+    (live_taken gs after id.number g e l)
+
+pub ruleset callers = (live_taken, live_apart, taken_apart, live_past_take, live_past_give, live_past_set_node, all_past_take)

@@ -55,9 +55,6 @@ spare_filled gs id g l v =
     let was : cond {A = ℕ} (is_none (entry gs id)) 1 0 ≡ 1 = rw v refl in
     omega (arith, h, was)
 
-pub live_filled : (gs : Groups) (id : ℕ) (g : Group) → id < length gs → entry gs id ≡ None → live (slice_set gs id (Some g)) ≡ live gs + 1
-live_filled gs id g l v = omega (arith, live_spare gs, live_spare (slice_set gs id (Some g)), spare_filled gs id g l v, length-set gs id (Some g))
-
 -- a group is taken away
 pub spare_vacated : (gs : Groups) (id : ℕ) → IsLive gs id → spare (slice_set gs id None) ≡ spare gs + 1
 spare_vacated gs id h =
@@ -78,9 +75,6 @@ spare_changed gs id i n l =
     let s = spare_set gs id (with_node (entry gs id) i n) l in
     let same = none_with (entry gs id) i n in
     omega (arith, s, same)
-
-pub live_changed : (gs : Groups) (id i : ℕ) (n : Node) → id < length gs → live (slice_set gs id (with_node (entry gs id) i n)) ≡ live gs
-live_changed gs id i n l = omega (arith, live_spare gs, live_spare (slice_set gs id (with_node (entry gs id) i n)), spare_changed gs id i n l, length-set gs id (with_node (entry gs id) i n))
 
 -- the changed entry has the new node there, and else what it had
 pub node_with_same : (e : Option Group) (i : ℕ) (n : Node) → IsSome e → ((g : Group) → e ≡ Some g → length g.nodes ≡ 8) → i < 8 → node_of (with_node e i n) i ≡ n

@@ -1,132 +1,196 @@
--- What the arena's calls do to the list of the vacant entries' numbers.
-use Rattle.std.proofs.Common.{◌≡◌, ◌≢◌, ℕ, zero, suc, ◌+◌, ◌-◌, ◌<◌, ◌≤◌, List, [], ◌∷◌, ◌++◌, length, get_or, refl, sym, subst, ◌∙◌, ap, arith, inl, inr, append_assoc, append-nil, length-append, Some, None}
-use Rattle.std.specs.Prelude.{slice_set}
-use Rattle.std.proofs.lemmas.List.{get_or_append_left, get_or-set_same, get_or-set_other, get_or_at, get_or_past, length-set}
-use Rattle.std.proofs.Math.Seq.{get_or-append_right}
-use Rattle.std.proofs.lemmas.Bool.{cases_lt, false≢true}
+-- What the arena's calls do to the free list and to the entries, over plain memory.
+use Rattle.std.proofs.Common.{◌≡◌, ◌≢◌, ℕ, zero, suc, ◌+◌, ◌<◌, List, [], ◌∷◌, length, set, refl, sym, subst, ◌∙◌, ap, arith, inl, inr, Some, None, Option, true, cond, ℤ}
+use Rattle.std.specs.Prelude.{slice_set, is_some, is_none}
+use Rattle.std.proofs.lemmas.List.{get_or_past, length-set, set-set}
+use Rattle.std.proofs.lemmas.List.Sums.{sum_by-cons}
+use Rattle.std.proofs.lemmas.Bool.{cases_lt, cases_eq, false≢true}
 use Rattle.oct_arena.specs.declared.node.Group.{Group}
-use Rattle.oct_arena.specs.Entries.{Groups, IsLive, entry, vacant}
-use Rattle.oct_arena.specs.Free.{IsFreeList, downward}
-use Rattle.oct_arena.proofs.Entries.{live_spare, live_within, spare_filled, spare_vacated, spare_grown, entry_grown, length_grown, live_vacated}
+use Rattle.oct_arena.specs.declared.node.Node.{Node}
+use Rattle.oct_arena.specs.declared.node.Node.TheVariants.{Inner}
+use Rattle.oct_arena.specs.declared.node.GroupId.{GroupId}
+use Rattle.oct_arena.specs.Entries.{Groups, IsArena, IsLive, entry, node_of, with_node, spare}
+use Rattle.oct_arena.specs.Free.{IsFull, linked_number, next, chain, without, IsNotIn, AreOnce, EndsAt, IsThreaded}
+use Rattle.oct_arena.proofs.Entries.{entry_set_same, entry_set_other, live_within, spare_vacated, arena_filled, arena_vacated, arena_changed, node_with_same}
 
--- the last number of the list is that of a vacant entry
-pub free_last : (gs : Groups) (free rest : List ℕ) (room id : ℕ) → IsFreeList gs free room → free ≡ rest ++ id ∷ [] → (id < length gs) × (entry gs id ≡ None)
-free_last gs free rest room id f e =
-    let len : length free ≡ length rest + 1 = ap length e ∙ length-append rest (id ∷ []) in
-    let last : get_or free (length rest) 0 ≡ id = ap (λ xs. get_or xs (length rest) 0) e ∙ get_or_at rest id [] 0 (length rest) refl in
-    (subst (λ n. n < length gs) last (f.within (length rest) (omega arith)), subst (λ n. entry gs n ≡ None) last (f.vacant (length rest) (omega arith)))
+set_swap : {X : Type 0} (xs : List X) (i j : ℕ) (a b : X) → i ≢ j → set (set xs j a) i b ≡ set (set xs i b) j a
+set_swap [] i j a b ne = refl
+set_swap (x ∷ xs) zero zero a b ne = absurd (ne refl)
+set_swap (x ∷ xs) zero (suc j) a b ne = refl
+set_swap (x ∷ xs) (suc i) zero a b ne = refl
+set_swap (x ∷ xs) (suc i) (suc j) a b ne = ap (λ ys. x ∷ ys) (set_swap xs i j a b (λ e. ne (ap suc e)))
 
--- a group is put under the last number, which leaves the list
-pub free_filled : (gs : Groups) (free rest : List ℕ) (room id : ℕ) (g : Group) → IsFreeList gs free room → free ≡ rest ++ id ∷ [] → IsFreeList (slice_set gs id (Some g)) rest room
-free_filled gs free rest room id g f e =
-    let len : length free ≡ length rest + 1 = ap length e ∙ length-append rest (id ∷ []) in
-    let last : get_or free (length rest) 0 ≡ id = ap (λ xs. get_or xs (length rest) 0) e ∙ get_or_at rest id [] 0 (length rest) refl in
-    let front : (j : ℕ) → j < length rest → get_or rest j 0 ≡ get_or free j 0 = λ j l. sym (ap (λ xs. get_or xs j 0) e ∙ get_or_append_left rest (id ∷ []) 0 j l) in
-    let (inside, empty) = free_last gs free rest room id f e in
-    let other : (j : ℕ) → j < length rest → get_or rest j 0 ≢ id = λ j l h. (let same : j ≡ length rest = f.apart j (length rest) (omega arith) (omega arith) (sym (front j l) ∙ h ∙ sym last) in omega arith) in
+-- lists of entries
+length_chain : (k h : ℕ) (m : Groups) → length (chain k h m) ≡ k
+length_chain zero h m = refl
+length_chain (suc k) h m = ap suc (length_chain k (next m h) m)
+
+pub length_without : (m : Groups) (is : List ℕ) → length (without m is) ≡ length m
+length_without m [] = refl
+length_without m (i ∷ is) = length-set (without m is) i None ∙ length_without m is
+
+vacant_set : (gs : Groups) (i : ℕ) → entry (slice_set gs i None) i ≡ None
+vacant_set gs i = elim (cases_lt i (length gs)) [
+  | inl l ↦ entry_set_same gs i None l
+  | inr past ↦ get_or_past (slice_set gs i None) i None (rw (length-set {A = Option Group} gs i None) past)
+]
+
+-- a live entry is none of those that are vacant, and its memory is its group
+pub live_apart : (m : Groups) (is : List ℕ) (i : ℕ) → IsLive (without m is) i → IsNotIn i is × (entry (without m is) i ≡ entry m i)
+live_apart m [] i live = (tt, refl)
+live_apart m (j ∷ js) i live =
+    let other : i ≢ j = λ e. absurd (false≢true (sym (ap is_some (ap (entry (without m (j ∷ js))) e ∙ vacant_set (without m js) j)) ∙ live)) in
+    let kept = entry_set_other (without m js) j i None other in
+    let rest = live_apart m js i (subst (λ (e : Option Group). is_some e ≡ true) kept live) in
+    ((other, rest.0), kept ∙ rest.1)
+
+entry_without : (m : Groups) (is : List ℕ) (i : ℕ) → IsNotIn i is → entry (without m is) i ≡ entry m i
+entry_without m [] i h = refl
+entry_without m (j ∷ js) i h = entry_set_other (without m js) j i None h.0 ∙ entry_without m js i h.1
+
+without_set : (m : Groups) (is : List ℕ) (i : ℕ) (e : Option Group) → IsNotIn i is → without (slice_set m i e) is ≡ slice_set (without m is) i e
+without_set m [] i e h = refl
+without_set m (j ∷ js) i e h = ap (λ gs. slice_set gs j None) (without_set m js i e h.1) ∙ set_swap (without m js) j i e None (λ p. h.0 (sym p))
+
+pub next_other : (m : Groups) (i j : ℕ) (e : Option Group) → j ≢ i → next (slice_set m i e) j ≡ next m j
+next_other m i j e ne = ap (λ g. linked_number (node_of g 0)) (entry_set_other m i j e ne)
+
+chain_set : (k h : ℕ) (m : Groups) (i : ℕ) (e : Option Group) → IsNotIn i (chain k h m) → chain k h (slice_set m i e) ≡ chain k h m
+chain_set zero h m i e n = refl
+chain_set (suc k) h m i e n =
+    ap (λ p. h ∷ chain k p (slice_set m i e)) (next_other m i h e (λ p. n.0 (sym p))) ∙ ap (λ is. h ∷ is) (chain_set k (next m h) m i e n.1)
+
+-- memory that is full has no vacant entry, and without some entries it has as many
+full_rest : (e : Option Group) (m : Groups) → IsFull (e ∷ m) → IsFull m
+full_rest e m full = λ i l. full (suc i) (omega arith)
+
+spare_full : (m : Groups) → IsFull m → spare m ≡ 0
+spare_full [] full = refl
+spare_full (None ∷ m) full = absurd (false≢true (full 0 (omega arith)))
+spare_full (Some g ∷ m) full =
+    let c : spare (Some g ∷ m) ≡ 0 + spare m = sum_by-cons (λ (x : Option Group). cond (is_none x) 1 0) (Some g) m in
+    let h = spare_full m (full_rest (Some g) m full) in
+    omega (arith, c, h)
+
+spare_without : (m : Groups) (is : List ℕ) → IsFull m → AreOnce is (length m) → spare (without m is) ≡ length is
+spare_without m [] full once = spare_full m full
+spare_without m (i ∷ is) full once =
+    let live : IsLive (without m is) i = ap is_some (entry_without m is i once.1) ∙ full i once.0 in
+    omega (arith, spare_vacated (without m is) i live, spare_without m is full once.2)
+
+arena_without : (m : Groups) (is : List ℕ) → IsArena m → IsArena (without m is)
+arena_without m [] h = h
+arena_without m (i ∷ is) h = arena_vacated (without m is) i (arena_without m is h)
+
+pub full_set : (m : Groups) (i : ℕ) (e : Option Group) → IsFull m → (i < length m → is_some e ≡ true) → IsFull (slice_set m i e)
+full_set m i e full some j l =
+    let within : j < length m = subst (λ n. j < n) (length-set m i e) l in
+    elim (cases_eq j i) [
+      | inl same ↦ (let at : i < length m = subst (λ n. n < length m) same within in
+          ap (λ n. is_some (entry (slice_set m i e) n)) same ∙ ap is_some (entry_set_same m i e at) ∙ some at)
+      | inr other ↦ ap is_some (entry_set_other m i j e other) ∙ full j within
+    ]
+
+-- the entries of an arena's memory
+abbrev pub entries : Groups → ℕ → ℕ → Groups
+entries m h k = without m (chain k h m)
+
+module _ (m : Groups) (h t k : ℕ) (w : IsThreaded m h t k) where
+  pub spare_is : spare (entries m h k) ≡ k
+  spare_is = spare_without m (chain k h m) w.full w.once ∙ length_chain k h m
+
+  pub length_is : length (entries m h k) ≡ length m
+  length_is = length_without m (chain k h m)
+
+  pub is_arena : IsArena (entries m h k)
+  is_arena = arena_without m (chain k h m) w.arena
+
+-- what every change of a live entry's group leaves
+module _ (m : Groups) (h t k i : ℕ) (e : Option Group) (w : IsThreaded m h t k) (free : IsNotIn i (chain k h m)) (some : i < length m → is_some e ≡ true) (arena : IsArena (slice_set m i e)) where
+  same_chain : chain k h (slice_set m i e) ≡ chain k h m
+  same_chain = chain_set k h m i e free
+
+  pub threaded_set : IsThreaded (slice_set m i e) h t k
+  threaded_set = record {
+    full = full_set m i e w.full some;
+    arena = arena;
+    once = subst (λ n. AreOnce (chain k h (slice_set m i e)) n) (sym (length-set m i e)) (subst (λ is. AreOnce is (length m)) (sym same_chain) w.once);
+    ends = subst (λ is. EndsAt is t) (sym same_chain) w.ends;
+  }
+
+  pub entries_set : entries (slice_set m i e) h k ≡ slice_set (entries m h k) i e
+  entries_set = ap (without (slice_set m i e)) same_chain ∙ without_set m (chain k h m) i e free
+
+-- the first entry of the free list gets a group
+ends_rest : (i t : ℕ) (is : List ℕ) → EndsAt (i ∷ is) t → EndsAt is t
+ends_rest i t [] h = tt
+ends_rest i t (j ∷ js) h = h
+
+pub record IsTaken (m : Groups) (h t k : ℕ) (g : Group) : Type 0 where
+  pub threaded : IsThreaded (slice_set m h (Some g)) (next m h) t k
+  pub filled : entries (slice_set m h (Some g)) (next m h) k ≡ slice_set (entries m h (suc k)) h (Some g)
+  pub within : h < length m
+  pub vacant : entry (entries m h (suc k)) h ≡ None
+
+pub taken : (m : Groups) (h t k : ℕ) (g : Group) → IsThreaded m h t (suc k) → length g.nodes ≡ 8 → IsTaken m h t k g
+taken m h t k g w eight =
+    let rest = chain k (next m h) m in
+    let (within, free, once) = w.once in
+    let w' : IsThreaded m (next m h) t k = record { full = w.full; arena = w.arena; once = once; ends = ends_rest h t rest w.ends } in
     record {
-      within = λ j l. rw (length-set, front j l) (f.within j (omega arith));
-      vacant = λ j l. (get_or-set_other gs id (get_or rest j 0) (Some g) None (other j l) ∙ ap (λ n. get_or gs n None) (front j l) ∙ f.vacant j (omega arith));
-      apart = λ j m lj lm h. f.apart j m (omega arith) (omega arith) (sym (front j lj) ∙ h ∙ front m lm);
-      all = omega (arith, spare_filled gs id g inside empty, f.all, len);
-      fits = rw length-set f.fits;
+      threaded = threaded_set m (next m h) t k h (Some g) w' free (λ l. refl) (arena_filled m h g w.arena eight);
+      filled = entries_set m (next m h) t k h (Some g) w' free (λ l. refl) (arena_filled m h g w.arena eight) ∙ sym (set-set (without m rest) h None (Some g));
+      within = within;
+      vacant = vacant_set (without m rest) h;
     }
 
--- a group is taken away, and its number joins the list
-pub free_vacated : (gs : Groups) (free : List ℕ) (room room' id : ℕ) → IsFreeList gs free room → room ≤ room' → IsLive gs id → IsFreeList (slice_set gs id None) (free ++ id ∷ []) room'
-free_vacated gs free room room' id f larger v =
-    let inside : id < length gs = live_within gs id v in
-    let len : length (free ++ id ∷ []) ≡ length free + 1 = length-append free (id ∷ []) in
-    let last : get_or (free ++ id ∷ []) (length free) 0 ≡ id = get_or_at free id [] 0 (length free) refl in
-    let front : (j : ℕ) → j < length free → get_or (free ++ id ∷ []) j 0 ≡ get_or free j 0 = λ j l. get_or_append_left free (id ∷ []) 0 j l in
-    let other : (j : ℕ) → j < length free → get_or free j 0 ≢ id = λ j l h. (let n : get_or gs id None ≡ None = sym (ap (λ n. get_or gs n None) h) ∙ f.vacant j l in absurd (false≢true (rw n at v))) in
-    record {
-      within = λ j l. rw length-set (elim (cases_lt j (length free)) [
-        | inl m ↦ rw (front j m) (f.within j m)
-        | inr m ↦ (let e : j ≡ length free = omega (arith, len) in rw (e, last) inside)
-      ]);
-      vacant = λ j l. elim (cases_lt j (length free)) [
-        | inl m ↦ rw (front j m) (get_or-set_other gs id (get_or free j 0) None None (other j m) ∙ f.vacant j m)
-        | inr m ↦ (let e : j ≡ length free = omega (arith, len) in rw (e, last) (get_or-set_same gs id None None inside))
-      ];
-      apart = λ j m lj lm h. elim (cases_lt j (length free)) [
-        | inl a ↦ elim (cases_lt m (length free)) [
-          | inl b ↦ f.apart j m a b (sym (front j a) ∙ h ∙ front m b)
-          | inr b ↦ (let e : m ≡ length free = omega (arith, len) in absurd (other j a (sym (front j a) ∙ h ∙ ap (λ n. get_or (free ++ id ∷ []) n 0) e ∙ last)))
-        ]
-        | inr a ↦ elim (cases_lt m (length free)) [
-          | inl b ↦ (let e : j ≡ length free = omega (arith, len) in absurd (other m b (sym (front m b) ∙ sym h ∙ ap (λ n. get_or (free ++ id ∷ []) n 0) e ∙ last)))
-          | inr b ↦ omega (arith, len)
-        ]
-      ];
-      all = omega (arith, spare_vacated gs id v, f.all, len);
-      fits = rw length-set (omega (arith, f.fits));
-    }
+pub some_with : (e : Option Group) (i : ℕ) (n : Node) → is_some (with_node e i n) ≡ is_some e
+some_with None i n = refl
+some_with (Some g) i n = refl
 
--- where there is a group, there is room for one number more
-pub room_for_one : (gs : Groups) (free : List ℕ) (room id : ℕ) → IsFreeList gs free room → IsLive gs id → length free < room
-room_for_one gs free room id f v = omega (arith, live_vacated gs id v, live_spare gs, f.all, f.fits)
+-- a node of a live entry changes
+module _ (m : Groups) (h t k i j : ℕ) (n : Node) (w : IsThreaded m h t k) (live : IsLive (entries m h k) i) where
+  pub changed : IsThreaded (slice_set m i (with_node (entry m i) j n)) h t k × (entries (slice_set m i (with_node (entry m i) j n)) h k ≡ slice_set (entries m h k) i (with_node (entry (entries m h k) i) j n))
+  changed =
+      let (free, same) = live_apart m (chain k h m) i live in
+      let e = with_node (entry m i) j n in
+      let some : i < length m → is_some e ≡ true = λ l. some_with (entry m i) j n ∙ w.full i l in
+      let arena = arena_changed m i j n w.arena in (
+        threaded_set m h t k i e w free some arena,
+        entries_set m h t k i e w free some arena ∙ ap (λ x. slice_set (entries m h k) i (with_node x j n)) (sym same),
+      )
 
--- the numbers of a run, by their place
-pub length_downward : (first k : ℕ) → length (downward first k) ≡ k
-unfolding downward
-length_downward first zero = refl
-length_downward first (suc k) = ap suc (length_downward first k)
+-- a live entry becomes the first of the free list
+pub next_with : (m : Groups) (i h : ℕ) (id : GroupId) (v : ℤ) → id.number ≡ h → i < length m → IsFull m → IsArena m → next (slice_set m i (with_node (entry m i) 0 (Inner v id))) i ≡ h
+next_with m i h id v e l full arena =
+    ap (λ x. linked_number (node_of x 0)) (entry_set_same m i (with_node (entry m i) 0 (Inner v id)) l)
+    ∙ ap linked_number (node_with_same (entry m i) 0 (Inner v id) (full i l) (λ g at. arena.eight i g at) (omega arith)) ∙ e
 
-downward_at : (first k j : ℕ) → j < k → get_or (downward first k) j 0 + suc j ≡ first + k
-unfolding downward
-downward_at first zero j l = elim l [ ]
-downward_at first (suc k) zero l = omega arith
-downward_at first (suc k) (suc j) l = omega (arith, downward_at first k j (omega arith))
+-- the last entry once one more is in front
+abbrev pub new_tail : ℕ → ℕ → ℕ → ℕ
+new_tail zero i t = i
+new_tail (suc k) i t = t
 
--- the largest number of a run goes over to the front
-downward_step : (first n : ℕ) → first < n → downward first (n - first) ≡ (n - 1) ∷ downward first (n - 1 - first)
-unfolding downward
-downward_step first n l =
-    let e : n - first ≡ suc (n - 1 - first) = omega arith in
-    let top : first + (n - 1 - first) ≡ n - 1 = omega arith in
-    rw (e, top) refl
+ends_more : (m : Groups) (i t k h : ℕ) → EndsAt (chain k h m) t → EndsAt (i ∷ chain k h m) (new_tail k i t)
+ends_more m i t zero h e = refl
+ends_more m i t (suc k) h e = e
 
-pub pushed : (front new all : List ℕ) (first n : ℕ) → first < n → front ++ downward first (n - first) ≡ all → new ≡ front ++ (n - 1) ∷ [] → new ++ downward first (n - 1 - first) ≡ all
-pushed front new all first n l h e =
-    ap (λ xs. xs ++ downward first (n - 1 - first)) e ∙ append_assoc front ((n - 1) ∷ []) (downward first (n - 1 - first)) ∙ ap (λ xs. front ++ xs) (sym (downward_step first n l)) ∙ h
-
-pub all_pushed : (front all : List ℕ) (first n : ℕ) → n ≤ first → front ++ downward first (n - first) ≡ all → front ≡ all
-unfolding downward
-all_pushed front all first n l h =
-    let none : n - first ≡ 0 = omega arith in
-    sym (append-nil front) ∙ ap (λ m. front ++ downward first m) (sym none) ∙ h
-
--- vacant entries are appended, and their numbers
-pub free_grown : (gs : Groups) (free : List ℕ) (room room' k : ℕ) → IsFreeList gs free room → length gs + k ≤ room' → IsFreeList (gs ++ vacant k) (free ++ downward (length gs) k) room'
-free_grown gs free room room' k f fits =
-    let len : length (free ++ downward (length gs) k) ≡ length free + k = length-append free (downward (length gs) k) ∙ ap (λ n. length free + n) (length_downward (length gs) k) in
-    let grown = length_grown gs k in
-    let number : ℕ → ℕ = λ j. get_or (free ++ downward (length gs) k) j 0 in
-    let front : (j : ℕ) → j < length free → number j ≡ get_or free j 0 = λ j l. get_or_append_left free (downward (length gs) k) 0 j l in
-    let back : (j : ℕ) → length free ≤ j → j < length free + k → number j + suc (j - length free) ≡ length gs + k = λ j m l.
-    (let e : number j ≡ get_or (downward (length gs) k) (j - length free) 0 = get_or-append_right free (downward (length gs) k) j 0 m in
-    let a = downward_at (length gs) k (j - length free) (omega arith) in
-    rw e a) in
-    record {
-      within = λ j l. rw grown (elim (cases_lt j (length free)) [
-        | inl m ↦ (let a = f.within j m in let e = front j m in omega (arith, a, e))
-        | inr m ↦ (let e = back j m (omega (arith, len)) in omega (arith, e))
-      ]);
-      vacant = λ j l. entry_grown gs k (number j) ∙ elim (cases_lt j (length free)) [
-        | inl m ↦ ap (entry gs) (front j m) ∙ f.vacant j m
-        | inr m ↦ (let e = back j m (omega (arith, len)) in get_or_past gs (number j) None (omega (arith, e)))
-      ];
-      apart = λ j m lj lm h. elim (cases_lt j (length free)) [
-        | inl a ↦ elim (cases_lt m (length free)) [
-          | inl b ↦ f.apart j m a b (sym (front j a) ∙ h ∙ front m b)
-          | inr b ↦ (let x = f.within j a in let y = front j a in let z = back m b (omega (arith, len)) in omega (arith, x, y, z, h))
-        ]
-        | inr a ↦ elim (cases_lt m (length free)) [
-          | inl b ↦ (let x = f.within m b in let y = front m b in let z = back j a (omega (arith, len)) in omega (arith, x, y, z, h))
-          | inr b ↦ (let y = back j a (omega (arith, len)) in let z = back m b (omega (arith, len)) in omega (arith, y, z, h))
-        ]
-      ];
-      all = omega (arith, spare_grown gs k, f.all, len);
-      fits = rw grown fits;
-    }
+pub given : (m : Groups) (h t k i : ℕ) (id : GroupId) (v : ℤ) → IsThreaded m h t k → IsLive (entries m h k) i → id.number ≡ h
+    → (let m' = slice_set m i (with_node (entry m i) 0 (Inner v id)) in IsThreaded m' i (new_tail k i t) (suc k) × (entries m' i (suc k) ≡ slice_set (entries m h k) i None))
+given m h t k i id v w live e =
+    let (free, same) = live_apart m (chain k h m) i live in
+    let x = with_node (entry m i) 0 (Inner v id) in
+    let m' = slice_set m i x in
+    let within : i < length m = subst (λ n. i < n) (length_without m (chain k h m)) (live_within (entries m h k) i live) in
+    let some : i < length m → is_some x ≡ true = λ l. some_with (entry m i) 0 (Inner v id) ∙ w.full i l in
+    let arena = arena_changed m i 0 (Inner v id) w.arena in
+    let w' = threaded_set m h t k i x w free some arena in
+    let link : next m' i ≡ h = next_with m i h id v e within w.full w.arena in
+    let chained : chain (suc k) i m' ≡ i ∷ chain k h m = ap (λ p. i ∷ chain k p m') link ∙ ap (λ is. i ∷ is) (chain_set k h m i x free) in (
+      record {
+        full = w'.full;
+        arena = arena;
+        once = subst (λ is. AreOnce is (length m')) (sym chained) (subst (λ n. AreOnce (i ∷ chain k h m) n) (sym (length-set m i x)) (within, free, w.once));
+        ends = subst (λ is. EndsAt is (new_tail k i t)) (sym chained) (ends_more m i t k h w.ends);
+      },
+      ap (without m') chained ∙ ap (λ gs. slice_set gs i None) (without_set m (chain k h m) i x free) ∙ set-set (entries m h k) i x None,
+    )

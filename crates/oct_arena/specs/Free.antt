@@ -1,16 +1,52 @@
--- The numbers of the vacant entries, as an arena keeps them.
-use Rattle.std.specs.Prelude.{◌≡◌, ℕ, zero, suc, ◌+◌, ◌<◌, ◌≤◌, List, [], ◌∷◌, length, None, slice_index_or}
-use Rattle.oct_arena.specs.Entries.{Groups, entry, spare}
+-- The free list of an arena, which is threaded through the memory of its vacant groups.
+use Rattle.std.specs.Prelude.{◌≡◌, ℕ, zero, suc, ◌<◌, List, [], ◌∷◌, length, None, slice_set}
+use Rattle.oct_arena.specs.declared.node.Node.{Node}
+use Rattle.oct_arena.specs.declared.node.Node.TheVariants.{Absent, Leaf, Inner}
+use Rattle.oct_arena.specs.Entries.{Groups, IsArena, IsLive, node_at}
 
--- so many numbers from first on, the largest of them first
-unfoldable pub downward : ℕ → ℕ → List ℕ
-downward first zero = []
-downward first (suc count) = (first + count) ∷ downward first count
+-- each entry has memory of a group
+abbrev pub IsFull : Groups → Type 0
+IsFull memory = (i : ℕ) → i < length memory → IsLive memory i
 
--- a list of the numbers of all vacant entries, each once, in a vector with room for the numbers of all entries
-pub record IsFreeList (gs : Groups) (free : List ℕ) (room : ℕ) : Type 0 where
-  pub within : (j : ℕ) → j < length free → slice_index_or free j 0 < length gs
-  pub vacant : (j : ℕ) → j < length free → entry gs (slice_index_or free j 0) ≡ None
-  pub apart : (j m : ℕ) → j < length free → m < length free → slice_index_or free j 0 ≡ slice_index_or free m 0 → j ≡ m
-  pub all : length free ≡ spare gs
-  pub fits : length gs ≤ room
+-- the number of the group that a node links
+abbrev pub linked_number : Node → ℕ
+linked_number Absent = 0
+linked_number (Leaf value) = 0
+linked_number (Inner value id) = id.number
+
+-- the entry that the memory of entry i links, by its first node
+abbrev pub next : Groups → ℕ → ℕ
+next memory i = linked_number (node_at memory i 0)
+
+-- so many entries from head on, where each links the one after it
+abbrev pub chain : ℕ → ℕ → Groups → List ℕ
+chain zero head memory = []
+chain (suc count) head memory = head ∷ chain count (next memory head) memory
+
+-- the memory's groups as entries, where those are vacant
+abbrev pub without : Groups → List ℕ → Groups
+without memory [] = memory
+without memory (i ∷ is) = slice_set (without memory is) i None
+
+-- i is none of them
+abbrev pub IsNotIn : ℕ → List ℕ → Type 0
+IsNotIn i [] = Unit {0}
+IsNotIn i (j ∷ js) = (i ≡ j → ⊥) × IsNotIn i js
+
+-- each of them is below n, and none stands twice
+abbrev pub AreOnce : List ℕ → ℕ → Type 0
+AreOnce [] n = Unit {0}
+AreOnce (i ∷ is) n = (i < n) × IsNotIn i is × AreOnce is n
+
+-- tail is the last of them, where there is one
+abbrev pub EndsAt : List ℕ → ℕ → Type 0
+EndsAt [] tail = Unit {0}
+EndsAt (i ∷ []) tail = i ≡ tail
+EndsAt (i ∷ j ∷ js) tail = EndsAt (j ∷ js) tail
+
+-- memory with a free list of that many entries, from head to tail
+pub record IsThreaded (memory : Groups) (head tail count : ℕ) : Type 0 where
+  pub full : IsFull memory
+  pub arena : IsArena memory
+  pub once : AreOnce (chain count head memory) (length memory)
+  pub ends : EndsAt (chain count head memory) tail

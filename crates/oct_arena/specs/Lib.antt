@@ -1,3 +1,5 @@
+pub mod Chunks
 pub mod Entries
 pub mod Free
-pub mod Ids
+pub mod Nodes
+pub mod Packing

@@ -1,9 +1,11 @@
-ghost use Rattle.std.specs.Prelude.{◌≡◌, ◌+◌, ◌-◌, ◌<◌, ◌≤◌, ◌^◌, [], ◌++◌, length, slice_set, Some, None, OnOk, OnErr, IsOk, max, vec_len, vec_capacity};
+ghost use Rattle.std.specs.Prelude.{◌≡◌, ◌+◌, ◌-◌, ◌<◌, ◌≤◌, ◌^◌, [], ◌++◌, length, slice_set, Some, None, OnOk, OnErr, IsOk, max, pos};
+ghost use Rattle.oct_arena.specs.declared.node.Node.TheVariants.{Inner};
 ghost use Rattle.oct_key.specs.CubeOf.{cube_of};
 ghost use Rattle.oct_arena.specs.Entries.{IsArena, IsLive, entry, node_at, home_at, with_node, spare, live, vacant};
-ghost use Rattle.oct_arena.specs.Free.{downward};
 
-use crate::node::{Group, GroupId, Node};
+use crate::chunk::CHUNK;
+use crate::node::{GroupId, Node};
+use crate::rows::Rows;
 use oct_key::Block;
 use oct_num::Memory;
 use std::alloc::Global;
@@ -12,36 +14,36 @@ use std::marker::Model;
 /// Groups of eight nodes, each under an id of its own.
 #[derive(Drop)]
 pub struct NodeArena {
-    groups: Vec<Option<Group>>,
-    free: Vec<u32>,
+    rows: Rows,
+    // The first and the last entry of the free list, where there is one. The memory of each vacant
+    // group links the next.
+    head: GroupId,
+    tail: GroupId,
+    spare: u32,
 }
 
 impl Model for NodeArena {
-    ghost use Rattle.std.specs.Prelude.{vec_capacity};
-    ghost use Rattle.oct_arena.specs.Entries.{Groups, IsArena};
-    ghost use Rattle.oct_arena.specs.Free.{IsFreeList};
+    ghost use Rattle.oct_arena.specs.Entries.{Groups};
+    ghost use Rattle.oct_arena.specs.Free.{without, chain, IsThreaded};
 
     ghost Value = { Groups };
 
-    ghost view = { λ a. a.groups.items };
+    ghost view = { λ a. without a.rows (chain a.spare a.head.number a.rows) };
 
-    ghost invariant = { λ a. IsArena a.groups.items × IsFreeList a.groups.items a.free.items (vec_capacity a.free) };
+    ghost invariant = { λ a. IsThreaded a.rows a.head.number a.tail.number a.spare };
 }
 
-/// Appends the numbers from end - 1 down to first.
-fn push_downward(numbers: &mut Vec<u32>, first: u32, end: u32)
-    requires order { first ≤ end }
-    requires room { vec_len numbers.old + (end - first) ≤ vec_capacity numbers.old }
-    ensures items { numbers.new.items ≡ numbers.old.items ++ downward first (end - first) }
-    ensures capacity { vec_capacity numbers.old ≤ vec_capacity numbers.new }
+/// Lets the last entry of a free list link `next`, and answers the list's first entry.
+fn link_last(rows: &mut Rows, spare: u32, head: GroupId, tail: GroupId, next: GroupId) -> GroupId
+    requires { 1 ≤ spare → tail.number < length rows.old }
+    ensures none { spare ≡ 0 → (rows.new ≡ rows.old) × (result.number ≡ next.number) }
+    ensures some { 1 ≤ spare → (rows.new ≡ slice_set rows.old tail.number (with_node (entry rows.old tail.number) 0 (Inner (pos 0) next))) × (result.number ≡ head.number) }
 {
-    let mut number = end;
-    'push: while first < number {
-        number -= 1;
-        let Ok(()) = numbers.push(number) else {
-            unreachable!()
-        };
+    if spare == 0 {
+        return next;
     }
+    rows.set_node(tail.number() as usize, 0, Node::Inner(0, next));
+    head
 }
 
 impl NodeArena {
@@ -50,9 +52,12 @@ impl NodeArena {
         ensures empty { result ≡ [] }
         ensures arena { IsArena result }
     {
+        let nowhere = GroupId::new(0);
         NodeArena {
-            groups: Vec::new(alloc),
-            free: Vec::new(alloc),
+            rows: Rows::new(alloc),
+            head: nowhere,
+            tail: nowhere,
+            spare: 0,
         }
     }
 
@@ -69,25 +74,25 @@ impl NodeArena {
         ensures live { live self.new ≡ live self.old }
         ensures arena { IsArena self.new }
     {
-        let spare = self.spare();
-        if spare < n {
-            self.append_vacant(n - spare)?;
+        'grow: while self.spare() < n {
+            self.grow()?;
         }
         Ok(())
     }
 
-    /// Appends so many vacant entries, or none where memory runs out. They are taken in the order of their ids.
-    fn append_vacant(&mut self, count: u32) -> Result<(), Memory>
-        requires { length self.old + count ≤ 2 ^ 31 + 1023 }
-        ensures ok { OnOk result (self.new ≡ self.old ++ vacant count) }
+    /// Appends a chunk of vacant entries at the end of the free list, or none where memory runs out.
+    fn grow(&mut self) -> Result<(), Memory>
+        requires { length self.old < 2 ^ 31 }
+        ensures ok { OnOk result (self.new ≡ self.old ++ vacant 1024) }
         ensures err { OnErr result (self.new ≡ self.old) }
         ensures arena { IsArena self.new }
     {
-        let first = self.groups.len();
-        let end = first + count as usize;
-        self.free.reserve(end - self.free.len())?;
-        self.groups.resize(end, None)?;
-        push_downward(&mut self.free, first as u32, end as u32);
+        let first = self.rows.len() as u32;
+        self.rows.append()?;
+        let start = GroupId::new(first);
+        self.head = link_last(&mut self.rows, self.spare, self.head, self.tail, start);
+        self.tail = GroupId::new(first + (CHUNK as u32 - 1));
+        self.spare += CHUNK as u32;
         Ok(())
     }
 
@@ -100,9 +105,12 @@ impl NodeArena {
         ensures spare { spare self.new + 1 ≡ spare self.old }
         ensures arena { IsArena self.new }
     {
-        let number = self.free.pop().unwrap();
-        self.groups[number as usize] = Some(Group { home, nodes });
-        GroupId::new(number)
+        let id = self.head;
+        let at = id.number() as usize;
+        self.head = self.rows.get(at).next();
+        self.rows.fill(at, home, &nodes);
+        self.spare -= 1;
+        id
     }
 
     /// Takes the group away, so that its entry is vacant. No other entry changes.
@@ -112,10 +120,12 @@ impl NodeArena {
         ensures spare { spare self.new ≡ spare self.old + 1 }
         ensures arena { IsArena self.new }
     {
-        self.groups[id.number() as usize] = None;
-        let Ok(()) = self.free.push(id.number()) else {
-            unreachable!()
-        };
+        let at = id.number() as usize;
+        let tail = if self.spare == 0 { id } else { self.tail };
+        self.rows.set_node(at, 0, Node::Inner(0, self.head));
+        self.head = id;
+        self.tail = tail;
+        self.spare += 1;
     }
 
     /// Node i of the group.
@@ -125,10 +135,7 @@ impl NodeArena {
         ensures exact { result ≡ node_at self.now id.number i }
         ensures arena { IsArena self.now }
     {
-        match &self.groups[id.number() as usize] {
-            Some(group) => group.nodes[i as usize],
-            None => unreachable!(),
-        }
+        self.rows.get(id.number() as usize).node(i)
     }
 
     /// Puts n in the place of node i of the group. The group's home and its other nodes stay, and so do all other entries.
@@ -139,12 +146,7 @@ impl NodeArena {
         ensures spare { spare self.new ≡ spare self.old }
         ensures arena { IsArena self.new }
     {
-        match &mut self.groups[id.number() as usize] {
-            Some(group) => {
-                group.nodes[i as usize] = n;
-            }
-            None => unreachable!(),
-        }
+        self.rows.set_node(id.number() as usize, i, n);
     }
 
     /// The block whose children the group's nodes are of.
@@ -153,10 +155,7 @@ impl NodeArena {
         ensures exact { home_at self.now id.number ≡ Some (cube_of result) }
         ensures arena { IsArena self.now }
     {
-        match &self.groups[id.number() as usize] {
-            Some(group) => group.home,
-            None => unreachable!(),
-        }
+        self.rows.get(id.number() as usize).home
     }
 
     /// How many groups there are.
@@ -164,7 +163,7 @@ impl NodeArena {
         ensures exact { result ≡ live self.now }
         ensures arena { IsArena self.now }
     {
-        self.groups.len() as u32 - self.free.len() as u32
+        self.rows.len() as u32 - self.spare
     }
 
     /// How many groups can still be taken.
@@ -172,7 +171,7 @@ impl NodeArena {
         ensures exact { result ≡ spare self.now }
         ensures arena { IsArena self.now }
     {
-        self.free.len() as u32
+        self.spare
     }
 }
 

@@ -14,20 +14,27 @@
 //!   where there are enough. No group moves to another id, also where memory runs out.
 //! - [`NodeArena::live`] and [`NodeArena::spare`] are the numbers of groups and of vacant entries.
 //!
-//! `reserve` is the only call that asks for memory. So a caller that reserves first what an edit may need can't fail on the way
-//! and leave half of it done.
+//! `reserve` is the only call that asks for memory. So a caller that reserves first what an edit may
+//! need can't fail on the way and leave half of it done.
 //!
-//! The entries are a vector, and the numbers of the vacant ones a second vector, which has room for the numbers of all entries, so
-//! that giving a group back always finds room. All calls but `reserve` take a few steps, however many groups there are. `reserve`
-//! takes a few steps for each entry that it appends, and doubles the room where it has to get more. New entries are taken in the
-//! order of their ids, so groups that are made one after another lie side by side.
+//! Groups lie in chunks of 1,024, which never move. A node takes eight bytes and a group 72. The
+//! vacant entries are a list that is threaded through their own memory: the first node of each links
+//! the next. The invariant says that each vacant entry stands on the list once, and that the list is
+//! as long as `spare` counts. `take` takes the first entry of the list, and `give` puts one in
+//! front. A new chunk goes to the end of the list, each of its groups written once, so new entries
+//! are taken in the order of their ids, and groups that are made one after another lie side by side.
+//! All calls but `reserve` take a few steps, however many groups there are. An arena that is dropped
+//! gives all memory back.
 //!
 //! The tree stands on this crate, and cites `Groups`, `entry`, `IsLive`, `node_at` and `home_at`. `IsArena` is what each list of an
 //! arena has: at most 2^31 + 1,023 entries, and eight nodes in each group.
 #![tactic(auto)]
 
 mod arena;
+mod chunk;
+mod group;
 mod node;
+mod rows;
 
 pub use arena::NodeArena;
 pub use node::{Group, GroupId, Node};

@@ -55,3 +55,26 @@ fn takes_new_entries_in_the_order_of_their_ids(rt: HostRuntime) -> Result<(), Fa
     );
     Ok(())
 }
+
+#[test]
+#[tactic(auto, using(crate::proofs::Callers::callers))]
+fn keeps_three_thousand_homes(rt: HostRuntime) -> Result<(), Fail> {
+    let mut arena = NodeArena::new(rt.alloc());
+    arena.reserve(3000)?;
+    let mut ids: Vec<GroupId> = Vec::new(rt.alloc());
+    'take: for x in 0..3000 {
+        ids.push(arena.take(
+            Block {
+                depth: 16,
+                x,
+                y: 0,
+                z: 0,
+            },
+            [Node::Absent; 8],
+        ))?;
+    }
+    'read: for (x, id) in ids.iter().enumerate() {
+        assert_eq!(rt; arena.home(*id).x as usize, x);
+    }
+    Ok(())
+}

@@ -1,16 +1,44 @@
-use Rattle.std.proofs.Common.{rules, ◌≡◌, ◌∙◌, ap, length}
-use Rattle.oct_arena.specs.Entries.{spare}
-use Rattle.oct_arena.proofs.Entries.{arena_filled, spare_filled}
-use Rattle.oct_arena.proofs.FreeLists.{free_filled, free_last}
+use Rattle.std.proofs.Common.{rules, refl, ◌≡◌, ◌∙◌, ◌-◌, ap, subst, sym, length, ◌<◌, ◌+◌, Some}
+use Rattle.std.specs.Prelude.{slice_set}
+use Rattle.oct_arena.specs.declared.node.Group.{Group}
+use Rattle.oct_arena.specs.Entries.{entry, node_of, spare}
+use Rattle.oct_arena.specs.Free.{linked_number}
+use Rattle.oct_arena.proofs.Calls.{some_vacant, took, Took, arena}
 use Rattle.oct_arena.proofs.arena.NodeArena.take.Goals as goal
 
-pub invariant_of-self : goal.invariant_of-self
-invariant_of-self c =
+pub get-requires : goal.get-requires
+get-requires c =
+    let a = c.self.inside in
+    subst (λ n. n < length a.rows) (sym c.number-at.ensures.same) (some_vacant a.rows a.head.number a.tail.number a.spare c.args.self.now c.self.invariant c.self.view_is c.requires).1
+
+pub overflow_sub-self : goal.overflow_sub-self
+overflow_sub-self c = let a = c.self.inside in (some_vacant a.rows a.head.number a.tail.number a.spare c.args.self.now c.self.invariant c.self.view_is c.requires).0
+
+abbrev group_of : goal.After-self-2-1 → Group
+group_of c = record { home = c.args.home; nodes = c.args.nodes }
+
+after : (c : goal.After-self-2-1) → (let a = c.self.inside in Took a.rows a.head.number a.tail.number a.spare c.args.self.now c.self.invariant c.self.view_is c.next-self-inside.result.number (group_of c) c.fill.new.self)
+after c =
+    let a = c.self.inside in
     let eight : length c.args.nodes ≡ 8 = search rules in
-    let (arena, free) = c.self.invariant in
-    (arena_filled _ _ _ arena eight, rw c.pop.ensures.capacity (free_filled _ _ c.pop.new.self.items _ _ _ free (rw c.unwrap-number.ensures at c.pop.ensures.items)))
+    took a.rows a.head.number a.tail.number a.spare c.args.self.now c.self.invariant c.self.view_is c.next-self-inside.result.number (group_of c) c.fill.new.self c.requires eight
+    (c.next-self-inside.ensures ∙ ap (λ e. linked_number (node_of e 0)) (sym c.get.ensures ∙ ap (entry a.rows) c.number-at.ensures.same))
+    (c.fill.ensures ∙ ap (λ i. slice_set a.rows i (Some (group_of c))) c.number-at.ensures.same)
+
+pub invariant_of-self : goal.invariant_of-self
+invariant_of-self c = (after c).threaded
+
+pub returns-clause-within : goal.returns-clause-within
+returns-clause-within c = (after c).inside
+
+pub returns-clause-vacant : goal.returns-clause-vacant
+returns-clause-vacant c = (after c).vacant
+
+pub returns-clause-filled : goal.returns-clause-filled
+returns-clause-filled c = (after c).filled
 
 pub returns-clause-spare : goal.returns-clause-spare
-returns-clause-spare c =
-    let (inside, vacant) = free_last _ _ c.pop.new.self.items _ c.unwrap-number.result c.self.invariant.1 (rw c.unwrap-number.ensures at c.pop.ensures.items) in
-    spare_filled c.self.inside.groups.items c.unwrap-number.result _ inside vacant ∙ ap spare c.self.view_is
+returns-clause-spare c = ap (λ gs. spare gs + 1) (after c).filled ∙ (after c).spares
+
+pub returns-clause-arena : goal.returns-clause-arena
+returns-clause-arena c = let a = c.self.inside in arena c.fill.new.self c.next-self-inside.result.number a.tail.number (a.spare - 1) _ (after c).threaded refl

@@ -1,0 +1,8 @@
+use Rattle.std.proofs.Common.{sym}
+use Rattle.oct_arena.proofs.Chunks.{has_value}
+use Rattle.oct_arena.proofs.chunk.Chunk.get.Goals as goal
+
+pub get-requires : goal.get-requires
+get-requires c =
+    let w = c.self.invariant in
+    (sym w.placed, has_value c.self.inside.cells.values c.args.i w.full (rw c.self.view_is c.requires))
