@@ -10,18 +10,22 @@ use Rattle.oct_arena.specs.Entries.{IsLive, entry, node_at}
 use Rattle.oct_arena.proofs.Entries.{live_spare}
 use Rattle.oct_tree.specs.declared.place.Place.{Place}
 use Rattle.oct_tree.specs.declared.place.Place.TheVariants.{Root, Slot}
-use Rattle.oct_tree.specs.Nodes.{link_of, stored_in, IsAll, IsCollapsible, IsKnown, IsGreatest}
+use Rattle.oct_tree.specs.Nodes.{IsAll, IsCollapsible, IsKnown, IsGreatest}
+use Rattle.oct_arena.specs.Nodes.{link_of, stored_in}
 use Rattle.oct_tree.specs.Places.{group_of}
 use Rattle.oct_tree.specs.Tree.{Tree, IsLinked, IsPlace, node_in, block_in, value_at}
 use Rattle.oct_tree.specs.Shape.{IsWellFormed, IsFresh, IsPruned}
-use Rattle.oct_tree.specs.Changes.{SameValues, IsSameOutside, IsSplit, CanCollapse, IsCollapsed}
+use Rattle.oct_tree.specs.Changes.{IsSameOutside, IsSplit, CanCollapse, IsCollapsed}
+use Rattle.oct_key.specs.Values.{SameValues}
 use Rattle.oct_tree.proofs.Paths.{some_injective, some_not_none, live_home, homed_entry, linked_inner, linked_live, only_link, slot_block, linked_block}
 use Rattle.oct_tree.proofs.Links.{same_place, slot_of, vacant_node, not_vacant, live_place}
-use Rattle.oct_tree.proofs.Frames.{child_lies_in, id_of}
+use Rattle.oct_tree.proofs.Frames.{id_of}
+use Rattle.oct_key.proofs.Nested.{child_lies_in}
 use Rattle.oct_tree.proofs.Shapes.{linked_place}
 use Rattle.oct_inner.specs.Changes.{IsShrunk}
-use Rattle.oct_inner.specs.Passes.{IsPrunedAt, IsPassed, IsPassing, IsPruning}
-use Rattle.oct_inner.proofs.Within.{IsLocal, IsClosed, place_by_block, closed_same, passed_closed, within_root}
+use Rattle.oct_inner.specs.Passes.{IsPrunedAt, IsPruning}
+use Rattle.oct_tree.specs.Passes.{IsPassed, IsPassing}
+use Rattle.oct_tree.proofs.Within.{IsLocal, IsClosed, place_by_block, closed_same, passed_closed, within_root}
 
 -- a group of the same nodes is collapsible too
 collapsible_same : (t u : Tree) (x : ℕ) → ((i : ℕ) → i < 8 → node_at u.groups x i ≡ node_at t.groups x i) → IsCollapsible u.groups x

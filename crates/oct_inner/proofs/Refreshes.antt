@@ -1,26 +1,31 @@
 -- What refreshing does to a place, and what it leaves.
 use Rattle.std.proofs.Common.{◌≡◌, ℕ, refl, sym, ◌∙◌, ap, subst, arith, inl, inr, Some, None}
 use Rattle.std.specs.Prelude.{ℤ}
+use Rattle.std.proofs.lemmas.Int.{ints}
 use Rattle.oct_key.specs.Block.{Cube, child_of, root_block}
 use Rattle.oct_arena.specs.declared.node.GroupId.{GroupId}
 use Rattle.oct_arena.specs.declared.node.Node.{Node}
 use Rattle.oct_arena.specs.declared.node.Node.TheVariants.{Absent, Leaf, Inner}
-use Rattle.oct_arena.specs.Entries.{IsLive, entry, home_at, node_at, live}
+use Rattle.oct_arena.specs.Entries.{Groups, IsLive, entry, home_at, node_at, live}
 use Rattle.oct_arena.proofs.Entries.{live_spare}
 use Rattle.oct_tree.specs.declared.place.Place.{Place}
 use Rattle.oct_tree.specs.declared.place.Place.TheVariants.{Root, Slot}
-use Rattle.oct_tree.specs.Nodes.{link_of, stored_in, IsCollapsible, IsKnown, IsGreatest}
+use Rattle.oct_tree.specs.Nodes.{IsCollapsible, IsKnown, IsGreatest}
+use Rattle.oct_arena.specs.Nodes.{link_of, stored_in}
 use Rattle.oct_tree.specs.Places.{group_of}
 use Rattle.oct_tree.specs.Tree.{Tree, IsLinked, IsPlace, node_in, block_in, value_at}
 use Rattle.oct_tree.specs.Shape.{IsWellFormed, IsFresh, IsPruned}
-use Rattle.oct_tree.specs.Changes.{SameValues, IsSameOutside, IsWritten, IsRenewed}
+use Rattle.oct_tree.specs.Changes.{IsSameOutside, IsWritten, IsRenewed}
+use Rattle.oct_key.specs.Values.{SameValues}
 use Rattle.oct_tree.proofs.Paths.{some_injective, some_not_none, live_home, homed_entry, linked_home, linked_index, slot_block, linked_block}
 use Rattle.oct_tree.proofs.Links.{same_place}
 use Rattle.oct_tree.proofs.Entries.{not_own, block_kept}
-use Rattle.oct_tree.proofs.Frames.{child_lies_in, id_of}
+use Rattle.oct_tree.proofs.Frames.{id_of, same_written}
+use Rattle.oct_key.proofs.Nested.{child_lies_in}
 use Rattle.oct_inner.specs.Changes.{IsSameButValue, IsSameButInner}
-use Rattle.oct_inner.specs.Passes.{IsFreshAt, IsPassed, IsPassing, IsRefreshing}
-use Rattle.oct_inner.proofs.Within.{IsLocal, IsClosed, place_by_block, passed_closed, within_root}
+use Rattle.oct_inner.specs.Passes.{IsFreshAt, IsRefreshing}
+use Rattle.oct_tree.specs.Passes.{IsPassed, IsPassing}
+use Rattle.oct_tree.proofs.Within.{IsLocal, IsClosed, place_by_block, passed_closed, within_root}
 
 -- nodes that are the same but for the value
 same_value_refl : (n : Node) → IsSameButValue n n
@@ -69,6 +74,7 @@ refreshing_refl t = record {
     res = refl;
     odds = refl;
   };
+  fresh = λ h. refl;
 }
 
 pub refreshing_trans : (t u w : Tree) → IsRefreshing t u → IsRefreshing u w → IsRefreshing t w
@@ -83,6 +89,7 @@ refreshing_trans t u w s r = record {
     res = r.nodes.res ∙ s.nodes.res;
     odds = r.nodes.odds ∙ s.nodes.odds;
   };
+  fresh = λ h. (let same = s.fresh h in r.fresh (subst IsFresh (sym same) h) ∙ same);
 }
 
 -- where homes stay, groups do
@@ -135,16 +142,30 @@ collapsible_before t u l s x h c = by c
 pub pruned_kept : (t u : Tree) → IsLinked t → IsSameButInner t u → IsPruned t → IsPruned u
 pruned_kept t u l s h x live c = (let before = live_kept t u s.homes x live in h x before (collapsible_before t u l s x before c))
 
+-- a group has one greatest value
+one_greatest : (gs : Groups) (x : ℕ) (m n : ℤ) → IsGreatest gs x m → IsGreatest gs x n → m ≡ n
+one_greatest gs x m n g h =
+    let (i, li, is) = g.there in
+    let (j, lj, is') = h.there in
+    let low = h.most i m li is in
+    let high = g.most j n lj is' in
+    omega (arith, ints, low, high)
+
 -- the place is renewed
 pub renew_closed : (t u : Tree) (p : Place) (b : Cube) (id : GroupId) (v : ℤ) → IsWellFormed t → IsPlace t p → block_in t p ≡ Some b
     → node_in t p ≡ Inner v id
     → IsRenewed t u p → SameValues (value_at t) (value_at u) → IsSameOutside t u b → IsLinked u → IsClosed IsFreshAt IsRefreshing t u p b
 renew_closed t u p b id v f ok e link renewed values outside linked = by (renewed id v link)
   where
+    unchanged : (m : ℤ) → IsGreatest t.groups id.number m → IsWritten t u p (Inner m id) → IsGreatest t.groups id.number v → u ≡ t
+    unchanged m best w there =
+        let value : m ≡ v = one_greatest t.groups id.number m v best there in
+        same_written t u p (Inner m id) f.linked linked w (ap (λ n. Inner n id) value ∙ sym link)
+
     by : ((m : ℤ) × IsGreatest t.groups id.number m × IsWritten t u p (Inner m id)) → IsClosed IsFreshAt IsRefreshing t u p b
     by (m, best, w) = record {
       formed = record { linked = linked; known = known_kept t u f same };
-      kept = record { values = values; nodes = same };
+      kept = record { values = values; nodes = same; fresh = λ h. unchanged m best w (h.greatest p id v link) };
       outside = outside;
       place = place_by_block t u p b ok block;
       block = block;

@@ -1,24 +1,28 @@
 //! Passes over a whole occupancy tree that change no voxel.
 //!
-//! An Inner node has a value of its own, by which queries at its depth are answered without a look below it: the greatest that stands
-//! in its group, as in the OctoMap library. An edit that is lazy leaves these values as they were, and groups that say no more than one
-//! node does. [`refresh`] mends the values, as `updateInnerOccupancy` of the library does, and [`prune`] takes the groups away, as its
-//! `prune` does.
+//! An Inner node has a value of its own, by which queries at its depth are answered without a look
+//! below it: the greatest that stands in its group, as in the OctoMap library. An edit that is lazy
+//! leaves these values as they were, and groups that say no more than one node does. [`refresh`]
+//! mends the values, as `updateInnerOccupancy` of the library does, and [`prune`] takes the groups
+//! away, as its `prune` does.
 //!
 //! What the contracts promise of a well-formed tree:
 //!
-//! - After [`refresh`] the tree is fresh: each Inner value is the greatest of its group. All else stays: every voxel's value, every
-//!   leaf, every group with its home and its id, and every link (`IsSameButInner`). So a pruned tree stays pruned.
-//! - After [`prune`] no group is left whose nodes are all absent or all leaves of one value. Every voxel keeps its value, no group and
-//!   no Inner node is made or changes (`IsShrunk`), and the tree stays well-formed, and fresh where it was. A tree that is pruned is
-//!   left as it is.
+//! - After [`refresh`] the tree is fresh: each Inner value is the greatest of its group. All else
+//!   stays: every voxel's value, every leaf, every group with its home and its id, and every link
+//!   (`IsSameButInner`). So a pruned tree stays pruned.
+//! - After [`prune`] no group is left whose nodes are all absent or all leaves of one value. Every
+//!   voxel keeps its value, no group and no Inner node is made or changes (`IsShrunk`), and the
+//!   tree stays well-formed, and fresh where it was. A tree that is pruned is left as it is.
 //!
-//! Both go from the root down to the leaves and close each group on the way up, after all groups below it, so that each group is
-//! visited once. Neither takes memory, and neither can fail. How deep they call themselves is bounded by the depth of the tree.
+//! Both go from the root down to the leaves and close each group on the way up, after all groups
+//! below it, so that each group is visited once. Neither takes memory, and neither can fail. How
+//! deep they call themselves is bounded by the depth of the tree.
 //!
-//! The proof of both is one: `AllWithin` says of a block that something is so at each place within it, and the pass of a block is done
-//! (`IsPassed`) once its eight children are and its own node is closed. `Within` of `proofs/` has this for anything that is said of a
-//! node and its group alone, and for whatever the pass keeps. The map with all its commands stands on this crate.
+//! The proof of both is one: `AllWithin` says of a block that something is so at each place within
+//! it, and the pass of a block is done (`IsPassed`) once its eight children are and its own node is
+//! closed. `Within` of `proofs/` has this for anything that is said of a node and its group alone,
+//! and for whatever the pass keeps. The map with all its commands stands on this crate.
 #![tactic(auto)]
 
 mod pruning;

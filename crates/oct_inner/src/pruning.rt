@@ -2,15 +2,16 @@ ghost use Rattle.std.specs.Prelude.{◌≡◌, Some};
 ghost use Rattle.oct_key.specs.Block.{Cube};
 ghost use Rattle.oct_tree.specs.Tree.{IsPlace, block_in, value_at};
 ghost use Rattle.oct_tree.specs.Shape.{IsWellFormed, IsFresh, IsPruned};
-ghost use Rattle.oct_tree.specs.Changes.{SameValues};
+ghost use Rattle.oct_key.specs.Values.{SameValues};
 ghost use Rattle.oct_inner.specs.Changes.{IsShrunk};
-ghost use Rattle.oct_inner.specs.Passes.{IsPassed, IsPrunedAt, IsPruning};
+ghost use Rattle.oct_inner.specs.Passes.{IsPrunedAt, IsPruning};
+ghost use Rattle.oct_tree.specs.Passes.{IsPassed};
 
 use oct_arena::Node;
 use oct_tree::{OccTree, Place};
 
-/// Collapses groups until none is left whose nodes are all absent or all leaves of one value. No voxel changes, and the Inner nodes
-/// that are left keep their values. Closes each group once.
+/// Collapses groups until none is left whose nodes are all absent or all leaves of one value. No
+/// voxel changes, and the Inner nodes that are left keep their values. Closes each group once.
 pub fn prune(tree: &mut OccTree)
     requires { IsWellFormed tree.old }
     ensures formed { IsWellFormed tree.new }
@@ -27,7 +28,8 @@ pub fn prune(tree: &mut OccTree)
 fn prune_place(tree: &mut OccTree, p: Place)
     requires formed { IsWellFormed tree.old }
     requires place { IsPlace tree.old p }
-    ensures { (b : Cube) → block_in tree.old p ≡ Some b → IsPassed IsPrunedAt IsPruning tree.old tree.new b }
+    ensures { (b : Cube) → block_in tree.old p ≡ Some b
+        → IsPassed IsPrunedAt IsPruning tree.old tree.new b }
 {
     let Node::Inner(_, id) = tree.node(p) else {
         return;

@@ -62,7 +62,8 @@ fn enter(tree: &mut OccTree, p: Place) -> Option<GroupId>
     requires place { IsPlace tree.old p }
     requires depth { (b : Cube) → block_in tree.old p ≡ Some b → b.depth ≤ 15 }
     ensures formed { IsWellFormed tree.new }
-    ensures home { (b : Cube) → block_in tree.old p ≡ Some b → IfSome result (λ id. home_at tree.new.groups id.number ≡ Some b) }
+    ensures home { (b : Cube) → block_in tree.old p ≡ Some b
+        → IfSome result (λ id. home_at tree.new.groups id.number ≡ Some b) }
 {
     match tree.node(p) {
         Node::Absent => None,
@@ -72,8 +73,8 @@ fn enter(tree: &mut OccTree, p: Place) -> Option<GroupId>
     }
 }
 
-/// Puts a leaf at the end of the path below the place, and splits the leaves on the way. Answers false where the path meets an absent
-/// or an Inner node, or there is no room.
+/// Puts a leaf at the end of the path below the place, and splits the leaves on the way. Answers
+/// false where the path meets an absent or an Inner node, or there is no room.
 fn put(tree: &mut OccTree, p: Place, depth: u8, path: &[u8], value: i32) -> bool
     requires formed { IsWellFormed tree.old }
     requires place { IsPlace tree.old p }
@@ -104,8 +105,8 @@ fn unknown(alloc: Global, n: u32) -> Option<OccTree>
     Some(tree)
 }
 
-/// A tree whose children are 100 but for the fourth, which is 850, and the sixth, whose own children are -400. The Inner nodes have the
-/// value 100 that they began with.
+/// A tree whose children are 100 but for the fourth, which is 850, and the sixth, whose own
+/// children are -400. The Inner nodes have the value 100 that they began with.
 fn stale(alloc: Global) -> Option<OccTree>
     ensures { IfSome result (λ tree. IsWellFormed tree) }
 {

@@ -3,10 +3,11 @@ use Rattle.std.proofs.Common.{◌≡◌, ℕ, zero, suc, ◌*◌, ◌≤◌, Boo
 use Rattle.std.specs.Prelude.{Option, sum_by}
 use Rattle.std.proofs.lemmas.List.Sums.{sum_by-cons}
 use Rattle.std.proofs.lemmas.List.Elements.{All-from_get_or}
-use Rattle.oct_key.specs.Block.{Cube, IsBlock}
+use Rattle.oct_key.specs.Block.{Cube, IsBlock, is_same_block}
 use Rattle.oct_key.specs.CubeOf.{cube_of}
-use Rattle.oct_values.specs.Blocks.{blocks_above_voxels, is_same_block}
-use Rattle.oct_values.proofs.Listed.{is_same_block_exact, is_same_block_refl, block_listed_once}
+use Rattle.oct_values.specs.Blocks.{blocks_above_voxels}
+use Rattle.oct_values.proofs.Listed.{block_listed_once}
+use Rattle.oct_key.proofs.Blocks.{is_same_block_exact, is_same_block_refl}
 use Rattle.oct_values.proofs.Sums.{sum_by-same, sum_by-none, sum_by-turned, sum_by-counted}
 use Rattle.oct_arena.specs.declared.node.Group.{Group}
 use Rattle.oct_arena.specs.Entries.{Groups, entry, home_of, home_at}

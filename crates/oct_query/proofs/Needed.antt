@@ -9,7 +9,7 @@ use Rattle.oct_odds.specs.Update.{Value}
 use Rattle.oct_values.specs.Blocks.{blocks_above_voxels}
 use Rattle.oct_values.specs.Counts.{IsUniform, is_uniform, group_count}
 use Rattle.oct_values.proofs.Sums.{All-follows, sum_by-same, sum_by-each_le, sum_by-each_exact}
-use Rattle.oct_values.proofs.Held.{held_by_parent, held_by_child, child_depths}
+use Rattle.oct_key.proofs.Held.{held_by_parent, held_by_child, child_depths}
 use Rattle.oct_values.proofs.Listed.{all_above_voxels, holds_of_block}
 use Rattle.oct_values.proofs.Children.{uniform_child}
 use Rattle.oct_values.proofs.Uniform.{uniform_exactly, uniform_of, value_of_uniform, same_group_count}
@@ -17,13 +17,14 @@ use Rattle.oct_arena.specs.declared.node.Node.{Node}
 use Rattle.oct_arena.specs.declared.node.Node.TheVariants.{Absent, Leaf, Inner}
 use Rattle.oct_arena.specs.declared.node.Group.{Group}
 use Rattle.oct_arena.specs.Entries.{entry, home_at, node_at, live}
-use Rattle.oct_tree.specs.Nodes.{link_of, value_of, IsAll, IsCollapsible}
+use Rattle.oct_tree.specs.Nodes.{IsAll, IsCollapsible}
+use Rattle.oct_arena.specs.Nodes.{link_of, value_of}
 use Rattle.oct_tree.specs.Tree.{Tree, IsLinked, reach, value_at}
 use Rattle.oct_tree.specs.Shape.{IsPruned}
 use Rattle.oct_tree.proofs.Paths.{some_injective, some_not_none, homed_entry, live_home, same_home}
 use Rattle.oct_query.specs.Nodes.{IsHome}
 use Rattle.oct_query.proofs.Homes.{at_home, no_home, one_home, by_homes}
-use Rattle.oct_query.proofs.Over.{over_lowest, over_value, over_home, slot_value, slot_home}
+use Rattle.oct_tree.proofs.Over.{over_lowest, over_value, over_home, slot_value, slot_home}
 
 -- a block that is no group's home is uniform
 homeless_uniform : (t : Tree) (b : Cube) → IsLinked t → IsBlock b → link_of (reach t b.depth (lowest_voxel b)) ≡ None

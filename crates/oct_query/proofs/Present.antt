@@ -5,25 +5,25 @@ use Rattle.std.proofs.lemmas.Bool.{false≢true}
 use Rattle.oct_key.specs.Voxel.{Voxel, IsInMap}
 use Rattle.oct_key.specs.Values.{Values}
 use Rattle.oct_key.specs.Block.{Cube, IsBlock, child_of, root_block, lowest_voxel}
-use Rattle.oct_key.proofs.Blocks.{depth_child_of, lowest_held, child_in_map, root_holds}
+use Rattle.oct_key.proofs.Blocks.{depth_child_of, lowest_held, child_in_map, root_holds, root_in_map}
 use Rattle.oct_values.specs.Blocks.{child_numbers, blocks_above_voxels}
 use Rattle.oct_values.specs.Counts.{IsKnownIn, is_uniform, is_known_in, known_children, needed_nodes, node_count}
 use Rattle.oct_values.proofs.Eights.{all_eight}
 use Rattle.oct_values.proofs.Sums.{All-follows, sum_by-same, sum_by-none, sum_by-each_le, count_by-same}
-use Rattle.oct_values.proofs.Held.{held_in_map, child_depths}
-use Rattle.oct_values.proofs.Listed.{root_in_map, all_above_voxels}
+use Rattle.oct_key.proofs.Held.{held_in_map, child_depths}
+use Rattle.oct_values.proofs.Listed.{all_above_voxels}
 use Rattle.oct_values.proofs.Children.{known_above}
 use Rattle.oct_values.proofs.Uniform.{known_exactly, uniform_of, same_node_count}
 use Rattle.oct_arena.specs.declared.node.Node.{Node}
 use Rattle.oct_arena.specs.declared.node.Node.TheVariants.{Absent, Leaf, Inner}
 use Rattle.oct_arena.specs.Entries.{entry, home_at, node_at}
-use Rattle.oct_tree.specs.Nodes.{link_of, value_of}
+use Rattle.oct_arena.specs.Nodes.{link_of, value_of}
 use Rattle.oct_tree.specs.Tree.{Tree, IsLinked, value_at}
 use Rattle.oct_tree.specs.Shape.{IsWellFormed, IsPruned}
 use Rattle.oct_tree.proofs.Paths.{homed_entry, reach_zero}
 use Rattle.oct_query.specs.Nodes.{is_present, present_nodes, nodes_of}
 use Rattle.oct_query.proofs.Homes.{at_home, no_home, by_homes}
-use Rattle.oct_query.proofs.Over.{IsOver, over_value, over_home, slot_value, slot_home}
+use Rattle.oct_tree.proofs.Over.{IsOver, over_value, over_home, slot_value, slot_home}
 use Rattle.oct_query.proofs.Needed.{home_or_uniform, sum_at_home, home_varied}
 
 -- a value that is there isn't none

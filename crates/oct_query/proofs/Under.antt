@@ -3,12 +3,12 @@ use Rattle.std.proofs.Common.{◌≡◌, ℕ, zero, suc, ◌+◌, ◌-◌, ◌*�
 use Rattle.std.specs.Prelude.{ℤ, Option, sum_by}
 use Rattle.std.proofs.Math.Nat.{one-le-pow, pow-suc, pow-le-pow_right, mul-le-mul_right}
 use Rattle.oct_key.specs.Block.{Cube, IsBlock, child_of, child_index_of, root_block, lowest_voxel}
-use Rattle.oct_key.proofs.Blocks.{depth_child_of, child_in_map, lowest_held, lowest_in_map}
+use Rattle.oct_key.proofs.Blocks.{depth_child_of, child_in_map, lowest_held, lowest_in_map, root_in_map}
 use Rattle.oct_values.specs.Blocks.{child_numbers, blocks_below}
 use Rattle.oct_values.proofs.Eights.{same_eight, none_of_eight}
 use Rattle.oct_values.proofs.Sums.{sum_by-plus}
-use Rattle.oct_values.proofs.Held.{child_depths, held_by_parent}
-use Rattle.oct_values.proofs.Listed.{root_in_map, sum_of_blocks, sum_of_no_blocks}
+use Rattle.oct_key.proofs.Held.{child_depths, held_by_parent}
+use Rattle.oct_values.proofs.Listed.{sum_of_blocks, sum_of_no_blocks}
 use Rattle.oct_arena.specs.declared.node.GroupId.{GroupId}
 use Rattle.oct_arena.specs.declared.node.Group.{Group}
 use Rattle.oct_arena.specs.declared.node.Node.{Node}
@@ -16,13 +16,13 @@ use Rattle.oct_arena.specs.declared.node.Node.TheVariants.{Absent, Leaf, Inner}
 use Rattle.oct_arena.specs.Entries.{Groups, node_at}
 use Rattle.oct_tree.specs.declared.place.Place.{Place}
 use Rattle.oct_tree.specs.declared.place.Place.TheVariants.{Slot}
-use Rattle.oct_tree.specs.Nodes.{link_of}
+use Rattle.oct_arena.specs.Nodes.{link_of}
 use Rattle.oct_tree.specs.Tree.{Tree, IsLinked, IsPlace, node_in, block_in, reach, step}
 use Rattle.oct_tree.proofs.Paths.{some_injective, some_not_none, place_block, linked_block, slot_place, slot_block, reach_zero, reach_suc, unlinked_step}
 use Rattle.oct_query.specs.Nodes.{is_present, present_nodes, nodes_of}
 use Rattle.oct_query.specs.Under.{sum_below, nodes_under}
 use Rattle.oct_query.proofs.Homes.{at_home, no_home, by_homes}
-use Rattle.oct_query.proofs.Over.{IsOver, over_child, over_home}
+use Rattle.oct_tree.proofs.Over.{IsOver, over_child, over_home}
 use Rattle.oct_query.proofs.Needed.{sum_at_home}
 
 -- the sum over the eight numbers

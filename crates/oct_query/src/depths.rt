@@ -3,54 +3,27 @@ ghost use Rattle.oct_key.specs.Voxel.{Voxel, IsInMap};
 ghost use Rattle.oct_key.specs.Block.{HoldsVoxel, lowest_voxel};
 ghost use Rattle.oct_key.specs.CubeOf.{cube_of};
 ghost use Rattle.oct_values.specs.Depths.{IsLargestIn};
-ghost use Rattle.oct_tree.specs.Nodes.{stored_in};
+ghost use Rattle.oct_arena.specs.Nodes.{stored_in};
 ghost use Rattle.oct_tree.specs.Tree.{IsLinked, reach, value_at};
 ghost use Rattle.oct_tree.specs.Shape.{IsFresh};
 
-use oct_arena::Node;
-use oct_key::{Block, Key, child_index};
-use oct_tree::{OccTree, Place};
+use oct_key::{Block, Key};
+use oct_tree::OccTree;
 
-/// What the tree holds for the block: the value that stands in its node, or in the leaf that covers it, or `None` where its node, or
-/// one that covers it, is absent. Reads at most sixteen nodes of the arena and takes no memory.
+/// What the tree holds for the block: the value that stands in its node, or in the leaf that covers
+/// it, or `None` where its node, or one that covers it, is absent. Reads at most sixteen nodes of
+/// the arena and takes no memory.
 ///
-/// In a fresh tree, and for a voxel in every tree, this is the largest known value among the block's voxels, or `None` where all of
-/// them are unknown.
+/// In a fresh tree, and for a voxel in every tree, this is the largest known value among the
+/// block's voxels, or `None` where all of them are unknown.
 pub fn query(tree: &OccTree, b: Block) -> Option<i32>
-    ensures node { (k : Voxel) → HoldsVoxel (cube_of b) k → result ≡ stored_in (reach tree.now b.depth k) }
+    ensures node { (k : Voxel) → HoldsVoxel (cube_of b) k
+        → result ≡ stored_in (reach tree.now b.depth k) }
     ensures fresh { IsFresh tree.now → IsLargestIn (value_at tree.now) (cube_of b) result }
     ensures voxel { b.depth ≡ 16 → IsLargestIn (value_at tree.now) (cube_of b) result }
     ensures linked { IsLinked tree.now }
 {
-    stored_value(node_over(tree, lowest_voxel(b), b.depth))
-}
-
-/// The node that covers the voxel at the depth.
-fn node_over(tree: &OccTree, k: Key, depth: u8) -> Node
-    requires voxel { IsInMap k }
-    requires levels { depth ≤ 16 }
-    ensures exact { result ≡ reach tree.now depth k }
-    ensures linked { IsLinked tree.now }
-{
-    let mut node = tree.root();
-    for level in 0..depth {
-        let Node::Inner(_, id) = node else {
-            return node;
-        };
-        node = tree.node(Place::Slot(id, child_index(k, level)));
-    }
-    node
-}
-
-/// The value that stands in the node.
-fn stored_value(node: Node) -> Option<i32>
-    ensures { result ≡ stored_in node }
-{
-    match node {
-        Node::Absent => None,
-        Node::Leaf(value) => Some(value),
-        Node::Inner(value, _) => Some(value),
-    }
+    tree.node_over(lowest_voxel(b), b.depth).stored()
 }
 
 /// The voxel of the block with the lowest number on each axis.

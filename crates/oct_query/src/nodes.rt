@@ -11,17 +11,19 @@ use crate::totals::Counts;
 use oct_arena::Node;
 use oct_tree::{OccTree, Place};
 
-/// How many groups the tree has, and how many nodes that aren't absent. Reads each node once and takes no memory.
+/// How many groups the tree has, and how many nodes that aren't absent. Reads each node once and
+/// takes no memory.
 ///
-/// No tree of these values has fewer. A tree has as few groups as its values need exactly where it is pruned, and then, if it is
-/// well-formed, as few nodes too.
+/// No tree of these values has fewer. A tree has as few groups as its values need exactly where it
+/// is pruned, and then, if it is well-formed, as few nodes too.
 pub fn counts(tree: &OccTree) -> Counts
     ensures groups { result.groups ≡ live tree.now.groups }
     ensures nodes { result.nodes ≡ nodes_of tree.now.groups tree.now.root }
     ensures least_groups { group_count (value_at tree.now) ≤ result.groups }
     ensures least_nodes { node_count (value_at tree.now) ≤ result.nodes }
     ensures pruned_groups { (result.groups ≡ group_count (value_at tree.now)) ↔ IsPruned tree.now }
-    ensures pruned_nodes { IsWellFormed tree.now → IsPruned tree.now → result.nodes ≡ node_count (value_at tree.now) }
+    ensures pruned_nodes { IsWellFormed tree.now → IsPruned tree.now
+        → result.nodes ≡ node_count (value_at tree.now) }
     ensures linked { IsLinked tree.now }
 {
     Counts {
@@ -30,7 +32,8 @@ pub fn counts(tree: &OccTree) -> Counts
     }
 }
 
-/// How many nodes aren't absent, of the one at the place, whose block has this depth, and those under it.
+/// How many nodes aren't absent, of the one at the place, whose block has this depth, and those
+/// under it.
 fn nodes_under(tree: &OccTree, p: Place, depth: u8) -> u64
     requires place { IsPlace tree.now p }
     requires block { (b : Cube) → block_in tree.now p ≡ Some b → b.depth ≡ depth }

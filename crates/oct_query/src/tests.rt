@@ -1,7 +1,7 @@
 ghost use Rattle.std.specs.Prelude.{◌≡◌, None};
 ghost use Rattle.oct_odds.specs.Odds.{odds_of, IsSmall};
 ghost use Rattle.oct_odds.specs.Update.{IsWithin};
-ghost use Rattle.oct_tree.specs.Nodes.{link_of, value_of};
+ghost use Rattle.oct_arena.specs.Nodes.{link_of, value_of};
 
 use super::*;
 use oct_arena::Node;
@@ -38,7 +38,8 @@ fn known_world(alloc: Global) -> Result<OccTree, Fail> {
     Ok(tree)
 }
 
-/// A tree in which child 3 of the map has the value 900 and child 5 the value -400, and all else is unknown.
+/// A tree in which child 3 of the map has the value 900 and child 5 the value -400, and all else is
+/// unknown.
 fn two_children(alloc: Global) -> Result<OccTree, Fail> {
     let res = Res::new(100_000_000)?;
     let odds = OddsModel::default();

@@ -12,11 +12,11 @@ use Rattle.oct_arena.specs.declared.node.Node.{Node}
 use Rattle.oct_arena.specs.declared.node.Node.TheVariants.{Absent, Inner}
 use Rattle.oct_arena.specs.declared.node.Group.{Group}
 use Rattle.oct_arena.specs.Entries.{Groups, IsArena, IsLive, entry, home_at, node_at, home_of, node_of, with_node, spare}
-use Rattle.oct_arena.specs.Ids.{same_ids}
+use Rattle.oct_arena.proofs.Ids.{same_ids}
 use Rattle.oct_arena.proofs.Entries.{live_within, entry_set_same, entry_set_other, spare_filled, spare_vacated, spare_changed, node_with_same, node_with_other, home_with, arena_changed, arena_filled}
 use Rattle.oct_tree.specs.declared.place.Place.{Place}
 use Rattle.oct_tree.specs.declared.place.Place.TheVariants.{Root, Slot}
-use Rattle.oct_tree.specs.Nodes.{link_of}
+use Rattle.oct_arena.specs.Nodes.{link_of}
 use Rattle.oct_tree.specs.Places.{IsPlaceOf, group_of, groups_with, root_with}
 use Rattle.oct_tree.specs.Tree.{Tree, IsLinked, IsPlace, node_in, block_in}
 use Rattle.oct_tree.specs.Changes.{IsWritten, IsSplit}

@@ -1,66 +1,27 @@
 -- What a change of one block leaves as it was.
-use Rattle.std.proofs.Common.{◌≡◌, ◌≢◌, ℕ, suc, zero, ◌+◌, ◌%◌, ◌^◌, ◌<◌, ◌≤◌, List, length, refl, sym, ◌∙◌, ap, subst, arith, Some, None}
+use Rattle.std.proofs.Common.{◌≡◌, ℕ, ◌+◌, ◌^◌, ◌<◌, ◌≤◌, List, length, refl, sym, ◌∙◌, ap, subst, arith, inl, inr, Some, None}
 use Rattle.std.specs.Prelude.{Option, ℤ, option_map}
 use Rattle.std.proofs.lemmas.List.{ext_get_or}
 use Rattle.oct_key.specs.Voxel.{Voxel, IsInMap}
 use Rattle.oct_key.specs.declared.block.Block.{Block}
 use Rattle.oct_key.specs.CubeOf.{cube_of}
-use Rattle.oct_key.specs.Block.{Cube, HoldsVoxel, child_of, lowest_voxel}
-use Rattle.oct_key.proofs.Blocks.{child_holds, lowest_held, same_cube, same_block}
+use Rattle.oct_key.specs.Block.{Cube, HoldsVoxel, child_of, LiesIn}
+use Rattle.oct_key.proofs.Blocks.{same_block}
+use Rattle.oct_key.proofs.Nested.{lies_in_self, child_lies_in, parent_outside, holds_apart}
+use Rattle.oct_odds.specs.Odds.{Odds}
 use Rattle.oct_arena.specs.declared.node.GroupId.{GroupId}
 use Rattle.oct_arena.specs.declared.node.Node.{Node}
 use Rattle.oct_arena.specs.declared.node.Node.TheVariants.{Absent}
 use Rattle.oct_arena.specs.declared.node.Group.{Group}
-use Rattle.oct_arena.specs.Entries.{IsLive, entry, home_at, node_at, home_of, node_of}
+use Rattle.oct_arena.specs.Entries.{Groups, IsLive, entry, home_at, node_at, home_of, node_of}
 use Rattle.oct_arena.proofs.Entries.{live_within}
 use Rattle.oct_tree.specs.declared.place.Place.{Place}
 use Rattle.oct_tree.specs.declared.place.Place.TheVariants.{Root, Slot}
-use Rattle.oct_tree.specs.Nodes.{link_of, value_of}
-use Rattle.oct_tree.specs.Tree.{Tree, IsLinked, block_in, reach, value_at}
-use Rattle.oct_tree.specs.Changes.{IsWritten, IsSplit, LiesIn, IsSameOutside}
-use Rattle.oct_tree.proofs.Paths.{some_injective, some_not_none, homed_entry, same_path}
-use Rattle.oct_tree.proofs.Links.{slot_of, vacant_home}
-
--- a block lies in itself
-pub lies_in_self : (b : Cube) → LiesIn b b
-lies_in_self b k h = h
-
-pub lies_in_trans : (a b c : Cube) → LiesIn a b → LiesIn b c → LiesIn a c
-lies_in_trans a b c f g k h = g k (f k h)
-
--- child i counts its eight over and over
-child_again : (b : Cube) (i : ℕ) → child_of b i ≡ child_of b (i % 8)
-unfolding child_of
-child_again b i = same_cube _ _ refl (omega arith) (omega arith) (omega arith)
-
--- a child lies in its block
-pub child_lies_in : (b : Cube) (i : ℕ) → b.depth ≤ 15 → LiesIn (child_of b i) b
-child_lies_in b i low k h = ((child_holds b (i % 8) k (omega arith) (omega arith)).0 (subst (λ c. HoldsVoxel c k) (child_again b i) h)).0
-
--- what lies in one child of a block lies in no other
-pub apart : (b c : Cube) (i j : ℕ) → b.depth ≤ 15 → i < 8 → j < 8 → i ≢ j → LiesIn c (child_of b i) → LiesIn c (child_of b j) → ⊥
-apart b c i j low li lj ne f g =
-    let k = lowest_voxel c in
-    let x = ((child_holds b i k (omega arith) li).0 (f k (lowest_held c))).1 in
-    let y = ((child_holds b j k (omega arith) lj).0 (g k (lowest_held c))).1 in
-    ne (sym x ∙ y)
-
--- a block does not lie in its child
-pub parent_apart : (b : Cube) (i : ℕ) → b.depth ≤ 15 → i < 8 → LiesIn b (child_of b i) → ⊥
-parent_apart b zero low li f = apart b (child_of b 1) 1 0 low (omega arith) (omega arith) (omega arith) (lies_in_self (child_of b 1)) (λ k h. f k (child_lies_in b 1 low k h))
-parent_apart b (suc i) low li f = apart b (child_of b 0) 0 (suc i) low (omega arith) li (omega arith) (lies_in_self (child_of b 0)) (λ k h. f k (child_lies_in b 0 low k h))
-
--- a block outside a child's is no part of the child's: from a child to its block, less is outside
-pub outside_child : (b c : Cube) (i : ℕ) → b.depth ≤ 15 → (LiesIn c b → ⊥) → LiesIn c (child_of b i) → ⊥
-outside_child b c i low out f = out (λ k h. child_lies_in b i low k (f k h))
-
--- a block that holds a voxel which another does not hold does not lie in it
-pub holds_apart : (b c : Cube) (k : Voxel) → HoldsVoxel c k → (HoldsVoxel b k → ⊥) → LiesIn c b → ⊥
-holds_apart b c k h out f = out (f k h)
-
--- the home of a slot whose block does not lie in a block does not lie there
-pub home_outside : (h b : Cube) (i : ℕ) → h.depth ≤ 15 → (LiesIn (child_of h i) b → ⊥) → LiesIn h b → ⊥
-home_outside h b i low out f = out (λ k g. f k (child_lies_in h i low k g))
+use Rattle.oct_arena.specs.Nodes.{link_of}
+use Rattle.oct_tree.specs.Tree.{Tree, IsLinked, node_in, block_in, reach}
+use Rattle.oct_tree.specs.Changes.{IsWritten, IsSplit, IsSameOutside}
+use Rattle.oct_tree.proofs.Paths.{some_injective, some_not_none, homed_entry, homeless_entry, same_path}
+use Rattle.oct_tree.proofs.Links.{same_place, slot_of, vacant_home}
 
 -- the same tree
 pub same_outside_refl : (t : Tree) (b : Cube) → IsSameOutside t t b
@@ -76,7 +37,7 @@ block_outside t u b l s (Slot id i) c out e = find (home_at t.groups id.number) 
     find (Some h) f =
         let is : child_of h i ≡ c = some_injective (sym (ap (option_map (λ b. child_of b i)) f) ∙ e) in
         let low = (l.homes id.number h f).1 in
-        let far = home_outside h b i low (subst (λ d. LiesIn d b → ⊥) (sym is) out) in
+        let far = parent_outside h b i low (subst (λ d. LiesIn d b → ⊥) (sym is) out) in
         ap (option_map (λ b. child_of b i)) (s.kept id.number h far f) ∙ ap Some is
 
 -- one change after another
@@ -108,10 +69,6 @@ same_outside_parent t u b i low s = same_outside_wider t u (child_of b i) b (chi
 -- the path to a voxel outside the block is as it was, and so is its value
 pub path_outside : (t u : Tree) (b : Cube) → IsLinked t → IsSameOutside t u b → (k : Voxel) → IsInMap k → (HoldsVoxel b k → ⊥) → (d : ℕ) → d ≤ 16 → reach u d k ≡ reach t d k
 path_outside t u b l s k v out d m = same_path t u k l v (λ q c f inside. s.nodes q c (holds_apart b c k inside out) f) d m
-
-pub value_outside : (t u : Tree) (b : Cube) → IsLinked t → IsSameOutside t u b → (k : Voxel) → IsInMap k → (HoldsVoxel b k → ⊥) → value_at u k ≡ value_at t k
-unfolding value_at
-value_outside t u b l s k v out = ap value_of (path_outside t u b l s k v out 16 (omega arith))
 
 -- a write at a place changes its block alone
 pub written_same_outside : (t u : Tree) (p : Place) (n : Node) (b : Cube) → IsWritten t u p n → block_in t p ≡ Some b → IsSameOutside t u b
@@ -176,17 +133,29 @@ id_of t l x live =
     let small : x < 2 ^ 31 + 1023 = omega (arith, within, few) in
     (record { number = x; small = small }, refl)
 
--- a group none of whose nodes is of a block that lies within the block is as it was
-pub entry_outside : (t u : Tree) (b : Cube) → IsLinked t → IsLinked u → IsSameOutside t u b → (x : ℕ) (c : Cube) → home_at t.groups x ≡ Some c → ((i : ℕ) → i < 8 → LiesIn (child_of c i) b → ⊥) → entry u.groups x ≡ entry t.groups x
-entry_outside t u b l m s x c h out =
-    let low = (l.homes x c h).1 in
-    let far = home_outside c b 0 low (out 0 (omega arith)) in
-    let (id, is) = id_of t l x (homed_entry _ c h) in
-    same_entry (entry u.groups x) (entry t.groups x) c (s.kept x c far h) h (m.arena.eight x) (l.arena.eight x)
-    (λ i e. ap (λ y. node_at u.groups y i) (sym is) ∙ s.nodes (Slot id i) (child_of c i) (out i e) (ap (λ y. option_map (λ b. child_of b i) (home_at t.groups y)) is ∙ ap (option_map (λ b. child_of b i)) h) ∙ ap (λ y. node_at t.groups y i) is)
+-- trees of the same nodes, homes and lengths are one
+pub same_tree : (t u : Tree) → IsLinked t → IsLinked u → ((q : Place) → node_in u q ≡ node_in t q)
+    → ((x : ℕ) → home_at u.groups x ≡ home_at t.groups x) → length u.groups ≡ length t.groups → u.res ≡ t.res → u.odds ≡ t.odds → u ≡ t
+same_tree t u l m nodes homes len res odds =
+    let groups : u.groups ≡ t.groups = ext_get_or None u.groups t.groups len (λ x lx. entry_same x (home_at t.groups x) refl) in
+    let tree : Groups → Node → ℕ → Odds → Tree = λ gs n r o. record { groups = gs; root = n; res = r; odds = o } in
+    let root : u.root ≡ t.root = nodes Root in
+    let is : tree u.groups u.root u.res u.odds ≡ tree t.groups t.root t.res t.odds = rw (groups, root, res, odds) refl in
+    is
+  where
+    entry_same : (x : ℕ) (o : Option Cube) → home_at t.groups x ≡ o → entry u.groups x ≡ entry t.groups x
+    entry_same x None e = homeless_entry _ (homes x ∙ e) ∙ sym (homeless_entry _ e)
+    entry_same x (Some c) e =
+        let (id, is) = id_of t l x (homed_entry _ c e) in
+        same_entry (entry u.groups x) (entry t.groups x) c (homes x ∙ e) e (m.arena.eight x) (l.arena.eight x)
+        (λ i li. ap (λ y. node_at u.groups y i) (sym is) ∙ nodes (Slot id i) ∙ ap (λ y. node_at t.groups y i) is)
 
--- so is a group whose home has no voxel in common with the block
-pub entry_elsewhere : (t u : Tree) (b : Cube) → IsLinked t → IsLinked u → IsSameOutside t u b → (x : ℕ) (c : Cube) → home_at t.groups x ≡ Some c → ((k : Voxel) → HoldsVoxel c k → HoldsVoxel b k → ⊥) → entry u.groups x ≡ entry t.groups x
-entry_elsewhere t u b l m s x c h none = entry_outside t u b l m s x c h
-    (λ i e f. (let low = (l.homes x c h).1 in let k = lowest_voxel (child_of c i) in
-    none k (child_lies_in c i low k (lowest_held (child_of c i))) (f k (lowest_held (child_of c i)))))
+-- a write of the node that stands there changes nothing
+pub same_written : (t u : Tree) (p : Place) (n : Node) → IsLinked t → IsLinked u → IsWritten t u p n → n ≡ node_in t p → u ≡ t
+same_written t u p n l m w e = same_tree t u l m nodes w.homes w.length w.res w.odds
+  where
+    nodes : (q : Place) → node_in u q ≡ node_in t q
+    nodes q = elim (same_place q p) [
+      | inl f ↦ ap (node_in u) f ∙ w.there ∙ e ∙ ap (node_in t) (sym f)
+      | inr ne ↦ w.others q ne
+    ]

@@ -4,5 +4,9 @@ pub mod Frames
 pub mod Shapes
 pub mod Entries
 pub mod Steps
-pub mod Passes
+pub mod Surveys
+pub mod Formed
+pub mod Grown
+pub mod Within
+pub mod Over
 pub mod Callers

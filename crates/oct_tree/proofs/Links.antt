@@ -1,5 +1,5 @@
 -- Changes of a tree keep its links, and what they do to the value of each voxel.
-use Rattle.std.proofs.Common.{◌≡◌, ◌≢◌, ℕ, suc, zero, ◌≤◌, ◌++◌, refl, sym, ◌∙◌, ap, subst, arith, inl, inr, Some, None}
+use Rattle.std.proofs.Common.{◌≡◌, ◌≢◌, ℕ, suc, zero, ◌≤◌, refl, sym, ◌∙◌, ap, subst, arith, inl, inr, Some, None}
 use Rattle.std.specs.Prelude.{Option, ℤ, option_map, ◌⊎◌}
 use Rattle.std.proofs.lemmas.Bool.{cases_lt, cases_eq, false≢true}
 use Rattle.oct_key.specs.Voxel.{Voxel, IsInMap}
@@ -10,15 +10,15 @@ use Rattle.oct_odds.specs.Update.{Value, IsWithin}
 use Rattle.oct_arena.specs.declared.node.GroupId.{GroupId}
 use Rattle.oct_arena.specs.declared.node.Node.{Node}
 use Rattle.oct_arena.specs.declared.node.Node.TheVariants.{Absent}
-use Rattle.oct_arena.specs.Entries.{Groups, IsArena, entry, home_at, node_at, home_of, node_of, vacant}
-use Rattle.oct_arena.proofs.Entries.{entry_grown}
-use Rattle.oct_arena.specs.Ids.{same_ids}
+use Rattle.oct_arena.specs.Entries.{IsArena, entry, home_at, node_at, home_of, node_of}
+use Rattle.oct_arena.proofs.Ids.{same_ids}
 use Rattle.oct_tree.specs.declared.place.Place.{Place}
 use Rattle.oct_tree.specs.declared.place.Place.TheVariants.{Root, Slot}
-use Rattle.oct_tree.specs.Nodes.{link_of, value_of}
+use Rattle.oct_arena.specs.Nodes.{link_of, value_of}
 use Rattle.oct_tree.specs.Places.{group_of}
 use Rattle.oct_tree.specs.Tree.{Tree, IsLinked, IsPlace, node_in, block_in, step, reach, value_at}
-use Rattle.oct_tree.specs.Changes.{SameValues, IsWritten, IsSplit, IsGrown}
+use Rattle.oct_tree.specs.Changes.{IsWritten, IsSplit}
+use Rattle.oct_key.specs.Values.{SameValues}
 use Rattle.oct_tree.proofs.Paths.{some_injective, some_not_none, linked_id, step_linked, linked_step, unlinked_step, reach_zero, reach_home, live_home, linked_home, beyond_eight, linked_index, only_link, value_at_last, place_reached, child_reached, link_down, same_path}
 
 -- places are one or not
@@ -91,7 +91,7 @@ same_links t u Stays k same up (suc d) x stays h =
     ap link_of (step_linked u.groups _ y.number _ before) ∙ same (Slot y (child_index_of d k)) x stays q
 
 -- a leaf of the bounds stays one where the bounds do
-within_kept : (a b : Odds) (v w : Value) → b ≡ a → w ≡ v → IsWithin a v → IsWithin b w
+pub within_kept : (a b : Odds) (v w : Value) → b ≡ a → w ≡ v → IsWithin a v → IsWithin b w
 within_kept a b v w e f h = subst (λ o. IsWithin o w) (sym e) (subst (IsWithin a) (sym f) h)
 
 absent_within : (o : Odds) (v : Value) → v ≡ None → IsWithin o v
@@ -323,36 +323,3 @@ collapsed_linked t u p id v l none s a = record {
         let there = ap link_of (s.others q ne_p ne_g) ∙ h in
         let ne_x : x ≢ id.number = λ f. ne_p (only_link u l q p id.number (there ∙ ap Some f) (ap link_of s.link)) in
         sym (s.homes x ne_x) ∙ l.links q x there ∙ blocks q ne_g
-
--- more vacant entries change no node, no block and no path
-pub grown_nodes : (t u : Tree) → IsGrown t u → (p : Place) → node_in u p ≡ node_in t p
-grown_nodes t u g Root = g.root
-grown_nodes t u g (Slot id i) = ap (λ e. node_of e i) (g.entries id.number)
-
-pub grown_blocks : (t u : Tree) → IsGrown t u → (p : Place) → block_in u p ≡ block_in t p
-grown_blocks t u g Root = refl
-grown_blocks t u g (Slot id i) = ap (λ e. option_map (λ b. child_of b i) (home_of e)) (g.entries id.number)
-
-pub grown_values : (t u : Tree) → IsGrown t u → (k : Voxel) → value_at u k ≡ value_at t k
-grown_values t u g k = alike_values t u (λ q. (ap link_of (grown_nodes t u g q), ap value_of (grown_nodes t u g q))) k
-
-pub grown_linked : (t u : Tree) → IsLinked t → IsGrown t u → IsArena u.groups → IsLinked u
-grown_linked t u l g a = record {
-  arena = a;
-  homes = λ id b h. l.homes id b (sym (home id) ∙ h);
-  links = λ q id h. home id ∙ l.links q id (sym (ap link_of (grown_nodes t u g q)) ∙ h) ∙ sym (grown_blocks t u g q);
-  reached = λ id b h k v inside. same_links t u (λ _. Unit {0}) k (λ q x _ e. ap link_of (grown_nodes t u g q) ∙ e) (λ _ _ _ _ _. tt) b.depth id tt (l.reached id b (sym (home id) ∙ h) k v inside);
-  leaves = λ q. within_kept t.odds u.odds (value_of (node_in t q)) (value_of (node_in u q)) g.odds (ap value_of (grown_nodes t u g q)) (l.leaves q);
-}
-  where
-    home : (x : ℕ) → home_at u.groups x ≡ home_at t.groups x
-    home x = ap home_of (g.entries x)
-
--- what an arena's reserve does to the tree
-pub is_grown : (t : Tree) (gs : Groups) (k : ℕ) → gs ≡ t.groups ++ vacant k → IsGrown t (record { groups = gs; root = t.root; res = t.res; odds = t.odds })
-is_grown t gs k e = record {
-  entries = λ x. ap (λ g. entry g x) e ∙ entry_grown t.groups k x;
-  root = refl;
-  res = refl;
-  odds = refl;
-}

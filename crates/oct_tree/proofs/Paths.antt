@@ -12,10 +12,10 @@ use Rattle.oct_arena.specs.declared.node.Node.{Node}
 use Rattle.oct_arena.specs.declared.node.Node.TheVariants.{Absent, Leaf, Inner}
 use Rattle.oct_arena.specs.declared.node.Group.{Group}
 use Rattle.oct_arena.specs.Entries.{Groups, IsArena, IsLive, entry, home_at, node_at, home_of, node_of}
-use Rattle.oct_arena.specs.Ids.{same_ids}
+use Rattle.oct_arena.proofs.Ids.{same_ids}
 use Rattle.oct_tree.specs.declared.place.Place.{Place}
 use Rattle.oct_tree.specs.declared.place.Place.TheVariants.{Root, Slot}
-use Rattle.oct_tree.specs.Nodes.{link_of, value_of}
+use Rattle.oct_arena.specs.Nodes.{link_of, value_of}
 use Rattle.oct_tree.specs.Tree.{Tree, IsLinked, IsPlace, node_in, block_in, step, reach, value_at}
 
 pub some_injective : {A : Type 0} {x y : A} → ◌≡◌ {A = Option A} (Some x) (Some y) → x ≡ y

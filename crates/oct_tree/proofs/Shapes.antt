@@ -9,7 +9,7 @@ use Rattle.oct_arena.specs.declared.node.Group.{Group}
 use Rattle.oct_arena.specs.Entries.{entry, home_at, home_of}
 use Rattle.oct_tree.specs.declared.place.Place.{Place}
 use Rattle.oct_tree.specs.declared.place.Place.TheVariants.{Root, Slot}
-use Rattle.oct_tree.specs.Nodes.{link_of, value_of}
+use Rattle.oct_arena.specs.Nodes.{link_of, value_of}
 use Rattle.oct_tree.specs.Tree.{Tree, IsLinked, IsPlace, node_in, reach}
 use Rattle.oct_tree.specs.Shape.{IsShaped}
 use Rattle.oct_tree.proofs.Paths.{some_not_none, linked_step, link_down, reach_zero, reach_live, same_home, only_link, live_home, stays}

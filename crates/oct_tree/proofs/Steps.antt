@@ -12,14 +12,16 @@ use Rattle.oct_arena.specs.Entries.{Groups, IsArena, IsLive, entry}
 use Rattle.oct_arena.proofs.Entries.{arena_vacated}
 use Rattle.oct_tree.specs.declared.place.Place.{Place}
 use Rattle.oct_tree.specs.declared.place.Place.TheVariants.{Root, Slot}
-use Rattle.oct_tree.specs.Nodes.{link_of, value_of, inherited, IsAll, IsCollapsible, IsGreatest}
+use Rattle.oct_tree.specs.Nodes.{inherited, IsAll, IsCollapsible, IsGreatest}
+use Rattle.oct_arena.specs.Nodes.{link_of, value_of}
 use Rattle.oct_tree.specs.Places.{groups_with, root_with}
 use Rattle.oct_tree.specs.Tree.{Tree, IsLinked, IsPlace, node_in, block_in, value_at}
-use Rattle.oct_tree.specs.Changes.{SameValues, SetsBlock, IsWritten, IsSplit, IsCollapsed, IsRenewed, IsSameOutside, CanCollapse}
+use Rattle.oct_tree.specs.Changes.{SetsBlock, IsWritten, IsSplit, IsCollapsed, IsRenewed, IsSameOutside, CanCollapse}
+use Rattle.oct_key.specs.Values.{SameValues}
 use Rattle.oct_tree.proofs.Paths.{some_injective, linked_live, live_home, homed_entry}
 use Rattle.oct_tree.proofs.Links.{same_place, live_place, written_linked, alike_values, written_outside, place_value, split_values, split_linked, collapsed_linked}
 use Rattle.oct_tree.proofs.Entries.{tree_with, with_entry, copies_group, arena_copies, arena_with, is_written, entry_place, is_split, not_own, is_collapsed, block_kept}
-use Rattle.oct_tree.proofs.Passes.{all_collapsible}
+use Rattle.oct_tree.proofs.Surveys.{all_collapsible}
 use Rattle.oct_tree.proofs.Frames.{written_same_outside, split_same_outside, collapsed_same_outside}
 
 -- a place is one after a write too

@@ -4,3 +4,4 @@ pub mod Survey
 pub mod Tree
 pub mod Shape
 pub mod Changes
+pub mod Passes

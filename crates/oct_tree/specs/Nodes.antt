@@ -1,27 +1,9 @@
--- What stands in a node, and in the eight nodes of a group.
-use Rattle.std.specs.Prelude.{◌≡◌, ◌≢◌, ℕ, ◌<◌, ℤ, pos, ◌≤ℤ◌, ◌⊎◌, Option, Some, None}
-use Rattle.oct_odds.specs.Update.{Value}
+-- What stands in the eight nodes of a group.
+use Rattle.std.specs.Prelude.{◌≡◌, ◌≢◌, ℕ, ◌<◌, ℤ, pos, ◌≤ℤ◌, ◌⊎◌, Some}
 use Rattle.oct_arena.specs.declared.node.Node.{Node}
 use Rattle.oct_arena.specs.declared.node.Node.TheVariants.{Absent, Leaf, Inner}
 use Rattle.oct_arena.specs.Entries.{Groups, node_at}
-
--- the number of the group that a node links: an Inner node links one
-abbrev pub link_of : Node → Option ℕ
-link_of Absent = None
-link_of (Leaf v) = None
-link_of (Inner v id) = Some id.number
-
--- the value that a node gives each voxel of its block: a leaf gives one
-abbrev pub value_of : Node → Value
-value_of Absent = None
-value_of (Leaf v) = Some v
-value_of (Inner v id) = None
-
--- the value that stands in a node, for queries at its depth: in a leaf and in an Inner node there is one
-abbrev pub stored_in : Node → Value
-stored_in Absent = None
-stored_in (Leaf v) = Some v
-stored_in (Inner v id) = Some v
+use Rattle.oct_arena.specs.Nodes.{stored_in}
 
 -- the value that an Inner node begins with where it takes the place of this one: a leaf's, or 0
 abbrev pub inherited : Node → ℤ

@@ -21,7 +21,8 @@ abbrev pub node_at_place : Groups → Node → Place → Node
 node_at_place gs root Root = root
 node_at_place gs root (Slot id i) = node_at gs id.number i
 
--- the block whose node stands at a place: the whole map, or a child of the home of the place's group
+-- the block whose node stands at a place: the whole map, or a child of the home of the place's
+-- group
 abbrev pub block_at_place : Groups → Place → Option Cube
 block_at_place gs Root = Some root_block
 block_at_place gs (Slot id i) = option_map (λ b. child_of b i) (home_at gs id.number)

@@ -1,30 +1,44 @@
-//! The linked tree of an occupancy map: for each voxel a value, or none where nothing is known of it.
+//! The linked tree of an occupancy map: for each voxel a value, or none where nothing is known of
+//! it.
 //!
-//! An [`OccTree`] is an octree as in Hornung et al. 2013: its node of the whole map stands at the root, and where a node is Inner, the
-//! nodes of the eight halves of its block stand in a group of the arena (`oct_arena`). A leaf gives its value to all voxels of its block,
-//! and an absent node says that nothing is known of them. A node stands at a [`Place`]: the root, or a slot of a group.
+//! An [`OccTree`] is an octree as in Hornung et al. 2013: its node of the whole map stands at the
+//! root, and where a node is Inner, the nodes of the eight halves of its block stand in a group of
+//! the arena (`oct_arena`). A leaf gives its value to all voxels of its block, and an absent node
+//! says that nothing is known of them. A node stands at a [`Place`]: the root, or a slot of a
+//! group.
 //!
 //! What the contracts promise:
 //!
-//! - [`OccTree::at`] is the lookup (`value_at`): from the root by the voxel's child indices, until a node is not Inner.
-//! - Each tree is linked (`IsLinked`): a node that links a group links one whose home is the node's block, and each group is what the path
-//!   to its home comes to. The type keeps that through every call. [`OccTree::shape`] says what follows: homes are distinct, one node
-//!   alone links each group, and so on (`IsShaped`).
-//! - [`OccTree::split`], [`OccTree::collapse`], [`OccTree::drop_absent`], [`OccTree::renew`] and [`OccTree::settle`] change no voxel.
-//!   [`OccTree::set_place`] changes the voxels of the place's block alone.
-//! - Each of these says what it changes: one node (`IsWritten`), or one node and the group under it (`IsSplit`, where a collapse is a split
-//!   undone). Every other node, home and entry stays, and so do the resolution and the log-odds.
-//! - All of a tree that lies outside the place's block is as it was (`IsSameOutside`). Such changes join: one after another, and from a child
-//!   to its block, so that a walk over a whole subtree is one change of its block.
+//! - [`OccTree::node_over`] is the node that stands at a block, or the leaf or absent node that
+//!   covers it (`StandsOver`): from the root by the voxel's child indices, until a node is not
+//!   Inner. [`OccTree::at`] is the value that it gives a voxel (`value_at`).
+//! - Each tree is linked (`IsLinked`): a node that links a group links one whose home is the node's
+//!   block, and each group is what the path to its home comes to. The type keeps that through every
+//!   call. [`OccTree::shape`] says what follows: homes are distinct, one node alone links each
+//!   group, and so on (`IsShaped`).
+//! - [`OccTree::split`], [`OccTree::collapse`], [`OccTree::drop_absent`], [`OccTree::renew`] and
+//!   [`OccTree::settle`] change no voxel. [`OccTree::set_place`] changes the voxels of the place's
+//!   block alone.
+//! - Each of these says what it changes: one node (`IsWritten`), or one node and the group under it
+//!   (`IsSplit`, where a collapse is a split undone). Every other node, home and entry stays, and
+//!   so do the resolution and the log-odds.
+//! - All of a tree that lies outside the place's block is as it was (`IsSameOutside`). Such changes
+//!   join: one after another, and from a child to its block, so that a walk over a whole subtree is
+//!   one change of its block.
 //! - [`OccTree::reserve`] is the only call that asks for memory, and changes no node.
 //!
-//! A tree is well-formed where each group has a node that is not absent (`IsWellFormed`), fresh where each inner value is the greatest of
-//! its group (`IsFresh`), and pruned where no group could be collapsed (`IsPruned`). The edits above this crate keep these three.
+//! A tree is well-formed where each group has a node that is not absent (`IsWellFormed`), fresh
+//! where each inner value is the greatest of its group (`IsFresh`), and pruned where no group could
+//! be collapsed (`IsPruned`). The edits above this crate keep these three.
 //!
-//! `at` reads at most sixteen nodes of the arena, `settle` the eight of one group once, and no call but `reserve` allocates.
+//! `at` reads at most sixteen nodes of the arena, `settle` those of one group, and no call
+//! but `reserve` allocates.
 //!
-//! Edits, passes, queries and the map stand on this crate. They cite the definitions in `specs/`, and `proofs/` has the lemmas for them: how
-//! paths run and which places they read (`Paths`), which blocks a change leaves alone (`Frames`), and what joins the two (`Links`).
+//! Edits, passes, queries and the map stand on this crate. They cite the definitions in `specs/`,
+//! and `proofs/` has the lemmas for them: how paths run and which places they read (`Paths`), what
+//! they come to over a block (`Over`), which blocks a change leaves alone (`Frames`), what joins the
+//! two (`Links`), what more room leaves (`Grown`), and how a pass goes from the children of a block
+//! to the block (`Within`).
 
 #![tactic(auto)]
 

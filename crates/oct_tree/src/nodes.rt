@@ -1,32 +1,13 @@
 //! What a group's eight nodes come to, read from the arena.
 
-ghost use Rattle.std.specs.Prelude.{◌≡◌, ◌≤◌, ◌<◌, ◌↔◌, IsTrue, IsSome, IfSome, IfNone, Some, None, Option, ℤ};
+ghost use Rattle.std.specs.Prelude.{◌≡◌, ◌≤◌, ◌<◌, ◌↔◌, ◌≤ℤ◌, ◌⊎◌, IsTrue, IsSome, IfSome, IfNone, Some, None, Option, ℤ};
 ghost use Rattle.oct_arena.specs.Entries.{IsLive, node_at};
-ghost use Rattle.oct_tree.specs.Nodes.{link_of, value_of, stored_in, inherited, IsAll, IsCollapsible, IsKnown, IsGreatest};
-ghost use Rattle.oct_tree.specs.Survey.{IsGreater, IsSurvey};
+ghost use Rattle.oct_tree.specs.Nodes.{inherited, IsAll, IsCollapsible, IsKnown, IsGreatest};
+ghost use Rattle.oct_arena.specs.Nodes.{link_of, value_of, stored_in};
+ghost use Rattle.oct_odds.specs.Update.{Value};
+ghost use Rattle.oct_tree.specs.Survey.{IsRankOf, IsSurvey};
 
 use oct_arena::{GroupId, Node, NodeArena};
-
-/// The value that the node gives each voxel of its block.
-pub(crate) fn leaf_value(node: Node) -> Option<i32>
-    ensures { result ≡ value_of node }
-{
-    match node {
-        Node::Leaf(value) => Some(value),
-        _ => None,
-    }
-}
-
-/// The value that stands in the node.
-pub(crate) fn stored_value(node: Node) -> Option<i32>
-    ensures { result ≡ stored_in node }
-{
-    match node {
-        Node::Absent => None,
-        Node::Leaf(value) => Some(value),
-        Node::Inner(value, _) => Some(value),
-    }
-}
 
 /// An Inner node in the place of this one, which is not.
 pub(crate) fn inner_over(node: Node, id: GroupId) -> Node
@@ -49,15 +30,33 @@ fn is_alike(a: Node, b: Node) -> bool
     }
 }
 
-/// The greater value of the two that are there.
-fn greater(a: Option<i32>, b: Option<i32>) -> Option<i32>
-    ensures { IsGreater a b result }
+/// A number for a stored value, less than that of any other where there is none. So the greatest is
+/// found without a question for each node.
+fn rank(value: Option<i32>) -> i64
+    ensures { IsRankOf value result }
 {
-    match (a, b) {
-        (Some(v), Some(w)) => Some(v.max(w)),
-        (None, _) => b,
-        (_, None) => a,
+    match value {
+        Some(value) => i64::from(value),
+        None => i64::MIN,
     }
+}
+
+/// The stored value that has the rank.
+fn value_of_rank(rank: i64) -> Option<i32>
+    requires { (value : Value) × IsRankOf value rank }
+    ensures { IsRankOf result rank }
+{
+    if rank == i64::MIN {
+        return None;
+    }
+    Some(rank as i32)
+}
+
+/// The greater rank.
+fn greater(a: i64, b: i64) -> i64
+    ensures { (a ≤ℤ result) × (b ≤ℤ result) × ((result ≡ a) ⊎ (result ≡ b)) }
+{
+    a.max(b)
 }
 
 /// The one node that the group's eight nodes all are, if it isn't Inner.
@@ -88,17 +87,26 @@ pub(crate) fn is_absent(arena: &NodeArena, id: GroupId) -> bool
     true
 }
 
-/// The greatest value that stands in the group's nodes.
+/// The greatest value that stands in the group's nodes, or `None` where all are absent.
+fn greatest_stored(arena: &NodeArena, id: GroupId) -> Option<i32>
+    requires { IsLive arena.now id.number }
+    ensures some { IfSome result (IsGreatest arena.now id.number) }
+    ensures none { IfNone result (IsAll arena.now id.number Node.Absent) }
+{
+    let mut most = rank(None);
+    for i in 0..8 {
+        most = greater(most, rank(arena.node(id, i).stored()));
+    }
+    value_of_rank(most)
+}
+
+/// The greatest value that stands in the group's nodes, of which one at least isn't absent.
 pub(crate) fn greatest(arena: &NodeArena, id: GroupId) -> i32
     requires live { IsLive arena.now id.number }
     requires known { IsKnown arena.now id.number }
     ensures { IsGreatest arena.now id.number result }
 {
-    let mut most = None;
-    for i in 0..8 {
-        most = greater(most, stored_value(arena.node(id, i)));
-    }
-    most.unwrap()
+    greatest_stored(arena, id).unwrap()
 }
 
 /// What the nodes of a group come to.
@@ -109,21 +117,13 @@ pub(crate) enum Survey {
     Varied(i32),
 }
 
-/// What the group's nodes come to. Reads each node once.
+/// What the group's nodes come to. Where they differ, the second one that is read mostly tells.
 pub(crate) fn read_group(arena: &NodeArena, id: GroupId) -> Survey
     requires { IsLive arena.now id.number }
     ensures { IsSurvey arena.now id.number result }
 {
-    let first = arena.node(id, 0);
-    let mut alike = true;
-    let mut most = None;
-    for i in 0..8 {
-        let node = arena.node(id, i);
-        alike = alike && is_alike(first, node);
-        most = greater(most, stored_value(node));
+    match common_node(arena, id) {
+        Some(node) => Survey::Alike(node),
+        None => Survey::Varied(greatest_stored(arena, id).unwrap()),
     }
-    if alike {
-        return Survey::Alike(first);
-    }
-    Survey::Varied(most.unwrap())
 }

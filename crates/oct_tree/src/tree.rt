@@ -1,15 +1,16 @@
 ghost use Rattle.std.specs.Prelude.{◌≡◌, ℕ, ℤ, ◌+◌, ◌-◌, ◌<◌, ◌≤◌, ◌^◌, ◌↔◌, ◌++◌, [], length, max, Some, None, Option, IsSome, IsTrue, IsOk, OnOk};
 ghost use Rattle.std.specs.Bool.{OnTrue, OnFalse};
 ghost use Rattle.oct_key.specs.Voxel.{Voxel, IsInMap};
-ghost use Rattle.oct_key.specs.Block.{Cube, HoldsVoxel};
+ghost use Rattle.oct_key.specs.Block.{Cube, HoldsVoxel, block_of};
 ghost use Rattle.oct_odds.specs.Odds.{odds_of};
 ghost use Rattle.oct_odds.specs.Update.{IsWithin};
 ghost use Rattle.oct_arena.specs.declared.node.Node.{Node};
 ghost use Rattle.oct_arena.specs.declared.node.GroupId.{GroupId};
-ghost use Rattle.oct_arena.specs.Entries.{IsArena, spare, live, vacant};
-ghost use Rattle.oct_tree.specs.Nodes.{link_of, value_of, inherited, IsKnown};
+ghost use Rattle.oct_arena.specs.Entries.{IsArena, home_at, spare, live, vacant};
+ghost use Rattle.oct_tree.specs.Nodes.{inherited, IsKnown};
+ghost use Rattle.oct_arena.specs.Nodes.{link_of, value_of};
 
-use crate::nodes::{Survey, common_node, greatest, inner_over, is_absent, leaf_value, read_group};
+use crate::nodes::{Survey, common_node, greatest, inner_over, is_absent, read_group};
 use crate::place::Place;
 use crate::slots;
 use oct_arena::{GroupId, Node, NodeArena};
@@ -40,13 +41,15 @@ impl Model for OccTree {
 }
 
 impl OccTree {
-    ghost use Rattle.oct_tree.specs.Tree.{Tree, IsLinked, IsPlace, node_in, block_in, value_at};
+    ghost use Rattle.oct_tree.specs.Tree.{Tree, IsLinked, IsPlace, StandsOver, node_in, block_in, reach, value_at};
     ghost use Rattle.oct_tree.specs.Shape.{IsShaped};
-    ghost use Rattle.oct_tree.specs.Changes.{SameValues, SetsBlock, IsWritten, IsSplit, CanCollapse, CanDrop, IsCollapsed, IsRenewed, IsGrown, IsSameOutside};
+    ghost use Rattle.oct_tree.specs.Changes.{SetsBlock, IsWritten, IsSplit, CanCollapse, CanDrop, IsCollapsed, IsRenewed, IsGrown, IsSameOutside};
+    ghost use Rattle.oct_key.specs.Values.{SameValues};
 
     /// The tree of the unknown world: no voxel has a value. Takes no memory.
     pub fn new(alloc: Global, res: Res, odds: OddsModel) -> OccTree
-        ensures exact { result ≡ record { groups = []; root = Node.Absent; res = res; odds = odds_of odds } }
+        ensures exact { result
+            ≡ record { groups = []; root = Node.Absent; res = res; odds = odds_of odds } }
         ensures unknown { (k : Voxel) → value_at result k ≡ None }
         ensures linked { IsLinked result }
     {
@@ -88,14 +91,16 @@ impl OccTree {
         self.odds
     }
 
-    /// Makes room for n more groups, and for at most 1,023 more than these where there wasn't room for n. All else stays.
+    /// Makes room for n more groups, and for at most 1,023 more than these where there wasn't room
+    /// for n. All else stays.
     ///
     /// `Memory` comes only where there wasn't room for n, and then too the tree stays.
     pub fn reserve(&mut self, n: u32) -> Result<(), Memory>
         requires { live self.old.groups + n ≤ 2 ^ 31 }
         ensures room { OnOk result (n ≤ spare self.new.groups) }
         ensures enough { n ≤ spare self.old.groups → IsOk result × (self.new ≡ self.old) }
-        ensures groups { self.new.groups ≡ self.old.groups ++ vacant (length self.new.groups - length self.old.groups) }
+        ensures groups { self.new.groups
+            ≡ self.old.groups ++ vacant (length self.new.groups - length self.old.groups) }
         ensures few { spare self.new.groups ≤ max (spare self.old.groups) (n + 1023) }
         ensures live { live self.new.groups ≡ live self.old.groups }
         ensures kept { IsGrown self.old self.new }
@@ -105,34 +110,55 @@ impl OccTree {
         self.arena.reserve(n)
     }
 
-    /// The voxel's value, or `None` where nothing is known of it. Reads at most sixteen nodes of the arena.
+    /// The voxel's value, or `None` where nothing is known of it. Reads at most sixteen nodes of
+    /// the arena.
     pub fn at(&self, k: Key) -> Option<i32>
         ensures exact { result ≡ value_at self.now k }
         ensures within { IsWithin self.now.odds result }
         ensures linked { IsLinked self.now }
     {
+        self.node_over(k, 16).value()
+    }
+
+    /// The node that stands at the block of that depth around the voxel, or the leaf or absent node
+    /// that covers it. Reads at most one node of the arena for each depth.
+    ///
+    /// Where it is not Inner, each voxel of the block has its value. Where it is, the block is the
+    /// home of the group that it links.
+    pub fn node_over(&self, k: Key, depth: u8) -> Node
+        requires { depth ≤ 16 }
+        ensures exact { result ≡ reach self.now depth k }
+        ensures stands { StandsOver self.now (block_of depth k) result }
+        ensures only { (n : Node) → StandsOver self.now (block_of depth k) n → result ≡ n }
+        ensures values { link_of result ≡ None → (j : Voxel) → HoldsVoxel (block_of depth k) j
+            → value_at self.now j ≡ value_of result }
+        ensures home { (id : ℕ) → link_of result ≡ Some id
+            → home_at self.now.groups id ≡ Some (block_of depth k) }
+        ensures linked { IsLinked self.now }
+    {
         let mut node = self.root;
-        for depth in 0..16 {
+        for level in 0..depth {
             let Node::Inner(_, id) = node else {
-                return leaf_value(node);
+                return node;
             };
-            node = self.arena.node(id, child_index(k, depth));
+            node = self.arena.node(id, child_index(k, level));
         }
-        leaf_value(node)
+        node
     }
 
     /// The node at the place. A node that is not Inner gives its value to each voxel of its block.
     pub fn node(&self, p: Place) -> Node
         requires { IsPlace self.now p }
         ensures exact { result ≡ node_in self.now p }
-        ensures values { (b : Cube) → block_in self.now p ≡ Some b → link_of result ≡ None → (k : Voxel) → IsInMap k → HoldsVoxel b k → value_at self.now k ≡ value_of result }
+        ensures values { (b : Cube) → block_in self.now p ≡ Some b → link_of result ≡ None
+            → (k : Voxel) → IsInMap k → HoldsVoxel b k → value_at self.now k ≡ value_of result }
         ensures linked { IsLinked self.now }
     {
         slots::read(&self.arena, self.root, p)
     }
 
-    /// Puts a group of eight copies of the place's node under it, which is not Inner, and makes the place Inner, with the leaf's value
-    /// or 0. No voxel changes.
+    /// Puts a group of eight copies of the place's node under it, which is not Inner, and makes the
+    /// place Inner, with the leaf's value or 0. No voxel changes.
     pub fn split(&mut self, p: Place) -> GroupId
         requires place { IsPlace self.old p }
         requires node { link_of (node_in self.old p) ≡ None }
@@ -140,7 +166,8 @@ impl OccTree {
         requires room { 1 ≤ spare self.old.groups }
         ensures split { IsSplit self.old self.new p result (inherited (node_in self.old p)) }
         ensures values { SameValues (value_at self.old) (value_at self.new) }
-        ensures outside { (b : Cube) → block_in self.old p ≡ Some b → IsSameOutside self.old self.new b }
+        ensures outside { (b : Cube) → block_in self.old p ≡ Some b
+            → IsSameOutside self.old self.new b }
         ensures linked { IsLinked self.new }
     {
         let node = slots::read(&self.arena, self.root, p);
@@ -150,15 +177,16 @@ impl OccTree {
         id
     }
 
-    /// Gives back the group of an Inner place whose eight nodes are all absent, or all leaves of one value, and puts that node at the
-    /// place. Answers whether it did. No voxel changes.
+    /// Gives back the group of an Inner place whose eight nodes are all absent, or all leaves of
+    /// one value, and puts that node at the place. Answers whether it did. No voxel changes.
     pub fn collapse(&mut self, p: Place) -> bool
         requires { IsPlace self.old p }
         ensures when { IsTrue result ↔ CanCollapse self.old p }
         ensures collapsed { OnTrue result (IsCollapsed self.old self.new p) }
         ensures kept { OnFalse result (self.new ≡ self.old) }
         ensures values { SameValues (value_at self.old) (value_at self.new) }
-        ensures outside { (b : Cube) → block_in self.old p ≡ Some b → IsSameOutside self.old self.new b }
+        ensures outside { (b : Cube) → block_in self.old p ≡ Some b
+            → IsSameOutside self.old self.new b }
         ensures linked { IsLinked self.new }
     {
         let Node::Inner(_, id) = slots::read(&self.arena, self.root, p) else {
@@ -171,15 +199,16 @@ impl OccTree {
         true
     }
 
-    /// Gives back the group of an Inner place whose eight nodes are absent, and makes the place absent. Answers whether it did. No voxel
-    /// changes.
+    /// Gives back the group of an Inner place whose eight nodes are absent, and makes the place
+    /// absent. Answers whether it did. No voxel changes.
     pub fn drop_absent(&mut self, p: Place) -> bool
         requires { IsPlace self.old p }
         ensures when { IsTrue result ↔ CanDrop self.old p }
         ensures collapsed { OnTrue result (IsCollapsed self.old self.new p) }
         ensures kept { OnFalse result (self.new ≡ self.old) }
         ensures values { SameValues (value_at self.old) (value_at self.new) }
-        ensures outside { (b : Cube) → block_in self.old p ≡ Some b → IsSameOutside self.old self.new b }
+        ensures outside { (b : Cube) → block_in self.old p ≡ Some b
+            → IsSameOutside self.old self.new b }
         ensures linked { IsLinked self.new }
     {
         let Node::Inner(_, id) = slots::read(&self.arena, self.root, p) else {
@@ -196,10 +225,12 @@ impl OccTree {
     pub fn renew(&mut self, p: Place)
         requires place { IsPlace self.old p }
         requires inner { IsSome (link_of (node_in self.old p)) }
-        requires known { (id : ℕ) → link_of (node_in self.old p) ≡ Some id → IsKnown self.old.groups id }
+        requires known { (id : ℕ) → link_of (node_in self.old p) ≡ Some id
+            → IsKnown self.old.groups id }
         ensures renewed { IsRenewed self.old self.new p }
         ensures values { SameValues (value_at self.old) (value_at self.new) }
-        ensures outside { (b : Cube) → block_in self.old p ≡ Some b → IsSameOutside self.old self.new b }
+        ensures outside { (b : Cube) → block_in self.old p ≡ Some b
+            → IsSameOutside self.old self.new b }
         ensures linked { IsLinked self.new }
     {
         let Node::Inner(_, id) = slots::read(&self.arena, self.root, p) else {
@@ -209,8 +240,9 @@ impl OccTree {
         slots::write(&mut self.arena, &mut self.root, p, Node::Inner(value, id));
     }
 
-    /// Closes the group of an Inner place: collapses it where it can be, as [`OccTree::collapse`] does, and answers true; else renews
-    /// the place's value, as [`OccTree::renew`] does. Reads the eight nodes once. No voxel changes.
+    /// Closes the group of an Inner place: collapses it where it can be, as [`OccTree::collapse`]
+    /// does, and answers true; else renews the place's value, as [`OccTree::renew`] does. Reads the
+    /// eight nodes once. No voxel changes.
     pub fn settle(&mut self, p: Place) -> bool
         requires place { IsPlace self.old p }
         requires inner { IsSome (link_of (node_in self.old p)) }
@@ -218,7 +250,8 @@ impl OccTree {
         ensures collapsed { OnTrue result (IsCollapsed self.old self.new p) }
         ensures renewed { OnFalse result (IsRenewed self.old self.new p) }
         ensures values { SameValues (value_at self.old) (value_at self.new) }
-        ensures outside { (b : Cube) → block_in self.old p ≡ Some b → IsSameOutside self.old self.new b }
+        ensures outside { (b : Cube) → block_in self.old p ≡ Some b
+            → IsSameOutside self.old self.new b }
         ensures linked { IsLinked self.new }
     {
         let Node::Inner(_, id) = slots::read(&self.arena, self.root, p) else {
@@ -236,16 +269,19 @@ impl OccTree {
         }
     }
 
-    /// Puts the node at the place. Neither it nor the node that stands there is Inner, and a leaf's value lies within the bounds. The
-    /// voxels of the place's block get the leaf's value, or none, and no other voxel changes.
+    /// Puts the node at the place. Neither it nor the node that stands there is Inner, and a leaf's
+    /// value lies within the bounds. The voxels of the place's block get the leaf's value, or none,
+    /// and no other voxel changes.
     pub fn set_place(&mut self, p: Place, n: Node)
         requires place { IsPlace self.old p }
         requires before { link_of (node_in self.old p) ≡ None }
         requires node { link_of n ≡ None }
         requires within { IsWithin self.old.odds (value_of n) }
         ensures written { IsWritten self.old self.new p n }
-        ensures values { (b : Cube) → block_in self.old p ≡ Some b → SetsBlock (value_at self.old) (value_at self.new) b (value_of n) }
-        ensures outside { (b : Cube) → block_in self.old p ≡ Some b → IsSameOutside self.old self.new b }
+        ensures values { (b : Cube) → block_in self.old p ≡ Some b
+            → SetsBlock (value_at self.old) (value_at self.new) b (value_of n) }
+        ensures outside { (b : Cube) → block_in self.old p ≡ Some b
+            → IsSameOutside self.old self.new b }
         ensures linked { IsLinked self.new }
     {
         slots::write(&mut self.arena, &mut self.root, p, n);

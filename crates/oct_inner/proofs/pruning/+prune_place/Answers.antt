@@ -1,10 +1,10 @@
 use Rattle.std.proofs.Common.{◌≡◌, ◌∙◌, ◌<◌, sym, arith, rules, None}
 use Rattle.oct_arena.specs.declared.node.Node.TheVariants.{Inner}
-use Rattle.oct_tree.specs.Nodes.{link_of}
+use Rattle.oct_arena.specs.Nodes.{link_of}
 use Rattle.oct_tree.specs.Tree.{node_in}
 use Rattle.oct_tree.proofs.Paths.{not_inner, place_block}
 use Rattle.oct_inner.specs.Passes.{IsPrunedAt, IsPruning}
-use Rattle.oct_inner.proofs.Within.{passed_leaf, child_place, child_lower, passing_child}
+use Rattle.oct_tree.proofs.Within.{passed_leaf, child_place, child_lower, passing_child}
 use Rattle.oct_inner.proofs.Prunes.{pruned_local, leaf_pruned, pruning_refl, pruning_trans, pruned_place}
 use Rattle.oct_inner.proofs.pruning.+prune_place.Goals as goal
 

@@ -1,10 +1,10 @@
 use Rattle.std.proofs.Common.{◌≡◌, ◌∙◌, ◌<◌, sym, arith, rules, None}
 use Rattle.oct_arena.specs.declared.node.Node.TheVariants.{Inner}
-use Rattle.oct_tree.specs.Nodes.{link_of}
+use Rattle.oct_arena.specs.Nodes.{link_of}
 use Rattle.oct_tree.specs.Tree.{node_in}
-use Rattle.oct_tree.proofs.Paths.{not_inner, place_block}
+use Rattle.oct_tree.proofs.Paths.{not_inner, place_block, linked_live}
 use Rattle.oct_inner.specs.Passes.{IsFreshAt, IsRefreshing}
-use Rattle.oct_inner.proofs.Within.{passed_leaf, child_place, child_lower, passing_child}
+use Rattle.oct_tree.proofs.Within.{passed_leaf, child_place, child_lower, passing_child}
 use Rattle.oct_inner.proofs.Refreshes.{fresh_local, leaf_fresh, refreshing_refl, refreshing_trans, refreshed_place}
 use Rattle.oct_inner.proofs.refreshing.+refresh_place.Goals as goal
 
@@ -45,3 +45,9 @@ returns t c b e =
     refreshed_place c.args.tree.now c.loop-i.tree c.renew.new.self c.args.p c.in-Inner.id c.in-Inner.field-0 c.loop-i.i b
     c.requires.formed.linked (omega arith) link
     (c.loop-i.invariant b e) c.renew.ensures.renewed c.renew.ensures.values c.renew.ensures.outside c.renew.ensures.linked
+
+pub renew-requires-clause-known : goal.renew-requires-clause-known
+renew-requires-clause-known t c id link =
+    let (b, e) = place_block c.args.tree.now c.args.p c.requires.place in
+    let s = c.loop-i.invariant b e in
+    s.formed.known id (linked_live c.loop-i.tree s.formed.linked c.args.p s.place id link)

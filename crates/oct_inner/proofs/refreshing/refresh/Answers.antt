@@ -15,3 +15,6 @@ returns-clause-nodes c = (c.refresh_place.ensures root_block refl).kept.nodes
 pub returns-clause-pruned : goal.returns-clause-pruned
 returns-clause-pruned c = pruned_kept c.args.tree.now c.refresh_place.new.tree c.requires.linked
     (c.refresh_place.ensures root_block refl).kept.nodes
+
+pub returns-clause-same : goal.returns-clause-same
+returns-clause-same c = (c.refresh_place.ensures root_block refl).kept.fresh

@@ -1,7 +1,7 @@
 use Rattle.std.proofs.Common.{◌≡◌, arith, rules, Some}
 use Rattle.oct_arena.specs.Entries.{home_at}
 use Rattle.oct_tree.proofs.Paths.{homed_entry, place_block}
-use Rattle.oct_inner.proofs.Formed.{child_depth}
+use Rattle.oct_tree.proofs.Formed.{child_depth}
 use Rattle.oct_inner.proofs.tests.+put.Goals as goal
 
 pub put-requires : goal.put-requires

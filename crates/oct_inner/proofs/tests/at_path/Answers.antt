@@ -1,5 +1,5 @@
 use Rattle.std.proofs.Common.{◌∙◌, sym, ap, arith}
-use Rattle.oct_tree.specs.Nodes.{link_of}
+use Rattle.oct_arena.specs.Nodes.{link_of}
 use Rattle.oct_tree.proofs.Paths.{linked_live}
 use Rattle.oct_inner.proofs.tests.at_path.Goals as goal
 

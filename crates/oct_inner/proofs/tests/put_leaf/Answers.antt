@@ -1,4 +1,4 @@
-use Rattle.oct_inner.proofs.Formed.{leaf_formed}
+use Rattle.oct_tree.proofs.Formed.{leaf_formed}
 use Rattle.oct_inner.proofs.tests.put_leaf.Goals as goal
 
 pub returns : goal.returns

@@ -4,7 +4,7 @@ use Rattle.oct_arena.specs.declared.node.GroupId.{GroupId}
 use Rattle.oct_arena.specs.declared.node.Node.{Node}
 use Rattle.oct_arena.specs.declared.node.Node.TheVariants.{Inner}
 use Rattle.oct_tree.specs.declared.place.Place.TheVariants.{Root, Slot}
-use Rattle.oct_tree.specs.Nodes.{link_of}
+use Rattle.oct_arena.specs.Nodes.{link_of}
 use Rattle.oct_tree.specs.Tree.{Tree, node_in}
 use Rattle.oct_tree.specs.Changes.{IsWritten, IsSplit}
 use Rattle.oct_query.proofs.tests.two_children.Goals as goal

@@ -1,6 +1,6 @@
 use Rattle.std.proofs.Common.{◌≡◌}
 use Rattle.oct_arena.specs.Entries.{node_at}
-use Rattle.oct_tree.proofs.Passes.{AreAlike}
+use Rattle.oct_tree.proofs.Surveys.{AreAlike}
 use Rattle.oct_tree.proofs.nodes.common_node.Given as goal
 
 abbrev pub invariant-loop-i : goal.invariant-loop-i

@@ -1,6 +1,6 @@
 use Rattle.std.proofs.Common.{◌≡◌, ◌∙◌, sym, ap, subst}
 use Rattle.oct_tree.specs.Tree.{IsLinked, node_in}
-use Rattle.oct_tree.specs.Nodes.{link_of, value_of}
+use Rattle.oct_arena.specs.Nodes.{link_of, value_of}
 use Rattle.oct_tree.proofs.Links.{place_value}
 use Rattle.oct_tree.proofs.tree.OccTree.node.Goals as goal
 

@@ -2,7 +2,7 @@ use Rattle.std.proofs.Common.{◌∙◌, ap}
 use Rattle.oct_odds.specs.Odds.{odds_of}
 use Rattle.oct_tree.specs.Tree.{Tree, IsLinked, value_at}
 use Rattle.oct_tree.specs.Changes.{IsGrown}
-use Rattle.oct_tree.proofs.Links.{is_grown, grown_linked, grown_values}
+use Rattle.oct_tree.proofs.Grown.{is_grown, grown_linked, grown_values}
 use Rattle.oct_tree.proofs.tree.OccTree.reserve.Goals as goal
 
 grown : (c : goal.After-reserve) → IsGrown (record { groups = c.self.inside.arena; root = c.self.inside.root; res = c.self.inside.res; odds = odds_of c.self.inside.odds }) (record { groups = c.reserve.new.self; root = c.self.inside.root; res = c.self.inside.res; odds = odds_of c.self.inside.odds })

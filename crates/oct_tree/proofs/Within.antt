@@ -1,24 +1,25 @@
 -- A pass from below: from the children of a place's block to the block.
-use Rattle.std.proofs.Common.{◌≡◌, ◌≢◌, ℕ, suc, ◌+◌, ◌-◌, ◌<◌, ◌≤◌, refl, sym, ◌∙◌, ap, subst, arith, inl, inr, Some, None}
+use Rattle.std.proofs.Common.{◌≡◌, ◌≢◌, ℕ, ◌+◌, ◌-◌, ◌<◌, ◌≤◌, refl, sym, ◌∙◌, ap, subst, arith, inl, inr, Some, None}
 use Rattle.std.specs.Prelude.{Option, ℤ, option_map}
 use Rattle.std.proofs.lemmas.Bool.{cases_eq}
-use Rattle.oct_key.specs.Block.{Cube, child_of, root_block, lowest_voxel}
+use Rattle.oct_key.specs.Block.{Cube, child_of, root_block, lowest_voxel, LiesIn}
 use Rattle.oct_key.proofs.Blocks.{child_injective, depth_child_of, lowest_held, lowest_in_map}
 use Rattle.oct_arena.specs.declared.node.GroupId.{GroupId}
 use Rattle.oct_arena.specs.declared.node.Node.TheVariants.{Inner}
 use Rattle.oct_arena.specs.Entries.{IsLive, entry, home_at, node_at}
-use Rattle.oct_arena.specs.Ids.{same_ids}
+use Rattle.oct_arena.proofs.Ids.{same_ids}
 use Rattle.oct_tree.specs.declared.place.Place.{Place}
 use Rattle.oct_tree.specs.declared.place.Place.TheVariants.{Root, Slot}
-use Rattle.oct_tree.specs.Nodes.{link_of}
+use Rattle.oct_arena.specs.Nodes.{link_of}
 use Rattle.oct_tree.specs.Tree.{Tree, IsLinked, IsPlace, node_in, block_in, reach}
 use Rattle.oct_tree.specs.Shape.{IsWellFormed}
-use Rattle.oct_tree.specs.Changes.{LiesIn, IsSameOutside}
+use Rattle.oct_tree.specs.Changes.{IsSameOutside}
 use Rattle.oct_tree.proofs.Paths.{some_injective, some_not_none, live_home, homed_entry, same_home, root_no_child, stays, place_reached, slot_place, slot_block, linked_block, place_block}
 use Rattle.oct_tree.proofs.Links.{place_in_map}
-use Rattle.oct_tree.proofs.Frames.{lies_in_self, lies_in_trans, child_lies_in, apart, parent_apart, home_outside, same_outside_refl, same_outside_trans, same_outside_parent, block_outside}
-use Rattle.oct_inner.specs.Passes.{height, AllWithin, IsPassed, IsPassing}
-use Rattle.oct_inner.proofs.Nested.{lies_in_root, lies_in_depth, lies_in_cases, home_lies_in}
+use Rattle.oct_tree.proofs.Frames.{same_outside_refl, same_outside_trans, same_outside_parent, block_outside}
+use Rattle.oct_key.proofs.Nested.{lies_in_self, lies_in_trans, child_lies_in, apart, parent_apart, parent_outside}
+use Rattle.oct_tree.specs.Passes.{height, AllWithin, IsPassed, IsPassing}
+use Rattle.oct_key.proofs.Nested.{lies_in_root, lies_in_depth, lies_in_cases, parent_lies_in}
 
 -- the place's node, and the nodes of the group that it links, are the same in both trees
 pub record IsSeen (t u : Tree) (q : Place) : Type 0 where
@@ -68,7 +69,7 @@ block_before t u b l s (Slot id i) c out e = find (home_at u.groups id.number) r
     find (Some h) f =
         let is : child_of h i ≡ c = some_injective (sym (ap (option_map (λ b. child_of b i)) f) ∙ e) in
         let low = (l.homes id.number h f).1 in
-        let far = home_outside h b i low (subst (λ d. LiesIn d b → ⊥) (sym is) out) in
+        let far = parent_outside h b i low (subst (λ d. LiesIn d b → ⊥) (sym is) out) in
         ap (option_map (λ b. child_of b i)) (s.made id.number h far f) ∙ ap Some is
 
 -- a change within a block is not seen at a place with no voxel in common with it
@@ -90,19 +91,6 @@ done_kept Good local t u b i j low li lj ne l m s done q c ok e inside =
     (lies_in_trans d c (child_of b j) f inside) g in
     let before = block_before t u (child_of b i) m s q c (none c (lies_in_self c)) e in
     local t u q (seen_apart t u (child_of b i) l s q c before none) (done q c (place_by_block u t q c ok before) before inside)
-
--- before the first child
-pub passing_first : (Good : Tree → Place → Type 0) (Kept : Tree → Tree → Type 0) (t : Tree) (p : Place) (b : Cube) → Kept t t
-    → IsWellFormed t → IsPlace t p → block_in t p ≡ Some b → IsPassing Good Kept t t p b 0
-passing_first Good Kept t p b same w ok e = record {
-  formed = w;
-  kept = same;
-  outside = same_outside_refl t b;
-  place = ok;
-  block = e;
-  here = refl;
-  done = λ i l. absurd (let no : suc i ≤ 0 = l in omega arith);
-}
 
 -- an Inner place's block is above the voxels
 pub inner_above : (t : Tree) → IsLinked t → (p : Place) (x : ℕ) (b : Cube) → link_of (node_in t p) ≡ Some x → block_in t p ≡ Some b
@@ -165,7 +153,7 @@ only_place t l p b ok e none q c okq f inside = elim
         let child : c ≡ child_of h i = some_injective (sym f ∙ ap (block_in t) g ∙ ap (option_map (λ b. child_of b i)) is) in
         let low = (l.homes id.number h is).1 in
         none_below t l p b ok e none id.number h is
-        (home_lies_in h b i low (place_in_map t l p b ok e).depth (subst (λ (d : Cube). b.depth < d.depth) child m)
+        (parent_lies_in h b i low (place_in_map t l p b ok e).depth (subst (λ (d : Cube). b.depth < d.depth) child m)
         (subst (λ d. LiesIn d b) child inside))
 
 -- a place that is not Inner is done

@@ -1,19 +1,34 @@
--- Trees that are built leaf by leaf, as the tests do, are well-formed.
+-- What a group says is what its entry says, and which trees are well-formed.
 use Rattle.std.proofs.Common.{◌≡◌, ℕ, ◌+◌, sym, ◌∙◌, ap, inl, inr, Some}
 use Rattle.std.specs.Prelude.{ℤ, option_map}
 use Rattle.oct_key.specs.Block.{Cube, child_of}
 use Rattle.oct_key.proofs.Blocks.{depth_child_of}
 use Rattle.oct_arena.specs.declared.node.Node.TheVariants.{Absent, Leaf}
-use Rattle.oct_arena.specs.Entries.{IsLive, entry, home_at, node_at}
+use Rattle.oct_arena.specs.Nodes.{stored_in}
+use Rattle.oct_arena.specs.Entries.{Groups, IsLive, entry, home_at, node_at, node_of}
 use Rattle.oct_tree.specs.declared.place.Place.{Place}
 use Rattle.oct_tree.specs.declared.place.Place.TheVariants.{Slot}
-use Rattle.oct_tree.specs.Nodes.{IsKnown}
+use Rattle.oct_tree.specs.Nodes.{IsCollapsible, IsKnown, IsGreatest}
 use Rattle.oct_tree.specs.Tree.{Tree, IsLinked, node_in}
 use Rattle.oct_tree.specs.Shape.{IsWellFormed}
 use Rattle.oct_tree.specs.Changes.{IsWritten}
 use Rattle.oct_tree.proofs.Paths.{some_injective, live_home, homed_entry}
 use Rattle.oct_tree.proofs.Links.{same_place}
 use Rattle.oct_tree.proofs.Frames.{id_of}
+
+-- facts of a group are facts of its entry
+pub known_of : (gs hs : Groups) (x : ℕ) → entry hs x ≡ entry gs x → IsKnown gs x → IsKnown hs x
+known_of gs hs x e h = (let (i, l, some) = h in (i, l, λ f. some (ap (λ r. node_of r i) (sym e) ∙ f)))
+
+pub collapsible_of : (gs hs : Groups) (x : ℕ) → entry hs x ≡ entry gs x → IsCollapsible hs x → IsCollapsible gs x
+collapsible_of gs hs x e (inl none) = inl (λ i l. ap (λ r. node_of r i) (sym e) ∙ none i l)
+collapsible_of gs hs x e (inr (v, leaf)) = inr (v, λ i l. ap (λ r. node_of r i) (sym e) ∙ leaf i l)
+
+pub greatest_of : (gs hs : Groups) (x : ℕ) (m : ℤ) → entry hs x ≡ entry gs x → IsGreatest gs x m → IsGreatest hs x m
+greatest_of gs hs x m e h = record {
+  there = (let (i, l, is) = h.there in (i, l, ap (λ r. stored_in (node_of r i)) e ∙ is));
+  most = λ i v l is. h.most i v l (ap (λ r. stored_in (node_of r i)) (sym e) ∙ is);
+}
 
 leaf_known : (v : ℤ) → Leaf v ≡ Absent → ⊥
 leaf_known v h = cc
