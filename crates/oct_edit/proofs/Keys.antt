@@ -1,10 +1,10 @@
 -- Voxels in the order of their Morton codes: which child of a block holds them, and what is found in a part of them.
-use Rattle.std.proofs.Common.{◌≡◌, ℕ, ◌+◌, ◌-◌, ◌*◌, ◌/◌, ◌%◌, ◌^◌, ◌<◌, ◌≤◌, Bool, true, false, List, [], ◌∷◌, ◌++◌, map, length, get_or, take, drop, inl, inr, refl, sym, subst, ◌∙◌, ap, arith, pow_pos, leb, leb-true, leb-false, Some, None}
-use Rattle.std.specs.Prelude.{◌||◌, slice_get, min}
+use Rattle.std.proofs.Common.{◌≡◌, ℕ, ◌+◌, ◌-◌, ◌*◌, ◌/◌, ◌%◌, ◌^◌, ◌<◌, ◌≤◌, Bool, true, false, List, [], ◌∷◌, ◌++◌, map, length, get_or, drop, inl, inr, refl, sym, subst, ◌∙◌, ap, arith}
+use Rattle.std.specs.Prelude.{◌||◌}
 use Rattle.std.specs.List.{All}
-use Rattle.std.specs.List.Sorted.{IsNonDecreasingBy, IsPartitionPoint}
-use Rattle.std.proofs.lemmas.Bool.{false≢true, cases_eq, cases_lt}
-use Rattle.std.proofs.lemmas.List.{take-append-drop, get_or-map, length-map, length-take, length-drop, get_or-take, get_or-drop}
+use Rattle.std.specs.List.Sorted.{IsNonDecreasingBy}
+use Rattle.std.proofs.lemmas.Bool.{false≢true, cases_eq}
+use Rattle.std.proofs.lemmas.List.{take-append-drop, get_or-map, length-map}
 use Rattle.std.proofs.lemmas.List.Elements.{All-take, All-drop}
 use Rattle.std.proofs.lemmas.List.Folds.{list_any-append}
 use Rattle.std.proofs.lemmas.List.Kept.{AllPairs-from_increasing}
@@ -16,17 +16,17 @@ use Rattle.oct_key.specs.Voxel.{Voxel, IsInMap}
 use Rattle.oct_key.specs.Values.{is_same_voxel}
 use Rattle.oct_key.specs.Block.{Cube, HoldsVoxel, child_of, child_index_of, root_block}
 use Rattle.oct_key.specs.Morton.{morton_of, code_prefix}
-use Rattle.oct_key.proofs.Blocks.{child_index_below, child_holds, depth_child_of, root_holds}
+use Rattle.oct_key.proofs.Blocks.{child_holds, depth_child_of, root_holds}
 use Rattle.oct_key.proofs.Interleavings.{digit_of_morton, morton_below}
-use Rattle.oct_key.proofs.Order.{is_same_voxel_exact, is_same_voxel_refl}
+use Rattle.oct_key.proofs.SameVoxels.{is_same_voxel_exact}
 use Rattle.oct_values.specs.Events.{IsAscending, is_listed}
 use Rattle.oct_values.proofs.Sums.{first_of_all, rest_of_all}
 use Rattle.oct_edit.proofs.Rooms.{or_cases}
-use Rattle.oct_edit.specs.Parts.{AreIn, IsParted, IsFirstChild}
+use Rattle.oct_edit.specs.Parts.{AreIn, IsParted}
 use Rattle.oct_edit.proofs.UnderWay.{AreLeft}
 
 -- a quotient doesn't fall as its number rises
-quotient_rises : (m n d : ℕ) → 0 < d → m ≤ n → m / d ≤ n / d
+pub quotient_rises : (m n d : ℕ) → 0 < d → m ≤ n → m / d ≤ n / d
 quotient_rises m n d some l = (let part = div-mul-le_self m d in le-div (m / d) n d some (omega (arith, part, l)))
 
 -- a code without three more digits
@@ -36,21 +36,8 @@ next_prefix m h =
     div-div-eq-div-mul m (2 ^ (3 * h)) 8 ∙ ap (λ (n : ℕ). m / n) (sym (ap (λ (n : ℕ). 2 ^ n) more ∙ pow-add 2 (3 * h) 3))
 
 -- the digits of a code down to a depth, without the last
-prefix_above : (depth m : ℕ) → depth ≤ 15 → m / 2 ^ (3 * (15 - depth)) / 8 ≡ code_prefix depth m
+pub prefix_above : (depth m : ℕ) → depth ≤ 15 → m / 2 ^ (3 * (15 - depth)) / 8 ≡ code_prefix depth m
 prefix_above depth m low = (let deep : 15 - depth + 1 ≡ 16 - depth = omega arith in next_prefix m (15 - depth) ∙ ap (λ (n : ℕ). m / 2 ^ (3 * n)) deep)
-
--- of codes that begin alike, a greater one is of the same child or a later one
-pub index_rises : (depth : ℕ) (k l : Voxel) → depth ≤ 15 → code_prefix depth (morton_of k) ≡ code_prefix depth (morton_of l) → morton_of k ≤ morton_of l → child_index_of depth k ≤ child_index_of depth l
-index_rises depth k l low same up =
-    digits _ _ _ _ (prefix_above depth (morton_of k) low ∙ same ∙ sym (prefix_above depth (morton_of l) low)) (quotient_rises (morton_of k) (morton_of l) (2 ^ (3 * (15 - depth))) (pow_pos (3 * (15 - depth))) up) (digit_of_morton depth k low) (digit_of_morton depth l low)
-  where
-    digits : (m n i j : ℕ) → m / 8 ≡ n / 8 → m ≤ n → m % 8 ≡ i → n % 8 ≡ j → i ≤ j
-    digits m n i j same l e f = omega arith
-
--- so keys in order have children in order
-pub children_rise : (b : Cube) (keys : List Voxel) → b.depth ≤ 15 → AreIn b keys → IsNonDecreasingBy (child_index_of b.depth) keys
-children_rise b keys low h i j d l m =
-    index_rises b.depth (get_or keys i d) (get_or keys j d) low (h.alike i d (omega arith) ∙ sym (h.alike j d m)) (h.rise i j d l m)
 
 -- the beginning of a code, one digit longer
 pub longer_prefix : (depth : ℕ) (k : Voxel) → depth ≤ 15 → code_prefix (depth + 1) (morton_of k) ≡ 8 * code_prefix depth (morton_of k) + child_index_of depth k
@@ -163,95 +150,3 @@ left_after b j i keys rest part later l h parted = record {
   from = parted.after;
   listed = λ k high. listed_after b.depth i rest part later k parted high ∙ h.listed k (omega arith);
 }
-
--- a list is cut where a test turns
-pub parted_at : (depth i count : ℕ) (keys part later : List Voxel) → part ≡ take count keys → later ≡ drop count keys → count ≤ length keys → IsPartitionPoint (λ k. leb (child_index_of depth k) i ≡ true) (λ k. leb (child_index_of depth k) i ≡ false) keys count → IsParted depth i keys part later
-parted_at depth i count keys part later first last within point = record {
-  count = count;
-  first = first;
-  last = last;
-  here = subst (All (λ k. child_index_of depth k ≤ i)) (sym first) (λ n d l.
-      (let size = length-take count keys in
-      let there : n < count = omega (arith, size, l) in
-      subst (λ k. child_index_of depth k ≤ i) (sym (get_or-take count keys n d there)) (leb-true _ _ (point.0 n d (omega arith) there))));
-  after = subst (All (λ k. i + 1 ≤ child_index_of depth k)) (sym last) (λ n d l.
-      (let size = length-drop count keys in
-      let there : count + n < length keys = omega (arith, size, l) in
-      subst (λ k. i + 1 ≤ child_index_of depth k) (sym (get_or-drop count keys n d)) (let over = leb-false _ _ (point.1 (count + n) d (omega arith) there) in omega (arith, over))));
-}
-
--- the first of voxels in order is in the first child
-pub least_head : (n : Voxel → ℕ) (keys : List Voxel) (k : Voxel) → slice_get keys 0 ≡ Some k → IsNonDecreasingBy n keys → All (λ q. n k ≤ n q) keys
-least_head n [] k first up = cc
-least_head n (x ∷ keys) k first up = (let e : x ≡ k = cc in λ i d l. subst (λ q. n q ≤ n (get_or (x ∷ keys) i d)) e (up 0 i d (omega arith) l))
-
-pub no_head : (keys : List Voxel) → slice_get keys 0 ≡ None → keys ≡ []
-no_head [] none = refl
-no_head (x ∷ keys) none = cc
-
--- the first voxel of a list is listed
-pub head_listed : (keys : List Voxel) (k : Voxel) → slice_get keys 0 ≡ Some k → is_listed keys k ≡ true
-head_listed [] k first = cc
-head_listed (x ∷ keys) k first = (let e : k ≡ x = cc in ap (λ a. a || is_listed keys k) (ap (is_same_voxel k) (sym e) ∙ is_same_voxel_refl k))
-
--- the first child, where both lists have a voxel
-pub first_of_both : (depth i : ℕ) (hits frees : List Voxel) (hit free : Voxel) → IsInMap hit → IsInMap free → slice_get hits 0 ≡ Some hit → slice_get frees 0 ≡ Some free → IsNonDecreasingBy (child_index_of depth) hits → IsNonDecreasingBy (child_index_of depth) frees → i ≡ min (child_index_of depth hit) (child_index_of depth free) → IsFirstChild depth hits frees i
-first_of_both depth i hits frees hit free v v' is_hit is_free up_hits up_frees is = elim (cases_lt (child_index_of depth free) (child_index_of depth hit)) [
-  | inl less ↦ record {
-    few = omega (arith, is, below_hit);
-    least_hit = least_hit;
-    least_free = least_free;
-    voxel = free;
-    in_map = v';
-    there = omega (arith, is, less);
-    listed = inr (head_listed frees free is_free);
-  }
-  | inr more ↦ record {
-    few = omega (arith, is, below_hit);
-    least_hit = least_hit;
-    least_free = least_free;
-    voxel = hit;
-    in_map = v;
-    there = omega (arith, is, more);
-    listed = inl (head_listed hits hit is_hit);
-  }
-]
-  where
-    below_hit : child_index_of depth hit < 8
-    below_hit = child_index_below depth hit
-
-    least_hit : All (λ k. i ≤ child_index_of depth k) hits
-    least_hit n d l = (let at = least_head (child_index_of depth) hits hit is_hit up_hits n d l in omega (arith, is, at))
-
-    least_free : All (λ k. i ≤ child_index_of depth k) frees
-    least_free n d l = (let at = least_head (child_index_of depth) frees free is_free up_frees n d l in omega (arith, is, at))
-
--- where the one does alone
-pub first_of_hits : (depth i : ℕ) (hits frees : List Voxel) (hit : Voxel) → IsInMap hit → slice_get hits 0 ≡ Some hit → slice_get frees 0 ≡ None → IsNonDecreasingBy (child_index_of depth) hits → i ≡ child_index_of depth hit → IsFirstChild depth hits frees i
-first_of_hits depth i hits frees hit v is_hit none up is =
-    let below_hit = child_index_below depth hit in
-    let least = least_head (child_index_of depth) hits hit is_hit up in
-    record {
-      few = omega (arith, is, below_hit);
-      least_hit = λ n d l. (let at = least n d l in omega (arith, is, at));
-      least_free = subst (All (λ k. i ≤ child_index_of depth k)) (sym (no_head frees none)) (λ n d l. absurd (omega arith));
-      voxel = hit;
-      in_map = v;
-      there = sym is;
-      listed = inl (head_listed hits hit is_hit);
-    }
-
--- or the other
-pub first_of_frees : (depth i : ℕ) (hits frees : List Voxel) (free : Voxel) → IsInMap free → slice_get hits 0 ≡ None → slice_get frees 0 ≡ Some free → IsNonDecreasingBy (child_index_of depth) frees → i ≡ child_index_of depth free → IsFirstChild depth hits frees i
-first_of_frees depth i hits frees free v none is_free up is =
-    let below_free = child_index_below depth free in
-    let least = least_head (child_index_of depth) frees free is_free up in
-    record {
-      few = omega (arith, is, below_free);
-      least_hit = subst (All (λ k. i ≤ child_index_of depth k)) (sym (no_head hits none)) (λ n d l. absurd (omega arith));
-      least_free = λ n d l. (let at = least n d l in omega (arith, is, at));
-      voxel = free;
-      in_map = v;
-      there = sym is;
-      listed = inr (head_listed frees free is_free);
-    }

@@ -1,45 +1,40 @@
 -- What an edit of any events promises, from the whole map on.
-use Rattle.std.proofs.Common.{◌≡◌, ℕ, ◌+◌, ◌≤◌, sym, ◌∙◌, ap, arith, inl, inr, refl, [], length, None, Some, Bool, true, false}
-use Rattle.std.specs.Prelude.{◌⊎◌, ℤ, Option, IsSome, is_some, IfSome, IfNone, IsTrue}
-use Rattle.std.proofs.lemmas.Bool.{false≢true, true≢false}
+use Rattle.std.proofs.Common.{◌≡◌, ℕ, ◌+◌, ◌≤◌, sym, ◌∙◌, ap, arith, inl, inr, refl, length, Some, Bool, true, false}
+use Rattle.std.specs.Prelude.{◌⊎◌, ℤ, IsSome, IsTrue}
+use Rattle.std.proofs.lemmas.Bool.{false≢true}
 use Rattle.oct_key.specs.Voxel.{Voxel, IsInMap}
-use Rattle.oct_key.specs.Block.{Cube, IsBlock, HoldsVoxel, block_of, root_block}
+use Rattle.oct_key.specs.Block.{Cube, IsBlock, HoldsVoxel, block_of, root_block, LiesIn}
 use Rattle.oct_key.proofs.Blocks.{root_holds}
-use Rattle.oct_values.specs.Events.{Events, IsAscending, is_listed, updated}
+use Rattle.oct_values.specs.Events.{Events, updated}
 use Rattle.oct_values.specs.Needs.{IsReached, is_reached, event_need}
-use Rattle.oct_values.proofs.Held.{held_in_map}
+use Rattle.oct_key.proofs.Held.{held_in_map}
 use Rattle.oct_values.proofs.Reached.{reached_exactly}
-use Rattle.oct_odds.specs.declared.event.Event.{Event}
 use Rattle.oct_arena.specs.declared.node.GroupId.{GroupId}
 use Rattle.oct_arena.specs.declared.node.Node.TheVariants.{Inner}
 use Rattle.oct_arena.specs.Entries.{Groups, entry, home_at, home_of, live, spare}
 use Rattle.oct_arena.proofs.Entries.{live_spare}
 use Rattle.oct_tree.specs.declared.place.Place.{Place}
-use Rattle.oct_tree.specs.Nodes.{link_of, IsGreatest}
-use Rattle.oct_tree.specs.Tree.{Tree, IsLinked, node_in, reach, value_at}
+use Rattle.oct_tree.specs.Nodes.{IsGreatest}
+use Rattle.oct_arena.specs.Nodes.{link_of}
+use Rattle.oct_tree.specs.Tree.{Tree, node_in, value_at}
 use Rattle.oct_tree.specs.Shape.{IsWellFormed, IsFresh, IsPruned}
-use Rattle.oct_tree.specs.Changes.{LiesIn}
+use Rattle.oct_key.specs.Values.{SameValues}
 use Rattle.oct_tree.proofs.Paths.{live_home, homed_entry, reach_home}
-use Rattle.oct_edit.specs.declared.scan.ScanUpdate.{ScanUpdate}
-use Rattle.oct_edit.specs.Touch.{IsTidyAlong}
+use Rattle.oct_edit.specs.Edits.{KeepsUnreached, MakesReached, KeepsUnreachedInner, IsEdited, IsTidyAlong, IsEagerEdit, IsLazyEdit}
+use Rattle.oct_edit.proofs.Takes.{takes_event}
 use Rattle.oct_edit.specs.Steps.{Reaches, IsTouched, IsClosedAt}
-use Rattle.oct_edit.specs.Scan.{events_of, KeepsUnreached, MakesReached, KeepsUnreachedInner}
-use Rattle.oct_edit.specs.Parts.{IsUpdateIn, need_in}
-use Rattle.oct_edit.proofs.Joins.{unchanged}
-use Rattle.oct_edit.proofs.Keys.{all_in_root}
-use Rattle.oct_edit.proofs.Rounds.{apart_refl}
-use Rattle.oct_edit.proofs.Shares.{reaches_of, no_event, none_not_some}
+use Rattle.oct_edit.specs.Parts.{need_in}
 use Rattle.oct_edit.proofs.Insides.{block_of_here}
-use Rattle.oct_edit.proofs.Paths.{reach_place, become_same}
-use Rattle.oct_edit.proofs.Closings.{known_of, collapsible_of, greatest_of}
+use Rattle.oct_edit.proofs.Paths.{reach_place}
+use Rattle.oct_tree.proofs.Formed.{known_of, collapsible_of, greatest_of}
 use Rattle.oct_edit.proofs.Homes.{linked_home_of}
 
 -- live groups and vacant entries are all entries
 pub same_total : (gs hs : Groups) → length hs ≡ length gs → live hs + spare hs ≡ live gs + spare gs
 same_total gs hs e = live_spare hs ∙ e ∙ sym (live_spare gs)
 
-pub whole_values : (t u : Tree) (events : Events) (lazy : Bool) → IsTouched t u root_block events lazy → (q : Voxel) → IsInMap q → value_at u q ≡ updated t.odds events (value_at t) q
-whole_values t u events lazy r q v = r.inside q v (root_holds q v)
+whole_values : (t u : Tree) (events : Events) (lazy : Bool) → IsTouched t u root_block events lazy → SameValues (updated t.odds events (value_at t)) (value_at u)
+whole_values t u events lazy r q v = sym (r.inside q v (root_holds q v))
 
 -- what events reach within the whole map, they reach
 reached_of : (events : Events) (c : Cube) → Reaches events root_block c → IsReached events c
@@ -53,17 +48,17 @@ reached_or_not events c ok = go (is_reached events c) refl
     go true e = inl ((reached_exactly events c ok).0 e)
     go false e = inr (λ h. false≢true (sym e ∙ (reached_exactly events c ok).1 h))
 
-pub whole_kept : (t u : Tree) (events : Events) (lazy : Bool) → IsTouched t u root_block events lazy → KeepsUnreached t u events
+whole_kept : (t u : Tree) (events : Events) (lazy : Bool) → IsTouched t u root_block events lazy → KeepsUnreached t u events
 whole_kept t u events lazy r x c out home = r.apart.kept x c (λ to_c. out (reached_of events c to_c)) home
 
-pub whole_inner : (t u : Tree) (events : Events) (lazy : Bool) → IsTouched t u root_block events lazy → KeepsUnreachedInner t u events
+whole_inner : (t u : Tree) (events : Events) (lazy : Bool) → IsTouched t u root_block events lazy → KeepsUnreachedInner t u events
 whole_inner t u events lazy r q id v c out link home = r.apart.links q id v c (λ to_c. out (reached_of events c to_c)) link home
 
 -- the group of a block that isn't reached is as it was
 made_same : (t u : Tree) (events : Events) (lazy : Bool) (x : ℕ) (c : Cube) → IsTouched t u root_block events lazy → (IsReached events c → ⊥) → home_at u.groups x ≡ Some c → entry u.groups x ≡ entry t.groups x
 made_same t u events lazy x c r out home = r.apart.made x c (λ to_c. out (reached_of events c to_c)) home
 
-pub whole_made : (t u : Tree) (events : Events) (lazy : Bool) → IsTouched t u root_block events lazy → MakesReached t u events
+whole_made : (t u : Tree) (events : Events) (lazy : Bool) → IsTouched t u root_block events lazy → MakesReached t u events
 whole_made t u events lazy r x c home = elim (reached_or_not events c (r.linked.homes x c home).0) [
   | inl is ↦ inr is
   | inr out ↦ inl (made_same t u events lazy x c r out home)
@@ -78,7 +73,7 @@ closed_here t u events lazy c x r (k, held, some) home =
     let lies : LiesIn c root_block = λ q h. root_holds q (inside q h) in
     r.closed c (omega (arith, low)) lies (record { voxel = k; in_map = inside k held; here = lies k held; there = held; event = some })
 
-pub whole_formed : (t u : Tree) (events : Events) (lazy : Bool) → IsTouched t u root_block events lazy → IsWellFormed t → IsWellFormed u
+whole_formed : (t u : Tree) (events : Events) (lazy : Bool) → IsTouched t u root_block events lazy → IsWellFormed t → IsWellFormed u
 whole_formed t u events lazy r h = record {
   linked = r.linked;
   known = λ x live. (let (c, home) = live_home (entry u.groups x) live in elim (reached_or_not events c (r.linked.homes x c home).0) [
@@ -88,7 +83,7 @@ whole_formed t u events lazy r h = record {
   ]);
 }
 
-pub whole_pruned : (t u : Tree) (events : Events) → IsTouched t u root_block events false → IsPruned t → IsPruned u
+whole_pruned : (t u : Tree) (events : Events) → IsTouched t u root_block events false → IsPruned t → IsPruned u
 whole_pruned t u events r h x live can =
     let (c, home) = live_home (entry u.groups x) live in
     elim (reached_or_not events c (r.linked.homes x c home).0) [
@@ -97,7 +92,7 @@ whole_pruned t u events r h x live can =
           h x (homed_entry (entry t.groups x) c (ap home_of (sym same) ∙ home)) (collapsible_of t.groups u.groups x same can))
     ]
 
-pub whole_fresh : (t u : Tree) (events : Events) → IsTouched t u root_block events false → IsFresh t → IsFresh u
+whole_fresh : (t u : Tree) (events : Events) → IsTouched t u root_block events false → IsFresh t → IsFresh u
 whole_fresh t u events r h = record {
   formed = whole_formed t u events false r h.formed;
   greatest = greatest;
@@ -112,7 +107,7 @@ whole_fresh t u events r h = record {
               greatest_of t.groups u.groups id.number n same (h.greatest q id n (r.apart.links q id n c (λ to_c. out (reached_of events c to_c)) link home)))
         ]
 
-pub whole_path : (t u : Tree) (events : Events) → IsTouched t u root_block events false → (k : Voxel) → IsInMap k → IsSome (events k) → IsTidyAlong u k
+whole_path : (t u : Tree) (events : Events) → IsTouched t u root_block events false → (k : Voxel) → IsInMap k → IsSome (events k) → IsTidyAlong u k
 whole_path t u events r k v some depth n id low is =
     let home = reach_home u k r.linked v depth id.number (ap link_of is) low in
     let (q, link) = reach_place u k depth id n is in
@@ -120,32 +115,43 @@ whole_path t u events r k v some depth n id low is =
     (closed.greatest refl q id n link home, closed.lean refl id.number home)
 
 -- where the edit isn't lazy
-pub whole_eagerly : (t u : Tree) (b : Cube) (events : Events) (lazy : Bool) → (IsTrue lazy → ⊥) → IsTouched t u b events lazy → IsTouched t u b events false
+whole_eagerly : (t u : Tree) (b : Cube) (events : Events) (lazy : Bool) → (IsTrue lazy → ⊥) → IsTouched t u b events lazy → IsTouched t u b events false
 whole_eagerly t u b events true eager r = absurd (eager refl)
 whole_eagerly t u b events false eager r = r
 
--- an update lies in the block of the whole map
-pub whole_update : (u : ScanUpdate) (first : Option Event) → IsAscending u.hits.now → IsAscending u.frees.now → is_some first ≡ true → IfSome first (λ event. (k : Voxel) × IsInMap k × (events_of u k ≡ Some event)) → IsUpdateIn root_block u
-whole_update u None hits frees some h = absurd (false≢true some)
-whole_update u (Some f) hits frees some h =
-    let in_hits = all_in_root u.hits.now hits in
-    let in_frees = all_in_root u.frees.now frees in
-    record { hits = in_hits; frees = in_frees; some = reaches_of root_block u h.0 in_hits in_frees h.1 (ap is_some h.2) }
-
--- where no voxel is listed, the edit is done
-pub whole_nothing : (t : Tree) (u : ScanUpdate) (first : Option Event) (lazy : Bool) → IsLinked t → is_some first ≡ false → IfNone first ((u.hits.now ≡ []) × (u.frees.now ≡ [])) → IsTouched t t root_block (events_of u) lazy
-whole_nothing t u (Some f) lazy l none h = absurd (true≢false none)
-whole_nothing t u None lazy l none h = record {
-  linked = l;
-  inside = λ k v held. sym (unchanged t.odds (events_of u k) (value_at t k) (nothing k));
-  elsewhere = λ k v out. refl;
-  apart = apart_refl t root_block (events_of u);
-  closed = λ c low lies z. absurd (none_not_some (events_of u z.voxel) (nothing z.voxel) z.event);
-  lazily = λ _ d q _ _. become_same (reach t d q);
+-- what each edit does that was done within the whole map
+pub whole_edited : (t u : Tree) (events : Events) (lazy : Bool) → IsTouched t u root_block events lazy → IsWellFormed t → IsEdited t u events
+whole_edited t u events lazy r formed = record {
+  values = whole_values t u events lazy r;
+  well_formed = whole_formed t u events lazy r formed;
+  res = r.apart.outside.res;
+  odds = r.apart.outside.odds;
+  kept = whole_kept t u events lazy r;
+  made = whole_made t u events lazy r;
+  inner = whole_inner t u events lazy r;
+  expanded = r.expanded;
 }
-  where
-    nothing : (k : Voxel) → events_of u k ≡ None
-    nothing k = no_event u k (ap (λ l. is_listed l k) h.0) (ap (λ l. is_listed l k) h.1)
+
+-- an eager one
+pub whole_eager : (t u : Tree) (events : Events) (lazy : Bool) → IsTouched t u root_block events lazy → (IsTrue lazy → ⊥) → IsEagerEdit t u events
+whole_eager t u events lazy r eager =
+    let s = whole_eagerly t u root_block events lazy eager r in
+    record {
+      path = λ k v takes. whole_path t u events s k v (takes_event t.odds events (value_at t) k takes);
+      fresh = whole_fresh t u events s;
+      pruned = whole_pruned t u events s;
+    }
+
+-- and so is the path to each voxel with an event, whether or not it takes something
+pub whole_paths : (t u : Tree) (events : Events) (lazy : Bool) → IsTouched t u root_block events lazy → (IsTrue lazy → ⊥) → (k : Voxel) → IsInMap k → IsSome (events k) → IsTidyAlong u k
+whole_paths t u events lazy r eager = whole_path t u events (whole_eagerly t u root_block events lazy eager r)
+
+-- and a lazy one
+pub whole_lazy : (t u : Tree) (events : Events) (lazy : Bool) → IsTouched t u root_block events lazy → IsTrue lazy → IsLazyEdit t u events
+whole_lazy t u events lazy r is = record {
+  nodes = r.nodes is;
+  expanded = λ depth k high v takes. r.opened is depth k (omega arith) high v (root_holds k v) takes;
+}
 
 -- so many groups more at most
 pub whole_groups : (t u : Tree) (events : Events) (lazy : Bool) → IsTouched t u root_block events lazy → spare t.groups ≤ spare u.groups + need_in events root_block → live u.groups ≤ live t.groups + event_need events

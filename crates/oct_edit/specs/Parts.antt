@@ -10,12 +10,13 @@ use Rattle.oct_odds.specs.Update.{Value}
 use Rattle.oct_values.specs.Blocks.{blocks_below}
 use Rattle.oct_values.specs.Events.{Events, is_listed}
 use Rattle.oct_values.specs.Needs.{is_reached}
-use Rattle.oct_edit.specs.declared.scan.ScanUpdate.{ScanUpdate}
-use Rattle.oct_edit.specs.Touch.{IsSaturated}
+use Rattle.oct_edit.specs.Listed.{ListedUpdate}
+use Rattle.oct_edit.specs.Saturated.{IsSaturated}
 use Rattle.oct_edit.specs.Steps.{Reaches}
-use Rattle.oct_edit.specs.Scan.{events_of}
+use Rattle.oct_edit.specs.Scan.{events_of, AreDisjoint}
 
--- keys whose voxels lie in a block, if they are voxels of the map, and whose codes begin alike, in the order of the codes
+-- keys whose voxels lie in a block, if they are voxels of the map, and whose codes begin alike, in
+-- the order of the codes
 pub record AreIn (b : Cube) (keys : List Voxel) : Type 0 where
   pub held : All (λ k. IsInMap k → HoldsVoxel b k) keys
   pub prefix : ℕ
@@ -23,9 +24,10 @@ pub record AreIn (b : Cube) (keys : List Voxel) : Type 0 where
   pub rise : IsNonDecreasingBy morton_of keys
 
 -- an update of voxels of a block, and of one at least
-pub record IsUpdateIn (b : Cube) (update : ScanUpdate) : Type 0 where
-  pub hits : AreIn b update.hits.now
-  pub frees : AreIn b update.frees.now
+pub record IsUpdateIn (b : Cube) (update : ListedUpdate) : Type 0 where
+  pub hits : AreIn b update.hits
+  pub frees : AreIn b update.frees
+  pub apart : AreDisjoint update.hits update.frees
   pub some : Reaches (events_of update) b b
 
 -- how many blocks of depth 0 to 15 there are in a block, itself among them, that events reach
@@ -33,10 +35,12 @@ abbrev pub need_in : Events → Cube → ℕ
 need_in events b = count_by (is_reached events) (blocks_below (16 - b.depth) b)
 
 -- a value takes nothing from the events of an update that are there
-abbrev pub IsAtRest : Odds → ScanUpdate → Value → Type 0
-IsAtRest odds update value = ((update.hits.now ≡ []) ⊎ IsSaturated odds update.hit value) × ((update.frees.now ≡ []) ⊎ IsSaturated odds update.miss value)
+abbrev pub IsAtRest : Odds → ListedUpdate → Value → Type 0
+IsAtRest odds update value = ((update.hits ≡ []) ⊎ IsSaturated odds update.hit value)
+    × ((update.frees ≡ []) ⊎ IsSaturated odds update.miss value)
 
--- a list of voxels is cut in two: those in the children up to one of the block of this depth, and those in later ones
+-- a list of voxels is cut in two: those in the children up to one of the block of this depth, and
+-- those in later ones
 pub record IsParted (depth i : ℕ) (keys part later : List Voxel) : Type 0 where
   pub count : ℕ
   pub first : part ≡ take count keys

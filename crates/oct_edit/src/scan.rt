@@ -1,86 +1,112 @@
-ghost use Rattle.std.specs.Prelude.{◌≡◌, ℕ, ◌+◌, ◌-◌, ◌≤◌, ◌≤ℤ◌, ◌<◌, ◌↔◌, [], IsTrue, IsSome, IfSome, IfNone, Some};
-ghost use Rattle.std.specs.Bool.{OnFalse};
+ghost use Rattle.std.specs.Prelude.{◌≡◌, ◌≢◌, ℕ, ◌+◌, ◌-◌, ◌*◌, ◌/◌, ◌%◌, ◌^◌, ◌==◌, if◌then◌else◌, true, bit_and, ◌≤◌, ◌≤ℤ◌, ◌<◌, ◌↔◌, ◌⊎◌, [], ◌∷◌, All, IsTrue, IsSome, IfSome, IfNone, OnSome, Some, slice_get};
+ghost use Rattle.std.specs.Bool.{OnTrue, OnFalse};
 ghost use Rattle.std.specs.List.Sorted.{IsNonDecreasingBy};
 ghost use Rattle.oct_key.specs.Voxel.{Voxel, IsInMap};
-ghost use Rattle.oct_key.specs.Block.{Cube, root_block, child_index_of};
+ghost use Rattle.oct_key.specs.Block.{Cube};
+ghost use Rattle.oct_odds.specs.Odds.{odds_of};
 ghost use Rattle.oct_odds.specs.Update.{IsSmallEvent};
-ghost use Rattle.oct_values.specs.Events.{IsAscending, updated};
+ghost use Rattle.oct_values.specs.Events.{is_listed};
 ghost use Rattle.oct_values.specs.Needs.{event_need};
+ghost use Rattle.oct_brick.specs.Bricks.{IsBrick, AreAscending};
+ghost use Rattle.oct_brick.specs.Voxels.{hit_voxels, freed_voxels};
 ghost use Rattle.oct_arena.specs.Entries.{live, spare};
-ghost use Rattle.oct_tree.specs.Nodes.{value_of};
-ghost use Rattle.oct_tree.specs.Tree.{IsLinked, IsPlace, node_in, block_in, value_at};
-ghost use Rattle.oct_tree.specs.Shape.{IsWellFormed, IsFresh, IsPruned};
-ghost use Rattle.oct_edit.specs.Touch.{IsTidyAlong, IsLazyEdit};
+ghost use Rattle.oct_arena.specs.Nodes.{value_of};
+ghost use Rattle.oct_tree.specs.Tree.{IsLinked, IsPlace, node_in, block_in};
+ghost use Rattle.oct_tree.specs.Shape.{IsWellFormed};
+ghost use Rattle.oct_edit.specs.Saturated.{IsSaturated, TakesFrom};
+ghost use Rattle.oct_edit.specs.Edits.{IsEdited, IsEagerEdit, IsLazyEdit, IsTidyAlong};
 ghost use Rattle.oct_edit.specs.Steps.{IsTouched};
-ghost use Rattle.oct_edit.specs.Parts.{IsUpdateIn, IsAtRest, IsFirstChild, IsParted, need_in};
-ghost use Rattle.oct_edit.specs.Scan.{events_of, KeepsUnreached, MakesReached, KeepsUnreachedInner, TakesSome, ExpandsForSome};
+ghost use Rattle.oct_edit.specs.Parts.{IsUpdateIn, IsAtRest, IsFirstChild, need_in};
+ghost use Rattle.oct_edit.specs.Scan.{events_of, AreDisjoint};
+ghost use Rattle.oct_edit.specs.Bricks.{listed, listed_one, brick_child, AreAlike, AreCut, IsFirstBrick};
 
-use crate::voxel::{VOXELS, apply_at, close, enter, leaf_value, stays};
-use oct_key::{Key, child_index};
-use oct_odds::Event;
+use crate::voxel::{apply_at, close, enter, stays};
+use oct_brick::Brick;
+use oct_odds::{Event, OddsModel};
 use oct_tree::{OccTree, Place};
 
-/// The voxels that a scan changes, each list in the order of Morton codes, and the event of each kind.
+/// The depth of the block of a brick.
+const BRICKS: u8 = 14;
+
+/// The voxels that a scan changes, and the event of each kind.
 #[derive(Clone, Copy)]
 pub struct ScanUpdate<'a> {
-    /// The voxels that are hit.
-    pub hits: &'a [Key],
+    /// The voxels that are hit and those that are freed, in the order of the bricks' codes, each
+    /// brick once.
+    pub bricks: &'a [Brick],
     /// What a hit does to a voxel.
     pub hit: Event,
-    /// The voxels that are freed. One that is hit too takes the hit's event alone.
-    pub frees: &'a [Key],
     /// What a miss does to a voxel.
     pub miss: Event,
 }
 
-/// Applies the events of a scan, each to its own voxels and to no others, in one pass over the tree.
+/// The voxels of a brick that a scan changes, or some of them, and the event of each kind.
+#[derive(Clone, Copy)]
+struct BrickUpdate {
+    brick: Brick,
+    hit: Event,
+    miss: Event,
+}
+
+/// Applies the events of a scan, each to its own voxels and to no others, in one pass over the
+/// tree.
 ///
-/// It changes the values as [`touch`](crate::touch) does voxel by voxel. The tree has room for a group under each block that events reach.
-/// A leaf that takes nothing from the events that its voxels are listed for isn't expanded.
+/// It changes the values as [`touch`](crate::touch) does voxel by voxel. The tree has room for a
+/// group under each block that events reach. A leaf of which no voxel takes anything isn't
+/// expanded.
 pub fn touch_all(tree: &mut OccTree, update: ScanUpdate, lazy: bool)
     requires well_formed { IsWellFormed tree.old }
-    requires hits_ascend { IsAscending update.hits.now }
-    requires frees_ascend { IsAscending update.frees.now }
-    requires room { event_need (events_of update) ≤ spare tree.old.groups }
+    requires bricks { All IsBrick update.bricks.now }
+    requires ascend { AreAscending update.bricks.now }
+    requires room { event_need (events_of (listed update)) ≤ spare tree.old.groups }
     requires hit { IsSmallEvent update.hit }
     requires miss { IsSmallEvent update.miss }
-    ensures values { (q : Voxel) → IsInMap q → value_at tree.new q ≡ updated tree.old.odds (events_of update.entry) (value_at tree.old) q }
-    ensures well_formed { IsWellFormed tree.new }
-    ensures res { tree.new.res ≡ tree.old.res }
-    ensures odds { tree.new.odds ≡ tree.old.odds }
-    ensures room { live tree.new.groups + spare tree.new.groups ≡ live tree.old.groups + spare tree.old.groups }
-    ensures groups { live tree.new.groups ≤ live tree.old.groups + event_need (events_of update.entry) }
-    ensures kept { KeepsUnreached tree.old tree.new (events_of update.entry) }
-    ensures made { MakesReached tree.old tree.new (events_of update.entry) }
-    ensures inner { KeepsUnreachedInner tree.old tree.new (events_of update.entry) }
-    ensures path { (IsTrue lazy → ⊥) → (k : Voxel) → IsInMap k → IsSome (events_of update.entry k) → IsTidyAlong tree.new k }
-    ensures fresh { (IsTrue lazy → ⊥) → IsFresh tree.old → IsFresh tree.new }
-    ensures pruned { (IsTrue lazy → ⊥) → IsPruned tree.old → IsPruned tree.new }
-    ensures lazily { IsTrue lazy → IsLazyEdit tree.old tree.new }
-    ensures expanded { ExpandsForSome tree.old tree.new update.entry }
+    ensures edited { IsEdited tree.old tree.new (events_of (listed update.entry)) }
+    ensures eager { (IsTrue lazy → ⊥)
+        → IsEagerEdit tree.old tree.new (events_of (listed update.entry)) }
+    ensures lazily { IsTrue lazy
+        → IsLazyEdit tree.old tree.new (events_of (listed update.entry)) }
+    ensures path { (IsTrue lazy → ⊥) → (k : Voxel) → IsInMap k
+        → IsSome (events_of (listed update.entry) k) → IsTidyAlong tree.new k }
+    ensures groups { live tree.new.groups
+        ≤ live tree.old.groups + event_need (events_of (listed update.entry)) }
+    ensures room { live tree.new.groups + spare tree.new.groups
+        ≡ live tree.old.groups + spare tree.old.groups }
 {
-    if update.first_event().is_some() {
+    if !update.bricks.is_empty() {
         touch_within(tree, Place::Root, 0, update, lazy);
     }
 }
 
-/// Applies the events of the update, whose voxels lie in the block of the place of that depth, and closes the groups from there on.
+/// Applies the events of the update, whose bricks lie in the block of the place of that depth, and
+/// closes the groups from there on.
 fn touch_within(tree: &mut OccTree, p: Place, depth: u8, update: ScanUpdate, lazy: bool)
     requires linked { IsLinked tree.old }
     requires place { IsPlace tree.old p }
     requires depth { (b : Cube) → block_in tree.old p ≡ Some b → b.depth ≡ depth }
-    requires deep { depth ≤ 16 }
-    requires inside { (b : Cube) → block_in tree.old p ≡ Some b → IsUpdateIn b update }
-    requires room { (b : Cube) → block_in tree.old p ≡ Some b → need_in (events_of update) b ≤ spare tree.old.groups }
+    requires deep { depth ≤ 14 }
+    requires bricks { All IsBrick update.bricks.now }
+    requires ascend { AreAscending update.bricks.now }
+    requires alike { AreAlike depth update.bricks.now }
+    requires inside { (b : Cube) → block_in tree.old p ≡ Some b → IsUpdateIn b (listed update) }
+    requires room { (b : Cube) → block_in tree.old p ≡ Some b →
+        need_in (events_of (listed update)) b ≤ spare tree.old.groups }
     requires hit { IsSmallEvent update.hit }
     requires miss { IsSmallEvent update.miss }
-    ensures touched { (b : Cube) → block_in tree.old p ≡ Some b → IsTouched tree.old tree.new b (events_of update.entry) lazy }
-    ensures room { (b : Cube) → block_in tree.old p ≡ Some b → spare tree.old.groups ≤ spare tree.new.groups + need_in (events_of update.entry) b }
-    ensures expanded { ExpandsForSome tree.old tree.new update.entry }
+    ensures touched { (b : Cube) → block_in tree.old p ≡ Some b →
+        IsTouched tree.old tree.new b (events_of (listed update.entry)) lazy }
+    ensures room { (b : Cube) → block_in tree.old p ≡ Some b →
+        spare tree.old.groups ≤
+        spare tree.new.groups + need_in (events_of (listed update.entry)) b }
 {
-    if depth == VOXELS {
-        if let Some(event) = update.first_event() {
-            apply_at(tree, p, event);
+    if depth == BRICKS {
+        if let Some(brick) = update.bricks.first().copied() {
+            let part = BrickUpdate {
+                brick,
+                hit: update.hit,
+                miss: update.miss,
+            };
+            touch_brick(tree, p, part, lazy);
         }
         return;
     }
@@ -97,84 +123,260 @@ fn touch_within(tree: &mut OccTree, p: Place, depth: u8, update: ScanUpdate, laz
     close(tree, p, lazy);
 }
 
-impl<'a> ScanUpdate<'a> {
-    /// The event of the first voxel that is hit, if there is one, else of the first one that is freed.
-    fn first_event(&self) -> Option<Event>
-        ensures some { IfSome result (λ event. (k : Voxel) × IsInMap k × (events_of self.now k ≡ Some event)) }
-        ensures none { IfNone result ((self.now.hits.now ≡ []) × (self.now.frees.now ≡ [])) }
+/// Applies the events of a brick, which is the block of the place.
+fn touch_brick(tree: &mut OccTree, p: Place, update: BrickUpdate, lazy: bool)
+    requires linked { IsLinked tree.old }
+    requires place { IsPlace tree.old p }
+    requires depth { (b : Cube) → block_in tree.old p ≡ Some b → b.depth ≡ 14 }
+    requires brick { IsBrick update.brick }
+    requires inside { (b : Cube) → block_in tree.old p ≡ Some b → IsUpdateIn b (listed_one update) }
+    requires room { (b : Cube) → block_in tree.old p ≡ Some b →
+        need_in (events_of (listed_one update)) b ≤ spare tree.old.groups }
+    requires hit { IsSmallEvent update.hit }
+    requires miss { IsSmallEvent update.miss }
+    ensures touched { (b : Cube) → block_in tree.old p ≡ Some b →
+        IsTouched tree.old tree.new b (events_of (listed_one update)) lazy }
+    ensures room { (b : Cube) → block_in tree.old p ≡ Some b →
+        spare tree.old.groups ≤ spare tree.new.groups + need_in (events_of (listed_one update)) b }
+{
+    if update.is_at_rest(tree, p) {
+        return;
+    }
+    let id = enter(tree, p);
+    let mut rest = update;
+    while rest.brick.scanned != 0 {
+        let i = (rest.brick.scanned.trailing_zeros() / 8) as u8;
+        let octet = octet_bits(i);
+        touch_octet(tree, Place::Slot(id, i), rest.within(octet), lazy);
+        rest = rest.within(!octet);
+    }
+    close(tree, p, lazy);
+}
+
+/// Applies the events of an octet of a brick, which is the block of the place.
+fn touch_octet(tree: &mut OccTree, p: Place, update: BrickUpdate, lazy: bool)
+    requires linked { IsLinked tree.old }
+    requires place { IsPlace tree.old p }
+    requires depth { (b : Cube) → block_in tree.old p ≡ Some b → b.depth ≡ 15 }
+    requires brick { IsBrick update.brick }
+    requires inside { (b : Cube) → block_in tree.old p ≡ Some b → IsUpdateIn b (listed_one update) }
+    requires room { (b : Cube) → block_in tree.old p ≡ Some b →
+        need_in (events_of (listed_one update)) b ≤ spare tree.old.groups }
+    requires hit { IsSmallEvent update.hit }
+    requires miss { IsSmallEvent update.miss }
+    ensures touched { (b : Cube) → block_in tree.old p ≡ Some b →
+        IsTouched tree.old tree.new b (events_of (listed_one update)) lazy }
+    ensures room { (b : Cube) → block_in tree.old p ≡ Some b →
+        spare tree.old.groups ≤ spare tree.new.groups + need_in (events_of (listed_one update)) b }
+{
+    if update.is_at_rest(tree, p) {
+        return;
+    }
+    let id = enter(tree, p);
+    let mut rest = update;
+    while rest.brick.scanned != 0 {
+        let place = rest.brick.scanned.trailing_zeros();
+        let i = (place % 8) as u8;
+        let bit = 1_u64 << place;
+        apply_at(tree, Place::Slot(id, i), rest.event_at(bit));
+        rest = rest.within(!bit);
+    }
+    close(tree, p, lazy);
+}
+
+/// The eight bits of an octet.
+fn octet_bits(i: u8) -> u64
+    requires { i < 8 }
+    ensures { result ≡ 2 ^ (8 * i + 8) - 2 ^ (8 * i) }
+{
+    255 << (8 * i)
+}
+
+impl BrickUpdate {
+    /// The part of the voxels whose bits are set in a mask.
+    fn within(self, mask: u64) -> BrickUpdate
+        ensures code { result.brick.code ≡ self.brick.code }
+        ensures scanned { result.brick.scanned ≡ bit_and self.brick.scanned mask }
+        ensures hits { result.brick.hits ≡ bit_and self.brick.hits mask }
+        ensures hit { result.hit ≡ self.hit }
+        ensures miss { result.miss ≡ self.miss }
     {
-        match (self.hits.first().copied(), self.frees.first().copied()) {
-            (Some(_), _) => Some(self.hit),
-            (None, Some(_)) => Some(self.miss),
-            (None, None) => None,
+        BrickUpdate {
+            brick: self.brick.within(mask),
+            ..self
+        }
+    }
+
+    /// The event of the voxel of a bit.
+    fn event_at(&self, bit: u64) -> Event
+        ensures { result ≡ (if bit_and self.now.brick.hits bit == 0
+            then self.now.miss else self.now.hit) }
+    {
+        if self.brick.hits & bit != 0 {
+            self.hit
+        } else {
+            self.miss
         }
     }
 
     /// Whether the value that the place gives its voxels takes nothing from the events.
     fn is_at_rest(&self, tree: &OccTree, p: Place) -> bool
-        requires { IsPlace tree.now p }
-        ensures rests { IsTrue result ↔ IsAtRest tree.now.odds self.now (value_of (node_in tree.now p)) }
+        requires place { IsPlace tree.now p }
+        requires brick { IsBrick self.now.brick }
+        requires apart { AreDisjoint (listed_one self.now).hits (listed_one self.now).frees }
+        ensures rests { IsTrue result →
+            IsAtRest tree.now.odds (listed_one self.now) (value_of (node_in tree.now p)) }
         ensures bounds { tree.now.odds.min ≤ℤ tree.now.odds.max }
-        ensures moved { OnFalse result (TakesSome tree.now.odds self.now (λ _. value_of (node_in tree.now p)) root_block) }
+        ensures takes { OnFalse result ((k : Voxel) × IsInMap k
+            × TakesFrom tree.now.odds (events_of (listed_one self.now))
+            (λ _. value_of (node_in tree.now p)) k) }
     {
-        let (hit, freed) = (self.hits.first().copied(), self.frees.first().copied());
-        let value = leaf_value(tree.node(p));
+        let value = tree.node(p).value();
         let odds = tree.odds();
-        (hit.is_none() || stays(odds, self.hit, value))
-            && (freed.is_none() || stays(odds, self.miss, value))
+        self.hits_rest(odds, value) && self.misses_rest(odds, value)
     }
 
-    /// The first child of the block of that depth that holds a voxel of the update, whose voxels lie in the block.
-    fn first_child(&self, depth: u8) -> Option<u8>
-        requires depth { depth ≤ 15 }
-        requires hits { IsNonDecreasingBy (child_index_of depth) self.now.hits.now }
-        requires frees { IsNonDecreasingBy (child_index_of depth) self.now.frees.now }
-        ensures some { IfSome result (λ i. IsFirstChild depth self.now.hits.now self.now.frees.now i) }
-        ensures none { IfNone result ((self.now.hits.now ≡ []) × (self.now.frees.now ≡ [])) }
+    /// Whether no voxel is hit, or the value takes nothing from a hit.
+    fn hits_rest(&self, odds: OddsModel, value: Option<i32>) -> bool
+        requires { IsBrick self.now.brick }
+        ensures rests { IsTrue result →
+            ((listed_one self.now).hits ≡ []) ⊎ IsSaturated (odds_of odds) self.now.hit value }
+        ensures moved { OnFalse result ((k : Voxel) × IsInMap k ×
+            (is_listed (listed_one self.now).hits k ≡ true) ×
+            (IsSaturated (odds_of odds) self.now.hit value → ⊥)) }
     {
-        match (self.hits.first().copied(), self.frees.first().copied()) {
-            (Some(hit), Some(free)) => {
-                Some(child_index(hit, depth).min(child_index(free, depth)))
-            }
-            (Some(hit), None) => Some(child_index(hit, depth)),
-            (None, Some(free)) => Some(child_index(free, depth)),
-            (None, None) => None,
+        stays(odds, self.hit, value) || self.brick.hits == 0
+    }
+
+    /// Whether no voxel is freed, or the value takes nothing from a miss.
+    fn misses_rest(&self, odds: OddsModel, value: Option<i32>) -> bool
+        requires { IsBrick self.now.brick }
+        ensures rests { IsTrue result →
+            ((listed_one self.now).frees ≡ []) ⊎ IsSaturated (odds_of odds) self.now.miss value }
+        ensures moved { OnFalse result ((k : Voxel) × IsInMap k ×
+            (is_listed (listed_one self.now).frees k ≡ true) ×
+            (IsSaturated (odds_of odds) self.now.miss value → ⊥)) }
+    {
+        stays(odds, self.miss, value) || self.brick.frees() == 0
+    }
+}
+
+impl<'a> ScanUpdate<'a> {
+    /// Whether the value that the place gives its voxels takes nothing from the events.
+    fn is_at_rest(&self, tree: &OccTree, p: Place) -> bool
+        requires place { IsPlace tree.now p }
+        requires bricks { All IsBrick self.now.bricks.now }
+        requires apart { AreDisjoint (listed self.now).hits (listed self.now).frees }
+        requires some { (k : Voxel) × IsInMap k × IsSome (events_of (listed self.now) k) }
+        ensures rests { IsTrue result →
+            IsAtRest tree.now.odds (listed self.now) (value_of (node_in tree.now p)) }
+        ensures bounds { tree.now.odds.min ≤ℤ tree.now.odds.max }
+        ensures takes { OnFalse result ((k : Voxel) × IsInMap k
+            × TakesFrom tree.now.odds (events_of (listed self.now))
+            (λ _. value_of (node_in tree.now p)) k) }
+    {
+        let value = tree.node(p).value();
+        let odds = tree.odds();
+        value.is_some() && self.hits_rest(odds, value) && self.misses_rest(odds, value)
+    }
+
+    /// Whether no voxel is hit, or the value takes nothing from a hit.
+    fn hits_rest(&self, odds: OddsModel, value: Option<i32>) -> bool
+        requires { All IsBrick self.now.bricks.now }
+        ensures rests { IsTrue result →
+            ((listed self.now).hits ≡ []) ⊎ IsSaturated (odds_of odds) self.now.hit value }
+        ensures moved { OnFalse result ((k : Voxel) × IsInMap k ×
+            (is_listed (listed self.now).hits k ≡ true) ×
+            (IsSaturated (odds_of odds) self.now.hit value → ⊥)) }
+    {
+        stays(odds, self.hit, value) || !has_hits(self.bricks)
+    }
+
+    /// Whether no voxel is freed, or the value takes nothing from a miss.
+    fn misses_rest(&self, odds: OddsModel, value: Option<i32>) -> bool
+        requires { All IsBrick self.now.bricks.now }
+        ensures rests { IsTrue result →
+            ((listed self.now).frees ≡ []) ⊎ IsSaturated (odds_of odds) self.now.miss value }
+        ensures moved { OnFalse result ((k : Voxel) × IsInMap k ×
+            (is_listed (listed self.now).frees k ≡ true) ×
+            (IsSaturated (odds_of odds) self.now.miss value → ⊥)) }
+    {
+        stays(odds, self.miss, value) || !has_frees(self.bricks)
+    }
+
+    /// The child of the block of that depth that holds the first brick of the update, whose bricks
+    /// lie in the block.
+    fn first_child(&self, depth: u8) -> Option<u8>
+        requires depth { depth ≤ 13 }
+        requires bricks { All IsBrick self.now.bricks.now }
+        requires order { IsNonDecreasingBy (λ b. brick_child depth b.code) self.now.bricks.now }
+        ensures some { IfSome result
+            (λ i. IsFirstChild depth (listed self.now).hits (listed self.now).frees i) }
+        ensures brick { IfSome result (λ i. IsFirstBrick depth self.now.bricks.now i) }
+        ensures none { IfNone result (self.now.bricks.now ≡ []) }
+    {
+        match self.bricks.first().copied() {
+            Some(brick) => Some(brick.child_index(depth)),
+            None => None,
         }
     }
 
-    /// The part of the update in the children up to that one of the block of that depth, and what is left.
+    /// The part of the update in the children up to that one of the block of that depth, and what
+    /// is left.
     fn split(self, depth: u8, i: u8) -> (ScanUpdate<'a>, ScanUpdate<'a>)
-        requires depth { depth ≤ 15 }
-        requires hits { IsNonDecreasingBy (child_index_of depth) self.hits.now }
-        requires frees { IsNonDecreasingBy (child_index_of depth) self.frees.now }
-        ensures hits { IsParted depth i self.entry.hits.now result.0.hits.now result.1.hits.now }
-        ensures frees { IsParted depth i self.entry.frees.now result.0.frees.now result.1.frees.now }
+        requires depth { depth ≤ 13 }
+        requires order { IsNonDecreasingBy (λ b. brick_child depth b.code) self.bricks.now }
+        ensures cut { AreCut depth i self.entry.bricks.now result.0.bricks.now result.1.bricks.now }
         ensures hit { (result.0.hit ≡ self.entry.hit) × (result.1.hit ≡ self.entry.hit) }
         ensures miss { (result.0.miss ≡ self.entry.miss) × (result.1.miss ≡ self.entry.miss) }
     {
-        let (hits, later_hits) = split_keys(self.hits, depth, i);
-        let (frees, later_frees) = split_keys(self.frees, depth, i);
-        let part = ScanUpdate {
-            hits,
-            frees,
-            ..self
-        };
+        let (bricks, later) = split_bricks(self.bricks, depth, i);
+        let part = ScanUpdate { bricks, ..self };
         let others = ScanUpdate {
-            hits: later_hits,
-            frees: later_frees,
+            bricks: later,
             ..self
         };
         (part, others)
     }
 }
 
-/// The keys in the children up to that one of the block of that depth, and those in later ones.
-fn split_keys<'a>(keys: &'a [Key], depth: u8, i: u8) -> (&'a [Key], &'a [Key])
-    requires depth { depth ≤ 15 }
-    requires order { IsNonDecreasingBy (child_index_of depth) keys.now }
-    ensures { IsParted depth i keys.entry.now result.0.now result.1.now }
+/// The bricks in the children up to that one of the block of that depth, and those in later ones.
+fn split_bricks<'a>(bricks: &'a [Brick], depth: u8, i: u8) -> (&'a [Brick], &'a [Brick])
+    requires depth { depth ≤ 13 }
+    requires order { IsNonDecreasingBy (λ b. brick_child depth b.code) bricks.now }
+    ensures { AreCut depth i bricks.entry.now result.0.now result.1.now }
 {
-    keys.split_at(keys.partition_point(|k| child_index(*k, depth) <= i))
+    bricks.split_at(bricks.partition_point(|b| b.child_index(depth) <= i))
+}
+
+/// Whether some voxel of the bricks is hit.
+fn has_hits(bricks: &[Brick]) -> bool
+    requires { All IsBrick bricks.now }
+    ensures none { OnFalse result (hit_voxels bricks.now ≡ []) }
+    ensures some { OnTrue result ((k : Voxel) × IsInMap k ×
+        (is_listed (hit_voxels bricks.now) k ≡ true)) }
+{
+    for &brick in bricks {
+        if brick.hits != 0 {
+            return true;
+        }
+    }
+    false
+}
+
+/// Whether some voxel of the bricks is freed.
+fn has_frees(bricks: &[Brick]) -> bool
+    requires { All IsBrick bricks.now }
+    ensures none { OnFalse result (freed_voxels bricks.now ≡ []) }
+    ensures some { OnTrue result ((k : Voxel) × IsInMap k ×
+        (is_listed (freed_voxels bricks.now) k ≡ true)) }
+{
+    for &brick in bricks {
+        if brick.frees() != 0 {
+            return true;
+        }
+    }
+    false
 }
 
 #[cfg(test)]

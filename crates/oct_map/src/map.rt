@@ -1,24 +1,25 @@
-ghost use Rattle.std.specs.Prelude.{◌≡◌, ℕ, ◌+◌, ◌^◌, ◌<◌, ◌≤◌, ◌||◌, pos, ◌≤ℤ◌, ◌<ℤ◌, Bool, false, IsTrue, [], All, IfSome, IsSome, IsOk, OnOk, OnErr, Some, None, Err};
+ghost use Rattle.std.specs.Prelude.{◌≡◌, ℕ, ◌+◌, ◌^◌, ◌<◌, ◌≤◌, pos, ◌≤ℤ◌, ◌<ℤ◌, false, IsTrue, [], All, IfSome, IfErr, IsSome, IsOk, OnOk, OnErr, Some, None, Err};
 ghost use Rattle.oct_key.specs.Voxel.{Voxel, IsInMap, key_at};
+ghost use Rattle.oct_key.specs.Values.{SameValues};
 ghost use Rattle.oct_odds.specs.Odds.{odds_of};
 ghost use Rattle.oct_odds.specs.Update.{IsSmallEvent};
-ghost use Rattle.oct_values.specs.Events.{event_at, updated};
+ghost use Rattle.oct_values.specs.Events.{event_at};
 ghost use Rattle.oct_values.specs.Counts.{group_count, node_count};
 ghost use Rattle.oct_arena.specs.declared.node.Node.{Node};
 ghost use Rattle.oct_arena.specs.Entries.{live, spare};
-ghost use Rattle.oct_tree.specs.Tree.{value_at};
 ghost use Rattle.oct_tree.specs.Shape.{IsFresh, IsPruned};
-ghost use Rattle.oct_tree.specs.Changes.{SameValues, IsGrown};
-ghost use Rattle.oct_edit.specs.Touch.{IsSaturated, IsLazyEdit, IsTidyAlong, KeepsGroups, KeepsInner};
-ghost use Rattle.oct_edit.specs.Scan.{KeepsUnreached, KeepsUnreachedInner};
+ghost use Rattle.oct_tree.specs.Changes.{IsGrown};
+ghost use Rattle.oct_edit.specs.Saturated.{IsSaturated};
+ghost use Rattle.oct_edit.specs.Edits.{IsTidyAlong};
 ghost use Rattle.oct_inner.specs.Changes.{IsSameButInner, IsShrunk};
 ghost use Rattle.oct_pose.specs.Reach.{IsInReach};
 ghost use Rattle.oct_scan.specs.Beam.{sighting_of};
 ghost use Rattle.oct_scan.specs.Outcome.{scan_fault};
 ghost use Rattle.oct_map.specs.declared.fault.MapFault.{MapFault};
 ghost use Rattle.oct_map.specs.Answers.{room_answer, edit_answer, edit_need, scan_answer, get_answer, IsAnswerOrMemory};
-ghost use Rattle.oct_map.specs.Outcome.{outcome_in, need_in, ExpandsForChange};
+ghost use Rattle.oct_map.specs.Edits.{outcome_in, scan_need, IsMapEdited, IsMapRefused, ReservesFew};
 
+use crate::done::ScanDone;
 use crate::fault::MapFault;
 use crate::limits::Limits;
 use oct_edit::{ScanUpdate, touch, touch_all};
@@ -26,7 +27,7 @@ use oct_inner::{prune, refresh};
 use oct_key::{Block, Key, Point, Res};
 use oct_odds::{Event, OddsModel};
 use oct_query::{Counts, counts, query};
-use oct_scan::{Scan, update_set};
+use oct_scan::{Scan, update_bricks};
 use oct_tree::OccTree;
 use std::alloc::Global;
 use std::marker::Model;
@@ -36,13 +37,6 @@ const EDIT_NEED: u128 = 16;
 
 /// The depth of the voxels.
 const VOXELS: u32 = 16;
-
-/// How many voxels a scan hit, and how many it freed.
-#[derive(Clone, Copy, Debug, PartialEq, Eq)]
-pub struct ScanDone {
-    pub hits: u64,
-    pub frees: u64,
-}
 
 /// An occupancy map: a value for each voxel, or none where nothing is known of it.
 #[derive(Drop)]
@@ -58,9 +52,19 @@ impl Model for OccMap {
 
     ghost Value = { Map };
 
-    ghost view = { λ m. record { tree = m.tree; is_stale = m.is_stale; max_groups = m.limits.max_groups; max_cells = m.limits.max_cells } };
+    ghost view = { λ m. record {
+      tree = m.tree;
+      is_stale = m.is_stale;
+      max_groups = m.limits.max_groups;
+      max_cells = m.limits.max_cells;
+    } };
 
-    ghost invariant = { λ m. IsMap (record { tree = m.tree; is_stale = m.is_stale; max_groups = m.limits.max_groups; max_cells = m.limits.max_cells }) };
+    ghost invariant = { λ m. IsMap (record {
+      tree = m.tree;
+      is_stale = m.is_stale;
+      max_groups = m.limits.max_groups;
+      max_cells = m.limits.max_cells;
+    }) };
 }
 
 impl OccMap {
@@ -68,7 +72,12 @@ impl OccMap {
 
     /// The map of the unknown world. Takes no memory.
     pub fn new(alloc: Global, res: Res, odds: OddsModel, limits: Limits) -> OccMap
-        ensures exact { result ≡ record { tree = record { groups = []; root = Node.Absent; res = res; odds = odds_of odds }; is_stale = false; max_groups = limits.max_groups; max_cells = limits.max_cells } }
+        ensures exact { result ≡ record {
+          tree = record { groups = []; root = Node.Absent; res = res; odds = odds_of odds };
+          is_stale = false;
+          max_groups = limits.max_groups;
+          max_cells = limits.max_cells;
+        } }
         ensures unknown { (k : Voxel) → values_of result k ≡ None }
         ensures map { IsMap result }
     {
@@ -99,32 +108,25 @@ impl OccMap {
 
     /// Applies the event to the voxel that holds the point.
     ///
-    /// A lazy edit leaves inner values and pruning to a later refresh. The map prunes itself only where its groups and sixteen more are
-    /// more than it may have, and refuses the edit as full only where they still are then.
+    /// A lazy edit leaves inner values and pruning to a later refresh. The map prunes itself only
+    /// where its groups and sixteen more are more than it may have, and refuses the edit as full
+    /// only where they still are then.
     pub fn edit(&mut self, p: Point, event: Event, lazy: bool) -> Result<(), MapFault>
         requires { IsSmallEvent event }
-        ensures answer { IsAnswerOrMemory (edit_answer self.old.tree.res self.old.max_groups (values_of self.old) p) result }
+        ensures answer { IsAnswerOrMemory
+            (edit_answer self.old.tree.res self.old.max_groups (values_of self.old) p) result }
         ensures memory { result ≡ Err MapFault.Memory
-            → IsOk (edit_answer self.old.tree.res self.old.max_groups (values_of self.old) p) × (spare self.old.tree.groups < edit_need) }
-        ensures ok { OnOk result (SameValues (updated self.old.tree.odds (event_at (key_at self.old.tree.res p) event) (values_of self.old))
-            (values_of self.new)) }
-        ensures err { OnErr result (SameValues (values_of self.old) (values_of self.new)) }
-        ensures stale { OnOk result (self.new.is_stale ≡ (self.old.is_stale || lazy)) }
-        ensures still { OnErr result (self.new.is_stale ≡ self.old.is_stale) }
-        ensures pruned { (IsTrue lazy → ⊥) → IsPruned self.old.tree → IsPruned self.new.tree }
-        ensures still_pruned { OnErr result (IsPruned self.old.tree → IsPruned self.new.tree) }
+            → IsOk (edit_answer self.old.tree.res self.old.max_groups (values_of self.old) p)
+            × (spare self.old.tree.groups < edit_need) }
+        ensures edited { OnOk result (IsMapEdited self.old self.new
+            (event_at (key_at self.old.tree.res p) event) edit_need lazy) }
+        ensures refused { IfErr result (λ fault. IsMapRefused self.old self.new fault edit_need) }
+        ensures reserved { ReservesFew self.old self.new edit_need }
         ensures outside { key_at self.old.tree.res p ≡ None → self.new ≡ self.old }
-        ensures refused { HasRoomFor self.old edit_need → OnErr result (IsGrown self.old.tree self.new.tree) }
-        ensures kept { (k : Voxel) → key_at self.old.tree.res p ≡ Some k → HasRoomFor self.old edit_need → KeepsGroups self.old.tree self.new.tree k }
-        ensures inner { (k : Voxel) → key_at self.old.tree.res p ≡ Some k → HasRoomFor self.old edit_need → KeepsInner self.old.tree self.new.tree k }
-        ensures path { (k : Voxel) → key_at self.old.tree.res p ≡ Some k → (IsSaturated self.old.tree.odds event (values_of self.old k) → ⊥)
-            → (IsTrue lazy → ⊥) → OnOk result (IsTidyAlong self.new.tree k) }
-        ensures full { (groups need : ℕ) → result ≡ Err (MapFault.Full groups need) → IsPruned self.new.tree × IsShrunk self.old.tree self.new.tree }
-        ensures live { OnErr result (live self.new.tree.groups ≤ live self.old.tree.groups) }
-        ensures entries { live self.old.tree.groups + spare self.old.tree.groups ≤ live self.new.tree.groups + spare self.new.tree.groups }
-        ensures lazily { IsTrue lazy → HasRoomFor self.old edit_need → OnOk result (IsLazyEdit self.old.tree self.new.tree) }
-        ensures saturated { (k : Voxel) → key_at self.old.tree.res p ≡ Some k → HasRoomFor self.old edit_need
-            → IsSaturated self.old.tree.odds event (values_of self.old k) → OnOk result (IsGrown self.old.tree self.new.tree) }
+        ensures saturated { (k : Voxel) → key_at self.old.tree.res p ≡ Some k
+            → HasRoomFor self.old edit_need
+            → IsSaturated self.old.tree.odds event (values_of self.old k)
+            → OnOk result (IsGrown self.old.tree self.new.tree) }
         ensures setup { IsSameSetup self.old self.new }
         ensures map { IsMap self.new }
     {
@@ -137,54 +139,54 @@ impl OccMap {
         Ok(())
     }
 
-    /// Applies a hit to each voxel that the scan hits, and a miss to each one that it frees, by the map's model of log-odds.
+    /// Applies a hit to each voxel that the scan hits, and a miss to each one that it frees, by the
+    /// map's model of log-odds.
     ///
-    /// A scan is refused before any voxel changes: first for its own fault, and then as full where the groups that the values need and
-    /// those that the scan may need are more than the limit. The map prunes itself only where its own groups and those are. A lazy scan
-    /// leaves inner values and pruning to a later refresh.
+    /// A scan is refused before any voxel changes: first for its own fault, and then as full where
+    /// the groups that the values need and those that the scan may need are more than the limit.
+    /// The map prunes itself only where its own groups and those are. A lazy scan leaves inner
+    /// values and pruning to a later refresh.
     pub fn scan(&mut self, scan: &Scan, lazy: bool) -> Result<ScanDone, MapFault>
         requires points { All IsInReach scan.now.points }
         requires range { IfSome scan.now.range (λ r. (pos 0 ≤ℤ r) × (r <ℤ pos (10 ^ 16))) }
-        ensures answer { IsAnswerOrMemory (scan_answer self.old.tree.res self.old.tree.odds self.old.max_groups self.old.max_cells (values_of self.old) (sighting_of scan.now)) result }
-        ensures ok { OnOk result (SameValues (updated self.old.tree.odds (outcome_in self.old (sighting_of scan.now)) (values_of self.old)) (values_of self.new)) }
-        ensures err { OnErr result (SameValues (values_of self.old) (values_of self.new)) }
-        ensures stale { OnOk result (self.new.is_stale ≡ (self.old.is_stale || lazy)) }
-        ensures still { OnErr result (self.new.is_stale ≡ self.old.is_stale) }
-        ensures pruned { (IsTrue lazy → ⊥) → IsPruned self.old.tree → IsPruned self.new.tree }
-        ensures still_pruned { OnErr result (IsPruned self.old.tree → IsPruned self.new.tree) }
-        ensures faulty { IsSome (scan_fault self.old.tree.res (sighting_of scan.now) self.old.max_cells) → self.new ≡ self.old }
-        ensures refused { HasRoomFor self.old (need_in self.old (sighting_of scan.now)) → OnErr result (IsGrown self.old.tree self.new.tree) }
-        ensures kept { HasRoomFor self.old (need_in self.old (sighting_of scan.now)) → KeepsUnreached self.old.tree self.new.tree (outcome_in self.old (sighting_of scan.now)) }
-        ensures inner { HasRoomFor self.old (need_in self.old (sighting_of scan.now)) → KeepsUnreachedInner self.old.tree self.new.tree (outcome_in self.old (sighting_of scan.now)) }
-        ensures path { (IsTrue lazy → ⊥) → (k : Voxel) → IsInMap k → IsSome (outcome_in self.old (sighting_of scan.now) k) → OnOk result (IsTidyAlong self.new.tree k) }
-        ensures full { (groups need : ℕ) → result ≡ Err (MapFault.Full groups need) → IsPruned self.new.tree × IsShrunk self.old.tree self.new.tree }
-        ensures live { OnErr result (live self.new.tree.groups ≤ live self.old.tree.groups) }
-        ensures entries { live self.old.tree.groups + spare self.old.tree.groups ≤ live self.new.tree.groups + spare self.new.tree.groups }
-        ensures lazily { IsTrue lazy → HasRoomFor self.old (need_in self.old (sighting_of scan.now)) → OnOk result (IsLazyEdit self.old.tree self.new.tree) }
-        ensures expanded { HasRoomFor self.old (need_in self.old (sighting_of scan.now)) → OnOk result (ExpandsForChange self.old.tree self.new.tree (outcome_in self.old (sighting_of scan.now))) }
+        ensures answer { IsAnswerOrMemory (scan_answer self.old.tree.res self.old.tree.odds
+            self.old.max_groups self.old.max_cells (values_of self.old) (sighting_of scan.now))
+            result }
+        ensures edited { OnOk result (IsMapEdited self.old self.new
+            (outcome_in self.old (sighting_of scan.now))
+            (scan_need self.old (sighting_of scan.now)) lazy) }
+        ensures refused { IfErr result (λ fault. IsMapRefused self.old self.new fault
+            (scan_need self.old (sighting_of scan.now))) }
+        ensures reserved { ReservesFew self.old self.new (scan_need self.old (sighting_of scan.now)) }
+        ensures faulty { IsSome (scan_fault self.old.tree.res (sighting_of scan.now) self.old.max_cells)
+            → self.new ≡ self.old }
+        ensures path { (IsTrue lazy → ⊥) → (k : Voxel) → IsInMap k
+            → IsSome (outcome_in self.old (sighting_of scan.now) k)
+            → OnOk result (IsTidyAlong self.new.tree k) }
         ensures setup { IsSameSetup self.old self.new }
         ensures map { IsMap self.new }
     {
         let odds = self.tree.odds();
-        let set = update_set(self.alloc, scan, self.tree.res(), self.limits.max_cells)?;
+        let set = update_bricks(self.alloc, scan, self.tree.res(), self.limits.max_cells)?;
         self.make_room(u128::from(set.need()))?;
         let update = ScanUpdate {
-            hits: set.hits().as_slice(),
+            bricks: set.bricks(),
             hit: Event::Add(odds.hit),
-            frees: set.frees().as_slice(),
             miss: Event::Add(odds.miss),
         };
         touch_all(&mut self.tree, update, lazy);
         self.is_stale |= lazy;
         Ok(ScanDone {
-            hits: update.hits.len() as u64,
-            frees: update.frees.len() as u64,
+            hits: set.hit_count(),
+            frees: set.free_count(),
         })
     }
 
-    /// The largest known value among the voxels of the block of that depth around the point, or `None` where all of them are unknown.
+    /// The largest known value among the voxels of the block of that depth around the point, or
+    /// `None` where all of them are unknown.
     pub fn get(&self, p: Point, depth: u32) -> Result<Option<i32>, MapFault>
-        ensures answer { result ≡ get_answer self.now.tree.res self.now.is_stale (values_of self.now) p depth }
+        ensures answer { result
+            ≡ get_answer self.now.tree.res self.now.is_stale (values_of self.now) p depth }
         ensures map { IsMap self.now }
     {
         let Some(k) = self.tree.res().key_of(p) else {
@@ -199,7 +201,8 @@ impl OccMap {
         Ok(query(&self.tree, Block::of(k, depth as u8)))
     }
 
-    /// Prunes the map, and answers how many groups and nodes it has: the least that its values need.
+    /// Prunes the map, and answers how many groups and nodes it has: the least that its values
+    /// need.
     pub fn counts(&mut self) -> Counts
         ensures groups { result.groups ≡ group_count (values_of self.old) }
         ensures nodes { result.nodes ≡ node_count (values_of self.old) }
@@ -218,6 +221,7 @@ impl OccMap {
     /// Makes the inner values those of the voxels again, after lazy edits and scans.
     pub fn refresh(&mut self)
         ensures fresh { IsFresh self.new.tree }
+        ensures same { IsFresh self.old.tree → self.new.tree ≡ self.old.tree }
         ensures nodes { IsSameButInner self.old.tree self.new.tree }
         ensures values { SameValues (values_of self.old) (values_of self.new) }
         ensures stale { self.new.is_stale ≡ false }
@@ -234,6 +238,7 @@ impl OccMap {
         ensures pruned { IsPruned self.new.tree }
         ensures same { IsPruned self.old.tree → self.new ≡ self.old }
         ensures groups { IsShrunk self.old.tree self.new.tree }
+        ensures fresh { IsFresh self.old.tree → IsFresh self.new.tree }
         ensures values { SameValues (values_of self.old) (values_of self.new) }
         ensures stale { self.new.is_stale ≡ self.old.is_stale }
         ensures setup { IsSameSetup self.old self.new }
@@ -242,20 +247,26 @@ impl OccMap {
         prune(&mut self.tree);
     }
 
-    /// Makes room for so many groups, or refuses. Prunes the map only where there isn't room otherwise.
+    /// Makes room for so many groups, or refuses. Prunes the map only where there isn't room
+    /// otherwise.
     fn make_room(&mut self, need: u128) -> Result<(), MapFault>
         requires { need < 2 ^ 127 }
-        ensures answer { IsAnswerOrMemory (room_answer self.old.max_groups (values_of self.old) need) result }
-        ensures memory { result ≡ Err MapFault.Memory → IsOk (room_answer self.old.max_groups (values_of self.old) need) × (spare self.old.tree.groups < need) }
+        ensures answer { IsAnswerOrMemory
+            (room_answer self.old.max_groups (values_of self.old) need) result }
+        ensures memory { result ≡ Err MapFault.Memory
+            → IsOk (room_answer self.old.max_groups (values_of self.old) need)
+            × (spare self.old.tree.groups < need) }
         ensures room { OnOk result (need ≤ spare self.new.tree.groups) }
         ensures few { OnOk result (live self.new.tree.groups + need ≤ self.new.max_groups) }
         ensures kept { HasRoomFor self.old need → IsGrown self.old.tree self.new.tree }
-        ensures full { (groups more : ℕ) → result ≡ Err (MapFault.Full groups more) → IsPruned self.new.tree × IsShrunk self.old.tree self.new.tree }
+        ensures full { (groups more : ℕ) → result ≡ Err (MapFault.Full groups more)
+            → IsPruned self.new.tree × IsShrunk self.old.tree self.new.tree }
         ensures live { OnErr result (live self.new.tree.groups ≤ live self.old.tree.groups) }
-        ensures entries { live self.old.tree.groups + spare self.old.tree.groups ≤ live self.new.tree.groups + spare self.new.tree.groups }
+        ensures reserved { ReservesFew self.old self.new need }
         ensures values { SameValues (values_of self.old) (values_of self.new) }
         ensures stale { self.new.is_stale ≡ self.old.is_stale }
         ensures pruned { IsPruned self.old.tree → IsPruned self.new.tree }
+        ensures fresh { IsFresh self.old.tree → IsFresh self.new.tree }
         ensures setup { IsSameSetup self.old self.new }
         ensures map { IsMap self.new }
     {
@@ -264,7 +275,8 @@ impl OccMap {
         Ok(())
     }
 
-    /// Prunes the map where so many groups more are more than it may have, and refuses where they still are then.
+    /// Prunes the map where so many groups more are more than it may have, and refuses where they
+    /// still are then.
     fn prune_to_fit(&mut self, need: u128) -> Result<(), MapFault>
         requires { need < 2 ^ 127 }
         ensures answer { result ≡ room_answer self.old.max_groups (values_of self.old) need }
@@ -276,6 +288,7 @@ impl OccMap {
         ensures values { SameValues (values_of self.old) (values_of self.new) }
         ensures stale { self.new.is_stale ≡ self.old.is_stale }
         ensures pruned { IsPruned self.old.tree → IsPruned self.new.tree }
+        ensures fresh { IsFresh self.old.tree → IsFresh self.new.tree }
         ensures setup { IsSameSetup self.old self.new }
         ensures map { IsMap self.new }
     {

@@ -1,138 +1,128 @@
-ghost use Rattle.oct_values.specs.Events.{IsAscending};
 ghost use Rattle.oct_odds.specs.Update.{IsSmallEvent};
-ghost use Rattle.oct_odds.specs.declared.event.Event.{Event};
 ghost use Rattle.oct_tree.specs.Shape.{IsWellFormed};
 
 use super::*;
 use crate::touch;
 use oct_arena::Node;
-use oct_key::Res;
-use oct_odds::OddsModel;
+use oct_key::{Key, Res};
 use std::process::Abort;
 use std::test::Fail;
 
-/// The key so many voxels from the origin.
-fn voxel(x: u16, y: u16, z: u16) -> Key {
+/// What a hit and a miss do to a voxel.
+const HIT: Event = Event::Add(850);
+
+const MISS: Event = Event::Add(-400);
+
+/// The code of the brick at the origin. The next code is that of the brick beside it on the x axis.
+const ORIGIN: u64 = 3_848_290_697_216;
+
+/// The key of the voxel so far from the origin along the x axis.
+fn voxel(x: u16) -> Key {
     Key {
         x: 32_768 | x,
-        y: 32_768 | y,
-        z: 32_768 | z,
+        y: 32_768,
+        z: 32_768,
     }
 }
 
-/// The voxels 2 and 4 on the x axis.
-fn hits() -> [Key; 2]
-    ensures { IsAscending result }
-{
-    [
-        Key {
-            x: 32_770,
-            y: 32_768,
-            z: 32_768,
-        },
-        Key {
-            x: 32_772,
-            y: 32_768,
-            z: 32_768,
-        },
-    ]
-}
-
-/// The voxels 0, 1 and 3 on the x axis.
-fn frees() -> [Key; 3]
-    ensures { IsAscending result }
-{
-    [
-        Key {
-            x: 32_768,
-            y: 32_768,
-            z: 32_768,
-        },
-        Key {
-            x: 32_769,
-            y: 32_768,
-            z: 32_768,
-        },
-        Key {
-            x: 32_771,
-            y: 32_768,
-            z: 32_768,
-        },
-    ]
-}
-
-/// Applies a scan of these voxels where there is room for it.
-fn scan(rt: &impl Abort, tree: &mut OccTree, hits: &[Key], frees: &[Key], lazy: bool)
+/// Applies a scan of voxels of two bricks, given as those that change and those that are hit of
+/// them, where there is room for it.
+fn scan(rt: &impl Abort, tree: &mut OccTree, masks: [(u64, u64); 2], lazy: bool)
     requires formed { IsWellFormed tree.old }
-    requires hits { IsAscending hits.now }
-    requires frees { IsAscending frees.now }
     ensures { IsWellFormed tree.new }
 {
-    assert!(rt; hits.len() <= 2);
-    assert!(rt; frees.len() <= 3);
-    assert!(rt; tree.arena().spare() >= 80);
+    let [(scanned, hits), (scanned_beside, hits_beside)] = masks;
+    assert!(rt; scanned > 0);
+    assert!(rt; scanned_beside > 0);
+    assert!(rt; tree.arena().spare() >= 4096);
+    let bricks = [
+        Brick {
+            code: ORIGIN,
+            scanned,
+            hits: scanned & hits,
+        },
+        Brick {
+            code: ORIGIN + 1,
+            scanned: scanned_beside,
+            hits: scanned_beside & hits_beside,
+        },
+    ];
     let update = ScanUpdate {
-        hits,
-        hit: Event::Add(850),
-        frees,
-        miss: Event::Add(-400),
+        bricks: &bricks,
+        hit: HIT,
+        miss: MISS,
     };
     touch_all(tree, update, lazy);
 }
 
-/// Sets the eight voxels beside the corner of the origin's voxel.
-fn set_eight(rt: &impl Abort, tree: &mut OccTree, value: i32)
+/// Applies an event to a voxel where there is room for it.
+fn apply(rt: &impl Abort, tree: &mut OccTree, x: u16, event: Event)
     requires formed { IsWellFormed tree.old }
-    requires small { IsSmallEvent (Event.Set value) }
+    requires small { IsSmallEvent event }
     ensures { IsWellFormed tree.new }
 {
-    for (x, y, z) in [
-        (0, 0, 0),
-        (1, 0, 0),
-        (0, 1, 0),
-        (1, 1, 0),
-        (0, 0, 1),
-        (1, 0, 1),
-        (0, 1, 1),
-        (1, 1, 1),
-    ] {
-        assert!(rt; tree.arena().spare() >= 16);
-        touch(tree, voxel(x, y, z), Event::Set(value), false);
-    }
+    assert!(rt; tree.arena().spare() >= 16);
+    touch(tree, voxel(x), event, false);
 }
 
-/// What the tree holds: the values of the first five voxels on the x axis, the value at the root, and the groups.
+/// What the tree holds: the values of the first five voxels on the x axis, the value at the root,
+/// and the groups.
 fn state(tree: &OccTree) -> ([Option<i32>; 5], Option<i32>, u32) {
     let root = match tree.root() {
         Node::Inner(value, _) => Some(value),
         _ => None,
     };
     (
-        [0, 1, 2, 3, 4].map(|x| tree.at(voxel(x, 0, 0))),
+        [0, 1, 2, 3, 4].map(|x| tree.at(voxel(x))),
         root,
         tree.arena().live(),
     )
 }
 
+/// Places 0, 1, 8 and 9 of the first brick, and place 0 of the one beside it, are the first five
+/// voxels on the x axis. 2 and 4 are hit.
+const ROW: [(u64, u64); 2] = [(0b11_0000_0011, 0b1_0000_0000), (1, 1)];
+
 #[test]
-fn applies_scans_and_leaves_saturated_leaves(rt: HostRuntime) -> Result<(), Fail> {
+fn applies_scans_as_voxel_by_voxel(rt: HostRuntime) -> Result<(), Fail> {
     let mut tree = OccTree::new(rt.alloc(), Res::new(100_000_000)?, OddsModel::default());
-    tree.reserve(1000)?;
-    let (hits, frees) = (hits(), frees());
-    scan(&rt, &mut tree, &hits, &frees, false);
+    tree.reserve(5000)?;
+    scan(&rt, &mut tree, ROW, false);
     let (hit, free) = (Some(850), Some(-400));
     assert_eq!(rt; state(&tree), ([free, free, hit, free, hit], hit, 19));
+    let mut beside = OccTree::new(rt.alloc(), Res::new(100_000_000)?, OddsModel::default());
+    beside.reserve(100)?;
+    apply(&rt, &mut beside, 0, MISS);
+    apply(&rt, &mut beside, 1, MISS);
+    apply(&rt, &mut beside, 2, HIT);
+    apply(&rt, &mut beside, 3, MISS);
+    apply(&rt, &mut beside, 4, HIT);
+    assert_eq!(rt; state(&tree), state(&beside));
     // A lazy scan leaves the inner values, and the next one mends them.
-    scan(&rt, &mut tree, &hits, &frees, true);
+    scan(&rt, &mut tree, ROW, true);
     let (hit, free) = (Some(1700), Some(-800));
     assert_eq!(rt; state(&tree), ([free, free, hit, free, hit], Some(850), 19));
-    scan(&rt, &mut tree, &[], &frees, false);
-    let free = Some(-1200);
-    assert_eq!(rt; state(&tree), ([free, free, hit, free, hit], hit, 19));
-    // A leaf of eight at the lower bound isn't expanded by misses.
-    set_eight(&rt, &mut tree, -2000);
-    let (free, low) = (Some(-1600), Some(-2000));
-    scan(&rt, &mut tree, &[], &frees, true);
-    assert_eq!(rt; state(&tree), ([low, low, hit, free, hit], hit, 18));
+    scan(&rt, &mut tree, [(1, 0), (1, 1)], false);
+    let (first, last) = (Some(-1200), Some(2550));
+    assert_eq!(rt; state(&tree), ([first, free, hit, free, last], last, 19));
+    Ok(())
+}
+
+#[test]
+fn leaves_a_saturated_leaf_whole(rt: HostRuntime) -> Result<(), Fail> {
+    let mut tree = OccTree::new(rt.alloc(), Res::new(100_000_000)?, OddsModel::default());
+    tree.reserve(5000)?;
+    // Five misses take all voxels of both bricks to the lower bound, and the bricks are leaves.
+    for _ in 0..5 {
+        scan(&rt, &mut tree, [(u64::MAX, 0), (u64::MAX, 0)], false);
+    }
+    let low = Some(-2000);
+    assert_eq!(rt; state(&tree), ([low; 5], low, 14));
+    scan(&rt, &mut tree, [(u64::MAX, 0), (3, 0)], true);
+    assert_eq!(rt; state(&tree), ([low; 5], low, 14));
+    // A hit expands the leaf of its brick alone.
+    scan(&rt, &mut tree, [(1, 1), (1, 0)], false);
+    let first = Some(-1150);
+    assert_eq!(rt; state(&tree), ([first, low, low, low, low], first, 16));
     Ok(())
 }

@@ -1,0 +1,59 @@
+-- What a call does to a map that has an event for some voxels: an edit of one, or a scan.
+use Rattle.std.specs.Prelude.{◌≡◌, ℕ, ◌+◌, ◌≤◌, ◌||◌, ◌⊎◌, Bool, IsTrue}
+use Rattle.oct_key.specs.Values.{SameValues}
+use Rattle.oct_values.specs.Events.{Events, updated}
+use Rattle.oct_arena.specs.Entries.{live, spare}
+use Rattle.oct_tree.specs.Changes.{IsGrown}
+use Rattle.oct_tree.specs.Shape.{IsPruned}
+use Rattle.oct_edit.specs.Edits.{IsEdited, IsEagerEdit, IsLazyEdit}
+use Rattle.oct_inner.specs.Changes.{IsShrunk}
+use Rattle.oct_scan.specs.Beam.{Sighting}
+use Rattle.oct_map.specs.declared.fault.MapFault.{MapFault}
+use Rattle.oct_map.specs.declared.fault.MapFault.TheVariants.{Full}
+use Rattle.oct_map.specs.Map.{Map, HasRoomFor, values_of}
+use Rattle.oct_map.specs.Outcome.{outcome_of, need_of}
+
+-- the events of a scan in this map
+abbrev pub outcome_in : Map → Sighting → Events
+outcome_in m scan = outcome_of m.tree.res m.tree.odds scan
+
+-- the most groups that the scan may need in this map
+abbrev pub scan_need : Map → Sighting → ℕ
+scan_need m scan = need_of m.tree.res m.tree.odds scan
+
+-- What a call that is done leaves, which has these events and may need so many groups: each voxel
+-- has the value after its event, and the map is stale where it was, or where the call is lazy. With
+-- room for the groups that it may need nothing is pruned beside what the events reach, and inner
+-- values stay where the call is lazy.
+pub record IsMapEdited (m n : Map) (events : Events) (need : ℕ) (lazy : Bool) : Type 0 where
+  pub values : SameValues (updated m.tree.odds events (values_of m)) (values_of n)
+  pub stale : n.is_stale ≡ (m.is_stale || lazy)
+  pub eager : (IsTrue lazy → ⊥) → IsEagerEdit m.tree n.tree events
+  pub edited : HasRoomFor m need → IsEdited m.tree n.tree events
+  pub lazily : HasRoomFor m need → IsTrue lazy → IsLazyEdit m.tree n.tree events
+
+-- What a call that is refused for this fault leaves, which may have needed so many groups: each
+-- value and the stale flag as they were, and no group more. With room for the groups the tree is as
+-- it was, but for vacant entries, and one refused as full leaves it pruned, and no more than
+-- pruned.
+pub record IsMapRefused (m n : Map) (fault : MapFault) (need : ℕ) : Type 0 where
+  pub values : SameValues (values_of m) (values_of n)
+  pub stale : n.is_stale ≡ m.is_stale
+  pub pruned : IsPruned m.tree → IsPruned n.tree
+  pub live : live n.tree.groups ≤ live m.tree.groups
+  pub grown : HasRoomFor m need → IsGrown m.tree n.tree
+  pub full : (groups more : ℕ) → fault ≡ Full groups more
+      → IsPruned n.tree × IsShrunk m.tree n.tree
+
+-- the entries of a map: its groups, and those that it can still make without taking memory
+abbrev pub entries_of : Map → ℕ
+entries_of m = live m.tree.groups + spare m.tree.groups
+
+-- A call that may need so many groups takes memory for no more than these and 1,023 entries, beyond
+-- the groups that the map had and beyond those that it may have, and for none where it can make
+-- them already. It gives no entry away.
+pub record ReservesFew (m n : Map) (need : ℕ) : Type 0 where
+  pub kept : entries_of m ≤ entries_of n
+  pub enough : need ≤ spare m.tree.groups → entries_of n ≡ entries_of m
+  pub few : (entries_of n ≡ entries_of m)
+      ⊎ ((entries_of n ≤ live m.tree.groups + need + 1023) × (entries_of n ≤ m.max_groups + 1023))
