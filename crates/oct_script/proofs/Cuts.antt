@@ -1,11 +1,11 @@
 -- Bytes behind bytes that are cut into lines.
-use Rattle.std.proofs.Common.{◌≡◌, ℕ, zero, suc, ◌+◌, ◌<◌, ◌≤◌, List, [], ◌∷◌, ◌++◌, length, take, map, get_or, true, false, cond, nat_lt, inl, inr, refl, sym, ap, ◌∙◌, arith, append_assoc, append-nil, length-append, add-one}
+use Rattle.std.proofs.Common.{◌≡◌, ℕ, zero, suc, ◌+◌, ◌<◌, ◌≤◌, List, [], ◌∷◌, ◌++◌, length, take, map, get_or, true, false, cond, inl, inr, refl, sym, ap, ◌∙◌, arith, append_assoc, append-nil, length-append, add-one}
 use Rattle.std.proofs.Math.Seq.{take-suc}
 use Rattle.std.proofs.lemmas.Bool.{lt-ltb, not-true, not-false, cases_lt, cond-true, cond-false, le-ltb}
 use Rattle.std.proofs.lemmas.List.{take_all}
 use Rattle.std.proofs.lemmas.List.Sums.{fold-append, fold_more, prefix_len_passes, prefix_len_stops, prefix_len-le-length}
 use Rattle.std.specs.List.{fold, prefix_len, onto_first}
-use Rattle.oct_script.specs.Lines.{Line, Text, Long, is_line_feed, is_in_line, line_of, joined, ended, parts_of, all_but_last, last_of, ended_lines, rest_of, has_bytes, last_line}
+use Rattle.oct_script.specs.Lines.{Line, Text, Long, is_line_feed, is_in_line, line_of, joined, ended, parts_of, all_but_last, last_of, ended_lines, rest_of}
 
 -- bytes that are cut one after another: the lines that have ended, and the bytes behind the last of them
 record Cut : Type 0 where
@@ -161,16 +161,3 @@ joined_line rest bytes =
       | inl h ↦ (let long : 4096 < length (rest ++ bytes) = omega (arith, length-append rest bytes) in rw (line_long rest h, line_long (rest ++ bytes) long) refl)
       | inr h ↦ rw (line_short rest h) refl
     ]
-
-has_first : (b : ℕ) (rest : List ℕ) → has_bytes (line_of (b ∷ rest)) ≡ true
-has_first b rest = elim (nat_lt 4096 (length (b ∷ rest))) as (λ v. has_bytes (cond v Long (Text (b ∷ rest))) ≡ true) [ true ↦ refl | false ↦ refl ]
-
--- the last line is the rest, where it has a byte
-pub last_line_some : (rest : List ℕ) → has_bytes (line_of rest) ≡ true → last_line rest ≡ line_of rest ∷ []
-last_line_some [] h = cc
-last_line_some (b ∷ rest) h = refl
-
--- where the rest has no byte there is no last line
-pub last_line_none : (rest : List ℕ) → has_bytes (line_of rest) ≡ false → last_line rest ≡ []
-last_line_none [] h = refl
-last_line_none (b ∷ rest) h = let t : has_bytes (line_of (b ∷ rest)) ≡ true = has_first b rest in cc

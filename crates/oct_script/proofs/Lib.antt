@@ -1,8 +1,9 @@
 pub mod Cuts
+pub mod LineFeeds
 pub mod Feeding
 pub mod WordSplits
+pub mod Lengths
 pub mod Leaving
+pub mod FirstWords
 pub mod Parsing
-pub mod Pieces
-pub mod VerbWords
 pub mod Depths

@@ -1,5 +1,7 @@
 -- The command of a line.
-use Rattle.std.specs.Prelude.{ℕ, ◌+◌, ◌^◌, ◌<◌, ℤ, pos, ◌≤ℤ◌, ◌<ℤ◌, not, false, List, [], ◌∷◌, length, nat_eq, slice_index, if◌then◌else◌, Bool, Option, Some, None, Result, Ok, Err, IfSome, ⊤, codes, bytes_eq}
+use Rattle.std.specs.Prelude.{ℕ, ◌+◌, ◌^◌, ◌<◌, ℤ, pos, ◌≤ℤ◌, ◌<ℤ◌, not, List, [], ◌∷◌, length}
+use Rattle.std.specs.Prelude.{nat_eq, slice_index, if◌then◌else◌, Bool, Option, Some, None, Result}
+use Rattle.std.specs.Prelude.{Ok, Err, IfSome, ⊤, codes, bytes_eq}
 use Rattle.std.specs.List.{filter_map}
 use Rattle.std.specs.Option.{ok_or}
 use Rattle.oct_odds.specs.Odds.{IsSmall}
@@ -11,13 +13,15 @@ use Rattle.oct_script.specs.declared.command.Edit.{Edit}
 use Rattle.oct_script.specs.declared.command.Edit.TheVariants.{Hit, Miss, Add, Set, Forget}
 use Rattle.oct_script.specs.declared.command.Command.{Command}
 use Rattle.oct_script.specs.declared.command.Command.TheVariants as command
-use Rattle.oct_script.specs.declared.command.Command.TheVariants.{Blank, Get, Counts, Refresh, Prune, Quit, Scan, Beam, End, NotYet}
+use Rattle.oct_script.specs.declared.command.Command.TheVariants.{Blank, Get, Counts, Refresh}
+use Rattle.oct_script.specs.declared.command.Command.TheVariants.{Prune, Quit, Scan, Beam, End}
+use Rattle.oct_script.specs.declared.command.Command.TheVariants.{NotYet}
 
 -- the fault at a column
 abbrev pub fault : ℕ → Syntax
 fault column = record { column = column }
 
--- what may stand behind a word, where these forms may stand before it
+-- what may stand after a word, where these forms may stand before it
 abbrev pub all_behind : Word → List Form → List Form
 all_behind word forms = filter_map (behind word) forms
 
@@ -28,32 +32,37 @@ ended_command (Ends command ∷ forms) = Some command
 ended_command (_ ∷ forms) = ended_command forms
 
 -- one answer where a form is left, and another where none is
-abbrev pub if_any : List Form → Result Command Syntax → Result Command Syntax → Result Command Syntax
+abbrev pub if_any : List Form → Result Command Syntax → Result Command Syntax
+    → Result Command Syntax
 if_any [] some none = none
 if_any (form ∷ forms) some none = some
 
--- the command of these words where these forms may stand, or the fault: at the first word that no form takes there, or, where a word
--- is missing, at the end of the line
+-- the command of these words where these forms may stand, or the fault: at the first word that no
+-- form takes there, or, where a word is missing, at the end of the line
 unfoldable pub command_by : List Form → ℕ → List PlacedWord → Result Command Syntax
 command_by forms end [] = ok_or (ended_command forms) (fault end)
 command_by forms end (word ∷ words) =
-    if_any (all_behind word.text forms) (command_by (all_behind word.text forms) end words) (Err (fault word.column))
+    let forms = all_behind word.text forms in
+    if_any forms (command_by forms end words) (Err (fault word.column))
 
 -- a comment
 abbrev pub is_comment : Word → Bool
 is_comment first = nat_eq (slice_index first 0) 35
 
--- the command of a line's words, where the line ends before a column, inside the block of a scan or outside: a line that needs no reply
--- is blank; one whose first word begins a form elsewhere alone is at fault there, and one whose first word begins none is not built yet
+-- the command of a line's words, where the line ends before a column, inside the block of a scan or
+-- outside: a line that needs no reply is blank; one whose first word begins a form elsewhere alone
+-- is at fault there, and one whose first word begins none is not built yet
 unfoldable pub command_in : Bool → ℕ → List PlacedWord → Result Command Syntax
 command_in inside end [] = Ok Blank
 command_in inside end (first ∷ words) =
     let here = all_behind first.text (forms_of inside) in
     let elsewhere = all_behind first.text (forms_of (not inside)) in
     if is_comment first.text then Ok Blank
-    else if_any here (command_by here end words) (if_any elsewhere (Err (fault first.column)) (Ok NotYet))
+    else if_any here (command_by here end words)
+    (if_any elsewhere (Err (fault first.column)) (Ok NotYet))
 
--- the command of a line that isn't long, inside the block of a scan or outside, or the column where it leaves the grammar
+-- the command of a line that isn't long, inside the block of a scan or outside, or the column where
+-- it leaves the grammar
 unfoldable pub command_of : Bool → List ℕ → Result Command Syntax
 command_of inside line = command_in inside (length line + 1) (placed_words line)
 
@@ -73,8 +82,9 @@ IsSmallEdit Forget = ⊤
 abbrev pub IsRange : Option ℤ → Type 0
 IsRange range = IfSome range (λ r. (pos 0 ≤ℤ r) × (r <ℤ pos (10 ^ 16)))
 
--- the numbers in a command are small: that of an edit has a magnitude of at most a million, a depth has at most seven digits, and the points
--- of a scan and its range stay below ten thousand kilometres
+-- the numbers in a command are small: that of an edit has a magnitude of at most a million, a depth
+-- has at most seven digits, and the points of a scan and its range stay below ten thousand
+-- kilometres
 abbrev pub IsSmallCommand : Command → Type 0
 IsSmallCommand Blank = ⊤
 IsSmallCommand (command.Edit p e lazy) = IsSmallEdit e

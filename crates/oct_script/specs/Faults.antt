@@ -1,5 +1,6 @@
 -- The grammar's law, said of whole lines: what a line in it means, and where any other leaves it.
-use Rattle.std.specs.Prelude.{◌≡◌, ◌≢◌, ℕ, List, [], ◌∷◌, ◌++◌, map, true, false, ◌⊎◌, Option, Some, None, option_and_then}
+use Rattle.std.specs.Prelude.{◌≡◌, ◌≢◌, ℕ, List, [], ◌∷◌, ◌++◌, map, true, false, ◌⊎◌, Option, Some}
+use Rattle.std.specs.Prelude.{None, option_and_then}
 use Rattle.std.specs.List.{filter_map}
 use Rattle.oct_script.specs.Commands.{ended_command, is_comment}
 use Rattle.oct_script.specs.Grammar.{Form, behind}
@@ -11,16 +12,17 @@ use Rattle.oct_script.specs.declared.command.Command.TheVariants.{Blank, NotYet}
 abbrev pub texts : List PlacedWord → List Word
 texts words = map (λ word. word.text) words
 
--- what may stand behind words that begin this form, or none where they don't begin it
+-- what may stand after words that begin this form, or none where they don't begin it
 abbrev pub behind_all : List Word → Form → Option Form
 behind_all [] form = Some form
 behind_all (word ∷ words) form = option_and_then (behind_all words) (behind word form)
 
--- what may stand behind words, by each of the forms that they begin
+-- what may stand after words, by each of the forms that they begin
 abbrev pub possible : List Form → List PlacedWord → List Form
 possible forms words = filter_map (behind_all (texts words)) forms
 
--- no form ends with the words of `front`, behind which nothing is left of the line, or none is begun by them and the next word
+-- no form ends with the words of `front`, after which nothing is left of the line, or none is
+-- begun by them and the next word
 abbrev pub IsStuck : List Form → ℕ → List PlacedWord → List PlacedWord → ℕ → Type 0
 IsStuck forms end front [] column = (ended_command (possible forms front) ≡ None) × (column ≡ end)
 IsStuck forms end front (word ∷ words) column = (possible forms (front ++ word ∷ []) ≡ []) × (column ≡ word.column)
@@ -30,8 +32,8 @@ abbrev pub BeginsOneOf : List Form → List PlacedWord → Type 0
 BeginsOneOf forms [] = ⊥
 BeginsOneOf forms (first ∷ words) = possible forms (first ∷ []) ≢ []
 
--- words that end before a column, and of which the first begins a form here or elsewhere, leave the forms here at a column: behind the
--- longest front of them that begins a form
+-- words that end before a column, and of which the first begins a form here or elsewhere, leave the
+-- forms here at a column: after the longest front of them that begins a form
 pub record LeavesAt (here elsewhere : List Form) (end : ℕ) (words : List PlacedWord) (column : ℕ) : Type 0 where
   pub front : List PlacedWord
   pub rest : List PlacedWord
@@ -40,8 +42,8 @@ pub record LeavesAt (here elsewhere : List Form) (end : ℕ) (words : List Place
   pub begins : possible here front ≢ []
   pub stuck : IsStuck here end front rest column
 
--- the words of a line mean a command: none or a comment, words of which the first begins no form here or elsewhere, or all the words of
--- a form here
+-- the words of a line mean a command: none or a comment, words of which the first begins no form
+-- here or elsewhere, or all the words of a form here
 abbrev pub IsMeant : List Form → List Form → List PlacedWord → Command → Type 0
 IsMeant here elsewhere [] command = command ≡ Blank
 IsMeant here elsewhere (first ∷ words) command =

@@ -1,23 +1,27 @@
 -- The grammar of scripts: the forms that a line may have.
-use Rattle.std.specs.Prelude.{ℕ, ℤ, pos, neg_ℤ, int_le, unsigned_abs, Bool, ◌&&◌, List, [], ◌∷◌, length, nat_lt, nat_le, if◌then◌else◌, true, false, Option, Some, None, option_map, option_and_then, codes, bytes_eq}
+use Rattle.std.specs.Prelude.{ℕ, ℤ, pos, neg_ℤ, int_le, unsigned_abs, nat_lt, nat_le}
+use Rattle.std.specs.Prelude.{Bool, ◌&&◌, true, false, if◌then◌else◌}
+use Rattle.std.specs.Prelude.{List, [], ◌∷◌, ◌++◌, length, map, codes, bytes_eq}
+use Rattle.std.specs.Prelude.{Option, Some, None, option_map, option_and_then}
 use Rattle.std.specs.Result.{result_ok}
 use Rattle.oct_num.specs.Metres.{metres_of}
 use Rattle.oct_num.specs.Sign.{without_minus}
 use Rattle.oct_num.specs.Whole.{natural_of, whole_of}
 use Rattle.oct_key.specs.declared.point.Point.{Point}
 use Rattle.oct_script.specs.Words.{Word}
+use Rattle.oct_script.specs.declared.command.Edit.{Edit}
 use Rattle.oct_script.specs.declared.command.Edit.TheVariants.{Hit, Miss, Add, Set, Forget}
 use Rattle.oct_script.specs.declared.command.ScanHead.{ScanHead}
 use Rattle.oct_script.specs.declared.command.Command.{Command}
-use Rattle.oct_script.specs.declared.command.Command.TheVariants.{Edit, Get, Counts, Refresh, Prune, Quit, Scan, Beam, End}
+use Rattle.oct_script.specs.declared.command.Command.TheVariants as command
 
 -- what may stand in a line, from a place on
 pub data Form : Type 0 where
   -- no more words: the line is this command
   Ends : Command → Form
-  -- this word, and what may stand behind it
+  -- this word, and what may stand after it
   Exactly : Word → Form → Form
-  -- an X, a Y or a Z, and what may stand behind it, by the length that it spells
+  -- an X, a Y or a Z, and what may stand after it, by the length that it spells
   Metres : (ℤ → Form) → Form
   -- an N
   Number : (ℤ → Form) → Form
@@ -62,9 +66,11 @@ if_not_negative n = if int_le (pos 0) n then Some (Some n) else None
 
 -- RANGE: `all`, for none, or a length that isn't below 0
 abbrev pub range_of : Word → Option (Option ℤ)
-range_of word = if bytes_eq word (codes "all") then Some None else option_and_then if_not_negative (length_of word)
+range_of word =
+    if bytes_eq word (codes "all") then Some None
+    else option_and_then if_not_negative (length_of word)
 
--- what may stand behind a word, or none where the word itself can't stand there
+-- what may stand after a word, or none where the word itself can't stand there
 abbrev pub behind : Word → Form → Option Form
 behind word (Ends command) = None
 behind word (Exactly literal form) = if bytes_eq word literal then Some form else None
@@ -83,36 +89,81 @@ abbrev pub lazy : Command → Form
 lazy command = Exactly (codes "lazy") (Ends command)
 
 -- X Y Z Q Q Q Q RANGE, for the head of a scan that may be lazy
-abbrev pub scan : ((Bool → ScanHead) → Form) → Form
-scan form = point (λ t. Component (λ w. Component (λ x. Component (λ y. Component (λ z. Range (λ range.
-    form (λ lazy. record { t = t; w = w; x = x; y = y; z = z; range = range; lazy = lazy })))))))
+abbrev pub head : ((Bool → ScanHead) → Form) → Form
+head form = point (λ t. Component (λ w. Component (λ x. Component (λ y. Component (λ z.
+    Range (λ range. form (λ lazy.
+    record { t = t; w = w; x = x; y = y; z = z; range = range; lazy = lazy })))))))
 
--- the forms of a line outside the block of a scan; a word that may be absent is in one form of two
-abbrev pub grammar : List Form
-grammar =
-    Exactly (codes "hit") (point (λ p. Ends (Edit p Hit false)))
-    ∷ Exactly (codes "hit") (point (λ p. lazy (Edit p Hit true)))
-    ∷ Exactly (codes "miss") (point (λ p. Ends (Edit p Miss false)))
-    ∷ Exactly (codes "miss") (point (λ p. lazy (Edit p Miss true)))
-    ∷ Exactly (codes "add") (point (λ p. Number (λ n. Ends (Edit p (Add n) false))))
-    ∷ Exactly (codes "add") (point (λ p. Number (λ n. lazy (Edit p (Add n) true))))
-    ∷ Exactly (codes "set") (point (λ p. Number (λ n. Ends (Edit p (Set n) false))))
-    ∷ Exactly (codes "set") (point (λ p. Number (λ n. lazy (Edit p (Set n) true))))
-    ∷ Exactly (codes "forget") (point (λ p. Ends (Edit p Forget false)))
-    ∷ Exactly (codes "forget") (point (λ p. lazy (Edit p Forget true)))
-    ∷ Exactly (codes "get") (point (λ p. Depth (λ depth. Ends (Get p depth))))
-    ∷ Exactly (codes "counts") (Ends Counts)
-    ∷ Exactly (codes "refresh") (Ends Refresh)
-    ∷ Exactly (codes "prune") (Ends Prune)
-    ∷ Exactly (codes "quit") (Ends Quit)
-    ∷ Exactly (codes "scan") (scan (λ head. Ends (Scan (head false))))
-    ∷ Exactly (codes "scan") (scan (λ head. lazy (Scan (head true))))
+-- no more words
+abbrev pub alone : Command → List Form
+alone command = Ends command ∷ []
+
+-- X Y Z [lazy]; a word that may be absent is in one form of two
+abbrev pub edit : Edit → List Form
+edit e =
+    point (λ p. Ends (command.Edit p e false))
+    ∷ point (λ p. lazy (command.Edit p e true))
     ∷ []
 
--- the forms of a line inside the block of a scan
-abbrev pub block_grammar : List Form
-block_grammar = Exactly (codes "p") (point (λ p. Ends (Beam p))) ∷ Exactly (codes "end") (Ends End) ∷ []
+-- X Y Z N [lazy]
+abbrev pub number_edit : (ℤ → Edit) → List Form
+number_edit e =
+    point (λ p. Number (λ n. Ends (command.Edit p (e n) false)))
+    ∷ point (λ p. Number (λ n. lazy (command.Edit p (e n) true)))
+    ∷ []
+
+-- X Y Z D
+abbrev pub query : List Form
+query = point (λ p. Depth (λ depth. Ends (command.Get p depth))) ∷ []
+
+-- X Y Z Q Q Q Q RANGE [lazy]
+abbrev pub scan : List Form
+scan =
+    head (λ of_scan. Ends (command.Scan (of_scan false)))
+    ∷ head (λ of_scan. lazy (command.Scan (of_scan true)))
+    ∷ []
+
+-- X Y Z, of a point that a scan saw
+abbrev pub beam : List Form
+beam = point (λ p. Ends (command.Beam p)) ∷ []
+
+-- the first word of a line, and the forms of what may stand after it
+pub record Row : Type 0 where
+  pub word : Word
+  pub forms : List Form
+
+abbrev pub row : Word → List Form → Row
+row word forms = record { word = word; forms = forms }
+
+-- the lines outside the block of a scan, by their first words
+abbrev pub grammar : List Row
+grammar =
+    row (codes "hit") (edit Hit)
+    ∷ row (codes "miss") (edit Miss)
+    ∷ row (codes "add") (number_edit Add)
+    ∷ row (codes "set") (number_edit Set)
+    ∷ row (codes "forget") (edit Forget)
+    ∷ row (codes "get") query
+    ∷ row (codes "counts") (alone command.Counts)
+    ∷ row (codes "refresh") (alone command.Refresh)
+    ∷ row (codes "prune") (alone command.Prune)
+    ∷ row (codes "quit") (alone command.Quit)
+    ∷ row (codes "scan") scan
+    ∷ []
+
+-- the lines inside the block of a scan, by their first words
+abbrev pub block_grammar : List Row
+block_grammar = row (codes "p") beam ∷ row (codes "end") (alone command.End) ∷ []
+
+-- the rows of lines inside the block of a scan, or outside
+abbrev pub rows_of : Bool → List Row
+rows_of inside = if inside then block_grammar else grammar
+
+-- the forms that whole lines of these rows may have
+abbrev pub forms_in : List Row → List Form
+forms_in [] = []
+forms_in (first ∷ rows) = map (Exactly first.word) first.forms ++ forms_in rows
 
 -- the forms of a line inside the block of a scan, or outside
 abbrev pub forms_of : Bool → List Form
-forms_of inside = if inside then block_grammar else grammar
+forms_of inside = forms_in (rows_of inside)

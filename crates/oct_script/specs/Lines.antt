@@ -1,5 +1,6 @@
 -- The lines of a byte string.
-use Rattle.std.specs.Prelude.{◌≡◌, ℕ, ◌-◌, List, [], ◌∷◌, ◌++◌, length, take, map, nat_eq, nat_lt, not, slice_index, if◌then◌else◌, Bool, true, false}
+use Rattle.std.specs.Prelude.{◌≡◌, ℕ, ◌-◌, List, [], ◌∷◌, ◌++◌, length, take, map, nat_eq, nat_lt}
+use Rattle.std.specs.Prelude.{not, slice_index, if◌then◌else◌, Bool, true, false}
 use Rattle.std.specs.List.{slice_split}
 
 -- what is read of a line: its text, or nothing but that it is long
@@ -24,7 +25,7 @@ abbrev pub is_long : Line → Bool
 is_long (Text text) = false
 is_long Long = true
 
--- a line with more bytes behind it
+-- a line with more bytes after it
 abbrev pub joined : Line → List ℕ → Line
 joined (Text text) bytes = line_of (text ++ bytes)
 joined Long bytes = Long
@@ -44,7 +45,7 @@ abbrev pub ended : Line → Line
 ended (Text text) = Text (trimmed text)
 ended Long = Long
 
--- the parts of a byte string between its line feeds; behind the last part there is none
+-- the parts of a byte string between its line feeds; after the last part there is none
 abbrev pub parts_of : List ℕ → List (List ℕ)
 parts_of bytes = slice_split is_line_feed bytes
 
@@ -64,11 +65,12 @@ last_of (part ∷ next ∷ parts) = last_of (next ∷ parts)
 abbrev pub ended_lines : List ℕ → List Line
 ended_lines bytes = map (λ part. ended (line_of part)) (all_but_last (parts_of bytes))
 
--- the bytes behind the last line feed
+-- the bytes after the last line feed
 abbrev pub rest_of : List ℕ → List ℕ
 rest_of bytes = last_of (parts_of bytes)
 
--- these bytes as the line that lacks its line feed, if there is at least one; here a carriage return stays
+-- these bytes as the line that lacks its line feed, if there is at least one; here a carriage
+-- return stays
 abbrev pub last_line : List ℕ → List Line
 last_line [] = []
 last_line (b ∷ rest) = line_of (b ∷ rest) ∷ []
@@ -86,7 +88,7 @@ pub record LineSoFar : Type 0 where
 abbrev pub unread : LineSoFar
 unread = record { line = Text []; has_ended = false }
 
--- after these bytes, the line that is being read is the one behind the last line feed
+-- after these bytes, the line that is being read is the one after the last line feed
 pub record IsReading (reading : LineSoFar) (bytes : List ℕ) : Type 0 where
   pub line : reading.line ≡ line_of (rest_of bytes)
   pub unended : reading.has_ended ≡ false
@@ -96,7 +98,8 @@ pub record HasJoined (reading : LineSoFar) (before after : List ℕ) : Type 0 wh
   pub lines : ended_lines after ≡ ended_lines before
   pub reads : IsReading reading after
 
--- between these bytes and those, one line has ended, with the last byte, and it is the one that was being read
+-- between these bytes and those, one line has ended, with the last byte, and it is the one that was
+-- being read
 pub record HasEnded (reading : LineSoFar) (before after : List ℕ) : Type 0 where
   pub lines : ended_lines after ≡ ended_lines before ++ reading.line ∷ []
   pub rest : rest_of after ≡ []

@@ -1,18 +1,24 @@
 -- How the parser reads the words of a line, one after another. No public clause rests on this.
-use Rattle.std.specs.Prelude.{ℕ, ℤ, Bool, true, false, not, List, [], ◌∷◌, if◌then◌else◌, Option, Some, None, Result, Ok, Err, codes, bytes_eq}
+use Rattle.std.specs.Prelude.{ℕ, ℤ, Bool, true, false, not, if◌then◌else◌, List, [], ◌∷◌, ⊤}
+use Rattle.std.specs.Prelude.{Option, Some, None, Result, Ok, Err, codes, bytes_eq}
+use Rattle.std.specs.List.{find}
 use Rattle.oct_key.specs.declared.point.Point.{Point}
-use Rattle.oct_script.specs.Commands.{fault, is_comment}
+use Rattle.oct_script.specs.Commands.{fault, if_any, command_by, is_comment, IsSmallCommand}
 use Rattle.oct_script.specs.Grammar.{length_of, number_of, depth_of, component_of, range_of}
+use Rattle.oct_script.specs.Grammar.{Form, Row, alone, edit, number_edit, query, scan, beam}
+use Rattle.oct_script.specs.Grammar.{rows_of}
 use Rattle.oct_script.specs.Words.{Word, PlacedWord}
 use Rattle.oct_script.specs.declared.command.Syntax.{Syntax}
 use Rattle.oct_script.specs.declared.command.Edit.{Edit}
-use Rattle.oct_script.specs.declared.command.Edit.TheVariants as edit
+use Rattle.oct_script.specs.declared.command.Edit.TheVariants as an_edit
 use Rattle.oct_script.specs.declared.command.Command.{Command}
 use Rattle.oct_script.specs.declared.command.Command.TheVariants as command
 use Rattle.oct_script.specs.declared.verbs.Verb.{Verb}
-use Rattle.oct_script.specs.declared.verbs.Verb.TheVariants.{Hit, Miss, Add, Set, Forget, Get, Counts, Refresh, Prune, Quit, Scan, Beam, End}
+use Rattle.oct_script.specs.declared.verbs.Verb.TheVariants.{Hit, Miss, Add, Set, Forget, Get, Scan}
+use Rattle.oct_script.specs.declared.verbs.Verb.TheVariants.{Beam, Alone}
+use Rattle.oct_script.specs.declared.verbs.FirstWord.{FirstWord}
 
--- the words of a line that are still to be read, and the column behind the line
+-- the words of a line that are still to be read, and the column after the line
 pub record Unread : Type 0 where
   pub words : List PlacedWord
   pub end : ℕ
@@ -23,17 +29,19 @@ abbrev pub ◌>>=◌ : {A B : Type 0} → Result A Syntax → (A → Result B Sy
 Ok a >>= next = next a
 Err s >>= next = Err s
 
--- what a word spells and the words behind it, or, where it spells nothing, the fault at a column
-abbrev pub number_or : {A : Type 0} → ℕ → List PlacedWord → Option A → Result (A × List PlacedWord) Syntax
+-- what a word spells and the words after it, or, where it spells nothing, the fault at a column
+abbrev pub number_or : {A : Type 0} → ℕ → List PlacedWord → Option A
+    → Result (A × List PlacedWord) Syntax
 number_or column words None = Err (fault column)
 number_or column words (Some n) = Ok (n, words)
 
--- what the next word spells, and the words behind it
-unfoldable pub number_in : {A : Type 0} → (Word → Option A) → ℕ → List PlacedWord → Result (A × List PlacedWord) Syntax
+-- what the next word spells, and the words after it
+unfoldable pub number_in : {A : Type 0} → (Word → Option A) → ℕ → List PlacedWord
+    → Result (A × List PlacedWord) Syntax
 number_in read end [] = Err (fault end)
 number_in read end (word ∷ words) = number_or word.column words (read word.text)
 
--- the point that the next three words spell, and the words behind them
+-- the point that the next three words spell, and the words after them
 unfoldable pub point_in : ℕ → List PlacedWord → Result (Point × List PlacedWord) Syntax
 point_in end words = do
   x ← number_in length_of end words
@@ -58,9 +66,10 @@ end_in a words = unless_fault a (excess words)
 -- nothing, or `lazy`: whether it's there
 unfoldable pub lazy_in : List PlacedWord → Result Bool Syntax
 lazy_in [] = Ok false
-lazy_in (word ∷ words) = if bytes_eq word.text (codes "lazy") then end_in true words else Err (fault word.column)
+lazy_in (word ∷ words) =
+    if bytes_eq word.text (codes "lazy") then end_in true words else Err (fault word.column)
 
--- [lazy], behind an edit of a point
+-- [lazy], after an edit of a point
 unfoldable pub edit_end_in : Point → Edit → List PlacedWord → Result Command Syntax
 edit_end_in p e words = do
   lazy ← lazy_in words
@@ -108,7 +117,15 @@ scan_in end words = do
   q ← rotation_in end t.1
   range ← number_in range_of end q.4
   lazy ← lazy_in range.1
-  Ok (command.Scan (record { t = t.0; w = q.0; x = q.1; y = q.2; z = q.3; range = range.0; lazy = lazy }))
+  Ok (command.Scan (record {
+    t = t.0;
+    w = q.0;
+    x = q.1;
+    y = q.2;
+    z = q.3;
+    range = range.0;
+    lazy = lazy;
+  }))
 
 -- X Y Z, in the block of a scan
 unfoldable pub beam_in : ℕ → List PlacedWord → Result Command Syntax
@@ -116,53 +133,73 @@ beam_in end words = do
   p ← point_in end words
   end_in (command.Beam p.0) p.1
 
--- the first word that this one is
-unfoldable pub verb_of : Word → Option Verb
-verb_of word =
-    if bytes_eq word (codes "hit") then Some Hit
-    else if bytes_eq word (codes "miss") then Some Miss
-    else if bytes_eq word (codes "add") then Some Add
-    else if bytes_eq word (codes "set") then Some Set
-    else if bytes_eq word (codes "forget") then Some Forget
-    else if bytes_eq word (codes "get") then Some Get
-    else if bytes_eq word (codes "counts") then Some Counts
-    else if bytes_eq word (codes "refresh") then Some Refresh
-    else if bytes_eq word (codes "prune") then Some Prune
-    else if bytes_eq word (codes "quit") then Some Quit
-    else if bytes_eq word (codes "scan") then Some Scan
-    else if bytes_eq word (codes "p") then Some Beam
-    else if bytes_eq word (codes "end") then Some End
-    else None
-
--- the word may begin a line inside the block of a scan, or outside
-abbrev pub stands : Bool → Verb → Bool
-stands inside Beam = inside
-stands inside End = inside
-stands inside _ = not inside
-
--- what stands behind a first word
+-- what stands after a first word
 unfoldable pub behind_verb : Verb → ℕ → List PlacedWord → Result Command Syntax
-behind_verb Hit end words = edit_in edit.Hit end words
-behind_verb Miss end words = edit_in edit.Miss end words
-behind_verb Add end words = number_edit_in edit.Add end words
-behind_verb Set end words = number_edit_in edit.Set end words
-behind_verb Forget end words = edit_in edit.Forget end words
+behind_verb Hit end words = edit_in an_edit.Hit end words
+behind_verb Miss end words = edit_in an_edit.Miss end words
+behind_verb Forget end words = edit_in an_edit.Forget end words
+behind_verb Add end words = number_edit_in an_edit.Add end words
+behind_verb Set end words = number_edit_in an_edit.Set end words
 behind_verb Get end words = query_in end words
-behind_verb Counts end words = end_in command.Counts words
-behind_verb Refresh end words = end_in command.Refresh words
-behind_verb Prune end words = end_in command.Prune words
-behind_verb Quit end words = end_in command.Quit words
 behind_verb Scan end words = scan_in end words
 behind_verb Beam end words = beam_in end words
-behind_verb End end words = end_in command.End words
+behind_verb (Alone command) end words = end_in command words
 
--- the words behind a first word at a column, which is one of these, or begins no command that is built
-unfoldable pub behind_first : Bool → ℕ → Option Verb → ℕ → List PlacedWord → Result Command Syntax
-behind_first inside column None end words = Ok command.NotYet
-behind_first inside column (Some verb) end words = if stands inside verb then behind_verb verb end words else Err (fault column)
+-- the forms of what stands after a first word
+abbrev pub forms_behind : Verb → List Form
+forms_behind Hit = edit an_edit.Hit
+forms_behind Miss = edit an_edit.Miss
+forms_behind Forget = edit an_edit.Forget
+forms_behind Add = number_edit an_edit.Add
+forms_behind Set = number_edit an_edit.Set
+forms_behind Get = query
+forms_behind Scan = scan
+forms_behind Beam = beam
+forms_behind (Alone command) = alone command
+
+-- the numbers in a verb, if any, are small
+abbrev pub IsSmallVerb : Verb → Type 0
+IsSmallVerb (Alone command) = IsSmallCommand command
+IsSmallVerb _ = ⊤
+
+-- the forms after a first word, and none where there is none
+abbrev pub forms_of_verb : Option Verb → List Form
+forms_of_verb None = []
+forms_of_verb (Some verb) = forms_behind verb
+
+-- a row of the parser's table as one of the grammar
+abbrev pub row_seen : FirstWord → Row
+row_seen first = record { word = first.word.now; forms = forms_behind first.verb }
+
+-- the forms of a row, and none where there is none
+abbrev pub forms_of_row : Option Row → List Form
+forms_of_row None = []
+forms_of_row (Some row) = row.forms
+
+-- what may stand after a word, by the first row that has it
+abbrev pub forms_at : Word → List Row → List Form
+forms_at word rows = forms_of_row (find (λ (row : Row). bytes_eq word row.word) rows)
+
+-- the words after a first one at a column, by the forms that may stand there, and by those that
+-- may stand there elsewhere
+abbrev pub by_forms : List Form → List Form → ℕ → ℕ → List PlacedWord → Result Command Syntax
+by_forms here elsewhere column end words =
+    if_any here (command_by here end words)
+    (if_any elsewhere (Err (fault column)) (Ok command.NotYet))
+
+-- what comes of a first word at a column that begins no line here, by what it begins elsewhere
+abbrev pub misplaced : ℕ → Option Verb → Result Command Syntax
+misplaced column None = Ok command.NotYet
+misplaced column (Some verb) = Err (fault column)
+
+-- the words after a first one at a column
+unfoldable pub behind_first : Bool → PlacedWord → ℕ → List PlacedWord → Result Command Syntax
+behind_first inside first end words =
+    by_forms (forms_at first.text (rows_of inside)) (forms_at first.text (rows_of (not inside)))
+    first.column end words
 
 -- a line
 unfoldable pub line_in : Bool → ℕ → List PlacedWord → Result Command Syntax
 line_in inside end [] = Ok command.Blank
 line_in inside end (first ∷ words) =
-    if is_comment first.text then Ok command.Blank else behind_first inside first.column (verb_of first.text) end words
+    if is_comment first.text then Ok command.Blank else behind_first inside first end words

@@ -1,14 +1,20 @@
 -- The texts of replies.
-use Rattle.std.specs.Prelude.{ℕ, List, [], ◌++◌, codes, decimal, Bool, true, false, Option, Some, None}
+use Rattle.std.specs.Prelude.{ℕ, List, [], ◌++◌, codes, decimal, Bool, true, false, Option, Some}
+use Rattle.std.specs.Prelude.{None}
 use Rattle.std.specs.Fmt.{signed_decimal}
 use Rattle.oct_odds.specs.declared.event.Class.{Class}
 use Rattle.oct_odds.specs.declared.event.Class.TheVariants as class
 use Rattle.oct_query.specs.declared.totals.Counts.{Counts}
 use Rattle.oct_script.specs.declared.reply.Refusal.{Refusal}
-use Rattle.oct_script.specs.declared.reply.Refusal.TheVariants.{ZeroQuaternion, OriginOutside, PointOutside, TooManyCells, Stale, Full, Outside, BadDepth, Syntax, LongLine, OpenScan, TooManyPoints, NotYet}
+use Rattle.oct_script.specs.declared.reply.Refusal.TheVariants.{ZeroQuaternion, OriginOutside}
+use Rattle.oct_script.specs.declared.reply.Refusal.TheVariants.{PointOutside, TooManyCells, Stale}
+use Rattle.oct_script.specs.declared.reply.Refusal.TheVariants.{Full, Outside, BadDepth, Syntax}
+use Rattle.oct_script.specs.declared.reply.Refusal.TheVariants.{LongLine, OpenScan, TooManyPoints}
+use Rattle.oct_script.specs.declared.reply.Refusal.TheVariants.{NotYet}
 use Rattle.oct_script.specs.declared.reply.ScanDone.{ScanDone}
 use Rattle.oct_script.specs.declared.reply.Reply.{Reply}
-use Rattle.oct_script.specs.declared.reply.Reply.TheVariants.{Ok, Known, Unknown, Scanned, Counted, Refused}
+use Rattle.oct_script.specs.declared.reply.Reply.TheVariants.{Ok, Known, Unknown, Scanned, Counted}
+use Rattle.oct_script.specs.declared.reply.Reply.TheVariants.{Refused}
 
 -- the name of a class
 abbrev pub class_name : Class → List ℕ

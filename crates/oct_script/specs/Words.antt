@@ -1,5 +1,6 @@
 -- The words of a line, each with its column.
-use Rattle.std.specs.Prelude.{ℕ, ◌+◌, List, [], ◌∷◌, length, filter, nat_eq, ◌||◌, not, Bool, true, false}
+use Rattle.std.specs.Prelude.{ℕ, ◌+◌, List, [], ◌∷◌, length, filter, nat_eq, ◌||◌, not, Bool, true}
+use Rattle.std.specs.Prelude.{false}
 use Rattle.std.specs.List.{slice_split}
 
 -- the bytes of a word
@@ -29,7 +30,8 @@ abbrev pub placed : ℕ → List Word → List PlacedWord
 placed column [] = []
 placed column (part ∷ parts) = record { text = part; column = column } ∷ placed (column + length part + 1) parts
 
--- the words of the part of a line that begins at this column: what stands between its blanks, where that isn't empty
+-- the words of the part of a line that begins at this column: what stands between its blanks, where
+-- that isn't empty
 abbrev pub words_from : ℕ → List ℕ → List PlacedWord
 words_from column text = filter (λ part. is_word part.text) (placed column (slice_split is_blank text))
 

@@ -2,7 +2,8 @@
 use oct_key::Point;
 use thiserror::Error;
 
-/// An edit of one voxel. The numbers are thousandths of log-odds, of a magnitude of at most 1,000,000.
+/// An edit of one voxel. The numbers are thousandths of log-odds, of a magnitude of at most
+/// 1,000,000.
 #[derive(Clone, Copy, Debug, PartialEq, Eq)]
 pub enum Edit {
     /// A beam has ended in the voxel.
@@ -22,7 +23,8 @@ pub enum Edit {
 pub struct ScanHead {
     /// Where the sensor was, in nanometres.
     pub t: Point,
-    /// The quaternion that turns what the sensor saw into the map, `w` being its real part. All four may be 0.
+    /// The quaternion that turns what the sensor saw into the map, `w` being its real part. All
+    /// four may be 0.
     pub w: i16,
     pub x: i16,
     pub y: i16,
@@ -38,16 +40,17 @@ pub struct ScanHead {
 pub enum Command {
     /// Nothing: an empty line, one of blanks, or a comment.
     Blank,
-    /// An edit of the voxel that holds the point `p`. A lazy one leaves the inner values to a later refresh.
+    /// An edit of the voxel that holds the point `p`. A lazy one leaves the inner values to a later
+    /// refresh.
     Edit { p: Point, e: Edit, lazy: bool },
-    /// A scan, whose block begins behind this line.
+    /// A scan, whose block begins after this line.
     Scan(ScanHead),
     /// A point that the open scan saw, from the sensor.
     Beam(Point),
     /// The end of the open scan's block.
     End,
-    /// The value of the block of this depth that holds the point `p`. The depth has at most seven digits, and may be
-    /// above that of a voxel.
+    /// The value of the block of this depth that holds the point `p`. The depth has at most seven
+    /// digits, and may be above that of a voxel.
     Get { p: Point, depth: u32 },
     /// The numbers of groups and nodes.
     Counts,
@@ -65,7 +68,7 @@ pub enum Command {
 #[derive(Clone, Copy, Debug, PartialEq, Eq, Error)]
 #[error("the line isn't in the grammar from column {column} on")]
 pub struct Syntax {
-    /// The column, counted in bytes from 1 on, of the first word that can't stand there, or one more than the line's
-    /// length where a word is missing.
+    /// The column, counted in bytes from 1 on, of the first word that can't stand there, or one
+    /// more than the line's length where a word is missing.
     pub column: u32,
 }

@@ -1,26 +1,31 @@
 //! Scripts: their lines, the commands that the lines ask for, and the texts of the replies.
 //!
-//! A script is bytes. [`Lines`] takes them in pieces, as they come, and holds the line that is being read; [`parse`]
-//! reads a line as a [`Command`]; [`push_reply`] appends the text of a [`Reply`]. What a command does isn't known here,
-//! nor whether a scan is open: the caller says so.
+//! A script is bytes. [`Lines`] takes them in pieces, as they come, and holds the line that is
+//! being read; [`parse`] reads a line as a [`Command`]; [`push_reply`] appends the text of a
+//! [`Reply`]. What a command does isn't known here, nor whether a scan is open: the caller says so.
 //!
 //! What the contracts promise:
 //!
-//! - However a script is cut into pieces, [`Lines::feed`] ends exactly the lines that `ended_lines` of `specs/Lines.antt`
-//!   has, one after another, with one carriage return dropped before each line feed. A line of more than 4,096 bytes is
-//!   long, and of it nothing more is kept or known. What remains at the end is the last line, where it has any byte.
-//! - [`parse`] answers what the grammar says, to the column: `grammar` in `specs/Grammar.antt` is a table of forms, word by
-//!   word, and `command_of` in `specs/Commands.antt` goes through a line's words with the forms that may still stand. The
-//!   first word that none of them takes is the fault; where a word is missing it is the end of the line. Inside the block of
-//!   a scan `block_grammar` stands in its place, and a first word of the other table is the fault. `specs/Faults.antt`
-//!   says the same of whole lines: which form a line has, and behind which longest front of it no form goes on.
-//! - [`opens_scan`] tells whether a line's first word is `scan`, whatever its other words are: such a line opens a block.
-//! - [`push_reply`] appends exactly `reply_text` of `specs/Replies.antt`, or nothing where memory runs out.
+//! - However a script is cut into pieces, [`Lines::feed`] ends exactly the lines that `ended_lines`
+//!   of `specs/Lines.antt` has, one after another, with one carriage return dropped before each
+//!   line feed. A line of more than 4,096 bytes is long, and of it nothing more is kept or known.
+//!   What remains at the end is the last line, where it has any byte.
+//! - [`parse`] answers what the grammar says, to the column: `grammar` in `specs/Grammar.antt` is a
+//!   table of forms, word by word, and `command_of` in `specs/Commands.antt` goes through a line's
+//!   words with the forms that may still stand. The first word that none of them takes is the
+//!   fault; where a word is missing it is the end of the line. Inside the block of a scan
+//!   `block_grammar` stands in its place, and a first word of the other table is the fault.
+//!   `specs/Faults.antt` says the same of whole lines: which form a line has, and after which
+//!   longest front of it no form goes on.
+//! - [`opens_scan`] reports whether a line's first word is `scan`, whatever its other words are: such
+//!   a line opens a block.
+//! - [`push_reply`] appends exactly `reply_text` of `specs/Replies.antt`, or nothing where memory
+//!   runs out.
 //!
-//! `lines` keeps a line in an `ArrayVec` of 4,096 bytes, and `words` goes through it from the left; neither allocates.
-//! `numbers` says what a word spells, and `verbs` which command a first word begins. `parser` reads word by word, with
-//! one small function for each part of a form, in one pass. `specs/Reading.antt` says how, for the proofs; the grammar
-//! doesn't rest on it.
+//! `lines` keeps a line in an `ArrayVec` of 4,096 bytes, and `words` goes through it once, from the
+//! left; neither allocates. `numbers` says what a word spells, `verbs` what a first word begins, and
+//! `table` has the first words. `parser` reads word by word, with one small function for each part of
+//! a form. `specs/Reading.antt` says how, for the proofs; the grammar doesn't rest on it.
 //!
 //! Sessions stand on this crate.
 #![tactic(auto)]
@@ -30,6 +35,7 @@ mod lines;
 mod numbers;
 mod parser;
 mod reply;
+mod table;
 #[cfg(test)]
 mod tests;
 mod verbs;

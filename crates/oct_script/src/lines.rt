@@ -1,9 +1,13 @@
 //! The line that is being read.
-ghost use Rattle.std.specs.Prelude.{◌≡◌, ◌+◌, ◌≤◌, List, ℕ, ◌++◌, [], ◌∷◌, length, take, nat_lt, not, ◌&&◌, if◌then◌else◌, true, false};
+ghost use Rattle.std.specs.Prelude.{◌≡◌, ◌+◌, ◌≤◌, List, ℕ, ◌++◌, [], ◌∷◌, length, take, nat_lt};
+ghost use Rattle.std.specs.Prelude.{not, ◌&&◌, if◌then◌else◌, true, false};
 ghost use Rattle.std.specs.List.{prefix_len};
-ghost use Rattle.oct_script.specs.Lines.{LineSoFar, Text, unread, is_long, ended, joined, is_in_line, has_bytes, last_line, rest_of, IsReading, HasJoined, HasEnded};
+ghost use Rattle.oct_script.specs.Lines.{LineSoFar, Text, unread, is_long, ended, joined};
+ghost use Rattle.oct_script.specs.Lines.{is_in_line, has_bytes, last_line, rest_of, IsReading};
+ghost use Rattle.oct_script.specs.Lines.{HasJoined, HasEnded};
 
 use arrayvec::ArrayVec;
+use memchr::memchr;
 use std::marker::Model;
 
 /// The most bytes that a line may have before its line feed; a longer one is long, and isn't kept.
@@ -25,7 +29,10 @@ impl Model for Lines {
 
     ghost Value = { LineSoFar };
 
-    ghost view = { λ l. record { line = if l.overran then Long else Text l.bytes.items; has_ended = l.ended } };
+    ghost view = { λ l. record {
+      line = if l.overran then Long else Text l.bytes.items;
+      has_ended = l.ended;
+    } };
 }
 
 /// What was taken of a piece.
@@ -42,7 +49,7 @@ fn count_in_line(piece: &[u8]) -> usize
     ensures count { result ≡ prefix_len is_in_line piece.now }
     ensures within { result ≤ length piece.now }
 {
-    piece.iter().take_while(|b| **b != b'\n').count()
+    memchr(b'\n', piece).unwrap_or(piece.len())
 }
 
 impl Lines {
@@ -58,14 +65,17 @@ impl Lines {
         }
     }
 
-    /// Takes bytes up to and with the next line feed. The line mustn't have ended since the last [`Lines::next`].
+    /// Takes bytes up to and with the next line feed. The line mustn't have ended since the last
+    /// [`Lines::next`].
     ///
-    /// However a script is cut, the lines that are told to have ended are its lines: fed with `piece` after any bytes
-    /// that have left this line unended, no line has ended in the bytes taken, or this one has, with the last of them.
+    /// However a script is cut, the lines that are told to have ended are its lines: fed with
+    /// `piece` after any bytes that have left this line unended, no line has ended in the bytes
+    /// taken, or this one has, with the last of them.
     pub fn feed(&mut self, piece: &[u8]) -> Fed
         requires { self.old.has_ended ≡ false }
         ensures ended { result.ended ≡ nat_lt (prefix_len is_in_line piece.now) (length piece.now) }
-        ensures taken { result.taken ≡ prefix_len is_in_line piece.now + (if result.ended then 1 else 0) }
+        ensures taken { result.taken
+            ≡ prefix_len is_in_line piece.now + (if result.ended then 1 else 0) }
         ensures within { result.taken ≤ length piece.now }
         ensures same { self.new.has_ended ≡ result.ended }
         ensures line { let line = joined self.old.line (take (prefix_len is_in_line piece.now) piece.now) in
@@ -87,7 +97,8 @@ impl Lines {
         self.bytes.as_slice()
     }
 
-    /// Whether the line is long: more than 4,096 bytes before its line feed, or in all where none has come.
+    /// Whether the line is long: more than 4,096 bytes before its line feed, or in all where none
+    /// has come.
     pub fn is_long(&self) -> bool
         ensures { result ≡ is_long self.now.line }
     {
@@ -117,7 +128,8 @@ impl Lines {
     fn take_front(&mut self, piece: &[u8]) -> Fed
         requires { self.old.has_ended ≡ false }
         ensures ended { result.ended ≡ nat_lt (prefix_len is_in_line piece.now) (length piece.now) }
-        ensures taken { result.taken ≡ prefix_len is_in_line piece.now + (if result.ended then 1 else 0) }
+        ensures taken { result.taken
+            ≡ prefix_len is_in_line piece.now + (if result.ended then 1 else 0) }
         ensures within { result.taken ≤ length piece.now }
         ensures same { self.new.has_ended ≡ result.ended }
         ensures line { let line = joined self.old.line (take (prefix_len is_in_line piece.now) piece.now) in

@@ -1,11 +1,12 @@
 //! What single words spell: lengths, numbers of log-odds and of quaternions, depths and ranges.
 ghost use Rattle.std.specs.Prelude.{◌≡◌, ◌^◌, ◌<◌, ℤ, unsigned_abs, IfSome};
-ghost use Rattle.oct_num.specs.Sign.{has_minus, without_minus};
+ghost use Rattle.oct_num.specs.Sign.{has_minus};
 ghost use Rattle.oct_odds.specs.Odds.{IsSmall};
-ghost use Rattle.oct_script.specs.Grammar.{length_of, short_whole, number_of, depth_of, component_of, range_of};
+ghost use Rattle.oct_script.specs.Grammar.{length_of, short_whole, number_of, depth_of};
+ghost use Rattle.oct_script.specs.Grammar.{component_of, range_of};
 ghost use Rattle.oct_script.specs.Commands.{IsRange};
 
-use oct_num::{read_metres, read_whole};
+use oct_num::{read_metres, read_whole, split_sign};
 
 /// The greatest magnitude of an N, a number of log-odds in a line.
 const GREATEST_NUMBER: u64 = 1_000_000;
@@ -28,28 +29,20 @@ fn has_minus(text: &[u8]) -> bool
     text.first() == Some(&b'-')
 }
 
-/// The digits of a text that may begin with a minus.
-fn without_minus(text: &[u8]) -> &[u8]
-    ensures { result.now ≡ without_minus text.now }
-{
-    match text {
-        [b'-', digits @ ..] => digits,
-        _ => text,
-    }
-}
-
 /// The whole number that a word spells: an optional `-` and one to seven digits.
 fn short_whole(word: &[u8]) -> Option<i64>
     ensures exact { result ≡ short_whole word.now }
     ensures reach { IfSome result (λ n. unsigned_abs n < 10 ^ 18) }
 {
-    if without_minus(word).len() > MOST_DIGITS {
+    let (_, digits) = split_sign(word);
+    if digits.len() > MOST_DIGITS {
         return None;
     }
     read_whole(word)
 }
 
-/// The number that a word spells: an optional `-` and one to seven digits, of a magnitude of at most 1,000,000.
+/// The number that a word spells: an optional `-` and one to seven digits, of a magnitude of at
+/// most 1,000,000.
 pub fn number_of(word: &[u8]) -> Option<i32>
     ensures exact { result ≡ number_of word.now }
     ensures small { IfSome result IsSmall }

@@ -1,36 +1,31 @@
 //! How a line is read as a command.
-ghost use Rattle.std.specs.Prelude.{◌≡◌, ◌+◌, ◌^◌, ◌<◌, ◌≤◌, unsigned_abs, length, not, MatchResult, IfOk, IfErr, Some, None, Ok, Err};
+ghost use Rattle.std.specs.Prelude.{◌≡◌, ◌+◌, ◌<◌, ◌≤◌, length, not, MatchResult, IfOk, IfErr};
+ghost use Rattle.std.specs.Prelude.{Some, None, Ok, Err};
 ghost use Rattle.oct_odds.specs.Odds.{IsSmall};
 ghost use Rattle.oct_pose.specs.Reach.{IsInReach};
 ghost use Rattle.oct_script.specs.Words.{placed_words};
-ghost use Rattle.oct_script.specs.Grammar.{length_of, number_of, depth_of, component_of, range_of, forms_of};
+ghost use Rattle.oct_script.specs.Grammar.{number_of, depth_of, component_of, range_of, forms_of};
 ghost use Rattle.oct_script.specs.Faults.{IsMeant, LeavesAt};
-ghost use Rattle.oct_script.specs.Commands.{command_of, opens_scan, IsSmallEdit, IsRange, IsSmallCommand};
-ghost use Rattle.oct_script.specs.Reading.{number_in, point_in, point_number_in, rotation_in, excess, end_in, lazy_in, edit_end_in, edit_in, number_edit_in, query_in, scan_in, beam_in, verb_of, behind_verb, behind_first, line_in};
+ghost use Rattle.oct_script.specs.Commands.{command_of, opens_scan, IsSmallEdit, IsRange};
+ghost use Rattle.oct_script.specs.Commands.{IsSmallCommand};
+ghost use Rattle.oct_script.specs.Reading.{number_in, point_in, point_number_in, rotation_in};
+ghost use Rattle.oct_script.specs.Reading.{excess, end_in, lazy_in, edit_end_in, edit_in};
+ghost use Rattle.oct_script.specs.Reading.{number_edit_in, query_in, scan_in, beam_in, behind_verb};
+ghost use Rattle.oct_script.specs.Reading.{IsSmallVerb, behind_first, line_in};
 
 use crate::command::{Command, Edit, ScanHead, Syntax};
 use crate::lines::LONGEST_LINE;
-use crate::numbers::{component_of, depth_of, length_of, number_of, range_of};
-use crate::verbs::{Verb, verb_of};
+use crate::numbers::{component_of, depth_of, number_of, range_of};
+use crate::table::verb_of;
+use crate::verbs::Verb;
 use crate::words::{WordAt, Words, first_word};
 use oct_key::Point;
-
-/// Reads an X, a Y or a Z.
-#[tactic(auto, unfolding(crate::specs::Reading::number_in))]
-fn read_length(words: &mut Words<'_>) -> Result<i64, Syntax>
-    ensures exact { MatchResult result (λ n. number_in length_of words.old.end words.old.words ≡ Ok (n, words.new.words))
-        (λ s. number_in length_of words.old.end words.old.words ≡ Err s) }
-    ensures end { words.new.end ≡ words.old.end }
-    ensures reach { IfOk result (λ n. unsigned_abs n < 10 ^ 16) }
-{
-    let word = words.take_word()?;
-    length_of(word.text).ok_or(word.fault())
-}
 
 /// Reads an N.
 #[tactic(auto, unfolding(crate::specs::Reading::number_in))]
 fn read_number(words: &mut Words<'_>) -> Result<i32, Syntax>
-    ensures exact { MatchResult result (λ n. number_in number_of words.old.end words.old.words ≡ Ok (n, words.new.words))
+    ensures exact { MatchResult result
+        (λ n. number_in number_of words.old.end words.old.words ≡ Ok (n, words.new.words))
         (λ s. number_in number_of words.old.end words.old.words ≡ Err s) }
     ensures end { words.new.end ≡ words.old.end }
     ensures small { IfOk result IsSmall }
@@ -42,7 +37,8 @@ fn read_number(words: &mut Words<'_>) -> Result<i32, Syntax>
 /// Reads a D.
 #[tactic(auto, unfolding(crate::specs::Reading::number_in))]
 fn read_depth(words: &mut Words<'_>) -> Result<u32, Syntax>
-    ensures exact { MatchResult result (λ n. number_in depth_of words.old.end words.old.words ≡ Ok (n, words.new.words))
+    ensures exact { MatchResult result
+        (λ n. number_in depth_of words.old.end words.old.words ≡ Ok (n, words.new.words))
         (λ s. number_in depth_of words.old.end words.old.words ≡ Err s) }
     ensures end { words.new.end ≡ words.old.end }
     ensures small { IfOk result (λ depth. depth < 10000000) }
@@ -54,7 +50,8 @@ fn read_depth(words: &mut Words<'_>) -> Result<u32, Syntax>
 /// Reads a Q.
 #[tactic(auto, unfolding(crate::specs::Reading::number_in))]
 fn read_component(words: &mut Words<'_>) -> Result<i16, Syntax>
-    ensures exact { MatchResult result (λ n. number_in component_of words.old.end words.old.words ≡ Ok (n, words.new.words))
+    ensures exact { MatchResult result
+        (λ n. number_in component_of words.old.end words.old.words ≡ Ok (n, words.new.words))
         (λ s. number_in component_of words.old.end words.old.words ≡ Err s) }
     ensures end { words.new.end ≡ words.old.end }
 {
@@ -65,7 +62,8 @@ fn read_component(words: &mut Words<'_>) -> Result<i16, Syntax>
 /// Reads a RANGE.
 #[tactic(auto, unfolding(crate::specs::Reading::number_in))]
 fn read_range(words: &mut Words<'_>) -> Result<Option<i64>, Syntax>
-    ensures exact { MatchResult result (λ range. number_in range_of words.old.end words.old.words ≡ Ok (range, words.new.words))
+    ensures exact { MatchResult result
+        (λ range. number_in range_of words.old.end words.old.words ≡ Ok (range, words.new.words))
         (λ s. number_in range_of words.old.end words.old.words ≡ Err s) }
     ensures within { IfOk result IsRange }
 {
@@ -76,21 +74,24 @@ fn read_range(words: &mut Words<'_>) -> Result<Option<i64>, Syntax>
 /// Reads `X Y Z`.
 #[tactic(auto, unfolding(crate::specs::Reading::point_in))]
 fn read_point(words: &mut Words<'_>) -> Result<Point, Syntax>
-    ensures exact { MatchResult result (λ p. point_in words.old.end words.old.words ≡ Ok (p, words.new.words))
+    ensures exact { MatchResult result
+        (λ p. point_in words.old.end words.old.words ≡ Ok (p, words.new.words))
         (λ s. point_in words.old.end words.old.words ≡ Err s) }
     ensures end { words.new.end ≡ words.old.end }
     ensures reach { IfOk result IsInReach }
 {
-    let x = read_length(words)?;
-    let y = read_length(words)?;
-    let z = read_length(words)?;
+    let x = words.take_length()?;
+    let y = words.take_length()?;
+    let z = words.take_length()?;
     Ok(Point { x, y, z })
 }
 
 /// Reads the end of a line.
 #[tactic(auto, unfolding(crate::specs::Reading::excess))]
 fn read_end(words: &mut Words<'_>) -> Result<(), Syntax>
-    ensures exact { MatchResult result (λ _. excess words.old.words ≡ None) (λ s. excess words.old.words ≡ Some s) }
+    ensures exact { MatchResult result
+        (λ _. excess words.old.words ≡ None)
+        (λ s. excess words.old.words ≡ Some s) }
 {
     match words.next_word() {
         None => Ok(()),
@@ -101,7 +102,9 @@ fn read_end(words: &mut Words<'_>) -> Result<(), Syntax>
 /// Reads the end of a line, or `lazy` before it: whether it's there.
 #[tactic(auto, unfolding(crate::specs::Reading::lazy_in))]
 fn read_lazy(words: &mut Words<'_>) -> Result<bool, Syntax>
-    ensures exact { MatchResult result (λ lazy. lazy_in words.old.words ≡ Ok lazy) (λ s. lazy_in words.old.words ≡ Err s) }
+    ensures exact { MatchResult result
+        (λ lazy. lazy_in words.old.words ≡ Ok lazy)
+        (λ s. lazy_in words.old.words ≡ Err s) }
 {
     let Some(word) = words.next_word() else {
         return Ok(false);
@@ -113,7 +116,7 @@ fn read_lazy(words: &mut Words<'_>) -> Result<bool, Syntax>
     Ok(true)
 }
 
-/// Reads `[lazy]`, behind an edit of a point.
+/// Reads `[lazy]`, after an edit of a point.
 #[tactic(auto, unfolding(crate::specs::Reading::edit_end_in))]
 fn read_edit_end(p: Point, e: Edit, words: &mut Words<'_>) -> Result<Command, Syntax>
     requires { IsSmallEdit e }
@@ -124,7 +127,7 @@ fn read_edit_end(p: Point, e: Edit, words: &mut Words<'_>) -> Result<Command, Sy
     Ok(Command::Edit { p, e, lazy })
 }
 
-/// Reads `X Y Z [lazy]`, behind the verb of an edit.
+/// Reads `X Y Z [lazy]`, after the verb of an edit.
 #[tactic(auto, unfolding(crate::specs::Reading::edit_in))]
 fn read_edit(e: Edit, words: &mut Words<'_>) -> Result<Command, Syntax>
     requires { IsSmallEdit e }
@@ -138,7 +141,8 @@ fn read_edit(e: Edit, words: &mut Words<'_>) -> Result<Command, Syntax>
 /// Reads `X Y Z N`.
 #[tactic(auto, unfolding(crate::specs::Reading::point_number_in))]
 fn read_point_number(words: &mut Words<'_>) -> Result<(Point, i32), Syntax>
-    ensures exact { MatchResult result (λ r. point_number_in words.old.end words.old.words ≡ Ok (r.0, r.1, words.new.words))
+    ensures exact { MatchResult result
+        (λ r. point_number_in words.old.end words.old.words ≡ Ok (r.0, r.1, words.new.words))
         (λ s. point_number_in words.old.end words.old.words ≡ Err s) }
     ensures end { words.new.end ≡ words.old.end }
     ensures small { IfOk result (λ r. IsSmall r.1) }
@@ -148,7 +152,7 @@ fn read_point_number(words: &mut Words<'_>) -> Result<(Point, i32), Syntax>
     Ok((p, n))
 }
 
-/// Reads `X Y Z N [lazy]`, behind `add`.
+/// Reads `X Y Z N [lazy]`, after `add`.
 #[tactic(auto, unfolding(crate::specs::Reading::number_edit_in))]
 fn read_add(words: &mut Words<'_>) -> Result<Command, Syntax>
     ensures exact { result ≡ number_edit_in Edit.Add words.old.end words.old.words }
@@ -158,7 +162,7 @@ fn read_add(words: &mut Words<'_>) -> Result<Command, Syntax>
     read_edit_end(p, Edit::Add(n), words)
 }
 
-/// Reads `X Y Z N [lazy]`, behind `set`.
+/// Reads `X Y Z N [lazy]`, after `set`.
 #[tactic(auto, unfolding(crate::specs::Reading::number_edit_in))]
 fn read_set(words: &mut Words<'_>) -> Result<Command, Syntax>
     ensures exact { result ≡ number_edit_in Edit.Set words.old.end words.old.words }
@@ -168,7 +172,7 @@ fn read_set(words: &mut Words<'_>) -> Result<Command, Syntax>
     read_edit_end(p, Edit::Set(n), words)
 }
 
-/// Reads `X Y Z D`, behind `get`.
+/// Reads `X Y Z D`, after `get`.
 #[tactic(auto, unfolding(crate::specs::Reading::query_in))]
 fn read_query(words: &mut Words<'_>) -> Result<Command, Syntax>
     ensures exact { result ≡ query_in words.old.end words.old.words }
@@ -183,7 +187,8 @@ fn read_query(words: &mut Words<'_>) -> Result<Command, Syntax>
 /// Reads `Q Q Q Q`, the numbers of a quaternion from its real part on.
 #[tactic(auto, unfolding(crate::specs::Reading::rotation_in))]
 fn read_rotation(words: &mut Words<'_>) -> Result<(i16, i16, i16, i16), Syntax>
-    ensures exact { MatchResult result (λ q. rotation_in words.old.end words.old.words ≡ Ok (q.0, q.1, q.2, q.3, words.new.words))
+    ensures exact { MatchResult result
+        (λ q. rotation_in words.old.end words.old.words ≡ Ok (q.0, q.1, q.2, q.3, words.new.words))
         (λ s. rotation_in words.old.end words.old.words ≡ Err s) }
     ensures end { words.new.end ≡ words.old.end }
 {
@@ -194,7 +199,7 @@ fn read_rotation(words: &mut Words<'_>) -> Result<(i16, i16, i16, i16), Syntax>
     Ok((w, x, y, z))
 }
 
-/// Reads `X Y Z Q Q Q Q RANGE [lazy]`, behind `scan`.
+/// Reads `X Y Z Q Q Q Q RANGE [lazy]`, after `scan`.
 #[tactic(auto, unfolding(crate::specs::Reading::scan_in))]
 fn read_scan(words: &mut Words<'_>) -> Result<Command, Syntax>
     ensures exact { result ≡ scan_in words.old.end words.old.words }
@@ -215,7 +220,7 @@ fn read_scan(words: &mut Words<'_>) -> Result<Command, Syntax>
     }))
 }
 
-/// Reads `X Y Z`, behind `p`.
+/// Reads `X Y Z`, after `p`.
 #[tactic(auto, unfolding(crate::specs::Reading::beam_in))]
 fn read_beam(words: &mut Words<'_>) -> Result<Command, Syntax>
     ensures exact { result ≡ beam_in words.old.end words.old.words }
@@ -236,46 +241,44 @@ fn read_alone(command: Command, words: &mut Words<'_>) -> Result<Command, Syntax
     Ok(command)
 }
 
-/// Reads what stands behind a verb.
+/// Reads what stands after a verb.
 #[tactic(auto, unfolding(crate::specs::Reading::behind_verb))]
-fn read_behind(verb: Verb, words: &mut Words<'_>) -> Result<Command, Syntax>
-    ensures exact { result ≡ behind_verb verb words.old.end words.old.words }
+fn read_behind(verb: &Verb, words: &mut Words<'_>) -> Result<Command, Syntax>
+    requires { IsSmallVerb verb.now }
+    ensures exact { result ≡ behind_verb verb.now words.old.end words.old.words }
     ensures small { IfOk result IsSmallCommand }
 {
     match verb {
         Verb::Hit => read_edit(Edit::Hit, words),
         Verb::Miss => read_edit(Edit::Miss, words),
+        Verb::Forget => read_edit(Edit::Forget, words),
         Verb::Add => read_add(words),
         Verb::Set => read_set(words),
-        Verb::Forget => read_edit(Edit::Forget, words),
         Verb::Get => read_query(words),
-        Verb::Counts => read_alone(Command::Counts, words),
-        Verb::Refresh => read_alone(Command::Refresh, words),
-        Verb::Prune => read_alone(Command::Prune, words),
-        Verb::Quit => read_alone(Command::Quit, words),
         Verb::Scan => read_scan(words),
         Verb::Beam => read_beam(words),
-        Verb::End => read_alone(Command::End, words),
+        Verb::Alone(command) => read_alone(*command, words),
     }
 }
 
-/// Reads what stands behind the first word of a line.
-#[tactic(auto, unfolding(crate::specs::Reading::behind_first))]
+/// Reads what stands after the first word of a line.
 fn read_behind_first(
     first: &WordAt<'_>,
     inside: bool,
     words: &mut Words<'_>,
 ) -> Result<Command, Syntax>
-    ensures exact { result ≡ behind_first inside first.now.column (verb_of first.now.text.now) words.old.end words.old.words }
+    ensures exact { result ≡ behind_first inside
+        (record { text = first.now.text.now; column = first.now.column })
+        words.old.end words.old.words }
     ensures small { IfOk result IsSmallCommand }
 {
-    let Some(verb) = verb_of(first.text) else {
-        return Ok(Command::NotYet);
-    };
-    if !verb.stands(inside) {
-        return Err(first.fault());
+    if let Some(verb) = verb_of(first.text, inside) {
+        return read_behind(verb, words);
     }
-    read_behind(verb, words)
+    match verb_of(first.text, !inside) {
+        Some(_) => Err(first.fault()),
+        None => Ok(Command::NotYet),
+    }
 }
 
 /// Reads a line from its first word on.
@@ -293,24 +296,28 @@ fn read_line(inside: bool, words: &mut Words<'_>) -> Result<Command, Syntax>
     read_behind_first(&first, inside, words)
 }
 
-/// Reads a line, which isn't long, as a command of the script. It stands inside the block of an open scan, or outside.
+/// Reads a line, which isn't long, as a command of the script. It stands inside the block of an
+/// open scan, or outside.
 ///
-/// A line that needs no reply is [`Command::Blank`]: an empty line, one of blanks, and a comment. Any other line whose
-/// first word begins no form of the grammar, here or elsewhere, is [`Command::NotYet`]. A line that isn't in the grammar
-/// is a [`Syntax`], with the column of the first word that can't stand there, or one more than the line's length where a
-/// word is missing. Inside a block only `p X Y Z` and `end` are in the grammar, and outside they aren't.
+/// A line that needs no reply is [`Command::Blank`]: an empty line, one of blanks, and a comment.
+/// Any other line whose first word begins no form of the grammar, here or elsewhere, is
+/// [`Command::NotYet`]. A line that isn't in the grammar is a [`Syntax`], with the column of the
+/// first word that can't stand there, or one more than the line's length where a word is missing.
+/// Inside a block only `p X Y Z` and `end` are in the grammar, and outside they aren't.
 pub fn parse(line: &[u8], inside: bool) -> Result<Command, Syntax>
     requires { length line.now ≤ LONGEST_LINE }
     ensures exact { result ≡ command_of inside line.now }
-    ensures means { IfOk result (IsMeant (forms_of inside) (forms_of (not inside)) (placed_words line.now)) }
-    ensures leaves { IfErr result (λ s.
-        LeavesAt (forms_of inside) (forms_of (not inside)) (length line.now + 1) (placed_words line.now) s.column) }
+    ensures means { IfOk result
+        (IsMeant (forms_of inside) (forms_of (not inside)) (placed_words line.now)) }
+    ensures leaves { IfErr result (λ s. LeavesAt (forms_of inside) (forms_of (not inside))
+        (length line.now + 1) (placed_words line.now) s.column) }
     ensures small { IfOk result IsSmallCommand }
 {
     read_line(inside, &mut Words::new(line))
 }
 
-/// Whether a line opens the block of a scan, if it isn't long: whether its first word is `scan`, whatever its other words are.
+/// Whether a line opens the block of a scan, if it isn't long: whether its first word is `scan`,
+/// whatever its other words are.
 pub fn opens_scan(line: &[u8]) -> bool
     ensures { result ≡ opens_scan line.now }
 {

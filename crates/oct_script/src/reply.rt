@@ -1,5 +1,6 @@
 //! Replies, and their texts.
-ghost use Rattle.std.specs.Prelude.{◌≡◌, ◌++◌, OnOk, OnErr, Option, Some, None, decimal, take, vec_len};
+ghost use Rattle.std.specs.Prelude.{◌≡◌, ◌++◌, OnOk, OnErr, Option, Some, None, decimal, take};
+ghost use Rattle.std.specs.Prelude.{vec_len};
 ghost use Rattle.oct_script.specs.Replies.{class_name, refusal_text, reply_text};
 
 use itoa::{Buffer, Integer};
@@ -23,7 +24,8 @@ pub enum Refusal {
     OriginOutside,
     /// The beam to the point of this index, from 0 on, ends outside the map.
     PointOutside { index: u64 },
-    /// With the beam to the point of this index, from 0 on, the beams meet more voxels than the map allows: so many.
+    /// With the beam to the point of this index, from 0 on, the beams meet more voxels than the map
+    /// allows: `cells`.
     TooManyCells { index: u64, cells: u64 },
     /// The map is stale, and the depth is that of no voxel.
     Stale,
@@ -73,7 +75,7 @@ fn name_of(class: Class) -> &'static str
     }
 }
 
-/// Appends a text and the decimal text of a number behind it.
+/// Appends a text and the decimal text of a number after it.
 fn append_field<I: Integer>(out: &mut Vec<u8>, before: &[u8], n: I) -> Result<(), Memory>
     ensures ok { OnOk result (out.new.items ≡ out.old.items ++ (before.now ++ I.text n)) }
     ensures err { OnErr result (take (vec_len out.old) out.new.items ≡ out.old.items) }
@@ -83,7 +85,7 @@ fn append_field<I: Integer>(out: &mut Vec<u8>, before: &[u8], n: I) -> Result<()
     Ok(())
 }
 
-/// Appends two texts, each with the decimal text of a number behind it.
+/// Appends two texts, each with the decimal text of a number after it.
 fn append_fields<I: Integer, J: Integer>(
     out: &mut Vec<u8>,
     before: &[u8],
@@ -91,7 +93,8 @@ fn append_fields<I: Integer, J: Integer>(
     between: &[u8],
     m: J,
 ) -> Result<(), Memory>
-    ensures ok { OnOk result (out.new.items ≡ out.old.items ++ ((before.now ++ I.text n) ++ (between.now ++ J.text m))) }
+    ensures ok { OnOk result (out.new.items
+        ≡ out.old.items ++ ((before.now ++ I.text n) ++ (between.now ++ J.text m))) }
     ensures err { OnErr result (take (vec_len out.old) out.new.items ≡ out.old.items) }
 {
     append_field(out, before, n)?;

@@ -17,13 +17,8 @@ fn text_of(lines: &Lines) -> Option<&[u8]> {
     }
 }
 
-/// The command of a line that isn't long, outside the block of a scan.
-fn command_of(line: &str) -> Option<Result<Command, Syntax>> {
-    command_in(line, false)
-}
-
-/// The command of a line that isn't long, inside the block of a scan or outside.
-fn command_in(line: &str, inside: bool) -> Option<Result<Command, Syntax>> {
+/// What a line that isn't long is read as, inside the block of a scan or outside.
+fn read(line: &str, inside: bool) -> Option<Result<Command, Syntax>> {
     if line.len() > LONGEST_LINE {
         return None;
     }
@@ -109,182 +104,176 @@ fn a_long_line_has_more_than_4096_bytes(rt: HostRuntime) {
 
 const ORIGIN: Point = Point { x: 0, y: 0, z: 0 };
 
-fn edited(e: Edit) -> Option<Result<Command, Syntax>> {
-    Some(Ok(Command::Edit {
-        p: ORIGIN,
-        e,
-        lazy: false,
-    }))
+const FAR: Point = Point {
+    x: 1_500_000_000,
+    y: -1,
+    z: 9_999_999_999_999_999,
+};
+
+/// An edit of the voxel at a point.
+macro_rules! edit {
+    ($p:expr, $e:expr, $lazy:expr) => {
+        Command::Edit { p: $p, e: $e, lazy: $lazy }
+    };
 }
 
-fn edited_lazily(e: Edit) -> Option<Result<Command, Syntax>> {
-    Some(Ok(Command::Edit {
-        p: ORIGIN,
-        e,
-        lazy: true,
-    }))
+/// A query of a block around the origin.
+macro_rules! get {
+    ($depth:expr) => {
+        Command::Get { p: ORIGIN, depth: $depth }
+    };
 }
 
-fn queried(depth: u32) -> Option<Result<Command, Syntax>> {
-    Some(Ok(Command::Get { p: ORIGIN, depth }))
+/// The head of a scan that is turned about the vertical axis.
+macro_rules! scan {
+    ($w:expr, $z:expr, $range:expr, $lazy:expr) => {
+        Command::Scan(ScanHead {
+            t: Point { x: 1_000_000_000, y: 0, z: -500_000_000 },
+            w: $w,
+            x: 0,
+            y: 0,
+            z: $z,
+            range: $range,
+            lazy: $lazy,
+        })
+    };
 }
+
+/// Lines outside the block of a scan, and their commands.
+const COMMANDS: [(&str, Command); 29] = [
+    ("hit 0 0 0", edit!(ORIGIN, Edit::Hit, false)),
+    ("miss 0 0 0", edit!(ORIGIN, Edit::Miss, false)),
+    (
+        "\t add  0 \t 0 0 -1000000  ",
+        edit!(ORIGIN, Edit::Add(-1_000_000), false),
+    ),
+    ("set 0 -0 0.0 0000009", edit!(ORIGIN, Edit::Set(9), false)),
+    ("forget 0 0 0", edit!(ORIGIN, Edit::Forget, false)),
+    (
+        "hit 1.5 -0.000000001 9999999.999999999",
+        edit!(FAR, Edit::Hit, false),
+    ),
+    ("hit 0 0 0 lazy", edit!(ORIGIN, Edit::Hit, true)),
+    ("miss 0 0 0 lazy ", edit!(ORIGIN, Edit::Miss, true)),
+    ("add 0 0 0 7 lazy", edit!(ORIGIN, Edit::Add(7), true)),
+    ("set 0 0 0 -5 \t lazy", edit!(ORIGIN, Edit::Set(-5), true)),
+    ("forget 0 0 0 lazy", edit!(ORIGIN, Edit::Forget, true)),
+    ("get 0 0 0 0016", get!(16)),
+    ("get 0 0 0 0", get!(0)),
+    ("get 0 0 0 17", get!(17)),
+    ("get 0 0 0 9999999", get!(9_999_999)),
+    ("counts", Command::Counts),
+    (" refresh", Command::Refresh),
+    ("prune ", Command::Prune),
+    ("quit", Command::Quit),
+    ("", Command::Blank),
+    (" \t ", Command::Blank),
+    (" #hit 0 0 x", Command::Blank),
+    ("clear", Command::NotYet),
+    ("counted", Command::NotYet),
+    ("Hit 0 0", Command::NotYet),
+    ("scan 1 0 -0.5 1 0 0 0 all", scan!(1, 0, None, false)),
+    (
+        " scan 1 0 -0.5 -32768 -0 0 0032767 8 lazy",
+        scan!(-32768, 32767, Some(8_000_000_000), true),
+    ),
+    ("scan 1 0 -0.5 0 0 0 0 -0", scan!(0, 0, Some(0), false)),
+    (
+        "scan 1 0 -0.5 0 0 0 0 9999999.999999999",
+        scan!(0, 0, Some(9_999_999_999_999_999), false),
+    ),
+];
+
+/// Lines inside the block of a scan, and their commands.
+const BLOCK_COMMANDS: [(&str, Command); 5] = [
+    ("p 0 0.0 -0", Command::Beam(ORIGIN)),
+    (" end ", Command::End),
+    ("", Command::Blank),
+    ("\t# end", Command::Blank),
+    ("clear", Command::NotYet),
+];
+
+/// Lines outside the block of a scan that aren't in the grammar, and the columns of their faults.
+const FAULTS: [(&str, u32); 38] = [
+    ("get 0 0", 8),
+    ("hit 0 0 x", 9),
+    ("hit", 4),
+    ("  hit\t ", 8),
+    ("hit 12345678 0 0", 5),
+    ("hit 0 .5 0", 7),
+    ("hit 0 0 0 0", 11),
+    ("hit 0 0 0 lazy lazy", 16),
+    ("hit 0 0 0 lazy x", 16),
+    ("hit 0 0 0 lazyx", 11),
+    ("hit 0 0 0 laz", 11),
+    ("miss 0 0 0 # no comment here", 12),
+    ("add 0 0 0", 10),
+    ("add 0 0 0 1000001", 11),
+    ("add 0 0 0 00000001", 11),
+    ("set 0 0 0 -", 11),
+    ("set 0 0 0 1.0", 11),
+    ("get 0 0 0 12345678", 11),
+    ("get 0 0 0 -1", 11),
+    ("get 0 0 0 -0", 11),
+    ("get 0 0 0", 10),
+    ("get 0 0 0 16 16", 14),
+    ("counts x", 8),
+    ("refresh 16", 9),
+    ("prune lazy", 7),
+    ("quit now", 6),
+    ("scan", 5),
+    ("scan 0 0 0 1 0 0 0", 19),
+    ("scan 0 0 0 32768 0 0 0 all", 12),
+    ("scan 0 0 0 0 -32769 0 0 all", 14),
+    ("scan 0 0 0 0 0 0.0 0 all", 16),
+    ("scan 0 0 0 0 0 0 00000001 all", 18),
+    ("scan 0 0 0 1 0 0 0 -0.000000001", 20),
+    ("scan 0 0 0 1 0 0 0 alls", 20),
+    ("scan 0 0 0 1 0 0 0 all all", 24),
+    ("scan 0 0 0 1 0 0 0 8 lazy x", 27),
+    ("p 0 0 0", 1),
+    (" end", 2),
+];
+
+/// Lines inside the block of a scan that aren't in the grammar there, and the columns of their
+/// faults.
+const BLOCK_FAULTS: [(&str, u32); 9] = [
+    ("p", 2),
+    ("p 0 0", 6),
+    ("p 0 0 0 0", 9),
+    ("end now", 5),
+    ("hit 0 0 0", 1),
+    (" get 0 0", 2),
+    ("counts", 1),
+    ("  quit", 3),
+    ("scan 0 0 0", 1),
+];
 
 #[test]
 fn lines_are_commands(rt: HostRuntime) {
-    for (line, want) in [
-        ("hit 0 0 0", edited(Edit::Hit)),
-        ("miss 0 0 0", edited(Edit::Miss)),
-        ("\t add  0 \t 0 0 -1000000  ", edited(Edit::Add(-1_000_000))),
-        ("set 0 -0 0.0 0000009", edited(Edit::Set(9))),
-        ("forget 0 0 0", edited(Edit::Forget)),
-        ("hit 0 0 0 lazy", edited_lazily(Edit::Hit)),
-        ("miss 0 0 0 lazy ", edited_lazily(Edit::Miss)),
-        ("add 0 0 0 7 lazy", edited_lazily(Edit::Add(7))),
-        ("set 0 0 0 -5 \t lazy", edited_lazily(Edit::Set(-5))),
-        ("forget 0 0 0 lazy", edited_lazily(Edit::Forget)),
-        ("get 0 0 0 0016", queried(16)),
-        ("get 0 0 0 0", queried(0)),
-        ("get 0 0 0 17", queried(17)),
-        ("get 0 0 0 9999999", queried(9_999_999)),
-        ("counts", Some(Ok(Command::Counts))),
-        (" refresh", Some(Ok(Command::Refresh))),
-        ("prune ", Some(Ok(Command::Prune))),
-        ("quit", Some(Ok(Command::Quit))),
-        ("", Some(Ok(Command::Blank))),
-        (" \t ", Some(Ok(Command::Blank))),
-        (" #hit 0 0 x", Some(Ok(Command::Blank))),
-        ("clear", Some(Ok(Command::NotYet))),
-        ("counted", Some(Ok(Command::NotYet))),
-        ("Hit 0 0", Some(Ok(Command::NotYet))),
-    ] {
-        assert_eq!(rt; command_of(line), want, "at {line:?}");
+    for (line, command) in COMMANDS {
+        assert_eq!(rt; read(line, false), Some(Ok(command)), "at {line:?}");
     }
-    let p = Point {
-        x: 1_500_000_000,
-        y: -1,
-        z: 9_999_999_999_999_999,
-    };
-    assert_eq!(rt;
-        command_of("hit 1.5 -0.000000001 9999999.999999999"),
-        Some(Ok(Command::Edit {
-            p,
-            e: Edit::Hit,
-            lazy: false
-        }))
-    );
+    for (line, command) in BLOCK_COMMANDS {
+        assert_eq!(rt; read(line, true), Some(Ok(command)), "at {line:?}");
+    }
 }
 
 #[test]
 fn faults_have_columns(rt: HostRuntime) {
-    for (line, column) in [
-        ("get 0 0", 8),
-        ("hit 0 0 x", 9),
-        ("hit", 4),
-        ("  hit\t ", 8),
-        ("hit 12345678 0 0", 5),
-        ("hit 0 .5 0", 7),
-        ("hit 0 0 0 0", 11),
-        ("hit 0 0 0 lazy lazy", 16),
-        ("hit 0 0 0 lazy x", 16),
-        ("hit 0 0 0 lazyx", 11),
-        ("hit 0 0 0 laz", 11),
-        ("miss 0 0 0 # no comment here", 12),
-        ("add 0 0 0", 10),
-        ("add 0 0 0 1000001", 11),
-        ("add 0 0 0 00000001", 11),
-        ("set 0 0 0 -", 11),
-        ("set 0 0 0 1.0", 11),
-        ("get 0 0 0 12345678", 11),
-        ("get 0 0 0 -1", 11),
-        ("get 0 0 0 -0", 11),
-        ("get 0 0 0", 10),
-        ("get 0 0 0 16 16", 14),
-        ("counts x", 8),
-        ("refresh 16", 9),
-        ("prune lazy", 7),
-        ("quit now", 6),
-    ] {
+    for (line, column) in FAULTS {
         assert_eq!(rt;
-            command_of(line),
+            read(line, false),
             Some(Err(Syntax { column })),
             "at {line:?}"
         );
     }
-}
-
-fn scanned(w: i16, z: i16, range: Option<i64>, lazy: bool) -> Option<Result<Command, Syntax>> {
-    Some(Ok(Command::Scan(ScanHead {
-        t: Point {
-            x: 1_000_000_000,
-            y: 0,
-            z: -500_000_000,
-        },
-        w,
-        x: 0,
-        y: 0,
-        z,
-        range,
-        lazy,
-    })))
-}
-
-#[test]
-fn scans_have_heads(rt: HostRuntime) {
-    for (line, want) in [
-        ("scan 1 0 -0.5 1 0 0 0 all", scanned(1, 0, None, false)),
-        (
-            " scan 1 0 -0.5 -32768 -0 0 0032767 8 lazy",
-            scanned(-32768, 32767, Some(8_000_000_000), true),
-        ),
-        ("scan 1 0 -0.5 0 0 0 0 -0", scanned(0, 0, Some(0), false)),
-        (
-            "scan 1 0 -0.5 0 0 0 0 9999999.999999999",
-            scanned(0, 0, Some(9_999_999_999_999_999), false),
-        ),
-    ] {
-        assert_eq!(rt; command_of(line), want, "at {line:?}");
-    }
-    for (line, column) in [
-        ("scan", 5),
-        ("scan 0 0 0 1 0 0 0", 19),
-        ("scan 0 0 0 32768 0 0 0 all", 12),
-        ("scan 0 0 0 0 -32769 0 0 all", 14),
-        ("scan 0 0 0 0 0 0.0 0 all", 16),
-        ("scan 0 0 0 0 0 0 00000001 all", 18),
-        ("scan 0 0 0 1 0 0 0 -0.000000001", 20),
-        ("scan 0 0 0 1 0 0 0 alls", 20),
-        ("scan 0 0 0 1 0 0 0 all all", 24),
-        ("scan 0 0 0 1 0 0 0 8 lazy x", 27),
-        ("p 0 0 0", 1),
-        (" end", 2),
-    ] {
+    for (line, column) in BLOCK_FAULTS {
         assert_eq!(rt;
-            command_of(line),
+            read(line, true),
             Some(Err(Syntax { column })),
             "at {line:?}"
         );
-    }
-}
-
-#[test]
-fn blocks_have_points(rt: HostRuntime) {
-    for (line, want) in [
-        ("p 0 0.0 -0", Ok(Command::Beam(ORIGIN))),
-        (" end ", Ok(Command::End)),
-        ("", Ok(Command::Blank)),
-        ("\t# end", Ok(Command::Blank)),
-        ("clear", Ok(Command::NotYet)),
-        ("p", Err(Syntax { column: 2 })),
-        ("p 0 0", Err(Syntax { column: 6 })),
-        ("p 0 0 0 0", Err(Syntax { column: 9 })),
-        ("end now", Err(Syntax { column: 5 })),
-        ("hit 0 0 0", Err(Syntax { column: 1 })),
-        (" get 0 0", Err(Syntax { column: 2 })),
-        ("counts", Err(Syntax { column: 1 })),
-        ("  quit", Err(Syntax { column: 3 })),
-        ("scan 0 0 0", Err(Syntax { column: 1 })),
-    ] {
-        assert_eq!(rt; command_in(line, true), Some(want), "at {line:?}");
     }
 }
 
@@ -294,91 +283,102 @@ fn scan_is_the_word_that_opens_a_block(rt: HostRuntime) {
     assert!(rt; !opens("") && !opens("# scan") && !opens("scans") && !opens("hit scan"));
 }
 
+/// Replies, and their lines.
+const REPLIES: [(Reply, &str); 6] = [
+    (Reply::Ok, "ok\n"),
+    (
+        Reply::Known {
+            value: -400,
+            class: Class::Free,
+        },
+        "known -400 free\n",
+    ),
+    (
+        Reply::Known {
+            value: 3500,
+            class: Class::Occupied,
+        },
+        "known 3500 occupied\n",
+    ),
+    (Reply::Unknown, "unknown\n"),
+    (
+        Reply::Scanned(ScanDone { hits: 2, frees: 3 }),
+        "ok hits 2 frees 3\n",
+    ),
+    (
+        Reply::Counted(Counts {
+            groups: 16,
+            nodes: 17,
+        }),
+        "groups 16 nodes 17\n",
+    ),
+];
+
+/// Refusals, and their lines.
+const REFUSALS: [(Refusal, &str); 13] = [
+    (Refusal::ZeroQuaternion, "refused 5 ZeroQuaternion\n"),
+    (Refusal::OriginOutside, "refused 6 OriginOutside\n"),
+    (
+        Refusal::PointOutside { index: 0 },
+        "refused 7 PointOutside index 0\n",
+    ),
+    (
+        Refusal::TooManyCells { index: 1, cells: 8 },
+        "refused 8 TooManyCells index 1 cells 8\n",
+    ),
+    (Refusal::Stale, "refused 22 Stale\n"),
+    (
+        Refusal::Full {
+            groups: 16,
+            need: u128::MAX,
+        },
+        "refused 23 Full groups 16 need 340282366920938463463374607431768211455\n",
+    ),
+    (
+        Refusal::Outside { point: 1 },
+        "refused 24 Outside point 1\n",
+    ),
+    (Refusal::BadDepth, "refused 25 BadDepth\n"),
+    (
+        Refusal::Syntax {
+            line: 12,
+            column: 4097,
+        },
+        "refused 29 Syntax line 12 column 4097\n",
+    ),
+    (
+        Refusal::LongLine { line: 7 },
+        "refused 30 LongLine line 7\n",
+    ),
+    (
+        Refusal::OpenScan { line: 3 },
+        "refused 31 OpenScan line 3\n",
+    ),
+    (
+        Refusal::TooManyPoints { line: 1_000_002 },
+        "refused 32 TooManyPoints line 1000002\n",
+    ),
+    (Refusal::NotYet, "refused 36 NotYet\n"),
+];
+
 #[test]
 fn replies_are_lines(rt: HostRuntime) -> Result<(), Fail> {
-    for (reply, want) in [
-        (Reply::Ok, "ok\n"),
-        (
-            Reply::Known {
-                value: -400,
-                class: Class::Free,
-            },
-            "known -400 free\n",
-        ),
-        (
-            Reply::Known {
-                value: 3500,
-                class: Class::Occupied,
-            },
-            "known 3500 occupied\n",
-        ),
-        (Reply::Unknown, "unknown\n"),
-        (
-            Reply::Scanned(ScanDone { hits: 2, frees: 3 }),
-            "ok hits 2 frees 3\n",
-        ),
-        (
-            Reply::Counted(Counts {
-                groups: 16,
-                nodes: 17,
-            }),
-            "groups 16 nodes 17\n",
-        ),
-        (
-            Reply::Refused(Refusal::ZeroQuaternion),
-            "refused 5 ZeroQuaternion\n",
-        ),
-        (
-            Reply::Refused(Refusal::OriginOutside),
-            "refused 6 OriginOutside\n",
-        ),
-        (
-            Reply::Refused(Refusal::PointOutside { index: 0 }),
-            "refused 7 PointOutside index 0\n",
-        ),
-        (
-            Reply::Refused(Refusal::TooManyCells { index: 1, cells: 8 }),
-            "refused 8 TooManyCells index 1 cells 8\n",
-        ),
-        (Reply::Refused(Refusal::Stale), "refused 22 Stale\n"),
-        (
-            Reply::Refused(Refusal::Full {
-                groups: 16,
-                need: u128::MAX,
-            }),
-            "refused 23 Full groups 16 need 340282366920938463463374607431768211455\n",
-        ),
-        (Reply::Refused(Refusal::BadDepth), "refused 25 BadDepth\n"),
-        (
-            Reply::Refused(Refusal::Outside { point: 1 }),
-            "refused 24 Outside point 1\n",
-        ),
-        (
-            Reply::Refused(Refusal::Syntax {
-                line: 12,
-                column: 4097,
-            }),
-            "refused 29 Syntax line 12 column 4097\n",
-        ),
-        (
-            Reply::Refused(Refusal::LongLine { line: 7 }),
-            "refused 30 LongLine line 7\n",
-        ),
-        (
-            Reply::Refused(Refusal::OpenScan { line: 3 }),
-            "refused 31 OpenScan line 3\n",
-        ),
-        (
-            Reply::Refused(Refusal::TooManyPoints { line: 1_000_002 }),
-            "refused 32 TooManyPoints line 1000002\n",
-        ),
-        (Reply::Refused(Refusal::NotYet), "refused 36 NotYet\n"),
-    ] {
-        let mut out = Vec::from_slice(rt.alloc(), b"> ")?;
+    let mut out = Vec::new(rt.alloc());
+    for (reply, line) in REPLIES {
+        out.clear();
         push_reply(&mut out, &reply)?;
-        let (before, text) = out.as_slice().split_at(2.min(out.len()));
-        assert_eq!(rt; before, b"> ".as_slice());
-        assert_eq!(rt; text, want.as_bytes());
+        assert_eq!(rt; out.as_slice(), line.as_bytes());
     }
+    for (refusal, line) in REFUSALS {
+        out.clear();
+        push_reply(&mut out, &Reply::Refused(refusal))?;
+        assert_eq!(rt; out.as_slice(), line.as_bytes());
+    }
+    push_reply(&mut out, &Reply::Ok)?;
+    assert_eq!(rt;
+        out.as_slice(),
+        b"refused 36 NotYet\nok\n".as_slice(),
+        "a reply is appended"
+    );
     Ok(())
 }

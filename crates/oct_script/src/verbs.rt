@@ -1,8 +1,8 @@
-//! The first words of commands.
-ghost use Rattle.std.specs.Prelude.{◌≡◌};
-ghost use Rattle.oct_script.specs.Reading.{stands, verb_of};
+//! What the first words of lines begin.
+use crate::command::Command;
 
-/// The first word of a command that is built.
+/// What a first word begins: an edit, a query, a scan or a beam with words of its own, or a whole
+/// command.
 #[derive(Clone, Copy, Debug, PartialEq, Eq)]
 pub enum Verb {
     Hit,
@@ -11,46 +11,15 @@ pub enum Verb {
     Set,
     Forget,
     Get,
-    Counts,
-    Refresh,
-    Prune,
-    Quit,
     Scan,
     Beam,
-    End,
+    /// No more words stand after the first one.
+    Alone(Command),
 }
 
-impl Verb {
-    /// Whether lines inside a scan block, or those outside, may begin with this word.
-    pub fn stands(self, inside: bool) -> bool
-        ensures { result ≡ stands inside self }
-    {
-        match self {
-            Verb::Beam | Verb::End => inside,
-            _ => !inside,
-        }
-    }
-}
-
-/// The verb that a word is.
-#[tactic(auto, unfolding(crate::specs::Reading::verb_of))]
-pub fn verb_of(word: &[u8]) -> Option<Verb>
-    ensures { result ≡ verb_of word.now }
-{
-    match word {
-        b"hit" => Some(Verb::Hit),
-        b"miss" => Some(Verb::Miss),
-        b"add" => Some(Verb::Add),
-        b"set" => Some(Verb::Set),
-        b"forget" => Some(Verb::Forget),
-        b"get" => Some(Verb::Get),
-        b"counts" => Some(Verb::Counts),
-        b"refresh" => Some(Verb::Refresh),
-        b"prune" => Some(Verb::Prune),
-        b"quit" => Some(Verb::Quit),
-        b"scan" => Some(Verb::Scan),
-        b"p" => Some(Verb::Beam),
-        b"end" => Some(Verb::End),
-        _ => None,
-    }
+/// A first word, and what it begins.
+#[derive(Clone, Copy)]
+pub struct FirstWord {
+    pub word: &'static [u8],
+    pub verb: Verb,
 }

@@ -1,10 +1,16 @@
 //! The words of a line, which are parted by blanks, and where they stand.
-ghost use Rattle.std.specs.Prelude.{◌≡◌, ◌+◌, ◌≤◌, [], ◌∷◌, length, MatchOption, MatchResult};
+ghost use Rattle.std.specs.Prelude.{◌≡◌, ◌+◌, ◌^◌, ◌<◌, ◌≤◌, unsigned_abs, [], ◌∷◌, length};
+ghost use Rattle.std.specs.Prelude.{MatchOption, MatchResult, IfOk, Ok, Err};
+ghost use Rattle.oct_script.specs.Grammar.{length_of};
+ghost use Rattle.oct_script.specs.Reading.{number_in};
 ghost use Rattle.std.specs.List.{prefix_len};
-ghost use Rattle.oct_script.specs.Words.{is_blank, is_in_word, words_from, placed_words, first_text};
+ghost use Rattle.oct_script.specs.Words.{is_blank, is_in_word, words_from, placed_words};
+ghost use Rattle.oct_script.specs.Words.{first_text};
 
 use crate::command::Syntax;
 use crate::lines::LONGEST_LINE;
+use crate::numbers::length_of;
+use oct_num::split_metres;
 use std::marker::Model;
 
 /// A word of a line.
@@ -30,7 +36,7 @@ impl WordAt<'_> {
 /// The words of a line that are still to be read.
 #[derive(Drop)]
 pub struct Words<'a> {
-    /// What stands behind the last word that was read.
+    /// What stands after the last word that was read.
     rest: &'a [u8],
     /// The column of its first byte.
     column: u32,
@@ -43,7 +49,10 @@ impl<'a> Model for Words<'a> {
 
     ghost Value = { Unread };
 
-    ghost view = { λ w. record { words = words_from w.column w.rest.now; end = w.column + length w.rest.now } };
+    ghost view = { λ w. record {
+      words = words_from w.column w.rest.now;
+      end = w.column + length w.rest.now;
+    } };
 
     ghost invariant = { λ w. w.column + length w.rest.now ≤ 4097 };
 }
@@ -91,7 +100,7 @@ impl<'a> Words<'a> {
         }
     }
 
-    /// The column behind the line: one more than its length.
+    /// The column after the line: one more than its length.
     pub fn end(&self) -> u32
         ensures { result ≡ self.now.end }
     {
@@ -101,7 +110,8 @@ impl<'a> Words<'a> {
     /// The next word, if there is one.
     pub fn next_word(&mut self) -> Option<WordAt<'a>>
         ensures words { MatchOption result (self.old.words ≡ [])
-            (λ w. self.old.words ≡ record { text = w.text.now; column = w.column } ∷ self.new.words) }
+            (λ w. self.old.words
+            ≡ record { text = w.text.now; column = w.column } ∷ self.new.words) }
         ensures end { self.new.end ≡ self.old.end }
     {
         let (blanks, text) = self.rest.split_at(count_blanks(self.rest));
@@ -115,9 +125,31 @@ impl<'a> Words<'a> {
         Some(WordAt { text: word, column })
     }
 
+    /// Reads a length, an X, a Y or a Z: the next word, which mustn't be missing.
+    #[tactic(auto, unfolding(crate::specs::Reading::number_in))]
+    pub fn take_length(&mut self) -> Result<i64, Syntax>
+        ensures exact { MatchResult result
+            (λ n. number_in length_of self.old.end self.old.words ≡ Ok (n, self.new.words))
+            (λ s. number_in length_of self.old.end self.old.words ≡ Err s) }
+        ensures end { self.new.end ≡ self.old.end }
+        ensures reach { IfOk result (λ n. unsigned_abs n < 10 ^ 16) }
+    {
+        let (_, text) = self.rest.split_at(count_blanks(self.rest));
+        if let Some((length, rest)) = split_metres(text) {
+            if count_word(rest) == 0 {
+                self.column += (self.rest.len() - rest.len()) as u32;
+                self.rest = rest;
+                return Ok(length);
+            }
+        }
+        let word = self.take_word()?;
+        length_of(word.text).ok_or(word.fault())
+    }
+
     /// The next word, which mustn't be missing.
     pub fn take_word(&mut self) -> Result<WordAt<'a>, Syntax>
-        ensures words { MatchResult result (λ w. self.old.words ≡ record { text = w.text.now; column = w.column } ∷ self.new.words)
+        ensures words { MatchResult result
+            (λ w. self.old.words ≡ record { text = w.text.now; column = w.column } ∷ self.new.words)
             (λ s. (self.old.words ≡ []) × (s.column ≡ self.old.end)) }
         ensures end { self.new.end ≡ self.old.end }
     {

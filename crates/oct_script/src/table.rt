@@ -1,0 +1,61 @@
+//! The table of first words.
+ghost use Rattle.std.specs.Prelude.{◌≡◌, map, bytes_eq, option_map, IfSome};
+ghost use Rattle.std.specs.List.{find};
+ghost use Rattle.oct_script.specs.Grammar.{rows_of};
+ghost use Rattle.oct_script.specs.Reading.{row_seen, forms_at, forms_of_verb, IsSmallVerb};
+
+use crate::command::Command;
+use crate::verbs::{FirstWord, Verb};
+
+/// The row of a first word.
+macro_rules! row {
+    ($word:literal, $verb:expr) => {
+        FirstWord { word: $word, verb: $verb }
+    };
+}
+
+/// The first words of lines outside the block of a scan.
+const OUTSIDE: [FirstWord; 11] = [
+    row!(b"hit", Verb::Hit),
+    row!(b"miss", Verb::Miss),
+    row!(b"add", Verb::Add),
+    row!(b"set", Verb::Set),
+    row!(b"forget", Verb::Forget),
+    row!(b"get", Verb::Get),
+    row!(b"counts", Verb::Alone(Command::Counts)),
+    row!(b"refresh", Verb::Alone(Command::Refresh)),
+    row!(b"prune", Verb::Alone(Command::Prune)),
+    row!(b"quit", Verb::Alone(Command::Quit)),
+    row!(b"scan", Verb::Scan),
+];
+
+/// The first words of lines inside the block of a scan.
+const INSIDE: [FirstWord; 2] = [
+    row!(b"p", Verb::Beam),
+    row!(b"end", Verb::Alone(Command::End)),
+];
+
+/// The first words of lines inside the block of a scan, or outside.
+fn first_words(inside: bool) -> &'static [FirstWord]
+    ensures { map row_seen result.now ≡ rows_of inside }
+{
+    if inside { &INSIDE } else { &OUTSIDE }
+}
+
+/// The row of a word, if there is one.
+fn find_row<'a>(rows: &'a [FirstWord], word: &[u8]) -> Option<&'a FirstWord>
+    ensures { option_map (λ row. row.now) result
+        ≡ find (λ row. bytes_eq word.now row.word.now) rows.now }
+{
+    rows.iter().find(|row| word == row.word)
+}
+
+/// What a word begins as the first of a line inside the block of a scan, or outside.
+pub fn verb_of(word: &[u8], inside: bool) -> Option<&'static Verb>
+    ensures exact { forms_of_verb (option_map (λ verb. verb.now) result)
+        ≡ forms_at word.now (rows_of inside) }
+    ensures small { IfSome result (λ verb. IsSmallVerb verb.now) }
+{
+    let row = find_row(first_words(inside), word)?;
+    Some(&row.verb)
+}
