@@ -4,7 +4,7 @@ use Rattle.std.proofs.lemmas.Bool.{cases_lt, lt-ltb}
 use Rattle.std.specs.Prelude.{⊤}
 use Rattle.oct_key.specs.Block.{block_of}
 use Rattle.oct_key.specs.Voxel.{Voxel, IsInMap, key_at}
-use Rattle.oct_key.specs.Values.{Values}
+use Rattle.oct_key.specs.Values.{Values, SameValues}
 use Rattle.oct_key.specs.declared.point.Point.{Point}
 use Rattle.oct_key.proofs.Blocks.{block_of_in_map}
 use Rattle.oct_key.proofs.Faces.{IsInMap-key_at}
@@ -16,7 +16,6 @@ use Rattle.oct_scan.specs.Outcome.{scan_fault}
 use Rattle.oct_map.specs.Map.{Map, values_of}
 use Rattle.oct_map.specs.declared.fault.MapFault.{MapFault}
 use Rattle.oct_map.specs.declared.fault.MapFault.TheVariants.{BadDepth, Stale, Full}
-use Rattle.oct_tree.specs.Changes.{SameValues}
 use Rattle.oct_values.proofs.Uniform.{same_group_count}
 use Rattle.oct_values.proofs.Largest.{same_depth_value}
 use Rattle.oct_session.specs.History.{History, value_after, is_stale_after}

@@ -18,20 +18,20 @@ use Rattle.oct_session.specs.Setup.{Setup}
 use Rattle.oct_session.specs.Standing.{TakesEffect, HasEffect, IsHeard, StandsBeside, IsBetween}
 use Rattle.oct_session.proofs.Progresses.{after_answered}
 
--- a line outside a block, where memory is wanting for its command
+-- a line outside a block, where memory runs out for its command
 pub effect_unheard : {E : Type 0} (r : Result LineDone E) (o : Setup) (m n : Map) (c : Result Command Refusal) (opened : Option Block) → IsErr r → is_some opened ≡ false →
     ((h : History) → StandsFor o m h → IsSome (reply o h c) × StandsFor o n h) → HasEffect o (λ h. effect_opened o h c opened) m n r
 effect_unheard (Ok x) o m n c opened err none kept = cc
 effect_unheard (Err x) o m n c (Some block) err none kept = cc
 effect_unheard (Err x) o m n c None err none kept = λ h at. let done = kept h at in (inl done.0, done.1)
 
--- a line that closes its block, where memory is wanting for its scan
+-- a line that closes its block, where memory runs out for its scan
 pub effect_unclosed : {E : Type 0} (r : Result LineDone E) (o : Setup) (m n : Map) (number : ℕ) (c : Result Command Refusal) (block : Block) → IsErr r → is_end c ≡ true →
     ((h : History) → StandsFor o m h → IsSome (block_reply o h block) × StandsFor o n h) → HasEffect o (λ h. effect_inside o h number c block) m n r
 effect_unclosed (Ok x) o m n number c block err end kept = cc
 effect_unclosed (Err x) o m n number c block err end kept = λ h at. let done = kept h at in rw end (inl done.0, done.1)
 
--- a line of a block, where memory is wanting for its point
+-- a line of a block, where memory runs out for its point
 pub effect_unkept : {E : Type 0} (r : Result LineDone E) (o : Setup) (m : Map) (number : ℕ) (c : Result Command Refusal) (block : Block) → IsErr r → is_end c ≡ false →
     HasEffect o (λ h. effect_inside o h number c block) m m r
 effect_unkept (Ok x) o m number c block err end = cc
@@ -43,67 +43,67 @@ pub effect_on : {E : Type 0} (r : Result LineDone E) (o : Setup) (m n : Map) (nu
 effect_on r o m n number line c opened block is took = subst (λ x. HasEffect o (λ h. effect o h number line c x) m n r) (sym is) took
 
 -- the command that was read is that of the next line
-read_line : (o : Setup) (m : Map) (s : Session) (p : Progress) (c : Result Command Refusal) → IsBetween o m s p → c ≡ command_on (is_some s.block) (s.answered + 1) s.lines.line →
-    c ≡ next_command p s.lines.line
-read_line o m s p c at read =
-    read ∙ ap (λ n. command_on (is_some s.block) (n + 1) s.lines.line) at.answered ∙ ap (λ (b : Option Block). command_on (is_some b) (p.lines + 1) s.lines.line) at.block
+same_command : (o : Setup) (m : Map) (s : Session) (p : Progress) (c : Result Command Refusal) → IsBetween o m s p → c ≡ command_on (is_some s.block) (s.line_count + 1) s.line.line →
+    c ≡ next_command p s.line.line
+same_command o m s p c at read =
+    read ∙ ap (λ n. command_on (is_some s.block) (n + 1) s.line.line) at.counted ∙ ap (λ (b : Option Block). command_on (is_some b) (p.line_count + 1) s.line.line) at.block
 
 -- and its effect that of the next line
-same_effect : (o : Setup) (m : Map) (s : Session) (p : Progress) (c : Result Command Refusal) → IsBetween o m s p → c ≡ command_on (is_some s.block) (s.answered + 1) s.lines.line →
-    effect o p.history (s.answered + 1) s.lines.line c s.block ≡ effect_of o p s.lines.line
+same_effect : (o : Setup) (m : Map) (s : Session) (p : Progress) (c : Result Command Refusal) → IsBetween o m s p → c ≡ command_on (is_some s.block) (s.line_count + 1) s.line.line →
+    effect o p.history (s.line_count + 1) s.line.line c s.block ≡ effect_of o p s.line.line
 same_effect o m s p c at read =
-    ap (λ x. effect o p.history (s.answered + 1) s.lines.line x s.block) (read_line o m s p c at read)
-    ∙ ap (λ n. effect o p.history (n + 1) s.lines.line (next_command p s.lines.line) s.block) at.answered
-    ∙ ap (effect o p.history (p.lines + 1) s.lines.line (next_command p s.lines.line)) at.block
+    ap (λ x. effect o p.history (s.line_count + 1) s.line.line x s.block) (same_command o m s p c at read)
+    ∙ ap (λ n. effect o p.history (n + 1) s.line.line (next_command p s.line.line) s.block) at.counted
+    ∙ ap (effect o p.history (p.line_count + 1) s.line.line (next_command p s.line.line)) at.block
 
 -- the effect of a line on the block that stood
 pub took_block : (o : Setup) (m n : Map) (s : Session) (c : Result Command Refusal) (block : Option Block) (done : LineDone) → block ≡ s.block →
-    TakesEffect o (λ h. effect o h (s.answered + 1) s.lines.line c block) m n done → TakesEffect o (λ h. effect o h (s.answered + 1) s.lines.line c s.block) m n done
-took_block o m n s c block done is took = subst (λ b. TakesEffect o (λ h. effect o h (s.answered + 1) s.lines.line c b) m n done) is took
+    TakesEffect o (λ h. effect o h (s.line_count + 1) s.line.line c block) m n done → TakesEffect o (λ h. effect o h (s.line_count + 1) s.line.line c s.block) m n done
+took_block o m n s c block done is took = subst (λ b. TakesEffect o (λ h. effect o h (s.line_count + 1) s.line.line c b) m n done) is took
 
 -- the reply to the next line
-pub told_line : (o : Setup) (m n : Map) (s : Session) (p : Progress) (c : Result Command Refusal) (done : LineDone) → IsBetween o m s p → c ≡ command_on (is_some s.block) (s.answered + 1) s.lines.line →
-    TakesEffect o (λ h. effect o h (s.answered + 1) s.lines.line c s.block) m n done → done.reply ≡ (effect_of o p s.lines.line).reply
+pub told_line : (o : Setup) (m n : Map) (s : Session) (p : Progress) (c : Result Command Refusal) (done : LineDone) → IsBetween o m s p → c ≡ command_on (is_some s.block) (s.line_count + 1) s.line.line →
+    TakesEffect o (λ h. effect o h (s.line_count + 1) s.line.line c s.block) m n done → done.reply ≡ (effect_of o p s.line.line).reply
 told_line o m n s p c done at read took = (took p.history at.stands).0 ∙ ap (λ (e : Effect). e.reply) (same_effect o m s p c at read)
 
 -- the map after the next line
 pub stands_line : (o : Setup) (m n : Map) (s : Session) (p : Progress) (c : Result Command Refusal) (done : LineDone) → s.has_quit ≡ false → IsBetween o m s p →
-    c ≡ command_on (is_some s.block) (s.answered + 1) s.lines.line → TakesEffect o (λ h. effect o h (s.answered + 1) s.lines.line c s.block) m n done →
-    StandsFor o n (after_line o p s.lines.line).history
+    c ≡ command_on (is_some s.block) (s.line_count + 1) s.line.line → TakesEffect o (λ h. effect o h (s.line_count + 1) s.line.line c s.block) m n done →
+    StandsFor o n (after_line o p s.line.line).history
 stands_line o m n s p c done running at read took =
-    subst (λ (x : Progress). StandsFor o n x.history) (sym (after_answered o p s.lines.line (sym at.has_quit ∙ running)))
+    subst (λ (x : Progress). StandsFor o n x.history) (sym (after_answered o p s.line.line (sym at.has_quit ∙ running)))
     (subst (λ (e : Effect). StandsFor o n (p.history ++ e.added)) (same_effect o m s p c at read) (took p.history at.stands).2)
 
 -- map and session after the next line
 pub between_line : (o : Setup) (m n : Map) (s t : Session) (p : Progress) (c : Result Command Refusal) (done : LineDone) → s.has_quit ≡ false → IsBetween o m s p →
-    c ≡ command_on (is_some s.block) (s.answered + 1) s.lines.line → TakesEffect o (λ h. effect o h (s.answered + 1) s.lines.line c s.block) m n done →
-    t.answered ≡ s.answered + 1 → t.block ≡ done.block → t.refused ≡ (s.refused || is_refusal done.reply) → t.has_quit ≡ is_quit c → IsBetween o n t (after_line o p s.lines.line)
+    c ≡ command_on (is_some s.block) (s.line_count + 1) s.line.line → TakesEffect o (λ h. effect o h (s.line_count + 1) s.line.line c s.block) m n done →
+    t.line_count ≡ s.line_count + 1 → t.block ≡ done.block → t.refused ≡ (s.refused || is_refusal done.reply) → t.has_quit ≡ is_quit c → IsBetween o n t (after_line o p s.line.line)
 between_line o m n s t p c done running at read took answered block refused quit =
-    let line = s.lines.line in
+    let line = s.line.line in
     let after = after_answered o p line (sym at.has_quit ∙ running) in
     record {
       stands = stands_line o m n s p c done running at read took;
-      answered = answered ∙ ap (λ k. k + 1) at.answered ∙ ap (λ (x : Progress). x.lines) (sym after);
+      counted = answered ∙ ap (λ k. k + 1) at.counted ∙ ap (λ (x : Progress). x.line_count) (sym after);
       block = block ∙ (took p.history at.stands).1 ∙ ap (λ (e : Effect). e.block) (same_effect o m s p c at read) ∙ ap (λ (x : Progress). x.block) (sym after);
       refused = refused ∙ ap (λ b. b || is_refusal done.reply) at.refused ∙ ap (λ x. p.refused || is_refusal x) (told_line o m n s p c done at read took) ∙ ap (λ (x : Progress). x.refused) (sym after);
-      has_quit = quit ∙ ap is_quit (read_line o m s p c at read) ∙ ap (λ (x : Progress). x.has_quit) (sym after);
+      has_quit = quit ∙ ap is_quit (same_command o m s p c at read) ∙ ap (λ (x : Progress). x.has_quit) (sym after);
     }
 
--- where memory is wanting for the command, nothing of the line is done
+-- where memory runs out for the command, nothing of the line is done
 pub before_err : {T E : Type 0} (x : Result T E) (o : Setup) (m n : Map) (s : Session) (c : Result Command Refusal) (block : Option Block) → block ≡ s.block →
-    c ≡ command_on (is_some s.block) (s.answered + 1) s.lines.line →
-    ((h : History) → StandsFor o m h → IsHeard (effect o h (s.answered + 1) s.lines.line c block) × StandsFor o n h) →
-    OnErr x ((p : Progress) → IsBetween o m s p → StandsBeside o n p s.lines.line)
+    c ≡ command_on (is_some s.block) (s.line_count + 1) s.line.line →
+    ((h : History) → StandsFor o m h → IsHeard (effect o h (s.line_count + 1) s.line.line c block) × StandsFor o n h) →
+    OnErr x ((p : Progress) → IsBetween o m s p → StandsBeside o n p s.line.line)
 before_err (Ok x) o m n s c block is read stands = tt
 before_err (Err x) o m n s c block is read stands = λ p at.
     let done = stands p.history at.stands in (
-      subst (λ (e : Effect). IsHeard e) (ap (effect o p.history (s.answered + 1) s.lines.line c) is ∙ same_effect o m s p c at read) done.0,
+      subst (λ (e : Effect). IsHeard e) (ap (effect o p.history (s.line_count + 1) s.line.line c) is ∙ same_effect o m s p c at read) done.0,
       inl done.1,
     )
 
 -- where it is wanting for the reply, the command is done
-pub after_err : {T E : Type 0} (x : Result T E) (o : Setup) (m n : Map) (s : Session) (c : Result Command Refusal) (done : LineDone) → s.has_quit ≡ false → c ≡ command_on (is_some s.block) (s.answered + 1) s.lines.line →
-    TakesEffect o (λ h. effect o h (s.answered + 1) s.lines.line c s.block) m n done → IsSome done.reply → OnErr x ((p : Progress) → IsBetween o m s p → StandsBeside o n p s.lines.line)
+pub after_err : {T E : Type 0} (x : Result T E) (o : Setup) (m n : Map) (s : Session) (c : Result Command Refusal) (done : LineDone) → s.has_quit ≡ false → c ≡ command_on (is_some s.block) (s.line_count + 1) s.line.line →
+    TakesEffect o (λ h. effect o h (s.line_count + 1) s.line.line c s.block) m n done → IsSome done.reply → OnErr x ((p : Progress) → IsBetween o m s p → StandsBeside o n p s.line.line)
 after_err (Ok x) o m n s c done running read took some = tt
 after_err (Err x) o m n s c done running read took some = λ p at. (
   inl (subst (λ (r : Option Reply). IsSome r) (told_line o m n s p c done at read took) some),

@@ -14,16 +14,17 @@ use Rattle.oct_session.specs.declared.options.Status.{Status}
 use Rattle.oct_session.specs.declared.options.Status.TheVariants as status
 use Rattle.oct_session.specs.declared.options.Stop.{Stop}
 use Rattle.oct_session.specs.declared.options.Stop.TheVariants.{TooLong, ReadFault, WriteFault, Memory}
+use Rattle.oct_session.specs.declared.service.TheConstants.{MOST_READ}
 use Rattle.oct_session.specs.declared.session.Session.{Session}
-use Rattle.oct_session.specs.Ending.{HasTaken, HasTakenAtMost, IsReadToEnd, MayEnd, IsWhole, IsBegun, replies_within, has_quit_within, most_read}
+use Rattle.oct_session.specs.Ending.{HasTaken, HasStopped, HasReplied, IsReadToEnd, MayEnd, IsWhole, IsBegun, replies_within, has_quit_within}
 use Rattle.oct_session.specs.Leaving.{StandsFor, IsHalted, HasHalted, Leaves}
 use Rattle.oct_session.specs.Session.{Progress, Answer, start, after_line, answered, progress, lines_of, last_progress, session, finished, cut_short, closed, is_too_long, status_at_end}
 use Rattle.oct_session.specs.Setup.{Setup}
-use Rattle.oct_session.specs.Standing.{StopsAtEnd, HasReached, IsAt, HasServed, IsThrough, HasEndedAs, StopsIn}
+use Rattle.oct_session.specs.Standing.{Takes, KeepsReplies, StopsAtEnd, HasReached, IsAt, HasServed, IsThrough, HasEndedAs, StopsIn}
 use Rattle.oct_session.specs.Stops.{status_of, IsSinkStop}
-use Rattle.oct_session.proofs.Progresses.{progress_grows, progress_behind_quit, no_quit_before}
+use Rattle.oct_session.proofs.Progresses.{progress_grows, progress_behind_quit, no_quit_before, replied_first}
 use Rattle.oct_session.proofs.Halting.{halted_more, halted_begun, between_begun, closed_quit, closed_history, closed_files, closed_grows}
-use Rattle.oct_session.proofs.Begun.{begun_more, begun_whole}
+use Rattle.oct_session.proofs.Prefixes.{begun_more, begun_whole}
 
 -- the lines of a script that isn't too long
 lines_short : (o : Setup) (bytes : List ℕ) → length bytes ≤ o.max_bytes → lines_of o bytes ≡ all_lines bytes
@@ -127,7 +128,7 @@ halted_session o files bytes front back old new m parts few halted =
     let s = lines_within o bytes front back parts few in inl (subst (λ x. IsHalted o files x old new m) (sym s.1) (halted_more o files (ended_lines front) s.0 old new m halted))
 
 halted_as : (o : Setup) (files : Files) (bytes : List ℕ) (left w u : Option (List ℕ)) (m : Map) (stop : Stop) → IsSinkStop stop → HasHalted o files bytes w u m →
-    IsBegun (session o files bytes).text w u → HasTakenAtMost (o.max_bytes + 1) bytes left → HasEndedAs o files bytes left w u m (status_of stop)
+    IsBegun (session o files bytes).text w u → HasStopped o files bytes left w u → HasEndedAs o files bytes left w u m (status_of stop)
 halted_as o files bytes left w u m WriteFault only halted begun input = record { answer = (begun, input); leaves = halted }
 halted_as o files bytes left w u m Memory only halted begun input = record { answer = (begun, input); leaves = halted }
 halted_as o files bytes left w u m TooLong only halted begun input = absurd only
@@ -140,20 +141,25 @@ halted_text o files bytes w u m (inr end) =
     subst (λ x. IsBegun x w u) (sym (ap (λ (a : Answer). a.text) (session_whole o files bytes end.0)))
     (between_begun o (last_progress o files bytes) (closed (last_progress o files bytes)) w u m end.1)
 
--- how a session ends that was halted by its sink, or by want of memory
+-- how a session ends that was halted by its sink, or because memory ran out
 halted_ends : (o : Setup) (files : Files) (bytes : List ℕ) (left w u : Option (List ℕ)) (m : Map) (stop : Stop) → IsSinkStop stop → HasHalted o files bytes w u m →
-    HasTakenAtMost (o.max_bytes + 1) bytes left → HasEndedAs o files bytes left w u m (status_of stop)
+    HasStopped o files bytes left w u → HasEndedAs o files bytes left w u m (status_of stop)
 halted_ends o files bytes left w u m stop only halted input =
     halted_as o files bytes left w u m stop only halted (halted_text o files bytes w u m halted) input
 
 -- map and session as they begin
 pub record IsNew (o : Setup) (m : Map) (s : Session) : Type 0 where
   pub stands : StandsFor o m []
-  pub line : s.lines ≡ unread
-  pub answered : s.answered ≡ 0
+  pub line : s.line ≡ unread
+  pub counted : s.line_count ≡ 0
   pub block : s.block ≡ None
   pub refused : s.refused ≡ false
   pub running : s.has_quit ≡ false
+
+-- a new session with the map that it is lent
+pub begins : {o : Setup} {m : Map} {s : Session} → StandsFor o m [] → s.line ≡ unread → s.line_count ≡ 0 → s.block ≡ None → s.refused ≡ false → s.has_quit ≡ false → IsNew o m s
+begins stands line counted block refused running =
+    record { stands = stands; line = line; counted = counted; block = block; refused = refused; running = running }
 
 -- before the first read
 pub serving_start : (o : Setup) (files : Files) (bytes : List ℕ) (w : Option (List ℕ)) (m : Map) (s : Session) → IsNew o m s → HasServed o files bytes (Some bytes) w w m s 0
@@ -161,7 +167,7 @@ serving_start o files bytes w m s new = record {
   input = record { within = omega arith; rest = refl };
   at = record {
     reached = record {
-      between = record { stands = new.stands; answered = new.answered; block = new.block; refused = new.refused; has_quit = new.running };
+      between = record { stands = new.stands; counted = new.counted; block = new.block; refused = new.refused; has_quit = new.running };
       written = appended_nil w;
     };
     line = λ goes_on. record { line = ap (λ (x : LineSoFar). x.line) new.line; unended = ap (λ (x : LineSoFar). x.has_ended) new.line };
@@ -187,7 +193,7 @@ pub record IsRead (o : Setup) (buffer piece : List ℕ) (left after : Option (Li
   pub few : taken ≤ o.max_bytes
   pub size : room ≡ o.max_bytes - taken
   pub most : n ≤ room + 1
-  pub at_once : n ≤ most_read
+  pub at_once : n ≤ MOST_READ
   pub moved : after ≡ dropped n left
   pub same : IfSome left (λ l. take n buffer ≡ take n l)
   pub enough : IfSome left (λ l. n ≤ length l)
@@ -196,7 +202,7 @@ pub record IsRead (o : Setup) (buffer piece : List ℕ) (left after : Option (Li
 
 -- a read whose bytes were all taken
 pub serving_more : (o : Setup) (files : Files) (bytes buffer piece : List ℕ) (left after w v u : Option (List ℕ)) (l m : Map) (s t : Session) (taken n room : ℕ) → IsRead o buffer piece left after taken n room → length piece ≤ room →
-    ((files : Files) (w : Option (List ℕ)) (bytes : List ℕ) → IsAt o files w v l s bytes → IsAt o files w u m t (bytes ++ take room piece)) →
+    (Takes o v u l m s t (take room piece)) →
     HasServed o files bytes left w v l s taken → HasServed o files bytes after w u m t (taken + n)
 serving_more o files bytes buffer piece left after w v u l m s t taken n room read fits goes at =
     let p : piece ≡ take n (drop taken bytes) = piece_is bytes buffer piece left taken n at.input read.same read.is in
@@ -226,7 +232,7 @@ ends_read_fault o files bytes left after w v m s taken same few running at =
       leaves = record { taken = taken; input = input; stands = at.at.reached.between.stands };
     }
 
--- a script within a read: what was taken before, what of the piece may be taken, and what is behind it
+-- a script within a read: what was taken before, what of the piece may be taken, and what is after it
 parts_within : (bytes piece : List ℕ) (taken n room : ℕ) → piece ≡ take n (drop taken bytes) → bytes ≡ (take taken bytes ++ take room piece) ++ (drop room piece ++ drop n (drop taken bytes))
 parts_within bytes piece taken n room is =
     sym (take-append-drop taken bytes)
@@ -248,7 +254,7 @@ counted bytes piece taken n room most few size within is =
 
 -- a `quit` line in what a read gave
 serving_quit : (o : Setup) (files : Files) (bytes buffer piece : List ℕ) (left after w v u : Option (List ℕ)) (l m : Map) (s t : Session) (taken n room : ℕ) → IsRead o buffer piece left after taken n room → s.has_quit ≡ false → t.has_quit ≡ true →
-    ((files : Files) (w : Option (List ℕ)) (bytes : List ℕ) → IsAt o files w v l s bytes → IsAt o files w u m t (bytes ++ take room piece)) →
+    (Takes o v u l m s t (take room piece)) →
     HasServed o files bytes left w v l s taken → IsThrough o files bytes after w u m t
 serving_quit o files bytes buffer piece left after w v u l m s t taken n room read running quit goes at =
     let p : piece ≡ take n (drop taken bytes) = piece_is bytes buffer piece left taken n at.input read.same read.is in
@@ -266,20 +272,25 @@ serving_quit o files bytes buffer piece left after w v u l m s t taken n room re
         input = taken_more bytes left after taken n at.input read.moved read.enough;
         end = inr (record {
           quits = ap (has_quit_within o files) (counted bytes piece taken n room o.max_bytes read.few read.size at.input.within p) ∙ ends;
-          at_once = no_quit_before o files bytes (taken + n - most_read) taken (omega (arith, read.at_once)) (sym at.at.reached.between.has_quit ∙ running);
+          at_once = no_quit_before o files bytes (taken + n - MOST_READ) taken (omega (arith, read.at_once)) (sym at.at.reached.between.has_quit ∙ running);
         });
       };
     }
 
 -- a halt in what of the piece may be taken
 stops_halted : (o : Setup) (files : Files) (bytes buffer piece : List ℕ) (left after w u : Option (List ℕ)) (m : Map) (taken n room : ℕ) (stop : Stop) → IsSinkStop stop → IsRead o buffer piece left after taken n room →
-    HasTaken taken bytes left → IsHalted o files (ended_lines (take taken bytes ++ take room piece)) w u m → HasEndedAs o files bytes after w u m (status_of stop)
-stops_halted o files bytes buffer piece left after w u m taken n room stop only read input halted =
+    HasTaken taken bytes left → HasReplied o files (take taken bytes) w u → IsHalted o files (ended_lines (take taken bytes ++ take room piece)) w u m → HasEndedAs o files bytes after w u m (status_of stop)
+stops_halted o files bytes buffer piece left after w u m taken n room stop only read input replied halted =
     let p : piece ≡ take n (drop taken bytes) = piece_is bytes buffer piece left taken n input read.same read.is in
     halted_ends o files bytes after w u m stop only
     (halted_session o files bytes (take taken bytes ++ take room piece) (drop room piece ++ drop n (drop taken bytes)) w u m (parts_within bytes piece taken n room p)
     (few_within bytes piece taken room o.max_bytes read.few read.size) halted)
-    (record { taken = taken + n; few = omega (arith, read.few, read.size, read.most); input = taken_more bytes left after taken n input read.moved read.enough })
+    (record {
+      taken = taken + n;
+      few = omega (arith, read.few, read.size, read.most);
+      input = taken_more bytes left after taken n input read.moved read.enough;
+      replied = replied_first o files bytes (taken + n - MOST_READ) taken w u (omega (arith, read.at_once)) replied;
+    })
 
 -- more bytes than the script may have
 stops_long : (o : Setup) (files : Files) (bytes buffer piece : List ℕ) (left after w u : Option (List ℕ)) (m : Map) (t : Session) (taken n room : ℕ) → IsRead o buffer piece left after taken n room → room < length piece → t.has_quit ≡ false →
@@ -307,14 +318,15 @@ stops_long o files bytes buffer piece left after w u m t taken n room read more 
 -- a stop within what a read gave
 ends_stop : (o : Setup) (files : Files) (bytes buffer piece : List ℕ) (left after w v u : Option (List ℕ)) (l m : Map) (s t : Session) (taken n room : ℕ) (stop : Stop) → IsRead o buffer piece left after taken n room →
     ((files : Files) (w : Option (List ℕ)) (bytes : List ℕ) → IsAt o files w v l s bytes → StopsIn o files w u m t bytes piece room stop) →
+    (KeepsReplies o v u l s) →
     HasServed o files bytes left w v l s taken → HasEndedAs o files bytes after w u m (status_of stop)
-ends_stop o files bytes buffer piece left after w v u l m s t taken n room TooLong read stops at =
+ends_stop o files bytes buffer piece left after w v u l m s t taken n room TooLong read stops replied at =
     let p = stops files w (take taken bytes) at.at in stops_long o files bytes buffer piece left after w u m t taken n room read p.0 p.1 at.input p.2
-ends_stop o files bytes buffer piece left after w v u l m s t taken n room WriteFault read stops at =
-    stops_halted o files bytes buffer piece left after w u m taken n room WriteFault tt read at.input (stops files w (take taken bytes) at.at)
-ends_stop o files bytes buffer piece left after w v u l m s t taken n room Memory read stops at =
-    stops_halted o files bytes buffer piece left after w u m taken n room Memory tt read at.input (stops files w (take taken bytes) at.at)
-ends_stop o files bytes buffer piece left after w v u l m s t taken n room ReadFault read stops at = absurd (stops files w (take taken bytes) at.at)
+ends_stop o files bytes buffer piece left after w v u l m s t taken n room WriteFault read stops replied at =
+    stops_halted o files bytes buffer piece left after w u m taken n room WriteFault tt read at.input (replied files w (take taken bytes) at.at) (stops files w (take taken bytes) at.at)
+ends_stop o files bytes buffer piece left after w v u l m s t taken n room Memory read stops replied at =
+    stops_halted o files bytes buffer piece left after w u m taken n room Memory tt read at.input (replied files w (take taken bytes) at.at) (stops files w (take taken bytes) at.at)
+ends_stop o files bytes buffer piece left after w v u l m s t taken n room ReadFault read stops replied at = absurd (stops files w (take taken bytes) at.at)
 
 -- where nothing is left, all bytes were taken
 all_taken : (bytes : List ℕ) (left : Option (List ℕ)) (taken : ℕ) → HasTaken taken bytes left → IfSome left (λ l. l ≡ []) → length bytes ≡ taken
@@ -337,7 +349,7 @@ through_end o files bytes left w v u l m s t taken few none goes at =
       end = record { taken = taken; few = omega arith; input = at.input; end = inl (at.input.rest ∙ ap Some e) };
     }
 
--- a halt at the last line, or at the end behind it
+-- a halt at the last line, or at the end after it
 stopped_end : (o : Setup) (files : Files) (bytes : List ℕ) (w u : Option (List ℕ)) (m : Map) → length bytes ≤ o.max_bytes → StopsAtEnd o files (lines_of o bytes) w u m → HasHalted o files bytes w u m
 stopped_end o files bytes w u m short (inl halted) = inl halted
 stopped_end o files bytes w u m short (inr end) = inr (le-ltb o.max_bytes (length bytes) short, end)
@@ -345,15 +357,21 @@ stopped_end o files bytes w u m short (inr end) = inr (le-ltb o.max_bytes (lengt
 -- a stop in the answer to the last line
 ends_last : (o : Setup) (files : Files) (bytes : List ℕ) (left w v u : Option (List ℕ)) (l m : Map) (s : Session) (taken : ℕ) (stop : Stop) → taken ≤ o.max_bytes → IfSome left (λ l. l ≡ []) → IsSinkStop stop →
     ((files : Files) (w : Option (List ℕ)) (bytes : List ℕ) → IsAt o files w v l s bytes → StopsAtEnd o files (all_lines bytes) w u m) →
+    (KeepsReplies o v u l s) →
     HasServed o files bytes left w v l s taken → HasEndedAs o files bytes left w u m (status_of stop)
-ends_last o files bytes left w v u l m s taken stop few none only halts at =
+ends_last o files bytes left w v u l m s taken stop few none only halts replied at =
     let size : length bytes ≡ taken = all_taken bytes left taken at.input none in
     let whole : take taken bytes ≡ bytes = take_all taken bytes (omega arith) in
     let short : length bytes ≤ o.max_bytes = omega arith in
     halted_ends o files bytes left w u m stop only
     (stopped_end o files bytes w u m short
     (subst (λ x. StopsAtEnd o files x w u m) (ap all_lines whole ∙ sym (lines_short o bytes short)) (halts files w (take taken bytes) at.at)))
-    (record { taken = taken; few = omega arith; input = at.input })
+    (record {
+      taken = taken;
+      few = omega arith;
+      input = at.input;
+      replied = replied_first o files bytes (taken - MOST_READ) taken w u (omega arith) (replied files w (take taken bytes) at.at);
+    })
 
 ended_as : (o : Setup) (files : Files) (bytes : List ℕ) (left w v : Option (List ℕ)) (m : Map) (refused : Bool) (status : Status) → status ≡ status_at_end refused →
     (session o files bytes).status ≡ status_at_end refused → v ≡ appended w (session o files bytes).text → IsReadToEnd o files bytes left → StandsFor o m (last_progress o files bytes).history →
@@ -382,25 +400,26 @@ fault_ends (Err stop) o left after v m s taken is same few running = λ files by
 pub stop_ends : {T : Type 0} (r : Result T Stop) (stop : Stop) (o : Setup) (buffer piece : List ℕ) (left after v u : Option (List ℕ)) (l m : Map) (s t : Session) (taken n room : ℕ) → IsErrAnd r (λ x. x ≡ stop) →
     IsRead o buffer piece left after taken n room →
     ((files : Files) (w : Option (List ℕ)) (bytes : List ℕ) → IsAt o files w v l s bytes → StopsIn o files w u m t bytes piece room stop) →
+    (KeepsReplies o v u l s) →
     IfErr r (λ x. (files : Files) (bytes : List ℕ) (w : Option (List ℕ)) → HasServed o files bytes left w v l s taken → HasEndedAs o files bytes after w u m (status_of x))
-stop_ends (Ok x) stop o buffer piece left after v u l m s t taken n room is read stops = tt
-stop_ends (Err x) stop o buffer piece left after v u l m s t taken n room is read stops = λ files bytes w at.
-    subst (λ y. HasEndedAs o files bytes after w u m (status_of y)) (sym is) (ends_stop o files bytes buffer piece left after w v u l m s t taken n room stop read stops at)
+stop_ends (Ok x) stop o buffer piece left after v u l m s t taken n room is read stops replied = tt
+stop_ends (Err x) stop o buffer piece left after v u l m s t taken n room is read stops replied = λ files bytes w at.
+    subst (λ y. HasEndedAs o files bytes after w u m (status_of y)) (sym is) (ends_stop o files bytes buffer piece left after w v u l m s t taken n room stop read stops replied at)
 
--- a call that goes on behind a read
+-- a call that goes on after a read
 pub goes_on : (o : Setup) (buffer piece : List ℕ) (left after v u : Option (List ℕ)) (l m : Map) (s t : Session) (taken n room : ℕ) → IsRead o buffer piece left after taken n room → (t.has_quit ≡ false → length piece ≤ room) →
-    ((files : Files) (w : Option (List ℕ)) (bytes : List ℕ) → IsAt o files w v l s bytes → IsAt o files w u m t (bytes ++ take room piece)) →
+    (Takes o v u l m s t (take room piece)) →
     t.has_quit ≡ false → (files : Files) (bytes : List ℕ) (w : Option (List ℕ)) → HasServed o files bytes left w v l s taken → HasServed o files bytes after w u m t (taken + n)
 goes_on o buffer piece left after v u l m s t taken n room read fits goes running files bytes w at =
     serving_more o files bytes buffer piece left after w v u l m s t taken n room read (fits running) goes at
 
 -- a call that meets a `quit` line in what a read gave
 pub quits_in : (o : Setup) (buffer piece : List ℕ) (left after v u : Option (List ℕ)) (l m : Map) (s t : Session) (taken n room : ℕ) → IsRead o buffer piece left after taken n room → s.has_quit ≡ false →
-    ((files : Files) (w : Option (List ℕ)) (bytes : List ℕ) → IsAt o files w v l s bytes → IsAt o files w u m t (bytes ++ take room piece)) →
+    (Takes o v u l m s t (take room piece)) →
     t.has_quit ≡ true → (files : Files) (bytes : List ℕ) (w : Option (List ℕ)) → HasServed o files bytes left w v l s taken → IsThrough o files bytes after w u m t
 quits_in o buffer piece left after v u l m s t taken n room read running goes quit files bytes w at = serving_quit o files bytes buffer piece left after w v u l m s t taken n room read running quit goes at
 
--- a read that gives up, behind reads that didn't
+-- a read that gives up, after reads that didn't
 pub after_stop : {T : Type 0} (r : Result T Stop) (stop : Stop) (o : Setup) (left after end a v u : Option (List ℕ)) (k l m : Map) (s t : Session) (taken : ℕ) → IsErrAnd r (λ x. x ≡ stop) →
     ((files : Files) (bytes : List ℕ) (w : Option (List ℕ)) → HasServed o files bytes left w a k s 0 → HasServed o files bytes after w v l t taken) →
     ((files : Files) (bytes : List ℕ) (w : Option (List ℕ)) → HasServed o files bytes after w v l t taken → HasEndedAs o files bytes end w u m (status_of stop)) →
@@ -421,9 +440,10 @@ last_read (Err x) o left after a v u k l m s t e taken few none goes answers = t
 pub last_stop : (r : Result (Unit {0}) Stop) (o : Setup) (left after a v u : Option (List ℕ)) (k l m : Map) (s t : Session) (taken : ℕ) → taken ≤ o.max_bytes → IfSome after (λ l. l ≡ []) →
     ((files : Files) (bytes : List ℕ) (w : Option (List ℕ)) → HasServed o files bytes left w a k s 0 → HasServed o files bytes after w v l t taken) → IfErr r IsSinkStop →
     OnErr r ((files : Files) (w : Option (List ℕ)) (bytes : List ℕ) → IsAt o files w v l t bytes → StopsAtEnd o files (all_lines bytes) w u m) →
+    OnErr r (KeepsReplies o v u l t) →
     IfErr r (λ stop. (files : Files) (bytes : List ℕ) (w : Option (List ℕ)) → HasServed o files bytes left w a k s 0 → HasEndedAs o files bytes after w u m (status_of stop))
-last_stop (Ok x) o left after a v u k l m s t taken few none goes only halts = tt
-last_stop (Err stop) o left after a v u k l m s t taken few none goes only halts = λ files bytes w at. ends_last o files bytes after w v u l m t taken stop few none only halts (goes files bytes w at)
+last_stop (Ok x) o left after a v u k l m s t taken few none goes only halts replied = tt
+last_stop (Err stop) o left after a v u k l m s t taken few none goes only halts replied = λ files bytes w at. ends_last o files bytes after w v u l m t taken stop few none only halts replied (goes files bytes w at)
 
 -- a session that has read its script
 pub serve_read : (o : Setup) (left after v u : Option (List ℕ)) (l m : Map) (s t : Session) (status : Status) → IsNew o l s → status ≡ status_at_end t.refused →

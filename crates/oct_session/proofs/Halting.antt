@@ -11,14 +11,14 @@ use Rattle.oct_script.specs.declared.reply.Reply.{Reply}
 use Rattle.oct_script.specs.Replies.{text_of, is_refusal}
 use Rattle.oct_script.proofs.Cuts.{ended_lines-append}
 use Rattle.oct_session.specs.declared.session.Session.{Session}
-use Rattle.oct_session.specs.Ending.{IsBegun}
+use Rattle.oct_session.specs.Ending.{IsBegun, replies_within, HasReplied}
 use Rattle.oct_session.specs.Leaving.{StandsFor, IsHaltedBetween, IsHalted}
 use Rattle.oct_session.specs.Session.{Progress, effect_of, after_line, progress, ended, closed}
 use Rattle.oct_session.specs.ScanBlock.{end_reply}
 use Rattle.oct_session.specs.Setup.{Setup}
 use Rattle.oct_session.specs.Standing.{IsHeard, StandsBeside, IsBetween, HasReached}
-use Rattle.oct_session.proofs.Begun.{begun_more}
-use Rattle.oct_session.proofs.Heard.{text_some}
+use Rattle.oct_session.proofs.Prefixes.{begun_more}
+use Rattle.oct_session.proofs.NonemptyReplies.{text_some}
 use Rattle.oct_session.proofs.Progresses.{progress_push, progress_grows, after_answered}
 
 -- what was to be written on the way was written in part
@@ -52,37 +52,37 @@ halted_untold o w v m n s p q text running at beside is heard = record {
 }
 
 -- what a line writes
-text_line : (o : Setup) (m : Map) (s : Session) (p : Progress) → s.has_quit ≡ false → IsBetween o m s p → (after_line o p s.lines.line).text ≡ p.text ++ text_of (effect_of o p s.lines.line).reply
-text_line o m s p running at = ap (λ (x : Progress). x.text) (after_answered o p s.lines.line (sym at.has_quit ∙ running))
+text_line : (o : Setup) (m : Map) (s : Session) (p : Progress) → s.has_quit ≡ false → IsBetween o m s p → (after_line o p s.line.line).text ≡ p.text ++ text_of (effect_of o p s.line.line).reply
+text_line o m s p running at = ap (λ (x : Progress). x.text) (after_answered o p s.line.line (sym at.has_quit ∙ running))
 
--- a line that is heard has a text, or a block is open behind it
+-- a line that is heard has a text, or a block is open after it
 heard_line : (o : Setup) (p : Progress) (line : Line) → p.has_quit ≡ false → IsHeard (effect_of o p line) → (0 < length (text_of (effect_of o p line).reply)) ⊎ IsSome (after_line o p line).block
 heard_line o p line running (inl some) = inl (text_some (effect_of o p line).reply some)
 heard_line o p line running (inr some) = inr (subst (λ (x : Progress). IsSome x.block) (sym (after_answered o p line running)) some)
 
 -- a call that gives up before anything of the reply is written
 pub untold_err : {T E : Type 0} (r : Result T E) (o : Setup) (v : Option (List ℕ)) (m n : Map) (s : Session) → s.has_quit ≡ false →
-    ((p : Progress) → IsBetween o m s p → StandsBeside o n p s.lines.line) →
-    OnErr r ((w : Option (List ℕ)) (p : Progress) → HasReached o w v m s p → IsHaltedBetween o p (after_line o p s.lines.line) w v n)
+    ((p : Progress) → IsBetween o m s p → StandsBeside o n p s.line.line) →
+    OnErr r ((w : Option (List ℕ)) (p : Progress) → HasReached o w v m s p → IsHaltedBetween o p (after_line o p s.line.line) w v n)
 untold_err (Ok x) o v m n s running beside = tt
 untold_err (Err x) o v m n s running beside = λ w p at.
     let b = beside p at.between in
-    halted_untold o w v m n s p (after_line o p s.lines.line) _ running at b.1 (text_line o m s p running at.between) (heard_line o p s.lines.line (sym at.between.has_quit ∙ running) b.0)
+    halted_untold o w v m n s p (after_line o p s.line.line) _ running at b.1 (text_line o m s p running at.between) (heard_line o p s.line.line (sym at.between.has_quit ∙ running) b.0)
 
 -- a call that gives up when a part of the reply is written
 pub part_err : {T E : Type 0} (r : Result T E) (o : Setup) (v u : Option (List ℕ)) (m n : Map) (s t : Session) (text : List ℕ) (k : ℕ) → s.has_quit ≡ false →
-    ((p : Progress) → IsBetween o m s p → IsBetween o n t (after_line o p s.lines.line)) → ((p : Progress) → IsBetween o m s p → text ≡ text_of (effect_of o p s.lines.line).reply) → k < length text → u ≡ appended v (take k text) →
-    OnErr r ((w : Option (List ℕ)) (p : Progress) → HasReached o w v m s p → IsHaltedBetween o p (after_line o p s.lines.line) w u n)
+    ((p : Progress) → IsBetween o m s p → IsBetween o n t (after_line o p s.line.line)) → ((p : Progress) → IsBetween o m s p → text ≡ text_of (effect_of o p s.line.line).reply) → k < length text → u ≡ appended v (take k text) →
+    OnErr r ((w : Option (List ℕ)) (p : Progress) → HasReached o w v m s p → IsHaltedBetween o p (after_line o p s.line.line) w u n)
 part_err (Ok x) o v u m n s t text k running between same less written = tt
 part_err (Err x) o v u m n s t text k running between same less written = λ w p at.
-    halted_part o w v u m n s p (after_line o p s.lines.line) text k running at (between p at.between).stands
+    halted_part o w v u m n s p (after_line o p s.line.line) text k running at (between p at.between).stands
     (text_line o m s p running at.between ∙ ap (λ x. p.text ++ x) (sym (same p at.between))) less written
 
 -- the end of a script whose session goes on
 pub closed_ended : (p : Progress) → p.has_quit ≡ false → closed p ≡ ended p
 closed_ended p running = rw running refl
 
--- the end of a script has no effect behind a `quit`
+-- the end of a script has no effect after a `quit`
 pub closed_quit : (p : Progress) → p.has_quit ≡ true → closed p ≡ p
 closed_quit p quit = rw quit refl
 
@@ -93,7 +93,7 @@ closed_history p = elim p.has_quit as (λ v. (cond v p (ended p)).history ≡ p.
 pub closed_files : (p : Progress) → (closed p).files ≡ p.files
 closed_files p = elim p.has_quit as (λ v. (cond v p (ended p)).files ≡ p.files) [ true ↦ refl | false ↦ refl ]
 
--- it may write more behind the replies
+-- it may write more after the replies
 pub closed_grows : (p : Progress) → (more : List ℕ) × ((closed p).text ≡ p.text ++ more)
 closed_grows p = elim p.has_quit as (λ v. (more : List ℕ) × ((cond v p (ended p)).text ≡ p.text ++ more)) [
   | true ↦ ([], sym (append-nil p.text))
@@ -102,13 +102,13 @@ closed_grows p = elim p.has_quit as (λ v. (more : List ℕ) × ((cond v p (ende
 
 -- the end of the script, answered whole
 pub reached_end : (o : Setup) (w v u : Option (List ℕ)) (m : Map) (s t : Session) (p : Progress) (r : Option Reply) (text : List ℕ) → s.has_quit ≡ false → HasReached o w v m s p → r ≡ end_reply s.block →
-    text ≡ text_of r → u ≡ appended v text → t.answered ≡ s.answered → t.block ≡ None → t.refused ≡ (s.refused || is_refusal r) → t.has_quit ≡ s.has_quit → HasReached o w u m t (closed p)
+    text ≡ text_of r → u ≡ appended v text → t.line_count ≡ s.line_count → t.block ≡ None → t.refused ≡ (s.refused || is_refusal r) → t.has_quit ≡ s.has_quit → HasReached o w u m t (closed p)
 reached_end o w v u m s t p r text running at is told written answered block refused quit =
     let same : r ≡ end_reply p.block = is ∙ ap end_reply at.between.block in
     subst (HasReached o w u m t) (sym (closed_ended p (sym at.between.has_quit ∙ running))) (record {
       between = record {
         stands = at.between.stands;
-        answered = answered ∙ at.between.answered;
+        counted = answered ∙ at.between.counted;
         block = block;
         refused = refused ∙ ap (λ b. b || is_refusal r) at.between.refused ∙ ap (λ x. p.refused || is_refusal x) same;
         has_quit = quit ∙ at.between.has_quit;
@@ -116,7 +116,7 @@ reached_end o w v u m s t p r text running at is told written answered block ref
       written = written ∙ ap (λ x. appended x text) at.written ∙ appended_twice w p.text text ∙ ap (λ x. appended w (p.text ++ x)) (told ∙ ap text_of same);
     })
 
--- behind a `quit` the end of the script is answered with the last line
+-- after a `quit` the end of the script is answered with the last line
 pub reached_quit : (o : Setup) (w v : Option (List ℕ)) (m : Map) (s : Session) (p : Progress) → s.has_quit ≡ true → HasReached o w v m s p → HasReached o w v m s (closed p)
 reached_quit o w v m s p quit at = subst (HasReached o w v m s) (sym (closed_quit p (sym at.between.has_quit ∙ quit))) at
 
@@ -125,7 +125,7 @@ text_end : (o : Setup) (m : Map) (s : Session) (p : Progress) (r : Option Reply)
 text_end o m s p r running at is =
     ap (λ (x : Progress). x.text) (closed_ended p (sym at.has_quit ∙ running)) ∙ ap (λ x. p.text ++ text_of x) (sym (is ∙ ap end_reply at.block))
 
--- the map stands for the same behind the end of the script
+-- the map stands for the same after the end of the script
 stands_end : (o : Setup) (m : Map) (p : Progress) → StandsFor o m p.history → StandsFor o m (closed p).history
 stands_end o m p at = subst (λ h. StandsFor o m h) (sym (closed_history p)) at
 
@@ -148,7 +148,7 @@ end_part_err (Err x) v u s r text k running is told less written = λ o m w p at
 pub halted_last : (o : Setup) (files : Files) (lines : List Line) (line : Line) (w v : Option (List ℕ)) (m : Map) → IsHaltedBetween o (progress o files lines) (after_line o (progress o files lines) line) w v m → IsHalted o files (lines ++ line ∷ []) w v m
 halted_last o files lines line w v m at = record { before = lines; line = line; behind = []; split = refl; at = at }
 
--- more lines behind them
+-- more lines after them
 pub halted_more : (o : Setup) (files : Files) (lines more : List Line) (w v : Option (List ℕ)) (m : Map) → IsHalted o files lines w v m → IsHalted o files (lines ++ more) w v m
 halted_more o files lines more w v m h = record {
   before = h.before;
@@ -158,7 +158,7 @@ halted_more o files lines more w v m h = record {
   at = h.at;
 }
 
--- more bytes behind them
+-- more bytes after them
 pub halted_bytes : (o : Setup) (files : Files) (bytes more : List ℕ) (w v : Option (List ℕ)) (m : Map) → IsHalted o files (ended_lines bytes) w v m → IsHalted o files (ended_lines (bytes ++ more)) w v m
 halted_bytes o files bytes more w v m h =
     let s = ended_lines-append bytes more in subst (λ x. IsHalted o files x w v m) (sym s.1) (halted_more o files (ended_lines bytes) s.0 w v m h)
@@ -176,3 +176,11 @@ halted_begun o files lines w v m h =
     let begun : IsBegun (progress o files (h.before ++ h.line ∷ [])).text w v =
     subst (λ (x : Progress). IsBegun x.text w v) (sym (progress_push o files h.before h.line)) (between_begun o p (after_line o p h.line) w v m h.at) in
     begun_more _ _ s.0 w v (ap (λ x. (progress o files x).text) split ∙ s.1) begun
+
+-- a halt between two states leaves the replies up to the first of them
+pub replied_between : (o : Setup) (files : Files) (bytes : List ℕ) (p q : Progress) (w u : Option (List ℕ)) (m : Map) → (text : List ℕ) × (p.text ≡ replies_within o files bytes ++ text) →
+    IsHaltedBetween o p q w u m → HasReplied o files bytes w u
+replied_between o files bytes p q w u m t h = record {
+  more = t.0 ++ h.told;
+  written = h.written ∙ ap (λ x. appended w (x ++ h.told)) t.1 ∙ ap (appended w) (append_assoc (replies_within o files bytes) t.0 h.told);
+}

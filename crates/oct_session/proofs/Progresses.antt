@@ -1,5 +1,5 @@
 -- A session over more lines.
-use Rattle.std.proofs.Common.{◌≡◌, ℕ, ◌≤◌, List, [], ◌∷◌, ◌++◌, take, drop, Bool, true, false, cond, Option, refl, sym, ap, ◌∙◌, append_assoc, append-nil}
+use Rattle.std.proofs.Common.{◌≡◌, ℕ, ◌≤◌, List, [], ◌∷◌, ◌++◌, take, drop, Bool, true, false, cond, Option, refl, sym, ap, subst, ◌∙◌, append_assoc, append-nil}
 use Rattle.std.specs.List.{fold}
 use Rattle.std.proofs.lemmas.List.{take-take, take-append-drop}
 use Rattle.std.proofs.lemmas.List.Sums.{fold-append, fold_push}
@@ -11,7 +11,7 @@ use Rattle.oct_script.specs.Lines.{Line, ended_lines}
 use Rattle.oct_script.specs.Replies.{text_of}
 use Rattle.oct_script.proofs.Cuts.{ended_lines-append}
 use Rattle.oct_session.specs.declared.session.Session.{Session}
-use Rattle.oct_session.specs.Ending.{has_quit_within}
+use Rattle.oct_session.specs.Ending.{replies_within, has_quit_within, HasReplied}
 use Rattle.oct_session.specs.Session.{Progress, start, effect_of, answered, after_line, progress}
 use Rattle.oct_session.specs.Setup.{Setup}
 use Rattle.oct_session.specs.Standing.{IsBetween, HasReached}
@@ -32,7 +32,7 @@ lines_behind_quit : (o : Setup) (p : Progress) (lines : List Line) → p.has_qui
 lines_behind_quit o p [] quit = refl
 lines_behind_quit o p (line ∷ lines) quit = ap (λ x. fold (after_line o) x lines) (after_quit o p line quit) ∙ lines_behind_quit o p lines quit
 
--- lines behind a `quit` have no effect
+-- lines after a `quit` have no effect
 pub progress_behind_quit : (o : Setup) (files : Files) (lines more : List Line) → (progress o files lines).has_quit ≡ true → progress o files (lines ++ more) ≡ progress o files lines
 progress_behind_quit o files lines more quit = fold-append (after_line o) (start files) lines more ∙ lines_behind_quit o (progress o files lines) more quit
 
@@ -53,7 +53,7 @@ no_quit_before o files bytes k taken few running =
     no_quit_by o files (take k bytes) (drop k (take taken bytes)) (has_quit_within o files (take k bytes)) refl
     (ap (has_quit_within o files) (ap (λ x. x ++ drop k (take taken bytes)) (sym (take-take k taken bytes few)) ∙ take-append-drop k (take taken bytes)) ∙ running)
 
--- a line leaves the replies that were there, and writes more behind them
+-- a line leaves the replies that were there, and writes more after them
 line_grows : (o : Setup) (p : Progress) (line : Line) → (more : List ℕ) × ((after_line o p line).text ≡ p.text ++ more)
 line_grows o p line = elim p.has_quit as (λ v. (more : List ℕ) × ((cond v p (answered o p line)).text ≡ p.text ++ more)) [
   | true ↦ ([], sym (append-nil p.text))
@@ -67,11 +67,38 @@ text_grows o p (line ∷ lines) =
     let t = line_grows o p line in
     (t.0 ++ s.0, s.1 ∙ ap (λ x. x ++ s.0) t.1 ∙ append_assoc p.text t.0 s.0)
 
--- more lines leave the replies that were there, and write more behind them
+-- more lines leave the replies that were there, and write more after them
 pub progress_grows : (o : Setup) (files : Files) (lines more : List Line) → (text : List ℕ) × ((progress o files (lines ++ more)).text ≡ (progress o files lines).text ++ text)
 progress_grows o files lines more =
     let s = text_grows o (progress o files lines) more in
     (s.0, ap (λ (p : Progress). p.text) (fold-append (after_line o) (start files) lines more) ∙ s.1)
+
+-- more bytes leave the replies that were there
+replies_grow : (o : Setup) (files : Files) (bytes more : List ℕ) → (text : List ℕ) × (replies_within o files (bytes ++ more) ≡ replies_within o files bytes ++ text)
+replies_grow o files bytes more =
+    let s = ended_lines-append bytes more in
+    let t = progress_grows o files (ended_lines bytes) s.0 in
+    (t.0, ap (λ lines. (progress o files lines).text) s.1 ∙ t.1)
+
+-- what was written has the replies to the lines that end within the first of these bytes
+pub replied_before : (o : Setup) (files : Files) (bytes more : List ℕ) (w u : Option (List ℕ)) → HasReplied o files (bytes ++ more) w u → HasReplied o files bytes w u
+replied_before o files bytes more w u at =
+    let t = replies_grow o files bytes more in
+    record {
+      more = t.0 ++ at.more;
+      written = at.written ∙ ap (λ x. appended w (x ++ at.more)) t.1 ∙ ap (appended w) (append_assoc (replies_within o files bytes) t.0 at.more);
+    }
+
+-- the same by the numbers of bytes
+pub replied_first : (o : Setup) (files : Files) (bytes : List ℕ) (k taken : ℕ) (w u : Option (List ℕ)) → k ≤ taken → HasReplied o files (take taken bytes) w u → HasReplied o files (take k bytes) w u
+replied_first o files bytes k taken w u few at =
+    let parts : take taken bytes ≡ take k bytes ++ drop k (take taken bytes) =
+    sym (take-append-drop k (take taken bytes)) ∙ ap (λ x. x ++ drop k (take taken bytes)) (take-take k taken bytes few) in
+    replied_before o files (take k bytes) (drop k (take taken bytes)) w u (subst (λ x. HasReplied o files x w u) parts at)
+
+-- the replies to the lines that end within these bytes were written, and nothing else
+pub replied_all : (o : Setup) (files : Files) (bytes : List ℕ) (w u : Option (List ℕ)) → u ≡ appended w (replies_within o files bytes) → HasReplied o files bytes w u
+replied_all o files bytes w u written = record { more = []; written = written ∙ ap (appended w) (sym (append-nil (replies_within o files bytes))) }
 
 -- whether the session goes on
 running_at : (o : Setup) (m : Map) (s : Session) (p : Progress) → IsBetween o m s p → s.has_quit ≡ false → p.has_quit ≡ false

@@ -5,16 +5,15 @@ use Rattle.oct_odds.specs.declared.event.Event.{Event}
 use Rattle.oct_odds.specs.Update.{Value}
 use Rattle.oct_map.specs.Answers.{edit_answer, scan_answer, get_answer, get_answer_at, block_answer, IsAnswerOrMemory}
 use Rattle.oct_map.specs.Map.{Map, IsSameSetup, values_of}
-use Rattle.oct_map.specs.Outcome.{outcome_in}
+use Rattle.oct_map.specs.Edits.{outcome_in}
 use Rattle.oct_map.specs.declared.fault.MapFault.{MapFault}
 use Rattle.oct_map.specs.declared.fault.MapFault.TheVariants as fault
-use Rattle.oct_map.specs.declared.map.ScanDone.{ScanDone}
+use Rattle.oct_map.specs.declared.done.ScanDone.{ScanDone}
 use Rattle.oct_query.specs.declared.totals.Counts.{Counts}
 use Rattle.oct_key.specs.Block.{block_of}
-use Rattle.oct_key.specs.Values.{Values}
+use Rattle.oct_key.specs.Values.{Values, SameValues}
 use Rattle.oct_key.specs.Voxel.{Voxel, key_at}
 use Rattle.oct_scan.specs.Beam.{Sighting}
-use Rattle.oct_tree.specs.Changes.{SameValues}
 use Rattle.oct_tree.specs.Shape.{IsPruned}
 use Rattle.oct_values.specs.Counts.{group_count, node_count}
 use Rattle.oct_values.specs.Depths.{depth_value}
@@ -36,8 +35,8 @@ use Rattle.oct_session.specs.Setup.{Setup}
 use Rattle.oct_session.specs.Standing.{HasAnswered, HasObeyed, HasScanned}
 use Rattle.oct_session.specs.declared.block.Block.TheVariants.{Scanning}
 use Rattle.oct_session.proofs.Answering.{same_edit, same_get, same_scan}
-use Rattle.oct_session.proofs.Heard.{edit_some, block_some}
-use Rattle.oct_session.proofs.Foldings.{stands_same, stands_edited, stands_scanned, stands_refreshed, stands_pruned}
+use Rattle.oct_session.proofs.NonemptyReplies.{edit_some, block_some}
+use Rattle.oct_session.proofs.MapHistory.{stands_same, stands_edited, stands_scanned, stands_refreshed, stands_pruned}
 
 -- a command that does nothing that later replies may depend on
 accepted_none : (r : Option Reply) (actions : History) → actions ≡ [] → accepted r actions ≡ []
@@ -70,7 +69,7 @@ refuses (fault.PointOutside index) r some is = ap is_refusal is
 refuses (fault.TooManyCells index cells) r some is = ap is_refusal is
 refuses fault.Memory r some is = let none : IsSome (fault_reply fault.Memory) = subst IsSome is some in cc
 
--- a reply to want of memory there is none
+-- out of memory there is no reply
 no_reply : (f : MapFault) (r : Option Reply) → IsSome r → r ≡ fault_reply f → f ≡ fault.Memory → ⊥
 no_reply f r some is none = let absent : IsSome (fault_reply fault.Memory) = subst IsSome (is ∙ ap fault_reply none) some in cc
 
@@ -103,7 +102,7 @@ query_done o m p depth value shown is answer = λ h at. (
   stands_kept o m h (accepted (Some shown) []) (accepted_none (Some shown) [] refl) at,
 )
 
--- a query doesn't want memory
+-- a query doesn't run out of memory
 cases_calm : (deep stale : Bool) (value : Value) → ◌≡◌ {A = Result Value MapFault} (cond deep (Err fault.BadDepth) (cond stale (Err fault.Stale) (Ok value))) (Err fault.Memory) → ⊥
 cases_calm true stale value is = cc
 cases_calm false true value is = cc

@@ -20,12 +20,14 @@ use Rattle.oct_script.specs.Replies.{is_refusal}
 use Rattle.oct_session.specs.History.{History, Edited, Refreshed, Pruned, value_after, is_stale_after}
 use Rattle.oct_session.specs.Setup.{Setup}
 
--- the command that was read on the line of this number, or the refusal where the line isn't in the grammar
+-- the command that was read on the line of this number, or the refusal where the line isn't in the
+-- grammar
 abbrev pub numbered : ℕ → Result Command Syntax → Result Command Refusal
 numbered number (Ok command) = Ok command
 numbered number (Err syntax) = Err (refusal.Syntax number syntax.column)
 
--- the command on the line of this number, inside the block of a scan or outside, or why there is none; a long line isn't read
+-- the command on the line of this number, inside the block of a scan or outside, or why there is
+-- none; a long line isn't read
 abbrev pub command_on : Bool → ℕ → Line → Result Command Refusal
 command_on inside number (Text text) = numbered number (command_of inside text)
 command_on inside number Long = Err (refusal.LongLine number)
@@ -35,7 +37,7 @@ abbrev pub is_quit : Result Command Refusal → Bool
 is_quit (Ok Quit) = true
 is_quit _ = false
 
--- why the map refuses a call, as a reply says it; want of memory ends a session without one
+-- why the map refuses a call, as a reply says it; out of memory a session ends without one
 abbrev pub refusal_of : MapFault → Option Refusal
 refusal_of (fault.Outside point) = Some (refusal.Outside point)
 refusal_of fault.BadDepth = Some refusal.BadDepth
@@ -69,8 +71,9 @@ get_reply odds (Err fault) = fault_reply fault
 abbrev pub counts_reply : Values → Reply
 counts_reply values = Counted (record { groups = group_count values; nodes = node_count values })
 
--- the reply to a line's command after a history, outside the block of a scan, where the map's answers are those of the plain fold over the
--- history; a blank line has none, and neither has `quit`, nor a line of a scan, whose block has one reply in all
+-- the reply to a line's command after a history, outside the block of a scan, where the map's
+-- answers are those of the plain fold over the history; a blank line has none, and neither has
+-- `quit`, nor a line of a scan, whose block has one reply in all
 abbrev pub reply : Setup → History → Result Command Refusal → Option Reply
 reply o history (Err refusal) = Some (Refused refusal)
 reply o history (Ok NotYet) = Some (Refused refusal.NotYet)
@@ -79,13 +82,16 @@ reply o history (Ok Quit) = None
 reply o history (Ok (Scan head)) = None
 reply o history (Ok (Beam p)) = None
 reply o history (Ok End) = None
-reply o history (Ok (Edit p edit lazy)) = edit_reply (edit_answer o.res o.max_groups (value_after o history) p)
-reply o history (Ok (Get p depth)) = get_reply o.odds (get_answer o.res (is_stale_after history) (value_after o history) p depth)
+reply o history (Ok (Edit p edit lazy)) =
+    edit_reply (edit_answer o.res o.max_groups (value_after o history) p)
+reply o history (Ok (Get p depth)) =
+    get_reply o.odds (get_answer o.res (is_stale_after history) (value_after o history) p depth)
 reply o history (Ok Counts) = Some (counts_reply (value_after o history))
 reply o history (Ok Refresh) = Some Ok
 reply o history (Ok Prune) = Some Ok
 
--- what a command does, if it does anything that later replies or the map may depend on; to count is to prune first
+-- what a command does, if it does anything that later replies or the map may depend on; to count is
+-- to prune first
 abbrev pub action_of : Result Command Refusal → History
 action_of (Ok (Edit p edit lazy)) = Edited p edit lazy ∷ []
 action_of (Ok Refresh) = Refreshed ∷ []

@@ -3,6 +3,7 @@ use Rattle.std.specs.Prelude.{◌≡◌, ◌⊎◌, ℕ, ◌+◌, ◌-◌, ◌�
 use Rattle.oct_io.specs.Files.{Files}
 use Rattle.oct_io.specs.Told.{appended}
 use Rattle.oct_script.specs.Lines.{ended_lines}
+use Rattle.oct_session.specs.declared.service.TheConstants.{MOST_READ}
 use Rattle.oct_session.specs.Session.{Answer, progress, session}
 use Rattle.oct_session.specs.Setup.{Setup}
 use Rattle.oct_session.specs.declared.options.Status.{Status}
@@ -28,50 +29,69 @@ pub record IsBegun (text : List ℕ) (old new : Option (List ℕ)) : Type 0 wher
   pub written : new ≡ appended old done
   pub split : text ≡ done ++ rest
 
--- so many bytes of the input were taken, and no more
+-- this many bytes of the input were taken
 pub record HasTaken (taken : ℕ) (bytes : List ℕ) (left : Option (List ℕ)) : Type 0 where
   pub within : taken ≤ length bytes
   pub rest : left ≡ Some (drop taken bytes)
 
--- at most so many bytes of the input were taken
-pub record HasTakenAtMost (most : ℕ) (bytes : List ℕ) (left : Option (List ℕ)) : Type 0 where
-  pub taken : ℕ
-  pub few : taken ≤ most
-  pub input : HasTaken taken bytes left
+-- the replies to the lines that end within these bytes were written, and maybe more after them
+pub record HasReplied (o : Setup) (files : Files) (bytes : List ℕ)
+    (old new : Option (List ℕ)) : Type 0 where
+  pub more : List ℕ
+  pub written : new ≡ appended old (replies_within o files bytes ++ more)
 
--- the most bytes that one read asks for
-abbrev pub most_read : ℕ
-most_read = 16384
-
--- a `quit` line ended within the bytes taken, of which `max_bytes` count, and none had ended before the last read
+-- a `quit` line ended within the bytes taken, of which `max_bytes` count, and none had ended within
+-- all but the last 16,384 of them, as many as one read asks for
 pub record HasQuitIn (o : Setup) (files : Files) (bytes : List ℕ) (taken : ℕ) : Type 0 where
   pub quits : has_quit_within o files (take o.max_bytes (take taken bytes)) ≡ true
-  pub at_once : has_quit_within o files (take (taken - most_read) bytes) ≡ false
+  pub at_once : has_quit_within o files (take (taken - MOST_READ) bytes) ≡ false
 
--- the script was read to its end: nothing is left of it, or a `quit` line ended in the last read
-pub record IsReadToEnd (o : Setup) (files : Files) (bytes : List ℕ) (left : Option (List ℕ)) : Type 0 where
+-- the script was read to its end: nothing is left of it, or a `quit` line ended in what was read
+-- last
+pub record IsReadToEnd (o : Setup) (files : Files) (bytes : List ℕ)
+    (left : Option (List ℕ)) : Type 0 where
   pub taken : ℕ
   pub few : taken ≤ o.max_bytes + 1
   pub input : HasTaken taken bytes left
   pub end : (left ≡ Some []) ⊎ HasQuitIn o files bytes taken
 
--- the input failed within the limit and before a `quit` line had ended, and exactly the replies to the lines that end within the bytes taken were written
-pub record IsCutOff (o : Setup) (files : Files) (bytes : List ℕ) (left old new : Option (List ℕ)) : Type 0 where
+-- the input failed within the limit and before a `quit` line had ended, and exactly the replies to
+-- the lines that end within the bytes taken were written
+pub record IsCutOff (o : Setup) (files : Files) (bytes : List ℕ)
+    (left old new : Option (List ℕ)) : Type 0 where
   pub taken : ℕ
   pub few : taken ≤ o.max_bytes
   pub input : HasTaken taken bytes left
   pub no_quit : has_quit_within o files (take taken bytes) ≡ false
   pub written : new ≡ appended old (replies_within o files (take taken bytes))
 
--- how a session over these bytes may end, status by status: what is left of the input, and what was written
-abbrev pub MayEnd : Setup → Files → List ℕ → Option (List ℕ) → Option (List ℕ) → Option (List ℕ) → Status → Type 0
-MayEnd o files bytes left old new Done = IsAnswered (session o files bytes) old new Done × IsReadToEnd o files bytes left
-MayEnd o files bytes left old new Refused = IsAnswered (session o files bytes) old new Refused × IsReadToEnd o files bytes left
+-- writing failed or memory ran out: at most one byte more than the limit was taken, and the lines
+-- that end within all but the last 16,384 of the bytes taken, as many as one read asks for, were
+-- answered
+pub record HasStopped (o : Setup) (files : Files) (bytes : List ℕ)
+    (left old new : Option (List ℕ)) : Type 0 where
+  pub taken : ℕ
+  pub few : taken ≤ o.max_bytes + 1
+  pub input : HasTaken taken bytes left
+  pub replied : HasReplied o files (take (taken - MOST_READ) bytes) old new
+
+-- how a session over these bytes may end, status by status: what is left of the input, and what was
+-- written
+abbrev pub MayEnd : Setup → Files → List ℕ → Option (List ℕ) → Option (List ℕ) → Option (List ℕ)
+    → Status → Type 0
+MayEnd o files bytes left old new Done =
+    IsAnswered (session o files bytes) old new Done × IsReadToEnd o files bytes left
+MayEnd o files bytes left old new Refused =
+    IsAnswered (session o files bytes) old new Refused × IsReadToEnd o files bytes left
 MayEnd o files bytes left old new Usage = ⊥
-MayEnd o files bytes left old new TooLong = IsAnswered (session o files bytes) old new TooLong × HasTaken (o.max_bytes + 1) bytes left
-MayEnd o files bytes left old new ReadFault = IsBegun (session o files bytes).text old new × IsCutOff o files bytes left old new
-MayEnd o files bytes left old new WriteFault = IsBegun (session o files bytes).text old new × HasTakenAtMost (o.max_bytes + 1) bytes left
-MayEnd o files bytes left old new Memory = IsBegun (session o files bytes).text old new × HasTakenAtMost (o.max_bytes + 1) bytes left
+MayEnd o files bytes left old new TooLong =
+    IsAnswered (session o files bytes) old new TooLong × HasTaken (o.max_bytes + 1) bytes left
+MayEnd o files bytes left old new ReadFault =
+    IsBegun (session o files bytes).text old new × IsCutOff o files bytes left old new
+MayEnd o files bytes left old new WriteFault =
+    IsBegun (session o files bytes).text old new × HasStopped o files bytes left old new
+MayEnd o files bytes left old new Memory =
+    IsBegun (session o files bytes).text old new × HasStopped o files bytes left old new
 
 -- a status that comes with the whole answer
 abbrev pub IsWhole : Status → Type 0

@@ -3,7 +3,7 @@ use Rattle.std.specs.Prelude.{ℕ, pos, [], ◌∷◌, ◌++◌, length, nat_le,
 use Rattle.std.specs.Ordering.{int_eq}
 use Rattle.oct_map.specs.Answers.{scan_answer}
 use Rattle.oct_map.specs.declared.fault.MapFault.{MapFault}
-use Rattle.oct_map.specs.declared.map.ScanDone as map_done
+use Rattle.oct_map.specs.declared.done.ScanDone as map_done
 use Rattle.oct_key.specs.declared.point.Point.{Point}
 use Rattle.oct_script.specs.declared.command.Command.{Command}
 use Rattle.oct_script.specs.declared.command.Command.TheVariants.{Scan, Beam, End, NotYet}
@@ -14,6 +14,7 @@ use Rattle.oct_script.specs.declared.reply.Reply.{Reply}
 use Rattle.oct_script.specs.declared.reply.Reply.TheVariants as reply_of
 use Rattle.oct_script.specs.Commands.{opens_scan}
 use Rattle.oct_script.specs.Lines.{Line, Text, Long}
+use Rattle.oct_session.specs.declared.block.TheConstants.{MOST_POINTS}
 use Rattle.oct_session.specs.Commands.{fault_reply}
 use Rattle.oct_session.specs.History.{History, Scanned, value_after}
 use Rattle.oct_session.specs.ScanSoFar.{ScanSoFar, begun, sighting_so_far}
@@ -26,24 +27,22 @@ abbrev pub opens_block : Line → Bool
 opens_block (Text text) = opens_scan text
 opens_block Long = false
 
--- the block that a line outside a block opens, if it opens one: a head begins its scan, and a faulty head spoils its block
+-- the block that a line outside a block opens, if it opens one: a head begins its scan, and a
+-- faulty head spoils its block
 abbrev pub opened : ℕ → Line → Result Command Refusal → Option Block
 opened number line (Ok (Scan head)) = Some (Scanning (begun number head))
 opened number line (Ok _) = None
 opened number line (Err refusal) = if opens_block line then Some (Spoilt refusal) else None
 
--- the most points that a scan may have
-abbrev pub most_points : ℕ
-most_points = 1000000
-
 -- the block with one point more, which is on the line of this number
 abbrev pub with_point : ℕ → Point → ScanSoFar → Block
 with_point number p scan =
-    if nat_le most_points (length scan.points)
+    if nat_le MOST_POINTS (length scan.points)
     then Spoilt (refusal.TooManyPoints number)
     else Scanning (record { line = scan.line; head = scan.head; points = scan.points ++ p ∷ [] })
 
--- the block with one line more, which is the line of this number and doesn't end it: the first fault spoils it, and stays
+-- the block with one line more, which is the line of this number and doesn't end it: the first
+-- fault spoils it, and stays
 abbrev pub with_line : ℕ → Result Command Refusal → Block → Block
 with_line number command (Spoilt first) = Spoilt first
 with_line number (Err refusal) (Scanning scan) = Spoilt refusal
@@ -58,20 +57,23 @@ is_end _ = false
 
 -- all four numbers of a head's quaternion are 0
 abbrev pub is_zero : ScanHead → Bool
-is_zero head = int_eq head.w (pos 0) && int_eq head.x (pos 0) && int_eq head.y (pos 0) && int_eq head.z (pos 0)
+is_zero head =
+    int_eq head.w (pos 0) && int_eq head.x (pos 0) && int_eq head.y (pos 0) && int_eq head.z (pos 0)
 
 -- the reply to a scan, by the map's answer
 abbrev pub scan_reply : Result map_done.ScanDone MapFault → Option Reply
 scan_reply (Ok done) = Some (reply_of.Scanned (record { hits = done.hits; frees = done.frees }))
 scan_reply (Err fault) = fault_reply fault
 
--- the reply to a block that its `end` closes after a history, where the map's answer is that of the plain fold over the history
+-- the reply to a block that its `end` closes after a history, where the map's answer is that of the
+-- plain fold over the history
 abbrev pub block_reply : Setup → History → Block → Option Reply
 block_reply o history (Spoilt refusal) = Some (reply_of.Refused refusal)
 block_reply o history (Scanning scan) =
     if is_zero scan.head
     then Some (reply_of.Refused refusal.ZeroQuaternion)
-    else scan_reply (scan_answer o.res o.odds o.max_groups o.max_cells (value_after o history) (sighting_so_far scan))
+    else scan_reply (scan_answer o.res o.odds o.max_groups o.max_cells (value_after o history)
+    (sighting_so_far scan))
 
 -- what a block does, if it does anything
 abbrev pub block_action : Block → History

@@ -6,7 +6,8 @@ use Rattle.oct_scan.specs.Beam.{Sighting}
 use Rattle.oct_script.specs.Commands.{IsRange}
 use Rattle.oct_script.specs.declared.command.ScanHead.{ScanHead}
 
--- a scan that is being read: the number of its head's line, what the head says, and the points so far
+-- a scan that is being read: the number of its head's line, what the head says, and the points so
+-- far
 pub record ScanSoFar : Type 0 where
   pub line : ℕ
   pub head : ScanHead

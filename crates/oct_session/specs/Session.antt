@@ -14,7 +14,7 @@ use Rattle.oct_session.specs.declared.block.Block.{Block}
 use Rattle.oct_session.specs.declared.options.Status.{Status}
 use Rattle.oct_session.specs.declared.options.Status.TheVariants as status
 
--- what a line does: its reply, what it adds to the history, and the block that is open behind it
+-- what a line does: its reply, what it adds to the history, and the block that is open after it
 pub record Effect : Type 0 where
   pub reply : Option Reply
   pub added : History
@@ -42,15 +42,16 @@ effect_inside o history number command block =
 
 -- what the line of this number does after a history, where a block is open or none
 abbrev pub effect : Setup → History → ℕ → Line → Result Command Refusal → Option Block → Effect
-effect o history number line command None = effect_opened o history command (opened number line command)
+effect o history number line command None =
+    effect_opened o history command (opened number line command)
 effect o history number line command (Some block) = effect_inside o history number command block
 
--- between two lines: the history, the files, how many lines there were, the block that is open, whether a reply was a refusal and a line
--- was `quit`, and the replies
+-- between two lines: the history, the files, how many lines there were, the block that is open,
+-- whether a reply was a refusal and a line was `quit`, and the replies
 pub record Progress : Type 0 where
   pub history : History
   pub files : Files
-  pub lines : ℕ
+  pub line_count : ℕ
   pub block : Option Block
   pub refused : Bool
   pub has_quit : Bool
@@ -58,29 +59,39 @@ pub record Progress : Type 0 where
 
 -- before the first line: no command, so each voxel is unknown
 abbrev pub start : Files → Progress
-start files = record { history = []; files = files; lines = 0; block = None; refused = false; has_quit = false; text = [] }
+start files =
+    record {
+      history = [];
+      files = files;
+      line_count = 0;
+      block = None;
+      refused = false;
+      has_quit =
+          false;
+      text = [];
+    }
 
 -- the command on the next line, or why there is none
 abbrev pub next_command : Progress → Line → Result Command Refusal
-next_command p line = command_on (is_some p.block) (p.lines + 1) line
+next_command p line = command_on (is_some p.block) (p.line_count + 1) line
 
 -- what the next line does
 abbrev pub effect_of : Setup → Progress → Line → Effect
-effect_of o p line = effect o p.history (p.lines + 1) line (next_command p line) p.block
+effect_of o p line = effect o p.history (p.line_count + 1) line (next_command p line) p.block
 
 -- after one line more was taken in
 abbrev pub answered : Setup → Progress → Line → Progress
 answered o p line = record {
   history = p.history ++ (effect_of o p line).added;
   files = p.files;
-  lines = p.lines + 1;
+  line_count = p.line_count + 1;
   block = (effect_of o p line).block;
   refused = p.refused || is_refusal (effect_of o p line).reply;
   has_quit = is_quit (next_command p line);
   text = p.text ++ text_of (effect_of o p line).reply;
 }
 
--- after one line more, which has no effect behind a `quit`
+-- after one line more, which has no effect after a `quit`
 abbrev pub after_line : Setup → Progress → Line → Progress
 after_line o p line = if p.has_quit then p else answered o p line
 
@@ -93,14 +104,14 @@ abbrev pub ended : Progress → Progress
 ended p = record {
   history = p.history;
   files = p.files;
-  lines = p.lines;
+  line_count = p.line_count;
   block = None;
   refused = p.refused || is_refusal (end_reply p.block);
   has_quit = p.has_quit;
   text = p.text ++ text_of (end_reply p.block);
 }
 
--- the same, which has no effect behind a `quit`
+-- the same, which has no effect after a `quit`
 abbrev pub closed : Progress → Progress
 closed p = if p.has_quit then p else ended p
 
@@ -118,17 +129,21 @@ status_at_end refused = if refused then status.Refused else status.Done
 abbrev pub finished : Progress → Answer
 finished p = record { text = p.text; files = p.files; status = status_at_end p.refused }
 
--- the answer where the script has too many bytes, which doesn't matter behind a `quit`
+-- the answer where the script has too many bytes, which doesn't matter after a `quit`
 abbrev pub cut_short : Progress → Answer
-cut_short p = if p.has_quit then finished p else record { text = p.text; files = p.files; status = status.TooLong }
+cut_short p =
+    if p.has_quit then finished p else record
+    { text = p.text; files = p.files; status = status.TooLong }
 
 -- whether a script has more bytes than it may have
 abbrev pub is_too_long : Setup → List ℕ → Bool
 is_too_long o bytes = nat_lt o.max_bytes (length bytes)
 
--- the lines that count: all lines of a script, or, where it is too long, those that end within its first `max_bytes` bytes
+-- the lines that count: all lines of a script, or, where it is too long, those that end within its
+-- first `max_bytes` bytes
 unfoldable pub lines_of : Setup → List ℕ → List Line
-lines_of o bytes = if is_too_long o bytes then ended_lines (take o.max_bytes bytes) else all_lines bytes
+lines_of o bytes =
+    if is_too_long o bytes then ended_lines (take o.max_bytes bytes) else all_lines bytes
 
 -- after the last of these lines
 abbrev pub last_progress : Setup → Files → List ℕ → Progress
@@ -136,4 +151,6 @@ last_progress o files bytes = progress o files (lines_of o bytes)
 
 -- the answer to a script
 unfoldable pub session : Setup → Files → List ℕ → Answer
-session o files bytes = if is_too_long o bytes then cut_short (last_progress o files bytes) else finished (closed (last_progress o files bytes))
+session o files bytes =
+    if is_too_long o bytes then cut_short (last_progress o files bytes) else finished
+    (closed (last_progress o files bytes))

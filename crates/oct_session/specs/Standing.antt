@@ -11,7 +11,7 @@ use Rattle.oct_session.specs.declared.options.Status.{Status}
 use Rattle.oct_session.specs.declared.options.Stop.{Stop}
 use Rattle.oct_session.specs.declared.options.Stop.TheVariants.{TooLong, ReadFault, WriteFault, Memory}
 use Rattle.oct_session.specs.declared.session.Session.{Session}
-use Rattle.oct_session.specs.Ending.{HasTaken, IsReadToEnd, MayEnd}
+use Rattle.oct_session.specs.Ending.{HasTaken, HasReplied, IsReadToEnd, MayEnd}
 use Rattle.oct_session.specs.Leaving.{StandsFor, IsHalted, IsHaltedAtEnd, Leaves}
 use Rattle.oct_session.specs.History.{History}
 use Rattle.oct_session.specs.Session.{Progress, Effect, effect_of, after_line, progress, closed, session, finished, last_progress}
@@ -21,88 +21,126 @@ use Rattle.oct_session.specs.Setup.{Setup}
 use Rattle.oct_session.specs.declared.block.Block.{Block}
 use Rattle.oct_session.specs.declared.lines.LineDone.{LineDone}
 
--- something was answered and done on a map that stood for some history: this is the reply to the history, and these are the actions, done
--- unless the reply is a refusal
-abbrev pub HasAnswered : Setup → (History → Option Reply) → History → Map → Map → Option Reply → Type 0
+-- something was answered and done on a map that stood for some history: this is the reply to the
+-- history, and these are the actions, done unless the reply is a refusal
+abbrev pub HasAnswered : Setup → (History → Option Reply) → History → Map → Map → Option Reply
+    → Type 0
 HasAnswered o reply actions old new answer =
-    (history : History) → StandsFor o old history → (answer ≡ reply history) × StandsFor o new (history ++ accepted answer actions)
+    (history : History) → StandsFor o old history → (answer ≡ reply history)
+    × StandsFor o new (history ++ accepted answer actions)
 
--- that, or memory was wanting, for something that has a reply, and nothing was done
-abbrev pub HasDone : {E : Type 0} → Setup → (History → Option Reply) → History → Map → Map → Result (Option Reply) E → Type 0
+-- that, or memory ran out, for something that has a reply, and nothing was done
+abbrev pub HasDone : {E : Type 0} → Setup → (History → Option Reply) → History → Map → Map
+    → Result (Option Reply) E → Type 0
 HasDone o reply actions old new (Ok answer) = HasAnswered o reply actions old new answer
-HasDone o reply actions old new (Err fault) = (history : History) → StandsFor o old history → IsSome (reply history) × StandsFor o new history
+HasDone o reply actions old new (Err fault) =
+    (history : History) → StandsFor o old history → IsSome (reply history) × StandsFor o new history
 
--- a line's command outside a block was answered and done, or memory was wanting
-abbrev pub HasObeyed : {E : Type 0} → Setup → Map → Map → Result Command Refusal → Result (Option Reply) E → Type 0
-HasObeyed o old new command result = HasDone o (λ history. reply o history command) (action_of command) old new result
+-- a line's command outside a block was answered and done, or memory ran out
+abbrev pub HasObeyed : {E : Type 0} → Setup → Map → Map → Result Command Refusal
+    → Result (Option Reply) E → Type 0
+HasObeyed o old new command result =
+    HasDone o (λ history. reply o history command) (action_of command) old new result
 
--- a block that its `end` has closed was answered and done, or memory was wanting
+-- a block that its `end` has closed was answered and done, or memory ran out
 abbrev pub HasScanned : {E : Type 0} → Setup → Map → Map → Block → Result (Option Reply) E → Type 0
-HasScanned o old new block result = HasDone o (λ history. block_reply o history block) (block_action block) old new result
+HasScanned o old new block result =
+    HasDone o (λ history. block_reply o history block) (block_action block) old new result
 
 -- a line had its effect on a map that stood for some history
 abbrev pub TakesEffect : Setup → (History → Effect) → Map → Map → LineDone → Type 0
 TakesEffect o effect old new outcome = (history : History) → StandsFor o old history
-    → (outcome.reply ≡ (effect history).reply) × (outcome.block ≡ (effect history).block) × StandsFor o new (history ++ (effect history).added)
+    → (outcome.reply ≡ (effect history).reply) × (outcome.block ≡ (effect history).block)
+    × StandsFor o new (history ++ (effect history).added)
 
--- a line has a reply, or a block is open behind it
+-- a line has a reply, or a block is open after it
 abbrev pub IsHeard : Effect → Type 0
 IsHeard effect = IsSome effect.reply ⊎ IsSome effect.block
 
--- a line had its effect, or memory was wanting, for a line that is heard, and nothing was done
-abbrev pub HasEffect : {E : Type 0} → Setup → (History → Effect) → Map → Map → Result LineDone E → Type 0
+-- a line had its effect, or memory ran out, for a line that is heard, and nothing was done
+abbrev pub HasEffect : {E : Type 0} → Setup → (History → Effect) → Map → Map → Result LineDone E
+    → Type 0
 HasEffect o effect old new (Ok outcome) = TakesEffect o effect old new outcome
-HasEffect o effect old new (Err fault) = (history : History) → StandsFor o old history → IsHeard (effect history) × StandsFor o new history
+HasEffect o effect old new (Err fault) =
+    (history : History) → StandsFor o old history → IsHeard (effect history)
+    × StandsFor o new history
 
--- memory was wanting at a line that is heard: the map stands for the lines before this one, or for this one as well
+-- memory ran out at a line that is heard: the map stands for the lines before this one, or for this
+-- one as well
 abbrev pub StandsBeside : Setup → Map → Progress → Line → Type 0
-StandsBeside o map p line = IsHeard (effect_of o p line) × (StandsFor o map p.history ⊎ StandsFor o map (after_line o p line).history)
+StandsBeside o map p line =
+    IsHeard (effect_of o p line)
+    × (StandsFor o map p.history ⊎ StandsFor o map (after_line o p line).history)
 
 -- map and session stand between two lines, where that was done so far
 pub record IsBetween (o : Setup) (map : Map) (session : Session) (p : Progress) : Type 0 where
   pub stands : StandsFor o map p.history
-  pub answered : session.answered ≡ p.lines
+  pub counted : session.line_count ≡ p.line_count
   pub block : session.block ≡ p.block
   pub refused : session.refused ≡ p.refused
   pub has_quit : session.has_quit ≡ p.has_quit
 
 -- they stand there, and since `old` the replies so far were written
-pub record HasReached (o : Setup) (old new : Option (List ℕ)) (map : Map) (session : Session) (p : Progress) : Type 0 where
+pub record HasReached (o : Setup) (old new : Option (List ℕ)) (map : Map) (session : Session)
+    (p : Progress) : Type 0 where
   pub between : IsBetween o map session p
   pub written : new ≡ appended old p.text
 
--- the session was given these bytes: the lines that end within them are answered, and, unless it has ended, the rest is kept
-pub record IsAt (o : Setup) (files : Files) (old new : Option (List ℕ)) (map : Map) (session : Session) (bytes : List ℕ) : Type 0 where
+-- the session was given these bytes: the lines that end within them are answered, and, unless it
+-- has ended, the rest is kept
+pub record IsAt (o : Setup) (files : Files) (old new : Option (List ℕ)) (map : Map)
+    (session : Session) (bytes : List ℕ) : Type 0 where
   pub reached : HasReached o old new map session (progress o files (ended_lines bytes))
-  pub line : session.has_quit ≡ false → IsReading session.lines bytes
+  pub line : session.has_quit ≡ false → IsReading session.line bytes
+
+-- wherever the session was, it was then given this piece more
+abbrev pub Takes : Setup → Option (List ℕ) → Option (List ℕ) → Map → Map → Session → Session
+    → List ℕ → Type 0
+Takes o v u m n s t piece = (files : Files) (w : Option (List ℕ)) (bytes : List ℕ)
+    → IsAt o files w v m s bytes → IsAt o files w u n t (bytes ++ piece)
+
+-- wherever the session was, the replies to the lines that had ended there were written
+abbrev pub KeepsReplies : Setup → Option (List ℕ) → Option (List ℕ) → Map → Session → Type 0
+KeepsReplies o v u m s =
+    (files : Files) (w : Option (List ℕ)) (bytes : List ℕ) → IsAt o files w v m s bytes
+    → HasReplied o files bytes w u
 
 -- the session was given some bytes
 abbrev pub IsAtSome : Setup → Files → Option (List ℕ) → Option (List ℕ) → Map → Session → Type 0
 IsAtSome o files old new map session = (bytes : List ℕ) × IsAt o files old new map session bytes
 
 -- the session was given the bytes that were taken of its input
-pub record HasServed (o : Setup) (files : Files) (bytes : List ℕ) (left old new : Option (List ℕ)) (map : Map) (session : Session) (taken : ℕ) : Type 0 where
+pub record HasServed (o : Setup) (files : Files) (bytes : List ℕ) (left old new : Option (List ℕ))
+    (map : Map) (session : Session) (taken : ℕ) : Type 0 where
   pub input : HasTaken taken bytes left
   pub at : IsAt o files old new map session (take taken bytes)
 
 -- the session has answered its script, and has read it to its end
-pub record IsThrough (o : Setup) (files : Files) (bytes : List ℕ) (left old new : Option (List ℕ)) (map : Map) (s : Session) : Type 0 where
+pub record IsThrough (o : Setup) (files : Files) (bytes : List ℕ) (left old new : Option (List ℕ))
+    (map : Map) (s : Session) : Type 0 where
   pub reached : HasReached o old new map s (closed (last_progress o files bytes))
   pub whole : session o files bytes ≡ finished (closed (last_progress o files bytes))
   pub end : IsReadToEnd o files bytes left
 
--- the session was halted at one of the last lines, or at the end of the script behind them
+-- the session was halted at one of the last lines, or at the end of the script after them
 abbrev pub StopsAtEnd : Setup → Files → List Line → Option (List ℕ) → Option (List ℕ) → Map → Type 0
-StopsAtEnd o files lines old new map = IsHalted o files lines old new map ⊎ IsHaltedAtEnd o files lines old new map
+StopsAtEnd o files lines old new map =
+    IsHalted o files lines old new map ⊎ IsHaltedAtEnd o files lines old new map
 
 -- how a session over these bytes may end, and what it then leaves of the map
-pub record HasEndedAs (o : Setup) (files : Files) (bytes : List ℕ) (left old new : Option (List ℕ)) (map : Map) (status : Status) : Type 0 where
+pub record HasEndedAs (o : Setup) (files : Files) (bytes : List ℕ) (left old new : Option (List ℕ))
+    (map : Map) (status : Status) : Type 0 where
   pub answer : MayEnd o files bytes left old new status
   pub leaves : Leaves o files bytes left old new map status
 
--- how a session that was given these bytes may stop in a piece, of which so many bytes may be taken
-abbrev pub StopsIn : Setup → Files → Option (List ℕ) → Option (List ℕ) → Map → Session → List ℕ → List ℕ → ℕ → Stop → Type 0
-StopsIn o files old new map session bytes piece room TooLong = (room < length piece) × (session.has_quit ≡ false) × IsAt o files old new map session (bytes ++ take room piece)
-StopsIn o files old new map session bytes piece room WriteFault = IsHalted o files (ended_lines (bytes ++ take room piece)) old new map
-StopsIn o files old new map session bytes piece room Memory = IsHalted o files (ended_lines (bytes ++ take room piece)) old new map
+-- how a session that was given these bytes may stop in a piece, of which `room` bytes may be taken
+abbrev pub StopsIn : Setup → Files → Option (List ℕ) → Option (List ℕ) → Map → Session → List ℕ
+    → List ℕ → ℕ → Stop → Type 0
+StopsIn o files old new map session bytes piece room TooLong =
+    (room < length piece) × (session.has_quit ≡ false)
+    × IsAt o files old new map session (bytes ++ take room piece)
+StopsIn o files old new map session bytes piece room WriteFault =
+    IsHalted o files (ended_lines (bytes ++ take room piece)) old new map
+StopsIn o files old new map session bytes piece room Memory =
+    IsHalted o files (ended_lines (bytes ++ take room piece)) old new map
 StopsIn o files old new map session bytes piece room ReadFault = ⊥

@@ -81,7 +81,8 @@ impl PendingScan {
     /// The block with one command more, which is on the line of this number.
     fn with_command(self, number: u64, command: Command) -> Result<Block, Memory>
         requires { IsSmallCommand command }
-        ensures { IfOk result (λ block. block ≡ with_line number (Ok command) (Block.Scanning self)) }
+        ensures { IfOk result
+            (λ block. block ≡ with_line number (Ok command) (Block.Scanning self)) }
     {
         match command {
             Command::Beam(p) => self.with_point(number, p),
@@ -106,7 +107,8 @@ impl PendingScan {
         ensures zero { is_err result ≡ is_zero self.head }
         ensures sighting { IfOk result (λ scan. sighting_of scan ≡ sighting_so_far self) }
         ensures points { IfOk result (λ scan. All IsInReach scan.points) }
-        ensures range { IfOk result (λ scan. IfSome scan.range (λ r. (pos 0 ≤ℤ r) × (r <ℤ pos (10 ^ 16)))) }
+        ensures range { IfOk result
+            (λ scan. IfSome scan.range (λ r. (pos 0 ≤ℤ r) × (r <ℤ pos (10 ^ 16)))) }
     {
         let head = self.head;
         let pose = Pose::new(head.t, head.w, head.x, head.y, head.z)?;

@@ -4,7 +4,7 @@ ghost use Rattle.oct_odds.specs.Odds.{odds_of};
 ghost use Rattle.oct_odds.specs.Update.{IsSmallEvent};
 ghost use Rattle.oct_map.specs.declared.fault.MapFault.{MapFault};
 ghost use Rattle.oct_script.specs.Commands.{IsSmallEdit, IsSmallCommand};
-ghost use Rattle.oct_session.specs.Setup.{Setup, setup_of};
+ghost use Rattle.oct_session.specs.Setup.{Setup};
 ghost use Rattle.oct_session.specs.History.{edit_event};
 ghost use Rattle.oct_session.specs.Commands.{refusal_of, fault_reply, value_reply};
 ghost use Rattle.oct_session.specs.Standing.{HasObeyed, HasScanned};
@@ -81,9 +81,9 @@ fn edit(
     lazy: bool,
 ) -> Result<Option<Reply>, Memory>
     requires { IsSmallEdit e }
-    ensures { HasObeyed (setup_of options.now) map.old map.new (Ok (Command.Edit p e lazy)) result }
+    ensures { HasObeyed options.now map.old map.new (Ok (Command.Edit p e lazy)) result }
 {
-    let event = event_of(&options.odds, e);
+    let event = event_of(options.odds(), e);
     match map.edit(p, event, lazy) {
         Ok(()) => Ok(Some(Reply::Ok)),
         Err(fault) => refuse(fault),
@@ -92,10 +92,10 @@ fn edit(
 
 /// Asks for the value of the block of that depth around a point, and answers it.
 fn query(options: &Options, map: &OccMap, p: Point, depth: u32) -> Result<Option<Reply>, Memory>
-    ensures { HasObeyed (setup_of options.now) map.now map.now (Ok (Command.Get p depth)) result }
+    ensures { HasObeyed options.now map.now map.now (Ok (Command.Get p depth)) result }
 {
     match map.get(p, depth) {
-        Ok(value) => Ok(Some(show(&options.odds, value))),
+        Ok(value) => Ok(Some(show(options.odds(), value))),
         Err(fault) => refuse(fault),
     }
 }
@@ -103,7 +103,7 @@ fn query(options: &Options, map: &OccMap, p: Point, depth: u32) -> Result<Option
 /// Does what a command says, and answers its reply.
 fn obey(options: &Options, map: &mut OccMap, command: Command) -> Result<Option<Reply>, Memory>
     requires { IsSmallCommand command }
-    ensures { HasObeyed (setup_of options.now) map.old map.new (Ok command) result }
+    ensures { HasObeyed options.now map.old map.new (Ok command) result }
 {
     match command {
         Command::Blank | Command::Quit => Ok(None),
@@ -133,7 +133,7 @@ pub fn execute(
     command: Result<Command, Refusal>,
 ) -> Result<Option<Reply>, Memory>
     requires { IfOk command IsSmallCommand }
-    ensures { HasObeyed (setup_of options.now) map.old map.new command result }
+    ensures { HasObeyed options.now map.old map.new command result }
 {
     match command {
         Ok(command) => obey(options, map, command),
@@ -158,7 +158,8 @@ fn scan(map: &mut OccMap, pending: PendingScan) -> Result<Option<Reply>, Memory>
     }
 }
 
-/// Does what a block says that its `end` has closed, and answers its one reply. Without memory nothing was done.
+/// Does what a block says that its `end` has closed, and answers its one reply. Without memory
+/// nothing was done.
 pub fn finish(map: &mut OccMap, block: Block) -> Result<Option<Reply>, Memory>
     ensures { (o : Setup) → HasScanned o map.old map.new block result }
 {

@@ -2,41 +2,54 @@
 //!
 //! # What it is
 //!
-//! [`serve`] reads a script from a source, does its commands and scans on a map that it is lent, and writes the reply to each command,
-//! faulty line and scan block to a sink before the next line is looked at. The map is that of `oct_map`, the class `OcTree` of the
-//! OctoMap library (Hornung et al. 2013) in whole numbers.
+//! [`serve`] reads a script from a source, does its commands and scans on a map that it is lent,
+//! and writes the reply to each command, faulty line and scan block to a sink before the next line
+//! is looked at. The map is that of `oct_map`, the class `OcTree` of the OctoMap library (Hornung
+//! et al. 2013) in whole numbers.
 //!
 //! # What it promises
 //!
-//! - **Replies.** `specs/Session.antt` defines a session as a function of the whole byte string: its lines up to a `quit` or to the end,
-//!   each line outside a scan block, and each block as a whole, answered from the plain fold over each single voxel's history
-//!   (`specs/History.antt`). No tree is in that definition: a query shows the largest known value among the voxels of its block, an edit
-//!   or a scan is full by what the values need, and lazy edits, lazy scans and prunes can't be told from a reply, but for the one
-//!   refusal of a stale map.
-//! - **Scans.** The lines of a scan are a block with one reply, behind its `end` or at the end of the script (`specs/ScanBlock.antt`). The
-//!   first faulty line among its head and the lines inside is what it is refused for; a scan is done whole or not at all.
-//! - **Endings.** Where source and sink tell their bytes, as those in memory do, `specs/Ending.antt` says for each status what is written
-//!   and what is left of the input. Stopped by a fault or by want of memory, what was written is a prefix of the answer; on a read fault
-//!   it is exactly the replies to the lines that end within the bytes taken.
-//! - **The map.** Under the same premise, whatever the status, the lent map then stands for a history (`StandsFor` of
-//!   `specs/Leaving.antt`): each voxel has its value after it, the map is stale where a lazy edit or scan stands behind the last refresh,
-//!   and pruned where none stands behind the last prune. It is the history of all lines that count, on a read fault of those that end
-//!   within the bytes taken, and on a write fault or want of memory of every line whose reply was written whole and of at most one line
-//!   more, or of all lines where the fault came at the end. Without the premise it stands for some history all the same.
+//! - **Replies.** `specs/Session.antt` defines a session as a function of the whole byte string:
+//!   its lines up to a `quit` or to the end, each line outside a scan block, and each block as a
+//!   whole, answered from the plain fold over each single voxel's history (`specs/History.antt`).
+//!   No tree is in that definition: a query shows the largest known value among the voxels of its
+//!   block, an edit or a scan is full by what the values need, and lazy edits, lazy scans and
+//!   prunes can't be told from a reply, but for the one refusal of a stale map.
+//! - **Scans.** The lines of a scan are a block with one reply, after its `end` or at the end of
+//!   the script (`specs/ScanBlock.antt`). The first faulty line among its head and the lines inside
+//!   is what it is refused for; a scan is done whole or not at all.
+//! - **Endings.** Where source and sink tell their bytes, as those in memory do,
+//!   `specs/Ending.antt` says for each status what is written and what is left of the input.
+//!   Stopped by a fault or out of memory, what was written is a prefix of the answer; on a read
+//!   fault it is exactly the replies to the lines that end within the bytes taken.
+//! - **Counts.** A count of faults rises by one exactly where the status names its fault, and that
+//!   of a sink's shortages of memory by one at most, where the status is out of memory. So no read
+//!   that failed is tried again, and nothing is read after `quit` or after a fault: such a read
+//!   might fail, too.
+//! - **The map.** Under the same premise, whatever the status, the lent map then stands for a
+//!   history (`StandsFor` of `specs/Leaving.antt`): each voxel has its value after it, the map is
+//!   stale where a lazy edit or scan stands after the last refresh, and pruned where none stands
+//!   after the last prune. It is the history of all lines that count, on a read fault of those that
+//!   end within the bytes taken, and on a write fault or out of memory of every line whose reply
+//!   was written whole and of at most one line more, or of all lines where the fault came at the
+//!   end. Without the premise it stands for some history all the same.
 //!
 //! # How it works
 //!
-//! `service` reads pieces of at most 16 KiB and hands each to `session`, which feeds them line by line to `oct_script` and writes the
-//! reply's text by `write_all`. `lines` says what a line does, inside a block and outside; `block` keeps the head and the points of
-//! the scan that is being read, or its first fault; `commands` does each command and each scan on the map, and makes the map's answer a
-//! reply. `options` holds what a session is set up with and how a run ends. A reply's text stands in place of the last one, so that it
-//! allocates only where it is longer than all before it.
+//! `service` reads pieces of at most 16 KiB and hands each to `session`, which feeds them line by
+//! line to `oct_script` and writes the reply's text by `write_all`. `lines` says what a line does,
+//! inside a block and outside; `block` keeps the head and the points of the scan that is being
+//! read, or its first fault; `commands` does each command and each scan on the map, and makes the
+//! map's answer a reply. `options` holds what a session is set up with and how a run ends. A
+//! reply's text stands in place of the last one, so that it allocates only where it is longer than
+//! all before it.
 //!
 //! # Who stands on it
 //!
-//! `octomap_cli`. It stands on `oct_script` for lines, commands and replies, on `oct_io` for source, sink and store, on `oct_map` for the
-//! map, on `oct_scan` and `oct_pose` for what a scan is, and on `oct_key`, `oct_odds` and `oct_values` for voxels, their values and what
-//! events make of them.
+//! `octomap_cli`. It stands on `oct_script` for lines, commands and replies, on `oct_io` for
+//! source, sink and store, on `oct_map` for the map, on `oct_scan` and `oct_pose` for what a scan
+//! is, and on `oct_key`, `oct_odds` and `oct_values` for voxels, their values and what events make
+//! of them.
 #![tactic(auto)]
 
 mod block;

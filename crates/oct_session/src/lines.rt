@@ -1,7 +1,7 @@
-//! What a line does: its reply, and the block that is open behind it.
+//! What a line does: its reply, and the block that is open after it.
 ghost use Rattle.std.specs.Prelude.{◌≡◌, IfOk};
 ghost use Rattle.oct_script.specs.Commands.{IsSmallCommand};
-ghost use Rattle.oct_session.specs.Setup.{Setup, setup_of};
+ghost use Rattle.oct_session.specs.Setup.{Setup};
 ghost use Rattle.oct_session.specs.Commands.{command_on};
 ghost use Rattle.oct_session.specs.ScanBlock.{is_end};
 ghost use Rattle.oct_session.specs.Session.{effect_opened, effect_inside, effect};
@@ -15,22 +15,23 @@ use oct_num::Memory;
 use oct_script::{Command, Lines, Refusal, Reply, Syntax, parse};
 use std::alloc::Global;
 
-/// What a line answers, and the block that is open behind it.
+/// What a line answers, and the block that is open after it.
 #[derive(Drop)]
 pub struct LineDone {
     pub reply: Option<Reply>,
     pub block: Option<Block>,
 }
 
-/// The command on the line of this number, inside a block or outside, or why there is none. A long line isn't read.
-pub fn read_line(lines: &Lines, number: u64, inside: bool) -> Result<Command, Refusal>
-    ensures exact { result ≡ command_on inside number lines.now.line }
+/// The command on the line of this number, inside a block or outside, or why there is none. A long
+/// line isn't read.
+pub fn read_line(line: &Lines, number: u64, inside: bool) -> Result<Command, Refusal>
+    ensures exact { result ≡ command_on inside number line.now.line }
     ensures small { IfOk result IsSmallCommand }
 {
-    if lines.is_long() {
+    if line.is_long() {
         return Err(Refusal::LongLine { line: number });
     }
-    match parse(lines.text(), inside) {
+    match parse(line.text(), inside) {
         Ok(command) => Ok(command),
         Err(Syntax { column }) => Err(Refusal::Syntax {
             line: number,
@@ -54,7 +55,8 @@ fn outside(
     opened: Option<Block>,
 ) -> Result<LineDone, Memory>
     requires { IfOk command IsSmallCommand }
-    ensures { HasEffect (setup_of options.now) (λ history. effect_opened (setup_of options.now) history command opened) map.old map.new result }
+    ensures { HasEffect options.now
+        (λ history. effect_opened options.now history command opened) map.old map.new result }
 {
     if opened.is_some() {
         return Ok(LineDone {
@@ -74,7 +76,8 @@ fn inside(
     block: Block,
 ) -> Result<LineDone, Memory>
     requires { IfOk command IsSmallCommand }
-    ensures { (o : Setup) → HasEffect o (λ history. effect_inside o history number command block) map.old map.new result }
+    ensures { (o : Setup) → HasEffect o
+        (λ history. effect_inside o history number command block) map.old map.new result }
 {
     if is_end(command) {
         let reply = finish(map, block)?;
@@ -87,7 +90,8 @@ fn inside(
     })
 }
 
-/// Does what the line of this number says, where a block is open or none. Without memory nothing was done.
+/// Does what the line of this number says, where a block is open or none. Without memory nothing
+/// was done.
 pub fn take_line(
     alloc: Global,
     options: &Options,
@@ -98,7 +102,9 @@ pub fn take_line(
     block: Option<Block>,
 ) -> Result<LineDone, Memory>
     requires { IfOk command IsSmallCommand }
-    ensures { HasEffect (setup_of options.now) (λ history. effect (setup_of options.now) history number line.now.line command block) map.old map.new result }
+    ensures { HasEffect options.now
+        (λ history. effect options.now history number line.now.line command block) map.old map.new
+        result }
 {
     match block {
         Some(block) => inside(map, number, command, block),

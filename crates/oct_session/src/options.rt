@@ -1,5 +1,6 @@
 //! What a session is set up with, and how a run ends.
 ghost use Rattle.std.specs.Prelude.{◌≡◌, ◌≤◌, ◌^◌};
+ghost use Rattle.oct_odds.specs.Odds.{odds_of};
 ghost use Rattle.oct_session.specs.Stops.{stop_of_sink, status_of};
 ghost use Rattle.oct_session.specs.declared.options.Stop.TheVariants as stop;
 
@@ -9,13 +10,14 @@ use oct_map::Limits;
 use oct_num::Memory;
 use oct_odds::OddsModel;
 use std::fmt;
+use std::marker::Model;
 use thiserror::Error;
 
 /// The largest number of bytes that a script may have.
 pub const MOST_BYTES: u64 = 1 << 40;
 
 /// What a session is set up with.
-#[derive(Clone, Copy, Debug, PartialEq, Eq)]
+#[derive(Debug, Drop)]
 pub struct Options {
     /// The edge of a voxel.
     pub res: Res,
@@ -25,7 +27,41 @@ pub struct Options {
     pub limits: Limits,
     /// The most bytes that the script may have.
     pub max_bytes: u64,
-    pub ghost few: { max_bytes ≤ 2 ^ 40 },
+}
+
+impl Model for Options {
+    ghost use Rattle.std.specs.Prelude.{◌≤◌, ◌^◌};
+    ghost use Rattle.oct_odds.specs.Odds.{odds_of};
+    ghost use Rattle.oct_session.specs.Setup.{Setup};
+
+    ghost Value = { Setup };
+
+    ghost view = { λ o. record {
+      res = o.res;
+      odds = odds_of o.odds;
+      max_groups = o.limits.max_groups;
+      max_cells = o.limits.max_cells;
+      max_bytes = o.max_bytes;
+    } };
+
+    ghost invariant = { λ o. o.max_bytes ≤ 2 ^ 40 };
+}
+
+impl Options {
+    /// The most bytes that the script may have, at most `2^40`.
+    pub fn max_bytes(&self) -> u64
+        ensures exact { result ≡ self.now.max_bytes }
+        ensures few { result ≤ 2 ^ 40 }
+    {
+        self.max_bytes
+    }
+
+    /// The log-odds of hits, and their limits.
+    pub fn odds(&self) -> &OddsModel
+        ensures { odds_of result.now ≡ self.now.odds }
+    {
+        &self.odds
+    }
 }
 
 /// How a run ended. The numbers are those that the program ends with.

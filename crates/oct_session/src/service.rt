@@ -1,12 +1,11 @@
 //! The loop of a session: from the bytes of a source to the replies in a sink.
-ghost use Rattle.std.specs.Prelude.{◌≡◌, ◌≢◌, ℕ, ◌+◌, ◌-◌, ◌^◌, ◌<◌, ◌≤◌, List, [], ◌++◌, length, min, take, OnOk, OnErr, IfOk, IfErr, IfSome, IsErrOf, Option, Some, Err, true, false};
+ghost use Rattle.std.specs.Prelude.{◌≡◌, ◌≢◌, ◌⊎◌, ℕ, ◌+◌, ◌-◌, ◌^◌, ◌<◌, ◌≤◌, List, [], ◌++◌, length, min, take, OnOk, OnErr, IfOk, IfErr, IfSome, IsErrOf, Option, Some, Err, true, false};
 ghost use Rattle.oct_io.specs.Files.{Files};
 ghost use Rattle.oct_io.specs.Told.{dropped, Rose};
-ghost use Rattle.oct_session.specs.Setup.{setup_of};
 ghost use Rattle.oct_session.specs.Session.{session as whole_session, status_at_end};
 ghost use Rattle.oct_session.specs.Ending.{MayEnd, IsWhole};
 ghost use Rattle.oct_session.specs.Leaving.{StandsFor, StandsForSome, Leaves};
-ghost use Rattle.oct_session.specs.Standing.{IsAt, IsAtSome, HasServed, IsThrough, HasEndedAs, StopsIn};
+ghost use Rattle.oct_session.specs.Standing.{IsAt, Takes, KeepsReplies, IsAtSome, HasServed, IsThrough, HasEndedAs, StopsIn};
 ghost use Rattle.oct_session.specs.Stops.{status_of};
 
 use crate::options::{Options, Status, Stop};
@@ -15,38 +14,40 @@ use oct_io::{Failed, Sink, Source, Store};
 use oct_map::OccMap;
 use std::alloc::Global;
 
-/// The bytes that a read may give at most.
-const BUFFER: usize = 16 * 1024;
+/// The most bytes that one read asks for.
+const MOST_READ: usize = 16 * 1024;
 
-/// Reads at most so many bytes to the front of a buffer.
+/// Reads at most `most` bytes to the front of a buffer.
 fn read_front<S: Source>(source: &mut S, buffer: &mut [u8], most: usize) -> Result<usize, Failed>
     requires some { 0 < most }
     requires room { most ≤ length buffer.old }
     ensures within { IfOk result (λ n. n ≤ most) }
     ensures moved { IfOk result (λ n. S.left source.new ≡ dropped n (S.left source.old)) }
-    ensures bytes { IfOk result (λ n. IfSome (S.left source.old) (λ left. take n buffer.new ≡ take n left)) }
+    ensures bytes { IfOk result
+        (λ n. IfSome (S.left source.old) (λ left. take n buffer.new ≡ take n left)) }
     ensures enough { IfOk result (λ n. IfSome (S.left source.old) (λ left. n ≤ length left)) }
     ensures end { IfOk result (λ n. n ≡ 0 → IfSome (S.left source.old) (λ left. left ≡ [])) }
     ensures err { OnErr result (S.left source.new ≡ S.left source.old) }
-    ensures later { S.faults source.old ≤ S.faults source.new }
+    ensures stays { OnOk result (S.faults source.new ≡ S.faults source.old) }
     ensures cause { OnErr result (Rose (S.faults source.old) (S.faults source.new)) }
 {
     source.read(&mut buffer[..most])
 }
 
-/// How many bytes to ask for, where so many may still be taken: one more tells that the script is too long.
+/// How many bytes to ask for, where `room` more may be taken: one more tells that the script is too
+/// long.
 fn wanted(room: u64) -> usize
-    ensures { result ≡ min (room + 1) BUFFER }
+    ensures { result ≡ min (room + 1) MOST_READ }
 {
-    if room < BUFFER as u64 {
+    if room < MOST_READ as u64 {
         room as usize + 1
     } else {
-        BUFFER
+        MOST_READ
     }
 }
 
 /// Takes what a read gave, of which the last byte may be one more than the script may have.
-fn take_front<K: Sink>(
+fn take_piece<K: Sink>(
     options: &Options,
     map: &mut OccMap,
     session: &mut Session,
@@ -54,19 +55,30 @@ fn take_front<K: Sink>(
     room: u64,
     sink: &mut K,
 ) -> Result<(), Stop>
-    requires small { session.old.answered + length piece.now < 2 ^ 63 }
-    requires unended { session.old.lines.has_ended ≡ false }
-    ensures ok { OnOk result ((files : Files) (w : Option (List ℕ)) (bytes : List ℕ)
-        → IsAt (setup_of options.now) files w (K.written sink.old) map.old session.old bytes
-        → IsAt (setup_of options.now) files w (K.written sink.new) map.new session.new (bytes ++ take room piece.now)) }
+    requires small { session.old.line_count + length piece.now < 2 ^ 63 }
+    requires unended { session.old.line.has_ended ≡ false }
+    ensures ok { OnOk result (Takes options.now (K.written sink.old) (K.written sink.new)
+        map.old map.new session.old session.new (take room piece.now)) }
     ensures fits { OnOk result (session.new.has_quit ≡ false → length piece.now ≤ room) }
     ensures stops { IfErr result (λ stop. (files : Files) (w : Option (List ℕ)) (bytes : List ℕ)
-        → IsAt (setup_of options.now) files w (K.written sink.old) map.old session.old bytes
-        → StopsIn (setup_of options.now) files w (K.written sink.new) map.new session.new bytes piece.now room stop) }
-    ensures unended { OnOk result (session.new.lines.has_ended ≡ false) }
-    ensures answered { OnOk result (session.new.answered ≤ session.old.answered + length piece.now) }
-    ensures later { K.faults sink.old ≤ K.faults sink.new }
-    ensures cause { IsErrOf result Stop.WriteFault → Rose (K.faults sink.old) (K.faults sink.new) }
+        → IsAt options.now files w (K.written sink.old) map.old session.old bytes
+        → StopsIn options.now files w
+        (K.written sink.new) map.new session.new bytes piece.now room stop) }
+    ensures replied { OnErr result
+        (KeepsReplies options.now (K.written sink.old) (K.written sink.new)
+        map.old session.old) }
+    ensures unended { OnOk result (session.new.line.has_ended ≡ false) }
+    ensures counted { OnOk result
+        (session.new.line_count ≤ session.old.line_count + length piece.now) }
+    ensures stays { OnOk result ((K.faults sink.new ≡ K.faults sink.old)
+        × (K.shortages sink.new ≡ K.shortages sink.old)) }
+    ensures failed { IsErrOf result Stop.WriteFault → Rose (K.faults sink.old) (K.faults sink.new)
+        × (K.shortages sink.new ≡ K.shortages sink.old) }
+    ensures memory { IsErrOf result Stop.Memory → (K.faults sink.new ≡ K.faults sink.old)
+        × ((K.shortages sink.new ≡ K.shortages sink.old)
+        ⊎ Rose (K.shortages sink.old) (K.shortages sink.new)) }
+    ensures long { IsErrOf result Stop.TooLong → (K.faults sink.new ≡ K.faults sink.old)
+        × (K.shortages sink.new ≡ K.shortages sink.old) }
     ensures only { result ≢ Err Stop.ReadFault }
 {
     if piece.len() as u64 <= room {
@@ -81,7 +93,8 @@ fn take_front<K: Sink>(
     }
 }
 
-/// One read, and the answers to what it gave: how many bytes, of which none tell the end of the script.
+/// One read, and the answers to what it gave: how many bytes, of which none tell the end of the
+/// script.
 fn turn<S: Source, K: Sink>(
     options: &Options,
     map: &mut OccMap,
@@ -92,36 +105,61 @@ fn turn<S: Source, K: Sink>(
     taken: u64,
 ) -> Result<usize, Stop>
     requires running { session.old.has_quit ≡ false }
-    requires unended { session.old.lines.has_ended ≡ false }
-    requires small { session.old.answered ≤ taken }
+    requires unended { session.old.line.has_ended ≡ false }
+    requires small { session.old.line_count ≤ taken }
     requires few { taken ≤ options.now.max_bytes }
-    requires wide { BUFFER ≤ length buffer.old }
-    ensures goes { IfOk result (λ n. session.new.has_quit ≡ false → (files : Files) (bytes : List ℕ) (w : Option (List ℕ))
-        → HasServed (setup_of options.now) files bytes (S.left source.old) w (K.written sink.old) map.old session.old taken
-        → HasServed (setup_of options.now) files bytes (S.left source.new) w (K.written sink.new) map.new session.new (taken + n)) }
-    ensures quits { OnOk result (session.new.has_quit ≡ true → (files : Files) (bytes : List ℕ) (w : Option (List ℕ))
-        → HasServed (setup_of options.now) files bytes (S.left source.old) w (K.written sink.old) map.old session.old taken
-        → IsThrough (setup_of options.now) files bytes (S.left source.new) w (K.written sink.new) map.new session.new) }
+    requires wide { MOST_READ ≤ length buffer.old }
+    ensures goes { IfOk result
+        (λ n. session.new.has_quit ≡ false → (files : Files) (bytes : List ℕ) (w : Option (List ℕ))
+        → HasServed options.now files bytes (S.left source.old) w
+        (K.written sink.old) map.old session.old taken
+        → HasServed options.now files bytes (S.left source.new) w
+        (K.written sink.new) map.new session.new (taken + n)) }
+    ensures quits { OnOk result
+        (session.new.has_quit ≡ true → (files : Files) (bytes : List ℕ) (w : Option (List ℕ))
+        → HasServed options.now files bytes (S.left source.old) w
+        (K.written sink.old) map.old session.old taken
+        → IsThrough options.now files bytes (S.left source.new) w
+        (K.written sink.new) map.new session.new) }
     ensures end { IfOk result (λ n. n ≡ 0 → IfSome (S.left source.new) (λ left. left ≡ [])) }
     ensures stops { IfErr result (λ stop. (files : Files) (bytes : List ℕ) (w : Option (List ℕ))
-        → HasServed (setup_of options.now) files bytes (S.left source.old) w (K.written sink.old) map.old session.old taken
-        → HasEndedAs (setup_of options.now) files bytes (S.left source.new) w (K.written sink.new) map.new (status_of stop)) }
-    ensures given { OnOk result ((files : Files) (w : Option (List ℕ)) → IsAtSome (setup_of options.now) files w (K.written sink.old) map.old session.old
-        → IsAtSome (setup_of options.now) files w (K.written sink.new) map.new session.new) }
-    ensures stands { OnErr result ((files : Files) (w : Option (List ℕ)) → IsAtSome (setup_of options.now) files w (K.written sink.old) map.old session.old
-        → StandsForSome (setup_of options.now) map.new) }
-    ensures fits { IfOk result (λ n. session.new.has_quit ≡ false → taken + n ≤ options.now.max_bytes) }
-    ensures unended { OnOk result (session.new.lines.has_ended ≡ false) }
-    ensures answered { IfOk result (λ n. session.new.answered ≤ taken + n) }
-    ensures source_later { S.faults source.old ≤ S.faults source.new }
-    ensures sink_later { K.faults sink.old ≤ K.faults sink.new }
-    ensures read_fault { IsErrOf result Stop.ReadFault → Rose (S.faults source.old) (S.faults source.new) }
-    ensures write_fault { IsErrOf result Stop.WriteFault → Rose (K.faults sink.old) (K.faults sink.new) }
+        → HasServed options.now files bytes (S.left source.old) w
+        (K.written sink.old) map.old session.old taken
+        → HasEndedAs options.now files bytes (S.left source.new) w (K.written sink.new) map.new
+        (status_of stop)) }
+    ensures given { OnOk result
+        ((files : Files) (w : Option (List ℕ))
+        → IsAtSome options.now files w (K.written sink.old) map.old session.old
+        → IsAtSome options.now files w (K.written sink.new) map.new session.new) }
+    ensures stands { OnErr result
+        ((files : Files) (w : Option (List ℕ))
+        → IsAtSome options.now files w (K.written sink.old) map.old session.old
+        → StandsForSome options.now map.new) }
+    ensures fits { IfOk result
+        (λ n. session.new.has_quit ≡ false → taken + n ≤ options.now.max_bytes) }
+    ensures unended { OnOk result (session.new.line.has_ended ≡ false) }
+    ensures counted { IfOk result (λ n. session.new.line_count ≤ taken + n) }
+    ensures small { IfOk result (λ n. taken + n ≤ 2 ^ 41) }
+    ensures read { OnOk result (S.faults source.new ≡ S.faults source.old) }
+    ensures unread { IsErrOf result Stop.ReadFault
+        → Rose (S.faults source.old) (S.faults source.new)
+        × (K.faults sink.new ≡ K.faults sink.old) × (K.shortages sink.new ≡ K.shortages sink.old) }
+    ensures stays { OnOk result ((K.faults sink.new ≡ K.faults sink.old)
+        × (K.shortages sink.new ≡ K.shortages sink.old)) }
+    ensures failed { IsErrOf result Stop.WriteFault → (S.faults source.new ≡ S.faults source.old)
+        × Rose (K.faults sink.old) (K.faults sink.new)
+        × (K.shortages sink.new ≡ K.shortages sink.old) }
+    ensures memory { IsErrOf result Stop.Memory → (S.faults source.new ≡ S.faults source.old)
+        × (K.faults sink.new ≡ K.faults sink.old)
+        × ((K.shortages sink.new ≡ K.shortages sink.old)
+        ⊎ Rose (K.shortages sink.old) (K.shortages sink.new)) }
+    ensures long { IsErrOf result Stop.TooLong → (S.faults source.new ≡ S.faults source.old)
+        × (K.faults sink.new ≡ K.faults sink.old) × (K.shortages sink.new ≡ K.shortages sink.old) }
 {
-    let room = options.max_bytes - taken;
+    let room = options.max_bytes() - taken;
     let count = read_front(source, buffer, wanted(room))?;
     let (piece, _) = buffer.split_at(count);
-    take_front(options, map, session, piece, room, sink)?;
+    take_piece(options, map, session, piece, room, sink)?;
     Ok(count)
 }
 
@@ -133,23 +171,39 @@ fn read_all<S: Source, K: Sink>(
     source: &mut S,
     sink: &mut K,
 ) -> Result<(), Stop>
-    requires none { session.old.answered ≡ 0 }
+    requires none { session.old.line_count ≡ 0 }
     requires running { session.old.has_quit ≡ false }
-    requires unended { session.old.lines.has_ended ≡ false }
+    requires unended { session.old.line.has_ended ≡ false }
     ensures done { OnOk result ((files : Files) (bytes : List ℕ) (w : Option (List ℕ))
-        → HasServed (setup_of options.now) files bytes (S.left source.old) w (K.written sink.old) map.old session.old 0
-        → IsThrough (setup_of options.now) files bytes (S.left source.new) w (K.written sink.new) map.new session.new) }
+        → HasServed options.now files bytes (S.left source.old) w
+        (K.written sink.old) map.old session.old 0
+        → IsThrough options.now files bytes (S.left source.new) w
+        (K.written sink.new) map.new session.new) }
     ensures stops { IfErr result (λ stop. (files : Files) (bytes : List ℕ) (w : Option (List ℕ))
-        → HasServed (setup_of options.now) files bytes (S.left source.old) w (K.written sink.old) map.old session.old 0
-        → HasEndedAs (setup_of options.now) files bytes (S.left source.new) w (K.written sink.new) map.new (status_of stop)) }
-    ensures stands { (files : Files) (w : Option (List ℕ)) → IsAtSome (setup_of options.now) files w (K.written sink.old) map.old session.old
-        → StandsForSome (setup_of options.now) map.new }
-    ensures source_later { S.faults source.old ≤ S.faults source.new }
-    ensures sink_later { K.faults sink.old ≤ K.faults sink.new }
-    ensures read_fault { IsErrOf result Stop.ReadFault → Rose (S.faults source.old) (S.faults source.new) }
-    ensures write_fault { IsErrOf result Stop.WriteFault → Rose (K.faults sink.old) (K.faults sink.new) }
+        → HasServed options.now files bytes (S.left source.old) w
+        (K.written sink.old) map.old session.old 0
+        → HasEndedAs options.now files bytes (S.left source.new) w (K.written sink.new) map.new
+        (status_of stop)) }
+    ensures stands { (files : Files) (w : Option (List ℕ))
+        → IsAtSome options.now files w (K.written sink.old) map.old session.old
+        → StandsForSome options.now map.new }
+    ensures read { OnOk result (S.faults source.new ≡ S.faults source.old) }
+    ensures unread { IsErrOf result Stop.ReadFault
+        → Rose (S.faults source.old) (S.faults source.new)
+        × (K.faults sink.new ≡ K.faults sink.old) × (K.shortages sink.new ≡ K.shortages sink.old) }
+    ensures stays { OnOk result ((K.faults sink.new ≡ K.faults sink.old)
+        × (K.shortages sink.new ≡ K.shortages sink.old)) }
+    ensures failed { IsErrOf result Stop.WriteFault → (S.faults source.new ≡ S.faults source.old)
+        × Rose (K.faults sink.old) (K.faults sink.new)
+        × (K.shortages sink.new ≡ K.shortages sink.old) }
+    ensures memory { IsErrOf result Stop.Memory → (S.faults source.new ≡ S.faults source.old)
+        × (K.faults sink.new ≡ K.faults sink.old)
+        × ((K.shortages sink.new ≡ K.shortages sink.old)
+        ⊎ Rose (K.shortages sink.old) (K.shortages sink.new)) }
+    ensures long { IsErrOf result Stop.TooLong → (S.faults source.new ≡ S.faults source.old)
+        × (K.faults sink.new ≡ K.faults sink.old) × (K.shortages sink.new ≡ K.shortages sink.old) }
 {
-    let mut buffer = [0u8; BUFFER];
+    let mut buffer = [0u8; MOST_READ];
     let mut taken = 0u64;
     'reading: loop {
         let count = turn(options, map, session, source, sink, &mut buffer, taken)?;
@@ -163,13 +217,15 @@ fn read_all<S: Source, K: Sink>(
     }
 }
 
-/// Answers a script line by line and block by block, to its end or to its `quit`, and answers what a read gave before the next one. It
-/// works on the map that it is lent: a map that is set up as the options say, in which each voxel is unknown and which isn't stale.
+/// Answers a script line by line and block by block, to its end or to its `quit`, and answers what
+/// a read gave before the next one. It works on the map that it is lent: a map that is set up as
+/// the options say, in which each voxel is unknown and which isn't stale.
 ///
-/// The clause `answer` says, status by status, what is written and what is left of the input, and the clause `map` what the map then
-/// stands for. They speak wherever source and sink tell their bytes, as those in memory do; that the map stands for some history is said for
-/// any of them. A fault comes only where the count of that object rose in this call. Bytes behind the line of `quit` have no effect, and those
-/// that one read gave with it may have been taken.
+/// The clause `answer` says, status by status, what is written and what is left of the input, and
+/// the clause `map` what the map then stands for. They speak wherever source and sink tell their
+/// bytes, as those in memory do; that the map stands for some history is said for any of them. A
+/// fault comes only where the count of that object rose in this call. Bytes after the line of
+/// `quit` have no effect, and those that one read gave with it may have been taken.
 pub fn serve<S: Source, K: Sink, F: Store>(
     alloc: Global,
     options: &Options,
@@ -178,23 +234,33 @@ pub fn serve<S: Source, K: Sink, F: Store>(
     sink: &mut K,
     store: &mut F,
 ) -> Status
-    requires { StandsFor (setup_of options.now) map.old [] }
+    requires { StandsFor options.now map.old [] }
     ensures answer { IfSome (S.left source.old) (λ bytes. (files : Files)
-        → MayEnd (setup_of options.now) files bytes (S.left source.new) (K.written sink.old) (K.written sink.new) result) }
+        → MayEnd options.now files bytes (S.left source.new) (K.written sink.old)
+        (K.written sink.new) result) }
     ensures map { IfSome (S.left source.old) (λ bytes. (files : Files)
-        → Leaves (setup_of options.now) files bytes (S.left source.new) (K.written sink.old) (K.written sink.new) map.new result) }
-    ensures stands { StandsForSome (setup_of options.now) map.new }
-    ensures files { IfSome (F.files store.old) (λ files. IfSome (S.left source.old) (λ bytes. IsWhole result
-        → F.files store.new ≡ Some (whole_session (setup_of options.now) files bytes).files)) }
+        → Leaves options.now files bytes (S.left source.new) (K.written sink.old)
+        (K.written sink.new) map.new result) }
+    ensures stands { StandsForSome options.now map.new }
+    ensures files { IfSome (F.files store.old)
+        (λ files. IfSome (S.left source.old) (λ bytes. IsWhole result
+        → F.files store.new ≡ Some (whole_session options.now files bytes).files)) }
     ensures store { store.new ≡ store.old }
     ensures usage { result ≢ Status.Usage }
 
-    // Each fault has its cause, and where no count rose the answer comes, or memory ran out.
-    ensures source_later { S.faults source.old ≤ S.faults source.new }
-    ensures sink_later { K.faults sink.old ≤ K.faults sink.new }
-    ensures read_fault { result ≡ Status.ReadFault → Rose (S.faults source.old) (S.faults source.new) }
-    ensures write_fault { result ≡ Status.WriteFault → Rose (K.faults sink.old) (K.faults sink.new) }
-    ensures complete { ¬ Rose (S.faults source.old) (S.faults source.new) → ¬ Rose (K.faults sink.old) (K.faults sink.new)
+    // A fault is met once and ends the session: its count rises by one exactly where the status
+    // names it, and no other count changes.
+    ensures read_fault { result ≡ Status.ReadFault
+        → Rose (S.faults source.old) (S.faults source.new) }
+    ensures no_read_fault { result ≢ Status.ReadFault → S.faults source.new ≡ S.faults source.old }
+    ensures write_fault { result ≡ Status.WriteFault
+        → Rose (K.faults sink.old) (K.faults sink.new) }
+    ensures no_write_fault { result ≢ Status.WriteFault → K.faults sink.new ≡ K.faults sink.old }
+    ensures memory { result ≡ Status.Memory → (K.shortages sink.new ≡ K.shortages sink.old)
+        ⊎ Rose (K.shortages sink.old) (K.shortages sink.new) }
+    ensures no_shortage { result ≢ Status.Memory → K.shortages sink.new ≡ K.shortages sink.old }
+    ensures complete { ¬ Rose (S.faults source.old) (S.faults source.new)
+        → ¬ Rose (K.faults sink.old) (K.faults sink.new)
         → result ≢ Status.Memory → IsWhole result }
 {
     let mut session = Session::new(alloc);

@@ -1,17 +1,17 @@
 //! A session between two bytes of its script, and what its lines do to it.
-ghost use Rattle.std.specs.Prelude.{◌≡◌, ℕ, ◌+◌, ◌^◌, ◌<◌, ◌≤◌, List, ◌++◌, length, take, OnOk, OnErr, IfOk, IfErr, IsErrOf, Option, None, IsSome, false};
+ghost use Rattle.std.specs.Prelude.{◌≡◌, ◌⊎◌, ℕ, ◌+◌, ◌^◌, ◌<◌, ◌≤◌, List, ◌++◌, length, take, OnOk, OnErr, IfOk, IfErr, IsErrOf, Option, None, IsSome, false};
 ghost use Rattle.oct_io.specs.Files.{Files};
 ghost use Rattle.oct_io.specs.Told.{Rose};
 ghost use Rattle.oct_map.specs.Map.{Map};
 ghost use Rattle.oct_script.specs.Lines.{ended_lines, all_lines, unread};
 ghost use Rattle.oct_script.specs.Replies.{is_refusal, text_of};
-ghost use Rattle.oct_session.specs.Setup.{Setup, setup_of};
+ghost use Rattle.oct_session.specs.Setup.{Setup};
 ghost use Rattle.oct_session.specs.Commands.{is_quit};
 ghost use Rattle.oct_session.specs.ScanBlock.{end_reply};
 ghost use Rattle.oct_session.specs.Session.{Progress, effect_of, after_line, progress, closed};
 ghost use Rattle.oct_session.specs.Leaving.{IsHalted, IsHaltedBetween};
 ghost use Rattle.oct_session.specs.Stops.{IsSinkStop};
-ghost use Rattle.oct_session.specs.Standing.{StandsBeside, IsBetween, HasReached, IsAt, StopsAtEnd};
+ghost use Rattle.oct_session.specs.Standing.{StandsBeside, IsBetween, HasReached, IsAt, Takes, KeepsReplies, StopsAtEnd};
 
 use crate::block::Block;
 use crate::lines::{read_line, take_line};
@@ -28,11 +28,11 @@ pub struct Session {
     /// Where memory comes from.
     alloc: Global,
     /// The line that is being read.
-    pub lines: Lines,
+    pub line: Lines,
     /// The block that is open, if one is.
     pub block: Option<Block>,
     /// How many lines have been taken in.
-    pub answered: u64,
+    pub line_count: u64,
     /// Whether a reply was a refusal.
     pub refused: bool,
     /// Whether the last of them was `quit`.
@@ -80,54 +80,48 @@ fn end_reply(block: Option<Block>) -> Option<Reply>
 impl Session {
     /// The session before its first line.
     pub fn new(alloc: Global) -> Self
-        ensures line { result.lines ≡ unread }
+        ensures line { result.line ≡ unread }
         ensures block { result.block ≡ None }
-        ensures answered { result.answered ≡ 0 }
+        ensures counted { result.line_count ≡ 0 }
         ensures refused { result.refused ≡ false }
         ensures running { result.has_quit ≡ false }
     {
         Session {
             alloc,
-            lines: Lines::new(),
+            line: Lines::new(),
             block: None,
-            answered: 0,
+            line_count: 0,
             refused: false,
             has_quit: false,
             text: Vec::new(alloc),
         }
     }
 
-    /// Does what the line that was read says, makes the text of its reply, and begins the next line.
+    /// Does what the line that was read says, makes the text of its reply, and begins the next
+    /// line.
     fn answer(&mut self, options: &Options, map: &mut OccMap) -> Result<(), Memory>
-        requires few { self.old.answered < 2 ^ 63 }
+        requires few { self.old.line_count < 2 ^ 63 }
         requires running { self.old.has_quit ≡ false }
-        ensures text { OnOk result ((p : Progress) → IsBetween (setup_of options.now) map.old self.old p
-            → self.new.text.items ≡ text_of (effect_of (setup_of options.now) p self.old.lines.line).reply) }
-        ensures between { OnOk result ((p : Progress) → IsBetween (setup_of options.now) map.old self.old p
-            → IsBetween (setup_of options.now) map.new self.new (after_line (setup_of options.now) p self.old.lines.line)) }
-        ensures err { OnErr result ((p : Progress) → IsBetween (setup_of options.now) map.old self.old p
-            → StandsBeside (setup_of options.now) map.new p self.old.lines.line) }
-        ensures line { OnOk result (self.new.lines ≡ unread) }
-        ensures answered { OnOk result (self.new.answered ≡ self.old.answered + 1) }
+        ensures text { OnOk result ((p : Progress) → IsBetween options.now map.old self.old p
+            → self.new.text.items ≡ text_of (effect_of options.now p self.old.line.line).reply) }
+        ensures between { OnOk result ((p : Progress) → IsBetween options.now map.old self.old p
+            → IsBetween options.now map.new self.new
+            (after_line options.now p self.old.line.line)) }
+        ensures err { OnErr result ((p : Progress) → IsBetween options.now map.old self.old p
+            → StandsBeside options.now map.new p self.old.line.line) }
+        ensures line { OnOk result (self.new.line ≡ unread) }
+        ensures counted { OnOk result (self.new.line_count ≡ self.old.line_count + 1) }
     {
-        let number = self.answered + 1;
-        let command = read_line(&self.lines, number, self.block.is_some());
+        let number = self.line_count + 1;
+        let command = read_line(&self.line, number, self.block.is_some());
         let block = self.block.take();
-        let done = take_line(
-            self.alloc,
-            options,
-            map,
-            &self.lines,
-            number,
-            command,
-            block,
-        )?;
+        let done = take_line(self.alloc, options, map, &self.line, number, command, block)?;
         tell(&mut self.text, &done.reply)?;
         self.block = done.block;
         self.refused |= is_refused(&done.reply);
         self.has_quit = is_quit(command);
-        self.answered = number;
-        self.lines.next();
+        self.line_count = number;
+        self.line.next();
         Ok(())
     }
 
@@ -138,26 +132,35 @@ impl Session {
         map: &mut OccMap,
         sink: &mut K,
     ) -> Result<(), Stop>
-        requires few { self.old.answered < 2 ^ 63 }
+        requires few { self.old.line_count < 2 ^ 63 }
         requires running { self.old.has_quit ≡ false }
         ensures ok { OnOk result ((w : Option (List ℕ)) (p : Progress)
-            → HasReached (setup_of options.now) w (K.written sink.old) map.old self.old p
-            → HasReached (setup_of options.now) w (K.written sink.new) map.new self.new (after_line (setup_of options.now) p self.old.lines.line)) }
+            → HasReached options.now w (K.written sink.old) map.old self.old p
+            → HasReached options.now w (K.written sink.new) map.new self.new
+            (after_line options.now p self.old.line.line)) }
         ensures err { OnErr result ((w : Option (List ℕ)) (p : Progress)
-            → HasReached (setup_of options.now) w (K.written sink.old) map.old self.old p
-            → IsHaltedBetween (setup_of options.now) p (after_line (setup_of options.now) p self.old.lines.line) w (K.written sink.new) map.new) }
-        ensures line { OnOk result (self.new.lines ≡ unread) }
-        ensures answered { OnOk result (self.new.answered ≡ self.old.answered + 1) }
+            → HasReached options.now w (K.written sink.old) map.old self.old p
+            → IsHaltedBetween options.now p (after_line options.now p self.old.line.line) w
+            (K.written sink.new) map.new) }
+        ensures line { OnOk result (self.new.line ≡ unread) }
+        ensures counted { OnOk result (self.new.line_count ≡ self.old.line_count + 1) }
         ensures only { IfErr result IsSinkStop }
-        ensures later { K.faults sink.old ≤ K.faults sink.new }
-        ensures cause { IsErrOf result Stop.WriteFault → Rose (K.faults sink.old) (K.faults sink.new) }
+        ensures stays { OnOk result ((K.faults sink.new ≡ K.faults sink.old)
+            × (K.shortages sink.new ≡ K.shortages sink.old)) }
+        ensures failed { IsErrOf result Stop.WriteFault
+            → Rose (K.faults sink.old) (K.faults sink.new)
+            × (K.shortages sink.new ≡ K.shortages sink.old) }
+        ensures memory { IsErrOf result Stop.Memory → (K.faults sink.new ≡ K.faults sink.old)
+            × ((K.shortages sink.new ≡ K.shortages sink.old)
+            ⊎ Rose (K.shortages sink.old) (K.shortages sink.new)) }
     {
         self.answer(options, map)?;
         write_all(sink, &self.text)?;
         Ok(())
     }
 
-    /// Takes the bytes up to and with the next line feed, and answers the line that it ends: how many bytes.
+    /// Takes the bytes up to and with the next line feed, and answers the line that it ends: how
+    /// many bytes.
     fn advance<K: Sink>(
         &mut self,
         options: &Options,
@@ -165,25 +168,34 @@ impl Session {
         piece: &[u8],
         sink: &mut K,
     ) -> Result<usize, Stop>
-        requires few { self.old.answered < 2 ^ 63 }
+        requires few { self.old.line_count < 2 ^ 63 }
         requires running { self.old.has_quit ≡ false }
-        requires unended { self.old.lines.has_ended ≡ false }
+        requires unended { self.old.line.has_ended ≡ false }
         requires some { 0 < length piece.now }
-        ensures ok { IfOk result (λ n. (files : Files) (w : Option (List ℕ)) (bytes : List ℕ)
-            → IsAt (setup_of options.now) files w (K.written sink.old) map.old self.old bytes
-            → IsAt (setup_of options.now) files w (K.written sink.new) map.new self.new (bytes ++ take n piece.now)) }
+        ensures ok { IfOk result (λ n. Takes options.now (K.written sink.old) (K.written sink.new)
+            map.old map.new self.old self.new (take n piece.now)) }
         ensures err { OnErr result ((files : Files) (w : Option (List ℕ)) (bytes : List ℕ)
-            → IsAt (setup_of options.now) files w (K.written sink.old) map.old self.old bytes
-            → IsHalted (setup_of options.now) files (ended_lines (bytes ++ piece.now)) w (K.written sink.new) map.new) }
-        ensures unended { OnOk result (self.new.lines.has_ended ≡ false) }
+            → IsAt options.now files w (K.written sink.old) map.old self.old bytes
+            → IsHalted options.now files (ended_lines (bytes ++ piece.now)) w
+            (K.written sink.new) map.new) }
+        ensures replied { OnErr result
+            (KeepsReplies options.now (K.written sink.old) (K.written sink.new)
+            map.old self.old) }
+        ensures unended { OnOk result (self.new.line.has_ended ≡ false) }
         ensures some { IfOk result (λ n. 0 < n) }
         ensures within { IfOk result (λ n. n ≤ length piece.now) }
-        ensures answered { IfOk result (λ n. self.new.answered ≤ self.old.answered + n) }
+        ensures counted { IfOk result (λ n. self.new.line_count ≤ self.old.line_count + n) }
         ensures only { IfErr result IsSinkStop }
-        ensures later { K.faults sink.old ≤ K.faults sink.new }
-        ensures cause { IsErrOf result Stop.WriteFault → Rose (K.faults sink.old) (K.faults sink.new) }
+        ensures stays { OnOk result ((K.faults sink.new ≡ K.faults sink.old)
+            × (K.shortages sink.new ≡ K.shortages sink.old)) }
+        ensures failed { IsErrOf result Stop.WriteFault
+            → Rose (K.faults sink.old) (K.faults sink.new)
+            × (K.shortages sink.new ≡ K.shortages sink.old) }
+        ensures memory { IsErrOf result Stop.Memory → (K.faults sink.new ≡ K.faults sink.old)
+            × ((K.shortages sink.new ≡ K.shortages sink.old)
+            ⊎ Rose (K.shortages sink.old) (K.shortages sink.new)) }
     {
-        let fed = self.lines.feed(piece);
+        let fed = self.line.feed(piece);
         if !fed.ended {
             return Ok(fed.taken);
         }
@@ -199,19 +211,29 @@ impl Session {
         piece: &[u8],
         sink: &mut K,
     ) -> Result<(), Stop>
-        requires few { self.old.answered + length piece.now < 2 ^ 63 }
-        requires unended { self.old.lines.has_ended ≡ false }
-        ensures ok { OnOk result ((files : Files) (w : Option (List ℕ)) (bytes : List ℕ)
-            → IsAt (setup_of options.now) files w (K.written sink.old) map.old self.old bytes
-            → IsAt (setup_of options.now) files w (K.written sink.new) map.new self.new (bytes ++ piece.now)) }
+        requires few { self.old.line_count + length piece.now < 2 ^ 63 }
+        requires unended { self.old.line.has_ended ≡ false }
+        ensures ok { OnOk result (Takes options.now (K.written sink.old) (K.written sink.new)
+            map.old map.new self.old self.new piece.now) }
         ensures err { OnErr result ((files : Files) (w : Option (List ℕ)) (bytes : List ℕ)
-            → IsAt (setup_of options.now) files w (K.written sink.old) map.old self.old bytes
-            → IsHalted (setup_of options.now) files (ended_lines (bytes ++ piece.now)) w (K.written sink.new) map.new) }
-        ensures unended { OnOk result (self.new.lines.has_ended ≡ false) }
-        ensures answered { OnOk result (self.new.answered ≤ self.old.answered + length piece.now) }
+            → IsAt options.now files w (K.written sink.old) map.old self.old bytes
+            → IsHalted options.now files (ended_lines (bytes ++ piece.now)) w
+            (K.written sink.new) map.new) }
+        ensures replied { OnErr result
+            (KeepsReplies options.now (K.written sink.old) (K.written sink.new)
+            map.old self.old) }
+        ensures unended { OnOk result (self.new.line.has_ended ≡ false) }
+        ensures counted { OnOk result
+            (self.new.line_count ≤ self.old.line_count + length piece.now) }
         ensures only { IfErr result IsSinkStop }
-        ensures later { K.faults sink.old ≤ K.faults sink.new }
-        ensures cause { IsErrOf result Stop.WriteFault → Rose (K.faults sink.old) (K.faults sink.new) }
+        ensures stays { OnOk result ((K.faults sink.new ≡ K.faults sink.old)
+            × (K.shortages sink.new ≡ K.shortages sink.old)) }
+        ensures failed { IsErrOf result Stop.WriteFault
+            → Rose (K.faults sink.old) (K.faults sink.new)
+            × (K.shortages sink.new ≡ K.shortages sink.old) }
+        ensures memory { IsErrOf result Stop.Memory → (K.faults sink.new ≡ K.faults sink.old)
+            × ((K.shortages sink.new ≡ K.shortages sink.old)
+            ⊎ Rose (K.shortages sink.old) (K.shortages sink.new)) }
     {
         let mut taken = 0;
         while taken < piece.len() && !self.has_quit {
@@ -228,19 +250,29 @@ impl Session {
         map: &mut OccMap,
         sink: &mut K,
     ) -> Result<(), Stop>
-        requires few { self.old.answered < 2 ^ 63 }
+        requires few { self.old.line_count < 2 ^ 63 }
         requires running { self.old.has_quit ≡ false }
         ensures ok { OnOk result ((files : Files) (w : Option (List ℕ)) (bytes : List ℕ)
-            → IsAt (setup_of options.now) files w (K.written sink.old) map.old self.old bytes
-            → HasReached (setup_of options.now) w (K.written sink.new) map.new self.new (progress (setup_of options.now) files (all_lines bytes))) }
+            → IsAt options.now files w (K.written sink.old) map.old self.old bytes
+            → HasReached options.now w (K.written sink.new) map.new self.new
+            (progress options.now files (all_lines bytes))) }
         ensures err { OnErr result ((files : Files) (w : Option (List ℕ)) (bytes : List ℕ)
-            → IsAt (setup_of options.now) files w (K.written sink.old) map.old self.old bytes
-            → IsHalted (setup_of options.now) files (all_lines bytes) w (K.written sink.new) map.new) }
+            → IsAt options.now files w (K.written sink.old) map.old self.old bytes
+            → IsHalted options.now files (all_lines bytes) w (K.written sink.new) map.new) }
+        ensures replied { OnErr result
+            (KeepsReplies options.now (K.written sink.old) (K.written sink.new)
+            map.old self.old) }
         ensures only { IfErr result IsSinkStop }
-        ensures later { K.faults sink.old ≤ K.faults sink.new }
-        ensures cause { IsErrOf result Stop.WriteFault → Rose (K.faults sink.old) (K.faults sink.new) }
+        ensures stays { OnOk result ((K.faults sink.new ≡ K.faults sink.old)
+            × (K.shortages sink.new ≡ K.shortages sink.old)) }
+        ensures failed { IsErrOf result Stop.WriteFault
+            → Rose (K.faults sink.old) (K.faults sink.new)
+            × (K.shortages sink.new ≡ K.shortages sink.old) }
+        ensures memory { IsErrOf result Stop.Memory → (K.faults sink.new ≡ K.faults sink.old)
+            × ((K.shortages sink.new ≡ K.shortages sink.old)
+            ⊎ Rose (K.shortages sink.old) (K.shortages sink.new)) }
     {
-        if !self.lines.has_rest() {
+        if !self.line.has_rest() {
             return Ok(());
         }
         self.respond(options, map, sink)
@@ -250,12 +282,20 @@ impl Session {
     fn close<K: Sink>(&mut self, sink: &mut K) -> Result<(), Stop>
         requires running { self.old.has_quit ≡ false }
         ensures ok { OnOk result ((o : Setup) (map : Map) (w : Option (List ℕ)) (p : Progress)
-            → HasReached o w (K.written sink.old) map self.old p → HasReached o w (K.written sink.new) map self.new (closed p)) }
+            → HasReached o w (K.written sink.old) map self.old p
+            → HasReached o w (K.written sink.new) map self.new (closed p)) }
         ensures err { OnErr result ((o : Setup) (map : Map) (w : Option (List ℕ)) (p : Progress)
-            → HasReached o w (K.written sink.old) map self.old p → IsHaltedBetween o p (closed p) w (K.written sink.new) map) }
+            → HasReached o w (K.written sink.old) map self.old p
+            → IsHaltedBetween o p (closed p) w (K.written sink.new) map) }
         ensures only { IfErr result IsSinkStop }
-        ensures later { K.faults sink.old ≤ K.faults sink.new }
-        ensures cause { IsErrOf result Stop.WriteFault → Rose (K.faults sink.old) (K.faults sink.new) }
+        ensures stays { OnOk result ((K.faults sink.new ≡ K.faults sink.old)
+            × (K.shortages sink.new ≡ K.shortages sink.old)) }
+        ensures failed { IsErrOf result Stop.WriteFault
+            → Rose (K.faults sink.old) (K.faults sink.new)
+            × (K.shortages sink.new ≡ K.shortages sink.old) }
+        ensures memory { IsErrOf result Stop.Memory → (K.faults sink.new ≡ K.faults sink.old)
+            × ((K.shortages sink.new ≡ K.shortages sink.old)
+            ⊎ Rose (K.shortages sink.old) (K.shortages sink.new)) }
     {
         let reply = end_reply(self.block.take());
         tell(&mut self.text, &reply)?;
@@ -264,24 +304,35 @@ impl Session {
         Ok(())
     }
 
-    /// Answers the last line, if it lacks its line feed, and closes the block that is open, where the script has ended.
+    /// Answers the last line, if it lacks its line feed, and closes the block that is open, where
+    /// the script has ended.
     pub fn end<K: Sink>(
         &mut self,
         options: &Options,
         map: &mut OccMap,
         sink: &mut K,
     ) -> Result<(), Stop>
-        requires few { self.old.answered < 2 ^ 63 }
+        requires few { self.old.line_count < 2 ^ 63 }
         requires running { self.old.has_quit ≡ false }
         ensures ok { OnOk result ((files : Files) (w : Option (List ℕ)) (bytes : List ℕ)
-            → IsAt (setup_of options.now) files w (K.written sink.old) map.old self.old bytes
-            → HasReached (setup_of options.now) w (K.written sink.new) map.new self.new (closed (progress (setup_of options.now) files (all_lines bytes)))) }
+            → IsAt options.now files w (K.written sink.old) map.old self.old bytes
+            → HasReached options.now w (K.written sink.new) map.new self.new (closed
+            (progress options.now files (all_lines bytes)))) }
         ensures err { OnErr result ((files : Files) (w : Option (List ℕ)) (bytes : List ℕ)
-            → IsAt (setup_of options.now) files w (K.written sink.old) map.old self.old bytes
-            → StopsAtEnd (setup_of options.now) files (all_lines bytes) w (K.written sink.new) map.new) }
+            → IsAt options.now files w (K.written sink.old) map.old self.old bytes
+            → StopsAtEnd options.now files (all_lines bytes) w (K.written sink.new) map.new) }
+        ensures replied { OnErr result
+            (KeepsReplies options.now (K.written sink.old) (K.written sink.new)
+            map.old self.old) }
         ensures only { IfErr result IsSinkStop }
-        ensures later { K.faults sink.old ≤ K.faults sink.new }
-        ensures cause { IsErrOf result Stop.WriteFault → Rose (K.faults sink.old) (K.faults sink.new) }
+        ensures stays { OnOk result ((K.faults sink.new ≡ K.faults sink.old)
+            × (K.shortages sink.new ≡ K.shortages sink.old)) }
+        ensures failed { IsErrOf result Stop.WriteFault
+            → Rose (K.faults sink.old) (K.faults sink.new)
+            × (K.shortages sink.new ≡ K.shortages sink.old) }
+        ensures memory { IsErrOf result Stop.Memory → (K.faults sink.new ≡ K.faults sink.old)
+            × ((K.shortages sink.new ≡ K.shortages sink.old)
+            ⊎ Rose (K.shortages sink.old) (K.shortages sink.new)) }
     {
         self.respond_last(options, map, sink)?;
         if self.has_quit {

@@ -1,5 +1,4 @@
 -- A task in the words of the definitions.
-use Rattle.oct_session.specs.Setup.{setup_of}
 use Rattle.octomap_cli.specs.Task.{Session}
 use Rattle.octomap_cli.specs.Task as meant
 use Rattle.octomap_cli.specs.declared.task.Task.{Task}
@@ -7,4 +6,4 @@ use Rattle.octomap_cli.specs.declared.task.Task.TheVariants as code
 
 -- the task that a value of the program stands for
 abbrev pub asked : Task → meant.Task
-asked (code.Session options) = Session (setup_of options)
+asked (code.Session options) = Session options

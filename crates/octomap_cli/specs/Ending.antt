@@ -13,7 +13,11 @@ abbrev pub answer : Option Task → Files → List ℕ → Answer
 answer None files bytes = record { text = []; files = files; status = Usage }
 answer (Some (Session o)) files bytes = session o files bytes
 
--- how a run over these bytes may end: without a task the answer is the status alone and no byte was taken, and else it ends as the session may
-abbrev pub MayEnd : Option Task → Files → List ℕ → Option (List ℕ) → Option (List ℕ) → Option (List ℕ) → Status → Type 0
-MayEnd None files bytes left old new status = IsAnswered (answer None files bytes) old new status × (left ≡ Some bytes)
-MayEnd (Some (Session o)) files bytes left old new status = session_ending.MayEnd o files bytes left old new status
+-- how a run over these bytes may end: without a task the answer is the status alone and no byte was
+-- taken, and else it ends as the session may
+abbrev pub MayEnd : Option Task → Files → List ℕ → Option (List ℕ) → Option (List ℕ)
+    → Option (List ℕ) → Status → Type 0
+MayEnd None files bytes left old new status =
+    IsAnswered (answer None files bytes) old new status × (left ≡ Some bytes)
+MayEnd (Some (Session o)) files bytes left old new status =
+    session_ending.MayEnd o files bytes left old new status

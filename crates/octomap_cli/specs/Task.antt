@@ -29,12 +29,13 @@ resolution_of word = within 100000 100000000000 (result_ok (metres_of word))
 abbrev pub count_of : ℕ → ℕ → Word → Option ℕ
 count_of low high word = if has_minus word then None else within low high (whole_of word)
 
--- what the word behind an option spells, or the default where the option isn't given
+-- what the word after an option spells, or the default where the option isn't given
 abbrev pub chosen : {A : Type 0} → (Word → Option A) → A → Option Word → Option A
 chosen spelled default None = Some default
 chosen spelled default (Some word) = spelled word
 
--- the thousandths of log-odds that an option of this name chooses: an optional minus and one to seven digits
+-- the thousandths of log-odds that an option of this name chooses: an optional minus and one to
+-- seven digits
 abbrev pub chosen_number : List Word → Word → ℤ → Option ℤ
 chosen_number words name default = chosen number_of default (value_of name words)
 
@@ -45,7 +46,8 @@ sound_odds model (Some field) = None
 
 -- the model of these five numbers, where all are numbers and meet the conditions on a model
 abbrev pub odds_from : Option ℤ → Option ℤ → Option ℤ → Option ℤ → Option ℤ → Option Odds
-odds_from (Some hit) (Some miss) (Some min) (Some max) (Some thr) = sound_odds (odds hit miss min max thr) (first_bad_field (odds hit miss min max thr))
+odds_from (Some hit) (Some miss) (Some min) (Some max) (Some thr) =
+    sound_odds (odds hit miss min max thr) (first_bad_field (odds hit miss min max thr))
 odds_from _ _ _ _ _ = None
 
 -- the model that the options choose
@@ -75,15 +77,26 @@ chosen_bytes words = chosen_count words (codes "--max-bytes") (2 ^ 40) 0 (2 ^ 40
 
 -- what a session is set up with, where all of it is there
 abbrev pub setup_from : Option ℕ → Option Odds → Option ℕ → Option ℕ → Option ℕ → Option Setup
-setup_from (Some res) (Some odds) (Some groups) (Some cells) (Some bytes) = Some (record { res = res; odds = odds; max_groups = groups; max_cells = cells; max_bytes = bytes })
+setup_from (Some res) (Some odds) (Some groups) (Some cells) (Some bytes) =
+    Some (record {
+      res = res;
+      odds = odds;
+      max_groups = groups;
+      max_cells = cells;
+      max_bytes = bytes;
+    })
 setup_from _ _ _ _ _ = None
 
--- what the session of these words is set up with: a resolution, and options behind it
+-- what the session of these words is set up with: a resolution, and options after it
 abbrev pub setup_asked : Word → List Word → Option Setup
-setup_asked res options = setup_from (resolution_of res) (chosen_model options) (chosen_groups options) (chosen_cells options) (chosen_bytes options)
+setup_asked res options =
+    setup_from (resolution_of res) (chosen_model options) (chosen_groups options)
+    (chosen_cells options) (chosen_bytes options)
 
 -- the task that the words ask for: `session RES` and options; all other words have none
 unfoldable pub task_of : List Word → Option Task
 task_of (command ∷ res ∷ options) =
-    if bytes_eq command (codes "session") && are_options options then option_map Session (setup_asked res options) else None
+    if bytes_eq command (codes "session") && are_options options
+    then option_map Session (setup_asked res options)
+    else None
 task_of _ = None

@@ -2,30 +2,32 @@
 //!
 //! # What it is
 //!
-//! `octomap session RES` reads a script of edits, scans and queries from its input, keeps one clamped
-//! log-odds value for each voxel of a map whose voxels have the edge RES, and answers each line, or
-//! block of a scan, before what follows is looked at. The map is an octree, and the model of occupancy
-//! is that of Hornung et al. 2013 and of the OctoMap library's class `OcTree`, in whole numbers.
+//! `octomap session RES` reads a script of edits, scans and queries from its input, keeps one
+//! clamped log-odds value for each voxel of a map whose voxels have the edge RES, and answers each
+//! line, or block of a scan, before what follows is looked at. The map is an octree, and the model
+//! of occupancy is that of Hornung et al. 2013 and of the OctoMap library's class `OcTree`, in
+//! whole numbers.
 //!
 //! # What it promises
 //!
-//! The contract of [`program::run`], proved: for every script, where source and sink tell their bytes,
-//! what is written and the status are those of the plain fold over each single voxel. Stopped by a
-//! fault or by want of memory, what was written is a prefix of that; on a read fault it is exactly the
-//! replies to the lines that lie whole in the bytes taken. `specs/Ending.antt` says this over the tasks
-//! that the words of the command line ask for (`Words`, `Task`) and over the session of `oct_session`.
+//! The contract of [`program::run`], proved: for every script, where source and sink tell their
+//! bytes, what is written and the status are those of the plain fold over each single voxel.
+//! Stopped by a fault or out of memory, what was written is a prefix of that; on a read fault it is
+//! exactly the replies to the lines that lie whole in the bytes taken. `specs/Ending.antt` says
+//! this over the tasks that the words of the command line ask for (`Words`, `Task`) and over the
+//! session of `oct_session`.
 //!
 //! # How it works
 //!
-//! `words` finds the options among the words of the command line, and `task` reads the task that they
-//! ask for. `program` makes the map of the unknown world, which may grow as far as the options say, and
-//! lends it to the loop of `oct_session`. `main` joins all this to the standard input and output and to
-//! the current folder.
+//! `words` finds the options among the words of the command line, and `task` reads the task that
+//! they ask for. `program` makes the map of the unknown world, which may grow as far as the options
+//! say, and lends it to the loop of `oct_session`. `main` joins all this to the standard input and
+//! output and to the current folder.
 //!
 //! # Who stands on it
 //!
-//! Nothing: this is the top. It stands on `oct_session` for the loop, on `oct_map` for the map that the
-//! loop is lent, on `oct_num`, `oct_key` and `oct_odds` for the numbers of the command line, on
+//! Nothing: this is the top. It stands on `oct_session` for the loop, on `oct_map` for the map that
+//! the loop is lent, on `oct_num`, `oct_key` and `oct_odds` for the numbers of the command line, on
 //! `oct_script` for what a number is, and on `oct_io` for the world.
 #![tactic(auto)]
 

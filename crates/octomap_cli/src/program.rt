@@ -1,10 +1,9 @@
 //! The top call of the program.
-ghost use Rattle.std.specs.Prelude.{◌≡◌, ◌≢◌, ◌≤◌, [], IfSome, Some, None};
+ghost use Rattle.std.specs.Prelude.{◌≡◌, ◌≢◌, ◌⊎◌, [], IfSome, Some, None};
 ghost use Rattle.oct_io.specs.Files.{Files};
 ghost use Rattle.oct_io.specs.Told.{Rose};
 ghost use Rattle.oct_session.specs.Ending.{IsWhole};
 ghost use Rattle.oct_session.specs.Leaving.{StandsFor};
-ghost use Rattle.oct_session.specs.Setup.{setup_of};
 ghost use Rattle.octomap_cli.specs.Words.{bytes_of};
 ghost use Rattle.octomap_cli.specs.Task.{task_of};
 ghost use Rattle.octomap_cli.specs.Ending.{MayEnd, answer};
@@ -29,11 +28,13 @@ pub fn run<S: Source, K: Sink, F: Store>(
     store: &mut F,
 ) -> Status
     ensures answer { IfSome (S.left source.old) (λ bytes. (files : Files)
-        → MayEnd (task_of (bytes_of words.now)) files bytes (S.left source.new) (K.written sink.old) (K.written sink.new) result) }
+        → MayEnd (task_of (bytes_of words.now)) files bytes (S.left source.new)
+        (K.written sink.old) (K.written sink.new) result) }
 
     // The files are those of the answer; no task writes one yet.
-    ensures files { IfSome (F.files store.old) (λ files. IfSome (S.left source.old) (λ bytes. IsWhole result
-        → F.files store.new ≡ Some (answer (task_of (bytes_of words.now)) files bytes).files)) }
+    ensures files { IfSome (F.files store.old) (λ files. IfSome (S.left source.old)
+        (λ bytes. IsWhole result → F.files store.new
+        ≡ Some (answer (task_of (bytes_of words.now)) files bytes).files)) }
     ensures store { store.new ≡ store.old }
 
     // Words without a task read and write nothing.
@@ -42,13 +43,19 @@ pub fn run<S: Source, K: Sink, F: Store>(
     ensures unread { result ≡ Status.Usage → source.new ≡ source.old }
     ensures unwritten { result ≡ Status.Usage → sink.new ≡ sink.old }
 
-    // Each fault has its cause, and where no count rose the answer comes, or memory ran out.
-    ensures source_later { S.faults source.old ≤ S.faults source.new }
-    ensures sink_later { K.faults sink.old ≤ K.faults sink.new }
-    ensures read_fault { result ≡ Status.ReadFault → Rose (S.faults source.old) (S.faults source.new) }
-    ensures write_fault { result ≡ Status.WriteFault → Rose (K.faults sink.old) (K.faults sink.new) }
-    ensures complete { ¬ Rose (S.faults source.old) (S.faults source.new) → ¬ Rose (K.faults sink.old) (K.faults sink.new)
-        → result ≢ Status.Memory → IsWhole result }
+    // A fault is met once and ends the run: its count rises by one exactly where the status names
+    // it, and no other count changes.
+    ensures read_fault { result ≡ Status.ReadFault
+        → Rose (S.faults source.old) (S.faults source.new) }
+    ensures no_read_fault { result ≢ Status.ReadFault → S.faults source.new ≡ S.faults source.old }
+    ensures write_fault { result ≡ Status.WriteFault
+        → Rose (K.faults sink.old) (K.faults sink.new) }
+    ensures no_write_fault { result ≢ Status.WriteFault → K.faults sink.new ≡ K.faults sink.old }
+    ensures memory { result ≡ Status.Memory → (K.shortages sink.new ≡ K.shortages sink.old)
+        ⊎ Rose (K.shortages sink.old) (K.shortages sink.new) }
+    ensures no_shortage { result ≢ Status.Memory → K.shortages sink.new ≡ K.shortages sink.old }
+    ensures complete { ¬ Rose (S.faults source.old) (S.faults source.new)
+        → ¬ Rose (K.faults sink.old) (K.faults sink.new) → result ≢ Status.Memory → IsWhole result }
 {
     match read_words(words) {
         Ok(task) => {
@@ -62,7 +69,7 @@ pub fn run<S: Source, K: Sink, F: Store>(
 
 /// The map of the unknown world, set up as a session is.
 fn map_for(alloc: Global, options: &Options) -> OccMap
-    ensures { StandsFor (setup_of options.now) result [] }
+    ensures { StandsFor options.now result [] }
 {
     OccMap::new(alloc, options.res, options.odds, options.limits)
 }

@@ -2,7 +2,6 @@
 ghost use Rattle.std.specs.Prelude.{◌≡◌, ◌≤◌, ◌^◌, option_map, Option, Some, None, IfSome};
 ghost use Rattle.std.specs.Result.{result_ok};
 ghost use Rattle.oct_odds.specs.Odds.{odds_of, IsSmall};
-ghost use Rattle.oct_session.specs.Setup.{setup_of};
 ghost use Rattle.octomap_cli.specs.Words.{bytes_of};
 ghost use Rattle.octomap_cli.specs.Task.{Session as a_session, resolution_of, count_of, chosen_number, chosen_count, chosen_model, chosen_groups, chosen_cells, chosen_bytes, setup_asked, task_of};
 ghost use Rattle.octomap_cli.specs.Asked.{asked};
@@ -16,7 +15,8 @@ use oct_script::number_of;
 use oct_session::{MOST_BYTES, Options};
 use thiserror::Error;
 
-/// The numbers that an option may choose, both ends included, and the one that stands where it isn't given.
+/// The numbers that an option may choose, both ends included, and the one that stands where it
+/// isn't given.
 #[derive(Clone, Copy)]
 struct Choice {
     low: u64,
@@ -48,7 +48,7 @@ const BYTES: Choice = Choice {
 };
 
 /// A task of the program.
-#[derive(Clone, Copy, Debug, PartialEq, Eq)]
+#[derive(Debug, Drop)]
 pub enum Task {
     /// A script from the input, and its replies to the output.
     Session(Options),
@@ -57,7 +57,7 @@ pub enum Task {
 impl Task {
     /// What the task's session is set up with.
     pub fn options(&self) -> &Options
-        ensures { asked self.now ≡ a_session (setup_of result.now) }
+        ensures { asked self.now ≡ a_session result.now }
     {
         match self {
             Task::Session(options) => options,
@@ -118,7 +118,8 @@ fn choose_model(words: &[String]) -> Option<OddsModel>
 
 /// The number that an option of this name chooses.
 fn choose_count(words: &[String], name: &[u8], choice: Choice) -> Option<u64>
-    ensures exact { result ≡ chosen_count (bytes_of words.now) name.now choice.default choice.low choice.high }
+    ensures exact { result ≡ chosen_count
+        (bytes_of words.now) name.now choice.default choice.low choice.high }
     ensures within { IfSome result (λ n. (choice.low ≤ n) × (n ≤ choice.high)) }
 {
     match value_of(words, name) {
@@ -157,7 +158,7 @@ fn choose_bytes(words: &[String]) -> Option<u64>
 
 /// Reads the options of a session at a resolution.
 fn read_options(res: &[u8], words: &[String]) -> Option<Options>
-    ensures { option_map setup_of result ≡ setup_asked res.now (bytes_of words.now) }
+    ensures { result ≡ setup_asked res.now (bytes_of words.now) }
 {
     Some(Options {
         res: read_resolution(res)?,

@@ -16,7 +16,7 @@ fn is_option(word: &[u8]) -> bool
         || word == b"--max-bytes".as_slice()
 }
 
-/// The word behind a name, where the name is given. The words are pairs of a name and a value.
+/// The word after a name, where the name is given. The words are pairs of a name and a value.
 #[tactic(auto, unfolding(crate::specs::Words::value_of))]
 pub fn value_of<'a>(words: &'a [String], name: &[u8]) -> Option<&'a [u8]>
     ensures { option_map (λ word. word.now) result ≡ value_of name.now (bytes_of words.now) }

@@ -1,5 +1,4 @@
 ghost use Rattle.std.specs.Prelude.{◌≤◌, ◌^◌, [], None};
-ghost use Rattle.oct_session.specs.Setup.{setup_of};
 ghost use Rattle.oct_session.specs.Leaving.{StandsFor};
 
 use super::*;
@@ -20,7 +19,7 @@ const BESIDE: Point = Point {
     z: 0,
 };
 
-/// Sessions at a resolution of 0.1 m, on scripts of at most so many bytes.
+/// Sessions at a resolution of 0.1 m, on scripts of at most `max_bytes` bytes.
 fn options(max_bytes: u64) -> Result<Options, Fail>
     requires { max_bytes ≤ 2 ^ 40 }
 {
@@ -37,7 +36,7 @@ fn options(max_bytes: u64) -> Result<Options, Fail>
 
 /// The map of the unknown world.
 fn unknown(alloc: Global, options: &Options) -> OccMap
-    ensures { StandsFor (setup_of options.now) result [] }
+    ensures { StandsFor options.now result [] }
 {
     OccMap::new(alloc, options.res, options.odds, options.limits)
 }
@@ -88,6 +87,8 @@ impl Sink for ShutSink {
     ghost written = { λ _. None };
 
     ghost faults = { λ s. s.faults };
+
+    ghost shortages = { λ _. 0 };
 
     fn write(&mut self, piece: &[u8]) -> Result<usize, SinkFault> {
         if piece.is_empty() {

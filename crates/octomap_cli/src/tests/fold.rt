@@ -5,8 +5,8 @@ use super::session;
 use oct_session::Status;
 use std::test::Fail;
 
-/// A cube of 4x4x4 voxels from the origin on, with their values in thousandths of log-odds. Of a voxel's number each two bits
-/// are its place on an axis, x in the lowest.
+/// A cube of 4x4x4 voxels from the origin on, with their values in thousandths of log-odds. Of a
+/// voxel's number each two bits are its place on an axis, x in the lowest.
 #[derive(Drop)]
 struct Cube {
     values: [Option<i32>; 64],
@@ -187,7 +187,7 @@ fn a_long_script_is_answered_as_each_voxel_alone(rt: HostRuntime) -> Result<(), 
             .wrapping_add(1442695040888963407);
         step(&rt, state >> 33, &mut cube, &mut lines)?;
     }
-    let (status, text) = session(&rt, lines.script.as_bytes())?;
+    let (status, text) = session(rt.alloc(), lines.script.as_bytes())?;
     assert_eq!(rt; status, Status::Refused);
     assert_eq!(rt; text.as_slice(), lines.replies.as_bytes());
     Ok(())

@@ -1,19 +1,18 @@
-use Rattle.std.proofs.Common.{arith, refl}
-use Rattle.oct_session.specs.Setup.{setup_of}
+use Rattle.std.proofs.Common.{◌-◌, ap, arith}
 use Rattle.oct_session.proofs.Endings.{fault_ends, stop_ends, goes_on, quits_in}
-use Rattle.oct_session.proofs.Somehow.{some_same, some_stop, some_more}
+use Rattle.oct_session.proofs.SomeHistory.{some_same, some_stop, some_more}
 use Rattle.oct_session.proofs.service.turn.Goals as goal
 
 pub returns-in_err-count-clause-stops : goal.returns-in_err-count-clause-stops
 returns-in_err-count-clause-stops g c =
-    fault_ends _ (setup_of c.args.options.now) _ _ _ c.args.map.now c.args.session.now c.args.taken c.from_residual.ensures.1 c.in_err-count.ensures.err c.requires.few c.requires.running
+    fault_ends _ c.args.options.now _ _ _ c.args.map.now c.args.session.now c.args.taken c.from_residual.ensures.1 c.in_err-count.ensures.err c.requires.few c.requires.running
 
-pub returns-in_err-take_front-clause-stops : goal.returns-in_err-take_front-clause-stops
-returns-in_err-take_front-clause-stops g c =
-    stop_ends _ _ (setup_of c.args.options.now) _ _ _ _ _ _ _ _ _ _ c.args.taken _ _ c.from_residual-in_err-take_front.ensures.1
+pub returns-in_err-take_piece-clause-stops : goal.returns-in_err-take_piece-clause-stops
+returns-in_err-take_piece-clause-stops g c =
+    stop_ends _ _ c.args.options.now _ _ _ _ _ _ _ _ _ _ c.args.taken _ _ c.from_residual-in_err-take_piece.ensures.1
     (record {
       few = c.requires.few;
-      size = refl;
+      size = ap (λ most. most - c.args.taken) c.max_bytes.ensures.exact;
       most = omega (arith, c.in_ok-count.ensures.within, c.wanted.ensures);
       at_once = omega (arith, c.in_ok-count.ensures.within, c.wanted.ensures);
       moved = c.in_ok-count.ensures.moved;
@@ -22,14 +21,14 @@ returns-in_err-take_front-clause-stops g c =
       is = c.split_at.ensures.front;
       len = c.split_at.ensures.front_len;
     })
-    c.in_err-take_front.ensures.stops
+    c.in_err-take_piece.ensures.stops c.in_err-take_piece.ensures.replied
 
 pub returns-clause-goes : goal.returns-clause-goes
 returns-clause-goes g c =
-    goes_on (setup_of c.args.options.now) _ _ _ _ _ _ _ _ _ _ c.args.taken _ _
+    goes_on c.args.options.now _ _ _ _ _ _ _ _ _ _ c.args.taken _ _
     (record {
       few = c.requires.few;
-      size = refl;
+      size = ap (λ most. most - c.args.taken) c.max_bytes.ensures.exact;
       most = omega (arith, c.in_ok-count.ensures.within, c.wanted.ensures);
       at_once = omega (arith, c.in_ok-count.ensures.within, c.wanted.ensures);
       moved = c.in_ok-count.ensures.moved;
@@ -38,14 +37,14 @@ returns-clause-goes g c =
       is = c.split_at.ensures.front;
       len = c.split_at.ensures.front_len;
     })
-    c.in_ok-take_front.ensures.fits c.in_ok-take_front.ensures.ok
+    c.in_ok-take_piece.ensures.fits c.in_ok-take_piece.ensures.ok
 
 pub returns-clause-quits : goal.returns-clause-quits
 returns-clause-quits g c =
-    quits_in (setup_of c.args.options.now) _ _ _ _ _ _ _ _ _ _ c.args.taken _ _
+    quits_in c.args.options.now _ _ _ _ _ _ _ _ _ _ c.args.taken _ _
     (record {
       few = c.requires.few;
-      size = refl;
+      size = ap (λ most. most - c.args.taken) c.max_bytes.ensures.exact;
       most = omega (arith, c.in_ok-count.ensures.within, c.wanted.ensures);
       at_once = omega (arith, c.in_ok-count.ensures.within, c.wanted.ensures);
       moved = c.in_ok-count.ensures.moved;
@@ -54,15 +53,15 @@ returns-clause-quits g c =
       is = c.split_at.ensures.front;
       len = c.split_at.ensures.front_len;
     })
-    c.requires.running c.in_ok-take_front.ensures.ok
+    c.requires.running c.in_ok-take_piece.ensures.ok
 
 pub returns-in_err-count-clause-stands : goal.returns-in_err-count-clause-stands
-returns-in_err-count-clause-stands g c = some_same _ (setup_of c.args.options.now) _ c.args.map.now c.args.session.now
+returns-in_err-count-clause-stands g c = some_same _ c.args.options.now _ c.args.map.now c.args.session.now
 
-pub returns-in_err-take_front-clause-stands : goal.returns-in_err-take_front-clause-stands
-returns-in_err-take_front-clause-stands g c =
-    some_stop _ (setup_of c.args.options.now) _ _ c.args.map.now c.take_front.new.map c.args.session.now c.take_front.new.session _ _ _ c.in_err-take_front.ensures.stops
+pub returns-in_err-take_piece-clause-stands : goal.returns-in_err-take_piece-clause-stands
+returns-in_err-take_piece-clause-stands g c =
+    some_stop _ c.args.options.now _ _ c.args.map.now c.take_piece.new.map c.args.session.now c.take_piece.new.session _ _ _ c.in_err-take_piece.ensures.stops
 
 pub returns-clause-given : goal.returns-clause-given
 returns-clause-given g c =
-    some_more (setup_of c.args.options.now) _ _ c.args.map.now c.take_front.new.map c.args.session.now c.take_front.new.session _ c.in_ok-take_front.ensures.ok
+    some_more c.args.options.now _ _ c.args.map.now c.take_piece.new.map c.args.session.now c.take_piece.new.session _ c.in_ok-take_piece.ensures.ok

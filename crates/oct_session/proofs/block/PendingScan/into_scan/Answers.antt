@@ -1,5 +1,5 @@
 use Rattle.std.proofs.Common.{rules, ◌≡◌}
-use Rattle.oct_session.proofs.Zeros.{not_zero}
+use Rattle.oct_session.proofs.ZeroQuaternion.{not_zero}
 use Rattle.oct_session.proofs.block.PendingScan.into_scan.Goals as goal
 
 pub returns-clause-zero : goal.returns-clause-zero

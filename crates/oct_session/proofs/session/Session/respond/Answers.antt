@@ -1,19 +1,18 @@
 use Rattle.std.proofs.Common.{◌∙◌}
-use Rattle.oct_session.specs.Setup.{setup_of}
 use Rattle.oct_session.proofs.Halting.{untold_err, part_err}
 use Rattle.oct_session.proofs.Progresses.{reached_line}
 use Rattle.oct_session.proofs.session.Session.respond.Goals as goal
 
 pub returns-in_err-answer-clause-err : goal.returns-in_err-answer-clause-err
 returns-in_err-answer-clause-err g c =
-    untold_err _ (setup_of c.args.options.now) _ c.args.map.now c.answer.new.map c.args.self.now c.requires.running c.in_err-answer.ensures.err
+    untold_err _ c.args.options.now _ c.args.map.now c.answer.new.map c.args.self.now c.requires.running c.in_err-answer.ensures.err
 
 pub returns-in_err-write_all-clause-err : goal.returns-in_err-write_all-clause-err
 returns-in_err-write_all-clause-err g c =
-    part_err _ (setup_of c.args.options.now) _ _ c.args.map.now c.answer.new.map c.args.self.now _ c.deref.result.now _ c.requires.running
+    part_err _ c.args.options.now _ _ c.args.map.now c.answer.new.map c.args.self.now _ c.deref.result.now _ c.requires.running
     c.in_ok-answer.ensures.between (λ p at. c.deref.ensures.value ∙ c.in_ok-answer.ensures.text p at) c.in_err-write_all.ensures.err.1 c.in_err-write_all.ensures.err.2
 
 pub returns-clause-ok : goal.returns-clause-ok
 returns-clause-ok g c = λ w p at.
-    reached_line (setup_of c.args.options.now) w _ _ c.args.map.now c.answer.new.map c.args.self.now _ p c.args.self.now.lines.line c.deref.result.now c.requires.running at
+    reached_line c.args.options.now w _ _ c.args.map.now c.answer.new.map c.args.self.now _ p c.args.self.now.line.line c.deref.result.now c.requires.running at
     (c.in_ok-answer.ensures.between p at.between) (c.deref.ensures.value ∙ c.in_ok-answer.ensures.text p at.between) c.in_ok-write_all.ensures.ok

@@ -1,4 +1,4 @@
--- That the map stands for some history, whatever the source and the sink tell.
+-- That the map stands for some history, whatever the source and the sink show.
 use Rattle.std.proofs.Common.{ℕ, List, [], ◌++◌, Option, Result, Ok, Err, OnOk, OnErr, inl, inr}
 use Rattle.oct_io.specs.Files.{Files, no_files}
 use Rattle.oct_map.specs.Map.{Map}
@@ -10,7 +10,7 @@ use Rattle.oct_session.specs.Leaving.{StandsForSome, IsHaltedBetween}
 use Rattle.oct_session.specs.Session.{Progress, progress, closed}
 use Rattle.oct_session.specs.Setup.{Setup}
 use Rattle.oct_session.proofs.Endings.{IsNew, serving_start}
-use Rattle.oct_session.specs.Standing.{HasReached, IsAt, IsAtSome, StopsIn, StopsAtEnd}
+use Rattle.oct_session.specs.Standing.{Takes, HasReached, IsAt, IsAtSome, StopsIn, StopsAtEnd}
 
 -- a session before its first bytes
 pub some_start : (o : Setup) (w : Option (List ℕ)) (m : Map) (s : Session) → IsNew o m s → IsAtSome o no_files w w m s
@@ -22,7 +22,7 @@ some_at o files w v m s at = (_, at.1.reached.between.stands)
 
 -- a session that was given more
 pub some_more : (o : Setup) (v u : Option (List ℕ)) (m n : Map) (s t : Session) (piece : List ℕ) →
-    ((files : Files) (w : Option (List ℕ)) (bytes : List ℕ) → IsAt o files w v m s bytes → IsAt o files w u n t (bytes ++ piece)) →
+    (Takes o v u m n s t piece) →
     (files : Files) (w : Option (List ℕ)) → IsAtSome o files w v m s → IsAtSome o files w u n t
 some_more o v u m n s t piece goes files w at = (at.0 ++ piece, goes files w at.0 at.1)
 

@@ -5,9 +5,10 @@ use Rattle.oct_key.specs.Voxel.{Voxel, key_at}
 use Rattle.oct_key.specs.declared.point.Point.{Point}
 use Rattle.oct_odds.specs.declared.event.Event.{Event}
 use Rattle.oct_map.specs.Map.{Map, IsSameSetup, values_of}
-use Rattle.oct_map.specs.Outcome.{outcome_of, outcome_in}
+use Rattle.oct_map.specs.Outcome.{outcome_of}
+use Rattle.oct_map.specs.Edits.{outcome_in}
 use Rattle.oct_scan.specs.Beam.{Sighting}
-use Rattle.oct_tree.specs.Changes.{SameValues}
+use Rattle.oct_key.specs.Values.{SameValues}
 use Rattle.oct_tree.specs.Shape.{IsPruned}
 use Rattle.oct_values.specs.Events.{Events, event_at, after_event, updated}
 use Rattle.oct_script.specs.declared.command.Edit.{Edit}

@@ -8,7 +8,7 @@ use Rattle.oct_map.specs.Answers.{edit_answer, edit_answer_at, edit_need, is_ful
 use Rattle.oct_map.specs.Outcome.{need_of, done_of}
 use Rattle.oct_map.specs.declared.fault.MapFault.{MapFault}
 use Rattle.oct_map.specs.declared.fault.MapFault.TheVariants as map_fault
-use Rattle.oct_map.specs.declared.map.ScanDone.{ScanDone}
+use Rattle.oct_map.specs.declared.done.ScanDone.{ScanDone}
 use Rattle.oct_scan.specs.Answer.{first_outside}
 use Rattle.oct_scan.specs.Beam.{Sighting, origin_of}
 use Rattle.oct_scan.specs.Outcome.{scan_fault, point_fault, cells_fault, first_excess}
@@ -63,7 +63,7 @@ point_known edge s None None = λ is. cc
 point_known edge s None (Some index) = λ is. cc
 point_known edge s (Some index) excess = λ is. cc
 
--- why a scan is refused is not want of memory
+-- why a scan is refused is not that memory ran out
 fault_known : (edge : ℕ) (s : Sighting) (most : ℕ) → scan_fault edge s most ≢ Some scan_fault_of.Memory
 unfolding scan_fault
 fault_known edge s most =

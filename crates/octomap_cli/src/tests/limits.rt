@@ -1,0 +1,278 @@
+//! Limits on groups, on voxels of a scan, on bytes and on lines, and pieces of the input.
+use super::{LimitCase, answer, check_limits, session};
+use oct_session::Status;
+use std::alloc::Global;
+use std::test::Fail;
+
+/// Maps of a few groups.
+const GROUPS: [LimitCase; 3] = [
+    (
+        "--max-groups",
+        "16",
+        "hit 0 0 0\nhit 1 0 0\nget 0 0 0 0\nget 1 0 0 16\n",
+        "ok\nrefused 23 Full groups 16 need 16\nknown 850 occupied\nunknown\n",
+        Status::Refused,
+    ),
+    (
+        "--max-groups",
+        "31",
+        "hit 0 0 0 lazy\nhit 0.1 0 0 lazy\nget 0.1 0 0 16\n",
+        "ok\nrefused 23 Full groups 16 need 16\nunknown\n",
+        Status::Refused,
+    ),
+    (
+        "--max-groups",
+        "32",
+        "hit 0 0 0 lazy\nhit 0.1 0 0 lazy\nhit 0 0.1 0 lazy\nhit 0.1 0.1 0 lazy\nhit 0 0 0.1 lazy\nhit 0.1 0 0.1 lazy\nhit 0 0.1 0.1 lazy\nhit 0.1 0.1 0.1 lazy\ncounts\nhit 1 0 0\n",
+        "ok\nok\nok\nok\nok\nok\nok\nok\ngroups 15 nodes 16\nok\n",
+        Status::Done,
+    ),
+];
+
+#[test]
+fn a_full_map_refuses_edits(rt: HostRuntime) -> Result<(), Fail> {
+    check_limits(&rt, rt.alloc(), &GROUPS, 4096)
+}
+
+/// Limits that a scan meets.
+const SCANS: [LimitCase; 8] = [
+    (
+        "--max-cells",
+        "3",
+        "scan 0.05 0.05 0.05 1 0 0 0 all\np 0.2 0 0\np 0.4 0 0\nend\n",
+        "refused 8 TooManyCells index 1 cells 8\n",
+        Status::Refused,
+    ),
+    (
+        "--max-cells",
+        "8",
+        "scan 0.05 0.05 0.05 1 0 0 0 all\np 0.2 0 0\np 0.4 0 0\nend\n",
+        "ok hits 2 frees 3\n",
+        Status::Done,
+    ),
+    (
+        "--max-cells",
+        "1",
+        "scan 0 0 0 1 0 0 0 all\np 1 0 0\np 4000 0 0\nend\n",
+        "refused 7 PointOutside index 1\n",
+        Status::Refused,
+    ),
+    (
+        "--max-groups",
+        "16",
+        "scan 0.05 0.05 0.05 1 0 0 0 all\np 0.2 0 0\np 0.4 0 0\nend\n",
+        "refused 23 Full groups 0 need 19\n",
+        Status::Refused,
+    ),
+    (
+        "--max-groups",
+        "19",
+        "scan 0.05 0.05 0.05 1 0 0 0 all\np 0.2 0 0\np 0.4 0 0\nend\n",
+        "ok hits 2 frees 3\n",
+        Status::Done,
+    ),
+    (
+        "--max-bytes",
+        "41",
+        "hit 0 0 0\nscan 0 0 0 1 0 0 0 all\np 1 0 0\nend\n",
+        "ok\n",
+        Status::TooLong,
+    ),
+    (
+        "--max-bytes",
+        "44",
+        "hit 0 0 0\nscan 0 0 0 1 0 0 0 all\np 1 0 0\nend\n",
+        "ok\n",
+        Status::TooLong,
+    ),
+    (
+        "--max-bytes",
+        "45",
+        "hit 0 0 0\nscan 0 0 0 1 0 0 0 all\np 1 0 0\nend\n",
+        "ok\nok hits 1 frees 10\n",
+        Status::Done,
+    ),
+];
+
+#[test]
+fn limits_that_a_scan_meets(rt: HostRuntime) -> Result<(), Fail> {
+    check_limits(&rt, rt.alloc(), &SCANS, 4096)
+}
+
+/// Limits before, in and after a line.
+const BYTES: [LimitCase; 14] = [
+    ("--max-bytes", "0", "", "", Status::Done),
+    (
+        "--max-bytes",
+        "0",
+        "hit 0 0 0\nget 0 0 0 16\n",
+        "",
+        Status::TooLong,
+    ),
+    (
+        "--max-bytes",
+        "9",
+        "hit 0 0 0\nget 0 0 0 16\n",
+        "",
+        Status::TooLong,
+    ),
+    (
+        "--max-bytes",
+        "10",
+        "hit 0 0 0\nget 0 0 0 16\n",
+        "ok\n",
+        Status::TooLong,
+    ),
+    (
+        "--max-bytes",
+        "22",
+        "hit 0 0 0\nget 0 0 0 16\n",
+        "ok\n",
+        Status::TooLong,
+    ),
+    (
+        "--max-bytes",
+        "23",
+        "hit 0 0 0\nget 0 0 0 16\n",
+        "ok\nknown 850 occupied\n",
+        Status::Done,
+    ),
+    (
+        "--max-bytes",
+        "24",
+        "hit 0 0 0\nget 0 0 0 16\n",
+        "ok\nknown 850 occupied\n",
+        Status::Done,
+    ),
+    (
+        "--max-bytes",
+        "13",
+        "hit\nhit 0 0 0\n",
+        "refused 29 Syntax line 1 column 4\n",
+        Status::TooLong,
+    ),
+    (
+        "--max-bytes",
+        "14",
+        "hit 0 0 0\nquit\nhit 0 0 0\n",
+        "ok\n",
+        Status::TooLong,
+    ),
+    (
+        "--max-bytes",
+        "15",
+        "hit 0 0 0\nquit\nhit 0 0 0\n",
+        "ok\n",
+        Status::Done,
+    ),
+    (
+        "--max-bytes",
+        "16",
+        "hit 0 0 0\nquit\nhit 0 0 0\n",
+        "ok\n",
+        Status::Done,
+    ),
+    (
+        "--max-bytes",
+        "9",
+        "hit\nquit\nhit",
+        "refused 29 Syntax line 1 column 4\n",
+        Status::Refused,
+    ),
+    ("--max-bytes", "14", "hit 0 0 0\nquit", "ok\n", Status::Done),
+    (
+        "--max-bytes",
+        "13",
+        "hit 0 0 0\nquit",
+        "ok\n",
+        Status::TooLong,
+    ),
+];
+
+#[test]
+fn byte_limits_before_in_and_after_a_line(rt: HostRuntime) -> Result<(), Fail> {
+    for most_read in [1, 5, 4096] {
+        check_limits(&rt, rt.alloc(), &BYTES, most_read)?;
+    }
+    Ok(())
+}
+
+/// The front of a line, how many blanks follow, the rest of the script, and its replies.
+const LONG_LINES: [(&str, usize, &str, &str); 9] = [
+    ("hit 0 0 0", 4087, "\n", "ok\n"),
+    ("hit 0 0 0", 4088, "\n", "refused 30 LongLine line 1\n"),
+    ("hit 0 0 0", 4086, "\r\n", "ok\n"),
+    ("hit 0 0 0", 4087, "\r\n", "refused 30 LongLine line 1\n"),
+    ("hit 0 0 0", 4088, "", "refused 30 LongLine line 1\n"),
+    ("", 4097, "\n", "refused 30 LongLine line 1\n"),
+    (
+        "# a comment",
+        4096,
+        "\nget 0 0 0 16",
+        "refused 30 LongLine line 1\nunknown\n",
+    ),
+    (
+        "quit",
+        4093,
+        "\nhit 0 0 0\n",
+        "refused 30 LongLine line 1\nok\n",
+    ),
+    ("quit", 4092, "\nhit 0 0 0\n", ""),
+];
+
+/// A script with blanks in it.
+fn padded(alloc: Global, front: &str, blanks: usize, end: &str) -> Result<Vec<u8>, Fail> {
+    let mut script = Vec::from_slice(alloc, front.as_bytes())?;
+    for _ in 0..blanks {
+        script.push(b' ')?;
+    }
+    script.extend_from_slice(end.as_bytes())?;
+    Ok(script)
+}
+
+#[test]
+fn lines_of_4096_bytes_are_read_and_longer_ones_are_not(rt: HostRuntime) -> Result<(), Fail> {
+    for (front, blanks, end, replies) in LONG_LINES {
+        let (_, text) = session(rt.alloc(), &padded(rt.alloc(), front, blanks, end)?)?;
+        assert_eq!(rt;
+            text.as_slice(),
+            replies.as_bytes(),
+            "{front:?}, {blanks} blanks and {end:?}"
+        );
+    }
+    Ok(())
+}
+
+#[test]
+fn a_long_line_in_a_block_is_its_fault(rt: HostRuntime) -> Result<(), Fail> {
+    let head = "scan 0 0 0 1 0 0 0 all\np 1 0 0";
+    let script = padded(rt.alloc(), head, 4090, "\nhit\nend\nhit 0 0 0\n")?;
+    let (_, text) = session(rt.alloc(), &script)?;
+    assert_eq!(rt;
+        text.as_slice(),
+        b"refused 30 LongLine line 2\nok\n".as_slice()
+    );
+    Ok(())
+}
+
+#[test]
+fn any_cut_of_the_input_and_of_the_output_is_the_same(rt: HostRuntime) -> Result<(), Fail> {
+    for most_read in [1usize, 2, 7, 4096] {
+        for most_written in [3usize, 4096] {
+            let (status, text) = answer(
+                rt.alloc(),
+                &["session", "0.1"],
+                b"hit 0 0 0\r\n\nget 0 0 0 16\nhit\nget 1 0 0 16\nquit\nhit 0 0 0",
+                most_read,
+                most_written,
+            )?;
+            assert_eq!(rt; status, Status::Refused, "{most_read} bytes a read");
+            assert_eq!(rt;
+                text.as_slice(),
+                b"ok\nknown 850 occupied\nrefused 29 Syntax line 4 column 4\nunknown\n".as_slice(),
+                "{most_read} bytes a read"
+            );
+        }
+    }
+    Ok(())
+}

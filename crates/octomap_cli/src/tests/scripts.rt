@@ -1,0 +1,277 @@
+//! Edits, queries, counts and refusals.
+use super::{Case, check, session};
+use oct_session::Status;
+use std::alloc::Global;
+use std::process::Abort;
+use std::test::Fail;
+
+/// Edits, and the values that they leave.
+const VALUES: [Case; 8] = [
+    ("", "", Status::Done),
+    (
+        "hit 0 0 0\nget 0 0 0 16\n",
+        "ok\nknown 850 occupied\n",
+        Status::Done,
+    ),
+    (
+        "hit 0 0 0\nget -0.05 -0.05 -0.05 16\n",
+        "ok\nunknown\n",
+        Status::Done,
+    ),
+    (
+        "hit 0.05 0.05 0.05\nget 0.099999999 0 0 16\nget 0.1 0 0 16\n",
+        "ok\nknown 850 occupied\nunknown\n",
+        Status::Done,
+    ),
+    (
+        "hit 0 0 0\nhit 0 0 0\nhit 0 0 0\nhit 0 0 0\nhit 0 0 0\nget 0 0 0 16\nhit 0 0 0\nget 0 0 0 16\nmiss 0 0 0\nget 0 0 0 16\n",
+        "ok\nok\nok\nok\nok\nknown 3500 occupied\nok\nknown 3500 occupied\nok\nknown 3100 occupied\n",
+        Status::Done,
+    ),
+    (
+        "miss 0 0 0\nmiss 0 0 0\nmiss 0 0 0\nmiss 0 0 0\nmiss 0 0 0\nmiss 0 0 0\nget 0 0 0 16\nhit 0 0 0\nget 0 0 0 16\nhit 0 0 0\nget 0 0 0 16\nhit 0 0 0\nget 0 0 0 16\n",
+        "ok\nok\nok\nok\nok\nok\nknown -2000 free\nok\nknown -1150 free\nok\nknown -300 free\nok\nknown 550 occupied\n",
+        Status::Done,
+    ),
+    (
+        "set 0 0 0 9000\nget 0 0 0 16\nadd 0 0 0 -9000\nget 0 0 0 16\nforget 0 0 0\nget 0 0 0 16\n",
+        "ok\nknown 3500 occupied\nok\nknown -2000 free\nok\nunknown\n",
+        Status::Done,
+    ),
+    (
+        "add 0 0 0 0\nget 0 0 0 16\nset 0 0 0 -1\nget 0 0 0 16\nset 1 0 0 1000000\nget 0 0 0 16\n",
+        "ok\nknown 0 occupied\nok\nknown -1 free\nok\nknown -1 free\n",
+        Status::Done,
+    ),
+];
+
+#[test]
+fn values_are_clamped_at_each_step(rt: HostRuntime) -> Result<(), Fail> {
+    check(&rt, rt.alloc(), &VALUES)
+}
+
+/// Queries of blocks.
+const BLOCKS: [Case; 4] = [
+    (
+        "hit 0 0 0\nget -0.05 -0.05 -0.05 16\nget -0.05 -0.05 -0.05 1\nget -0.05 -0.05 -0.05 0\n",
+        "ok\nunknown\nunknown\nknown 850 occupied\n",
+        Status::Done,
+    ),
+    (
+        "hit 0 0 0\nmiss 0.1 0 0\nget 0.1 0 0 15\nget 0.1 0 0 16\n",
+        "ok\nok\nknown 850 occupied\nknown -400 free\n",
+        Status::Done,
+    ),
+    (
+        "hit 0 0 0 lazy\nget 0 0 0 16\nget 0 0 0 15\nrefresh\nget 0 0 0 15\n",
+        "ok\nknown 850 occupied\nrefused 22 Stale\nok\nknown 850 occupied\n",
+        Status::Refused,
+    ),
+    (
+        "set 0 0 0 3500\nhit 0 0 0 lazy\nprune\ncounts\nget 4000 0 0 17\nget 0 0 0 17\nget 0 0 0 0\n",
+        "ok\nok\nok\ngroups 16 nodes 17\nrefused 24 Outside point 1\nrefused 25 BadDepth\nrefused 22 Stale\n",
+        Status::Refused,
+    ),
+];
+
+#[test]
+fn blocks_answer_their_largest_value_once_refreshed(rt: HostRuntime) -> Result<(), Fail> {
+    check(&rt, rt.alloc(), &BLOCKS)
+}
+
+/// The eight voxels beside the corner of the origin.
+const CORNER: [&str; 8] = [
+    "0 0 0",
+    "0.1 0 0",
+    "0 0.1 0",
+    "0.1 0.1 0",
+    "0 0 0.1",
+    "0.1 0 0.1",
+    "0 0.1 0.1",
+    "0.1 0.1 0.1",
+];
+
+/// A hit of each voxel of the corner: one each, or one more for each voxel.
+fn hits(alloc: Global, equal: bool) -> Result<String, Fail> {
+    let mut script = String::new(alloc);
+    for (index, point) in CORNER.iter().enumerate() {
+        let times = if equal { 1 } else { index + 1 };
+        for _ in 0..times {
+            writeln!(script, "hit {point}")?;
+        }
+    }
+    Ok(script)
+}
+
+/// Whether the counts after a script are these.
+fn check_counts(rt: &impl Abort, alloc: Global, script: &str, counted: &str) -> Result<(), Fail> {
+    let asked = format!(in alloc; "{script}counts\n")?;
+    let (status, text) = session(alloc, asked.as_bytes())?;
+    assert_eq!(rt; status, Status::Done, "at {script:?}");
+    assert!(rt; text.ends_with(counted.as_bytes()), "at {script:?}");
+    Ok(())
+}
+
+#[test]
+fn counts_are_the_least_that_the_values_need(rt: HostRuntime) -> Result<(), Fail> {
+    check_counts(&rt, rt.alloc(), "", "groups 0 nodes 0\n")?;
+    check_counts(&rt, rt.alloc(), "hit 0 0 0\n", "groups 16 nodes 17\n")?;
+    check_counts(
+        &rt,
+        rt.alloc(),
+        "hit 0 0 0\nforget 0 0 0\n",
+        "groups 0 nodes 0\n",
+    )?;
+    check_counts(
+        &rt,
+        rt.alloc(),
+        &hits(rt.alloc(), true)?,
+        "groups 15 nodes 16\n",
+    )?;
+    check_counts(
+        &rt,
+        rt.alloc(),
+        &hits(rt.alloc(), false)?,
+        "groups 16 nodes 24\n",
+    )
+}
+
+/// Lines that are `quit`, and lines that are not.
+const QUITS: [Case; 7] = [
+    ("hit 0 0 0\nquit\nhit 0 0 0\n", "ok\n", Status::Done),
+    ("quit", "", Status::Done),
+    (" quit\t\r\nhit\n", "", Status::Done),
+    (
+        "hit\nquit\nrefresh",
+        "refused 29 Syntax line 1 column 4\n",
+        Status::Refused,
+    ),
+    (
+        "quit 1\nhit 0 0 0\n",
+        "refused 29 Syntax line 1 column 6\nok\n",
+        Status::Refused,
+    ),
+    ("quit\r", "refused 36 NotYet\n", Status::Refused),
+    ("# quit\nhit 0 0 0\n", "ok\n", Status::Done),
+];
+
+#[test]
+fn quit_ends_the_session(rt: HostRuntime) -> Result<(), Fail> {
+    check(&rt, rt.alloc(), &QUITS)
+}
+
+/// Lines that are refused.
+const REFUSALS: [Case; 6] = [
+    (
+        "get 0 0\nhit 0 0 x\nhit 4000 0 0\nget 0 0 0 17\n",
+        "refused 29 Syntax line 1 column 8\nrefused 29 Syntax line 2 column 9\nrefused 24 Outside point 1\nrefused 25 BadDepth\n",
+        Status::Refused,
+    ),
+    (
+        "box 0 0 0 0 0 0 hit\nsave m\nlist 0 0 0 1 1 1 16\ncast 0 0 0 1 0 0\nget 0 0 0 0016\nget 0 0 0 12345678\n",
+        "refused 36 NotYet\nrefused 36 NotYet\nrefused 36 NotYet\nrefused 36 NotYet\nunknown\nrefused 29 Syntax line 6 column 11\n",
+        Status::Refused,
+    ),
+    (
+        "p 1 0 0\n end\nend 1\np\n",
+        "refused 29 Syntax line 1 column 1\nrefused 29 Syntax line 2 column 2\nrefused 29 Syntax line 3 column 1\nrefused 29 Syntax line 4 column 1\n",
+        Status::Refused,
+    ),
+    (
+        "hit 0 0 0 lazy lazy\ncounts 1\nrefresh lazy\nprune x\nhit 0 0 lazy\n",
+        "refused 29 Syntax line 1 column 16\nrefused 29 Syntax line 2 column 8\nrefused 29 Syntax line 3 column 9\nrefused 29 Syntax line 4 column 7\nrefused 29 Syntax line 5 column 9\n",
+        Status::Refused,
+    ),
+    (
+        "hit 0 0 0 x\nhit x 0 0\nhit\nget 0 0 0\nset 0 0 0 1000001\n",
+        "refused 29 Syntax line 1 column 11\nrefused 29 Syntax line 2 column 5\nrefused 29 Syntax line 3 column 4\nrefused 29 Syntax line 4 column 10\nrefused 29 Syntax line 5 column 11\n",
+        Status::Refused,
+    ),
+    (
+        "miss 0 3276.8 0\nget 0 3276.7 0 16\n",
+        "refused 24 Outside point 1\nunknown\n",
+        Status::Refused,
+    ),
+];
+
+#[test]
+fn refusals_name_line_and_column(rt: HostRuntime) -> Result<(), Fail> {
+    check(&rt, rt.alloc(), &REFUSALS)
+}
+
+/// Points at the faces of the map, and beyond them.
+const FACES: [Case; 13] = [
+    ("get 3276.799999999 0 0 16\n", "unknown\n", Status::Done),
+    ("get 0 3276.799999999 0 16\n", "unknown\n", Status::Done),
+    ("get 0 0 3276.799999999 16\n", "unknown\n", Status::Done),
+    ("get -3276.8 0 0 16\n", "unknown\n", Status::Done),
+    ("get 0 -3276.8 0 16\n", "unknown\n", Status::Done),
+    ("get 0 0 -3276.8 16\n", "unknown\n", Status::Done),
+    (
+        "get 3276.8 0 0 16\n",
+        "refused 24 Outside point 1\n",
+        Status::Refused,
+    ),
+    (
+        "get 0 3276.8 0 16\n",
+        "refused 24 Outside point 1\n",
+        Status::Refused,
+    ),
+    (
+        "get 0 0 3276.8 16\n",
+        "refused 24 Outside point 1\n",
+        Status::Refused,
+    ),
+    (
+        "get -3276.800000001 0 0 16\n",
+        "refused 24 Outside point 1\n",
+        Status::Refused,
+    ),
+    (
+        "get 0 -3276.800000001 0 16\n",
+        "refused 24 Outside point 1\n",
+        Status::Refused,
+    ),
+    (
+        "get 0 0 -3276.800000001 16\n",
+        "refused 24 Outside point 1\n",
+        Status::Refused,
+    ),
+    (
+        "hit 4000 0 0\nget 0 0 0 16\n",
+        "refused 24 Outside point 1\nunknown\n",
+        Status::Refused,
+    ),
+];
+
+#[test]
+fn coordinates_at_the_faces_of_the_map(rt: HostRuntime) -> Result<(), Fail> {
+    check(&rt, rt.alloc(), &FACES)
+}
+
+/// Line feeds, carriage returns, blanks and comments.
+const LINES: [Case; 6] = [
+    (
+        "hit 0 0 0\r\nget 0 0 0 16",
+        "ok\nknown 850 occupied\n",
+        Status::Done,
+    ),
+    (
+        "\n \t\n# hit 0\n  # hit\n\r\nhit 0 0 \n",
+        "refused 29 Syntax line 6 column 9\n",
+        Status::Refused,
+    ),
+    ("\t hit \t 0  0\t0 \t\n", "ok\n", Status::Done),
+    (
+        "get 0 0 0 16\r",
+        "refused 29 Syntax line 1 column 11\n",
+        Status::Refused,
+    ),
+    ("\r", "refused 36 NotYet\n", Status::Refused),
+    ("#\r", "", Status::Done),
+];
+
+#[test]
+fn line_ends_blanks_and_comments(rt: HostRuntime) -> Result<(), Fail> {
+    check(&rt, rt.alloc(), &LINES)
+}
