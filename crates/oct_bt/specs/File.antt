@@ -1,0 +1,60 @@
+-- A whole file: how it is written, and what it is read as.
+use Rattle.std.specs.Prelude.{codes, ℕ, List, [], ◌∷◌, ◌++◌, drop, Result, Ok, Err}
+use Rattle.std.specs.Fmt.{decimal}
+use Rattle.oct_num.specs.MetresText.{metres_text}
+use Rattle.oct_bt.specs.declared.fault.BtFault.{BtFault}
+use Rattle.oct_bt.specs.Classes.{Classes}
+use Rattle.oct_bt.specs.Canonical.{canonical_data, canonical_size}
+use Rattle.oct_bt.specs.NodeData.{read_nodes}
+use Rattle.oct_bt.specs.Header.{Header, head_of, header_of}
+use Rattle.std.specs.Prelude.{pos}
+
+-- ---- what is written
+
+-- lines, each ended by a line feed
+unfoldable pub text_of_lines : List (List ℕ) → List ℕ
+text_of_lines [] = []
+text_of_lines (line ∷ lines) = line ++ (10 ∷ text_of_lines lines)
+
+-- the lines of a header with these texts of the size and of the resolution
+abbrev pub header_lines : List ℕ → List ℕ → List (List ℕ)
+header_lines size res =
+    codes "# Octomap OcTree binary file"
+    ∷ codes "# (feel free to add / change comments, but leave the first line as it is!)"
+    ∷ codes "#"
+    ∷ codes "id OcTree"
+    ∷ (codes "size " ++ size)
+    ∷ (codes "res " ++ res)
+    ∷ codes "data"
+    ∷ []
+
+-- the header of a number of nodes and of a resolution in nanometres
+unfoldable pub header_text : ℕ → ℕ → List ℕ
+header_text nodes res = text_of_lines (header_lines (decimal nodes) (metres_text (pos res)))
+
+-- the canonical file of a resolution and a class for each voxel
+unfoldable pub bt_text : ℕ → Classes → List ℕ
+bt_text res classes = header_text (canonical_size classes) res ++ canonical_data classes
+
+-- ---- what is read
+
+-- a file that was read: the nanometres of its resolution, the bytes of its records, two for each,
+-- and the number of its nodes
+pub record FileRead : Type 0 where
+  pub res : ℕ
+  pub codes : List ℕ
+  pub nodes : ℕ
+
+abbrev pub file_with : Header → Result (List ℕ) BtFault → Result FileRead BtFault
+file_with header (Ok records) =
+    Ok (record { res = header.res; codes = records; nodes = header.size })
+file_with header (Err fault) = Err fault
+
+abbrev pub after_header : List ℕ → Result Header BtFault → Result FileRead BtFault
+after_header file (Err fault) = Err fault
+after_header file (Ok header) =
+    file_with header (read_nodes header.start header.size (drop header.start file))
+
+-- the reading of a whole file, or its first fault
+unfoldable pub reading : List ℕ → Result FileRead BtFault
+reading file = after_header file (header_of (head_of file))

@@ -1,0 +1,10 @@
+pub mod Classes
+pub mod Records
+pub mod Canonical
+pub mod NodeData
+pub mod Path
+pub mod Header
+pub mod File
+pub mod Reading
+pub mod Holding
+pub mod Plain

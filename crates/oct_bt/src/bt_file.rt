@@ -1,0 +1,87 @@
+ghost use Rattle.std.specs.Prelude.{◌≡◌, ◌↔◌, IsTrue};
+ghost use Rattle.oct_bt.specs.Classes.{Classes};
+ghost use Rattle.oct_bt.specs.Canonical.{canonical_data};
+ghost use Rattle.oct_bt.specs.Plain.{is_canonical_data};
+ghost use Rattle.oct_bt.specs.NodeData.{IsAccepted, IsDataOf};
+
+use crate::code_list::CodeList;
+use crate::path::has_plain;
+use oct_key::Res;
+use std::marker::Model;
+
+/// A file that was read. Contracts see it as a `FileRead`: the resolution, the bytes of its
+/// records, and the number of its nodes.
+///
+/// Its type keeps that it has no records and no nodes, or that its codes are the text of a record
+/// of the whole map, with all that is below it, and the nodes are one more than the number of its
+/// codes that aren't 0.
+#[derive(Drop)]
+pub struct BtFile {
+    res: Res,
+    codes: CodeList,
+    nodes: u64,
+}
+
+impl Model for BtFile {
+    ghost use Rattle.oct_bt.specs.File.{FileRead};
+    ghost use Rattle.oct_bt.specs.NodeData.{IsAccepted};
+
+    ghost Value = { FileRead };
+
+    ghost view = { λ f. record { res = f.res; codes = f.codes; nodes = f.nodes } };
+
+    ghost invariant = { λ f. IsAccepted f.nodes f.codes };
+}
+
+impl BtFile {
+    /// A file of these parts.
+    pub(crate) fn new(res: Res, codes: CodeList, nodes: u64) -> Self
+        requires { IsAccepted nodes codes }
+        ensures { result ≡ record { res = res; codes = codes; nodes = nodes } }
+    {
+        BtFile { res, codes, nodes }
+    }
+
+    /// The resolution.
+    pub fn res(&self) -> Res
+        ensures { result ≡ self.now.res }
+    {
+        self.res
+    }
+
+    /// The codes of the records, two bytes for each, a record before those of its children.
+    pub fn codes(&self) -> &CodeList
+        ensures codes { result.now ≡ self.now.codes }
+        ensures accepted { IsAccepted self.now.nodes self.now.codes }
+    {
+        &self.codes
+    }
+
+    /// The number of nodes, the root included.
+    pub fn nodes(&self) -> u64
+        ensures { result ≡ self.now.nodes }
+    {
+        self.nodes
+    }
+
+    /// Whether the node data is the canonical one of the classes that it stands for.
+    pub fn is_canonical(&self) -> bool
+        ensures test { result ≡ is_canonical_data self.now.codes }
+        ensures exact { (classes : Classes) → IsDataOf classes self.now.codes
+            → IsTrue result ↔ (self.now.codes ≡ canonical_data classes) }
+    {
+        passes(self.codes().as_slice())
+    }
+}
+
+/// Whether this text passes the test for canonical node data.
+fn passes(codes: &[u8]) -> bool
+    ensures { result ≡ is_canonical_data codes.now }
+{
+    if codes.len() < 2 {
+        return codes.is_empty();
+    }
+    let (_, rest) = codes.split_at(2);
+    let root = u16::from(codes[0]) + 256 * u16::from(codes[1]);
+    root != 0 && !has_plain(rest)
+}

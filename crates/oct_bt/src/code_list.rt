@@ -1,0 +1,54 @@
+ghost use Rattle.std.specs.Prelude.{◌≡◌, ◌++◌, [], ◌∷◌, OnErr, OnOk};
+
+use oct_num::Memory;
+use std::alloc::Global;
+use std::marker::Model;
+
+/// The codes of records, two bytes for each. Contracts see them as a list of bytes.
+#[derive(Debug, Drop)]
+pub struct CodeList {
+    bytes: Vec<u8>,
+}
+
+impl Model for CodeList {
+    ghost use Rattle.std.specs.Prelude.{ℕ, List};
+
+    ghost Value = { List ℕ };
+
+    ghost view = { λ codes. codes.bytes.items };
+}
+
+impl CodeList {
+    /// No records.
+    pub fn new(alloc: Global) -> Self
+        ensures { result ≡ [] }
+    {
+        CodeList {
+            bytes: Vec::new(alloc),
+        }
+    }
+
+    /// The bytes in order.
+    pub fn as_slice(&self) -> &[u8]
+        ensures { result.now ≡ self.now }
+    {
+        self.bytes.as_slice()
+    }
+
+    /// Adds the two bytes of a record at the end. After `Memory` the list is as it was.
+    pub fn push(&mut self, first: u8, second: u8) -> Result<(), Memory>
+        ensures ok { OnOk result (self.new ≡ self.old ++ first ∷ second ∷ []) }
+        ensures err { OnErr result (self.new ≡ self.old) }
+    {
+        self.bytes.extend_from_slice(&[first, second])?;
+        Ok(())
+    }
+}
+
+impl From<Vec<u8>> for CodeList {
+    ghost from_gives = { λ v codes. codes ≡ v.items };
+
+    fn from(bytes: Vec<u8>) -> Self {
+        CodeList { bytes }
+    }
+}

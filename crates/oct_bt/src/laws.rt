@@ -1,0 +1,59 @@
+ghost use Rattle.std.specs.Prelude.{◌≡◌, ◌≤◌, ◌<◌, ◌++◌, ◌↔◌, ℕ, List, length, Ok, Some};
+ghost use Rattle.std.specs.List.{All};
+ghost use Rattle.oct_key.specs.Voxel.{Voxel, IsInMap, IsResolution};
+ghost use Rattle.oct_key.specs.Block.{Cube, IsBlock, HoldsVoxel};
+ghost use Rattle.oct_odds.specs.declared.event.Class.{Class};
+ghost use Rattle.oct_bt.specs.Classes.{Classes, class_of_block};
+ghost use Rattle.oct_bt.specs.Records.{Entries, IsRecord, flat};
+ghost use Rattle.oct_bt.specs.Canonical.{canonical_data, canonical_size};
+ghost use Rattle.oct_bt.specs.File.{bt_text, reading};
+ghost use Rattle.oct_bt.specs.NodeData.{IsAccepted, IsDataOf, read_nodes};
+
+/// A block is of a class exactly where all its voxels are.
+pub fn block_classes_are_exact()
+    ensures exact { (c : Classes) (b : Cube) (x : Class) → IsBlock b
+        → class_of_block c b ≡ Some x ↔ ((k : Voxel) → HoldsVoxel b k → c k ≡ x) }
+{}
+
+/// Canonical data is the same exactly where the classes are.
+pub fn data_tells_classes()
+    ensures exact { (c e : Classes)
+        → canonical_data c ≡ canonical_data e ↔ ((k : Voxel) → IsInMap k → c k ≡ e k) }
+{}
+
+/// A text that begins with that of a record tells the record, and what stands after it.
+pub fn texts_tell_records()
+    ensures exact { (r q : Entries) (depth : ℕ) (rest more : List ℕ) → IsRecord depth r
+        → IsRecord depth q → flat r ++ rest ≡ flat q ++ more → (r ≡ q) × (rest ≡ more) }
+{}
+
+/// What stands for one classification stands for no other, and none of it is shorter than the
+/// canonical data.
+pub fn canonical_data_is_least()
+    ensures one { (c e : Classes) (bytes : List ℕ) → IsDataOf c bytes → IsDataOf e bytes
+        → (k : Voxel) → IsInMap k → c k ≡ e k }
+    ensures least { (c : Classes) (bytes : List ℕ) → IsDataOf c bytes
+        → length (canonical_data c) ≤ length bytes }
+    ensures only { (c : Classes) (bytes : List ℕ) → IsDataOf c bytes
+        → length bytes ≡ length (canonical_data c) → bytes ≡ canonical_data c }
+{}
+
+/// The reading accepts exactly the node data that is the text of a record, or empty, and is of its
+/// size.
+pub fn reading_is_exact()
+    ensures exact { (start size : ℕ) (bytes whole : List ℕ) → All (λ b. b < 256) bytes
+        → read_nodes start size bytes ≡ Ok whole ↔ ((whole ≡ bytes) × IsAccepted size bytes) }
+{}
+
+/// Canonical data is accepted, and stands for its classes.
+pub fn canonical_data_reads_back()
+    ensures accepted { (c : Classes) (start : ℕ)
+        → read_nodes start (canonical_size c) (canonical_data c) ≡ Ok (canonical_data c) }
+    ensures classes { (c : Classes) → IsDataOf c (canonical_data c) }
+{}
+
+/// A canonical file is read as its resolution, its node data and its number of nodes.
+pub fn canonical_files_read_back()
+    ensures read { (res : ℕ) (c : Classes) → IsResolution res → reading (bt_text res c)
+        ≡ Ok (record { res = res; codes = canonical_data c; nodes = canonical_size c }) }
+{}

@@ -1,0 +1,87 @@
+//! How many records of each depth are still to come.
+ghost use Rattle.std.specs.Prelude.{◌≡◌, ◌+◌, ◌<◌, ◌++◌, length, replicate, nat_eq, count_by, [], ◌∷◌};
+ghost use Rattle.oct_bt.specs.Canonical.{codes_in, known_codes};
+ghost use Rattle.oct_bt.specs.NodeData.{records_in};
+ghost use Rattle.oct_bt.specs.Plain.{is_plain, has_plain};
+ghost use Rattle.oct_bt.specs.Path.{pending_at, IsTopped, without_next};
+
+use arrayvec::ArrayVec;
+
+/// How many of the four codes of a byte are 3.
+fn threes(byte: u8) -> u8
+    ensures count { result ≡ count_by (λ code. nat_eq code 3) (codes_in byte) }
+    ensures few { result < 5 }
+{
+    u8::from(byte % 4 == 3)
+        + u8::from(byte / 4 % 4 == 3)
+        + u8::from(byte / 16 % 4 == 3)
+        + u8::from(byte / 64 % 4 == 3)
+}
+
+/// How many of the four codes of a byte aren't 0.
+pub fn known_codes(byte: u8) -> u8
+    ensures count { result ≡ known_codes (byte ∷ []) }
+    ensures few { result < 5 }
+{
+    u8::from(byte % 4 != 0)
+        + u8::from(byte / 4 % 4 != 0)
+        + u8::from(byte / 16 % 4 != 0)
+        + u8::from(byte / 64 % 4 != 0)
+}
+
+/// How many of the eight codes of a record are 3.
+pub fn records_in(first: u8, second: u8) -> u8
+    ensures count { result ≡ records_in first second }
+    ensures few { result < 9 }
+{
+    threes(first) + threes(second)
+}
+
+/// Drops the depths at the end that have no record to come.
+fn drop_empty(path: &mut ArrayVec<u8, 16>)
+    ensures same { pending_at 0 path.new.items ≡ pending_at 0 path.old.items }
+    ensures topped { IsTopped path.new.items }
+{
+    while !path.is_empty() && path[path.len() - 1] == 0 {
+        path.pop();
+    }
+}
+
+/// Takes the next record off, and puts as many of the next depth before the others.
+pub fn descend(path: &mut ArrayVec<u8, 16>, deeper: u8)
+    requires some { 0 < length path.old.items }
+    requires topped { IsTopped path.old.items }
+    requires room { 0 < deeper → length path.old.items < 16 }
+    ensures pending { pending_at 0 path.new.items
+        ≡ replicate deeper (length path.old.items) ++ pending_at 0 (without_next path.old.items) }
+    ensures topped { IsTopped path.new.items }
+{
+    let top = path.len() - 1;
+    path[top] -= 1;
+    if deeper > 0 {
+        path.push(deeper);
+    } else {
+        drop_empty(path);
+    }
+}
+
+/// Whether these are the codes of eight equal leaves.
+fn is_plain(codes: u16) -> bool
+    ensures { result ≡ is_plain codes }
+{
+    codes == 0 || codes == 21845 || codes == 43690
+}
+
+/// Whether some record has eight equal leaves.
+pub fn has_plain(records: &[u8]) -> bool
+    ensures { result ≡ has_plain records.now }
+{
+    let mut at = 0;
+    while at + 1 < records.len() {
+        if is_plain(u16::from(records[at]) + 256 * u16::from(records[at + 1])) {
+            return true;
+        }
+        at += 2;
+    }
+    false
+}
