@@ -4,8 +4,8 @@
 
 set -eu
 
-most_instructions=600000000
-most_kilobytes=98304
+most_instructions=230000000
+most_kilobytes=24576
 most_growth=5
 
 here=$(CDPATH='' cd -- "$(dirname -- "$0")" && pwd)
