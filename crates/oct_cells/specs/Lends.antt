@@ -10,4 +10,5 @@ with_values c values = record { mark = c.mark; at = c.at; values = values }
 
 -- the cell of that number gets the last value of the `&mut`
 abbrev pub cell_lends : (R : RattleType) → MutBor (Cells R.Denot) → ℕ → MutBor R.Denot → Fml
-cell_lends R c i r = Lends (the_row R) R c r (λ x. with_values c.now (slice_set c.now.values i (Some x)))
+cell_lends R c i r =
+    Lends (the_row R) R c r (λ x. with_values c.now (slice_set c.now.values i (Some x)))

@@ -1,4 +1,5 @@
-ghost use Rattle.std.specs.Prelude.{◌≡◌, ℕ, ◌<◌, List, Option, Some, None, length, replicate, get_or, slice_set, IfOk, ⊤};
+ghost use Rattle.std.specs.Prelude.{◌≡◌, ℕ, ◌<◌, List, Option, Some, None, length, replicate};
+ghost use Rattle.std.specs.Prelude.{get_or, slice_set, IfOk, ⊤};
 ghost use Rattle.std.specs.Borrow.{sem};
 ghost use Rattle.std.specs.Vec.Ownership.{FitsInBlock};
 ghost use base.Fml.{ftrue};
@@ -27,7 +28,8 @@ impl<T> Clone for Address<T> {
 
 impl<T> Copy for Address<T> {}
 
-/// The cells of a block and the values in them. It takes no space: whoever has the cells keeps their address beside them.
+/// The cells of a block and the values in them. It takes no space: whoever has the cells keeps
+/// their address beside them.
 pub struct Cells<T> {
     mark: PhantomData<*const T>,
     pub ghost at: { Ptr },
@@ -60,7 +62,8 @@ pub fn allocate<T, A: Allocator>(
     count: usize,
 ) -> Result<(Address<T>, Cells<T>, Grant<T, A>), AllocError>
     requires { FitsInBlock T.row count }
-    ensures { IfOk result (λ r. (r.1.at ≡ r.0.ptr) × (r.1.values ≡ replicate count None) × (r.2.at ≡ r.0.ptr) × (r.2.count ≡ count) × (r.2.alloc ≡ alloc.now)) }
+    ensures { IfOk result (λ r. (r.1.at ≡ r.0.ptr) × (r.1.values ≡ replicate count None)
+        × (r.2.at ≡ r.0.ptr) × (r.2.count ≡ count) × (r.2.alloc ≡ alloc.now)) }
 {
     match alloc.allocate(count * size_of::<T>(), align_of::<T>()) {
         Ok(block) => {
@@ -78,6 +81,9 @@ pub fn allocate<T, A: Allocator>(
 }
 
 /// Gives a block back. Values that are still in it are forgotten.
+///
+/// The cells and the grant are taken, so that nobody can use the block afterwards. Since nothing of
+/// it is left and nothing is answered, there is no `ensures`.
 pub fn deallocate<T, A: Allocator>(
     alloc: &A,
     address: Address<T>,
@@ -85,7 +91,8 @@ pub fn deallocate<T, A: Allocator>(
     cells: Cells<T>,
     grant: Grant<T, A>,
 )
-    requires { (cells.at ≡ address.ptr) × (length cells.values ≡ count) × (grant.at ≡ address.ptr) × (grant.count ≡ count) × (grant.alloc ≡ alloc.now) }
+    requires { (cells.at ≡ address.ptr) × (length cells.values ≡ count)
+        × (grant.at ≡ address.ptr) × (grant.count ≡ count) × (grant.alloc ≡ alloc.now) }
 {
     let Cells { mark: _ } = cells;
     let Grant { mark: _ } = grant;
@@ -103,8 +110,10 @@ impl<T> Cells<T> {
 
     /// Puts a value into an empty cell.
     pub fn write(&mut self, address: Address<T>, index: usize, value: T)
-        requires { (address.ptr ≡ self.old.at) × (index < length self.old.values) × (get_or self.old.values index None ≡ None) }
-        ensures { (self.new.at ≡ self.old.at) × (self.new.values ≡ slice_set self.old.values index (Some value)) }
+        requires { (address.ptr ≡ self.old.at) × (index < length self.old.values)
+            × (get_or self.old.values index None ≡ None) }
+        ensures { (self.new.at ≡ self.old.at)
+            × (self.new.values ≡ slice_set self.old.values index (Some value)) }
     {
         unsafe { address.ptr.add(index).write(value) }
     }

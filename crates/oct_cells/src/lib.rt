@@ -1,10 +1,10 @@
-//! A block of memory as a row of cells, each of which is empty or has a value: what raw pointers are
-//! needed for, in five functions.
+//! A block of memory as a row of cells, each of which is empty or has a value: what raw pointers
+//! are needed for, in five functions.
 //!
 //! [`allocate`] answers three things. An [`Address`] is a pointer that owns nothing and can be
 //! copied. [`Cells`] are the memory and the values in it, seen as a list of optional values. A
-//! [`Grant`] is the right to give the block back. `Cells` and `Grant` take no space, and neither can
-//! be copied or dropped: whoever has them must hand them to [`deallocate`], else the program is
+//! [`Grant`] is the right to give the block back. `Cells` and `Grant` take no space, and neither
+//! can be copied or dropped: whoever has them must hand them to [`deallocate`], else the program is
 //! refused. So no block is lost, and none is given back twice.
 //!
 //! [`Cells::write`] fills an empty cell, [`Cells::get`] shows a value and [`Cells::get_mut`] lends

@@ -6,8 +6,8 @@ use Rattle.std.proofs.lemmas.Bool.{and_parts, leb-true, cases_lt}
 use Rattle.std.proofs.lemmas.List.{get_or-take}
 use Rattle.std.proofs.lemmas.List.Folds.{length-prefix_len}
 use Rattle.std.proofs.lemmas.List.Elements.{All-from_get_or}
-use Rattle.std.proofs.lemmas.List.Sums.{prefix_len_passes, prefix_len_stops, prefix_len-drop_no, prefix_len-drop_all, list_all-from_AllPass}
-use Rattle.std.specs.List.{AllPass, prefix_len, take_while, list_all}
+use Rattle.std.proofs.lemmas.List.Sums.{prefix_len_passes, prefix_len_stops, prefix_len-drop_no, prefix_len-drop_all}
+use Rattle.std.specs.List.{AllPass, prefix_len, take_while}
 use Rattle.oct_num.specs.Decimal.{is_digit}
 
 -- a byte among digits
@@ -74,7 +74,3 @@ rest_begins text = elim (cases_lt (prefix_len is_digit text) (length text)) [
 
 -- what the split of a text behind its digits gives
 pub ruleset fronts = (front_count, front_digits)
-
--- the test of each byte, where each is a digit
-pub list_all_digits : (text : List ℕ) → AllPass is_digit text → list_all is_digit text ≡ true
-list_all_digits text all = list_all-from_AllPass is_digit text all

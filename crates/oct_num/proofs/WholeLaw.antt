@@ -24,7 +24,7 @@ pub record IsNatural (text : List ℕ) (n : ℕ) : Type 0 where
   pub value : n ≡ decimal_value text
 
 -- what is read is such digits
-natural_is : (text : List ℕ) (n : ℕ) → natural_of text ≡ Some n → IsNatural text n
+pub natural_is : (text : List ℕ) (n : ℕ) → natural_of text ≡ Some n → IsNatural text n
 unfolding natural_of
 natural_is text n read = elim (cases_Bool (nat_eq (length text) 0 || nat_lt 18 (length text) || not (list_all is_digit text))) [
   | inl wrong ↦ let no : None ≡ Some n = rw wrong at read in absurd (cc)

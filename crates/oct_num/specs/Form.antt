@@ -7,7 +7,8 @@ use Rattle.oct_num.specs.Sign.{sign_text, signed_number}
 
 -- the nanometres that the digits before the point and the digits after it stand for
 abbrev pub nanometres : List ℕ → List ℕ → ℕ
-nanometres whole fraction = decimal_value whole * 10 ^ 9 + decimal_value fraction * 10 ^ (9 - length fraction)
+nanometres whole fraction =
+    decimal_value whole * 10 ^ 9 + decimal_value fraction * 10 ^ (9 - length fraction)
 
 -- the text of a fraction: a point and its digits, or nothing where there are none
 abbrev pub fraction_text : List ℕ → List ℕ

@@ -31,7 +31,8 @@ unfoldable pub magnitude_of : ℕ → List ℕ → Result ℕ NumFault
 magnitude_of start text =
     let count = prefix_len is_digit text in
     if nat_eq count 0 then Err (Syntax start)
-    else limited_nanometres start (take_while is_digit text) (fraction_of (start + count) (drop count text))
+    else limited_nanometres start (take_while is_digit text)
+    (fraction_of (start + count) (drop count text))
 
 -- the same answer about a number with this sign
 abbrev pub signed_answer : Bool → Result ℕ NumFault → Result ℤ NumFault

@@ -1,5 +1,6 @@
 -- The sign of a number's text: a minus, or nothing.
-use Rattle.std.specs.Prelude.{ℕ, ℤ, pos, neg_ℤ, Bool, true, false, List, [], ◌∷◌, nat_eq, if◌then◌else◌}
+use Rattle.std.specs.Prelude.{ℕ, ℤ, pos, neg_ℤ, Bool, true, false, List, [], ◌∷◌, nat_eq}
+use Rattle.std.specs.Prelude.{if◌then◌else◌}
 
 -- the text of a sign, a minus or nothing
 abbrev pub sign_text : Bool → List ℕ

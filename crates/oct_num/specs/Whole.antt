@@ -1,5 +1,6 @@
 -- Whole numbers of at most eighteen digits, and their texts.
-use Rattle.std.specs.Prelude.{◌≡◌, ℕ, ◌≤◌, ℤ, Bool, ◌||◌, not, List, ◌++◌, length, nat_lt, nat_eq, if◌then◌else◌, Option, Some, None, option_map}
+use Rattle.std.specs.Prelude.{◌≡◌, ℕ, ◌≤◌, ℤ, Bool, ◌||◌, not, List, ◌++◌, length, nat_lt, nat_eq}
+use Rattle.std.specs.Prelude.{if◌then◌else◌, Option, Some, None, option_map}
 use Rattle.std.specs.List.{list_all}
 use Rattle.oct_num.specs.Decimal.{is_digit, decimal_value, AreDigits}
 use Rattle.oct_num.specs.Sign.{sign_text, signed_number, has_minus, without_minus}

@@ -22,11 +22,49 @@ fn count_digits(text: &[u8]) -> usize
     text.iter().take_while(|byte| byte.is_ascii_digit()).count()
 }
 
-/// Whether a text has no other bytes than decimal digits.
-pub(crate) fn are_digits(text: &[u8]) -> bool
-    ensures { IsTrue result ↔ AllPass is_digit text.now }
+/// A number that a text begins with.
+#[derive(Clone, Copy)]
+pub(crate) struct NumberFront<'a> {
+    /// The number of the digits, where they are at most eighteen.
+    pub(crate) value: u64,
+    /// How many digits there are.
+    pub(crate) count: usize,
+    /// What stands behind them.
+    pub(crate) rest: &'a [u8],
+}
+
+/// The number of the decimal digits that a text begins with, and what follows them.
+pub(crate) fn split_number(text: &[u8]) -> NumberFront<'_>
+    ensures count { result.count ≡ prefix_len is_digit text.now }
+    ensures value { result.count ≤ 18
+        → result.value ≡ decimal_value (take_while is_digit text.now) }
+    ensures small { result.count ≤ 18 → result.value < 10 ^ result.count }
+    ensures rest { result.rest.now ≡ drop (prefix_len is_digit text.now) text.now }
+    ensures together { result.count + length result.rest.now ≡ length text.now }
 {
-    text.iter().all(|byte| byte.is_ascii_digit())
+    let (value, count) = read_front(text);
+    let (_, rest) = text.split_at(count);
+    NumberFront { value, count, rest }
+}
+
+/// The number of the decimal digits that a text begins with, and how many they are. More than
+/// eighteen may have any number.
+fn read_front(text: &[u8]) -> (u64, usize)
+    ensures count { result.1 ≡ prefix_len is_digit text.now }
+    ensures value { result.1 ≤ 18 → result.0 ≡ decimal_value (take_while is_digit text.now) }
+    ensures small { result.1 ≤ 18 → result.0 < 10 ^ result.1 }
+    ensures within { result.1 ≤ length text.now }
+{
+    let mut value = 0u64;
+    let mut count = 0usize;
+    for byte in text {
+        if !byte.is_ascii_digit() {
+            return (value, count);
+        }
+        value = value.wrapping_mul(10).wrapping_add(u64::from(*byte - b'0'));
+        count += 1;
+    }
+    (value, count)
 }
 
 /// The number that decimal digits stand for.

@@ -1,14 +1,14 @@
-ghost use Rattle.std.specs.Prelude.{◌≡◌, ◌↔◌, ℕ, ◌+◌, ◌-◌, ◌^◌, ◌<◌, ◌≤◌, ℤ, unsigned_abs, length};
+ghost use Rattle.std.specs.Prelude.{◌≡◌, ◌↔◌, ℕ, ◌+◌, ◌-◌, ◌*◌, ◌^◌, ◌<◌, ◌≤◌, ℤ, unsigned_abs, length};
 ghost use Rattle.std.specs.Prelude.{◌++◌, drop, MatchResult, Ok, Err, IfOk, MatchOption, Some};
 ghost use Rattle.std.specs.Prelude.{None, IfSome};
 ghost use Rattle.std.specs.List.{AllPass};
-ghost use Rattle.oct_num.specs.Decimal.{is_digit};
+ghost use Rattle.oct_num.specs.Decimal.{is_digit, decimal_value};
 ghost use Rattle.oct_num.specs.Metres.{fraction_of, limited_nanometres, magnitude_of, metres_of};
 ghost use Rattle.oct_num.specs.Metres.{fraction_front, fraction_rest, metres_front};
 ghost use Rattle.oct_num.specs.Form.{nanometres, fraction_text, IsMetres, HasExcess, BreaksAt};
 ghost use Rattle.oct_num.specs.Form.{BeginsWith};
 
-use crate::decimal::{digits_value, split_digits};
+use crate::decimal::{NumberFront, digits_value, split_digits, split_number};
 use crate::sign::{split_sign, with_sign};
 use thiserror::Error;
 
@@ -64,38 +64,40 @@ pub fn split_metres(text: &[u8]) -> Option<(i64, &[u8])>
     ensures within { IfSome result (λ split. length split.1.now ≤ length text.now) }
 {
     let (minus, magnitude) = split_sign(text);
-    let (whole, behind) = split_digits(magnitude);
-    let (fraction, rest) = split_fraction(behind);
-    if whole.is_empty() {
+    let whole = split_number(magnitude);
+    let fraction = split_fraction(whole.rest);
+    if whole.count == 0 {
         return None;
     }
-    if whole.len() > MOST_WHOLE_DIGITS {
+    if whole.count > MOST_WHOLE_DIGITS {
         return None;
     }
-    if fraction.len() > MOST_FRACTION_DIGITS {
+    if fraction.count > MOST_FRACTION_DIGITS {
         return None;
     }
-    Some((with_sign(minus, nanometres(whole, fraction)), rest))
+    let nanometres = sum_of(whole.value, fraction.value, fraction.count);
+    Some((with_sign(minus, nanometres), fraction.rest))
 }
 
-/// The digits after the point that a text begins with, if any follow it, and the rest of the text.
-fn split_fraction(text: &[u8]) -> (&[u8], &[u8])
-    ensures fraction { result.0.now ≡ fraction_front text.now }
-    ensures rest { result.1.now ≡ fraction_rest text.now }
-    ensures digits { AllPass is_digit result.0.now }
-    ensures spelled { text.now ≡ fraction_text result.0.now ++ result.1.now }
-    ensures within { length result.1.now ≤ length text.now }
+/// The number of the digits after the point that a text begins with, and the rest of the text. No
+/// digit follows a point where there are none, and the rest is the whole text.
+fn split_fraction(text: &[u8]) -> NumberFront<'_>
+    ensures count { result.count ≡ length (fraction_front text.now) }
+    ensures value { result.count ≤ 18 → result.value ≡ decimal_value (fraction_front text.now) }
+    ensures small { result.count ≤ 18 → result.value < 10 ^ result.count }
+    ensures rest { result.rest.now ≡ fraction_rest text.now }
+    ensures within { length result.rest.now ≤ length text.now }
 {
-    match text {
-        [b'.', behind @ ..] => {
-            let (fraction, rest) = split_digits(behind);
-            if fraction.is_empty() {
-                (fraction, text)
-            } else {
-                (fraction, rest)
-            }
+    if let [b'.', behind @ ..] = text {
+        let fraction = split_number(behind);
+        if fraction.count > 0 {
+            return fraction;
         }
-        _ => text.split_at(0),
+    }
+    NumberFront {
+        value: 0,
+        count: 0,
+        rest: text,
     }
 }
 
@@ -168,8 +170,18 @@ fn nanometres(whole: &[u8], fraction: &[u8]) -> u64
     ensures exact { result ≡ nanometres whole.now fraction.now }
     ensures reach { result < 10 ^ 16 }
 {
-    let scale = nanometres_per_unit(fraction.len());
-    digits_value(whole) * NANOMETRES_PER_METRE + digits_value(fraction) * scale
+    sum_of(digits_value(whole), digits_value(fraction), fraction.len())
+}
+
+/// The nanometres of whole metres and of a fraction that has so many digits.
+fn sum_of(whole: u64, fraction: u64, digits: usize) -> u64
+    requires before { whole < 10 ^ 7 }
+    requires behind { digits ≤ 9 }
+    requires small { fraction < 10 ^ digits }
+    ensures exact { result ≡ whole * 10 ^ 9 + fraction * 10 ^ (9 - digits) }
+    ensures reach { result < 10 ^ 16 }
+{
+    whole * NANOMETRES_PER_METRE + fraction * nanometres_per_unit(digits)
 }
 
 /// The nanometres of one unit in the last of these digits after the point.

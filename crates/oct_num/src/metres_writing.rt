@@ -1,4 +1,5 @@
-ghost use Rattle.std.specs.Prelude.{◌≡◌, ℕ, List, ◌+◌, ◌^◌, ◌<◌, ◌≤◌, ◌++◌, unsigned_abs, length, Ok, OnOk, OnErr};
+ghost use Rattle.std.specs.Prelude.{◌≡◌, ℕ, List, ◌+◌, ◌^◌, ◌<◌, ◌≤◌, ◌++◌, unsigned_abs, length};
+ghost use Rattle.std.specs.Prelude.{Ok, OnOk, OnErr};
 ghost use Rattle.std.specs.Int.{is_negative};
 ghost use Rattle.arrayvec.specs.ArrayString.{array_string_len};
 ghost use Rattle.oct_num.specs.Form.{IsMetres, fraction_text};

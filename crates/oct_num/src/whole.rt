@@ -1,8 +1,9 @@
-ghost use Rattle.std.specs.Prelude.{◌≡◌, ◌↔◌, ◌^◌, ◌<◌, ◌++◌, ℤ, unsigned_abs, OnOk, OnErr, Some, IfSome};
+ghost use Rattle.std.specs.Prelude.{◌≡◌, ◌↔◌, ◌^◌, ◌<◌, ◌++◌, ℤ, unsigned_abs, length};
+ghost use Rattle.std.specs.Prelude.{OnOk, OnErr, Some, IfSome};
 ghost use Rattle.std.specs.Fmt.{signed_decimal};
 ghost use Rattle.oct_num.specs.Whole.{natural_of, whole_of, IsWholeNumber};
 
-use crate::decimal::{are_digits, digits_value};
+use crate::decimal::split_number;
 use crate::memory::Memory;
 use crate::sign::{split_sign, with_sign};
 use itoa::Buffer;
@@ -25,15 +26,16 @@ pub fn read_whole(text: &[u8]) -> Option<i64>
 
 /// Reads a number of one to eighteen digits. Every other text is `None`. Leading zeros count as
 /// digits.
-#[tactic(auto, using(crate::proofs::DigitRuns::list_all_digits), unfolding(crate::specs::Whole::natural_of))]
 pub fn read_natural(digits: &[u8]) -> Option<u64>
     ensures exact { result ≡ natural_of digits.now }
     ensures reach { IfSome result (λ n. n < 10 ^ 18) }
+    ensures below { IfSome result (λ n. n < 10 ^ length digits.now) }
 {
-    if digits.is_empty() || digits.len() > MOST_DIGITS || !are_digits(digits) {
+    let number = split_number(digits);
+    if number.count == 0 || number.count > MOST_DIGITS || !number.rest.is_empty() {
         return None;
     }
-    Some(digits_value(digits))
+    Some(number.value)
 }
 
 /// Appends the decimal text of a number, as `itoa` writes it: a `-` if it's below 0, and its

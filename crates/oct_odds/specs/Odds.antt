@@ -1,5 +1,6 @@
 -- The numbers of a log-odds model, and the conditions on them.
-use Rattle.std.specs.Prelude.{ℤ, pos, neg_ℤ, ◌≤ℤ◌, ◌<ℤ◌, Bool, not, ◌&&◌, nat_le, int_le, int_lt, unsigned_abs, Option, [], ◌∷◌}
+use Rattle.std.specs.Prelude.{ℤ, pos, neg_ℤ, ◌≤ℤ◌, ◌<ℤ◌, Bool, not, ◌&&◌, nat_le, int_le, int_lt}
+use Rattle.std.specs.Prelude.{unsigned_abs, Option, [], ◌∷◌}
 use Rattle.std.specs.List.{find}
 use Rattle.oct_odds.specs.declared.model.OddsModel.{OddsModel}
 use Rattle.oct_odds.specs.declared.model.OddsField.{OddsField}

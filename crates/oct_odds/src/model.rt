@@ -1,4 +1,5 @@
-ghost use Rattle.std.specs.Prelude.{◌≡◌, ℤ, pos, negsuc, ◌≤ℤ◌, ◌<ℤ◌, ◌↔◌, Some, None, IsOk, IfOk, IfErr};
+ghost use Rattle.std.specs.Prelude.{◌≡◌, ℤ, pos, negsuc, ◌≤ℤ◌, ◌<ℤ◌, ◌↔◌, Some, None, IsOk, IfOk};
+ghost use Rattle.std.specs.Prelude.{IfErr};
 
 use crate::conditions::first_bad_field;
 use crate::event::{Class, Event};

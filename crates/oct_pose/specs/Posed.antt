@@ -19,7 +19,8 @@ moved t p = record { x = t.x +ℤ p.x; y = t.y +ℤ p.y; z = t.z +ℤ p.z }
 abbrev pub posed : Pose → Point → Point
 posed pose p = moved pose.t (rotated (quaternion_of pose) p)
 
--- on each axis this point lies from the translation the whole number that is nearest to q p q* over the square of q's length
+-- on each axis this point lies from the translation the whole number that is nearest to q p q* over
+-- the square of q's length
 pub record IsNearestTo (pose : Pose) (p r : Point) : Type 0 where
   pub x : IsNearest (turned (quaternion_of pose) p).x (norm (quaternion_of pose)) (r.x -ℤ pose.t.x)
   pub y : IsNearest (turned (quaternion_of pose) p).y (norm (quaternion_of pose)) (r.y -ℤ pose.t.y)

@@ -37,7 +37,8 @@ z_row q = record {
 abbrev pub weighted : Row → Point → ℤ
 weighted row p = row.x *ℤ p.x +ℤ row.y *ℤ p.y +ℤ row.z *ℤ p.z
 
--- a point turned by a quaternion: the product q p q* over the square of q's length, rounded half up on each axis
+-- a point turned by a quaternion: the product q p q* over the square of q's length, rounded half up
+-- on each axis
 abbrev pub rotated : Quaternion → Point → Point
 rotated q p = record {
   x = half_up (weighted (x_row q) p) (norm q);

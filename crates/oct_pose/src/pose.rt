@@ -5,10 +5,12 @@ use crate::rotation::Quaternion;
 use oct_key::Point;
 use thiserror::Error;
 
-/// Where a sensor stands and how it is turned: a translation in nanometres, and a quaternion `w + xi + yj + zk` of whole numbers. Only
-/// the quaternion's direction counts, so it needn't have the length 1.
+/// Where a sensor stands and how it is turned: a translation in nanometres, and a quaternion
+/// `w + xi + yj + zk` of whole numbers. Only the quaternion's direction counts, so it needn't have
+/// the length 1.
 ///
-/// The translation is in reach, with each coordinate's magnitude below 10^16, and the quaternion isn't 0.
+/// The translation is in reach, with each coordinate's magnitude below 10^16, and the quaternion
+/// isn't 0.
 #[derive(Clone, Copy, Debug, PartialEq, Eq)]
 pub struct Pose {
     pub t: Point,
@@ -33,7 +35,8 @@ impl Pose {
         requires { IsInReach t }
         ensures refused { IsErr result ↔ IsZero w x y z }
         ensures translation { IfOk result (λ pose. pose.t ≡ t) }
-        ensures quaternion { IfOk result (λ pose. quaternion_of pose ≡ record { w = w; x = x; y = y; z = z }) }
+        ensures quaternion { IfOk result (λ pose.
+            quaternion_of pose ≡ record { w = w; x = x; y = y; z = z }) }
     {
         if w == 0 && x == 0 && y == 0 && z == 0 {
             return Err(ZeroQuaternion);
@@ -41,8 +44,9 @@ impl Pose {
         Ok(Pose { t, w, x, y, z })
     }
 
-    /// Where the pose takes a point: the point is turned by the quaternion q, to the product `q p q*` divided by the square of q's
-    /// length, and moved by the translation. Each coordinate of the turned point is rounded to the nearest whole number, and half up.
+    /// Where the pose takes a point: the point is turned by the quaternion q, to the product
+    /// `q p q*` divided by the square of q's length, and moved by the translation. Each coordinate
+    /// of the turned point is rounded to the nearest whole number, and half up.
     pub fn apply(&self, p: Point) -> Point
         requires { IsInReach p }
         ensures exact { result ≡ posed self.now p }

@@ -1,4 +1,5 @@
-ghost use Rattle.std.specs.Prelude.{◌≡◌, ◌^◌, ◌*◌, ◌<◌, ◌≤◌, ℤ, pos, neg_ℤ, ◌+ℤ◌, ◌-ℤ◌, ◌*ℤ◌, ◌≤ℤ◌, unsigned_abs};
+ghost use Rattle.std.specs.Prelude.{◌≡◌, ◌^◌, ◌*◌, ◌<◌, ◌≤◌, ℤ, pos, neg_ℤ, ◌+ℤ◌, ◌-ℤ◌, ◌*ℤ◌, ◌≤ℤ◌};
+ghost use Rattle.std.specs.Prelude.{unsigned_abs};
 ghost use Rattle.oct_num.specs.Rounding.{half_up};
 ghost use Rattle.oct_pose.specs.Reach.{IsInReach, IsZero};
 ghost use Rattle.oct_pose.specs.Rotation.{norm, x_row, y_row, z_row, weighted, rotated, IsBounded};
@@ -15,8 +16,8 @@ pub(crate) struct Quaternion {
     pub(crate) z: i16,
 }
 
-/// The factors of a point's coordinates in one coordinate of the turned point, before it is divided by the square of the quaternion's
-/// length.
+/// The factors of a point's coordinates in one coordinate of the turned point, before it is divided
+/// by the square of the quaternion's length.
 #[derive(Clone, Copy)]
 struct Row {
     x: i64,
@@ -88,7 +89,8 @@ impl Quaternion {
 }
 
 impl Row {
-    /// One coordinate of the turned point: the weighted sum over the square of the quaternion's length, rounded half up.
+    /// One coordinate of the turned point: the weighted sum over the square of the quaternion's
+    /// length, rounded half up.
     fn coordinate(self, norm: i64, p: Point) -> i64
         requires positive { pos 1 ≤ℤ norm }
         requires small { norm ≤ℤ pos (2 ^ 32) }

@@ -1,5 +1,6 @@
 -- Working words for the codes that are gathered along the beams.
-use Rattle.std.specs.Prelude.{◌≡◌, ℕ, ◌^◌, ◌<◌, ◌≤◌, false, List, [], ◌∷◌, ◌++◌, map, length, cond, All, Contains, ◌↔◌, ◌⊎◌}
+use Rattle.std.specs.Prelude.{◌≡◌, ℕ, ◌^◌, ◌<◌, ◌≤◌, ◌↔◌, ◌⊎◌, false, if◌then◌else◌}
+use Rattle.std.specs.Prelude.{List, [], ◌∷◌, ◌++◌, map, length, All, Contains}
 use Rattle.oct_key.specs.Voxel.{Voxel, IsInMap}
 use Rattle.oct_key.specs.Morton.{morton_of}
 use Rattle.oct_key.specs.declared.point.Point.{Point}
@@ -40,7 +41,7 @@ pub record AreGathered (edge : ℕ) (o : Point) (bs : List Beam) (scanned hits :
 
 -- the code of the last voxel, but not of a cut end
 abbrev pub end_codes : Beam → Voxel → List ℕ
-end_codes b end = cond b.is_cut [] (morton_of end ∷ [])
+end_codes b end = if b.is_cut then [] else morton_of end ∷ []
 
 -- the codes of the voxels that a beam meets, so many, have come to those that are there
 pub record IsBeamAdded (edge : ℕ) (o : Point) (b : Beam) (met : ℕ)

@@ -1,4 +1,5 @@
-ghost use Rattle.std.specs.Prelude.{◌≡◌, ◌≢◌, ℕ, ◌+◌, ◌^◌, ◌≤◌, pos, ◌≤ℤ◌, ◌<ℤ◌, ◌↔◌, length, Some, None, List, All, Contains, IfOk, IfErr, IfSome};
+ghost use Rattle.std.specs.Prelude.{◌≡◌, ◌≢◌, ℕ, ◌+◌, ◌^◌, ◌≤◌, pos, ◌≤ℤ◌, ◌<ℤ◌, ◌↔◌, length, Some};
+ghost use Rattle.std.specs.Prelude.{None, List, All, Contains, IfOk, IfErr, IfSome};
 ghost use Rattle.oct_key.specs.Voxel.{Voxel, IsInMap};
 ghost use Rattle.oct_odds.specs.declared.event.Event.{Event};
 ghost use Rattle.oct_values.specs.Events.{IsAscending, scan_events};
@@ -131,12 +132,12 @@ pub fn update_bricks(
     }
     let beams = beams_of(alloc, scan, res)?;
     let bricks = gather(alloc, res, origin, &beams, max_cells)?;
-    let set = settle(alloc, bricks)?;
+    let set = merge_update(alloc, bricks)?;
     Ok(set)
 }
 
 /// The update that these bricks make.
-fn settle(alloc: Global, bricks: Vec<Brick>) -> Result<UpdateBricks, Memory>
+fn merge_update(alloc: Global, bricks: Vec<Brick>) -> Result<UpdateBricks, Memory>
     requires { All IsBrick bricks.items }
     ensures settled { IfOk result (λ set. (scanned hits : List ℕ) →
         HoldCodes bricks.items scanned hits →

@@ -1,4 +1,6 @@
-ghost use Rattle.std.specs.Prelude.{◌≡◌, ◌≢◌, ℕ, ◌+◌, ◌*◌, ◌/◌, ◌^◌, ◌<◌, ◌≤◌, ◌↔◌, ◌⊎◌, List, [], ◌∷◌, length, map, cond, All, Contains, IfOk, IfErr, OnOk, IsSome};
+ghost use Rattle.std.specs.Prelude.{◌≡◌, ◌≢◌, ℕ, ◌+◌, ◌*◌, ◌/◌, ◌^◌, ◌<◌, ◌≤◌, ◌↔◌, ◌⊎◌, List, []};
+ghost use Rattle.std.specs.Prelude.{◌∷◌, length, map, if◌then◌else◌, All, Contains, IfOk, IfErr};
+ghost use Rattle.std.specs.Prelude.{OnOk, IsSome};
 ghost use Rattle.oct_key.specs.Voxel.{IsInMap, key_at};
 ghost use Rattle.oct_key.specs.Morton.{morton_of};
 ghost use Rattle.oct_brick.specs.Masks.{HasCode};
@@ -139,9 +141,11 @@ fn push_end(bricks: &mut Vec<Brick>, end: u64, is_cut: bool) -> Result<(), Memor
     requires bricks { All IsBrick bricks.old.items }
     requires end { end < 2 ^ 48 }
     ensures scanned { OnOk result ((c : ℕ) → Contains (scanned_codes bricks.new.items) c ↔
-        (Contains (scanned_codes bricks.old.items) c ⊎ Contains (cond is_cut [] (end ∷ [])) c)) }
+        (Contains (scanned_codes bricks.old.items) c
+        ⊎ Contains (if is_cut then [] else end ∷ []) c)) }
     ensures hits { OnOk result ((c : ℕ) → Contains (hit_codes bricks.new.items) c ↔
-        (Contains (hit_codes bricks.old.items) c ⊎ Contains (cond is_cut [] (end ∷ [])) c)) }
+        (Contains (hit_codes bricks.old.items) c
+        ⊎ Contains (if is_cut then [] else end ∷ []) c)) }
     ensures bricks { OnOk result (All IsBrick bricks.new.items) }
 {
     if !is_cut {
