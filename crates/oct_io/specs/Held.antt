@@ -18,7 +18,8 @@ pub record Reading : Type 0 where
   pub told : Option (List ℕ)
   pub faults : ℕ
 
--- what a writer of std tells of its bytes itself, and how many writes have failed or run out of memory
+-- what a writer of std tells of its bytes itself, and how many writes have failed or run out of
+-- memory
 pub record Writing : Type 0 where
   pub told : Option (List ℕ)
   pub faults : ℕ

@@ -3,3 +3,4 @@ pub mod Held
 pub mod Files
 pub mod Loaded
 pub mod CalmFiles
+pub mod Taken

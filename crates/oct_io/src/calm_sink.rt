@@ -1,4 +1,5 @@
-ghost use Rattle.std.specs.Prelude.{◌≡◌, ◌<◌, ◌≤◌, ◌++◌, [], Some, length, min, take, IfOk, IsErrOf, IsOkUnless, OnErr, OnOk};
+ghost use Rattle.std.specs.Prelude.{◌≡◌, ◌<◌, ◌≤◌, ◌++◌, [], Some, length, min, take, IfOk};
+ghost use Rattle.std.specs.Prelude.{IsErrOf, IsOkUnless, OnErr, OnOk};
 ghost use Rattle.oct_io.specs.Told.{Rose};
 
 use crate::file_bytes::FileBytes;

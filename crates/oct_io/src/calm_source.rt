@@ -42,7 +42,8 @@ impl Source for CalmSource {
     /// A read that finds bytes moves as many as it may: `most`, the length of the buffer, or what
     /// is left, whichever is least.
     fn read(&mut self, buffer: &mut [u8]) -> Result<usize, Failed>
-        ensures full { result ≡ Ok (min self.old.most (min (length buffer.old) (length self.old.left))) }
+        ensures full { result
+            ≡ Ok (min self.old.most (min (length buffer.old) (length self.old.left))) }
         ensures most { self.new.most ≡ self.old.most }
         ensures within { IfOk result (λ n. n ≤ length buffer.old) }
         ensures moved { IfOk result (λ n. self.new.left ≡ drop n self.old.left) }

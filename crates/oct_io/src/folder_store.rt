@@ -12,7 +12,14 @@ use std::marker::Model;
 use std::rt::Files;
 use std::{fs, io};
 
+/// The name of the file that a save writes before it takes the place of another one. No script can
+/// give a name that begins with a point.
+const PART: &str = ".octomap.part";
+
 /// The files of the current folder, which tells nothing of them.
+///
+/// A save writes the bytes whole to a file of their own and then renames it, so that after a fault,
+/// a full disk or a kill the name has its old bytes or the new ones, and never a part of them.
 #[derive(Drop)]
 pub struct FolderStore<R: Files + Drop> {
     rt: R,
@@ -52,7 +59,8 @@ impl<R: Files + Drop> FolderStore<R> {
     /// What a load answers where a file can't be opened: that there is none exactly where the
     /// runtime says so, and else a fault.
     fn unopened(&mut self, error: &io::Error) -> Result<Loaded, StoreFault>
-        ensures missing { (result ≡ Ok Loaded.Missing) ↔ (error_kind error.now ≡ ErrorKind.NotFound) }
+        ensures missing { (result ≡ Ok Loaded.Missing)
+            ↔ (error_kind error.now ≡ ErrorKind.NotFound) }
         ensures memory { (result ≡ Err StoreFault.Memory)
             ↔ (error_kind error.now ≡ ErrorKind.OutOfMemory) }
         ensures only { IfOk result (λ loaded. loaded ≡ Loaded.Missing) }
@@ -90,6 +98,12 @@ fn read_file<R: Files>(file: R::File, alloc: Global) -> io::Result<Loaded>
     Ok(within_limit(bytes))
 }
 
+/// Puts the bytes whole under the name, or leaves what stands there.
+fn replace<R: Files>(rt: &R, name: &str, bytes: &[u8]) -> io::Result<()> {
+    fs::write(rt, PART, bytes)?;
+    fs::rename(rt, PART, name)
+}
+
 impl<R: Files + Drop> Store for FolderStore<R> {
     ghost files = { λ _. None };
 
@@ -115,9 +129,12 @@ impl<R: Files + Drop> Store for FolderStore<R> {
         ensures memory { IsErrOf result StoreFault.Memory → self.new.faults ≡ self.old.faults }
         ensures cause { IsErrOf result StoreFault.Failed → Rose self.old.faults self.new.faults }
     {
-        match fs::write(&self.rt, name, bytes) {
+        match replace(&self.rt, name, bytes) {
             Ok(()) => Ok(()),
-            Err(error) => Err(self.fault_of(&error)),
+            Err(error) => {
+                let _ = fs::remove_file(&self.rt, PART);
+                Err(self.fault_of(&error))
+            }
         }
     }
 }
@@ -144,12 +161,22 @@ mod tests {
         store.save("map.bt", b"bytes")?;
         assert!(rt; matches!(store.load(alloc, "map.bt/map.bt"), Err(StoreFault::Failed)));
         assert_eq!(rt; store.faults, 2);
+
+        // A save that fails leaves the old file whole, and no part of a new one.
+        assert_eq!(rt;
+            store.save("map.bt/map.bt", b"more bytes"),
+            Err(StoreFault::Failed)
+        );
+        assert_eq!(rt; store.faults, 3);
+        let kept = store.load(alloc, "map.bt")?;
+        assert!(rt; matches!(&kept, Loaded::Bytes(old) if old.as_slice() == b"bytes".as_slice()));
+        assert!(rt; matches!(store.load(alloc, PART)?, Loaded::Missing));
         fs::remove_file(&rt, "map.bt")?;
         assert_eq!(rt;
             store.save("no_folder/map.bt", b"bytes"),
             Err(StoreFault::Failed)
         );
-        assert_eq!(rt; store.faults, 3);
+        assert_eq!(rt; store.faults, 4);
         Ok(())
     }
 }

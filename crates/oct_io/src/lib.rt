@@ -11,23 +11,25 @@
 //!   isn't empty exactly at the end of the input.
 //! - [`Sink::write`] takes bytes from the front of a piece, at least one where there is one.
 //!   [`write_all`] writes the whole piece, and after an error a prefix of it was written.
-//! - [`Store::save`] sets the bytes of one name and touches no other. [`Store::load`] gives them back,
-//!   or says that there is no such file, or that it has more than `2^30` bytes.
-//! - `Failed` raises the count of faults by one, or leaves it at `2^64 - 1`, where it stays; no other
-//!   answer changes it. So who calls again after a fault is found out by the count. A write that runs
-//!   out of memory raises the sink's count of shortages in the same way.
+//! - [`read_piece`] reads once of an input that may have so many bytes more.
+//! - [`Store::save`] sets the bytes of one name and touches no other. [`Store::load`] gives them
+//!   back, or says that there is no such file, or that it has more than `2^30` bytes.
+//! - `Failed` raises the count of faults by one, or leaves it at `2^64 - 1`, where it stays; no
+//!   other answer changes it. So who calls again after a fault is found out by the count. A write
+//!   that runs out of memory raises the sink's count of shortages in the same way.
 //!
-//! There are two forms of each. [`CalmSource`], [`CalmSink`] and [`CalmStore`] live in memory, tell all
-//! that they hold and never fault; the tests and the proofs about whole programs run on them.
-//! [`StdSource`], [`StdSink`] and [`FolderStore`] are the edge to the system: a few lines each over a
-//! reader, a writer and the files of the current folder. What the system does is told by no contract,
-//! so of these it is proved that they are safe, count their faults, pass on what a reader or writer of
-//! std tells, and take an error of opening a file for a missing file exactly where it says so.
+//! There are two forms of each. [`CalmSource`], [`CalmSink`] and [`CalmStore`] live in memory, tell
+//! all that they hold and never fault; the tests and the proofs about whole programs run on them.
+//! [`StdSource`], [`StdSink`] and [`FolderStore`] are the edge to the system: a few lines each over
+//! a reader, a writer and the files of the current folder. What the system does is told by no
+//! contract, so of these it is proved that they are safe, count their faults, pass on what a reader
+//! or writer of std tells, and take an error of opening a file for a missing file exactly where it
+//! says so.
 //!
-//! [`FileBytes`] is a list of bytes. The definitions that contracts cite are in `specs/`: `Told` for
-//! the bytes and the counts, `Files` for files by name, `Loaded` for the answers of a load. Laws of
-//! appending and of saving are in `proofs/Appending.antt` and `proofs/Filing.antt`. Sessions and the
-//! program stand on this crate.
+//! [`FileBytes`] is a list of bytes. The definitions that contracts cite are in `specs/`: `Told`
+//! for the bytes and the counts, `Files` for files by name, `Loaded` for the answers of a load.
+//! Laws of appending and of saving are in `proofs/Appending.antt` and `proofs/Filing.antt`.
+//! Sessions and the program stand on this crate.
 
 #![tactic(auto)]
 
@@ -36,6 +38,7 @@ mod calm_source;
 mod calm_store;
 mod file_bytes;
 mod folder_store;
+mod piece;
 mod sink;
 mod source;
 mod std_sink;
@@ -47,6 +50,7 @@ pub use calm_source::CalmSource;
 pub use calm_store::CalmStore;
 pub use file_bytes::FileBytes;
 pub use folder_store::FolderStore;
+pub use piece::read_piece;
 pub use sink::{Sink, SinkFault, write_all};
 pub use source::{Failed, Source};
 pub use std_sink::StdSink;

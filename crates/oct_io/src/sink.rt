@@ -1,4 +1,5 @@
-ghost use Rattle.std.specs.Prelude.{◌≡◌, ◌<◌, ◌≤◌, List, ℕ, Option, length, take, IfOk, OnErr, OnOk, IsErrOf};
+ghost use Rattle.std.specs.Prelude.{◌≡◌, ◌<◌, ◌≤◌, List, ℕ, Option, length, take, IfOk, OnErr};
+ghost use Rattle.std.specs.Prelude.{OnOk, IsErrOf};
 ghost use Rattle.oct_io.specs.declared.sink.SinkFault.TheVariants.{Memory};
 ghost use Rattle.oct_io.specs.Told.{appended, Rose};
 
@@ -68,7 +69,8 @@ pub trait Sink {
         ensures failed { IsErrOf result SinkFault.Failed
             → Rose (faults self.old) (faults self.new) × (shortages self.new ≡ shortages self.old) }
         ensures memory { IsErrOf result SinkFault.Memory
-            → (faults self.new ≡ faults self.old) × Rose (shortages self.old) (shortages self.new) };
+            → (faults self.new ≡ faults self.old)
+            × Rose (shortages self.old) (shortages self.new) };
 }
 
 /// Writes the whole piece. After an error a prefix of it was written.

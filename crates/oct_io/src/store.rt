@@ -78,7 +78,8 @@ pub trait Store {
         ensures limit { IfOk result IsWithinLimit }
         ensures stays { OnOk result (faults self.new ≡ faults self.old) }
         ensures memory { IsErrOf result StoreFault.Memory → faults self.new ≡ faults self.old }
-        ensures cause { IsErrOf result StoreFault.Failed → Rose (faults self.old) (faults self.new) };
+        ensures cause { IsErrOf result StoreFault.Failed
+            → Rose (faults self.old) (faults self.new) };
 
     /// Puts these bytes under the name, in place of a file that stands there. After an error the
     /// file of this name may be any, and all others are as before.
@@ -87,7 +88,8 @@ pub trait Store {
         ensures others { OnErr result (KeepsOthers (files self.old) (files self.new) name.now) }
         ensures stays { OnOk result (faults self.new ≡ faults self.old) }
         ensures memory { IsErrOf result StoreFault.Memory → faults self.new ≡ faults self.old }
-        ensures cause { IsErrOf result StoreFault.Failed → Rose (faults self.old) (faults self.new) };
+        ensures cause { IsErrOf result StoreFault.Failed
+            → Rose (faults self.old) (faults self.new) };
 }
 
 #[cfg(test)]

@@ -1,0 +1,40 @@
+//! A piece of an input that may have so many bytes.
+ghost use Rattle.std.specs.Prelude.{◌≡◌, ◌<◌, ◌≤◌, ◌+◌, [], length, take, IfOk, IfSome, OnErr, OnOk};
+ghost use Rattle.oct_io.specs.Told.{dropped, Rose};
+
+use crate::source::{Failed, Source};
+
+/// Reads once to the front of a buffer, where `room` bytes more may be taken: it asks for one more
+/// at most, which tells that the input is too long. Answers how many bytes came, of which none tell
+/// the end of the input.
+pub fn read_piece<S: Source>(source: &mut S, buffer: &mut [u8], room: u64) -> Result<usize, Failed>
+    requires some { 0 < length buffer.old }
+    ensures within { IfOk result (λ n. n ≤ length buffer.old) }
+    ensures few { IfOk result (λ n. n ≤ room + 1) }
+    ensures len { length buffer.new ≡ length buffer.old }
+    ensures moved { IfOk result (λ n. S.left source.new ≡ dropped n (S.left source.old)) }
+    ensures bytes { IfOk result
+        (λ n. IfSome (S.left source.old) (λ left. take n buffer.new ≡ take n left)) }
+    ensures enough { IfOk result (λ n. IfSome (S.left source.old) (λ left. n ≤ length left)) }
+    ensures end { IfOk result (λ n. n ≡ 0 → IfSome (S.left source.old) (λ left. left ≡ [])) }
+    ensures err { OnErr result (S.left source.new ≡ S.left source.old) }
+    ensures stays { OnOk result (S.faults source.new ≡ S.faults source.old) }
+    ensures cause { OnErr result (Rose (S.faults source.old) (S.faults source.new)) }
+{
+    let most = wanted(room, buffer.len());
+    source.read(&mut buffer[..most])
+}
+
+/// How many bytes to ask for, of as many as a buffer holds.
+fn wanted(room: u64, len: usize) -> usize
+    requires { 0 < len }
+    ensures some { 0 < result }
+    ensures within { result ≤ len }
+    ensures few { result ≤ room + 1 }
+{
+    if room < len as u64 {
+        room as usize + 1
+    } else {
+        len
+    }
+}
