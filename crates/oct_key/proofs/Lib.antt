@@ -6,3 +6,7 @@ pub mod Faces
 pub mod SameVoxels
 pub mod Held
 pub mod Carries
+pub mod OneOrder
+pub mod Order
+pub mod Triples
+pub mod InOrder

@@ -4,3 +4,4 @@ pub mod Block
 pub mod CubeOf
 pub mod Morton
 pub mod Dilated
+pub mod Order

@@ -20,6 +20,8 @@
 //!   their codes have the same leading bits, three for each level down to there, and the three bits
 //!   after them are the index of the child. So voxels in the order of their codes come block by
 //!   block.
+//! - The voxels of the map and the blocks of a depth have lists in their order, by x, then y, then z:
+//!   [`orders_are_whole`] says that each stands there once, and no other does.
 //! - [`Dilated`] is a number whose bits stand where its axis has them in a code. It is counted up
 //!   and down as it stands, and [`morton_of_axes`] makes the code of three of them.
 //! - [`PointList`] and [`KeyList`] keep what they are given, in order.
@@ -31,13 +33,14 @@
 //! No call but `push` of a list allocates, and none touches anything but its arguments. The crates
 //! of a map stand on this one, and cite its definitions: `Voxel`, `Values` and `SameValues` for
 //! what a map means, `key_at` and `Holds` for where a point lies, `morton_of` for the order of
-//! voxels along the Z-order curve (Morton 1966), and `block_of`, `child_of`, `HoldsVoxel` and
-//! `LiesIn` for the blocks.
+//! voxels along the Z-order curve (Morton 1966), `key_cmp` and `voxels_in_order` for the one by x, y
+//! and z, and `block_of`, `child_of`, `HoldsVoxel` and `LiesIn` for the blocks.
 
 #![tactic(auto)]
 
 mod block;
 mod dilated;
+mod laws;
 mod lists;
 mod morton_code;
 mod point;
@@ -45,6 +48,7 @@ mod resolution;
 
 pub use block::{Block, child_index};
 pub use dilated::{Dilated, morton_of_axes};
+pub use laws::orders_are_whole;
 pub use lists::{KeyList, PointList};
 pub use morton_code::{from_morton, morton};
 pub use point::{Key, Point};

@@ -10,3 +10,4 @@ pub mod MapFaces
 pub mod Cuts
 pub mod Ends
 pub mod ComputedAxes
+pub mod OneAxis

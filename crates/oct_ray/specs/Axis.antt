@@ -1,5 +1,7 @@
 -- One axis of a segment, the faces that it crosses, and which of three axes crosses next.
-use Rattle.std.specs.Prelude.{◌≡◌, ℕ, zero, suc, ◌+◌, ◌-◌, ◌*◌, ◌/◌, ◌%◌, ◌^◌, ◌<◌, ◌≤◌, max, Bool, true, false, cond, not, leb, eqb, ◌&&◌, ◌||◌, List, [], ◌∷◌, ℤ, pos, neg_ℤ, ◌-ℤ◌, ◌≤ℤ◌, ◌<ℤ◌}
+use Rattle.std.specs.Prelude.{◌≡◌, ℕ, zero, suc, ◌+◌, ◌-◌, ◌*◌, ◌/◌, ◌%◌, ◌^◌, ◌<◌, ◌≤◌, max}
+use Rattle.std.specs.Prelude.{◌==◌, nat_le, Bool, true, false, not, ◌&&◌, ◌||◌, if◌then◌else◌}
+use Rattle.std.specs.Prelude.{List, [], ◌∷◌, ℤ, pos, neg_ℤ, ◌-ℤ◌, ◌≤ℤ◌, ◌<ℤ◌}
 use Rattle.oct_key.specs.Voxel.{Voxel}
 use Rattle.oct_ray.specs.declared.axis.Axis.{Axis}
 use Rattle.oct_ray.specs.Moment.{Moment}
@@ -53,7 +55,7 @@ pub record IsAxisOf (edge : ℕ) (o e : ℤ) (axis : Axis) : Type 0 where
 
 -- 1 where an axis falls: a voxel has its lower face, so that one is left only just behind the face
 abbrev pub lateness : Axis → ℕ
-lateness a = cond a.rises 0 1
+lateness a = if a.rises then 0 else 1
 
 -- the moment of the crossing that comes behind i others
 abbrev pub crossing : Axis → ℕ → Moment
@@ -62,7 +64,7 @@ crossing a i = record { num = a.distance + i * a.edge; den = a.span; late = late
 -- an axis behind its next crossing
 abbrev pub after_crossing : Axis → Axis
 after_crossing a = record {
-  key = cond a.rises (a.key + 1) (a.key - 1);
+  key = if a.rises then a.key + 1 else a.key - 1;
   rises = a.rises;
   crossings = a.crossings - 1;
   distance = a.distance + a.edge;
@@ -78,13 +80,13 @@ axis_after false a = a
 -- whether the next crossing of a comes no later than that of b
 abbrev pub not_after : Axis → Axis → Bool
 not_after a b =
-    leb (2 * (a.distance * b.span) + lateness a) (2 * (b.distance * a.span) + lateness b)
+    nat_le (2 * (a.distance * b.span) + lateness a) (2 * (b.distance * a.span) + lateness b)
 
 -- whether a crosses next, alone or beside b and c
 abbrev pub crosses : Axis → Axis → Axis → Bool
 crosses a b c =
-    not (eqb a.crossings 0) && ((eqb b.crossings 0 || not_after a b)
-    && (eqb c.crossings 0 || not_after a c))
+    not (a.crossings == 0) && ((b.crossings == 0 || not_after a b)
+    && (c.crossings == 0 || not_after a c))
 
 -- the voxel where three axes stand
 abbrev pub axis_voxel : Axis → Axis → Axis → Voxel
@@ -94,7 +96,7 @@ axis_voxel x y z = record { x = x.key; y = y.key; z = z.key }
 unfoldable pub axis_keys : ℕ → Axis → Axis → Axis → List Voxel
 axis_keys zero x y z = axis_voxel x y z ∷ []
 axis_keys (suc fuel) x y z =
-    axis_voxel x y z ∷ elim (eqb (x.crossings + y.crossings + z.crossings) 0) [
+    axis_voxel x y z ∷ elim (x.crossings + y.crossings + z.crossings == 0) [
       | true ↦ []
       | false ↦ axis_keys fuel
           (axis_after (crosses x y z) x) (axis_after (crosses y z x) y)

@@ -1,5 +1,6 @@
 -- The voxels that a segment meets, found by walking along it.
-use Rattle.std.specs.Prelude.{ℕ, ◌+◌, ◌-◌, ◌*◌, ◌/◌, ◌%◌, max, true, false, nat_eq, nat_le, if◌then◌else◌, List, ℤ, pos, ◌+ℤ◌, unsigned_abs}
+use Rattle.std.specs.Prelude.{ℕ, ◌+◌, ◌-◌, ◌*◌, ◌/◌, ◌%◌, max, true, false, nat_eq, nat_le}
+use Rattle.std.specs.Prelude.{if◌then◌else◌, List, ℤ, pos, ◌+ℤ◌, unsigned_abs}
 use Rattle.oct_key.specs.Voxel.{Voxel}
 use Rattle.oct_key.specs.declared.point.Point.{Point}
 use Rattle.oct_ray.specs.declared.axis.Axis.{Axis}

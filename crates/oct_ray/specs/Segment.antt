@@ -1,5 +1,6 @@
 -- The voxels that a segment meets, and their order on the way.
-use Rattle.std.specs.Prelude.{◌≢◌, ℕ, ◌*◌, ◌<◌, ◌≤◌, List, ℤ, pos, ◌+ℤ◌, ◌-ℤ◌, ◌*ℤ◌, ◌≤ℤ◌, ◌<ℤ◌, All, AllPairs, Contains}
+use Rattle.std.specs.Prelude.{◌≢◌, ℕ, ◌*◌, ◌<◌, ◌≤◌, List, ℤ, pos, ◌+ℤ◌, ◌-ℤ◌, ◌*ℤ◌, ◌≤ℤ◌, ◌<ℤ◌}
+use Rattle.std.specs.Prelude.{All, AllPairs, Contains}
 use Rattle.oct_key.specs.Voxel.{Voxel, lower_face}
 use Rattle.oct_key.specs.declared.point.Point.{Point}
 

@@ -1,5 +1,6 @@
 -- What a walk keeps of its axes, and the voxels that it has still to give.
-use Rattle.std.specs.Prelude.{◌≡◌, ℕ, zero, suc, ◌+◌, ◌-◌, ◌*◌, ◌^◌, ◌<◌, ◌≤◌, Bool, true, false, cond, ◌&&◌, eqb, leb, List, [], ◌∷◌}
+use Rattle.std.specs.Prelude.{◌≡◌, ℕ, zero, suc, ◌+◌, ◌-◌, ◌*◌, ◌^◌, ◌<◌, ◌≤◌, ◌==◌, nat_le}
+use Rattle.std.specs.Prelude.{Bool, true, false, ◌&&◌, if◌then◌else◌, List, [], ◌∷◌}
 use Rattle.oct_key.specs.Voxel.{Voxel}
 use Rattle.oct_ray.specs.declared.axis.Axis.{Axis}
 use Rattle.oct_ray.specs.declared.track.Track.{Track}
@@ -10,7 +11,7 @@ use Rattle.oct_ray.specs.Axis.{HasRoom, lateness}
 -- and of the third
 abbrev pub track_after : Bool → Track → ℕ → ℕ → Track
 track_after true a p q = record {
-  key = cond a.rises (a.key + 1) (a.key - 1);
+  key = if a.rises then a.key + 1 else a.key - 1;
   rises = a.rises;
   crossings = a.crossings - 1;
   beside_next = a.beside_next + p;
@@ -21,11 +22,11 @@ track_after false a p q = a
 
 -- whether the next crossing of a comes no later than those of b and c
 abbrev pub crosses_now : Track → Track → Track → Bool
-crosses_now a b c = leb a.beside_next b.beside_third && leb a.beside_third c.beside_next
+crosses_now a b c = nat_le a.beside_next b.beside_third && nat_le a.beside_third c.beside_next
 
 -- whether no crossing is left
 abbrev pub has_ended : Track → Track → Track → Bool
-has_ended x y z = eqb (x.crossings + y.crossings + z.crossings) 0
+has_ended x y z = x.crossings + y.crossings + z.crossings == 0
 
 -- the voxel where three tracks stand
 abbrev pub track_voxel : Track → Track → Track → Voxel

@@ -1,5 +1,6 @@
 //! One axis of a walk under way.
-ghost use Rattle.std.specs.Prelude.{◌≡◌};
+ghost use Rattle.std.specs.Prelude.{◌≡◌, true, false};
+ghost use Rattle.std.specs.Bool.{OnTrue};
 ghost use Rattle.oct_ray.specs.Axis.{HasRoom};
 ghost use Rattle.oct_ray.specs.Track.{CanPass, IsTrackOf, crosses_now, has_ended, track_after};
 
@@ -55,6 +56,16 @@ impl Track {
         self.beside_next <= next.beside_third && self.beside_third <= third.beside_next
     }
 
+    /// Whether this axis crosses before the other two, as mostly one does. Where none does, some
+    /// cross together.
+    fn crosses_alone(&self, next: &Track, third: &Track) -> bool
+        ensures now { OnTrue result (crosses_now self.now next.now third.now ≡ true) }
+        ensures next { OnTrue result (crosses_now next.now third.now self.now ≡ false) }
+        ensures third { OnTrue result (crosses_now third.now self.now next.now ≡ false) }
+    {
+        self.beside_next < next.beside_third && self.beside_third < third.beside_next
+    }
+
     /// Takes the next crossing, where it comes now.
     fn pass(&mut self, now: bool, next_pace: u128, third_pace: u128)
         requires { CanPass now self.old next_pace third_pace }
@@ -82,6 +93,27 @@ pub fn has_ended(x: &Track, y: &Track, z: &Track) -> bool
 
 /// Takes the crossings that come next, of one axis or of several at once.
 pub fn advance(x: &mut Track, y: &mut Track, z: &mut Track)
+    requires x { CanPass (crosses_now x.old y.old z.old) x.old y.old.pace z.old.pace }
+    requires y { CanPass (crosses_now y.old z.old x.old) y.old z.old.pace x.old.pace }
+    requires z { CanPass (crosses_now z.old x.old y.old) z.old x.old.pace y.old.pace }
+    ensures x { x.new ≡ track_after (crosses_now x.old y.old z.old) x.old y.old.pace z.old.pace }
+    ensures y { y.new ≡ track_after (crosses_now y.old z.old x.old) y.old z.old.pace x.old.pace }
+    ensures z { z.new ≡ track_after (crosses_now z.old x.old y.old) z.old x.old.pace y.old.pace }
+{
+    let (x_pace, y_pace, z_pace) = (x.pace, y.pace, z.pace);
+    if x.crosses_alone(y, z) {
+        x.pass(true, y_pace, z_pace);
+    } else if y.crosses_alone(z, x) {
+        y.pass(true, z_pace, x_pace);
+    } else if z.crosses_alone(x, y) {
+        z.pass(true, x_pace, y_pace);
+    } else {
+        advance_together(x, y, z);
+    }
+}
+
+/// Takes the crossings that come next, whichever they are.
+fn advance_together(x: &mut Track, y: &mut Track, z: &mut Track)
     requires x { CanPass (crosses_now x.old y.old z.old) x.old y.old.pace z.old.pace }
     requires y { CanPass (crosses_now y.old z.old x.old) y.old z.old.pace x.old.pace }
     requires z { CanPass (crosses_now z.old x.old y.old) z.old x.old.pace y.old.pace }

@@ -1,8 +1,10 @@
-ghost use Rattle.std.specs.Prelude.{◌≡◌, ◌+◌, ◌-◌, ◌*◌, ◌^◌, ◌<◌, ◌≤◌, [], length, slice_get, IsSome, IfSome, IfNone};
+ghost use Rattle.std.specs.Prelude.{◌≡◌, ◌+◌, ◌-◌, ◌*◌, ◌^◌, ◌<◌, ◌≤◌, [], length, slice_get};
+ghost use Rattle.std.specs.Prelude.{IsSome, IfSome, IfNone};
 ghost use Rattle.std.specs.Iterator.{YieldsFirst, item_count};
 ghost use Rattle.oct_key.specs.Voxel.{IsResolution, key_at};
 ghost use Rattle.oct_ray.specs.Segment.{IsWalkAlong};
 ghost use Rattle.oct_ray.specs.Given.{HasGiven};
+ghost use Rattle.oct_ray.specs.Met.{met_by};
 
 use crate::axis::Axis;
 use crate::track::{Track, advance, has_ended};
@@ -43,6 +45,7 @@ impl Walk {
         requires origin { IsSome (key_at res o) }
         requires end { IsSome (key_at res e) }
         ensures walk { IsWalkAlong res o e result }
+        ensures computed { result ≡ met_by res o e }
         ensures first { slice_get result 0 ≡ key_at res o }
         ensures last { slice_get result (length result - 1) ≡ key_at res e }
         ensures few { length result ≤ 3 * 65535 + 1 }

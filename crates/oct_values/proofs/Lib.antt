@@ -6,3 +6,9 @@ pub mod Uniform
 pub mod Largest
 pub mod Children
 pub mod Reached
+pub mod Kept
+pub mod Axes
+pub mod Spans
+pub mod Boxes
+pub mod Cuts
+pub mod Around

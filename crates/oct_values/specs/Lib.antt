@@ -3,3 +3,5 @@ pub mod Blocks
 pub mod Depths
 pub mod Counts
 pub mod Needs
+pub mod Classes
+pub mod Boxes

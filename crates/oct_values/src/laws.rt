@@ -1,12 +1,15 @@
-ghost use Rattle.std.specs.Prelude.{◌≡◌, ◌≤◌, ◌↔◌, IsTrue, count_by};
+ghost use Rattle.std.specs.Prelude.{◌≡◌, ◌+◌, ◌≤◌, ◌↔◌, IsTrue, Option, Some, count_by};
 ghost use Rattle.std.specs.List.{All, Contains};
 ghost use Rattle.oct_key.specs.Voxel.{Voxel, IsInMap};
 ghost use Rattle.oct_key.specs.Values.{Values, SameValues, is_same_voxel};
 ghost use Rattle.oct_key.specs.Block.{Cube, IsBlock, HoldsVoxel, is_same_block};
+ghost use Rattle.oct_odds.specs.Odds.{Odds};
 ghost use Rattle.oct_odds.specs.Update.{Value};
+ghost use Rattle.oct_odds.specs.declared.event.Event.{Event};
 ghost use Rattle.oct_values.specs.Blocks.{voxels_of, blocks_above_voxels};
 ghost use Rattle.oct_values.specs.Depths.{IsLargestIn, depth_value};
-ghost use Rattle.oct_values.specs.Events.{Events};
+ghost use Rattle.oct_values.specs.Boxes.{IsInBox, MeetsBox, LiesInBox, is_in_box, is_met_by, is_cut_by, box_events, box_need};
+ghost use Rattle.oct_values.specs.Events.{Events, event_at, updated};
 ghost use Rattle.oct_values.specs.Needs.{IsReached, is_reached, event_need};
 ghost use Rattle.oct_values.specs.Counts.{IsUniform, IsKnownIn, is_uniform, is_known_in, group_count, node_count};
 
@@ -49,4 +52,28 @@ pub fn answers_are_of_the_map()
         → depth_value v b ≡ depth_value w b }
     ensures needs { (d e : Events) → ((k : Voxel) → IsInMap k → d k ≡ e k)
         → event_need d ≡ event_need e }
+{}
+
+/// The tests by which boxes and their blocks are counted say what they say in words of voxels.
+pub fn tests_tell_boxes()
+    ensures voxel { (lo hi k : Voxel) → IsTrue (is_in_box lo hi k) ↔ IsInBox lo hi k }
+    ensures met { (lo hi : Voxel) (b : Cube) → IsBlock b
+        → IsTrue (is_met_by lo hi b) ↔ MeetsBox lo hi b }
+    ensures cut { (lo hi : Voxel) (b : Cube) → IsBlock b
+        → IsTrue (is_cut_by lo hi b) ↔ (MeetsBox lo hi b × (LiesInBox lo hi b → ⊥)) }
+{}
+
+/// Events make no more groups needed than their need: a block that isn't uniform afterwards wasn't
+/// before, or holds a voxel with an event. For one voxel that is 16, for a box the number of the
+/// blocks that it cuts, and for one event on every voxel of the map, or none, it is 0.
+pub fn events_make_few_groups()
+    ensures events { (odds : Odds) (events : Events) (values : Values)
+        → group_count (updated odds events values) ≤ group_count values + event_need events }
+    ensures voxel { (odds : Odds) (k : Voxel) (event : Event) (values : Values) → IsInMap k
+        → group_count (updated odds (event_at (Some k) event) values) ≤ group_count values + 16 }
+    ensures boxes { (odds : Odds) (lo hi : Voxel) (event : Event) (values : Values)
+        → group_count (updated odds (box_events lo hi event) values)
+        ≤ group_count values + box_need lo hi }
+    ensures all { (odds : Odds) (event : Option Event) (values : Values)
+        → group_count (updated odds (λ _. event) values) ≤ group_count values }
 {}

@@ -17,16 +17,19 @@
 //!   blocks that hold a known voxel.
 //! - `Needs`: `IsReached` says that some voxel of a block has an event. `event_need` is the number
 //!   of such blocks of depth 0 to 15: so many groups at most have to be made for the events.
+//! - `Boxes`: `IsInBox` says that a voxel lies between two corners, and `box_events` is one event on
+//!   each of these. `box_need` is the number of blocks of depth 0 to 15 that meet the box and don't
+//!   lie in it: a block in the box takes one event as a whole.
 //!
 //! Its functions do nothing and promise much: each is a law, so that nobody has to trust a list, a
 //! test or a fold. Each block and each voxel is listed once, the tests say what they say in words
-//! of voxels, and a block has one answer. Scans, the tree's edits and queries, the map and
+//! of voxels, a block has one answer, and events make no more groups needed than they may. Scans, the tree's edits and queries, the map and
 //! the session are held against these words.
 #![tactic(auto)]
 
 mod laws;
 
 pub use laws::{
-    answers_are_of_the_map, blocks_are_listed_once, blocks_have_one_answer, tests_tell_blocks,
-    voxels_are_listed_once,
+    answers_are_of_the_map, blocks_are_listed_once, blocks_have_one_answer, events_make_few_groups,
+    tests_tell_blocks, tests_tell_boxes, voxels_are_listed_once,
 };

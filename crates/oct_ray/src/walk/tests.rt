@@ -142,7 +142,8 @@ fn walks_across_the_whole_map(rt: HostRuntime) -> Result<(), Fail> {
             // From corner to corner: each step is through an exact corner.
             (cube(-half), cube(half - 1), 65_536),
             (cube(half - 1), cube(-half), 65_536),
-            // One axis rises and one falls, and starts a nanometre nearer to its first face: no two faces are crossed together.
+            // One axis rises and one falls, and starts a nanometre nearer to its first face: no two
+            // faces are crossed together.
             (
                 Point {
                     x: -half,
@@ -196,7 +197,8 @@ struct Offset {
     z: u8,
 }
 
-/// Whether the place `p` / 24 between `o` and `e`, in half edges, lies in the voxels of a number on an axis.
+/// Whether the place `p` / 24 between `o` and `e`, in half edges, lies in the voxels of a number on
+/// an axis.
 fn lies_between(o: u8, e: u8, key: u8, p: u8) -> bool
     requires { p ≤ 24 }
 {
@@ -207,8 +209,9 @@ fn lies_between(o: u8, e: u8, key: u8, p: u8) -> bool
     face <= place && place < face + 24 * 2
 }
 
-/// The first place of a beam, in 24ths, that lies in a voxel. A beam that spans at most four half edges on each axis crosses faces at
-/// 12ths of its way alone, so that a 24th lies in each voxel that it meets.
+/// The first place of a beam, in 24ths, that lies in a voxel. A beam that spans at most four half
+/// edges on each axis crosses faces at 12ths of its way alone, so that a 24th lies in each voxel
+/// that it meets.
 fn first_place(o: Offset, e: Offset, k: Offset) -> Option<u8> {
     for p in 0..25 {
         if lies_between(o.x, e.x, k.x, p)

@@ -1,7 +1,9 @@
-use Rattle.std.proofs.Common.{true, rules, to_z-of_z, SFits, w64}
+use Rattle.std.proofs.Common.{true, rules, ap, ◌∙◌, to_z-of_z, SFits, w64}
 use Rattle.oct_ray.specs.Axis.{IsAxisOf}
 use Rattle.oct_ray.specs.Track.{keys_to_come}
+use Rattle.oct_ray.specs.Met.{met_by}
 use Rattle.oct_ray.proofs.MapFaces.{on_map_at}
+use Rattle.oct_ray.proofs.OneAxis.{computed_walk}
 use Rattle.oct_ray.proofs.Tracks.{few_to_come, make_walk}
 use Rattle.oct_ray.proofs.Starts.{made_tracks, made_at, IsMade, IsNewWalk}
 use Rattle.oct_ray.proofs.walk.Walk.new.Goals as goal
@@ -75,3 +77,8 @@ invariant_of-result c = made_tracks _ c.args.o c.args.e _ _ _ _ _ _ (made c) c.n
 
 pub returns-clause-few : goal.returns-clause-few
 returns-clause-few c = few_to_come _ _ _ (invariant_of-result c)
+
+pub returns-clause-computed : goal.returns-clause-computed
+returns-clause-computed c =
+    computed_walk _ c.args.o c.args.e _ _ _ _ _ _ (made c) c.new.ensures c.new-2.ensures c.new-3.ensures
+    ∙ ap (λ edge. met_by edge c.args.o c.args.e) c.edge_of-edge.ensures.value

@@ -1,0 +1,90 @@
+-- Boxes of voxels: an event on each voxel of one, and how many groups may have to be made for it.
+use Rattle.std.specs.Prelude.{ℕ, ◌≤◌, ◌<◌, ◌+◌, ◌-◌, ◌*◌, ◌/◌, Bool, ◌&&◌, not, nat_le, Some, None, count_by, if◌then◌else◌}
+use Rattle.std.specs.List.{list_all, list_any}
+use Rattle.oct_key.specs.Voxel.{Voxel}
+use Rattle.oct_key.specs.Block.{Cube, HoldsVoxel, side}
+use Rattle.oct_odds.specs.declared.event.Event.{Event}
+use Rattle.oct_values.specs.Blocks.{voxels_of, blocks_above_voxels}
+use Rattle.oct_values.specs.Events.{Events}
+
+-- a number lies between two others, both included
+abbrev pub IsBetween : ℕ → ℕ → ℕ → Type 0
+IsBetween low high n = (low ≤ n) × (n ≤ high)
+
+-- a voxel lies in the box of two corners: on each axis between them, both included
+pub record IsInBox (lo hi k : Voxel) : Type 0 where
+  pub x : IsBetween lo.x hi.x k.x
+  pub y : IsBetween lo.y hi.y k.y
+  pub z : IsBetween lo.z hi.z k.z
+
+-- two voxels are the corners of a box: on no axis the first is beyond the second
+pub record IsBox (lo hi : Voxel) : Type 0 where
+  pub x : lo.x ≤ hi.x
+  pub y : lo.y ≤ hi.y
+  pub z : lo.z ≤ hi.z
+
+-- whether two voxels are the corners of a box
+abbrev pub is_box : Voxel → Voxel → Bool
+is_box lo hi = nat_le lo.x hi.x && nat_le lo.y hi.y && nat_le lo.z hi.z
+
+-- whether a number lies between two others
+abbrev pub is_between : ℕ → ℕ → ℕ → Bool
+is_between low high n = nat_le low n && nat_le n high
+
+-- whether a voxel lies in a box
+abbrev pub is_in_box : Voxel → Voxel → Voxel → Bool
+is_in_box lo hi k = is_between lo.x hi.x k.x && is_between lo.y hi.y k.y && is_between lo.z hi.z k.z
+
+-- an event on each voxel of a box, and nothing elsewhere
+abbrev pub box_events : Voxel → Voxel → Event → Events
+box_events lo hi event k = if is_in_box lo hi k then Some event else None
+
+-- a block meets a box: some voxel of it lies in the box
+abbrev pub MeetsBox : Voxel → Voxel → Cube → Type 0
+MeetsBox lo hi b = (k : Voxel) × HoldsVoxel b k × IsInBox lo hi k
+
+-- a block lies in a box: each voxel of it does
+abbrev pub LiesInBox : Voxel → Voxel → Cube → Type 0
+LiesInBox lo hi b = (k : Voxel) → HoldsVoxel b k → IsInBox lo hi k
+
+-- whether a block meets a box
+unfoldable pub is_met_by : Voxel → Voxel → Cube → Bool
+is_met_by lo hi b = list_any (is_in_box lo hi) (voxels_of b)
+
+-- whether a block meets a box and doesn't lie in it
+unfoldable pub is_cut_by : Voxel → Voxel → Cube → Bool
+is_cut_by lo hi b = is_met_by lo hi b && not (list_all (is_in_box lo hi) (voxels_of b))
+
+-- the number of blocks of depth 0 to 15 that meet a box and don't lie in it: so many groups at most
+-- have to be made for it
+unfoldable pub box_need : Voxel → Voxel → ℕ
+box_need lo hi = count_by (is_cut_by lo hi) blocks_above_voxels
+
+-- on an axis, some voxels of a block of this depth and number lie between two numbers
+abbrev pub MeetsSpan : ℕ → ℕ → ℕ → ℕ → Type 0
+MeetsSpan low high depth n = (low < (n + 1) * side depth) × (n * side depth ≤ high)
+
+-- on an axis, all of them do
+abbrev pub LiesInSpan : ℕ → ℕ → ℕ → ℕ → Type 0
+LiesInSpan low high depth n = (low ≤ n * side depth) × ((n + 1) * side depth ≤ high + 1)
+
+-- on an axis, how many blocks of a depth have voxels between two numbers
+abbrev pub met_on : ℕ → ℕ → ℕ → ℕ
+met_on depth low high = high / side depth + 1 - low / side depth
+
+-- on an axis, how many blocks of a depth have all their voxels between them
+abbrev pub within_on : ℕ → ℕ → ℕ → ℕ
+within_on depth low high = (high + 1) / side depth - (low + (side depth - 1)) / side depth
+
+-- how many blocks of a depth meet a box
+abbrev pub met_at : Voxel → Voxel → ℕ → ℕ
+met_at lo hi depth = met_on depth lo.x hi.x * met_on depth lo.y hi.y * met_on depth lo.z hi.z
+
+-- how many blocks of a depth meet a box and don't lie in it
+unfoldable pub cut_at : Voxel → Voxel → ℕ → ℕ
+cut_at lo hi depth = met_at lo hi depth
+    - within_on depth lo.x hi.x * within_on depth lo.y hi.y * within_on depth lo.z hi.z
+
+-- how many voxels there are in the box of two corners
+abbrev pub box_volume : Voxel → Voxel → ℕ
+box_volume lo hi = (hi.x + 1 - lo.x) * ((hi.y + 1 - lo.y) * (hi.z + 1 - lo.z))
