@@ -46,9 +46,6 @@ begun_more first i number gs after g b l n link eight h =
       empty = λ j a c. ap (λ xs. entry xs j) h ∙ get_or-set_other gs i j e None (λ p. omega arith) ∙ b.empty j (omega arith) c;
     }
 
-pub begun_all : (first i : ℕ) (gs : Groups) → IsBegun first i gs → 1024 ≤ i → IsFresh first gs
-begun_all first i gs b l = record { many = b.many; links = λ j a. b.links j (omega arith) }
-
 pub fresh_full : (first : ℕ) (gs : Groups) → IsFresh first gs → IsFull gs
 fresh_full first gs f i l = (let e = f.links i (let n = f.many in omega arith) in ap is_some e.1)
 

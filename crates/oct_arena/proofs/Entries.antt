@@ -1,5 +1,5 @@
 -- What a change of an arena's entries leaves, for those who use one.
-use Rattle.std.proofs.Common.{◌≡◌, ◌≢◌, ℕ, zero, suc, ◌+◌, ◌-◌, ◌*◌, ◌^◌, ◌<◌, ◌≤◌, [], ◌∷◌, ◌++◌, length, set, refl, sym, ◌∙◌, ap, arith, cond, take, inl, inr, length-append}
+use Rattle.std.proofs.Common.{◌≡◌, ◌≢◌, ℕ, zero, suc, ◌+◌, ◌-◌, ◌*◌, ◌<◌, ◌≤◌, [], ◌∷◌, ◌++◌, length, set, refl, sym, ◌∙◌, ap, arith, cond, take, inl, inr, length-append}
 use Rattle.std.specs.Prelude.{Option, Some, None, is_none, is_some, IsSome, slice_set}
 use Rattle.std.proofs.lemmas.List.{get_or_append_left, get_or-set_same, get_or-set_other, get_or-replicate, length-replicate, length-set, get_or_past}
 use Rattle.std.proofs.Math.Seq.{get_or-append_right}
@@ -62,9 +62,6 @@ spare_vacated gs id h =
     let was = live_none (entry gs id) h in
     omega (arith, s, was)
 
-pub live_vacated : (gs : Groups) (id : ℕ) → IsLive gs id → live (slice_set gs id None) + 1 ≡ live gs
-live_vacated gs id h = omega (arith, live_spare gs, live_spare (slice_set gs id None), spare_vacated gs id h, length-set {A = Option Group} gs id None)
-
 none_with : (e : Option Group) (i : ℕ) (n : Node) → cond {A = ℕ} (is_none (with_node e i n)) 1 0 ≡ cond {A = ℕ} (is_none e) 1 0
 none_with None i n = refl
 none_with (Some g) i n = refl
@@ -108,13 +105,6 @@ take_long [] (suc n) l = refl
 take_long (e ∷ gs) zero l = elim l [ ]
 take_long (e ∷ gs) (suc n) l = ap (λ (es : Groups). e ∷ es) (take_long gs n (omega arith))
 
--- a list that is made longer, and filled up with vacant entries
-pub resized : (gs grown : Groups) (n len k : ℕ) → len ≡ length gs → n ≡ len + k → grown ≡ take n gs ++ vacant (n - len) → grown ≡ gs ++ vacant k
-resized gs grown n len k l e h =
-    let all : take n gs ≡ gs = take_long gs n (omega (arith, e, l)) in
-    let more : n - len ≡ k = omega (arith, e) in
-    h ∙ rw (all, more) refl
-
 pub length_grown : (gs : Groups) (k : ℕ) → length (gs ++ vacant k) ≡ length gs + k
 length_grown gs k = length-append gs (vacant k) ∙ ap (λ n. length gs + n) (length-replicate {A = Option Group} k None)
 
@@ -156,9 +146,3 @@ eight_with (Some f) i n w g at =
 -- a node of a group changes, and the entries stay those of an arena
 pub arena_changed : (gs : Groups) (id i : ℕ) (n : Node) → IsArena gs → IsArena (slice_set gs id (with_node (entry gs id) i n))
 arena_changed gs id i n h = arena_set gs id (with_node (entry gs id) i n) h (eight_with (entry gs id) i n (h.eight id))
-
-pub arena_grown : (gs : Groups) (k : ℕ) → IsArena gs → length gs + k ≤ 2 ^ 31 + 1023 → IsArena (gs ++ vacant k)
-arena_grown gs k h few = record {
-  few = rw (length_grown gs k) few;
-  eight = λ id g at. h.eight id g (sym (entry_grown gs k id) ∙ at);
-}

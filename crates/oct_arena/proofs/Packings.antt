@@ -6,7 +6,8 @@ use Rattle.oct_arena.specs.declared.node.Node.{Node}
 use Rattle.oct_arena.specs.declared.node.Node.TheVariants.{Absent, Leaf, Inner}
 use Rattle.oct_arena.specs.declared.node.GroupId.{GroupId}
 use Rattle.oct_arena.proofs.Ids.{same_ids}
-use Rattle.oct_arena.specs.Packing.{linked, leaf_link, absent_link, node_of_bits}
+use Rattle.oct_arena.specs.declared.node.PackedNode.TheInside.{Inside}
+use Rattle.oct_arena.specs.Packing.{linked, leaf_link, absent_link, node_of_bits, bits_of, IsPacked, packed-unpacked}
 
 linked_inner : (id : GroupId) (c : (id.number < 2 ^ 31 + 1023) ⊎ (2 ^ 31 + 1023 ≤ id.number)) (v : ℤ) → linked id.number c v ≡ Inner v id
 linked_inner id (inl small) v = ap (λ i. Inner v i) (same_ids (record { number = id.number; small = small }) id refl)
@@ -26,11 +27,15 @@ parts bits link v e f = λ i. linked (e i) (cases_lt (e i) (2 ^ 31 + 1023)) (sym
 pub is_inner : (bits : ℕ) (id : GroupId) (v : ℤ) → bits / 2 ^ 32 ≡ id.number → v ≡ cast_signed w32 (bits % 2 ^ 32) → node_of_bits bits ≡ Inner v id
 is_inner bits id v e f = parts bits id.number v e f ∙ linked_inner id (cases_lt id.number (2 ^ 31 + 1023)) v
 
-pub is_leaf : (bits : ℕ) (v : ℤ) → bits / 2 ^ 32 ≡ leaf_link → v ≡ cast_signed w32 (bits % 2 ^ 32) → node_of_bits bits ≡ Leaf v
-is_leaf bits v e f = parts bits leaf_link v e f ∙ linked_leaf (cases_lt leaf_link (2 ^ 31 + 1023)) v
-
 pub is_absent : (bits : ℕ) → bits / 2 ^ 32 ≡ absent_link → node_of_bits bits ≡ Absent
 is_absent bits e = let v = cast_signed w32 (bits % 2 ^ 32) in parts bits absent_link v e refl ∙ linked_absent (cases_lt absent_link (2 ^ 31 + 1023)) v
+
+-- one node has one pattern of bits
+pub same_bits : (p q : Inside) → IsPacked p.bits → IsPacked q.bits
+    → node_of_bits p.bits ≡ node_of_bits q.bits → p.bits ≡ q.bits
+same_bits p q hp hq e =
+    ap (λ (i : Inside). i.bits) (sym (packed-unpacked p hp)) ∙ ap bits_of e
+    ∙ ap (λ (i : Inside). i.bits) (packed-unpacked q hq)
 
 -- eight reads of a list of eight are the list
 pub eight : (xs : List Node) → length xs ≡ 8 → (a b c d e f g h : Node) → a ≡ get_or xs 0 a → b ≡ get_or xs 1 b → c ≡ get_or xs 2 c → d ≡ get_or xs 3 d → e ≡ get_or xs 4 e → f ≡ get_or xs 5 f

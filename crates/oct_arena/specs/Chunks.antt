@@ -26,7 +26,8 @@ AllFull (c ∷ cs) = (length c ≡ 1024) × AllFull cs
 
 -- a group of eight nodes whose memory links that entry
 abbrev pub IsLink : ℕ → Option Group → Type 0
-IsLink number e = (g : Group) × (e ≡ Some g) × (length g.nodes ≡ 8) × (linked_number (node_of (Some g) 0) ≡ number)
+IsLink number e = (g : Group) × (e ≡ Some g) × (length g.nodes ≡ 8)
+    × (linked_number (node_of (Some g) 0) ≡ number)
 
 -- a new chunk, whose first group's entry is first: each of its groups links the entry after its own
 pub record IsFresh (first : ℕ) (gs : Groups) : Type 0 where

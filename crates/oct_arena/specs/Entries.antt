@@ -1,4 +1,5 @@
--- An arena as its callers see it: a list of groups and vacant entries, where a group's id is the number of its entry.
+-- An arena as its callers see it: a list of groups and vacant entries, where a group's id is the
+-- number of its entry.
 use Rattle.std.specs.Prelude.{◌≡◌, ℕ, ◌+◌, ◌^◌, ◌≤◌, Bool, IsTrue, List, length, replicate, Option, Some, None, is_none, is_some, option_map, count_by, slice_index_or, slice_set}
 use Rattle.oct_key.specs.Block.{Cube}
 use Rattle.oct_key.specs.CubeOf.{cube_of}

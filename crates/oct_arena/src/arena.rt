@@ -4,7 +4,7 @@ ghost use Rattle.oct_key.specs.CubeOf.{cube_of};
 ghost use Rattle.oct_arena.specs.Entries.{IsArena, IsLive, entry, node_at, home_at, with_node, spare, live, vacant};
 
 use crate::chunk::CHUNK;
-use crate::node::{GroupId, Node};
+use crate::node::{Group, GroupId, Node};
 use crate::rows::Rows;
 use oct_key::Block;
 use oct_num::Memory;
@@ -37,7 +37,9 @@ impl Model for NodeArena {
 fn link_last(rows: &mut Rows, spare: u32, head: GroupId, tail: GroupId, next: GroupId) -> GroupId
     requires { 1 ≤ spare → tail.number < length rows.old }
     ensures none { spare ≡ 0 → (rows.new ≡ rows.old) × (result.number ≡ next.number) }
-    ensures some { 1 ≤ spare → (rows.new ≡ slice_set rows.old tail.number (with_node (entry rows.old tail.number) 0 (Inner (pos 0) next))) × (result.number ≡ head.number) }
+    ensures some { 1 ≤ spare → (rows.new ≡ slice_set rows.old tail.number
+        (with_node (entry rows.old tail.number) 0 (Inner (pos 0) next)))
+        × (result.number ≡ head.number) }
 {
     if spare == 0 {
         return next;
@@ -61,8 +63,8 @@ impl NodeArena {
         }
     }
 
-    /// Makes room for n more groups, and for at most 1,023 more than these where there wasn't room for n. The groups and their ids
-    /// stay.
+    /// Makes room for n more groups, and for at most 1,023 more than these where there wasn't room
+    /// for n. The groups and their ids stay.
     ///
     /// `Memory` comes only where there wasn't room for n.
     pub fn reserve(&mut self, n: u32) -> Result<(), Memory>
@@ -80,7 +82,8 @@ impl NodeArena {
         Ok(())
     }
 
-    /// Appends a chunk of vacant entries at the end of the free list, or none where memory runs out.
+    /// Appends a chunk of vacant entries at the end of the free list, or none where memory runs
+    /// out.
     fn grow(&mut self) -> Result<(), Memory>
         requires { length self.old < 2 ^ 31 }
         ensures ok { OnOk result (self.new ≡ self.old ++ vacant 1024) }
@@ -101,7 +104,8 @@ impl NodeArena {
         requires { 1 ≤ spare self.old }
         ensures within { result.number < length self.old }
         ensures vacant { entry self.old result.number ≡ None }
-        ensures filled { self.new ≡ slice_set self.old result.number (Some (record { home = home; nodes = nodes })) }
+        ensures filled { self.new
+            ≡ slice_set self.old result.number (Some (record { home = home; nodes = nodes })) }
         ensures spare { spare self.new + 1 ≡ spare self.old }
         ensures arena { IsArena self.new }
     {
@@ -138,11 +142,22 @@ impl NodeArena {
         self.rows.get(id.number() as usize).node(i)
     }
 
-    /// Puts n in the place of node i of the group. The group's home and its other nodes stay, and so do all other entries.
+    /// The group: its home and its nodes.
+    pub fn group(&self, id: GroupId) -> &Group
+        requires { IsLive self.now id.number }
+        ensures exact { entry self.now id.number ≡ Some result.now }
+        ensures arena { IsArena self.now }
+    {
+        self.rows.get(id.number() as usize)
+    }
+
+    /// Puts n in the place of node i of the group. The group's home and its other nodes stay, and
+    /// so do all other entries.
     pub fn set_node(&mut self, id: GroupId, i: u8, n: Node)
         requires live { IsLive self.old id.number }
         requires index { i ≤ 7 }
-        ensures changed { self.new ≡ slice_set self.old id.number (with_node (entry self.old id.number) i n) }
+        ensures changed { self.new
+            ≡ slice_set self.old id.number (with_node (entry self.old id.number) i n) }
         ensures spare { spare self.new ≡ spare self.old }
         ensures arena { IsArena self.new }
     {

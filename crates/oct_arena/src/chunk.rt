@@ -83,7 +83,8 @@ impl Chunk {
     /// Writes a group in its place.
     pub(crate) fn fill(&mut self, i: usize, home: Block, nodes: &[Node; 8])
         requires { i < length self.old }
-        ensures { self.new ≡ slice_set self.old i (Some (record { home = home; nodes = nodes.now })) }
+        ensures { self.new
+            ≡ slice_set self.old i (Some (record { home = home; nodes = nodes.now })) }
     {
         let group = self.cells.get_mut(self.address, i);
         group.home = home;

@@ -1,6 +1,7 @@
-ghost use Rattle.std.specs.Prelude.{◌≡◌, ◌≤◌, length, Some};
+ghost use Rattle.std.specs.Prelude.{◌≡◌, ◌≤◌, ◌↔◌, IsTrue, length, Some};
 ghost use Rattle.oct_arena.specs.Entries.{node_of};
 ghost use Rattle.oct_arena.specs.Free.{linked_number};
+ghost use Rattle.oct_arena.specs.Nodes.{stored_in, IsRankOf};
 
 use crate::node::{Group, GroupId, Node, PackedNode};
 use oct_key::Block;
@@ -32,10 +33,28 @@ impl Group {
         }
     }
 
-    pub(crate) fn node(&self, i: u8) -> Node
+    /// Node i.
+    pub fn node(&self, i: u8) -> Node
         requires { i ≤ 7 }
         ensures { result ≡ node_of (Some self.now) i }
     {
         self.nodes[i as usize].node()
+    }
+
+    /// Whether the nodes i and j are one, compared as they lie.
+    pub fn are_same(&self, i: u8, j: u8) -> bool
+        requires { (i ≤ 7) × (j ≤ 7) }
+        ensures { IsTrue result ↔ (node_of (Some self.now) i ≡ node_of (Some self.now) j) }
+    {
+        self.nodes[i as usize].is(self.nodes[j as usize])
+    }
+
+    /// The rank of the value that stands in node i: a number that is less than that of any value
+    /// where there is none. So the greatest of a group is found without a question for each node.
+    pub fn rank(&self, i: u8) -> i64
+        requires { i ≤ 7 }
+        ensures { IsRankOf (stored_in (node_of (Some self.now) i)) result }
+    {
+        self.nodes[i as usize].rank()
     }
 }

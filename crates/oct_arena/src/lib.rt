@@ -1,33 +1,39 @@
 //! The groups of eight nodes that an octree is made of, and the arena that keeps them.
 //!
-//! A [`Node`] says what is known of a block of voxels: nothing, one value for all of it, or that its eight children are in a
-//! [`Group`]. A group keeps which block it belongs to, its home, so that two blocks never share one. Groups stand in a
-//! [`NodeArena`], each under a [`GroupId`] of its own, and a node links a group by that id.
+//! A [`Node`] says what is known of a block of voxels: nothing, one value for all of it, or that
+//! its eight children are in a [`Group`]. A group keeps which block it belongs to, its home, so
+//! that two blocks never share one. Groups stand in a [`NodeArena`], each under a [`GroupId`] of
+//! its own, and a node links a group by that id.
 //!
-//! An arena is seen as a list of entries, where an id is the number of an entry: a group, or none where the entry is vacant. What
-//! the contracts promise:
+//! An arena is seen as a list of entries, where an id is the number of an entry: a group, or none
+//! where the entry is vacant. What the contracts promise:
 //!
-//! - [`NodeArena::take`] puts the group that it is given into a vacant entry, [`NodeArena::give`] makes the entry vacant again, and
-//!   [`NodeArena::set_node`] changes one node of one group. Nothing else changes: each says the whole list after the call.
-//! - [`NodeArena::node`] and [`NodeArena::home`] answer what was put there. They are asked for groups that are there alone.
-//! - [`NodeArena::reserve`] appends vacant entries until there are as many as asked for, and at most 1,023 more. It appends none
-//!   where there are enough. No group moves to another id, also where memory runs out.
+//! - [`NodeArena::take`] puts the group that it is given into a vacant entry, [`NodeArena::give`]
+//!   makes the entry vacant again, and [`NodeArena::set_node`] changes one node of one group.
+//!   Nothing else changes: each says the whole list after the call.
+//! - [`NodeArena::node`], [`NodeArena::home`] and [`NodeArena::group`] answer what was put there.
+//!   They are asked for groups that are there alone. [`Group::are_same`] compares two nodes of a
+//!   group, and [`Group::rank`] says what stands in one as a number, both without unpacking them.
+//! - [`NodeArena::reserve`] appends vacant entries until there are as many as asked for, and at
+//!   most 1,023 more. It appends none where there are enough. No group moves to another id, also
+//!   where memory runs out.
 //! - [`NodeArena::live`] and [`NodeArena::spare`] are the numbers of groups and of vacant entries.
 //!
-//! `reserve` is the only call that asks for memory. So a caller that reserves first what an edit may
-//! need can't fail on the way and leave half of it done.
+//! `reserve` is the only call that asks for memory. So a caller that reserves first what an edit
+//! may need can't fail on the way and leave half of it done.
 //!
 //! Groups lie in chunks of 1,024, which never move. A node takes eight bytes and a group 72. The
-//! vacant entries are a list that is threaded through their own memory: the first node of each links
-//! the next. The invariant says that each vacant entry stands on the list once, and that the list is
-//! as long as `spare` counts. `take` takes the first entry of the list, and `give` puts one in
-//! front. A new chunk goes to the end of the list, each of its groups written once, so new entries
-//! are taken in the order of their ids, and groups that are made one after another lie side by side.
-//! All calls but `reserve` take a few steps, however many groups there are. An arena that is dropped
-//! gives all memory back.
+//! vacant entries are a list that is threaded through their own memory: the first node of each
+//! links the next. The invariant says that each vacant entry stands on the list once, and that the
+//! list is as long as `spare` counts. `take` takes the first entry of the list, and `give` puts one
+//! in front. A new chunk goes to the end of the list, each of its groups written once, so new
+//! entries are taken in the order of their ids, and groups that are made one after another lie side
+//! by side. All calls but `reserve` take a few steps, however many groups there are. An arena that
+//! is dropped gives all memory back.
 //!
-//! The tree stands on this crate, and cites `Groups`, `entry`, `IsLive`, `node_at` and `home_at`. `IsArena` is what each list of an
-//! arena has: at most 2^31 + 1,023 entries, and eight nodes in each group.
+//! The tree stands on this crate, and cites `Groups`, `entry`, `IsLive`, `node_at` and `home_at`.
+//! `IsArena` is what each list of an arena has: at most 2^31 + 1,023 entries, and eight nodes in
+//! each group.
 #![tactic(auto)]
 
 mod arena;

@@ -1,4 +1,4 @@
-ghost use Rattle.std.specs.Prelude.{◌≡◌, ◌<◌, ◌+◌, ◌*◌, ◌/◌, ◌%◌, ◌^◌};
+ghost use Rattle.std.specs.Prelude.{◌≡◌, ◌<◌, ◌+◌, ◌*◌, ◌/◌, ◌%◌, ◌^◌, ◌↔◌, IsTrue};
 ghost use Rattle.std.specs.Int.{cast_signed, cast_unsigned};
 ghost use Rattle.std.proofs.Common.{w32};
 
@@ -119,6 +119,8 @@ fn value_of(bits: u64) -> i32
 }
 
 impl PackedNode {
+    ghost use Rattle.oct_arena.specs.Nodes.{stored_in, IsRankOf};
+
     pub(crate) fn new(node: Node) -> PackedNode
         ensures { result ≡ node }
     {
@@ -144,6 +146,23 @@ impl PackedNode {
             LEAF => Node::Leaf(value),
             link => Node::Inner(value, GroupId::new(link)),
         }
+    }
+
+    /// Whether both are one node: nodes are where their bits are.
+    pub(crate) fn is(self, other: PackedNode) -> bool
+        ensures { IsTrue result ↔ (self ≡ other) }
+    {
+        self.bits == other.bits
+    }
+
+    /// The rank of the value that stands in the node.
+    pub(crate) fn rank(self) -> i64
+        ensures { IsRankOf (stored_in self) result }
+    {
+        if link_of(self.bits) == ABSENT {
+            return i64::MIN;
+        }
+        i64::from(value_of(self.bits))
     }
 
     pub(crate) fn all(nodes: &[Node; 8]) -> [PackedNode; 8]

@@ -53,7 +53,8 @@ impl Rows {
 
     pub(crate) fn fill(&mut self, i: usize, home: Block, nodes: &[Node; 8])
         requires { i < length self.old }
-        ensures { self.new ≡ slice_set self.old i (Some (record { home = home; nodes = nodes.now })) }
+        ensures { self.new
+            ≡ slice_set self.old i (Some (record { home = home; nodes = nodes.now })) }
     {
         let chunk = &mut self.chunks[i / CHUNK];
         chunk.fill(i % CHUNK, home, nodes);

@@ -9,4 +9,5 @@ pub mod Formed
 pub mod Grown
 pub mod Within
 pub mod Over
+pub mod Tidied
 pub mod Callers

@@ -8,8 +8,7 @@ use Rattle.oct_arena.specs.declared.node.Node.{Node}
 use Rattle.oct_arena.specs.declared.node.Node.TheVariants.{Absent, Leaf, Inner}
 use Rattle.oct_arena.specs.Entries.{Groups, node_at}
 use Rattle.oct_tree.specs.Nodes.{IsAll, IsCollapsible}
-use Rattle.oct_arena.specs.Nodes.{link_of, stored_in}
-use Rattle.oct_tree.specs.Survey.{IsRankOf}
+use Rattle.oct_arena.specs.Nodes.{link_of, stored_in, IsRankOf}
 
 -- the greatest value of a group's first n nodes
 pub record IsGreatestOf (gs : Groups) (id n : ℕ) (m : ℤ) : Type 0 where

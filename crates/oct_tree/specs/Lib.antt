@@ -5,3 +5,4 @@ pub mod Tree
 pub mod Shape
 pub mod Changes
 pub mod Passes
+pub mod Tidiness

@@ -1,16 +1,10 @@
 -- What a pass over a group's nodes finds, for the proofs of the functions that make one.
-use Rattle.std.specs.Prelude.{◌≡◌, ℕ, ◌^◌, ℤ, pos, neg_ℤ, ◌≤ℤ◌, ◌<ℤ◌, Some, None}
-use Rattle.oct_odds.specs.Update.{Value}
+use Rattle.std.specs.Prelude.{◌≡◌, ℕ, None}
 use Rattle.oct_arena.specs.Entries.{Groups}
 use Rattle.oct_tree.specs.Nodes.{IsAll, IsCollapsible, IsGreatest}
 use Rattle.oct_arena.specs.Nodes.{link_of}
 use Rattle.oct_tree.specs.declared.nodes.Survey.{Survey}
 use Rattle.oct_tree.specs.declared.nodes.Survey.TheVariants.{Alike, Varied}
-
--- the rank of a value: the number itself, or, of none, less than every value of 32 bits
-abbrev pub IsRankOf : Value → ℤ → Type 0
-IsRankOf None rank = rank ≡ neg_ℤ (pos (2 ^ 63))
-IsRankOf (Some v) rank = (rank ≡ v) × (neg_ℤ (pos (2 ^ 31)) ≤ℤ v) × (v <ℤ pos (2 ^ 31))
 
 -- the group's nodes are all one node that is not Inner, or they aren't and this is their greatest
 -- value

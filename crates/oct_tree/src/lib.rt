@@ -31,21 +31,27 @@
 //! where each inner value is the greatest of its group (`IsFresh`), and pruned where no group could
 //! be collapsed (`IsPruned`). The edits above this crate keep these three.
 //!
+//! A tree can keep that it is known to be fresh, and to be pruned ([`Tidiness`]): whoever has shown
+//! it says so by [`OccTree::note`], and [`OccTree::tidiness`] answers what still holds. Each call
+//! that changes a node forgets it, so that what is known is so (`IsTrueOf`). An edit of such a tree
+//! can end early.
+//!
 //! `at` reads at most sixteen nodes of the arena, `settle` those of one group, and no call
 //! but `reserve` allocates.
 //!
 //! Edits, passes, queries and the map stand on this crate. They cite the definitions in `specs/`,
 //! and `proofs/` has the lemmas for them: how paths run and which places they read (`Paths`), what
-//! they come to over a block (`Over`), which blocks a change leaves alone (`Frames`), what joins the
-//! two (`Links`), what more room leaves (`Grown`), and how a pass goes from the children of a block
-//! to the block (`Within`).
-
+//! they come to over a block (`Over`), which blocks a change leaves alone (`Frames`), what joins
+//! the two (`Links`), what more room leaves (`Grown`), and how a pass goes from the children of a
+//! block to the block (`Within`).
 #![tactic(auto)]
 
 mod nodes;
 mod place;
 mod slots;
+mod tidiness;
 mod tree;
 
 pub use place::Place;
+pub use tidiness::Tidiness;
 pub use tree::OccTree;

@@ -3,9 +3,9 @@
 ghost use Rattle.std.specs.Prelude.{◌≡◌, ◌≤◌, ◌<◌, ◌↔◌, ◌≤ℤ◌, ◌⊎◌, IsTrue, IsSome, IfSome, IfNone, Some, None, Option, ℤ};
 ghost use Rattle.oct_arena.specs.Entries.{IsLive, node_at};
 ghost use Rattle.oct_tree.specs.Nodes.{inherited, IsAll, IsCollapsible, IsKnown, IsGreatest};
-ghost use Rattle.oct_arena.specs.Nodes.{link_of, value_of, stored_in};
+ghost use Rattle.oct_arena.specs.Nodes.{link_of, IsRankOf};
 ghost use Rattle.oct_odds.specs.Update.{Value};
-ghost use Rattle.oct_tree.specs.Survey.{IsRankOf, IsSurvey};
+ghost use Rattle.oct_tree.specs.Survey.{IsSurvey};
 
 use oct_arena::{GroupId, Node, NodeArena};
 
@@ -16,28 +16,6 @@ pub(crate) fn inner_over(node: Node, id: GroupId) -> Node
     match node {
         Node::Leaf(value) => Node::Inner(value, id),
         _ => Node::Inner(0, id),
-    }
-}
-
-/// Whether both are one node that is not Inner.
-fn is_alike(a: Node, b: Node) -> bool
-    ensures { IsTrue result ↔ ((link_of a ≡ None) × (a ≡ b)) }
-{
-    match (a, b) {
-        (Node::Absent, Node::Absent) => true,
-        (Node::Leaf(v), Node::Leaf(w)) => v == w,
-        _ => false,
-    }
-}
-
-/// A number for a stored value, less than that of any other where there is none. So the greatest is
-/// found without a question for each node.
-fn rank(value: Option<i32>) -> i64
-    ensures { IsRankOf value result }
-{
-    match value {
-        Some(value) => i64::from(value),
-        None => i64::MIN,
     }
 }
 
@@ -65,9 +43,13 @@ pub(crate) fn common_node(arena: &NodeArena, id: GroupId) -> Option<Node>
     ensures some { IfSome result (λ n. (link_of n ≡ None) × IsAll arena.now id.number n) }
     ensures none { IfNone result (IsCollapsible arena.now id.number → ⊥) }
 {
-    let first = arena.node(id, 0);
+    let group = arena.group(id);
+    let first = group.node(0);
+    if matches!(first, Node::Inner(..)) {
+        return None;
+    }
     for i in 0..8 {
-        if !is_alike(first, arena.node(id, i)) {
+        if !group.are_same(0, i) {
             return None;
         }
     }
@@ -79,8 +61,9 @@ pub(crate) fn is_absent(arena: &NodeArena, id: GroupId) -> bool
     requires { IsLive arena.now id.number }
     ensures { IsTrue result ↔ IsAll arena.now id.number Node.Absent }
 {
+    let group = arena.group(id);
     for i in 0..8 {
-        if !matches!(arena.node(id, i), Node::Absent) {
+        if !matches!(group.node(i), Node::Absent) {
             return false;
         }
     }
@@ -93,9 +76,10 @@ fn greatest_stored(arena: &NodeArena, id: GroupId) -> Option<i32>
     ensures some { IfSome result (IsGreatest arena.now id.number) }
     ensures none { IfNone result (IsAll arena.now id.number Node.Absent) }
 {
-    let mut most = rank(None);
+    let group = arena.group(id);
+    let mut most = i64::MIN;
     for i in 0..8 {
-        most = greater(most, rank(arena.node(id, i).stored()));
+        most = greater(most, group.rank(i));
     }
     value_of_rank(most)
 }

@@ -13,6 +13,7 @@ ghost use Rattle.oct_arena.specs.Nodes.{link_of, value_of};
 use crate::nodes::{Survey, common_node, greatest, inner_over, is_absent, read_group};
 use crate::place::Place;
 use crate::slots;
+use crate::tidiness::{NOTHING, Tidiness};
 use oct_arena::{GroupId, Node, NodeArena};
 use oct_key::{Key, Res, child_index};
 use oct_num::Memory;
@@ -27,23 +28,36 @@ pub struct OccTree {
     root: Node,
     res: Res,
     odds: OddsModel,
+    known: Tidiness,
 }
 
 impl Model for OccTree {
     ghost use Rattle.oct_odds.specs.Odds.{odds_of};
     ghost use Rattle.oct_tree.specs.Tree.{Tree, IsLinked};
+    ghost use Rattle.oct_tree.specs.Tidiness.{IsKept};
 
     ghost Value = { Tree };
 
-    ghost view = { λ t. record { groups = t.arena; root = t.root; res = t.res; odds = odds_of t.odds } };
+    ghost view = { λ t. record {
+      groups = t.arena;
+      root = t.root;
+      res = t.res;
+      odds = odds_of t.odds;
+    } };
 
-    ghost invariant = { λ t. IsLinked (record { groups = t.arena; root = t.root; res = t.res; odds = odds_of t.odds }) };
+    ghost invariant = { λ t. IsKept t.known (record {
+      groups = t.arena;
+      root = t.root;
+      res = t.res;
+      odds = odds_of t.odds;
+    }) };
 }
 
 impl OccTree {
     ghost use Rattle.oct_tree.specs.Tree.{Tree, IsLinked, IsPlace, StandsOver, node_in, block_in, reach, value_at};
     ghost use Rattle.oct_tree.specs.Shape.{IsShaped};
     ghost use Rattle.oct_tree.specs.Changes.{SetsBlock, IsWritten, IsSplit, CanCollapse, CanDrop, IsCollapsed, IsRenewed, IsGrown, IsSameOutside};
+    ghost use Rattle.oct_tree.specs.Tidiness.{IsTrueOf};
     ghost use Rattle.oct_key.specs.Values.{SameValues};
 
     /// The tree of the unknown world: no voxel has a value. Takes no memory.
@@ -58,7 +72,28 @@ impl OccTree {
             root: Node::Absent,
             res,
             odds,
+            known: Tidiness {
+                fresh: true,
+                pruned: true,
+            },
         }
+    }
+
+    /// What is known of the inner nodes of the tree. What isn't known may be so.
+    pub fn tidiness(&self) -> Tidiness
+        ensures so { IsTrueOf result self.now }
+        ensures linked { IsLinked self.now }
+    {
+        self.known
+    }
+
+    /// Keeps what is known of the inner nodes of the tree, until one of its nodes is changed.
+    pub fn note(&mut self, known: Tidiness)
+        requires { IsTrueOf known self.old }
+        ensures same { self.new ≡ self.old }
+        ensures linked { IsLinked self.new }
+    {
+        self.known = known;
     }
 
     /// The groups of the tree.
@@ -173,6 +208,7 @@ impl OccTree {
         let node = slots::read(&self.arena, self.root, p);
         let home = slots::block(&self.arena, p);
         let id = self.arena.take(home, [node; 8]);
+        self.known = NOTHING;
         slots::write(&mut self.arena, &mut self.root, p, inner_over(node, id));
         id
     }
@@ -195,6 +231,7 @@ impl OccTree {
         let Some(node) = common_node(&self.arena, id) else {
             return false;
         };
+        self.known = NOTHING;
         slots::give_back(&mut self.arena, &mut self.root, p, id, node);
         true
     }
@@ -217,6 +254,7 @@ impl OccTree {
         if !is_absent(&self.arena, id) {
             return false;
         }
+        self.known = NOTHING;
         slots::give_back(&mut self.arena, &mut self.root, p, id, Node::Absent);
         true
     }
@@ -237,6 +275,7 @@ impl OccTree {
             unreachable!();
         };
         let value = greatest(&self.arena, id);
+        self.known = NOTHING;
         slots::write(&mut self.arena, &mut self.root, p, Node::Inner(value, id));
     }
 
@@ -259,10 +298,12 @@ impl OccTree {
         };
         match read_group(&self.arena, id) {
             Survey::Alike(node) => {
+                self.known = NOTHING;
                 slots::give_back(&mut self.arena, &mut self.root, p, id, node);
                 true
             }
             Survey::Varied(value) => {
+                self.known = NOTHING;
                 slots::write(&mut self.arena, &mut self.root, p, Node::Inner(value, id));
                 false
             }
@@ -284,6 +325,7 @@ impl OccTree {
             → IsSameOutside self.old self.new b }
         ensures linked { IsLinked self.new }
     {
+        self.known = NOTHING;
         slots::write(&mut self.arena, &mut self.root, p, n);
     }
 

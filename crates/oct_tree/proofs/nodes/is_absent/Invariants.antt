@@ -4,4 +4,4 @@ use Rattle.oct_arena.specs.declared.node.Node.TheVariants.{Absent}
 use Rattle.oct_tree.proofs.nodes.is_absent.Given as goal
 
 abbrev pub invariant-loop-i : goal.invariant-loop-i
-invariant-loop-i l = (j : ℕ) → j < l.i → node_at l.arena l.id.number j ≡ Absent
+invariant-loop-i l = (j : ℕ) → j < l.i → node_at l.arena l.fn.id.number j ≡ Absent

@@ -14,7 +14,7 @@ loop-level-init c = sym (reach_zero _ _)
 pub node-node-requires-clause-live : goal.node-node-requires-clause-live
 node-node-requires-clause-live c =
     let t : Tree = record { groups = c.self.inside.arena; root = c.self.inside.root; res = c.self.inside.res; odds = odds_of c.self.inside.odds } in
-    step_live t c.args.k c.self.invariant c.loop-level.level c.in-Inner.id.number (ap link_of (sym c.loop-level.invariant ∙ c.in-Inner.is))
+    step_live t c.args.k c.self.invariant.linked c.loop-level.level c.in-Inner.id.number (ap link_of (sym c.loop-level.invariant ∙ c.in-Inner.is))
 
 pub loop-level-preserved : goal.loop-level-preserved
 loop-level-preserved c =
@@ -30,7 +30,7 @@ returns-in_default c =
     let same : c.loop-level.node ≡ reach t c.args.depth c.args.k =
     c.loop-level.invariant ∙ sym (stays t c.args.k c.loop-level.level (c.args.depth - c.loop-level.level) c.args.depth (omega arith) none) in
     let exact : c.loop-level.node ≡ reach c.args.self.now c.args.depth c.args.k = same ∙ ap (λ (s : Tree). reach s c.args.depth c.args.k) c.self.view_is in
-    let linked : IsLinked c.args.self.now = subst IsLinked c.self.view_is c.self.invariant in
+    let linked : IsLinked c.args.self.now = subst IsLinked c.self.view_is c.self.invariant.linked in
     let all = reached_node c.args.self.now c.args.k linked voxel c.args.depth c.requires _ exact in
     record { exact = exact; stands = all.stands; only = all.only; values = all.values; home = all.home; linked = linked }
 
@@ -43,7 +43,7 @@ exact c =
 all : (c : goal.After-loop-level) → IsNodeOver c.args.self.now c.args.k c.args.depth c.loop-level.node
 all c =
     let voxel : IsInMap c.args.k = record { x = search rules; y = search rules; z = search rules } in
-    let linked : IsLinked c.args.self.now = subst IsLinked c.self.view_is c.self.invariant in
+    let linked : IsLinked c.args.self.now = subst IsLinked c.self.view_is c.self.invariant.linked in
     reached_node c.args.self.now c.args.k linked voxel c.args.depth c.requires _ (exact c)
 
 pub returns-clause-exact : goal.returns-clause-exact

@@ -6,6 +6,7 @@ use Rattle.oct_odds.specs.Odds.{odds_of}
 use Rattle.oct_tree.specs.Nodes.{IsGreatest}
 use Rattle.oct_tree.specs.Tree.{Tree}
 use Rattle.oct_tree.proofs.Steps.{IsRenewStep, renew_call}
+use Rattle.oct_tree.proofs.Tidied.{none_known}
 use Rattle.oct_tree.proofs.tree.OccTree.renew.Goals as goal
 
 right : (c : goal.After-write) → IsRenewStep c.args.self.now (record { groups = c.write.new.arena; root = c.write.new.root; res = c.self.inside.res; odds = odds_of c.self.inside.odds }) c.args.p
@@ -13,10 +14,10 @@ right c =
     let t : Tree = record { groups = c.self.inside.arena; root = c.self.inside.root; res = c.self.inside.res; odds = odds_of c.self.inside.odds } in
     let fits : SFits w32 c.greatest-value.result = search rules in
     renew_call t c.args.self.now c.args.p c.in-Inner.id c.in-Inner.field-0 _ c.write.new.arena c.write.new.root
-    c.self.view_is c.self.invariant c.requires.place (sym c.read.ensures ∙ c.in-Inner.is) (subst (IsGreatest c.self.inside.arena c.in-Inner.id.number) (sym (to_z-of_z w32 c.greatest-value.result fits)) c.greatest-value.ensures) c.write.ensures.groups c.write.ensures.root
+    c.self.view_is c.self.invariant.linked c.requires.place (sym c.read.ensures ∙ c.in-Inner.is) (subst (IsGreatest c.self.inside.arena c.in-Inner.id.number) (sym (to_z-of_z w32 c.greatest-value.result fits)) c.greatest-value.ensures) c.write.ensures.groups c.write.ensures.root
 
 pub invariant_of-self : goal.invariant_of-self
-invariant_of-self c = (right c).linked
+invariant_of-self c = record { linked = (right c).linked; so = none_known _ }
 
 pub returns-clause-renewed : goal.returns-clause-renewed
 returns-clause-renewed c = (right c).renewed

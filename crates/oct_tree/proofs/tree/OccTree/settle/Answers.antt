@@ -7,32 +7,33 @@ use Rattle.oct_odds.specs.Odds.{odds_of}
 use Rattle.oct_tree.specs.Nodes.{IsGreatest}
 use Rattle.oct_tree.specs.Tree.{Tree}
 use Rattle.oct_tree.proofs.Steps.{IsCollapseStep, IsRenewStep, collapse_call, renew_call, live_call, can_collapse, cannot_collapse}
+use Rattle.oct_tree.proofs.Tidied.{none_known}
 use Rattle.oct_tree.proofs.tree.OccTree.settle.Goals as goal
 
 pub read_group-requires : goal.read_group-requires
-read_group-requires c = live_call (record { groups = c.self.inside.arena; root = c.self.inside.root; res = c.self.inside.res; odds = odds_of c.self.inside.odds }) c.args.self.now c.args.p c.in-Inner.id c.in-Inner.field-0 c.self.view_is c.self.invariant c.requires.place (sym c.read.ensures ∙ c.in-Inner.is)
+read_group-requires c = live_call (record { groups = c.self.inside.arena; root = c.self.inside.root; res = c.self.inside.res; odds = odds_of c.self.inside.odds }) c.args.self.now c.args.p c.in-Inner.id c.in-Inner.field-0 c.self.view_is c.self.invariant.linked c.requires.place (sym c.read.ensures ∙ c.in-Inner.is)
 
 pub give_back-requires-clause-live : goal.give_back-requires-clause-live
-give_back-requires-clause-live c = live_call (record { groups = c.self.inside.arena; root = c.self.inside.root; res = c.self.inside.res; odds = odds_of c.self.inside.odds }) c.args.self.now c.args.p c.in-Inner.id c.in-Inner.field-0 c.self.view_is c.self.invariant c.requires.place (sym c.read.ensures ∙ c.in-Inner.is)
+give_back-requires-clause-live c = live_call (record { groups = c.self.inside.arena; root = c.self.inside.root; res = c.self.inside.res; odds = odds_of c.self.inside.odds }) c.args.self.now c.args.p c.in-Inner.id c.in-Inner.field-0 c.self.view_is c.self.invariant.linked c.requires.place (sym c.read.ensures ∙ c.in-Inner.is)
 
 collapsed : (c : goal.After-give_back) → IsCollapseStep c.args.self.now (record { groups = c.give_back.new.arena; root = c.give_back.new.root; res = c.self.inside.res; odds = odds_of c.self.inside.odds }) c.args.p
 collapsed c =
     let t : Tree = record { groups = c.self.inside.arena; root = c.self.inside.root; res = c.self.inside.res; odds = odds_of c.self.inside.odds } in
     collapse_call t c.args.self.now c.args.p c.in-Inner.id c.in-Inner.field-0 c.in-Alike.node c.give_back.new.arena c.give_back.new.root
-    c.self.view_is c.self.invariant c.requires.place (sym c.read.ensures ∙ c.in-Inner.is) c.in-Alike.ensures.0 c.in-Alike.ensures.1 c.give_back.ensures.groups c.give_back.ensures.root
+    c.self.view_is c.self.invariant.linked c.requires.place (sym c.read.ensures ∙ c.in-Inner.is) c.in-Alike.ensures.0 c.in-Alike.ensures.1 c.give_back.ensures.groups c.give_back.ensures.root
 
 renewed : (c : goal.After-write) → IsRenewStep c.args.self.now (record { groups = c.write.new.arena; root = c.write.new.root; res = c.self.inside.res; odds = odds_of c.self.inside.odds }) c.args.p
 renewed c =
     let t : Tree = record { groups = c.self.inside.arena; root = c.self.inside.root; res = c.self.inside.res; odds = odds_of c.self.inside.odds } in
     let fits : SFits w32 c.in-Varied.value = search rules in
     renew_call t c.args.self.now c.args.p c.in-Inner.id c.in-Inner.field-0 _ c.write.new.arena c.write.new.root
-    c.self.view_is c.self.invariant c.requires.place (sym c.read.ensures ∙ c.in-Inner.is) (subst (IsGreatest c.self.inside.arena c.in-Inner.id.number) (sym (to_z-of_z w32 c.in-Varied.value fits)) c.in-Varied.ensures.1) c.write.ensures.groups c.write.ensures.root
+    c.self.view_is c.self.invariant.linked c.requires.place (sym c.read.ensures ∙ c.in-Inner.is) (subst (IsGreatest c.self.inside.arena c.in-Inner.id.number) (sym (to_z-of_z w32 c.in-Varied.value fits)) c.in-Varied.ensures.1) c.write.ensures.groups c.write.ensures.root
 
 pub invariant_of-self : goal.invariant_of-self
-invariant_of-self c = (collapsed c).linked
+invariant_of-self c = record { linked = (collapsed c).linked; so = none_known _ }
 
 pub invariant_of-self-in-Varied : goal.invariant_of-self-in-Varied
-invariant_of-self-in-Varied c = (renewed c).linked
+invariant_of-self-in-Varied c = record { linked = (renewed c).linked; so = none_known _ }
 
 pub returns-in-Alike-clause-when : goal.returns-in-Alike-clause-when
 returns-in-Alike-clause-when c = (λ _. can_collapse (record { groups = c.self.inside.arena; root = c.self.inside.root; res = c.self.inside.res; odds = odds_of c.self.inside.odds }) c.args.self.now c.args.p c.in-Inner.id c.in-Inner.field-0 c.in-Alike.node c.self.view_is (sym c.read.ensures ∙ c.in-Inner.is) c.in-Alike.ensures.0 c.in-Alike.ensures.1, λ _. refl)
