@@ -25,4 +25,7 @@ pub mod BrickRounds
 pub mod BrickRest
 pub mod BrickCuts
 pub mod BrickWays
+pub mod Ways
 pub mod Wholes
+pub mod Leaves
+pub mod Areas

@@ -74,6 +74,6 @@ saturated_lazy t k event full = record {
 -- so many groups more at most
 pub sixteen_more : (t u : Tree) (k : Voxel) (event : Event) (lazy : Bool)
     → IsTouched t u root_block (event_at (Some k) event) lazy
-    → spare t.groups + 0 ≤ spare u.groups + 16 → live u.groups ≤ live t.groups + 16
+    → spare t.groups ≤ spare u.groups + 16 → live u.groups ≤ live t.groups + 16
 sixteen_more t u k event lazy r room =
     let total = same_total t.groups u.groups r.apart.outside.length in omega (arith, total, room)

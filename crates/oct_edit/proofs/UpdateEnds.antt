@@ -1,5 +1,5 @@
 -- Where an update ends: at a leaf that takes nothing from it, or at one voxel.
-use Rattle.std.proofs.Common.{◌≡◌, ℕ, ◌-◌, ◌≤◌, Bool, true, false, cond, List, [], inl, inr, refl, sym, subst, ◌∙◌, ap, arith, Some, None}
+use Rattle.std.proofs.Common.{◌≡◌, ℕ, ◌-◌, ◌≤◌, Bool, true, false, cond, List, [], inl, inr, refl, sym, subst, ◌∙◌, ap, arith, Some, None, Option}
 use Rattle.std.specs.Prelude.{◌≤ℤ◌, ◌⊎◌, IsSome, is_some}
 use Rattle.std.proofs.lemmas.Bool.{false≢true, true≢false}
 use Rattle.oct_key.specs.Voxel.{Voxel, IsInMap}
@@ -42,7 +42,7 @@ saturated_known o Forget value h = absurd h
 saturated_known o Likely value h = absurd h
 
 -- a node with a known value links nothing
-known_plain : (n : Node) → IsSome (value_of n) → link_of n ≡ None
+pub known_plain : (n : Node) → IsSome (value_of n) → link_of n ≡ None
 known_plain Absent h = refl
 known_plain (Leaf v) h = refl
 known_plain (Inner v id) h = absurd (false≢true h)
@@ -60,15 +60,7 @@ rest_saturated o u value k event rest is = elim (case_of u k) [
   | is_left _ _ e ↦ absurd (some_not_none is e)
 ]
 
--- at rest a value stays, whatever event its voxel has
-rest_stays : (o : Odds) (u : ListedUpdate) (value : Value) (k : Voxel) → o.min ≤ℤ o.max → IsAtRest o u value → after_event o (events_of u k) value ≡ value
-rest_stays o u value k l rest = elim (case_of u k) [
-  | is_hit h e ↦ ap (λ x. after_event o x value) e ∙ saturated_stays o u.hit value l (listed_rests o u.hits u.hit value k h rest.0)
-  | is_freed _ h e ↦ ap (λ x. after_event o x value) e ∙ saturated_stays o u.miss value l (listed_rests o u.frees u.miss value k h rest.1)
-  | is_left _ _ e ↦ ap (λ x. after_event o x value) e
-]
-
--- and it is known, where some voxel has an event
+-- at rest a value is known, where some voxel has an event
 rest_known : (o : Odds) (u : ListedUpdate) (value : Value) (k : Voxel) → IsAtRest o u value → IsSome (events_of u k) → IsSome value
 rest_known o u value k rest some = elim (case_of u k) [
   | is_hit h e ↦ saturated_known o u.hit value (listed_rests o u.hits u.hit value k h rest.0)
@@ -82,29 +74,47 @@ covered t p b l ok e m plain k v h =
     let there = place_reached t l p ok b e k v h in
     value_at_last t k b.depth m (ap link_of there ∙ plain) ∙ ap value_of there
 
--- an update at rest was done before it begins
-pub rest_touched : (t : Tree) (p : Place) (b : Cube) (u : ListedUpdate) (lazy : Bool) → IsLinked t → IsPlace t p → block_in t p ≡ Some b → b.depth ≤ 16 → IsUpdateIn b u → t.odds.min ≤ℤ t.odds.max → IsAtRest t.odds u (value_of (node_in t p)) → IsTouched t t b (events_of u) lazy
-rest_touched t p b u lazy l ok e m inside bounds rest = record {
+-- under a place that links nothing there is no group
+pub vacant_under : (t : Tree) (p : Place) (b : Cube) → IsLinked t → IsPlace t p
+    → block_in t p ≡ Some b → b.depth ≤ 16 → link_of (node_in t p) ≡ None
+    → (c : Cube) (x : ℕ) (k : Voxel) → IsInMap k → HoldsVoxel b k → HoldsVoxel c k → LiesIn c b
+    → home_at t.groups x ≡ Some c → ⊥
+vacant_under t p b l ok e m plain c x k v here there lies home =
+    let deep : b.depth ≤ c.depth = lies_deep c b.depth k there m (subst (λ a. LiesIn c a) (around b k here) lies) in
+    let link = l.reached x c home k v there in
+    let none : link_of (reach t b.depth k) ≡ None = ap link_of (place_reached t l p ok b e k v here) ∙ plain in
+    some_not_none link (ap link_of (stays t k b.depth (c.depth - b.depth) c.depth (omega (arith, deep)) none) ∙ none)
+
+-- events from which no voxel of a place that links nothing takes anything were done before they
+-- begin
+pub still_touched : (t : Tree) (p : Place) (b : Cube) (events : Events) (lazy : Bool) → IsLinked t
+    → IsPlace t p → block_in t p ≡ Some b → b.depth ≤ 16 → link_of (node_in t p) ≡ None
+    → t.odds.min ≤ℤ t.odds.max
+    → ((k : Voxel) (event : Event) → events k ≡ Some event → IsSaturated t.odds event (value_of (node_in t p)))
+    → IsTouched t t b events lazy
+still_touched t p b events lazy l ok e m plain bounds rest = record {
   linked = l;
-  inside = λ k v h. sym (ap (after_event t.odds (events_of u k)) (covered t p b l ok e m plain k v h) ∙ rest_stays t.odds u (value_of (node_in t p)) k bounds rest ∙ sym (covered t p b l ok e m plain k v h));
+  inside = λ k v h. sym (ap (after_event t.odds (events k)) (covered t p b l ok e m plain k v h) ∙ stays_at k (events k) refl ∙ sym (covered t p b l ok e m plain k v h));
   elsewhere = λ k v out. refl;
-  apart = apart_refl t b (events_of u);
-  closed = λ c low lies to_c. closed_vacant t c lazy (λ x home. vacant c x to_c lies low home);
+  apart = apart_refl t b events;
+  closed = λ c low lies r. closed_vacant t c lazy (λ x home. vacant_under t p b l ok e m plain c x r.voxel r.in_map r.here r.there lies home);
   expanded = λ x c home. inl (x, home);
   nodes = λ _ d q _ _. become_same (reach t d q);
-  opened = λ _ d k _ _ v h (event, is, more). absurd (more (subst (IsSaturated t.odds event) (sym (covered t p b l ok e m plain k v h)) (rest_saturated t.odds u (value_of (node_in t p)) k event rest is)));
+  opened = λ _ d k _ _ v h (event, is, more). absurd (more (subst (IsSaturated t.odds event) (sym (covered t p b l ok e m plain k v h)) (rest k event is)));
 }
+  where
+    stays_at : (k : Voxel) (o : Option Event) → events k ≡ o → after_event t.odds o (value_of (node_in t p)) ≡ value_of (node_in t p)
+    stays_at k None is = refl
+    stays_at k (Some event) is = saturated_stays t.odds event (value_of (node_in t p)) bounds (rest k event is)
+
+-- an update at rest was done before it begins
+pub rest_touched : (t : Tree) (p : Place) (b : Cube) (u : ListedUpdate) (lazy : Bool) → IsLinked t → IsPlace t p → block_in t p ≡ Some b → b.depth ≤ 16 → IsUpdateIn b u → t.odds.min ≤ℤ t.odds.max → IsAtRest t.odds u (value_of (node_in t p)) → IsTouched t t b (events_of u) lazy
+rest_touched t p b u lazy l ok e m inside bounds rest =
+    still_touched t p b (events_of u) lazy l ok e m plain bounds
+    (λ k event is. rest_saturated t.odds u (value_of (node_in t p)) k event rest is)
   where
     plain : link_of (node_in t p) ≡ None
     plain = (let some = inside.some in known_plain (node_in t p) (rest_known t.odds u (value_of (node_in t p)) some.voxel rest some.event))
-
-    vacant : (c : Cube) (x : ℕ) → Reaches (events_of u) b c → LiesIn c b → c.depth ≤ 16 → home_at t.groups x ≡ Some c → ⊥
-    vacant c x to_c lies low home =
-        let k : Voxel = to_c.voxel in
-        let deep : b.depth ≤ c.depth = lies_deep c b.depth to_c.voxel to_c.there m (subst (λ a. LiesIn c a) (around b to_c.voxel to_c.here) lies) in
-        let link = l.reached x c home to_c.voxel to_c.in_map to_c.there in
-        let none : link_of (reach t b.depth to_c.voxel) ≡ None = ap link_of (place_reached t l p ok b e to_c.voxel to_c.in_map to_c.here) ∙ plain in
-        some_not_none link (ap link_of (stays t to_c.voxel b.depth (c.depth - b.depth) c.depth (omega (arith, deep)) none) ∙ none)
 
 -- the block of depth 16 that an update reaches is that of its voxel
 voxel_block : (b : Cube) (k : Voxel) → b.depth ≡ 16 → HoldsVoxel b k → b ≡ block_of 16 k

@@ -74,7 +74,7 @@ way_step s w x p b i u rest part later lazy l ok low inside way first hits frees
     let few : i < 8 = (let f = first.few in omega (arith, f)) in
     let up = first_not_done b way.next i u.hits u.frees rest.hits rest.frees way.hits way.frees first in
     let share = part_share b way.next i u rest part later low few up way.hits way.frees hits frees (hit ∙ way.hit) (miss ∙ way.miss) (way_part s w p b i u rest part later lazy low inside.apart way first hits frees) in
-    let skipped = round_skip s w p b way.next i (events_of u) lazy low up (omega arith) (λ k a z. none_between b way.next i u rest way.hits way.frees first.least_hit first.least_free k a z) way.done in
+    let skipped = round_skip s w p b way.next i (events_of u) lazy low up (omega arith) (λ k _ _ a z. none_between b way.next i u rest way.hits way.frees first.least_hit first.least_free k a z) way.done in
     let part_need = need_of_share (events_of u) (events_of part) b (child_of b i) i (child_in_map b i ok (omega arith)) share in
     let here = sum_below_next (needs u b) i in
     let done = sum_below_le (needs u b) way.next i up in
@@ -86,7 +86,7 @@ way_step s w x p b i u rest part later lazy l ok low inside way first hits frees
       frees = left_after b way.next i u.frees rest.frees part.frees later.frees up way.frees frees;
       hit = hit' ∙ way.hit;
       miss = miss' ∙ way.miss;
-      done = round_step s w x p b i (events_of u) (events_of part) lazy l low few skipped touched share;
+      done = round_step s w x p b i (events_of u) (events_of part) lazy l low few skipped touched share.same;
       room = omega (arith, part_need, here, done, before, room);
     }
 
@@ -96,7 +96,7 @@ no_more b keys e = subst (All (λ k. 8 ≤ child_index_of b.depth k)) (sym e) (�
 -- where nothing is left, all children are done
 way_done : (s w : Tree) (p : Place) (b : Cube) (u rest : ListedUpdate) (lazy : Bool) → b.depth ≤ 15 → IsUnderWay s w p b u rest lazy → rest.hits ≡ [] → rest.frees ≡ [] → IsTouchedBelow s w p b 8 (events_of u) lazy
 way_done s w p b u rest lazy low way hits frees =
-    round_skip s w p b way.next 8 (events_of u) lazy low way.few (omega arith) (λ k a z. none_between b way.next 8 u rest way.hits way.frees (no_more b rest.hits hits) (no_more b rest.frees frees) k a z) way.done
+    round_skip s w p b way.next 8 (events_of u) lazy low way.few (omega arith) (λ k _ _ a z. none_between b way.next 8 u rest way.hits way.frees (no_more b rest.hits hits) (no_more b rest.frees frees) k a z) way.done
 
 -- and the place is where it was, and links its group
 pub way_back : (t s w : Tree) (p : Place) (b : Cube) (id : GroupId) (u rest : ListedUpdate) (lazy : Bool) → IsEntered t s p b id → IsUnderWay s w p b u rest lazy → IsPlace w p × (block_in w p ≡ Some b) × IsSome (link_of (node_in w p))

@@ -18,6 +18,8 @@ use Rattle.oct_tree.specs.Nodes.{IsGreatest}
 use Rattle.oct_arena.specs.Nodes.{link_of}
 use Rattle.oct_tree.specs.Tree.{Tree, node_in, value_at}
 use Rattle.oct_tree.specs.Shape.{IsWellFormed, IsFresh, IsPruned}
+use Rattle.oct_tree.specs.Tidiness.{IsTrueOf}
+use Rattle.oct_tree.specs.declared.tidiness.Tidiness.{Tidiness}
 use Rattle.oct_key.specs.Values.{SameValues}
 use Rattle.oct_tree.proofs.Paths.{live_home, homed_entry, reach_home}
 use Rattle.oct_edit.specs.Edits.{KeepsUnreached, MakesReached, KeepsUnreachedInner, IsEdited, IsTidyAlong, IsEagerEdit, IsLazyEdit}
@@ -141,6 +143,13 @@ whole_eager t u events lazy r eager =
       fresh = whole_fresh t u events s;
       pruned = whole_pruned t u events s;
     }
+
+-- what was known of the tree is so after it
+pub whole_known : (t u : Tree) (events : Events) (lazy : Bool) (known : Tidiness)
+    → IsTouched t u root_block events lazy → (IsTrue lazy → ⊥) → IsTrueOf known t → IsTrueOf known u
+whole_known t u events lazy known r eager so =
+    let e = whole_eager t u events lazy r eager in
+    record { fresh = λ is. e.fresh (so.fresh is); pruned = λ is. e.pruned (so.pruned is) }
 
 -- and so is the path to each voxel with an event, whether or not it takes something
 pub whole_paths : (t u : Tree) (events : Events) (lazy : Bool) → IsTouched t u root_block events lazy → (IsTrue lazy → ⊥) → (k : Voxel) → IsInMap k → IsSome (events k) → IsTidyAlong u k

@@ -6,3 +6,5 @@ pub mod Listed
 pub mod Scan
 pub mod Parts
 pub mod Bricks
+pub mod Way
+pub mod Areas

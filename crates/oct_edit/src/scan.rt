@@ -20,7 +20,7 @@ ghost use Rattle.oct_edit.specs.Parts.{IsUpdateIn, IsAtRest, IsFirstChild, need_
 ghost use Rattle.oct_edit.specs.Scan.{events_of, AreDisjoint};
 ghost use Rattle.oct_edit.specs.Bricks.{listed, listed_one, brick_child, AreAlike, AreCut, IsFirstBrick};
 
-use crate::voxel::{apply_at, close, enter, stays};
+use crate::voxel::{apply_at, close, enter, note_eager, stays};
 use oct_brick::Brick;
 use oct_odds::{Event, OddsModel};
 use oct_tree::{OccTree, Place};
@@ -73,9 +73,12 @@ pub fn touch_all(tree: &mut OccTree, update: ScanUpdate, lazy: bool)
     ensures room { live tree.new.groups + spare tree.new.groups
         ≡ live tree.old.groups + spare tree.old.groups }
 {
-    if !update.bricks.is_empty() {
-        touch_within(tree, Place::Root, 0, update, lazy);
+    if update.bricks.is_empty() {
+        return;
     }
+    let known = tree.tidiness();
+    touch_within(tree, Place::Root, 0, update, lazy);
+    note_eager(tree, known, lazy);
 }
 
 /// Applies the events of the update, whose bricks lie in the block of the place of that depth, and

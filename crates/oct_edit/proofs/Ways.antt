@@ -1,0 +1,271 @@
+-- The way to a voxel, down the tree and up again.
+use Rattle.std.proofs.Common.{◌≡◌, ◌≢◌, ℕ, zero, suc, ◌+◌, ◌<◌, ◌≤◌, sym, subst, ◌∙◌, ap, arith, inl, inr, refl, List, length, get_or, ◌-◌, Some, None, Bool}
+use Rattle.std.specs.Prelude.{ℤ, IsSome, slice_set}
+use Rattle.std.proofs.lemmas.Bool.{cases_eq}
+use Rattle.std.proofs.lemmas.List.{get_or-set_same, get_or-set_other, get_or_default, length-set}
+use Rattle.oct_key.specs.Voxel.{Voxel, IsInMap}
+use Rattle.oct_key.specs.Block.{Cube, LiesIn, block_of, child_of, child_index_of}
+use Rattle.oct_key.proofs.Blocks.{block_of_root, block_step, child_index_below, depth_block_of}
+use Rattle.oct_key.proofs.Nested.{lies_in_self}
+use Rattle.oct_key.proofs.Nested as nested
+use Rattle.oct_odds.specs.declared.event.Event.{Event}
+use Rattle.oct_values.specs.Events.{event_at}
+use Rattle.oct_arena.specs.declared.node.GroupId.{GroupId}
+use Rattle.oct_arena.specs.declared.node.Node.{Node}
+use Rattle.oct_arena.specs.declared.node.Node.TheVariants.{Inner}
+use Rattle.oct_arena.specs.Entries.{Groups, IsLive, home_at, node_at}
+use Rattle.oct_arena.specs.Nodes.{link_of}
+use Rattle.oct_tree.specs.declared.place.Place.{Place}
+use Rattle.oct_tree.specs.declared.place.Place.TheVariants.{Root, Slot}
+use Rattle.oct_tree.specs.Nodes.{IsKnown, IsCollapsible, IsGreatest}
+use Rattle.oct_tree.specs.Tree.{Tree, IsLinked, IsPlace, node_in, block_in, value_at}
+use Rattle.oct_tree.specs.Shape.{IsFresh, IsPruned}
+use Rattle.oct_tree.proofs.Paths.{slot_place, slot_block, same_home, only_link, linked_live}
+use Rattle.oct_edit.specs.Saturated.{TakesFrom}
+use Rattle.oct_edit.specs.Steps.{IsTouched, IsEntered, IsClosed}
+use Rattle.oct_edit.specs.Way.{place_on, IsWayTo, IsWholeWay}
+use Rattle.oct_edit.proofs.Insides.{above_apart}
+use Rattle.oct_edit.proofs.Locals.{same_local, same_value}
+use Rattle.oct_edit.proofs.Descents.{place_back, link_back, touched_up}
+use Rattle.oct_edit.proofs.Voxels.{voxel_plain}
+
+-- the way begins at the root
+pub way_begun : (t : Tree) (k : Voxel) (places : List Place) → IsInMap k → length places ≡ 17
+    → place_on places 0 ≡ Root → IsWayTo t k places 0
+way_begun t k places v long root = record {
+  few = omega arith;
+  long = long;
+  at = λ d low. (let first : d ≡ 0 = omega arith in
+      subst (λ n. IsPlace t (place_on places n) × (block_in t (place_on places n) ≡ Some (block_of n k)))
+      (sym first)
+      (subst (λ p. IsPlace t p × (block_in t p ≡ Some (block_of 0 k))) (sym root)
+      (tt, ap Some (sym (block_of_root k v)))));
+  linked = λ d low. absurd (omega arith);
+}
+
+-- and goes on in the group that its last place links
+pub way_more : (t : Tree) (k : Voxel) (places : List Place) (depth i : ℕ) (v : ℤ) (id : GroupId)
+    → IsLinked t → depth < 16 → node_in t (place_on places depth) ≡ Inner v id
+    → i ≡ child_index_of depth k → IsWayTo t k places depth
+    → IsWayTo t k (slice_set places (depth + 1) (Slot id i)) (depth + 1)
+way_more t k places depth i v id l low is index w = record {
+  few = omega arith;
+  long = length-set places (depth + 1) (Slot id i) ∙ w.long;
+  at = λ d lt. elim (cases_eq d (depth + 1)) [
+    | inl last ↦ subst (λ n. IsPlace t (place_on new n) × (block_in t (place_on new n) ≡ Some (block_of n k)))
+        (sym last) (subst (λ p. IsPlace t p × (block_in t p ≡ Some (block_of (depth + 1) k))) (sym here) (
+          slot_place t l (place_on places depth) (w.at depth (omega arith)).0 id i (ap link_of is) few,
+          slot_block t l (place_on places depth) id i (block_of depth k) (ap link_of is) (w.at depth (omega arith)).1
+              ∙ ap Some (ap (child_of (block_of depth k)) index ∙ sym (block_step depth k low)),
+        ))
+    | inr other ↦ subst (λ p. IsPlace t p × (block_in t p ≡ Some (block_of d k))) (sym (there d other))
+        (w.at d (omega arith))
+  ];
+  linked = λ d lt. elim (cases_eq d depth) [
+    | inl last ↦ subst (λ n. (a : ℤ) × (x : GroupId) × (node_in t (place_on new n) ≡ Inner a x)
+        × (place_on new (n + 1) ≡ Slot x (child_index_of n k))) (sym last)
+        (v, id, ap (node_in t) (there depth (omega arith)) ∙ is, here ∙ ap (λ n. Slot id n) index)
+    | inr other ↦ (let (a, x, link, next) = w.linked d (omega arith) in
+        (a, x, ap (node_in t) (there d (omega arith)) ∙ link, there (d + 1) (omega arith) ∙ next))
+  ];
+}
+  where
+    new : List Place
+    new = slice_set places (depth + 1) (Slot id i)
+
+    few : i < 8
+    few = subst (λ n. n < 8) (sym index) (child_index_below depth k)
+
+    here : place_on new (depth + 1) ≡ Slot id i
+    here = get_or-set_same places (depth + 1) (Slot id i) Root (let n = w.long in omega arith)
+
+    there : (d : ℕ) → d ≢ depth + 1 → place_on new d ≡ place_on places d
+    there d ne = get_or-set_other places (depth + 1) d (Slot id i) Root ne
+
+-- an Inner place is entered as it is
+pub entered_inner : (t : Tree) (p : Place) (b : Cube) (id : GroupId) (v : ℤ) → IsLinked t → IsPlace t p
+    → block_in t p ≡ Some b → node_in t p ≡ Inner v id → IsEntered t t p b id
+entered_inner t p b id v l ok e is = record {
+  linked = l;
+  link = (v, is);
+  place = ok;
+  block = e;
+  values = λ k m. refl;
+  local = same_local t b;
+  opened = λ d q low m. inl refl;
+  homes = λ x c h. inl h;
+  spare = inl refl;
+}
+
+-- a place of the way is entered as it is
+pub entered_way : (t : Tree) (k : Voxel) (places : List Place) (depth d : ℕ) → IsLinked t
+    → IsWayTo t k places depth → d < depth
+    → (v : ℤ) × (id : GroupId) × (node_in t (place_on places d) ≡ Inner v id)
+    × IsEntered t t (place_on places d) (block_of d k) id
+entered_way t k places depth d l w low =
+    let (v, id, link, next) = w.linked d low in
+    let (ok, e) = w.at d (omega arith) in
+    (v, id, link, entered_inner t (place_on places d) (block_of d k) id v l ok e link)
+
+-- What stands at a place of the way after an edit below it: the place, its block and its node as
+-- they were.
+pub record IsBack (t w : Tree) (k : Voxel) (p : Place) (d : ℕ) : Type 0 where
+  pub place : IsPlace w p
+  pub block : block_in w p ≡ Some (block_of d k)
+  pub node : node_in w p ≡ node_in t p
+  pub inner : IsSome (link_of (node_in w p))
+
+pub back : (t w : Tree) (k : Voxel) (places : List Place) (depth d : ℕ) (event : Event) (lazy : Bool)
+    → IsLinked t → IsWayTo t k places depth → d < depth
+    → IsTouched t w (block_of (d + 1) k) (event_at (Some k) event) lazy
+    → IsBack t w k (place_on places d) d
+back t w k places depth d event lazy l way low r =
+    let m : d < 16 = (let few = way.few in omega arith) in
+    let (v, id, link, e) = entered_way t k places depth d l way low in
+    let (ok, block) = place_back t t w (place_on places d) d k id event lazy m e r in
+    record {
+      place = ok;
+      block = block;
+      node = r.apart.outside.nodes (place_on places d) (block_of d k)
+          (λ f. above_apart d (d + 1) k (omega arith) (omega arith) f) (way.at d (omega arith)).1;
+      inner = link_back t t w (place_on places d) d k id event lazy m e r;
+    }
+
+-- one place up the way, where its group is closed
+pub climbed : (t w z : Tree) (k : Voxel) (places : List Place) (depth d : ℕ) (event : Event) (lazy : Bool)
+    → IsLinked t → IsInMap k → IsWayTo t k places depth → d < depth
+    → TakesFrom t.odds (event_at (Some k) event) (value_at t) k
+    → IsTouched t w (block_of (d + 1) k) (event_at (Some k) event) lazy
+    → IsClosed w z (block_of d k) lazy
+    → IsTouched t z (block_of d k) (event_at (Some k) event) lazy
+climbed t w z k places depth d event lazy l v way low takes r f =
+    let m : d < 16 = (let few = way.few in omega arith) in
+    let (a, id, link, e) = entered_way t k places depth d l way low in
+    touched_up t t w z (place_on places d) d k id event lazy l m v e r f takes
+
+-- What the nodes of a group say stays where they do.
+known_alike : (gs hs : Groups) (x : ℕ) → ((i : ℕ) → i < 8 → node_at hs x i ≡ node_at gs x i)
+    → IsKnown gs x → IsKnown hs x
+known_alike gs hs x same (i, few, some) = (i, few, λ none. some (sym (same i few) ∙ none))
+
+collapsible_alike : (gs hs : Groups) (x : ℕ) → ((i : ℕ) → i < 8 → node_at hs x i ≡ node_at gs x i)
+    → IsCollapsible hs x → IsCollapsible gs x
+collapsible_alike gs hs x same (inl none) = inl (λ i few. sym (same i few) ∙ none i few)
+collapsible_alike gs hs x same (inr (v, leaf)) = inr (v, λ i few. sym (same i few) ∙ leaf i few)
+
+greatest_alike : (gs hs : Groups) (x : ℕ) (m : ℤ) → ((i : ℕ) → i < 8 → node_at hs x i ≡ node_at gs x i)
+    → IsGreatest gs x m → IsGreatest hs x m
+greatest_alike gs hs x m same h = record {
+  there = (let (i, few, is) = h.there in (i, few, ap stored (same i few) ∙ is));
+  most = λ i v few is. h.most i v few (sym (ap stored (same i few)) ∙ is);
+}
+  where
+    stored : Node → Rattle.std.specs.Prelude.Option ℤ
+    stored n = Rattle.oct_arena.specs.Nodes.stored_in n
+
+-- Where the node of a child stays as it was, the group of its block is closed as it is, if the tree
+-- was fresh and pruned.
+pub closed_by_itself : (t w : Tree) (k : Voxel) (p : Place) (d : ℕ) (id : GroupId) (v : ℤ) (event : Event) (lazy : Bool)
+    → IsFresh t → IsPruned t → d < 16 → IsPlace t p → block_in t p ≡ Some (block_of d k) → node_in t p ≡ Inner v id
+    → IsBack t w k p d → IsTouched t w (block_of (d + 1) k) (event_at (Some k) event) lazy
+    → node_in w (Slot id (child_index_of d k)) ≡ node_in t (Slot id (child_index_of d k))
+    → IsClosed w w (block_of d k) lazy
+closed_by_itself t w k p d id v event lazy fresh pruned low ok e is b r kept = record {
+  linked = r.linked;
+  values = λ q m. refl;
+  local = same_local w (block_of d k);
+  closed = record {
+    known = λ x home. subst (IsKnown w.groups) (sym (own x home)) (known_alike t.groups w.groups id.number same (fresh.formed.known id.number live));
+    lean = λ _ x home can. pruned id.number live (collapsible_alike t.groups w.groups id.number same (subst (IsCollapsible w.groups) (own x home) can));
+    greatest = λ _ q y a link home. (let f : y.number ≡ id.number = own y.number home in
+        let place : q ≡ p = only_link w r.linked q p id.number (ap link_of link ∙ ap Some f) (ap link_of here) in
+        let value : v ≡ a = same_value v a id y (sym here ∙ ap (node_in w) (sym place) ∙ link) in
+        subst (λ n. IsGreatest w.groups n a) (sym f) (subst (IsGreatest w.groups id.number) value (greatest_alike t.groups w.groups id.number v same (fresh.greatest p id v is))));
+  };
+  homes = λ x c h. h;
+  spare = omega arith;
+  dropped = λ _ depth q m inside. inl refl;
+}
+  where
+    l : IsLinked t
+    l = fresh.formed.linked
+
+    live : IsLive t.groups id.number
+    live = linked_live t l p ok id.number (ap link_of is)
+
+    here : node_in w p ≡ Inner v id
+    here = b.node ∙ is
+
+    own : (x : ℕ) → home_at w.groups x ≡ Some (block_of d k) → x ≡ id.number
+    own x home = same_home w r.linked x id.number (block_of d k) home (r.linked.links p id.number (ap link_of here) ∙ b.block)
+
+    same : (i : ℕ) → i < 8 → node_at w.groups id.number i ≡ node_at t.groups id.number i
+    same i few = elim (cases_eq i (child_index_of d k)) [
+      | inl on ↦ ap (node_at w.groups id.number) on ∙ kept ∙ ap (node_at t.groups id.number) (sym on)
+      | inr off ↦ r.apart.outside.nodes (Slot id i) (child_of (block_of d k) i)
+          (λ f. nested.apart (block_of d k) (child_of (block_of d k) i) i (child_index_of d k) (let deep = depth_block_of d k in omega arith) few (child_index_below d k) off
+          (lies_in_self (child_of (block_of d k) i)) (subst (λ c. LiesIn (child_of (block_of d k) i) c) (block_step d k low) f))
+          (slot_block t l p id i (block_of d k) (ap link_of is) e)
+    ]
+
+-- So nothing is left to do above a place whose node stays as it was.
+pub kept_above : (t w : Tree) (k : Voxel) (places : List Place) (depth d : ℕ) (event : Event) (lazy : Bool)
+    → IsFresh t → IsPruned t → IsInMap k → IsWayTo t k places depth → d ≤ depth
+    → TakesFrom t.odds (event_at (Some k) event) (value_at t) k
+    → IsTouched t w (block_of d k) (event_at (Some k) event) lazy
+    → node_in w (place_on places d) ≡ node_in t (place_on places d)
+    → IsTouched t w (block_of 0 k) (event_at (Some k) event) lazy
+kept_above t w k places depth zero event lazy fresh pruned v way low takes r kept = r
+kept_above t w k places depth (suc d) event lazy fresh pruned v way low takes r kept =
+    let l : IsLinked t = fresh.formed.linked in
+    let more : d + 1 ≡ suc d = omega arith in
+    let below : IsTouched t w (block_of (d + 1) k) (event_at (Some k) event) lazy =
+    subst (λ n. IsTouched t w (block_of n k) (event_at (Some k) event) lazy) (sym more) r in
+    let lower : d < depth = omega arith in
+    let few : d < 16 = (let most = way.few in omega arith) in
+    let b = back t w k places depth d event lazy l way lower below in
+    let (a, id, link, next) = way.linked d lower in
+    let slot : place_on places (suc d) ≡ Slot id (child_index_of d k) = ap (place_on places) (sym more) ∙ next in
+    let still : node_in w (Slot id (child_index_of d k)) ≡ node_in t (Slot id (child_index_of d k)) =
+    ap (node_in w) (sym slot) ∙ kept ∙ ap (node_in t) slot in
+    let (ok, e) = way.at d (omega arith) in
+    let c = closed_by_itself t w k (place_on places d) d id a event lazy fresh pruned few ok e link b below still in
+    kept_above t w k places depth d event lazy fresh pruned v way (omega arith) takes
+    (climbed t w w k places depth d event lazy l v way lower takes below c) b.node
+
+-- the last place of a whole way links no group, the voxel's neither
+pub way_ends : (t : Tree) (k : Voxel) (places : List Place) (depth : ℕ) → IsLinked t
+    → IsWholeWay t k places depth → link_of (node_in t (place_on places depth)) ≡ None
+way_ends t k places depth l w = elim (cases_eq depth 16) [
+  | inl last ↦ voxel_plain t (place_on places depth) k l
+      ((w.way.at depth (omega arith)).1 ∙ ap (λ n. Some (block_of n k)) last)
+  | inr other ↦ w.ends (let few = w.way.few in omega arith)
+]
+
+-- what is read of the places of a way
+pub read_on : (t : Tree) (k : Voxel) (places : List Place) (depth d : ℕ) (p : Place)
+    → IsWayTo t k places depth → d ≤ depth → get_or places d p ≡ place_on places d
+read_on t k places depth d p w low =
+    get_or_default places d p Root (let few = w.few in let long = w.long in omega arith)
+
+-- the same one place above the one that was reached on the way up
+pub back_above : (t w : Tree) (k : Voxel) (places : List Place) (depth n : ℕ) (event : Event) (lazy : Bool) (p : Place)
+    → IsLinked t → IsWayTo t k places depth → 0 < n → n ≤ depth
+    → IsTouched t w (block_of n k) (event_at (Some k) event) lazy
+    → IsBack t w k (get_or places (n - 1) p) (n - 1)
+back_above t w k places depth n event lazy p l way some low r =
+    let more : (n - 1) + 1 ≡ n = omega arith in
+    subst (λ q. IsBack t w k q (n - 1)) (sym (read_on t k places depth (n - 1) p way (omega arith)))
+    (back t w k places depth (n - 1) event lazy l way (omega arith)
+    (subst (λ m. IsTouched t w (block_of m k) (event_at (Some k) event) lazy) (sym more) r))
+
+pub climbed_above : (t w z : Tree) (k : Voxel) (places : List Place) (depth n : ℕ) (event : Event) (lazy : Bool)
+    → IsLinked t → IsInMap k → IsWayTo t k places depth → 0 < n → n ≤ depth
+    → TakesFrom t.odds (event_at (Some k) event) (value_at t) k
+    → IsTouched t w (block_of n k) (event_at (Some k) event) lazy
+    → IsClosed w z (block_of (n - 1) k) lazy
+    → IsTouched t z (block_of (n - 1) k) (event_at (Some k) event) lazy
+climbed_above t w z k places depth n event lazy l v way some low takes r f =
+    let more : (n - 1) + 1 ≡ n = omega arith in
+    climbed t w z k places depth (n - 1) event lazy l v way (omega arith) takes
+    (subst (λ m. IsTouched t w (block_of m k) (event_at (Some k) event) lazy) (sym more) r) f

@@ -1,0 +1,30 @@
+-- The way from the root of a tree to a voxel.
+use Rattle.std.specs.Prelude.{◌≡◌, ℕ, ◌+◌, ◌<◌, ◌≤◌, ℤ, List, length, Some, None, slice_index_or}
+use Rattle.oct_key.specs.Voxel.{Voxel}
+use Rattle.oct_key.specs.Block.{block_of, child_index_of}
+use Rattle.oct_arena.specs.declared.node.GroupId.{GroupId}
+use Rattle.oct_arena.specs.declared.node.Node.TheVariants.{Inner}
+use Rattle.oct_arena.specs.Nodes.{link_of}
+use Rattle.oct_tree.specs.declared.place.Place.{Place}
+use Rattle.oct_tree.specs.declared.place.Place.TheVariants.{Root, Slot}
+use Rattle.oct_tree.specs.Tree.{Tree, IsPlace, node_in, block_in}
+
+-- the place at a depth of a way
+abbrev pub place_on : List Place → ℕ → Place
+place_on places depth = slice_index_or places depth Root
+
+-- The first places of a list are those of the blocks around a voxel, from the root to this depth:
+-- each one but the last links a group, and the next one is a slot of it.
+pub record IsWayTo (t : Tree) (k : Voxel) (places : List Place) (depth : ℕ) : Type 0 where
+  pub few : depth ≤ 16
+  pub long : length places ≡ 17
+  pub at : (d : ℕ) → d ≤ depth
+      → IsPlace t (place_on places d) × (block_in t (place_on places d) ≡ Some (block_of d k))
+  pub linked : (d : ℕ) → d < depth → (v : ℤ) × (id : GroupId)
+      × (node_in t (place_on places d) ≡ Inner v id)
+      × (place_on places (d + 1) ≡ Slot id (child_index_of d k))
+
+-- and the last one is the voxel's, or links no group
+pub record IsWholeWay (t : Tree) (k : Voxel) (places : List Place) (depth : ℕ) : Type 0 where
+  pub way : IsWayTo t k places depth
+  pub ends : depth < 16 → link_of (node_in t (place_on places depth)) ≡ None

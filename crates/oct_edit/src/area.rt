@@ -1,0 +1,219 @@
+ghost use Rattle.std.specs.Prelude.{◌≡◌, ◌+◌, ◌^◌, ◌≤◌, ◌≤ℤ◌, ◌↔◌, IsTrue, IsSome, None, Some, false, ◌&&◌};
+ghost use Rattle.oct_key.specs.Voxel.{Voxel, IsInMap};
+ghost use Rattle.oct_key.specs.Block.{root_block};
+ghost use Rattle.oct_key.specs.CubeOf.{cube_of};
+ghost use Rattle.oct_odds.specs.Update.{IsSmallEvent};
+ghost use Rattle.oct_values.specs.Boxes as boxes;
+ghost use Rattle.oct_values.specs.Boxes.{IsBox, MeetsBox, LiesInBox, MeetsSpan, LiesInSpan, box_events, met_on, within_on, cut_at};
+ghost use Rattle.oct_arena.specs.Entries.{live, spare};
+ghost use Rattle.oct_arena.specs.Nodes.{link_of, value_of};
+ghost use Rattle.oct_tree.specs.Tree.{IsLinked, IsPlace, node_in, block_in};
+ghost use Rattle.oct_tree.specs.Shape.{IsWellFormed};
+ghost use Rattle.oct_edit.specs.Saturated.{IsSaturated};
+ghost use Rattle.oct_edit.specs.Edits.{IsEdited, IsEagerEdit, IsTidyAlong};
+ghost use Rattle.oct_edit.specs.Steps.{IsTouched};
+ghost use Rattle.oct_edit.specs.Areas.{cut_in};
+
+use crate::voxel::{VOXELS, apply_at, close, enter, stays};
+use oct_arena::Node;
+use oct_key::{Block, Key};
+use oct_odds::Event;
+use oct_tree::{OccTree, Place};
+
+/// The number of blocks of depth 0 to 15 that meet the box of the two corners and don't lie in it:
+/// so many groups at most have to be made for an edit of it. Both corners lie in the box, and `lo`
+/// exceeds `hi` on no axis.
+pub fn box_need(lo: Key, hi: Key) -> u128
+    requires { IsBox lo hi }
+    ensures exact { result ≡ boxes.box_need lo hi }
+    ensures few { result ≤ 2 ^ 49 }
+{
+    let mut need = 0;
+    for depth in 0..VOXELS {
+        need += u128::from(cut_at_depth(lo, hi, depth));
+    }
+    need
+}
+
+/// How many blocks of that depth meet the box and don't lie in it.
+#[tactic(auto, unfolding(oct_values::specs::Boxes::cut_at))]
+fn cut_at_depth(lo: Key, hi: Key, depth: u8) -> u64
+    requires order { IsBox lo hi }
+    requires depth { depth ≤ 15 }
+    ensures exact { result ≡ cut_at lo hi depth }
+    ensures few { result ≤ 2 ^ 45 }
+{
+    let met = met_across(lo.x, hi.x, depth)
+        * met_across(lo.y, hi.y, depth)
+        * met_across(lo.z, hi.z, depth);
+    let within = within_across(lo.x, hi.x, depth)
+        * within_across(lo.y, hi.y, depth)
+        * within_across(lo.z, hi.z, depth);
+    met - within
+}
+
+/// How many blocks of that depth have voxels of these numbers on an axis.
+fn met_across(low: u16, high: u16, depth: u8) -> u64
+    requires order { low ≤ high }
+    requires depth { depth ≤ 15 }
+    ensures exact { result ≡ met_on depth low high }
+    ensures few { result ≤ 2 ^ 15 }
+{
+    let height = 16 - depth;
+    (u64::from(high) >> height) + 1 - (u64::from(low) >> height)
+}
+
+/// How many blocks of that depth have voxels of these numbers alone on an axis.
+fn within_across(low: u16, high: u16, depth: u8) -> u64
+    requires depth { depth ≤ 15 }
+    ensures exact { result ≡ within_on depth low high }
+    ensures few { result ≤ met_on depth low high }
+{
+    let height = 16 - depth;
+    let last = (1u64 << height) - 1;
+    ((u64::from(high) + 1) >> height).saturating_sub((u64::from(low) + last) >> height)
+}
+
+/// Applies the event to each voxel of the box of the two corners, both included, and to no other.
+///
+/// It is eager. The tree has room for a group under each block that meets the box and doesn't lie
+/// in it. A block in the box that is one leaf, or absent, stays one, and is not entered.
+pub fn touch_box(tree: &mut OccTree, lo: Key, hi: Key, event: Event)
+    requires well_formed { IsWellFormed tree.old }
+    requires order { IsBox lo hi }
+    requires room { boxes.box_need lo hi ≤ spare tree.old.groups }
+    requires small { IsSmallEvent event }
+    ensures edited { IsEdited tree.old tree.new (box_events lo hi event) }
+    ensures eager { IsEagerEdit tree.old tree.new (box_events lo hi event) }
+    ensures path { (k : Voxel) → IsInMap k → IsSome (box_events lo hi event k)
+        → IsTidyAlong tree.new k }
+    ensures groups { live tree.new.groups ≤ live tree.old.groups + boxes.box_need lo hi }
+    ensures room { live tree.new.groups + spare tree.new.groups
+        ≡ live tree.old.groups + spare tree.old.groups }
+{
+    touch_part(tree, Place::Root, root(), lo, hi, event);
+}
+
+/// The block of the whole map.
+fn root() -> Block
+    ensures { cube_of result ≡ root_block }
+{
+    Block {
+        depth: 0,
+        x: 0,
+        y: 0,
+        z: 0,
+    }
+}
+
+/// Applies the event to the voxels of the box in the block of the place, which holds some, and
+/// closes the groups from there on.
+fn touch_part(tree: &mut OccTree, p: Place, block: Block, lo: Key, hi: Key, event: Event)
+    requires linked { IsLinked tree.old }
+    requires place { IsPlace tree.old p }
+    requires block { block_in tree.old p ≡ Some (cube_of block) }
+    requires order { IsBox lo hi }
+    requires meets { MeetsBox lo hi (cube_of block) }
+    requires room { cut_in lo hi (cube_of block) ≤ spare tree.old.groups }
+    requires small { IsSmallEvent event }
+    ensures touched { IsTouched tree.old tree.new (cube_of block) (box_events lo hi event) false }
+    ensures room { spare tree.old.groups ≤ spare tree.new.groups + cut_in lo hi (cube_of block) }
+{
+    if takes_nothing(tree, p, event) {
+        return;
+    }
+    if is_whole(tree, p, block, lo, hi) {
+        apply_at(tree, p, event);
+        return;
+    }
+    let id = enter(tree, p);
+    for i in 0..8 {
+        let child = block.child(i);
+        if meets(child, lo, hi) {
+            touch_part(tree, Place::Slot(id, i), child, lo, hi, event);
+        }
+    }
+    close(tree, p, false);
+}
+
+/// Whether the value that the place gives its voxels takes nothing from the event.
+fn takes_nothing(tree: &OccTree, p: Place, event: Event) -> bool
+    requires { IsPlace tree.now p }
+    ensures saturated { IsTrue result
+        ↔ IsSaturated tree.now.odds event (value_of (node_in tree.now p)) }
+    ensures bounds { tree.now.odds.min ≤ℤ tree.now.odds.max }
+{
+    stays(tree.odds(), event, tree.node(p).value())
+}
+
+/// Whether the place links no group, and its block lies in the box.
+fn is_whole(tree: &OccTree, p: Place, block: Block, lo: Key, hi: Key) -> bool
+    requires { IsPlace tree.now p }
+    ensures { IsTrue result
+        ↔ ((link_of (node_in tree.now p) ≡ None) × LiesInBox lo hi (cube_of block)) }
+{
+    is_plain(tree.node(p)) && lies_in(block, lo, hi)
+}
+
+/// Whether the node links no group.
+fn is_plain(node: Node) -> bool
+    ensures { IsTrue result ↔ (link_of node ≡ None) }
+{
+    match node {
+        Node::Inner(_, _) => false,
+        _ => true,
+    }
+}
+
+/// Whether some voxel of the block lies in the box.
+fn meets(block: Block, lo: Key, hi: Key) -> bool
+    requires { IsBox lo hi }
+    ensures { IsTrue result ↔ MeetsBox lo hi (cube_of block) }
+{
+    let x = meets_across(lo.x, hi.x, block.depth, block.x);
+    let y = meets_across(lo.y, hi.y, block.depth, block.y);
+    let z = meets_across(lo.z, hi.z, block.depth, block.z);
+    on_each(x, y, z)
+}
+
+/// Whether each voxel of the block lies in the box.
+fn lies_in(block: Block, lo: Key, hi: Key) -> bool
+    ensures { IsTrue result ↔ LiesInBox lo hi (cube_of block) }
+{
+    let x = lies_across(lo.x, hi.x, block.depth, block.x);
+    let y = lies_across(lo.y, hi.y, block.depth, block.y);
+    let z = lies_across(lo.z, hi.z, block.depth, block.z);
+    on_each(x, y, z)
+}
+
+/// Whether something holds on each axis.
+fn on_each(x: bool, y: bool, z: bool) -> bool
+    ensures { result ≡ (x && y && z) }
+{
+    x && y && z
+}
+
+/// Whether a block of this depth and number on an axis has voxels of these numbers there.
+fn meets_across(low: u16, high: u16, depth: u8, n: u16) -> bool
+    requires { depth ≤ 16 }
+    ensures { IsTrue result ↔ MeetsSpan low high depth n }
+{
+    let height = 16 - depth;
+    let first = u32::from(low) >> height;
+    let last = u32::from(high) >> height;
+    first <= u32::from(n) && u32::from(n) <= last
+}
+
+/// Whether a block of this depth and number on an axis has voxels of these numbers alone there.
+fn lies_across(low: u16, high: u16, depth: u8, n: u16) -> bool
+    requires { depth ≤ 16 }
+    ensures { IsTrue result ↔ LiesInSpan low high depth n }
+{
+    let height = 16 - depth;
+    let first = (u32::from(low) + ((1u32 << height) - 1)) >> height;
+    let end = (u32::from(high) + 1) >> height;
+    first <= u32::from(n) && u32::from(n) < end
+}
+
+#[cfg(test)]
+mod tests;
