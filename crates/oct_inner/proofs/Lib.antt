@@ -1,2 +1,3 @@
 pub mod Refreshes
 pub mod Prunes
+pub mod Likely

@@ -199,7 +199,7 @@ pub leaf_fresh : (t : Tree) (p : Place) → link_of (node_in t p) ≡ None → I
 leaf_fresh t p none id v e = absurd (some_not_none (ap link_of e) none)
 
 -- an Inner node stands at a place
-inner_place : (t : Tree) → IsLinked t → (p : Place) (x : ℕ) → link_of (node_in t p) ≡ Some x → IsPlace t p
+pub inner_place : (t : Tree) → IsLinked t → (p : Place) (x : ℕ) → link_of (node_in t p) ≡ Some x → IsPlace t p
 inner_place t l Root x h = tt
 inner_place t l (Slot y i) x h = (let (b, e) = linked_home (entry t.groups y.number) i x h
     in (homed_entry _ b e, linked_index t l y.number i x h))

@@ -8,7 +8,7 @@ ghost use Rattle.oct_inner.specs.Passes.{IsPrunedAt, IsPruning};
 ghost use Rattle.oct_tree.specs.Passes.{IsPassed};
 
 use oct_arena::Node;
-use oct_tree::{OccTree, Place};
+use oct_tree::{OccTree, Place, Tidiness};
 
 /// Collapses groups until none is left whose nodes are all absent or all leaves of one value. No
 /// voxel changes, and the Inner nodes that are left keep their values. Closes each group once.
@@ -21,7 +21,12 @@ pub fn prune(tree: &mut OccTree)
     ensures fresh { IsFresh tree.old → IsFresh tree.new }
     ensures same { IsPruned tree.old → tree.new ≡ tree.old }
 {
+    let known = tree.tidiness();
     prune_place(tree, Place::Root);
+    tree.note(Tidiness {
+        pruned: true,
+        ..known
+    });
 }
 
 /// Prunes the place, after all places below it.

@@ -8,7 +8,7 @@ ghost use Rattle.oct_inner.specs.Passes.{IsFreshAt, IsRefreshing};
 ghost use Rattle.oct_tree.specs.Passes.{IsPassed};
 
 use oct_arena::Node;
-use oct_tree::{OccTree, Place};
+use oct_tree::{OccTree, Place, Tidiness};
 
 /// Makes the value of each Inner node the greatest that stands in its group. All else stays, so no
 /// voxel changes and no group is made or given back. Closes each group once.
@@ -20,7 +20,12 @@ pub fn refresh(tree: &mut OccTree)
     ensures pruned { IsPruned tree.old → IsPruned tree.new }
     ensures same { IsFresh tree.old → tree.new ≡ tree.old }
 {
+    let known = tree.tidiness();
     refresh_place(tree, Place::Root);
+    tree.note(Tidiness {
+        fresh: true,
+        ..known
+    });
 }
 
 /// Refreshes the place's node, after all nodes below it.

@@ -165,3 +165,26 @@ fn prune_collapses_up_to_where_nodes_differ(rt: HostRuntime) {
     assert_eq!(rt; at_path(&tree, &[5]), Seen::Leaf(-400));
     assert_eq!(rt; tree.arena().live(), 1);
 }
+
+#[test]
+fn maximum_likelihood_makes_known_voxels_sure(rt: HostRuntime) {
+    let Some(mut tree) = unknown(rt.alloc(), 0) else {
+        panic!(rt; "no tree");
+    };
+    maximum_likelihood(&mut tree);
+    assert_eq!(rt; at_path(&tree, &[]), Seen::Absent);
+    // A value at the threshold is occupied.
+    assert!(rt; put(&mut tree, Place::Root, 0, &[], 0));
+    maximum_likelihood(&mut tree);
+    assert_eq!(rt; at_path(&tree, &[]), Seen::Leaf(3500));
+
+    let Some(mut tree) = stale(rt.alloc()) else {
+        panic!(rt; "no tree");
+    };
+    maximum_likelihood(&mut tree);
+    assert_eq!(rt; at_path(&tree, &[]), Seen::Inner(3500));
+    assert_eq!(rt; at_path(&tree, &[0]), Seen::Leaf(3500));
+    assert_eq!(rt; at_path(&tree, &[3]), Seen::Leaf(3500));
+    assert_eq!(rt; at_path(&tree, &[5]), Seen::Leaf(-2000));
+    assert_eq!(rt; tree.arena().live(), 1);
+}

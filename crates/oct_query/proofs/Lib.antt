@@ -4,3 +4,6 @@ pub mod Over
 pub mod Needed
 pub mod Present
 pub mod Under
+pub mod Ways
+pub mod MetBlocks
+pub mod RowSteps

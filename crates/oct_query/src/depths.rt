@@ -27,7 +27,7 @@ pub fn query(tree: &OccTree, b: Block) -> Option<i32>
 }
 
 /// The voxel of the block with the lowest number on each axis.
-fn lowest_voxel(b: Block) -> Key
+pub(crate) fn lowest_voxel(b: Block) -> Key
     ensures exact { result ≡ lowest_voxel (cube_of b) }
     ensures voxel { IsInMap result }
 {

@@ -5,10 +5,11 @@ ghost use Rattle.oct_arena.specs.Nodes.{link_of, value_of};
 
 use super::*;
 use oct_arena::Node;
-use oct_key::{Block, Res};
+use oct_key::{Block, Key, Res};
 use oct_odds::{Event, OddsModel};
 use oct_tree::{OccTree, Place};
 use std::alloc::Global;
+use std::process::Abort;
 use std::test::Fail;
 
 /// A leaf of the value.
@@ -137,6 +138,96 @@ fn counts_groups_and_nodes(rt: HostRuntime) -> Result<(), Fail> {
         (two_children(rt.alloc())?, 1, 3),
     ] {
         assert_eq!(rt; counts(&tree), Counts { groups, nodes });
+    }
+    Ok(())
+}
+
+/// The known voxels of a box, once it is seen that its corners are in order.
+fn voxels(
+    rt: &impl Abort,
+    alloc: Global,
+    tree: &OccTree,
+    lo: Key,
+    hi: Key,
+) -> Result<BlockList, ListFault> {
+    assert!(rt; lo.x <= hi.x);
+    assert!(rt; lo.y <= hi.y);
+    assert!(rt; lo.z <= hi.z);
+    list(alloc, tree, lo, hi, 16, 1_000_000)
+}
+
+/// A voxel with its value.
+fn found(x: u16, y: u16, z: u16, value: i32) -> Found {
+    let block = Block { depth: 16, x, y, z };
+    Found { block, value }
+}
+
+#[test]
+fn lists_known_voxels_by_x_y_and_z(rt: HostRuntime) -> Result<(), Fail> {
+    let two = two_children(rt.alloc())?;
+    let key = |x, y, z| Key { x, y, z };
+    // Child 3 of the map comes before child 5 by its code, and after it by y.
+    let around = voxels(
+        &rt,
+        rt.alloc(),
+        &two,
+        key(32_767, 32_767, 32_767),
+        key(32_768, 32_768, 32_768),
+    )?;
+    assert_eq!(rt;
+        around.as_slice(),
+        [
+            found(32_768, 32_767, 32_768, -400),
+            found(32_768, 32_768, 32_767, 900),
+        ]
+        .as_slice()
+    );
+    let row = voxels(
+        &rt,
+        rt.alloc(),
+        &two,
+        key(65_535, 40_000, 32_766),
+        key(65_535, 40_000, 32_768),
+    )?;
+    assert_eq!(rt;
+        row.as_slice(),
+        [
+            found(65_535, 40_000, 32_766, 900),
+            found(65_535, 40_000, 32_767, 900),
+        ]
+        .as_slice()
+    );
+    Ok(())
+}
+
+#[test]
+fn refuses_a_list_of_more_than_a_million(rt: HostRuntime) -> Result<(), Fail> {
+    let unknown = unknown_world(rt.alloc())?;
+    let low = Key { x: 0, y: 0, z: 0 };
+    // 100 rows of 10,000 voxels, and 101 rows of 9,901.
+    for (y, z, want) in [
+        (99, 9_999, None),
+        (
+            100,
+            9_900,
+            Some(ListFault::TooManyBlocks { count: 1_000_001 }),
+        ),
+        (
+            65_535,
+            65_535,
+            Some(ListFault::TooManyBlocks {
+                count: 4_294_967_296,
+            }),
+        ),
+    ] {
+        let list = voxels(&rt, rt.alloc(), &unknown, low, Key { x: 0, y, z });
+        match list {
+            Ok(list) => {
+                assert_eq!(rt; None, want);
+                assert!(rt; list.as_slice().is_empty());
+            }
+            Err(fault) => assert_eq!(rt; Some(fault), want),
+        }
     }
     Ok(())
 }

@@ -1,0 +1,9 @@
+use Rattle.std.proofs.Common.{◌≡◌, ℕ, ◌≤◌, length}
+use Rattle.std.specs.Prelude.{slice_index_or}
+use Rattle.oct_arena.specs.declared.node.Node.{Node}
+use Rattle.oct_tree.specs.Tree.{reach}
+use Rattle.oct_query.proofs.path.Path.go.Given as goal
+
+abbrev pub invariant-loop-level : goal.invariant-loop-level
+invariant-loop-level l =
+    (length l.self.nodes ≡ 17) × ((j : ℕ) (d : Node) → j ≤ l.level → slice_index_or l.self.nodes j d ≡ reach l.tree j l.k)

@@ -1,0 +1,9 @@
+use oct_key::Block;
+
+/// A block and what it answers.
+#[derive(Clone, Copy, Debug, PartialEq, Eq)]
+pub struct Found {
+    pub block: Block,
+    /// The largest known value among the block's voxels, in thousandths.
+    pub value: i32,
+}

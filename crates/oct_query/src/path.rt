@@ -1,0 +1,89 @@
+ghost use Rattle.std.specs.Prelude.{◌≡◌, ◌+◌, ◌≤◌, ℕ, IsTrue, Some};
+ghost use Rattle.std.specs.Bool.{OnTrue};
+ghost use Rattle.oct_key.specs.Voxel.{IsInMap};
+ghost use Rattle.oct_key.specs.Block.{block_of};
+ghost use Rattle.oct_arena.specs.Entries.{IsLive};
+ghost use Rattle.oct_arena.specs.Nodes.{link_of};
+ghost use Rattle.oct_tree.specs.Tree.{IsLinked, step, reach};
+ghost use Rattle.oct_query.specs.Paths.{IsPathOf};
+
+use oct_arena::Node;
+use oct_key::{Block, Key, child_index};
+use oct_tree::OccTree;
+
+/// The nodes on the way from the root to a voxel, down to a depth. Who asks for one voxel after
+/// another goes up only as far as their ways part, and down from there.
+#[derive(Drop)]
+pub(crate) struct Path {
+    nodes: [Node; 17],
+    key: Key,
+    depth: u8,
+}
+
+impl Path {
+    /// The way that ends at the root.
+    pub(crate) fn new(tree: &OccTree) -> Path
+        ensures { IsPathOf tree.now result }
+    {
+        Path {
+            nodes: [tree.root(); 17],
+            key: Key { x: 0, y: 0, z: 0 },
+            depth: 0,
+        }
+    }
+
+    /// The node that stands at the block of that depth around the voxel, or the one that covers it.
+    pub(crate) fn go(&mut self, tree: &OccTree, k: Key, depth: u8) -> Node
+        requires path { IsPathOf tree.now self.old }
+        requires depth { depth ≤ 16 }
+        ensures node { result ≡ reach tree.now depth k }
+        ensures path { IsPathOf tree.now self.new }
+    {
+        let from = self.shared(k, depth);
+        for level in from..depth {
+            let node = below(tree, self.nodes[level as usize], child_index(k, level));
+            self.nodes[level as usize + 1] = node;
+        }
+        self.key = k;
+        self.depth = depth;
+        self.nodes[depth as usize]
+    }
+
+    /// A depth, that one at most, down to which the way to the voxel is this one.
+    fn shared(&self, k: Key, most: u8) -> u8
+        requires few { self.now.depth ≤ 16 }
+        requires in_map { IsInMap self.now.key }
+        ensures most { result ≤ most }
+        ensures few { result ≤ self.now.depth }
+        ensures same { block_of result self.now.key ≡ block_of result k }
+    {
+        let depth = self.depth.min(most);
+        for up in 0..depth {
+            if is_one_block(self.key, k, depth - up) {
+                return depth - up;
+            }
+        }
+        0
+    }
+}
+
+/// Whether the voxels lie in one block of that depth.
+fn is_one_block(a: Key, b: Key, depth: u8) -> bool
+    requires { depth ≤ 16 }
+    ensures { IsTrue result → block_of depth a ≡ block_of depth b }
+{
+    Block::of(a, depth) == Block::of(b, depth)
+}
+
+/// Child i of the node: that of the group that it links, or the node itself, which covers its
+/// block's children.
+fn below(tree: &OccTree, node: Node, i: u8) -> Node
+    requires live { (id : ℕ) → link_of node ≡ Some id → IsLive tree.now.groups id }
+    requires index { i ≤ 7 }
+    ensures { result ≡ step tree.now.groups node i }
+{
+    match node {
+        Node::Inner(_, id) => tree.arena().node(id, i),
+        _ => node,
+    }
+}
