@@ -1,0 +1,3 @@
+pub mod Firsts
+pub mod Ways
+pub mod Steps

@@ -1,0 +1,120 @@
+//! The way down a tree to a voxel, kept from one voxel to the next.
+ghost use Rattle.std.specs.Prelude.{◌≡◌, ◌≢◌, ◌+◌, ◌*◌, ◌-◌, ◌/◌, ◌%◌, ◌^◌, ◌<◌, ◌≤◌, ◌↔◌, IsTrue, ℕ};
+ghost use Rattle.std.specs.Prelude.{Some};
+ghost use Rattle.oct_key.specs.Voxel.{Voxel};
+ghost use Rattle.oct_key.specs.Morton.{code_prefix};
+ghost use Rattle.oct_arena.specs.Nodes.{link_of, value_of};
+ghost use Rattle.oct_tree.specs.Tree.{value_at};
+ghost use Rattle.oct_cast.specs.Way.{IsCodeOf, AreLinked, LeadsTo};
+
+use oct_arena::{GroupId, Node};
+use oct_tree::OccTree;
+
+/// The way down a tree to a voxel: through the groups that the nodes over it link, to the node that
+/// isn't Inner.
+#[derive(Drop)]
+pub struct Way {
+    /// The groups that are linked above the way's end, by their depths.
+    pub groups: [GroupId; 16],
+    /// How deep the block of the node at the end is.
+    pub depth: u8,
+    /// How many of a code's last bits the voxels of that block don't have in common.
+    pub height: u8,
+    /// The bits before them, which they have in common.
+    pub block: u64,
+}
+
+impl Way {
+    /// The way from the root, which links a group, to the voxel of a code, and the node at its end.
+    pub fn new(tree: &OccTree, id: GroupId, code: u64) -> (Way, Node)
+        requires root { link_of tree.now.root ≡ Some id.number }
+        requires code { (k : Voxel) × IsCodeOf code k }
+        ensures leads { (k : Voxel) → IsCodeOf code k → LeadsTo tree.now result.0 k }
+        ensures value { (k : Voxel) → IsCodeOf code k
+            → value_of result.1 ≡ value_at tree.now k }
+    {
+        let mut way = Way {
+            groups: [id; 16],
+            depth: 0,
+            height: 48,
+            block: 0,
+        };
+        let node = way.descend(tree, code);
+        (way, node)
+    }
+
+    /// Whether the voxel of a code lies in the block of the node at the end.
+    pub fn is_over(&self, code: u64) -> bool
+        requires { self.now.height ≤ 48 }
+        ensures { IsTrue result ↔ (code / 2 ^ self.now.height ≡ self.now.block) }
+    {
+        code >> self.height == self.block
+    }
+
+    /// Leads to the voxel of a code that doesn't lie in the block of the node at the end, and
+    /// answers the node at the new end. Goes up only to the block that holds both voxels.
+    pub fn turn_to(&mut self, tree: &OccTree, code: u64) -> Node
+        requires before { (k : Voxel) × LeadsTo tree.now self.old k }
+        requires code { (k : Voxel) × IsCodeOf code k }
+        requires leaves { code / 2 ^ self.old.height ≢ self.old.block }
+        ensures leads { (k : Voxel) → IsCodeOf code k → LeadsTo tree.now self.new k }
+        ensures value { (k : Voxel) → IsCodeOf code k → value_of result ≡ value_at tree.now k }
+    {
+        self.ascend(code);
+        self.descend(tree, code)
+    }
+
+    /// Shortens the way to the deepest block on it that holds the voxel of a code too.
+    fn ascend(&mut self, code: u64)
+        requires depth { self.old.depth ≤ 16 }
+        requires height { self.old.height ≡ 3 * (16 - self.old.depth) }
+        requires code { code < 2 ^ 48 }
+        requires block { (before : ℕ) × (before < 2 ^ 48)
+            × (self.old.block ≡ code_prefix self.old.depth before) }
+        requires leaves { code / 2 ^ self.old.height ≢ self.old.block }
+        ensures depth { self.new.depth < self.old.depth }
+        ensures here { self.new.block ≡ code_prefix self.new.depth code }
+        ensures before { (before : ℕ) → self.old.block ≡ code_prefix self.old.depth before
+            → self.new.block ≡ code_prefix self.new.depth before }
+        ensures groups { self.new.groups ≡ self.old.groups }
+    {
+        let mut here = code >> self.height;
+        'up: while here != self.block {
+            here >>= 3;
+            self.block >>= 3;
+            self.depth -= 1;
+        }
+    }
+
+    /// Goes on from the group that is linked at the way's depth to the voxel of a code, and answers
+    /// the node at the end.
+    fn descend(&mut self, tree: &OccTree, code: u64) -> Node
+        requires depth { self.old.depth ≤ 15 }
+        requires linked { (k : Voxel) × IsCodeOf code k
+            × AreLinked tree.now self.old.groups (self.old.depth + 1) k }
+        ensures leads { (k : Voxel) → IsCodeOf code k → LeadsTo tree.now self.new k }
+        ensures value { (k : Voxel) → IsCodeOf code k → value_of result ≡ value_at tree.now k }
+    {
+        let arena = tree.arena();
+        let mut depth = self.depth;
+        let mut node = arena.node(self.groups[depth as usize], child_index(code, depth));
+        while let Node::Inner(_, id) = node {
+            depth += 1;
+            self.groups[depth as usize] = id;
+            node = arena.node(id, child_index(code, depth));
+        }
+        self.depth = depth + 1;
+        self.height = 3 * (15 - depth);
+        self.block = code >> self.height;
+        node
+    }
+}
+
+/// Which child of the block of that depth holds the voxel of a code.
+fn child_index(code: u64, depth: u8) -> u8
+    requires { depth ≤ 15 }
+    ensures exact { result ≡ code / 2 ^ (3 * (15 - depth)) % 8 }
+    ensures few { result ≤ 7 }
+{
+    ((code >> (3 * (15 - depth))) & 7) as u8
+}

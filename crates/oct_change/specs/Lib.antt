@@ -1,0 +1,4 @@
+pub mod Held
+pub mod Notes
+pub mod Changes
+pub mod Rows

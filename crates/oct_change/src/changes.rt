@@ -1,0 +1,147 @@
+ghost use Rattle.std.specs.Prelude.{◌≡◌, ◌+◌, ◌-◌, ◌≤◌, ◌++◌, ◌∷◌, [], length, max, IsOk, OnOk};
+ghost use Rattle.std.specs.Prelude.{OnErr, IfOk};
+ghost use Rattle.std.specs.BTreeMap.{IsOrdered, get};
+ghost use Rattle.std.specs.List.{filter_map};
+ghost use Rattle.oct_key.specs.Voxel.{Voxel};
+ghost use Rattle.oct_key.specs.Order.{key_cmp};
+ghost use Rattle.oct_values.specs.Classes.{classes_of};
+ghost use Rattle.oct_tree.specs.Tree.{value_at};
+ghost use Rattle.oct_change.specs.Notes.{AreInMap, HasNoted, first_noted, marked_by};
+ghost use Rattle.oct_change.specs.Changes.{AreChanges, change_of, changes_between};
+
+use crate::kind::{Change, kind_of_change};
+use crate::list::ChangeList;
+use oct_key::Key;
+use oct_num::Memory;
+use oct_odds::Class;
+use oct_tree::OccTree;
+use std::alloc::Global;
+use std::collections::BTreeMap;
+use std::marker::Model;
+
+/// A voxel, and the class that it had.
+#[derive(Clone, Copy, Debug, PartialEq, Eq)]
+pub struct Note {
+    pub key: Key,
+    pub before: Class,
+}
+
+/// Notes of the classes that voxels had before they changed, of which the first of a voxel counts.
+#[derive(Drop)]
+pub struct Changes {
+    notes: Vec<Note>,
+}
+
+impl Model for Changes {
+    ghost use Rattle.std.specs.Prelude.{◌-◌, length, vec_capacity};
+    ghost use Rattle.oct_change.specs.Held.{Held};
+    ghost use Rattle.oct_change.specs.Notes.{AreInMap};
+
+    ghost Value = { Held };
+
+    ghost view = { λ c. record {
+      notes = c.notes.items;
+      spare = vec_capacity c.notes - length c.notes.items;
+    } };
+
+    ghost invariant = { λ c. AreInMap c.notes.items };
+}
+
+impl Changes {
+    /// No notes. Takes no memory.
+    pub fn new(alloc: Global) -> Changes
+        ensures notes { result.notes ≡ [] }
+        ensures spare { result.spare ≡ 0 }
+    {
+        Changes {
+            notes: Vec::new(alloc),
+        }
+    }
+
+    /// Drops all notes. Their room stays.
+    pub fn mark(&mut self)
+        ensures notes { self.new.notes ≡ [] }
+        ensures spare { self.new.spare ≡ self.old.spare + length self.old.notes }
+    {
+        self.notes.clear();
+    }
+
+    /// Makes room for n more notes, or, where that is more, for as many as there are. All notes
+    /// stay.
+    ///
+    /// `Memory` comes only where there wasn't room for n, and then nothing changes.
+    pub fn reserve(&mut self, n: u64) -> Result<(), Memory>
+        ensures room { OnOk result (n ≤ self.new.spare) }
+        ensures enough { n ≤ self.old.spare → IsOk result × (self.new ≡ self.old) }
+        ensures few { self.new.spare ≤ max self.old.spare (max n (length self.old.notes)) }
+        ensures notes { self.new.notes ≡ self.old.notes }
+        ensures err { OnErr result (self.new ≡ self.old) }
+    {
+        let notes = self.notes.len();
+        let spare = self.notes.capacity() - notes;
+        if spare < n as usize {
+            self.notes.reserve_exact((n as usize).max(notes))?;
+        }
+        Ok(())
+    }
+
+    /// Adds a note at the end.
+    pub fn note(&mut self, key: Key, before: Class)
+        requires { 1 ≤ self.old.spare }
+        ensures notes { self.new.notes
+            ≡ self.old.notes ++ record { key = key; before = before } ∷ [] }
+        ensures spare { self.old.spare ≡ self.new.spare + 1 }
+    {
+        self.notes.push_reserved(Note { key, before });
+    }
+
+    /// The voxels whose class in the tree isn't that of their first note, by ascending x, y and z.
+    /// What it costs goes by the notes.
+    pub fn report(&self, alloc: Global, tree: &OccTree) -> Result<ChangeList, Memory>
+        ensures exact { IfOk result (λ changes. changes ≡ changes_between
+            (marked_by self.now.notes (classes_of tree.now.odds (value_at tree.now)))
+            (classes_of tree.now.odds (value_at tree.now))) }
+        ensures changes { IfOk result (AreChanges
+            (marked_by self.now.notes (classes_of tree.now.odds (value_at tree.now)))
+            (classes_of tree.now.odds (value_at tree.now))) }
+    {
+        let first = self.first_of_each(alloc)?;
+        changed(alloc, &first, tree)
+    }
+
+    /// The class of the first note of each voxel that is noted.
+    fn first_of_each(&self, alloc: Global) -> Result<BTreeMap<Key, Class>, Memory>
+        ensures first { IfOk result (λ first. (k : Voxel) →
+            get key_cmp first k ≡ first_noted self.now.notes k) }
+        ensures in_map { AreInMap self.now.notes }
+    {
+        let mut first = BTreeMap::new(alloc);
+        for note in &self.notes {
+            if !first.contains_key(&note.key) {
+                first.insert(note.key, note.before)?;
+            }
+        }
+        Ok(first)
+    }
+}
+
+/// Those of the voxels whose class in the tree isn't the one that they had, with their changes.
+fn changed(
+    alloc: Global,
+    first: &BTreeMap<Key, Class>,
+    tree: &OccTree,
+) -> Result<ChangeList, Memory>
+    ensures ordered { IsOrdered key_cmp first.now }
+    ensures changes { IfOk result (λ changes. changes ≡ filter_map
+        (λ e. change_of e.0 e.1 (classes_of tree.now.odds (value_at tree.now) e.0))
+        first.now.entries) }
+{
+    let mut changes = ChangeList::new(alloc);
+    for (key, before) in first {
+        let after = tree.odds().class(tree.at(*key));
+        if let Some(kind) = kind_of_change(*before, after) {
+            changes.push(Change { key: *key, kind })?;
+        }
+    }
+    Ok(changes)
+}
