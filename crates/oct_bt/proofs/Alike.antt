@@ -9,7 +9,8 @@ use Rattle.oct_odds.specs.declared.event.Class.{Class}
 use Rattle.oct_odds.specs.declared.event.Class.TheVariants.{Unknown, Free, Occupied}
 use Rattle.oct_key.proofs.Held.{held_in_map, only_voxel}
 use Rattle.oct_values.proofs.Held.{all_pass, each_passes}
-use Rattle.oct_bt.specs.Classes.{Classes, is_same_class, is_of_one_class, class_of_block}
+use Rattle.oct_values.specs.Classes.{Classes}
+use Rattle.oct_bt.specs.Classes.{is_same_class, is_of_one_class, class_of_block}
 
 -- a class passes the test with itself, and with no other
 pub is_same_class_refl : (c : Class) → is_same_class c c ≡ true

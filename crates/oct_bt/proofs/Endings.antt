@@ -1,37 +1,31 @@
 -- What a reading comes to where it ends.
-use Rattle.std.proofs.Common.{◌≡◌, ℕ, zero, suc, ◌+◌, ◌-◌, ◌<◌, Bool, true, false, cond, List, [], ◌∷◌, ◌++◌, length, take, get_or, refl, sym, subst, ◌∙◌, ap, arith, length-append, Option, Some, None, Result, Ok, Err, inl, inr, eq-eqb}
+use Rattle.std.proofs.Common.{◌≡◌, ℕ, zero, suc, ◌+◌, ◌-◌, ◌<◌, Bool, true, false, cond, List, [], ◌∷◌, ◌++◌, length, refl, sym, subst, ◌∙◌, ap, arith, length-append, Option, Some, None, Result, Ok, Err, inl, inr, eq-eqb}
 use Rattle.std.specs.Prelude.{nat_eq, nat_lt, ◌&&◌, is_some, fold, replicate}
 use mir.Val.{bool_byte}
 use Rattle.std.proofs.lemmas.Bool.{false≢true}
 use Rattle.std.proofs.lemmas.Bool.Decides.{eqb_tells}
-use Rattle.std.proofs.lemmas.List.{take_more}
 use Rattle.oct_bt.specs.declared.fault.BtFault.{BtFault}
 use Rattle.oct_bt.specs.declared.fault.BtFault.TheVariants.{TooDeep, Truncated, TrailingBytes, SizeMismatch}
-use Rattle.oct_bt.specs.Canonical.{known_codes, node_total}
+use Rattle.oct_bt.specs.Canonical.{node_total}
 use Rattle.oct_bt.specs.NodeData.{Progress, Reads, Stopped, records_in, after_record, after_byte, at_first, after_bytes, progress_by, judged, read_nodes, IsReached, IsAccepted}
 use Rattle.oct_bt.specs.Path.{pending_at, IsTopped, without_next}
 use Rattle.oct_bt.proofs.Sizes.{reached_small}
 use Rattle.std.proofs.Common.{◌^◌}
-use Rattle.oct_bt.proofs.Codes.{known_joined}
 use Rattle.std.proofs.lemmas.List.Elements.{All-append, All-cons, All-nil}
 use Rattle.std.proofs.lemmas.List.Sums.{fold_push}
 use Rattle.oct_bt.proofs.Walks.{stays_stopped, accepts_only}
 use Rattle.oct_bt.proofs.Steps.{going, at_path}
 
--- codes that are known in one byte more
-pub known_more : (bytes : List ℕ) (i : ℕ) → i < length bytes → known_codes (take (i + 1) bytes) ≡ known_codes (take i bytes) + known_codes (get_or bytes i 0 ∷ [])
-known_more bytes i l = ap known_codes (take_more bytes i 0 l) ∙ known_joined (take i bytes) (get_or bytes i 0 ∷ [])
-
 -- how many bytes a reading has taken that hasn't stopped
-pub half_length : Option ℕ → ℕ
+unfoldable pub half_length : Option ℕ → ℕ
 half_length None = 0
 half_length (Some b) = 1
 
-pub taken_by : Progress → ℕ
+unfoldable pub taken_by : Progress → ℕ
 taken_by (Reads pending half records) = length records + half_length half
 taken_by (Stopped fault) = 0
 
-pub is_going : Progress → Bool
+unfoldable pub is_going : Progress → Bool
 is_going (Reads pending half records) = true
 is_going (Stopped fault) = false
 

@@ -17,7 +17,7 @@ use Rattle.oct_num.proofs.FormLaw.{value_law}
 use Rattle.oct_num.proofs.MetresWriting.{numerals, whole_digits, text_reads}
 use Rattle.oct_num.proofs.WholeLaw.{natural_read}
 use Rattle.oct_key.specs.Voxel.{IsResolution}
-use Rattle.oct_bt.specs.Classes.{Classes}
+use Rattle.oct_values.specs.Classes.{Classes}
 use Rattle.oct_bt.specs.Canonical.{canonical_data, canonical_size}
 use Rattle.oct_bt.specs.NodeData.{read_nodes}
 use Rattle.oct_bt.specs.Header.{is_line_feed, is_blank, resolution_of, head_of, header_of}

@@ -17,3 +17,14 @@ pub mod WrittenHeaders
 pub mod Headers
 pub mod HeadSteps
 pub mod FilesBack
+pub mod DataClassed
+pub mod Tidy
+pub mod Fillings
+pub mod Fills
+pub mod Short
+pub mod Mixtures
+pub mod Writes
+pub mod Counts
+pub mod Encodings
+pub mod Volumes
+pub mod Tallies

@@ -14,7 +14,8 @@ use Rattle.oct_values.proofs.Eights.{number_of_eight}
 use Rattle.std.proofs.lemmas.List.Elements.{All-cons, All-contains}
 use Rattle.oct_key.proofs.Held.{held_in_map}
 use Rattle.oct_key.proofs.Blocks.{root_in_map}
-use Rattle.oct_bt.specs.Classes.{Classes, class_of_block}
+use Rattle.oct_values.specs.Classes.{Classes}
+use Rattle.oct_bt.specs.Classes.{class_of_block}
 use Rattle.oct_bt.specs.Records.{Entries, End, Plain, Record, AreEntries, IsRecord, class_code, codes_of, code_bytes, bodies_of, flat, class_by}
 use Rattle.oct_bt.specs.Canonical.{block_code, child_codes, is_unknown, canonical_data}
 use Rattle.oct_bt.proofs.Numbering.{numbers_from}
@@ -170,7 +171,7 @@ codes_repeated classes b x (i ∷ more) h =
     class_of_code (Some Occupied) Occupied h = refl
 
 -- which class plain codes are of
-plain_class : (codes : ℕ) → is_plain codes ≡ true → (x : Class) × (codes ≡ repeated (class_code x) 8)
+pub plain_class : (codes : ℕ) → is_plain codes ≡ true → (x : Class) × (codes ≡ repeated (class_code x) 8)
 unfolding repeated
 plain_class codes h = by_test (nat_eq codes 0) (nat_eq codes 21845) (nat_eq codes 43690) refl refl refl h
   where

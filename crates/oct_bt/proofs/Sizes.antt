@@ -8,17 +8,17 @@ use Rattle.oct_bt.proofs.Codes.{total_of_flat}
 use Rattle.oct_bt.proofs.Walks.{Shallow, IsParsed, parsed_from, parsed_root}
 
 -- the nodes of a block that stands so many depths above the voxels, itself included
-full : ℕ → ℕ
+unfoldable pub full : ℕ → ℕ
 full zero = 1
 full (suc height) = 1 + 8 * full height
 
-some_full : (height : ℕ) → 1 ≤ full height
+pub some_full : (height : ℕ) → 1 ≤ full height
 unfolding full
 some_full zero = omega arith
 some_full (suc height) = omega arith
 
 -- entries have at most so many nodes
-known_few : (es : Entries) (d n height : ℕ) → AreEntries d n es → d + height ≡ 15 → known_entries es ≤ n * full height
+pub known_few : (es : Entries) (d n height : ℕ) → AreEntries d n es → d + height ≡ 15 → known_entries es ≤ n * full height
 unfolding known_entries full
 known_few End d n height are at = omega arith
 known_few (Plain c es) d zero height are at = absurd are

@@ -2,7 +2,7 @@
 use Rattle.std.proofs.Common.{◌≡◌, ℕ, ◌≤◌, inl, inr, Bool, true, false, Ok, List, [], ◌++◌, length, refl, sym, ◌∙◌, ap, arith}
 use Rattle.oct_key.specs.Block.{root_block}
 use Rattle.oct_key.proofs.Blocks.{root_in_map}
-use Rattle.oct_bt.specs.Classes.{Classes}
+use Rattle.oct_values.specs.Classes.{Classes}
 use Rattle.oct_bt.specs.Records.{Entries, flat, class_by}
 use Rattle.oct_bt.specs.Canonical.{is_unknown, canonical_data, canonical_size, node_total}
 use Rattle.oct_bt.specs.NodeData.{IsAccepted, IsDataOf, read_nodes}

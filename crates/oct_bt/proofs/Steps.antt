@@ -1,14 +1,12 @@
 -- One byte more, in terms of what the reader holds.
-use Rattle.std.proofs.Common.{◌≡◌, ℕ, zero, suc, ◌+◌, ◌-◌, ◌<◌, ◌≤◌, true, false, List, [], ◌∷◌, ◌++◌, length, set, take, get_or, drop, refl, sym, subst, ◌∙◌, ap, arith, append_assoc, length-set, Option, Some, None, inl, inr, lt-ltb, eq-eqb}
-use Rattle.std.specs.Prelude.{replicate, is_some, nat_eq, nat_lt, ◌&&◌, fold}
+use Rattle.std.proofs.Common.{◌≡◌, ℕ, zero, suc, ◌+◌, ◌-◌, ◌<◌, ◌≤◌, true, false, List, [], ◌∷◌, ◌++◌, length, set, take, get_or, drop, refl, sym, subst, ◌∙◌, ap, arith, length-set, Option, Some, None, inl, inr, lt-ltb, eq-eqb}
+use Rattle.std.specs.Prelude.{replicate, is_some, nat_eq, nat_lt, ◌&&◌}
 use Rattle.std.specs.List.{refill}
-use Rattle.std.proofs.lemmas.List.{take_more}
-use Rattle.std.proofs.lemmas.List.Sums.{fold_push}
 use Rattle.std.proofs.lemmas.Bool.{false≢true}
 use Rattle.std.proofs.lemmas.Bool.Decides.{eqb_tells}
 use Rattle.oct_bt.specs.declared.fault.BtFault.{BtFault}
 use Rattle.oct_bt.specs.declared.fault.BtFault.TheVariants.{TooDeep, TrailingBytes}
-use Rattle.oct_bt.specs.NodeData.{Progress, Reads, Stopped, records_in, after_record, after_byte, at_first, after_bytes, progress_by}
+use Rattle.oct_bt.specs.NodeData.{Progress, Reads, Stopped, records_in, after_record, after_byte, after_bytes, progress_by}
 use Rattle.oct_bt.specs.Path.{pending_at, IsTopped, without_next}
 use Rattle.oct_bt.proofs.Paths.{pending_push, next_record}
 
@@ -27,14 +25,6 @@ stopped start (Some fault) p byte h = refl
 pub none_of : (o : Option ℕ) → ((x : ℕ) → o ≡ Some x → ⊥) → o ≡ None
 none_of None h = refl
 none_of (Some x) h = absurd (h x refl)
-
--- one byte more of a piece
-pub fed_more : (start size i : ℕ) (bytes piece : List ℕ) → i < length piece
-    → after_byte start (after_bytes start size (bytes ++ take i piece)) (get_or piece i 0) ≡ after_bytes start size (bytes ++ take (i + 1) piece)
-unfolding after_bytes
-fed_more start size i bytes piece l =
-    sym (fold_push (after_byte start) (at_first size) (bytes ++ take i piece) (get_or piece i 0))
-    ∙ ap (fold (after_byte start) (at_first size)) (append_assoc bytes (take i piece) (get_or piece i 0 ∷ []) ∙ ap (λ t. bytes ++ t) (sym (take_more piece i 0 l)))
 
 -- a byte where no record is to come
 pub byte_trails : (start : ℕ) (stop : Option BtFault) (path : List ℕ) (half : Option ℕ) (records : List ℕ) (byte : ℕ) → is_some stop ≡ false

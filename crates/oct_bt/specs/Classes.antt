@@ -1,15 +1,13 @@
--- A class for each voxel, and which blocks are of one class.
+-- Which blocks are of one class, and the value that a class is given.
 use Rattle.std.specs.Prelude.{Bool, true, false, Option, Some, None, if◌then◌else◌}
 use Rattle.std.specs.List.{list_all}
-use Rattle.oct_key.specs.Voxel.{Voxel}
 use Rattle.oct_key.specs.Block.{Cube, lowest_voxel}
+use Rattle.oct_odds.specs.Odds.{Odds}
+use Rattle.oct_odds.specs.Update.{Value}
 use Rattle.oct_odds.specs.declared.event.Class.{Class}
 use Rattle.oct_odds.specs.declared.event.Class.TheVariants.{Unknown, Free, Occupied}
 use Rattle.oct_values.specs.Blocks.{voxels_of}
-
--- a class for each voxel
-abbrev pub Classes : Type 0
-Classes = Voxel → Class
+use Rattle.oct_values.specs.Classes.{Classes}
 
 -- whether the two are one class
 abbrev pub is_same_class : Class → Class → Bool
@@ -27,3 +25,10 @@ is_of_one_class classes b =
 unfoldable pub class_of_block : Classes → Cube → Option Class
 class_of_block classes b =
     if is_of_one_class classes b then Some (classes (lowest_voxel b)) else None
+
+-- the value that a voxel of a class is given: the lower bound where it is free, the upper one where
+-- it is occupied
+abbrev pub value_for : Odds → Class → Value
+value_for odds Unknown = None
+value_for odds Free = Some odds.min
+value_for odds Occupied = Some odds.max

@@ -3,7 +3,7 @@ use Rattle.std.specs.Prelude.{codes, ℕ, List, [], ◌∷◌, ◌++◌, drop, R
 use Rattle.std.specs.Fmt.{decimal}
 use Rattle.oct_num.specs.MetresText.{metres_text}
 use Rattle.oct_bt.specs.declared.fault.BtFault.{BtFault}
-use Rattle.oct_bt.specs.Classes.{Classes}
+use Rattle.oct_values.specs.Classes.{Classes}
 use Rattle.oct_bt.specs.Canonical.{canonical_data, canonical_size}
 use Rattle.oct_bt.specs.NodeData.{read_nodes}
 use Rattle.oct_bt.specs.Header.{Header, head_of, header_of}

@@ -8,3 +8,8 @@ pub mod File
 pub mod Reading
 pub mod Holding
 pub mod Plain
+pub mod FaultText
+pub mod DataClasses
+pub mod Filled
+pub mod Mixtures
+pub mod Voxels

@@ -5,7 +5,7 @@ use Rattle.oct_bt.specs.declared.fault.BtFault.{BtFault}
 use Rattle.oct_bt.specs.declared.fault.BtFault.TheVariants.{TooDeep, Truncated, TrailingBytes, SizeMismatch}
 use Rattle.oct_key.specs.Voxel.{Voxel, IsInMap}
 use Rattle.oct_odds.specs.declared.event.Class.TheVariants.{Unknown}
-use Rattle.oct_bt.specs.Classes.{Classes}
+use Rattle.oct_values.specs.Classes.{Classes}
 use Rattle.oct_bt.specs.Records.{Entries, IsRecord, flat, known_entries, class_by}
 use Rattle.oct_bt.specs.Canonical.{codes_in, node_total}
 

@@ -1,5 +1,5 @@
 -- Whole records: the entries of a block's children, each a class or a record of its own.
-use Rattle.std.specs.Prelude.{ℕ, zero, suc, ◌+◌, ◌*◌, ◌/◌, ◌%◌, ◌<◌, List, [], ◌∷◌, ◌++◌, ⊤}
+use Rattle.std.specs.Prelude.{ℕ, zero, suc, ◌+◌, ◌*◌, ◌/◌, ◌%◌, ◌<◌, List, [], ◌∷◌, ◌++◌, length, ⊤}
 use Rattle.oct_key.specs.Voxel.{Voxel}
 use Rattle.oct_key.specs.Block.{child_index_of}
 use Rattle.oct_odds.specs.declared.event.Class.{Class}
@@ -58,6 +58,16 @@ known_entries (Plain Unknown later) = known_entries later
 known_entries (Plain Free later) = 1 + known_entries later
 known_entries (Plain Occupied later) = 1 + known_entries later
 known_entries (Record r later) = 1 + known_entries r + known_entries later
+
+-- the number of records among entries and in them
+unfoldable pub record_count : Entries → ℕ
+record_count End = 0
+record_count (Plain class later) = record_count later
+record_count (Record r later) = 1 + record_count r + record_count later
+
+-- the number of records that a text of records has, two bytes for each
+abbrev pub record_total : List ℕ → ℕ
+record_total bytes = length bytes / 2
 
 -- the class that entry i gives a voxel of a block of this depth
 unfoldable pub class_in : ℕ → Entries → ℕ → Voxel → Class

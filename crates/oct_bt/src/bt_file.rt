@@ -1,11 +1,17 @@
-ghost use Rattle.std.specs.Prelude.{◌≡◌, ◌↔◌, IsTrue};
-ghost use Rattle.oct_bt.specs.Classes.{Classes};
+ghost use Rattle.std.specs.Prelude.{◌≡◌, ◌↔◌, IsTrue, count_by};
+ghost use Rattle.oct_key.specs.Block.{root_block};
+ghost use Rattle.oct_odds.specs.declared.event.Class.TheVariants.{Free, Occupied};
+ghost use Rattle.oct_values.specs.Blocks.{voxels_of};
+ghost use Rattle.oct_values.specs.Classes.{Classes};
+ghost use Rattle.oct_bt.specs.Classes.{is_same_class};
 ghost use Rattle.oct_bt.specs.Canonical.{canonical_data};
 ghost use Rattle.oct_bt.specs.Plain.{is_canonical_data};
 ghost use Rattle.oct_bt.specs.NodeData.{IsAccepted, IsDataOf};
+ghost use Rattle.oct_bt.specs.Records.{record_total};
 
 use crate::code_list::CodeList;
 use crate::path::has_plain;
+use crate::voxels::{Voxels, count_record};
 use oct_key::Res;
 use std::marker::Model;
 
@@ -64,6 +70,13 @@ impl BtFile {
         self.nodes
     }
 
+    /// The number of records.
+    pub fn records(&self) -> u64
+        ensures { result ≡ record_total self.now.codes }
+    {
+        (self.codes.as_slice().len() / 2) as u64
+    }
+
     /// Whether the node data is the canonical one of the classes that it stands for.
     pub fn is_canonical(&self) -> bool
         ensures test { result ≡ is_canonical_data self.now.codes }
@@ -71,6 +84,23 @@ impl BtFile {
             → IsTrue result ↔ (self.now.codes ≡ canonical_data classes) }
     {
         passes(self.codes().as_slice())
+    }
+
+    /// How many voxels of the map are free, and how many are occupied. Each record is read once.
+    pub fn voxels(&self) -> Voxels
+        ensures free { (classes : Classes) → IsDataOf classes self.now.codes → result.free
+            ≡ count_by (λ k. is_same_class (classes k) Free) (voxels_of root_block) }
+        ensures occupied { (classes : Classes) → IsDataOf classes self.now.codes → result.occupied
+            ≡ count_by (λ k. is_same_class (classes k) Occupied) (voxels_of root_block) }
+    {
+        let codes = self.codes().as_slice();
+        if codes.is_empty() {
+            return Voxels {
+                free: 0,
+                occupied: 0,
+            };
+        }
+        count_record(0, codes).voxels
     }
 }
 

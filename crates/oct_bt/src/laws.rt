@@ -3,11 +3,13 @@ ghost use Rattle.std.specs.List.{All};
 ghost use Rattle.oct_key.specs.Voxel.{Voxel, IsInMap, IsResolution};
 ghost use Rattle.oct_key.specs.Block.{Cube, IsBlock, HoldsVoxel};
 ghost use Rattle.oct_odds.specs.declared.event.Class.{Class};
-ghost use Rattle.oct_bt.specs.Classes.{Classes, class_of_block};
+ghost use Rattle.oct_values.specs.Classes.{Classes};
+ghost use Rattle.oct_bt.specs.Classes.{class_of_block};
 ghost use Rattle.oct_bt.specs.Records.{Entries, IsRecord, flat};
 ghost use Rattle.oct_bt.specs.Canonical.{canonical_data, canonical_size};
 ghost use Rattle.oct_bt.specs.File.{bt_text, reading};
 ghost use Rattle.oct_bt.specs.NodeData.{IsAccepted, IsDataOf, read_nodes};
+ghost use Rattle.oct_bt.specs.DataClasses.{data_classes};
 
 /// A block is of a class exactly where all its voxels are.
 pub fn block_classes_are_exact()
@@ -56,4 +58,10 @@ pub fn canonical_data_reads_back()
 pub fn canonical_files_read_back()
     ensures read { (res : ℕ) (c : Classes) → IsResolution res → reading (bt_text res c)
         ≡ Ok (record { res = res; codes = canonical_data c; nodes = canonical_size c }) }
+{}
+
+/// Node data that is accepted stands for the classes that it gives the voxels.
+pub fn data_classes_are_exact()
+    ensures exact { (size : ℕ) (bytes : List ℕ) → IsAccepted size bytes
+        → IsDataOf (data_classes bytes) bytes }
 {}

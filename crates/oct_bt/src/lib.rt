@@ -9,13 +9,21 @@
 //!   was cut. It keeps the last line of a header alone, and of the node data the whole records.
 //! - A [`BtFile`] is the text of whole records and the number of their nodes; its type keeps that.
 //!   [`BtFile::is_canonical`] says whether its node data is the canonical one of the classes that
-//!   it stands for.
+//!   it stands for, and [`BtFile::voxels`] how many voxels of the map are free or occupied in it.
+//! - [`fill`] makes a tree of a file: each voxel gets the value of its class, no group could be
+//!   collapsed, and each Inner value is the greatest of its group. The groups are at most the
+//!   records; a record is read once, and its group closed once.
+//! - [`write`] writes the canonical file of a tree's classes to a sink, record by record, and
+//!   answers its length, which [`encoded_len`] tells beforehand. What it writes depends on the
+//!   classes of the voxels alone (`bt_text` in `specs/File.antt`), also on trees that aren't pruned.
 //! - Laws say what node data is worth: a block is coded as a class exactly where all its voxels
 //!   are of it ([`block_classes_are_exact`]), two classifications have equal canonical data exactly
 //!   where they are equal on the map ([`data_tells_classes`]), no data for a classification is
 //!   shorter than the canonical one ([`canonical_data_is_least`]), exactly the texts of records are
 //!   accepted ([`reading_is_exact`], [`texts_tell_records`]), and canonical data and files are read
-//!   back ([`canonical_data_reads_back`], [`canonical_files_read_back`]).
+//!   back ([`canonical_data_reads_back`], [`canonical_files_read_back`]). The classes that accepted
+//!   data gives the voxels are a function of its bytes ([`data_classes_are_exact`]).
+//! - [`push_fault`] writes a fault as a refusal names it, with its number and its fields.
 //!
 //! The definitions are in the file's own words and know nothing of how it is read: classes of
 //! voxels (`Classes`), whole records (`Records`), the canonical data of a classification
@@ -24,26 +32,39 @@
 //! come (`NodeData`). What a reader holds of a file is `file_progress` (`Reading`), and `StandsFor`
 //! says that it was fed exactly that text.
 //!
-//! `feed` alone can fail for want of memory.
+//! `feed` and `push_fault` alone can fail for want of memory; `fill` takes room that was made
+//! before, and `write` takes none.
 #![tactic(auto)]
 
 mod bt_file;
 mod code_list;
+mod counting;
+mod encoding;
 mod fault;
+mod fault_text;
+mod filling;
 mod head;
 mod laws;
+mod mixture;
 mod node_reader;
 mod path;
 mod reader;
 #[cfg(test)]
 mod tests;
+mod voxels;
 mod words;
+mod writing;
 
 pub use bt_file::BtFile;
 pub use code_list::CodeList;
+pub use encoding::{encoded_len, write};
 pub use fault::{BtFault, HeaderWord};
+pub use fault_text::push_fault;
+pub use filling::fill;
 pub use laws::{
     block_classes_are_exact, canonical_data_is_least, canonical_data_reads_back,
-    canonical_files_read_back, data_tells_classes, reading_is_exact, texts_tell_records,
+    canonical_files_read_back, data_classes_are_exact, data_tells_classes, reading_is_exact,
+    texts_tell_records,
 };
 pub use reader::Reader;
+pub use voxels::Voxels;

@@ -66,7 +66,7 @@ pub fn descend(path: &mut ArrayVec<u8, 16>, deeper: u8)
 }
 
 /// Whether these are the codes of eight equal leaves.
-fn is_plain(codes: u16) -> bool
+pub fn is_plain(codes: u16) -> bool
     ensures { result ≡ is_plain codes }
 {
     codes == 0 || codes == 21845 || codes == 43690

@@ -1,5 +1,6 @@
-use crate::{BtFault, HeaderWord, Reader};
+use crate::{BtFault, HeaderWord, Reader, push_fault};
 use std::alloc::Global;
+use std::test::Fail;
 
 /// The node data of one occupied voxel, at the corner of the middle of the map.
 const ONE_VOXEL: &[u8] = &[
@@ -206,16 +207,22 @@ fn names_the_first_fault_of_node_data(rt: HostRuntime) {
 #[test]
 fn reads_data_of_one_record_and_of_none(rt: HostRuntime) {
     for (size, data, want) in [
-        ("size 0", b"".as_slice(), Ok((100_000_000, 0, 0, true))),
-        (
-            "size 1",
-            b"\x00\x00".as_slice(),
-            Ok((100_000_000, 1, 2, false)),
-        ),
+        ("size 0", b"".as_slice(), Ok((0, 0, true, 0, 0))),
+        ("size 1", b"\x00\x00".as_slice(), Ok((1, 2, false, 0, 0))),
         (
             "size 9",
             b"\xAA\xAA".as_slice(),
-            Ok((100_000_000, 9, 2, true)),
+            Ok((9, 2, true, 0, 1 << 48)),
+        ),
+        (
+            "size 9",
+            b"\x55\x55".as_slice(),
+            Ok((9, 2, true, 1 << 48, 0)),
+        ),
+        (
+            "size 4",
+            b"\x06\x40".as_slice(),
+            Ok((4, 2, true, 2 << 45, 1 << 45)),
         ),
         (
             "size 0",
@@ -238,10 +245,11 @@ fn reads_data_of_one_record_and_of_none(rt: HostRuntime) {
         assert!(rt; reader.feed(data).is_ok());
         let got = match reader.finish() {
             Ok(file) => Ok((
-                file.res().nm(),
                 file.nodes(),
                 file.codes().as_slice().len(),
                 file.is_canonical(),
+                file.voxels().free,
+                file.voxels().occupied,
             )),
             Err(fault) => Err(fault),
         };
@@ -280,4 +288,57 @@ fn prints_the_faults(rt: HostRuntime) {
         let text = format!(in rt.alloc(); "{fault}");
         assert!(rt; text.is_ok_and(|text| text.as_str() == want), "at {want}");
     }
+}
+
+#[test]
+fn names_each_fault_with_its_number_and_fields(rt: HostRuntime) -> Result<(), Fail> {
+    for (fault, want) in [
+        (BtFault::NotOctomap, "10 NotOctomap"),
+        (BtFault::FloatTree, "11 FloatTree"),
+        (BtFault::WrongId, "12 WrongId"),
+        (
+            BtFault::MissingField {
+                word: HeaderWord::Id,
+            },
+            "13 MissingField id",
+        ),
+        (
+            BtFault::MissingField {
+                word: HeaderWord::Data,
+            },
+            "13 MissingField data",
+        ),
+        (
+            BtFault::BadField {
+                word: HeaderWord::Res,
+            },
+            "14 BadField res",
+        ),
+        (
+            BtFault::BadField {
+                word: HeaderWord::Size,
+            },
+            "14 BadField size",
+        ),
+        (BtFault::HeaderTooLong, "15 HeaderTooLong"),
+        (BtFault::TooDeep { at: 90 }, "16 TooDeep at 90"),
+        (BtFault::Truncated { at: 136 }, "17 Truncated at 136"),
+        (BtFault::TrailingBytes { at: 59 }, "18 TrailingBytes at 59"),
+        (
+            BtFault::SizeMismatch {
+                said: 18,
+                found: 17,
+            },
+            "19 SizeMismatch said 18 found 17",
+        ),
+    ] {
+        let mut out = Vec::from_slice(rt.alloc(), b"refused ")?;
+        push_fault(&mut out, fault)?;
+        let (_, text) = out.as_slice().split_at(8);
+        assert_eq!(rt; text, want.as_bytes(), "at {want}");
+    }
+    let mut out = Vec::from_slice(rt.alloc(), b"refused ")?;
+    assert!(rt; push_fault(&mut out, BtFault::Memory).is_err());
+    assert_eq!(rt; out.as_slice(), b"refused ".as_slice());
+    Ok(())
 }

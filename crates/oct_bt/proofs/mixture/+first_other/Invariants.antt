@@ -1,0 +1,12 @@
+use Rattle.std.proofs.Common.{◌≡◌, ◌-◌, Some}
+use Rattle.oct_key.specs.Block.{Cube}
+use Rattle.oct_tree.specs.Tree.{block_in}
+use Rattle.oct_bt.specs.Mixtures.{classes_in}
+use Rattle.oct_bt.proofs.Mixtures.{ArePure}
+use Rattle.oct_bt.proofs.mixture.+first_other.Given as goal
+
+abbrev pub decreases-first_other : goal.decreases-first_other
+decreases-first_other l = 16 - l.depth
+
+abbrev pub invariant-loop-i : goal.invariant-loop-i
+invariant-loop-i l = (b : Cube) → block_in l.tree l.fn.p ≡ Some b → ArePure (classes_in l.tree) b l.class l.i

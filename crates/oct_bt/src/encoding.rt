@@ -1,0 +1,172 @@
+//! The file of a tree's classes.
+ghost use Rattle.std.specs.Prelude.{◌≡◌, ◌+◌, ◌*◌, ◌<◌, ◌≤◌, ◌^◌, OnOk, OnErr, IfOk, IsErrOf, length};
+ghost use Rattle.oct_key.specs.Block.{root_block};
+ghost use Rattle.oct_io.specs.Told.{Rose, appended};
+ghost use Rattle.oct_bt.specs.Canonical.{canonical_data, canonical_size};
+ghost use Rattle.oct_bt.specs.File.{header_text, bt_text};
+ghost use Rattle.oct_bt.specs.Mixtures.{classes_in, leaves_text, IsMixtureOf, IsCounted, IsCutOff};
+
+use crate::counting::{DataCount, count_block};
+use crate::mixture::{Mixture, mixture_at};
+use crate::writing::{write_block, write_record};
+use arrayvec::ArrayString;
+use itoa::Buffer;
+use oct_io::{Sink, SinkFault, write_all};
+use oct_key::Res;
+use oct_num::metres_text;
+use oct_odds::Class;
+use oct_tree::{OccTree, Place};
+
+/// The lines of a header before the number of nodes.
+const FIRST_LINES: &str = "# Octomap OcTree binary file\n\
+    # (feel free to add / change comments, but leave the first line as it is!)\n\
+    #\n\
+    id OcTree\n\
+    size ";
+
+/// The header of a file of so many nodes.
+fn header_of(nodes: u64, res: Res) -> ArrayString<256>
+    ensures { result.bytes ≡ header_text nodes res }
+{
+    let mut text = ArrayString::new();
+    text.push_str(FIRST_LINES);
+    text.push_str(Buffer::new().format(nodes));
+    text.push_str("\nres ");
+    text.push_str(metres_text(res.nm()).as_str());
+    text.push_str("\ndata\n");
+    text
+}
+
+/// What the node data of a map has that is all of this class.
+fn count_leaves(class: Class) -> DataCount
+    ensures counted { IsCounted (leaves_text class) result.known result.records }
+    ensures few { (result.known ≤ 8) × (result.records ≤ 1) }
+{
+    match class {
+        Class::Unknown => DataCount {
+            known: 0,
+            records: 0,
+        },
+        Class::Free | Class::Occupied => DataCount {
+            known: 8,
+            records: 1,
+        },
+    }
+}
+
+/// What the node data of the whole map has, which is of this mixture.
+fn count_data(tree: &OccTree, mixture: Mixture) -> DataCount
+    requires { IsMixtureOf (classes_in tree.now) 16 root_block mixture }
+    ensures counted { IsCounted (canonical_data (classes_in tree.now)) result.known result.records }
+    ensures small { result.known < 2 ^ 50 }
+    ensures few { result.records < 2 ^ 51 }
+{
+    match mixture {
+        Mixture::Pure(class) => count_leaves(class),
+        Mixture::Mixed(class, way) => count_block(tree, Place::Root, 0, class, way),
+    }
+}
+
+/// Writes the node data of a map that is all of this class.
+fn write_leaves<K: Sink>(class: Class, sink: &mut K) -> Result<(), SinkFault>
+    ensures written { OnOk result
+        (K.written sink.new ≡ appended (K.written sink.old) (leaves_text class)) }
+    ensures cut { OnErr result
+        (IsCutOff (K.written sink.old) (K.written sink.new) (leaves_text class)) }
+    ensures stays { OnOk result
+        ((K.faults sink.new ≡ K.faults sink.old) × (K.shortages sink.new ≡ K.shortages sink.old)) }
+    ensures failed { IsErrOf result SinkFault.Failed → Rose (K.faults sink.old) (K.faults sink.new)
+        × (K.shortages sink.new ≡ K.shortages sink.old) }
+    ensures memory { IsErrOf result SinkFault.Memory → (K.faults sink.new ≡ K.faults sink.old)
+        × Rose (K.shortages sink.old) (K.shortages sink.new) }
+{
+    match class {
+        Class::Unknown => Ok(()),
+        Class::Free => write_record(sink, 0x5555),
+        Class::Occupied => write_record(sink, 0xaaaa),
+    }
+}
+
+/// Writes the node data of the whole map, which is of this mixture.
+fn write_data<K: Sink>(tree: &OccTree, mixture: Mixture, sink: &mut K) -> Result<(), SinkFault>
+    requires { IsMixtureOf (classes_in tree.now) 16 root_block mixture }
+    ensures written { OnOk result (K.written sink.new
+        ≡ appended (K.written sink.old) (canonical_data (classes_in tree.now))) }
+    ensures cut { OnErr result (IsCutOff (K.written sink.old) (K.written sink.new)
+        (canonical_data (classes_in tree.now))) }
+    ensures stays { OnOk result
+        ((K.faults sink.new ≡ K.faults sink.old) × (K.shortages sink.new ≡ K.shortages sink.old)) }
+    ensures failed { IsErrOf result SinkFault.Failed → Rose (K.faults sink.old) (K.faults sink.new)
+        × (K.shortages sink.new ≡ K.shortages sink.old) }
+    ensures memory { IsErrOf result SinkFault.Memory → (K.faults sink.new ≡ K.faults sink.old)
+        × Rose (K.shortages sink.old) (K.shortages sink.new) }
+{
+    match mixture {
+        Mixture::Pure(class) => write_leaves(class, sink),
+        Mixture::Mixed(class, way) => write_block(tree, Place::Root, 0, class, way, sink),
+    }
+}
+
+/// What is known of a file before it is written.
+#[derive(Drop)]
+struct FilePlan {
+    mixture: Mixture,
+    header: ArrayString<256>,
+    length: u64,
+}
+
+/// Looks at the whole tree once for the length of its file.
+fn plan_file(tree: &OccTree) -> FilePlan
+    ensures mixture { IsMixtureOf (classes_in tree.now) 16 root_block result.mixture }
+    ensures header { result.header.bytes
+        ≡ header_text (canonical_size (classes_in tree.now)) tree.now.res }
+    ensures length { result.length ≡ length (bt_text tree.now.res (classes_in tree.now)) }
+{
+    let mixture = mixture_at(tree, Place::Root, 0);
+    let count = count_data(tree, mixture);
+    let nodes = if count.records == 0 {
+        0
+    } else {
+        1 + count.known
+    };
+    let header = header_of(nodes, tree.res());
+    let length = header.len() as u64 + 2 * count.records;
+    FilePlan {
+        mixture,
+        header,
+        length,
+    }
+}
+
+/// The length of the file that [`write`] makes of the tree.
+pub fn encoded_len(tree: &OccTree) -> u64
+    ensures { result ≡ length (bt_text tree.now.res (classes_in tree.now)) }
+{
+    plan_file(tree).length
+}
+
+/// Writes the canonical file of the tree's classes, and answers its length. Groups that could be
+/// collapsed and blocks of several values but one class are written as if they were one node, so
+/// that the file depends on the classes of the voxels alone.
+///
+/// Takes no memory, and hands each record on. After an error a part of the file was written, and
+/// exactly one write of the sink gave up, for that reason.
+pub fn write<K: Sink>(tree: &OccTree, sink: &mut K) -> Result<u64, SinkFault>
+    ensures length { IfOk result
+        (λ bytes. bytes ≡ length (bt_text tree.now.res (classes_in tree.now))) }
+    ensures written { OnOk result (K.written sink.new
+        ≡ appended (K.written sink.old) (bt_text tree.now.res (classes_in tree.now))) }
+    ensures cut { OnErr result (IsCutOff (K.written sink.old) (K.written sink.new)
+        (bt_text tree.now.res (classes_in tree.now))) }
+    ensures stays { OnOk result
+        ((K.faults sink.new ≡ K.faults sink.old) × (K.shortages sink.new ≡ K.shortages sink.old)) }
+    ensures failed { IsErrOf result SinkFault.Failed → Rose (K.faults sink.old) (K.faults sink.new)
+        × (K.shortages sink.new ≡ K.shortages sink.old) }
+    ensures memory { IsErrOf result SinkFault.Memory → (K.faults sink.new ≡ K.faults sink.old)
+        × Rose (K.shortages sink.old) (K.shortages sink.new) }
+{
+    let plan = plan_file(tree);
+    write_all(sink, plan.header.as_bytes())?;
+    write_data(tree, plan.mixture, sink)?;
+    Ok(plan.length)
+}
