@@ -1,0 +1,57 @@
+-- The canonical text of a tree that was filled from a file.
+use Rattle.std.proofs.Common.{◌≡◌, ℕ, ℤ, pos, List, [], ◌++◌, refl, ◌∙◌, ap, arith}
+use mir.Val.{SFits, to_z, of_z}
+use mir.Syntax.{w64}
+use Rattle.std.proofs.lemmas.Int.{ints, to_z-of_z}
+use Rattle.oct_key.specs.Voxel.{Voxel, IsInMap, IsResolution}
+use Rattle.oct_odds.specs.Odds.{Odds, default_odds}
+use Rattle.oct_odds.specs.Update.{class_of}
+use Rattle.oct_odds.specs.declared.event.Class.{Class}
+use Rattle.oct_odds.specs.declared.event.Class.TheVariants.{Unknown, Free, Occupied}
+use Rattle.oct_tree.specs.Changes.{IsGrown}
+use Rattle.oct_tree.specs.Tree.{Tree, value_at}
+use Rattle.oct_bt.specs.Canonical.{canonical_data, canonical_size, node_total}
+use Rattle.oct_values.specs.Classes.{Classes, classes_of}
+use Rattle.oct_bt.specs.Classes.{value_for}
+use Rattle.oct_bt.specs.DataClasses.{data_classes}
+use Rattle.oct_bt.specs.File.{FileRead, bt_text, header_text}
+use Rattle.oct_bt.specs.NodeData.{IsAccepted, IsDataOf}
+use Rattle.oct_bt.proofs.DataClassed.{data_classed}
+use Rattle.oct_bt.proofs.Injective.{same_data}
+use Rattle.oct_convert.specs.Answers.{canonical_text}
+
+-- what a voxel of a class is given counts as that class
+class_kept : (c : Class) → class_of default_odds (value_for default_odds c) ≡ c
+class_kept Unknown = refl
+class_kept Free = refl
+class_kept Occupied = refl
+
+-- files of one node data and one resolution are one text
+same_text : (res : ℕ) (c e : Classes) → canonical_data c ≡ canonical_data e → bt_text res c ≡ bt_text res e
+unfolding bt_text canonical_size
+same_text res c e same = ap (λ (data' : List ℕ). header_text (node_total data') res ++ data') same
+
+-- the text of a tree that was filled is that of the file
+pub filled_text : (s t u : Tree) (file : FileRead) → s.res ≡ file.res → s.odds ≡ default_odds → IsGrown s t → IsAccepted file.nodes file.codes
+    → ((classes : Classes) → IsDataOf classes file.codes → (k : Voxel) → IsInMap k → value_at u k ≡ value_for t.odds (classes k))
+    → u.res ≡ t.res → u.odds ≡ t.odds → bt_text u.res (classes_of u.odds (value_at u)) ≡ canonical_text file
+filled_text s t u file res odds grown accepted values kept_res kept_odds =
+    ap (λ (r : ℕ). bt_text r (classes_of u.odds (value_at u))) (kept_res ∙ grown.res ∙ res)
+    ∙ same_text file.res (classes_of u.odds (value_at u)) (data_classes file.codes)
+    (same_data (classes_of u.odds (value_at u)) (data_classes file.codes) same)
+  where
+    same : (k : Voxel) → IsInMap k → classes_of u.odds (value_at u) k ≡ data_classes file.codes k
+    same k in_map =
+        ap (class_of u.odds) (values (data_classes file.codes) (data_classed file.nodes file.codes accepted) k in_map)
+        ∙ ap (λ (o : Odds). class_of o (value_for t.odds (data_classes file.codes k))) (kept_odds ∙ grown.odds ∙ odds)
+        ∙ ap (λ (o : Odds). class_of default_odds (value_for o (data_classes file.codes k))) (grown.odds ∙ odds)
+        ∙ class_kept (data_classes file.codes k)
+
+-- six lines, one after another
+pub six_lines : (z a b c d e f k l m n o p q r s t u v : List ℕ) → z ≡ [] → a ≡ z ++ k → b ≡ a ++ l → c ≡ b ++ m → d ≡ c ++ n → e ≡ d ++ o → f ≡ e ++ p
+    → k ≡ q → l ≡ r → m ≡ s → n ≡ t → o ≡ u → p ≡ v → f ≡ q ++ r ++ s ++ t ++ u ++ v
+six_lines z a b c d e f k l m n o p q r s t u v ez ea eb ec ed ee ef ek el em en eo ep = rw (ef, ee, ed, ec, eb, ea, ez, ek, el, em, en, eo, ep) refl
+
+-- a resolution as the code passes it on
+pub passed_on : (n : ℤ) (res : ℕ) → n ≡ pos res → IsResolution res → to_z w64 (of_z w64 n) ≡ pos res
+passed_on n res is range = ap (λ (n : ℤ). to_z w64 (of_z w64 n)) is ∙ (let fits : SFits w64 (pos res) = omega (arith, ints, range) in to_z-of_z w64 (pos res) fits)

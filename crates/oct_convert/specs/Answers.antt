@@ -1,0 +1,72 @@
+-- What the tasks over a file of classes write, and how they end, as functions of the bytes.
+use Rattle.std.specs.Prelude.{◌++◌, ℕ, pos, codes, decimal, List, [], length, nat_lt, count_by, Bool, true, false, Result, Ok, Err, if◌then◌else◌}
+use Rattle.oct_num.specs.MetresText.{metres_text}
+use Rattle.oct_key.specs.Block.{root_block}
+use Rattle.oct_odds.specs.declared.event.Class.{Class}
+use Rattle.oct_odds.specs.declared.event.Class.TheVariants.{Free, Occupied}
+use Rattle.oct_values.specs.Blocks.{voxels_of}
+use Rattle.oct_bt.specs.declared.fault.BtFault.{BtFault}
+use Rattle.oct_values.specs.Classes.{Classes}
+use Rattle.oct_bt.specs.Classes.{is_same_class}
+use Rattle.oct_bt.specs.DataClasses.{data_classes}
+use Rattle.oct_bt.specs.FaultText.{fault_text}
+use Rattle.oct_bt.specs.File.{FileRead, bt_text, reading}
+use Rattle.oct_bt.specs.Plain.{is_canonical_data}
+use Rattle.oct_bt.specs.Records.{record_total}
+use Rattle.oct_convert.specs.declared.ending.Ending.{Ending}
+use Rattle.oct_convert.specs.declared.ending.Ending.TheVariants.{Done, BadFile, TooLong}
+
+-- what a task writes, and how it ends
+pub record Answer : Type 0 where
+  pub text : List ℕ
+  pub ending : Ending
+
+-- the line of a refusal
+abbrev pub refusal_line : BtFault → List ℕ
+refusal_line fault = codes "refused " ++ fault_text fault ++ codes "\n"
+
+-- the answer to what was read, by the text that the task makes of a file
+abbrev pub answer_to : (FileRead → List ℕ) → Result FileRead BtFault → Answer
+answer_to text (Ok file) = record { text = text file; ending = Done }
+answer_to text (Err fault) = record { text = refusal_line fault; ending = BadFile }
+
+-- the answer to an input: nothing where it has too many bytes
+unfoldable pub task_answer : (FileRead → List ℕ) → ℕ → List ℕ → Answer
+task_answer text max_bytes bytes =
+    if nat_lt max_bytes (length bytes) then record { text = []; ending = TooLong }
+    else answer_to text (reading bytes)
+
+-- the canonical file of the resolution and the classes of a file
+abbrev pub canonical_text : FileRead → List ℕ
+canonical_text file = bt_text file.res (data_classes file.codes)
+
+-- the number of voxels of the map that are of a class
+unfoldable pub voxel_count : Class → Classes → ℕ
+voxel_count class classes = count_by (λ k. is_same_class (classes k) class) (voxels_of root_block)
+
+abbrev pub yes_or_no : Bool → List ℕ
+yes_or_no true = codes "yes"
+yes_or_no false = codes "no"
+
+-- a line of a word and what it says
+abbrev pub line : List ℕ → List ℕ → List ℕ
+line word said = word ++ said ++ codes "\n"
+
+-- six lines: the resolution in metres, the number of nodes, of records, of free voxels and of
+-- occupied ones, and whether the node data is the canonical one
+abbrev pub report : FileRead → List ℕ
+report file =
+    line (codes "res ") (metres_text (pos file.res))
+    ++ line (codes "size ") (decimal file.nodes)
+    ++ line (codes "records ") (decimal (record_total file.codes))
+    ++ line (codes "free ") (decimal (voxel_count Free (data_classes file.codes)))
+    ++ line (codes "occupied ") (decimal (voxel_count Occupied (data_classes file.codes)))
+    ++ line (codes "canonical ") (yes_or_no (is_canonical_data file.codes))
+
+-- the answer of `convert`
+abbrev pub convert_answer : ℕ → List ℕ → Answer
+convert_answer max_bytes bytes = task_answer canonical_text max_bytes bytes
+
+-- the answer of `inspect`
+abbrev pub inspect_answer : ℕ → List ℕ → Answer
+inspect_answer max_bytes bytes = task_answer report max_bytes bytes

@@ -1,0 +1,3 @@
+pub mod Input
+pub mod Answers
+pub mod Ending

@@ -1,0 +1,36 @@
+//! Tasks over a file of classes: what a source gives is read as a `.bt` file, and a text goes to a
+//! sink.
+//!
+//!     match convert(alloc, 1 << 26, &mut source, &mut sink) {
+//!         Ending::Done => {}       // the canonical file of the same classes was written
+//!         Ending::BadFile => {}    // a line was written, as `refused 13 MissingField size`
+//!         _ => {}                  // too long, a fault, or want of memory
+//!     }
+//!
+//! What the contracts promise:
+//!
+//! - [`read_file`] answers the file that the whole input of a source is, or its first fault, or why
+//!   there is neither: one byte more than it may have was taken, a read failed, or memory ran out.
+//!   The first two come before any fault of the file. How much of the input was taken is told, and
+//!   nothing is read after the answer is known.
+//! - [`convert`] writes the canonical file of the resolution and the classes of that file, and
+//!   [`inspect`] six lines about it (`convert_answer` and `inspect_answer` in `specs/Answers.antt`,
+//!   functions of the input's bytes). Nothing is written before the input has ended; on a fault of
+//!   the sink, or where memory runs out, a prefix of that text was. `specs/Ending.antt` says how
+//!   each may end.
+//! - A count of faults rises by one exactly where the ending names the fault.
+//!
+//! `convert` fills a tree with the classes, so that the writer merges what is of one class. The
+//! program `octomap` stands on this crate; it stands on `oct_bt` for the file and on `oct_io`.
+#![tactic(auto)]
+
+mod ending;
+mod input;
+mod tasks;
+#[cfg(test)]
+mod tests;
+mod texts;
+
+pub use ending::Ending;
+pub use input::{NoFile, read_file};
+pub use tasks::{convert, inspect};

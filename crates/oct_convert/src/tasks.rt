@@ -1,0 +1,113 @@
+//! The tasks: a file in, and a text out.
+ghost use Rattle.std.specs.Prelude.{◌≡◌, ◌≢◌, ◌≤◌, ◌^◌, ◌⊎◌, ◌↔◌, ℕ, List, Option, IfSome, Result, Err};
+ghost use Rattle.oct_io.specs.Told.{Rose};
+ghost use Rattle.oct_bt.specs.File.{FileRead};
+ghost use Rattle.oct_convert.specs.Answers.{convert_answer, inspect_answer, task_answer};
+ghost use Rattle.oct_convert.specs.Ending.{MayEnd};
+ghost use Rattle.oct_convert.specs.Input.{MayRead};
+
+use crate::ending::{Ending, ending_of};
+use crate::input::{NoFile, read_file};
+use crate::texts::{write_canonical, write_refusal, write_report};
+use oct_io::{Sink, Source};
+use std::alloc::Global;
+
+/// Reads a file of at most `max_bytes` bytes from the source, and writes the canonical file of its
+/// resolution and its classes to the sink.
+///
+/// What is no file of this form is refused, and the line of the refusal written. Nothing is written
+/// before the input has ended, and nothing is read or written after a fault.
+pub fn convert<S: Source, K: Sink>(
+    alloc: Global,
+    max_bytes: u64,
+    source: &mut S,
+    sink: &mut K,
+) -> Ending
+    requires few { max_bytes ≤ 2 ^ 32 }
+    ensures answer { IfSome (S.left source.old) (λ bytes.
+        MayEnd (convert_answer max_bytes bytes) max_bytes bytes (S.left source.new)
+        (K.written sink.old) (K.written sink.new) result) }
+
+    // A fault is met once and ends the task: its count rises by one exactly where the ending names
+    // it, and no other count changes.
+    ensures read_fault { result ≡ Ending.ReadFault
+        → Rose (S.faults source.old) (S.faults source.new) }
+    ensures no_read_fault { result ≢ Ending.ReadFault → S.faults source.new ≡ S.faults source.old }
+    ensures write_fault { result ≡ Ending.WriteFault
+        → Rose (K.faults sink.old) (K.faults sink.new) }
+    ensures no_write_fault { result ≢ Ending.WriteFault → K.faults sink.new ≡ K.faults sink.old }
+    ensures memory { result ≡ Ending.Memory → (K.shortages sink.new ≡ K.shortages sink.old)
+        ⊎ Rose (K.shortages sink.old) (K.shortages sink.new) }
+    ensures no_shortage { result ≢ Ending.Memory → K.shortages sink.new ≡ K.shortages sink.old }
+
+    // The sink isn't touched where the input hasn't ended.
+    ensures too_long { result ≡ Ending.TooLong → sink.new ≡ sink.old }
+    ensures unread { result ≡ Ending.ReadFault → sink.new ≡ sink.old }
+{
+    match read_file(alloc, max_bytes, source) {
+        Ok(file) => ending_of(Ending::Done, write_canonical(alloc, &file, sink)),
+        Err(reason) => refuse(alloc, reason, sink),
+    }
+}
+
+/// Reads a file of at most `max_bytes` bytes from the source, and writes six lines about it to the
+/// sink: its resolution, how many nodes, records, free voxels and occupied voxels it has, and
+/// whether its node data is the canonical one of its classes.
+///
+/// What is no file of this form is refused, and the line of the refusal written. Nothing is written
+/// before the input has ended, and nothing is read or written after a fault.
+pub fn inspect<S: Source, K: Sink>(
+    alloc: Global,
+    max_bytes: u64,
+    source: &mut S,
+    sink: &mut K,
+) -> Ending
+    ensures answer { IfSome (S.left source.old) (λ bytes.
+        MayEnd (inspect_answer max_bytes bytes) max_bytes bytes (S.left source.new)
+        (K.written sink.old) (K.written sink.new) result) }
+
+    // A fault is met once and ends the task: its count rises by one exactly where the ending names
+    // it, and no other count changes.
+    ensures read_fault { result ≡ Ending.ReadFault
+        → Rose (S.faults source.old) (S.faults source.new) }
+    ensures no_read_fault { result ≢ Ending.ReadFault → S.faults source.new ≡ S.faults source.old }
+    ensures write_fault { result ≡ Ending.WriteFault
+        → Rose (K.faults sink.old) (K.faults sink.new) }
+    ensures no_write_fault { result ≢ Ending.WriteFault → K.faults sink.new ≡ K.faults sink.old }
+    ensures memory { result ≡ Ending.Memory → (K.shortages sink.new ≡ K.shortages sink.old)
+        ⊎ Rose (K.shortages sink.old) (K.shortages sink.new) }
+    ensures no_shortage { result ≢ Ending.Memory → K.shortages sink.new ≡ K.shortages sink.old }
+
+    // The sink isn't touched where the input hasn't ended.
+    ensures too_long { result ≡ Ending.TooLong → sink.new ≡ sink.old }
+    ensures unread { result ≡ Ending.ReadFault → sink.new ≡ sink.old }
+{
+    match read_file(alloc, max_bytes, source) {
+        Ok(file) => ending_of(Ending::Done, write_report(alloc, &file, sink)),
+        Err(reason) => refuse(alloc, reason, sink),
+    }
+}
+
+/// Ends a task for which there is no file: where the input isn't one, its refusal is written.
+fn refuse<K: Sink>(alloc: Global, reason: NoFile, sink: &mut K) -> Ending
+    ensures ends { (text : FileRead → List ℕ) (most : ℕ) (bytes : List ℕ)
+        (left : Option (List ℕ)) → MayRead most bytes left (Err reason)
+        → MayEnd (task_answer text most bytes) most bytes left
+        (K.written sink.old) (K.written sink.new) result }
+    ensures read_fault { result ≡ Ending.ReadFault ↔ reason ≡ NoFile.ReadFault }
+    ensures write_fault { result ≡ Ending.WriteFault
+        → Rose (K.faults sink.old) (K.faults sink.new) }
+    ensures no_write_fault { result ≢ Ending.WriteFault → K.faults sink.new ≡ K.faults sink.old }
+    ensures memory { result ≡ Ending.Memory → (K.shortages sink.new ≡ K.shortages sink.old)
+        ⊎ Rose (K.shortages sink.old) (K.shortages sink.new) }
+    ensures no_shortage { result ≢ Ending.Memory → K.shortages sink.new ≡ K.shortages sink.old }
+    ensures too_long { result ≡ Ending.TooLong → sink.new ≡ sink.old }
+    ensures unread { result ≡ Ending.ReadFault → sink.new ≡ sink.old }
+{
+    match reason {
+        NoFile::BadFile(fault) => ending_of(Ending::BadFile, write_refusal(alloc, fault, sink)),
+        NoFile::TooLong => Ending::TooLong,
+        NoFile::ReadFault => Ending::ReadFault,
+        NoFile::Memory => Ending::Memory,
+    }
+}
