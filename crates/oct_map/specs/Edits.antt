@@ -10,16 +10,16 @@ use Rattle.oct_inner.specs.Changes.{IsShrunk}
 use Rattle.oct_scan.specs.Beam.{Sighting}
 use Rattle.oct_map.specs.declared.fault.MapFault.{MapFault}
 use Rattle.oct_map.specs.declared.fault.MapFault.TheVariants.{Full}
-use Rattle.oct_map.specs.Map.{Map, HasRoomFor, values_of}
+use Rattle.oct_map.specs.Map.{Map, HasRoomFor, values_of, ground_of}
 use Rattle.oct_map.specs.Outcome.{outcome_of, need_of}
 
 -- the events of a scan in this map
 abbrev pub outcome_in : Map → Sighting → Events
-outcome_in m scan = outcome_of m.tree.res m.tree.odds scan
+outcome_in m scan = outcome_of (ground_of m) scan
 
 -- the most groups that the scan may need in this map
 abbrev pub scan_need : Map → Sighting → ℕ
-scan_need m scan = need_of m.tree.res m.tree.odds scan
+scan_need m scan = need_of (ground_of m) scan
 
 -- What a call that is done leaves, which has these events and may need so many groups: each voxel
 -- has the value after its event, and the map is stale where it was, or where the call is lazy. With

@@ -3,7 +3,10 @@ ghost use Rattle.oct_key.specs.Voxel.{Voxel, IsInMap, key_at};
 ghost use Rattle.oct_key.specs.Values.{SameValues};
 ghost use Rattle.oct_odds.specs.Odds.{odds_of};
 ghost use Rattle.oct_odds.specs.Update.{IsSmallEvent};
-ghost use Rattle.oct_values.specs.Events.{event_at};
+ghost use Rattle.oct_odds.specs.declared.event.Event.{Event};
+ghost use Rattle.oct_values.specs.Events.{event_at, updated};
+ghost use Rattle.oct_values.specs.Boxes as boxes;
+ghost use Rattle.oct_values.specs.Boxes.{IsBox};
 ghost use Rattle.oct_values.specs.Counts.{group_count, node_count};
 ghost use Rattle.oct_arena.specs.declared.node.Node.{Node};
 ghost use Rattle.oct_arena.specs.Entries.{live, spare};
@@ -16,17 +19,19 @@ ghost use Rattle.oct_pose.specs.Reach.{IsInReach};
 ghost use Rattle.oct_scan.specs.Beam.{sighting_of};
 ghost use Rattle.oct_scan.specs.Outcome.{scan_fault};
 ghost use Rattle.oct_map.specs.declared.fault.MapFault.{MapFault};
-ghost use Rattle.oct_map.specs.Answers.{room_answer, edit_answer, edit_need, scan_answer, get_answer, IsAnswerOrMemory};
-ghost use Rattle.oct_map.specs.Edits.{outcome_in, scan_need, IsMapEdited, IsMapRefused, ReservesFew};
+ghost use Rattle.oct_map.specs.Answers.{room_answer, edit_answer, box_answer, corner_fault, edit_need, scan_answer, get_answer, IsAnswerOrMemory};
+ghost use Rattle.oct_map.specs.Outcome.{corner_events, corner_need};
+ghost use Rattle.oct_map.specs.Lists.{list_answer};
+ghost use Rattle.oct_map.specs.Edits.{outcome_in, scan_need, IsMapEdited, IsMapRefused, ReservesFew, entries_of};
 
 use crate::done::ScanDone;
 use crate::fault::MapFault;
 use crate::limits::Limits;
-use oct_edit::{ScanUpdate, touch, touch_all};
-use oct_inner::{prune, refresh};
+use oct_edit::{ScanUpdate, box_need, touch, touch_all, touch_box};
+use oct_inner::{maximum_likelihood, prune, refresh};
 use oct_key::{Block, Key, Point, Res};
 use oct_odds::{Event, OddsModel};
-use oct_query::{Counts, counts, query};
+use oct_query::{BlockList, Counts, counts, list, query};
 use oct_scan::{Scan, update_bricks};
 use oct_tree::OccTree;
 use std::alloc::Global;
@@ -34,6 +39,9 @@ use std::marker::Model;
 
 /// The groups that an edit of one voxel may need: one for each depth from 0 to 15.
 const EDIT_NEED: u128 = 16;
+
+/// The most blocks, unknown ones among them, that a list may have.
+const MOST_LISTED: u64 = 1_000_000;
 
 /// The depth of the voxels.
 const VOXELS: u32 = 16;
@@ -68,7 +76,7 @@ impl Model for OccMap {
 }
 
 impl OccMap {
-    ghost use Rattle.oct_map.specs.Map.{Map, IsMap, IsSameSetup, HasRoomFor, values_of};
+    ghost use Rattle.oct_map.specs.Map.{Map, IsMap, HasRoomFor, values_of, ground_of};
 
     /// The map of the unknown world. Takes no memory.
     pub fn new(alloc: Global, res: Res, odds: OddsModel, limits: Limits) -> OccMap
@@ -114,9 +122,9 @@ impl OccMap {
     pub fn edit(&mut self, p: Point, event: Event, lazy: bool) -> Result<(), MapFault>
         requires { IsSmallEvent event }
         ensures answer { IsAnswerOrMemory
-            (edit_answer self.old.tree.res self.old.max_groups (values_of self.old) p) result }
+            (edit_answer (ground_of self.old) (values_of self.old) p) result }
         ensures memory { result ≡ Err MapFault.Memory
-            → IsOk (edit_answer self.old.tree.res self.old.max_groups (values_of self.old) p)
+            → IsOk (edit_answer (ground_of self.old) (values_of self.old) p)
             × (spare self.old.tree.groups < edit_need) }
         ensures edited { OnOk result (IsMapEdited self.old self.new
             (event_at (key_at self.old.tree.res p) event) edit_need lazy) }
@@ -127,7 +135,7 @@ impl OccMap {
             → HasRoomFor self.old edit_need
             → IsSaturated self.old.tree.odds event (values_of self.old k)
             → OnOk result (IsGrown self.old.tree self.new.tree) }
-        ensures setup { IsSameSetup self.old self.new }
+        ensures setup { ground_of self.new ≡ ground_of self.old }
         ensures map { IsMap self.new }
     {
         let Some(k) = self.tree.res().key_of(p) else {
@@ -136,6 +144,46 @@ impl OccMap {
         self.make_room(EDIT_NEED)?;
         touch(&mut self.tree, k, event, lazy);
         self.is_stale |= lazy;
+        Ok(())
+    }
+
+    /// Applies the event to each voxel of the box whose corners are the voxels that hold the two
+    /// points, both included. It isn't lazy.
+    ///
+    /// An edit is refused for a corner outside the map, then where on some axis the first corner
+    /// lies beyond the second, and then as full where the groups that the values need and those
+    /// that the box may need are more than the limit.
+    pub fn edit_box(&mut self, lo: Point, hi: Point, event: Event) -> Result<(), MapFault>
+        requires { IsSmallEvent event }
+        ensures answer { IsAnswerOrMemory
+            (box_answer (ground_of self.old) (values_of self.old) lo hi) result }
+        ensures memory { result ≡ Err MapFault.Memory
+            → IsOk (box_answer (ground_of self.old) (values_of self.old) lo hi)
+            × (spare self.old.tree.groups
+            < corner_need (key_at self.old.tree.res lo) (key_at self.old.tree.res hi)) }
+        ensures edited { OnOk result (IsMapEdited self.old self.new
+            (corner_events (key_at self.old.tree.res lo) (key_at self.old.tree.res hi) event)
+            (corner_need (key_at self.old.tree.res lo) (key_at self.old.tree.res hi)) false) }
+        ensures refused { IfErr result (λ fault. IsMapRefused self.old self.new fault
+            (corner_need (key_at self.old.tree.res lo) (key_at self.old.tree.res hi))) }
+        ensures reserved { ReservesFew self.old self.new
+            (corner_need (key_at self.old.tree.res lo) (key_at self.old.tree.res hi)) }
+        ensures faulty { IsSome (corner_fault (key_at self.old.tree.res lo)
+            (key_at self.old.tree.res hi)) → self.new ≡ self.old }
+        ensures setup { ground_of self.new ≡ ground_of self.old }
+        ensures map { IsMap self.new }
+    {
+        let Some(low) = self.tree.res().key_of(lo) else {
+            return Err(MapFault::Outside { point: 1 });
+        };
+        let Some(high) = self.tree.res().key_of(hi) else {
+            return Err(MapFault::Outside { point: 2 });
+        };
+        if !is_box(low, high) {
+            return Err(MapFault::BadBox);
+        }
+        self.make_room(box_need(low, high))?;
+        touch_box(&mut self.tree, low, high, event);
         Ok(())
     }
 
@@ -149,9 +197,8 @@ impl OccMap {
     pub fn scan(&mut self, scan: &Scan, lazy: bool) -> Result<ScanDone, MapFault>
         requires points { All IsInReach scan.now.points }
         requires range { IfSome scan.now.range (λ r. (pos 0 ≤ℤ r) × (r <ℤ pos (10 ^ 16))) }
-        ensures answer { IsAnswerOrMemory (scan_answer self.old.tree.res self.old.tree.odds
-            self.old.max_groups self.old.max_cells (values_of self.old) (sighting_of scan.now))
-            result }
+        ensures answer { IsAnswerOrMemory (scan_answer (ground_of self.old) (values_of self.old)
+            (sighting_of scan.now)) result }
         ensures edited { OnOk result (IsMapEdited self.old self.new
             (outcome_in self.old (sighting_of scan.now))
             (scan_need self.old (sighting_of scan.now)) lazy) }
@@ -163,7 +210,7 @@ impl OccMap {
         ensures path { (IsTrue lazy → ⊥) → (k : Voxel) → IsInMap k
             → IsSome (outcome_in self.old (sighting_of scan.now) k)
             → OnOk result (IsTidyAlong self.new.tree k) }
-        ensures setup { IsSameSetup self.old self.new }
+        ensures setup { ground_of self.new ≡ ground_of self.old }
         ensures map { IsMap self.new }
     {
         let odds = self.tree.odds();
@@ -186,7 +233,7 @@ impl OccMap {
     /// `None` where all of them are unknown.
     pub fn get(&self, p: Point, depth: u32) -> Result<Option<i32>, MapFault>
         ensures answer { result
-            ≡ get_answer self.now.tree.res self.now.is_stale (values_of self.now) p depth }
+            ≡ get_answer (ground_of self.now) self.now.is_stale (values_of self.now) p depth }
         ensures map { IsMap self.now }
     {
         let Some(k) = self.tree.res().key_of(p) else {
@@ -201,6 +248,47 @@ impl OccMap {
         Ok(query(&self.tree, Block::of(k, depth as u8)))
     }
 
+    /// The blocks of that depth that meet the box whose corners hold the two points, both included,
+    /// and aren't unknown, each with the largest known value among its voxels. They come by
+    /// ascending x, then y, then z.
+    ///
+    /// It is refused for a corner outside the map, then for a depth above 16, then where on some
+    /// axis the first corner lies beyond the second, then on a stale map above the voxels, and then
+    /// where more than 1,000,000 blocks meet the box, unknown ones among them. A block that meets
+    /// the box answers for all its voxels.
+    pub fn list(&self, lo: Point, hi: Point, depth: u32) -> Result<BlockList, MapFault>
+        ensures answer { IsAnswerOrMemory (list_answer (ground_of self.now) self.now.is_stale
+            (values_of self.now) lo hi depth) result }
+        ensures memory { result ≡ Err MapFault.Memory → IsOk (list_answer (ground_of self.now)
+            self.now.is_stale (values_of self.now) lo hi depth) }
+        ensures map { IsMap self.now }
+    {
+        let Some(first) = self.tree.res().key_of(lo) else {
+            return Err(MapFault::Outside { point: 1 });
+        };
+        let Some(last) = self.tree.res().key_of(hi) else {
+            return Err(MapFault::Outside { point: 2 });
+        };
+        if depth > VOXELS {
+            return Err(MapFault::BadDepth);
+        }
+        if !is_box(first, last) {
+            return Err(MapFault::BadBox);
+        }
+        if self.is_stale() && depth < VOXELS {
+            return Err(MapFault::Stale);
+        }
+        let blocks = list(
+            self.alloc,
+            &self.tree,
+            first,
+            last,
+            depth as u8,
+            MOST_LISTED,
+        )?;
+        Ok(blocks)
+    }
+
     /// Prunes the map, and answers how many groups and nodes it has: the least that its values
     /// need.
     pub fn counts(&mut self) -> Counts
@@ -211,7 +299,7 @@ impl OccMap {
         ensures pruned { IsPruned self.new.tree }
         ensures same { IsPruned self.old.tree → self.new ≡ self.old }
         ensures groups_kept { IsShrunk self.old.tree self.new.tree }
-        ensures setup { IsSameSetup self.old self.new }
+        ensures setup { ground_of self.new ≡ ground_of self.old }
         ensures map { IsMap self.new }
     {
         self.prune();
@@ -226,7 +314,7 @@ impl OccMap {
         ensures values { SameValues (values_of self.old) (values_of self.new) }
         ensures stale { self.new.is_stale ≡ false }
         ensures pruned { IsPruned self.old.tree → IsPruned self.new.tree }
-        ensures setup { IsSameSetup self.old self.new }
+        ensures setup { ground_of self.new ≡ ground_of self.old }
         ensures map { IsMap self.new }
     {
         refresh(&mut self.tree);
@@ -241,10 +329,51 @@ impl OccMap {
         ensures fresh { IsFresh self.old.tree → IsFresh self.new.tree }
         ensures values { SameValues (values_of self.old) (values_of self.new) }
         ensures stale { self.new.is_stale ≡ self.old.is_stale }
-        ensures setup { IsSameSetup self.old self.new }
+        ensures setup { ground_of self.new ≡ ground_of self.old }
         ensures map { IsMap self.new }
     {
         prune(&mut self.tree);
+    }
+
+    /// Makes each known voxel as sure as it can be: occupied ones get the upper bound of the
+    /// log-odds and free ones the lower. Renews the inner values and prunes the map too.
+    pub fn max_likelihood(&mut self)
+        ensures values { SameValues
+            (updated self.old.tree.odds (λ _. Some Event.Likely) (values_of self.old))
+            (values_of self.new) }
+        ensures fresh { IsFresh self.new.tree }
+        ensures pruned { IsPruned self.new.tree }
+        ensures stale { self.new.is_stale ≡ false }
+        ensures groups { live self.new.tree.groups ≤ live self.old.tree.groups }
+        ensures entries { entries_of self.new ≡ entries_of self.old }
+        ensures setup { ground_of self.new ≡ ground_of self.old }
+        ensures map { IsMap self.new }
+    {
+        maximum_likelihood(&mut self.tree);
+        self.is_stale = false;
+    }
+
+    /// Makes the map that of the unknown world again, and gives back all its memory.
+    pub fn clear(&mut self)
+        ensures exact { self.new ≡ record {
+          tree = record {
+            groups = [];
+            root = Node.Absent;
+            res = self.old.tree.res;
+            odds = self.old.tree.odds;
+          };
+          is_stale = false;
+          max_groups = self.old.max_groups;
+          max_cells = self.old.max_cells;
+        } }
+        ensures unknown { (k : Voxel) → values_of self.new k ≡ None }
+        ensures stale { self.new.is_stale ≡ false }
+        ensures pruned { IsPruned self.new.tree }
+        ensures setup { ground_of self.new ≡ ground_of self.old }
+        ensures map { IsMap self.new }
+    {
+        self.tree = OccTree::new(self.alloc, self.tree.res(), self.tree.odds());
+        self.is_stale = false;
     }
 
     /// Makes room for so many groups, or refuses. Prunes the map only where there isn't room
@@ -267,7 +396,7 @@ impl OccMap {
         ensures stale { self.new.is_stale ≡ self.old.is_stale }
         ensures pruned { IsPruned self.old.tree → IsPruned self.new.tree }
         ensures fresh { IsFresh self.old.tree → IsFresh self.new.tree }
-        ensures setup { IsSameSetup self.old self.new }
+        ensures setup { ground_of self.new ≡ ground_of self.old }
         ensures map { IsMap self.new }
     {
         self.prune_to_fit(need)?;
@@ -289,7 +418,7 @@ impl OccMap {
         ensures stale { self.new.is_stale ≡ self.old.is_stale }
         ensures pruned { IsPruned self.old.tree → IsPruned self.new.tree }
         ensures fresh { IsFresh self.old.tree → IsFresh self.new.tree }
-        ensures setup { IsSameSetup self.old self.new }
+        ensures setup { ground_of self.new ≡ ground_of self.old }
         ensures map { IsMap self.new }
     {
         let most = u128::from(self.limits.max_groups);
@@ -305,6 +434,14 @@ impl OccMap {
         }
         Ok(())
     }
+}
+
+/// Whether the voxels are the corners of a box: on no axis the first is beyond the second.
+fn is_box(lo: Key, hi: Key) -> bool
+    ensures exact { result ≡ boxes.is_box lo hi }
+    ensures order { IsTrue result → IsBox lo hi }
+{
+    lo.x <= hi.x && lo.y <= hi.y && lo.z <= hi.z
 }
 
 #[cfg(test)]

@@ -1,0 +1,104 @@
+use Rattle.std.proofs.Common.{◌≡◌, ℕ, ◌+◌, ◌≤◌, Some, Err, IfErr, false, sym, ◌∙◌, ap, subst, rules}
+use Rattle.std.proofs.lemmas.Bool.{false≢true}
+use Rattle.oct_key.specs.Voxel.{key_at}
+use Rattle.oct_values.specs.Boxes.{box_events}
+use Rattle.oct_arena.specs.Entries.{live}
+use Rattle.oct_map.specs.Map.{Map, IsMap, values_of}
+use Rattle.oct_map.specs.Answers.{room_answer, IsAnswerOrMemory}
+use Rattle.oct_map.specs.Outcome.{corner_events, corner_need}
+use Rattle.oct_map.specs.Edits.{IsMapRefused, IsMapEdited, ReservesFew}
+use Rattle.oct_map.proofs.Views.{map_of}
+use Rattle.oct_map.proofs.Corners.{corners_need, corners_events, corners_answer, still_stale}
+use Rattle.oct_map.proofs.Edits.{IsReadied, edited_map, map_edited, edited_reserved, if_err, refused_room}
+use Rattle.oct_map.proofs.map.OccMap.edit_box.Goals as goal
+
+pub invariant_of-self : goal.invariant_of-self
+invariant_of-self c =
+    let few : live c.self-2.inside.tree.groups + c.box_need.result ≤ c.self-2.inside.limits.max_groups = subst (λ (m : Map). live m.tree.groups + c.box_need.result ≤ m.max_groups) (sym c.self-2.view_is) c.in_ok-make_room.ensures.few in
+    let grows : live c.touch_box.new.tree.groups ≤ live c.self-2.inside.tree.groups + c.box_need.result = subst (λ n. live c.touch_box.new.tree.groups ≤ live c.self-2.inside.tree.groups + n) (sym c.box_need.ensures.exact) c.touch_box.ensures.groups in
+    still_stale (λ stale. IsMap (map_of c.touch_box.new.tree stale c.self-2.inside.limits)) c.self-2.inside.is_stale
+    (edited_map (map_of c.self-2.inside.tree c.self-2.inside.is_stale c.self-2.inside.limits) c.touch_box.new.tree (box_events c.in-Some.low c.in-Some-key_of.high c.args.event) c.box_need.result false c.self-2.invariant few grows c.touch_box.ensures.edited (λ _. c.touch_box.ensures.eager))
+
+pub returns-clause-map : goal.returns-clause-map
+returns-clause-map c =
+    let few : live c.self-2.inside.tree.groups + c.box_need.result ≤ c.self-2.inside.limits.max_groups = subst (λ (m : Map). live m.tree.groups + c.box_need.result ≤ m.max_groups) (sym c.self-2.view_is) c.in_ok-make_room.ensures.few in
+    let grows : live c.touch_box.new.tree.groups ≤ live c.self-2.inside.tree.groups + c.box_need.result = subst (λ n. live c.touch_box.new.tree.groups ≤ live c.self-2.inside.tree.groups + n) (sym c.box_need.ensures.exact) c.touch_box.ensures.groups in
+    still_stale (λ stale. IsMap (map_of c.touch_box.new.tree stale c.self-2.inside.limits)) c.self-2.inside.is_stale
+    (edited_map (map_of c.self-2.inside.tree c.self-2.inside.is_stale c.self-2.inside.limits) c.touch_box.new.tree (box_events c.in-Some.low c.in-Some-key_of.high c.args.event) c.box_need.result false c.self-2.invariant few grows c.touch_box.ensures.edited (λ _. c.touch_box.ensures.eager))
+
+pub returns-clause-answer : goal.returns-clause-answer
+returns-clause-answer c =
+    let low : key_at c.args.self.now.tree.res c.args.lo ≡ Some c.in-Some.low = sym (sym c.in-Some.is ∙ c.key_of.ensures.exact ∙ ap (λ (r : ℕ). key_at r c.args.lo) (c.res.ensures ∙ ap (λ (m : Map). m.tree.res) c.self.view_is)) in
+    let high : key_at c.args.self.now.tree.res c.args.hi ≡ Some c.in-Some-key_of.high = sym (sym c.in-Some-key_of.is ∙ c.key_of-2.ensures.exact ∙ ap (λ (r : ℕ). key_at r c.args.hi) (c.res-2.ensures ∙ ap (λ (m : Map). m.tree.res) c.self.view_is)) in
+    corners_answer c.args.self.now.max_groups c.box_need.result (values_of c.args.self.now) _ _ c.in-Some.low c.in-Some-key_of.high _ low high
+    (sym c.is_box.ensures.exact ∙ c.if-not-is_box.false) c.box_need.ensures.exact c.in_ok-make_room.ensures.answer
+
+pub returns-clause-edited : goal.returns-clause-edited
+returns-clause-edited c =
+    let is : IsMap c.args.self.now = subst IsMap c.self.view_is c.self.invariant in
+    let low : key_at c.args.self.now.tree.res c.args.lo ≡ Some c.in-Some.low = sym (sym c.in-Some.is ∙ c.key_of.ensures.exact ∙ ap (λ (r : ℕ). key_at r c.args.lo) (c.res.ensures ∙ ap (λ (m : Map). m.tree.res) c.self.view_is)) in
+    let high : key_at c.args.self.now.tree.res c.args.hi ≡ Some c.in-Some-key_of.high = sym (sym c.in-Some-key_of.is ∙ c.key_of-2.ensures.exact ∙ ap (λ (r : ℕ). key_at r c.args.hi) (c.res-2.ensures ∙ ap (λ (m : Map). m.tree.res) c.self.view_is)) in
+    let counted : corner_need (key_at c.args.self.now.tree.res c.args.lo) (key_at c.args.self.now.tree.res c.args.hi) ≡ c.box_need.result =
+    corners_need _ _ c.in-Some.low c.in-Some-key_of.high low high ∙ sym c.box_need.ensures.exact in
+    let map : Map = map_of c.self-2.inside.tree c.self-2.inside.is_stale c.self-2.inside.limits in
+    let ready : IsReadied c.args.self.now map c.box_need.result = subst (λ (m : Map). IsReadied c.args.self.now m c.box_need.result) (sym c.self-2.view_is) (record {
+      setup = c.make_room.ensures.setup;
+      values = c.make_room.ensures.values;
+      stale = c.make_room.ensures.stale;
+      fresh = c.make_room.ensures.fresh;
+      pruned = c.make_room.ensures.pruned;
+      grown = c.make_room.ensures.kept;
+      reserved = c.make_room.ensures.reserved;
+    }) in
+    subst (λ n. IsMapEdited c.args.self.now (map_of c.touch_box.new.tree c.self-2.inside.is_stale c.self-2.inside.limits) (corner_events (key_at c.args.self.now.tree.res c.args.lo) (key_at c.args.self.now.tree.res c.args.hi) c.args.event) n false) (sym counted)
+    (still_stale (λ stale. IsMapEdited c.args.self.now (map_of c.touch_box.new.tree stale c.self-2.inside.limits) (corner_events (key_at c.args.self.now.tree.res c.args.lo) (key_at c.args.self.now.tree.res c.args.hi) c.args.event) c.box_need.result false) c.self-2.inside.is_stale
+    (map_edited c.args.self.now map c.touch_box.new.tree (box_events c.in-Some.low c.in-Some-key_of.high c.args.event)
+    (corner_events (key_at c.args.self.now.tree.res c.args.lo) (key_at c.args.self.now.tree.res c.args.hi) c.args.event) c.box_need.result false is ready
+    (corners_events _ _ c.in-Some.low c.in-Some-key_of.high c.args.event low high) c.touch_box.ensures.edited (λ _. c.touch_box.ensures.eager) (λ h. absurd (false≢true h))))
+
+pub returns-clause-reserved : goal.returns-clause-reserved
+returns-clause-reserved c =
+    let low : key_at c.args.self.now.tree.res c.args.lo ≡ Some c.in-Some.low = sym (sym c.in-Some.is ∙ c.key_of.ensures.exact ∙ ap (λ (r : ℕ). key_at r c.args.lo) (c.res.ensures ∙ ap (λ (m : Map). m.tree.res) c.self.view_is)) in
+    let high : key_at c.args.self.now.tree.res c.args.hi ≡ Some c.in-Some-key_of.high = sym (sym c.in-Some-key_of.is ∙ c.key_of-2.ensures.exact ∙ ap (λ (r : ℕ). key_at r c.args.hi) (c.res-2.ensures ∙ ap (λ (m : Map). m.tree.res) c.self.view_is)) in
+    let counted : corner_need (key_at c.args.self.now.tree.res c.args.lo) (key_at c.args.self.now.tree.res c.args.hi) ≡ c.box_need.result =
+    corners_need _ _ c.in-Some.low c.in-Some-key_of.high low high ∙ sym c.box_need.ensures.exact in
+    let map : Map = map_of c.self-2.inside.tree c.self-2.inside.is_stale c.self-2.inside.limits in
+    let ready : IsReadied c.args.self.now map c.box_need.result = subst (λ (m : Map). IsReadied c.args.self.now m c.box_need.result) (sym c.self-2.view_is) (record {
+      setup = c.make_room.ensures.setup;
+      values = c.make_room.ensures.values;
+      stale = c.make_room.ensures.stale;
+      fresh = c.make_room.ensures.fresh;
+      pruned = c.make_room.ensures.pruned;
+      grown = c.make_room.ensures.kept;
+      reserved = c.make_room.ensures.reserved;
+    }) in
+    subst (ReservesFew c.args.self.now (map_of c.touch_box.new.tree c.self-2.inside.is_stale c.self-2.inside.limits)) (sym counted)
+    (still_stale (λ stale. ReservesFew c.args.self.now (map_of c.touch_box.new.tree stale c.self-2.inside.limits) c.box_need.result) c.self-2.inside.is_stale
+    (edited_reserved c.args.self.now map c.touch_box.new.tree c.box_need.result false c.touch_box.ensures.room ready.reserved))
+
+pub returns-in_err-make_room-clause-refused : goal.returns-in_err-make_room-clause-refused
+returns-in_err-make_room-clause-refused c =
+    let low : key_at c.args.self.now.tree.res c.args.lo ≡ Some c.in-Some.low = sym (sym c.in-Some.is ∙ c.key_of.ensures.exact ∙ ap (λ (r : ℕ). key_at r c.args.lo) (c.res.ensures ∙ ap (λ (m : Map). m.tree.res) c.self.view_is)) in
+    let high : key_at c.args.self.now.tree.res c.args.hi ≡ Some c.in-Some-key_of.high = sym (sym c.in-Some-key_of.is ∙ c.key_of-2.ensures.exact ∙ ap (λ (r : ℕ). key_at r c.args.hi) (c.res-2.ensures ∙ ap (λ (m : Map). m.tree.res) c.self.view_is)) in
+    let counted : corner_need (key_at c.args.self.now.tree.res c.args.lo) (key_at c.args.self.now.tree.res c.args.hi) ≡ c.box_need.result =
+    corners_need _ _ c.in-Some.low c.in-Some-key_of.high low high ∙ sym c.box_need.ensures.exact in
+    subst (λ n. IfErr c.from_residual.result (λ fault. IsMapRefused c.args.self.now c.make_room.new.self fault n)) (sym counted)
+    (if_err c.from_residual.result (λ fault. IsMapRefused c.args.self.now c.make_room.new.self fault c.box_need.result) (λ fault e.
+    (let is : c.make_room.result ≡ Err fault = search (rules, e) in
+    refused_room c.args.self.now c.make_room.new.self fault c.box_need.result c.make_room.result is (record {
+      setup = c.make_room.ensures.setup;
+      values = c.make_room.ensures.values;
+      stale = c.make_room.ensures.stale;
+      fresh = c.make_room.ensures.fresh;
+      pruned = c.make_room.ensures.pruned;
+      grown = c.make_room.ensures.kept;
+      reserved = c.make_room.ensures.reserved;
+    }) c.make_room.ensures.live c.make_room.ensures.full)))
+
+pub returns-in_err-make_room-clause-answer : goal.returns-in_err-make_room-clause-answer
+returns-in_err-make_room-clause-answer c =
+    let low : key_at c.args.self.now.tree.res c.args.lo ≡ Some c.in-Some.low = sym (sym c.in-Some.is ∙ c.key_of.ensures.exact ∙ ap (λ (r : ℕ). key_at r c.args.lo) (c.res.ensures ∙ ap (λ (m : Map). m.tree.res) c.self.view_is)) in
+    let high : key_at c.args.self.now.tree.res c.args.hi ≡ Some c.in-Some-key_of.high = sym (sym c.in-Some-key_of.is ∙ c.key_of-2.ensures.exact ∙ ap (λ (r : ℕ). key_at r c.args.hi) (c.res-2.ensures ∙ ap (λ (m : Map). m.tree.res) c.self.view_is)) in
+    let same : c.make_room.result ≡ c.from_residual.result = search rules in
+    corners_answer c.args.self.now.max_groups c.box_need.result (values_of c.args.self.now) _ _ c.in-Some.low c.in-Some-key_of.high _ low high
+    (sym c.is_box.ensures.exact ∙ c.if-not-is_box.false) c.box_need.ensures.exact (subst (IsAnswerOrMemory (room_answer c.args.self.now.max_groups (values_of c.args.self.now) c.box_need.result)) same c.make_room.ensures.answer)
