@@ -9,7 +9,7 @@ use Rattle.oct_script.specs.Commands.{all_behind, IsSmallCommand}
 use Rattle.oct_script.specs.Grammar.{Form, Ends, Exactly, Row, behind, grammar, block_grammar, rows_of, forms_in, forms_of}
 use Rattle.oct_script.specs.Reading.{forms_of_row, forms_at, forms_behind, forms_of_verb, row_seen, IsSmallVerb}
 use Rattle.oct_script.specs.declared.verbs.Verb.{Verb}
-use Rattle.oct_script.specs.declared.verbs.Verb.TheVariants.{Hit, Miss, Add, Set, Forget, Get, Scan, Beam, Alone}
+use Rattle.oct_script.specs.declared.verbs.Verb.TheVariants.{Hit, Miss, Add, Set, Forget, Get, Cast, Scan, Beam, Alone, Box}
 use Rattle.oct_script.specs.declared.verbs.FirstWord.{FirstWord}
 use Rattle.oct_script.specs.Words.{Word}
 
@@ -54,7 +54,7 @@ step word first rows true same none later =
 step word first rows false same none later = later
 
 -- where no word has two rows, a word begins the forms of its row
-forms_first : (word : Word) (rows : List Row) → are_apart rows ≡ true → all_behind word (forms_in rows) ≡ forms_at word rows
+pub forms_first : (word : Word) (rows : List Row) → are_apart rows ≡ true → all_behind word (forms_in rows) ≡ forms_at word rows
 forms_first word [] apart = refl
 forms_first word (first ∷ rows) apart =
     let parts = and_parts (not (has_word first.word rows)) (are_apart rows) apart in
@@ -109,6 +109,8 @@ small_forms Add small = tt
 small_forms Set small = tt
 small_forms Forget small = tt
 small_forms Get small = tt
+small_forms Cast small = tt
+small_forms Box small = tt
 small_forms Scan small = tt
 small_forms Beam small = tt
 small_forms (Alone command) small = small.0

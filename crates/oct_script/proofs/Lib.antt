@@ -6,4 +6,3 @@ pub mod Lengths
 pub mod Leaving
 pub mod FirstWords
 pub mod Parsing
-pub mod Depths

@@ -4,9 +4,9 @@ use Rattle.std.specs.List.{cons_option}
 use Rattle.std.specs.Option.{ok_or}
 use Rattle.oct_key.specs.declared.point.Point.{Point}
 use Rattle.oct_script.specs.Commands.{fault, all_behind, ended_command, if_any, command_by, is_comment, command_in}
-use Rattle.oct_script.specs.Grammar.{Form, Ends, Metres, Number, Depth, Component, Range, length_of, number_of, depth_of, component_of, range_of, behind, point, lazy, head, scan, rows_of, forms_of}
-use Rattle.oct_script.specs.Reading.{◌>>=◌, number_or, number_in, point_in, excess, unless_fault, end_in, lazy_in, edit_end_in, edit_in, point_number_in, number_edit_in, query_in, rotation_in, scan_in, beam_in, behind_verb, forms_behind, forms_of_verb, forms_at, misplaced, by_forms, behind_first, line_in}
-use Rattle.oct_script.proofs.FirstWords.{first_word}
+use Rattle.oct_script.specs.Grammar.{Form, Ends, Exactly, Metres, Number, Depth, Component, Range, length_of, number_of, depth_of, component_of, range_of, behind, point, two_points, lazy, head, cast, scan, rows_of, forms_of, box, forms_in, Row, row, alone}
+use Rattle.oct_script.specs.Reading.{◌>>=◌, number_or, number_in, point_in, excess, unless_fault, end_in, flag_in, edit_end_in, edit_in, points_in, point_number_in, number_edit_in, query_in, cast_in, rotation_in, scan_in, beam_in, behind_verb, forms_behind, forms_of_verb, forms_at, misplaced, by_forms, behind_first, line_in, edit_number_in, edit_word_in, box_in, forms_of_row}
+use Rattle.oct_script.proofs.FirstWords.{first_word, forms_first}
 use Rattle.oct_script.specs.Words.{Word, PlacedWord}
 use Rattle.oct_script.specs.declared.command.Syntax.{Syntax}
 use Rattle.oct_script.specs.declared.command.Edit.{Edit}
@@ -15,7 +15,7 @@ use Rattle.oct_script.specs.declared.command.ScanHead.{ScanHead}
 use Rattle.oct_script.specs.declared.command.Command.{Command}
 use Rattle.oct_script.specs.declared.command.Command.TheVariants as command
 use Rattle.oct_script.specs.declared.verbs.Verb.{Verb}
-use Rattle.oct_script.specs.declared.verbs.Verb.TheVariants.{Hit, Miss, Add, Set, Forget, Get, Scan, Beam, Alone}
+use Rattle.oct_script.specs.declared.verbs.Verb.TheVariants.{Hit, Miss, Add, Set, Forget, Get, Cast, Scan, Beam, Alone, Box}
 
 -- no word may stand any more
 ends : (c : Command) (end : ℕ) (words : List PlacedWord) → command_by (Ends c ∷ []) end words ≡ end_in c words
@@ -27,14 +27,14 @@ ends c end (word ∷ words) = refl
 ends_then : {A B : Type 0} (a : A) (words : List PlacedWord) (f : A → B) → end_in (f a) words ≡ (end_in a words >>= λ x. Ok (f x))
 ends_then a words f = elim (excess words) as (λ o. unless_fault (f a) o ≡ (unless_fault a o >>= λ x. Ok (f x))) [ None ↦ refl | Some s ↦ refl ]
 
--- `lazy` may stand, or no word
-ends_lazy : (make : Bool → Command) (end : ℕ) (words : List PlacedWord) →
-    command_by (Ends (make false) ∷ lazy (make true) ∷ []) end words ≡ (lazy_in words >>= λ lazy. Ok (make lazy))
-unfolding command_by lazy_in
-ends_lazy make end [] = refl
-ends_lazy make end (word ∷ words) = elim (bytes_eq word.text (codes "lazy")) as (λ b. if_any (cons_option (cond b (Some (Ends (make true))) None) [])
+-- a word may stand, or none
+ends_flag : (flag : Word) (make : Bool → Command) (end : ℕ) (words : List PlacedWord) →
+    command_by (Ends (make false) ∷ Exactly flag (Ends (make true)) ∷ []) end words ≡ (flag_in flag words >>= λ there. Ok (make there))
+unfolding command_by flag_in
+ends_flag flag make end [] = refl
+ends_flag flag make end (word ∷ words) = elim (bytes_eq word.text flag) as (λ b. if_any (cons_option (cond b (Some (Ends (make true))) None) [])
     (command_by (cons_option (cond b (Some (Ends (make true))) None) []) end words) (Err (fault word.column))
-    ≡ (cond b (end_in true words) (Err (fault word.column)) >>= λ lazy. Ok (make lazy))) [
+    ≡ (cond b (end_in true words) (Err (fault word.column)) >>= λ there. Ok (make there))) [
       | true ↦ ends (make true) end words ∙ ends_then true words make
       | false ↦ refl
     ]
@@ -42,7 +42,7 @@ ends_lazy make end (word ∷ words) = elim (bytes_eq word.text (codes "lazy")) a
 ends_edit : (p : Point) (e : Edit) (end : ℕ) (words : List PlacedWord) →
     command_by (Ends (command.Edit p e false) ∷ lazy (command.Edit p e true) ∷ []) end words ≡ edit_end_in p e words
 unfolding edit_end_in
-ends_edit p e end words = ends_lazy (λ lazy. command.Edit p e lazy) end words
+ends_edit p e end words = ends_flag (codes "lazy") (λ lazy. command.Edit p e lazy) end words
 
 -- the words that fit at a place of a form, by the numbers that they spell
 record IsPlace {A : Type 0} (place : (A → Form) → Form) (read : Word → Option A) : Type 0 where
@@ -140,6 +140,20 @@ edits : (e : Edit) (end : ℕ) (words : List PlacedWord) →
 unfolding edit_in
 edits e end words = point_two _ _ end words ∙ then_same (point_in end words) _ _ (λ p. ends_edit p.0 e end p.1)
 
+-- two points may stand, in two forms
+points_two : (f g : Point → Point → Form) (end : ℕ) (words : List PlacedWord) →
+    command_by (two_points f ∷ two_points g ∷ []) end words ≡ (points_in end words >>= λ r. command_by (f r.0 r.1 ∷ g r.0 r.1 ∷ []) end r.2)
+unfolding points_in
+points_two f g end words =
+    point_two (λ p. point (λ q. f p q)) (λ p. point (λ q. g p q)) end words ∙ then_then (point_in end words) _ _ _ (λ p.
+    point_two (λ q. f p.0 q) (λ q. g p.0 q) end p.1 ∙ then_then (point_in end p.1) _ _ _ (λ q. refl))
+
+casts : (end : ℕ) (words : List PlacedWord) → command_by cast end words ≡ cast_in end words
+unfolding cast_in
+casts end words =
+    points_two (λ o e. Ends (command.Cast o e false)) (λ o e. Exactly (codes "ignore") (Ends (command.Cast o e true))) end words
+    ∙ then_same (points_in end words) _ _ (λ r. ends_flag (codes "ignore") (λ ignore. command.Cast r.0 r.1 ignore) end r.2)
+
 number_edits : (make : ℤ → Edit) (end : ℕ) (words : List PlacedWord) →
     command_by (point (λ p. Number (λ n. Ends (command.Edit p (make n) false))) ∷ point (λ p. Number (λ n. lazy (command.Edit p (make n) true))) ∷ []) end words ≡ number_edit_in make end words
 unfolding number_edit_in point_number_in
@@ -152,6 +166,77 @@ unfolding query_in
 queries end words =
     point_one (λ p. Depth (λ depth. Ends (command.Get p depth))) end words ∙ then_same (point_in end words) _ _ (λ p.
     place_one Depth depth_of depth_place _ end p.1 ∙ then_same (number_in depth_of end p.1) _ _ (λ d. ends (command.Get p.0 d.0) end d.1))
+
+-- in five forms
+place_five : {A : Type 0} (place : (A → Form) → Form) (read : Word → Option A) → IsPlace place read → (f g h i j : A → Form) (end : ℕ) (words : List PlacedWord) →
+    command_by (place f ∷ place g ∷ place h ∷ place i ∷ place j ∷ []) end words ≡ (number_in read end words >>= λ n. command_by (f n.0 ∷ g n.0 ∷ h n.0 ∷ i n.0 ∷ j n.0 ∷ []) end n.1)
+place_five place read is f g h i j end words = place_all place read is f (g ∷ h ∷ i ∷ j ∷ []) end words
+
+point_five : (f g h i j : Point → Form) (end : ℕ) (words : List PlacedWord) →
+    command_by (point f ∷ point g ∷ point h ∷ point i ∷ point j ∷ []) end words ≡ (point_in end words >>= λ p. command_by (f p.0 ∷ g p.0 ∷ h p.0 ∷ i p.0 ∷ j p.0 ∷ []) end p.1)
+unfolding point_in
+point_five f g h i j end words =
+    place_five Metres length_of length_place _ _ _ _ _ end words ∙ then_then (number_in length_of end words) _ _ _ (λ x.
+    place_five Metres length_of length_place _ _ _ _ _ end x.1 ∙ then_then (number_in length_of end x.1) _ _ _ (λ y.
+    place_five Metres length_of length_place _ _ _ _ _ end y.1 ∙ then_then (number_in length_of end y.1) _ _ _ (λ z. refl)))
+
+-- in five forms
+points_five : (f g h i j : Point → Point → Form) (end : ℕ) (words : List PlacedWord) →
+    command_by (two_points f ∷ two_points g ∷ two_points h ∷ two_points i ∷ two_points j ∷ []) end words
+    ≡ (points_in end words >>= λ r. command_by (f r.0 r.1 ∷ g r.0 r.1 ∷ h r.0 r.1 ∷ i r.0 r.1 ∷ j r.0 r.1 ∷ []) end r.2)
+unfolding points_in
+points_five f g h i j end words =
+    point_five (λ low. point (f low)) (λ low. point (g low)) (λ low. point (h low)) (λ low. point (i low)) (λ low. point (j low)) end words ∙ then_then (point_in end words) _ _ _ (λ low.
+    point_five (f low.0) (g low.0) (h low.0) (i low.0) (j low.0) end low.1 ∙ then_then (point_in end low.1) _ _ _ (λ high. refl))
+
+-- the words after the word of an edit, by the row that has it, if one does
+abbrev by_row : Option Row → ℕ → ℕ → List PlacedWord → Result Command Syntax
+by_row r column end words = if_any (forms_of_row r) (command_by (forms_of_row r) end words) (Err (fault column))
+
+-- the words of edits, and what may stand after them
+abbrev edit_rows : (Edit → Command) → List Row
+edit_rows make =
+    row (codes "hit") (alone (make an_edit.Hit))
+    ∷ row (codes "miss") (alone (make an_edit.Miss))
+    ∷ row (codes "forget") (alone (make an_edit.Forget))
+    ∷ row (codes "add") (Number (λ n. Ends (make (an_edit.Add n))) ∷ [])
+    ∷ row (codes "set") (Number (λ n. Ends (make (an_edit.Set n))) ∷ [])
+    ∷ []
+
+-- one row, or those after it
+row_or : (b : Bool) (first : Row) (later : Option Row) (here there : Result Edit Syntax) (make : Edit → Command) (column end : ℕ) (words : List PlacedWord) →
+    by_row (Some first) column end words ≡ (here >>= λ e. Ok (make e)) → by_row later column end words ≡ (there >>= λ e. Ok (make e)) →
+    by_row (cond b (Some first) later) column end words ≡ (cond b here there >>= λ e. Ok (make e))
+row_or true first later here there make column end words now then = now
+row_or false first later here there make column end words now then = then
+
+-- behind an edit that is one word, and behind one that has an N
+plain_edit : (word : Word) (e : Edit) (make : Edit → Command) (column end : ℕ) (words : List PlacedWord) →
+    by_row (Some (row word (alone (make e)))) column end words ≡ (end_in e words >>= λ e. Ok (make e))
+plain_edit word e make column end words = ends (make e) end words ∙ ends_then e words make
+
+counted_edit : (word : Word) (e : ℤ → Edit) (make : Edit → Command) (column end : ℕ) (words : List PlacedWord) →
+    by_row (Some (row word (Number (λ n. Ends (make (e n))) ∷ []))) column end words ≡ (edit_number_in e end words >>= λ e. Ok (make e))
+unfolding edit_number_in
+counted_edit word e make column end words =
+    place_one Number number_of number_place (λ n. Ends (make (e n))) end words ∙ then_then (number_in number_of end words) _ _ _ (λ n.
+    ends (make (e n.0)) end n.1 ∙ ends_then (e n.0) n.1 make)
+
+edit_words : (make : Edit → Command) (end : ℕ) (words : List PlacedWord) → command_by (forms_in (edit_rows make)) end words ≡ (edit_word_in end words >>= λ e. Ok (make e))
+unfolding command_by edit_word_in
+edit_words make end [] = refl
+edit_words make end (word ∷ words) =
+    ap (λ forms. if_any forms (command_by forms end words) (Err (fault word.column))) (forms_first word.text (edit_rows make) refl)
+    ∙ row_or (bytes_eq word.text (codes "hit")) _ _ _ _ make word.column end words (plain_edit (codes "hit") an_edit.Hit make word.column end words)
+    (row_or (bytes_eq word.text (codes "miss")) _ _ _ _ make word.column end words (plain_edit (codes "miss") an_edit.Miss make word.column end words)
+    (row_or (bytes_eq word.text (codes "forget")) _ _ _ _ make word.column end words (plain_edit (codes "forget") an_edit.Forget make word.column end words)
+    (row_or (bytes_eq word.text (codes "add")) _ _ _ _ make word.column end words (counted_edit (codes "add") an_edit.Add make word.column end words)
+    (row_or (bytes_eq word.text (codes "set")) _ _ _ _ make word.column end words (counted_edit (codes "set") an_edit.Set make word.column end words) refl))))
+
+boxes : (end : ℕ) (words : List PlacedWord) → command_by box end words ≡ box_in end words
+unfolding box_in
+boxes end words =
+    points_five _ _ _ _ _ end words ∙ then_same (points_in end words) _ _ (λ r. edit_words (λ e. command.Box r.0 r.1 e) end r.2)
 
 -- a quaternion may stand, in two forms
 rotation_two : (f g : ℤ → ℤ → ℤ → ℤ → Form) (end : ℕ) (words : List PlacedWord) →
@@ -183,7 +268,7 @@ scans end words =
     point_two (behind_point at_once) (behind_point lazily) end words ∙ then_same (point_in end words) _ _ (λ t.
     rotation_two (behind_pose at_once t.0) (behind_pose lazily t.0) end t.1 ∙ then_same (rotation_in end t.1) _ _ (λ q.
     place_two Range range_of range_place _ _ end q.4 ∙ then_same (number_in range_of end q.4) _ _ (λ range.
-    ends_lazy (λ lazy. command.Scan (record { t = t.0; w = q.0; x = q.1; y = q.2; z = q.3; range = range.0; lazy = lazy })) end range.1)))
+    ends_flag (codes "lazy") (λ lazy. command.Scan (record { t = t.0; w = q.0; x = q.1; y = q.2; z = q.3; range = range.0; lazy = lazy })) end range.1)))
 
 beams : (end : ℕ) (words : List PlacedWord) → command_by (point (λ p. Ends (command.Beam p)) ∷ []) end words ≡ beam_in end words
 unfolding beam_in
@@ -199,6 +284,8 @@ behind_any Forget end words none = edits an_edit.Forget end words
 behind_any Add end words none = number_edits an_edit.Add end words
 behind_any Set end words none = number_edits an_edit.Set end words
 behind_any Get end words none = queries end words
+behind_any Cast end words none = casts end words
+behind_any Box end words none = boxes end words
 behind_any Scan end words none = scans end words
 behind_any Beam end words none = beams end words
 behind_any (Alone c) end words none = ends c end words
@@ -211,6 +298,8 @@ some_behind Forget some none = refl
 some_behind Add some none = refl
 some_behind Set some none = refl
 some_behind Get some none = refl
+some_behind Cast some none = refl
+some_behind Box some none = refl
 some_behind Scan some none = refl
 some_behind Beam some none = refl
 some_behind (Alone c) some none = refl

@@ -14,8 +14,8 @@ use Rattle.oct_script.specs.declared.command.Edit.TheVariants.{Hit, Miss, Add, S
 use Rattle.oct_script.specs.declared.command.Command.{Command}
 use Rattle.oct_script.specs.declared.command.Command.TheVariants as command
 use Rattle.oct_script.specs.declared.command.Command.TheVariants.{Blank, Get, Counts, Refresh}
-use Rattle.oct_script.specs.declared.command.Command.TheVariants.{Prune, Quit, Scan, Beam, End}
-use Rattle.oct_script.specs.declared.command.Command.TheVariants.{NotYet}
+use Rattle.oct_script.specs.declared.command.Command.TheVariants.{Prune, Clear, Quit, Scan, Beam, End}
+use Rattle.oct_script.specs.declared.command.Command.TheVariants.{Cast, MaxLikelihood, NotYet}
 
 -- the fault at a column
 abbrev pub fault : ℕ → Syntax
@@ -88,10 +88,14 @@ IsRange range = IfSome range (λ r. (pos 0 ≤ℤ r) × (r <ℤ pos (10 ^ 16)))
 abbrev pub IsSmallCommand : Command → Type 0
 IsSmallCommand Blank = ⊤
 IsSmallCommand (command.Edit p e lazy) = IsSmallEdit e
+IsSmallCommand (command.Box low high e) = IsSmallEdit e
 IsSmallCommand (Get p depth) = depth < 10000000
+IsSmallCommand (Cast origin end ignore) = ⊤
 IsSmallCommand Counts = ⊤
 IsSmallCommand Refresh = ⊤
 IsSmallCommand Prune = ⊤
+IsSmallCommand Clear = ⊤
+IsSmallCommand MaxLikelihood = ⊤
 IsSmallCommand Quit = ⊤
 IsSmallCommand (Scan head) = IsInReach head.t × IsRange head.range
 IsSmallCommand (Beam p) = IsInReach p

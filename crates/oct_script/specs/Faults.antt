@@ -25,7 +25,8 @@ possible forms words = filter_map (behind_all (texts words)) forms
 -- begun by them and the next word
 abbrev pub IsStuck : List Form → ℕ → List PlacedWord → List PlacedWord → ℕ → Type 0
 IsStuck forms end front [] column = (ended_command (possible forms front) ≡ None) × (column ≡ end)
-IsStuck forms end front (word ∷ words) column = (possible forms (front ++ word ∷ []) ≡ []) × (column ≡ word.column)
+IsStuck forms end front (word ∷ words) column =
+    (possible forms (front ++ word ∷ []) ≡ []) × (column ≡ word.column)
 
 -- the first of the words begins one of the forms
 abbrev pub BeginsOneOf : List Form → List PlacedWord → Type 0
@@ -34,7 +35,8 @@ BeginsOneOf forms (first ∷ words) = possible forms (first ∷ []) ≢ []
 
 -- words that end before a column, and of which the first begins a form here or elsewhere, leave the
 -- forms here at a column: after the longest front of them that begins a form
-pub record LeavesAt (here elsewhere : List Form) (end : ℕ) (words : List PlacedWord) (column : ℕ) : Type 0 where
+pub record LeavesAt (here elsewhere : List Form) (end : ℕ) (words : List PlacedWord) (column : ℕ) :
+    Type 0 where
   pub front : List PlacedWord
   pub rest : List PlacedWord
   pub split : words ≡ front ++ rest
@@ -48,5 +50,7 @@ abbrev pub IsMeant : List Form → List Form → List PlacedWord → Command →
 IsMeant here elsewhere [] command = command ≡ Blank
 IsMeant here elsewhere (first ∷ words) command =
     ((is_comment first.text ≡ true) × (command ≡ Blank))
-    ⊎ ((is_comment first.text ≡ false) × (possible here (first ∷ []) ≡ []) × (possible elsewhere (first ∷ []) ≡ []) × (command ≡ NotYet))
-    ⊎ ((is_comment first.text ≡ false) × (ended_command (possible here (first ∷ words)) ≡ Some command))
+    ⊎ ((is_comment first.text ≡ false) × (possible here (first ∷ []) ≡ [])
+    × (possible elsewhere (first ∷ []) ≡ []) × (command ≡ NotYet))
+    ⊎ ((is_comment first.text ≡ false)
+    × (ended_command (possible here (first ∷ words)) ≡ Some command))

@@ -84,6 +84,10 @@ behind word (Range form) = option_map form (range_of word)
 abbrev pub point : (Point → Form) → Form
 point form = Metres (λ x. Metres (λ y. Metres (λ z. form (record { x = x; y = y; z = z }))))
 
+-- X Y Z X Y Z
+abbrev pub two_points : (Point → Point → Form) → Form
+two_points form = point (λ p. point (λ q. form p q))
+
 -- `lazy`, and no more words
 abbrev pub lazy : Command → Form
 lazy command = Exactly (codes "lazy") (Ends command)
@@ -112,9 +116,35 @@ number_edit e =
     ∷ point (λ p. Number (λ n. lazy (command.Edit p (e n) true)))
     ∷ []
 
+-- an edit that is one word, for each voxel of a box
+abbrev pub word_on_box : Word → Edit → Form
+word_on_box word e = two_points (λ low high. Exactly word (Ends (command.Box low high e)))
+
+-- an edit that is a word and an N, for each voxel of a box
+abbrev pub number_on_box : Word → (ℤ → Edit) → Form
+number_on_box word e =
+    two_points (λ low high. Exactly word (Number (λ n. Ends (command.Box low high (e n)))))
+
+-- X Y Z X Y Z and an edit
+abbrev pub box : List Form
+box =
+    word_on_box (codes "hit") Hit
+    ∷ word_on_box (codes "miss") Miss
+    ∷ word_on_box (codes "forget") Forget
+    ∷ number_on_box (codes "add") Add
+    ∷ number_on_box (codes "set") Set
+    ∷ []
+
 -- X Y Z D
 abbrev pub query : List Form
 query = point (λ p. Depth (λ depth. Ends (command.Get p depth))) ∷ []
+
+-- X Y Z X Y Z [ignore]
+abbrev pub cast : List Form
+cast =
+    two_points (λ origin end. Ends (command.Cast origin end false))
+    ∷ two_points (λ origin end. Exactly (codes "ignore") (Ends (command.Cast origin end true)))
+    ∷ []
 
 -- X Y Z Q Q Q Q RANGE [lazy]
 abbrev pub scan : List Form
@@ -138,15 +168,19 @@ row word forms = record { word = word; forms = forms }
 -- the lines outside the block of a scan, by their first words
 abbrev pub grammar : List Row
 grammar =
-    row (codes "hit") (edit Hit)
+    row (codes "get") query
+    ∷ row (codes "hit") (edit Hit)
     ∷ row (codes "miss") (edit Miss)
     ∷ row (codes "add") (number_edit Add)
     ∷ row (codes "set") (number_edit Set)
     ∷ row (codes "forget") (edit Forget)
-    ∷ row (codes "get") query
     ∷ row (codes "counts") (alone command.Counts)
     ∷ row (codes "refresh") (alone command.Refresh)
     ∷ row (codes "prune") (alone command.Prune)
+    ∷ row (codes "clear") (alone command.Clear)
+    ∷ row (codes "maxlik") (alone command.MaxLikelihood)
+    ∷ row (codes "cast") cast
+    ∷ row (codes "box") box
     ∷ row (codes "quit") (alone command.Quit)
     ∷ row (codes "scan") scan
     ∷ []

@@ -38,7 +38,9 @@ has_bytes Long = true
 
 -- a text without the carriage return at its end, if there is one
 abbrev pub trimmed : List ℕ → List ℕ
-trimmed text = if nat_eq (slice_index text (length text - 1)) 13 then take (length text - 1) text else text
+trimmed text =
+    let last = length text - 1 in
+    if nat_eq (slice_index text last) 13 then take last text else text
 
 -- a line that a line feed has ended: one carriage return before it is dropped
 abbrev pub ended : Line → Line

@@ -5,7 +5,7 @@ use Rattle.std.specs.List.{find}
 use Rattle.oct_key.specs.declared.point.Point.{Point}
 use Rattle.oct_script.specs.Commands.{fault, if_any, command_by, is_comment, IsSmallCommand}
 use Rattle.oct_script.specs.Grammar.{length_of, number_of, depth_of, component_of, range_of}
-use Rattle.oct_script.specs.Grammar.{Form, Row, alone, edit, number_edit, query, scan, beam}
+use Rattle.oct_script.specs.Grammar.{Form, Row, alone, edit, number_edit, query, cast, scan, beam, box}
 use Rattle.oct_script.specs.Grammar.{rows_of}
 use Rattle.oct_script.specs.Words.{Word, PlacedWord}
 use Rattle.oct_script.specs.declared.command.Syntax.{Syntax}
@@ -14,8 +14,7 @@ use Rattle.oct_script.specs.declared.command.Edit.TheVariants as an_edit
 use Rattle.oct_script.specs.declared.command.Command.{Command}
 use Rattle.oct_script.specs.declared.command.Command.TheVariants as command
 use Rattle.oct_script.specs.declared.verbs.Verb.{Verb}
-use Rattle.oct_script.specs.declared.verbs.Verb.TheVariants.{Hit, Miss, Add, Set, Forget, Get, Scan}
-use Rattle.oct_script.specs.declared.verbs.Verb.TheVariants.{Beam, Alone}
+use Rattle.oct_script.specs.declared.verbs.Verb.TheVariants.{Hit, Miss, Add, Set, Forget, Get, Scan, Beam, Cast, Alone, Box}
 use Rattle.oct_script.specs.declared.verbs.FirstWord.{FirstWord}
 
 -- the words of a line that are still to be read, and the column after the line
@@ -63,16 +62,16 @@ unless_fault a (Some s) = Err s
 abbrev pub end_in : {A : Type 0} → A → List PlacedWord → Result A Syntax
 end_in a words = unless_fault a (excess words)
 
--- nothing, or `lazy`: whether it's there
-unfoldable pub lazy_in : List PlacedWord → Result Bool Syntax
-lazy_in [] = Ok false
-lazy_in (word ∷ words) =
-    if bytes_eq word.text (codes "lazy") then end_in true words else Err (fault word.column)
+-- nothing, or this word: whether it's there
+unfoldable pub flag_in : Word → List PlacedWord → Result Bool Syntax
+flag_in flag [] = Ok false
+flag_in flag (word ∷ words) =
+    if bytes_eq word.text flag then end_in true words else Err (fault word.column)
 
 -- [lazy], after an edit of a point
 unfoldable pub edit_end_in : Point → Edit → List PlacedWord → Result Command Syntax
 edit_end_in p e words = do
-  lazy ← lazy_in words
+  lazy ← flag_in (codes "lazy") words
   Ok (command.Edit p e lazy)
 
 -- X Y Z [lazy]
@@ -80,6 +79,13 @@ unfoldable pub edit_in : Edit → ℕ → List PlacedWord → Result Command Syn
 edit_in e end words = do
   p ← point_in end words
   edit_end_in p.0 e p.1
+
+-- X Y Z X Y Z
+unfoldable pub points_in : ℕ → List PlacedWord → Result (Point × Point × List PlacedWord) Syntax
+points_in end words = do
+  p ← point_in end words
+  q ← point_in end p.1
+  Ok (p.0, q.0, q.1)
 
 -- X Y Z N
 unfoldable pub point_number_in : ℕ → List PlacedWord → Result (Point × ℤ × List PlacedWord) Syntax
@@ -94,12 +100,47 @@ number_edit_in edit end words = do
   r ← point_number_in end words
   edit_end_in r.0 (edit r.1) r.2
 
+-- N, and no word more, after the word of an edit
+unfoldable pub edit_number_in : (ℤ → Edit) → ℕ → List PlacedWord → Result Edit Syntax
+edit_number_in edit end words = do
+  n ← number_in number_of end words
+  end_in (edit n.0) n.1
+
+-- what stands after the word of an edit, or the fault of a word that is none
+abbrev pub behind_edit_word : PlacedWord → ℕ → List PlacedWord → Result Edit Syntax
+behind_edit_word word end words =
+    if bytes_eq word.text (codes "hit") then end_in an_edit.Hit words
+    else if bytes_eq word.text (codes "miss") then end_in an_edit.Miss words
+    else if bytes_eq word.text (codes "forget") then end_in an_edit.Forget words
+    else if bytes_eq word.text (codes "add") then edit_number_in an_edit.Add end words
+    else if bytes_eq word.text (codes "set") then edit_number_in an_edit.Set end words
+    else Err (fault word.column)
+
+-- an edit, and no word more
+unfoldable pub edit_word_in : ℕ → List PlacedWord → Result Edit Syntax
+edit_word_in end [] = Err (fault end)
+edit_word_in end (word ∷ words) = behind_edit_word word end words
+
+-- X Y Z X Y Z and an edit
+unfoldable pub box_in : ℕ → List PlacedWord → Result Command Syntax
+box_in end words = do
+  r ← points_in end words
+  e ← edit_word_in end r.2
+  Ok (command.Box r.0 r.1 e)
+
 -- X Y Z D
 unfoldable pub query_in : ℕ → List PlacedWord → Result Command Syntax
 query_in end words = do
   p ← point_in end words
   d ← number_in depth_of end p.1
   end_in (command.Get p.0 d.0) d.1
+
+-- X Y Z X Y Z [ignore]
+unfoldable pub cast_in : ℕ → List PlacedWord → Result Command Syntax
+cast_in end words = do
+  r ← points_in end words
+  ignore ← flag_in (codes "ignore") r.2
+  Ok (command.Cast r.0 r.1 ignore)
 
 -- Q Q Q Q
 unfoldable pub rotation_in : ℕ → List PlacedWord → Result (ℤ × ℤ × ℤ × ℤ × List PlacedWord) Syntax
@@ -116,7 +157,7 @@ scan_in end words = do
   t ← point_in end words
   q ← rotation_in end t.1
   range ← number_in range_of end q.4
-  lazy ← lazy_in range.1
+  lazy ← flag_in (codes "lazy") range.1
   Ok (command.Scan (record {
     t = t.0;
     w = q.0;
@@ -141,6 +182,8 @@ behind_verb Forget end words = edit_in an_edit.Forget end words
 behind_verb Add end words = number_edit_in an_edit.Add end words
 behind_verb Set end words = number_edit_in an_edit.Set end words
 behind_verb Get end words = query_in end words
+behind_verb Cast end words = cast_in end words
+behind_verb Box end words = box_in end words
 behind_verb Scan end words = scan_in end words
 behind_verb Beam end words = beam_in end words
 behind_verb (Alone command) end words = end_in command words
@@ -153,6 +196,8 @@ forms_behind Forget = edit an_edit.Forget
 forms_behind Add = number_edit an_edit.Add
 forms_behind Set = number_edit an_edit.Set
 forms_behind Get = query
+forms_behind Cast = cast
+forms_behind Box = box
 forms_behind Scan = scan
 forms_behind Beam = beam
 forms_behind (Alone command) = alone command

@@ -2,19 +2,23 @@
 use Rattle.std.specs.Prelude.{ℕ, List, [], ◌++◌, codes, decimal, Bool, true, false, Option, Some}
 use Rattle.std.specs.Prelude.{None}
 use Rattle.std.specs.Fmt.{signed_decimal}
+use Rattle.oct_cast.specs.declared.outcome.Cast.{Cast}
+use Rattle.oct_cast.specs.declared.outcome.Cast.TheVariants as cast
+use Rattle.oct_key.specs.Voxel.{Voxel}
 use Rattle.oct_odds.specs.declared.event.Class.{Class}
 use Rattle.oct_odds.specs.declared.event.Class.TheVariants as class
 use Rattle.oct_query.specs.declared.totals.Counts.{Counts}
 use Rattle.oct_script.specs.declared.reply.Refusal.{Refusal}
 use Rattle.oct_script.specs.declared.reply.Refusal.TheVariants.{ZeroQuaternion, OriginOutside}
 use Rattle.oct_script.specs.declared.reply.Refusal.TheVariants.{PointOutside, TooManyCells, Stale}
+use Rattle.oct_script.specs.declared.reply.Refusal.TheVariants.{TooManyBlocks, BadBox}
 use Rattle.oct_script.specs.declared.reply.Refusal.TheVariants.{Full, Outside, BadDepth, Syntax}
 use Rattle.oct_script.specs.declared.reply.Refusal.TheVariants.{LongLine, OpenScan, TooManyPoints}
 use Rattle.oct_script.specs.declared.reply.Refusal.TheVariants.{NotYet}
 use Rattle.oct_script.specs.declared.reply.ScanDone.{ScanDone}
 use Rattle.oct_script.specs.declared.reply.Reply.{Reply}
 use Rattle.oct_script.specs.declared.reply.Reply.TheVariants.{Ok, Known, Unknown, Scanned, Counted}
-use Rattle.oct_script.specs.declared.reply.Reply.TheVariants.{Refused}
+use Rattle.oct_script.specs.declared.reply.Reply.TheVariants.{Casted, Refused}
 
 -- the name of a class
 abbrev pub class_name : Class → List ℕ
@@ -27,12 +31,17 @@ abbrev pub refusal_text : Refusal → List ℕ
 refusal_text ZeroQuaternion = codes "5 ZeroQuaternion"
 refusal_text OriginOutside = codes "6 OriginOutside"
 refusal_text (PointOutside index) = codes "7 PointOutside index " ++ decimal index
-refusal_text (TooManyCells index cells) = (codes "8 TooManyCells index " ++ decimal index) ++ (codes " cells " ++ decimal cells)
+refusal_text (TooManyCells index cells) =
+    (codes "8 TooManyCells index " ++ decimal index) ++ (codes " cells " ++ decimal cells)
+refusal_text (TooManyBlocks count) = codes "9 TooManyBlocks count " ++ decimal count
 refusal_text Stale = codes "22 Stale"
-refusal_text (Full groups need) = (codes "23 Full groups " ++ decimal groups) ++ (codes " need " ++ decimal need)
+refusal_text (Full groups need) =
+    (codes "23 Full groups " ++ decimal groups) ++ (codes " need " ++ decimal need)
 refusal_text (Outside point) = codes "24 Outside point " ++ decimal point
 refusal_text BadDepth = codes "25 BadDepth"
-refusal_text (Syntax line column) = (codes "29 Syntax line " ++ decimal line) ++ (codes " column " ++ decimal column)
+refusal_text BadBox = codes "26 BadBox"
+refusal_text (Syntax line column) =
+    (codes "29 Syntax line " ++ decimal line) ++ (codes " column " ++ decimal column)
 refusal_text (LongLine line) = codes "30 LongLine line " ++ decimal line
 refusal_text (OpenScan line) = codes "31 OpenScan line " ++ decimal line
 refusal_text (TooManyPoints line) = codes "32 TooManyPoints line " ++ decimal line
@@ -44,15 +53,28 @@ scan_text done = (codes "ok hits " ++ decimal done.hits) ++ (codes " frees " ++ 
 
 -- how many groups and nodes there are
 abbrev pub counts_text : Counts → List ℕ
-counts_text counts = (codes "groups " ++ decimal counts.groups) ++ (codes " nodes " ++ decimal counts.nodes)
+counts_text counts =
+    (codes "groups " ++ decimal counts.groups) ++ (codes " nodes " ++ decimal counts.nodes)
+
+-- the numbers of a voxel
+abbrev pub voxel_text : Voxel → List ℕ
+voxel_text k = decimal k.x ++ ((codes " " ++ decimal k.y) ++ (codes " " ++ decimal k.z))
+
+-- the voxel that stops a cast, if one does
+abbrev pub cast_text : Cast → List ℕ
+cast_text (cast.Hit k) = codes "cast hit " ++ voxel_text k
+cast_text (cast.Unknown k) = codes "cast unknown " ++ voxel_text k
+cast_text cast.Clear = codes "cast clear"
 
 -- the line of a reply, with its line feed
 abbrev pub reply_text : Reply → List ℕ
 reply_text Ok = codes "ok\n"
-reply_text (Known value class) = codes "known " ++ signed_decimal value ++ codes " " ++ class_name class ++ codes "\n"
+reply_text (Known value class) =
+    codes "known " ++ signed_decimal value ++ codes " " ++ class_name class ++ codes "\n"
 reply_text Unknown = codes "unknown\n"
 reply_text (Scanned done) = scan_text done ++ codes "\n"
 reply_text (Counted counts) = counts_text counts ++ codes "\n"
+reply_text (Casted found) = cast_text found ++ codes "\n"
 reply_text (Refused refusal) = codes "refused " ++ refusal_text refusal ++ codes "\n"
 
 -- what is written for a line, which may need no reply
@@ -68,4 +90,5 @@ is_refusal (Some (Known value class)) = false
 is_refusal (Some Unknown) = false
 is_refusal (Some (Scanned done)) = false
 is_refusal (Some (Counted counts)) = false
+is_refusal (Some (Casted found)) = false
 is_refusal (Some (Refused refusal)) = true

@@ -28,12 +28,14 @@ pub record PlacedWord : Type 0 where
 -- parts of a line with one blank between any two, the first of which stands at this column
 abbrev pub placed : ℕ → List Word → List PlacedWord
 placed column [] = []
-placed column (part ∷ parts) = record { text = part; column = column } ∷ placed (column + length part + 1) parts
+placed column (part ∷ parts) =
+    record { text = part; column = column } ∷ placed (column + length part + 1) parts
 
 -- the words of the part of a line that begins at this column: what stands between its blanks, where
 -- that isn't empty
 abbrev pub words_from : ℕ → List ℕ → List PlacedWord
-words_from column text = filter (λ part. is_word part.text) (placed column (slice_split is_blank text))
+words_from column text =
+    filter (λ part. is_word part.text) (placed column (slice_split is_blank text))
 
 -- the words of a line
 abbrev pub placed_words : List ℕ → List PlacedWord

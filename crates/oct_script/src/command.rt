@@ -2,7 +2,7 @@
 use oct_key::Point;
 use thiserror::Error;
 
-/// An edit of one voxel. The numbers are thousandths of log-odds, of a magnitude of at most
+/// An edit of a voxel. The numbers are thousandths of log-odds, of a magnitude of at most
 /// 1,000,000.
 #[derive(Clone, Copy, Debug, PartialEq, Eq)]
 pub enum Edit {
@@ -42,7 +42,17 @@ pub enum Command {
     Blank,
     /// An edit of the voxel that holds the point `p`. A lazy one leaves the inner values to a later
     /// refresh.
-    Edit { p: Point, e: Edit, lazy: bool },
+    Edit {
+        p: Point,
+        e: Edit,
+        lazy: bool,
+    },
+    /// The same edit of each voxel of the box whose corners hold the two points, both included.
+    Box {
+        low: Point,
+        high: Point,
+        e: Edit,
+    },
     /// A scan, whose block begins after this line.
     Scan(ScanHead),
     /// A point that the open scan saw, from the sensor.
@@ -51,13 +61,27 @@ pub enum Command {
     End,
     /// The value of the block of this depth that holds the point `p`. The depth has at most seven
     /// digits, and may be above that of a voxel.
-    Get { p: Point, depth: u32 },
+    Get {
+        p: Point,
+        depth: u32,
+    },
+    /// What lies first on the straight way from a point to another one. Unknown voxels stop it
+    /// unless they are ignored.
+    Cast {
+        origin: Point,
+        end: Point,
+        ignore_unknown: bool,
+    },
     /// The numbers of groups and nodes.
     Counts,
     /// All inner values are made anew.
     Refresh,
     /// All groups of equal leaves collapse.
     Prune,
+    /// Each voxel becomes unknown.
+    Clear,
+    /// Each known voxel becomes as sure as it can be.
+    MaxLikelihood,
     /// The end of the session.
     Quit,
     /// A command that isn't built yet.

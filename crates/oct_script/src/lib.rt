@@ -17,15 +17,15 @@
 //!   `block_grammar` stands in its place, and a first word of the other table is the fault.
 //!   `specs/Faults.antt` says the same of whole lines: which form a line has, and after which
 //!   longest front of it no form goes on.
-//! - [`opens_scan`] reports whether a line's first word is `scan`, whatever its other words are: such
-//!   a line opens a block.
+//! - [`opens_scan`] reports whether a line's first word is `scan`, whatever its other words are:
+//!   such a line opens a block.
 //! - [`push_reply`] appends exactly `reply_text` of `specs/Replies.antt`, or nothing where memory
 //!   runs out.
 //!
 //! `lines` keeps a line in an `ArrayVec` of 4,096 bytes, and `words` goes through it once, from the
-//! left; neither allocates. `numbers` says what a word spells, `verbs` what a first word begins, and
-//! `table` has the first words. `parser` reads word by word, with one small function for each part of
-//! a form. `specs/Reading.antt` says how, for the proofs; the grammar doesn't rest on it.
+//! left; neither allocates. `numbers` says what a word spells, `verbs` what a first word begins,
+//! and `table` has the first words. `parser` reads word by word, with one small function for each
+//! part of a form. `specs/Reading.antt` says how, for the proofs; the grammar doesn't rest on it.
 //!
 //! Sessions stand on this crate.
 #![tactic(auto)]

@@ -78,14 +78,28 @@ impl Lines {
             ≡ prefix_len is_in_line piece.now + (if result.ended then 1 else 0) }
         ensures within { result.taken ≤ length piece.now }
         ensures same { self.new.has_ended ≡ result.ended }
-        ensures line { let line = joined self.old.line (take (prefix_len is_in_line piece.now) piece.now) in
+        ensures line { let front = take (prefix_len is_in_line piece.now) piece.now in
+            let line = joined self.old.line front in
             self.new.line ≡ (if result.ended then ended line else line) }
         ensures joins { result.ended ≡ false → (bytes : List ℕ) → IsReading self.old bytes
             → HasJoined self.new bytes (bytes ++ take result.taken piece.now) }
         ensures ends { result.ended ≡ true → (bytes : List ℕ) → IsReading self.old bytes
             → HasEnded self.new bytes (bytes ++ take result.taken piece.now) }
     {
-        self.take_front(piece)
+        let count = count_in_line(piece);
+        let (front, rest) = piece.split_at(count);
+        self.join(front);
+        if rest.is_empty() {
+            return Fed {
+                taken: count,
+                ended: false,
+            };
+        }
+        self.end();
+        Fed {
+            taken: count + 1,
+            ended: true,
+        }
     }
 
     /// The text of the line, which mustn't be long, without its end.
@@ -122,33 +136,6 @@ impl Lines {
         self.bytes.clear();
         self.overran = false;
         self.ended = false;
-    }
-
-    /// Takes bytes up to and with the next line feed.
-    fn take_front(&mut self, piece: &[u8]) -> Fed
-        requires { self.old.has_ended ≡ false }
-        ensures ended { result.ended ≡ nat_lt (prefix_len is_in_line piece.now) (length piece.now) }
-        ensures taken { result.taken
-            ≡ prefix_len is_in_line piece.now + (if result.ended then 1 else 0) }
-        ensures within { result.taken ≤ length piece.now }
-        ensures same { self.new.has_ended ≡ result.ended }
-        ensures line { let line = joined self.old.line (take (prefix_len is_in_line piece.now) piece.now) in
-            self.new.line ≡ (if result.ended then ended line else line) }
-    {
-        let count = count_in_line(piece);
-        let (front, rest) = piece.split_at(count);
-        self.join(front);
-        if rest.is_empty() {
-            return Fed {
-                taken: count,
-                ended: false,
-            };
-        }
-        self.end();
-        Fed {
-            taken: count + 1,
-            ended: true,
-        }
     }
 
     /// Adds bytes to the line, which is long once they don't fit.

@@ -1,12 +1,11 @@
 //! What single words spell: lengths, numbers of log-odds and of quaternions, depths and ranges.
 ghost use Rattle.std.specs.Prelude.{◌≡◌, ◌^◌, ◌<◌, ℤ, unsigned_abs, IfSome};
-ghost use Rattle.oct_num.specs.Sign.{has_minus};
 ghost use Rattle.oct_odds.specs.Odds.{IsSmall};
 ghost use Rattle.oct_script.specs.Grammar.{length_of, short_whole, number_of, depth_of};
 ghost use Rattle.oct_script.specs.Grammar.{component_of, range_of};
 ghost use Rattle.oct_script.specs.Commands.{IsRange};
 
-use oct_num::{read_metres, read_whole, split_sign};
+use oct_num::{read_metres, read_natural, read_whole, split_sign};
 
 /// The greatest magnitude of an N, a number of log-odds in a line.
 const GREATEST_NUMBER: u64 = 1_000_000;
@@ -20,13 +19,6 @@ pub fn length_of(word: &[u8]) -> Option<i64>
     ensures reach { IfSome result (λ n. unsigned_abs n < 10 ^ 16) }
 {
     read_metres(word).ok()
-}
-
-/// Whether a text begins with a minus.
-fn has_minus(text: &[u8]) -> bool
-    ensures { result ≡ has_minus text.now }
-{
-    text.first() == Some(&b'-')
 }
 
 /// The whole number that a word spells: an optional `-` and one to seven digits.
@@ -59,11 +51,11 @@ pub fn depth_of(word: &[u8]) -> Option<u32>
     ensures exact { result ≡ depth_of word.now }
     ensures small { IfSome result (λ depth. depth < 10000000) }
 {
-    if word.len() > MOST_DIGITS || has_minus(word) {
+    if word.len() > MOST_DIGITS {
         return None;
     }
-    let depth = read_whole(word)?;
-    Some(depth.unsigned_abs() as u32)
+    let depth = read_natural(word)?;
+    Some(depth as u32)
 }
 
 /// The number of a quaternion that a Q spells.

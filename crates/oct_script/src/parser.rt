@@ -9,9 +9,7 @@ ghost use Rattle.oct_script.specs.Faults.{IsMeant, LeavesAt};
 ghost use Rattle.oct_script.specs.Commands.{command_of, opens_scan, IsSmallEdit, IsRange};
 ghost use Rattle.oct_script.specs.Commands.{IsSmallCommand};
 ghost use Rattle.oct_script.specs.Reading.{number_in, point_in, point_number_in, rotation_in};
-ghost use Rattle.oct_script.specs.Reading.{excess, end_in, lazy_in, edit_end_in, edit_in};
-ghost use Rattle.oct_script.specs.Reading.{number_edit_in, query_in, scan_in, beam_in, behind_verb};
-ghost use Rattle.oct_script.specs.Reading.{IsSmallVerb, behind_first, line_in};
+ghost use Rattle.oct_script.specs.Reading.{excess, end_in, flag_in, edit_end_in, edit_in, points_in, number_edit_in, query_in, cast_in, scan_in, beam_in, IsSmallVerb, behind_verb, behind_first, line_in, edit_number_in, edit_word_in, box_in};
 
 use crate::command::{Command, Edit, ScanHead, Syntax};
 use crate::lines::LONGEST_LINE;
@@ -99,17 +97,17 @@ fn read_end(words: &mut Words<'_>) -> Result<(), Syntax>
     }
 }
 
-/// Reads the end of a line, or `lazy` before it: whether it's there.
-#[tactic(auto, unfolding(crate::specs::Reading::lazy_in))]
-fn read_lazy(words: &mut Words<'_>) -> Result<bool, Syntax>
+/// Reads the end of a line, or this word before it: whether it's there.
+#[tactic(auto, unfolding(crate::specs::Reading::flag_in))]
+fn read_flag(flag: &[u8], words: &mut Words<'_>) -> Result<bool, Syntax>
     ensures exact { MatchResult result
-        (λ lazy. lazy_in words.old.words ≡ Ok lazy)
-        (λ s. lazy_in words.old.words ≡ Err s) }
+        (λ there. flag_in flag.now words.old.words ≡ Ok there)
+        (λ s. flag_in flag.now words.old.words ≡ Err s) }
 {
     let Some(word) = words.next_word() else {
         return Ok(false);
     };
-    if word.text != b"lazy".as_slice() {
+    if word.text != flag {
         return Err(word.fault());
     }
     read_end(words)?;
@@ -123,7 +121,7 @@ fn read_edit_end(p: Point, e: Edit, words: &mut Words<'_>) -> Result<Command, Sy
     ensures exact { result ≡ edit_end_in p e words.old.words }
     ensures small { IfOk result IsSmallCommand }
 {
-    let lazy = read_lazy(words)?;
+    let lazy = read_flag(b"lazy", words)?;
     Ok(Command::Edit { p, e, lazy })
 }
 
@@ -172,6 +170,71 @@ fn read_set(words: &mut Words<'_>) -> Result<Command, Syntax>
     read_edit_end(p, Edit::Set(n), words)
 }
 
+/// Reads the end of a line after an edit that is one word.
+fn read_plain_edit(e: Edit, words: &mut Words<'_>) -> Result<Edit, Syntax>
+    requires { IsSmallEdit e }
+    ensures exact { result ≡ end_in e words.old.words }
+    ensures small { IfOk result IsSmallEdit }
+{
+    read_end(words)?;
+    Ok(e)
+}
+
+/// Reads an N and the end of the line, after `add`.
+#[tactic(auto, unfolding(crate::specs::Reading::edit_number_in))]
+fn read_added(words: &mut Words<'_>) -> Result<Edit, Syntax>
+    ensures exact { result ≡ edit_number_in Edit.Add words.old.end words.old.words }
+    ensures small { IfOk result IsSmallEdit }
+{
+    let n = read_number(words)?;
+    read_end(words)?;
+    Ok(Edit::Add(n))
+}
+
+/// Reads an N and the end of the line, after `set`.
+#[tactic(auto, unfolding(crate::specs::Reading::edit_number_in))]
+fn read_value(words: &mut Words<'_>) -> Result<Edit, Syntax>
+    ensures exact { result ≡ edit_number_in Edit.Set words.old.end words.old.words }
+    ensures small { IfOk result IsSmallEdit }
+{
+    let n = read_number(words)?;
+    read_end(words)?;
+    Ok(Edit::Set(n))
+}
+
+/// Reads an edit, and the end of the line.
+#[tactic(auto, unfolding(crate::specs::Reading::edit_word_in))]
+fn read_edit_word(words: &mut Words<'_>) -> Result<Edit, Syntax>
+    ensures exact { result ≡ edit_word_in words.old.end words.old.words }
+    ensures small { IfOk result IsSmallEdit }
+{
+    let word = words.take_word()?;
+    if word.text == b"hit".as_slice() {
+        read_plain_edit(Edit::Hit, words)
+    } else if word.text == b"miss".as_slice() {
+        read_plain_edit(Edit::Miss, words)
+    } else if word.text == b"forget".as_slice() {
+        read_plain_edit(Edit::Forget, words)
+    } else if word.text == b"add".as_slice() {
+        read_added(words)
+    } else if word.text == b"set".as_slice() {
+        read_value(words)
+    } else {
+        Err(word.fault())
+    }
+}
+
+/// Reads `X Y Z X Y Z` and an edit, after `box`.
+#[tactic(auto, unfolding(crate::specs::Reading::box_in))]
+fn read_box(words: &mut Words<'_>) -> Result<Command, Syntax>
+    ensures exact { result ≡ box_in words.old.end words.old.words }
+    ensures small { IfOk result IsSmallCommand }
+{
+    let (low, high) = read_points(words)?;
+    let e = read_edit_word(words)?;
+    Ok(Command::Box { low, high, e })
+}
+
 /// Reads `X Y Z D`, after `get`.
 #[tactic(auto, unfolding(crate::specs::Reading::query_in))]
 fn read_query(words: &mut Words<'_>) -> Result<Command, Syntax>
@@ -182,6 +245,34 @@ fn read_query(words: &mut Words<'_>) -> Result<Command, Syntax>
     let depth = read_depth(words)?;
     read_end(words)?;
     Ok(Command::Get { p, depth })
+}
+
+/// Reads `X Y Z X Y Z`.
+#[tactic(auto, unfolding(crate::specs::Reading::points_in))]
+fn read_points(words: &mut Words<'_>) -> Result<(Point, Point), Syntax>
+    ensures exact { MatchResult result
+        (λ r. points_in words.old.end words.old.words ≡ Ok (r.0, r.1, words.new.words))
+        (λ s. points_in words.old.end words.old.words ≡ Err s) }
+    ensures end { words.new.end ≡ words.old.end }
+{
+    let p = read_point(words)?;
+    let q = read_point(words)?;
+    Ok((p, q))
+}
+
+/// Reads `X Y Z X Y Z [ignore]`, after `cast`.
+#[tactic(auto, unfolding(crate::specs::Reading::cast_in))]
+fn read_cast(words: &mut Words<'_>) -> Result<Command, Syntax>
+    ensures exact { result ≡ cast_in words.old.end words.old.words }
+    ensures small { IfOk result IsSmallCommand }
+{
+    let (origin, end) = read_points(words)?;
+    let ignore_unknown = read_flag(b"ignore", words)?;
+    Ok(Command::Cast {
+        origin,
+        end,
+        ignore_unknown,
+    })
 }
 
 /// Reads `Q Q Q Q`, the numbers of a quaternion from its real part on.
@@ -208,7 +299,7 @@ fn read_scan(words: &mut Words<'_>) -> Result<Command, Syntax>
     let t = read_point(words)?;
     let (w, x, y, z) = read_rotation(words)?;
     let range = read_range(words)?;
-    let lazy = read_lazy(words)?;
+    let lazy = read_flag(b"lazy", words)?;
     Ok(Command::Scan(ScanHead {
         t,
         w,
@@ -255,6 +346,8 @@ fn read_behind(verb: &Verb, words: &mut Words<'_>) -> Result<Command, Syntax>
         Verb::Add => read_add(words),
         Verb::Set => read_set(words),
         Verb::Get => read_query(words),
+        Verb::Cast => read_cast(words),
+        Verb::Box => read_box(words),
         Verb::Scan => read_scan(words),
         Verb::Beam => read_beam(words),
         Verb::Alone(command) => read_alone(*command, words),
@@ -283,7 +376,7 @@ fn read_behind_first(
 
 /// Reads a line from its first word on.
 #[tactic(auto, unfolding(crate::specs::Reading::line_in))]
-fn read_line(inside: bool, words: &mut Words<'_>) -> Result<Command, Syntax>
+fn read_words(inside: bool, words: &mut Words<'_>) -> Result<Command, Syntax>
     ensures exact { result ≡ line_in inside words.old.end words.old.words }
     ensures small { IfOk result IsSmallCommand }
 {
@@ -313,7 +406,7 @@ pub fn parse(line: &[u8], inside: bool) -> Result<Command, Syntax>
         (length line.now + 1) (placed_words line.now) s.column) }
     ensures small { IfOk result IsSmallCommand }
 {
-    read_line(inside, &mut Words::new(line))
+    read_words(inside, &mut Words::new(line))
 }
 
 /// Whether a line opens the block of a scan, if it isn't long: whether its first word is `scan`,

@@ -1,9 +1,12 @@
 //! Replies, and their texts.
 ghost use Rattle.std.specs.Prelude.{◌≡◌, ◌++◌, OnOk, OnErr, Option, Some, None, decimal, take};
 ghost use Rattle.std.specs.Prelude.{vec_len};
-ghost use Rattle.oct_script.specs.Replies.{class_name, refusal_text, reply_text};
+ghost use Rattle.oct_script.specs.Replies.{class_name, refusal_text, voxel_text, cast_text};
+ghost use Rattle.oct_script.specs.Replies.{reply_text};
 
 use itoa::{Buffer, Integer};
+use oct_cast::Cast;
+use oct_key::Key;
 use oct_num::{Memory, push_whole};
 use oct_odds::Class;
 use oct_query::Counts;
@@ -27,6 +30,8 @@ pub enum Refusal {
     /// With the beam to the point of this index, from 0 on, the beams meet more voxels than the map
     /// allows: `cells`.
     TooManyCells { index: u64, cells: u64 },
+    /// So many blocks meet the box, and that is more than a list may have.
+    TooManyBlocks { count: u64 },
     /// The map is stale, and the depth is that of no voxel.
     Stale,
     /// These groups and those that the command may need are more than the map may have.
@@ -35,6 +40,8 @@ pub enum Refusal {
     Outside { point: u8 },
     /// The depth is above that of a voxel.
     BadDepth,
+    /// On some axis the first corner of the box lies beyond the second.
+    BadBox,
     /// The line of this number, from 1 on, isn't in the grammar from this column on.
     Syntax { line: u64, column: u32 },
     /// The line of this number, from 1 on, has more than 4,096 bytes.
@@ -60,6 +67,8 @@ pub enum Reply {
     Scanned(ScanDone),
     /// How many groups and nodes there are.
     Counted(Counts),
+    /// What a cast finds.
+    Casted(Cast),
     /// Nothing was done.
     Refused(Refusal),
 }
@@ -113,12 +122,14 @@ fn append_refusal(out: &mut Vec<u8>, refusal: Refusal) -> Result<(), Memory>
         Refusal::TooManyCells { index, cells } => {
             append_fields(out, b"8 TooManyCells index ", index, b" cells ", cells)?;
         }
+        Refusal::TooManyBlocks { count } => append_field(out, b"9 TooManyBlocks count ", count)?,
         Refusal::Stale => out.extend_from_slice(b"22 Stale")?,
         Refusal::Full { groups, need } => {
             append_fields(out, b"23 Full groups ", groups, b" need ", need)?;
         }
         Refusal::Outside { point } => append_field(out, b"24 Outside point ", point)?,
         Refusal::BadDepth => out.extend_from_slice(b"25 BadDepth")?,
+        Refusal::BadBox => out.extend_from_slice(b"26 BadBox")?,
         Refusal::Syntax { line, column } => {
             append_fields(out, b"29 Syntax line ", line, b" column ", column)?;
         }
@@ -128,6 +139,27 @@ fn append_refusal(out: &mut Vec<u8>, refusal: Refusal) -> Result<(), Memory>
         Refusal::NotYet => out.extend_from_slice(b"36 NotYet")?,
     }
     Ok(())
+}
+
+/// Appends a text and the numbers of a voxel after it.
+fn append_voxel(out: &mut Vec<u8>, before: &[u8], k: Key) -> Result<(), Memory>
+    ensures ok { OnOk result (out.new.items ≡ out.old.items ++ (before.now ++ voxel_text k)) }
+    ensures err { OnErr result (take (vec_len out.old) out.new.items ≡ out.old.items) }
+{
+    append_field(out, before, k.x)?;
+    append_fields(out, b" ", k.y, b" ", k.z)
+}
+
+/// Appends what a cast finds.
+fn append_cast(out: &mut Vec<u8>, found: Cast) -> Result<(), Memory>
+    ensures ok { OnOk result (out.new.items ≡ out.old.items ++ cast_text found) }
+    ensures err { OnErr result (take (vec_len out.old) out.new.items ≡ out.old.items) }
+{
+    match found {
+        Cast::Hit(k) => append_voxel(out, b"cast hit ", k),
+        Cast::Unknown(k) => append_voxel(out, b"cast unknown ", k),
+        Cast::Clear => Ok(out.extend_from_slice(b"cast clear")?),
+    }
 }
 
 /// Appends a reply's line. After an error a part of it may stand there.
@@ -151,6 +183,10 @@ fn append_reply(out: &mut Vec<u8>, reply: Reply) -> Result<(), Memory>
         }
         Reply::Counted(counts) => {
             append_fields(out, b"groups ", counts.groups, b" nodes ", counts.nodes)?;
+            out.extend_from_slice(b"\n")?;
+        }
+        Reply::Casted(found) => {
+            append_cast(out, found)?;
             out.extend_from_slice(b"\n")?;
         }
         Reply::Refused(refusal) => {

@@ -15,16 +15,20 @@ macro_rules! row {
 }
 
 /// The first words of lines outside the block of a scan.
-const OUTSIDE: [FirstWord; 11] = [
+const OUTSIDE: [FirstWord; 15] = [
+    row!(b"get", Verb::Get),
     row!(b"hit", Verb::Hit),
     row!(b"miss", Verb::Miss),
     row!(b"add", Verb::Add),
     row!(b"set", Verb::Set),
     row!(b"forget", Verb::Forget),
-    row!(b"get", Verb::Get),
     row!(b"counts", Verb::Alone(Command::Counts)),
     row!(b"refresh", Verb::Alone(Command::Refresh)),
     row!(b"prune", Verb::Alone(Command::Prune)),
+    row!(b"clear", Verb::Alone(Command::Clear)),
+    row!(b"maxlik", Verb::Alone(Command::MaxLikelihood)),
+    row!(b"cast", Verb::Cast),
+    row!(b"box", Verb::Box),
     row!(b"quit", Verb::Alone(Command::Quit)),
     row!(b"scan", Verb::Scan),
 ];

@@ -3,7 +3,8 @@ use crate::{
     Command, Edit, LONGEST_LINE, Lines, Refusal, Reply, ScanDone, ScanHead, Syntax, opens_scan,
     parse, push_reply,
 };
-use oct_key::Point;
+use oct_cast::Cast;
+use oct_key::{Key, Point};
 use oct_odds::Class;
 use oct_query::Counts;
 use std::test::Fail;
@@ -117,10 +118,24 @@ macro_rules! edit {
     };
 }
 
+/// An edit of the box from the origin to a point.
+macro_rules! on_box {
+    ($high:expr, $e:expr) => {
+        Command::Box { low: ORIGIN, high: $high, e: $e }
+    };
+}
+
 /// A query of a block around the origin.
 macro_rules! get {
     ($depth:expr) => {
         Command::Get { p: ORIGIN, depth: $depth }
+    };
+}
+
+/// A cast between two points.
+macro_rules! cast {
+    ($origin:expr, $end:expr, $ignore:expr) => {
+        Command::Cast { origin: $origin, end: $end, ignore_unknown: $ignore }
     };
 }
 
@@ -140,7 +155,7 @@ macro_rules! scan {
 }
 
 /// Lines outside the block of a scan, and their commands.
-const COMMANDS: [(&str, Command); 29] = [
+const COMMANDS: [(&str, Command); 38] = [
     ("hit 0 0 0", edit!(ORIGIN, Edit::Hit, false)),
     ("miss 0 0 0", edit!(ORIGIN, Edit::Miss, false)),
     (
@@ -162,14 +177,35 @@ const COMMANDS: [(&str, Command); 29] = [
     ("get 0 0 0 0", get!(0)),
     ("get 0 0 0 17", get!(17)),
     ("get 0 0 0 9999999", get!(9_999_999)),
+    (
+        "cast 0 0 0 1.5 -0.000000001 9999999.999999999",
+        cast!(ORIGIN, FAR, false),
+    ),
+    (
+        " cast 1.5 -0.000000001 9999999.999999999 0 -0 0.0 ignore ",
+        cast!(FAR, ORIGIN, true),
+    ),
     ("counts", Command::Counts),
     (" refresh", Command::Refresh),
     ("prune ", Command::Prune),
+    ("clear", Command::Clear),
+    ("maxlik", Command::MaxLikelihood),
+    ("box 0 0 0 0 0 0 hit", on_box!(ORIGIN, Edit::Hit)),
+    (
+        " box 0 0 0  1.5 -0.000000001 9999999.999999999 \t miss ",
+        on_box!(FAR, Edit::Miss),
+    ),
+    ("box 0 0 0 0 0 0 forget", on_box!(ORIGIN, Edit::Forget)),
+    (
+        "box 0 0 0 0 0 0 add -1000000",
+        on_box!(ORIGIN, Edit::Add(-1_000_000)),
+    ),
+    ("box 0 0 0 0 0 0 set 0000009", on_box!(ORIGIN, Edit::Set(9))),
     ("quit", Command::Quit),
     ("", Command::Blank),
     (" \t ", Command::Blank),
     (" #hit 0 0 x", Command::Blank),
-    ("clear", Command::NotYet),
+    ("clears", Command::NotYet),
     ("counted", Command::NotYet),
     ("Hit 0 0", Command::NotYet),
     ("scan 1 0 -0.5 1 0 0 0 all", scan!(1, 0, None, false)),
@@ -190,11 +226,11 @@ const BLOCK_COMMANDS: [(&str, Command); 5] = [
     (" end ", Command::End),
     ("", Command::Blank),
     ("\t# end", Command::Blank),
-    ("clear", Command::NotYet),
+    ("clears", Command::NotYet),
 ];
 
 /// Lines outside the block of a scan that aren't in the grammar, and the columns of their faults.
-const FAULTS: [(&str, u32); 38] = [
+const FAULTS: [(&str, u32); 59] = [
     ("get 0 0", 8),
     ("hit 0 0 x", 9),
     ("hit", 4),
@@ -220,6 +256,27 @@ const FAULTS: [(&str, u32); 38] = [
     ("counts x", 8),
     ("refresh 16", 9),
     ("prune lazy", 7),
+    ("clear 0", 7),
+    ("maxlik 0 0 0", 8),
+    ("cast 0 0 0", 11),
+    ("cast 0 0 0 0 0", 15),
+    ("cast 0 0 0 ignore", 12),
+    ("cast 0 0 0 0 0 x", 16),
+    ("cast 0 0 0 0 0 0 lazy", 18),
+    ("cast 0 0 0 0 0 0 ignored", 18),
+    ("cast 0 0 0 0 0 0 ignore 1", 25),
+    ("box", 4),
+    ("box 0 0 0 0 0", 14),
+    ("box 0 0 0 0 0 x hit", 15),
+    ("box 0 0 0 0 0 0", 16),
+    ("box 0 0 0 0 0 0 hits", 17),
+    ("box 0 0 0 0 0 0 16", 17),
+    ("box 0 0 0 0 0 0 hit lazy", 21),
+    ("box 0 0 0 0 0 0 miss 0", 22),
+    ("box 0 0 0 0 0 0 forget 0", 24),
+    ("box 0 0 0 0 0 0 add", 20),
+    ("box 0 0 0 0 0 0 add 1000001", 21),
+    ("box 0 0 0 0 0 0 set 0 lazy", 23),
     ("quit now", 6),
     ("scan", 5),
     ("scan 0 0 0 1 0 0 0", 19),
@@ -237,7 +294,7 @@ const FAULTS: [(&str, u32); 38] = [
 
 /// Lines inside the block of a scan that aren't in the grammar there, and the columns of their
 /// faults.
-const BLOCK_FAULTS: [(&str, u32); 9] = [
+const BLOCK_FAULTS: [(&str, u32); 12] = [
     ("p", 2),
     ("p 0 0", 6),
     ("p 0 0 0 0", 9),
@@ -246,6 +303,9 @@ const BLOCK_FAULTS: [(&str, u32); 9] = [
     (" get 0 0", 2),
     ("counts", 1),
     ("  quit", 3),
+    (" maxlik", 2),
+    ("cast 0 0 0 0 0 0", 1),
+    ("box 0 0 0", 1),
     ("scan 0 0 0", 1),
 ];
 
@@ -284,7 +344,7 @@ fn scan_is_the_word_that_opens_a_block(rt: HostRuntime) {
 }
 
 /// Replies, and their lines.
-const REPLIES: [(Reply, &str); 6] = [
+const REPLIES: [(Reply, &str); 9] = [
     (Reply::Ok, "ok\n"),
     (
         Reply::Known {
@@ -312,10 +372,27 @@ const REPLIES: [(Reply, &str); 6] = [
         }),
         "groups 16 nodes 17\n",
     ),
+    (
+        Reply::Casted(Cast::Hit(Key {
+            x: 0,
+            y: 65535,
+            z: 32768,
+        })),
+        "cast hit 0 65535 32768\n",
+    ),
+    (
+        Reply::Casted(Cast::Unknown(Key {
+            x: 1,
+            y: 20,
+            z: 300,
+        })),
+        "cast unknown 1 20 300\n",
+    ),
+    (Reply::Casted(Cast::Clear), "cast clear\n"),
 ];
 
 /// Refusals, and their lines.
-const REFUSALS: [(Refusal, &str); 13] = [
+const REFUSALS: [(Refusal, &str); 15] = [
     (Refusal::ZeroQuaternion, "refused 5 ZeroQuaternion\n"),
     (Refusal::OriginOutside, "refused 6 OriginOutside\n"),
     (
@@ -325,6 +402,10 @@ const REFUSALS: [(Refusal, &str); 13] = [
     (
         Refusal::TooManyCells { index: 1, cells: 8 },
         "refused 8 TooManyCells index 1 cells 8\n",
+    ),
+    (
+        Refusal::TooManyBlocks { count: 1_000_001 },
+        "refused 9 TooManyBlocks count 1000001\n",
     ),
     (Refusal::Stale, "refused 22 Stale\n"),
     (
@@ -339,6 +420,7 @@ const REFUSALS: [(Refusal, &str); 13] = [
         "refused 24 Outside point 1\n",
     ),
     (Refusal::BadDepth, "refused 25 BadDepth\n"),
+    (Refusal::BadBox, "refused 26 BadBox\n"),
     (
         Refusal::Syntax {
             line: 12,

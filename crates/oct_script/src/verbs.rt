@@ -1,8 +1,8 @@
 //! What the first words of lines begin.
 use crate::command::Command;
 
-/// What a first word begins: an edit, a query, a scan or a beam with words of its own, or a whole
-/// command.
+/// What a first word begins: an edit, a query, a cast, a scan or a beam with words of its own, or
+/// a whole command.
 #[derive(Clone, Copy, Debug, PartialEq, Eq)]
 pub enum Verb {
     Hit,
@@ -11,6 +11,8 @@ pub enum Verb {
     Set,
     Forget,
     Get,
+    Cast,
+    Box,
     Scan,
     Beam,
     /// No more words stand after the first one.

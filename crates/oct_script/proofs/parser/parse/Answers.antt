@@ -7,7 +7,7 @@ use Rattle.oct_script.proofs.parser.parse.Goals as goal
 pub returns-clause-exact : goal.returns-clause-exact
 unfolding command_of
 returns-clause-exact c =
-    c.read_line.ensures.exact ∙ line_is c.args.inside c.new.result.end c.new.result.words
+    c.read_words.ensures.exact ∙ line_is c.args.inside c.new.result.end c.new.result.words
     ∙ ap (λ end. command_in c.args.inside end c.new.result.words) c.new.ensures.end
     ∙ ap (λ words. command_in c.args.inside (length c.args.line.now + 1) words) c.new.ensures.words
 

@@ -6,6 +6,9 @@ returns-in_ok-append_field-in-PointOutside-clause-ok c = rw c.in-PointOutside.is
 pub returns-in_ok-append_fields-in-TooManyCells-clause-ok : goal.returns-in_ok-append_fields-in-TooManyCells-clause-ok
 returns-in_ok-append_fields-in-TooManyCells-clause-ok c = rw c.in-TooManyCells.is c.in_ok-append_fields-in-TooManyCells.ensures.ok
 
+pub returns-in_ok-append_field-in-TooManyBlocks-clause-ok : goal.returns-in_ok-append_field-in-TooManyBlocks-clause-ok
+returns-in_ok-append_field-in-TooManyBlocks-clause-ok c = rw c.in-TooManyBlocks.is c.in_ok-append_field-in-TooManyBlocks.ensures.ok
+
 pub returns-in_ok-append_fields-in-Full-clause-ok : goal.returns-in_ok-append_fields-in-Full-clause-ok
 returns-in_ok-append_fields-in-Full-clause-ok c = rw c.in-Full.is c.in_ok-append_fields-in-Full.ensures.ok
 
