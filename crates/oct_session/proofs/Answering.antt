@@ -1,5 +1,5 @@
--- What a map answers is what the plain fold over the history answers for which it stands.
-use Rattle.std.proofs.Common.{◌≡◌, ℕ, ◌+◌, ◌&&◌, Bool, true, cond, nat_lt, Option, Some, None, Result, Ok, Err, inl, inr, refl, sym, ap, ◌∙◌}
+-- What a map answers is what is answered in the state for which it stands.
+use Rattle.std.proofs.Common.{◌≡◌, ℕ, ◌+◌, ◌&&◌, Bool, true, cond, nat_lt, Option, Some, None, is_some, Result, Ok, Err, inl, inr, refl, sym, ap, ◌∙◌}
 use Rattle.std.proofs.lemmas.Bool.{cases_lt, lt-ltb}
 use Rattle.std.specs.Prelude.{⊤}
 use Rattle.oct_key.specs.Block.{block_of}
@@ -8,19 +8,23 @@ use Rattle.oct_key.specs.Values.{Values, SameValues}
 use Rattle.oct_key.specs.declared.point.Point.{Point}
 use Rattle.oct_key.proofs.Blocks.{block_of_in_map}
 use Rattle.oct_key.proofs.Faces.{IsInMap-key_at}
-use Rattle.oct_odds.specs.Update.{Value}
-use Rattle.oct_map.specs.Answers.{edit_answer, edit_answer_at, edit_need, room_answer, scan_answer, scan_answer_by, get_answer, get_answer_at, block_answer}
-use Rattle.oct_map.specs.Outcome.{need_of, done_of}
+use Rattle.oct_odds.specs.Update.{Value, class_of}
+use Rattle.oct_cast.specs.declared.outcome.Cast.{Cast}
+use Rattle.oct_cast.specs.Cast.{cast_along}
+use Rattle.oct_map.specs.Casts.{cast_answer, cast_answer_at}
+use Rattle.oct_map.specs.Answers.{edit_answer, edit_answer_at, edit_need, room_answer, scan_answer, scan_answer_by, get_answer, get_answer_at, block_answer, box_answer, box_answer_by, corner_fault}
+use Rattle.oct_map.specs.Outcome.{need_of, done_of, corner_need}
 use Rattle.oct_scan.specs.Beam.{Sighting}
 use Rattle.oct_scan.specs.Outcome.{scan_fault}
-use Rattle.oct_map.specs.Map.{Map, values_of}
+use Rattle.oct_map.specs.Map.{Map, ground_of, values_of}
 use Rattle.oct_map.specs.declared.fault.MapFault.{MapFault}
 use Rattle.oct_map.specs.declared.fault.MapFault.TheVariants.{BadDepth, Stale, Full}
 use Rattle.oct_values.proofs.Uniform.{same_group_count}
 use Rattle.oct_values.proofs.Largest.{same_depth_value}
-use Rattle.oct_session.specs.History.{History, value_after, is_stale_after}
+use Rattle.oct_values.specs.Classes.{Classes, classes_of}
+use Rattle.oct_session.specs.History.{State}
 use Rattle.oct_session.specs.Leaving.{StandsFor}
-use Rattle.oct_session.specs.Setup.{Setup}
+use Rattle.oct_session.proofs.Casting.{same_along}
 
 -- the room beside two maps' values that are one
 same_room : (most need : ℕ) (v w : Values) → SameValues v w → room_answer most v need ≡ room_answer most w need
@@ -32,10 +36,16 @@ same_edit_at most v w None same = refl
 same_edit_at most v w (Some k) same = same_room most edit_need v w same
 
 -- a map's answer to an edit
-pub same_edit : (o : Setup) (m : Map) (h : History) (p : Point) → StandsFor o m h → edit_answer m.tree.res m.max_groups (values_of m) p ≡ edit_answer o.res o.max_groups (value_after o h) p
-same_edit o m h p at =
-    ap (λ r. edit_answer r m.max_groups (values_of m) p) at.res ∙ ap (λ n. edit_answer o.res n (values_of m) p) at.max_groups
-    ∙ sym (same_edit_at o.max_groups (value_after o h) (values_of m) (key_at o.res p) at.values)
+pub same_edit : (m : Map) (s : State) (p : Point) → StandsFor m s → edit_answer (ground_of m) (values_of m) p ≡ edit_answer s.base s.values p
+same_edit m s p at =
+    ap (λ g. edit_answer g (values_of m) p) at.base ∙ sym (same_edit_at s.base.max_groups s.values (values_of m) (key_at s.base.res p) at.values)
+
+-- a map's answer to an edit of a box
+pub same_box : (m : Map) (s : State) (low high : Point) → StandsFor m s → box_answer (ground_of m) (values_of m) low high ≡ box_answer s.base s.values low high
+same_box m s low high at =
+    ap (λ g. box_answer g (values_of m) low high) at.base
+    ∙ ap (box_answer_by (corner_fault (key_at s.base.res low) (key_at s.base.res high)))
+    (sym (same_room s.base.max_groups (corner_need (key_at s.base.res low) (key_at s.base.res high)) s.values (values_of m) at.values))
 
 -- a block's answer, for two maps' values that are one
 same_block_answer : (stale : Bool) (v w : Values) (depth : ℕ) (k : Voxel) → IsInMap k → SameValues v w → block_answer stale v depth k ≡ block_answer stale w depth k
@@ -50,18 +60,27 @@ same_get_at stale v w depth None low same = refl
 same_get_at stale v w depth (Some k) low same = same_block_answer stale v w depth k (low k refl) same
 
 -- a map's answer to a query
-pub same_get : (o : Setup) (m : Map) (h : History) (p : Point) (depth : ℕ) → StandsFor o m h →
-    get_answer m.tree.res m.is_stale (values_of m) p depth ≡ get_answer o.res (is_stale_after h) (value_after o h) p depth
-same_get o m h p depth at =
-    ap (λ r. get_answer r m.is_stale (values_of m) p depth) at.res ∙ ap (λ b. get_answer o.res b (values_of m) p depth) at.is_stale
-    ∙ sym (same_get_at (is_stale_after h) (value_after o h) (values_of m) depth (key_at o.res p) (IsInMap-key_at o.res p) at.values)
+pub same_get : (m : Map) (s : State) (p : Point) (depth : ℕ) → StandsFor m s → get_answer (ground_of m) m.is_stale (values_of m) p depth ≡ get_answer s.base s.is_stale s.values p depth
+same_get m s p depth at =
+    ap (λ g. get_answer g m.is_stale (values_of m) p depth) at.base ∙ ap (λ b. get_answer s.base b (values_of m) p depth) at.is_stale
+    ∙ sym (same_get_at s.is_stale s.values (values_of m) depth (key_at s.base.res p) (IsInMap-key_at s.base.res p) at.values)
+
+same_cast_at : (edge : ℕ) (o e : Point) (ignore : Bool) (c d : Classes) (key_o key_e : Option Voxel) → key_at edge o ≡ key_o → key_at edge e ≡ key_e → ((k : Voxel) → IsInMap k → c k ≡ d k) →
+    cast_answer_at key_o key_e (cast_along edge o e ignore c) ≡ cast_answer_at key_o key_e (cast_along edge o e ignore d)
+same_cast_at edge o e ignore c d None key_e is_o is_e same = refl
+same_cast_at edge o e ignore c d (Some k) None is_o is_e same = refl
+same_cast_at edge o e ignore c d (Some k) (Some l) is_o is_e same =
+    ap (λ (found : Cast). let r : Result Cast MapFault = Ok found in r) (same_along edge o e ignore c d (ap is_some is_o) (ap is_some is_e) same)
+
+-- a map's answer to a cast
+pub same_cast : (m : Map) (s : State) (o e : Point) (ignore : Bool) → StandsFor m s → cast_answer (ground_of m) (values_of m) o e ignore ≡ cast_answer s.base s.values o e ignore
+same_cast m s o e ignore at =
+    ap (λ g. cast_answer g (values_of m) o e ignore) at.base
+    ∙ sym (same_cast_at s.base.res o e ignore (classes_of s.base.odds s.values) (classes_of s.base.odds (values_of m)) (key_at s.base.res o) (key_at s.base.res e) refl refl
+    (λ k low. ap (class_of s.base.odds) (at.values k low)))
 
 -- a map's answer to a scan
-pub same_scan : (o : Setup) (m : Map) (h : History) (s : Sighting) → StandsFor o m h →
-    scan_answer m.tree.res m.tree.odds m.max_groups m.max_cells (values_of m) s ≡ scan_answer o.res o.odds o.max_groups o.max_cells (value_after o h) s
-same_scan o m h s at =
-    ap (λ r. scan_answer r m.tree.odds m.max_groups m.max_cells (values_of m) s) at.res
-    ∙ ap (λ d. scan_answer o.res d m.max_groups m.max_cells (values_of m) s) at.odds
-    ∙ ap (λ n. scan_answer o.res o.odds n m.max_cells (values_of m) s) at.max_groups
-    ∙ ap (λ n. scan_answer o.res o.odds o.max_groups n (values_of m) s) at.max_cells
-    ∙ ap (λ room. scan_answer_by (scan_fault o.res s o.max_cells) room (done_of o.res s)) (sym (same_room o.max_groups (need_of o.res o.odds s) (value_after o h) (values_of m) at.values))
+pub same_scan : (m : Map) (s : State) (scan : Sighting) → StandsFor m s → scan_answer (ground_of m) (values_of m) scan ≡ scan_answer s.base s.values scan
+same_scan m s scan at =
+    ap (λ g. scan_answer g (values_of m) scan) at.base
+    ∙ ap (λ room. scan_answer_by (scan_fault s.base.res scan s.base.max_cells) room (done_of s.base scan)) (sym (same_room s.base.max_groups (need_of s.base scan) s.values (values_of m) at.values))

@@ -17,7 +17,8 @@ use Rattle.oct_session.specs.declared.options.Stop.TheVariants.{TooLong, ReadFau
 use Rattle.oct_session.specs.declared.service.TheConstants.{MOST_READ}
 use Rattle.oct_session.specs.declared.session.Session.{Session}
 use Rattle.oct_session.specs.Ending.{HasTaken, HasStopped, HasReplied, IsReadToEnd, MayEnd, IsWhole, IsBegun, replies_within, has_quit_within}
-use Rattle.oct_session.specs.Leaving.{StandsFor, IsHalted, HasHalted, Leaves}
+use Rattle.oct_session.specs.Leaving.{StandsFor, StandsAfter, IsHalted, HasHalted, Leaves}
+use Rattle.oct_session.specs.History.{start_state, state_after}
 use Rattle.oct_session.specs.Session.{Progress, Answer, start, after_line, answered, progress, lines_of, last_progress, session, finished, cut_short, closed, is_too_long, status_at_end}
 use Rattle.oct_session.specs.Setup.{Setup}
 use Rattle.oct_session.specs.Standing.{Takes, KeepsReplies, StopsAtEnd, HasReached, IsAt, HasServed, IsThrough, HasEndedAs, StopsIn}
@@ -122,12 +123,12 @@ begun_session : (o : Setup) (files : Files) (bytes front back : List ℕ) (old n
 begun_session o files bytes front back old new parts few begun = let s = within_session o files bytes front back parts few in begun_more _ _ s.0 old new s.1 begun
 
 -- a halt within a front of the script is a halt of the session
-halted_session : (o : Setup) (files : Files) (bytes front back : List ℕ) (old new : Option (List ℕ)) (m : Map) → bytes ≡ front ++ back → length front ≤ o.max_bytes →
-    IsHalted o files (ended_lines front) old new m → HasHalted o files bytes old new m
-halted_session o files bytes front back old new m parts few halted =
-    let s = lines_within o bytes front back parts few in inl (subst (λ x. IsHalted o files x old new m) (sym s.1) (halted_more o files (ended_lines front) s.0 old new m halted))
+halted_session : (o : Setup) (files : Files) (bytes front back : List ℕ) (old new : Option (List ℕ)) (m : Map) (status : Status) → bytes ≡ front ++ back → length front ≤ o.max_bytes →
+    IsHalted o files (ended_lines front) old new m status → HasHalted o files bytes old new m status
+halted_session o files bytes front back old new m status parts few halted =
+    let s = lines_within o bytes front back parts few in inl (subst (λ x. IsHalted o files x old new m status) (sym s.1) (halted_more o files (ended_lines front) s.0 old new m status halted))
 
-halted_as : (o : Setup) (files : Files) (bytes : List ℕ) (left w u : Option (List ℕ)) (m : Map) (stop : Stop) → IsSinkStop stop → HasHalted o files bytes w u m →
+halted_as : (o : Setup) (files : Files) (bytes : List ℕ) (left w u : Option (List ℕ)) (m : Map) (stop : Stop) → IsSinkStop stop → HasHalted o files bytes w u m (status_of stop) →
     IsBegun (session o files bytes).text w u → HasStopped o files bytes left w u → HasEndedAs o files bytes left w u m (status_of stop)
 halted_as o files bytes left w u m WriteFault only halted begun input = record { answer = (begun, input); leaves = halted }
 halted_as o files bytes left w u m Memory only halted begun input = record { answer = (begun, input); leaves = halted }
@@ -135,21 +136,21 @@ halted_as o files bytes left w u m TooLong only halted begun input = absurd only
 halted_as o files bytes left w u m ReadFault only halted begun input = absurd only
 
 -- what a session that was halted has written is a prefix of the whole answer
-halted_text : (o : Setup) (files : Files) (bytes : List ℕ) (w u : Option (List ℕ)) (m : Map) → HasHalted o files bytes w u m → IsBegun (session o files bytes).text w u
-halted_text o files bytes w u m (inl halted) = let s = session_text o files bytes in begun_more _ _ s.0 w u s.1 (halted_begun o files (lines_of o bytes) w u m halted)
-halted_text o files bytes w u m (inr end) =
+halted_text : (o : Setup) (files : Files) (bytes : List ℕ) (w u : Option (List ℕ)) (m : Map) (status : Status) → HasHalted o files bytes w u m status → IsBegun (session o files bytes).text w u
+halted_text o files bytes w u m status (inl halted) = let s = session_text o files bytes in begun_more _ _ s.0 w u s.1 (halted_begun o files (lines_of o bytes) w u m status halted)
+halted_text o files bytes w u m status (inr end) =
     subst (λ x. IsBegun x w u) (sym (ap (λ (a : Answer). a.text) (session_whole o files bytes end.0)))
-    (between_begun o (last_progress o files bytes) (closed (last_progress o files bytes)) w u m end.1)
+    (between_begun o (last_progress o files bytes) (closed (last_progress o files bytes)) w u m status end.1)
 
 -- how a session ends that was halted by its sink, or because memory ran out
-halted_ends : (o : Setup) (files : Files) (bytes : List ℕ) (left w u : Option (List ℕ)) (m : Map) (stop : Stop) → IsSinkStop stop → HasHalted o files bytes w u m →
+halted_ends : (o : Setup) (files : Files) (bytes : List ℕ) (left w u : Option (List ℕ)) (m : Map) (stop : Stop) → IsSinkStop stop → HasHalted o files bytes w u m (status_of stop) →
     HasStopped o files bytes left w u → HasEndedAs o files bytes left w u m (status_of stop)
 halted_ends o files bytes left w u m stop only halted input =
-    halted_as o files bytes left w u m stop only halted (halted_text o files bytes w u m halted) input
+    halted_as o files bytes left w u m stop only halted (halted_text o files bytes w u m (status_of stop) halted) input
 
 -- map and session as they begin
 pub record IsNew (o : Setup) (m : Map) (s : Session) : Type 0 where
-  pub stands : StandsFor o m []
+  pub stands : StandsFor m (start_state o)
   pub line : s.line ≡ unread
   pub counted : s.line_count ≡ 0
   pub block : s.block ≡ None
@@ -157,7 +158,7 @@ pub record IsNew (o : Setup) (m : Map) (s : Session) : Type 0 where
   pub running : s.has_quit ≡ false
 
 -- a new session with the map that it is lent
-pub begins : {o : Setup} {m : Map} {s : Session} → StandsFor o m [] → s.line ≡ unread → s.line_count ≡ 0 → s.block ≡ None → s.refused ≡ false → s.has_quit ≡ false → IsNew o m s
+pub begins : {o : Setup} {m : Map} {s : Session} → StandsFor m (start_state o) → s.line ≡ unread → s.line_count ≡ 0 → s.block ≡ None → s.refused ≡ false → s.has_quit ≡ false → IsNew o m s
 begins stands line counted block refused running =
     record { stands = stands; line = line; counted = counted; block = block; refused = refused; running = running }
 
@@ -279,11 +280,11 @@ serving_quit o files bytes buffer piece left after w v u l m s t taken n room re
 
 -- a halt in what of the piece may be taken
 stops_halted : (o : Setup) (files : Files) (bytes buffer piece : List ℕ) (left after w u : Option (List ℕ)) (m : Map) (taken n room : ℕ) (stop : Stop) → IsSinkStop stop → IsRead o buffer piece left after taken n room →
-    HasTaken taken bytes left → HasReplied o files (take taken bytes) w u → IsHalted o files (ended_lines (take taken bytes ++ take room piece)) w u m → HasEndedAs o files bytes after w u m (status_of stop)
+    HasTaken taken bytes left → HasReplied o files (take taken bytes) w u → IsHalted o files (ended_lines (take taken bytes ++ take room piece)) w u m (status_of stop) → HasEndedAs o files bytes after w u m (status_of stop)
 stops_halted o files bytes buffer piece left after w u m taken n room stop only read input replied halted =
     let p : piece ≡ take n (drop taken bytes) = piece_is bytes buffer piece left taken n input read.same read.is in
     halted_ends o files bytes after w u m stop only
-    (halted_session o files bytes (take taken bytes ++ take room piece) (drop room piece ++ drop n (drop taken bytes)) w u m (parts_within bytes piece taken n room p)
+    (halted_session o files bytes (take taken bytes ++ take room piece) (drop room piece ++ drop n (drop taken bytes)) w u m (status_of stop) (parts_within bytes piece taken n room p)
     (few_within bytes piece taken room o.max_bytes read.few read.size) halted)
     (record {
       taken = taken + n;
@@ -350,13 +351,13 @@ through_end o files bytes left w v u l m s t taken few none goes at =
     }
 
 -- a halt at the last line, or at the end after it
-stopped_end : (o : Setup) (files : Files) (bytes : List ℕ) (w u : Option (List ℕ)) (m : Map) → length bytes ≤ o.max_bytes → StopsAtEnd o files (lines_of o bytes) w u m → HasHalted o files bytes w u m
-stopped_end o files bytes w u m short (inl halted) = inl halted
-stopped_end o files bytes w u m short (inr end) = inr (le-ltb o.max_bytes (length bytes) short, end)
+stopped_end : (o : Setup) (files : Files) (bytes : List ℕ) (w u : Option (List ℕ)) (m : Map) (status : Status) → length bytes ≤ o.max_bytes → StopsAtEnd o files (lines_of o bytes) w u m status → HasHalted o files bytes w u m status
+stopped_end o files bytes w u m status short (inl halted) = inl halted
+stopped_end o files bytes w u m status short (inr end) = inr (le-ltb o.max_bytes (length bytes) short, end)
 
 -- a stop in the answer to the last line
 ends_last : (o : Setup) (files : Files) (bytes : List ℕ) (left w v u : Option (List ℕ)) (l m : Map) (s : Session) (taken : ℕ) (stop : Stop) → taken ≤ o.max_bytes → IfSome left (λ l. l ≡ []) → IsSinkStop stop →
-    ((files : Files) (w : Option (List ℕ)) (bytes : List ℕ) → IsAt o files w v l s bytes → StopsAtEnd o files (all_lines bytes) w u m) →
+    ((files : Files) (w : Option (List ℕ)) (bytes : List ℕ) → IsAt o files w v l s bytes → StopsAtEnd o files (all_lines bytes) w u m (status_of stop)) →
     (KeepsReplies o v u l s) →
     HasServed o files bytes left w v l s taken → HasEndedAs o files bytes left w u m (status_of stop)
 ends_last o files bytes left w v u l m s taken stop few none only halts replied at =
@@ -364,8 +365,8 @@ ends_last o files bytes left w v u l m s taken stop few none only halts replied 
     let whole : take taken bytes ≡ bytes = take_all taken bytes (omega arith) in
     let short : length bytes ≤ o.max_bytes = omega arith in
     halted_ends o files bytes left w u m stop only
-    (stopped_end o files bytes w u m short
-    (subst (λ x. StopsAtEnd o files x w u m) (ap all_lines whole ∙ sym (lines_short o bytes short)) (halts files w (take taken bytes) at.at)))
+    (stopped_end o files bytes w u m (status_of stop) short
+    (subst (λ x. StopsAtEnd o files x w u m (status_of stop)) (ap all_lines whole ∙ sym (lines_short o bytes short)) (halts files w (take taken bytes) at.at)))
     (record {
       taken = taken;
       few = omega arith;
@@ -374,7 +375,7 @@ ends_last o files bytes left w v u l m s taken stop few none only halts replied 
     })
 
 ended_as : (o : Setup) (files : Files) (bytes : List ℕ) (left w v : Option (List ℕ)) (m : Map) (refused : Bool) (status : Status) → status ≡ status_at_end refused →
-    (session o files bytes).status ≡ status_at_end refused → v ≡ appended w (session o files bytes).text → IsReadToEnd o files bytes left → StandsFor o m (last_progress o files bytes).history →
+    (session o files bytes).status ≡ status_at_end refused → v ≡ appended w (session o files bytes).text → IsReadToEnd o files bytes left → StandsAfter o m (last_progress o files bytes) →
     HasEndedAs o files bytes left w v m status
 ended_as o files bytes left w v m true status is same written end stands =
     subst (HasEndedAs o files bytes left w v m) (sym is) (record { answer = (record { written = written; same_status = same }, end); leaves = stands })
@@ -387,7 +388,7 @@ ends_through : (o : Setup) (files : Files) (bytes : List ℕ) (left w v : Option
 ends_through o files bytes left w v m s status is through =
     ended_as o files bytes left w v m s.refused status is (ap (λ (a : Answer). a.status) through.whole ∙ ap status_at_end (sym through.reached.between.refused))
     (through.reached.written ∙ ap (λ (a : Answer). appended w a.text) (sym through.whole)) through.end
-    (subst (λ h. StandsFor o m h) (closed_history (last_progress o files bytes)) through.reached.between.stands)
+    (subst (λ h. StandsFor m (state_after o h)) (closed_history (last_progress o files bytes)) through.reached.between.stands)
 
 -- a call that gives up where the input failed
 pub fault_ends : {T : Type 0} (r : Result T Stop) (o : Setup) (left after v : Option (List ℕ)) (m : Map) (s : Session) (taken : ℕ) → IsErrAnd r (λ stop. stop ≡ ReadFault) → after ≡ left → taken ≤ o.max_bytes → s.has_quit ≡ false →
@@ -439,7 +440,7 @@ last_read (Err x) o left after a v u k l m s t e taken few none goes answers = t
 -- a stop in that answer
 pub last_stop : (r : Result (Unit {0}) Stop) (o : Setup) (left after a v u : Option (List ℕ)) (k l m : Map) (s t : Session) (taken : ℕ) → taken ≤ o.max_bytes → IfSome after (λ l. l ≡ []) →
     ((files : Files) (bytes : List ℕ) (w : Option (List ℕ)) → HasServed o files bytes left w a k s 0 → HasServed o files bytes after w v l t taken) → IfErr r IsSinkStop →
-    OnErr r ((files : Files) (w : Option (List ℕ)) (bytes : List ℕ) → IsAt o files w v l t bytes → StopsAtEnd o files (all_lines bytes) w u m) →
+    IfErr r (λ stop. (files : Files) (w : Option (List ℕ)) (bytes : List ℕ) → IsAt o files w v l t bytes → StopsAtEnd o files (all_lines bytes) w u m (status_of stop)) →
     OnErr r (KeepsReplies o v u l t) →
     IfErr r (λ stop. (files : Files) (bytes : List ℕ) (w : Option (List ℕ)) → HasServed o files bytes left w a k s 0 → HasEndedAs o files bytes after w u m (status_of stop))
 last_stop (Ok x) o left after a v u k l m s t taken few none goes only halts replied = tt

@@ -1,46 +1,59 @@
 -- Sessions that are halted at a line, or at the end of the script.
-use Rattle.std.proofs.Common.{◌≡◌, ℕ, List, [], ◌∷◌, ◌++◌, take, drop, ◌||◌, true, false, cond, Option, None, IsSome, ◌<◌, length, length-drop, arith, Result, Ok, Err, OnErr, inl, inr, refl, sym, ap, subst, ◌∙◌, append_assoc, append-nil}
+use Rattle.std.proofs.Common.{◌≡◌, ℕ, List, [], ◌∷◌, ◌++◌, take, drop, ◌||◌, true, false, cond, Option, None, IsSome, ◌<◌, length, length-drop, arith, Result, Ok, Err, IfErr, IsErrAnd, inl, inr, refl, sym, ap, subst, ◌∙◌, append_assoc, append-nil}
 use Rattle.std.specs.Prelude.{◌⊎◌}
 use Rattle.std.proofs.lemmas.List.{take-append-drop}
 use Rattle.oct_io.specs.Files.{Files}
 use Rattle.oct_io.specs.Told.{appended}
 use Rattle.oct_io.proofs.Appending.{appended_twice}
+use Rattle.oct_io.specs.declared.sink.SinkFault.{SinkFault}
+use Rattle.oct_io.specs.declared.sink.SinkFault.TheVariants as sink_fault
 use Rattle.oct_map.specs.Map.{Map}
 use Rattle.oct_script.specs.Lines.{Line, ended_lines}
 use Rattle.oct_script.specs.declared.reply.Reply.{Reply}
 use Rattle.oct_script.specs.Replies.{text_of, is_refusal}
 use Rattle.oct_script.proofs.Cuts.{ended_lines-append}
+use Rattle.oct_session.specs.declared.options.Status.{Status}
+use Rattle.oct_session.specs.declared.options.Stop.{Stop}
+use Rattle.oct_session.specs.declared.options.Stop.TheVariants as stop
 use Rattle.oct_session.specs.declared.session.Session.{Session}
 use Rattle.oct_session.specs.Ending.{IsBegun, replies_within, HasReplied}
-use Rattle.oct_session.specs.Leaving.{StandsFor, IsHaltedBetween, IsHalted}
+use Rattle.oct_session.specs.Leaving.{StandsFor, StandsAfter, HasLeft, IsHaltedBetween, IsHalted}
+use Rattle.oct_session.specs.History.{state_after}
 use Rattle.oct_session.specs.Session.{Progress, effect_of, after_line, progress, ended, closed}
 use Rattle.oct_session.specs.ScanBlock.{end_reply}
 use Rattle.oct_session.specs.Setup.{Setup}
 use Rattle.oct_session.specs.Standing.{IsHeard, StandsBeside, IsBetween, HasReached}
+use Rattle.oct_session.specs.Stops.{stop_of_sink, status_of}
 use Rattle.oct_session.proofs.Prefixes.{begun_more}
 use Rattle.oct_session.proofs.NonemptyReplies.{text_some}
 use Rattle.oct_session.proofs.Progresses.{progress_push, progress_grows, after_answered}
 
 -- what was to be written on the way was written in part
-halted_part : (o : Setup) (w v u : Option (List ℕ)) (m n : Map) (s : Session) (p q : Progress) (text : List ℕ) (k : ℕ) → s.has_quit ≡ false → HasReached o w v m s p →
-    StandsFor o n q.history → q.text ≡ p.text ++ text → k < length text → u ≡ appended v (take k text) → IsHaltedBetween o p q w u n
-halted_part o w v u m n s p q text k running at stands is less written = record {
+halted_part : (o : Setup) (w v u : Option (List ℕ)) (m n : Map) (s : Session) (p q : Progress) (text : List ℕ) (k : ℕ) (status : Status) → s.has_quit ≡ false → HasReached o w v m s p →
+    HasLeft o p q (take k text) n status → q.text ≡ p.text ++ text → k < length text → u ≡ appended v (take k text) → IsHaltedBetween o p q w u n status
+halted_part o w v u m n s p q text k status running at left is less written = record {
   running = sym at.between.has_quit ∙ running;
   told = take k text;
   untold = drop k text;
   reply = is ∙ ap (λ x. p.text ++ x) (sym (take-append-drop k text));
   written = written ∙ ap (λ x. appended x (take k text)) at.written ∙ appended_twice w p.text (take k text);
   more = inl (omega (arith, length-drop k text, less));
-  stands = inr stands;
+  has_left = left;
 }
 
-beside_untold : (o : Setup) (m : Map) (p q : Progress) → StandsFor o m p.history ⊎ StandsFor o m q.history → (StandsFor o m p.history × ◌≡◌ {A = List ℕ} [] []) ⊎ StandsFor o m q.history
-beside_untold o m p q (inl before) = inl (before, refl)
-beside_untold o m p q (inr after) = inr after
+-- what is left where all was done
+left_all : (o : Setup) (m : Map) (p q : Progress) (told : List ℕ) (fault : SinkFault) → StandsAfter o m q → HasLeft o p q told m (status_of (stop_of_sink fault))
+left_all o m p q told sink_fault.Failed all = all
+left_all o m p q told sink_fault.Memory all = inl all
+
+-- what is left where memory ran out before anything was told
+left_beside : (o : Setup) (m : Map) (p q : Progress) → StandsAfter o m p ⊎ StandsAfter o m q → HasLeft o p q [] m (status_of stop.Memory)
+left_beside o m p q (inl before) = inr (refl, before)
+left_beside o m p q (inr after) = inl after
 
 -- nothing was written of it
 halted_untold : (o : Setup) (w v : Option (List ℕ)) (m n : Map) (s : Session) (p q : Progress) (text : List ℕ) → s.has_quit ≡ false → HasReached o w v m s p →
-    StandsFor o n p.history ⊎ StandsFor o n q.history → q.text ≡ p.text ++ text → (0 < length text) ⊎ IsSome q.block → IsHaltedBetween o p q w v n
+    StandsAfter o n p ⊎ StandsAfter o n q → q.text ≡ p.text ++ text → (0 < length text) ⊎ IsSome q.block → IsHaltedBetween o p q w v n (status_of stop.Memory)
 halted_untold o w v m n s p q text running at beside is heard = record {
   running = sym at.between.has_quit ∙ running;
   told = [];
@@ -48,7 +61,7 @@ halted_untold o w v m n s p q text running at beside is heard = record {
   reply = is;
   written = at.written ∙ ap (λ x. appended w x) (sym (append-nil p.text));
   more = heard;
-  stands = beside_untold o n p q beside;
+  has_left = left_beside o n p q beside;
 }
 
 -- what a line writes
@@ -61,22 +74,25 @@ heard_line o p line running (inl some) = inl (text_some (effect_of o p line).rep
 heard_line o p line running (inr some) = inr (subst (λ (x : Progress). IsSome x.block) (sym (after_answered o p line running)) some)
 
 -- a call that gives up before anything of the reply is written
-pub untold_err : {T E : Type 0} (r : Result T E) (o : Setup) (v : Option (List ℕ)) (m n : Map) (s : Session) → s.has_quit ≡ false →
+pub untold_err : {T : Type 0} (r : Result T Stop) (o : Setup) (v : Option (List ℕ)) (m n : Map) (s : Session) → IsErrAnd r (λ x. x ≡ stop.Memory) → s.has_quit ≡ false →
     ((p : Progress) → IsBetween o m s p → StandsBeside o n p s.line.line) →
-    OnErr r ((w : Option (List ℕ)) (p : Progress) → HasReached o w v m s p → IsHaltedBetween o p (after_line o p s.line.line) w v n)
-untold_err (Ok x) o v m n s running beside = tt
-untold_err (Err x) o v m n s running beside = λ w p at.
+    IfErr r (λ stop. (w : Option (List ℕ)) (p : Progress) → HasReached o w v m s p → IsHaltedBetween o p (after_line o p s.line.line) w v n (status_of stop))
+untold_err (Ok x) o v m n s is running beside = absurd is
+untold_err (Err x) o v m n s is running beside = λ w p at.
     let b = beside p at.between in
-    halted_untold o w v m n s p (after_line o p s.line.line) _ running at b.1 (text_line o m s p running at.between) (heard_line o p s.line.line (sym at.between.has_quit ∙ running) b.0)
+    subst (λ y. IsHaltedBetween o p (after_line o p s.line.line) w v n (status_of y)) (sym is)
+    (halted_untold o w v m n s p (after_line o p s.line.line) _ running at b.1 (text_line o m s p running at.between) (heard_line o p s.line.line (sym at.between.has_quit ∙ running) b.0))
 
 -- a call that gives up when a part of the reply is written
-pub part_err : {T E : Type 0} (r : Result T E) (o : Setup) (v u : Option (List ℕ)) (m n : Map) (s t : Session) (text : List ℕ) (k : ℕ) → s.has_quit ≡ false →
+pub part_err : {T : Type 0} (r : Result T Stop) (fault : SinkFault) (o : Setup) (v u : Option (List ℕ)) (m n : Map) (s t : Session) (text : List ℕ) (k : ℕ) → IsErrAnd r (λ x. x ≡ stop_of_sink fault) → s.has_quit ≡ false →
     ((p : Progress) → IsBetween o m s p → IsBetween o n t (after_line o p s.line.line)) → ((p : Progress) → IsBetween o m s p → text ≡ text_of (effect_of o p s.line.line).reply) → k < length text → u ≡ appended v (take k text) →
-    OnErr r ((w : Option (List ℕ)) (p : Progress) → HasReached o w v m s p → IsHaltedBetween o p (after_line o p s.line.line) w u n)
-part_err (Ok x) o v u m n s t text k running between same less written = tt
-part_err (Err x) o v u m n s t text k running between same less written = λ w p at.
-    halted_part o w v u m n s p (after_line o p s.line.line) text k running at (between p at.between).stands
-    (text_line o m s p running at.between ∙ ap (λ x. p.text ++ x) (sym (same p at.between))) less written
+    IfErr r (λ stop. (w : Option (List ℕ)) (p : Progress) → HasReached o w v m s p → IsHaltedBetween o p (after_line o p s.line.line) w u n (status_of stop))
+part_err (Ok x) fault o v u m n s t text k is running between same less written = absurd is
+part_err (Err x) fault o v u m n s t text k is running between same less written = λ w p at.
+    subst (λ y. IsHaltedBetween o p (after_line o p s.line.line) w u n (status_of y)) (sym is)
+    (halted_part o w v u m n s p (after_line o p s.line.line) text k (status_of (stop_of_sink fault)) running at
+    (left_all o n p (after_line o p s.line.line) (take k text) fault (between p at.between).stands)
+    (text_line o m s p running at.between ∙ ap (λ x. p.text ++ x) (sym (same p at.between))) less written)
 
 -- the end of a script whose session goes on
 pub closed_ended : (p : Progress) → p.has_quit ≡ false → closed p ≡ ended p
@@ -126,31 +142,35 @@ text_end o m s p r running at is =
     ap (λ (x : Progress). x.text) (closed_ended p (sym at.has_quit ∙ running)) ∙ ap (λ x. p.text ++ text_of x) (sym (is ∙ ap end_reply at.block))
 
 -- the map stands for the same after the end of the script
-stands_end : (o : Setup) (m : Map) (p : Progress) → StandsFor o m p.history → StandsFor o m (closed p).history
-stands_end o m p at = subst (λ h. StandsFor o m h) (sym (closed_history p)) at
+stands_end : (o : Setup) (m : Map) (p : Progress) → StandsAfter o m p → StandsAfter o m (closed p)
+stands_end o m p at = subst (λ h. StandsFor m (state_after o h)) (sym (closed_history p)) at
 
 -- a call that gives up before anything of the end's reply is written
-pub end_untold_err : {T E : Type 0} (x : Result T E) (v : Option (List ℕ)) (s : Session) (r : Option Reply) → s.has_quit ≡ false → r ≡ end_reply s.block → IsSome r →
-    OnErr x ((o : Setup) (m : Map) (w : Option (List ℕ)) (p : Progress) → HasReached o w v m s p → IsHaltedBetween o p (closed p) w v m)
-end_untold_err (Ok x) v s r running is some = tt
-end_untold_err (Err x) v s r running is some = λ o m w p at.
-    halted_untold o w v m m s p (closed p) (text_of r) running at (inl at.between.stands) (text_end o m s p r running at.between is) (inl (text_some r some))
+pub end_untold_err : {T : Type 0} (x : Result T Stop) (v : Option (List ℕ)) (s : Session) (r : Option Reply) → IsErrAnd x (λ y. y ≡ stop.Memory) → s.has_quit ≡ false → r ≡ end_reply s.block → IsSome r →
+    IfErr x (λ stop. (o : Setup) (m : Map) (w : Option (List ℕ)) (p : Progress) → HasReached o w v m s p → IsHaltedBetween o p (closed p) w v m (status_of stop))
+end_untold_err (Ok x) v s r memory running is some = absurd memory
+end_untold_err (Err x) v s r memory running is some = λ o m w p at.
+    subst (λ y. IsHaltedBetween o p (closed p) w v m (status_of y)) (sym memory)
+    (halted_untold o w v m m s p (closed p) (text_of r) running at (inl at.between.stands) (text_end o m s p r running at.between is) (inl (text_some r some)))
 
 -- a call that gives up when a part of it is written
-pub end_part_err : {T E : Type 0} (x : Result T E) (v u : Option (List ℕ)) (s : Session) (r : Option Reply) (text : List ℕ) (k : ℕ) → s.has_quit ≡ false → r ≡ end_reply s.block →
-    text ≡ text_of r → k < length text → u ≡ appended v (take k text) → OnErr x ((o : Setup) (m : Map) (w : Option (List ℕ)) (p : Progress) → HasReached o w v m s p → IsHaltedBetween o p (closed p) w u m)
-end_part_err (Ok x) v u s r text k running is told less written = tt
-end_part_err (Err x) v u s r text k running is told less written = λ o m w p at.
-    halted_part o w v u m m s p (closed p) text k running at (stands_end o m p at.between.stands)
-    (text_end o m s p r running at.between is ∙ ap (λ y. p.text ++ y) (sym told)) less written
+pub end_part_err : {T : Type 0} (x : Result T Stop) (fault : SinkFault) (v u : Option (List ℕ)) (s : Session) (r : Option Reply) (text : List ℕ) (k : ℕ) → IsErrAnd x (λ y. y ≡ stop_of_sink fault) → s.has_quit ≡ false → r ≡ end_reply s.block →
+    text ≡ text_of r → k < length text → u ≡ appended v (take k text) →
+    IfErr x (λ stop. (o : Setup) (m : Map) (w : Option (List ℕ)) (p : Progress) → HasReached o w v m s p → IsHaltedBetween o p (closed p) w u m (status_of stop))
+end_part_err (Ok x) fault v u s r text k stops running is told less written = absurd stops
+end_part_err (Err x) fault v u s r text k stops running is told less written = λ o m w p at.
+    subst (λ y. IsHaltedBetween o p (closed p) w u m (status_of y)) (sym stops)
+    (halted_part o w v u m m s p (closed p) text k (status_of (stop_of_sink fault)) running at
+    (left_all o m p (closed p) (take k text) fault (stands_end o m p at.between.stands))
+    (text_end o m s p r running at.between is ∙ ap (λ y. p.text ++ y) (sym told)) less written)
 
 -- the last of some lines
-pub halted_last : (o : Setup) (files : Files) (lines : List Line) (line : Line) (w v : Option (List ℕ)) (m : Map) → IsHaltedBetween o (progress o files lines) (after_line o (progress o files lines) line) w v m → IsHalted o files (lines ++ line ∷ []) w v m
-halted_last o files lines line w v m at = record { before = lines; line = line; behind = []; split = refl; at = at }
+pub halted_last : (o : Setup) (files : Files) (lines : List Line) (line : Line) (w v : Option (List ℕ)) (m : Map) (status : Status) → IsHaltedBetween o (progress o files lines) (after_line o (progress o files lines) line) w v m status → IsHalted o files (lines ++ line ∷ []) w v m status
+halted_last o files lines line w v m status at = record { before = lines; line = line; behind = []; split = refl; at = at }
 
 -- more lines after them
-pub halted_more : (o : Setup) (files : Files) (lines more : List Line) (w v : Option (List ℕ)) (m : Map) → IsHalted o files lines w v m → IsHalted o files (lines ++ more) w v m
-halted_more o files lines more w v m h = record {
+pub halted_more : (o : Setup) (files : Files) (lines more : List Line) (w v : Option (List ℕ)) (m : Map) (status : Status) → IsHalted o files lines w v m status → IsHalted o files (lines ++ more) w v m status
+halted_more o files lines more w v m status h = record {
   before = h.before;
   line = h.line;
   behind = h.behind ++ more;
@@ -159,28 +179,28 @@ halted_more o files lines more w v m h = record {
 }
 
 -- more bytes after them
-pub halted_bytes : (o : Setup) (files : Files) (bytes more : List ℕ) (w v : Option (List ℕ)) (m : Map) → IsHalted o files (ended_lines bytes) w v m → IsHalted o files (ended_lines (bytes ++ more)) w v m
-halted_bytes o files bytes more w v m h =
-    let s = ended_lines-append bytes more in subst (λ x. IsHalted o files x w v m) (sym s.1) (halted_more o files (ended_lines bytes) s.0 w v m h)
+pub halted_bytes : (o : Setup) (files : Files) (bytes more : List ℕ) (w v : Option (List ℕ)) (m : Map) (status : Status) → IsHalted o files (ended_lines bytes) w v m status → IsHalted o files (ended_lines (bytes ++ more)) w v m status
+halted_bytes o files bytes more w v m status h =
+    let s = ended_lines-append bytes more in subst (λ x. IsHalted o files x w v m status) (sym s.1) (halted_more o files (ended_lines bytes) s.0 w v m status h)
 
 -- what is written on the way from one state to the next is a prefix of what stands there
-pub between_begun : (o : Setup) (p q : Progress) (w v : Option (List ℕ)) (m : Map) → IsHaltedBetween o p q w v m → IsBegun q.text w v
-between_begun o p q w v m h = record { done = p.text ++ h.told; rest = h.untold; written = h.written; split = h.reply ∙ sym (append_assoc p.text h.told h.untold) }
+pub between_begun : (o : Setup) (p q : Progress) (w v : Option (List ℕ)) (m : Map) (status : Status) → IsHaltedBetween o p q w v m status → IsBegun q.text w v
+between_begun o p q w v m status h = record { done = p.text ++ h.told; rest = h.untold; written = h.written; split = h.reply ∙ sym (append_assoc p.text h.told h.untold) }
 
 -- what was written is a prefix of the replies to all lines
-pub halted_begun : (o : Setup) (files : Files) (lines : List Line) (w v : Option (List ℕ)) (m : Map) → IsHalted o files lines w v m → IsBegun (progress o files lines).text w v
-halted_begun o files lines w v m h =
+pub halted_begun : (o : Setup) (files : Files) (lines : List Line) (w v : Option (List ℕ)) (m : Map) (status : Status) → IsHalted o files lines w v m status → IsBegun (progress o files lines).text w v
+halted_begun o files lines w v m status h =
     let p : Progress = progress o files h.before in
     let split : lines ≡ (h.before ++ h.line ∷ []) ++ h.behind = h.split ∙ sym (append_assoc h.before (h.line ∷ []) h.behind) in
     let s = progress_grows o files (h.before ++ h.line ∷ []) h.behind in
     let begun : IsBegun (progress o files (h.before ++ h.line ∷ [])).text w v =
-    subst (λ (x : Progress). IsBegun x.text w v) (sym (progress_push o files h.before h.line)) (between_begun o p (after_line o p h.line) w v m h.at) in
+    subst (λ (x : Progress). IsBegun x.text w v) (sym (progress_push o files h.before h.line)) (between_begun o p (after_line o p h.line) w v m status h.at) in
     begun_more _ _ s.0 w v (ap (λ x. (progress o files x).text) split ∙ s.1) begun
 
 -- a halt between two states leaves the replies up to the first of them
-pub replied_between : (o : Setup) (files : Files) (bytes : List ℕ) (p q : Progress) (w u : Option (List ℕ)) (m : Map) → (text : List ℕ) × (p.text ≡ replies_within o files bytes ++ text) →
-    IsHaltedBetween o p q w u m → HasReplied o files bytes w u
-replied_between o files bytes p q w u m t h = record {
+pub replied_between : (o : Setup) (files : Files) (bytes : List ℕ) (p q : Progress) (w u : Option (List ℕ)) (m : Map) (status : Status) → (text : List ℕ) × (p.text ≡ replies_within o files bytes ++ text) →
+    IsHaltedBetween o p q w u m status → HasReplied o files bytes w u
+replied_between o files bytes p q w u m status t h = record {
   more = t.0 ++ h.told;
   written = h.written ∙ ap (λ x. appended w (x ++ h.told)) t.1 ∙ ap (appended w) (append_assoc (replies_within o files bytes) t.0 h.told);
 }

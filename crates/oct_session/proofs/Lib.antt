@@ -5,6 +5,9 @@ pub mod NonemptyReplies
 pub mod Halting
 pub mod Pieces
 pub mod MapHistory
+pub mod Alone
+pub mod Fitting
+pub mod Casting
 pub mod Answering
 pub mod Replying
 pub mod Effects

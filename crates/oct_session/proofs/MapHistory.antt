@@ -1,60 +1,50 @@
 -- What a map stands for after one more command.
-use Rattle.std.proofs.Common.{◌≡◌, [], ◌∷◌, ◌++◌, ◌||◌, ◌&&◌, not, Bool, true, false, IsTrue, None, refl, sym, ap, ◌∙◌}
-use Rattle.std.proofs.lemmas.List.Sums.{fold_push}
+use Rattle.std.proofs.Common.{◌≡◌, ◌++◌, ◌||◌, ◌&&◌, not, Bool, true, false, IsTrue, Some, None, refl, sym, ap, ◌∙◌}
+use Rattle.std.proofs.lemmas.List.Sums.{fold-append}
 use Rattle.oct_key.specs.Voxel.{Voxel, key_at}
 use Rattle.oct_key.specs.declared.point.Point.{Point}
 use Rattle.oct_odds.specs.declared.event.Event.{Event}
-use Rattle.oct_map.specs.Map.{Map, IsSameSetup, values_of}
-use Rattle.oct_map.specs.Outcome.{outcome_of}
+use Rattle.oct_odds.specs.declared.event.Event.TheVariants as event
+use Rattle.oct_odds.specs.Update.{Value}
+use Rattle.oct_map.specs.Ground.{Ground}
+use Rattle.oct_map.specs.Map.{Map, ground_of, values_of}
 use Rattle.oct_map.specs.Edits.{outcome_in}
+use Rattle.oct_map.specs.Outcome.{corner_events}
 use Rattle.oct_scan.specs.Beam.{Sighting}
 use Rattle.oct_key.specs.Values.{SameValues}
 use Rattle.oct_tree.specs.Shape.{IsPruned}
 use Rattle.oct_values.specs.Events.{Events, event_at, after_event, updated}
 use Rattle.oct_script.specs.declared.command.Edit.{Edit}
-use Rattle.oct_session.specs.History.{History, Action, Edited, Scanned, Refreshed, Pruned, edit_event, command_event, value_after, is_stale_by, is_stale_after, is_pruned_by, is_pruned_after}
+use Rattle.oct_session.specs.History.{History, State, Action, Edited, Scanned, Refreshed, Pruned, Cleared, Likened, edit_event, command_event, is_stale_by, is_pruned_by, after, after_all, start_state, state_after, Boxed}
 use Rattle.oct_session.specs.Leaving.{StandsFor}
 use Rattle.oct_session.specs.Setup.{Setup}
 
--- one command more
-value_push : (o : Setup) (h : History) (a : Action) (q : Voxel) → value_after o (h ++ a ∷ []) q ≡ after_event o.odds (command_event o a q) (value_after o h q)
-value_push o h a q = fold_push (λ value action. after_event o.odds (command_event o action q) value) None h a
-
-stale_push : (h : History) (a : Action) → is_stale_after (h ++ a ∷ []) ≡ is_stale_by (is_stale_after h) a
-stale_push h a = fold_push is_stale_by false h a
-
-pruned_push : (h : History) (a : Action) → is_pruned_after (h ++ a ∷ []) ≡ is_pruned_by (is_pruned_after h) a
-pruned_push h a = fold_push is_pruned_by true h a
+-- more commands after a history
+pub state_more : (o : Setup) (h more : History) → state_after o (h ++ more) ≡ after_all (state_after o h) more
+state_more o h more = fold-append after (start_state o) h more
 
 -- a map with the same values stands for the same
-pub stands_same : (o : Setup) (m n : Map) (h : History) → SameValues (values_of m) (values_of n) → n.is_stale ≡ m.is_stale → (IsPruned m.tree → IsPruned n.tree) → IsSameSetup m n → StandsFor o m h → StandsFor o n h
-stands_same o m n h values stale pruned setup at = record {
+pub stands_same : (m n : Map) (s : State) → SameValues (values_of m) (values_of n) → n.is_stale ≡ m.is_stale → (IsPruned m.tree → IsPruned n.tree) → ground_of n ≡ ground_of m → StandsFor m s → StandsFor n s
+stands_same m n s values stale pruned setup at = record {
   values = λ k low. at.values k low ∙ values k low;
+  base = setup ∙ at.base;
   is_stale = stale ∙ at.is_stale;
   pruned = λ is. pruned (at.pruned is);
-  res = setup.res ∙ at.res;
-  odds = setup.odds ∙ at.odds;
-  max_groups = setup.max_groups ∙ at.max_groups;
-  max_cells = setup.max_cells ∙ at.max_cells;
 }
 
 -- the map after an action that had these events
-stands_done : (o : Setup) (m n : Map) (h : History) (a : Action) (events : Events) → events ≡ command_event o a → SameValues (updated m.tree.odds events (values_of m)) (values_of n) →
-    n.is_stale ≡ is_stale_by m.is_stale a → ((was : Bool) → (was ≡ true → IsPruned m.tree) → is_pruned_by was a ≡ true → IsPruned n.tree) → IsSameSetup m n →
-    StandsFor o m h → StandsFor o n (h ++ a ∷ [])
-stands_done o m n h a events is values stale pruned setup at = record {
+stands_done : (m n : Map) (s : State) (a : Action) (events : Events) → events ≡ command_event (ground_of m) a → SameValues (updated m.tree.odds events (values_of m)) (values_of n) →
+    n.is_stale ≡ is_stale_by m.is_stale a → ((was : Bool) → (was ≡ true → IsPruned m.tree) → is_pruned_by was a ≡ true → IsPruned n.tree) → ground_of n ≡ ground_of m →
+    StandsFor m s → StandsFor n (after s a)
+stands_done m n s a events is values stale pruned setup at = record {
   values = λ k low.
-      value_push o h a k
-      ∙ ap (after_event o.odds (command_event o a k)) (at.values k low)
-      ∙ ap (λ (e : Events). after_event o.odds (e k) (values_of m k)) (sym is)
-      ∙ ap (λ d. after_event d (events k) (values_of m k)) (sym at.odds)
+      ap (after_event s.base.odds (command_event s.base a k)) (at.values k low)
+      ∙ ap (λ (g : Ground). after_event g.odds (command_event g a k) (values_of m k)) (sym at.base)
+      ∙ ap (λ (e : Events). after_event m.tree.odds (e k) (values_of m k)) (sym is)
       ∙ values k low;
-  is_stale = stale ∙ ap (λ b. is_stale_by b a) at.is_stale ∙ sym (stale_push h a);
-  pruned = λ is. pruned (is_pruned_after h) at.pruned (sym (pruned_push h a) ∙ is);
-  res = setup.res ∙ at.res;
-  odds = setup.odds ∙ at.odds;
-  max_groups = setup.max_groups ∙ at.max_groups;
-  max_cells = setup.max_cells ∙ at.max_cells;
+  base = setup ∙ at.base;
+  is_stale = stale ∙ ap (λ b. is_stale_by b a) at.is_stale;
+  pruned = λ is. pruned s.is_pruned at.pruned is;
 }
 
 -- a call that isn't lazy leaves a pruned map pruned
@@ -65,27 +55,49 @@ pruned_unless_lazy m n false true keeps pruned is = keeps (λ lazy. cc) (pruned 
 pruned_unless_lazy m n false false keeps pruned is = cc
 
 -- the map after an edit
-pub stands_edited : (o : Setup) (m n : Map) (h : History) (p : Point) (e : Edit) (lazy : Bool) (event : Event) → event ≡ edit_event o.odds e →
+pub stands_edited : (m n : Map) (s : State) (p : Point) (e : Edit) (lazy : Bool) (event : Event) → event ≡ edit_event m.tree.odds e →
     SameValues (updated m.tree.odds (event_at (key_at m.tree.res p) event) (values_of m)) (values_of n) → n.is_stale ≡ (m.is_stale || lazy) →
-    ((IsTrue lazy → ⊥) → IsPruned m.tree → IsPruned n.tree) → IsSameSetup m n → StandsFor o m h → StandsFor o n (h ++ Edited p e lazy ∷ [])
-stands_edited o m n h p e lazy event is values stale pruned setup at =
-    stands_done o m n h (Edited p e lazy) (event_at (key_at m.tree.res p) event) (ap (λ r. event_at (key_at r p) event) at.res ∙ ap (event_at (key_at o.res p)) is) values stale
+    ((IsTrue lazy → ⊥) → IsPruned m.tree → IsPruned n.tree) → ground_of n ≡ ground_of m → StandsFor m s → StandsFor n (after s (Edited p e lazy))
+stands_edited m n s p e lazy event is values stale pruned setup at =
+    stands_done m n s (Edited p e lazy) (event_at (key_at m.tree.res p) event) (ap (event_at (key_at m.tree.res p)) is) values stale
     (λ was. pruned_unless_lazy m n lazy was pruned) setup at
+
+-- the map after an edit of a box
+pub stands_boxed : (m n : Map) (s : State) (low high : Point) (e : Edit) (event : Event) → event ≡ edit_event m.tree.odds e →
+    SameValues (updated m.tree.odds (corner_events (key_at m.tree.res low) (key_at m.tree.res high) event) (values_of m)) (values_of n) → n.is_stale ≡ m.is_stale →
+    (IsPruned m.tree → IsPruned n.tree) → ground_of n ≡ ground_of m → StandsFor m s → StandsFor n (after s (Boxed low high e))
+stands_boxed m n s low high e event is values stale pruned setup at =
+    stands_done m n s (Boxed low high e) (corner_events (key_at m.tree.res low) (key_at m.tree.res high) event) (ap (corner_events (key_at m.tree.res low) (key_at m.tree.res high)) is) values stale
+    (λ was before now. pruned (before now)) setup at
 
 -- the map after a scan
-pub stands_scanned : (o : Setup) (m n : Map) (h : History) (sighting : Sighting) (lazy : Bool) →
+pub stands_scanned : (m n : Map) (s : State) (sighting : Sighting) (lazy : Bool) →
     SameValues (updated m.tree.odds (outcome_in m sighting) (values_of m)) (values_of n) → n.is_stale ≡ (m.is_stale || lazy) →
-    ((IsTrue lazy → ⊥) → IsPruned m.tree → IsPruned n.tree) → IsSameSetup m n → StandsFor o m h → StandsFor o n (h ++ Scanned sighting lazy ∷ [])
-stands_scanned o m n h sighting lazy values stale pruned setup at =
-    stands_done o m n h (Scanned sighting lazy) (outcome_in m sighting) (ap (λ r. outcome_of r m.tree.odds sighting) at.res ∙ ap (λ d. outcome_of o.res d sighting) at.odds) values stale
-    (λ was. pruned_unless_lazy m n lazy was pruned) setup at
+    ((IsTrue lazy → ⊥) → IsPruned m.tree → IsPruned n.tree) → ground_of n ≡ ground_of m → StandsFor m s → StandsFor n (after s (Scanned sighting lazy))
+stands_scanned m n s sighting lazy values stale pruned setup at =
+    stands_done m n s (Scanned sighting lazy) (outcome_in m sighting) refl values stale (λ was. pruned_unless_lazy m n lazy was pruned) setup at
 
 -- the map after a refresh
-pub stands_refreshed : (o : Setup) (m n : Map) (h : History) → SameValues (values_of m) (values_of n) → n.is_stale ≡ false → (IsPruned m.tree → IsPruned n.tree) → IsSameSetup m n →
-    StandsFor o m h → StandsFor o n (h ++ Refreshed ∷ [])
-stands_refreshed o m n h values fresh pruned setup at = stands_done o m n h Refreshed (command_event o Refreshed) refl values fresh (λ was before is. pruned (before is)) setup at
+pub stands_refreshed : (m n : Map) (s : State) → SameValues (values_of m) (values_of n) → n.is_stale ≡ false → (IsPruned m.tree → IsPruned n.tree) → ground_of n ≡ ground_of m →
+    StandsFor m s → StandsFor n (after s Refreshed)
+stands_refreshed m n s values fresh pruned setup at = stands_done m n s Refreshed (command_event (ground_of m) Refreshed) refl values fresh (λ was before is. pruned (before is)) setup at
 
 -- the map after a prune
-pub stands_pruned : (o : Setup) (m n : Map) (h : History) → SameValues (values_of m) (values_of n) → n.is_stale ≡ m.is_stale → IsPruned n.tree → IsSameSetup m n →
-    StandsFor o m h → StandsFor o n (h ++ Pruned ∷ [])
-stands_pruned o m n h values stale pruned setup at = stands_done o m n h Pruned (command_event o Pruned) refl values stale (λ was before is. pruned) setup at
+pub stands_pruned : (m n : Map) (s : State) → SameValues (values_of m) (values_of n) → n.is_stale ≡ m.is_stale → IsPruned n.tree → ground_of n ≡ ground_of m →
+    StandsFor m s → StandsFor n (after s Pruned)
+stands_pruned m n s values stale pruned setup at = stands_done m n s Pruned (command_event (ground_of m) Pruned) refl values stale (λ was before is. pruned) setup at
+
+-- the map after a clear
+pub stands_cleared : (m n : Map) (s : State) → ((k : Voxel) → values_of n k ≡ None) → n.is_stale ≡ false → IsPruned n.tree → ground_of n ≡ ground_of m → StandsFor m s → StandsFor n (after s Cleared)
+stands_cleared m n s unknown fresh pruned setup at =
+    stands_done m n s Cleared (command_event (ground_of m) Cleared) refl (λ k low. forgotten (values_of m k) (values_of n k) (unknown k)) fresh (λ was before is. pruned) setup at
+  where
+    forgotten : (old new : Value) → new ≡ None → after_event m.tree.odds (Some event.Forget) old ≡ new
+    forgotten None new none = sym none
+    forgotten (Some v) new none = sym none
+
+-- the map after maximum likelihood
+pub stands_likened : (m n : Map) (s : State) → SameValues (updated m.tree.odds (λ k. Some event.Likely) (values_of m)) (values_of n) → n.is_stale ≡ false → IsPruned n.tree →
+    ground_of n ≡ ground_of m → StandsFor m s → StandsFor n (after s Likened)
+stands_likened m n s values fresh pruned setup at =
+    stands_done m n s Likened (command_event (ground_of m) Likened) refl values fresh (λ was before is. pruned) setup at

@@ -4,8 +4,11 @@ use Rattle.std.specs.Prelude.{⊤, codes, decimal}
 use Rattle.oct_key.specs.declared.point.Point.{Point}
 use Rattle.oct_key.specs.Values.{Values}
 use Rattle.oct_key.specs.Voxel.{Voxel, key_at}
-use Rattle.oct_map.specs.Answers.{edit_answer, edit_answer_at, edit_need, is_full, room_answer, scan_answer_by}
-use Rattle.oct_map.specs.Outcome.{need_of, done_of}
+use Rattle.oct_cast.specs.declared.outcome.Cast.{Cast}
+use Rattle.oct_cast.specs.declared.outcome.Cast.TheVariants as cast
+use Rattle.oct_map.specs.Answers.{edit_answer, edit_answer_at, edit_need, is_full, room_answer, scan_answer_by, box_answer, box_answer_by, corner_fault}
+use Rattle.oct_map.specs.Ground.{Ground}
+use Rattle.oct_map.specs.Outcome.{need_of, done_of, corner_need}
 use Rattle.oct_map.specs.declared.fault.MapFault.{MapFault}
 use Rattle.oct_map.specs.declared.fault.MapFault.TheVariants as map_fault
 use Rattle.oct_map.specs.declared.done.ScanDone.{ScanDone}
@@ -15,21 +18,26 @@ use Rattle.oct_scan.specs.Outcome.{scan_fault, point_fault, cells_fault, first_e
 use Rattle.oct_scan.specs.declared.fault.ScanFault.{ScanFault}
 use Rattle.oct_scan.specs.declared.fault.ScanFault.TheVariants as scan_fault_of
 use Rattle.oct_script.specs.declared.reply.Refusal.TheVariants as refusal
+use Rattle.oct_values.specs.Boxes.{is_box}
 use Rattle.oct_values.specs.Counts.{group_count}
 use Rattle.oct_script.specs.declared.reply.Reply.{Reply}
 use Rattle.oct_script.specs.declared.reply.Reply.TheVariants as reply_of
-use Rattle.oct_script.specs.Replies.{text_of, reply_text, class_name, scan_text, counts_text, refusal_text}
+use Rattle.oct_script.specs.Replies.{text_of, reply_text, class_name, scan_text, counts_text, voxel_text, cast_text, refusal_text}
 use Rattle.oct_session.specs.Commands.{edit_reply}
-use Rattle.oct_session.specs.History.{History, value_after}
+use Rattle.oct_session.specs.History.{State}
 use Rattle.oct_session.specs.ScanBlock.{is_zero, scan_reply, block_reply}
 use Rattle.oct_session.specs.ScanSoFar.{ScanSoFar, sighting_so_far}
-use Rattle.oct_session.specs.Setup.{Setup}
 use Rattle.oct_session.specs.declared.block.Block.TheVariants.{Scanning}
 use Rattle.std.specs.Fmt.{signed_decimal}
 
 -- a text with a beginning
 begins : (front back : List ℕ) → 0 < length front → 0 < length (front ++ back)
 begins front back some = omega (arith, length-append front back, some)
+
+cast_some : (found : Cast) → 0 < length (cast_text found)
+cast_some (cast.Hit k) = begins (codes "cast hit ") (voxel_text k) (omega arith)
+cast_some (cast.Unknown k) = begins (codes "cast unknown ") (voxel_text k) (omega arith)
+cast_some cast.Clear = omega arith
 
 reply_some : (r : Reply) → 0 < length (reply_text r)
 reply_some reply_of.Ok = omega arith
@@ -39,6 +47,7 @@ reply_some (reply_of.Scanned done) = begins (scan_text done) (codes "\n")
     (begins (codes "ok hits " ++ decimal done.hits) (codes " frees " ++ decimal done.frees) (begins (codes "ok hits ") (decimal done.hits) (omega arith)))
 reply_some (reply_of.Counted counts) = begins (counts_text counts) (codes "\n")
     (begins (codes "groups " ++ decimal counts.groups) (codes " nodes " ++ decimal counts.nodes) (begins (codes "groups ") (decimal counts.groups) (omega arith)))
+reply_some (reply_of.Casted found) = begins (cast_text found) (codes "\n") (cast_some found)
 reply_some (reply_of.Refused r) = begins (codes "refused ") (refusal_text r ++ codes "\n") (omega arith)
 
 -- a reply has a text
@@ -55,8 +64,19 @@ edit_some_at most values None = refl
 edit_some_at most values (Some k) = room_some most values edit_need
 
 -- an edit has a reply
-pub edit_some : (res most : ℕ) (values : Values) (p : Point) → IsSome (edit_reply (edit_answer res most values p))
-edit_some res most values p = edit_some_at most values (key_at res p)
+pub edit_some : (g : Ground) (values : Values) (p : Point) → IsSome (edit_reply (edit_answer g values p))
+edit_some g values p = edit_some_at g.max_groups values (key_at g.res p)
+
+corners_some : (a b : Option Voxel) (room : Result ⊤ MapFault) → IsSome (edit_reply room) → IsSome (edit_reply (box_answer_by (corner_fault a b) room))
+corners_some None b room some = refl
+corners_some (Some low) None room some = refl
+corners_some (Some low) (Some high) room some =
+    elim (is_box low high) as (λ t. IsSome (edit_reply (box_answer_by (cond {A = Option MapFault} t None (Some map_fault.BadBox)) room))) [ true ↦ some | false ↦ refl ]
+
+-- an edit of a box has a reply
+pub box_some : (g : Ground) (values : Values) (low high : Point) → IsSome (edit_reply (box_answer g values low high))
+box_some g values low high =
+    corners_some (key_at g.res low) (key_at g.res high) _ (room_some g.max_groups values (corner_need (key_at g.res low) (key_at g.res high)))
 
 point_known : (edge : ℕ) (s : Sighting) (outside excess : Option ℕ) → point_fault outside (cells_fault edge s excess) ≢ Some scan_fault_of.Memory
 point_known edge s None None = λ is. cc
@@ -64,7 +84,7 @@ point_known edge s None (Some index) = λ is. cc
 point_known edge s (Some index) excess = λ is. cc
 
 -- why a scan is refused is not that memory ran out
-fault_known : (edge : ℕ) (s : Sighting) (most : ℕ) → scan_fault edge s most ≢ Some scan_fault_of.Memory
+pub fault_known : (edge : ℕ) (s : Sighting) (most : ℕ) → scan_fault edge s most ≢ Some scan_fault_of.Memory
 unfolding scan_fault
 fault_known edge s most =
     elim (is_none (key_at edge (origin_of s)))
@@ -83,12 +103,13 @@ scan_some_by (Some (scan_fault_of.TooManyCells index cells)) most values need do
 scan_some_by (Some scan_fault_of.Memory) most values need done known = absurd (known refl)
 
 -- a block that is closed has a reply
-pub block_some : (o : Setup) (h : History) (scan : ScanSoFar) → IsSome (block_reply o h (Scanning scan))
-block_some o h scan =
-    let s : Sighting = sighting_so_far scan in
+pub block_some : (s : State) (scan : ScanSoFar) → IsSome (block_reply s (Scanning scan))
+block_some s scan =
+    let g : Ground = s.base in
+    let seen : Sighting = sighting_so_far scan in
     elim (is_zero scan.head)
     as (λ b. IsSome (cond b (Some (reply_of.Refused refusal.ZeroQuaternion))
-    (scan_reply (scan_answer_by (scan_fault o.res s o.max_cells) (room_answer o.max_groups (value_after o h) (need_of o.res o.odds s)) (done_of o.res s))))) [
+    (scan_reply (scan_answer_by (scan_fault g.res seen g.max_cells) (room_answer g.max_groups s.values (need_of g seen)) (done_of g seen))))) [
       | true ↦ refl
-      | false ↦ scan_some_by (scan_fault o.res s o.max_cells) o.max_groups (value_after o h) (need_of o.res o.odds s) (done_of o.res s) (fault_known o.res s o.max_cells)
+      | false ↦ scan_some_by (scan_fault g.res seen g.max_cells) g.max_groups s.values (need_of g seen) (done_of g seen) (fault_known g.res seen g.max_cells)
     ]

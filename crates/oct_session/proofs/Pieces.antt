@@ -1,15 +1,17 @@
 -- A piece of a script, line by line.
-use Rattle.std.proofs.Common.{◌≡◌, ℕ, ◌+◌, ◌≤◌, List, [], ◌∷◌, ◌++◌, length, take, drop, Option, Result, Ok, Err, OnOk, OnErr, Bool, true, false, cond, inl, inr, sym, ap, subst, ◌∙◌, append_assoc, append-nil}
+use Rattle.std.proofs.Common.{◌≡◌, ℕ, ◌+◌, ◌≤◌, List, [], ◌∷◌, ◌++◌, length, take, drop, Option, Result, Ok, Err, OnOk, OnErr, IfErr, IsErrAnd, Bool, true, false, cond, inl, inr, sym, ap, subst, ◌∙◌, append_assoc, append-nil}
 use Rattle.std.proofs.Math.Seq.{take-add}
 use Rattle.std.proofs.lemmas.List.{take_all, take-append-drop}
 use Rattle.oct_io.specs.Files.{Files}
 use Rattle.oct_map.specs.Map.{Map}
 use Rattle.oct_script.specs.Lines.{Line, LineSoFar, unread, ended_lines, rest_of, all_lines, last_line, line_of, IsReading, HasEnded}
+use Rattle.oct_session.specs.declared.options.Stop.{Stop}
 use Rattle.oct_session.specs.declared.session.Session.{Session}
 use Rattle.oct_session.specs.Session.{Progress, after_line, progress, closed}
 use Rattle.oct_session.specs.Setup.{Setup}
 use Rattle.oct_session.specs.Leaving.{IsHaltedBetween, IsHalted}
 use Rattle.oct_session.specs.Standing.{Takes, KeepsReplies, HasReached, IsAt, StopsAtEnd}
+use Rattle.oct_session.specs.Stops.{status_of}
 use Rattle.oct_session.proofs.Halting.{halted_last, halted_bytes, replied_between}
 use Rattle.oct_session.proofs.Progresses.{progress_push, progress_grows, bytes_behind_quit, replied_before, replied_all}
 
@@ -49,20 +51,22 @@ at_ended o files w v u m n s f t bytes more running ends answered block refused 
     }
 
 -- a piece up to a line feed, and a halt at the line that it ends
-pub halted_ended : {T E : Type 0} (r : Result T E) (o : Setup) (v u : Option (List ℕ)) (m n : Map) (s f : Session) (piece : List ℕ) (k : ℕ) → s.has_quit ≡ false →
+pub halted_ended : {T : Type 0} (r : Result T Stop) (o : Setup) (v u : Option (List ℕ)) (m n : Map) (s f : Session) (piece : List ℕ) (k : ℕ) → s.has_quit ≡ false →
     ((bytes : List ℕ) → IsReading s.line bytes → HasEnded f.line bytes (bytes ++ take k piece)) →
     f.line_count ≡ s.line_count → f.block ≡ s.block → f.refused ≡ s.refused → f.has_quit ≡ s.has_quit →
-    ((w : Option (List ℕ)) (p : Progress) → HasReached o w v m f p → IsHaltedBetween o p (after_line o p f.line.line) w u n) →
-    OnErr r ((files : Files) (w : Option (List ℕ)) (bytes : List ℕ) → IsAt o files w v m s bytes → IsHalted o files (ended_lines (bytes ++ piece)) w u n)
-halted_ended (Ok x) o v u m n s f piece k running ends answered block refused quit halts = tt
-halted_ended (Err x) o v u m n s f piece k running ends answered block refused quit halts = λ files w bytes at.
+    (stop : Stop) → IsErrAnd r (λ x. x ≡ stop) →
+    ((w : Option (List ℕ)) (p : Progress) → HasReached o w v m f p → IsHaltedBetween o p (after_line o p f.line.line) w u n (status_of stop)) →
+    IfErr r (λ stop. (files : Files) (w : Option (List ℕ)) (bytes : List ℕ) → IsAt o files w v m s bytes → IsHalted o files (ended_lines (bytes ++ piece)) w u n (status_of stop))
+halted_ended (Ok x) o v u m n s f piece k running ends answered block refused quit stop is halts = tt
+halted_ended (Err x) o v u m n s f piece k running ends answered block refused quit stop is halts = λ files w bytes at.
     let done : HasEnded f.line bytes (bytes ++ take k piece) = ends bytes (at.line running) in
-    let halted : IsHalted o files (ended_lines (bytes ++ take k piece)) w u n =
-    subst (λ x. IsHalted o files x w u n) (sym done.lines)
-    (halted_last o files (ended_lines bytes) f.line.line w u n
+    let halted : IsHalted o files (ended_lines (bytes ++ take k piece)) w u n (status_of stop) =
+    subst (λ x. IsHalted o files x w u n (status_of stop)) (sym done.lines)
+    (halted_last o files (ended_lines bytes) f.line.line w u n (status_of stop)
     (halts w (progress o files (ended_lines bytes)) (moved o w v m s f (progress o files (ended_lines bytes)) at.reached answered block refused quit))) in
     let whole : (bytes ++ take k piece) ++ drop k piece ≡ bytes ++ piece = append_assoc bytes (take k piece) (drop k piece) ∙ ap (λ x. bytes ++ x) (take-append-drop k piece) in
-    subst (λ x. IsHalted o files (ended_lines x) w u n) whole (halted_bytes o files (bytes ++ take k piece) (drop k piece) w u n halted)
+    subst (λ y. IsHalted o files (ended_lines (bytes ++ piece)) w u n (status_of y)) (sym is)
+    (subst (λ x. IsHalted o files (ended_lines x) w u n (status_of stop)) whole (halted_bytes o files (bytes ++ take k piece) (drop k piece) w u n (status_of stop) halted))
 
 -- a step more through a piece
 pub at_more : (o : Setup) (w v u : Option (List ℕ)) (m n : Map) (s t : Session) (files : Files) (bytes piece rest : List ℕ) (i k : ℕ) → rest ≡ drop i piece →
@@ -71,14 +75,15 @@ pub at_more : (o : Setup) (w v u : Option (List ℕ)) (m n : Map) (s t : Session
 at_more o w v u m n s t files bytes piece rest i k e step at = subst (λ x. IsAt o files w u n t x) (sym (pieces bytes piece rest i k e)) (step files w (bytes ++ take i piece) at)
 
 -- a step that halts within a piece
-pub halted_within : {T E : Type 0} (r : Result T E) (o : Setup) (a v u : Option (List ℕ)) (l m n : Map) (s t : Session) (piece rest : List ℕ) (i : ℕ) → rest ≡ drop i piece →
+pub halted_within : {T : Type 0} (r : Result T Stop) (stop : Stop) (o : Setup) (a v u : Option (List ℕ)) (l m n : Map) (s t : Session) (piece rest : List ℕ) (i : ℕ) → IsErrAnd r (λ x. x ≡ stop) → rest ≡ drop i piece →
     (Takes o a v l m s t (take i piece)) →
-    ((files : Files) (w : Option (List ℕ)) (bytes : List ℕ) → IsAt o files w v m t bytes → IsHalted o files (ended_lines (bytes ++ rest)) w u n) →
-    OnErr r ((files : Files) (w : Option (List ℕ)) (bytes : List ℕ) → IsAt o files w a l s bytes → IsHalted o files (ended_lines (bytes ++ piece)) w u n)
-halted_within (Ok x) o a v u l m n s t piece rest i e goes halts = tt
-halted_within (Err x) o a v u l m n s t piece rest i e goes halts = λ files w bytes at.
+    ((files : Files) (w : Option (List ℕ)) (bytes : List ℕ) → IsAt o files w v m t bytes → IsHalted o files (ended_lines (bytes ++ rest)) w u n (status_of stop)) →
+    IfErr r (λ stop. (files : Files) (w : Option (List ℕ)) (bytes : List ℕ) → IsAt o files w a l s bytes → IsHalted o files (ended_lines (bytes ++ piece)) w u n (status_of stop))
+halted_within (Ok x) stop o a v u l m n s t piece rest i is e goes halts = tt
+halted_within (Err x) stop o a v u l m n s t piece rest i is e goes halts = λ files w bytes at.
     let whole : (bytes ++ take i piece) ++ rest ≡ bytes ++ piece = append_assoc bytes (take i piece) rest ∙ ap (λ x. bytes ++ (take i piece ++ x)) e ∙ ap (λ x. bytes ++ x) (take-append-drop i piece) in
-    subst (λ x. IsHalted o files (ended_lines x) w u n) whole (halts files w (bytes ++ take i piece) (goes files w bytes at))
+    subst (λ y. IsHalted o files (ended_lines (bytes ++ piece)) w u n (status_of y)) (sym is)
+    (subst (λ x. IsHalted o files (ended_lines x) w u n (status_of stop)) whole (halts files w (bytes ++ take i piece) (goes files w bytes at)))
 
 -- a piece that was taken whole
 pub at_whole : (o : Setup) (files : Files) (w v : Option (List ℕ)) (m : Map) (s : Session) (bytes piece : List ℕ) (i : ℕ) → length piece ≤ i → IsAt o files w v m s (bytes ++ take i piece) → IsAt o files w v m s (bytes ++ piece)
@@ -114,14 +119,14 @@ standing : (s : Session) (bytes : List ℕ) (has_rest b : Bool) → has_rest ≡
 standing s bytes has_rest b is last = subst (λ x. last_line (rest_of bytes) ≡ cond x (s.line.line ∷ []) []) is last
 
 -- a halt at it
-pub end_halted : {T E : Type 0} (r : Result T E) (o : Setup) (v u : Option (List ℕ)) (m n : Map) (s : Session) (has_rest : Bool) → s.has_quit ≡ false → has_rest ≡ true →
+pub end_halted : {T : Type 0} (r : Result T Stop) (o : Setup) (v u : Option (List ℕ)) (m n : Map) (s : Session) (has_rest : Bool) → s.has_quit ≡ false → has_rest ≡ true →
     ((bytes : List ℕ) → IsReading s.line bytes → last_line (rest_of bytes) ≡ cond has_rest (s.line.line ∷ []) []) →
-    OnErr r ((w : Option (List ℕ)) (p : Progress) → HasReached o w v m s p → IsHaltedBetween o p (after_line o p s.line.line) w u n) →
-    OnErr r ((files : Files) (w : Option (List ℕ)) (bytes : List ℕ) → IsAt o files w v m s bytes → IsHalted o files (all_lines bytes) w u n)
+    IfErr r (λ stop. (w : Option (List ℕ)) (p : Progress) → HasReached o w v m s p → IsHaltedBetween o p (after_line o p s.line.line) w u n (status_of stop)) →
+    IfErr r (λ stop. (files : Files) (w : Option (List ℕ)) (bytes : List ℕ) → IsAt o files w v m s bytes → IsHalted o files (all_lines bytes) w u n (status_of stop))
 end_halted (Ok x) o v u m n s has_rest running some last halts = tt
 end_halted (Err x) o v u m n s has_rest running some last halts = λ files w bytes at.
     let lines : all_lines bytes ≡ ended_lines bytes ++ s.line.line ∷ [] = last_lines bytes s.line.line (standing s bytes has_rest true some (last bytes (at.line running))) in
-    subst (λ x. IsHalted o files x w u n) (sym lines) (halted_last o files (ended_lines bytes) s.line.line w u n (halts w (progress o files (ended_lines bytes)) at.reached))
+    subst (λ y. IsHalted o files y w u n (status_of x)) (sym lines) (halted_last o files (ended_lines bytes) s.line.line w u n (status_of x) (halts w (progress o files (ended_lines bytes)) at.reached))
 
 -- the end of the script, after its last line
 pub end_closed : {T E : Type 0} (r : Result T E) (o : Setup) (a v u : Option (List ℕ)) (m n : Map) (s t e : Session) →
@@ -132,21 +137,21 @@ end_closed (Ok x) o a v u m n s t e goes closes = λ files w bytes at. closes o 
 end_closed (Err x) o a v u m n s t e goes closes = tt
 
 -- a halt there
-pub end_stopped : {T E : Type 0} (r : Result T E) (o : Setup) (a v u : Option (List ℕ)) (m n : Map) (s t : Session) →
+pub end_stopped : {T : Type 0} (r : Result T Stop) (o : Setup) (a v u : Option (List ℕ)) (m n : Map) (s t : Session) →
     ((files : Files) (w : Option (List ℕ)) (bytes : List ℕ) → IsAt o files w a m s bytes → HasReached o w v n t (progress o files (all_lines bytes))) →
-    OnErr r ((o : Setup) (m : Map) (w : Option (List ℕ)) (p : Progress) → HasReached o w v m t p → IsHaltedBetween o p (closed p) w u m) →
-    OnErr r ((files : Files) (w : Option (List ℕ)) (bytes : List ℕ) → IsAt o files w a m s bytes → StopsAtEnd o files (all_lines bytes) w u n)
+    IfErr r (λ stop. (o : Setup) (m : Map) (w : Option (List ℕ)) (p : Progress) → HasReached o w v m t p → IsHaltedBetween o p (closed p) w u m (status_of stop)) →
+    IfErr r (λ stop. (files : Files) (w : Option (List ℕ)) (bytes : List ℕ) → IsAt o files w a m s bytes → StopsAtEnd o files (all_lines bytes) w u n (status_of stop))
 end_stopped (Ok x) o a v u m n s t goes halts = tt
 end_stopped (Err x) o a v u m n s t goes halts = λ files w bytes at. inr (halts o n w (progress o files (all_lines bytes)) (goes files w bytes at))
 
 -- a halt at the line that a piece ends: the lines before it were answered
-pub replied_ended : {T E : Type 0} (r : Result T E) (o : Setup) (v u : Option (List ℕ)) (m n : Map) (s f : Session) → f.line_count ≡ s.line_count → f.block ≡ s.block → f.refused ≡ s.refused → f.has_quit ≡ s.has_quit →
-    ((w : Option (List ℕ)) (p : Progress) → HasReached o w v m f p → IsHaltedBetween o p (after_line o p f.line.line) w u n) →
+pub replied_ended : {T : Type 0} (r : Result T Stop) (stop : Stop) (o : Setup) (v u : Option (List ℕ)) (m n : Map) (s f : Session) → f.line_count ≡ s.line_count → f.block ≡ s.block → f.refused ≡ s.refused → f.has_quit ≡ s.has_quit →
+    ((w : Option (List ℕ)) (p : Progress) → HasReached o w v m f p → IsHaltedBetween o p (after_line o p f.line.line) w u n (status_of stop)) →
     OnErr r (KeepsReplies o v u m s)
-replied_ended (Ok x) o v u m n s f answered block refused quit halts = tt
-replied_ended (Err x) o v u m n s f answered block refused quit halts = λ files w bytes at.
+replied_ended (Ok x) stop o v u m n s f answered block refused quit halts = tt
+replied_ended (Err x) stop o v u m n s f answered block refused quit halts = λ files w bytes at.
     let p : Progress = progress o files (ended_lines bytes) in
-    replied_between o files bytes p (after_line o p f.line.line) w u n ([], sym (append-nil p.text)) (halts w p (moved o w v m s f p at.reached answered block refused quit))
+    replied_between o files bytes p (after_line o p f.line.line) w u n (status_of stop) ([], sym (append-nil p.text)) (halts w p (moved o w v m s f p at.reached answered block refused quit))
 
 -- a halt within a piece, after some of its bytes
 pub replied_within : {T E : Type 0} (r : Result T E) (o : Setup) (a v u : Option (List ℕ)) (l m : Map) (s t : Session) (piece : List ℕ) (i : ℕ) →
@@ -165,27 +170,28 @@ replied_long o v u m n s t piece goes files w bytes at =
     replied_before o files bytes piece w u (replied_all o files (bytes ++ piece) w u (goes files w bytes at).reached.written)
 
 -- a halt at the last line: the lines that end before it were answered
-pub replied_last : {T E : Type 0} (r : Result T E) (o : Setup) (v u : Option (List ℕ)) (m n : Map) (s : Session) →
-    OnErr r ((w : Option (List ℕ)) (p : Progress) → HasReached o w v m s p → IsHaltedBetween o p (after_line o p s.line.line) w u n) →
+pub replied_last : {T : Type 0} (r : Result T Stop) (o : Setup) (v u : Option (List ℕ)) (m n : Map) (s : Session) →
+    IfErr r (λ stop. (w : Option (List ℕ)) (p : Progress) → HasReached o w v m s p → IsHaltedBetween o p (after_line o p s.line.line) w u n (status_of stop)) →
     OnErr r (KeepsReplies o v u m s)
 replied_last (Ok x) o v u m n s halts = tt
 replied_last (Err x) o v u m n s halts = λ files w bytes at.
     let p : Progress = progress o files (ended_lines bytes) in
-    replied_between o files bytes p (after_line o p s.line.line) w u n ([], sym (append-nil p.text)) (halts w p at.reached)
+    replied_between o files bytes p (after_line o p s.line.line) w u n (status_of x) ([], sym (append-nil p.text)) (halts w p at.reached)
 
 -- a halt at the end of the script
-pub replied_closed : {T E : Type 0} (r : Result T E) (o : Setup) (a v u : Option (List ℕ)) (m n : Map) (s t : Session) →
+pub replied_closed : {T : Type 0} (r : Result T Stop) (o : Setup) (a v u : Option (List ℕ)) (m n : Map) (s t : Session) →
     ((files : Files) (w : Option (List ℕ)) (bytes : List ℕ) → IsAt o files w a m s bytes → HasReached o w v n t (progress o files (all_lines bytes))) →
-    OnErr r ((o : Setup) (m : Map) (w : Option (List ℕ)) (p : Progress) → HasReached o w v m t p → IsHaltedBetween o p (closed p) w u m) →
+    IfErr r (λ stop. (o : Setup) (m : Map) (w : Option (List ℕ)) (p : Progress) → HasReached o w v m t p → IsHaltedBetween o p (closed p) w u m (status_of stop)) →
     OnErr r (KeepsReplies o a u m s)
 replied_closed (Ok x) o a v u m n s t goes halts = tt
 replied_closed (Err x) o a v u m n s t goes halts = λ files w bytes at.
     let p : Progress = progress o files (all_lines bytes) in
-    replied_between o files bytes p (closed p) w u n (progress_grows o files (ended_lines bytes) (last_line (rest_of bytes))) (halts o n w p (goes files w bytes at))
+    replied_between o files bytes p (closed p) w u n (status_of x) (progress_grows o files (ended_lines bytes) (last_line (rest_of bytes))) (halts o n w p (goes files w bytes at))
 
 -- a halt at the last line is one of the stops at the end
-pub stopped_last : {T E : Type 0} (r : Result T E) (o : Setup) (v u : Option (List ℕ)) (m n : Map) (s : Session) →
-    ((files : Files) (w : Option (List ℕ)) (bytes : List ℕ) → IsAt o files w v m s bytes → IsHalted o files (all_lines bytes) w u n) →
-    OnErr r ((files : Files) (w : Option (List ℕ)) (bytes : List ℕ) → IsAt o files w v m s bytes → StopsAtEnd o files (all_lines bytes) w u n)
-stopped_last (Ok x) o v u m n s halts = tt
-stopped_last (Err x) o v u m n s halts = λ files w bytes at. inl (halts files w bytes at)
+pub stopped_last : {T : Type 0} (r : Result T Stop) (stop : Stop) (o : Setup) (v u : Option (List ℕ)) (m n : Map) (s : Session) → IsErrAnd r (λ x. x ≡ stop) →
+    ((files : Files) (w : Option (List ℕ)) (bytes : List ℕ) → IsAt o files w v m s bytes → IsHalted o files (all_lines bytes) w u n (status_of stop)) →
+    IfErr r (λ stop. (files : Files) (w : Option (List ℕ)) (bytes : List ℕ) → IsAt o files w v m s bytes → StopsAtEnd o files (all_lines bytes) w u n (status_of stop))
+stopped_last (Ok x) stop o v u m n s is halts = tt
+stopped_last (Err x) stop o v u m n s is halts = λ files w bytes at.
+    subst (λ y. StopsAtEnd o files (all_lines bytes) w u n (status_of y)) (sym is) (inl (halts files w bytes at))

@@ -1,11 +1,19 @@
 -- What a command or a scan answers, and what the map then stands for.
-use Rattle.std.proofs.Common.{◌≡◌, ℕ, [], ◌∷◌, ◌++◌, ◌||◌, ◌&&◌, nat_lt, Bool, true, false, cond, IsTrue, IsSome, Option, Some, None, Result, Ok, Err, IfOk, OnErr, inl, inr, refl, sym, ap, subst, ◌∙◌, append-nil}
+use Rattle.std.proofs.Common.{◌≡◌, ℕ, [], ◌||◌, ◌&&◌, nat_lt, Bool, true, false, cond, IsTrue, IsSome, Option, Some, None, Result, Ok, Err, IfOk, OnErr, inl, inr, refl, sym, ap, subst, ◌∙◌}
+use Rattle.std.proofs.Math.Bool.{or-false}
 use Rattle.oct_key.specs.declared.point.Point.{Point}
 use Rattle.oct_odds.specs.declared.event.Event.{Event}
+use Rattle.oct_odds.specs.declared.event.Event.TheVariants as event
 use Rattle.oct_odds.specs.Update.{Value}
-use Rattle.oct_map.specs.Answers.{edit_answer, scan_answer, get_answer, get_answer_at, block_answer, IsAnswerOrMemory}
-use Rattle.oct_map.specs.Map.{Map, IsSameSetup, values_of}
+use Rattle.oct_map.specs.Answers.{edit_answer, scan_answer, get_answer, get_answer_at, block_answer, IsAnswerOrMemory, box_answer}
+use Rattle.oct_cast.specs.declared.outcome.Cast.{Cast}
+use Rattle.oct_cast.specs.Cast.{cast_along}
+use Rattle.oct_map.specs.Casts.{cast_answer, cast_answer_at}
+use Rattle.oct_values.specs.Classes.{classes_of}
+use Rattle.oct_map.specs.Ground.{Ground}
+use Rattle.oct_map.specs.Map.{Map, ground_of, values_of}
 use Rattle.oct_map.specs.Edits.{outcome_in}
+use Rattle.oct_map.specs.Outcome.{corner_events}
 use Rattle.oct_map.specs.declared.fault.MapFault.{MapFault}
 use Rattle.oct_map.specs.declared.fault.MapFault.TheVariants as fault
 use Rattle.oct_map.specs.declared.done.ScanDone.{ScanDone}
@@ -26,42 +34,47 @@ use Rattle.oct_script.specs.declared.reply.Refusal.{Refusal}
 use Rattle.oct_script.specs.declared.reply.Reply.{Reply}
 use Rattle.oct_script.specs.declared.reply.Reply.TheVariants as reply_of
 use Rattle.oct_script.specs.Replies.{is_refusal}
-use Rattle.oct_session.specs.Commands.{reply, action_of, accepted, fault_reply, edit_reply, value_reply, get_reply}
-use Rattle.oct_session.specs.History.{History, Scanned, edit_event, value_after}
+use Rattle.oct_session.specs.Commands.{reply, action_of, accepted, fault_reply, edit_reply, value_reply, get_reply, cast_reply}
+use Rattle.oct_session.specs.History.{History, State, Scanned, edit_event, after, after_all}
 use Rattle.oct_session.specs.Leaving.{StandsFor}
 use Rattle.oct_session.specs.ScanBlock.{is_zero, scan_reply, block_reply, block_action}
 use Rattle.oct_session.specs.ScanSoFar.{ScanSoFar, sighting_so_far}
-use Rattle.oct_session.specs.Setup.{Setup}
 use Rattle.oct_session.specs.Standing.{HasAnswered, HasObeyed, HasScanned}
 use Rattle.oct_session.specs.declared.block.Block.TheVariants.{Scanning}
-use Rattle.oct_session.proofs.Answering.{same_edit, same_get, same_scan}
-use Rattle.oct_session.proofs.NonemptyReplies.{edit_some, block_some}
-use Rattle.oct_session.proofs.MapHistory.{stands_same, stands_edited, stands_scanned, stands_refreshed, stands_pruned}
+use Rattle.oct_session.proofs.Answering.{same_edit, same_get, same_cast, same_scan, same_box}
+use Rattle.oct_session.proofs.NonemptyReplies.{edit_some, block_some, box_some}
+use Rattle.oct_session.proofs.MapHistory.{stands_same, stands_edited, stands_scanned, stands_refreshed, stands_pruned, stands_cleared, stands_likened, stands_boxed}
 
 -- a command that does nothing that later replies may depend on
 accepted_none : (r : Option Reply) (actions : History) → actions ≡ [] → accepted r actions ≡ []
 accepted_none r actions none = elim (is_refusal r) as (λ b. cond b [] actions ≡ []) [ true ↦ refl | false ↦ none ]
 
 -- a command was answered, and done on a map that stood for some history
-abbrev Obeys : Setup → Map → Map → Result Command Refusal → Option Reply → Type 0
-Obeys o m n c r = HasAnswered o (λ h. reply o h c) (action_of c) m n r
+abbrev Obeys : Map → Map → Result Command Refusal → Option Reply → Type 0
+Obeys m n c r = HasAnswered (λ s. reply s c) (action_of c) m n r
 
 -- a scan whose points were all read was
-abbrev Scans : Setup → Map → Map → ScanSoFar → Option Reply → Type 0
-Scans o m n scan r = HasAnswered o (λ h. block_reply o h (Scanning scan)) (block_action (Scanning scan)) m n r
+abbrev Scans : Map → Map → ScanSoFar → Option Reply → Type 0
+Scans m n scan r = HasAnswered (λ s. block_reply s (Scanning scan)) (block_action (Scanning scan)) m n r
 
--- nothing that is accepted leaves the history
-stands_kept : (o : Setup) (m : Map) (h more : History) → more ≡ [] → StandsFor o m h → StandsFor o m (h ++ more)
-stands_kept o m h more none at = subst (λ x. StandsFor o m x) (sym (ap (λ x. h ++ x) none ∙ append-nil h)) at
+-- nothing that is accepted leaves the state
+stands_kept : (m : Map) (s : State) (more : History) → more ≡ [] → StandsFor m s → StandsFor m (after_all s more)
+stands_kept m s more none at = subst (λ x. StandsFor m (after_all s x)) (sym none) at
 
 -- what was answered to the command that was read
-pub answered_as : (o : Setup) (m n : Map) (c read : Command) (r : Option Reply) → c ≡ read → Obeys o m n (Ok read) r → Obeys o m n (Ok c) r
-answered_as o m n c read r is done = subst (λ x. Obeys o m n (Ok x) r) (sym is) done
+pub answered_as : (m n : Map) (c read : Command) (r : Option Reply) → c ≡ read → Obeys m n (Ok read) r → Obeys m n (Ok c) r
+answered_as m n c read r is done = subst (λ x. Obeys m n (Ok x) r) (sym is) done
+
+-- and what was done for it
+pub obeyed_as : {E : Type 0} (r : Result (Option Reply) E) (m n : Map) (c read : Result Command Refusal) → c ≡ read → HasObeyed m n read r → HasObeyed m n c r
+obeyed_as r m n c read is done = subst (λ x. HasObeyed m n x r) (sym is) done
 
 -- a reply to a refusal of the map is a refusal
 refuses : (f : MapFault) (r : Option Reply) → IsSome r → r ≡ fault_reply f → is_refusal r ≡ true
 refuses (fault.Outside point) r some is = ap is_refusal is
 refuses fault.BadDepth r some is = ap is_refusal is
+refuses fault.BadBox r some is = ap is_refusal is
+refuses (fault.TooManyBlocks count) r some is = ap is_refusal is
 refuses fault.Stale r some is = ap is_refusal is
 refuses (fault.Full groups need) r some is = ap is_refusal is
 refuses fault.OriginOutside r some is = ap is_refusal is
@@ -69,37 +82,58 @@ refuses (fault.PointOutside index) r some is = ap is_refusal is
 refuses (fault.TooManyCells index cells) r some is = ap is_refusal is
 refuses fault.Memory r some is = let none : IsSome (fault_reply fault.Memory) = subst IsSome is some in cc
 
--- out of memory there is no reply
+-- a reply to a fault of memory there is none
 no_reply : (f : MapFault) (r : Option Reply) → IsSome r → r ≡ fault_reply f → f ≡ fault.Memory → ⊥
 no_reply f r some is none = let absent : IsSome (fault_reply fault.Memory) = subst IsSome (is ∙ ap fault_reply none) some in cc
 
 -- an edit that the map did
-pub edit_done : (o : Setup) (m n : Map) (p : Point) (e : Edit) (lazy : Bool) (event : Event) → event ≡ edit_event o.odds e →
-    IsAnswerOrMemory (edit_answer m.tree.res m.max_groups (values_of m) p) (Ok tt) →
+pub edit_done : (m n : Map) (p : Point) (e : Edit) (lazy : Bool) (event : Event) → event ≡ edit_event m.tree.odds e →
+    IsAnswerOrMemory (edit_answer (ground_of m) (values_of m) p) (Ok tt) →
     SameValues (updated m.tree.odds (event_at (key_at m.tree.res p) event) (values_of m)) (values_of n) → n.is_stale ≡ (m.is_stale || lazy) →
-    ((IsTrue lazy → ⊥) → IsPruned m.tree → IsPruned n.tree) → IsSameSetup m n → Obeys o m n (Ok (command.Edit p e lazy)) (Some reply_of.Ok)
-edit_done o m n p e lazy event is (inl answer) values stale pruned setup = λ h at.
-    (ap edit_reply (answer ∙ same_edit o m h p at), stands_edited o m n h p e lazy event is values stale pruned setup at)
-edit_done o m n p e lazy event is (inr memory) values stale pruned setup = cc
+    ((IsTrue lazy → ⊥) → IsPruned m.tree → IsPruned n.tree) → ground_of n ≡ ground_of m → Obeys m n (Ok (command.Edit p e lazy)) (Some reply_of.Ok)
+edit_done m n p e lazy event is (inl answer) values stale pruned setup = λ q at.
+    (ap edit_reply (answer ∙ same_edit m q p at), stands_edited m n q p e lazy event is values stale pruned setup at)
+edit_done m n p e lazy event is (inr memory) values stale pruned setup = cc
 
 -- an edit that the map refused
-pub edit_refused : {E : Type 0} (r : Result (Option Reply) E) (o : Setup) (m n : Map) (p : Point) (e : Edit) (lazy : Bool) (f : MapFault) →
-    IfOk r (λ a. a ≡ fault_reply f) → IfOk r IsSome → IsAnswerOrMemory (edit_answer m.tree.res m.max_groups (values_of m) p) (Err f) →
-    SameValues (values_of m) (values_of n) → n.is_stale ≡ m.is_stale → (IsPruned m.tree → IsPruned n.tree) → IsSameSetup m n → HasObeyed o m n (Ok (command.Edit p e lazy)) r
-edit_refused (Ok a) o m n p e lazy f is some (inl answer) values stale pruned setup = λ h at. (
-  is ∙ ap edit_reply (answer ∙ same_edit o m h p at),
-  stands_kept o n h (accepted a (action_of (Ok (command.Edit p e lazy)))) (ap (λ b. cond b [] (action_of (Ok (command.Edit p e lazy)))) (refuses f a some is))
-      (stands_same o m n h values stale pruned setup at),
+pub edit_refused : {E : Type 0} (r : Result (Option Reply) E) (m n : Map) (p : Point) (e : Edit) (lazy : Bool) (f : MapFault) →
+    IfOk r (λ a. a ≡ fault_reply f) → IfOk r IsSome → IsAnswerOrMemory (edit_answer (ground_of m) (values_of m) p) (Err f) →
+    SameValues (values_of m) (values_of n) → n.is_stale ≡ m.is_stale → (IsPruned m.tree → IsPruned n.tree) → ground_of n ≡ ground_of m → HasObeyed m n (Ok (command.Edit p e lazy)) r
+edit_refused (Ok a) m n p e lazy f is some (inl answer) values stale pruned setup = λ q at. (
+  is ∙ ap edit_reply (answer ∙ same_edit m q p at),
+  stands_kept n q (accepted a (action_of (Ok (command.Edit p e lazy)))) (ap (λ b. cond b [] (action_of (Ok (command.Edit p e lazy)))) (refuses f a some is))
+      (stands_same m n q values stale pruned setup at),
 )
-edit_refused (Ok a) o m n p e lazy f is some (inr memory) values stale pruned setup = absurd (no_reply f a some is cc)
-edit_refused (Err x) o m n p e lazy f is some answer values stale pruned setup = λ h at. (edit_some o.res o.max_groups (value_after o h) p, stands_same o m n h values stale pruned setup at)
+edit_refused (Ok a) m n p e lazy f is some (inr memory) values stale pruned setup = absurd (no_reply f a some is cc)
+edit_refused (Err x) m n p e lazy f is some answer values stale pruned setup = λ q at. (edit_some q.base q.values p, stands_same m n q values stale pruned setup at)
+
+-- an edit of a box that the map did
+pub box_done : (m n : Map) (low high : Point) (e : Edit) (event : Event) → event ≡ edit_event m.tree.odds e →
+    IsAnswerOrMemory (box_answer (ground_of m) (values_of m) low high) (Ok tt) →
+    SameValues (updated m.tree.odds (corner_events (key_at m.tree.res low) (key_at m.tree.res high) event) (values_of m)) (values_of n) → n.is_stale ≡ (m.is_stale || false) →
+    (IsPruned m.tree → IsPruned n.tree) → ground_of n ≡ ground_of m → Obeys m n (Ok (command.Box low high e)) (Some reply_of.Ok)
+box_done m n low high e event is (inl answer) values stale pruned setup = λ q at.
+    (ap edit_reply (answer ∙ same_box m q low high at), stands_boxed m n q low high e event is values (stale ∙ or-false m.is_stale) pruned setup at)
+box_done m n low high e event is (inr memory) values stale pruned setup = cc
+
+-- an edit of a box that the map refused
+pub box_refused : {E : Type 0} (r : Result (Option Reply) E) (m n : Map) (low high : Point) (e : Edit) (f : MapFault) →
+    IfOk r (λ a. a ≡ fault_reply f) → IfOk r IsSome → IsAnswerOrMemory (box_answer (ground_of m) (values_of m) low high) (Err f) →
+    SameValues (values_of m) (values_of n) → n.is_stale ≡ m.is_stale → (IsPruned m.tree → IsPruned n.tree) → ground_of n ≡ ground_of m → HasObeyed m n (Ok (command.Box low high e)) r
+box_refused (Ok a) m n low high e f is some (inl answer) values stale pruned setup = λ q at. (
+  is ∙ ap edit_reply (answer ∙ same_box m q low high at),
+  stands_kept n q (accepted a (action_of (Ok (command.Box low high e)))) (ap (λ b. cond b [] (action_of (Ok (command.Box low high e)))) (refuses f a some is))
+      (stands_same m n q values stale pruned setup at),
+)
+box_refused (Ok a) m n low high e f is some (inr memory) values stale pruned setup = absurd (no_reply f a some is cc)
+box_refused (Err x) m n low high e f is some answer values stale pruned setup = λ q at. (box_some q.base q.values low high, stands_same m n q values stale pruned setup at)
 
 -- a query that the map answered
-pub query_done : (o : Setup) (m : Map) (p : Point) (depth : ℕ) (value : Value) (shown : Reply) → shown ≡ value_reply o.odds value →
-    ◌≡◌ {A = Result Value MapFault} (Ok value) (get_answer m.tree.res m.is_stale (values_of m) p depth) → Obeys o m m (Ok (command.Get p depth)) (Some shown)
-query_done o m p depth value shown is answer = λ h at. (
-  ap Some is ∙ ap (get_reply o.odds) (answer ∙ same_get o m h p depth at),
-  stands_kept o m h (accepted (Some shown) []) (accepted_none (Some shown) [] refl) at,
+pub query_done : (m : Map) (p : Point) (depth : ℕ) (value : Value) (shown : Reply) → shown ≡ value_reply m.tree.odds value →
+    ◌≡◌ {A = Result Value MapFault} (Ok value) (get_answer (ground_of m) m.is_stale (values_of m) p depth) → Obeys m m (Ok (command.Get p depth)) (Some shown)
+query_done m p depth value shown is answer = λ q at. (
+  ap Some is ∙ ap (λ (g : Ground). Some (value_reply g.odds value)) at.base ∙ ap (get_reply q.base.odds) (answer ∙ same_get m q p depth at),
+  stands_kept m q (accepted (Some shown) []) (accepted_none (Some shown) [] refl) at,
 )
 
 -- a query doesn't run out of memory
@@ -116,55 +150,87 @@ get_calm stale values depth None is = cc
 get_calm stale values depth (Some k) is = block_calm stale values depth k is
 
 -- a query that the map refused
-pub query_refused : {E : Type 0} (r : Result (Option Reply) E) (o : Setup) (m : Map) (p : Point) (depth : ℕ) (f : MapFault) → IfOk r (λ a. a ≡ fault_reply f) → OnErr r (f ≡ fault.Memory) →
-    ◌≡◌ {A = Result Value MapFault} (Err f) (get_answer m.tree.res m.is_stale (values_of m) p depth) → HasObeyed o m m (Ok (command.Get p depth)) r
-query_refused (Ok a) o m p depth f is memory answer = λ h at. (
-  is ∙ ap (get_reply o.odds) (answer ∙ same_get o m h p depth at),
-  stands_kept o m h (accepted a []) (accepted_none a [] refl) at,
+pub query_refused : {E : Type 0} (r : Result (Option Reply) E) (m : Map) (p : Point) (depth : ℕ) (f : MapFault) → IfOk r (λ a. a ≡ fault_reply f) → OnErr r (f ≡ fault.Memory) →
+    ◌≡◌ {A = Result Value MapFault} (Err f) (get_answer (ground_of m) m.is_stale (values_of m) p depth) → HasObeyed m m (Ok (command.Get p depth)) r
+query_refused (Ok a) m p depth f is memory answer = λ q at. (
+  is ∙ ap (get_reply q.base.odds) (answer ∙ same_get m q p depth at),
+  stands_kept m q (accepted a []) (accepted_none a [] refl) at,
 )
-query_refused (Err x) o m p depth f is memory answer = absurd (get_calm m.is_stale (values_of m) depth (key_at m.tree.res p) (sym answer ∙ ap Err memory))
+query_refused (Err x) m p depth f is memory answer = absurd (get_calm m.is_stale (values_of m) depth (key_at m.tree.res p) (sym answer ∙ ap Err memory))
+
+-- a cast that the map answered
+pub cast_done : (m : Map) (o e : Point) (ignore : Bool) (found : Cast) → ◌≡◌ {A = Result Cast MapFault} (Ok found) (cast_answer (ground_of m) (values_of m) o e ignore) →
+    Obeys m m (Ok (command.Cast o e ignore)) (Some (reply_of.Casted found))
+cast_done m o e ignore found answer = λ q at. (
+  ap cast_reply (answer ∙ same_cast m q o e ignore at),
+  stands_kept m q (accepted (Some (reply_of.Casted found)) []) (accepted_none (Some (reply_of.Casted found)) [] refl) at,
+)
+
+-- a cast doesn't run out of memory
+cast_calm : (key_o key_e : Option Voxel) (found : Cast) → cast_answer_at key_o key_e found ≡ Err fault.Memory → ⊥
+cast_calm None key_e found is = cc
+cast_calm (Some k) None found is = cc
+cast_calm (Some k) (Some l) found is = cc
+
+-- a cast that the map refused
+pub cast_refused : {E : Type 0} (r : Result (Option Reply) E) (m : Map) (o e : Point) (ignore : Bool) (f : MapFault) → IfOk r (λ a. a ≡ fault_reply f) → OnErr r (f ≡ fault.Memory) →
+    ◌≡◌ {A = Result Cast MapFault} (Err f) (cast_answer (ground_of m) (values_of m) o e ignore) → HasObeyed m m (Ok (command.Cast o e ignore)) r
+cast_refused (Ok a) m o e ignore f is memory answer = λ q at. (
+  is ∙ ap cast_reply (answer ∙ same_cast m q o e ignore at),
+  stands_kept m q (accepted a []) (accepted_none a [] refl) at,
+)
+cast_refused (Err x) m o e ignore f is memory answer =
+    absurd (cast_calm (key_at m.tree.res o) (key_at m.tree.res e) (cast_along m.tree.res o e ignore (classes_of m.tree.odds (values_of m))) (sym answer ∙ ap Err memory))
 
 -- the counts of the map, which is pruned for them
-pub counts_done : (o : Setup) (m n : Map) (counts : Counts) → counts.groups ≡ group_count (values_of m) → counts.nodes ≡ node_count (values_of m) →
-    SameValues (values_of m) (values_of n) → n.is_stale ≡ m.is_stale → IsPruned n.tree → IsSameSetup m n → Obeys o m n (Ok command.Counts) (Some (reply_of.Counted counts))
-counts_done o m n counts groups nodes values stale pruned setup = λ h at.
-    let g : counts.groups ≡ group_count (value_after o h) = groups ∙ sym (same_group_count (value_after o h) (values_of m) at.values) in
-    let k : counts.nodes ≡ node_count (value_after o h) = nodes ∙ sym (same_node_count (value_after o h) (values_of m) at.values) in (
-      ap (λ x. Some (reply_of.Counted (record { groups = x; nodes = counts.nodes }))) g ∙ ap (λ x. Some (reply_of.Counted (record { groups = group_count (value_after o h); nodes = x }))) k,
-      stands_pruned o m n h values stale pruned setup at,
+pub counts_done : (m n : Map) (counts : Counts) → counts.groups ≡ group_count (values_of m) → counts.nodes ≡ node_count (values_of m) →
+    SameValues (values_of m) (values_of n) → n.is_stale ≡ m.is_stale → IsPruned n.tree → ground_of n ≡ ground_of m → Obeys m n (Ok command.Counts) (Some (reply_of.Counted counts))
+counts_done m n counts groups nodes values stale pruned setup = λ q at.
+    let g : counts.groups ≡ group_count q.values = groups ∙ sym (same_group_count q.values (values_of m) at.values) in
+    let k : counts.nodes ≡ node_count q.values = nodes ∙ sym (same_node_count q.values (values_of m) at.values) in (
+      ap (λ x. Some (reply_of.Counted (record { groups = x; nodes = counts.nodes }))) g ∙ ap (λ x. Some (reply_of.Counted (record { groups = group_count q.values; nodes = x }))) k,
+      stands_pruned m n q values stale pruned setup at,
     )
 
 -- a refresh
-pub refresh_done : (o : Setup) (m n : Map) → SameValues (values_of m) (values_of n) → n.is_stale ≡ false → (IsPruned m.tree → IsPruned n.tree) → IsSameSetup m n →
-    Obeys o m n (Ok command.Refresh) (Some reply_of.Ok)
-refresh_done o m n values fresh pruned setup = λ h at. (refl, stands_refreshed o m n h values fresh pruned setup at)
+pub refresh_done : (m n : Map) → SameValues (values_of m) (values_of n) → n.is_stale ≡ false → (IsPruned m.tree → IsPruned n.tree) → ground_of n ≡ ground_of m →
+    Obeys m n (Ok command.Refresh) (Some reply_of.Ok)
+refresh_done m n values fresh pruned setup = λ q at. (refl, stands_refreshed m n q values fresh pruned setup at)
+
+-- a clear
+pub clear_done : (m n : Map) → ((k : Voxel) → values_of n k ≡ None) → n.is_stale ≡ false → IsPruned n.tree → ground_of n ≡ ground_of m → Obeys m n (Ok command.Clear) (Some reply_of.Ok)
+clear_done m n unknown fresh pruned setup = λ q at. (refl, stands_cleared m n q unknown fresh pruned setup at)
+
+-- maximum likelihood
+pub likelihood_done : (m n : Map) → SameValues (updated m.tree.odds (λ k. Some event.Likely) (values_of m)) (values_of n) → n.is_stale ≡ false → IsPruned n.tree → ground_of n ≡ ground_of m →
+    Obeys m n (Ok command.MaxLikelihood) (Some reply_of.Ok)
+likelihood_done m n values fresh pruned setup = λ q at. (refl, stands_likened m n q values fresh pruned setup at)
 
 -- the reply to a scan whose quaternion isn't 0
-scan_replied : (o : Setup) (m : Map) (h : History) (scan : ScanSoFar) (s : Sighting) (r : Result ScanDone MapFault) → is_zero scan.head ≡ false → s ≡ sighting_so_far scan → StandsFor o m h →
-    r ≡ scan_answer m.tree.res m.tree.odds m.max_groups m.max_cells (values_of m) s → scan_reply r ≡ block_reply o h (Scanning scan)
-scan_replied o m h scan s r turns saw at answer = rw turns
-    (ap scan_reply (answer ∙ same_scan o m h s at ∙ ap (scan_answer o.res o.odds o.max_groups o.max_cells (value_after o h)) saw))
+scan_replied : (m : Map) (q : State) (scan : ScanSoFar) (s : Sighting) (r : Result ScanDone MapFault) → is_zero scan.head ≡ false → s ≡ sighting_so_far scan → StandsFor m q →
+    r ≡ scan_answer (ground_of m) (values_of m) s → scan_reply r ≡ block_reply q (Scanning scan)
+scan_replied m q scan s r turns saw at answer = rw turns (ap scan_reply (answer ∙ same_scan m q s at ∙ ap (scan_answer q.base q.values) saw))
 
 -- a scan that the map did
-pub scan_done : (o : Setup) (m n : Map) (scan : ScanSoFar) (s : Sighting) (lazy : Bool) (done : ScanDone) → is_zero scan.head ≡ false → s ≡ sighting_so_far scan → lazy ≡ scan.head.lazy →
-    IsAnswerOrMemory (scan_answer m.tree.res m.tree.odds m.max_groups m.max_cells (values_of m) s) (Ok done) →
+pub scan_done : (m n : Map) (scan : ScanSoFar) (s : Sighting) (lazy : Bool) (done : ScanDone) → is_zero scan.head ≡ false → s ≡ sighting_so_far scan → lazy ≡ scan.head.lazy →
+    IsAnswerOrMemory (scan_answer (ground_of m) (values_of m) s) (Ok done) →
     SameValues (updated m.tree.odds (outcome_in m s) (values_of m)) (values_of n) → n.is_stale ≡ (m.is_stale || lazy) →
-    ((IsTrue lazy → ⊥) → IsPruned m.tree → IsPruned n.tree) → IsSameSetup m n → Scans o m n scan (Some (reply_of.Scanned (record { hits = done.hits; frees = done.frees })))
-scan_done o m n scan s lazy done turns saw late (inl answer) values stale pruned setup = λ h at. (
-  scan_replied o m h scan s (Ok done) turns saw at answer,
-  subst (λ x. StandsFor o n (h ++ Scanned x scan.head.lazy ∷ [])) saw
-      (subst (λ x. StandsFor o n (h ++ Scanned s x ∷ [])) late (stands_scanned o m n h s lazy values stale pruned setup at)),
+    ((IsTrue lazy → ⊥) → IsPruned m.tree → IsPruned n.tree) → ground_of n ≡ ground_of m → Scans m n scan (Some (reply_of.Scanned (record { hits = done.hits; frees = done.frees })))
+scan_done m n scan s lazy done turns saw late (inl answer) values stale pruned setup = λ q at. (
+  scan_replied m q scan s (Ok done) turns saw at answer,
+  subst (λ x. StandsFor n (after q (Scanned x scan.head.lazy))) saw
+      (subst (λ x. StandsFor n (after q (Scanned s x))) late (stands_scanned m n q s lazy values stale pruned setup at)),
 )
-scan_done o m n scan s lazy done turns saw late (inr memory) values stale pruned setup = cc
+scan_done m n scan s lazy done turns saw late (inr memory) values stale pruned setup = cc
 
 -- a scan that the map refused
-pub scan_refused : {E : Type 0} (r : Result (Option Reply) E) (o : Setup) (m n : Map) (scan : ScanSoFar) (s : Sighting) (f : MapFault) → is_zero scan.head ≡ false → s ≡ sighting_so_far scan →
-    IfOk r (λ a. a ≡ fault_reply f) → IfOk r IsSome → IsAnswerOrMemory (scan_answer m.tree.res m.tree.odds m.max_groups m.max_cells (values_of m) s) (Err f) →
-    SameValues (values_of m) (values_of n) → n.is_stale ≡ m.is_stale → (IsPruned m.tree → IsPruned n.tree) → IsSameSetup m n → HasScanned o m n (Scanning scan) r
-scan_refused (Ok a) o m n scan s f turns saw is some (inl answer) values stale pruned setup = λ h at. (
-  is ∙ scan_replied o m h scan s (Err f) turns saw at answer,
-  stands_kept o n h (accepted a (block_action (Scanning scan))) (ap (λ b. cond b [] (block_action (Scanning scan))) (refuses f a some is))
-      (stands_same o m n h values stale pruned setup at),
+pub scan_refused : {E : Type 0} (r : Result (Option Reply) E) (m n : Map) (scan : ScanSoFar) (s : Sighting) (f : MapFault) → is_zero scan.head ≡ false → s ≡ sighting_so_far scan →
+    IfOk r (λ a. a ≡ fault_reply f) → IfOk r IsSome → IsAnswerOrMemory (scan_answer (ground_of m) (values_of m) s) (Err f) →
+    SameValues (values_of m) (values_of n) → n.is_stale ≡ m.is_stale → (IsPruned m.tree → IsPruned n.tree) → ground_of n ≡ ground_of m → HasScanned m n (Scanning scan) r
+scan_refused (Ok a) m n scan s f turns saw is some (inl answer) values stale pruned setup = λ q at. (
+  is ∙ scan_replied m q scan s (Err f) turns saw at answer,
+  stands_kept n q (accepted a (block_action (Scanning scan))) (ap (λ b. cond b [] (block_action (Scanning scan))) (refuses f a some is))
+      (stands_same m n q values stale pruned setup at),
 )
-scan_refused (Ok a) o m n scan s f turns saw is some (inr memory) values stale pruned setup = absurd (no_reply f a some is cc)
-scan_refused (Err x) o m n scan s f turns saw is some answer values stale pruned setup = λ h at. (block_some o h scan, stands_same o m n h values stale pruned setup at)
+scan_refused (Ok a) m n scan s f turns saw is some (inr memory) values stale pruned setup = absurd (no_reply f a some is cc)
+scan_refused (Err x) m n scan s f turns saw is some answer values stale pruned setup = λ q at. (block_some q scan, stands_same m n q values stale pruned setup at)

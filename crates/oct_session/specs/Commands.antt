@@ -4,21 +4,23 @@ use Rattle.oct_key.specs.Values.{Values}
 use Rattle.oct_odds.specs.Odds.{Odds}
 use Rattle.oct_odds.specs.Update.{Value, class_of}
 use Rattle.oct_values.specs.Counts.{group_count, node_count}
-use Rattle.oct_map.specs.Answers.{edit_answer, get_answer}
+use Rattle.oct_cast.specs.declared.outcome.Cast.{Cast as Found}
+use Rattle.oct_map.specs.Answers.{edit_answer, get_answer, box_answer}
+use Rattle.oct_map.specs.Casts.{cast_answer}
 use Rattle.oct_map.specs.declared.fault.MapFault.{MapFault}
 use Rattle.oct_map.specs.declared.fault.MapFault.TheVariants as fault
 use Rattle.oct_script.specs.declared.command.Command.{Command}
-use Rattle.oct_script.specs.declared.command.Command.TheVariants.{Blank, Edit, Get, Counts, Refresh, Prune, Quit, Scan, Beam, End, NotYet}
+use Rattle.oct_script.specs.declared.command.Command.TheVariants.{Blank, Edit, Get, Cast, Counts, Refresh, Prune, Clear, Quit, MaxLikelihood, Scan, Beam, End, NotYet, Box}
 use Rattle.oct_script.specs.declared.command.Syntax.{Syntax}
 use Rattle.oct_script.specs.declared.reply.Refusal.{Refusal}
 use Rattle.oct_script.specs.declared.reply.Refusal.TheVariants as refusal
 use Rattle.oct_script.specs.declared.reply.Reply.{Reply}
-use Rattle.oct_script.specs.declared.reply.Reply.TheVariants.{Ok, Known, Unknown, Counted, Refused}
+use Rattle.oct_script.specs.declared.reply.Reply.TheVariants.{Ok, Known, Unknown, Counted}
+use Rattle.oct_script.specs.declared.reply.Reply.TheVariants.{Casted, Refused}
 use Rattle.oct_script.specs.Commands.{command_of}
 use Rattle.oct_script.specs.Lines.{Line, Text, Long}
 use Rattle.oct_script.specs.Replies.{is_refusal}
-use Rattle.oct_session.specs.History.{History, Edited, Refreshed, Pruned, value_after, is_stale_after}
-use Rattle.oct_session.specs.Setup.{Setup}
+use Rattle.oct_session.specs.History.{History, State, Edited, Refreshed, Pruned, Cleared, Likened, Boxed}
 
 -- the command that was read on the line of this number, or the refusal where the line isn't in the
 -- grammar
@@ -41,6 +43,8 @@ is_quit _ = false
 abbrev pub refusal_of : MapFault → Option Refusal
 refusal_of (fault.Outside point) = Some (refusal.Outside point)
 refusal_of fault.BadDepth = Some refusal.BadDepth
+refusal_of fault.BadBox = Some refusal.BadBox
+refusal_of (fault.TooManyBlocks count) = Some (refusal.TooManyBlocks count)
 refusal_of fault.Stale = Some refusal.Stale
 refusal_of (fault.Full groups need) = Some (refusal.Full groups need)
 refusal_of fault.OriginOutside = Some refusal.OriginOutside
@@ -52,7 +56,7 @@ refusal_of fault.Memory = None
 abbrev pub fault_reply : MapFault → Option Reply
 fault_reply fault = option_map Refused (refusal_of fault)
 
--- the reply to an edit, by the map's answer
+-- the reply to an edit of a voxel or a box, by the map's answer
 abbrev pub edit_reply : Result ⊤ MapFault → Option Reply
 edit_reply (Ok done) = Some Ok
 edit_reply (Err fault) = fault_reply fault
@@ -67,36 +71,48 @@ abbrev pub get_reply : Odds → Result Value MapFault → Option Reply
 get_reply odds (Ok value) = Some (value_reply odds value)
 get_reply odds (Err fault) = fault_reply fault
 
+-- the reply to a cast, by the map's answer
+abbrev pub cast_reply : Result Found MapFault → Option Reply
+cast_reply (Ok found) = Some (Casted found)
+cast_reply (Err fault) = fault_reply fault
+
 -- the reply that shows how many groups and nodes these values need
 abbrev pub counts_reply : Values → Reply
 counts_reply values = Counted (record { groups = group_count values; nodes = node_count values })
 
--- the reply to a line's command after a history, outside the block of a scan, where the map's
--- answers are those of the plain fold over the history; a blank line has none, and neither has
--- `quit`, nor a line of a scan, whose block has one reply in all
-abbrev pub reply : Setup → History → Result Command Refusal → Option Reply
-reply o history (Err refusal) = Some (Refused refusal)
-reply o history (Ok NotYet) = Some (Refused refusal.NotYet)
-reply o history (Ok Blank) = None
-reply o history (Ok Quit) = None
-reply o history (Ok (Scan head)) = None
-reply o history (Ok (Beam p)) = None
-reply o history (Ok End) = None
-reply o history (Ok (Edit p edit lazy)) =
-    edit_reply (edit_answer o.res o.max_groups (value_after o history) p)
-reply o history (Ok (Get p depth)) =
-    get_reply o.odds (get_answer o.res (is_stale_after history) (value_after o history) p depth)
-reply o history (Ok Counts) = Some (counts_reply (value_after o history))
-reply o history (Ok Refresh) = Some Ok
-reply o history (Ok Prune) = Some Ok
+-- the reply to a line's command in a state, outside the block of a scan, by the map's answers in
+-- that state; a blank line has none, and neither has `quit`, nor a line of a scan, whose block has
+-- one reply in all
+abbrev pub reply : State → Result Command Refusal → Option Reply
+reply s (Err refusal) = Some (Refused refusal)
+reply s (Ok NotYet) = Some (Refused refusal.NotYet)
+reply s (Ok Blank) = None
+reply s (Ok Quit) = None
+reply s (Ok (Scan head)) = None
+reply s (Ok (Beam p)) = None
+reply s (Ok End) = None
+reply s (Ok (Edit p edit lazy)) = edit_reply (edit_answer s.base s.values p)
+reply s (Ok (Box low high edit)) = edit_reply (box_answer s.base s.values low high)
+reply s (Ok (Get p depth)) =
+    get_reply s.base.odds (get_answer s.base s.is_stale s.values p depth)
+reply s (Ok (Cast origin end ignore)) =
+    cast_reply (cast_answer s.base s.values origin end ignore)
+reply s (Ok Counts) = Some (counts_reply s.values)
+reply s (Ok Refresh) = Some Ok
+reply s (Ok Prune) = Some Ok
+reply s (Ok Clear) = Some Ok
+reply s (Ok MaxLikelihood) = Some Ok
 
 -- what a command does, if it does anything that later replies or the map may depend on; to count is
 -- to prune first
 abbrev pub action_of : Result Command Refusal → History
 action_of (Ok (Edit p edit lazy)) = Edited p edit lazy ∷ []
+action_of (Ok (Box low high edit)) = Boxed low high edit ∷ []
 action_of (Ok Refresh) = Refreshed ∷ []
 action_of (Ok Counts) = Pruned ∷ []
 action_of (Ok Prune) = Pruned ∷ []
+action_of (Ok Clear) = Cleared ∷ []
+action_of (Ok MaxLikelihood) = Likened ∷ []
 action_of _ = []
 
 -- what is done where the reply isn't a refusal

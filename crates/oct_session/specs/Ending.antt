@@ -7,7 +7,7 @@ use Rattle.oct_session.specs.declared.service.TheConstants.{MOST_READ}
 use Rattle.oct_session.specs.Session.{Answer, progress, session}
 use Rattle.oct_session.specs.Setup.{Setup}
 use Rattle.oct_session.specs.declared.options.Status.{Status}
-use Rattle.oct_session.specs.declared.options.Status.TheVariants.{Done, Refused, Usage, TooLong, ReadFault, WriteFault, Memory}
+use Rattle.oct_session.specs.declared.options.Status.TheVariants.{Done, Refused, Usage, BadFile, TooLong, ReadFault, WriteFault, Memory}
 
 -- the replies to the lines that end within these bytes
 abbrev pub replies_within : Setup → Files → List ℕ → List ℕ
@@ -84,6 +84,7 @@ MayEnd o files bytes left old new Done =
 MayEnd o files bytes left old new Refused =
     IsAnswered (session o files bytes) old new Refused × IsReadToEnd o files bytes left
 MayEnd o files bytes left old new Usage = ⊥
+MayEnd o files bytes left old new BadFile = ⊥
 MayEnd o files bytes left old new TooLong =
     IsAnswered (session o files bytes) old new TooLong × HasTaken (o.max_bytes + 1) bytes left
 MayEnd o files bytes left old new ReadFault =
@@ -98,6 +99,7 @@ abbrev pub IsWhole : Status → Type 0
 IsWhole Done = Unit {0}
 IsWhole Refused = Unit {0}
 IsWhole Usage = Unit {0}
+IsWhole BadFile = Unit {0}
 IsWhole TooLong = Unit {0}
 IsWhole ReadFault = ⊥
 IsWhole WriteFault = ⊥

@@ -1,26 +1,31 @@
--- The plain fold: what one voxel has after the commands that were accepted, whether inner values
--- may be out of date, and whether the map is pruned.
-use Rattle.std.specs.Prelude.{List, fold, None, Bool, true, false, not, ◌||◌, ◌&&◌}
-use Rattle.oct_key.specs.Voxel.{key_at}
+-- The plain fold: what a session has after the commands that were accepted.
+use Rattle.std.specs.Prelude.{List, fold, Some, None, Bool, true, false, not, ◌||◌, ◌&&◌}
+use Rattle.oct_key.specs.Voxel.{Voxel, key_at}
 use Rattle.oct_key.specs.Values.{Values}
 use Rattle.oct_key.specs.declared.point.Point.{Point}
-use Rattle.oct_map.specs.Outcome.{outcome_of}
+use Rattle.oct_map.specs.Ground.{Ground}
+use Rattle.oct_map.specs.Outcome.{outcome_of, corner_events}
 use Rattle.oct_odds.specs.Odds.{Odds}
+use Rattle.oct_odds.specs.Update.{Value}
 use Rattle.oct_odds.specs.declared.event.Event.{Event}
 use Rattle.oct_odds.specs.declared.event.Event.TheVariants as event
 use Rattle.oct_scan.specs.Beam.{Sighting}
-use Rattle.oct_values.specs.Events.{Events, event_at, after_event}
+use Rattle.oct_values.specs.Events.{Events, event_at, after_event, updated}
 use Rattle.oct_script.specs.declared.command.Edit.{Edit}
 use Rattle.oct_script.specs.declared.command.Edit.TheVariants.{Hit, Miss, Add, Set, Forget}
-use Rattle.oct_session.specs.Setup.{Setup}
+use Rattle.oct_session.specs.Setup.{Setup, ground_in}
 
 -- what an accepted command did, with all that it read: an edit of the voxel that holds a point,
--- lazy or not, a scan, lazy or not, a refresh, or a prune
+-- lazy or not, an edit of each voxel of the box whose corners hold two points, a scan, lazy or not,
+-- a refresh, a prune, a clear, or maximum likelihood
 pub data Action : Type 0 where
   Edited : Point → Edit → Bool → Action
+  Boxed : Point → Point → Edit → Action
   Scanned : Sighting → Bool → Action
   Refreshed : Action
   Pruned : Action
+  Cleared : Action
+  Likened : Action
 
 -- what the accepted commands did, from the first on
 abbrev pub History : Type 0
@@ -34,38 +39,76 @@ edit_event odds (Add change) = event.Add change
 edit_event odds (Set value) = event.Set value
 edit_event odds Forget = event.Forget
 
--- what a command does to each voxel: an event, or nothing
-abbrev pub command_event : Setup → Action → Events
-command_event o (Edited p edit lazy) = event_at (key_at o.res p) (edit_event o.odds edit)
-command_event o (Scanned sighting lazy) = outcome_of o.res o.odds sighting
-command_event o Refreshed = λ k. None
-command_event o Pruned = λ k. None
-
--- the value of each voxel after a history: the fold of its own events, from unknown on
-abbrev pub value_after : Setup → History → Values
-value_after o history k =
-    fold (λ value action. after_event o.odds (command_event o action k) value) None history
+-- what a command does to each voxel, by what the map's answers read: an event, or nothing
+abbrev pub command_event : Ground → Action → Events
+command_event g (Edited p edit lazy) = event_at (key_at g.res p) (edit_event g.odds edit)
+command_event g (Boxed low high edit) =
+    corner_events (key_at g.res low) (key_at g.res high) (edit_event g.odds edit)
+command_event g (Scanned sighting lazy) = outcome_of g sighting
+command_event g Refreshed = λ k. None
+command_event g Pruned = λ k. None
+command_event g Cleared = λ k. Some event.Forget
+command_event g Likened = λ k. Some event.Likely
 
 -- whether inner values may be out of date after a command: from a lazy edit or scan on they may,
--- and from a refresh on they are right
+-- and from a refresh, a clear or maximum likelihood on they are right
 abbrev pub is_stale_by : Bool → Action → Bool
 is_stale_by is_stale (Edited p edit lazy) = is_stale || lazy
+is_stale_by is_stale (Boxed low high edit) = is_stale
 is_stale_by is_stale (Scanned sighting lazy) = is_stale || lazy
 is_stale_by is_stale Refreshed = false
 is_stale_by is_stale Pruned = is_stale
+is_stale_by is_stale Cleared = false
+is_stale_by is_stale Likened = false
 
--- whether a lazy edit or scan stands in a history after its last refresh
-abbrev pub is_stale_after : History → Bool
-is_stale_after history = fold is_stale_by false history
-
--- whether the map is pruned after a command: from a prune on it is, and from a lazy edit or scan on
--- it may not be
+-- whether the map is pruned after a command: from a prune, a clear or maximum likelihood on it is,
+-- and from a lazy edit or scan on it may not be
 abbrev pub is_pruned_by : Bool → Action → Bool
 is_pruned_by is_pruned (Edited p edit lazy) = is_pruned && not lazy
+is_pruned_by is_pruned (Boxed low high edit) = is_pruned
 is_pruned_by is_pruned (Scanned sighting lazy) = is_pruned && not lazy
 is_pruned_by is_pruned Refreshed = is_pruned
 is_pruned_by is_pruned Pruned = true
+is_pruned_by is_pruned Cleared = true
+is_pruned_by is_pruned Likened = true
 
--- whether no lazy edit or scan stands in a history after its last prune
-abbrev pub is_pruned_after : History → Bool
-is_pruned_after history = fold is_pruned_by true history
+-- what a session has between two commands: what the map's answers read beside the values, the value
+-- of each voxel, whether inner values may be out of date, and whether the map is pruned
+pub record State : Type 0 where
+  pub base : Ground
+  pub values : Values
+  pub is_stale : Bool
+  pub is_pruned : Bool
+
+-- before the first command: each voxel is unknown
+abbrev pub start_state : Setup → State
+start_state o =
+    record { base = ground_in o; values = λ k. None; is_stale = false; is_pruned = true }
+
+-- after a command: each voxel has the value after its own event
+abbrev pub after : State → Action → State
+after s action = record {
+  base = s.base;
+  values = updated s.base.odds (command_event s.base action) s.values;
+  is_stale = is_stale_by s.is_stale action;
+  is_pruned = is_pruned_by s.is_pruned action;
+}
+
+-- after some commands
+abbrev pub after_all : State → History → State
+after_all s history = fold after s history
+
+-- after a history
+abbrev pub state_after : Setup → History → State
+state_after o history = after_all (start_state o) history
+
+-- the value of each voxel after a history
+abbrev pub value_after : Setup → History → Values
+value_after o history = (state_after o history).values
+
+-- one voxel alone after a history: the fold of its own events, from unknown on; a law says that
+-- `value_after` has this value
+abbrev pub alone_after : Setup → History → Voxel → Value
+alone_after o history k =
+    fold (λ value action. after_event o.odds (command_event (ground_in o) action k) value) None
+    history

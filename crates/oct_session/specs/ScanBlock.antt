@@ -16,9 +16,8 @@ use Rattle.oct_script.specs.Commands.{opens_scan}
 use Rattle.oct_script.specs.Lines.{Line, Text, Long}
 use Rattle.oct_session.specs.declared.block.TheConstants.{MOST_POINTS}
 use Rattle.oct_session.specs.Commands.{fault_reply}
-use Rattle.oct_session.specs.History.{History, Scanned, value_after}
+use Rattle.oct_session.specs.History.{History, State, Scanned}
 use Rattle.oct_session.specs.ScanSoFar.{ScanSoFar, begun, sighting_so_far}
-use Rattle.oct_session.specs.Setup.{Setup}
 use Rattle.oct_session.specs.declared.block.Block.{Block}
 use Rattle.oct_session.specs.declared.block.Block.TheVariants.{Scanning, Spoilt}
 
@@ -65,15 +64,13 @@ abbrev pub scan_reply : Result map_done.ScanDone MapFault → Option Reply
 scan_reply (Ok done) = Some (reply_of.Scanned (record { hits = done.hits; frees = done.frees }))
 scan_reply (Err fault) = fault_reply fault
 
--- the reply to a block that its `end` closes after a history, where the map's answer is that of the
--- plain fold over the history
-abbrev pub block_reply : Setup → History → Block → Option Reply
-block_reply o history (Spoilt refusal) = Some (reply_of.Refused refusal)
-block_reply o history (Scanning scan) =
+-- the reply to a block that its `end` closes in a state, by the map's answer in that state
+abbrev pub block_reply : State → Block → Option Reply
+block_reply s (Spoilt refusal) = Some (reply_of.Refused refusal)
+block_reply s (Scanning scan) =
     if is_zero scan.head
     then Some (reply_of.Refused refusal.ZeroQuaternion)
-    else scan_reply (scan_answer o.res o.odds o.max_groups o.max_cells (value_after o history)
-    (sighting_so_far scan))
+    else scan_reply (scan_answer s.base s.values (sighting_so_far scan))
 
 -- what a block does, if it does anything
 abbrev pub block_action : Block → History

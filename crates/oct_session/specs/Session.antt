@@ -7,7 +7,7 @@ use Rattle.oct_script.specs.declared.reply.Reply.{Reply}
 use Rattle.oct_script.specs.Lines.{Line, ended_lines, all_lines}
 use Rattle.oct_script.specs.Replies.{text_of, is_refusal}
 use Rattle.oct_session.specs.Commands.{command_on, is_quit, reply, action_of, accepted}
-use Rattle.oct_session.specs.History.{History}
+use Rattle.oct_session.specs.History.{History, State, state_after}
 use Rattle.oct_session.specs.ScanBlock.{opened, with_line, is_end, block_reply, block_action, end_reply}
 use Rattle.oct_session.specs.Setup.{Setup}
 use Rattle.oct_session.specs.declared.block.Block.{Block}
@@ -29,22 +29,21 @@ abbrev pub silent : Block → Effect
 silent block = record { reply = None; added = []; block = Some block }
 
 -- what a line does outside a block, by the block that it opens
-abbrev pub effect_opened : Setup → History → Result Command Refusal → Option Block → Effect
-effect_opened o history command None = replied (reply o history command) (action_of command)
-effect_opened o history command (Some block) = silent block
+abbrev pub effect_opened : State → Result Command Refusal → Option Block → Effect
+effect_opened s command None = replied (reply s command) (action_of command)
+effect_opened s command (Some block) = silent block
 
 -- what a line does inside a block, by whether it closes it
-abbrev pub effect_inside : Setup → History → ℕ → Result Command Refusal → Block → Effect
-effect_inside o history number command block =
+abbrev pub effect_inside : State → ℕ → Result Command Refusal → Block → Effect
+effect_inside s number command block =
     if is_end command
-    then replied (block_reply o history block) (block_action block)
+    then replied (block_reply s block) (block_action block)
     else silent (with_line number command block)
 
--- what the line of this number does after a history, where a block is open or none
-abbrev pub effect : Setup → History → ℕ → Line → Result Command Refusal → Option Block → Effect
-effect o history number line command None =
-    effect_opened o history command (opened number line command)
-effect o history number line command (Some block) = effect_inside o history number command block
+-- what the line of this number does in a state, where a block is open or none
+abbrev pub effect : State → ℕ → Line → Result Command Refusal → Option Block → Effect
+effect s number line command None = effect_opened s command (opened number line command)
+effect s number line command (Some block) = effect_inside s number command block
 
 -- between two lines: the history, the files, how many lines there were, the block that is open,
 -- whether a reply was a refusal and a line was `quit`, and the replies
@@ -77,7 +76,8 @@ next_command p line = command_on (is_some p.block) (p.line_count + 1) line
 
 -- what the next line does
 abbrev pub effect_of : Setup → Progress → Line → Effect
-effect_of o p line = effect o p.history (p.line_count + 1) line (next_command p line) p.block
+effect_of o p line =
+    effect (state_after o p.history) (p.line_count + 1) line (next_command p line) p.block
 
 -- after one line more was taken in
 abbrev pub answered : Setup → Progress → Line → Progress

@@ -1,5 +1,6 @@
 -- The numbers that a session is set up with.
 use Rattle.std.specs.Prelude.{ℕ}
+use Rattle.oct_map.specs.Ground.{Ground}
 use Rattle.oct_odds.specs.Odds.{Odds}
 
 -- the edge of a voxel in nanometres, the log-odds, the most groups of the map, the most voxels that
@@ -10,3 +11,12 @@ pub record Setup : Type 0 where
   pub max_groups : ℕ
   pub max_cells : ℕ
   pub max_bytes : ℕ
+
+-- what the map's answers read beside the values
+abbrev pub ground_in : Setup → Ground
+ground_in o = record {
+  res = o.res;
+  odds = o.odds;
+  max_groups = o.max_groups;
+  max_cells = o.max_cells;
+}

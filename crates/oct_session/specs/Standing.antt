@@ -12,69 +12,65 @@ use Rattle.oct_session.specs.declared.options.Stop.{Stop}
 use Rattle.oct_session.specs.declared.options.Stop.TheVariants.{TooLong, ReadFault, WriteFault, Memory}
 use Rattle.oct_session.specs.declared.session.Session.{Session}
 use Rattle.oct_session.specs.Ending.{HasTaken, HasReplied, IsReadToEnd, MayEnd}
-use Rattle.oct_session.specs.Leaving.{StandsFor, IsHalted, IsHaltedAtEnd, Leaves}
-use Rattle.oct_session.specs.History.{History}
+use Rattle.oct_session.specs.Leaving.{StandsFor, StandsAfter, IsHalted, IsHaltedAtEnd, Leaves}
+use Rattle.oct_session.specs.History.{History, State, after_all}
 use Rattle.oct_session.specs.Session.{Progress, Effect, effect_of, after_line, progress, closed, session, finished, last_progress}
 use Rattle.oct_session.specs.Commands.{reply, action_of, accepted}
 use Rattle.oct_session.specs.ScanBlock.{block_reply, block_action}
 use Rattle.oct_session.specs.Setup.{Setup}
+use Rattle.oct_session.specs.Stops.{status_of}
 use Rattle.oct_session.specs.declared.block.Block.{Block}
 use Rattle.oct_session.specs.declared.lines.LineDone.{LineDone}
 
--- something was answered and done on a map that stood for some history: this is the reply to the
--- history, and these are the actions, done unless the reply is a refusal
-abbrev pub HasAnswered : Setup → (History → Option Reply) → History → Map → Map → Option Reply
-    → Type 0
-HasAnswered o reply actions old new answer =
-    (history : History) → StandsFor o old history → (answer ≡ reply history)
-    × StandsFor o new (history ++ accepted answer actions)
+-- something was answered and done on a map that stood for some state: this is the reply there, and
+-- these are the actions, done unless the reply is a refusal
+abbrev pub HasAnswered : (State → Option Reply) → History → Map → Map → Option Reply → Type 0
+HasAnswered reply actions old new answer = (s : State) → StandsFor old s
+    → (answer ≡ reply s) × StandsFor new (after_all s (accepted answer actions))
 
 -- that, or memory ran out, for something that has a reply, and nothing was done
-abbrev pub HasDone : {E : Type 0} → Setup → (History → Option Reply) → History → Map → Map
+abbrev pub HasDone : {E : Type 0} → (State → Option Reply) → History → Map → Map
     → Result (Option Reply) E → Type 0
-HasDone o reply actions old new (Ok answer) = HasAnswered o reply actions old new answer
-HasDone o reply actions old new (Err fault) =
-    (history : History) → StandsFor o old history → IsSome (reply history) × StandsFor o new history
+HasDone reply actions old new (Ok answer) = HasAnswered reply actions old new answer
+HasDone reply actions old new (Err fault) =
+    (s : State) → StandsFor old s → IsSome (reply s) × StandsFor new s
 
 -- a line's command outside a block was answered and done, or memory ran out
-abbrev pub HasObeyed : {E : Type 0} → Setup → Map → Map → Result Command Refusal
+abbrev pub HasObeyed : {E : Type 0} → Map → Map → Result Command Refusal
     → Result (Option Reply) E → Type 0
-HasObeyed o old new command result =
-    HasDone o (λ history. reply o history command) (action_of command) old new result
+HasObeyed old new command result =
+    HasDone (λ s. reply s command) (action_of command) old new result
 
 -- a block that its `end` has closed was answered and done, or memory ran out
-abbrev pub HasScanned : {E : Type 0} → Setup → Map → Map → Block → Result (Option Reply) E → Type 0
-HasScanned o old new block result =
-    HasDone o (λ history. block_reply o history block) (block_action block) old new result
+abbrev pub HasScanned : {E : Type 0} → Map → Map → Block → Result (Option Reply) E → Type 0
+HasScanned old new block result =
+    HasDone (λ s. block_reply s block) (block_action block) old new result
 
--- a line had its effect on a map that stood for some history
-abbrev pub TakesEffect : Setup → (History → Effect) → Map → Map → LineDone → Type 0
-TakesEffect o effect old new outcome = (history : History) → StandsFor o old history
-    → (outcome.reply ≡ (effect history).reply) × (outcome.block ≡ (effect history).block)
-    × StandsFor o new (history ++ (effect history).added)
+-- a line had its effect on a map that stood for some state
+abbrev pub TakesEffect : (State → Effect) → Map → Map → LineDone → Type 0
+TakesEffect effect old new outcome = (s : State) → StandsFor old s
+    → (outcome.reply ≡ (effect s).reply) × (outcome.block ≡ (effect s).block)
+    × StandsFor new (after_all s (effect s).added)
 
 -- a line has a reply, or a block is open after it
 abbrev pub IsHeard : Effect → Type 0
 IsHeard effect = IsSome effect.reply ⊎ IsSome effect.block
 
 -- a line had its effect, or memory ran out, for a line that is heard, and nothing was done
-abbrev pub HasEffect : {E : Type 0} → Setup → (History → Effect) → Map → Map → Result LineDone E
-    → Type 0
-HasEffect o effect old new (Ok outcome) = TakesEffect o effect old new outcome
-HasEffect o effect old new (Err fault) =
-    (history : History) → StandsFor o old history → IsHeard (effect history)
-    × StandsFor o new history
+abbrev pub HasEffect : {E : Type 0} → (State → Effect) → Map → Map → Result LineDone E → Type 0
+HasEffect effect old new (Ok outcome) = TakesEffect effect old new outcome
+HasEffect effect old new (Err fault) =
+    (s : State) → StandsFor old s → IsHeard (effect s) × StandsFor new s
 
 -- memory ran out at a line that is heard: the map stands for the lines before this one, or for this
 -- one as well
 abbrev pub StandsBeside : Setup → Map → Progress → Line → Type 0
-StandsBeside o map p line =
-    IsHeard (effect_of o p line)
-    × (StandsFor o map p.history ⊎ StandsFor o map (after_line o p line).history)
+StandsBeside o map p line = IsHeard (effect_of o p line)
+    × (StandsAfter o map p ⊎ StandsAfter o map (after_line o p line))
 
 -- map and session stand between two lines, where that was done so far
 pub record IsBetween (o : Setup) (map : Map) (session : Session) (p : Progress) : Type 0 where
-  pub stands : StandsFor o map p.history
+  pub stands : StandsAfter o map p
   pub counted : session.line_count ≡ p.line_count
   pub block : session.block ≡ p.block
   pub refused : session.refused ≡ p.refused
@@ -123,9 +119,10 @@ pub record IsThrough (o : Setup) (files : Files) (bytes : List ℕ) (left old ne
   pub end : IsReadToEnd o files bytes left
 
 -- the session was halted at one of the last lines, or at the end of the script after them
-abbrev pub StopsAtEnd : Setup → Files → List Line → Option (List ℕ) → Option (List ℕ) → Map → Type 0
-StopsAtEnd o files lines old new map =
-    IsHalted o files lines old new map ⊎ IsHaltedAtEnd o files lines old new map
+abbrev pub StopsAtEnd : Setup → Files → List Line → Option (List ℕ) → Option (List ℕ) → Map
+    → Status → Type 0
+StopsAtEnd o files lines old new map status =
+    IsHalted o files lines old new map status ⊎ IsHaltedAtEnd o files lines old new map status
 
 -- how a session over these bytes may end, and what it then leaves of the map
 pub record HasEndedAs (o : Setup) (files : Files) (bytes : List ℕ) (left old new : Option (List ℕ))
@@ -140,7 +137,7 @@ StopsIn o files old new map session bytes piece room TooLong =
     (room < length piece) × (session.has_quit ≡ false)
     × IsAt o files old new map session (bytes ++ take room piece)
 StopsIn o files old new map session bytes piece room WriteFault =
-    IsHalted o files (ended_lines (bytes ++ take room piece)) old new map
+    IsHalted o files (ended_lines (bytes ++ take room piece)) old new map (status_of WriteFault)
 StopsIn o files old new map session bytes piece room Memory =
-    IsHalted o files (ended_lines (bytes ++ take room piece)) old new map
+    IsHalted o files (ended_lines (bytes ++ take room piece)) old new map (status_of Memory)
 StopsIn o files old new map session bytes piece room ReadFault = ⊥

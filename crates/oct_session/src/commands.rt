@@ -4,13 +4,11 @@ ghost use Rattle.oct_odds.specs.Odds.{odds_of};
 ghost use Rattle.oct_odds.specs.Update.{IsSmallEvent};
 ghost use Rattle.oct_map.specs.declared.fault.MapFault.{MapFault};
 ghost use Rattle.oct_script.specs.Commands.{IsSmallEdit, IsSmallCommand};
-ghost use Rattle.oct_session.specs.Setup.{Setup};
 ghost use Rattle.oct_session.specs.History.{edit_event};
 ghost use Rattle.oct_session.specs.Commands.{refusal_of, fault_reply, value_reply};
 ghost use Rattle.oct_session.specs.Standing.{HasObeyed, HasScanned};
 
 use crate::block::{Block, PendingScan};
-use crate::options::Options;
 use oct_key::Point;
 use oct_map::{MapFault, OccMap};
 use oct_num::Memory;
@@ -53,6 +51,8 @@ fn refusal_of(fault: MapFault) -> Result<Refusal, Memory>
     match fault {
         MapFault::Outside { point } => Ok(Refusal::Outside { point }),
         MapFault::BadDepth => Ok(Refusal::BadDepth),
+        MapFault::BadBox => Ok(Refusal::BadBox),
+        MapFault::TooManyBlocks { count } => Ok(Refusal::TooManyBlocks { count }),
         MapFault::Stale => Ok(Refusal::Stale),
         MapFault::Full { groups, need } => Ok(Refusal::Full { groups, need }),
         MapFault::OriginOutside => Ok(Refusal::OriginOutside),
@@ -73,44 +73,71 @@ fn refuse(fault: MapFault) -> Result<Option<Reply>, Memory>
 }
 
 /// Does an edit of the voxel that holds a point, and answers it.
-fn edit(
-    options: &Options,
-    map: &mut OccMap,
-    p: Point,
-    e: Edit,
-    lazy: bool,
-) -> Result<Option<Reply>, Memory>
+fn edit(map: &mut OccMap, p: Point, e: Edit, lazy: bool) -> Result<Option<Reply>, Memory>
     requires { IsSmallEdit e }
-    ensures { HasObeyed options.now map.old map.new (Ok (Command.Edit p e lazy)) result }
+    ensures { HasObeyed map.old map.new (Ok (Command.Edit p e lazy)) result }
 {
-    let event = event_of(options.odds(), e);
+    let event = event_of(&map.tree().odds(), e);
     match map.edit(p, event, lazy) {
         Ok(()) => Ok(Some(Reply::Ok)),
         Err(fault) => refuse(fault),
     }
 }
 
+/// Does an edit of each voxel of a box, and answers it.
+fn edit_box(map: &mut OccMap, low: Point, high: Point, e: Edit) -> Result<Option<Reply>, Memory>
+    requires { IsSmallEdit e }
+    ensures { HasObeyed map.old map.new (Ok (Command.Box low high e)) result }
+{
+    let event = event_of(&map.tree().odds(), e);
+    match map.edit_box(low, high, event) {
+        Ok(()) => Ok(Some(Reply::Ok)),
+        Err(fault) => refuse(fault),
+    }
+}
+
 /// Asks for the value of the block of that depth around a point, and answers it.
-fn query(options: &Options, map: &OccMap, p: Point, depth: u32) -> Result<Option<Reply>, Memory>
-    ensures { HasObeyed options.now map.now map.now (Ok (Command.Get p depth)) result }
+fn query(map: &OccMap, p: Point, depth: u32) -> Result<Option<Reply>, Memory>
+    ensures { HasObeyed map.now map.now (Ok (Command.Get p depth)) result }
 {
     match map.get(p, depth) {
-        Ok(value) => Ok(Some(show(options.odds(), value))),
+        Ok(value) => Ok(Some(show(&map.tree().odds(), value))),
+        Err(fault) => refuse(fault),
+    }
+}
+
+/// Asks what lies first on the straight way from a point to another one, and answers it.
+fn cast(
+    map: &OccMap,
+    origin: Point,
+    end: Point,
+    ignore_unknown: bool,
+) -> Result<Option<Reply>, Memory>
+    ensures { HasObeyed map.now map.now (Ok (Command.Cast origin end ignore_unknown)) result }
+{
+    match map.cast(origin, end, ignore_unknown) {
+        Ok(found) => Ok(Some(Reply::Casted(found))),
         Err(fault) => refuse(fault),
     }
 }
 
 /// Does what a command says, and answers its reply.
-fn obey(options: &Options, map: &mut OccMap, command: Command) -> Result<Option<Reply>, Memory>
+fn obey(map: &mut OccMap, command: Command) -> Result<Option<Reply>, Memory>
     requires { IsSmallCommand command }
-    ensures { HasObeyed options.now map.old map.new (Ok command) result }
+    ensures { HasObeyed map.old map.new (Ok command) result }
 {
     match command {
         Command::Blank | Command::Quit => Ok(None),
         Command::Scan(_) | Command::Beam(_) | Command::End => Ok(None),
         Command::NotYet => Ok(Some(Reply::Refused(Refusal::NotYet))),
-        Command::Edit { p, e, lazy } => edit(options, map, p, e, lazy),
-        Command::Get { p, depth } => query(options, map, p, depth),
+        Command::Edit { p, e, lazy } => edit(map, p, e, lazy),
+        Command::Box { low, high, e } => edit_box(map, low, high, e),
+        Command::Get { p, depth } => query(map, p, depth),
+        Command::Cast {
+            origin,
+            end,
+            ignore_unknown,
+        } => cast(map, origin, end, ignore_unknown),
         Command::Counts => {
             let counts = map.counts();
             Ok(Some(Reply::Counted(counts)))
@@ -123,27 +150,31 @@ fn obey(options: &Options, map: &mut OccMap, command: Command) -> Result<Option<
             map.prune();
             Ok(Some(Reply::Ok))
         }
+        Command::Clear => {
+            map.clear();
+            Ok(Some(Reply::Ok))
+        }
+        Command::MaxLikelihood => {
+            map.max_likelihood();
+            Ok(Some(Reply::Ok))
+        }
     }
 }
 
 /// Does what a line outside a block says, and answers its reply. Without memory nothing was done.
-pub fn execute(
-    options: &Options,
-    map: &mut OccMap,
-    command: Result<Command, Refusal>,
-) -> Result<Option<Reply>, Memory>
+pub fn execute(map: &mut OccMap, command: Result<Command, Refusal>) -> Result<Option<Reply>, Memory>
     requires { IfOk command IsSmallCommand }
-    ensures { HasObeyed options.now map.old map.new command result }
+    ensures { HasObeyed map.old map.new command result }
 {
     match command {
-        Ok(command) => obey(options, map, command),
+        Ok(command) => obey(map, command),
         Err(refusal) => Ok(Some(Reply::Refused(refusal))),
     }
 }
 
 /// Does a scan whose points have all been read, and answers it.
 fn scan(map: &mut OccMap, pending: PendingScan) -> Result<Option<Reply>, Memory>
-    ensures { (o : Setup) → HasScanned o map.old map.new (Block.Scanning pending) result }
+    ensures { HasScanned map.old map.new (Block.Scanning pending) result }
 {
     let lazy = pending.is_lazy();
     let Ok(scan) = pending.into_scan() else {
@@ -161,7 +192,7 @@ fn scan(map: &mut OccMap, pending: PendingScan) -> Result<Option<Reply>, Memory>
 /// Does what a block says that its `end` has closed, and answers its one reply. Without memory
 /// nothing was done.
 pub fn finish(map: &mut OccMap, block: Block) -> Result<Option<Reply>, Memory>
-    ensures { (o : Setup) → HasScanned o map.old map.new block result }
+    ensures { HasScanned map.old map.new block result }
 {
     match block {
         Block::Spoilt(refusal) => Ok(Some(Reply::Refused(refusal))),

@@ -11,7 +11,8 @@
 //!
 //! - **Replies.** `specs/Session.antt` defines a session as a function of the whole byte string:
 //!   its lines up to a `quit` or to the end, each line outside a scan block, and each block as a
-//!   whole, answered from the plain fold over each single voxel's history (`specs/History.antt`).
+//!   whole, answered from the plain fold over each single voxel's history (`specs/History.antt`,
+//!   and [`values_are_folds`], which says that no voxel reads another one).
 //!   No tree is in that definition: a query shows the largest known value among the voxels of its
 //!   block, an edit or a scan is full by what the values need, and lazy edits, lazy scans and
 //!   prunes can't be told from a reply, but for the one refusal of a stale map.
@@ -30,9 +31,10 @@
 //!   history (`StandsFor` of `specs/Leaving.antt`): each voxel has its value after it, the map is
 //!   stale where a lazy edit or scan stands after the last refresh, and pruned where none stands
 //!   after the last prune. It is the history of all lines that count, on a read fault of those that
-//!   end within the bytes taken, and on a write fault or out of memory of every line whose reply
-//!   was written whole and of at most one line more, or of all lines where the fault came at the
-//!   end. Without the premise it stands for some history all the same.
+//!   end within the bytes taken, and on a write fault of every line whose reply was written whole
+//!   and of the one whose reply wasn't, or of all lines where the fault came at the end. Out of
+//!   memory it is the same, or without that last line where nothing of its reply was written.
+//!   Without the premise it stands for some history all the same.
 //!
 //! # How it works
 //!
@@ -54,10 +56,12 @@
 
 mod block;
 mod commands;
+mod laws;
 mod lines;
 mod options;
 mod service;
 mod session;
 
+pub use laws::{groups_stay_within, values_are_folds};
 pub use options::{MOST_BYTES, Options, Status};
 pub use service::serve;

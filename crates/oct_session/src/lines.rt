@@ -1,7 +1,6 @@
 //! What a line does: its reply, and the block that is open after it.
 ghost use Rattle.std.specs.Prelude.{◌≡◌, IfOk};
 ghost use Rattle.oct_script.specs.Commands.{IsSmallCommand};
-ghost use Rattle.oct_session.specs.Setup.{Setup};
 ghost use Rattle.oct_session.specs.Commands.{command_on};
 ghost use Rattle.oct_session.specs.ScanBlock.{is_end};
 ghost use Rattle.oct_session.specs.Session.{effect_opened, effect_inside, effect};
@@ -9,7 +8,6 @@ ghost use Rattle.oct_session.specs.Standing.{HasEffect};
 
 use crate::block::{Block, opened};
 use crate::commands::{execute, finish};
-use crate::options::Options;
 use oct_map::OccMap;
 use oct_num::Memory;
 use oct_script::{Command, Lines, Refusal, Reply, Syntax, parse};
@@ -24,7 +22,7 @@ pub struct LineDone {
 
 /// The command on the line of this number, inside a block or outside, or why there is none. A long
 /// line isn't read.
-pub fn read_line(line: &Lines, number: u64, inside: bool) -> Result<Command, Refusal>
+pub fn command_in(line: &Lines, number: u64, inside: bool) -> Result<Command, Refusal>
     ensures exact { result ≡ command_on inside number line.now.line }
     ensures small { IfOk result IsSmallCommand }
 {
@@ -49,14 +47,12 @@ fn is_end(command: Result<Command, Refusal>) -> bool
 
 /// What a line outside a block does, by the block that it opens.
 fn outside(
-    options: &Options,
     map: &mut OccMap,
     command: Result<Command, Refusal>,
     opened: Option<Block>,
 ) -> Result<LineDone, Memory>
     requires { IfOk command IsSmallCommand }
-    ensures { HasEffect options.now
-        (λ history. effect_opened options.now history command opened) map.old map.new result }
+    ensures { HasEffect (λ s. effect_opened s command opened) map.old map.new result }
 {
     if opened.is_some() {
         return Ok(LineDone {
@@ -64,7 +60,7 @@ fn outside(
             block: opened,
         });
     }
-    let reply = execute(options, map, command)?;
+    let reply = execute(map, command)?;
     Ok(LineDone { reply, block: None })
 }
 
@@ -76,8 +72,7 @@ fn inside(
     block: Block,
 ) -> Result<LineDone, Memory>
     requires { IfOk command IsSmallCommand }
-    ensures { (o : Setup) → HasEffect o
-        (λ history. effect_inside o history number command block) map.old map.new result }
+    ensures { HasEffect (λ s. effect_inside s number command block) map.old map.new result }
 {
     if is_end(command) {
         let reply = finish(map, block)?;
@@ -94,7 +89,6 @@ fn inside(
 /// was done.
 pub fn take_line(
     alloc: Global,
-    options: &Options,
     map: &mut OccMap,
     line: &Lines,
     number: u64,
@@ -102,12 +96,10 @@ pub fn take_line(
     block: Option<Block>,
 ) -> Result<LineDone, Memory>
     requires { IfOk command IsSmallCommand }
-    ensures { HasEffect options.now
-        (λ history. effect options.now history number line.now.line command block) map.old map.new
-        result }
+    ensures { HasEffect (λ s. effect s number line.now.line command block) map.old map.new result }
 {
     match block {
         Some(block) => inside(map, number, command, block),
-        None => outside(options, map, command, opened(alloc, line, number, command)),
+        None => outside(map, command, opened(alloc, line, number, command)),
     }
 }

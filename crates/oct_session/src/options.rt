@@ -55,13 +55,6 @@ impl Options {
     {
         self.max_bytes
     }
-
-    /// The log-odds of hits, and their limits.
-    pub fn odds(&self) -> &OddsModel
-        ensures { odds_of result.now ≡ self.now.odds }
-    {
-        &self.odds
-    }
 }
 
 /// How a run ended. The numbers are those that the program ends with.
@@ -73,6 +66,8 @@ pub enum Status {
     Refused = 1,
     /// The words ask for no task. Nothing was read or written.
     Usage = 2,
+    /// The input was to be a file of classes and isn't one; the refusal was written.
+    BadFile = 3,
     /// The input has more bytes than it may have.
     TooLong = 4,
     /// The source failed.
@@ -89,6 +84,7 @@ impl fmt::Display for Status {
             Status::Done => "done",
             Status::Refused => "refused",
             Status::Usage => "usage",
+            Status::BadFile => "bad file",
             Status::TooLong => "input too long",
             Status::ReadFault => "read fault",
             Status::WriteFault => "write fault",
@@ -165,6 +161,7 @@ mod tests {
             (Status::Done, 0, "done"),
             (Status::Refused, 1, "refused"),
             (Status::Usage, 2, "usage"),
+            (Status::BadFile, 3, "bad file"),
             (Status::TooLong, 4, "input too long"),
             (Status::ReadFault, 5, "read fault"),
             (Status::WriteFault, 6, "write fault"),

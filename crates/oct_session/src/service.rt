@@ -2,6 +2,7 @@
 ghost use Rattle.std.specs.Prelude.{◌≡◌, ◌≢◌, ◌⊎◌, ℕ, ◌+◌, ◌-◌, ◌^◌, ◌<◌, ◌≤◌, List, [], ◌++◌, length, min, take, OnOk, OnErr, IfOk, IfErr, IfSome, IsErrOf, Option, Some, Err, true, false};
 ghost use Rattle.oct_io.specs.Files.{Files};
 ghost use Rattle.oct_io.specs.Told.{dropped, Rose};
+ghost use Rattle.oct_session.specs.History.{start_state};
 ghost use Rattle.oct_session.specs.Session.{session as whole_session, status_at_end};
 ghost use Rattle.oct_session.specs.Ending.{MayEnd, IsWhole};
 ghost use Rattle.oct_session.specs.Leaving.{StandsFor, StandsForSome, Leaves};
@@ -234,7 +235,7 @@ pub fn serve<S: Source, K: Sink, F: Store>(
     sink: &mut K,
     store: &mut F,
 ) -> Status
-    requires { StandsFor options.now map.old [] }
+    requires { StandsFor map.old (start_state options.now) }
     ensures answer { IfSome (S.left source.old) (λ bytes. (files : Files)
         → MayEnd options.now files bytes (S.left source.new) (K.written sink.old)
         (K.written sink.new) result) }
@@ -247,6 +248,7 @@ pub fn serve<S: Source, K: Sink, F: Store>(
         → F.files store.new ≡ Some (whole_session options.now files bytes).files)) }
     ensures store { store.new ≡ store.old }
     ensures usage { result ≢ Status.Usage }
+    ensures bad_file { result ≢ Status.BadFile }
 
     // A fault is met once and ends the session: its count rises by one exactly where the status
     // names it, and no other count changes.

@@ -10,11 +10,11 @@ ghost use Rattle.oct_session.specs.Commands.{is_quit};
 ghost use Rattle.oct_session.specs.ScanBlock.{end_reply};
 ghost use Rattle.oct_session.specs.Session.{Progress, effect_of, after_line, progress, closed};
 ghost use Rattle.oct_session.specs.Leaving.{IsHalted, IsHaltedBetween};
-ghost use Rattle.oct_session.specs.Stops.{IsSinkStop};
+ghost use Rattle.oct_session.specs.Stops.{IsSinkStop, status_of};
 ghost use Rattle.oct_session.specs.Standing.{StandsBeside, IsBetween, HasReached, IsAt, Takes, KeepsReplies, StopsAtEnd};
 
 use crate::block::Block;
-use crate::lines::{read_line, take_line};
+use crate::lines::{command_in, take_line};
 use crate::options::{Options, Stop};
 use oct_io::{Sink, write_all};
 use oct_map::OccMap;
@@ -113,9 +113,9 @@ impl Session {
         ensures counted { OnOk result (self.new.line_count ≡ self.old.line_count + 1) }
     {
         let number = self.line_count + 1;
-        let command = read_line(&self.line, number, self.block.is_some());
+        let command = command_in(&self.line, number, self.block.is_some());
         let block = self.block.take();
-        let done = take_line(self.alloc, options, map, &self.line, number, command, block)?;
+        let done = take_line(self.alloc, map, &self.line, number, command, block)?;
         tell(&mut self.text, &done.reply)?;
         self.block = done.block;
         self.refused |= is_refused(&done.reply);
@@ -138,10 +138,10 @@ impl Session {
             → HasReached options.now w (K.written sink.old) map.old self.old p
             → HasReached options.now w (K.written sink.new) map.new self.new
             (after_line options.now p self.old.line.line)) }
-        ensures err { OnErr result ((w : Option (List ℕ)) (p : Progress)
+        ensures err { IfErr result (λ stop. (w : Option (List ℕ)) (p : Progress)
             → HasReached options.now w (K.written sink.old) map.old self.old p
             → IsHaltedBetween options.now p (after_line options.now p self.old.line.line) w
-            (K.written sink.new) map.new) }
+            (K.written sink.new) map.new (status_of stop)) }
         ensures line { OnOk result (self.new.line ≡ unread) }
         ensures counted { OnOk result (self.new.line_count ≡ self.old.line_count + 1) }
         ensures only { IfErr result IsSinkStop }
@@ -174,10 +174,11 @@ impl Session {
         requires some { 0 < length piece.now }
         ensures ok { IfOk result (λ n. Takes options.now (K.written sink.old) (K.written sink.new)
             map.old map.new self.old self.new (take n piece.now)) }
-        ensures err { OnErr result ((files : Files) (w : Option (List ℕ)) (bytes : List ℕ)
+        ensures err { IfErr result
+            (λ stop. (files : Files) (w : Option (List ℕ)) (bytes : List ℕ)
             → IsAt options.now files w (K.written sink.old) map.old self.old bytes
             → IsHalted options.now files (ended_lines (bytes ++ piece.now)) w
-            (K.written sink.new) map.new) }
+            (K.written sink.new) map.new (status_of stop)) }
         ensures replied { OnErr result
             (KeepsReplies options.now (K.written sink.old) (K.written sink.new)
             map.old self.old) }
@@ -215,10 +216,11 @@ impl Session {
         requires unended { self.old.line.has_ended ≡ false }
         ensures ok { OnOk result (Takes options.now (K.written sink.old) (K.written sink.new)
             map.old map.new self.old self.new piece.now) }
-        ensures err { OnErr result ((files : Files) (w : Option (List ℕ)) (bytes : List ℕ)
+        ensures err { IfErr result
+            (λ stop. (files : Files) (w : Option (List ℕ)) (bytes : List ℕ)
             → IsAt options.now files w (K.written sink.old) map.old self.old bytes
             → IsHalted options.now files (ended_lines (bytes ++ piece.now)) w
-            (K.written sink.new) map.new) }
+            (K.written sink.new) map.new (status_of stop)) }
         ensures replied { OnErr result
             (KeepsReplies options.now (K.written sink.old) (K.written sink.new)
             map.old self.old) }
@@ -256,9 +258,11 @@ impl Session {
             → IsAt options.now files w (K.written sink.old) map.old self.old bytes
             → HasReached options.now w (K.written sink.new) map.new self.new
             (progress options.now files (all_lines bytes))) }
-        ensures err { OnErr result ((files : Files) (w : Option (List ℕ)) (bytes : List ℕ)
+        ensures err { IfErr result
+            (λ stop. (files : Files) (w : Option (List ℕ)) (bytes : List ℕ)
             → IsAt options.now files w (K.written sink.old) map.old self.old bytes
-            → IsHalted options.now files (all_lines bytes) w (K.written sink.new) map.new) }
+            → IsHalted options.now files (all_lines bytes) w (K.written sink.new) map.new
+            (status_of stop)) }
         ensures replied { OnErr result
             (KeepsReplies options.now (K.written sink.old) (K.written sink.new)
             map.old self.old) }
@@ -284,9 +288,10 @@ impl Session {
         ensures ok { OnOk result ((o : Setup) (map : Map) (w : Option (List ℕ)) (p : Progress)
             → HasReached o w (K.written sink.old) map self.old p
             → HasReached o w (K.written sink.new) map self.new (closed p)) }
-        ensures err { OnErr result ((o : Setup) (map : Map) (w : Option (List ℕ)) (p : Progress)
+        ensures err { IfErr result
+            (λ stop. (o : Setup) (map : Map) (w : Option (List ℕ)) (p : Progress)
             → HasReached o w (K.written sink.old) map self.old p
-            → IsHaltedBetween o p (closed p) w (K.written sink.new) map) }
+            → IsHaltedBetween o p (closed p) w (K.written sink.new) map (status_of stop)) }
         ensures only { IfErr result IsSinkStop }
         ensures stays { OnOk result ((K.faults sink.new ≡ K.faults sink.old)
             × (K.shortages sink.new ≡ K.shortages sink.old)) }
@@ -318,9 +323,11 @@ impl Session {
             → IsAt options.now files w (K.written sink.old) map.old self.old bytes
             → HasReached options.now w (K.written sink.new) map.new self.new (closed
             (progress options.now files (all_lines bytes)))) }
-        ensures err { OnErr result ((files : Files) (w : Option (List ℕ)) (bytes : List ℕ)
+        ensures err { IfErr result
+            (λ stop. (files : Files) (w : Option (List ℕ)) (bytes : List ℕ)
             → IsAt options.now files w (K.written sink.old) map.old self.old bytes
-            → StopsAtEnd options.now files (all_lines bytes) w (K.written sink.new) map.new) }
+            → StopsAtEnd options.now files (all_lines bytes) w (K.written sink.new) map.new
+            (status_of stop)) }
         ensures replied { OnErr result
             (KeepsReplies options.now (K.written sink.old) (K.written sink.new)
             map.old self.old) }

@@ -1,4 +1,5 @@
-ghost use Rattle.std.specs.Prelude.{◌≤◌, ◌^◌, [], None};
+ghost use Rattle.std.specs.Prelude.{◌≤◌, ◌^◌, None};
+ghost use Rattle.oct_session.specs.History.{start_state};
 ghost use Rattle.oct_session.specs.Leaving.{StandsFor};
 
 use super::*;
@@ -36,7 +37,7 @@ fn options(max_bytes: u64) -> Result<Options, Fail>
 
 /// The map of the unknown world.
 fn unknown(alloc: Global, options: &Options) -> OccMap
-    ensures { StandsFor options.now result [] }
+    ensures { StandsFor result (start_state options.now) }
 {
     OccMap::new(alloc, options.res, options.odds, options.limits)
 }

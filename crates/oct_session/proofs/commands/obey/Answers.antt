@@ -1,11 +1,26 @@
-use Rattle.oct_script.specs.declared.command.Command.TheVariants.{Counts, Refresh}
-use Rattle.oct_session.proofs.Replying.{answered_as, counts_done, refresh_done}
+use Rattle.std.proofs.Common.{Ok, ap}
+use Rattle.oct_script.specs.declared.command.Command.TheVariants.{Edit, Counts, Refresh, Clear, MaxLikelihood, Box}
+use Rattle.oct_session.proofs.Replying.{answered_as, obeyed_as, counts_done, refresh_done, clear_done, likelihood_done}
 use Rattle.oct_session.proofs.commands.obey.Goals as goal
 
 pub returns-in-Counts : goal.returns-in-Counts
-returns-in-Counts c = answered_as c.args.options.now c.args.map.now c.counts-counts.new.self c.args.command Counts _ c.in-Counts.is
-    (counts_done c.args.options.now c.args.map.now c.counts-counts.new.self c.counts-counts.result c.counts-counts.ensures.groups c.counts-counts.ensures.nodes c.counts-counts.ensures.values c.counts-counts.ensures.stale c.counts-counts.ensures.pruned c.counts-counts.ensures.setup)
+returns-in-Counts c = answered_as c.args.map.now c.counts-counts.new.self c.args.command Counts _ c.in-Counts.is
+    (counts_done c.args.map.now c.counts-counts.new.self c.counts-counts.result c.counts-counts.ensures.groups c.counts-counts.ensures.nodes c.counts-counts.ensures.values c.counts-counts.ensures.stale c.counts-counts.ensures.pruned c.counts-counts.ensures.setup)
 
 pub returns-in-Refresh : goal.returns-in-Refresh
-returns-in-Refresh c = answered_as c.args.options.now c.args.map.now c.refresh.new.self c.args.command Refresh _ c.in-Refresh.is
-    (refresh_done c.args.options.now c.args.map.now c.refresh.new.self c.refresh.ensures.values c.refresh.ensures.stale c.refresh.ensures.pruned c.refresh.ensures.setup)
+returns-in-Refresh c = answered_as c.args.map.now c.refresh.new.self c.args.command Refresh _ c.in-Refresh.is
+    (refresh_done c.args.map.now c.refresh.new.self c.refresh.ensures.values c.refresh.ensures.stale c.refresh.ensures.pruned c.refresh.ensures.setup)
+
+pub returns-in-Edit : goal.returns-in-Edit
+returns-in-Edit c = obeyed_as c.edit.result c.args.map.now c.edit.new.map (Ok c.args.command) (Ok (Edit c.in-Edit.p c.in-Edit.e c.in-Edit.lazy)) (ap Ok c.in-Edit.is) c.edit.ensures
+
+pub returns-in-Box : goal.returns-in-Box
+returns-in-Box c = obeyed_as c.edit_box.result c.args.map.now c.edit_box.new.map (Ok c.args.command) (Ok (Box c.in-Box.low c.in-Box.high c.in-Box.e)) (ap Ok c.in-Box.is) c.edit_box.ensures
+
+pub returns-in-Clear : goal.returns-in-Clear
+returns-in-Clear c = answered_as c.args.map.now c.clear.new.self c.args.command Clear _ c.in-Clear.is
+    (clear_done c.args.map.now c.clear.new.self c.clear.ensures.unknown c.clear.ensures.stale c.clear.ensures.pruned c.clear.ensures.setup)
+
+pub returns-in-MaxLikelihood : goal.returns-in-MaxLikelihood
+returns-in-MaxLikelihood c = answered_as c.args.map.now c.max_likelihood.new.self c.args.command MaxLikelihood _ c.in-MaxLikelihood.is
+    (likelihood_done c.args.map.now c.max_likelihood.new.self c.max_likelihood.ensures.values c.max_likelihood.ensures.stale c.max_likelihood.ensures.pruned c.max_likelihood.ensures.setup)

@@ -4,15 +4,15 @@ use Rattle.oct_session.proofs.Replying.{scan_done, scan_refused}
 use Rattle.oct_session.proofs.commands.scan.Goals as goal
 
 pub returns-in-Ok-scan : goal.returns-in-Ok-scan
-returns-in-Ok-scan c = λ o.
+returns-in-Ok-scan c =
     let edited = c.in-Ok-scan.ensures.edited in
-    scan_done o c.args.map.now c.scan.new.self c.args.pending (sighting_of c.in-Ok.scan) c.is_lazy-lazy.result c.in-Ok-scan.done
+    scan_done c.args.map.now c.scan.new.self c.args.pending (sighting_of c.in-Ok.scan) c.is_lazy-lazy.result c.in-Ok-scan.done
     (sym c.in-Ok.ensures.zero) c.in-Ok.ensures.sighting c.is_lazy-lazy.ensures c.in-Ok-scan.ensures.answer edited.values edited.stale
     (λ eager. (edited.eager eager).pruned) c.scan.ensures.setup
 
 pub returns : goal.returns
-returns c = λ o.
+returns c =
     let refused = c.in-Err.ensures.refused in
-    scan_refused c.refuse.result o c.args.map.now c.scan.new.self c.args.pending (sighting_of c.in-Ok.scan) c.in-Err.fault
+    scan_refused c.refuse.result c.args.map.now c.scan.new.self c.args.pending (sighting_of c.in-Ok.scan) c.in-Err.fault
     (sym c.in-Ok.ensures.zero) c.in-Ok.ensures.sighting c.refuse.ensures.ok c.refuse.ensures.some c.in-Err.ensures.answer refused.values refused.stale
     refused.pruned c.scan.ensures.setup

@@ -6,7 +6,7 @@ use Rattle.oct_session.proofs.session.Session.advance.Goals as goal
 pub returns-in_err-respond-clause-err : goal.returns-in_err-respond-clause-err
 returns-in_err-respond-clause-err g c =
     halted_ended _ c.args.options.now _ _ c.args.map.now c.respond.new.map c.args.self.now _ c.args.piece.now _ c.requires.running
-    (c.feed-fed.ensures.ends (not-false _ c.if-not-fed.false)) refl refl refl refl c.in_err-respond.ensures.err
+    (c.feed-fed.ensures.ends (not-false _ c.if-not-fed.false)) refl refl refl refl _ c.from_residual.ensures.1 c.in_err-respond.ensures.err
 
 pub returns-clause-ok : goal.returns-clause-ok
 returns-clause-ok g c = λ files w bytes at.
@@ -15,4 +15,4 @@ returns-clause-ok g c = λ files w bytes at.
 
 pub returns-in_err-respond-clause-replied : goal.returns-in_err-respond-clause-replied
 returns-in_err-respond-clause-replied g c =
-    replied_ended _ c.args.options.now _ _ c.args.map.now c.respond.new.map c.args.self.now _ refl refl refl refl c.in_err-respond.ensures.err
+    replied_ended _ _ c.args.options.now _ _ c.args.map.now c.respond.new.map c.args.self.now _ refl refl refl refl c.in_err-respond.ensures.err

@@ -5,12 +5,12 @@ use Rattle.oct_session.proofs.session.Session.close.Goals as goal
 
 pub returns-in_err-tell-clause-err : goal.returns-in_err-tell-clause-err
 returns-in_err-tell-clause-err g c =
-    end_untold_err _ _ c.args.self.now c.end_reply-reply.result c.requires.running (c.end_reply-reply.ensures ∙ ap end_reply c.take.ensures.value)
+    end_untold_err _ _ c.args.self.now c.end_reply-reply.result c.from_residual.ensures.1 c.requires.running (c.end_reply-reply.ensures ∙ ap end_reply c.take.ensures.value)
     c.in_err-tell.ensures.err
 
 pub returns-in_err-write_all-clause-err : goal.returns-in_err-write_all-clause-err
 returns-in_err-write_all-clause-err g c =
-    end_part_err _ _ _ c.args.self.now c.end_reply-reply.result c.deref.result.now _ c.requires.running
+    end_part_err _ _ _ _ c.args.self.now c.end_reply-reply.result c.deref.result.now _ c.from_residual-in_err-write_all.ensures.1 c.requires.running
     (c.end_reply-reply.ensures ∙ ap end_reply c.take.ensures.value) (c.deref.ensures.value ∙ c.in_ok-tell.ensures.ok) c.in_err-write_all.ensures.err.1 c.in_err-write_all.ensures.err.2
 
 pub returns-clause-ok : goal.returns-clause-ok

@@ -26,4 +26,4 @@ returns-clause-replied g c =
 
 pub returns-in_err-respond_last-clause-err : goal.returns-in_err-respond_last-clause-err
 returns-in_err-respond_last-clause-err g c =
-    stopped_last _ c.args.options.now _ _ c.args.map.now c.respond_last.new.map c.args.self.now c.in_err-respond_last.ensures.err
+    stopped_last _ _ c.args.options.now _ _ c.args.map.now c.respond_last.new.map c.args.self.now c.from_residual.ensures.1 c.in_err-respond_last.ensures.err

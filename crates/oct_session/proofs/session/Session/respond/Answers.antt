@@ -5,11 +5,11 @@ use Rattle.oct_session.proofs.session.Session.respond.Goals as goal
 
 pub returns-in_err-answer-clause-err : goal.returns-in_err-answer-clause-err
 returns-in_err-answer-clause-err g c =
-    untold_err _ c.args.options.now _ c.args.map.now c.answer.new.map c.args.self.now c.requires.running c.in_err-answer.ensures.err
+    untold_err _ c.args.options.now _ c.args.map.now c.answer.new.map c.args.self.now c.from_residual.ensures.1 c.requires.running c.in_err-answer.ensures.err
 
 pub returns-in_err-write_all-clause-err : goal.returns-in_err-write_all-clause-err
 returns-in_err-write_all-clause-err g c =
-    part_err _ c.args.options.now _ _ c.args.map.now c.answer.new.map c.args.self.now _ c.deref.result.now _ c.requires.running
+    part_err _ _ c.args.options.now _ _ c.args.map.now c.answer.new.map c.args.self.now _ c.deref.result.now _ c.from_residual-in_err-write_all.ensures.1 c.requires.running
     c.in_ok-answer.ensures.between (λ p at. c.deref.ensures.value ∙ c.in_ok-answer.ensures.text p at) c.in_err-write_all.ensures.err.1 c.in_err-write_all.ensures.err.2
 
 pub returns-clause-ok : goal.returns-clause-ok

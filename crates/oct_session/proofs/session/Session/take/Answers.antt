@@ -18,7 +18,7 @@ returns-else-not-self-clause-ok g c = λ files w bytes at.
 
 pub returns-in_err-taken-clause-err : goal.returns-in_err-taken-clause-err
 returns-in_err-taken-clause-err g c =
-    halted_within _ c.args.options.now _ _ _ c.args.map.now c.loop-taken.map c.advance.new.map c.args.self.now c.loop-taken.self c.args.piece.now _ c.loop-taken.taken
+    halted_within _ _ c.args.options.now _ _ _ c.args.map.now c.loop-taken.map c.advance.new.map c.args.self.now c.loop-taken.self c.args.piece.now _ c.loop-taken.taken c.from_residual.ensures.1
     c.split_at.ensures.back c.loop-taken.invariant.at c.in_err-taken.ensures.err
 
 pub returns-after-loop-taken-clause-ok : goal.returns-after-loop-taken-clause-ok
