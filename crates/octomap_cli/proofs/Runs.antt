@@ -19,3 +19,13 @@ pub run_files : (task : Option Task) (o : Setup) (told new : Option Files) (left
     IfSome told (λ files. IfSome left (λ bytes. IsWhole s → new ≡ Some (session o files bytes).files)) →
     IfSome told (λ files. IfSome left (λ bytes. IsWhole s → new ≡ Some (answer task files bytes).files))
 run_files task o told new left s is files = subst (λ t. IfSome told (λ f. IfSome left (λ bytes. IsWhole s → new ≡ Some (answer t f bytes).files))) (sym is) files
+
+-- a run of a task that the words ask for ends as the task does
+pub run_task : (asked : Option Task) (task : Task) (left after v u : Option (List ℕ)) (s : Status) → Some task ≡ asked →
+    IfSome left (λ bytes. (files : Files) → MayEnd (Some task) files bytes after v u s) → IfSome left (λ bytes. (files : Files) → MayEnd asked files bytes after v u s)
+run_task asked task left after v u s is ends = subst (λ t. IfSome left (λ bytes. (files : Files) → MayEnd t files bytes after v u s)) is ends
+
+pub task_files : (asked : Option Task) (task : Task) (told new : Option Files) (left : Option (List ℕ)) (s : Status) → Some task ≡ asked →
+    IfSome told (λ files. IfSome left (λ bytes. IsWhole s → new ≡ Some (answer (Some task) files bytes).files)) →
+    IfSome told (λ files. IfSome left (λ bytes. IsWhole s → new ≡ Some (answer asked files bytes).files))
+task_files asked task told new left s is files = subst (λ t. IfSome told (λ f. IfSome left (λ bytes. IsWhole s → new ≡ Some (answer t f bytes).files))) is files

@@ -1,23 +1,59 @@
 -- What a run writes, and how it may end.
 use Rattle.std.specs.Prelude.{◌≡◌, ℕ, List, [], Option, Some, None}
+use Rattle.oct_convert.specs.Answers as file_answers
+use Rattle.oct_convert.specs.Answers.{convert_answer, inspect_answer}
+use Rattle.oct_convert.specs.Ending as file_ending
+use Rattle.oct_convert.specs.declared.ending.Ending.{Ending}
+use Rattle.oct_convert.specs.declared.ending.Ending.TheVariants as ending
 use Rattle.oct_io.specs.Files.{Files}
 use Rattle.oct_session.specs.Ending.{IsAnswered}
 use Rattle.oct_session.specs.Ending as session_ending
 use Rattle.oct_session.specs.Session.{Answer, session}
 use Rattle.oct_session.specs.declared.options.Status.{Status}
-use Rattle.oct_session.specs.declared.options.Status.TheVariants.{Usage}
-use Rattle.octomap_cli.specs.Task.{Task, Session}
+use Rattle.oct_session.specs.declared.options.Status.TheVariants.{Done, Refused, Usage, BadFile, TooLong, ReadFault, WriteFault, Memory}
+use Rattle.octomap_cli.specs.Task.{Task, Session, Convert, Inspect}
+
+-- the status of a task over a file
+abbrev pub status_of : Ending → Status
+status_of ending.Done = Done
+status_of ending.BadFile = BadFile
+status_of ending.TooLong = TooLong
+status_of ending.ReadFault = ReadFault
+status_of ending.WriteFault = WriteFault
+status_of ending.Memory = Memory
+
+-- the answer of a task over a file, which changes no files
+abbrev pub file_answer : Files → file_answers.Answer → Answer
+file_answer files whole =
+    record { text = whole.text; files = files; status = status_of whole.ending }
+
+-- what holds of the end of a task over a file, by its status
+abbrev pub EndsAs : (Ending → Type 0) → Status → Type 0
+EndsAs ends Done = ends ending.Done
+EndsAs ends Refused = ⊥
+EndsAs ends Usage = ⊥
+EndsAs ends BadFile = ends ending.BadFile
+EndsAs ends TooLong = ends ending.TooLong
+EndsAs ends ReadFault = ends ending.ReadFault
+EndsAs ends WriteFault = ends ending.WriteFault
+EndsAs ends Memory = ends ending.Memory
 
 -- the answer to a task, or to words that have none, on these files and this input
 abbrev pub answer : Option Task → Files → List ℕ → Answer
 answer None files bytes = record { text = []; files = files; status = Usage }
 answer (Some (Session o)) files bytes = session o files bytes
+answer (Some (Convert max_bytes)) files bytes = file_answer files (convert_answer max_bytes bytes)
+answer (Some (Inspect max_bytes)) files bytes = file_answer files (inspect_answer max_bytes bytes)
 
 -- how a run over these bytes may end: without a task the answer is the status alone and no byte was
--- taken, and else it ends as the session may
+-- taken, and else it ends as the session may, or as the task over a file
 abbrev pub MayEnd : Option Task → Files → List ℕ → Option (List ℕ) → Option (List ℕ)
     → Option (List ℕ) → Status → Type 0
 MayEnd None files bytes left old new status =
     IsAnswered (answer None files bytes) old new status × (left ≡ Some bytes)
 MayEnd (Some (Session o)) files bytes left old new status =
     session_ending.MayEnd o files bytes left old new status
+MayEnd (Some (Convert max_bytes)) files bytes left old new status =
+    EndsAs (file_ending.MayEnd (convert_answer max_bytes bytes) max_bytes bytes left old new) status
+MayEnd (Some (Inspect max_bytes)) files bytes left old new status =
+    EndsAs (file_ending.MayEnd (inspect_answer max_bytes bytes) max_bytes bytes left old new) status

@@ -1,5 +1,5 @@
 -- What the words of the command line ask for.
-use Rattle.std.specs.Prelude.{ℕ, ℤ, pos, negsuc, ◌^◌, List, ◌∷◌, Option, Some, None, bytes_eq, codes, nat_lt, ◌||◌, ◌&&◌, if◌then◌else◌, option_map}
+use Rattle.std.specs.Prelude.{ℕ, ℤ, pos, negsuc, ◌^◌, ◌≤◌, List, [], ◌∷◌, Option, Some, None, bytes_eq, codes, nat_lt, ◌||◌, if◌then◌else◌, option_map, ⊤}
 use Rattle.std.specs.Result.{result_ok}
 use Rattle.oct_num.specs.Metres.{metres_of}
 use Rattle.oct_num.specs.Sign.{has_minus}
@@ -11,9 +11,11 @@ use Rattle.oct_script.specs.Words.{Word}
 use Rattle.oct_session.specs.Setup.{Setup}
 use Rattle.octomap_cli.specs.Words.{value_of, are_options}
 
--- a task of the program
+-- a task of the program: a session, or one over a file of at most so many bytes
 pub data Task : Type 0 where
   Session : Setup → Task
+  Convert : ℕ → Task
+  Inspect : ℕ → Task
 
 -- a number in a range, both ends included
 abbrev pub within : ℕ → ℕ → Option ℤ → Option ℕ
@@ -93,10 +95,40 @@ setup_asked res options =
     setup_from (resolution_of res) (chosen_model options) (chosen_groups options)
     (chosen_cells options) (chosen_bytes options)
 
--- the task that the words ask for: `session RES` and options; all other words have none
-unfoldable pub task_of : List Word → Option Task
-task_of (command ∷ res ∷ options) =
-    if bytes_eq command (codes "session") && are_options options
-    then option_map Session (setup_asked res options)
+-- the task of the words after `session`: a resolution and options
+abbrev pub session_asked : List Word → Option Task
+session_asked [] = None
+session_asked (res ∷ options) =
+    if are_options options then option_map Session (setup_asked res options) else None
+
+-- the most bytes of a file that one word spells
+abbrev pub file_number : List Word → Option ℕ
+file_number [] = None
+file_number (word ∷ []) = count_of 0 (2 ^ 32) word
+file_number (word ∷ other ∷ words) = None
+
+-- the most bytes of a file that the words after the command choose: none, or `--max-bytes` and a
+-- number
+abbrev pub file_bytes : List Word → Option ℕ
+file_bytes [] = Some (2 ^ 26)
+file_bytes (name ∷ words) =
+    if bytes_eq name (codes "--max-bytes") then file_number words else None
+
+-- the task of a command and the words after it
+abbrev pub task_by : Word → List Word → Option Task
+task_by command words =
+    if bytes_eq command (codes "session") then session_asked words
+    else if bytes_eq command (codes "convert") then option_map Convert (file_bytes words)
+    else if bytes_eq command (codes "inspect") then option_map Inspect (file_bytes words)
     else None
-task_of _ = None
+
+-- the task that the words ask for; words with another command have none
+unfoldable pub task_of : List Word → Option Task
+task_of [] = None
+task_of (command ∷ words) = task_by command words
+
+-- a task over a file has a limit of at most 2^32 bytes
+abbrev pub HasFewBytes : Task → Type 0
+HasFewBytes (Session o) = ⊤
+HasFewBytes (Convert max_bytes) = max_bytes ≤ 2 ^ 32
+HasFewBytes (Inspect max_bytes) = max_bytes ≤ 2 ^ 32

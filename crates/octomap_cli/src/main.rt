@@ -8,27 +8,32 @@
 //! of occupancy is that of Hornung et al. 2013 and of the OctoMap library's class `OcTree`, in
 //! whole numbers.
 //!
+//! `octomap convert` and `octomap inspect` read a `.bt` file of that library from the input: the one
+//! writes the canonical file of the same classes, the other six lines about the file.
+//!
 //! # What it promises
 //!
 //! The contract of [`program::run`], proved: for every script, where source and sink tell their
 //! bytes, what is written and the status are those of the plain fold over each single voxel.
 //! Stopped by a fault or out of memory, what was written is a prefix of that; on a read fault it is
-//! exactly the replies to the lines that lie whole in the bytes taken. `specs/Ending.antt` says
-//! this over the tasks that the words of the command line ask for (`Words`, `Task`) and over the
-//! session of `oct_session`.
+//! exactly the replies to the lines that lie whole in the bytes taken. What a task over a file
+//! writes is a function of the file. `specs/Ending.antt` says this over the tasks that the words of
+//! the command line ask for (`Words`, `Task`), over the session of `oct_session`, and over the
+//! endings of `oct_convert`.
 //!
 //! # How it works
 //!
 //! `words` finds the options among the words of the command line, and `task` reads the task that
-//! they ask for. `program` makes the map of the unknown world, which may grow as far as the options
+//! they ask for. For a session `program` makes the map of the unknown world, which may grow as far as the options
 //! say, and lends it to the loop of `oct_session`. `main` joins all this to the standard input and
 //! output and to the current folder.
 //!
 //! # Who stands on it
 //!
 //! Nothing: this is the top. It stands on `oct_session` for the loop, on `oct_map` for the map that
-//! the loop is lent, on `oct_num`, `oct_key` and `oct_odds` for the numbers of the command line, on
-//! `oct_script` for what a number is, and on `oct_io` for the world.
+//! the loop is lent, on `oct_convert` for the tasks over a file, on `oct_num`, `oct_key` and
+//! `oct_odds` for the numbers of the command line, on `oct_script` for what a number is, and on
+//! `oct_io` for the world.
 #![tactic(auto)]
 
 mod program;

@@ -3,12 +3,15 @@ ghost use Rattle.std.specs.Prelude.{◌≡◌, ◌≢◌, ◌⊎◌, [], IfSome,
 ghost use Rattle.oct_io.specs.Files.{Files};
 ghost use Rattle.oct_io.specs.Told.{Rose};
 ghost use Rattle.oct_session.specs.Ending.{IsWhole};
+ghost use Rattle.oct_session.specs.History.{start_state};
 ghost use Rattle.oct_session.specs.Leaving.{StandsFor};
 ghost use Rattle.octomap_cli.specs.Words.{bytes_of};
-ghost use Rattle.octomap_cli.specs.Task.{task_of};
-ghost use Rattle.octomap_cli.specs.Ending.{MayEnd, answer};
+ghost use Rattle.octomap_cli.specs.Asked.{asked};
+ghost use Rattle.octomap_cli.specs.Task.{HasFewBytes, task_of};
+ghost use Rattle.octomap_cli.specs.Ending.{MayEnd, answer, status_of};
 
-use crate::task::{Usage, read_words};
+use crate::task::{Task, Usage, read_words};
+use oct_convert::{Ending, convert, inspect};
 use oct_io::{Sink, Source, Store};
 use oct_map::OccMap;
 use oct_session::{Options, Status, serve};
@@ -58,18 +61,67 @@ pub fn run<S: Source, K: Sink, F: Store>(
         → ¬ Rose (K.faults sink.old) (K.faults sink.new) → result ≢ Status.Memory → IsWhole result }
 {
     match read_words(words) {
-        Ok(task) => {
-            let options = task.options();
+        Ok(task) => perform(alloc, &task, source, sink, store),
+        Err(Usage) => Status::Usage,
+    }
+}
+
+/// Does a task.
+fn perform<S: Source, K: Sink, F: Store>(
+    alloc: Global,
+    task: &Task,
+    source: &mut S,
+    sink: &mut K,
+    store: &mut F,
+) -> Status
+    requires few { HasFewBytes (asked task.now) }
+    ensures answer { IfSome (S.left source.old) (λ bytes. (files : Files)
+        → MayEnd (Some (asked task.now)) files bytes (S.left source.new)
+        (K.written sink.old) (K.written sink.new) result) }
+    ensures files { IfSome (F.files store.old) (λ files. IfSome (S.left source.old)
+        (λ bytes. IsWhole result → F.files store.new
+        ≡ Some (answer (Some (asked task.now)) files bytes).files)) }
+    ensures store { store.new ≡ store.old }
+    ensures usage { result ≢ Status.Usage }
+    ensures read_fault { result ≡ Status.ReadFault
+        → Rose (S.faults source.old) (S.faults source.new) }
+    ensures no_read_fault { result ≢ Status.ReadFault → S.faults source.new ≡ S.faults source.old }
+    ensures write_fault { result ≡ Status.WriteFault
+        → Rose (K.faults sink.old) (K.faults sink.new) }
+    ensures no_write_fault { result ≢ Status.WriteFault → K.faults sink.new ≡ K.faults sink.old }
+    ensures memory { result ≡ Status.Memory → (K.shortages sink.new ≡ K.shortages sink.old)
+        ⊎ Rose (K.shortages sink.old) (K.shortages sink.new) }
+    ensures no_shortage { result ≢ Status.Memory → K.shortages sink.new ≡ K.shortages sink.old }
+    ensures complete { ¬ Rose (S.faults source.old) (S.faults source.new)
+        → ¬ Rose (K.faults sink.old) (K.faults sink.new) → result ≢ Status.Memory → IsWhole result }
+{
+    match task {
+        Task::Session(options) => {
             let mut map = map_for(alloc, options);
             serve(alloc, options, &mut map, source, sink, store)
         }
-        Err(Usage) => Status::Usage,
+        Task::Convert { max_bytes } => status_of(convert(alloc, *max_bytes, source, sink)),
+        Task::Inspect { max_bytes } => status_of(inspect(alloc, *max_bytes, source, sink)),
+    }
+}
+
+/// The status of a task over a file.
+fn status_of(ending: Ending) -> Status
+    ensures { result ≡ status_of ending }
+{
+    match ending {
+        Ending::Done => Status::Done,
+        Ending::BadFile => Status::BadFile,
+        Ending::TooLong => Status::TooLong,
+        Ending::ReadFault => Status::ReadFault,
+        Ending::WriteFault => Status::WriteFault,
+        Ending::Memory => Status::Memory,
     }
 }
 
 /// The map of the unknown world, set up as a session is.
 fn map_for(alloc: Global, options: &Options) -> OccMap
-    ensures { StandsFor options.now result [] }
+    ensures { StandsFor result (start_state options.now) }
 {
     OccMap::new(alloc, options.res, options.odds, options.limits)
 }

@@ -1,9 +1,9 @@
 //! What the words of the command line ask for.
-ghost use Rattle.std.specs.Prelude.{◌≡◌, ◌≤◌, ◌^◌, option_map, Option, Some, None, IfSome};
+ghost use Rattle.std.specs.Prelude.{◌≡◌, ◌≤◌, ◌^◌, option_map, Option, Some, None, IfOk, IfSome};
 ghost use Rattle.std.specs.Result.{result_ok};
 ghost use Rattle.oct_odds.specs.Odds.{odds_of, IsSmall};
 ghost use Rattle.octomap_cli.specs.Words.{bytes_of};
-ghost use Rattle.octomap_cli.specs.Task.{Session as a_session, resolution_of, count_of, chosen_number, chosen_count, chosen_model, chosen_groups, chosen_cells, chosen_bytes, setup_asked, task_of};
+ghost use Rattle.octomap_cli.specs.Task.{HasFewBytes, file_bytes, file_number, session_asked, task_by, resolution_of, count_of, chosen_number, chosen_count, chosen_model, chosen_groups, chosen_cells, chosen_bytes, setup_asked, task_of};
 ghost use Rattle.octomap_cli.specs.Asked.{asked};
 
 use crate::words::{are_options, value_of};
@@ -47,22 +47,22 @@ const BYTES: Choice = Choice {
     default: MOST_BYTES,
 };
 
+/// How many bytes a file may have that is converted or inspected.
+const FILE_BYTES: Choice = Choice {
+    low: 0,
+    high: 1 << 32,
+    default: 1 << 26,
+};
+
 /// A task of the program.
 #[derive(Debug, Drop)]
 pub enum Task {
     /// A script from the input, and its replies to the output.
     Session(Options),
-}
-
-impl Task {
-    /// What the task's session is set up with.
-    pub fn options(&self) -> &Options
-        ensures { asked self.now ≡ a_session result.now }
-    {
-        match self {
-            Task::Session(options) => options,
-        }
-    }
+    /// A file of classes from the input, and the canonical one of the same classes to the output.
+    Convert { max_bytes: u64 },
+    /// A file of classes from the input, and six lines about it to the output.
+    Inspect { max_bytes: u64 },
 }
 
 /// The words ask for no task.
@@ -171,18 +171,73 @@ fn read_options(res: &[u8], words: &[String]) -> Option<Options>
     })
 }
 
-/// Reads the words of the command line, which don't have the program's own name: `session RES` and
-/// pairs of an option and its value, in any order, each option at most once.
-#[tactic(auto, unfolding(crate::specs::Task::task_of))]
-pub fn read_words(words: &[String]) -> Result<Task, Usage>
-    ensures { option_map asked (result_ok result) ≡ task_of (bytes_of words.now) }
+/// Reads the words after `session`: RES, and pairs of an option and its value, in any order, each
+/// option at most once.
+fn read_session(words: &[String]) -> Option<Task>
+    ensures { option_map asked result ≡ session_asked (bytes_of words.now) }
+{
+    let [res, options @ ..] = words else {
+        return None;
+    };
+    if !are_options(options) {
+        return None;
+    }
+    Some(Task::Session(read_options(res.as_bytes(), options)?))
+}
+
+/// Reads the number of a file's bytes, which is the only word.
+fn read_file_number(words: &[String]) -> Option<u64>
+    ensures exact { result ≡ file_number (bytes_of words.now) }
+    ensures few { IfSome result (λ n. n ≤ 2 ^ 32) }
 {
     match words {
-        [command, res, options @ ..]
-            if command.as_bytes() == b"session".as_slice() && are_options(options) => {
-            let options = read_options(res.as_bytes(), options).ok_or(Usage)?;
-            Ok(Task::Session(options))
-        }
-        _ => Err(Usage),
+        [word] => read_count(word.as_bytes(), FILE_BYTES.low, FILE_BYTES.high),
+        _ => None,
     }
+}
+
+/// Reads the words after `convert` or `inspect`: none, or `--max-bytes` and a number.
+fn read_file_bytes(words: &[String]) -> Option<u64>
+    ensures exact { result ≡ file_bytes (bytes_of words.now) }
+    ensures few { IfSome result (λ n. n ≤ 2 ^ 32) }
+{
+    let [name, rest @ ..] = words else {
+        return Some(FILE_BYTES.default);
+    };
+    if name.as_bytes() == b"--max-bytes".as_slice() {
+        read_file_number(rest)
+    } else {
+        None
+    }
+}
+
+/// Reads the words after a command.
+fn read_task(command: &[u8], words: &[String]) -> Option<Task>
+    ensures exact { option_map asked result ≡ task_by command.now (bytes_of words.now) }
+    ensures few { IfSome result (λ task. HasFewBytes (asked task)) }
+{
+    if command == b"session".as_slice() {
+        read_session(words)
+    } else if command == b"convert".as_slice() {
+        let max_bytes = read_file_bytes(words)?;
+        Some(Task::Convert { max_bytes })
+    } else if command == b"inspect".as_slice() {
+        let max_bytes = read_file_bytes(words)?;
+        Some(Task::Inspect { max_bytes })
+    } else {
+        None
+    }
+}
+
+/// Reads the words of the command line, which don't have the program's own name: a command, and the
+/// words that it may have.
+#[tactic(auto, unfolding(crate::specs::Task::task_of))]
+pub fn read_words(words: &[String]) -> Result<Task, Usage>
+    ensures exact { option_map asked (result_ok result) ≡ task_of (bytes_of words.now) }
+    ensures few { IfOk result (λ task. HasFewBytes (asked task)) }
+{
+    let [command, rest @ ..] = words else {
+        return Err(Usage);
+    };
+    read_task(command.as_bytes(), rest).ok_or(Usage)
 }

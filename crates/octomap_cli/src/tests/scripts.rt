@@ -51,7 +51,7 @@ fn values_are_clamped_at_each_step(rt: HostRuntime) -> Result<(), Fail> {
 }
 
 /// Queries of blocks.
-const BLOCKS: [Case; 4] = [
+const BLOCKS: [Case; 8] = [
     (
         "hit 0 0 0\nget -0.05 -0.05 -0.05 16\nget -0.05 -0.05 -0.05 1\nget -0.05 -0.05 -0.05 0\n",
         "ok\nunknown\nunknown\nknown 850 occupied\n",
@@ -72,11 +72,65 @@ const BLOCKS: [Case; 4] = [
         "ok\nok\nok\ngroups 16 nodes 17\nrefused 24 Outside point 1\nrefused 25 BadDepth\nrefused 22 Stale\n",
         Status::Refused,
     ),
+    (
+        "hit 0 0 0 lazy\nclear\nget 0 0 0 0\ncounts\nhit 0 0 0\nget 0 0 0 0\n",
+        "ok\nok\nunknown\ngroups 0 nodes 0\nok\nknown 850 occupied\n",
+        Status::Done,
+    ),
+    (
+        "miss 0 0 0\nhit 0.1 0 0 lazy\nmaxlik\nget 0 0 0 16\nget 0.2 0 0 16\nget 0 0 0 0\ncounts\nset 0.1 0 0 -1\nmaxlik\nget 0.1 0 0 16\nget 0 0 0 0\n",
+        "ok\nok\nok\nknown -2000 free\nunknown\nknown 3500 occupied\ngroups 16 nodes 18\nok\nok\nknown -2000 free\nknown -2000 free\n",
+        Status::Done,
+    ),
+    (
+        "hit 0 0 0 lazy\nbox -0.1 -0.1 -0.1 0.05 0 0 set 70\nget 0 0 0 16\nget -0.1 0 -0.1 16\nget 0.1 0 0 16\nget 0 0 0 15\nrefresh\nget 0 0 0 0\ncounts\n",
+        "ok\nok\nknown 70 occupied\nknown 70 occupied\nunknown\nrefused 22 Stale\nok\nknown 70 occupied\ngroups 121 nodes 129\n",
+        Status::Refused,
+    ),
+    (
+        "box 0 0 0 4000 0 0 hit\nbox 4000 0 0 4000 0 0 hit\nbox 0 0.1 0 1 0 1 hit\nbox 0.05 0 0 0 0 0 miss\nget 0 0 0 0\nbox -3276.8 -3276.8 -3276.8 3276.75 3276.7 3276.7 add 5\nget 9 9 9 16\ncounts\n",
+        "refused 24 Outside point 2\nrefused 24 Outside point 1\nrefused 26 BadBox\nok\nknown -400 free\nok\nknown 5 occupied\ngroups 16 nodes 129\n",
+        Status::Refused,
+    ),
 ];
 
 #[test]
 fn blocks_answer_their_largest_value_once_refreshed(rt: HostRuntime) -> Result<(), Fail> {
     check(&rt, rt.alloc(), &BLOCKS)
+}
+
+/// Casts.
+const CASTS: [Case; 5] = [
+    (
+        "cast 0 0 0 0.3 0 0\ncast 0 0 0 0.3 0 0 ignore\n",
+        "cast unknown 32768 32768 32768\ncast clear\n",
+        Status::Done,
+    ),
+    (
+        "miss 0 0 0\nmiss 0.1 0 0\nhit 0.2 0 0\nhit 0.4 0 0\ncast 0 0 0 0.5 0 0\ncast 0.5 0 0 0 0 0\ncast 0.5 0 0 0 0 0 ignore\ncast 0 0 0 0.1 0 0\n",
+        "ok\nok\nok\nok\ncast hit 32770 32768 32768\ncast unknown 32773 32768 32768\ncast hit 32772 32768 32768\ncast clear\n",
+        Status::Done,
+    ),
+    (
+        "hit -0.1 0 0.2 lazy\ncast -0.1 0 0.2 -0.1 0 0.2\nget 0 0 0 15\n",
+        "ok\ncast hit 32767 32768 32770\nrefused 22 Stale\n",
+        Status::Refused,
+    ),
+    (
+        "cast 4000 0 0 4000 0 0\ncast 0 0 0 0 4000 0 ignore\ncast 4000 0 0 0 0 0\n",
+        "refused 24 Outside point 1\nrefused 24 Outside point 2\nrefused 24 Outside point 1\n",
+        Status::Refused,
+    ),
+    (
+        "scan 0 0 0 1 0 0 0 all\np 0.3 0 0\nend\ncast 0 0 0 1 0 0\nmaxlik\nget 0.2 0 0 16\nclear\ncast 0 0 0 1 0 0\n",
+        "ok hits 1 frees 3\ncast hit 32771 32768 32768\nok\nknown -2000 free\nok\ncast unknown 32768 32768 32768\n",
+        Status::Done,
+    ),
+];
+
+#[test]
+fn casts_name_what_stops_them(rt: HostRuntime) -> Result<(), Fail> {
+    check(&rt, rt.alloc(), &CASTS)
 }
 
 /// The eight voxels beside the corner of the origin.
@@ -168,7 +222,7 @@ const REFUSALS: [Case; 6] = [
         Status::Refused,
     ),
     (
-        "box 0 0 0 0 0 0 hit\nsave m\nlist 0 0 0 1 1 1 16\ncast 0 0 0 1 0 0\nget 0 0 0 0016\nget 0 0 0 12345678\n",
+        "changes\nsave m\nlist 0 0 0 1 1 1 16\ntrack\nget 0 0 0 0016\nget 0 0 0 12345678\n",
         "refused 36 NotYet\nrefused 36 NotYet\nrefused 36 NotYet\nrefused 36 NotYet\nunknown\nrefused 29 Syntax line 6 column 11\n",
         Status::Refused,
     ),
