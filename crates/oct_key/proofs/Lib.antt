@@ -10,3 +10,4 @@ pub mod OneOrder
 pub mod Order
 pub mod Triples
 pub mod InOrder
+pub mod Boxes

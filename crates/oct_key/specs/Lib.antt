@@ -5,3 +5,4 @@ pub mod CubeOf
 pub mod Morton
 pub mod Dilated
 pub mod Order
+pub mod Boxes

@@ -24,6 +24,8 @@
 //!   [`orders_are_whole`] says that each stands there once, and no other does.
 //! - [`Dilated`] is a number whose bits stand where its axis has them in a code. It is counted up
 //!   and down as it stands, and [`morton_of_axes`] makes the code of three of them.
+//! - A [`Window`] is a box of voxels by two corners, both included, of which on no axis the first is
+//!   beyond the second. [`Window::holds`] says which voxels lie in it.
 //! - [`PointList`] and [`KeyList`] keep what they are given, in order.
 //!
 //! A block is a cube of 2^(16 - depth) voxels on each axis: depth 0 is the whole map, and each
@@ -32,7 +34,7 @@
 //!
 //! No call but `push` of a list allocates, and none touches anything but its arguments. The crates
 //! of a map stand on this one, and cite its definitions: `Voxel`, `Values` and `SameValues` for
-//! what a map means, `key_at` and `Holds` for where a point lies, `morton_of` for the order of
+//! what a map means, `key_at` and `Holds` for where a point lies, `IsInBox` for the voxels of a box, `morton_of` for the order of
 //! voxels along the Z-order curve (Morton 1966), `key_cmp` and `voxels_in_order` for the one by x, y
 //! and z, and `block_of`, `child_of`, `HoldsVoxel` and `LiesIn` for the blocks.
 
@@ -45,6 +47,7 @@ mod lists;
 mod morton_code;
 mod point;
 mod resolution;
+mod window;
 
 pub use block::{Block, child_index};
 pub use dilated::{Dilated, morton_of_axes};
@@ -53,3 +56,4 @@ pub use lists::{KeyList, PointList};
 pub use morton_code::{from_morton, morton};
 pub use point::{Key, Point};
 pub use resolution::{BadResolution, Res};
+pub use window::Window;

@@ -6,31 +6,11 @@ use Rattle.std.proofs.lemmas.Bool.{false≢true, and_parts, le-leb, leb-true}
 use Rattle.oct_key.specs.Voxel.{Voxel}
 use Rattle.oct_key.specs.Block.{Cube, IsBlock, HoldsVoxel, HoldsNumber, side, lowest_voxel}
 use Rattle.oct_key.proofs.Blocks.{lowest_held}
+use Rattle.oct_key.proofs.Boxes.{in_box_exactly}
 use Rattle.oct_values.specs.Blocks.{voxels_of}
-use Rattle.oct_values.specs.Boxes.{IsBetween, IsInBox, IsBox, is_between, is_in_box, MeetsBox, LiesInBox, MeetsSpan, LiesInSpan, is_met_by, is_cut_by}
+use Rattle.oct_key.specs.Boxes.{IsBetween, IsInBox, IsBox, is_in_box}
+use Rattle.oct_values.specs.Boxes.{MeetsBox, LiesInBox, MeetsSpan, LiesInSpan, is_met_by, is_cut_by}
 use Rattle.oct_values.proofs.Held.{all_pass, each_passes, some_passes, one_passes}
-
--- the test of a voxel
-pub in_box_exactly : (lo hi k : Voxel) → IsTrue (is_in_box lo hi k) ↔ IsInBox lo hi k
-in_box_exactly lo hi k = (to, from)
-  where
-    axis : (low high n : ℕ) → is_between low high n ≡ true → IsBetween low high n
-    axis low high n h = (let p = and_parts (nat_le low n) (nat_le n high) h in (leb-true low n p.0, leb-true n high p.1))
-
-    both : (a b : Bool) → a ≡ true → b ≡ true → (a && b) ≡ true
-    both a b ha hb = rw (ha, hb) refl
-
-    back : (low high n : ℕ) → IsBetween low high n → is_between low high n ≡ true
-    back low high n h = both (nat_le low n) (nat_le n high) (le-leb low n h.0) (le-leb n high h.1)
-
-    to : IsTrue (is_in_box lo hi k) → IsInBox lo hi k
-    to h =
-        let z = and_parts (is_between lo.x hi.x k.x && is_between lo.y hi.y k.y) (is_between lo.z hi.z k.z) h in
-        let y = and_parts (is_between lo.x hi.x k.x) (is_between lo.y hi.y k.y) z.0 in
-        record { x = axis lo.x hi.x k.x y.0; y = axis lo.y hi.y k.y y.1; z = axis lo.z hi.z k.z z.1 }
-
-    from : IsInBox lo hi k → IsTrue (is_in_box lo hi k)
-    from h = both _ _ (both _ _ (back lo.x hi.x k.x h.x) (back lo.y hi.y k.y h.y)) (back lo.z hi.z k.z h.z)
 
 -- a block meets a box where it does so on each axis
 pub record MeetsSpans (lo hi : Voxel) (b : Cube) : Type 0 where

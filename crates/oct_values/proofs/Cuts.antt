@@ -8,7 +8,8 @@ use Rattle.oct_key.specs.Voxel.{Voxel, IsInMap}
 use Rattle.oct_key.specs.Block.{Cube, IsBlock, side, lowest_voxel, root_block}
 use Rattle.oct_key.proofs.Blocks.{lowest_held, quotient_below}
 use Rattle.oct_values.specs.Blocks.{blocks_above_voxels}
-use Rattle.oct_values.specs.Boxes.{IsBox, MeetsBox, LiesInBox, MeetsSpan, LiesInSpan, is_cut_by, box_need, met_on, within_on, cut_at}
+use Rattle.oct_key.specs.Boxes.{IsBox}
+use Rattle.oct_values.specs.Boxes.{MeetsBox, LiesInBox, MeetsSpan, LiesInSpan, is_cut_by, box_need, met_on, within_on, cut_at}
 use Rattle.oct_values.proofs.Listed.{all_above_voxels}
 use Rattle.oct_values.proofs.Sums.{All-follows, sum_by-same, sum_by-plus}
 use Rattle.oct_values.proofs.Axes.{AxisTest, on_axis, passes, level, sum_below, sum_below-same, count_by_levels}

@@ -10,12 +10,14 @@ use Rattle.oct_odds.specs.declared.event.Event.{Event}
 use Rattle.oct_values.specs.Blocks.{blocks_above_voxels}
 use Rattle.oct_values.specs.Events.{Events, after_event, updated}
 use Rattle.oct_values.specs.Needs.{is_reached, event_need}
-use Rattle.oct_values.specs.Boxes.{is_in_box, box_events, is_cut_by, box_need}
+use Rattle.oct_key.specs.Boxes.{is_in_box}
+use Rattle.oct_values.specs.Boxes.{box_events, is_cut_by, box_need}
 use Rattle.oct_values.specs.Counts.{is_uniform, group_count}
 use Rattle.oct_values.proofs.Listed.{all_above_voxels}
 use Rattle.oct_values.proofs.Reached.{reached_exactly}
 use Rattle.oct_values.proofs.Uniform.{uniform_exactly}
-use Rattle.oct_values.proofs.Boxes.{in_box_exactly, cut_exactly}
+use Rattle.oct_key.proofs.Boxes.{in_box_exactly}
+use Rattle.oct_values.proofs.Boxes.{cut_exactly}
 use Rattle.oct_values.proofs.Sums.{All-follows, sum_by-each_le, sum_by-plus, sum_by-none}
 
 -- all voxels of a block take one event, or none

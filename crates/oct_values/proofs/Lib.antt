@@ -2,6 +2,7 @@ pub mod Eights
 pub mod Sums
 pub mod Held
 pub mod Listed
+pub mod Alike
 pub mod Uniform
 pub mod Largest
 pub mod Children

@@ -9,9 +9,11 @@ use Rattle.oct_key.specs.Block.{Cube, IsBlock, HoldsVoxel, child_of, root_block,
 use Rattle.oct_key.proofs.Blocks.{lowest_held, lowest_in_map, child_in_map, root_in_map}
 use Rattle.oct_odds.specs.Update.{Value}
 use Rattle.oct_values.specs.Blocks.{child_numbers, voxels_of, blocks_above_voxels}
-use Rattle.oct_values.specs.Counts.{IsUniform, IsKnownIn, is_same_value, is_uniform, is_known_in, group_count, known_children, node_count}
+use Rattle.oct_values.specs.Uniform.{IsUniform, IsEquality, is_uniform_by}
+use Rattle.oct_values.specs.Counts.{IsKnownIn, is_same_value, is_uniform, is_known_in, group_count, known_children, node_count}
+use Rattle.oct_values.proofs.Alike.{uniform_by_exactly}
 use Rattle.oct_values.proofs.Eights.{all_eight}
-use Rattle.oct_values.proofs.Held.{all_held, all_pass, each_passes, some_passes, one_passes}
+use Rattle.oct_values.proofs.Held.{all_held, some_passes, one_passes}
 use Rattle.oct_key.proofs.Held.{held_in_map}
 use Rattle.oct_values.proofs.Listed.{all_above_voxels}
 use Rattle.oct_values.proofs.Sums.{All-follows, sum_by-same, list_all-same, list_any-same, count_by-same}
@@ -27,18 +29,12 @@ is_same_value_exact None (Some n) h = absurd (false≢true h)
 is_same_value_exact (Some m) None h = absurd (false≢true h)
 is_same_value_exact (Some m) (Some n) h = ap Some ((signed_Decides m n).0 h)
 
+pub same_value_equality : IsEquality is_same_value
+same_value_equality a b = (is_same_value_exact a b, λ is. rw is (is_same_value_refl b))
+
 -- the test tells the uniform blocks
 pub uniform_exactly : (values : Values) (b : Cube) → IsBlock b → IsTrue (is_uniform values b) ↔ IsUniform values b
-unfolding is_uniform
-uniform_exactly values b ok =
-    let to : IsTrue (is_uniform values b) → IsUniform values b = λ h j k held_j held_k.
-    (let like = λ (q : Voxel) (held : HoldsVoxel b q). is_same_value_exact (values q) (values (lowest_voxel b))
-    (each_passes (λ k. is_same_value (values k) (values (lowest_voxel b))) b ok h q held) in
-    like j held_j ∙ sym (like k held_k)) in
-    let from : IsUniform values b → IsTrue (is_uniform values b) = λ h.
-    all_pass (λ k. is_same_value (values k) (values (lowest_voxel b))) b ok
-    (λ k held. rw (h k (lowest_voxel b) held (lowest_held b)) (is_same_value_refl (values (lowest_voxel b)))) in
-    (to, from)
+uniform_exactly values b ok = uniform_by_exactly is_same_value values b same_value_equality ok
 
 -- the test tells the blocks with a known voxel
 pub known_exactly : (values : Values) (b : Cube) → IsBlock b → IsTrue (is_known_in values b) ↔ IsKnownIn values b
@@ -61,7 +57,7 @@ value_of_uniform values b k ok h held = (uniform_exactly values b ok).0 h k (low
 
 -- values that agree in the map have the same uniform blocks
 pub same_uniform : (v w : Values) (b : Cube) → IsBlock b → ((k : Voxel) → IsInMap k → v k ≡ w k) → is_uniform v b ≡ is_uniform w b
-unfolding is_uniform
+unfolding is_uniform_by
 same_uniform v w b ok same =
     list_all-same (λ k. is_same_value (v k) (v (lowest_voxel b))) (λ k. is_same_value (w k) (w (lowest_voxel b))) (voxels_of b)
     (All-follows (HoldsVoxel b) (λ k. is_same_value (v k) (v (lowest_voxel b)) ≡ is_same_value (w k) (w (lowest_voxel b))) (voxels_of b)

@@ -1,16 +1,13 @@
 -- Which blocks have one value, and how many groups and nodes a tree of these values needs at least.
-use Rattle.std.specs.Prelude.{◌≡◌, ℕ, ◌+◌, Bool, true, false, not, IsSome, is_some, Some, None, sum_by, count_by, if◌then◌else◌}
-use Rattle.std.specs.List.{list_all, list_any}
+use Rattle.std.specs.Prelude.{ℕ, ◌+◌, Bool, true, false, not, IsSome, is_some, Some, None, sum_by, count_by, if◌then◌else◌}
+use Rattle.std.specs.List.{list_any}
 use Rattle.std.specs.Ordering.{int_eq}
 use Rattle.oct_key.specs.Voxel.{Voxel}
 use Rattle.oct_key.specs.Values.{Values}
-use Rattle.oct_key.specs.Block.{Cube, HoldsVoxel, child_of, lowest_voxel, root_block}
+use Rattle.oct_key.specs.Block.{Cube, HoldsVoxel, child_of, root_block}
 use Rattle.oct_odds.specs.Update.{Value}
 use Rattle.oct_values.specs.Blocks.{child_numbers, voxels_of, blocks_above_voxels}
-
--- all voxels of the block have one value, where unknown counts as a value
-abbrev pub IsUniform : Values → Cube → Type 0
-IsUniform values b = (j k : Voxel) → HoldsVoxel b j → HoldsVoxel b k → values j ≡ values k
+use Rattle.oct_values.specs.Uniform.{is_uniform_by}
 
 -- some voxel of the block is known
 abbrev pub IsKnownIn : Values → Cube → Type 0
@@ -23,10 +20,9 @@ is_same_value None (Some n) = false
 is_same_value (Some m) None = false
 is_same_value (Some m) (Some n) = int_eq m n
 
--- whether the block is uniform: each of its voxels has the value of the lowest one
-unfoldable pub is_uniform : Values → Cube → Bool
-is_uniform values b =
-    list_all (λ k. is_same_value (values k) (values (lowest_voxel b))) (voxels_of b)
+-- whether the block's voxels have one value, where unknown counts as a value
+abbrev pub is_uniform : Values → Cube → Bool
+is_uniform values b = is_uniform_by is_same_value values b
 
 -- whether some voxel of the block is known
 unfoldable pub is_known_in : Values → Cube → Bool

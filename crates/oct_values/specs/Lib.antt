@@ -1,6 +1,7 @@
 pub mod Events
 pub mod Blocks
 pub mod Depths
+pub mod Uniform
 pub mod Counts
 pub mod Needs
 pub mod Classes

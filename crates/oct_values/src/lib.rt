@@ -11,8 +11,11 @@
 //!   blocks of depth 0 to 15. Sums and counts go over these lists.
 //! - `Depths`: `IsLargestIn` says what a block answers: the largest known value among its voxels,
 //!   or none where each of them is unknown. `depth_value` computes it.
-//! - `Counts`: `IsUniform` says that all voxels of a block have one value, where unknown counts as
-//!   a value. `group_count` is the number of blocks of depth 0 to 15 that aren't uniform.
+//! - `Uniform`: `IsUniform` says that all voxels of a block have one answer, whatever a voxel
+//!   answers: a value, where unknown counts as one, or a class. `is_uniform_by` is the test, over a
+//!   test for equal answers, and `uniform_answer` the one answer, if there is one.
+//! - `Classes`: what each voxel counts as, and `class_of_block`, the class of a block of one class.
+//! - `Counts`: `group_count` is the number of blocks of depth 0 to 15 that aren't uniform in value.
 //!   `node_count` is 0 where all voxels are unknown, else one more than the children of these
 //!   blocks that hold a known voxel.
 //! - `Needs`: `IsReached` says that some voxel of a block has an event. `event_need` is the number
@@ -23,8 +26,8 @@
 //!
 //! Its functions do nothing and promise much: each is a law, so that nobody has to trust a list, a
 //! test or a fold. Each block and each voxel is listed once, the tests say what they say in words
-//! of voxels, a block has one answer, and events make no more groups needed than they may. Scans, the tree's edits and queries, the map and
-//! the session are held against these words.
+//! of voxels, a block has one answer, and events make no more groups needed than they may. Scans,
+//! the tree's edits and queries, the map, files and the session are held against these words.
 #![tactic(auto)]
 
 mod laws;

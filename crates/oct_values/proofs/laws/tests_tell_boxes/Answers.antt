@@ -1,4 +1,5 @@
-use Rattle.oct_values.proofs.Boxes.{in_box_exactly, met_by_voxels, cut_exactly}
+use Rattle.oct_key.proofs.Boxes.{in_box_exactly}
+use Rattle.oct_values.proofs.Boxes.{met_by_voxels, cut_exactly}
 use Rattle.oct_values.proofs.laws.tests_tell_boxes.Goals as goal
 
 pub returns-clause-voxel : goal.returns-clause-voxel

@@ -1,0 +1,46 @@
+-- Boxes of voxels, by two corners.
+use Rattle.std.specs.Prelude.{ℕ, ◌≤◌, Bool, true, ◌&&◌, nat_le, Option, Some, None}
+use Rattle.oct_key.specs.Voxel.{Voxel}
+
+-- a number lies between two others, both included
+abbrev pub IsBetween : ℕ → ℕ → ℕ → Type 0
+IsBetween low high n = (low ≤ n) × (n ≤ high)
+
+-- a voxel lies in the box of two corners: on each axis between them, both included
+pub record IsInBox (lo hi k : Voxel) : Type 0 where
+  pub x : IsBetween lo.x hi.x k.x
+  pub y : IsBetween lo.y hi.y k.y
+  pub z : IsBetween lo.z hi.z k.z
+
+-- two voxels are the corners of a box: on no axis the first is beyond the second
+pub record IsBox (lo hi : Voxel) : Type 0 where
+  pub x : lo.x ≤ hi.x
+  pub y : lo.y ≤ hi.y
+  pub z : lo.z ≤ hi.z
+
+-- whether two voxels are the corners of a box
+abbrev pub is_box : Voxel → Voxel → Bool
+is_box lo hi = nat_le lo.x hi.x && nat_le lo.y hi.y && nat_le lo.z hi.z
+
+-- whether a number lies between two others
+abbrev pub is_between : ℕ → ℕ → ℕ → Bool
+is_between low high n = nat_le low n && nat_le n high
+
+-- whether a voxel lies in a box
+abbrev pub is_in_box : Voxel → Voxel → Voxel → Bool
+is_in_box lo hi k = is_between lo.x hi.x k.x && is_between lo.y hi.y k.y && is_between lo.z hi.z k.z
+
+-- the two corners of a box
+pub record Corners : Type 0 where
+  pub lo : Voxel
+  pub hi : Voxel
+
+-- a voxel lies in the box, or no box stands
+abbrev pub IsInWindow : Option Corners → Voxel → Type 0
+IsInWindow None k = Unit {0}
+IsInWindow (Some box) k = IsInBox box.lo box.hi k
+
+-- whether it does
+abbrev pub is_in_window : Option Corners → Voxel → Bool
+is_in_window None k = true
+is_in_window (Some box) k = is_in_box box.lo box.hi k
