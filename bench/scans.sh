@@ -5,9 +5,9 @@
 
 set -eu
 
-most_instructions=200000000
+most_instructions=160000000
 most_kilobytes=24576
-most_growth=5
+most_growth=4
 
 here=$(CDPATH='' cd -- "$(dirname -- "$0")" && pwd)
 program=$here/../crates/octomap_cli/out/octomap_cli

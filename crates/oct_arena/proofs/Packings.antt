@@ -1,10 +1,12 @@
 -- Packing and unpacking undo each other.
 use Rattle.std.proofs.Common.{◌≡◌, ℕ, ◌+◌, ◌/◌, ◌%◌, ◌^◌, ◌<◌, ◌≤◌, ◌⊎◌, ℤ, refl, sym, ◌∙◌, ap, arith, inl, inr, w32, List, [], ◌∷◌, length, get_or}
+use Rattle.std.specs.Prelude.{pos, neg_ℤ, ◌≤ℤ◌}
 use Rattle.std.specs.Int.{cast_signed}
 use Rattle.std.proofs.lemmas.Bool.{cases_lt}
 use Rattle.oct_arena.specs.declared.node.Node.{Node}
 use Rattle.oct_arena.specs.declared.node.Node.TheVariants.{Absent, Leaf, Inner}
 use Rattle.oct_arena.specs.declared.node.GroupId.{GroupId}
+use Rattle.oct_arena.specs.Nodes.{stored_in, IsRankOf}
 use Rattle.oct_arena.proofs.Ids.{same_ids}
 use Rattle.oct_arena.specs.declared.node.PackedNode.TheInside.{Inside}
 use Rattle.oct_arena.specs.Packing.{linked, leaf_link, absent_link, node_of_bits, bits_of, IsPacked, packed-unpacked}
@@ -45,3 +47,30 @@ eight _ n a b c d e f g h p0 p1 p2 p3 p4 p5 p6 p7 = absurd (omega arith)
 
 pub read : (xs : List Node) (k : ℕ) (i o : Node) → i ≡ get_or xs k i → o ≡ get_or xs k i → o ≡ get_or xs k o
 read xs k i o e f = f ∙ ap (λ d. get_or xs k d) (e ∙ sym f)
+
+-- the value that the bits of a node have is the rank of what stands in it
+rank_linked : (link : ℕ) (c : (link < 2 ^ 31 + 1023) ⊎ (2 ^ 31 + 1023 ≤ link)) (v : ℤ)
+    → neg_ℤ (pos (2 ^ 31)) ≤ℤ v → (link ≡ absent_link → v ≡ neg_ℤ (pos (2 ^ 31)))
+    → (link < 2 ^ 31 + 1023) ⊎ ((link ≡ leaf_link) ⊎ (link ≡ absent_link))
+    → IsRankOf (stored_in (linked link c v)) v
+rank_linked link (inl small) v least absent kind = (refl, least)
+rank_linked link (inr large) v least absent (inl small) = absurd (omega arith)
+rank_linked link (inr large) v least absent (inr (inl leaf)) = rw (leaf) (refl, least)
+rank_linked link (inr large) v least absent (inr (inr none)) = let low = absent none in rw (none) low
+
+pub rank_of_bits : (bits : ℕ) → IsPacked bits → neg_ℤ (pos (2 ^ 31)) ≤ℤ cast_signed w32 (bits % 2 ^ 32)
+    → IsRankOf (stored_in (node_of_bits bits)) (cast_signed w32 (bits % 2 ^ 32))
+rank_of_bits bits packed least =
+    let kind : (bits / 2 ^ 32 < 2 ^ 31 + 1023)
+    ⊎ ((bits / 2 ^ 32 ≡ leaf_link) ⊎ (bits / 2 ^ 32 ≡ absent_link)) = elim packed [
+      | inl (inl small) ↦ inl small
+      | inl (inr leaf) ↦ inr (inl leaf)
+      | inr none ↦ inr (inr (omega arith))
+    ] in
+    let low : bits / 2 ^ 32 ≡ absent_link → bits % 2 ^ 32 ≡ 2 ^ 31 = λ none. elim packed [
+      | inl (inl small) ↦ absurd (omega arith)
+      | inl (inr leaf) ↦ absurd (omega arith)
+      | inr all ↦ omega arith
+    ] in
+    rank_linked (bits / 2 ^ 32) (cases_lt (bits / 2 ^ 32) (2 ^ 31 + 1023)) _ least
+    (λ none. ap (cast_signed w32) (low none)) kind

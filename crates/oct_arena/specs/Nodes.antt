@@ -1,5 +1,5 @@
 -- What stands in a node.
-use Rattle.std.specs.Prelude.{◌≡◌, ℕ, ◌^◌, ℤ, pos, neg_ℤ, ◌≤ℤ◌, ◌<ℤ◌, Option, Some, None}
+use Rattle.std.specs.Prelude.{◌≡◌, ℕ, ◌^◌, ℤ, pos, neg_ℤ, ◌≤ℤ◌, Option, Some, None}
 use Rattle.oct_arena.specs.declared.node.Node.{Node}
 use Rattle.oct_arena.specs.declared.node.Node.TheVariants.{Absent, Leaf, Inner}
 
@@ -22,7 +22,7 @@ stored_in Absent = None
 stored_in (Leaf v) = Some v
 stored_in (Inner v id) = Some v
 
--- the rank of a stored value: the number itself, or, of none, less than every value of 32 bits
+-- the rank of a stored value: the number itself, or, of none, the least number of 32 bits
 abbrev pub IsRankOf : Option ℤ → ℤ → Type 0
-IsRankOf None rank = rank ≡ neg_ℤ (pos (2 ^ 63))
-IsRankOf (Some v) rank = (rank ≡ v) × (neg_ℤ (pos (2 ^ 31)) ≤ℤ v) × (v <ℤ pos (2 ^ 31))
+IsRankOf None rank = rank ≡ neg_ℤ (pos (2 ^ 31))
+IsRankOf (Some v) rank = (rank ≡ v) × (neg_ℤ (pos (2 ^ 31)) ≤ℤ v)

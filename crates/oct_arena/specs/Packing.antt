@@ -15,6 +15,10 @@ leaf_link = 4294967294
 abbrev pub absent_link : ℕ
 absent_link = 4294967295
 
+-- the bits of an absent node, whose value is the least
+abbrev pub absent_bits : ℕ
+absent_bits = 2 ^ 32 * absent_link + 2 ^ 31
+
 -- the node of a link and a value: inner where the link is the number of a group
 abbrev pub linked : (link : ℕ) → (link < 2 ^ 31 + 1023) ⊎ (2 ^ 31 + 1023 ≤ link) → ℤ → Node
 linked link (inl small) value = Inner value (record { number = link; small = small })
@@ -28,18 +32,17 @@ node_of_bits bits =
 
 -- the bits of a node
 abbrev pub bits_of : Node → ℕ
-bits_of Absent = 2 ^ 32 * absent_link
+bits_of Absent = absent_bits
 bits_of (Leaf value) = 2 ^ 32 * leaf_link + cast_unsigned w32 value
 bits_of (Inner value id) = 2 ^ 32 * id.number + cast_unsigned w32 value
 
--- the link is a group's number, or stands for a leaf or an absent node; an absent one has the value
--- 0
+-- the link is a group's number, or stands for a leaf, or all bits are those of an absent node
 abbrev pub IsPacked : ℕ → Type 0
 IsPacked bits = ((bits / 2 ^ 32 < 2 ^ 31 + 1023) ⊎ (bits / 2 ^ 32 ≡ leaf_link))
-    ⊎ (bits ≡ 2 ^ 32 * absent_link)
+    ⊎ (bits ≡ absent_bits)
 
 bits_of_linked : (link low : ℕ) (c : (link < 2 ^ 31 + 1023) ⊎ (2 ^ 31 + 1023 ≤ link)) → low < 2 ^ 32
-    → ((link < 2 ^ 31 + 1023) ⊎ (link ≡ leaf_link)) ⊎ ((link ≡ absent_link) × (low ≡ 0))
+    → ((link < 2 ^ 31 + 1023) ⊎ (link ≡ leaf_link)) ⊎ ((link ≡ absent_link) × (low ≡ 2 ^ 31))
     → bits_of (linked link c (cast_signed w32 low)) ≡ 2 ^ 32 * link + low
 bits_of_linked link low (inl small) l h = ap (λ n. 2 ^ 32 * link + n) (of_z-to_z w32 low l)
 bits_of_linked link low (inr large) l (inl (inl small)) = absurd (omega arith)
@@ -53,7 +56,7 @@ pub packed-unpacked : (p : Inside) → IsPacked p.bits
 packed-unpacked p h =
     let whole : 2 ^ 32 * (p.bits / 2 ^ 32) + p.bits % 2 ^ 32 ≡ p.bits = omega arith in
     let parts : ((p.bits / 2 ^ 32 < 2 ^ 31 + 1023) ⊎ (p.bits / 2 ^ 32 ≡ leaf_link))
-    ⊎ ((p.bits / 2 ^ 32 ≡ absent_link) × (p.bits % 2 ^ 32 ≡ 0)) = elim h [
+    ⊎ ((p.bits / 2 ^ 32 ≡ absent_link) × (p.bits % 2 ^ 32 ≡ 2 ^ 31)) = elim h [
       | inl some ↦ inl some
       | inr absent ↦ inr (omega arith, omega arith)
     ] in

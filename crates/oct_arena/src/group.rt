@@ -49,9 +49,9 @@ impl Group {
         self.nodes[i as usize].is(self.nodes[j as usize])
     }
 
-    /// The rank of the value that stands in node i: a number that is less than that of any value
-    /// where there is none. So the greatest of a group is found without a question for each node.
-    pub fn rank(&self, i: u8) -> i64
+    /// The rank of the value that stands in node i: the value itself, or the least number where
+    /// there is none. So the greatest of a group is found without a question for each node.
+    pub fn rank(&self, i: u8) -> i32
         requires { i ≤ 7 }
         ensures { IsRankOf (stored_in (node_of (Some self.now) i)) result }
     {

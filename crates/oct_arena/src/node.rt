@@ -126,7 +126,7 @@ impl PackedNode {
     {
         match node {
             Node::Absent => PackedNode {
-                bits: bits_of(ABSENT, 0),
+                bits: bits_of(ABSENT, i32::MIN),
             },
             Node::Leaf(value) => PackedNode {
                 bits: bits_of(LEAF, value),
@@ -156,13 +156,10 @@ impl PackedNode {
     }
 
     /// The rank of the value that stands in the node.
-    pub(crate) fn rank(self) -> i64
+    pub(crate) fn rank(self) -> i32
         ensures { IsRankOf (stored_in self) result }
     {
-        if link_of(self.bits) == ABSENT {
-            return i64::MIN;
-        }
-        i64::from(value_of(self.bits))
+        value_of(self.bits)
     }
 
     pub(crate) fn all(nodes: &[Node; 8]) -> [PackedNode; 8]

@@ -7,8 +7,10 @@ use Rattle.oct_key.specs.Block.{Cube, IsBlock, HoldsVoxel, child_of, child_index
 use Rattle.oct_key.proofs.Blocks.{depth_child_of, child_holds, root_holds}
 use Rattle.oct_odds.specs.declared.event.Event.{Event}
 use Rattle.oct_values.specs.Blocks.{blocks_below}
-use Rattle.oct_values.specs.Boxes.{IsInBox, IsBox, is_in_box, MeetsBox, LiesInBox, is_cut_by, box_events, box_need}
-use Rattle.oct_values.proofs.Boxes.{in_box_exactly, cut_exactly}
+use Rattle.oct_key.specs.Boxes.{IsInBox, IsBox, is_in_box}
+use Rattle.oct_values.specs.Boxes.{MeetsBox, LiesInBox, is_cut_by, box_events, box_need}
+use Rattle.oct_key.proofs.Boxes.{in_box_exactly}
+use Rattle.oct_values.proofs.Boxes.{cut_exactly}
 use Rattle.oct_key.proofs.Held.{held_in_map, only_voxel}
 use Rattle.oct_values.proofs.Eights.{same_eight}
 use Rattle.oct_values.proofs.Listed.{sum_of_blocks}
@@ -24,11 +26,12 @@ use Rattle.oct_edit.specs.Areas.{cut_in}
 use Rattle.oct_edit.specs.Saturated.{IsSaturated}
 use Rattle.oct_edit.proofs.Joins.{TakesIn}
 use Rattle.oct_edit.proofs.UpdateEnds.{covered, known_plain, saturated_known, still_touched}
-use Rattle.oct_edit.proofs.UnderWay.{sum_below, IsTouchedBelow}
+use Rattle.oct_values.proofs.Axes.{sum_below, sum_below_next}
+use Rattle.oct_edit.proofs.UnderWay.{IsTouchedBelow}
 use Rattle.oct_edit.proofs.Voxels.{voxel_plain}
 use Rattle.oct_edit.proofs.Insides.{around}
 use Rattle.oct_edit.proofs.Rounds.{round_start, round_skip, round_step, round_end}
-use Rattle.oct_edit.proofs.Needs.{sum_below_next, sum_below_le, sum_below_eight}
+use Rattle.oct_edit.proofs.Needs.{sum_below_le, sum_below_eight}
 use Rattle.oct_edit.proofs.Wholes.{same_total}
 
 -- of the block under a place, the event on the voxels of a box was done within the children below one

@@ -1,5 +1,5 @@
 -- How far the update of a block has come: the working words of its rounds.
-use Rattle.std.specs.Prelude.{◌≡◌, ℕ, ◌+◌, ◌<◌, ◌≤◌, Bool, true, IsSome, List, Some, None, zero, suc}
+use Rattle.std.specs.Prelude.{◌≡◌, ℕ, ◌+◌, ◌<◌, ◌≤◌, Bool, true, IsSome, List, Some, None}
 use Rattle.std.specs.List.{All}
 use Rattle.oct_key.specs.Voxel.{Voxel, IsInMap}
 use Rattle.oct_key.specs.Block.{Cube, HoldsVoxel, child_of, child_index_of, LiesIn}
@@ -14,11 +14,7 @@ use Rattle.oct_edit.specs.Edits.{ExpandsTakers, BecomesLazily}
 use Rattle.oct_edit.specs.Steps.{Reaches, IsSameApart, IsClosedAt}
 use Rattle.oct_edit.specs.Scan.{events_of}
 use Rattle.oct_edit.specs.Parts.{AreIn, need_in}
-
--- the sum of a number of each child below the one
-unfoldable pub sum_below : (ℕ → ℕ) → ℕ → ℕ
-sum_below f zero = 0
-sum_below f (suc i) = sum_below f i + f i
+use Rattle.oct_values.proofs.Axes.{sum_below}
 
 -- events are those that lie within one child of a block
 pub record IsShare (b : Cube) (i : ℕ) (events share : Events) : Type 0 where

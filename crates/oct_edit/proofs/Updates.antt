@@ -21,7 +21,8 @@ use Rattle.oct_edit.proofs.Keys.{all_left, left_after}
 use Rattle.oct_edit.proofs.Shares.{first_not_done, part_update, part_share, none_between}
 use Rattle.oct_edit.proofs.Rounds.{round_start, round_skip, round_step, round_end}
 use Rattle.oct_edit.proofs.Expansions.{TakesSome, taken_in}
-use Rattle.oct_edit.proofs.Needs.{place_in_map, entered_spare, sum_below_next, sum_below_le, need_of_children, need_of_share}
+use Rattle.oct_values.proofs.Axes.{sum_below_next}
+use Rattle.oct_edit.proofs.Needs.{place_in_map, entered_spare, sum_below_le, need_of_children, need_of_share}
 
 -- so many groups each child needs
 abbrev pub needs : ListedUpdate → Cube → ℕ → ℕ

@@ -1,11 +1,20 @@
 -- How bricks go down the tree: the working words of their proof, and what an update of bricks
 -- stands for.
-use Rattle.std.specs.Prelude.{◌≡◌, ℕ, ◌+◌, ◌-◌, ◌*◌, ◌/◌, ◌%◌, ◌^◌, ◌≤◌, List, [], ◌∷◌, take, drop}
+use Rattle.std.specs.Prelude.{◌≡◌, ℕ, ◌+◌, ◌-◌, ◌*◌, ◌/◌, ◌%◌, ◌^◌, ◌≤◌, Bool, List, [], ◌∷◌, take, drop, Some}
 use Rattle.std.specs.List.{All, Contains}
+use Rattle.oct_key.specs.Block.{Cube}
+use Rattle.oct_odds.specs.Update.{IsSmallEvent}
+use Rattle.oct_arena.specs.Entries.{spare}
+use Rattle.oct_tree.specs.declared.place.Place.{Place}
+use Rattle.oct_tree.specs.Tree.{Tree, IsLinked, IsPlace, block_in}
+use Rattle.oct_brick.specs.Bricks.{IsBrick}
 use Rattle.oct_brick.specs.declared.brick.Brick.{Brick}
 use Rattle.oct_edit.specs.declared.scan.ScanUpdate.{ScanUpdate}
 use Rattle.oct_edit.specs.declared.scan.BrickUpdate.{BrickUpdate}
 use Rattle.oct_edit.specs.Listed.{ListedUpdate, update_of}
+use Rattle.oct_edit.specs.Steps.{IsTouched}
+use Rattle.oct_edit.specs.Scan.{events_of}
+use Rattle.oct_edit.specs.Parts.{IsUpdateIn, need_in}
 
 -- the voxels and events of an update
 abbrev pub listed : ScanUpdate → ListedUpdate
@@ -38,3 +47,23 @@ pub record IsFirstBrick (depth : ℕ) (bricks : List Brick) (i : ℕ) : Type 0 w
   pub brick : Brick
   pub there : Contains bricks brick
   pub child : brick_child depth brick.code ≡ i
+
+-- the update of a brick can be applied to the block of a place, which has this depth: its voxels
+-- lie there, and there is room for the groups that they need
+pub record CanApply (t : Tree) (p : Place) (level : ℕ) (update : BrickUpdate) : Type 0 where
+  pub linked : IsLinked t
+  pub place : IsPlace t p
+  pub depth : (b : Cube) → block_in t p ≡ Some b → b.depth ≡ level
+  pub brick : IsBrick update.brick
+  pub inside : (b : Cube) → block_in t p ≡ Some b → IsUpdateIn b (listed_one update)
+  pub room : (b : Cube) → block_in t p ≡ Some b
+      → need_in (events_of (listed_one update)) b ≤ spare t.groups
+  pub hit : IsSmallEvent update.hit
+  pub miss : IsSmallEvent update.miss
+
+-- it was applied there, and made no more groups than it needs
+pub record IsApplied (t u : Tree) (p : Place) (update : BrickUpdate) (lazy : Bool) : Type 0 where
+  pub touched : (b : Cube) → block_in t p ≡ Some b
+      → IsTouched t u b (events_of (listed_one update)) lazy
+  pub room : (b : Cube) → block_in t p ≡ Some b
+      → spare t.groups ≤ spare u.groups + need_in (events_of (listed_one update)) b

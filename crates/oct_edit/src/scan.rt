@@ -18,7 +18,8 @@ ghost use Rattle.oct_edit.specs.Edits.{IsEdited, IsEagerEdit, IsLazyEdit, IsTidy
 ghost use Rattle.oct_edit.specs.Steps.{IsTouched};
 ghost use Rattle.oct_edit.specs.Parts.{IsUpdateIn, IsAtRest, IsFirstChild, need_in};
 ghost use Rattle.oct_edit.specs.Scan.{events_of, AreDisjoint};
-ghost use Rattle.oct_edit.specs.Bricks.{listed, listed_one, brick_child, AreAlike, AreCut, IsFirstBrick};
+ghost use Rattle.oct_edit.specs.Bricks.{listed, listed_one, brick_child, CanApply, IsApplied};
+ghost use Rattle.oct_edit.specs.Bricks.{AreAlike, AreCut, IsFirstBrick};
 
 use crate::voxel::{apply_at, close, enter, note_eager, stays};
 use oct_brick::Brick;
@@ -128,19 +129,8 @@ fn touch_within(tree: &mut OccTree, p: Place, depth: u8, update: ScanUpdate, laz
 
 /// Applies the events of a brick, which is the block of the place.
 fn touch_brick(tree: &mut OccTree, p: Place, update: BrickUpdate, lazy: bool)
-    requires linked { IsLinked tree.old }
-    requires place { IsPlace tree.old p }
-    requires depth { (b : Cube) → block_in tree.old p ≡ Some b → b.depth ≡ 14 }
-    requires brick { IsBrick update.brick }
-    requires inside { (b : Cube) → block_in tree.old p ≡ Some b → IsUpdateIn b (listed_one update) }
-    requires room { (b : Cube) → block_in tree.old p ≡ Some b →
-        need_in (events_of (listed_one update)) b ≤ spare tree.old.groups }
-    requires hit { IsSmallEvent update.hit }
-    requires miss { IsSmallEvent update.miss }
-    ensures touched { (b : Cube) → block_in tree.old p ≡ Some b →
-        IsTouched tree.old tree.new b (events_of (listed_one update)) lazy }
-    ensures room { (b : Cube) → block_in tree.old p ≡ Some b →
-        spare tree.old.groups ≤ spare tree.new.groups + need_in (events_of (listed_one update)) b }
+    requires { CanApply tree.old p 14 update }
+    ensures { IsApplied tree.old tree.new p update lazy }
 {
     if update.is_at_rest(tree, p) {
         return;
@@ -158,19 +148,8 @@ fn touch_brick(tree: &mut OccTree, p: Place, update: BrickUpdate, lazy: bool)
 
 /// Applies the events of an octet of a brick, which is the block of the place.
 fn touch_octet(tree: &mut OccTree, p: Place, update: BrickUpdate, lazy: bool)
-    requires linked { IsLinked tree.old }
-    requires place { IsPlace tree.old p }
-    requires depth { (b : Cube) → block_in tree.old p ≡ Some b → b.depth ≡ 15 }
-    requires brick { IsBrick update.brick }
-    requires inside { (b : Cube) → block_in tree.old p ≡ Some b → IsUpdateIn b (listed_one update) }
-    requires room { (b : Cube) → block_in tree.old p ≡ Some b →
-        need_in (events_of (listed_one update)) b ≤ spare tree.old.groups }
-    requires hit { IsSmallEvent update.hit }
-    requires miss { IsSmallEvent update.miss }
-    ensures touched { (b : Cube) → block_in tree.old p ≡ Some b →
-        IsTouched tree.old tree.new b (events_of (listed_one update)) lazy }
-    ensures room { (b : Cube) → block_in tree.old p ≡ Some b →
-        spare tree.old.groups ≤ spare tree.new.groups + need_in (events_of (listed_one update)) b }
+    requires { CanApply tree.old p 15 update }
+    ensures { IsApplied tree.old tree.new p update lazy }
 {
     if update.is_at_rest(tree, p) {
         return;
@@ -227,6 +206,7 @@ impl BrickUpdate {
         requires place { IsPlace tree.now p }
         requires brick { IsBrick self.now.brick }
         requires apart { AreDisjoint (listed_one self.now).hits (listed_one self.now).frees }
+        requires some { (k : Voxel) × IsInMap k × IsSome (events_of (listed_one self.now) k) }
         ensures rests { IsTrue result →
             IsAtRest tree.now.odds (listed_one self.now) (value_of (node_in tree.now p)) }
         ensures bounds { tree.now.odds.min ≤ℤ tree.now.odds.max }
@@ -236,7 +216,7 @@ impl BrickUpdate {
     {
         let value = tree.node(p).value();
         let odds = tree.odds();
-        self.hits_rest(odds, value) && self.misses_rest(odds, value)
+        value.is_some() && self.hits_rest(odds, value) && self.misses_rest(odds, value)
     }
 
     /// Whether no voxel is hit, or the value takes nothing from a hit.

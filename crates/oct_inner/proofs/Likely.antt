@@ -7,9 +7,11 @@ use Rattle.oct_key.proofs.Blocks.{lowest_held, lowest_in_map}
 use Rattle.oct_key.proofs.Held.{held_in_map}
 use Rattle.oct_odds.specs.declared.event.Event.{Event}
 use Rattle.oct_values.specs.Blocks.{blocks_above_voxels}
-use Rattle.oct_values.specs.Boxes.{IsInBox, is_cut_by, box_events, box_need}
+use Rattle.oct_key.specs.Boxes.{IsInBox}
+use Rattle.oct_values.specs.Boxes.{is_cut_by, box_events, box_need}
 use Rattle.oct_values.specs.Events.{after_event, updated}
-use Rattle.oct_values.proofs.Boxes.{in_box_exactly, cut_exactly}
+use Rattle.oct_key.proofs.Boxes.{in_box_exactly}
+use Rattle.oct_values.proofs.Boxes.{cut_exactly}
 use Rattle.oct_values.proofs.Listed.{all_above_voxels}
 use Rattle.oct_values.proofs.Sums.{All-follows, sum_by-same, sum_by-none}
 use Rattle.oct_arena.specs.Entries.{entry}

@@ -15,7 +15,8 @@ use Rattle.oct_key.proofs.Order.{one_way}
 use Rattle.oct_key.proofs.OneOrder.{one_order, on_first, on_rest}
 use Rattle.oct_key.proofs.Triples.{IsAmong, all_triples, triples_sorted, in_triples}
 use Rattle.oct_key.proofs.InOrder.{all_mapped, contains_mapped, sorted_blocks, blocks_sorted, blocks_all, blocks_inside}
-use Rattle.oct_values.specs.Boxes.{IsBox, MeetsSpan, is_met_by, met_on, met_at}
+use Rattle.oct_key.specs.Boxes.{IsBox}
+use Rattle.oct_values.specs.Boxes.{MeetsSpan, is_met_by, met_on, met_at}
 use Rattle.oct_values.proofs.Boxes.{MeetsSpans, meets_exactly, met_by_voxels}
 use Rattle.oct_values.proofs.Cuts.{meets_by_division}
 use Rattle.oct_query.specs.Listed.{met_blocks}

@@ -7,7 +7,8 @@ use Rattle.oct_key.specs.Block.{Cube, IsBlock, HoldsVoxel, child_of, child_index
 use Rattle.oct_key.proofs.Blocks.{child_index_below, depth_child_of, lowest_held, lowest_in_map}
 use Rattle.oct_odds.specs.Update.{Value}
 use Rattle.oct_values.specs.Blocks.{blocks_above_voxels}
-use Rattle.oct_values.specs.Counts.{IsUniform, is_uniform, group_count}
+use Rattle.oct_values.specs.Uniform.{IsUniform}
+use Rattle.oct_values.specs.Counts.{is_uniform, group_count}
 use Rattle.oct_values.proofs.Sums.{All-follows, sum_by-same, sum_by-each_le, sum_by-each_exact}
 use Rattle.oct_key.proofs.Held.{held_by_parent, held_by_child, child_depths}
 use Rattle.oct_values.proofs.Listed.{all_above_voxels, holds_of_block}

@@ -9,7 +9,7 @@ use Rattle.oct_key.specs.Voxel.{Voxel, IsInMap}
 use Rattle.oct_key.specs.Values.{Values}
 use Rattle.oct_key.specs.Block.{Cube, IsBlock, side, lowest_voxel}
 use Rattle.oct_key.specs.Order.{numbers_from, triples_of, block_numbered}
-use Rattle.oct_values.specs.Boxes.{IsBox}
+use Rattle.oct_key.specs.Boxes.{IsBox}
 use Rattle.oct_values.specs.Depths.{depth_value}
 use Rattle.oct_values.proofs.Largest.{answer_exactly}
 use Rattle.oct_arena.specs.declared.node.Node.{Node}

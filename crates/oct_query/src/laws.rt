@@ -1,6 +1,6 @@
 ghost use Rattle.std.specs.Prelude.{◌≤◌};
 ghost use Rattle.oct_key.specs.Block.{Cube, IsBlock};
-ghost use Rattle.oct_values.specs.Counts.{IsUniform};
+ghost use Rattle.oct_values.specs.Uniform.{IsUniform};
 ghost use Rattle.oct_arena.specs.Entries.{live};
 ghost use Rattle.oct_tree.specs.Tree.{IsLinked, value_at};
 ghost use Rattle.oct_tree.specs.Shape.{IsWellFormed, IsPruned};

@@ -3,7 +3,7 @@ ghost use Rattle.std.specs.List.{filter_map};
 ghost use Rattle.oct_key.specs.Block.{side};
 ghost use Rattle.oct_key.specs.CubeOf.{cube_of};
 ghost use Rattle.oct_key.specs.Order.{block_numbered};
-ghost use Rattle.oct_values.specs.Boxes.{IsBox};
+ghost use Rattle.oct_key.specs.Boxes.{IsBox};
 ghost use Rattle.oct_tree.specs.Tree.{value_at};
 ghost use Rattle.oct_tree.specs.Shape.{IsFresh};
 ghost use Rattle.oct_query.specs.Listed.{met_blocks, listed_blocks, shown, IsRefused};

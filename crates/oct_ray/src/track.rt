@@ -92,6 +92,7 @@ pub fn has_ended(x: &Track, y: &Track, z: &Track) -> bool
 }
 
 /// Takes the crossings that come next, of one axis or of several at once.
+#[inline(always)]
 pub fn advance(x: &mut Track, y: &mut Track, z: &mut Track)
     requires x { CanPass (crosses_now x.old y.old z.old) x.old y.old.pace z.old.pace }
     requires y { CanPass (crosses_now y.old z.old x.old) y.old z.old.pace x.old.pace }

@@ -1,17 +1,21 @@
 -- What the links of a tree mean, part by part.
-use Rattle.std.proofs.Common.{◌≡◌, ℕ, zero, suc, ◌+◌, ◌≤◌, refl, ◌∙◌, ap, subst, arith, Some, None}
+use Rattle.std.proofs.Common.{◌≡◌, ℕ, zero, suc, ◌+◌, ◌≤◌, refl, sym, ◌∙◌, ap, subst, arith, Some, None}
 use Rattle.std.specs.Prelude.{Option}
 use Rattle.oct_key.specs.Voxel.{Voxel, IsInMap}
 use Rattle.oct_key.specs.Block.{Cube, child_index_of, lowest_voxel}
 use Rattle.oct_key.proofs.Blocks.{child_index_below, lowest_held, lowest_in_map, depth_child_of}
+use Rattle.oct_odds.specs.Odds.{Odds}
 use Rattle.oct_odds.specs.Update.{IsWithin}
 use Rattle.oct_arena.specs.declared.node.Group.{Group}
-use Rattle.oct_arena.specs.Entries.{entry, home_at, home_of}
+use Rattle.oct_arena.specs.declared.node.Node.TheVariants.{Absent}
+use Rattle.oct_arena.specs.Entries.{entry, home_at, home_of, node_of}
 use Rattle.oct_tree.specs.declared.place.Place.{Place}
 use Rattle.oct_tree.specs.declared.place.Place.TheVariants.{Root, Slot}
 use Rattle.oct_arena.specs.Nodes.{link_of, value_of}
 use Rattle.oct_tree.specs.Tree.{Tree, IsLinked, IsPlace, node_in, reach}
 use Rattle.oct_tree.specs.Shape.{IsShaped}
+use Rattle.oct_tree.specs.Tidiness.{IsTrueOf}
+use Rattle.oct_tree.specs.declared.tidiness.Tidiness.{Tidiness}
 use Rattle.oct_tree.proofs.Paths.{some_not_none, linked_step, link_down, reach_zero, reach_live, same_home, only_link, live_home, stays}
 
 -- what a path links is linked by a place
@@ -51,4 +55,33 @@ shaped t l = record {
   homes = λ x b h. (l.homes x b h).0;
   distinct = λ x y b g h. same_home t l x y b g h;
   leaves = λ p v e. subst (λ n. IsWithin t.odds (value_of n)) e (l.leaves p);
+}
+
+-- a tree that knows nothing is linked with any log-odds
+pub unknown_linked : (t : Tree) (odds : Odds) → IsLinked t → t.root ≡ Absent
+    → IsLinked (record { groups = t.groups; root = t.root; res = t.res; odds = odds })
+unknown_linked t odds l none = record {
+  arena = l.arena;
+  homes = l.homes;
+  links = l.links;
+  reached = λ id b home. absurd (some_not_none home (ap home_of (empty id)));
+  leaves = leaves;
+}
+  where
+    empty : (x : ℕ) → entry t.groups x ≡ None
+    empty x = bare t l (ap link_of none) x (entry t.groups x) refl
+
+    leaves : (p : Place) → IsWithin odds (value_of (node_in t p))
+    leaves Root = subst (λ n. IsWithin odds (value_of n)) (sym none) tt
+    leaves (Slot id i) = subst (λ e. IsWithin odds (value_of (node_of e i))) (sym (empty id.number)) tt
+
+-- and what is known of it is still so
+pub unknown_known : (t : Tree) (odds : Odds) (known : Tidiness) → IsLinked t → t.root ≡ Absent → IsTrueOf known t
+    → IsTrueOf known (record { groups = t.groups; root = t.root; res = t.res; odds = odds })
+unknown_known t odds known l none h = record {
+  fresh = λ is. (let f = h.fresh is in record {
+    formed = record { linked = unknown_linked t odds l none; known = f.formed.known };
+    greatest = f.greatest;
+  });
+  pruned = h.pruned;
 }

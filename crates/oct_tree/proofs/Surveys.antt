@@ -1,119 +1,139 @@
 -- What a pass over a group's eight nodes finds.
-use Rattle.std.proofs.Common.{◌≡◌, ℕ, ◌+◌, ◌<◌, sym, refl, ◌∙◌, ap, subst, arith, inl, inr, Some, None}
-use Rattle.std.specs.Prelude.{Option, ℤ, ◌≤ℤ◌, ◌⊎◌}
+use Rattle.std.proofs.Common.{◌≡◌, ℕ, zero, suc, ◌+◌, ◌<◌, sym, refl, ◌∙◌, ap, subst, arith, inl, inr, Some, None}
+use Rattle.std.specs.Prelude.{◌^◌, ◌≢◌, Option, ℤ, pos, neg_ℤ, ◌≤ℤ◌, ◌⊎◌}
 use Rattle.std.proofs.lemmas.Bool.{cases_lt}
 use Rattle.std.proofs.lemmas.Int.{ints}
 use Rattle.oct_odds.specs.Update.{Value}
 use Rattle.oct_arena.specs.declared.node.Node.{Node}
 use Rattle.oct_arena.specs.declared.node.Node.TheVariants.{Absent, Leaf, Inner}
 use Rattle.oct_arena.specs.Entries.{Groups, node_at}
-use Rattle.oct_tree.specs.Nodes.{IsAll, IsCollapsible}
+use Rattle.oct_tree.specs.Nodes.{IsAll, IsCollapsible, IsKnown, IsGreatest}
 use Rattle.oct_arena.specs.Nodes.{link_of, stored_in, IsRankOf}
-
--- the greatest value of a group's first n nodes
-pub record IsGreatestOf (gs : Groups) (id n : ℕ) (m : ℤ) : Type 0 where
-  pub there : (i : ℕ) × (i < n) × (stored_in (node_at gs id i) ≡ Some m)
-  pub most : (i : ℕ) (v : ℤ) → i < n → stored_in (node_at gs id i) ≡ Some v → v ≤ℤ m
-
--- the greatest value so far, or none where no value stands in the nodes so far
-abbrev pub IsMost : Groups → ℕ → ℕ → Value → Type 0
-IsMost gs id n None = (i : ℕ) → i < n → stored_in (node_at gs id i) ≡ None
-IsMost gs id n (Some m) = IsGreatestOf gs id n m
 
 -- the first n nodes are like this one, which is not Inner
 abbrev pub AreAlike : Groups → ℕ → ℕ → Node → Type 0
 AreAlike gs id n first = (i : ℕ) → i < n → (link_of first ≡ None) × (first ≡ node_at gs id i)
 
-none_some : {A : Type 0} {x : A} {o : Option A} → o ≡ Some x → o ≡ None → ⊥
-none_some p q = cc
-
 same_some : {A : Type 0} {x y : A} {o : Option A} → o ≡ Some x → o ≡ Some y → x ≡ y
 same_some p q = cc
 
-le_refl : (v : ℤ) → v ≤ℤ v
-le_refl v = omega (arith, ints)
-
-le_trans : (a b c : ℤ) → a ≤ℤ b → b ≤ℤ c → a ≤ℤ c
-le_trans a b c p q = omega (arith, ints)
+up_to : (a b c : ℤ) → a ≤ℤ b → b ≤ℤ c → a ≤ℤ c
+up_to a b c p q = omega (arith, ints)
 
 below : (i n : ℕ) → i < n + 1 → (i < n) ⊎ (i ≡ n)
 below i n l = elim (cases_lt i n) [ inl m ↦ inl m | inr m ↦ inr (omega arith) ]
 
--- the greater of the two values that are there, or none where neither is
-abbrev pub IsGreater : Value → Value → Value → Type 0
-IsGreater None b r = r ≡ b
-IsGreater (Some v) None r = r ≡ Some v
-IsGreater (Some v) (Some w) r = (m : ℤ) × (r ≡ Some m) × (v ≤ℤ m) × (w ≤ℤ m) × ((m ≡ v) ⊎ (m ≡ w))
+-- the least number of 32 bits
+abbrev least : ℤ
+least = neg_ℤ (pos (2 ^ 31))
 
--- one more node
-pub most_more : (gs : Groups) (id n : ℕ) (b o r : Value) → IsMost gs id n b → stored_in (node_at gs id n) ≡ o → IsGreater b o r → IsMost gs id (n + 1) r
-most_more gs id n None None r h s e = subst (IsMost gs id (n + 1)) (sym e) (λ i l. elim (below i n l) [ inl m ↦ h i m | inr m ↦ ap (λ j. stored_in (node_at gs id j)) m ∙ s ])
-most_more gs id n None (Some w) r h s e = subst (IsMost gs id (n + 1)) (sym e) (record {
-  there = (n, omega arith, s);
-  most = λ i v l f. elim (below i n l) [
-    | inl m ↦ absurd (none_some f (h i m))
-    | inr m ↦ subst (λ x. x ≤ℤ w) (same_some s (sym (ap (λ j. stored_in (node_at gs id j)) m) ∙ f)) (le_refl w)
-  ];
-})
-most_more gs id n (Some u) None r h s e = subst (IsMost gs id (n + 1)) (sym e) (record {
-  there = (let (i, l, f) = h.there in (i, omega arith, f));
-  most = λ i v l f. elim (below i n l) [
-    | inl m ↦ h.most i v m f
-    | inr m ↦ absurd (none_some f (ap (λ j. stored_in (node_at gs id j)) m ∙ s))
-  ];
-})
-most_more gs id n (Some u) (Some w) r h s e = (let (x, is, p, q, which) = e in subst (IsMost gs id (n + 1)) (sym is) (record {
+-- m is the greatest rank of a group's first n nodes, or the least number where n is 0
+pub record IsGreatestRank (gs : Groups) (id n : ℕ) (m : ℤ) : Type 0 where
+  pub there : (m ≡ least) ⊎ ((i : ℕ) × (i < n) × (stored_in (node_at gs id i) ≡ Some m))
+  pub most : (i : ℕ) (v : ℤ) → i < n → stored_in (node_at gs id i) ≡ Some v → v ≤ℤ m
+  pub fits : (i : ℕ) (v : ℤ) → i < n → stored_in (node_at gs id i) ≡ Some v → least ≤ℤ v
+
+pub rank_first : (gs : Groups) (id : ℕ) → IsGreatestRank gs id 0 least
+rank_first gs id = record {
+  there = inl refl;
+  most = λ i v l f. absurd (omega arith);
+  fits = λ i v l f. absurd (omega arith);
+}
+
+stored_of : (gs : Groups) (id i n : ℕ) (o : Value) → i ≡ n → stored_in (node_at gs id n) ≡ o
+    → stored_in (node_at gs id i) ≡ o
+stored_of gs id i n o e f = ap (λ j. stored_in (node_at gs id j)) e ∙ f
+
+-- one more node, of which the stored value is o: the greater of the ranks
+pub rank_more : (gs : Groups) (id n : ℕ) (o : Value) (m r x : ℤ) → IsGreatestRank gs id n m
+    → stored_in (node_at gs id n) ≡ o → IsRankOf o r → m ≤ℤ x → r ≤ℤ x → (x ≡ m) ⊎ (x ≡ r)
+    → IsGreatestRank gs id (n + 1) x
+rank_more gs id n None m r x h at rank lm lr which = record {
   there = elim which [
-    | inl f ↦ (let (i, l, g) = h.there in (i, omega arith, g ∙ ap Some (sym f)))
-    | inr f ↦ (n, omega arith, s ∙ ap Some (sym f))
+    | inl same ↦ elim h.there [
+      | inl low ↦ inl (same ∙ low)
+      | inr (i, l, f) ↦ inr (i, omega arith, f ∙ ap Some (sym same))
+    ]
+    | inr same ↦ inl (same ∙ rank)
   ];
   most = λ i v l f. elim (below i n l) [
-    | inl m ↦ le_trans v u x (h.most i v m f) p
-    | inr m ↦ subst (λ y. y ≤ℤ x) (same_some s (sym (ap (λ j. stored_in (node_at gs id j)) m) ∙ f)) q
+    | inl before ↦ up_to v m x (h.most i v before f) lm
+    | inr here ↦ let none = stored_of gs id i n None here at in cc
   ];
-}))
+  fits = λ i v l f. elim (below i n l) [
+    | inl before ↦ h.fits i v before f
+    | inr here ↦ let none = stored_of gs id i n None here at in cc
+  ];
+}
+rank_more gs id n (Some w) m r x h at rank lm lr which = record {
+  there = elim which [
+    | inl same ↦ elim h.there [
+      | inl low ↦ inl (same ∙ low)
+      | inr (i, l, f) ↦ inr (i, omega arith, f ∙ ap Some (sym same))
+    ]
+    | inr same ↦ inr (n, omega arith, at ∙ ap Some (sym (same ∙ rank.0)))
+  ];
+  most = λ i v l f. elim (below i n l) [
+    | inl before ↦ up_to v m x (h.most i v before f) lm
+    | inr here ↦
+        let one : v ≡ w = same_some f (stored_of gs id i n (Some w) here at) in
+        subst (λ y. y ≤ℤ x) (rank.0 ∙ sym one) lr
+  ];
+  fits = λ i v l f. elim (below i n l) [
+    | inl before ↦ h.fits i v before f
+    | inr here ↦
+        let one : v ≡ w = same_some f (stored_of gs id i n (Some w) here at) in
+        subst (λ y. least ≤ℤ y) (sym one) rank.1
+  ];
+}
 
--- the greater of two ranks is that of the greater value
-rank_greater : (b o : Value) (m r x : ℤ) → IsRankOf b m → IsRankOf o r → m ≤ℤ x → r ≤ℤ x → (x ≡ m) ⊎ (x ≡ r)
-    → (p : Value) × IsRankOf p x × IsGreater b o p
-rank_greater None None m r x hb ho lm lr (inl e) = (None, e ∙ hb, refl)
-rank_greater None None m r x hb ho lm lr (inr e) = (None, e ∙ ho, refl)
-rank_greater None (Some w) m r x hb ho lm lr (inl e) = absurd (let (is, low, high) = ho in omega (arith, ints, is, low, lr, e, hb))
-rank_greater None (Some w) m r x hb ho lm lr (inr e) = let (is, low, high) = ho in (Some w, (e ∙ is, low, high), refl)
-rank_greater (Some v) None m r x hb ho lm lr (inl e) = let (is, low, high) = hb in (Some v, (e ∙ is, low, high), refl)
-rank_greater (Some v) None m r x hb ho lm lr (inr e) = absurd (let (is, low, high) = hb in omega (arith, ints, is, low, lm, e, ho))
-rank_greater (Some v) (Some w) m r x hb ho lm lr (inl e) =
-    let (is, low, high) = hb in
-    let (at, least, most) = ho in
-    (Some v, (e ∙ is, low, high), (v, refl, le_refl v, omega (arith, ints, is, at, lr, e), inl refl))
-rank_greater (Some v) (Some w) m r x hb ho lm lr (inr e) =
-    let (is, low, high) = hb in
-    let (at, least, most) = ho in
-    (Some w, (e ∙ at, least, most), (w, refl, omega (arith, ints, is, at, lm, e), le_refl w, inr refl))
+stored_some : (n : Node) → n ≢ Absent → (v : ℤ) × (stored_in n ≡ Some v)
+stored_some Absent some = absurd (some refl)
+stored_some (Leaf v) some = (v, refl)
+stored_some (Inner v id) some = (v, refl)
 
--- the rank of the greatest value of a group's first n nodes
-abbrev pub IsMostRank : Groups → ℕ → ℕ → ℤ → Type 0
-IsMostRank gs id n rank = (value : Value) × IsRankOf value rank × IsMost gs id n value
+-- of all eight, where one isn't absent, the greatest rank is the greatest value
+pub rank_greatest : (gs : Groups) (id : ℕ) (m : ℤ) → IsGreatestRank gs id 8 m → IsKnown gs id
+    → IsGreatest gs id m
+rank_greatest gs id m h (k, l, some) =
+    let (v, f) = stored_some (node_at gs id k) some in
+    let up : v ≤ℤ m = h.most k v l f in
+    let low : least ≤ℤ v = h.fits k v l f in
+    record {
+      there = elim h.there [
+        | inl is ↦
+            let same : v ≡ m = omega (arith, ints, up, low, is) in
+            (k, l, f ∙ ap Some same)
+        | inr at ↦ at
+      ];
+      most = h.most;
+    }
 
-pub rank_none : (gs : Groups) (id : ℕ) (rank : ℤ) → IsRankOf None rank → IsMostRank gs id 0 rank
-rank_none gs id rank h = (None, h, λ i l. absurd (omega arith))
+absent_or : (n : Node) → (n ≡ Absent) ⊎ (n ≢ Absent)
+absent_or Absent = inl refl
+absent_or (Leaf v) = inr (λ e. cc)
+absent_or (Inner v id) = inr (λ e. cc)
 
--- the same with one more node
-pub rank_more : (gs : Groups) (id n : ℕ) (o : Value) (m r s x : ℤ) → IsMostRank gs id n m → stored_in (node_at gs id n) ≡ o → IsRankOf o r
-    → s ≡ r → m ≤ℤ x → s ≤ℤ x → (x ≡ m) ⊎ (x ≡ s) → IsMostRank gs id (n + 1) x
-rank_more gs id n o m r s x (b, hb, most) at ho same lm lr which =
-    let (p, hp, greater) = rank_greater b o m s x hb (subst (IsRankOf o) (sym same) ho) lm lr which in
-    (p, hp, most_more gs id n b o p most at greater)
+known_or : (gs : Groups) (id n : ℕ)
+    → ((i : ℕ) × (i < n) × (node_at gs id i ≢ Absent)) ⊎ ((i : ℕ) → i < n → node_at gs id i ≡ Absent)
+known_or gs id zero = inr (λ i l. absurd (omega arith))
+known_or gs id (suc n) = elim (known_or gs id n) [
+  | inl (i, l, some) ↦ inl (i, omega arith, some)
+  | inr none ↦ elim (absent_or (node_at gs id n)) [
+    | inl is ↦ inr (λ i l. elim (below i n (omega arith)) [
+      | inl before ↦ none i before
+      | inr here ↦ ap (node_at gs id) here ∙ is
+    ])
+    | inr some ↦ inl (n, omega arith, some)
+  ]
+]
 
--- a rank has one value
-same_rank : (a b : Value) (rank : ℤ) → IsRankOf a rank → IsRankOf b rank → a ≡ b
-same_rank None None rank ha hb = refl
-same_rank None (Some w) rank ha hb = absurd (let (is, low, high) = hb in omega (arith, ints, is, low, ha))
-same_rank (Some v) None rank ha hb = absurd (let (is, low, high) = ha in omega (arith, ints, is, low, hb))
-same_rank (Some v) (Some w) rank ha hb = ap Some (sym ha.0 ∙ hb.0)
-
-pub rank_is : (gs : Groups) (id n : ℕ) (rank : ℤ) (result : Value) → IsMostRank gs id n rank → IsRankOf result rank → IsMost gs id n result
-rank_is gs id n rank result (value, h, most) is = subst (IsMost gs id n) (same_rank value result rank h is) most
+-- a group that isn't collapsible has a node that isn't absent
+pub uncollapsible_known : (gs : Groups) (id : ℕ) → (IsCollapsible gs id → ⊥) → IsKnown gs id
+uncollapsible_known gs id not = elim (known_or gs id 8) [
+  | inl known ↦ known
+  | inr none ↦ absurd (not (inl none))
+]
 
 -- a group whose nodes are all one node that is not Inner is collapsible
 pub all_collapsible : (gs : Groups) (id : ℕ) (n : Node) → link_of n ≡ None → IsAll gs id n → IsCollapsible gs id

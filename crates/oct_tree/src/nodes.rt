@@ -19,19 +19,8 @@ pub(crate) fn inner_over(node: Node, id: GroupId) -> Node
     }
 }
 
-/// The stored value that has the rank.
-fn value_of_rank(rank: i64) -> Option<i32>
-    requires { (value : Value) × IsRankOf value rank }
-    ensures { IsRankOf result rank }
-{
-    if rank == i64::MIN {
-        return None;
-    }
-    Some(rank as i32)
-}
-
 /// The greater rank.
-fn greater(a: i64, b: i64) -> i64
+fn greater(a: i32, b: i32) -> i32
     ensures { (a ≤ℤ result) × (b ≤ℤ result) × ((result ≡ a) ⊎ (result ≡ b)) }
 {
     a.max(b)
@@ -70,27 +59,18 @@ pub(crate) fn is_absent(arena: &NodeArena, id: GroupId) -> bool
     true
 }
 
-/// The greatest value that stands in the group's nodes, or `None` where all are absent.
-fn greatest_stored(arena: &NodeArena, id: GroupId) -> Option<i32>
-    requires { IsLive arena.now id.number }
-    ensures some { IfSome result (IsGreatest arena.now id.number) }
-    ensures none { IfNone result (IsAll arena.now id.number Node.Absent) }
-{
-    let group = arena.group(id);
-    let mut most = i64::MIN;
-    for i in 0..8 {
-        most = greater(most, group.rank(i));
-    }
-    value_of_rank(most)
-}
-
 /// The greatest value that stands in the group's nodes, of which one at least isn't absent.
 pub(crate) fn greatest(arena: &NodeArena, id: GroupId) -> i32
     requires live { IsLive arena.now id.number }
     requires known { IsKnown arena.now id.number }
     ensures { IsGreatest arena.now id.number result }
 {
-    greatest_stored(arena, id).unwrap()
+    let group = arena.group(id);
+    let mut most = i32::MIN;
+    for i in 0..8 {
+        most = greater(most, group.rank(i));
+    }
+    most
 }
 
 /// What the nodes of a group come to.
@@ -108,6 +88,6 @@ pub(crate) fn read_group(arena: &NodeArena, id: GroupId) -> Survey
 {
     match common_node(arena, id) {
         Some(node) => Survey::Alike(node),
-        None => Survey::Varied(greatest_stored(arena, id).unwrap()),
+        None => Survey::Varied(greatest(arena, id)),
     }
 }

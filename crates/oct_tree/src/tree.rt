@@ -126,6 +126,20 @@ impl OccTree {
         self.odds
     }
 
+    /// Sets the log-odds of a tree that knows nothing. All else stays, and no memory is taken.
+    pub fn set_odds(&mut self, odds: OddsModel)
+        requires { self.old.root ≡ Node.Absent }
+        ensures exact { self.new ≡ record {
+          groups = self.old.groups;
+          root = self.old.root;
+          res = self.old.res;
+          odds = odds_of odds;
+        } }
+        ensures linked { IsLinked self.new }
+    {
+        self.odds = odds;
+    }
+
     /// Makes room for n more groups, and for at most 1,023 more than these where there wasn't room
     /// for n. All else stays.
     ///
@@ -282,6 +296,7 @@ impl OccTree {
     /// Closes the group of an Inner place: collapses it where it can be, as [`OccTree::collapse`]
     /// does, and answers true; else renews the place's value, as [`OccTree::renew`] does. Reads the
     /// eight nodes once. No voxel changes.
+    #[inline(always)]
     pub fn settle(&mut self, p: Place) -> bool
         requires place { IsPlace self.old p }
         requires inner { IsSome (link_of (node_in self.old p)) }

@@ -20,17 +20,17 @@ use Rattle.oct_edit.proofs.BrickCuts.{order_of, part_bricks, later_bricks, part_
 use Rattle.oct_edit.proofs.Updates.{way_start, way_place, way_part, way_room, way_step, way_back, way_end, way_spared, at_block, need_some}
 use Rattle.oct_edit.proofs.scan.+touch_within.Goals as goal
 
-pub touch_brick-requires-clause-depth : goal.touch_brick-requires-clause-depth
-touch_brick-requires-clause-depth t c b e = c.requires.depth b e ∙ c.if-depth-eq-BRICKS.true
-
-pub touch_brick-requires-clause-brick : goal.touch_brick-requires-clause-brick
-touch_brick-requires-clause-brick t c = All-head IsBrick c.in-Some.brick [] (subst (All IsBrick) (one_brick c.args.update.bricks.now c.in-Some.brick (sym c.first.ensures.value ∙ sym c.copied.ensures ∙ c.in-Some.is) c.requires.ascend (subst (λ d. AreAlike d c.args.update.bricks.now) c.if-depth-eq-BRICKS.true c.requires.alike)) c.requires.bricks)
-
-pub touch_brick-requires-clause-inside : goal.touch_brick-requires-clause-inside
-touch_brick-requires-clause-inside t c b e = subst (λ l. IsUpdateIn b (update_of l c.args.update.hit c.args.update.miss)) (one_brick c.args.update.bricks.now c.in-Some.brick (sym c.first.ensures.value ∙ sym c.copied.ensures ∙ c.in-Some.is) c.requires.ascend (subst (λ d. AreAlike d c.args.update.bricks.now) c.if-depth-eq-BRICKS.true c.requires.alike)) (c.requires.inside b e)
-
-pub touch_brick-requires-clause-room : goal.touch_brick-requires-clause-room
-touch_brick-requires-clause-room t c b e = subst (λ l. need_in (events_of (update_of l c.args.update.hit c.args.update.miss)) b ≤ spare c.args.tree.now.groups) (one_brick c.args.update.bricks.now c.in-Some.brick (sym c.first.ensures.value ∙ sym c.copied.ensures ∙ c.in-Some.is) c.requires.ascend (subst (λ d. AreAlike d c.args.update.bricks.now) c.if-depth-eq-BRICKS.true c.requires.alike)) (c.requires.room b e)
+pub touch_brick-requires : goal.touch_brick-requires
+touch_brick-requires t c = record {
+  linked = c.requires.linked;
+  place = c.requires.place;
+  depth = λ b e. c.requires.depth b e ∙ c.if-depth-eq-BRICKS.true;
+  brick = All-head IsBrick c.in-Some.brick [] (subst (All IsBrick) (one_brick c.args.update.bricks.now c.in-Some.brick (sym c.first.ensures.value ∙ sym c.copied.ensures ∙ c.in-Some.is) c.requires.ascend (subst (λ d. AreAlike d c.args.update.bricks.now) c.if-depth-eq-BRICKS.true c.requires.alike)) c.requires.bricks);
+  inside = λ b e. subst (λ l. IsUpdateIn b (update_of l c.args.update.hit c.args.update.miss)) (one_brick c.args.update.bricks.now c.in-Some.brick (sym c.first.ensures.value ∙ sym c.copied.ensures ∙ c.in-Some.is) c.requires.ascend (subst (λ d. AreAlike d c.args.update.bricks.now) c.if-depth-eq-BRICKS.true c.requires.alike)) (c.requires.inside b e);
+  room = λ b e. subst (λ l. need_in (events_of (update_of l c.args.update.hit c.args.update.miss)) b ≤ spare c.args.tree.now.groups) (one_brick c.args.update.bricks.now c.in-Some.brick (sym c.first.ensures.value ∙ sym c.copied.ensures ∙ c.in-Some.is) c.requires.ascend (subst (λ d. AreAlike d c.args.update.bricks.now) c.if-depth-eq-BRICKS.true c.requires.alike)) (c.requires.room b e);
+  hit = c.requires.hit;
+  miss = c.requires.miss;
+}
 
 pub returns-in-Some-clause-touched : goal.returns-in-Some-clause-touched
 returns-in-Some-clause-touched t c b e = subst (λ l. IsTouched c.args.tree.now c.touch_brick.new.tree b (events_of (update_of l c.args.update.hit c.args.update.miss)) c.args.lazy) (sym (one_brick c.args.update.bricks.now c.in-Some.brick (sym c.first.ensures.value ∙ sym c.copied.ensures ∙ c.in-Some.is) c.requires.ascend (subst (λ d. AreAlike d c.args.update.bricks.now) c.if-depth-eq-BRICKS.true c.requires.alike))) (c.touch_brick.ensures.touched b e)

@@ -16,10 +16,13 @@ use Rattle.oct_edit.proofs.BrickWays.{octet_index, octet_at, octet_few, octet_ma
 use Rattle.oct_edit.proofs.Updates.{way_start, way_place, way_back, way_end, way_spared, need_some, at_block}
 use Rattle.oct_edit.proofs.scan.touch_brick.Goals as goal
 
-pub returns-then-is_at_rest-clause-touched : goal.returns-then-is_at_rest-clause-touched
-returns-then-is_at_rest-clause-touched c b e =
-    let deep = c.requires.depth b e in
-    rest_touched c.args.tree.now c.args.p b (listed_one c.args.update) c.args.lazy c.requires.linked c.requires.place e (omega (arith, deep)) (c.requires.inside b e) c.if-is_at_rest.ensures.bounds (c.if-is_at_rest.ensures.rests refl)
+pub returns-then-is_at_rest : goal.returns-then-is_at_rest
+returns-then-is_at_rest c = record {
+  touched = λ b e.
+      let deep = c.requires.depth b e in
+      rest_touched c.args.tree.now c.args.p b (listed_one c.args.update) c.args.lazy c.requires.linked c.requires.place e (omega (arith, deep)) (c.requires.inside b e) c.if-is_at_rest.ensures.bounds (c.if-is_at_rest.ensures.rests refl);
+  room = λ b e. omega arith;
+}
 
 pub enter-id-requires-clause-room : goal.enter-id-requires-clause-room
 enter-id-requires-clause-room c none =
@@ -36,55 +39,44 @@ loop-rest-init c = record {
 pub octet_bits-octet-requires : goal.octet_bits-octet-requires
 octet_bits-octet-requires c = octet_few c.loop-rest.rest.brick c.args.update.brick c.loop-rest.invariant.rest c.loop-rest-test.true
 
-pub touch_octet-requires-clause-linked : goal.touch_octet-requires-clause-linked
-touch_octet-requires-clause-linked c = (let (b, e) = place_block c.args.tree.now c.args.p c.requires.place in let way = c.loop-rest.invariant.way b e in way.done.linked)
-
-pub touch_octet-requires-clause-place : goal.touch_octet-requires-clause-place
-touch_octet-requires-clause-place c =
-    let (b, e) = place_block c.args.tree.now c.args.p c.requires.place in
-    (way_place c.args.tree.now c.enter-id.new.tree c.loop-rest.tree c.args.p b c.enter-id.result (octet_index c.loop-rest.rest.brick) (listed_one c.args.update) (listed_one c.loop-rest.rest) c.args.lazy (octet_few c.loop-rest.rest.brick c.args.update.brick c.loop-rest.invariant.rest c.loop-rest-test.true) (c.enter-id.ensures b e) (c.loop-rest.invariant.way b e)).0
-
-pub touch_octet-requires-clause-depth : goal.touch_octet-requires-clause-depth
-touch_octet-requires-clause-depth c =
-    let (b, e) = place_block c.args.tree.now c.args.p c.requires.place in
-    let place = way_place c.args.tree.now c.enter-id.new.tree c.loop-rest.tree c.args.p b c.enter-id.result (octet_index c.loop-rest.rest.brick) (listed_one c.args.update) (listed_one c.loop-rest.rest) c.args.lazy (octet_few c.loop-rest.rest.brick c.args.update.brick c.loop-rest.invariant.rest c.loop-rest-test.true) (c.enter-id.ensures b e) (c.loop-rest.invariant.way b e) in
-    at_block (λ a. a.depth ≡ 15) c.loop-rest.tree (Slot c.enter-id.result (octet_index c.loop-rest.rest.brick)) (child_of b (octet_index c.loop-rest.rest.brick)) place.1 (depth_child_of b (octet_index c.loop-rest.rest.brick) ∙ ap (λ (d : ℕ). d + 1) (c.requires.depth b e))
-
-pub touch_octet-requires-clause-brick : goal.touch_octet-requires-clause-brick
-touch_octet-requires-clause-brick c =
-    let (b, e) = place_block c.args.tree.now c.args.p c.requires.place in
-    let at = octet_at c.enter-id.new.tree c.loop-rest.tree c.args.p b (listed_one c.args.update) c.args.update.brick c.loop-rest.rest.brick c.loop-rest.rest.hit c.loop-rest.rest.miss c.octet_bits-octet.result c.args.lazy (c.requires.depth b e) c.requires.brick c.loop-rest.invariant.rest c.loop-rest-test.true (c.loop-rest.invariant.way b e) (c.requires.inside b e) c.octet_bits-octet.ensures (search rules) in
-    part_brick b (octet_index c.loop-rest.rest.brick) c.loop-rest.rest.brick c.within.result.brick c.args.update.brick c.octet_bits-octet.result c.requires.brick.code c.loop-rest.invariant.rest at.some
-    (octet_masked c.enter-id.new.tree c.loop-rest.tree c.args.p b (listed_one c.args.update) c.args.update.brick c.loop-rest.rest.brick c.loop-rest.rest.hit c.loop-rest.rest.miss c.octet_bits-octet.result c.args.lazy at) (record { code = c.within.ensures.code; scanned = c.within.ensures.scanned; hits = c.within.ensures.hits })
-
-pub touch_octet-requires-clause-inside : goal.touch_octet-requires-clause-inside
-touch_octet-requires-clause-inside c =
-    let (b, e) = place_block c.args.tree.now c.args.p c.requires.place in
-    let at = octet_at c.enter-id.new.tree c.loop-rest.tree c.args.p b (listed_one c.args.update) c.args.update.brick c.loop-rest.rest.brick c.loop-rest.rest.hit c.loop-rest.rest.miss c.octet_bits-octet.result c.args.lazy (c.requires.depth b e) c.requires.brick c.loop-rest.invariant.rest c.loop-rest-test.true (c.loop-rest.invariant.way b e) (c.requires.inside b e) c.octet_bits-octet.ensures (search rules) in
-    let place = way_place c.args.tree.now c.enter-id.new.tree c.loop-rest.tree c.args.p b c.enter-id.result (octet_index c.loop-rest.rest.brick) (listed_one c.args.update) (listed_one c.loop-rest.rest) c.args.lazy (octet_few c.loop-rest.rest.brick c.args.update.brick c.loop-rest.invariant.rest c.loop-rest-test.true) (c.enter-id.ensures b e) (c.loop-rest.invariant.way b e) in
-    at_block (λ a. IsUpdateIn a (listed_one c.within.result)) c.loop-rest.tree (Slot c.enter-id.result (octet_index c.loop-rest.rest.brick)) (child_of b (octet_index c.loop-rest.rest.brick)) place.1
-    (octet_inside c.enter-id.new.tree c.loop-rest.tree c.args.p b (listed_one c.args.update) c.args.update.brick c.loop-rest.rest.brick c.within.result.brick c.loop-rest.rest.hit c.loop-rest.rest.miss c.within.result.hit c.within.result.miss c.octet_bits-octet.result c.args.lazy at (record { code = c.within.ensures.code; scanned = c.within.ensures.scanned; hits = c.within.ensures.hits }))
-
-pub touch_octet-requires-clause-room : goal.touch_octet-requires-clause-room
-touch_octet-requires-clause-room c =
-    let (b, e) = place_block c.args.tree.now c.args.p c.requires.place in
-    let at = octet_at c.enter-id.new.tree c.loop-rest.tree c.args.p b (listed_one c.args.update) c.args.update.brick c.loop-rest.rest.brick c.loop-rest.rest.hit c.loop-rest.rest.miss c.octet_bits-octet.result c.args.lazy (c.requires.depth b e) c.requires.brick c.loop-rest.invariant.rest c.loop-rest-test.true (c.loop-rest.invariant.way b e) (c.requires.inside b e) c.octet_bits-octet.ensures (search rules) in
-    let place = way_place c.args.tree.now c.enter-id.new.tree c.loop-rest.tree c.args.p b c.enter-id.result (octet_index c.loop-rest.rest.brick) (listed_one c.args.update) (listed_one c.loop-rest.rest) c.args.lazy (octet_few c.loop-rest.rest.brick c.args.update.brick c.loop-rest.invariant.rest c.loop-rest-test.true) (c.enter-id.ensures b e) (c.loop-rest.invariant.way b e) in
-    at_block (λ a. need_in (events_of (listed_one c.within.result)) a ≤ spare c.loop-rest.tree.groups) c.loop-rest.tree (Slot c.enter-id.result (octet_index c.loop-rest.rest.brick)) (child_of b (octet_index c.loop-rest.rest.brick)) place.1
-    (octet_room c.args.tree.now c.enter-id.new.tree c.loop-rest.tree c.args.p b c.enter-id.result (listed_one c.args.update) c.args.update.brick c.loop-rest.rest.brick c.within.result.brick c.loop-rest.rest.hit c.loop-rest.rest.miss c.within.result.hit c.within.result.miss c.octet_bits-octet.result c.args.lazy
-    (place_in_map c.args.tree.now c.args.p b c.requires.linked e) (c.requires.inside b e) (c.requires.room b e) (c.enter-id.ensures b e) at (record { code = c.within.ensures.code; scanned = c.within.ensures.scanned; hits = c.within.ensures.hits }) c.within.ensures.hit c.within.ensures.miss)
-
-pub touch_octet-requires-clause-hit : goal.touch_octet-requires-clause-hit
-touch_octet-requires-clause-hit c =
-    let (b, e) = place_block c.args.tree.now c.args.p c.requires.place in
-    let way = c.loop-rest.invariant.way b e in
-    subst IsSmallEvent (sym (c.within.ensures.hit ∙ way.hit)) c.requires.hit
-
-pub touch_octet-requires-clause-miss : goal.touch_octet-requires-clause-miss
-touch_octet-requires-clause-miss c =
-    let (b, e) = place_block c.args.tree.now c.args.p c.requires.place in
-    let way = c.loop-rest.invariant.way b e in
-    subst IsSmallEvent (sym (c.within.ensures.miss ∙ way.miss)) c.requires.miss
+pub touch_octet-requires : goal.touch_octet-requires
+touch_octet-requires c = record {
+  linked =
+      (let (b, e) = place_block c.args.tree.now c.args.p c.requires.place in let way = c.loop-rest.invariant.way b e in way.done.linked);
+  place =
+      let (b, e) = place_block c.args.tree.now c.args.p c.requires.place in
+      (way_place c.args.tree.now c.enter-id.new.tree c.loop-rest.tree c.args.p b c.enter-id.result (octet_index c.loop-rest.rest.brick) (listed_one c.args.update) (listed_one c.loop-rest.rest) c.args.lazy (octet_few c.loop-rest.rest.brick c.args.update.brick c.loop-rest.invariant.rest c.loop-rest-test.true) (c.enter-id.ensures b e) (c.loop-rest.invariant.way b e)).0;
+  depth =
+      let (b, e) = place_block c.args.tree.now c.args.p c.requires.place in
+      let place = way_place c.args.tree.now c.enter-id.new.tree c.loop-rest.tree c.args.p b c.enter-id.result (octet_index c.loop-rest.rest.brick) (listed_one c.args.update) (listed_one c.loop-rest.rest) c.args.lazy (octet_few c.loop-rest.rest.brick c.args.update.brick c.loop-rest.invariant.rest c.loop-rest-test.true) (c.enter-id.ensures b e) (c.loop-rest.invariant.way b e) in
+      at_block (λ a. a.depth ≡ 15) c.loop-rest.tree (Slot c.enter-id.result (octet_index c.loop-rest.rest.brick)) (child_of b (octet_index c.loop-rest.rest.brick)) place.1 (depth_child_of b (octet_index c.loop-rest.rest.brick) ∙ ap (λ (d : ℕ). d + 1) (c.requires.depth b e));
+  brick =
+      let (b, e) = place_block c.args.tree.now c.args.p c.requires.place in
+      let at = octet_at c.enter-id.new.tree c.loop-rest.tree c.args.p b (listed_one c.args.update) c.args.update.brick c.loop-rest.rest.brick c.loop-rest.rest.hit c.loop-rest.rest.miss c.octet_bits-octet.result c.args.lazy (c.requires.depth b e) c.requires.brick c.loop-rest.invariant.rest c.loop-rest-test.true (c.loop-rest.invariant.way b e) (c.requires.inside b e) c.octet_bits-octet.ensures (search rules) in
+      part_brick b (octet_index c.loop-rest.rest.brick) c.loop-rest.rest.brick c.within.result.brick c.args.update.brick c.octet_bits-octet.result c.requires.brick.code c.loop-rest.invariant.rest at.some
+      (octet_masked c.enter-id.new.tree c.loop-rest.tree c.args.p b (listed_one c.args.update) c.args.update.brick c.loop-rest.rest.brick c.loop-rest.rest.hit c.loop-rest.rest.miss c.octet_bits-octet.result c.args.lazy at) (record { code = c.within.ensures.code; scanned = c.within.ensures.scanned; hits = c.within.ensures.hits });
+  inside =
+      let (b, e) = place_block c.args.tree.now c.args.p c.requires.place in
+      let at = octet_at c.enter-id.new.tree c.loop-rest.tree c.args.p b (listed_one c.args.update) c.args.update.brick c.loop-rest.rest.brick c.loop-rest.rest.hit c.loop-rest.rest.miss c.octet_bits-octet.result c.args.lazy (c.requires.depth b e) c.requires.brick c.loop-rest.invariant.rest c.loop-rest-test.true (c.loop-rest.invariant.way b e) (c.requires.inside b e) c.octet_bits-octet.ensures (search rules) in
+      let place = way_place c.args.tree.now c.enter-id.new.tree c.loop-rest.tree c.args.p b c.enter-id.result (octet_index c.loop-rest.rest.brick) (listed_one c.args.update) (listed_one c.loop-rest.rest) c.args.lazy (octet_few c.loop-rest.rest.brick c.args.update.brick c.loop-rest.invariant.rest c.loop-rest-test.true) (c.enter-id.ensures b e) (c.loop-rest.invariant.way b e) in
+      at_block (λ a. IsUpdateIn a (listed_one c.within.result)) c.loop-rest.tree (Slot c.enter-id.result (octet_index c.loop-rest.rest.brick)) (child_of b (octet_index c.loop-rest.rest.brick)) place.1
+      (octet_inside c.enter-id.new.tree c.loop-rest.tree c.args.p b (listed_one c.args.update) c.args.update.brick c.loop-rest.rest.brick c.within.result.brick c.loop-rest.rest.hit c.loop-rest.rest.miss c.within.result.hit c.within.result.miss c.octet_bits-octet.result c.args.lazy at (record { code = c.within.ensures.code; scanned = c.within.ensures.scanned; hits = c.within.ensures.hits }));
+  room =
+      let (b, e) = place_block c.args.tree.now c.args.p c.requires.place in
+      let at = octet_at c.enter-id.new.tree c.loop-rest.tree c.args.p b (listed_one c.args.update) c.args.update.brick c.loop-rest.rest.brick c.loop-rest.rest.hit c.loop-rest.rest.miss c.octet_bits-octet.result c.args.lazy (c.requires.depth b e) c.requires.brick c.loop-rest.invariant.rest c.loop-rest-test.true (c.loop-rest.invariant.way b e) (c.requires.inside b e) c.octet_bits-octet.ensures (search rules) in
+      let place = way_place c.args.tree.now c.enter-id.new.tree c.loop-rest.tree c.args.p b c.enter-id.result (octet_index c.loop-rest.rest.brick) (listed_one c.args.update) (listed_one c.loop-rest.rest) c.args.lazy (octet_few c.loop-rest.rest.brick c.args.update.brick c.loop-rest.invariant.rest c.loop-rest-test.true) (c.enter-id.ensures b e) (c.loop-rest.invariant.way b e) in
+      at_block (λ a. need_in (events_of (listed_one c.within.result)) a ≤ spare c.loop-rest.tree.groups) c.loop-rest.tree (Slot c.enter-id.result (octet_index c.loop-rest.rest.brick)) (child_of b (octet_index c.loop-rest.rest.brick)) place.1
+      (octet_room c.args.tree.now c.enter-id.new.tree c.loop-rest.tree c.args.p b c.enter-id.result (listed_one c.args.update) c.args.update.brick c.loop-rest.rest.brick c.within.result.brick c.loop-rest.rest.hit c.loop-rest.rest.miss c.within.result.hit c.within.result.miss c.octet_bits-octet.result c.args.lazy
+      (place_in_map c.args.tree.now c.args.p b c.requires.linked e) (c.requires.inside b e) (c.requires.room b e) (c.enter-id.ensures b e) at (record { code = c.within.ensures.code; scanned = c.within.ensures.scanned; hits = c.within.ensures.hits }) c.within.ensures.hit c.within.ensures.miss);
+  hit =
+      let (b, e) = place_block c.args.tree.now c.args.p c.requires.place in
+      let way = c.loop-rest.invariant.way b e in
+      subst IsSmallEvent (sym (c.within.ensures.hit ∙ way.hit)) c.requires.hit;
+  miss =
+      let (b, e) = place_block c.args.tree.now c.args.p c.requires.place in
+      let way = c.loop-rest.invariant.way b e in
+      subst IsSmallEvent (sym (c.within.ensures.miss ∙ way.miss)) c.requires.miss;
+}
 
 pub loop-rest-smaller : goal.loop-rest-smaller
 loop-rest-smaller c =
@@ -116,21 +108,27 @@ close-requires-clause-inner c =
     let (b, e) = place_block c.args.tree.now c.args.p c.requires.place in
     (way_back c.args.tree.now c.enter-id.new.tree c.loop-rest.tree c.args.p b c.enter-id.result (listed_one c.args.update) (listed_one c.loop-rest.rest) c.args.lazy (c.enter-id.ensures b e) (c.loop-rest.invariant.way b e)).2
 
-pub returns-clause-touched : goal.returns-clause-touched
-returns-clause-touched c b e =
-    let deep : b.depth ≡ 14 = c.requires.depth b e in
-    let way = c.loop-rest.invariant.way b e in
-    let none = none_left c.args.update.brick c.loop-rest.rest.brick c.loop-rest.rest.hit c.loop-rest.rest.miss c.loop-rest.invariant.rest c.loop-rest-test.false in
-    way_end c.args.tree.now c.enter-id.new.tree c.loop-rest.tree c.close.new.tree c.args.p b c.enter-id.result (listed_one c.args.update) (listed_one c.loop-rest.rest) c.args.lazy c.requires.linked c.requires.place e (omega (arith, deep)) (c.requires.inside b e) c.if-is_at_rest.ensures.takes (c.enter-id.ensures b e) way none.0 none.1 (c.close.ensures b way.done.block)
-
-pub returns-clause-room : goal.returns-clause-room
-returns-clause-room c b e =
-    let deep : b.depth ≡ 14 = c.requires.depth b e in
-    let way = c.loop-rest.invariant.way b e in
-    way_spared c.args.tree.now c.enter-id.new.tree c.loop-rest.tree c.close.new.tree c.args.p b c.enter-id.result (listed_one c.args.update) (listed_one c.loop-rest.rest) c.args.lazy (place_in_map c.args.tree.now c.args.p b c.requires.linked e) (omega (arith, deep)) (c.requires.inside b e) (c.enter-id.ensures b e) way (c.close.ensures b way.done.block)
+pub returns : goal.returns
+returns c = record {
+  touched = λ b e.
+      let deep : b.depth ≡ 14 = c.requires.depth b e in
+      let way = c.loop-rest.invariant.way b e in
+      let none = none_left c.args.update.brick c.loop-rest.rest.brick c.loop-rest.rest.hit c.loop-rest.rest.miss c.loop-rest.invariant.rest c.loop-rest-test.false in
+      way_end c.args.tree.now c.enter-id.new.tree c.loop-rest.tree c.close.new.tree c.args.p b c.enter-id.result (listed_one c.args.update) (listed_one c.loop-rest.rest) c.args.lazy c.requires.linked c.requires.place e (omega (arith, deep)) (c.requires.inside b e) c.if-is_at_rest.ensures.takes (c.enter-id.ensures b e) way none.0 none.1 (c.close.ensures b way.done.block);
+  room = λ b e.
+      let deep : b.depth ≡ 14 = c.requires.depth b e in
+      let way = c.loop-rest.invariant.way b e in
+      way_spared c.args.tree.now c.enter-id.new.tree c.loop-rest.tree c.close.new.tree c.args.p b c.enter-id.result (listed_one c.args.update) (listed_one c.loop-rest.rest) c.args.lazy (place_in_map c.args.tree.now c.args.p b c.requires.linked e) (omega (arith, deep)) (c.requires.inside b e) (c.enter-id.ensures b e) way (c.close.ensures b way.done.block);
+}
 
 pub is_at_rest-requires-clause-apart : goal.is_at_rest-requires-clause-apart
 is_at_rest-requires-clause-apart c =
     let (b, e) = place_block c.args.tree.now c.args.p c.requires.place in
     let inside = c.requires.inside b e in
     inside.apart
+
+pub is_at_rest-requires-clause-some : goal.is_at_rest-requires-clause-some
+is_at_rest-requires-clause-some c =
+    let (b, e) = place_block c.args.tree.now c.args.p c.requires.place in
+    let some = (c.requires.inside b e).some in
+    (some.voxel, some.in_map, some.event)

@@ -16,10 +16,13 @@ use Rattle.oct_edit.proofs.BrickWays.{part_of, first_of, voxel_index, voxel_at, 
 use Rattle.oct_edit.proofs.Updates.{way_start, way_place, way_back, way_end, way_spared, need_some}
 use Rattle.oct_edit.proofs.scan.touch_octet.Goals as goal
 
-pub returns-then-is_at_rest-clause-touched : goal.returns-then-is_at_rest-clause-touched
-returns-then-is_at_rest-clause-touched c b e =
-    let deep = c.requires.depth b e in
-    rest_touched c.args.tree.now c.args.p b (listed_one c.args.update) c.args.lazy c.requires.linked c.requires.place e (omega (arith, deep)) (c.requires.inside b e) c.if-is_at_rest.ensures.bounds (c.if-is_at_rest.ensures.rests refl)
+pub returns-then-is_at_rest : goal.returns-then-is_at_rest
+returns-then-is_at_rest c = record {
+  touched = λ b e.
+      let deep = c.requires.depth b e in
+      rest_touched c.args.tree.now c.args.p b (listed_one c.args.update) c.args.lazy c.requires.linked c.requires.place e (omega (arith, deep)) (c.requires.inside b e) c.if-is_at_rest.ensures.bounds (c.if-is_at_rest.ensures.rests refl);
+  room = λ b e. omega arith;
+}
 
 pub enter-id-requires-clause-room : goal.enter-id-requires-clause-room
 enter-id-requires-clause-room c none =
@@ -97,21 +100,27 @@ close-requires-clause-inner c =
     let (b, e) = place_block c.args.tree.now c.args.p c.requires.place in
     (way_back c.args.tree.now c.enter-id.new.tree c.loop-rest.tree c.args.p b c.enter-id.result (listed_one c.args.update) (listed_one c.loop-rest.rest) c.args.lazy (c.enter-id.ensures b e) (c.loop-rest.invariant.way b e)).2
 
-pub returns-clause-touched : goal.returns-clause-touched
-returns-clause-touched c b e =
-    let deep : b.depth ≡ 15 = c.requires.depth b e in
-    let way = c.loop-rest.invariant.way b e in
-    let none = none_left c.args.update.brick c.loop-rest.rest.brick c.loop-rest.rest.hit c.loop-rest.rest.miss c.loop-rest.invariant.rest c.loop-rest-test.false in
-    way_end c.args.tree.now c.enter-id.new.tree c.loop-rest.tree c.close.new.tree c.args.p b c.enter-id.result (listed_one c.args.update) (listed_one c.loop-rest.rest) c.args.lazy c.requires.linked c.requires.place e (omega (arith, deep)) (c.requires.inside b e) c.if-is_at_rest.ensures.takes (c.enter-id.ensures b e) way none.0 none.1 (c.close.ensures b way.done.block)
-
-pub returns-clause-room : goal.returns-clause-room
-returns-clause-room c b e =
-    let deep : b.depth ≡ 15 = c.requires.depth b e in
-    let way = c.loop-rest.invariant.way b e in
-    way_spared c.args.tree.now c.enter-id.new.tree c.loop-rest.tree c.close.new.tree c.args.p b c.enter-id.result (listed_one c.args.update) (listed_one c.loop-rest.rest) c.args.lazy (place_in_map c.args.tree.now c.args.p b c.requires.linked e) (omega (arith, deep)) (c.requires.inside b e) (c.enter-id.ensures b e) way (c.close.ensures b way.done.block)
+pub returns : goal.returns
+returns c = record {
+  touched = λ b e.
+      let deep : b.depth ≡ 15 = c.requires.depth b e in
+      let way = c.loop-rest.invariant.way b e in
+      let none = none_left c.args.update.brick c.loop-rest.rest.brick c.loop-rest.rest.hit c.loop-rest.rest.miss c.loop-rest.invariant.rest c.loop-rest-test.false in
+      way_end c.args.tree.now c.enter-id.new.tree c.loop-rest.tree c.close.new.tree c.args.p b c.enter-id.result (listed_one c.args.update) (listed_one c.loop-rest.rest) c.args.lazy c.requires.linked c.requires.place e (omega (arith, deep)) (c.requires.inside b e) c.if-is_at_rest.ensures.takes (c.enter-id.ensures b e) way none.0 none.1 (c.close.ensures b way.done.block);
+  room = λ b e.
+      let deep : b.depth ≡ 15 = c.requires.depth b e in
+      let way = c.loop-rest.invariant.way b e in
+      way_spared c.args.tree.now c.enter-id.new.tree c.loop-rest.tree c.close.new.tree c.args.p b c.enter-id.result (listed_one c.args.update) (listed_one c.loop-rest.rest) c.args.lazy (place_in_map c.args.tree.now c.args.p b c.requires.linked e) (omega (arith, deep)) (c.requires.inside b e) (c.enter-id.ensures b e) way (c.close.ensures b way.done.block);
+}
 
 pub is_at_rest-requires-clause-apart : goal.is_at_rest-requires-clause-apart
 is_at_rest-requires-clause-apart c =
     let (b, e) = place_block c.args.tree.now c.args.p c.requires.place in
     let inside = c.requires.inside b e in
     inside.apart
+
+pub is_at_rest-requires-clause-some : goal.is_at_rest-requires-clause-some
+is_at_rest-requires-clause-some c =
+    let (b, e) = place_block c.args.tree.now c.args.p c.requires.place in
+    let some = (c.requires.inside b e).some in
+    (some.voxel, some.in_map, some.event)

@@ -1,4 +1,4 @@
-use Rattle.std.proofs.Common.{◌≡◌, ◌+◌, ◌≤◌}
+use Rattle.std.proofs.Common.{◌+◌, ◌≤◌}
 use Rattle.std.specs.List.{All}
 use Rattle.oct_arena.specs.Entries.{IsLive, spare}
 use Rattle.oct_arena.specs.declared.node.GroupId.{GroupId}
