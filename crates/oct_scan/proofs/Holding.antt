@@ -1,9 +1,10 @@
 -- Bricks that are gathered beam by beam hold the codes that are.
-use Rattle.std.proofs.Common.{◌≡◌, ◌≢◌, ℕ, ◌+◌, ◌-◌, ◌/◌, ◌^◌, ◌<◌, ◌⊎◌, ◌↔◌, inl, inr, true, false, Bool, cond, List, [], ◌∷◌, ◌++◌, map, length, take, get_or, Some, refl, sym, subst, ◌∙◌, ap, arith, append_assoc}
+use Rattle.std.proofs.Common.{◌≡◌, ◌≢◌, ℕ, ◌+◌, ◌-◌, ◌/◌, ◌^◌, ◌<◌, ◌⊎◌, ◌↔◌, inl, inr, true, false, Bool, cond, List, [], ◌∷◌, ◌++◌, map, length, take, get_or, Option, Some, refl, sym, subst, ◌∙◌, ap, arith, append_assoc}
 use Rattle.std.specs.Prelude.{slice_get}
 use Rattle.std.specs.List.{All, AllPairs, Contains}
 use Rattle.std.proofs.lemmas.List.Elements.{All-contains, Contains-push, Contains-push_cases, Contains-append_left, Contains-append_right, Contains-append_cases}
 use Rattle.oct_key.specs.Voxel.{Voxel, IsInMap, key_at}
+use Rattle.oct_key.specs.Boxes.{Corners}
 use Rattle.oct_key.specs.Morton.{morton_of}
 use Rattle.oct_key.specs.declared.point.Point.{Point}
 use Rattle.oct_key.proofs.Interleavings.{morton_injective}
@@ -15,8 +16,9 @@ use Rattle.oct_brick.proofs.Bits.{none_set}
 use Rattle.oct_brick.proofs.BrickCodes.{codes_by}
 use Rattle.oct_brick.proofs.Merging.{pushed_has}
 use Rattle.oct_scan.specs.declared.beam.Beam.{Beam}
-use Rattle.oct_scan.specs.Gathered.{IsBeamAdded, HoldGathered, IsBeamHeld, IsHeld, IsCurrent, end_codes}
+use Rattle.oct_scan.specs.Gathered.{IsBeamAdded, HoldGathered, IsBeamHeld, IsHeld, IsCurrent, end_codes, is_mute, kept}
 use Rattle.oct_brick.proofs.Lists.{contains_none, contains_here, contains_later, contains_cases, contains_map, contains_from_map, all_contained}
+use Rattle.oct_scan.proofs.Kept.{kept_from, kept_listed}
 use Rattle.oct_scan.proofs.Gathering.{ends_with, once_last, gathered_none, gathered_next, few_more}
 
 -- an empty mask has no code
@@ -125,33 +127,35 @@ way_all end old walk bs bs' b ks none pushed h c = (
   ],
 )
 
--- the codes of a walk but that of its last voxel are those of the voxels before
-front_codes : (front : List Voxel) (k : Voxel) (c : ℕ) → AllPairs (λ a b. a ≢ b) (front ++ k ∷ []) → All IsInMap (front ++ k ∷ []) → ToCome (morton_of k) (front ++ k ∷ []) c ↔ Contains (map morton_of front) c
-front_codes front k c once on_map = (
-  λ h. (let r = contains_from_map morton_of (front ++ k ∷ []) c h.0 in
-      elim (Contains-push_cases front k r.0 r.1) [
-        | inl p ↦ subst (Contains (map morton_of front)) r.2 (contains_map morton_of front r.0 p)
+-- the codes that are kept of a walk but that of its last voxel are those kept of the voxels before
+front_codes : (window : Option Corners) (front : List Voxel) (k : Voxel) (c : ℕ) → AllPairs (λ a b. a ≢ b) (front ++ k ∷ []) → All IsInMap (front ++ k ∷ []) → ToCome (morton_of k) (kept window (front ++ k ∷ [])) c ↔ Contains (map morton_of (kept window front)) c
+front_codes window front k c once on_map = (
+  λ h. (let r = contains_from_map morton_of (kept window (front ++ k ∷ [])) c h.0 in
+      let in_box = kept_from window (front ++ k ∷ []) r.0 r.1 in
+      elim (Contains-push_cases front k r.0 in_box.0) [
+        | inl p ↦ subst (Contains (map morton_of (kept window front))) r.2 (contains_map morton_of (kept window front) r.0 (kept_listed window front r.0 p in_box.1))
         | inr e ↦ absurd (h.1 (ap morton_of e ∙ r.2))
       ]),
-  λ h. (let r = contains_from_map morton_of front c h in
-      let there : Contains (front ++ k ∷ []) r.0 = Contains-append_left front (k ∷ []) r.0 r.1 in (
-        subst (Contains (map morton_of (front ++ k ∷ []))) r.2 (contains_map morton_of (front ++ k ∷ []) r.0 there),
-        λ e. once_last front k r.0 once r.1 (morton_injective r.0 k (All-contains IsInMap (front ++ k ∷ []) r.0 on_map there) (All-contains IsInMap (front ++ k ∷ []) k on_map (Contains-push front k)) (r.2 ∙ sym e)),
+  λ h. (let r = contains_from_map morton_of (kept window front) c h in
+      let in_box = kept_from window front r.0 r.1 in
+      let there : Contains (front ++ k ∷ []) r.0 = Contains-append_left front (k ∷ []) r.0 in_box.0 in (
+        subst (Contains (map morton_of (kept window (front ++ k ∷ [])))) r.2 (contains_map morton_of (kept window (front ++ k ∷ [])) r.0 (kept_listed window (front ++ k ∷ []) r.0 there in_box.1)),
+        λ e. once_last front k r.0 once in_box.0 (morton_injective r.0 k (All-contains IsInMap (front ++ k ∷ []) r.0 on_map there) (All-contains IsInMap (front ++ k ∷ []) k on_map (Contains-push front k)) (r.2 ∙ sym e)),
       )),
 )
 
 -- a walk whose codes were marked, and whose end was added, is a beam held
-pub beam_held : (edge : ℕ) (o : Point) (b : Beam) (met end : ℕ) (old mid new : List Brick) (walk : List Voxel) (k : Voxel) → IsWalkAlong edge o b.end walk → slice_get walk (length walk - 1) ≡ key_at edge b.end → key_at edge b.end ≡ Some k → All IsInMap walk → met ≡ length walk → end ≡ morton_of k →
-    ((c : ℕ) → Contains (scanned_codes mid) c ↔ (Contains (scanned_codes old) c ⊎ ToCome end walk c)) → ((c : ℕ) → Contains (hit_codes mid) c ↔ Contains (hit_codes old) c) →
-    ((c : ℕ) → Contains (scanned_codes new) c ↔ (Contains (scanned_codes mid) c ⊎ Contains (cond b.is_cut [] (end ∷ [])) c)) → ((c : ℕ) → Contains (hit_codes new) c ↔ (Contains (hit_codes mid) c ⊎ Contains (cond b.is_cut [] (end ∷ [])) c)) → IsBeamHeld edge o b met old new
-beam_held edge o b met end old mid new walk k along last ended on_map counted is way unhit marked hit =
+pub beam_held : (edge : ℕ) (window : Option Corners) (o : Point) (b : Beam) (met end : ℕ) (mute : Bool) (old mid new : List Brick) (walk : List Voxel) (k : Voxel) → IsWalkAlong edge o b.end walk → slice_get walk (length walk - 1) ≡ key_at edge b.end → key_at edge b.end ≡ Some k → All IsInMap walk → met ≡ length walk → end ≡ morton_of k → mute ≡ is_mute window b k →
+    ((c : ℕ) → Contains (scanned_codes mid) c ↔ (Contains (scanned_codes old) c ⊎ ToCome end (kept window walk) c)) → ((c : ℕ) → Contains (hit_codes mid) c ↔ Contains (hit_codes old) c) →
+    ((c : ℕ) → Contains (scanned_codes new) c ↔ (Contains (scanned_codes mid) c ⊎ Contains (cond mute [] (end ∷ [])) c)) → ((c : ℕ) → Contains (hit_codes new) c ↔ (Contains (hit_codes mid) c ⊎ Contains (cond mute [] (end ∷ [])) c)) → IsBeamHeld edge window o b met old new
+beam_held edge window o b met end mute old mid new walk k along last ended on_map counted is silent way unhit marked hit =
     let parts = ends_with walk k (last ∙ ended) in
     let front : List Voxel = parts.0 in
     let along' = subst (IsWalkAlong edge o b.end) parts.1 along in
     let on_map' = subst (All IsInMap) parts.1 on_map in
-    let codes : (c : ℕ) → ToCome end walk c ↔ Contains (map morton_of front) c = λ c.
-    subst (λ (w : List Voxel). ToCome end w c ↔ Contains (map morton_of front) c) (sym parts.1) (subst (λ e. ToCome e (front ++ k ∷ []) c ↔ Contains (map morton_of front) c) (sym is) (front_codes front k c along'.once on_map')) in
-    let judged : (c : ℕ) → Contains (cond b.is_cut [] (end ∷ [])) c ↔ Contains (end_codes b k) c = λ c. subst (λ e. Contains (cond b.is_cut [] (e ∷ [])) c ↔ Contains (end_codes b k) c) (sym is) (λ h. h, λ h. h) in
+    let codes : (c : ℕ) → ToCome end (kept window walk) c ↔ Contains (map morton_of (kept window front)) c = λ c.
+    subst (λ (w : List Voxel). ToCome end (kept window w) c ↔ Contains (map morton_of (kept window front)) c) (sym parts.1) (subst (λ e. ToCome e (kept window (front ++ k ∷ [])) c ↔ Contains (map morton_of (kept window front)) c) (sym is) (front_codes window front k c along'.once on_map')) in
+    let judged : (c : ℕ) → Contains (cond mute [] (end ∷ [])) c ↔ Contains (end_codes window b k) c = λ c. subst (λ t. Contains (cond t [] (end ∷ [])) c ↔ Contains (end_codes window b k) c) (sym silent) (subst (λ e. Contains (cond (is_mute window b k) [] (e ∷ [])) c ↔ Contains (end_codes window b k) c) (sym is) (λ h. h, λ h. h)) in
     record {
       front = front;
       end = k;
@@ -161,12 +165,12 @@ beam_held edge o b met end old mid new walk k along last ended on_map counted is
       counted = sym (counted ∙ ap length parts.1);
       marks = λ c. (
         λ h. elim ((marked c).0 h) [
-          | inl m ↦ elim ((way c).0 m) [ inl p ↦ inl p | inr p ↦ inr (Contains-append_left (map morton_of front) (end_codes b k) c ((codes c).0 p)) ]
-          | inr m ↦ inr (Contains-append_right (map morton_of front) (end_codes b k) c ((judged c).0 m))
+          | inl m ↦ elim ((way c).0 m) [ inl p ↦ inl p | inr p ↦ inr (Contains-append_left (map morton_of (kept window front)) (end_codes window b k) c ((codes c).0 p)) ]
+          | inr m ↦ inr (Contains-append_right (map morton_of (kept window front)) (end_codes window b k) c ((judged c).0 m))
         ],
         λ h. (marked c).1 (elim h [
           | inl m ↦ inl ((way c).1 (inl m))
-          | inr m ↦ elim (Contains-append_cases (map morton_of front) (end_codes b k) c m) [
+          | inr m ↦ elim (Contains-append_cases (map morton_of (kept window front)) (end_codes window b k) c m) [
             | inl p ↦ inl ((way c).1 (inr ((codes c).1 p)))
             | inr p ↦ inr ((judged c).1 p)
           ]
@@ -178,11 +182,11 @@ beam_held edge o b met end old mid new walk k along last ended on_map counted is
       );
     }
 
-pub held_none : (edge : ℕ) (o : Point) → HoldGathered edge o [] [] 0
-held_none edge o = record {
+pub held_none : (edge : ℕ) (window : Option Corners) (o : Point) → HoldGathered edge window o [] [] 0
+held_none edge window o = record {
   scanned = [];
   hits = [];
-  gathered = gathered_none edge o;
+  gathered = gathered_none edge window o;
   few = omega arith;
   held = record { same_scanned = λ c. (λ h. h, λ h. h); same_hits = λ c. (λ h. h, λ h. h) };
 }
@@ -195,12 +199,12 @@ grown s t A B same more c = (
 )
 
 -- after one beam more, bricks hold what is gathered along one beam more
-pub held_next : (edge : ℕ) (o : Point) (bs : List Beam) (i : ℕ) (d : Beam) (met total : ℕ) (bricks bricks' : List Brick) → i < length bs → HoldGathered edge o (take i bs) bricks total → IsBeamHeld edge o (get_or bs i d) met bricks bricks' → HoldGathered edge o (take (i + 1) bs) bricks' (total + met)
-held_next edge o bs i d met total bricks bricks' l h a =
+pub held_next : (edge : ℕ) (window : Option Corners) (o : Point) (bs : List Beam) (i : ℕ) (d : Beam) (met total : ℕ) (bricks bricks' : List Brick) → i < length bs → HoldGathered edge window o (take i bs) bricks total → IsBeamHeld edge window o (get_or bs i d) met bricks bricks' → HoldGathered edge window o (take (i + 1) bs) bricks' (total + met)
+held_next edge window o bs i d met total bricks bricks' l h a =
     let b : Beam = get_or bs i d in
-    let front : List ℕ = map morton_of a.front in
-    let end : List ℕ = end_codes b a.end in
-    let added : IsBeamAdded edge o b met h.scanned ((h.scanned ++ front) ++ end) h.hits (h.hits ++ end) = record {
+    let front : List ℕ = map morton_of (kept window a.front) in
+    let end : List ℕ = end_codes window b a.end in
+    let added : IsBeamAdded edge window o b met h.scanned ((h.scanned ++ front) ++ end) h.hits (h.hits ++ end) = record {
       front = a.front;
       end = a.end;
       walk = a.walk;
@@ -213,8 +217,8 @@ held_next edge o bs i d met total bricks bricks' l h a =
     record {
       scanned = (h.scanned ++ front) ++ end;
       hits = h.hits ++ end;
-      gathered = gathered_next edge o bs i d met h.scanned ((h.scanned ++ front) ++ end) h.hits (h.hits ++ end) l h.gathered added;
-      few = (let n = few_more edge o b met h.scanned ((h.scanned ++ front) ++ end) h.hits (h.hits ++ end) added in let f = h.few in omega (arith, n, f));
+      gathered = gathered_next edge window o bs i d met h.scanned ((h.scanned ++ front) ++ end) h.hits (h.hits ++ end) l h.gathered added;
+      few = (let n = few_more edge window o b met h.scanned ((h.scanned ++ front) ++ end) h.hits (h.hits ++ end) added in let f = h.few in omega (arith, n, f));
       held = record {
         same_scanned = λ c. subst (λ (l : List ℕ). Contains l c ↔ Contains (scanned_codes bricks') c) (sym (append_assoc h.scanned front end)) (grown h.scanned (front ++ end) (λ c. Contains (scanned_codes bricks) c) (λ c. Contains (scanned_codes bricks') c) h.held.same_scanned a.marks c);
         same_hits = grown h.hits end (λ c. Contains (hit_codes bricks) c) (λ c. Contains (hit_codes bricks') c) h.held.same_hits a.ends;

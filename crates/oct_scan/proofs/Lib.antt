@@ -2,10 +2,13 @@ pub mod Levels
 pub mod Counts
 pub mod CodeLists
 pub mod Reaches
+pub mod Kept
+pub mod BeamSpans
 pub mod Gathering
 pub mod BeamCuts
 pub mod OutsideEnds
 pub mod Holding
+pub mod Parts
 pub mod BrickCounts
 pub mod Settling
 pub mod Settled

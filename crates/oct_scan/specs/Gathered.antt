@@ -1,7 +1,10 @@
 -- Working words for the codes that are gathered along the beams.
-use Rattle.std.specs.Prelude.{◌≡◌, ℕ, ◌^◌, ◌<◌, ◌≤◌, ◌↔◌, ◌⊎◌, false, if◌then◌else◌}
+use Rattle.std.specs.Prelude.{◌≡◌, ℕ, ◌^◌, ◌<◌, ◌≤◌, ◌↔◌, ◌⊎◌, Bool, false, not, ◌||◌}
+use Rattle.std.specs.Prelude.{if◌then◌else◌, Option, Some, None, min, max}
+use Rattle.std.specs.List.{filter}
 use Rattle.std.specs.Prelude.{List, [], ◌∷◌, ◌++◌, map, length, All, Contains}
 use Rattle.oct_key.specs.Voxel.{Voxel, IsInMap}
+use Rattle.oct_key.specs.Boxes.{Corners, IsInBox, IsInWindow, is_in_box, is_in_window}
 use Rattle.oct_key.specs.Morton.{morton_of}
 use Rattle.oct_key.specs.declared.point.Point.{Point}
 use Rattle.oct_ray.specs.Segment.{Meets, IsWalkAlong}
@@ -11,19 +14,22 @@ use Rattle.oct_brick.specs.Bricks.{scanned_codes, hit_codes}
 use Rattle.oct_scan.specs.declared.beam.Beam.{Beam}
 use Rattle.oct_scan.specs.Scanned.{EndsIn}
 
--- a code of a voxel that the beam meets, but not that of a cut end
-pub record IsMarked (edge : ℕ) (o : Point) (code : ℕ) (b : Beam) : Type 0 where
+-- a code of a voxel in the box that the beam meets, but not that of a cut end
+pub record IsMarked (edge : ℕ) (window : Option Corners) (o : Point) (code : ℕ)
+    (b : Beam) : Type 0 where
   pub voxel : Voxel
   pub coded : code ≡ morton_of voxel
   pub on_map : IsInMap voxel
+  pub within : IsInWindow window voxel
   pub met : Meets edge o b.end voxel
   pub whole : EndsIn edge voxel b → b.is_cut ≡ false
 
 -- the code of a voxel that the beam hits
-pub record IsEnd (edge : ℕ) (code : ℕ) (b : Beam) : Type 0 where
+pub record IsEnd (edge : ℕ) (window : Option Corners) (code : ℕ) (b : Beam) : Type 0 where
   pub voxel : Voxel
   pub coded : code ≡ morton_of voxel
   pub on_map : IsInMap voxel
+  pub within : IsInWindow window voxel
   pub ended : EndsIn edge voxel b
   pub whole : b.is_cut ≡ false
 
@@ -32,19 +38,36 @@ abbrev pub SomeBeam : (Beam → Type 0) → List Beam → Type 0
 SomeBeam P bs = (b : Beam) × Contains bs b × P b
 
 -- these are the codes that the beams mark, and those that they hit
-pub record AreGathered (edge : ℕ) (o : Point) (bs : List Beam) (scanned hits : List ℕ) :
-    Type 0 where
-  pub marks : (code : ℕ) → Contains scanned code ↔ SomeBeam (IsMarked edge o code) bs
-  pub ends : (code : ℕ) → Contains hits code ↔ SomeBeam (IsEnd edge code) bs
+pub record AreGathered (edge : ℕ) (window : Option Corners) (o : Point) (bs : List Beam)
+    (scanned hits : List ℕ) : Type 0 where
+  pub marks : (code : ℕ) → Contains scanned code ↔ SomeBeam (IsMarked edge window o code) bs
+  pub ends : (code : ℕ) → Contains hits code ↔ SomeBeam (IsEnd edge window code) bs
   pub part : (code : ℕ) → Contains hits code → Contains scanned code
   pub on_map : (b : Beam) → Contains bs b → (k : Voxel) → Meets edge o b.end k → IsInMap k
 
--- the code of the last voxel, but not of a cut end
-abbrev pub end_codes : Beam → Voxel → List ℕ
-end_codes b end = if b.is_cut then [] else morton_of end ∷ []
+-- a voxel lies in the box that two others span
+abbrev pub IsSpanned : Voxel → Voxel → Voxel → Type 0
+IsSpanned a b k = IsInBox
+    (record { x = min a.x b.x; y = min a.y b.y; z = min a.z b.z })
+    (record { x = max a.x b.x; y = max a.y b.y; z = max a.z b.z }) k
 
--- the codes of the voxels that a beam meets, so many, have come to those that are there
-pub record IsBeamAdded (edge : ℕ) (o : Point) (b : Beam) (met : ℕ)
+-- the voxels of a list that lie in the box, where one stands
+abbrev pub kept : Option Corners → List Voxel → List Voxel
+kept None ks = ks
+kept (Some box) ks = filter (is_in_box box.lo box.hi) ks
+
+-- whether a beam says nothing of the voxel where it ends: it is cut there, or that voxel lies
+-- outside the box
+abbrev pub is_mute : Option Corners → Beam → Voxel → Bool
+is_mute window b end = b.is_cut || not (is_in_window window end)
+
+-- the code of the last voxel, but not where the beam says nothing of it
+abbrev pub end_codes : Option Corners → Beam → Voxel → List ℕ
+end_codes window b end = if is_mute window b end then [] else morton_of end ∷ []
+
+-- the codes of the voxels in the box that a beam meets, of so many in all, have come to those that
+-- are there
+pub record IsBeamAdded (edge : ℕ) (window : Option Corners) (o : Point) (b : Beam) (met : ℕ)
     (scanned scanned' hits hits' : List ℕ) : Type 0 where
   pub front : List Voxel
   pub end : Voxel
@@ -52,8 +75,8 @@ pub record IsBeamAdded (edge : ℕ) (o : Point) (b : Beam) (met : ℕ)
   pub on_map : All IsInMap (front ++ end ∷ [])
   pub ended : EndsIn edge end b
   pub counted : length (front ++ end ∷ []) ≡ met
-  pub marks : scanned' ≡ (scanned ++ map morton_of front) ++ end_codes b end
-  pub ends : hits' ≡ hits ++ end_codes b end
+  pub marks : scanned' ≡ (scanned ++ map morton_of (kept window front)) ++ end_codes window b end
+  pub ends : hits' ≡ hits ++ end_codes window b end
 
 -- bricks change the voxels of the one list of codes, and hit those of the other
 pub record HoldCodes (bricks : List Brick) (scanned hits : List ℕ) : Type 0 where
@@ -61,16 +84,16 @@ pub record HoldCodes (bricks : List Brick) (scanned hits : List ℕ) : Type 0 wh
   pub same_hits : (code : ℕ) → Contains hits code ↔ Contains (hit_codes bricks) code
 
 -- bricks change and hit the voxels that the beams mark and hit, of which there are at most so many
-pub record HoldGathered (edge : ℕ) (o : Point) (bs : List Beam) (bricks : List Brick)
-    (most : ℕ) : Type 0 where
+pub record HoldGathered (edge : ℕ) (window : Option Corners) (o : Point) (bs : List Beam)
+    (bricks : List Brick) (most : ℕ) : Type 0 where
   pub scanned : List ℕ
   pub hits : List ℕ
-  pub gathered : AreGathered edge o bs scanned hits
+  pub gathered : AreGathered edge window o bs scanned hits
   pub few : length scanned ≤ most
   pub held : HoldCodes bricks scanned hits
 
--- the voxels that a beam meets, so many, have come to those of bricks
-pub record IsBeamHeld (edge : ℕ) (o : Point) (b : Beam) (met : ℕ)
+-- the voxels in the box that a beam meets, of so many in all, have come to those of bricks
+pub record IsBeamHeld (edge : ℕ) (window : Option Corners) (o : Point) (b : Beam) (met : ℕ)
     (bricks bricks' : List Brick) : Type 0 where
   pub front : List Voxel
   pub end : Voxel
@@ -80,9 +103,9 @@ pub record IsBeamHeld (edge : ℕ) (o : Point) (b : Beam) (met : ℕ)
   pub counted : length (front ++ end ∷ []) ≡ met
   pub marks : (code : ℕ) → Contains (scanned_codes bricks') code ↔
       (Contains (scanned_codes bricks) code
-      ⊎ Contains (map morton_of front ++ end_codes b end) code)
+      ⊎ Contains (map morton_of (kept window front) ++ end_codes window b end) code)
   pub ends : (code : ℕ) → Contains (hit_codes bricks') code ↔
-      (Contains (hit_codes bricks) code ⊎ Contains (end_codes b end) code)
+      (Contains (hit_codes bricks) code ⊎ Contains (end_codes window b end) code)
 
 -- the code is one of the bricks or of the current one
 abbrev pub IsHeld : List Brick → Brick → ℕ → Type 0

@@ -1,6 +1,7 @@
 ghost use Rattle.std.specs.Prelude.{◌≡◌, ◌≢◌, ℕ, ◌+◌, ◌^◌, ◌≤◌, pos, ◌≤ℤ◌, ◌<ℤ◌, ◌↔◌, length, Some};
 ghost use Rattle.std.specs.Prelude.{None, List, All, Contains, IfOk, IfErr, IfSome};
 ghost use Rattle.oct_key.specs.Voxel.{Voxel, IsInMap};
+ghost use Rattle.oct_key.specs.Boxes.{IsInWindow};
 ghost use Rattle.oct_odds.specs.declared.event.Event.{Event};
 ghost use Rattle.oct_values.specs.Events.{IsAscending, scan_events};
 ghost use Rattle.oct_values.specs.Needs.{event_need};
@@ -20,7 +21,7 @@ use crate::fault::ScanFault;
 use crate::need::count_blocks;
 use crate::scan::Scan;
 use oct_brick::{Brick, merge_bricks};
-use oct_key::Res;
+use oct_key::{Res, Window};
 use oct_num::Memory;
 use std::alloc::Global;
 use std::marker::Model;
@@ -78,18 +79,19 @@ impl UpdateBricks {
     }
 }
 
-/// What a scan does to each voxel of a map of this resolution, as bricks, where its beams meet no
-/// more voxels than `max_cells`. The clauses speak of the lists that
+/// What a scan does to each voxel of a map of this resolution that lies in the box, where one
+/// stands, as bricks, where its beams meet no more voxels than `max_cells`. The clauses speak of the lists that
 /// [`update_set`](crate::update_set) makes; none is made here.
 ///
 /// A scan is refused first where its origin lies outside the map, then for the first beam that ends
 /// outside, and then for the first beam with which the beams meet too many voxels, where a voxel
-/// counts once for each beam that meets it.
+/// counts once for each beam that meets it. None of the three looks at the box.
 pub fn update_bricks(
     alloc: Global,
     scan: &Scan,
     res: Res,
     max_cells: u64,
+    window: Option<Window>,
 ) -> Result<UpdateBricks, ScanFault>
     requires points { All IsInReach scan.now.points }
     requires range { IfSome scan.now.range (λ r. (pos 0 ≤ℤ r) × (r <ℤ pos (10 ^ 16))) }
@@ -100,12 +102,12 @@ pub fn update_bricks(
     ensures hits_counted { IfOk result (λ set. set.hit_count ≡ length (hit_voxels set.bricks)) }
     ensures frees_counted { IfOk result (λ set. set.free_count ≡ length (freed_voxels set.bricks)) }
     ensures hits { IfOk result (λ set. (k : Voxel) →
-        Contains (hit_voxels set.bricks) k ↔ IsHit res (sighting_of scan.now) k) }
+        Contains (hit_voxels set.bricks) k ↔ (IsInWindow window k × IsHit res (sighting_of scan.now) k)) }
     ensures frees { IfOk result (λ set. (k : Voxel) →
-        Contains (freed_voxels set.bricks) k ↔ IsFreed res (sighting_of scan.now) k) }
+        Contains (freed_voxels set.bricks) k ↔ (IsInWindow window k × IsFreed res (sighting_of scan.now) k)) }
     ensures hits_ascend { IfOk result (λ set. IsAscending (hit_voxels set.bricks)) }
     ensures frees_ascend { IfOk result (λ set. IsAscending (freed_voxels set.bricks)) }
-    ensures need { IfOk result (λ set. IsNeed res (sighting_of scan.now) set.need) }
+    ensures need { IfOk result (λ set. IsNeed res window (sighting_of scan.now) set.need) }
 
     ensures inside { IfOk result (λ _. IsInside res (sighting_of scan.now)) }
     ensures within { IfOk result (λ _. MeetAtMost res (origin_of (sighting_of scan.now))
@@ -114,13 +116,13 @@ pub fn update_bricks(
 
     ensures events { IfOk result (λ set. (hit miss : Event) (k : Voxel) → IsInMap k →
         scan_events (hit_voxels set.bricks) hit (freed_voxels set.bricks) miss k ≡
-        scan_outcome res hit miss (sighting_of scan.now) k) }
-    ensures hit_count { IfOk result (λ set. set.hit_count ≡ hit_count res (sighting_of scan.now)) }
+        scan_outcome res window hit miss (sighting_of scan.now) k) }
+    ensures hit_count { IfOk result (λ set. set.hit_count ≡ hit_count res window (sighting_of scan.now)) }
     ensures free_count { IfOk result (λ set.
-        set.free_count ≡ free_count res (sighting_of scan.now)) }
+        set.free_count ≡ free_count res window (sighting_of scan.now)) }
     ensures few { IfOk result (λ set. set.hit_count + set.free_count ≤ max_cells) }
     ensures needed { IfOk result (λ set. (hit miss : Event) →
-        set.need ≡ event_need (scan_outcome res hit miss (sighting_of scan.now))) }
+        set.need ≡ event_need (scan_outcome res window hit miss (sighting_of scan.now))) }
 
     ensures accepted { IfOk result (λ _. scan_fault res (sighting_of scan.now) max_cells ≡ None) }
     ensures fault { IfErr result (λ f. f ≢ ScanFault.Memory →
@@ -131,7 +133,7 @@ pub fn update_bricks(
         return Err(ScanFault::OriginOutside);
     }
     let beams = beams_of(alloc, scan, res)?;
-    let bricks = gather(alloc, res, origin, &beams, max_cells)?;
+    let bricks = gather(alloc, res, origin, &beams, &window, max_cells)?;
     let set = merge_update(alloc, bricks)?;
     Ok(set)
 }

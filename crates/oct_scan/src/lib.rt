@@ -4,14 +4,16 @@
 //! to each posed point, and is cut where it is longer than the sensor's range. The voxel of an end
 //! is hit, and the voxels on the way are freed, as in the OctoMap library (Hornung et al. 2013). A
 //! voxel that one beam hits stays hit where another beam passes through it, and a beam that is cut
-//! says nothing of the voxel where it was cut.
+//! says nothing of the voxel where it was cut. A box of voxels may be handed in, to which the
+//! update is restricted.
 //!
 //! What the contracts promise:
 //!
 //! - [`update_bricks`] answers exactly the voxels that are hit and exactly those that are freed, by
-//!   definitions that ask about one voxel and all beams (`IsHit`, `IsFreed`), and how many of each
-//!   there are. The voxels come as bricks of `oct_brick`; [`update_set`] gives them as two lists
-//!   that ascend by Morton code, without repeats, and promises the same of these.
+//!   definitions that ask about one voxel and all beams (`IsHit`, `IsFreed`), as far as they lie in
+//!   the box, where one is handed in (`IsInWindow`), and how many of each there are. The voxels come
+//!   as bricks of `oct_brick`; [`update_set`] gives them as two lists that ascend by Morton code,
+//!   without repeats, and promises the same of these.
 //! - [`UpdateBricks::need`] is the number of blocks of depth 0 to 15 that hold such a voxel
 //!   (`IsNeed`): at most that many groups of a tree have to be made for them.
 //! - What a scan does is a function of its numbers as well, for whoever defines the answers of a
@@ -23,12 +25,16 @@
 //!   one point of the rule (`IsCutEnd` of `oct_ray`).
 //! - A scan is refused for its origin, for the first beam that ends outside the map, or for the
 //!   first beam with which the voxels met exceed the limit, in this order and exactly then; out of
-//!   memory alone may come at any time.
+//!   memory alone may come at any time. No refusal looks at the box, and a voxel that is met counts
+//!   where it lies outside too.
 //!
 //! The beams are made first, so that all ends are judged before a voxel is counted. Then each beam
 //! is walked once. Its voxels go into the brick where the beam is, which is appended to a list when
 //! the beam leaves it, and the end goes into a brick of its own. A beam that exceeds the limit is
-//! counted to its end and not kept, so that there are never more bricks than the limit allows. The
+//! counted to its end and not kept, so that there are never more bricks than the limit allows. How
+//! a beam is walked is chosen by its ends: where both lie in the box, or no box stands, no voxel is
+//! tested; where both lie beyond it on one side, the voxels are only counted; else each is tested
+//! before it is kept. The
 //! bricks are sorted by their codes, and those of one code joined. Of the sorted bricks each adds
 //! the blocks that don't hold the one before it, which the highest different bit of the two codes
 //! tells, and its own octets.
@@ -52,5 +58,5 @@ mod update;
 pub use bricks::{UpdateBricks, update_bricks};
 pub use fault::ScanFault;
 pub use laws::{cut_ends_are_exact, outcomes_are_exact};
-pub use scan::Scan;
+pub use scan::{Scan, ScanOdds};
 pub use update::{UpdateSet, update_set};

@@ -1,6 +1,7 @@
 ghost use Rattle.std.specs.Prelude.{◌≡◌, ◌≢◌, ◌+◌, ◌^◌, ◌≤◌, pos, ◌≤ℤ◌, ◌<ℤ◌, ◌↔◌, length, Some};
 ghost use Rattle.std.specs.Prelude.{None, All, Contains, IfOk, IfErr, IfSome};
 ghost use Rattle.oct_key.specs.Voxel.{Voxel, IsInMap};
+ghost use Rattle.oct_key.specs.Boxes.{IsInWindow};
 ghost use Rattle.oct_odds.specs.declared.event.Event.{Event};
 ghost use Rattle.oct_values.specs.Events.{IsAscending, scan_events};
 ghost use Rattle.oct_values.specs.Needs.{event_need};
@@ -16,7 +17,7 @@ use crate::bricks::{UpdateBricks, update_bricks};
 use crate::fault::ScanFault;
 use crate::keys::keys_of;
 use crate::scan::Scan;
-use oct_key::{KeyList, Res};
+use oct_key::{KeyList, Res, Window};
 use oct_num::Memory;
 use std::alloc::Global;
 use std::marker::Model;
@@ -61,29 +62,30 @@ impl UpdateSet {
     }
 }
 
-/// What a scan does to each voxel of a map of this resolution, as lists of voxels, where its beams
-/// meet no more voxels than `max_cells`.
+/// What a scan does to each voxel of a map of this resolution that lies in the box, where one
+/// stands, as lists of voxels, where its beams meet no more voxels than `max_cells`.
 ///
 /// A scan is refused first where its origin lies outside the map, then for the first beam that ends
 /// outside, and then for the first beam with which the beams meet too many voxels, where a voxel
-/// counts once for each beam that meets it.
+/// counts once for each beam that meets it. None of the three looks at the box.
 pub fn update_set(
     alloc: Global,
     scan: &Scan,
     res: Res,
     max_cells: u64,
+    window: Option<Window>,
 ) -> Result<UpdateSet, ScanFault>
     requires points { All IsInReach scan.now.points }
     requires range { IfSome scan.now.range (λ r. (pos 0 ≤ℤ r) × (r <ℤ pos (10 ^ 16))) }
     requires max_cells { max_cells ≤ 2 ^ 27 }
 
     ensures hits { IfOk result (λ set. (k : Voxel) →
-        Contains set.hits k ↔ IsHit res (sighting_of scan.now) k) }
+        Contains set.hits k ↔ (IsInWindow window k × IsHit res (sighting_of scan.now) k)) }
     ensures frees { IfOk result (λ set. (k : Voxel) →
-        Contains set.frees k ↔ IsFreed res (sighting_of scan.now) k) }
+        Contains set.frees k ↔ (IsInWindow window k × IsFreed res (sighting_of scan.now) k)) }
     ensures hits_ascend { IfOk result (λ set. IsAscending set.hits) }
     ensures frees_ascend { IfOk result (λ set. IsAscending set.frees) }
-    ensures need { IfOk result (λ set. IsNeed res (sighting_of scan.now) set.need) }
+    ensures need { IfOk result (λ set. IsNeed res window (sighting_of scan.now) set.need) }
 
     ensures inside { IfOk result (λ _. IsInside res (sighting_of scan.now)) }
     ensures within { IfOk result (λ _. MeetAtMost res (origin_of (sighting_of scan.now))
@@ -92,20 +94,20 @@ pub fn update_set(
 
     ensures events { IfOk result (λ set. (hit miss : Event) (k : Voxel) → IsInMap k →
         scan_events set.hits hit set.frees miss k ≡
-        scan_outcome res hit miss (sighting_of scan.now) k) }
+        scan_outcome res window hit miss (sighting_of scan.now) k) }
     ensures hit_count { IfOk result (λ set.
-        length set.hits ≡ hit_count res (sighting_of scan.now)) }
+        length set.hits ≡ hit_count res window (sighting_of scan.now)) }
     ensures free_count { IfOk result (λ set.
-        length set.frees ≡ free_count res (sighting_of scan.now)) }
+        length set.frees ≡ free_count res window (sighting_of scan.now)) }
     ensures few { IfOk result (λ set. length set.hits + length set.frees ≤ max_cells) }
     ensures needed { IfOk result (λ set. (hit miss : Event) →
-        set.need ≡ event_need (scan_outcome res hit miss (sighting_of scan.now))) }
+        set.need ≡ event_need (scan_outcome res window hit miss (sighting_of scan.now))) }
 
     ensures accepted { IfOk result (λ _. scan_fault res (sighting_of scan.now) max_cells ≡ None) }
     ensures fault { IfErr result (λ f. f ≢ ScanFault.Memory →
         scan_fault res (sighting_of scan.now) max_cells ≡ Some f) }
 {
-    let update = update_bricks(alloc, scan, res, max_cells)?;
+    let update = update_bricks(alloc, scan, res, max_cells, window)?;
     let set = list_voxels(alloc, &update)?;
     Ok(set)
 }
