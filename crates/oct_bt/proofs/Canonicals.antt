@@ -10,8 +10,7 @@ use Rattle.oct_odds.specs.declared.event.Class.{Class}
 use Rattle.oct_values.specs.Blocks.{child_numbers}
 use Rattle.oct_values.proofs.Eights.{all_eight}
 use Rattle.oct_key.proofs.Held.{held_by_child}
-use Rattle.oct_values.specs.Classes.{Classes}
-use Rattle.oct_bt.specs.Classes.{class_of_block}
+use Rattle.oct_values.specs.Classes.{Classes, class_of_block}
 use Rattle.oct_bt.specs.Records.{Entries, End, Plain, Record, AreEntries, IsRecord, codes_of, bodies_of, flat, class_in, class_by}
 use Rattle.oct_bt.specs.Canonical.{block_code, child_codes, data_of_child, data_below}
 use Rattle.oct_bt.proofs.Numbering.{numbers_from}

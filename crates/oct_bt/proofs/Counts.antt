@@ -6,8 +6,7 @@ use Rattle.oct_odds.specs.declared.event.Class.{Class}
 use Rattle.oct_odds.specs.declared.event.Class.TheVariants.{Unknown, Free, Occupied}
 use Rattle.oct_bt.specs.declared.mixture.Mixture.{Mixture}
 use Rattle.oct_bt.specs.declared.mixture.Mixture.TheVariants.{Pure, Mixed}
-use Rattle.oct_values.specs.Classes.{Classes}
-use Rattle.oct_bt.specs.Classes.{class_of_block}
+use Rattle.oct_values.specs.Classes.{Classes, class_of_block}
 use Rattle.oct_bt.specs.Records.{Entries, End, Plain, Record, IsRecord, flat, known_entries, record_count}
 use Rattle.oct_bt.specs.Canonical.{data_below, known_codes}
 use Rattle.oct_bt.specs.Mixtures.{class_of_mixture, entry_nodes, IsCounted}

@@ -15,8 +15,7 @@ use Rattle.oct_values.proofs.Eights.{all_eight}
 use Rattle.oct_io.specs.Told.{appended}
 use Rattle.oct_bt.specs.declared.mixture.Mixture.{Mixture}
 use Rattle.oct_bt.specs.declared.mixture.Mixture.TheVariants.{Pure, Mixed}
-use Rattle.oct_values.specs.Classes.{Classes}
-use Rattle.oct_bt.specs.Classes.{class_of_block}
+use Rattle.oct_values.specs.Classes.{Classes, class_of_block}
 use Rattle.oct_bt.specs.Records.{class_code, code_bytes}
 use Rattle.oct_bt.specs.Canonical.{child_codes, data_of_child, data_below, is_unknown, canonical_data, canonical_size, known_codes, node_total}
 use Rattle.oct_bt.specs.File.{text_of_lines, header_lines, header_text, bt_text}

@@ -11,12 +11,12 @@ use Rattle.oct_values.proofs.Eights.{all_eight}
 use Rattle.oct_key.proofs.Held.{held_in_map}
 use Rattle.oct_values.proofs.Held.{all_pass, each_passes}
 use Rattle.oct_key.proofs.Blocks.{root_in_map}
-use Rattle.oct_values.specs.Classes.{Classes}
-use Rattle.oct_bt.specs.Classes.{is_same_class, class_of_block}
+use Rattle.oct_values.specs.Classes.{Classes, is_same_class, class_of_block}
 use Rattle.oct_bt.specs.Records.{Entries, flat, class_by}
 use Rattle.oct_bt.specs.Canonical.{child_codes, data_of_child, data_below, is_unknown, canonical_data}
 use Rattle.oct_bt.proofs.Texts.{same_record}
-use Rattle.oct_bt.proofs.Alike.{is_same_class_exact, same_class_of_block}
+use Rattle.oct_values.proofs.Alike.{is_same_class_exact}
+use Rattle.oct_bt.proofs.Alike.{same_class_of_block}
 use Rattle.oct_bt.proofs.Canonicals.{canonical_record, flat_map-same, child_height, child_is_block, data_is_flat, canonical_is_record, canonical_gives}
 
 -- two maps give each voxel the same class

@@ -5,8 +5,7 @@ use Rattle.oct_key.specs.Block.{Cube, IsBlock, HoldsVoxel, child_of, root_block}
 use Rattle.oct_odds.specs.declared.event.Class.{Class}
 use Rattle.oct_key.proofs.Held.{held_in_map}
 use Rattle.oct_key.proofs.Blocks.{root_in_map}
-use Rattle.oct_values.specs.Classes.{Classes}
-use Rattle.oct_bt.specs.Classes.{class_of_block}
+use Rattle.oct_values.specs.Classes.{Classes, class_of_block}
 use Rattle.oct_bt.specs.Canonical.{is_unknown, canonical_data}
 use Rattle.oct_bt.proofs.Injective.{root_record, data_of_unknown, root_data}
 use Rattle.oct_bt.specs.Records.{Entries, End, Plain, Record, AreEntries, IsRecord, bodies_of, flat, class_in, class_by}

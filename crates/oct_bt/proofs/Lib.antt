@@ -28,3 +28,4 @@ pub mod Counts
 pub mod Encodings
 pub mod Volumes
 pub mod Tallies
+pub mod Rewrites

@@ -14,8 +14,7 @@ use Rattle.oct_values.proofs.Eights.{number_of_eight}
 use Rattle.std.proofs.lemmas.List.Elements.{All-cons, All-contains}
 use Rattle.oct_key.proofs.Held.{held_in_map}
 use Rattle.oct_key.proofs.Blocks.{root_in_map}
-use Rattle.oct_values.specs.Classes.{Classes}
-use Rattle.oct_bt.specs.Classes.{class_of_block}
+use Rattle.oct_values.specs.Classes.{Classes, class_of_block}
 use Rattle.oct_bt.specs.Records.{Entries, End, Plain, Record, AreEntries, IsRecord, class_code, codes_of, code_bytes, bodies_of, flat, class_by}
 use Rattle.oct_bt.specs.Canonical.{block_code, child_codes, is_unknown, canonical_data}
 use Rattle.oct_bt.proofs.Numbering.{numbers_from}

@@ -2,7 +2,7 @@
 use Rattle.std.proofs.Common.{◌≡◌, ℕ, zero, suc, ◌+◌, ◌-◌, ◌*◌, ◌/◌, ◌%◌, ◌^◌, ◌<◌, ◌≤◌, Bool, true, false, cond, List, [], ◌∷◌, ◌++◌, length, drop, get_or, append_assoc, length-append, refl, sym, subst, ◌∙◌, ap, arith}
 use Rattle.oct_odds.specs.declared.event.Class.{Class}
 use Rattle.oct_odds.specs.declared.event.Class.TheVariants.{Free, Occupied}
-use Rattle.oct_bt.specs.Classes.{is_same_class}
+use Rattle.oct_values.specs.Classes.{is_same_class}
 use Rattle.oct_bt.specs.Records.{Entries, End, Plain, Record, AreEntries, IsRecord, class_code, codes_of, bodies_of, flat}
 use Rattle.oct_bt.specs.Voxels.{class_voxels, leaf_voxels, IsRecordCount}
 use Rattle.oct_bt.proofs.Texts.{class_code_below}

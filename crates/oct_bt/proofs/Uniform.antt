@@ -5,8 +5,7 @@ use Rattle.oct_key.proofs.Blocks.{child_in_map, child_index_below}
 use Rattle.oct_key.proofs.Held.{held_by_parent, held_by_child}
 use Rattle.oct_odds.specs.declared.event.Class.{Class}
 use Rattle.oct_odds.specs.declared.event.Class.TheVariants.{Unknown, Free, Occupied}
-use Rattle.oct_values.specs.Classes.{Classes}
-use Rattle.oct_bt.specs.Classes.{class_of_block}
+use Rattle.oct_values.specs.Classes.{Classes, class_of_block}
 use Rattle.oct_bt.specs.Canonical.{block_code}
 use Rattle.oct_bt.proofs.Alike.{class_of_all, class_of_each}
 

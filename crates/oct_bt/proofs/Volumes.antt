@@ -9,11 +9,10 @@ use Rattle.oct_key.proofs.Held.{held_in_map}
 use Rattle.oct_odds.specs.declared.event.Class.{Class}
 use Rattle.oct_odds.specs.declared.event.Class.TheVariants.{Unknown}
 use Rattle.oct_values.specs.Blocks.{child_numbers, voxels_below, voxels_of}
-use Rattle.oct_values.specs.Classes.{Classes}
+use Rattle.oct_values.specs.Classes.{Classes, is_same_class}
 use Rattle.oct_values.proofs.Eights.{sum_by-flat_map, sum_of_eight, same_eight}
 use Rattle.oct_values.proofs.Sums.{All-follows, count_by-same}
 use Rattle.oct_values.proofs.Held.{all_held}
-use Rattle.oct_bt.specs.Classes.{is_same_class}
 use Rattle.oct_bt.specs.NodeData.{IsDataOf}
 use Rattle.oct_bt.specs.Records.{Entries, End, Plain, Record, AreEntries, IsRecord, flat, class_in, class_by}
 use Rattle.oct_bt.specs.Voxels.{class_voxels, leaf_voxels}

@@ -11,8 +11,7 @@ use Rattle.oct_values.specs.Blocks.{child_numbers}
 use Rattle.oct_io.specs.Told.{appended}
 use Rattle.oct_bt.specs.declared.mixture.Mixture.{Mixture}
 use Rattle.oct_bt.specs.declared.mixture.Mixture.TheVariants.{Pure, Mixed}
-use Rattle.oct_values.specs.Classes.{Classes}
-use Rattle.oct_bt.specs.Classes.{class_of_block}
+use Rattle.oct_values.specs.Classes.{Classes, class_of_block}
 use Rattle.oct_bt.specs.Records.{code_bytes}
 use Rattle.oct_bt.specs.Canonical.{block_code, child_codes, data_of_child, data_below}
 use Rattle.oct_bt.specs.Mixtures.{voxel_on, IsPureBefore, IsFirstOther, IsMixtureOf, AreMixtures, class_of_mixture, mixture_codes, IsCutOff}

@@ -5,8 +5,7 @@ use Rattle.oct_key.specs.Block.{Cube, child_of, root_block}
 use Rattle.oct_odds.specs.declared.event.Class.{Class}
 use Rattle.oct_odds.specs.declared.event.Class.TheVariants.{Unknown}
 use Rattle.oct_values.specs.Blocks.{child_numbers, voxels_of}
-use Rattle.oct_values.specs.Classes.{Classes}
-use Rattle.oct_bt.specs.Classes.{is_same_class, class_of_block}
+use Rattle.oct_values.specs.Classes.{Classes, is_same_class, class_of_block}
 use Rattle.oct_bt.specs.Records.{class_code, code_bytes}
 
 -- the code of a block: its class, or 3 where its voxels aren't of one

@@ -58,3 +58,7 @@ after_header file (Ok header) =
 -- the reading of a whole file, or its first fault
 unfoldable pub reading : List ℕ → Result FileRead BtFault
 reading file = after_header file (header_of (head_of file))
+
+-- a file that was read, written again: a header of the writer's form, and the same records
+abbrev pub file_text : FileRead → List ℕ
+file_text file = header_text file.nodes file.res ++ file.codes

@@ -7,8 +7,7 @@ use Rattle.oct_io.specs.Told.{appended}
 use Rattle.oct_tree.specs.Tree.{Tree, value_at}
 use Rattle.oct_bt.specs.declared.mixture.Mixture.{Mixture}
 use Rattle.oct_bt.specs.declared.mixture.Mixture.TheVariants.{Pure, Mixed}
-use Rattle.oct_values.specs.Classes.{Classes, classes_of}
-use Rattle.oct_bt.specs.Classes.{class_of_block}
+use Rattle.oct_values.specs.Classes.{Classes, classes_of, class_of_block}
 use Rattle.oct_odds.specs.declared.event.Class.TheVariants.{Unknown, Free, Occupied}
 use Rattle.oct_bt.specs.Records.{code_bytes}
 use Rattle.oct_bt.specs.Canonical.{block_code, known_codes}

@@ -2,7 +2,7 @@
 use Rattle.std.specs.Prelude.{◌≡◌, ℕ, suc, ◌+◌, ◌-◌, ◌^◌, length, if◌then◌else◌}
 use Rattle.oct_odds.specs.declared.event.Class.{Class}
 use Rattle.oct_odds.specs.declared.event.Class.TheVariants.{Free, Occupied}
-use Rattle.oct_bt.specs.Classes.{is_same_class}
+use Rattle.oct_values.specs.Classes.{is_same_class}
 use Rattle.oct_bt.specs.Records.{Entries, End, Plain, Record, flat}
 
 -- how many voxels of the first class a child of a block of this depth has, all of whose voxels are

@@ -25,7 +25,7 @@ const FIRST_LINES: &str = "# Octomap OcTree binary file\n\
     size ";
 
 /// The header of a file of so many nodes.
-fn header_of(nodes: u64, res: Res) -> ArrayString<256>
+pub(crate) fn header_of(nodes: u64, res: Res) -> ArrayString<256>
     ensures { result.bytes ≡ header_text nodes res }
 {
     let mut text = ArrayString::new();

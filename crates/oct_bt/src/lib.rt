@@ -16,6 +16,8 @@
 //! - [`write`] writes the canonical file of a tree's classes to a sink, record by record, and
 //!   answers its length, which [`encoded_len`] tells beforehand. What it writes depends on the
 //!   classes of the voxels alone (`bt_text` in `specs/File.antt`), also on trees that aren't pruned.
+//! - [`rewrite`] writes a file that was read with its records as they are. Where they are canonical
+//!   that is the canonical file, with no tree made.
 //! - Laws say what node data is worth: a block is coded as a class exactly where all its voxels
 //!   are of it ([`block_classes_are_exact`]), two classifications have equal canonical data exactly
 //!   where they are equal on the map ([`data_tells_classes`]), no data for a classification is
@@ -49,6 +51,7 @@ mod mixture;
 mod node_reader;
 mod path;
 mod reader;
+mod rewriting;
 #[cfg(test)]
 mod tests;
 mod voxels;
@@ -67,4 +70,5 @@ pub use laws::{
     texts_tell_records,
 };
 pub use reader::Reader;
+pub use rewriting::rewrite;
 pub use voxels::Voxels;

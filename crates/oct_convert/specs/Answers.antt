@@ -6,8 +6,7 @@ use Rattle.oct_odds.specs.declared.event.Class.{Class}
 use Rattle.oct_odds.specs.declared.event.Class.TheVariants.{Free, Occupied}
 use Rattle.oct_values.specs.Blocks.{voxels_of}
 use Rattle.oct_bt.specs.declared.fault.BtFault.{BtFault}
-use Rattle.oct_values.specs.Classes.{Classes}
-use Rattle.oct_bt.specs.Classes.{is_same_class}
+use Rattle.oct_values.specs.Classes.{Classes, is_same_class}
 use Rattle.oct_bt.specs.DataClasses.{data_classes}
 use Rattle.oct_bt.specs.FaultText.{fault_text}
 use Rattle.oct_bt.specs.File.{FileRead, bt_text, reading}

@@ -20,8 +20,9 @@
 //!   each may end.
 //! - A count of faults rises by one exactly where the ending names the fault.
 //!
-//! `convert` fills a tree with the classes, so that the writer merges what is of one class. The
-//! program `octomap` stands on this crate; it stands on `oct_bt` for the file and on `oct_io`.
+//! `convert` writes a file whose node data is canonical with the records that were read. Of any other
+//! it fills a tree with the classes, so that the writer merges what is of one class. The program
+//! `octomap` stands on this crate; it stands on `oct_bt` for the file and on `oct_io`.
 #![tactic(auto)]
 
 mod ending;

@@ -6,7 +6,7 @@ ghost use Rattle.oct_convert.specs.Answers.{canonical_text, line, refusal_line, 
 ghost use Rattle.oct_convert.specs.Ending.{Sends};
 
 use itoa::Buffer;
-use oct_bt::{BtFault, BtFile, fill, push_fault, write};
+use oct_bt::{BtFault, BtFile, fill, push_fault, rewrite, write};
 use oct_io::{Sink, SinkFault, write_all};
 use oct_num::{Memory, metres_text};
 use oct_odds::OddsModel;
@@ -95,9 +95,30 @@ pub fn write_report<K: Sink>(alloc: Global, file: &BtFile, sink: &mut K) -> Resu
     write_all(sink, &text)
 }
 
-/// Writes the canonical file of the classes of a file, through a tree that is filled with them.
-/// After an error a prefix of it was written.
+/// Writes the canonical file of the classes of a file: its own records where they are canonical, and
+/// else through a tree. After an error a prefix of it was written.
 pub fn write_canonical<K: Sink>(alloc: Global, file: &BtFile, sink: &mut K) -> Result<(), SinkFault>
+    requires accepted { IsAccepted file.now.nodes file.now.codes }
+    requires few { length file.now.codes ≤ 2 ^ 32 }
+    ensures sends { Sends (canonical_text file.now) (K.written sink.old) (K.written sink.new) result }
+    ensures stays { OnOk result ((K.faults sink.new ≡ K.faults sink.old)
+        × (K.shortages sink.new ≡ K.shortages sink.old)) }
+    ensures failed { IsErrOf result SinkFault.Failed → Rose (K.faults sink.old) (K.faults sink.new)
+        × (K.shortages sink.new ≡ K.shortages sink.old) }
+    ensures memory { IsErrOf result SinkFault.Memory → (K.faults sink.new ≡ K.faults sink.old)
+        × ((K.shortages sink.new ≡ K.shortages sink.old)
+        ⊎ Rose (K.shortages sink.old) (K.shortages sink.new)) }
+{
+    if file.is_canonical() {
+        rewrite(file, sink)
+    } else {
+        write_merged(alloc, file, sink)
+    }
+}
+
+/// Writes the canonical file of the classes of a file through a tree that is filled with them.
+/// After an error a prefix of it was written.
+fn write_merged<K: Sink>(alloc: Global, file: &BtFile, sink: &mut K) -> Result<(), SinkFault>
     requires accepted { IsAccepted file.now.nodes file.now.codes }
     requires few { length file.now.codes ≤ 2 ^ 32 }
     ensures sends { Sends (canonical_text file.now) (K.written sink.old) (K.written sink.new) result }

@@ -1,3 +1,4 @@
 pub mod Appending
 pub mod Filing
 pub mod Taking
+pub mod Gathering

@@ -4,3 +4,4 @@ pub mod Files
 pub mod Loaded
 pub mod CalmFiles
 pub mod Taken
+pub mod Gathered

@@ -11,6 +11,7 @@
 //!   isn't empty exactly at the end of the input.
 //! - [`Sink::write`] takes bytes from the front of a piece, at least one where there is one.
 //!   [`write_all`] writes the whole piece, and after an error a prefix of it was written.
+//! - [`Gather`] holds up to 4,096 bytes on their way to a sink, and hands it whole pieces.
 //! - [`read_piece`] reads once of an input that may have so many bytes more.
 //! - [`Store::save`] sets the bytes of one name and touches no other. [`Store::load`] gives them
 //!   back, or says that there is no such file, or that it has more than `2^30` bytes.
@@ -38,18 +39,22 @@ mod calm_source;
 mod calm_store;
 mod file_bytes;
 mod folder_store;
+mod gather;
 mod piece;
 mod sink;
 mod source;
 mod std_sink;
 mod std_source;
 mod store;
+#[cfg(test)]
+mod tests;
 
 pub use calm_sink::CalmSink;
 pub use calm_source::CalmSource;
 pub use calm_store::CalmStore;
 pub use file_bytes::FileBytes;
 pub use folder_store::FolderStore;
+pub use gather::Gather;
 pub use piece::read_piece;
 pub use sink::{Sink, SinkFault, write_all};
 pub use source::{Failed, Source};

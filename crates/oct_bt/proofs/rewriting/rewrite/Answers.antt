@@ -1,0 +1,23 @@
+use Rattle.std.proofs.Common.{ap, ◌∙◌}
+use Rattle.oct_bt.specs.File.{file_text}
+use Rattle.oct_io.proofs.Gathering.{IsGathered, gathered_whole, gathered_cut}
+use Rattle.oct_bt.proofs.Rewrites.{on_ok_follows, on_err_follows, text_parts, two_pushed}
+use Rattle.oct_bt.proofs.rewriting.rewrite.Goals as goal
+
+pub returns-clause-written : goal.returns-clause-written
+returns-clause-written g c = on_ok_follows c.flush.result (λ wrote. gathered_whole _ _ _ _ _ all wrote) c.flush.ensures.ok
+  where
+    all : IsGathered (file_text c.args.file.now) (g.K.Sink.written c.args.sink.now) (g.K.Sink.written c.push-2.new.sink) c.push-2.new.self
+    all = two_pushed _ c.as_bytes.result.now c.as_slice.result.now _ _ _ _ _ _ _ _
+        (text_parts c.args.file.now _ _ c.nodes.result c.res.result (c.as_bytes.ensures.value ∙ c.deref.ensures.0 ∙ c.header_of-header.ensures)
+        c.nodes.ensures c.res.ensures (c.as_slice.ensures ∙ c.codes.ensures.codes))
+        c.new-gather.ensures c.in_ok-push.ensures.handed c.in_ok-push.ensures.held c.in_ok-push-2.ensures.handed c.in_ok-push-2.ensures.held
+
+pub returns-clause-begun : goal.returns-clause-begun
+returns-clause-begun g c = on_err_follows c.flush.result (λ (n, few, wrote). gathered_cut _ _ n _ _ _ all wrote) c.flush.ensures.err
+  where
+    all : IsGathered (file_text c.args.file.now) (g.K.Sink.written c.args.sink.now) (g.K.Sink.written c.push-2.new.sink) c.push-2.new.self
+    all = two_pushed _ c.as_bytes.result.now c.as_slice.result.now _ _ _ _ _ _ _ _
+        (text_parts c.args.file.now _ _ c.nodes.result c.res.result (c.as_bytes.ensures.value ∙ c.deref.ensures.0 ∙ c.header_of-header.ensures)
+        c.nodes.ensures c.res.ensures (c.as_slice.ensures ∙ c.codes.ensures.codes))
+        c.new-gather.ensures c.in_ok-push.ensures.handed c.in_ok-push.ensures.held c.in_ok-push-2.ensures.handed c.in_ok-push-2.ensures.held

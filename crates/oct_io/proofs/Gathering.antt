@@ -1,0 +1,165 @@
+-- Bytes that are handed on in pieces of 4,096.
+use Rattle.std.proofs.Common.{◌≡◌, ℕ, suc, ◌+◌, ◌-◌, ◌*◌, ◌/◌, ◌<◌, ◌≤◌, ◌⊎◌, inl, inr, List, [], ◌∷◌, ◌++◌, length, take, drop, Option, Some, None, refl, sym, ◌∙◌, ap, subst, arith, append_assoc, length-append}
+use Rattle.std.specs.Prelude.{Result, Ok, Err, OnErr}
+use Rattle.std.proofs.Math.Seq.{take-add, take-append-add, drop-append-add}
+use Rattle.std.proofs.lemmas.List.{take-append-drop, drop-drop, length-take, length-drop}
+use Rattle.oct_io.specs.Gathered.{handed_on}
+use Rattle.oct_io.specs.Taken.{IsBegun}
+use Rattle.oct_io.specs.Told.{appended}
+use Rattle.oct_io.proofs.Appending.{appended_twice, appended_nil}
+
+-- some whole pieces of all the bytes were handed on, and these are held and to be taken
+pub record IsPushing (all held rest : List ℕ) (old new : Option (List ℕ)) : Type 0 where
+  pub rounds : ℕ
+  pub left : held ++ rest ≡ drop (rounds * 4096) all
+  pub long : rounds * 4096 + length (held ++ rest) ≡ length all
+  pub written : new ≡ appended old (take (rounds * 4096) all)
+  pub more : (rounds ≡ 0) ⊎ (0 < length rest)
+
+-- at first none
+pub pushing_first : (held rest : List ℕ) (old : Option (List ℕ)) → IsPushing (held ++ rest) held rest old old
+pushing_first held rest old = record { rounds = 0; left = refl; long = omega arith; written = appended_nil old; more = inl refl }
+
+-- one more: what fits is held, and all that is held is handed on
+pushing_step : (all held rest : List ℕ) (room : ℕ) (old new next : Option (List ℕ)) → IsPushing all held rest old new
+    → room + length held ≡ 4096 → room < length rest → next ≡ appended new (held ++ take room rest)
+    → IsPushing all [] (drop room rest) old next
+pushing_step all held rest room old new next p full over wrote =
+    let count : length held + room ≡ 4096 = omega (arith, full) in
+    let piece : take 4096 (held ++ rest) ≡ held ++ take room rest = ap (λ n. take n (held ++ rest)) (sym count) ∙ take-append-add held rest room in
+    let behind : drop 4096 (held ++ rest) ≡ drop room rest = ap (λ n. drop n (held ++ rest)) (sym count) ∙ drop-append-add held rest room in
+    let both : p.rounds * 4096 + 4096 ≡ suc p.rounds * 4096 = omega arith in
+    let size : length (drop room rest) ≡ length rest - room = length-drop room rest in
+    let parts = length-append held rest in
+    let long = p.long in
+    record {
+      rounds = suc p.rounds;
+      left = sym behind ∙ ap (drop 4096) p.left ∙ drop-drop 4096 (p.rounds * 4096) all ∙ ap (λ n. drop n all) both;
+      long = omega (arith, long, parts, size, full, over);
+      written = wrote ∙ ap (λ w. appended w (held ++ take room rest)) p.written ∙ appended_twice old (take (p.rounds * 4096) all) (held ++ take room rest)
+          ∙ ap (λ l. appended old (take (p.rounds * 4096) all ++ l)) (sym piece ∙ ap (take 4096) p.left)
+          ∙ ap (appended old) (sym (take-add (p.rounds * 4096) 4096 all)) ∙ ap (λ n. appended old (take n all)) both;
+      more = inr (omega (arith, size, over));
+    }
+
+pub pushing_next : (all held rest held' rest' : List ℕ) (room : ℕ) (old new next : Option (List ℕ)) → IsPushing all held rest old new
+    → room + length held ≡ 4096 → room < length rest → held' ≡ [] → rest' ≡ drop room rest
+    → next ≡ appended new (held ++ take room rest) → IsPushing all held' rest' old next
+pushing_next all held rest held' rest' room old new next p full over none is wrote =
+    subst (λ l. IsPushing all l rest' old next) (sym none) (subst (λ l. IsPushing all [] l old next) (sym is)
+    (pushing_step all held rest room old new next p full over wrote))
+
+-- what was pushed so far is all that a sink may have been called for
+pub pushing_long : (all held rest : List ℕ) (room : ℕ) (old new : Option (List ℕ)) → IsPushing all held rest old new
+    → room + length held ≡ 4096 → room < length rest → length all ≤ 4096 → ⊥
+pushing_long all held rest room old new p full over short =
+    let parts = length-append held rest in
+    let long = p.long in
+    omega (arith, long, parts, full, over, short)
+
+-- where it gives up, a prefix of all was handed on
+pub pushing_begun : (all held rest : List ℕ) (room n : ℕ) (old new next : Option (List ℕ)) → IsPushing all held rest old new
+    → room + length held ≡ 4096 → next ≡ appended new (take n (held ++ take room rest))
+    → IsBegun all old next
+pushing_begun all held rest room n old new next p full wrote =
+    let count : length held + room ≡ 4096 = omega (arith, full) in
+    let piece : take 4096 (held ++ rest) ≡ held ++ take room rest = ap (λ n. take n (held ++ rest)) (sym count) ∙ take-append-add held rest room in
+    let whole : held ++ rest ≡ take n (held ++ take room rest) ++ (drop n (held ++ take room rest) ++ drop room rest) =
+    ap (λ l. held ++ l) (sym (take-append-drop room rest)) ∙ sym (append_assoc held (take room rest) (drop room rest))
+    ∙ ap (λ l. l ++ drop room rest) (sym (take-append-drop n (held ++ take room rest))) ∙ append_assoc (take n (held ++ take room rest)) (drop n (held ++ take room rest)) (drop room rest) in
+    record {
+      done = take (p.rounds * 4096) all ++ take n (held ++ take room rest);
+      rest = drop n (held ++ take room rest) ++ drop room rest;
+      written = wrote ∙ ap (λ w. appended w (take n (held ++ take room rest))) p.written ∙ appended_twice old (take (p.rounds * 4096) all) (take n (held ++ take room rest));
+      split = sym (take-append-drop (p.rounds * 4096) all) ∙ ap (λ l. take (p.rounds * 4096) all ++ l) (sym p.left ∙ whole)
+          ∙ sym (append_assoc (take (p.rounds * 4096) all) (take n (held ++ take room rest)) (drop n (held ++ take room rest) ++ drop room rest));
+    }
+
+-- so many whole pieces are those of the number
+whole_pieces : (rounds left total : ℕ) → rounds * 4096 + left ≡ total → left ≤ 4096 → (rounds ≡ 0) ⊎ (0 < left) → handed_on total ≡ rounds * 4096
+whole_pieces rounds left total sum few (inl none) = omega (arith, sum, few, none)
+whole_pieces rounds left total sum few (inr some) = omega (arith, sum, few, some)
+
+-- in the end, what is left is held
+pub pushing_held : (all held rest : List ℕ) (old new : Option (List ℕ)) → IsPushing all held rest old new
+    → length held + length rest ≤ 4096 → held ++ rest ≡ drop (handed_on (length all)) all
+pushing_held all held rest old new p fits =
+    let parts = length-append held rest in
+    p.left ∙ ap (λ n. drop n all) (sym (whole_pieces p.rounds (length (held ++ rest)) (length all) p.long (omega (arith, parts, fits)) (some p.more)))
+  where
+    some : (p.rounds ≡ 0) ⊎ (0 < length rest) → (p.rounds ≡ 0) ⊎ (0 < length (held ++ rest))
+    some (inl none) = inl none
+    some (inr l) = (let parts = length-append held rest in inr (omega (arith, parts, l)))
+
+-- and what was written before it, and it, are all
+pub pushing_ok : (first piece held rest : List ℕ) (old new : Option (List ℕ)) → IsPushing (first ++ piece) held rest old new
+    → appended new (held ++ rest) ≡ appended (appended old first) piece
+pushing_ok first piece held rest old new p =
+    ap (λ w. appended w (held ++ rest)) p.written ∙ appended_twice old (take (p.rounds * 4096) (first ++ piece)) (held ++ rest)
+    ∙ ap (λ l. appended old (take (p.rounds * 4096) (first ++ piece) ++ l)) p.left
+    ∙ ap (appended old) (take-append-drop (p.rounds * 4096) (first ++ piece)) ∙ sym (appended_twice old first piece)
+
+-- a fact holds of any error
+pub on_any_err : {A B : Type 0} (r : Result A B) (P : Type 0) → P → OnErr r P
+on_any_err (Ok x) P p = tt
+on_any_err (Err e) P p = p
+
+-- and the rest of all was handed on
+pub pushing_handed : (all held rest : List ℕ) (old new : Option (List ℕ)) → IsPushing all held rest old new
+    → length held + length rest ≤ 4096 → new ≡ appended old (take (handed_on (length all)) all)
+pushing_handed all held rest old new p fits =
+    let parts = length-append held rest in
+    p.written ∙ ap (λ n. appended old (take n all)) (sym (whole_pieces p.rounds (length (held ++ rest)) (length all) p.long (omega (arith, parts, fits)) (some p.more)))
+  where
+    some : (p.rounds ≡ 0) ⊎ (0 < length rest) → (p.rounds ≡ 0) ⊎ (0 < length (held ++ rest))
+    some (inl none) = inl none
+    some (inr l) = (let parts = length-append held rest in inr (omega (arith, parts, l)))
+
+-- ---- for those who push: a text of which a front was written, and the rest is held
+
+pub record IsGathered (text : List ℕ) (old new : Option (List ℕ)) (held : List ℕ) : Type 0 where
+  pub front : List ℕ
+  pub written : new ≡ appended old front
+  pub split : text ≡ front ++ held
+
+-- of no text
+pub gathered_first : (old : Option (List ℕ)) → IsGathered [] old old []
+gathered_first old = record { front = []; written = appended_nil old; split = refl }
+
+-- a piece more
+pub gathered_push : (text piece held held' : List ℕ) (n : ℕ) (old new next : Option (List ℕ)) → IsGathered text old new held
+    → next ≡ appended new (take n (held ++ piece)) → held' ≡ drop n (held ++ piece) → IsGathered (text ++ piece) old next held'
+gathered_push text piece held held' n old new next g wrote is = record {
+  front = g.front ++ take n (held ++ piece);
+  written = wrote ∙ ap (λ w. appended w (take n (held ++ piece))) g.written ∙ appended_twice old g.front (take n (held ++ piece));
+  split = ap (λ l. l ++ piece) g.split ∙ append_assoc g.front held piece
+      ∙ ap (λ l. g.front ++ l) (sym (take-append-drop n (held ++ piece)) ∙ ap (λ l. take n (held ++ piece) ++ l) (sym is))
+      ∙ sym (append_assoc g.front (take n (held ++ piece)) held');
+}
+
+-- a piece that failed
+pub gathered_begun : (text piece held : List ℕ) (old new next : Option (List ℕ)) → IsGathered text old new held
+    → IsBegun (held ++ piece) new next → IsBegun (text ++ piece) old next
+gathered_begun text piece held old new next g b = record {
+  done = g.front ++ b.done;
+  rest = b.rest;
+  written = b.written ∙ ap (λ w. appended w b.done) g.written ∙ appended_twice old g.front b.done;
+  split = ap (λ l. l ++ piece) g.split ∙ append_assoc g.front held piece ∙ ap (λ l. g.front ++ l) b.split
+      ∙ sym (append_assoc g.front b.done b.rest);
+}
+
+-- all that is held, written
+pub gathered_whole : (text held : List ℕ) (old new next : Option (List ℕ)) → IsGathered text old new held
+    → next ≡ appended new held → next ≡ appended old text
+gathered_whole text held old new next g wrote =
+    wrote ∙ ap (λ w. appended w held) g.written ∙ appended_twice old g.front held ∙ ap (appended old) (sym g.split)
+
+-- or a part of it
+pub gathered_cut : (text held : List ℕ) (n : ℕ) (old new next : Option (List ℕ)) → IsGathered text old new held
+    → next ≡ appended new (take n held) → IsBegun text old next
+gathered_cut text held n old new next g wrote = record {
+  done = g.front ++ take n held;
+  rest = drop n held;
+  written = wrote ∙ ap (λ w. appended w (take n held)) g.written ∙ appended_twice old g.front (take n held);
+  split = g.split ∙ ap (λ l. g.front ++ l) (sym (take-append-drop n held)) ∙ sym (append_assoc g.front (take n held) (drop n held));
+}
