@@ -1,0 +1,167 @@
+//! Scripts that a second program wrote from the same numbers, in pieces of any length, and a sink
+//! that fails.
+ghost use Rattle.std.specs.Prelude.{◌≤◌, None};
+
+use crate::{Generator, gen_script, generate};
+use oct_io::{CalmSink, Sink, SinkFault, Source};
+use std::alloc::Global;
+use std::test::Fail;
+
+/// A seed, how many scans of how many points, and their script.
+const SCRIPTS: [(u64, u32, u32, &str); 7] = [
+    (7, 0, 0, "# octomap gen 7 0 0\nquit\n"),
+    (7, 0, 100_000, "# octomap gen 7 0 100000\nquit\n"),
+    (
+        u64::MAX,
+        0,
+        u32::MAX,
+        "# octomap gen 18446744073709551615 0 4294967295\nquit\n",
+    ),
+    (
+        1,
+        1,
+        0,
+        "# octomap gen 1 1 0\nscan 1.623 0.736 -0.802 1 0 0 -2 8\nend\nquit\n",
+    ),
+    (
+        1,
+        1,
+        2,
+        "# octomap gen 1 1 2\nscan 1.623 0.736 -0.802 1 0 0 -2 8\np -4.77 -2.678 3.186\n\
+            p -2.145 2.778 -0.864\nend\nquit\n",
+    ),
+    (
+        0,
+        2,
+        1,
+        "# octomap gen 0 2 1\nscan -0.17 -0.161 -0.962 1 0 0 -1 8\np 2.751 1.46 -3.803\nend\n\
+            scan -1.092 -1.869 0.445 1 0 0 1 8\np 3.066 -2.062 -2.249\nend\nquit\n",
+    ),
+    (
+        999_999_999_999_999_999,
+        2,
+        1,
+        "# octomap gen 999999999999999999 2 1\nscan -0.703 -0.261 0.227 1 0 0 1 8\np 3.847 -1.51 4.972\nend\n\
+            scan -0.148 1.671 -1.984 1 0 0 2 8\np 4.411 2.439 -2.668\nend\nquit\n",
+    ),
+];
+
+/// The 64 bits of the hash by Fowler, Noll and Vo (FNV-1a) of a text.
+fn hash_of(text: &[u8]) -> u64 {
+    let mut hash = 0xcbf2_9ce4_8422_2325u64;
+    for byte in text {
+        hash = (hash ^ u64::from(*byte)).wrapping_mul(0x0100_0000_01b3);
+    }
+    hash
+}
+
+/// The script of a seed.
+fn script(alloc: Global, seed: u64, scans: u32, points: u32) -> Result<Vec<u8>, Fail> {
+    let mut text = Vec::new(alloc);
+    gen_script(&mut text, seed, scans, points)?;
+    Ok(text)
+}
+
+#[test]
+fn writes_the_scripts_of_the_table(rt: HostRuntime) -> Result<(), Fail> {
+    for (seed, scans, points, want) in SCRIPTS {
+        let text = script(rt.alloc(), seed, scans, points)?;
+        assert_eq!(rt; text.as_slice(), want.as_bytes(), "{seed} {scans} {points}");
+    }
+    Ok(())
+}
+
+#[test]
+fn writes_what_a_second_program_writes(rt: HostRuntime) -> Result<(), Fail> {
+    for (seed, scans, points, size, hash) in [
+        (1, 3, 50, 3338, 0xb774_dfe8_4595_431b),
+        (0, 1000, 0, 38554, 0x0639_dc40_e451_7dfa),
+    ] {
+        let text = script(rt.alloc(), seed, scans, points)?;
+        assert_eq!(rt; text.len(), size, "{seed} {scans} {points}");
+        assert_eq!(rt; hash_of(&text), hash, "{seed} {scans} {points}");
+    }
+    Ok(())
+}
+
+/// The script of seed 1 with three scans of 50 points, by reads of this length.
+fn read_all(alloc: Global, most: usize) -> Result<Vec<u8>, Fail>
+    requires room { most ≤ 4096 }
+{
+    let mut source = Generator::new(1, 3, 50);
+    let mut buffer = [0u8; 4096];
+    let mut text = Vec::new(alloc);
+    for _ in 0..3400 {
+        let count = source.read(&mut buffer[..most])?;
+        text.extend_from_slice(&buffer[..count])?;
+    }
+    Ok(text)
+}
+
+#[test]
+fn reads_of_any_length_give_the_same_text(rt: HostRuntime) -> Result<(), Fail> {
+    let alloc = rt.alloc();
+    let want = script(alloc, 1, 3, 50)?;
+    for text in [
+        read_all(alloc, 1)?,
+        read_all(alloc, 7)?,
+        read_all(alloc, 4096)?,
+    ] {
+        assert_eq!(rt; text.as_slice(), want.as_slice());
+    }
+    Ok(())
+}
+
+#[test]
+fn a_sink_gets_the_same_text(rt: HostRuntime) -> Result<(), Fail> {
+    let want = script(rt.alloc(), 1, 3, 50)?;
+    let mut sink = CalmSink::new(rt.alloc(), 1000);
+    generate(1, 3, 50, &mut sink)?;
+    assert_eq!(rt; sink.written(), want.as_slice());
+    Ok(())
+}
+
+/// Takes so many bytes, and then fails.
+#[derive(Drop)]
+struct FullSink {
+    room: usize,
+    faults: u64,
+}
+
+impl Sink for FullSink {
+    ghost written = { λ _. None };
+
+    ghost faults = { λ s. s.faults };
+
+    ghost shortages = { λ _. 0 };
+
+    fn write(&mut self, piece: &[u8]) -> Result<usize, SinkFault> {
+        let count = piece.len().min(self.room);
+        if count == 0 && !piece.is_empty() {
+            self.faults = self.faults.saturating_add(1);
+            return Err(SinkFault::Failed);
+        }
+        self.room -= count;
+        Ok(count)
+    }
+}
+
+#[test]
+fn a_sink_that_fails_has_a_prefix(rt: HostRuntime) -> Result<(), Fail> {
+    for room in [0, 1, 3337] {
+        let mut sink = FullSink { room, faults: 0 };
+        assert_eq!(rt;
+            generate(1, 3, 50, &mut sink),
+            Err(SinkFault::Failed),
+            "{room}"
+        );
+        assert_eq!(rt; (sink.room, sink.faults), (0, 1), "{room}");
+    }
+    let mut sink = FullSink {
+        room: 3338,
+        faults: 0,
+    };
+    assert_eq!(rt; generate(1, 3, 50, &mut sink), Ok(()));
+    assert_eq!(rt; (sink.room, sink.faults), (0, 0));
+    Ok(())
+}

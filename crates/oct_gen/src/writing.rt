@@ -1,0 +1,52 @@
+//! A script that is written whole.
+ghost use Rattle.std.specs.Prelude.{◌≡◌, ◌<◌, ◌++◌, ℕ, length, take, OnOk, OnErr, IsErrOf};
+ghost use Rattle.oct_io.specs.Told.{appended, Rose};
+ghost use Rattle.oct_gen.specs.Lines.{to_come};
+ghost use Rattle.oct_gen.specs.Script.{script_of};
+
+use crate::generator::Generator;
+use crate::lines::ScriptLines;
+use oct_io::{Sink, SinkFault, write_all};
+use oct_num::Memory;
+
+/// Appends the script of this seed, of so many scans of so many points each. After `Memory` a
+/// prefix of it was appended.
+pub fn gen_script(out: &mut Vec<u8>, seed: u64, scans: u32, points: u32) -> Result<(), Memory>
+    ensures ok { OnOk result (out.new.items ≡ out.old.items ++ script_of seed scans points) }
+    ensures err { OnErr result ((n : ℕ) × (n < length (script_of seed scans points))
+        × (out.new.items ≡ out.old.items ++ take n (script_of seed scans points))) }
+{
+    let mut lines = ScriptLines::new(seed, scans, points);
+    while let Some(line) = lines.next_line() {
+        out.extend_from_slice(line.as_bytes())?;
+    }
+    Ok(())
+}
+
+/// Writes the script of this seed, of so many scans of so many points each, in pieces of 4,096
+/// bytes, which is all that it holds at a time. After an error a prefix of it was written.
+pub fn generate<K: Sink>(seed: u64, scans: u32, points: u32, sink: &mut K) -> Result<(), SinkFault>
+    ensures ok { OnOk result (K.written sink.new
+        ≡ appended (K.written sink.old) (script_of seed scans points)) }
+    ensures err { OnErr result ((n : ℕ) × (n < length (script_of seed scans points))
+        × (K.written sink.new
+        ≡ appended (K.written sink.old) (take n (script_of seed scans points)))) }
+
+    // Where it gives up, exactly one write of the sink did, for the same reason.
+    ensures stays { OnOk result
+        ((K.faults sink.new ≡ K.faults sink.old) × (K.shortages sink.new ≡ K.shortages sink.old)) }
+    ensures failed { IsErrOf result SinkFault.Failed → Rose (K.faults sink.old) (K.faults sink.new)
+        × (K.shortages sink.new ≡ K.shortages sink.old) }
+    ensures memory { IsErrOf result SinkFault.Memory → (K.faults sink.new ≡ K.faults sink.old)
+        × Rose (K.shortages sink.old) (K.shortages sink.new) }
+{
+    let mut script = Generator::new(seed, scans, points);
+    let mut buffer = [0u8; 4096];
+    loop {
+        let count = script.fill(&mut buffer);
+        if count == 0 {
+            return Ok(());
+        }
+        write_all(sink, &buffer[..count])?;
+    }
+}
