@@ -1,0 +1,13 @@
+pub mod Numbers
+pub mod Rows
+pub mod Exact
+pub mod Places
+pub mod Commons
+pub mod Drops
+pub mod Checks
+pub mod Back
+pub mod Fields
+pub mod Whole
+pub mod Writes
+pub mod Heads
+pub mod Meanings

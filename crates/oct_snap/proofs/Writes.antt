@@ -1,0 +1,285 @@
+-- Writing a node child by child.
+use Rattle.std.proofs.Common.{◌≡◌, ℕ, zero, suc, ◌+◌, ◌-◌, ◌*◌, ◌^◌, ◌<◌, ◌≤◌, Option, Some, None, List, [], ◌∷◌, ◌++◌, length, take, refl, sym, subst, ◌∙◌, ap, arith, append_assoc, append-nil, length-append}
+use Rattle.std.specs.Prelude.{Result, Ok, Err, OnOk, OnErr, IfOk, is_some}
+use Rattle.std.specs.List.{flat_map}
+use Rattle.std.proofs.lemmas.Bool.{false≢true}
+use Rattle.std.proofs.Math.Nat.{pow-suc, pow-le-pow_right}
+use Rattle.oct_key.specs.Values.{Values}
+use Rattle.oct_key.specs.Boxes.{Corners}
+use Rattle.oct_key.specs.Voxel.{Voxel, IsInMap}
+use Rattle.oct_key.specs.Block.{Cube, IsBlock, HoldsVoxel, child_of, lowest_voxel}
+use Rattle.oct_key.proofs.Blocks.{lowest_held}
+use Rattle.oct_odds.specs.Odds.{Odds}
+use Rattle.oct_odds.specs.Update.{Value}
+use Rattle.oct_values.specs.Blocks.{child_numbers}
+use Rattle.oct_io.specs.Told.{appended}
+use Rattle.oct_arena.specs.declared.node.Node.{Node}
+use Rattle.oct_arena.specs.Nodes.{link_of, value_of}
+use Rattle.oct_tree.specs.declared.place.Place.{Place}
+use Rattle.oct_tree.specs.Tree.{Tree, IsLinked, IsPlace, block_in, value_at}
+use Rattle.oct_tree.proofs.Paths.{place_block}
+use Rattle.oct_snap.specs.declared.common.Common.{Common as Shared}
+use Rattle.oct_snap.specs.declared.common.Common.TheVariants.{Value as OfValue, Several}
+use Rattle.oct_snap.specs.Nodes.{whole_text}
+use Rattle.oct_snap.specs.Texts.{common_value, text_with, node_text, map_text, head_bytes, snap_text}
+use Rattle.oct_snap.specs.Common.{value_of_common, IsCutOff}
+use Rattle.oct_snap.proofs.Places.{IsAbove}
+use Rattle.oct_snap.proofs.Commons.{leaf_common, common_of_each, common_exact}
+
+-- ---- a text in parts
+
+pub appended_twice : (o : Option (List ℕ)) (a b : List ℕ) → appended (appended o a) b ≡ appended o (a ++ b)
+appended_twice None a b = refl
+appended_twice (Some w) a b = ap Some (append_assoc w a b)
+
+pub appended_nothing : (o : Option (List ℕ)) → o ≡ appended o []
+appended_nothing None = refl
+appended_nothing (Some w) = ap Some (sym (append-nil w))
+
+take_front : (xs ys : List ℕ) (n : ℕ) → take (length xs + n) (xs ++ ys) ≡ xs ++ take n ys
+take_front [] ys n = (let e : 0 + n ≡ n = omega arith in ap (λ (k : ℕ). take k ys) e)
+take_front (x ∷ xs) ys n = (let e : suc (length xs) + n ≡ suc (length xs + n) = omega arith in
+    ap (λ (k : ℕ). take k (x ∷ (xs ++ ys))) e ∙ ap (λ t. x ∷ t) (take_front xs ys n))
+
+take_within : (xs ys : List ℕ) (n : ℕ) → n ≤ length xs → take n (xs ++ ys) ≡ take n xs
+take_within xs ys zero l = refl
+take_within [] ys (suc n) l = absurd (omega arith)
+take_within (x ∷ xs) ys (suc n) l = ap (λ t. x ∷ t) (take_within xs ys n (omega arith))
+
+-- a part of a piece that comes behind what was written, before more
+pub cut_behind : (old out new : Option (List ℕ)) (front piece more : List ℕ) → out ≡ appended old front → IsCutOff out new piece
+    → IsCutOff old new (front ++ (piece ++ more))
+cut_behind old out new front piece more before (count, less, is) =
+    let long = length-append front (piece ++ more) in
+    let all = length-append piece more in (
+      length front + count,
+      omega (arith, less, long, all),
+      is ∙ ap (λ o. appended o (take count piece)) before ∙ appended_twice old front (take count piece)
+          ∙ ap (appended old) (ap (λ t. front ++ t) (sym (take_within piece more count (omega (arith, less))))
+          ∙ sym (take_front front (piece ++ more) count)),
+    )
+
+pub on_any_err : {T E : Type 0} (r : Result T E) (Q : Type 0) → Q → OnErr r Q
+on_any_err (Ok x) Q q = tt
+on_any_err (Err e) Q q = q
+
+pub on_any_ok : {T E : Type 0} (r : Result T E) (P Q : Type 0) → (P → Q) → OnOk r P → OnOk r Q
+on_any_ok (Ok x) P Q f h = f h
+on_any_ok (Err e) P Q f h = tt
+
+pub on_each_err : {T E : Type 0} (r : Result T E) (P Q : Type 0) → (P → Q) → OnErr r P → OnErr r Q
+on_each_err (Ok x) P Q f h = tt
+on_each_err (Err e) P Q f h = f h
+
+pub if_any_ok : {T E : Type 0} (r : Result T E) (P Q : T → Type 0) → ((x : T) → P x → Q x) → IfOk r P → IfOk r Q
+if_any_ok (Ok x) P Q f h = f x h
+if_any_ok (Err e) P Q f h = tt
+
+-- ---- the texts of the first children
+
+unfoldable pub first_texts : (ℕ → List ℕ) → ℕ → List ℕ
+first_texts f zero = []
+first_texts f (suc n) = first_texts f n ++ f n
+
+pub texts_next : (f : ℕ → List ℕ) (n : ℕ) → first_texts f (n + 1) ≡ first_texts f n ++ f n
+unfolding first_texts
+texts_next f n = (let e : n + 1 ≡ suc n = omega arith in ap (first_texts f) e)
+
+pub all_texts : (f : ℕ → List ℕ) → flat_map f child_numbers ≡ first_texts f 8
+unfolding first_texts
+all_texts f =
+    sym (append_assoc (f 0) (f 1) (f 2 ++ (f 3 ++ (f 4 ++ (f 5 ++ (f 6 ++ (f 7 ++ [])))))))
+    ∙ sym (append_assoc (f 0 ++ f 1) (f 2) (f 3 ++ (f 4 ++ (f 5 ++ (f 6 ++ (f 7 ++ []))))))
+    ∙ sym (append_assoc ((f 0 ++ f 1) ++ f 2) (f 3) (f 4 ++ (f 5 ++ (f 6 ++ (f 7 ++ [])))))
+    ∙ sym (append_assoc (((f 0 ++ f 1) ++ f 2) ++ f 3) (f 4) (f 5 ++ (f 6 ++ (f 7 ++ []))))
+    ∙ sym (append_assoc ((((f 0 ++ f 1) ++ f 2) ++ f 3) ++ f 4) (f 5) (f 6 ++ (f 7 ++ [])))
+    ∙ sym (append_assoc (((((f 0 ++ f 1) ++ f 2) ++ f 3) ++ f 4) ++ f 5) (f 6) (f 7 ++ []))
+    ∙ sym (append_assoc ((((((f 0 ++ f 1) ++ f 2) ++ f 3) ++ f 4) ++ f 5) ++ f 6) (f 7) [])
+    ∙ append-nil (((((((f 0 ++ f 1) ++ f 2) ++ f 3) ++ f 4) ++ f 5) ++ f 6) ++ f 7)
+
+-- what is left of the texts from child i on
+pub texts_left : (f : ℕ → List ℕ) (i left : ℕ) → i + left ≡ 8 → (rest : List ℕ) × (first_texts f 8 ≡ first_texts f i ++ rest)
+unfolding first_texts
+texts_left f i zero all = (let e : 8 ≡ i = omega arith in ([], ap (first_texts f) e ∙ sym (append-nil (first_texts f i))))
+texts_left f i (suc left) all =
+    let (rest, is) = texts_left f (suc i) left (omega arith) in
+    (f i ++ rest, is ∙ append_assoc (first_texts f i) (f i) rest)
+
+texts_short : (f : ℕ → List ℕ) (m n : ℕ) → ((i : ℕ) → length (f i) ≤ m) → length (first_texts f n) ≤ n * m
+unfolding first_texts
+texts_short f m zero h = omega arith
+texts_short f m (suc n) h =
+    let before = texts_short f m n h in
+    let here = h n in
+    let long = length-append (first_texts f n) (f n) in
+    omega (arith, before, here, long)
+
+-- ---- the length of a node
+
+some_power : (h : ℕ) → 0 < 8 ^ h
+some_power zero = omega arith
+some_power (suc h) = (let power = pow-suc 8 h in let more = some_power h in omega (arith, power, more))
+
+whole_short : (v : Value) → length (whole_text v) ≤ 5
+whole_short None = omega arith
+whole_short (Some n) = omega arith
+
+node_by_short : (h : ℕ) (texts : ℕ → List ℕ) (o : Option Value) → ((i : ℕ) → length (texts i) < 6 * 8 ^ h)
+    → length (text_with o (flat_map texts child_numbers)) < 6 * 8 ^ suc h
+node_by_short h texts (Some v) each = (let few = whole_short v in let power = pow-suc 8 h in let more = some_power h in omega (arith, few, power, more))
+node_by_short h texts None each =
+    let all : length (flat_map texts child_numbers) ≡ length (first_texts texts 8) = ap length (all_texts texts) in
+    let few = texts_short texts (6 * 8 ^ h - 1) 8 (λ i. (let one = each i in omega (arith, one))) in
+    let power = pow-suc 8 h in
+    let more = some_power h in
+    omega (arith, all, few, power, more)
+
+pub whole_fits : (h n : ℕ) (v : Value) → n ≡ length (whole_text v) → n < 6 * 8 ^ h
+whole_fits h n v is = (let few = whole_short v in let more = some_power h in omega (arith, few, more, is))
+
+pub node_short : (h : ℕ) (values : Values) (b : Cube) → length (node_text h values b) < 6 * 8 ^ h
+unfolding node_text
+node_short zero values b = (let few = whole_short (values (lowest_voxel b)) in omega (arith, few))
+node_short (suc h) values b =
+    node_by_short h (λ i. node_text h values (child_of b i)) (common_value values b) (λ i. node_short h values (child_of b i))
+
+pub powers_fit : (h : ℕ) → h ≤ 16 → 6 * 8 ^ h ≤ 6 * 8 ^ 16
+powers_fit h low = (let most : 8 ^ h ≤ 8 ^ 16 = pow-le-pow_right {n = 8} (omega arith) {i = h} {j = 16} low in omega (arith, most))
+
+-- ---- a block of one value
+
+pub node_of_one : (h : ℕ) (values : Values) (b : Cube) (v : Value) → IsBlock b → Some v ≡ common_value values b
+    → node_text h values b ≡ whole_text v
+unfolding node_text
+node_of_one zero values b v ok is = ap whole_text (common_of_each values b v (lowest_voxel b) ok (sym is) (lowest_held b))
+node_of_one (suc h) values b v ok is =
+    ap (λ o. text_with o (flat_map (λ i. node_text h values (child_of b i)) child_numbers)) (sym is)
+
+value_back : (r : Shared) (v : Value) → value_of_common r ≡ Some v → r ≡ OfValue v
+value_back (OfValue w) v is = common_exact (OfValue w) (OfValue v) is
+value_back Several v is = absurd (false≢true (ap is_some is))
+
+-- the node over a block of several values is Inner
+pub never_leaf : (t : Tree) (p : Place) (n : Node) (r : Shared) → IsLinked t → IsPlace t p → link_of n ≡ None
+    → ((b : Cube) → block_in t p ≡ Some b → link_of n ≡ None → (k : Voxel) → IsInMap k → HoldsVoxel b k → value_at t k ≡ value_of n)
+    → ((b : Cube) → block_in t p ≡ Some b → value_of_common r ≡ common_value (value_at t) b)
+    → ((v : Value) → r ≡ OfValue v → ⊥) → ⊥
+never_leaf t p n r l place none values common other =
+    let (b, at) = place_block t p place in
+    other (value_of n) (value_back r (value_of n) (common b at ∙ leaf_common t p b (value_of n) l place at (values b at none)))
+
+-- ---- a block of several values
+
+-- the texts of the children of a block of this depth
+abbrev pub child_text : Values → ℕ → Cube → ℕ → List ℕ
+child_text values d b i = node_text (16 - (d + 1)) values (child_of b i)
+
+-- what is written of its node before child i
+abbrev pub before : Values → ℕ → Cube → ℕ → List ℕ
+before values d b i = 2 ∷ first_texts (child_text values d b) i
+
+pub before_none : (values : Values) (d : ℕ) (b : Cube) → before values d b 0 ≡ 2 ∷ []
+unfolding first_texts
+before_none values d b = refl
+
+pub before_next : (values : Values) (d : ℕ) (b : Cube) (i : ℕ) → before values d b (i + 1) ≡ before values d b i ++ child_text values d b i
+before_next values d b i = ap (λ (t : List ℕ). 2 ∷ t) (texts_next (child_text values d b) i)
+
+several_none : (r : Shared) (o : Option Value) → value_of_common r ≡ o → ((v : Value) → r ≡ OfValue v → ⊥) → o ≡ None
+several_none (OfValue v) o is other = absurd (other v refl)
+several_none Several o is other = sym is
+
+pub node_parted : (values : Values) (d : ℕ) (b : Cube) (r : Shared) → IsAbove d b → value_of_common r ≡ common_value values b
+    → ((v : Value) → r ≡ OfValue v → ⊥) → before values d b 8 ≡ node_text (16 - d) values b
+unfolding node_text
+node_parted values d b r a common other =
+    let none : common_value values b ≡ None = several_none r (common_value values b) common other in
+    ap (λ (t : List ℕ). 2 ∷ t) (sym (all_texts (child_text values d b)))
+    ∙ ap (λ (o : Option Value). text_with o (flat_map (child_text values d b) child_numbers)) (sym none)
+    ∙ ap (λ (h : ℕ). node_text h values b) (sym a.next)
+
+pub cut_first : (values : Values) (d : ℕ) (b : Cube) (r : Shared) (old new : Option (List ℕ)) → IsAbove d b
+    → value_of_common r ≡ common_value values b → ((v : Value) → r ≡ OfValue v → ⊥)
+    → IsCutOff old new (2 ∷ []) → IsCutOff old new (node_text (16 - d) values b)
+cut_first values d b r old new a common other cut =
+    subst (IsCutOff old new) (node_parted values d b r a common other)
+    (cut_behind old old new [] (2 ∷ []) (first_texts (child_text values d b) 8) (appended_nothing old) cut)
+
+pub cut_child : (values : Values) (d : ℕ) (b : Cube) (r : Shared) (i : ℕ) (old out new : Option (List ℕ)) → IsAbove d b
+    → value_of_common r ≡ common_value values b → ((v : Value) → r ≡ OfValue v → ⊥) → i < 8
+    → out ≡ appended old (before values d b i) → IsCutOff out new (child_text values d b i)
+    → IsCutOff old new (node_text (16 - d) values b)
+cut_child values d b r i old out new a common other li sent cut =
+    let (rest, all) = texts_left (child_text values d b) (i + 1) (7 - i) (omega (arith, li)) in
+    subst (IsCutOff old new)
+    (ap (λ (t : List ℕ). 2 ∷ t) (sym (append_assoc (first_texts (child_text values d b) i) (child_text values d b i) rest)
+    ∙ ap (λ (t : List ℕ). t ++ rest) (sym (texts_next (child_text values d b) i)) ∙ sym all)
+    ∙ node_parted values d b r a common other)
+    (cut_behind old out new (before values d b i) (child_text values d b i) rest sent cut)
+
+pub sent_child : (values : Values) (d : ℕ) (b : Cube) (i : ℕ) (old out new : Option (List ℕ))
+    → out ≡ appended old (before values d b i) → new ≡ appended out (child_text values d b i)
+    → new ≡ appended old (before values d b (i + 1))
+sent_child values d b i old out new sent after =
+    after ∙ ap (λ o. appended o (child_text values d b i)) sent
+    ∙ appended_twice old (before values d b i) (child_text values d b i)
+    ∙ ap (appended old) (sym (before_next values d b i))
+
+pub sent_all : (values : Values) (d : ℕ) (b : Cube) (r : Shared) (i : ℕ) (old out : Option (List ℕ)) → IsAbove d b
+    → value_of_common r ≡ common_value values b → ((v : Value) → r ≡ OfValue v → ⊥) → i ≡ 8
+    → out ≡ appended old (before values d b i) → out ≡ appended old (node_text (16 - d) values b)
+sent_all values d b r i old out a common other end sent =
+    sent ∙ ap (appended old) (ap (before values d b) end ∙ node_parted values d b r a common other)
+
+pub long_child : (values : Values) (d : ℕ) (b : Cube) (i n m : ℕ) → n ≡ length (before values d b i)
+    → m ≡ length (child_text values d b i) → n + m ≡ length (before values d b (i + 1))
+long_child values d b i n m e f =
+    let all : length (before values d b (i + 1)) ≡ length (before values d b i) + length (child_text values d b i)
+    = ap length (before_next values d b i) ∙ length-append (before values d b i) (child_text values d b i) in
+    omega (arith, all, e, f)
+
+pub long_all : (values : Values) (d : ℕ) (b : Cube) (r : Shared) (i n : ℕ) → IsAbove d b
+    → value_of_common r ≡ common_value values b → ((v : Value) → r ≡ OfValue v → ⊥) → i ≡ 8
+    → n ≡ length (before values d b i) → n ≡ length (node_text (16 - d) values b)
+long_all values d b r i n a common other end e =
+    e ∙ ap length (ap (before values d b) end ∙ node_parted values d b r a common other)
+
+-- the lengths fit
+pub before_short : (values : Values) (d : ℕ) (b : Cube) (i n : ℕ) → i ≤ 8 → n ≡ length (before values d b i) → n ≤ 1 + 8 * (6 * 8 ^ 16)
+before_short values d b i n li e =
+    let few = texts_short (child_text values d b) (6 * 8 ^ 16) i (λ j. (let one = node_short (16 - (d + 1)) values (child_of b j) in
+    let fits = powers_fit (16 - (d + 1)) (omega arith) in omega (arith, one, fits))) in
+    omega (arith, few, e, li)
+
+-- ---- the whole text
+
+pub cut_fields : (res : ℕ) (o : Odds) (window : Option Corners) (values : Values) (old new : Option (List ℕ)) (head : List ℕ)
+    → head ≡ head_bytes res o window → IsCutOff old new head → IsCutOff old new (snap_text res o window values)
+unfolding snap_text
+cut_fields res o window values old new head is cut =
+    subst (IsCutOff old new) (ap (λ (t : List ℕ). t ++ map_text values) is)
+    (cut_behind old old new [] head (map_text values) (appended_nothing old) cut)
+
+pub cut_nodes : (res : ℕ) (o : Odds) (window : Option Corners) (values : Values) (old out new : Option (List ℕ)) (head : List ℕ)
+    → head ≡ head_bytes res o window → out ≡ appended old head → IsCutOff out new (map_text values)
+    → IsCutOff old new (snap_text res o window values)
+unfolding snap_text
+cut_nodes res o window values old out new head is sent cut =
+    subst (IsCutOff old new) (ap (λ (t : List ℕ). head ++ t) (append-nil (map_text values)) ∙ ap (λ (t : List ℕ). t ++ map_text values) is)
+    (cut_behind old out new head (map_text values) [] sent cut)
+
+pub sent_snap : (res : ℕ) (o : Odds) (window : Option Corners) (values : Values) (old out new : Option (List ℕ)) (head : List ℕ)
+    → head ≡ head_bytes res o window → out ≡ appended old head → new ≡ appended out (map_text values)
+    → new ≡ appended old (snap_text res o window values)
+unfolding snap_text
+sent_snap res o window values old out new head is sent after =
+    after ∙ ap (λ (w : Option (List ℕ)). appended w (map_text values)) sent ∙ appended_twice old head (map_text values)
+    ∙ ap (λ (t : List ℕ). appended old (t ++ map_text values)) is
+
+pub long_snap : (res : ℕ) (o : Odds) (window : Option Corners) (values : Values) (head : List ℕ) (n m : ℕ)
+    → head ≡ head_bytes res o window → n ≡ length head → m ≡ length (map_text values) → n + m ≡ length (snap_text res o window values)
+unfolding snap_text
+long_snap res o window values head n m is first second =
+    let all = length-append (head_bytes res o window) (map_text values) in
+    let same : length head ≡ length (head_bytes res o window) = ap length is in
+    omega (arith, all, same, first, second)

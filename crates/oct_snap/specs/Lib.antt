@@ -1,0 +1,5 @@
+pub mod Nodes
+pub mod Texts
+pub mod Reading
+pub mod Common
+pub mod Checked

@@ -1,0 +1,71 @@
+use crate::{SnapFault, check, write};
+use oct_arena::Node;
+use oct_io::CalmSink;
+use oct_key::{Key, Res, Window};
+use oct_odds::OddsModel;
+use oct_tree::{OccTree, Place};
+use std::alloc::Global;
+
+/// The snapshot of the empty map at 0.1 m.
+const EMPTY: [u8; 38] = [
+    0x4F, 0x43, 0x54, 0x53, 0x4E, 0x41, 0x50, 0x32, 0x00, 0x00, 0x00, 0x00, 0x05, 0xF5, 0xE1, 0x00,
+    0x00, 0x00, 0x03, 0x52, 0xFF, 0xFF, 0xFE, 0x70, 0xFF, 0xFF, 0xF8, 0x30, 0x00, 0x00, 0x0D, 0xAC,
+    0x00, 0x00, 0x00, 0x00, 0x00, 0x00,
+];
+
+/// The same of version 1, with eight unknown children in place of one unknown map.
+const EIGHT: [u8; 25] = [
+    0x4F, 0x43, 0x54, 0x53, 0x4E, 0x41, 0x50, 0x31, 0x00, 0x00, 0x00, 0x00, 0x05, 0xF5, 0xE1, 0x00,
+    0x02, 0x00, 0x00, 0x00, 0x00, 0x00, 0x00, 0x00, 0x00,
+];
+
+fn odds() -> Option<OddsModel> {
+    OddsModel::new(850, -400, -2000, 3500, 0).ok()
+}
+
+fn fault(bytes: &[u8]) -> Option<SnapFault> {
+    let odds = odds()?;
+    match check(bytes, odds) {
+        Ok(_) => None,
+        Err(fault) => Some(fault),
+    }
+}
+
+#[test]
+fn writes_the_empty_map(rt: HostRuntime) {
+    let (Some(odds), Ok(res)) = (odds(), Res::new(100_000_000)) else {
+        return;
+    };
+    let tree = OccTree::new(rt.alloc(), res, odds);
+    let mut sink = CalmSink::new(rt.alloc(), 7);
+    assert_eq!(rt; write(&tree, None, &mut sink), Ok(38));
+    assert_eq!(rt; sink.written(), EMPTY.as_slice());
+    let lo = Key { x: 1, y: 2, z: 3 };
+    let hi = Key { x: 256, y: 2, z: 4 };
+    let mut sink = CalmSink::new(rt.alloc(), 7);
+    assert_eq!(rt; write(&tree, Window::new(lo, hi), &mut sink), Ok(50));
+    let want = [1, 0, 1, 0, 2, 0, 3, 1, 0, 0, 2, 0, 4, 0];
+    assert_eq!(rt; sink.written().get(36..), Some(want.as_slice()));
+}
+
+#[test]
+fn reads_what_it_writes(rt: HostRuntime) {
+    let Some(odds) = odds() else {
+        return;
+    };
+    match check(&EMPTY, odds) {
+        Ok(info) => {
+            assert_eq!(rt; info.res.nm(), 100_000_000);
+            assert_eq!(rt; (info.groups, info.version), (0, 2));
+            assert!(rt; info.odds == odds && info.window.is_none());
+        }
+        Err(fault) => assert!(rt; false, "{fault}"),
+    }
+}
+
+#[test]
+fn names_the_first_fault(rt: HostRuntime) {
+    assert_eq!(rt; fault(&EIGHT), Some(SnapFault::BadSnapshot { at: 16 }));
+    assert_eq!(rt; fault(&EMPTY[..7]), Some(SnapFault::BadMagic));
+    assert_eq!(rt; fault(&EMPTY[..37]), Some(SnapFault::Truncated { at: 37 }));
+}

@@ -1,0 +1,104 @@
+//! The writing of a tree's values, node by node.
+ghost use Rattle.std.specs.Prelude.{◌*◌, ◌^◌, ◌≡◌, ◌+◌, ◌-◌, ◌<◌, ◌≤◌, Some, None, OnOk, OnErr, IfOk, IsErrOf, length};
+ghost use Rattle.oct_key.specs.Block.{Cube};
+ghost use Rattle.oct_io.specs.Told.{Rose, appended};
+ghost use Rattle.oct_tree.specs.Tree.{IsLinked, IsPlace, block_in, value_at};
+ghost use Rattle.oct_snap.specs.Nodes.{whole_text};
+ghost use Rattle.oct_snap.specs.Texts.{node_text, snap_text};
+ghost use Rattle.oct_snap.specs.Common.{IsCutOff};
+
+use crate::common::{Common, common_at};
+use crate::heading::head_of;
+use oct_arena::Node;
+use oct_io::{Sink, SinkFault, write_all};
+use oct_key::Window;
+use oct_tree::{OccTree, Place};
+
+/// Writes the node of a block whose voxels all have this value. Answers its length.
+fn write_whole<K: Sink>(value: Option<i32>, sink: &mut K) -> Result<u64, SinkFault>
+    ensures length { IfOk result (λ bytes. bytes ≡ length (whole_text value)) }
+    ensures written { OnOk result
+        (K.written sink.new ≡ appended (K.written sink.old) (whole_text value)) }
+    ensures cut { OnErr result
+        (IsCutOff (K.written sink.old) (K.written sink.new) (whole_text value)) }
+    ensures stays { OnOk result
+        ((K.faults sink.new ≡ K.faults sink.old) × (K.shortages sink.new ≡ K.shortages sink.old)) }
+    ensures failed { IsErrOf result SinkFault.Failed → Rose (K.faults sink.old) (K.faults sink.new)
+        × (K.shortages sink.new ≡ K.shortages sink.old) }
+    ensures memory { IsErrOf result SinkFault.Memory → (K.faults sink.new ≡ K.faults sink.old)
+        × Rose (K.shortages sink.old) (K.shortages sink.new) }
+{
+    let Some(value) = value else {
+        write_all(sink, &[0])?;
+        return Ok(1);
+    };
+    let [a, b, c, d] = value.to_be_bytes();
+    write_all(sink, &[1, a, b, c, d])?;
+    Ok(5)
+}
+
+/// Writes the node of a place's block, which has this depth. Answers its length.
+fn write_node<K: Sink>(tree: &OccTree, p: Place, depth: u8, sink: &mut K) -> Result<u64, SinkFault>
+    requires place { IsPlace tree.now p }
+    requires block { (b : Cube) → block_in tree.now p ≡ Some b → b.depth ≡ depth }
+    requires levels { depth ≤ 16 }
+    ensures length { IfOk result (λ bytes. (b : Cube) → block_in tree.now p ≡ Some b
+        → bytes ≡ length (node_text (16 - depth) (value_at tree.now) b)) }
+    ensures short { IfOk result (λ bytes. bytes < 6 * 8 ^ (16 - depth)) }
+    ensures written { OnOk result ((b : Cube) → block_in tree.now p ≡ Some b
+        → K.written sink.new
+        ≡ appended (K.written sink.old) (node_text (16 - depth) (value_at tree.now) b)) }
+    ensures cut { OnErr result ((b : Cube) → block_in tree.now p ≡ Some b
+        → IsCutOff (K.written sink.old) (K.written sink.new)
+        (node_text (16 - depth) (value_at tree.now) b)) }
+    ensures stays { OnOk result
+        ((K.faults sink.new ≡ K.faults sink.old) × (K.shortages sink.new ≡ K.shortages sink.old)) }
+    ensures failed { IsErrOf result SinkFault.Failed → Rose (K.faults sink.old) (K.faults sink.new)
+        × (K.shortages sink.new ≡ K.shortages sink.old) }
+    ensures memory { IsErrOf result SinkFault.Memory → (K.faults sink.new ≡ K.faults sink.old)
+        × Rose (K.shortages sink.old) (K.shortages sink.new) }
+    ensures linked { IsLinked tree.now }
+{
+    if let Common::Value(value) = common_at(tree, p, depth) {
+        return write_whole(value, sink);
+    }
+    let Node::Inner(_, id) = tree.node(p) else {
+        unreachable!();
+    };
+    write_all(sink, &[2])?;
+    let mut bytes = 1;
+    for i in 0..8 {
+        bytes += write_node(tree, Place::Slot(id, i), depth + 1, sink)?;
+    }
+    Ok(bytes)
+}
+
+/// Writes the snapshot of the tree's values, with its log-odds and the box, if there is one, and
+/// answers its length. Groups that could be collapsed are written as if they were one node, so that
+/// the text depends on the values of the voxels alone.
+///
+/// Takes no memory. After an error a part of the text was written, and exactly one write of the
+/// sink gave up, for that reason.
+pub fn write<K: Sink>(
+    tree: &OccTree,
+    window: Option<Window>,
+    sink: &mut K,
+) -> Result<u64, SinkFault>
+    ensures length { IfOk result (λ bytes.
+        bytes ≡ length (snap_text tree.now.res tree.now.odds window (value_at tree.now))) }
+    ensures written { OnOk result (K.written sink.new ≡ appended (K.written sink.old)
+        (snap_text tree.now.res tree.now.odds window (value_at tree.now))) }
+    ensures cut { OnErr result (IsCutOff (K.written sink.old) (K.written sink.new)
+        (snap_text tree.now.res tree.now.odds window (value_at tree.now))) }
+    ensures stays { OnOk result
+        ((K.faults sink.new ≡ K.faults sink.old) × (K.shortages sink.new ≡ K.shortages sink.old)) }
+    ensures failed { IsErrOf result SinkFault.Failed → Rose (K.faults sink.old) (K.faults sink.new)
+        × (K.shortages sink.new ≡ K.shortages sink.old) }
+    ensures memory { IsErrOf result SinkFault.Memory → (K.faults sink.new ≡ K.faults sink.old)
+        × Rose (K.shortages sink.old) (K.shortages sink.new) }
+{
+    let head = head_of(tree.res(), tree.odds(), window);
+    write_all(sink, head.as_slice())?;
+    let nodes = write_node(tree, Place::Root, 0, sink)?;
+    Ok(head.len() as u64 + nodes)
+}
