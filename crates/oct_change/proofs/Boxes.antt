@@ -4,7 +4,7 @@ use Rattle.std.proofs.Common.{arith}
 use Rattle.std.proofs.lemmas.Bool.{cases_eq}
 use Rattle.oct_key.specs.Voxel.{Voxel}
 use Rattle.oct_key.proofs.SameVoxels.{same_voxel}
-use Rattle.oct_values.specs.Boxes.{IsBox, IsInBox}
+use Rattle.oct_key.specs.Boxes.{IsBox, IsInBox}
 use Rattle.oct_values.specs.Classes.{Classes}
 use Rattle.oct_change.specs.declared.changes.Note.{Note}
 use Rattle.oct_change.specs.Notes.{HasNoted}

@@ -8,6 +8,10 @@ use Rattle.oct_odds.specs.declared.event.Class.{Class}
 use Rattle.oct_values.specs.Classes.{Classes}
 use Rattle.oct_change.specs.declared.changes.Note.{Note}
 
+-- the note of a voxel and a class
+abbrev pub note_of : Voxel × Class → Note
+note_of e = record { key = e.0; before = e.1 }
+
 -- each note is of a voxel of the map
 abbrev pub AreInMap : List Note → Type 0
 AreInMap notes = All (λ note. IsInMap note.key) notes

@@ -1,7 +1,7 @@
 -- Parts of a box of voxels.
 use Rattle.std.specs.Prelude.{◌≡◌, ℕ}
 use Rattle.oct_key.specs.Voxel.{Voxel}
-use Rattle.oct_values.specs.Boxes.{IsBetween}
+use Rattle.oct_key.specs.Boxes.{IsBetween}
 
 -- the voxels of a row of the z axis, from a number to another
 abbrev pub IsInRow : ℕ → ℕ → ℕ → ℕ → Voxel → Type 0

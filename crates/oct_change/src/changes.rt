@@ -1,12 +1,14 @@
 ghost use Rattle.std.specs.Prelude.{◌≡◌, ◌+◌, ◌-◌, ◌≤◌, ◌++◌, ◌∷◌, [], length, max, IsOk, OnOk};
-ghost use Rattle.std.specs.Prelude.{OnErr, IfOk};
+ghost use Rattle.std.specs.Prelude.{OnErr, IfOk, map, vec_len, vec_capacity};
 ghost use Rattle.std.specs.BTreeMap.{IsOrdered, get};
 ghost use Rattle.std.specs.List.{filter_map};
-ghost use Rattle.oct_key.specs.Voxel.{Voxel};
+ghost use Rattle.std.specs.List.Sorted.{IsStrictlySortedBy};
+ghost use Rattle.oct_key.specs.Voxel.{Voxel, IsInMap};
 ghost use Rattle.oct_key.specs.Order.{key_cmp};
 ghost use Rattle.oct_values.specs.Classes.{classes_of};
 ghost use Rattle.oct_tree.specs.Tree.{value_at};
-ghost use Rattle.oct_change.specs.Notes.{AreInMap, HasNoted, first_noted, marked_by};
+ghost use Rattle.oct_change.specs.declared.changes.Note.{Note};
+ghost use Rattle.oct_change.specs.Notes.{AreInMap, HasNoted, first_noted, marked_by, note_of};
 ghost use Rattle.oct_change.specs.Changes.{AreChanges, change_of, changes_between};
 
 use crate::kind::{Change, kind_of_change};
@@ -26,10 +28,21 @@ pub struct Note {
     pub before: Class,
 }
 
+impl Note {
+    /// The note of a voxel and its class.
+    fn new(key: Key, before: Class) -> Note
+        ensures exact { result ≡ record { key = key; before = before } }
+        ensures in_map { IsInMap result.key }
+    {
+        Note { key, before }
+    }
+}
+
 /// Notes of the classes that voxels had before they changed, of which the first of a voxel counts.
 #[derive(Drop)]
 pub struct Changes {
     notes: Vec<Note>,
+    alloc: Global,
 }
 
 impl Model for Changes {
@@ -48,6 +61,8 @@ impl Model for Changes {
 }
 
 impl Changes {
+    ghost use Rattle.oct_change.specs.Held.{room_of};
+
     /// No notes. Takes no memory.
     pub fn new(alloc: Global) -> Changes
         ensures notes { result.notes ≡ [] }
@@ -55,7 +70,22 @@ impl Changes {
     {
         Changes {
             notes: Vec::new(alloc),
+            alloc,
         }
+    }
+
+    /// How many notes there are.
+    pub fn len(&self) -> u64
+        ensures { result ≡ length self.now.notes }
+    {
+        self.notes.len() as u64
+    }
+
+    /// How many notes can still be added without asking for memory.
+    pub fn spare(&self) -> u64
+        ensures { result ≡ self.now.spare }
+    {
+        (self.notes.capacity() - self.notes.len()) as u64
     }
 
     /// Drops all notes. Their room stays.
@@ -85,12 +115,32 @@ impl Changes {
         Ok(())
     }
 
+    /// Drops each note whose voxel was noted before it. The others come by ascending x, y and z, and
+    /// the room of all stays.
+    ///
+    /// Where memory runs out for this, all notes stay.
+    pub fn compact(&mut self) -> Result<(), Memory>
+        ensures first { (k : Voxel)
+            → first_noted self.new.notes k ≡ first_noted self.old.notes k }
+        ensures fewer { length self.new.notes ≤ length self.old.notes }
+        ensures alone { OnOk result
+            (IsStrictlySortedBy key_cmp (map (λ (note : Note). note.key) self.new.notes)) }
+        ensures room { room_of self.new ≡ room_of self.old }
+        ensures err { OnErr result (self.new ≡ self.old) }
+    {
+        let first = self.first_of_each(self.alloc)?;
+        self.mark();
+        put_notes(&mut self.notes, &first);
+        Ok(())
+    }
+
     /// Adds a note at the end.
     pub fn note(&mut self, key: Key, before: Class)
         requires { 1 ≤ self.old.spare }
         ensures notes { self.new.notes
             ≡ self.old.notes ++ record { key = key; before = before } ∷ [] }
         ensures spare { self.old.spare ≡ self.new.spare + 1 }
+        ensures room { room_of self.new ≡ room_of self.old }
     {
         self.notes.push_reserved(Note { key, before });
     }
@@ -113,6 +163,7 @@ impl Changes {
     fn first_of_each(&self, alloc: Global) -> Result<BTreeMap<Key, Class>, Memory>
         ensures first { IfOk result (λ first. (k : Voxel) →
             get key_cmp first k ≡ first_noted self.now.notes k) }
+        ensures few { IfOk result (λ first. length first.entries ≤ length self.now.notes) }
         ensures in_map { AreInMap self.now.notes }
     {
         let mut first = BTreeMap::new(alloc);
@@ -122,6 +173,19 @@ impl Changes {
             }
         }
         Ok(first)
+    }
+}
+
+/// Adds these voxels with their classes as notes.
+fn put_notes(notes: &mut Vec<Note>, first: &BTreeMap<Key, Class>)
+    requires { vec_len notes.old + length first.now.entries ≤ vec_capacity notes.old }
+    ensures items { notes.new.items ≡ notes.old.items ++ map note_of first.now.entries }
+    ensures capacity { vec_capacity notes.new ≡ vec_capacity notes.old }
+    ensures in_map { AreInMap notes.old.items → AreInMap notes.new.items }
+    ensures ordered { IsOrdered key_cmp first.now }
+{
+    for (key, before) in first {
+        notes.push_reserved(Note::new(*key, *before));
     }
 }
 

@@ -20,6 +20,8 @@
 //! - [`Changes`] is seen as a list of notes, each a voxel and the class that it had, and as the
 //!   number of notes that it has room for. [`Changes::note`] adds one at the end and can't fail,
 //!   [`Changes::reserve`] makes room, and no more than it says, and [`Changes::mark`] drops all.
+//!   [`Changes::compact`] drops those of voxels that were noted before, and leaves each voxel's
+//!   first note.
 //! - The first note of a voxel since the mark counts. So the classes at the mark (`marked_by`) are
 //!   those of the first notes, and the classes now where nothing was noted. The lemma `mark_kept`
 //!   says that an edit doesn't change them, if each voxel that changes its class was noted before.
@@ -31,8 +33,8 @@
 //!   voxels of an edit, of a scan and of a box, each with its class in the tree (`HasNoted`).
 //!
 //! A report puts the notes into an ordered map of std, so that it costs what n notes cost to sort,
-//! however large the map is. A note takes eight bytes, and stays until the next mark, also where
-//! its voxel was noted before.
+//! however large the map is. A note takes eight bytes, and stays until the next mark or, where its
+//! voxel was noted before, until the notes are compacted.
 //!
 //! The map stands on this crate, and the replies of a script print its [`Change`]s.
 #![tactic(auto)]

@@ -70,17 +70,25 @@ fn reports_each_pair_of_classes_in_the_order_of_voxels(rt: HostRuntime) -> Resul
         changes.reserve(1)?;
         changes.note(key(x, y, z), before);
     }
+    let want = [
+        change(2, 40_000, 1, Kind::Lost),
+        change(3, 40_000, 1, Kind::Lost),
+        change(4, 8, 7, Kind::Freed),
+        change(4, 9, 9, Kind::New),
+        change(40_000, 1, 0, Kind::Occupied),
+        change(40_000, 1, 1, Kind::New),
+    ];
     assert_eq!(rt;
         changes.report(rt.alloc(), &tree)?.as_slice(),
-        [
-            change(2, 40_000, 1, Kind::Lost),
-            change(3, 40_000, 1, Kind::Lost),
-            change(4, 8, 7, Kind::Freed),
-            change(4, 9, 9, Kind::New),
-            change(40_000, 1, 0, Kind::Occupied),
-            change(40_000, 1, 1, Kind::New),
-        ]
-        .as_slice()
+        want.as_slice()
+    );
+    // Without the notes of voxels that were noted before it is the same report.
+    assert_eq!(rt; changes.len(), 11);
+    changes.compact()?;
+    assert_eq!(rt; changes.len(), 9);
+    assert_eq!(rt;
+        changes.report(rt.alloc(), &tree)?.as_slice(),
+        want.as_slice()
     );
 
     changes.mark();

@@ -4,7 +4,8 @@ ghost use Rattle.std.specs.Prelude.{Contains};
 ghost use Rattle.oct_brick.specs.Bricks.{IsBrick};
 ghost use Rattle.oct_brick.specs.Masks.{codes_of};
 ghost use Rattle.oct_brick.specs.Voxels.{coded_voxel, hit_voxels, freed_voxels};
-ghost use Rattle.oct_values.specs.Boxes.{IsBox, IsInBox, box_volume};
+ghost use Rattle.oct_key.specs.Boxes.{IsBox, IsInBox};
+ghost use Rattle.oct_values.specs.Boxes.{box_volume};
 ghost use Rattle.oct_values.specs.Classes.{classes_of};
 ghost use Rattle.oct_tree.specs.Tree.{value_at};
 ghost use Rattle.oct_change.specs.Notes.{HasNoted};
@@ -16,12 +17,15 @@ use oct_key::{Key, from_morton};
 use oct_tree::OccTree;
 
 impl Changes {
+    ghost use Rattle.oct_change.specs.Held.{room_of};
+
     /// Notes the class that the voxel has in the tree.
     pub fn note_class(&mut self, tree: &OccTree, key: Key)
         requires { 1 ≤ self.old.spare }
         ensures noted { HasNoted (classes_of tree.now.odds (value_at tree.now)) (λ k. k ≡ key)
             self.old.notes self.new.notes }
         ensures spare { self.old.spare ≡ self.new.spare + 1 }
+        ensures room { room_of self.new ≡ room_of self.old }
     {
         self.note(key, tree.odds().class(tree.at(key)));
     }
@@ -37,6 +41,7 @@ impl Changes {
             self.old.notes self.new.notes }
         ensures spare { self.old.spare ≡ self.new.spare
             + (length (hit_voxels bricks.now) + length (freed_voxels bricks.now)) }
+        ensures room { room_of self.new ≡ room_of self.old }
     {
         for &brick in bricks {
             self.note_mask(tree, brick.code, brick.hits);
@@ -52,6 +57,7 @@ impl Changes {
             (Contains (map coded_voxel (codes_of code mask))) self.old.notes self.new.notes }
         ensures spare { self.old.spare ≡ self.new.spare
             + length (map coded_voxel (codes_of code mask)) }
+        ensures room { room_of self.new ≡ room_of self.old }
     {
         let mut left = mask;
         while left != 0 {
@@ -69,6 +75,7 @@ impl Changes {
         ensures noted { HasNoted (classes_of tree.now.odds (value_at tree.now)) (IsInBox lo hi)
             self.old.notes self.new.notes }
         ensures spare { self.old.spare ≡ self.new.spare + box_volume lo hi }
+        ensures room { room_of self.new ≡ room_of self.old }
     {
         for x in u32::from(lo.x)..u32::from(hi.x) + 1 {
             self.note_plane(tree, x as u16, lo, hi);
@@ -83,6 +90,7 @@ impl Changes {
             self.old.notes self.new.notes }
         ensures spare { self.old.spare
             ≡ self.new.spare + (hi.y + 1 - lo.y) * (hi.z + 1 - lo.z) }
+        ensures room { room_of self.new ≡ room_of self.old }
     {
         for y in u32::from(lo.y)..u32::from(hi.y) + 1 {
             self.note_row(tree, x, y as u16, lo.z, hi.z);
@@ -96,6 +104,7 @@ impl Changes {
         ensures noted { HasNoted (classes_of tree.now.odds (value_at tree.now))
             (IsInRow x y low high) self.old.notes self.new.notes }
         ensures spare { self.old.spare ≡ self.new.spare + (high + 1 - low) }
+        ensures room { room_of self.new ≡ room_of self.old }
     {
         for z in u32::from(low)..u32::from(high) + 1 {
             self.note_class(tree, Key { x, y, z: z as u16 });

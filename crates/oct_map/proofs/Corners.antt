@@ -1,19 +1,31 @@
 -- What an edit of a box answers, and its events, where its corners are voxels.
-use Rattle.std.proofs.Common.{◌≡◌, ℕ, Bool, true, false, Option, Some, None, refl, sym, ◌∙◌}
-use Rattle.std.specs.Prelude.{Result, ⊤, ◌||◌}
+use Rattle.std.proofs.Common.{◌≡◌, ℕ, Bool, true, false, Option, Some, None, refl, sym, ap, subst, ◌∙◌}
+use Rattle.std.specs.Prelude.{Result, Ok, IsOk, ⊤, nat_lt, ◌||◌, ◌&&◌}
 use Rattle.oct_key.specs.Voxel.{Voxel}
 use Rattle.oct_key.specs.Values.{Values}
 use Rattle.oct_odds.specs.declared.event.Event.{Event}
-use Rattle.oct_values.specs.Boxes.{is_box, box_events, box_need}
+use Rattle.oct_key.specs.Boxes.{is_box}
+use Rattle.oct_values.specs.Boxes.{box_events, box_need, box_volume}
 use Rattle.oct_map.specs.declared.fault.MapFault.{MapFault}
-use Rattle.oct_map.specs.Answers.{room_answer, corner_fault, box_answer_by, IsAnswerOrMemory}
-use Rattle.oct_map.specs.Outcome.{corner_events, corner_need}
+use Rattle.oct_map.specs.declared.fault.MapFault.TheVariants.{WideWhileTracked}
+use Rattle.oct_map.specs.Answers.{room_answer, box_fault, most_noted, box_answer_by, IsAnswerOrMemory}
+use Rattle.oct_map.specs.Outcome.{corner_events, corner_need, corner_volume}
 use Rattle.oct_map.proofs.Edits.{SameEvents}
+use Rattle.oct_map.proofs.Marks.{room_ok}
 
 -- corners of a box have no fault, and need what the box does
-pub corners_right : (a b : Option Voxel) (low high : Voxel) → a ≡ Some low → b ≡ Some high → is_box low high ≡ true
-    → corner_fault a b ≡ None
-corners_right a b low high ea eb order = rw (ea, eb, order) refl
+pub corners_right : (has_mark : Bool) (a b : Option Voxel) (low high : Voxel) → a ≡ Some low → b ≡ Some high → is_box low high ≡ true
+    → (has_mark && nat_lt most_noted (box_volume low high)) ≡ false → box_fault has_mark a b ≡ None
+corners_right has_mark a b low high ea eb order narrow = rw (ea, eb) (rw (order, narrow) refl)
+
+-- a box that is too wide while a mark stands has that fault
+pub corners_wide : (has_mark : Bool) (a b : Option Voxel) (low high : Voxel) (count : ℕ) → a ≡ Some low → b ≡ Some high → is_box low high ≡ true
+    → count ≡ box_volume low high → (has_mark && nat_lt most_noted count) ≡ true
+    → box_fault has_mark a b ≡ Some (WideWhileTracked count)
+corners_wide has_mark a b low high count ea eb order counted wide =
+    let test : (has_mark && nat_lt most_noted (box_volume low high)) ≡ true = subst (λ n. (has_mark && nat_lt most_noted n) ≡ true) counted wide in
+    let fault : box_fault has_mark a b ≡ Some (WideWhileTracked (box_volume low high)) = rw (ea, eb) (rw (order, test) refl) in
+    fault ∙ ap (λ n. Some (WideWhileTracked n)) (sym counted)
 
 pub corners_need : (a b : Option Voxel) (low high : Voxel) → a ≡ Some low → b ≡ Some high → corner_need a b ≡ box_need low high
 corners_need a b low high ea eb = rw (ea, eb) refl
@@ -23,12 +35,26 @@ pub corners_events : (a b : Option Voxel) (low high : Voxel) (event : Event) →
 corners_events a b low high event ea eb k v = rw (ea, eb) refl
 
 -- then the answer is that of the room
-pub corners_answer : (most need : ℕ) (values : Values) (a b : Option Voxel) (low high : Voxel) (result : Result ⊤ MapFault)
-    → a ≡ Some low → b ≡ Some high → is_box low high ≡ true → need ≡ box_need low high
+pub corners_volume : (a b : Option Voxel) (low high : Voxel) → a ≡ Some low → b ≡ Some high → corner_volume a b ≡ box_volume low high
+corners_volume a b low high ea eb = rw (ea, eb) refl
+
+pub corners_answer : (has_mark : Bool) (most need : ℕ) (values : Values) (a b : Option Voxel) (low high : Voxel) (result : Result ⊤ MapFault)
+    → a ≡ Some low → b ≡ Some high → is_box low high ≡ true
+    → (has_mark && nat_lt most_noted (box_volume low high)) ≡ false → need ≡ box_need low high
     → IsAnswerOrMemory (room_answer most values need) result
-    → IsAnswerOrMemory (box_answer_by (corner_fault a b) (room_answer most values (corner_need a b))) result
-corners_answer most need values a b low high result ea eb order counted answer =
-    rw (corners_right a b low high ea eb order, corners_need a b low high ea eb ∙ sym counted) answer
+    → IsAnswerOrMemory (box_answer_by (box_fault has_mark a b) (room_answer most values (corner_need a b))) result
+corners_answer has_mark most need values a b low high result ea eb order narrow counted answer =
+    rw (corners_right has_mark a b low high ea eb order narrow, corners_need a b low high ea eb ∙ sym counted) answer
+
+-- and one where there is room is an answer
+pub corners_ok : (has_mark : Bool) (most need : ℕ) (values : Values) (a b : Option Voxel) (low high : Voxel)
+    → a ≡ Some low → b ≡ Some high → is_box low high ≡ true
+    → (has_mark && nat_lt most_noted (box_volume low high)) ≡ false → need ≡ box_need low high
+    → IsAnswerOrMemory (room_answer most values need) (Ok tt)
+    → IsOk (box_answer_by (box_fault has_mark a b) (room_answer most values (corner_need a b)))
+corners_ok has_mark most need values a b low high ea eb order narrow counted answer =
+    rw (corners_right has_mark a b low high ea eb order narrow, corners_need a b low high ea eb ∙ sym counted)
+    (room_ok (room_answer most values need) answer)
 
 -- what isn't lazy leaves the stale flag as it was
 pub still_stale : (P : Bool → Type 0) (stale : Bool) → P (stale || false) → P stale

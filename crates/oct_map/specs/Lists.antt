@@ -3,7 +3,7 @@ use Rattle.std.specs.Prelude.{ℕ, nat_lt, Bool, ◌&&◌, List, length, Option,
 use Rattle.oct_key.specs.declared.point.Point.{Point}
 use Rattle.oct_key.specs.Voxel.{Voxel, key_at}
 use Rattle.oct_key.specs.Values.{Values}
-use Rattle.oct_values.specs.Boxes.{is_box}
+use Rattle.oct_key.specs.Boxes.{is_box}
 use Rattle.oct_query.specs.Shown.{Shown}
 use Rattle.oct_query.specs.Listed.{met_blocks, listed_blocks}
 use Rattle.oct_map.specs.declared.fault.MapFault.{MapFault}

@@ -1,12 +1,13 @@
-ghost use Rattle.std.specs.Prelude.{◌≡◌, ℕ, ◌+◌, ◌^◌, ◌<◌, ◌≤◌, pos, ◌≤ℤ◌, ◌<ℤ◌, false, IsTrue, [], All, IfSome, IfErr, IsSome, IsOk, OnOk, OnErr, Some, None, Err};
+ghost use Rattle.std.specs.Prelude.{◌≡◌, ℕ, ◌+◌, ◌^◌, ◌<◌, ◌≤◌, ◌⊎◌, ◌&&◌, nat_lt, pos, ◌≤ℤ◌, ◌<ℤ◌, false, is_some, IsTrue, [], All, IfSome, IfErr, IsSome, IsOk, OnOk, OnErr, Some, None, Err};
 ghost use Rattle.oct_key.specs.Voxel.{Voxel, IsInMap, key_at};
 ghost use Rattle.oct_key.specs.Values.{SameValues};
 ghost use Rattle.oct_odds.specs.Odds.{odds_of};
 ghost use Rattle.oct_odds.specs.Update.{IsSmallEvent};
 ghost use Rattle.oct_odds.specs.declared.event.Event.{Event};
 ghost use Rattle.oct_values.specs.Events.{event_at, updated};
-ghost use Rattle.oct_values.specs.Boxes as boxes;
-ghost use Rattle.oct_values.specs.Boxes.{IsBox};
+ghost use Rattle.oct_key.specs.Boxes as boxes;
+ghost use Rattle.oct_key.specs.Boxes.{IsBox};
+ghost use Rattle.oct_values.specs.Boxes.{box_volume};
 ghost use Rattle.oct_values.specs.Counts.{group_count, node_count};
 ghost use Rattle.oct_arena.specs.declared.node.Node.{Node};
 ghost use Rattle.oct_arena.specs.Entries.{live, spare};
@@ -16,23 +17,27 @@ ghost use Rattle.oct_edit.specs.Saturated.{IsSaturated};
 ghost use Rattle.oct_edit.specs.Edits.{IsTidyAlong};
 ghost use Rattle.oct_inner.specs.Changes.{IsSameButInner, IsShrunk};
 ghost use Rattle.oct_pose.specs.Reach.{IsInReach};
-ghost use Rattle.oct_scan.specs.Beam.{sighting_of};
+ghost use Rattle.oct_scan.specs.Beam.{IsTrust, sighting_of};
 ghost use Rattle.oct_scan.specs.Outcome.{scan_fault};
 ghost use Rattle.oct_map.specs.declared.fault.MapFault.{MapFault};
-ghost use Rattle.oct_map.specs.Answers.{room_answer, edit_answer, box_answer, corner_fault, edit_need, scan_answer, get_answer, IsAnswerOrMemory};
-ghost use Rattle.oct_map.specs.Outcome.{corner_events, corner_need};
+ghost use Rattle.oct_map.specs.Answers.{room_answer, edit_answer, box_answer, corner_fault, box_fault, most_noted, edit_need, scan_answer, limit_answer, get_answer, IsAnswerOrMemory};
+ghost use Rattle.oct_map.specs.Outcome.{corner_events, corner_need, corner_box, corner_volume, hit_event, miss_event};
+ghost use Rattle.oct_scan.specs.Outcome.{hit_count, free_count};
+ghost use Rattle.oct_map.specs.Notes.{LacksNotes, NotesFew};
+ghost use Rattle.oct_map.specs.Marks.{KeepsMark};
 ghost use Rattle.oct_map.specs.Lists.{list_answer};
 ghost use Rattle.oct_map.specs.Edits.{outcome_in, scan_need, IsMapEdited, IsMapRefused, ReservesFew, entries_of};
 
 use crate::done::ScanDone;
 use crate::fault::MapFault;
 use crate::limits::Limits;
+use crate::mark::Mark;
 use oct_edit::{ScanUpdate, box_need, touch, touch_all, touch_box};
 use oct_inner::{maximum_likelihood, prune, refresh};
-use oct_key::{Block, Key, Point, Res};
+use oct_key::{Block, Key, Point, Res, Window};
 use oct_odds::{Event, OddsModel};
 use oct_query::{BlockList, Counts, counts, list, query};
-use oct_scan::{Scan, update_bricks};
+use oct_scan::{Scan, ScanOdds, update_bricks};
 use oct_tree::OccTree;
 use std::alloc::Global;
 use std::marker::Model;
@@ -43,6 +48,9 @@ const EDIT_NEED: u128 = 16;
 /// The most blocks, unknown ones among them, that a list may have.
 const MOST_LISTED: u64 = 1_000_000;
 
+/// The most voxels of a box that is edited while a mark stands.
+const MOST_NOTED: u64 = 1_000_000;
+
 /// The depth of the voxels.
 const VOXELS: u32 = 16;
 
@@ -51,7 +59,9 @@ const VOXELS: u32 = 16;
 pub struct OccMap {
     tree: OccTree,
     is_stale: bool,
+    window: Option<Window>,
     limits: Limits,
+    mark: Mark,
     alloc: Global,
 }
 
@@ -63,28 +73,34 @@ impl Model for OccMap {
     ghost view = { λ m. record {
       tree = m.tree;
       is_stale = m.is_stale;
+      update_box = m.window;
       max_groups = m.limits.max_groups;
       max_cells = m.limits.max_cells;
+      mark = m.mark;
     } };
 
     ghost invariant = { λ m. IsMap (record {
       tree = m.tree;
       is_stale = m.is_stale;
+      update_box = m.window;
       max_groups = m.limits.max_groups;
       max_cells = m.limits.max_cells;
+      mark = m.mark;
     }) };
 }
 
 impl OccMap {
     ghost use Rattle.oct_map.specs.Map.{Map, IsMap, HasRoomFor, values_of, ground_of};
 
-    /// The map of the unknown world. Takes no memory.
+    /// The map of the unknown world, without a mark. Takes no memory.
     pub fn new(alloc: Global, res: Res, odds: OddsModel, limits: Limits) -> OccMap
         ensures exact { result ≡ record {
           tree = record { groups = []; root = Node.Absent; res = res; odds = odds_of odds };
           is_stale = false;
+          update_box = None;
           max_groups = limits.max_groups;
           max_cells = limits.max_cells;
+          mark = None;
         } }
         ensures unknown { (k : Voxel) → values_of result k ≡ None }
         ensures map { IsMap result }
@@ -92,7 +108,9 @@ impl OccMap {
         OccMap {
             tree: OccTree::new(alloc, res, odds),
             is_stale: false,
+            window: None,
             limits,
+            mark: Mark::none(),
             alloc,
         }
     }
@@ -125,7 +143,7 @@ impl OccMap {
             (edit_answer (ground_of self.old) (values_of self.old) p) result }
         ensures memory { result ≡ Err MapFault.Memory
             → IsOk (edit_answer (ground_of self.old) (values_of self.old) p)
-            × (spare self.old.tree.groups < edit_need) }
+            × ((spare self.old.tree.groups < edit_need) ⊎ LacksNotes self.old.mark 1) }
         ensures edited { OnOk result (IsMapEdited self.old self.new
             (event_at (key_at self.old.tree.res p) event) edit_need lazy) }
         ensures refused { IfErr result (λ fault. IsMapRefused self.old self.new fault edit_need) }
@@ -135,6 +153,9 @@ impl OccMap {
             → HasRoomFor self.old edit_need
             → IsSaturated self.old.tree.odds event (values_of self.old k)
             → OnOk result (IsGrown self.old.tree self.new.tree) }
+        ensures mark { KeepsMark self.old self.new }
+        ensures noted { NotesFew self.old.mark self.new.mark
+            (event_at (key_at self.old.tree.res p) event) 1 }
         ensures setup { ground_of self.new ≡ ground_of self.old }
         ensures map { IsMap self.new }
     {
@@ -142,6 +163,8 @@ impl OccMap {
             return Err(MapFault::Outside { point: 1 });
         };
         self.make_room(EDIT_NEED)?;
+        self.mark.reserve(1)?;
+        self.mark.note_class(&self.tree, k);
         touch(&mut self.tree, k, event, lazy);
         self.is_stale |= lazy;
         Ok(())
@@ -151,16 +174,21 @@ impl OccMap {
     /// points, both included. It isn't lazy.
     ///
     /// An edit is refused for a corner outside the map, then where on some axis the first corner
-    /// lies beyond the second, and then as full where the groups that the values need and those
-    /// that the box may need are more than the limit.
+    /// lies beyond the second, then where a mark stands and the box has more than 1,000,000 voxels,
+    /// and then as full where the groups that the values need and those that the box may need are
+    /// more than the limit.
     pub fn edit_box(&mut self, lo: Point, hi: Point, event: Event) -> Result<(), MapFault>
         requires { IsSmallEvent event }
         ensures answer { IsAnswerOrMemory
-            (box_answer (ground_of self.old) (values_of self.old) lo hi) result }
+            (box_answer (ground_of self.old) (is_some self.old.mark) (values_of self.old) lo hi)
+            result }
         ensures memory { result ≡ Err MapFault.Memory
-            → IsOk (box_answer (ground_of self.old) (values_of self.old) lo hi)
-            × (spare self.old.tree.groups
-            < corner_need (key_at self.old.tree.res lo) (key_at self.old.tree.res hi)) }
+            → IsOk (box_answer (ground_of self.old) (is_some self.old.mark) (values_of self.old)
+            lo hi)
+            × ((spare self.old.tree.groups
+            < corner_need (key_at self.old.tree.res lo) (key_at self.old.tree.res hi))
+            ⊎ LacksNotes self.old.mark (corner_volume (key_at self.old.tree.res lo)
+            (key_at self.old.tree.res hi))) }
         ensures edited { OnOk result (IsMapEdited self.old self.new
             (corner_events (key_at self.old.tree.res lo) (key_at self.old.tree.res hi) event)
             (corner_need (key_at self.old.tree.res lo) (key_at self.old.tree.res hi)) false) }
@@ -168,8 +196,14 @@ impl OccMap {
             (corner_need (key_at self.old.tree.res lo) (key_at self.old.tree.res hi))) }
         ensures reserved { ReservesFew self.old self.new
             (corner_need (key_at self.old.tree.res lo) (key_at self.old.tree.res hi)) }
-        ensures faulty { IsSome (corner_fault (key_at self.old.tree.res lo)
+        ensures faulty { IsSome (box_fault (is_some self.old.mark) (key_at self.old.tree.res lo)
             (key_at self.old.tree.res hi)) → self.new ≡ self.old }
+        ensures mark { KeepsMark self.old self.new }
+        ensures noted { NotesFew self.old.mark self.new.mark
+            (corner_events (key_at self.old.tree.res lo) (key_at self.old.tree.res hi) event)
+            (corner_volume (key_at self.old.tree.res lo) (key_at self.old.tree.res hi)) }
+        ensures path { (k : Voxel) → IsInMap k → IsSome (corner_events (key_at self.old.tree.res lo)
+            (key_at self.old.tree.res hi) event k) → OnOk result (IsTidyAlong self.new.tree k) }
         ensures setup { ground_of self.new ≡ ground_of self.old }
         ensures map { IsMap self.new }
     {
@@ -182,13 +216,62 @@ impl OccMap {
         if !is_box(low, high) {
             return Err(MapFault::BadBox);
         }
+        let count = volume(low, high);
+        if self.is_too_wide(count) {
+            return Err(MapFault::WideWhileTracked { count });
+        }
         self.make_room(box_need(low, high))?;
+        self.mark.reserve(count)?;
+        self.mark.note_box(&self.tree, low, high);
         touch_box(&mut self.tree, low, high, event);
         Ok(())
     }
 
-    /// Applies a hit to each voxel that the scan hits, and a miss to each one that it frees, by the
-    /// map's model of log-odds.
+    /// Restricts the scans that come to the box whose corners are the voxels that hold the two
+    /// points, both included. Nothing else looks at the box, and only `limit` and `no_limit` change
+    /// it. Takes no memory.
+    ///
+    /// It is refused for a corner outside the map, and then where on some axis the first corner
+    /// lies beyond the second. The box that stood stays then.
+    pub fn limit(&mut self, lo: Point, hi: Point) -> Result<(), MapFault>
+        ensures answer { result ≡ limit_answer (ground_of self.old) lo hi }
+        ensures limited { OnOk result (self.new ≡ record self.old {
+          update_box = corner_box (key_at self.old.tree.res lo) (key_at self.old.tree.res hi);
+        }) }
+        ensures refused { OnErr result (self.new ≡ self.old) }
+        ensures map { IsMap self.new }
+    {
+        let Some(low) = self.tree.res().key_of(lo) else {
+            return Err(MapFault::Outside { point: 1 });
+        };
+        let Some(high) = self.tree.res().key_of(hi) else {
+            return Err(MapFault::Outside { point: 2 });
+        };
+        let Some(window) = Window::new(low, high) else {
+            return Err(MapFault::BadBox);
+        };
+        self.window = Some(window);
+        Ok(())
+    }
+
+    /// Lifts the restriction of scans to a box.
+    pub fn no_limit(&mut self)
+        ensures exact { self.new ≡ record self.old { update_box = None } }
+        ensures map { IsMap self.new }
+    {
+        self.window = None;
+    }
+
+    /// The box to which scans are restricted, where one stands.
+    pub fn window(&self) -> Option<Window>
+        ensures exact { result ≡ self.now.update_box }
+    {
+        self.window
+    }
+
+    /// Applies a hit to each voxel that the scan hits, and a miss to each one that it frees, as far
+    /// as they lie in the update box, where one stands. What they add are the scan's own log-odds,
+    /// where it has them, else those of the map's model.
     ///
     /// A scan is refused before any voxel changes: first for its own fault, and then as full where
     /// the groups that the values need and those that the scan may need are more than the limit.
@@ -197,6 +280,7 @@ impl OccMap {
     pub fn scan(&mut self, scan: &Scan, lazy: bool) -> Result<ScanDone, MapFault>
         requires points { All IsInReach scan.now.points }
         requires range { IfSome scan.now.range (λ r. (pos 0 ≤ℤ r) × (r <ℤ pos (10 ^ 16))) }
+        requires odds { IfSome scan.now.odds IsTrust }
         ensures answer { IsAnswerOrMemory (scan_answer (ground_of self.old) (values_of self.old)
             (sighting_of scan.now)) result }
         ensures edited { OnOk result (IsMapEdited self.old self.new
@@ -210,17 +294,28 @@ impl OccMap {
         ensures path { (IsTrue lazy → ⊥) → (k : Voxel) → IsInMap k
             → IsSome (outcome_in self.old (sighting_of scan.now) k)
             → OnOk result (IsTidyAlong self.new.tree k) }
+        ensures mark { KeepsMark self.old self.new }
+        ensures noted { NotesFew self.old.mark self.new.mark
+            (outcome_in self.old (sighting_of scan.now))
+            (hit_count self.old.tree.res self.old.update_box (sighting_of scan.now)
+            + free_count self.old.tree.res self.old.update_box (sighting_of scan.now)) }
         ensures setup { ground_of self.new ≡ ground_of self.old }
         ensures map { IsMap self.new }
     {
-        let odds = self.tree.odds();
-        let set = update_bricks(self.alloc, scan, self.tree.res(), self.limits.max_cells)?;
+        let (hit, miss) = events_of_scan(self.tree.odds(), scan.odds);
+        let window = self.window();
+        let set = update_bricks(
+            self.alloc,
+            scan,
+            self.tree.res(),
+            self.limits.max_cells,
+            window,
+        )?;
         self.make_room(u128::from(set.need()))?;
-        let update = ScanUpdate {
-            bricks: set.bricks(),
-            hit: Event::Add(odds.hit),
-            miss: Event::Add(odds.miss),
-        };
+        self.mark.reserve(set.hit_count() + set.free_count())?;
+        let bricks = set.bricks();
+        self.mark.note_bricks(&self.tree, bricks);
+        let update = ScanUpdate { bricks, hit, miss };
         touch_all(&mut self.tree, update, lazy);
         self.is_stale |= lazy;
         Ok(ScanDone {
@@ -299,6 +394,8 @@ impl OccMap {
         ensures pruned { IsPruned self.new.tree }
         ensures same { IsPruned self.old.tree → self.new ≡ self.old }
         ensures groups_kept { IsShrunk self.old.tree self.new.tree }
+        ensures notes { self.new.mark ≡ self.old.mark }
+        ensures mark { KeepsMark self.old self.new }
         ensures setup { ground_of self.new ≡ ground_of self.old }
         ensures map { IsMap self.new }
     {
@@ -313,6 +410,8 @@ impl OccMap {
         ensures nodes { IsSameButInner self.old.tree self.new.tree }
         ensures values { SameValues (values_of self.old) (values_of self.new) }
         ensures stale { self.new.is_stale ≡ false }
+        ensures notes { self.new.mark ≡ self.old.mark }
+        ensures mark { KeepsMark self.old self.new }
         ensures pruned { IsPruned self.old.tree → IsPruned self.new.tree }
         ensures setup { ground_of self.new ≡ ground_of self.old }
         ensures map { IsMap self.new }
@@ -329,6 +428,8 @@ impl OccMap {
         ensures fresh { IsFresh self.old.tree → IsFresh self.new.tree }
         ensures values { SameValues (values_of self.old) (values_of self.new) }
         ensures stale { self.new.is_stale ≡ self.old.is_stale }
+        ensures notes { self.new.mark ≡ self.old.mark }
+        ensures mark { KeepsMark self.old self.new }
         ensures setup { ground_of self.new ≡ ground_of self.old }
         ensures map { IsMap self.new }
     {
@@ -346,14 +447,17 @@ impl OccMap {
         ensures stale { self.new.is_stale ≡ false }
         ensures groups { live self.new.tree.groups ≤ live self.old.tree.groups }
         ensures entries { entries_of self.new ≡ entries_of self.old }
+        ensures notes { self.new.mark ≡ self.old.mark }
+        ensures mark { KeepsMark self.old self.new }
         ensures setup { ground_of self.new ≡ ground_of self.old }
         ensures map { IsMap self.new }
     {
+        self.tree.odds();
         maximum_likelihood(&mut self.tree);
         self.is_stale = false;
     }
 
-    /// Makes the map that of the unknown world again, and gives back all its memory.
+    /// Makes the map that of the unknown world again, without a mark, and gives back all its memory.
     pub fn clear(&mut self)
         ensures exact { self.new ≡ record {
           tree = record {
@@ -363,8 +467,10 @@ impl OccMap {
             odds = self.old.tree.odds;
           };
           is_stale = false;
+          update_box = self.old.update_box;
           max_groups = self.old.max_groups;
           max_cells = self.old.max_cells;
+          mark = None;
         } }
         ensures unknown { (k : Voxel) → values_of self.new k ≡ None }
         ensures stale { self.new.is_stale ≡ false }
@@ -374,6 +480,14 @@ impl OccMap {
     {
         self.tree = OccTree::new(self.alloc, self.tree.res(), self.tree.odds());
         self.is_stale = false;
+        self.mark.unset();
+    }
+
+    /// Whether a mark stands, and a box of so many voxels has too many to be noted.
+    fn is_too_wide(&self, count: u64) -> bool
+        ensures { result ≡ (is_some self.now.mark && nat_lt most_noted count) }
+    {
+        self.mark.is_set() && count > MOST_NOTED
     }
 
     /// Makes room for so many groups, or refuses. Prunes the map only where there isn't room
@@ -390,8 +504,9 @@ impl OccMap {
         ensures kept { HasRoomFor self.old need → IsGrown self.old.tree self.new.tree }
         ensures full { (groups more : ℕ) → result ≡ Err (MapFault.Full groups more)
             → IsPruned self.new.tree × IsShrunk self.old.tree self.new.tree }
-        ensures live { OnErr result (live self.new.tree.groups ≤ live self.old.tree.groups) }
+        ensures live { live self.new.tree.groups ≤ live self.old.tree.groups }
         ensures reserved { ReservesFew self.old self.new need }
+        ensures notes { self.new.mark ≡ self.old.mark }
         ensures values { SameValues (values_of self.old) (values_of self.new) }
         ensures stale { self.new.is_stale ≡ self.old.is_stale }
         ensures pruned { IsPruned self.old.tree → IsPruned self.new.tree }
@@ -414,6 +529,7 @@ impl OccMap {
         ensures shrunk { IsShrunk self.old.tree self.new.tree }
         ensures full { OnErr result (IsPruned self.new.tree) }
         ensures spare { spare self.old.tree.groups ≤ spare self.new.tree.groups }
+        ensures notes { self.new.mark ≡ self.old.mark }
         ensures values { SameValues (values_of self.old) (values_of self.new) }
         ensures stale { self.new.is_stale ≡ self.old.is_stale }
         ensures pruned { IsPruned self.old.tree → IsPruned self.new.tree }
@@ -436,12 +552,38 @@ impl OccMap {
     }
 }
 
+/// The events of a hit and of a miss of a scan: by its own log-odds, where it has them, else by the
+/// map's.
+fn events_of_scan(model: OddsModel, own: Option<ScanOdds>) -> (Event, Event)
+    requires { IfSome own IsTrust }
+    ensures hit { result.0 ≡ hit_event (odds_of model) own }
+    ensures miss { result.1 ≡ miss_event (odds_of model) own }
+    ensures small { IsSmallEvent result.0 × IsSmallEvent result.1 }
+{
+    let (hit, miss) = match own {
+        Some(own) => (own.hit, own.miss),
+        None => (model.hit, model.miss),
+    };
+    (Event::Add(hit), Event::Add(miss))
+}
+
 /// Whether the voxels are the corners of a box: on no axis the first is beyond the second.
 fn is_box(lo: Key, hi: Key) -> bool
     ensures exact { result ≡ boxes.is_box lo hi }
     ensures order { IsTrue result → IsBox lo hi }
 {
     lo.x <= hi.x && lo.y <= hi.y && lo.z <= hi.z
+}
+
+mod loading;
+mod marking;
+/// How many voxels there are in the box of two corners.
+fn volume(lo: Key, hi: Key) -> u64
+    requires { IsBox lo hi }
+    ensures { result ≡ box_volume lo hi }
+{
+    let along = |low: u16, high: u16| u64::from(high) + 1 - u64::from(low);
+    along(lo.x, hi.x) * (along(lo.y, hi.y) * along(lo.z, hi.z))
 }
 
 #[cfg(test)]

@@ -1,4 +1,4 @@
-use Rattle.std.proofs.Common.{arith}
+use Rattle.std.proofs.Common.{refl, ◌∙◌, arith}
 use Rattle.oct_change.proofs.Boxes.{below_start, below_room, box_step, box_end}
 use Rattle.oct_change.proofs.changes.Changes.note_box.Goals as goal
 
@@ -9,6 +9,7 @@ loop-x-init c = (
       (arith, low, to, start))),
   (let order = c.requires.order.x in let start = c.from-x.ensures in
       omega (arith, start, order)),
+  refl,
 )
 
 pub loop-x-preserved : goal.loop-x-preserved
@@ -18,4 +19,5 @@ loop-x-preserved c =
       box_step _ c.loop-x.x _ c.args.lo c.args.hi _ _ _ _ _ _ (omega (arith, test, end))
           c.loop-x.invariant.0 c.note_plane.ensures.noted c.note_plane.ensures.spare,
       omega (arith, test, end),
+      c.note_plane.ensures.room ∙ c.loop-x.invariant.2,
     )

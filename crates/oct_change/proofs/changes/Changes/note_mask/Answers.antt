@@ -1,5 +1,5 @@
 use Rattle.std.proofs.Common.{◌<◌, ◌^◌, ◌-◌, ◌≡◌, ◌∷◌, ◌∙◌, ap, sym, subst, map, arith, rules}
-use Rattle.std.proofs.Common.{bit_and}
+use Rattle.std.proofs.Common.{refl, bit_and}
 use Rattle.std.specs.Int.{w64, trailing_zeros}
 use Rattle.oct_brick.specs.Masks.{codes_of}
 use Rattle.oct_brick.specs.Voxels.{coded_voxel}
@@ -10,14 +10,17 @@ use Rattle.oct_change.proofs.Masks.{next_voxel, place_below, placed_code, placed
 use Rattle.oct_change.proofs.Masks.{no_voxels}
 use Rattle.oct_change.proofs.changes.Changes.note_mask.Goals as goal
 
+pub returns-clause-room : goal.returns-clause-room
+returns-clause-room c = c.loop-left.invariant.1
+
 pub loop-left-init : goal.loop-left-init
-loop-left-init c = under_way_start _ _ _ _
+loop-left-init c = (under_way_start _ _ _ _, refl)
 
 pub note_class-requires : goal.note_class-requires
 note_class-requires c =
     let fits : c.loop-left.left < 2 ^ 64 = search rules in
     let some : 0 < c.loop-left.left = omega (arith, c.loop-left-test.true) in
-    under_way_room _ _ _ _ _ _ _ _ _ c.loop-left.invariant
+    under_way_room _ _ _ _ _ _ _ _ _ c.loop-left.invariant.0
     (next_voxel c.args.code c.loop-left.left some fits) c.requires.room
 
 pub loop-left-preserved : goal.loop-left-preserved
@@ -35,15 +38,17 @@ loop-left-preserved c =
     map coded_voxel (codes_of c.args.code (bit_and c.loop-left.left (c.loop-left.left - 1))) =
     next_voxel c.args.code c.loop-left.left some fits
     ∙ ap (λ k. k ∷ map coded_voxel (codes_of c.args.code
-    (bit_and c.loop-left.left (c.loop-left.left - 1)))) (sym key) in
-    under_way_step (classes_of c.args.tree.now.odds (value_at c.args.tree.now)) _ _ _
-    c.from_morton.result _ _ _ _ _ _ c.loop-left.invariant taken c.note_class.ensures.noted
-    c.note_class.ensures.spare
+    (bit_and c.loop-left.left (c.loop-left.left - 1)))) (sym key) in (
+      under_way_step (classes_of c.args.tree.now.odds (value_at c.args.tree.now)) _ _ _
+          c.from_morton.result _ _ _ _ _ _ c.loop-left.invariant.0 taken c.note_class.ensures.noted
+          c.note_class.ensures.spare,
+      c.note_class.ensures.room ∙ c.loop-left.invariant.1,
+    )
 
 pub returns-clause-noted : goal.returns-clause-noted
-returns-clause-noted c = (under_way_end _ _ _ _ _ _ _ c.loop-left.invariant
+returns-clause-noted c = (under_way_end _ _ _ _ _ _ _ c.loop-left.invariant.0
     (no_voxels c.args.code c.loop-left.left c.loop-left-test.false)).0
 
 pub returns-clause-spare : goal.returns-clause-spare
-returns-clause-spare c = (under_way_end _ _ _ _ _ _ _ c.loop-left.invariant
+returns-clause-spare c = (under_way_end _ _ _ _ _ _ _ c.loop-left.invariant.0
     (no_voxels c.args.code c.loop-left.left c.loop-left-test.false)).1

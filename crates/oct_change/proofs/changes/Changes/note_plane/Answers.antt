@@ -1,4 +1,4 @@
-use Rattle.std.proofs.Common.{arith}
+use Rattle.std.proofs.Common.{refl, ◌∙◌, arith}
 use Rattle.oct_change.proofs.Boxes.{below_start, below_room, plane_step, plane_end}
 use Rattle.oct_change.proofs.changes.Changes.note_plane.Goals as goal
 
@@ -7,6 +7,7 @@ loop-y-init c = (
   below_start _ _ c.args.lo.y c.from-y.result _ _ _ c.from-y.ensures
       (λ k (ex, from, to, low, high). (let start = c.from-y.ensures in omega (arith, start))),
   (let order = c.requires.order.y in let start = c.from-y.ensures in omega (arith, start, order)),
+  refl,
 )
 
 pub loop-y-preserved : goal.loop-y-preserved
@@ -16,4 +17,5 @@ loop-y-preserved c =
       plane_step _ c.args.x c.loop-y.y _ c.args.lo c.args.hi _ _ _ _ _ _ c.loop-y.invariant.0
           c.note_row.ensures.noted c.note_row.ensures.spare,
       omega (arith, test, end),
+      c.note_row.ensures.room ∙ c.loop-y.invariant.2,
     )

@@ -1,4 +1,4 @@
-use Rattle.std.proofs.Common.{arith}
+use Rattle.std.proofs.Common.{refl, ◌∙◌, arith}
 use Rattle.oct_change.proofs.Boxes.{below_start, below_room, row_step, row_end}
 use Rattle.oct_change.proofs.changes.Changes.note_row.Goals as goal
 
@@ -7,6 +7,7 @@ loop-z-init c = (
   below_start _ _ c.args.low c.from-z.result 1 _ _ c.from-z.ensures
       (λ k (ex, ey, from, to). (let start = c.from-z.ensures in omega (arith, start))),
   (let start = c.from-z.ensures in omega (arith, start, c.requires.order)),
+  refl,
 )
 
 pub loop-z-preserved : goal.loop-z-preserved
@@ -16,4 +17,5 @@ loop-z-preserved c =
       row_step _ c.args.x c.args.y c.args.low c.loop-z.z _ _ _ _ _ _ c.loop-z.invariant.0
           c.note_class.ensures.noted c.note_class.ensures.spare,
       omega (arith, test, end),
+      c.note_class.ensures.room ∙ c.loop-z.invariant.2,
     )

@@ -1,0 +1,152 @@
+//! The mark of a map.
+ghost use Rattle.std.specs.Prelude.{◌≡◌, ◌+◌, ◌≤◌, ◌⊎◌, length, max, [], None, Some, is_some, IfSome, IsOk, OnOk, OnErr, IfOk, option_map};
+ghost use Rattle.std.specs.Prelude.{All, Contains};
+ghost use Rattle.oct_brick.specs.Bricks.{IsBrick};
+ghost use Rattle.oct_brick.specs.Voxels.{hit_voxels, freed_voxels};
+ghost use Rattle.oct_key.specs.Voxel.{Voxel};
+ghost use Rattle.oct_tree.specs.Tree.{value_at};
+ghost use Rattle.oct_key.specs.Boxes.{IsBox, IsInBox};
+ghost use Rattle.oct_values.specs.Boxes.{box_volume};
+ghost use Rattle.oct_values.specs.Classes.{classes_of};
+ghost use Rattle.oct_change.specs.Changes.{changes_between};
+ghost use Rattle.oct_change.specs.Held.{room_of};
+ghost use Rattle.oct_change.specs.Notes.{first_noted};
+ghost use Rattle.oct_map.specs.Notes.{HasRoomForNotes, IsSameNoted, ReservesFewNotes, HasMarked, marked_by_notes};
+
+use oct_brick::Brick;
+use oct_change::{ChangeList, Changes};
+use oct_key::Key;
+use oct_num::Memory;
+use oct_tree::OccTree;
+use std::alloc::Global;
+use std::marker::Model;
+
+/// Whether a mark stands, and where one does, the notes of the classes that voxels had.
+///
+/// Where none stands, no call does any work.
+#[derive(Drop)]
+pub(crate) struct Mark {
+    changes: Option<Changes>,
+}
+
+impl Model for Mark {
+    ghost use Rattle.std.specs.Prelude.{Option};
+    ghost use Rattle.oct_change.specs.Held.{Held};
+
+    ghost Value = { Option Held };
+
+    ghost view = { λ m. m.changes };
+}
+
+impl Mark {
+    /// No mark.
+    pub(crate) fn none() -> Mark
+        ensures { result ≡ None }
+    {
+        Mark { changes: None }
+    }
+
+    /// Sets the mark at this moment, with no notes. Takes no memory.
+    pub(crate) fn set(&mut self, alloc: Global)
+        ensures { self.new ≡ Some (record { notes = []; spare = 0 }) }
+    {
+        self.changes = Some(Changes::new(alloc));
+    }
+
+    /// Takes the mark away, and gives the memory of its notes back.
+    pub(crate) fn unset(&mut self)
+        ensures { self.new ≡ None }
+    {
+        self.changes = None;
+    }
+
+    /// Whether a mark stands.
+    pub(crate) fn is_set(&self) -> bool
+        ensures { result ≡ is_some self.now }
+    {
+        self.changes.is_some()
+    }
+
+    /// Makes room for n notes, where a mark stands. The first note of each voxel stays.
+    pub(crate) fn reserve(&mut self, n: u64) -> Result<(), Memory>
+        ensures room { OnOk result (HasRoomForNotes self.new n) }
+        ensures enough { HasRoomForNotes self.old n → IsOk result × (self.new ≡ self.old) }
+        ensures few { ReservesFewNotes self.old self.new n }
+        ensures kept { IsSameNoted self.old self.new }
+    {
+        if let Some(changes) = &mut self.changes {
+            make_room(changes, n)?;
+        }
+        Ok(())
+    }
+
+    /// Notes the class that the voxel has in the tree, where a mark stands.
+    pub(crate) fn note_class(&mut self, tree: &OccTree, key: Key)
+        requires { HasRoomForNotes self.old 1 }
+        ensures { HasMarked (classes_of tree.now.odds (value_at tree.now)) (λ k. k ≡ key) 1
+            self.old self.new }
+    {
+        if let Some(changes) = &mut self.changes {
+            changes.note_class(tree, key);
+        }
+    }
+
+    /// Notes the classes that the voxels of the bricks have in the tree, where a mark stands.
+    pub(crate) fn note_bricks(&mut self, tree: &OccTree, bricks: &[Brick])
+        requires bricks { All IsBrick bricks.now }
+        requires room { HasRoomForNotes self.old
+            (length (hit_voxels bricks.now) + length (freed_voxels bricks.now)) }
+        ensures { HasMarked (classes_of tree.now.odds (value_at tree.now))
+            (λ k. Contains (hit_voxels bricks.now) k ⊎ Contains (freed_voxels bricks.now) k)
+            (length (hit_voxels bricks.now) + length (freed_voxels bricks.now))
+            self.old self.new }
+    {
+        if let Some(changes) = &mut self.changes {
+            changes.note_bricks(tree, bricks);
+        }
+    }
+
+    /// Notes the classes that the voxels of the box of two corners have in the tree, where a mark
+    /// stands.
+    pub(crate) fn note_box(&mut self, tree: &OccTree, lo: Key, hi: Key)
+        requires order { IsBox lo hi }
+        requires room { HasRoomForNotes self.old (box_volume lo hi) }
+        ensures { HasMarked (classes_of tree.now.odds (value_at tree.now)) (IsInBox lo hi)
+            (box_volume lo hi) self.old self.new }
+    {
+        if let Some(changes) = &mut self.changes {
+            changes.note_box(tree, lo, hi);
+        }
+    }
+
+    /// The changes since the mark, or none where no mark stands.
+    pub(crate) fn report(&self, alloc: Global, tree: &OccTree) -> Result<Option<ChangeList>, Memory>
+        ensures exact { IfOk result (λ changes. changes ≡ option_map
+            (λ before. changes_between before (classes_of tree.now.odds (value_at tree.now)))
+            (marked_by_notes self.now (classes_of tree.now.odds (value_at tree.now)))) }
+        ensures none { self.now ≡ None → IsOk result }
+    {
+        match &self.changes {
+            Some(changes) => Ok(Some(changes.report(alloc, tree)?)),
+            None => Ok(None),
+        }
+    }
+}
+
+/// Makes room for n notes. Where there isn't any, only the first note of each voxel stays, and there
+/// is room for as many notes again, so that the next time is far.
+fn make_room(changes: &mut Changes, n: u64) -> Result<(), Memory>
+    ensures room { OnOk result (n ≤ changes.new.spare) }
+    ensures enough { n ≤ changes.old.spare → IsOk result × (changes.new ≡ changes.old) }
+    ensures few { room_of changes.new ≤ max (room_of changes.old)
+        (length changes.old.notes + max n (length changes.old.notes)) }
+    ensures first { (k : Voxel)
+        → first_noted changes.new.notes k ≡ first_noted changes.old.notes k }
+    ensures fewer { length changes.new.notes ≤ length changes.old.notes }
+{
+    if changes.spare() < n {
+        changes.compact()?;
+        changes.reserve(n.max(changes.len()))?;
+    }
+    Ok(())
+}
