@@ -1,15 +1,13 @@
 -- The forms that a first word begins are those of its row.
-use Rattle.std.proofs.Common.{◌≡◌, List, [], ◌∷◌, ◌++◌, map, Bool, true, false, not, ◌&&◌, cond, bytes_eq, refl, ap, ◌∙◌, subst, sym, append-nil, Option, Some, None, option_map, rules}
-use Rattle.std.specs.Bool.{⊤}
+use Rattle.std.proofs.Common.{◌≡◌, List, [], ◌∷◌, ◌++◌, map, Bool, true, false, not, ◌&&◌, cond, bytes_eq, refl, ap, ◌∙◌, append-nil, Option, Some, None, option_map}
 use Rattle.std.proofs.lemmas.Bool.{and_parts, or_parts, not-true}
 use Rattle.std.proofs.lemmas.Slice.Eq.{bytes_eq-Decides}
 use Rattle.std.proofs.lemmas.List.Elements.{filter_map-append}
 use Rattle.std.specs.List.{cons_option, list_any, find}
-use Rattle.oct_script.specs.Commands.{all_behind, IsSmallCommand}
+use Rattle.oct_script.specs.Commands.{all_behind}
 use Rattle.oct_script.specs.Grammar.{Form, Ends, Exactly, Row, behind, grammar, block_grammar, rows_of, forms_in, forms_of}
-use Rattle.oct_script.specs.Reading.{forms_of_row, forms_at, forms_behind, forms_of_verb, row_seen, IsSmallVerb}
+use Rattle.oct_script.specs.Reading.{forms_of_row, forms_at, forms_behind, forms_of_verb, row_seen}
 use Rattle.oct_script.specs.declared.verbs.Verb.{Verb}
-use Rattle.oct_script.specs.declared.verbs.Verb.TheVariants.{Hit, Miss, Add, Set, Forget, Get, Cast, Scan, Beam, Alone, Box}
 use Rattle.oct_script.specs.declared.verbs.FirstWord.{FirstWord}
 use Rattle.oct_script.specs.Words.{Word}
 
@@ -82,39 +80,3 @@ pub found : (word : Word) (firsts : List FirstWord) (rows : List Row) (r : Optio
     forms_of_verb verb ≡ forms_at word rows
 found word firsts rows r verb seen is same =
     ap forms_of_verb (same ∙ ap (option_map (λ (first : FirstWord). first.verb)) is) ∙ at_seen word firsts ∙ ap (forms_at word) seen
-
--- the commands that end these forms have small numbers
-abbrev AreSmall : List Form → Type 0
-AreSmall [] = ⊤
-AreSmall (Ends command ∷ forms) = IsSmallCommand command × AreSmall forms
-AreSmall (_ ∷ forms) = AreSmall forms
-
-abbrev HaveSmall : List Row → Type 0
-HaveSmall [] = ⊤
-HaveSmall (first ∷ rows) = AreSmall first.forms × HaveSmall rows
-
-small_at : (word : Word) (rows : List Row) → HaveSmall rows → AreSmall (forms_at word rows)
-small_at word [] small = tt
-small_at word (first ∷ rows) small = elim (bytes_eq word first.word) as (λ b.
-    AreSmall (forms_of_row (cond b (Some first) (find (λ (row : Row). bytes_eq word row.word) rows)))) [ true ↦ small.0 | false ↦ small_at word rows small.1 ]
-
-rows_small : (inside : Bool) → HaveSmall (rows_of inside)
-rows_small true = search rules
-rows_small false = search rules
-
-small_forms : (verb : Verb) → AreSmall (forms_behind verb) → IsSmallVerb verb
-small_forms Hit small = tt
-small_forms Miss small = tt
-small_forms Add small = tt
-small_forms Set small = tt
-small_forms Forget small = tt
-small_forms Get small = tt
-small_forms Cast small = tt
-small_forms Box small = tt
-small_forms Scan small = tt
-small_forms Beam small = tt
-small_forms (Alone command) small = small.0
-
--- the numbers in a verb of the grammar are small
-pub small_verb : (inside : Bool) (word : Word) (verb : Verb) → forms_behind verb ≡ forms_at word (rows_of inside) → IsSmallVerb verb
-small_verb inside word verb same = small_forms verb (subst AreSmall (sym same) (small_at word (rows_of inside) (rows_small inside)))

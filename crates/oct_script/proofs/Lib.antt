@@ -1,4 +1,5 @@
 pub mod Cuts
+pub mod NameBytes
 pub mod LineFeeds
 pub mod Feeding
 pub mod WordSplits

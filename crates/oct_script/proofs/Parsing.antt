@@ -4,9 +4,10 @@ use Rattle.std.specs.List.{cons_option}
 use Rattle.std.specs.Option.{ok_or}
 use Rattle.oct_key.specs.declared.point.Point.{Point}
 use Rattle.oct_script.specs.Commands.{fault, all_behind, ended_command, if_any, command_by, is_comment, command_in}
-use Rattle.oct_script.specs.Grammar.{Form, Ends, Exactly, Metres, Number, Depth, Component, Range, length_of, number_of, depth_of, component_of, range_of, behind, point, two_points, lazy, head, cast, scan, rows_of, forms_of, box, forms_in, Row, row, alone}
-use Rattle.oct_script.specs.Reading.{◌>>=◌, number_or, number_in, point_in, excess, unless_fault, end_in, flag_in, edit_end_in, edit_in, points_in, point_number_in, number_edit_in, query_in, cast_in, rotation_in, scan_in, beam_in, behind_verb, forms_behind, forms_of_verb, forms_at, misplaced, by_forms, behind_first, line_in, edit_number_in, edit_word_in, box_in, forms_of_row}
+use Rattle.oct_script.specs.Grammar.{Form, Ends, Exactly, Metres, Number, Depth, Component, Range, FileName, length_of, number_of, depth_of, component_of, range_of, behind, point, two_points, lazy, head, cast, scan, rows_of, forms_of, box, file, forms_in, Row, row, alone}
+use Rattle.oct_script.specs.Reading.{◌>>=◌, number_or, number_in, point_in, excess, unless_fault, end_in, flag_in, edit_end_in, edit_in, points_in, point_number_in, number_edit_in, query_in, cast_in, rotation_in, scan_in, beam_in, file_in, behind_verb, forms_behind, single_command, forms_of_verb, forms_at, misplaced, by_forms, behind_first, line_in, edit_number_in, edit_word_in, box_in, forms_of_row}
 use Rattle.oct_script.proofs.FirstWords.{first_word, forms_first}
+use Rattle.oct_script.specs.Names.{name_of}
 use Rattle.oct_script.specs.Words.{Word, PlacedWord}
 use Rattle.oct_script.specs.declared.command.Syntax.{Syntax}
 use Rattle.oct_script.specs.declared.command.Edit.{Edit}
@@ -15,7 +16,7 @@ use Rattle.oct_script.specs.declared.command.ScanHead.{ScanHead}
 use Rattle.oct_script.specs.declared.command.Command.{Command}
 use Rattle.oct_script.specs.declared.command.Command.TheVariants as command
 use Rattle.oct_script.specs.declared.verbs.Verb.{Verb}
-use Rattle.oct_script.specs.declared.verbs.Verb.TheVariants.{Hit, Miss, Add, Set, Forget, Get, Cast, Scan, Beam, Alone, Box}
+use Rattle.oct_script.specs.declared.verbs.Verb.TheVariants.{Hit, Miss, Add, Set, Forget, Get, Cast, Scan, Beam, Alone, Box, Save, Load, Snapshot, Restore}
 
 -- no word may stand any more
 ends : (c : Command) (end : ℕ) (words : List PlacedWord) → command_by (Ends c ∷ []) end words ≡ end_in c words
@@ -60,6 +61,9 @@ component_place = record { takes = λ f word. refl; goes_on = λ f forms. refl }
 
 range_place : IsPlace Range range_of
 range_place = record { takes = λ f word. refl; goes_on = λ f forms. refl }
+
+name_place : IsPlace FileName name_of
+name_place = record { takes = λ f word. refl; goes_on = λ f forms. refl }
 
 depth_place : IsPlace Depth depth_of
 depth_place = record { takes = λ f word. refl; goes_on = λ f forms. refl }
@@ -274,6 +278,12 @@ beams : (end : ℕ) (words : List PlacedWord) → command_by (point (λ p. Ends 
 unfolding beam_in
 beams end words = point_one (λ p. Ends (command.Beam p)) end words ∙ then_same (point_in end words) _ _ (λ p. ends (command.Beam p.0) end p.1)
 
+files : (make : Word → Command) (end : ℕ) (words : List PlacedWord) → command_by (file make) end words ≡ (file_in end words >>= λ name. Ok (make name))
+unfolding file_in
+files make end words =
+    place_one FileName name_of name_place (λ name. Ends (make name)) end words ∙ then_then (number_in name_of end words) _ _ _ (λ name.
+    ends (make name.0) end name.1 ∙ ends_then name.0 name.1 make)
+
 -- what stands behind a first word, as the forms have it
 pub behind_any : (verb : Verb) (end : ℕ) (words : List PlacedWord) (none : Result Command Syntax) →
     if_any (forms_behind verb) (command_by (forms_behind verb) end words) none ≡ behind_verb verb end words
@@ -288,7 +298,11 @@ behind_any Cast end words none = casts end words
 behind_any Box end words none = boxes end words
 behind_any Scan end words none = scans end words
 behind_any Beam end words none = beams end words
-behind_any (Alone c) end words none = ends c end words
+behind_any Save end words none = files command.Save end words
+behind_any Load end words none = files command.Load end words
+behind_any Snapshot end words none = files command.Snapshot end words
+behind_any Restore end words none = files command.Restore end words
+behind_any (Alone single) end words none = ends (single_command single) end words
 
 -- some form stands behind each verb
 some_behind : (verb : Verb) (some none : Result Command Syntax) → if_any (forms_behind verb) some none ≡ some
@@ -302,7 +316,11 @@ some_behind Cast some none = refl
 some_behind Box some none = refl
 some_behind Scan some none = refl
 some_behind Beam some none = refl
-some_behind (Alone c) some none = refl
+some_behind Save some none = refl
+some_behind Load some none = refl
+some_behind Snapshot some none = refl
+some_behind Restore some none = refl
+some_behind (Alone single) some none = refl
 
 -- a first word that may stand here
 pub stands_here : (inside : Bool) (first : PlacedWord) (end : ℕ) (words : List PlacedWord) (here : Option Verb) (verb : Verb) → here ≡ Some verb →

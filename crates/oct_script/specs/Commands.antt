@@ -16,6 +16,8 @@ use Rattle.oct_script.specs.declared.command.Command.TheVariants as command
 use Rattle.oct_script.specs.declared.command.Command.TheVariants.{Blank, Get, Counts, Refresh}
 use Rattle.oct_script.specs.declared.command.Command.TheVariants.{Prune, Clear, Quit, Scan, Beam, End}
 use Rattle.oct_script.specs.declared.command.Command.TheVariants.{Cast, MaxLikelihood, NotYet}
+use Rattle.oct_script.specs.declared.command.Command.TheVariants.{Track, Untrack, Changes, NoLimit}
+use Rattle.oct_script.specs.declared.command.Command.TheVariants.{Save, Load, Snapshot, Restore}
 
 -- the fault at a column
 abbrev pub fault : ℕ → Syntax
@@ -96,6 +98,14 @@ IsSmallCommand Refresh = ⊤
 IsSmallCommand Prune = ⊤
 IsSmallCommand Clear = ⊤
 IsSmallCommand MaxLikelihood = ⊤
+IsSmallCommand Track = ⊤
+IsSmallCommand Untrack = ⊤
+IsSmallCommand Changes = ⊤
+IsSmallCommand NoLimit = ⊤
+IsSmallCommand (Save name) = ⊤
+IsSmallCommand (Load name) = ⊤
+IsSmallCommand (Snapshot name) = ⊤
+IsSmallCommand (Restore name) = ⊤
 IsSmallCommand Quit = ⊤
 IsSmallCommand (Scan head) = IsInReach head.t × IsRange head.range
 IsSmallCommand (Beam p) = IsInReach p

@@ -8,6 +8,7 @@ use Rattle.oct_num.specs.Metres.{metres_of}
 use Rattle.oct_num.specs.Sign.{without_minus}
 use Rattle.oct_num.specs.Whole.{natural_of, whole_of}
 use Rattle.oct_key.specs.declared.point.Point.{Point}
+use Rattle.oct_script.specs.Names.{name_of}
 use Rattle.oct_script.specs.Words.{Word}
 use Rattle.oct_script.specs.declared.command.Edit.{Edit}
 use Rattle.oct_script.specs.declared.command.Edit.TheVariants.{Hit, Miss, Add, Set, Forget}
@@ -31,6 +32,8 @@ pub data Form : Type 0 where
   Component : (ℤ → Form) → Form
   -- a RANGE
   Range : (Option ℤ → Form) → Form
+  -- a NAME
+  FileName : (Word → Form) → Form
 
 -- X, Y or Z: a length in metres
 abbrev pub length_of : Word → Option ℤ
@@ -79,6 +82,7 @@ behind word (Number form) = option_map form (number_of word)
 behind word (Depth form) = option_map form (depth_of word)
 behind word (Component form) = option_map form (component_of word)
 behind word (Range form) = option_map form (range_of word)
+behind word (FileName form) = option_map form (name_of word)
 
 -- X Y Z
 abbrev pub point : (Point → Form) → Form
@@ -153,6 +157,10 @@ scan =
     ∷ head (λ of_scan. lazy (command.Scan (of_scan true)))
     ∷ []
 
+-- NAME
+abbrev pub file : (Word → Command) → List Form
+file command = FileName (λ name. Ends (command name)) ∷ []
+
 -- X Y Z, of a point that a scan saw
 abbrev pub beam : List Form
 beam = point (λ p. Ends (command.Beam p)) ∷ []
@@ -183,6 +191,14 @@ grammar =
     ∷ row (codes "box") box
     ∷ row (codes "quit") (alone command.Quit)
     ∷ row (codes "scan") scan
+    ∷ row (codes "save") (file command.Save)
+    ∷ row (codes "load") (file command.Load)
+    ∷ row (codes "snapshot") (file command.Snapshot)
+    ∷ row (codes "restore") (file command.Restore)
+    ∷ row (codes "track") (alone command.Track)
+    ∷ row (codes "untrack") (alone command.Untrack)
+    ∷ row (codes "changes") (alone command.Changes)
+    ∷ row (codes "nolimit") (alone command.NoLimit)
     ∷ []
 
 -- the lines inside the block of a scan, by their first words

@@ -1,5 +1,6 @@
 pub mod Lines
 pub mod Words
+pub mod Names
 pub mod Grammar
 pub mod Commands
 pub mod Faults

@@ -1,12 +1,13 @@
 -- How the parser reads the words of a line, one after another. No public clause rests on this.
-use Rattle.std.specs.Prelude.{ℕ, ℤ, Bool, true, false, not, if◌then◌else◌, List, [], ◌∷◌, ⊤}
+use Rattle.std.specs.Prelude.{ℕ, ℤ, Bool, true, false, not, if◌then◌else◌, List, [], ◌∷◌}
 use Rattle.std.specs.Prelude.{Option, Some, None, Result, Ok, Err, codes, bytes_eq}
 use Rattle.std.specs.List.{find}
 use Rattle.oct_key.specs.declared.point.Point.{Point}
-use Rattle.oct_script.specs.Commands.{fault, if_any, command_by, is_comment, IsSmallCommand}
+use Rattle.oct_script.specs.Commands.{fault, if_any, command_by, is_comment}
 use Rattle.oct_script.specs.Grammar.{length_of, number_of, depth_of, component_of, range_of}
-use Rattle.oct_script.specs.Grammar.{Form, Row, alone, edit, number_edit, query, cast, scan, beam, box}
+use Rattle.oct_script.specs.Grammar.{Form, Row, alone, edit, number_edit, query, cast, scan, beam, box, file}
 use Rattle.oct_script.specs.Grammar.{rows_of}
+use Rattle.oct_script.specs.Names.{name_of}
 use Rattle.oct_script.specs.Words.{Word, PlacedWord}
 use Rattle.oct_script.specs.declared.command.Syntax.{Syntax}
 use Rattle.oct_script.specs.declared.command.Edit.{Edit}
@@ -14,7 +15,9 @@ use Rattle.oct_script.specs.declared.command.Edit.TheVariants as an_edit
 use Rattle.oct_script.specs.declared.command.Command.{Command}
 use Rattle.oct_script.specs.declared.command.Command.TheVariants as command
 use Rattle.oct_script.specs.declared.verbs.Verb.{Verb}
-use Rattle.oct_script.specs.declared.verbs.Verb.TheVariants.{Hit, Miss, Add, Set, Forget, Get, Scan, Beam, Cast, Alone, Box}
+use Rattle.oct_script.specs.declared.verbs.Verb.TheVariants.{Hit, Miss, Add, Set, Forget, Get, Scan, Beam, Cast, Alone, Box, Save, Load, Snapshot, Restore}
+use Rattle.oct_script.specs.declared.verbs.Single.{Single}
+use Rattle.oct_script.specs.declared.verbs.Single.TheVariants as single
 use Rattle.oct_script.specs.declared.verbs.FirstWord.{FirstWord}
 
 -- the words of a line that are still to be read, and the column after the line
@@ -174,6 +177,26 @@ beam_in end words = do
   p ← point_in end words
   end_in (command.Beam p.0) p.1
 
+-- NAME, and no word more, after the verb of a file
+unfoldable pub file_in : ℕ → List PlacedWord → Result Word Syntax
+file_in end words = do
+  name ← number_in name_of end words
+  end_in name.0 name.1
+
+-- the command that is one word
+abbrev pub single_command : Single → Command
+single_command single.Counts = command.Counts
+single_command single.Refresh = command.Refresh
+single_command single.Prune = command.Prune
+single_command single.Clear = command.Clear
+single_command single.MaxLikelihood = command.MaxLikelihood
+single_command single.Track = command.Track
+single_command single.Untrack = command.Untrack
+single_command single.Changes = command.Changes
+single_command single.NoLimit = command.NoLimit
+single_command single.Quit = command.Quit
+single_command single.End = command.End
+
 -- what stands after a first word
 unfoldable pub behind_verb : Verb → ℕ → List PlacedWord → Result Command Syntax
 behind_verb Hit end words = edit_in an_edit.Hit end words
@@ -186,7 +209,11 @@ behind_verb Cast end words = cast_in end words
 behind_verb Box end words = box_in end words
 behind_verb Scan end words = scan_in end words
 behind_verb Beam end words = beam_in end words
-behind_verb (Alone command) end words = end_in command words
+behind_verb Save end words = file_in end words >>= λ name. Ok (command.Save name)
+behind_verb Load end words = file_in end words >>= λ name. Ok (command.Load name)
+behind_verb Snapshot end words = file_in end words >>= λ name. Ok (command.Snapshot name)
+behind_verb Restore end words = file_in end words >>= λ name. Ok (command.Restore name)
+behind_verb (Alone single) end words = end_in (single_command single) words
 
 -- the forms of what stands after a first word
 abbrev pub forms_behind : Verb → List Form
@@ -200,12 +227,11 @@ forms_behind Cast = cast
 forms_behind Box = box
 forms_behind Scan = scan
 forms_behind Beam = beam
-forms_behind (Alone command) = alone command
-
--- the numbers in a verb, if any, are small
-abbrev pub IsSmallVerb : Verb → Type 0
-IsSmallVerb (Alone command) = IsSmallCommand command
-IsSmallVerb _ = ⊤
+forms_behind Save = file command.Save
+forms_behind Load = file command.Load
+forms_behind Snapshot = file command.Snapshot
+forms_behind Restore = file command.Restore
+forms_behind (Alone single) = alone (single_command single)
 
 -- the forms after a first word, and none where there is none
 abbrev pub forms_of_verb : Option Verb → List Form

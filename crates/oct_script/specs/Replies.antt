@@ -14,17 +14,33 @@ use Rattle.oct_script.specs.declared.reply.Refusal.TheVariants.{PointOutside, To
 use Rattle.oct_script.specs.declared.reply.Refusal.TheVariants.{TooManyBlocks, BadBox}
 use Rattle.oct_script.specs.declared.reply.Refusal.TheVariants.{Full, Outside, BadDepth, Syntax}
 use Rattle.oct_script.specs.declared.reply.Refusal.TheVariants.{LongLine, OpenScan, TooManyPoints}
-use Rattle.oct_script.specs.declared.reply.Refusal.TheVariants.{NotYet}
+use Rattle.oct_script.specs.declared.reply.Refusal.TheVariants.{NotOctomap, FloatTree, WrongId}
+use Rattle.oct_script.specs.declared.reply.Refusal.TheVariants.{MissingField, BadField}
+use Rattle.oct_script.specs.declared.reply.Refusal.TheVariants.{HeaderTooLong, TooDeep, Truncated}
+use Rattle.oct_script.specs.declared.reply.Refusal.TheVariants.{TrailingBytes, SizeMismatch}
+use Rattle.oct_script.specs.declared.reply.Refusal.TheVariants.{BadMagic, BadSnapshot}
+use Rattle.oct_script.specs.declared.reply.Refusal.TheVariants.{WideWhileTracked, NotTracked}
+use Rattle.oct_script.specs.declared.reply.Refusal.TheVariants.{NoFile, FileTooLarge}
+use Rattle.oct_script.specs.declared.reply.Refusal.TheVariants.{OtherResolution, NotYet}
+use Rattle.oct_script.specs.declared.reply.HeaderWord.{HeaderWord}
+use Rattle.oct_script.specs.declared.reply.HeaderWord.TheVariants.{Id, Res, Size, Data}
 use Rattle.oct_script.specs.declared.reply.ScanDone.{ScanDone}
 use Rattle.oct_script.specs.declared.reply.Reply.{Reply}
 use Rattle.oct_script.specs.declared.reply.Reply.TheVariants.{Ok, Known, Unknown, Scanned, Counted}
-use Rattle.oct_script.specs.declared.reply.Reply.TheVariants.{Casted, Refused}
+use Rattle.oct_script.specs.declared.reply.Reply.TheVariants.{Casted, Saved, Loaded, Restored, Refused}
 
 -- the name of a class
 abbrev pub class_name : Class → List ℕ
 class_name class.Unknown = codes "unknown"
 class_name class.Free = codes "free"
 class_name class.Occupied = codes "occupied"
+
+-- a word of a file's header
+abbrev pub word_text : HeaderWord → List ℕ
+word_text Id = codes "id"
+word_text Res = codes "res"
+word_text Size = codes "size"
+word_text Data = codes "data"
 
 -- a refusal: its number, its name and its fields
 abbrev pub refusal_text : Refusal → List ℕ
@@ -34,17 +50,37 @@ refusal_text (PointOutside index) = codes "7 PointOutside index " ++ decimal ind
 refusal_text (TooManyCells index cells) =
     (codes "8 TooManyCells index " ++ decimal index) ++ (codes " cells " ++ decimal cells)
 refusal_text (TooManyBlocks count) = codes "9 TooManyBlocks count " ++ decimal count
+refusal_text NotOctomap = codes "10 NotOctomap"
+refusal_text FloatTree = codes "11 FloatTree"
+refusal_text WrongId = codes "12 WrongId"
+refusal_text (MissingField word) = codes "13 MissingField " ++ word_text word
+refusal_text (BadField word) = codes "14 BadField " ++ word_text word
+refusal_text HeaderTooLong = codes "15 HeaderTooLong"
+refusal_text (TooDeep at) = codes "16 TooDeep at " ++ decimal at
+refusal_text (Truncated at) = codes "17 Truncated at " ++ decimal at
+refusal_text (TrailingBytes at) = codes "18 TrailingBytes at " ++ decimal at
+refusal_text (SizeMismatch said found) =
+    (codes "19 SizeMismatch said " ++ decimal said) ++ (codes " found " ++ decimal found)
+refusal_text BadMagic = codes "20 BadMagic"
+refusal_text (BadSnapshot at) = codes "21 BadSnapshot at " ++ decimal at
 refusal_text Stale = codes "22 Stale"
 refusal_text (Full groups need) =
     (codes "23 Full groups " ++ decimal groups) ++ (codes " need " ++ decimal need)
 refusal_text (Outside point) = codes "24 Outside point " ++ decimal point
 refusal_text BadDepth = codes "25 BadDepth"
 refusal_text BadBox = codes "26 BadBox"
+refusal_text (WideWhileTracked count) = codes "27 WideWhileTracked count " ++ decimal count
+refusal_text NotTracked = codes "28 NotTracked"
 refusal_text (Syntax line column) =
     (codes "29 Syntax line " ++ decimal line) ++ (codes " column " ++ decimal column)
 refusal_text (LongLine line) = codes "30 LongLine line " ++ decimal line
 refusal_text (OpenScan line) = codes "31 OpenScan line " ++ decimal line
 refusal_text (TooManyPoints line) = codes "32 TooManyPoints line " ++ decimal line
+refusal_text NoFile = codes "33 NoFile"
+refusal_text FileTooLarge = codes "34 FileTooLarge"
+refusal_text (OtherResolution file session) =
+    (codes "35 OtherResolution file " ++ signed_decimal file)
+    ++ (codes " session " ++ signed_decimal session)
 refusal_text NotYet = codes "36 NotYet"
 
 -- how many voxels a scan hit and freed
@@ -75,6 +111,9 @@ reply_text Unknown = codes "unknown\n"
 reply_text (Scanned done) = scan_text done ++ codes "\n"
 reply_text (Counted counts) = counts_text counts ++ codes "\n"
 reply_text (Casted found) = cast_text found ++ codes "\n"
+reply_text (Saved bytes) = (codes "saved " ++ decimal bytes) ++ codes "\n"
+reply_text (Loaded nodes) = (codes "loaded " ++ decimal nodes) ++ codes "\n"
+reply_text (Restored groups) = (codes "restored groups " ++ decimal groups) ++ codes "\n"
 reply_text (Refused refusal) = codes "refused " ++ refusal_text refusal ++ codes "\n"
 
 -- what is written for a line, which may need no reply
@@ -91,4 +130,7 @@ is_refusal (Some Unknown) = false
 is_refusal (Some (Scanned done)) = false
 is_refusal (Some (Counted counts)) = false
 is_refusal (Some (Casted found)) = false
+is_refusal (Some (Saved bytes)) = false
+is_refusal (Some (Loaded nodes)) = false
+is_refusal (Some (Restored groups)) = false
 is_refusal (Some (Refused refusal)) = true

@@ -1,4 +1,5 @@
 //! The commands of a script.
+use crate::name::Name;
 use oct_key::Point;
 use thiserror::Error;
 
@@ -82,6 +83,22 @@ pub enum Command {
     Clear,
     /// Each known voxel becomes as sure as it can be.
     MaxLikelihood,
+    /// From now on it's noted how voxels change.
+    Track,
+    /// From now on it isn't.
+    Untrack,
+    /// The voxels that have changed since `Track`.
+    Changes,
+    /// Scans are no longer limited to a box.
+    NoLimit,
+    /// The classes of all voxels, written to the file of this name.
+    Save(Name),
+    /// The classes of all voxels, read from the file of this name.
+    Load(Name),
+    /// The values of all voxels, written to the file of this name.
+    Snapshot(Name),
+    /// The values of all voxels, read from the file of this name.
+    Restore(Name),
     /// The end of the session.
     Quit,
     /// A command that isn't built yet.

@@ -32,6 +32,7 @@
 
 mod command;
 mod lines;
+mod name;
 mod numbers;
 mod parser;
 mod reply;
@@ -43,6 +44,7 @@ mod words;
 
 pub use command::{Command, Edit, ScanHead, Syntax};
 pub use lines::{Fed, LONGEST_LINE, Lines};
+pub use name::Name;
 pub use numbers::number_of;
 pub use parser::{opens_scan, parse};
-pub use reply::{Refusal, Reply, ScanDone, push_reply};
+pub use reply::{HeaderWord, Refusal, Reply, ScanDone, push_reply};

@@ -5,14 +5,16 @@ ghost use Rattle.oct_odds.specs.Odds.{IsSmall};
 ghost use Rattle.oct_pose.specs.Reach.{IsInReach};
 ghost use Rattle.oct_script.specs.Words.{placed_words};
 ghost use Rattle.oct_script.specs.Grammar.{number_of, depth_of, component_of, range_of, forms_of};
+ghost use Rattle.oct_script.specs.Names.{name_of};
 ghost use Rattle.oct_script.specs.Faults.{IsMeant, LeavesAt};
 ghost use Rattle.oct_script.specs.Commands.{command_of, opens_scan, IsSmallEdit, IsRange};
 ghost use Rattle.oct_script.specs.Commands.{IsSmallCommand};
 ghost use Rattle.oct_script.specs.Reading.{number_in, point_in, point_number_in, rotation_in};
-ghost use Rattle.oct_script.specs.Reading.{excess, end_in, flag_in, edit_end_in, edit_in, points_in, number_edit_in, query_in, cast_in, scan_in, beam_in, IsSmallVerb, behind_verb, behind_first, line_in, edit_number_in, edit_word_in, box_in};
+ghost use Rattle.oct_script.specs.Reading.{excess, end_in, flag_in, edit_end_in, edit_in, points_in, number_edit_in, query_in, cast_in, scan_in, beam_in, file_in, behind_verb, behind_first, line_in, edit_number_in, edit_word_in, box_in};
 
 use crate::command::{Command, Edit, ScanHead, Syntax};
 use crate::lines::LONGEST_LINE;
+use crate::name::Name;
 use crate::numbers::{component_of, depth_of, number_of, range_of};
 use crate::table::verb_of;
 use crate::verbs::Verb;
@@ -322,6 +324,27 @@ fn read_beam(words: &mut Words<'_>) -> Result<Command, Syntax>
     Ok(Command::Beam(p))
 }
 
+/// Reads NAME.
+#[tactic(auto, unfolding(crate::specs::Reading::number_in))]
+fn read_name(words: &mut Words<'_>) -> Result<Name, Syntax>
+    ensures exact { MatchResult result
+        (λ name. number_in name_of words.old.end words.old.words ≡ Ok (name, words.new.words))
+        (λ s. number_in name_of words.old.end words.old.words ≡ Err s) }
+{
+    let word = words.take_word()?;
+    Name::new(word.text).ok_or(word.fault())
+}
+
+/// Reads NAME and the end of the line, after the verb of a file.
+#[tactic(auto, unfolding(crate::specs::Reading::file_in))]
+fn read_file(words: &mut Words<'_>) -> Result<Name, Syntax>
+    ensures { result ≡ file_in words.old.end words.old.words }
+{
+    let name = read_name(words)?;
+    read_end(words)?;
+    Ok(name)
+}
+
 /// Reads the end of a line whose one word is its command.
 fn read_alone(command: Command, words: &mut Words<'_>) -> Result<Command, Syntax>
     requires { IsSmallCommand command }
@@ -335,7 +358,6 @@ fn read_alone(command: Command, words: &mut Words<'_>) -> Result<Command, Syntax
 /// Reads what stands after a verb.
 #[tactic(auto, unfolding(crate::specs::Reading::behind_verb))]
 fn read_behind(verb: &Verb, words: &mut Words<'_>) -> Result<Command, Syntax>
-    requires { IsSmallVerb verb.now }
     ensures exact { result ≡ behind_verb verb.now words.old.end words.old.words }
     ensures small { IfOk result IsSmallCommand }
 {
@@ -350,7 +372,11 @@ fn read_behind(verb: &Verb, words: &mut Words<'_>) -> Result<Command, Syntax>
         Verb::Box => read_box(words),
         Verb::Scan => read_scan(words),
         Verb::Beam => read_beam(words),
-        Verb::Alone(command) => read_alone(*command, words),
+        Verb::Save => Ok(Command::Save(read_file(words)?)),
+        Verb::Load => Ok(Command::Load(read_file(words)?)),
+        Verb::Snapshot => Ok(Command::Snapshot(read_file(words)?)),
+        Verb::Restore => Ok(Command::Restore(read_file(words)?)),
+        Verb::Alone(single) => read_alone(single.command(), words),
     }
 }
 

@@ -1,8 +1,9 @@
 //! Replies, and their texts.
 ghost use Rattle.std.specs.Prelude.{◌≡◌, ◌++◌, OnOk, OnErr, Option, Some, None, decimal, take};
 ghost use Rattle.std.specs.Prelude.{vec_len};
-ghost use Rattle.oct_script.specs.Replies.{class_name, refusal_text, voxel_text, cast_text};
+ghost use Rattle.oct_script.specs.Replies.{class_name, refusal_text, voxel_text, cast_text, word_text};
 ghost use Rattle.oct_script.specs.Replies.{reply_text};
+ghost use Rattle.std.specs.Fmt.{signed_decimal};
 
 use itoa::{Buffer, Integer};
 use oct_cast::Cast;
@@ -18,7 +19,17 @@ pub struct ScanDone {
     pub frees: u64,
 }
 
-/// Why a line or the block of a scan was refused.
+/// A word that a line of a file's header begins with.
+#[derive(Clone, Copy, Debug, PartialEq, Eq)]
+pub enum HeaderWord {
+    Id,
+    Res,
+    Size,
+    Data,
+}
+
+/// Why a line or the block of a scan was refused. Places in a file count bytes from its start, from
+/// 0 on.
 #[derive(Clone, Copy, Debug, PartialEq, Eq)]
 pub enum Refusal {
     /// The numbers of the scan's quaternion are all 0.
@@ -32,6 +43,30 @@ pub enum Refusal {
     TooManyCells { index: u64, cells: u64 },
     /// So many blocks meet the box, and that is more than a list may have.
     TooManyBlocks { count: u64 },
+    /// The file doesn't begin as a file of classes.
+    NotOctomap,
+    /// It begins as a file of a tree with values does.
+    FloatTree,
+    /// The id in its header is another one.
+    WrongId,
+    /// Its header has no line of this word.
+    MissingField { word: HeaderWord },
+    /// The value in the line of this word isn't of its form.
+    BadField { word: HeaderWord },
+    /// Its header is longer than 65,536 bytes.
+    HeaderTooLong,
+    /// The record at this byte is that of a block of depth 15 and says that a voxel has a record.
+    TooDeep { at: u64 },
+    /// The file ends at this byte, where it isn't whole.
+    Truncated { at: u64 },
+    /// The first byte behind what the file has to have stands here.
+    TrailingBytes { at: u64 },
+    /// The header says another number of nodes than are found.
+    SizeMismatch { said: u64, found: u64 },
+    /// The file doesn't begin as a snapshot.
+    BadMagic,
+    /// What stands at this byte can't stand in a snapshot.
+    BadSnapshot { at: u64 },
     /// The map is stale, and the depth is that of no voxel.
     Stale,
     /// These groups and those that the command may need are more than the map may have.
@@ -42,6 +77,11 @@ pub enum Refusal {
     BadDepth,
     /// On some axis the first corner of the box lies beyond the second.
     BadBox,
+    /// It's noted how voxels change, and the box has so many voxels, which is more than may be
+    /// noted at once.
+    WideWhileTracked { count: u64 },
+    /// It isn't noted how voxels change.
+    NotTracked,
     /// The line of this number, from 1 on, isn't in the grammar from this column on.
     Syntax { line: u64, column: u32 },
     /// The line of this number, from 1 on, has more than 4,096 bytes.
@@ -50,6 +90,12 @@ pub enum Refusal {
     OpenScan { line: u64 },
     /// The point on the line of this number, from 1 on, is one more than a scan may have.
     TooManyPoints { line: u64 },
+    /// There is no file of this name.
+    NoFile,
+    /// The file has more bytes than are loaded.
+    FileTooLarge,
+    /// The resolutions of the file and of the session differ. Both are in nanometres.
+    OtherResolution { file: i64, session: i64 },
     /// The command isn't built yet.
     NotYet,
 }
@@ -69,6 +115,12 @@ pub enum Reply {
     Counted(Counts),
     /// What a cast finds.
     Casted(Cast),
+    /// The file was written, and has so many bytes.
+    Saved(u64),
+    /// The file of classes was read, and has so many nodes.
+    Loaded(u64),
+    /// The snapshot was read, and has so many groups.
+    Restored(u64),
     /// Nothing was done.
     Refused(Refusal),
 }
@@ -82,6 +134,28 @@ fn name_of(class: Class) -> &'static str
         Class::Free => "free",
         Class::Occupied => "occupied",
     }
+}
+
+/// The text of a header's word.
+fn text_of_word(word: HeaderWord) -> &'static str
+    ensures { result.now ≡ word_text word }
+{
+    match word {
+        HeaderWord::Id => "id",
+        HeaderWord::Res => "res",
+        HeaderWord::Size => "size",
+        HeaderWord::Data => "data",
+    }
+}
+
+/// Appends a text and a header's word after it.
+fn append_word(out: &mut Vec<u8>, before: &[u8], word: HeaderWord) -> Result<(), Memory>
+    ensures ok { OnOk result (out.new.items ≡ out.old.items ++ (before.now ++ word_text word)) }
+    ensures err { OnErr result (take (vec_len out.old) out.new.items ≡ out.old.items) }
+{
+    out.extend_from_slice(before)?;
+    out.extend_from_slice(text_of_word(word).as_bytes())?;
+    Ok(())
 }
 
 /// Appends a text and the decimal text of a number after it.
@@ -110,32 +184,76 @@ fn append_fields<I: Integer, J: Integer>(
     append_field(out, between, m)
 }
 
+/// Appends two texts, each with the decimal text of a signed number after it.
+fn append_signed(
+    out: &mut Vec<u8>,
+    before: &[u8],
+    n: &i64,
+    between: &[u8],
+    m: &i64,
+) -> Result<(), Memory>
+    ensures ok { OnOk result (out.new.items ≡ out.old.items
+        ++ ((before.now ++ signed_decimal n.now) ++ (between.now ++ signed_decimal m.now))) }
+    ensures err { OnErr result (take (vec_len out.old) out.new.items ≡ out.old.items) }
+{
+    append_fields(out, before, *n, between, *m)
+}
+
 /// Appends a refusal's number, name and fields.
-fn append_refusal(out: &mut Vec<u8>, refusal: Refusal) -> Result<(), Memory>
-    ensures ok { OnOk result (out.new.items ≡ out.old.items ++ refusal_text refusal) }
+fn append_refusal(out: &mut Vec<u8>, refusal: &Refusal) -> Result<(), Memory>
+    ensures ok { OnOk result (out.new.items ≡ out.old.items ++ refusal_text refusal.now) }
     ensures err { OnErr result (take (vec_len out.old) out.new.items ≡ out.old.items) }
 {
     match refusal {
         Refusal::ZeroQuaternion => out.extend_from_slice(b"5 ZeroQuaternion")?,
         Refusal::OriginOutside => out.extend_from_slice(b"6 OriginOutside")?,
-        Refusal::PointOutside { index } => append_field(out, b"7 PointOutside index ", index)?,
+        Refusal::PointOutside { index } => append_field(out, b"7 PointOutside index ", *index)?,
         Refusal::TooManyCells { index, cells } => {
-            append_fields(out, b"8 TooManyCells index ", index, b" cells ", cells)?;
+            append_fields(out, b"8 TooManyCells index ", *index, b" cells ", *cells)?;
         }
-        Refusal::TooManyBlocks { count } => append_field(out, b"9 TooManyBlocks count ", count)?,
+        Refusal::TooManyBlocks { count } => append_field(out, b"9 TooManyBlocks count ", *count)?,
+        Refusal::NotOctomap => out.extend_from_slice(b"10 NotOctomap")?,
+        Refusal::FloatTree => out.extend_from_slice(b"11 FloatTree")?,
+        Refusal::WrongId => out.extend_from_slice(b"12 WrongId")?,
+        Refusal::MissingField { word } => append_word(out, b"13 MissingField ", *word)?,
+        Refusal::BadField { word } => append_word(out, b"14 BadField ", *word)?,
+        Refusal::HeaderTooLong => out.extend_from_slice(b"15 HeaderTooLong")?,
+        Refusal::TooDeep { at } => append_field(out, b"16 TooDeep at ", *at)?,
+        Refusal::Truncated { at } => append_field(out, b"17 Truncated at ", *at)?,
+        Refusal::TrailingBytes { at } => append_field(out, b"18 TrailingBytes at ", *at)?,
+        Refusal::SizeMismatch { said, found } => {
+            append_fields(out, b"19 SizeMismatch said ", *said, b" found ", *found)?;
+        }
+        Refusal::BadMagic => out.extend_from_slice(b"20 BadMagic")?,
+        Refusal::BadSnapshot { at } => append_field(out, b"21 BadSnapshot at ", *at)?,
         Refusal::Stale => out.extend_from_slice(b"22 Stale")?,
         Refusal::Full { groups, need } => {
-            append_fields(out, b"23 Full groups ", groups, b" need ", need)?;
+            append_fields(out, b"23 Full groups ", *groups, b" need ", *need)?;
         }
-        Refusal::Outside { point } => append_field(out, b"24 Outside point ", point)?,
+        Refusal::Outside { point } => append_field(out, b"24 Outside point ", *point)?,
         Refusal::BadDepth => out.extend_from_slice(b"25 BadDepth")?,
         Refusal::BadBox => out.extend_from_slice(b"26 BadBox")?,
-        Refusal::Syntax { line, column } => {
-            append_fields(out, b"29 Syntax line ", line, b" column ", column)?;
+        Refusal::WideWhileTracked { count } => {
+            append_field(out, b"27 WideWhileTracked count ", *count)?;
         }
-        Refusal::LongLine { line } => append_field(out, b"30 LongLine line ", line)?,
-        Refusal::OpenScan { line } => append_field(out, b"31 OpenScan line ", line)?,
-        Refusal::TooManyPoints { line } => append_field(out, b"32 TooManyPoints line ", line)?,
+        Refusal::NotTracked => out.extend_from_slice(b"28 NotTracked")?,
+        Refusal::Syntax { line, column } => {
+            append_fields(out, b"29 Syntax line ", *line, b" column ", *column)?;
+        }
+        Refusal::LongLine { line } => append_field(out, b"30 LongLine line ", *line)?,
+        Refusal::OpenScan { line } => append_field(out, b"31 OpenScan line ", *line)?,
+        Refusal::TooManyPoints { line } => append_field(out, b"32 TooManyPoints line ", *line)?,
+        Refusal::NoFile => out.extend_from_slice(b"33 NoFile")?,
+        Refusal::FileTooLarge => out.extend_from_slice(b"34 FileTooLarge")?,
+        Refusal::OtherResolution { file, session } => {
+            append_signed(
+                out,
+                b"35 OtherResolution file ",
+                file,
+                b" session ",
+                session,
+            )?;
+        }
         Refusal::NotYet => out.extend_from_slice(b"36 NotYet")?,
     }
     Ok(())
@@ -189,9 +307,21 @@ fn append_reply(out: &mut Vec<u8>, reply: Reply) -> Result<(), Memory>
             append_cast(out, found)?;
             out.extend_from_slice(b"\n")?;
         }
+        Reply::Saved(bytes) => {
+            append_field(out, b"saved ", bytes)?;
+            out.extend_from_slice(b"\n")?;
+        }
+        Reply::Loaded(nodes) => {
+            append_field(out, b"loaded ", nodes)?;
+            out.extend_from_slice(b"\n")?;
+        }
+        Reply::Restored(groups) => {
+            append_field(out, b"restored groups ", groups)?;
+            out.extend_from_slice(b"\n")?;
+        }
         Reply::Refused(refusal) => {
             out.extend_from_slice(b"refused ")?;
-            append_refusal(out, refusal)?;
+            append_refusal(out, &refusal)?;
             out.extend_from_slice(b"\n")?;
         }
     }

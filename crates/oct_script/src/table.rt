@@ -1,11 +1,10 @@
 //! The table of first words.
-ghost use Rattle.std.specs.Prelude.{◌≡◌, map, bytes_eq, option_map, IfSome};
+ghost use Rattle.std.specs.Prelude.{◌≡◌, map, bytes_eq, option_map};
 ghost use Rattle.std.specs.List.{find};
 ghost use Rattle.oct_script.specs.Grammar.{rows_of};
-ghost use Rattle.oct_script.specs.Reading.{row_seen, forms_at, forms_of_verb, IsSmallVerb};
+ghost use Rattle.oct_script.specs.Reading.{row_seen, forms_at, forms_of_verb};
 
-use crate::command::Command;
-use crate::verbs::{FirstWord, Verb};
+use crate::verbs::{FirstWord, Single, Verb};
 
 /// The row of a first word.
 macro_rules! row {
@@ -15,28 +14,36 @@ macro_rules! row {
 }
 
 /// The first words of lines outside the block of a scan.
-const OUTSIDE: [FirstWord; 15] = [
+const OUTSIDE: [FirstWord; 23] = [
     row!(b"get", Verb::Get),
     row!(b"hit", Verb::Hit),
     row!(b"miss", Verb::Miss),
     row!(b"add", Verb::Add),
     row!(b"set", Verb::Set),
     row!(b"forget", Verb::Forget),
-    row!(b"counts", Verb::Alone(Command::Counts)),
-    row!(b"refresh", Verb::Alone(Command::Refresh)),
-    row!(b"prune", Verb::Alone(Command::Prune)),
-    row!(b"clear", Verb::Alone(Command::Clear)),
-    row!(b"maxlik", Verb::Alone(Command::MaxLikelihood)),
+    row!(b"counts", Verb::Alone(Single::Counts)),
+    row!(b"refresh", Verb::Alone(Single::Refresh)),
+    row!(b"prune", Verb::Alone(Single::Prune)),
+    row!(b"clear", Verb::Alone(Single::Clear)),
+    row!(b"maxlik", Verb::Alone(Single::MaxLikelihood)),
     row!(b"cast", Verb::Cast),
     row!(b"box", Verb::Box),
-    row!(b"quit", Verb::Alone(Command::Quit)),
+    row!(b"quit", Verb::Alone(Single::Quit)),
     row!(b"scan", Verb::Scan),
+    row!(b"save", Verb::Save),
+    row!(b"load", Verb::Load),
+    row!(b"snapshot", Verb::Snapshot),
+    row!(b"restore", Verb::Restore),
+    row!(b"track", Verb::Alone(Single::Track)),
+    row!(b"untrack", Verb::Alone(Single::Untrack)),
+    row!(b"changes", Verb::Alone(Single::Changes)),
+    row!(b"nolimit", Verb::Alone(Single::NoLimit)),
 ];
 
 /// The first words of lines inside the block of a scan.
 const INSIDE: [FirstWord; 2] = [
     row!(b"p", Verb::Beam),
-    row!(b"end", Verb::Alone(Command::End)),
+    row!(b"end", Verb::Alone(Single::End)),
 ];
 
 /// The first words of lines inside the block of a scan, or outside.
@@ -56,9 +63,8 @@ fn find_row<'a>(rows: &'a [FirstWord], word: &[u8]) -> Option<&'a FirstWord>
 
 /// What a word begins as the first of a line inside the block of a scan, or outside.
 pub fn verb_of(word: &[u8], inside: bool) -> Option<&'static Verb>
-    ensures exact { forms_of_verb (option_map (λ verb. verb.now) result)
+    ensures { forms_of_verb (option_map (λ verb. verb.now) result)
         ≡ forms_at word.now (rows_of inside) }
-    ensures small { IfSome result (λ verb. IsSmallVerb verb.now) }
 {
     let row = find_row(first_words(inside), word)?;
     Some(&row.verb)

@@ -1,7 +1,7 @@
 //! Worked examples of lines, commands and replies.
 use crate::{
-    Command, Edit, LONGEST_LINE, Lines, Refusal, Reply, ScanDone, ScanHead, Syntax, opens_scan,
-    parse, push_reply,
+    Command, Edit, HeaderWord, LONGEST_LINE, Lines, Name, Refusal, Reply, ScanDone, ScanHead,
+    Syntax, opens_scan, parse, push_reply,
 };
 use oct_cast::Cast;
 use oct_key::{Key, Point};
@@ -155,7 +155,7 @@ macro_rules! scan {
 }
 
 /// Lines outside the block of a scan, and their commands.
-const COMMANDS: [(&str, Command); 38] = [
+const COMMANDS: [(&str, Command); 42] = [
     ("hit 0 0 0", edit!(ORIGIN, Edit::Hit, false)),
     ("miss 0 0 0", edit!(ORIGIN, Edit::Miss, false)),
     (
@@ -201,6 +201,10 @@ const COMMANDS: [(&str, Command); 38] = [
         on_box!(ORIGIN, Edit::Add(-1_000_000)),
     ),
     ("box 0 0 0 0 0 0 set 0000009", on_box!(ORIGIN, Edit::Set(9))),
+    ("track", Command::Track),
+    ("\tuntrack", Command::Untrack),
+    ("changes ", Command::Changes),
+    ("nolimit", Command::NoLimit),
     ("quit", Command::Quit),
     ("", Command::Blank),
     (" \t ", Command::Blank),
@@ -230,7 +234,7 @@ const BLOCK_COMMANDS: [(&str, Command); 5] = [
 ];
 
 /// Lines outside the block of a scan that aren't in the grammar, and the columns of their faults.
-const FAULTS: [(&str, u32); 59] = [
+const FAULTS: [(&str, u32); 71] = [
     ("get 0 0", 8),
     ("hit 0 0 x", 9),
     ("hit", 4),
@@ -288,13 +292,25 @@ const FAULTS: [(&str, u32); 59] = [
     ("scan 0 0 0 1 0 0 0 alls", 20),
     ("scan 0 0 0 1 0 0 0 all all", 24),
     ("scan 0 0 0 1 0 0 0 8 lazy x", 27),
+    ("save", 5),
+    ("save  ", 7),
+    ("save .m", 6),
+    ("save a/b", 6),
+    ("load -m", 6),
+    ("load m m", 8),
+    ("snapshot m.bt lazy", 15),
+    ("restore m\u{e4}", 9),
+    ("track 1", 7),
+    ("untrack all", 9),
+    ("changes 0", 9),
+    ("nolimit 0 0 0", 9),
     ("p 0 0 0", 1),
     (" end", 2),
 ];
 
 /// Lines inside the block of a scan that aren't in the grammar there, and the columns of their
 /// faults.
-const BLOCK_FAULTS: [(&str, u32); 12] = [
+const BLOCK_FAULTS: [(&str, u32); 14] = [
     ("p", 2),
     ("p 0 0", 6),
     ("p 0 0 0 0", 9),
@@ -307,6 +323,8 @@ const BLOCK_FAULTS: [(&str, u32); 12] = [
     ("cast 0 0 0 0 0 0", 1),
     ("box 0 0 0", 1),
     ("scan 0 0 0", 1),
+    (" save m", 2),
+    ("track", 1),
 ];
 
 #[test]
@@ -337,6 +355,47 @@ fn faults_have_columns(rt: HostRuntime) {
     }
 }
 
+/// A name of the greatest length.
+const LONGEST: &str = "a23456789_123456789-123456789.123456789012345678901234567890123Z";
+
+/// Words that are names.
+const NAMES: [&str; 7] = ["m", "_", "0", "Map.bt", "a..b--c__", "9-", LONGEST];
+
+/// Words that aren't.
+const NO_NAMES: [&str; 9] = [".", "-", ".bt", "-m", "a/b", "/m", "m\\", "m:", "k\u{e4}se"];
+
+#[test]
+fn names_are_words_of_files(rt: HostRuntime) {
+    for word in NAMES {
+        let name = Name::new(word.as_bytes());
+        assert!(rt;
+            matches!(&name, Some(name) if name.as_str() == word),
+            "{word:?}"
+        );
+    }
+    for word in NO_NAMES {
+        assert_eq!(rt; Name::new(word.as_bytes()), None, "{word:?}");
+    }
+    assert_eq!(rt; Name::new(b""), None);
+    assert_eq!(rt; Name::new(&[b'm'; 65]), None);
+}
+
+#[test]
+fn lines_name_files(rt: HostRuntime) {
+    let Some(name) = Name::new(b"Map_1.bt") else {
+        assert!(rt; false, "a name isn't taken for one");
+        return;
+    };
+    for (line, command) in [
+        ("save Map_1.bt", Command::Save(name)),
+        (" load \t Map_1.bt ", Command::Load(name)),
+        ("snapshot Map_1.bt", Command::Snapshot(name)),
+        ("restore Map_1.bt", Command::Restore(name)),
+    ] {
+        assert_eq!(rt; read(line, false), Some(Ok(command)), "{line}");
+    }
+}
+
 #[test]
 fn scan_is_the_word_that_opens_a_block(rt: HostRuntime) {
     assert!(rt; opens("scan") && opens(" \tscan no head"));
@@ -344,7 +403,7 @@ fn scan_is_the_word_that_opens_a_block(rt: HostRuntime) {
 }
 
 /// Replies, and their lines.
-const REPLIES: [(Reply, &str); 9] = [
+const REPLIES: [(Reply, &str); 12] = [
     (Reply::Ok, "ok\n"),
     (
         Reply::Known {
@@ -389,10 +448,13 @@ const REPLIES: [(Reply, &str); 9] = [
         "cast unknown 1 20 300\n",
     ),
     (Reply::Casted(Cast::Clear), "cast clear\n"),
+    (Reply::Saved(167), "saved 167\n"),
+    (Reply::Loaded(17), "loaded 17\n"),
+    (Reply::Restored(16), "restored groups 16\n"),
 ];
 
 /// Refusals, and their lines.
-const REFUSALS: [(Refusal, &str); 15] = [
+const REFUSALS: [(Refusal, &str); 34] = [
     (Refusal::ZeroQuaternion, "refused 5 ZeroQuaternion\n"),
     (Refusal::OriginOutside, "refused 6 OriginOutside\n"),
     (
@@ -406,6 +468,55 @@ const REFUSALS: [(Refusal, &str); 15] = [
     (
         Refusal::TooManyBlocks { count: 1_000_001 },
         "refused 9 TooManyBlocks count 1000001\n",
+    ),
+    (Refusal::NotOctomap, "refused 10 NotOctomap\n"),
+    (Refusal::FloatTree, "refused 11 FloatTree\n"),
+    (Refusal::WrongId, "refused 12 WrongId\n"),
+    (
+        Refusal::MissingField {
+            word: HeaderWord::Id,
+        },
+        "refused 13 MissingField id\n",
+    ),
+    (
+        Refusal::MissingField {
+            word: HeaderWord::Data,
+        },
+        "refused 13 MissingField data\n",
+    ),
+    (
+        Refusal::BadField {
+            word: HeaderWord::Res,
+        },
+        "refused 14 BadField res\n",
+    ),
+    (
+        Refusal::BadField {
+            word: HeaderWord::Size,
+        },
+        "refused 14 BadField size\n",
+    ),
+    (Refusal::HeaderTooLong, "refused 15 HeaderTooLong\n"),
+    (Refusal::TooDeep { at: 90 }, "refused 16 TooDeep at 90\n"),
+    (
+        Refusal::Truncated { at: 91 },
+        "refused 17 Truncated at 91\n",
+    ),
+    (
+        Refusal::TrailingBytes { at: 92 },
+        "refused 18 TrailingBytes at 92\n",
+    ),
+    (
+        Refusal::SizeMismatch {
+            said: 18,
+            found: 17,
+        },
+        "refused 19 SizeMismatch said 18 found 17\n",
+    ),
+    (Refusal::BadMagic, "refused 20 BadMagic\n"),
+    (
+        Refusal::BadSnapshot { at: 16 },
+        "refused 21 BadSnapshot at 16\n",
     ),
     (Refusal::Stale, "refused 22 Stale\n"),
     (
@@ -421,6 +532,11 @@ const REFUSALS: [(Refusal, &str); 15] = [
     ),
     (Refusal::BadDepth, "refused 25 BadDepth\n"),
     (Refusal::BadBox, "refused 26 BadBox\n"),
+    (
+        Refusal::WideWhileTracked { count: 2_097_152 },
+        "refused 27 WideWhileTracked count 2097152\n",
+    ),
+    (Refusal::NotTracked, "refused 28 NotTracked\n"),
     (
         Refusal::Syntax {
             line: 12,
@@ -439,6 +555,15 @@ const REFUSALS: [(Refusal, &str); 15] = [
     (
         Refusal::TooManyPoints { line: 1_000_002 },
         "refused 32 TooManyPoints line 1000002\n",
+    ),
+    (Refusal::NoFile, "refused 33 NoFile\n"),
+    (Refusal::FileTooLarge, "refused 34 FileTooLarge\n"),
+    (
+        Refusal::OtherResolution {
+            file: 100_000_000,
+            session: 50_000_000,
+        },
+        "refused 35 OtherResolution file 100000000 session 50000000\n",
     ),
     (Refusal::NotYet, "refused 36 NotYet\n"),
 ];

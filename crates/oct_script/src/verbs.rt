@@ -1,8 +1,50 @@
 //! What the first words of lines begin.
+ghost use Rattle.std.specs.Prelude.{◌≡◌};
+ghost use Rattle.oct_script.specs.Commands.{IsSmallCommand};
+ghost use Rattle.oct_script.specs.Reading.{single_command};
+
 use crate::command::Command;
 
-/// What a first word begins: an edit, a query, a cast, a scan or a beam with words of its own, or
-/// a whole command.
+/// A command that is one word.
+#[derive(Clone, Copy, Debug, PartialEq, Eq)]
+pub enum Single {
+    Counts,
+    Refresh,
+    Prune,
+    Clear,
+    MaxLikelihood,
+    Track,
+    Untrack,
+    Changes,
+    NoLimit,
+    Quit,
+    End,
+}
+
+impl Single {
+    /// The command.
+    pub fn command(self) -> Command
+        ensures exact { result ≡ single_command self }
+        ensures small { IsSmallCommand result }
+    {
+        match self {
+            Single::Counts => Command::Counts,
+            Single::Refresh => Command::Refresh,
+            Single::Prune => Command::Prune,
+            Single::Clear => Command::Clear,
+            Single::MaxLikelihood => Command::MaxLikelihood,
+            Single::Track => Command::Track,
+            Single::Untrack => Command::Untrack,
+            Single::Changes => Command::Changes,
+            Single::NoLimit => Command::NoLimit,
+            Single::Quit => Command::Quit,
+            Single::End => Command::End,
+        }
+    }
+}
+
+/// What a first word begins: an edit, a query, a cast, a scan, a beam or a file's command with words
+/// of its own, or a whole command.
 #[derive(Clone, Copy, Debug, PartialEq, Eq)]
 pub enum Verb {
     Hit,
@@ -15,8 +57,12 @@ pub enum Verb {
     Box,
     Scan,
     Beam,
+    Save,
+    Load,
+    Snapshot,
+    Restore,
     /// No more words stand after the first one.
-    Alone(Command),
+    Alone(Single),
 }
 
 /// A first word, and what it begins.

@@ -6,14 +6,14 @@ use Rattle.oct_script.proofs.parser.read_behind_first.Goals as goal
 pub returns-in-Some-clause-exact : goal.returns-in-Some-clause-exact
 returns-in-Some-clause-exact c =
     c.read_behind.ensures.exact
-    ∙ stands_here c.args.inside _ _ _ _ _ (ap (option_map (λ verb. verb.now)) c.in-Some.is) c.verb_of.ensures.exact
+    ∙ stands_here c.args.inside _ _ _ _ _ (ap (option_map (λ verb. verb.now)) c.in-Some.is) c.verb_of.ensures
 
 pub returns-in-Some-verb_of-clause-exact : goal.returns-in-Some-verb_of-clause-exact
 returns-in-Some-verb_of-clause-exact c =
     fault_away _ _ _ _ c.fault.ensures (ap (option_map (λ verb. verb.now)) c.in-Some-verb_of.is)
-    ∙ stands_away c.args.inside _ _ _ _ _ (ap (option_map (λ verb. verb.now)) c.in_default.is) c.verb_of.ensures.exact c.verb_of-2.ensures.exact
+    ∙ stands_away c.args.inside _ _ _ _ _ (ap (option_map (λ verb. verb.now)) c.in_default.is) c.verb_of.ensures c.verb_of-2.ensures
 
 pub returns-in-None-clause-exact : goal.returns-in-None-clause-exact
 returns-in-None-clause-exact c =
     ap (misplaced c.args.first.now.column) (sym (ap (option_map (λ verb. verb.now)) c.in-None.is))
-    ∙ stands_away c.args.inside _ _ _ _ _ (ap (option_map (λ verb. verb.now)) c.in_default.is) c.verb_of.ensures.exact c.verb_of-2.ensures.exact
+    ∙ stands_away c.args.inside _ _ _ _ _ (ap (option_map (λ verb. verb.now)) c.in_default.is) c.verb_of.ensures c.verb_of-2.ensures

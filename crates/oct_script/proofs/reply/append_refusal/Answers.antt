@@ -26,3 +26,30 @@ returns-in_ok-append_field-in-OpenScan-clause-ok c = rw c.in-OpenScan.is c.in_ok
 
 pub returns-in_ok-append_field-in-TooManyPoints-clause-ok : goal.returns-in_ok-append_field-in-TooManyPoints-clause-ok
 returns-in_ok-append_field-in-TooManyPoints-clause-ok c = rw c.in-TooManyPoints.is c.in_ok-append_field-in-TooManyPoints.ensures.ok
+
+pub returns-in_ok-append_word-in-MissingField-clause-ok : goal.returns-in_ok-append_word-in-MissingField-clause-ok
+returns-in_ok-append_word-in-MissingField-clause-ok c = rw c.in-MissingField.is c.in_ok-append_word-in-MissingField.ensures.ok
+
+pub returns-in_ok-append_word-in-BadField-clause-ok : goal.returns-in_ok-append_word-in-BadField-clause-ok
+returns-in_ok-append_word-in-BadField-clause-ok c = rw c.in-BadField.is c.in_ok-append_word-in-BadField.ensures.ok
+
+pub returns-in_ok-append_field-in-TooDeep-clause-ok : goal.returns-in_ok-append_field-in-TooDeep-clause-ok
+returns-in_ok-append_field-in-TooDeep-clause-ok c = rw c.in-TooDeep.is c.in_ok-append_field-in-TooDeep.ensures.ok
+
+pub returns-in_ok-append_field-in-Truncated-clause-ok : goal.returns-in_ok-append_field-in-Truncated-clause-ok
+returns-in_ok-append_field-in-Truncated-clause-ok c = rw c.in-Truncated.is c.in_ok-append_field-in-Truncated.ensures.ok
+
+pub returns-in_ok-append_field-in-TrailingBytes-clause-ok : goal.returns-in_ok-append_field-in-TrailingBytes-clause-ok
+returns-in_ok-append_field-in-TrailingBytes-clause-ok c = rw c.in-TrailingBytes.is c.in_ok-append_field-in-TrailingBytes.ensures.ok
+
+pub returns-in_ok-append_fields-in-SizeMismatch-clause-ok : goal.returns-in_ok-append_fields-in-SizeMismatch-clause-ok
+returns-in_ok-append_fields-in-SizeMismatch-clause-ok c = rw c.in-SizeMismatch.is c.in_ok-append_fields-in-SizeMismatch.ensures.ok
+
+pub returns-in_ok-append_field-in-BadSnapshot-clause-ok : goal.returns-in_ok-append_field-in-BadSnapshot-clause-ok
+returns-in_ok-append_field-in-BadSnapshot-clause-ok c = rw c.in-BadSnapshot.is c.in_ok-append_field-in-BadSnapshot.ensures.ok
+
+pub returns-in_ok-append_field-in-WideWhileTracked-clause-ok : goal.returns-in_ok-append_field-in-WideWhileTracked-clause-ok
+returns-in_ok-append_field-in-WideWhileTracked-clause-ok c = rw c.in-WideWhileTracked.is c.in_ok-append_field-in-WideWhileTracked.ensures.ok
+
+pub returns-in_ok-append_signed-in-OtherResolution-clause-ok : goal.returns-in_ok-append_signed-in-OtherResolution-clause-ok
+returns-in_ok-append_signed-in-OtherResolution-clause-ok c = rw c.in-OtherResolution.is c.in_ok-append_signed-in-OtherResolution.ensures.ok
