@@ -12,7 +12,10 @@ use Rattle.oct_odds.specs.Update.{Value, class_of}
 use Rattle.oct_cast.specs.declared.outcome.Cast.{Cast}
 use Rattle.oct_cast.specs.Cast.{cast_along}
 use Rattle.oct_map.specs.Casts.{cast_answer, cast_answer_at}
-use Rattle.oct_map.specs.Answers.{edit_answer, edit_answer_at, edit_need, room_answer, scan_answer, scan_answer_by, get_answer, get_answer_at, block_answer, box_answer, box_answer_by, corner_fault}
+use Rattle.oct_change.specs.Held.{Held}
+use Rattle.oct_map.specs.Marks.{SameMark, classes_in}
+use Rattle.oct_map.specs.Notes.{marked_by_notes}
+use Rattle.oct_map.specs.Answers.{edit_answer, edit_answer_at, edit_need, room_answer, scan_answer, scan_answer_by, get_answer, get_answer_at, block_answer, box_answer, box_answer_by, box_fault}
 use Rattle.oct_map.specs.Outcome.{need_of, done_of, corner_need}
 use Rattle.oct_scan.specs.Beam.{Sighting}
 use Rattle.oct_scan.specs.Outcome.{scan_fault}
@@ -40,11 +43,19 @@ pub same_edit : (m : Map) (s : State) (p : Point) → StandsFor m s → edit_ans
 same_edit m s p at =
     ap (λ g. edit_answer g (values_of m) p) at.base ∙ sym (same_edit_at s.base.max_groups s.values (values_of m) (key_at s.base.res p) at.values)
 
+-- a mark stands in the map exactly where one stands in the state
+same_standing : (a : Option Classes) (b : Option Held) (now : Classes) → SameMark a (marked_by_notes b now) → is_some b ≡ is_some a
+same_standing None None now same = refl
+same_standing None (Some held) now same = absurd same
+same_standing (Some c) None now same = absurd same
+same_standing (Some c) (Some held) now same = refl
+
 -- a map's answer to an edit of a box
-pub same_box : (m : Map) (s : State) (low high : Point) → StandsFor m s → box_answer (ground_of m) (values_of m) low high ≡ box_answer s.base s.values low high
+pub same_box : (m : Map) (s : State) (low high : Point) → StandsFor m s → box_answer (ground_of m) (is_some m.mark) (values_of m) low high ≡ box_answer s.base (is_some s.marked) s.values low high
 same_box m s low high at =
-    ap (λ g. box_answer g (values_of m) low high) at.base
-    ∙ ap (box_answer_by (corner_fault (key_at s.base.res low) (key_at s.base.res high)))
+    ap (λ g. box_answer g (is_some m.mark) (values_of m) low high) at.base
+    ∙ ap (λ t. box_answer s.base t (values_of m) low high) (same_standing s.marked m.mark (classes_in m) at.marked)
+    ∙ ap (box_answer_by (box_fault (is_some s.marked) (key_at s.base.res low) (key_at s.base.res high)))
     (sym (same_room s.base.max_groups (corner_need (key_at s.base.res low) (key_at s.base.res high)) s.values (values_of m) at.values))
 
 -- a block's answer, for two maps' values that are one

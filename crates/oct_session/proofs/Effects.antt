@@ -1,5 +1,8 @@
--- What a line does, and where map and session then stand.
-use Rattle.std.proofs.Common.{◌≡◌, ℕ, ◌+◌, ◌||◌, true, false, is_some, IsSome, IsErr, Some, None, refl, Option, Result, Ok, Err, OnErr, inl, inr, sym, ap, subst, ◌∙◌}
+-- What a line does, and where desk and session then stand.
+use Rattle.std.proofs.Common.{◌≡◌, ℕ, ◌+◌, ◌++◌, ◌||◌, true, false, cond, is_some, IsSome, IsErr, Some, None, refl, Option, Result, Ok, Err, IfErr, IsErrAnd, inl, inr, sym, ap, subst, ◌∙◌}
+use Rattle.oct_io.specs.Files.{Files}
+use Rattle.oct_io.specs.declared.store.StoreFault.{StoreFault}
+use Rattle.oct_io.specs.declared.store.StoreFault.TheVariants as store_fault
 use Rattle.oct_map.specs.Map.{Map}
 use Rattle.oct_script.specs.declared.command.Command.{Command}
 use Rattle.oct_script.specs.declared.reply.Refusal.{Refusal}
@@ -7,113 +10,240 @@ use Rattle.oct_script.specs.declared.reply.Reply.{Reply}
 use Rattle.oct_script.specs.Lines.{Line}
 use Rattle.oct_script.specs.Replies.{is_refusal}
 use Rattle.oct_session.specs.declared.block.Block.{Block}
-use Rattle.oct_session.specs.declared.lines.LineDone.{LineDone}
 use Rattle.oct_session.specs.declared.session.Session.{Session}
-use Rattle.oct_session.specs.Commands.{command_on, is_quit, reply}
-use Rattle.oct_session.specs.ScanBlock.{opened, is_end, block_reply}
-use Rattle.oct_session.specs.History.{State, after_all, state_after}
-use Rattle.oct_session.specs.Leaving.{StandsFor, StandsAfter}
-use Rattle.oct_session.specs.Session.{Progress, Effect, effect, effect_opened, effect_inside, effect_of, next_command, answered, after_line}
+use Rattle.oct_session.specs.Commands.{Saving, command_on, is_quit, reply, action_of, saving_of, file_named, accepted, accepted_saving, stored}
+use Rattle.oct_session.specs.ScanBlock.{opened, is_end, with_line, block_reply, block_action}
+use Rattle.oct_session.specs.History.{History, State, after_all, state_after}
+use Rattle.oct_session.specs.Leaving.{StandsFor, StandsForSome, Desk, IsLike, IsLikeAfter, IsKnown}
+use Rattle.oct_session.specs.Session.{Progress, Effect, effect, effect_of_command, effect_opened, effect_inside, effect_of, next_command, replied, silent, after_line}
 use Rattle.oct_session.specs.Setup.{Setup}
-use Rattle.oct_session.specs.Standing.{TakesEffect, HasEffect, IsHeard, StandsBeside, IsBetween}
+use Rattle.oct_session.specs.Standing.{KeepsStanding, HasAnswered, HasObeyed, HasScanned, HasWorked, FindsTold, TakesEffect, HasEffect, HasFailed, IsHeard, StandsBeside, HasStoppedAt, IsInStep, IsBetween}
 use Rattle.oct_session.proofs.MapHistory.{state_more}
-use Rattle.oct_session.proofs.Progresses.{after_answered}
+use Rattle.oct_session.proofs.Progresses.{after_answered, line_finds_told, unnamed_next}
 
--- a line outside a block, where memory runs out for its command
-pub effect_unheard : {E : Type 0} (r : Result LineDone E) (m n : Map) (c : Result Command Refusal) (opened : Option Block) → IsErr r → is_some opened ≡ false →
-    ((s : State) → StandsFor m s → IsSome (reply s c) × StandsFor n s) → HasEffect (λ s. effect_opened s c opened) m n r
-effect_unheard (Ok x) m n c opened err none kept = cc
-effect_unheard (Err x) m n c (Some block) err none kept = cc
-effect_unheard (Err x) m n c None err none kept = λ s at. let done = kept s at in (inl done.0, done.1)
+-- nothing is saved where there is nothing to save
+saves_none : (r : Option Reply) (saving : Option Saving) → saving ≡ None → accepted_saving r saving ≡ None
+saves_none r saving none = elim (is_refusal r) as (λ b. cond b None saving ≡ None) [ true ↦ refl | false ↦ none ]
 
--- a line that closes its block, where memory runs out for its scan
-pub effect_unclosed : {E : Type 0} (r : Result LineDone E) (m n : Map) (number : ℕ) (c : Result Command Refusal) (block : Block) → IsErr r → is_end c ≡ true →
-    ((s : State) → StandsFor m s → IsSome (block_reply s block) × StandsFor n s) → HasEffect (λ s. effect_inside s number c block) m n r
-effect_unclosed (Ok x) m n number c block err end kept = cc
-effect_unclosed (Err x) m n number c block err end kept = λ s at. let done = kept s at in rw end (inl done.0, done.1)
+-- a line inside a block saves nothing
+inside_saves : (s : State) (number : ℕ) (c : Result Command Refusal) (block : Block) → (effect_inside s number c block).saving ≡ None
+inside_saves s number c block =
+    elim (is_end c) as (λ b. (cond {A = Effect} b (replied (block_reply s block) (block_action block) None) (silent (with_line number c block))).saving ≡ None) [
+      | true ↦ saves_none (block_reply s block) None refl
+      | false ↦ refl
+    ]
+
+-- files among which nothing was saved
+same_files : (told files : Option Files) (saving : Option Saving) → told ≡ files → saving ≡ None → told ≡ stored files saving
+same_files told files saving is none = is ∙ ap (stored files) (sym none)
+
+-- a map that stands for some history after more commands
+pub some_more : (o : Setup) (m n : Map) (some : StandsForSome o m) (more : History) → StandsFor n (after_all (state_after o some.0) more) → StandsForSome o n
+some_more o m n some more at = (some.0 ++ more, subst (StandsFor n) (sym (state_more o some.0 more)) at)
+
+-- a map that has obeyed a command stands for some history, as before
+pub some_obeyed : {E : Type 0} (r : Result (Option Reply) E) (m n : Map) (c : Result Command Refusal) → HasObeyed m n c r → KeepsStanding m n
+some_obeyed (Ok a) m n c done = λ o some. some_more o m n some (accepted a (action_of None (state_after o some.0) c)) (done None (state_after o some.0) some.1).1
+some_obeyed (Err x) m n c done = λ o some. (some.0, (done None (state_after o some.0) some.1).1)
+
+-- and so does one that has worked on a line
+pub some_worked : {E : Type 0} (r : Result (Option Reply) E) (m n : Map) (block : Option Block) (e : State → Effect) → HasWorked e m n block r → KeepsStanding m n
+some_worked (Ok a) m n block e done = λ o some. some_more o m n some (e (state_after o some.0)).added (done (state_after o some.0) some.1).2
+some_worked (Err x) m n block e done = λ o some. (some.0, (done (state_after o some.0) some.1).1)
+
+-- a line that closes its block was answered, and done unless it is refused
+pub effect_closed : {E : Type 0} (r : Result (Option Reply) E) (m n : Map) (number : ℕ) (c : Result Command Refusal) (inner : Block) (block : Option Block) → is_end c ≡ true → block ≡ None →
+    HasScanned m n inner r → HasWorked (λ s. effect_inside s number c inner) m n block r
+effect_closed (Ok a) m n number c inner block end none done = λ s at. let took = done s at in rw end (
+  took.0,
+  none,
+  subst (λ x. StandsFor n (after_all s (accepted x (block_action inner)))) took.0 took.1,
+)
+effect_closed (Err x) m n number c inner block end none done = λ s at. let kept = done s at in rw end (inl kept.0, kept.1)
+
+-- a line of a block
+pub effect_added : (m : Map) (number : ℕ) (c : Result Command Refusal) (inner : Block) (block : Option Block) → is_end c ≡ false → block ≡ Some (with_line number c inner) →
+    (s : State) → StandsFor m s → (None ≡ (effect_inside s number c inner).reply) × (block ≡ (effect_inside s number c inner).block) × StandsFor m (after_all s (effect_inside s number c inner).added)
+effect_added m number c inner block end is s at = rw end (refl, is, at)
 
 -- a line of a block, where memory runs out for its point
-pub effect_unkept : {E : Type 0} (r : Result LineDone E) (m : Map) (number : ℕ) (c : Result Command Refusal) (block : Block) → IsErr r → is_end c ≡ false →
-    HasEffect (λ s. effect_inside s number c block) m m r
-effect_unkept (Ok x) m number c block err end = cc
-effect_unkept (Err x) m number c block err end = λ s at. rw end (inr refl, at)
+pub effect_unkept : {E : Type 0} (r : Result (Option Reply) E) (m : Map) (number : ℕ) (c : Result Command Refusal) (inner : Block) (block : Option Block) → IsErr r → is_end c ≡ false →
+    HasWorked (λ s. effect_inside s number c inner) m m block r
+effect_unkept (Ok x) m number c inner block err end = cc
+effect_unkept (Err x) m number c inner block err end = λ s at. rw end (inr refl, at)
 
--- the effect of a line on the block that is open
-pub effect_on : {E : Type 0} (r : Result LineDone E) (m n : Map) (number : ℕ) (line : Line) (c : Result Command Refusal) (opened : Option Block) (block : Block) → opened ≡ Some block →
-    HasEffect (λ s. effect_inside s number c block) m n r → HasEffect (λ s. effect s number line c opened) m n r
-effect_on r m n number line c opened block is took = subst (λ x. HasEffect (λ s. effect s number line c x) m n r) (sym is) took
+-- a line that closes the block that was open
+pub effect_taken : {E : Type 0} (r : Result (Option Reply) E) (m n : Map) (number : ℕ) (c : Result Command Refusal) (old taken new : Option Block) (standing : Block) → is_end c ≡ true → new ≡ None → taken ≡ old → taken ≡ Some standing →
+    HasScanned m n standing r → (first : Block) → old ≡ Some first → HasWorked (λ s. effect_inside s number c first) m n new r
+effect_taken r m n number c old taken new standing end none took is done first was =
+    let same : standing ≡ first = cc in effect_closed r m n number c first new end none (subst (λ x. HasScanned m n x r) same done)
 
--- the effect of a line where no block is open
-pub effect_before : {E : Type 0} (r : Result LineDone E) (m n : Map) (number : ℕ) (line : Line) (c : Result Command Refusal) (block opens : Option Block) → block ≡ None → opens ≡ opened number line c →
-    HasEffect (λ s. effect_opened s c opens) m n r → HasEffect (λ s. effect s number line c block) m n r
-effect_before r m n number line c block opens none is took =
-    subst (λ x. HasEffect (λ s. effect s number line c x) m n r) (sym none) (subst (λ x. HasEffect (λ s. effect_opened s c x) m n r) is took)
+-- a line in a block, with the files that stand by
+pub inside_done : (m n : Map) (f : Option Files) (number : ℕ) (line : Line) (c : Result Command Refusal) (old new : Option Block) (a : Option Reply) → is_some old ≡ true →
+    ((first : Block) → old ≡ Some first → (s : State) → StandsFor m s →
+    (a ≡ (effect_inside s number c first).reply) × (new ≡ (effect_inside s number c first).block) × StandsFor n (after_all s (effect_inside s number c first).added)) →
+    TakesEffect (λ files s. effect files s number line c old) (file_named c) m f n f new a
+inside_done m n f number line c None new a some worked = cc
+inside_done m n f number line c (Some first) new a some worked = λ files s finds at.
+    let took = worked first refl s at.stands in
+    (took.0, took.1, record { stands = took.2; told = same_files f files (effect_inside s number c first).saving at.told (inside_saves s number c first) })
+
+pub inside_failed : (r : Result (Option Reply) StoreFault) (m n : Map) (f : Option Files) (number : ℕ) (line : Line) (c : Result Command Refusal) (old new : Option Block) → is_some old ≡ true →
+    IsErrAnd r (λ x. x ≡ store_fault.Memory) → ((first : Block) → old ≡ Some first → (s : State) → StandsFor m s → IsHeard (effect_inside s number c first) × StandsFor n s) →
+    HasEffect (λ files s. effect files s number line c old) (file_named c) m f n f new r
+inside_failed (Ok x) m n f number line c old new some memory kept = absurd memory
+inside_failed (Err x) m n f number line c None new some memory kept = cc
+inside_failed (Err x) m n f number line c (Some first) new some memory kept = λ files s finds at.
+    let done = kept first refl s at.stands in
+    (done.0, subst (λ y. HasFailed (file_named c) files s n f y) (sym memory) (inl (record { stands = done.1; told = at.told })))
+
+-- a map on which a line in a block was done stands for some history, as before
+pub some_inside : {E : Type 0} (r : Result (Option Reply) E) (m n : Map) (number : ℕ) (c : Result Command Refusal) (old new : Option Block) → is_some old ≡ true →
+    ((first : Block) → old ≡ Some first → HasWorked (λ s. effect_inside s number c first) m n new r) → KeepsStanding m n
+some_inside r m n number c None new some works = cc
+some_inside r m n number c (Some first) new some works = some_worked r m n new (λ s. effect_inside s number c first) (works first refl)
+
+-- a command that names no file, with the files that stand by
+pub command_done : (m n : Map) (f : Option Files) (c : Result Command Refusal) (block : Option Block) (a : Option Reply) → block ≡ None → ((s : State) → saving_of s c ≡ None) → ((files : Option Files) → HasAnswered (λ s. reply files s c) (λ s. action_of files s c) m n a) →
+    TakesEffect (λ files s. effect_of_command files s c) (file_named c) m f n f block a
+command_done m n f c block a closed none done = λ files s finds at.
+    let took = done files s at.stands in (
+      took.0,
+      closed,
+      record {
+        stands = subst (λ x. StandsFor n (after_all s (accepted x (action_of files s c)))) took.0 took.1;
+        told = same_files f files (accepted_saving (reply files s c) (saving_of s c)) at.told (saves_none (reply files s c) (saving_of s c) (none s));
+      },
+    )
+
+pub command_failed : (r : Result (Option Reply) StoreFault) (m n : Map) (f : Option Files) (c : Result Command Refusal) (block : Option Block) → IsErrAnd r (λ x. x ≡ store_fault.Memory) →
+    ((files : Option Files) (s : State) → StandsFor m s → IsSome (reply files s c) × StandsFor n s) → HasEffect (λ files s. effect_of_command files s c) (file_named c) m f n f block r
+command_failed (Ok x) m n f c block memory kept = absurd memory
+command_failed (Err x) m n f c block memory kept = λ files s finds at.
+    let done = kept files s at.stands in
+    (inl done.0, subst (λ y. HasFailed (file_named c) files s n f y) (sym memory) (inl (record { stands = done.1; told = at.told })))
+
+-- the effect of a line on the command that was read
+pub effect_read : (r : Result (Option Reply) StoreFault) (m n : Map) (f g : Option Files) (c read : Result Command Refusal) (block : Option Block) → c ≡ read →
+    HasEffect (λ files s. effect_of_command files s read) (file_named read) m f n g block r → HasEffect (λ files s. effect_of_command files s c) (file_named c) m f n g block r
+effect_read r m n f g c read block is took = subst (λ x. HasEffect (λ files s. effect_of_command files s x) (file_named x) m f n g block r) (sym is) took
+
+-- a line outside a block that opens none
+pub effect_outside : (r : Result (Option Reply) StoreFault) (m n : Map) (f g : Option Files) (c : Result Command Refusal) (opened block : Option Block) → is_some opened ≡ false →
+    HasEffect (λ files s. effect_of_command files s c) (file_named c) m f n g block r → HasEffect (λ files s. effect_opened files s c opened) (file_named c) m f n g block r
+effect_outside r m n f g c (Some inner) block none took = cc
+effect_outside r m n f g c None block none took = took
+
+-- a line that opens a block
+pub effect_opens : (m : Map) (f : Option Files) (c : Result Command Refusal) (opened block : Option Block) → is_some opened ≡ true → block ≡ opened →
+    TakesEffect (λ files s. effect_opened files s c opened) (file_named c) m f m f block None
+effect_opens m f c (Some inner) block some is = λ files s finds at. (refl, is, at)
+effect_opens m f c None block some is = cc
+
+-- the effect of a line where no block is inner
+pub effect_before : (r : Result (Option Reply) StoreFault) (m n : Map) (f g : Option Files) (number : ℕ) (line : Line) (c : Result Command Refusal) (old opens new : Option Block) → is_some old ≡ false → opens ≡ opened number line c →
+    HasEffect (λ files s. effect_opened files s c opens) (file_named c) m f n g new r → HasEffect (λ files s. effect files s number line c old) (file_named c) m f n g new r
+effect_before r m n f g number line c (Some inner) opens new none is took = cc
+effect_before r m n f g number line c None opens new none is took = subst (λ x. HasEffect (λ files s. effect_opened files s c x) (file_named c) m f n g new r) is took
 
 -- the command that was read is that of the next line
-same_command : (o : Setup) (m : Map) (s : Session) (p : Progress) (c : Result Command Refusal) → IsBetween o m s p → c ≡ command_on (is_some s.block) (s.line_count + 1) s.line.line →
-    c ≡ next_command p s.line.line
-same_command o m s p c at read =
+pub same_command : (s : Session) (p : Progress) (c : Result Command Refusal) → IsInStep s p → c ≡ command_on (is_some s.block) (s.line_count + 1) s.line.line → c ≡ next_command p s.line.line
+same_command s p c at read =
     read ∙ ap (λ n. command_on (is_some s.block) (n + 1) s.line.line) at.counted ∙ ap (λ (b : Option Block). command_on (is_some b) (p.line_count + 1) s.line.line) at.block
 
 -- and its effect that of the next line
-same_effect : (o : Setup) (m : Map) (s : Session) (p : Progress) (c : Result Command Refusal) → IsBetween o m s p → c ≡ command_on (is_some s.block) (s.line_count + 1) s.line.line →
-    effect (state_after o p.history) (s.line_count + 1) s.line.line c s.block ≡ effect_of o p s.line.line
-same_effect o m s p c at read =
-    ap (λ x. effect (state_after o p.history) (s.line_count + 1) s.line.line x s.block) (same_command o m s p c at read)
-    ∙ ap (λ n. effect (state_after o p.history) (n + 1) s.line.line (next_command p s.line.line) s.block) at.counted
-    ∙ ap (effect (state_after o p.history) (p.line_count + 1) s.line.line (next_command p s.line.line)) at.block
+same_effect : (o : Setup) (s : Session) (p : Progress) (c : Result Command Refusal) → IsInStep s p → c ≡ command_on (is_some s.block) (s.line_count + 1) s.line.line →
+    effect p.files (state_after o p.history) (s.line_count + 1) s.line.line c s.block ≡ effect_of o p s.line.line
+same_effect o s p c at read =
+    ap (λ x. effect p.files (state_after o p.history) (s.line_count + 1) s.line.line x s.block) (same_command s p c at read)
+    ∙ ap (λ n. effect p.files (state_after o p.history) (n + 1) s.line.line (next_command p s.line.line) s.block) at.counted
+    ∙ ap (effect p.files (state_after o p.history) (p.line_count + 1) s.line.line (next_command p s.line.line)) at.block
 
--- the effect of a line on the block that stood
-pub took_block : (m n : Map) (s : Session) (c : Result Command Refusal) (block : Option Block) (done : LineDone) → block ≡ s.block →
-    TakesEffect (λ x. effect x (s.line_count + 1) s.line.line c block) m n done → TakesEffect (λ x. effect x (s.line_count + 1) s.line.line c s.block) m n done
-took_block m n s c block done is took = subst (λ b. TakesEffect (λ x. effect x (s.line_count + 1) s.line.line c b) m n done) is took
+-- what was read of a line, and what it did: it may name a file, the store is as it was where it doesn't, and this is its effect
+pub record IsWorked (s : Session) (c : Result Command Refusal) (m n : Map) (f g : Option Files) (block : Option Block) (r : Result (Option Reply) StoreFault) : Type 0 where
+  pub running : s.has_quit ≡ false
+  pub read : c ≡ command_on (is_some s.block) (s.line_count + 1) s.line.line
+  pub took : HasEffect (λ files q. effect files q (s.line_count + 1) s.line.line c s.block) (file_named c) m f n g block r
+
+-- the file that the line names is told, if it names one
+finds_line : (o : Setup) (s : Session) (p : Progress) (c : Result Command Refusal) → s.has_quit ≡ false → IsInStep s p → c ≡ command_on (is_some s.block) (s.line_count + 1) s.line.line →
+    IsKnown (after_line o p s.line.line) → FindsTold (file_named c) p.files
+finds_line o s p c running at read known =
+    subst (λ x. FindsTold (file_named x) p.files) (sym (same_command s p c at read)) (line_finds_told o p s.line.line (sym at.has_quit ∙ running) known)
 
 -- the reply to the next line
-pub told_line : (o : Setup) (m n : Map) (s : Session) (p : Progress) (c : Result Command Refusal) (done : LineDone) → IsBetween o m s p → c ≡ command_on (is_some s.block) (s.line_count + 1) s.line.line →
-    TakesEffect (λ x. effect x (s.line_count + 1) s.line.line c s.block) m n done → done.reply ≡ (effect_of o p s.line.line).reply
-told_line o m n s p c done at read took = (took (state_after o p.history) at.stands).0 ∙ ap (λ (e : Effect). e.reply) (same_effect o m s p c at read)
+pub told_line : (o : Setup) (d : Desk) (n : Map) (g : Option Files) (s : Session) (p : Progress) (c : Result Command Refusal) (block : Option Block) (a : Option Reply) → IsWorked s c d.map n d.files g block (Ok a) →
+    IsKnown (after_line o p s.line.line) → IsBetween o d s p → a ≡ (effect_of o p s.line.line).reply
+told_line o d n g s p c block a w known at =
+    (w.took p.files (state_after o p.history) (finds_line o s p c w.running at.step w.read known) at.like).0 ∙ ap (λ (x : Effect). x.reply) (same_effect o s p c at.step w.read)
 
--- the map after the next line
-pub stands_line : (o : Setup) (m n : Map) (s : Session) (p : Progress) (c : Result Command Refusal) (done : LineDone) → s.has_quit ≡ false → IsBetween o m s p →
-    c ≡ command_on (is_some s.block) (s.line_count + 1) s.line.line → TakesEffect (λ x. effect x (s.line_count + 1) s.line.line c s.block) m n done →
-    StandsAfter o n (after_line o p s.line.line)
-stands_line o m n s p c done running at read took =
-    subst (StandsAfter o n) (sym (after_answered o p s.line.line (sym at.has_quit ∙ running)))
-    (subst (StandsFor n) (sym (state_more o p.history (effect_of o p s.line.line).added))
-    (subst (λ (e : Effect). StandsFor n (after_all (state_after o p.history) e.added)) (same_effect o m s p c at read) (took (state_after o p.history) at.stands).2))
+-- the desk after the next line
+pub like_line : (o : Setup) (d e : Desk) (s : Session) (p : Progress) (c : Result Command Refusal) (block : Option Block) (a : Option Reply) → IsWorked s c d.map e.map d.files e.files block (Ok a) →
+    IsKnown (after_line o p s.line.line) → IsBetween o d s p → IsLikeAfter o (after_line o p s.line.line) e
+like_line o d e s p c block a w known at =
+    let after : IsLike (stored p.files (effect_of o p s.line.line).saving) (after_all (state_after o p.history) (effect_of o p s.line.line).added) e.map e.files =
+    subst (λ (x : Effect). IsLike (stored p.files x.saving) (after_all (state_after o p.history) x.added) e.map e.files) (same_effect o s p c at.step w.read)
+    (w.took p.files (state_after o p.history) (finds_line o s p c w.running at.step w.read known) at.like).2 in
+    subst (λ (x : Progress). IsLikeAfter o x e) (sym (after_answered o p s.line.line (sym at.step.has_quit ∙ w.running)))
+    (subst (λ q. IsLike (stored p.files (effect_of o p s.line.line).saving) q e.map e.files) (sym (state_more o p.history (effect_of o p s.line.line).added)) after)
 
--- map and session after the next line
-pub between_line : (o : Setup) (m n : Map) (s t : Session) (p : Progress) (c : Result Command Refusal) (done : LineDone) → s.has_quit ≡ false → IsBetween o m s p →
-    c ≡ command_on (is_some s.block) (s.line_count + 1) s.line.line → TakesEffect (λ x. effect x (s.line_count + 1) s.line.line c s.block) m n done →
-    t.line_count ≡ s.line_count + 1 → t.block ≡ done.block → t.refused ≡ (s.refused || is_refusal done.reply) → t.has_quit ≡ is_quit c → IsBetween o n t (after_line o p s.line.line)
-between_line o m n s t p c done running at read took answered block refused quit =
+-- the store is as it was at first where no line named a file
+kept_line : (o : Setup) (d e : Desk) (s : Session) (p : Progress) (c : Result Command Refusal) → s.has_quit ≡ false → c ≡ command_on (is_some s.block) (s.line_count + 1) s.line.line →
+    (file_named c ≡ None → d.kept → e.kept) → IsBetween o d s p → (after_line o p s.line.line).names_file ≡ false → e.kept
+kept_line o d e s p c running read keeps at none =
+    let both = unnamed_next o p s.line.line (sym at.step.has_quit ∙ running) none in
+    keeps (ap file_named (same_command s p c at.step read) ∙ both.1) (at.kept both.0)
+
+-- desk and session after the next line
+pub between_line : (o : Setup) (d e : Desk) (s t : Session) (p : Progress) (c : Result Command Refusal) (block : Option Block) (a : Option Reply) → IsWorked s c d.map e.map d.files e.files block (Ok a) →
+    (file_named c ≡ None → d.kept → e.kept) →
+    t.line_count ≡ s.line_count + 1 → t.block ≡ block → t.refused ≡ (s.refused || is_refusal a) → t.has_quit ≡ is_quit c →
+    IsKnown (after_line o p s.line.line) → IsBetween o d s p → IsBetween o e t (after_line o p s.line.line)
+between_line o d e s t p c block a w keeps counted is refused quit known at =
     let line = s.line.line in
-    let after = after_answered o p line (sym at.has_quit ∙ running) in
+    let after = after_answered o p line (sym at.step.has_quit ∙ w.running) in
     record {
-      stands = stands_line o m n s p c done running at read took;
-      counted = answered ∙ ap (λ k. k + 1) at.counted ∙ ap (λ (x : Progress). x.line_count) (sym after);
-      block = block ∙ (took (state_after o p.history) at.stands).1 ∙ ap (λ (e : Effect). e.block) (same_effect o m s p c at read) ∙ ap (λ (x : Progress). x.block) (sym after);
-      refused = refused ∙ ap (λ b. b || is_refusal done.reply) at.refused ∙ ap (λ x. p.refused || is_refusal x) (told_line o m n s p c done at read took) ∙ ap (λ (x : Progress). x.refused) (sym after);
-      has_quit = quit ∙ ap is_quit (same_command o m s p c at read) ∙ ap (λ (x : Progress). x.has_quit) (sym after);
+      like = like_line o d e s p c block a w known at;
+      kept = kept_line o d e s p c w.running w.read keeps at;
+      step = record {
+        counted = counted ∙ ap (λ k. k + 1) at.step.counted ∙ ap (λ (x : Progress). x.line_count) (sym after);
+        block = is ∙ (w.took p.files (state_after o p.history) (finds_line o s p c w.running at.step w.read known) at.like).1 ∙ ap (λ (x : Effect). x.block) (same_effect o s p c at.step w.read)
+            ∙ ap (λ (x : Progress). x.block) (sym after);
+        refused = refused ∙ ap (λ b. b || is_refusal a) at.step.refused ∙ ap (λ x. p.refused || is_refusal x) (told_line o d e.map e.files s p c block a w known at) ∙ ap (λ (x : Progress). x.refused) (sym after);
+        has_quit = quit ∙ ap is_quit (same_command s p c at.step w.read) ∙ ap (λ (x : Progress). x.has_quit) (sym after);
+      };
     }
 
--- where memory runs out for the command, nothing of the line is done
-pub before_err : {T E : Type 0} (x : Result T E) (o : Setup) (m n : Map) (s : Session) (c : Result Command Refusal) (block : Option Block) → block ≡ s.block →
-    c ≡ command_on (is_some s.block) (s.line_count + 1) s.line.line →
-    ((x : State) → StandsFor m x → IsHeard (effect x (s.line_count + 1) s.line.line c block) × StandsFor n x) →
-    OnErr x ((p : Progress) → IsBetween o m s p → StandsBeside o n p s.line.line)
-before_err (Ok x) o m n s c block is read stands = tt
-before_err (Err x) o m n s c block is read stands = λ p at.
-    let done = stands (state_after o p.history) at.stands in (
-      subst (λ (e : Effect). IsHeard e) (ap (effect (state_after o p.history) (s.line_count + 1) s.line.line c) is ∙ same_effect o m s p c at read) done.0,
-      inl done.1,
-    )
+failed_beside : (o : Setup) (e : Desk) (p : Progress) (line : Line) (fault : StoreFault) → HasFailed (file_named (next_command p line)) p.files (state_after o p.history) e.map e.files fault → StandsBeside o e p line fault
+failed_beside o e p line store_fault.Failed torn = torn
+failed_beside o e p line store_fault.Memory less = inr less
 
--- where it is wanting for the reply, the command is done
-pub after_err : {T E : Type 0} (x : Result T E) (o : Setup) (m n : Map) (s : Session) (c : Result Command Refusal) (done : LineDone) → s.has_quit ≡ false → c ≡ command_on (is_some s.block) (s.line_count + 1) s.line.line →
-    TakesEffect (λ x. effect x (s.line_count + 1) s.line.line c s.block) m n done → IsSome done.reply → OnErr x ((p : Progress) → IsBetween o m s p → StandsBeside o n p s.line.line)
-after_err (Ok x) o m n s c done running read took some = tt
-after_err (Err x) o m n s c done running read took some = λ p at. (
-  inl (subst (λ (r : Option Reply). IsSome r) (told_line o m n s p c done at read took) some),
-  inr (stands_line o m n s p c done running at read took),
-)
+-- where the command failed, nothing of the line is done, but for the file that it names
+pub before_err : {T H : Type 0} (x : Result T StoreFault) (fault : StoreFault) (o : Setup) (d e : H → Desk) (s : Session) (c : Result Command Refusal) (block : Option Block) → IsErrAnd x (λ y. y ≡ fault) →
+    ((home : H) → IsWorked s c (d home).map (e home).map (d home).files (e home).files block (Err fault)) → ((home : H) → file_named c ≡ None → (d home).kept → (e home).kept) →
+    IfErr x (λ y. (home : H) (p : Progress) → IsKnown (after_line o p s.line.line) → IsBetween o (d home) s p → HasStoppedAt o (e home) p s.line.line y)
+before_err (Ok x) fault o d e s c block same works keeps = absurd same
+before_err (Err x) fault o d e s c block same works keeps = λ home p known at.
+    let w = works home in
+    let done = w.took p.files (state_after o p.history) (finds_line o s p c w.running at.step w.read known) at.like in
+    let failed : HasFailed (file_named (next_command p s.line.line)) p.files (state_after o p.history) (e home).map (e home).files x =
+    subst (λ y. HasFailed (file_named y) p.files (state_after o p.history) (e home).map (e home).files x) (same_command s p c at.step w.read)
+    (subst (λ y. HasFailed (file_named c) p.files (state_after o p.history) (e home).map (e home).files y) (sym same) done.1) in
+    record {
+      heard = subst (λ (y : Effect). IsHeard y) (same_effect o s p c at.step w.read) done.0;
+      beside = failed_beside o (e home) p s.line.line x failed;
+      kept = kept_line o (d home) (e home) s p c w.running w.read (keeps home) at;
+    }
+
+-- where memory runs out for the reply, all of it is done
+pub after_err : {T H : Type 0} (x : Result T StoreFault) (o : Setup) (d e : H → Desk) (s : Session) (c : Result Command Refusal) (block : Option Block) (a : Option Reply) → IsErrAnd x (λ y. y ≡ store_fault.Memory) →
+    ((home : H) → IsWorked s c (d home).map (e home).map (d home).files (e home).files block (Ok a)) → ((home : H) → file_named c ≡ None → (d home).kept → (e home).kept) → IsSome a →
+    IfErr x (λ y. (home : H) (p : Progress) → IsKnown (after_line o p s.line.line) → IsBetween o (d home) s p → HasStoppedAt o (e home) p s.line.line y)
+after_err (Ok x) o d e s c block a memory works keeps some = absurd memory
+after_err (Err x) o d e s c block a memory works keeps some = λ home p known at.
+    let w = works home in
+    record {
+      heard = inl (subst (λ (r : Option Reply). IsSome r) (told_line o (d home) (e home).map (e home).files s p c block a w known at) some);
+      beside = subst (λ y. StandsBeside o (e home) p s.line.line y) (sym memory) (inl (like_line o (d home) (e home) s p c block a w known at));
+      kept = kept_line o (d home) (e home) s p c w.running w.read (keeps home) at;
+    }

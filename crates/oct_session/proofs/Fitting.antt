@@ -1,6 +1,7 @@
 -- That the groups which the values of a session need are within its limit.
-use Rattle.std.proofs.Common.{◌≡◌, ◌≢◌, ℕ, ◌+◌, ◌≤◌, List, [], ◌∷◌, Bool, true, false, cond, not, ◌⊎◌, Option, Some, None, Result, Ok, Err, inl, inr, refl, sym, subst, ◌∙◌, arith}
+use Rattle.std.proofs.Common.{◌≡◌, ◌≢◌, ℕ, ◌+◌, ◌≤◌, List, [], ◌∷◌, Bool, true, false, cond, not, ◌⊎◌, Option, Some, None, Result, Ok, Err, inl, inr, refl, sym, subst, ◌∙◌, arith, ◌&&◌, nat_lt, is_some}
 use Rattle.std.specs.List.{fold}
+use Rattle.std.specs.Option.{option_or}
 use Rattle.std.proofs.lemmas.Bool.{cases_lt, lt-ltb, le-ltb}
 use Rattle.oct_io.specs.Files.{Files}
 use Rattle.oct_key.specs.Block.{Cube, IsBlock}
@@ -8,9 +9,8 @@ use Rattle.oct_key.specs.Voxel.{Voxel, key_at}
 use Rattle.oct_key.specs.Values.{Values}
 use Rattle.oct_key.specs.declared.point.Point.{Point}
 use Rattle.oct_key.proofs.Faces.{IsInMap-key_at}
-use Rattle.oct_map.specs.Answers.{edit_answer_at, edit_need, room_answer, scan_answer_by, is_full, box_answer_by, corner_fault}
+use Rattle.oct_map.specs.Answers.{edit_answer_at, edit_need, room_answer, scan_answer_by, is_full, box_answer_by, box_fault, wide_fault, most_noted}
 use Rattle.oct_map.specs.Outcome.{outcome_of, need_of, done_of, corner_need, corner_events}
-use Rattle.oct_map.specs.Ground.{Ground}
 use Rattle.oct_map.specs.declared.fault.MapFault.{MapFault}
 use Rattle.oct_map.specs.declared.fault.MapFault.TheVariants as fault
 use Rattle.oct_odds.specs.Odds.{Odds}
@@ -31,7 +31,8 @@ use Rattle.oct_script.specs.declared.reply.Refusal.TheVariants as refusal
 use Rattle.oct_script.specs.declared.reply.Reply.{Reply}
 use Rattle.oct_script.specs.declared.reply.Reply.TheVariants as reply_of
 use Rattle.oct_values.specs.Blocks.{blocks_above_voxels}
-use Rattle.oct_values.specs.Boxes.{is_box, box_need}
+use Rattle.oct_key.specs.Boxes.{is_box}
+use Rattle.oct_values.specs.Boxes.{box_need, box_volume}
 use Rattle.oct_values.specs.Counts.{is_uniform, group_count}
 use Rattle.oct_values.specs.Events.{event_at, after_event, updated}
 use Rattle.oct_values.proofs.Around.{groups_after_edit}
@@ -116,12 +117,16 @@ box_room_fits s low high e a b is_low is_high fits = elim (room_cases s.base.max
 ]
 
 box_fits_at : (s : State) (low high : Point) (e : Edit) (a b : Option Voxel) → key_at s.base.res low ≡ a → key_at s.base.res high ≡ b → Fits s →
-    Fits (after_all s (accepted (edit_reply (box_answer_by (corner_fault a b) (room_answer s.base.max_groups s.values (corner_need a b)))) (Boxed low high e ∷ [])))
+    Fits (after_all s (accepted (edit_reply (box_answer_by (box_fault (is_some s.marked) a b) (room_answer s.base.max_groups s.values (corner_need a b)))) (Boxed low high e ∷ [])))
 box_fits_at s low high e None b is_low is_high fits = fits
 box_fits_at s low high e (Some a) None is_low is_high fits = fits
 box_fits_at s low high e (Some a) (Some b) is_low is_high fits = elim (is_box a b)
-    as (λ t. Fits (after_all s (accepted (edit_reply (box_answer_by (cond {A = Option MapFault} t None (Some fault.BadBox)) (room_answer s.base.max_groups s.values (box_need a b)))) (Boxed low high e ∷ [])))) [
-      | true ↦ box_room_fits s low high e a b is_low is_high fits
+    as (λ t. Fits (after_all s (accepted (edit_reply (box_answer_by (option_or (cond {A = Option MapFault} t None (Some fault.BadBox)) (wide_fault (is_some s.marked) (Some a) (Some b))) (room_answer s.base.max_groups s.values (box_need a b)))) (Boxed low high e ∷ [])))) [
+      | true ↦ elim (is_some s.marked && nat_lt most_noted (box_volume a b))
+          as (λ t. Fits (after_all s (accepted (edit_reply (box_answer_by (cond {A = Option MapFault} t (Some (fault.WideWhileTracked (box_volume a b))) None) (room_answer s.base.max_groups s.values (box_need a b)))) (Boxed low high e ∷ [])))) [
+            | true ↦ fits
+            | false ↦ box_room_fits s low high e a b is_low is_high fits
+          ]
       | false ↦ fits
     ]
 
@@ -129,23 +134,31 @@ box_fits_at s low high e (Some a) (Some b) is_low is_high fits = elim (is_box a 
 none_fits : (s : State) (r : Option Reply) → Fits s → Fits (after_all s (accepted r []))
 none_fits s r fits = elim (is_refusal r) as (λ b. Fits (after_all s (cond {A = History} b [] []))) [ true ↦ fits | false ↦ fits ]
 
-command_fits : (s : State) (c : Result Command Refusal) → Fits s → Fits (after_all s (accepted (reply s c) (action_of c)))
-command_fits s (Err refusal) fits = fits
-command_fits s (Ok command.Blank) fits = fits
-command_fits s (Ok (command.Edit p e lazy)) fits = edit_fits_at s p e lazy (key_at s.base.res p) refl fits
-command_fits s (Ok (command.Box low high e)) fits = box_fits_at s low high e (key_at s.base.res low) (key_at s.base.res high) refl refl fits
-command_fits s (Ok (command.Scan head)) fits = fits
-command_fits s (Ok (command.Beam p)) fits = fits
-command_fits s (Ok command.End) fits = fits
-command_fits s (Ok (command.Get p depth)) fits = none_fits s (reply s (Ok (command.Get p depth))) fits
-command_fits s (Ok (command.Cast o e ignore)) fits = none_fits s (reply s (Ok (command.Cast o e ignore))) fits
-command_fits s (Ok command.Counts) fits = fits
-command_fits s (Ok command.Refresh) fits = fits
-command_fits s (Ok command.Prune) fits = fits
-command_fits s (Ok command.Clear) fits = clear_fits s
-command_fits s (Ok command.MaxLikelihood) fits = likely_fits s fits
-command_fits s (Ok command.Quit) fits = fits
-command_fits s (Ok command.NotYet) fits = fits
+command_fits : (files : Option Files) (s : State) (c : Result Command Refusal) → Fits s → Fits (after_all s (accepted (reply files s c) (action_of files s c)))
+command_fits files s (Err refusal) fits = fits
+command_fits files s (Ok command.Blank) fits = fits
+command_fits files s (Ok (command.Edit p e lazy)) fits = edit_fits_at s p e lazy (key_at s.base.res p) refl fits
+command_fits files s (Ok (command.Box low high e)) fits = box_fits_at s low high e (key_at s.base.res low) (key_at s.base.res high) refl refl fits
+command_fits files s (Ok (command.Scan head)) fits = fits
+command_fits files s (Ok (command.Beam p)) fits = fits
+command_fits files s (Ok command.End) fits = fits
+command_fits files s (Ok (command.Get p depth)) fits = none_fits s (reply files s (Ok (command.Get p depth))) fits
+command_fits files s (Ok (command.Cast o e ignore)) fits = none_fits s (reply files s (Ok (command.Cast o e ignore))) fits
+command_fits files s (Ok command.Counts) fits = fits
+command_fits files s (Ok command.Refresh) fits = fits
+command_fits files s (Ok command.Prune) fits = fits
+command_fits files s (Ok command.Clear) fits = clear_fits s
+command_fits files s (Ok command.MaxLikelihood) fits = likely_fits s fits
+command_fits files s (Ok command.Quit) fits = fits
+command_fits files s (Ok (command.Save name)) fits = fits
+command_fits files s (Ok (command.Load name)) fits = fits
+command_fits files s (Ok (command.Snapshot name)) fits = fits
+command_fits files s (Ok (command.Restore name)) fits = fits
+command_fits files s (Ok command.Track) fits = fits
+command_fits files s (Ok command.Untrack) fits = fits
+command_fits files s (Ok command.Changes) fits = fits
+command_fits files s (Ok command.NoLimit) fits = fits
+command_fits files s (Ok command.NotYet) fits = fits
 
 -- the scan's own fault, and room for it
 scan_fits_by : (s : State) (seen : Sighting) (lazy : Bool) (own : Option ScanFault) → own ≢ Some scan_fault_of.Memory → Fits s →
@@ -170,14 +183,14 @@ block_fits s (Scanning scan) fits = elim (is_zero scan.head)
       | false ↦ scan_fits_by s (sighting_so_far scan) scan.head.lazy (scan_fault s.base.res (sighting_so_far scan) s.base.max_cells) (fault_known s.base.res (sighting_so_far scan) s.base.max_cells) fits
     ]
 
-opened_fits : (s : State) (c : Result Command Refusal) (block : Option Block) → Fits s → Fits (after_all s (effect_opened s c block).added)
-opened_fits s c None fits = command_fits s c fits
-opened_fits s c (Some block) fits = fits
+opened_fits : (files : Option Files) (s : State) (c : Result Command Refusal) (block : Option Block) → Fits s → Fits (after_all s (effect_opened files s c block).added)
+opened_fits files s c None fits = command_fits files s c fits
+opened_fits files s c (Some block) fits = fits
 
-effect_fits : (s : State) (number : ℕ) (line : Line) (c : Result Command Refusal) (block : Option Block) → Fits s → Fits (after_all s (effect s number line c block).added)
-effect_fits s number line c None fits = opened_fits s c (opened number line c) fits
-effect_fits s number line c (Some block) fits =
-    elim (is_end c) as (λ b. Fits (after_all s (cond {A = Effect} b (replied (block_reply s block) (block_action block)) (silent (with_line number c block))).added)) [
+effect_fits : (files : Option Files) (s : State) (number : ℕ) (line : Line) (c : Result Command Refusal) (block : Option Block) → Fits s → Fits (after_all s (effect files s number line c block).added)
+effect_fits files s number line c None fits = opened_fits files s c (opened number line c) fits
+effect_fits files s number line c (Some block) fits =
+    elim (is_end c) as (λ b. Fits (after_all s (cond {A = Effect} b (replied (block_reply s block) (block_action block) None) (silent (with_line number c block))).added)) [
       | true ↦ block_fits s block fits
       | false ↦ fits
     ]
@@ -185,7 +198,7 @@ effect_fits s number line c (Some block) fits =
 line_fits : (o : Setup) (p : Progress) (line : Line) → Fits (state_after o p.history) → Fits (state_after o (after_line o p line).history)
 line_fits o p line fits = elim p.has_quit as (λ v. Fits (state_after o (cond v p (answered o p line)).history)) [
   | true ↦ fits
-  | false ↦ subst Fits (sym (state_more o p.history (effect_of o p line).added)) (effect_fits (state_after o p.history) (p.line_count + 1) line (next_command p line) p.block fits)
+  | false ↦ subst Fits (sym (state_more o p.history (effect_of o p line).added)) (effect_fits p.files (state_after o p.history) (p.line_count + 1) line (next_command p line) p.block fits)
 ]
 
 -- a session that begins within its limit stays there
@@ -208,7 +221,7 @@ history_most s [] = refl
 history_most s (a ∷ h) = history_most (after s a) h ∙ action_most s a
 
 -- the groups that a session's values need never exceed its limit
-pub groups_within : (o : Setup) (files : Files) (lines : List Line) → group_count (value_after o (progress o files lines).history) ≤ o.max_groups
+pub groups_within : (o : Setup) (files : Option Files) (lines : List Line) → group_count (value_after o (progress o files lines).history) ≤ o.max_groups
 groups_within o files lines =
     let begins : Fits (start_state o) = (let none = unknown_needs in omega (arith, none)) in
     let fits : Fits (state_after o (progress o files lines).history) = session_fits o (start files) lines begins in

@@ -11,5 +11,4 @@ pub mod Casting
 pub mod Answering
 pub mod Replying
 pub mod Effects
-pub mod SomeHistory
 pub mod Endings

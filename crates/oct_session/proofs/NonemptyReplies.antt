@@ -1,12 +1,14 @@
 -- What has a reply, and that no reply is empty.
-use Rattle.std.proofs.Common.{◌≢◌, ℕ, ◌<◌, List, ◌++◌, length, true, false, cond, is_none, Option, Some, None, IsSome, Result, Ok, Err, refl, arith, length-append}
+use Rattle.std.proofs.Common.{Bool, ◌≢◌, ℕ, ◌<◌, List, ◌++◌, length, true, false, cond, is_none, Option, Some, None, IsSome, Result, Ok, Err, refl, arith, length-append, ◌&&◌, nat_lt}
 use Rattle.std.specs.Prelude.{⊤, codes, decimal}
 use Rattle.oct_key.specs.declared.point.Point.{Point}
 use Rattle.oct_key.specs.Values.{Values}
 use Rattle.oct_key.specs.Voxel.{Voxel, key_at}
 use Rattle.oct_cast.specs.declared.outcome.Cast.{Cast}
 use Rattle.oct_cast.specs.declared.outcome.Cast.TheVariants as cast
-use Rattle.oct_map.specs.Answers.{edit_answer, edit_answer_at, edit_need, is_full, room_answer, scan_answer_by, box_answer, box_answer_by, corner_fault}
+use Rattle.std.specs.Option.{option_or}
+use Rattle.oct_values.specs.Boxes.{box_volume}
+use Rattle.oct_map.specs.Answers.{edit_answer, edit_answer_at, edit_need, is_full, room_answer, scan_answer_by, box_answer, box_answer_by, box_fault, wide_fault, most_noted}
 use Rattle.oct_map.specs.Ground.{Ground}
 use Rattle.oct_map.specs.Outcome.{need_of, done_of, corner_need}
 use Rattle.oct_map.specs.declared.fault.MapFault.{MapFault}
@@ -18,7 +20,7 @@ use Rattle.oct_scan.specs.Outcome.{scan_fault, point_fault, cells_fault, first_e
 use Rattle.oct_scan.specs.declared.fault.ScanFault.{ScanFault}
 use Rattle.oct_scan.specs.declared.fault.ScanFault.TheVariants as scan_fault_of
 use Rattle.oct_script.specs.declared.reply.Refusal.TheVariants as refusal
-use Rattle.oct_values.specs.Boxes.{is_box}
+use Rattle.oct_key.specs.Boxes.{is_box}
 use Rattle.oct_values.specs.Counts.{group_count}
 use Rattle.oct_script.specs.declared.reply.Reply.{Reply}
 use Rattle.oct_script.specs.declared.reply.Reply.TheVariants as reply_of
@@ -48,6 +50,9 @@ reply_some (reply_of.Scanned done) = begins (scan_text done) (codes "\n")
 reply_some (reply_of.Counted counts) = begins (counts_text counts) (codes "\n")
     (begins (codes "groups " ++ decimal counts.groups) (codes " nodes " ++ decimal counts.nodes) (begins (codes "groups ") (decimal counts.groups) (omega arith)))
 reply_some (reply_of.Casted found) = begins (cast_text found) (codes "\n") (cast_some found)
+reply_some (reply_of.Saved bytes) = begins (codes "saved ") (decimal bytes ++ codes "\n") (omega arith)
+reply_some (reply_of.Loaded nodes) = begins (codes "loaded ") (decimal nodes ++ codes "\n") (omega arith)
+reply_some (reply_of.Restored groups) = begins (codes "restored groups ") (decimal groups ++ codes "\n") (omega arith)
 reply_some (reply_of.Refused r) = begins (codes "refused ") (refusal_text r ++ codes "\n") (omega arith)
 
 -- a reply has a text
@@ -67,16 +72,23 @@ edit_some_at most values (Some k) = room_some most values edit_need
 pub edit_some : (g : Ground) (values : Values) (p : Point) → IsSome (edit_reply (edit_answer g values p))
 edit_some g values p = edit_some_at g.max_groups values (key_at g.res p)
 
-corners_some : (a b : Option Voxel) (room : Result ⊤ MapFault) → IsSome (edit_reply room) → IsSome (edit_reply (box_answer_by (corner_fault a b) room))
-corners_some None b room some = refl
-corners_some (Some low) None room some = refl
-corners_some (Some low) (Some high) room some =
-    elim (is_box low high) as (λ t. IsSome (edit_reply (box_answer_by (cond {A = Option MapFault} t None (Some map_fault.BadBox)) room))) [ true ↦ some | false ↦ refl ]
+wide_some : (t : Bool) (count : ℕ) (room : Result ⊤ MapFault) → IsSome (edit_reply room) → IsSome (edit_reply (box_answer_by (cond {A = Option MapFault} t (Some (map_fault.WideWhileTracked count)) None) room))
+wide_some true count room some = refl
+wide_some false count room some = some
+
+corners_some : (marked : Bool) (a b : Option Voxel) (room : Result ⊤ MapFault) → IsSome (edit_reply room) → IsSome (edit_reply (box_answer_by (box_fault marked a b) room))
+corners_some marked None b room some = refl
+corners_some marked (Some low) None room some = refl
+corners_some marked (Some low) (Some high) room some =
+    elim (is_box low high) as (λ t. IsSome (edit_reply (box_answer_by (option_or (cond {A = Option MapFault} t None (Some map_fault.BadBox)) (wide_fault marked (Some low) (Some high))) room))) [
+      | true ↦ wide_some (marked && nat_lt most_noted (box_volume low high)) (box_volume low high) room some
+      | false ↦ refl
+    ]
 
 -- an edit of a box has a reply
-pub box_some : (g : Ground) (values : Values) (low high : Point) → IsSome (edit_reply (box_answer g values low high))
-box_some g values low high =
-    corners_some (key_at g.res low) (key_at g.res high) _ (room_some g.max_groups values (corner_need (key_at g.res low) (key_at g.res high)))
+pub box_some : (g : Ground) (marked : Bool) (values : Values) (low high : Point) → IsSome (edit_reply (box_answer g marked values low high))
+box_some g marked values low high =
+    corners_some marked (key_at g.res low) (key_at g.res high) _ (room_some g.max_groups values (corner_need (key_at g.res low) (key_at g.res high)))
 
 point_known : (edge : ℕ) (s : Sighting) (outside excess : Option ℕ) → point_fault outside (cells_fault edge s excess) ≢ Some scan_fault_of.Memory
 point_known edge s None None = λ is. cc

@@ -1,6 +1,7 @@
 -- What a command or a scan answers, and what the map then stands for.
-use Rattle.std.proofs.Common.{◌≡◌, ℕ, [], ◌||◌, ◌&&◌, nat_lt, Bool, true, false, cond, IsTrue, IsSome, Option, Some, None, Result, Ok, Err, IfOk, OnErr, inl, inr, refl, sym, ap, subst, ◌∙◌}
+use Rattle.std.proofs.Common.{◌≡◌, ℕ, [], ◌||◌, ◌&&◌, nat_lt, Bool, true, false, cond, IsTrue, IsSome, Option, Some, None, Result, Ok, Err, IfOk, OnErr, inl, inr, refl, sym, ap, subst, ◌∙◌, is_some}
 use Rattle.std.proofs.Math.Bool.{or-false}
+use Rattle.oct_io.specs.Files.{Files}
 use Rattle.oct_key.specs.declared.point.Point.{Point}
 use Rattle.oct_odds.specs.declared.event.Event.{Event}
 use Rattle.oct_odds.specs.declared.event.Event.TheVariants as event
@@ -43,7 +44,7 @@ use Rattle.oct_session.specs.Standing.{HasAnswered, HasObeyed, HasScanned}
 use Rattle.oct_session.specs.declared.block.Block.TheVariants.{Scanning}
 use Rattle.oct_session.proofs.Answering.{same_edit, same_get, same_cast, same_scan, same_box}
 use Rattle.oct_session.proofs.NonemptyReplies.{edit_some, block_some, box_some}
-use Rattle.oct_session.proofs.MapHistory.{stands_same, stands_edited, stands_scanned, stands_refreshed, stands_pruned, stands_cleared, stands_likened, stands_boxed}
+use Rattle.oct_session.proofs.MapHistory.{Keeps, stands_same, stands_edited, stands_scanned, stands_refreshed, stands_pruned, stands_cleared, stands_likened, stands_boxed}
 
 -- a command that does nothing that later replies may depend on
 accepted_none : (r : Option Reply) (actions : History) → actions ≡ [] → accepted r actions ≡ []
@@ -51,11 +52,11 @@ accepted_none r actions none = elim (is_refusal r) as (λ b. cond b [] actions �
 
 -- a command was answered, and done on a map that stood for some history
 abbrev Obeys : Map → Map → Result Command Refusal → Option Reply → Type 0
-Obeys m n c r = HasAnswered (λ s. reply s c) (action_of c) m n r
+Obeys m n c r = (files : Option Files) → HasAnswered (λ s. reply files s c) (λ s. action_of files s c) m n r
 
 -- a scan whose points were all read was
 abbrev Scans : Map → Map → ScanSoFar → Option Reply → Type 0
-Scans m n scan r = HasAnswered (λ s. block_reply s (Scanning scan)) (block_action (Scanning scan)) m n r
+Scans m n scan r = HasAnswered (λ s. block_reply s (Scanning scan)) (λ s. block_action (Scanning scan)) m n r
 
 -- nothing that is accepted leaves the state
 stands_kept : (m : Map) (s : State) (more : History) → more ≡ [] → StandsFor m s → StandsFor m (after_all s more)
@@ -80,6 +81,9 @@ refuses (fault.Full groups need) r some is = ap is_refusal is
 refuses fault.OriginOutside r some is = ap is_refusal is
 refuses (fault.PointOutside index) r some is = ap is_refusal is
 refuses (fault.TooManyCells index cells) r some is = ap is_refusal is
+refuses (fault.OtherResolution file session) r some is = ap is_refusal is
+refuses (fault.WideWhileTracked count) r some is = ap is_refusal is
+refuses fault.NotTracked r some is = ap is_refusal is
 refuses fault.Memory r some is = let none : IsSome (fault_reply fault.Memory) = subst IsSome is some in cc
 
 -- a reply to a fault of memory there is none
@@ -90,48 +94,48 @@ no_reply f r some is none = let absent : IsSome (fault_reply fault.Memory) = sub
 pub edit_done : (m n : Map) (p : Point) (e : Edit) (lazy : Bool) (event : Event) → event ≡ edit_event m.tree.odds e →
     IsAnswerOrMemory (edit_answer (ground_of m) (values_of m) p) (Ok tt) →
     SameValues (updated m.tree.odds (event_at (key_at m.tree.res p) event) (values_of m)) (values_of n) → n.is_stale ≡ (m.is_stale || lazy) →
-    ((IsTrue lazy → ⊥) → IsPruned m.tree → IsPruned n.tree) → ground_of n ≡ ground_of m → Obeys m n (Ok (command.Edit p e lazy)) (Some reply_of.Ok)
-edit_done m n p e lazy event is (inl answer) values stale pruned setup = λ q at.
+    ((IsTrue lazy → ⊥) → IsPruned m.tree → IsPruned n.tree) → Keeps m n → Obeys m n (Ok (command.Edit p e lazy)) (Some reply_of.Ok)
+edit_done m n p e lazy event is (inl answer) values stale pruned setup = λ files q at.
     (ap edit_reply (answer ∙ same_edit m q p at), stands_edited m n q p e lazy event is values stale pruned setup at)
 edit_done m n p e lazy event is (inr memory) values stale pruned setup = cc
 
 -- an edit that the map refused
 pub edit_refused : {E : Type 0} (r : Result (Option Reply) E) (m n : Map) (p : Point) (e : Edit) (lazy : Bool) (f : MapFault) →
     IfOk r (λ a. a ≡ fault_reply f) → IfOk r IsSome → IsAnswerOrMemory (edit_answer (ground_of m) (values_of m) p) (Err f) →
-    SameValues (values_of m) (values_of n) → n.is_stale ≡ m.is_stale → (IsPruned m.tree → IsPruned n.tree) → ground_of n ≡ ground_of m → HasObeyed m n (Ok (command.Edit p e lazy)) r
-edit_refused (Ok a) m n p e lazy f is some (inl answer) values stale pruned setup = λ q at. (
+    SameValues (values_of m) (values_of n) → n.is_stale ≡ m.is_stale → (IsPruned m.tree → IsPruned n.tree) → Keeps m n → HasObeyed m n (Ok (command.Edit p e lazy)) r
+edit_refused (Ok a) m n p e lazy f is some (inl answer) values stale pruned setup = λ files q at. (
   is ∙ ap edit_reply (answer ∙ same_edit m q p at),
-  stands_kept n q (accepted a (action_of (Ok (command.Edit p e lazy)))) (ap (λ b. cond b [] (action_of (Ok (command.Edit p e lazy)))) (refuses f a some is))
+  stands_kept n q (accepted a (action_of files q (Ok (command.Edit p e lazy)))) (ap (λ b. cond b [] (action_of files q (Ok (command.Edit p e lazy)))) (refuses f a some is))
       (stands_same m n q values stale pruned setup at),
 )
 edit_refused (Ok a) m n p e lazy f is some (inr memory) values stale pruned setup = absurd (no_reply f a some is cc)
-edit_refused (Err x) m n p e lazy f is some answer values stale pruned setup = λ q at. (edit_some q.base q.values p, stands_same m n q values stale pruned setup at)
+edit_refused (Err x) m n p e lazy f is some answer values stale pruned setup = λ files q at. (edit_some q.base q.values p, stands_same m n q values stale pruned setup at)
 
 -- an edit of a box that the map did
 pub box_done : (m n : Map) (low high : Point) (e : Edit) (event : Event) → event ≡ edit_event m.tree.odds e →
-    IsAnswerOrMemory (box_answer (ground_of m) (values_of m) low high) (Ok tt) →
+    IsAnswerOrMemory (box_answer (ground_of m) (is_some m.mark) (values_of m) low high) (Ok tt) →
     SameValues (updated m.tree.odds (corner_events (key_at m.tree.res low) (key_at m.tree.res high) event) (values_of m)) (values_of n) → n.is_stale ≡ (m.is_stale || false) →
-    (IsPruned m.tree → IsPruned n.tree) → ground_of n ≡ ground_of m → Obeys m n (Ok (command.Box low high e)) (Some reply_of.Ok)
-box_done m n low high e event is (inl answer) values stale pruned setup = λ q at.
+    (IsPruned m.tree → IsPruned n.tree) → Keeps m n → Obeys m n (Ok (command.Box low high e)) (Some reply_of.Ok)
+box_done m n low high e event is (inl answer) values stale pruned setup = λ files q at.
     (ap edit_reply (answer ∙ same_box m q low high at), stands_boxed m n q low high e event is values (stale ∙ or-false m.is_stale) pruned setup at)
 box_done m n low high e event is (inr memory) values stale pruned setup = cc
 
 -- an edit of a box that the map refused
 pub box_refused : {E : Type 0} (r : Result (Option Reply) E) (m n : Map) (low high : Point) (e : Edit) (f : MapFault) →
-    IfOk r (λ a. a ≡ fault_reply f) → IfOk r IsSome → IsAnswerOrMemory (box_answer (ground_of m) (values_of m) low high) (Err f) →
-    SameValues (values_of m) (values_of n) → n.is_stale ≡ m.is_stale → (IsPruned m.tree → IsPruned n.tree) → ground_of n ≡ ground_of m → HasObeyed m n (Ok (command.Box low high e)) r
-box_refused (Ok a) m n low high e f is some (inl answer) values stale pruned setup = λ q at. (
+    IfOk r (λ a. a ≡ fault_reply f) → IfOk r IsSome → IsAnswerOrMemory (box_answer (ground_of m) (is_some m.mark) (values_of m) low high) (Err f) →
+    SameValues (values_of m) (values_of n) → n.is_stale ≡ m.is_stale → (IsPruned m.tree → IsPruned n.tree) → Keeps m n → HasObeyed m n (Ok (command.Box low high e)) r
+box_refused (Ok a) m n low high e f is some (inl answer) values stale pruned setup = λ files q at. (
   is ∙ ap edit_reply (answer ∙ same_box m q low high at),
-  stands_kept n q (accepted a (action_of (Ok (command.Box low high e)))) (ap (λ b. cond b [] (action_of (Ok (command.Box low high e)))) (refuses f a some is))
+  stands_kept n q (accepted a (action_of files q (Ok (command.Box low high e)))) (ap (λ b. cond b [] (action_of files q (Ok (command.Box low high e)))) (refuses f a some is))
       (stands_same m n q values stale pruned setup at),
 )
 box_refused (Ok a) m n low high e f is some (inr memory) values stale pruned setup = absurd (no_reply f a some is cc)
-box_refused (Err x) m n low high e f is some answer values stale pruned setup = λ q at. (box_some q.base q.values low high, stands_same m n q values stale pruned setup at)
+box_refused (Err x) m n low high e f is some answer values stale pruned setup = λ files q at. (box_some q.base (is_some q.marked) q.values low high, stands_same m n q values stale pruned setup at)
 
 -- a query that the map answered
 pub query_done : (m : Map) (p : Point) (depth : ℕ) (value : Value) (shown : Reply) → shown ≡ value_reply m.tree.odds value →
     ◌≡◌ {A = Result Value MapFault} (Ok value) (get_answer (ground_of m) m.is_stale (values_of m) p depth) → Obeys m m (Ok (command.Get p depth)) (Some shown)
-query_done m p depth value shown is answer = λ q at. (
+query_done m p depth value shown is answer = λ files q at. (
   ap Some is ∙ ap (λ (g : Ground). Some (value_reply g.odds value)) at.base ∙ ap (get_reply q.base.odds) (answer ∙ same_get m q p depth at),
   stands_kept m q (accepted (Some shown) []) (accepted_none (Some shown) [] refl) at,
 )
@@ -152,7 +156,7 @@ get_calm stale values depth (Some k) is = block_calm stale values depth k is
 -- a query that the map refused
 pub query_refused : {E : Type 0} (r : Result (Option Reply) E) (m : Map) (p : Point) (depth : ℕ) (f : MapFault) → IfOk r (λ a. a ≡ fault_reply f) → OnErr r (f ≡ fault.Memory) →
     ◌≡◌ {A = Result Value MapFault} (Err f) (get_answer (ground_of m) m.is_stale (values_of m) p depth) → HasObeyed m m (Ok (command.Get p depth)) r
-query_refused (Ok a) m p depth f is memory answer = λ q at. (
+query_refused (Ok a) m p depth f is memory answer = λ files q at. (
   is ∙ ap (get_reply q.base.odds) (answer ∙ same_get m q p depth at),
   stands_kept m q (accepted a []) (accepted_none a [] refl) at,
 )
@@ -161,7 +165,7 @@ query_refused (Err x) m p depth f is memory answer = absurd (get_calm m.is_stale
 -- a cast that the map answered
 pub cast_done : (m : Map) (o e : Point) (ignore : Bool) (found : Cast) → ◌≡◌ {A = Result Cast MapFault} (Ok found) (cast_answer (ground_of m) (values_of m) o e ignore) →
     Obeys m m (Ok (command.Cast o e ignore)) (Some (reply_of.Casted found))
-cast_done m o e ignore found answer = λ q at. (
+cast_done m o e ignore found answer = λ files q at. (
   ap cast_reply (answer ∙ same_cast m q o e ignore at),
   stands_kept m q (accepted (Some (reply_of.Casted found)) []) (accepted_none (Some (reply_of.Casted found)) [] refl) at,
 )
@@ -175,7 +179,7 @@ cast_calm (Some k) (Some l) found is = cc
 -- a cast that the map refused
 pub cast_refused : {E : Type 0} (r : Result (Option Reply) E) (m : Map) (o e : Point) (ignore : Bool) (f : MapFault) → IfOk r (λ a. a ≡ fault_reply f) → OnErr r (f ≡ fault.Memory) →
     ◌≡◌ {A = Result Cast MapFault} (Err f) (cast_answer (ground_of m) (values_of m) o e ignore) → HasObeyed m m (Ok (command.Cast o e ignore)) r
-cast_refused (Ok a) m o e ignore f is memory answer = λ q at. (
+cast_refused (Ok a) m o e ignore f is memory answer = λ files q at. (
   is ∙ ap cast_reply (answer ∙ same_cast m q o e ignore at),
   stands_kept m q (accepted a []) (accepted_none a [] refl) at,
 )
@@ -184,8 +188,8 @@ cast_refused (Err x) m o e ignore f is memory answer =
 
 -- the counts of the map, which is pruned for them
 pub counts_done : (m n : Map) (counts : Counts) → counts.groups ≡ group_count (values_of m) → counts.nodes ≡ node_count (values_of m) →
-    SameValues (values_of m) (values_of n) → n.is_stale ≡ m.is_stale → IsPruned n.tree → ground_of n ≡ ground_of m → Obeys m n (Ok command.Counts) (Some (reply_of.Counted counts))
-counts_done m n counts groups nodes values stale pruned setup = λ q at.
+    SameValues (values_of m) (values_of n) → n.is_stale ≡ m.is_stale → IsPruned n.tree → Keeps m n → Obeys m n (Ok command.Counts) (Some (reply_of.Counted counts))
+counts_done m n counts groups nodes values stale pruned setup = λ files q at.
     let g : counts.groups ≡ group_count q.values = groups ∙ sym (same_group_count q.values (values_of m) at.values) in
     let k : counts.nodes ≡ node_count q.values = nodes ∙ sym (same_node_count q.values (values_of m) at.values) in (
       ap (λ x. Some (reply_of.Counted (record { groups = x; nodes = counts.nodes }))) g ∙ ap (λ x. Some (reply_of.Counted (record { groups = group_count q.values; nodes = x }))) k,
@@ -193,18 +197,18 @@ counts_done m n counts groups nodes values stale pruned setup = λ q at.
     )
 
 -- a refresh
-pub refresh_done : (m n : Map) → SameValues (values_of m) (values_of n) → n.is_stale ≡ false → (IsPruned m.tree → IsPruned n.tree) → ground_of n ≡ ground_of m →
+pub refresh_done : (m n : Map) → SameValues (values_of m) (values_of n) → n.is_stale ≡ false → (IsPruned m.tree → IsPruned n.tree) → Keeps m n →
     Obeys m n (Ok command.Refresh) (Some reply_of.Ok)
-refresh_done m n values fresh pruned setup = λ q at. (refl, stands_refreshed m n q values fresh pruned setup at)
+refresh_done m n values fresh pruned setup = λ files q at. (refl, stands_refreshed m n q values fresh pruned setup at)
 
 -- a clear
-pub clear_done : (m n : Map) → ((k : Voxel) → values_of n k ≡ None) → n.is_stale ≡ false → IsPruned n.tree → ground_of n ≡ ground_of m → Obeys m n (Ok command.Clear) (Some reply_of.Ok)
-clear_done m n unknown fresh pruned setup = λ q at. (refl, stands_cleared m n q unknown fresh pruned setup at)
+pub clear_done : (m n : Map) → ((k : Voxel) → values_of n k ≡ None) → n.is_stale ≡ false → IsPruned n.tree → ground_of n ≡ ground_of m → n.mark ≡ None → Obeys m n (Ok command.Clear) (Some reply_of.Ok)
+clear_done m n unknown fresh pruned setup none = λ files q at. (refl, stands_cleared m n q unknown fresh pruned setup none at)
 
 -- maximum likelihood
-pub likelihood_done : (m n : Map) → SameValues (updated m.tree.odds (λ k. Some event.Likely) (values_of m)) (values_of n) → n.is_stale ≡ false → IsPruned n.tree → ground_of n ≡ ground_of m →
+pub likelihood_done : (m n : Map) → SameValues (updated m.tree.odds (λ k. Some event.Likely) (values_of m)) (values_of n) → n.is_stale ≡ false → IsPruned n.tree → Keeps m n →
     Obeys m n (Ok command.MaxLikelihood) (Some reply_of.Ok)
-likelihood_done m n values fresh pruned setup = λ q at. (refl, stands_likened m n q values fresh pruned setup at)
+likelihood_done m n values fresh pruned setup = λ files q at. (refl, stands_likened m n q values fresh pruned setup at)
 
 -- the reply to a scan whose quaternion isn't 0
 scan_replied : (m : Map) (q : State) (scan : ScanSoFar) (s : Sighting) (r : Result ScanDone MapFault) → is_zero scan.head ≡ false → s ≡ sighting_so_far scan → StandsFor m q →
@@ -215,7 +219,7 @@ scan_replied m q scan s r turns saw at answer = rw turns (ap scan_reply (answer 
 pub scan_done : (m n : Map) (scan : ScanSoFar) (s : Sighting) (lazy : Bool) (done : ScanDone) → is_zero scan.head ≡ false → s ≡ sighting_so_far scan → lazy ≡ scan.head.lazy →
     IsAnswerOrMemory (scan_answer (ground_of m) (values_of m) s) (Ok done) →
     SameValues (updated m.tree.odds (outcome_in m s) (values_of m)) (values_of n) → n.is_stale ≡ (m.is_stale || lazy) →
-    ((IsTrue lazy → ⊥) → IsPruned m.tree → IsPruned n.tree) → ground_of n ≡ ground_of m → Scans m n scan (Some (reply_of.Scanned (record { hits = done.hits; frees = done.frees })))
+    ((IsTrue lazy → ⊥) → IsPruned m.tree → IsPruned n.tree) → Keeps m n → Scans m n scan (Some (reply_of.Scanned (record { hits = done.hits; frees = done.frees })))
 scan_done m n scan s lazy done turns saw late (inl answer) values stale pruned setup = λ q at. (
   scan_replied m q scan s (Ok done) turns saw at answer,
   subst (λ x. StandsFor n (after q (Scanned x scan.head.lazy))) saw
@@ -226,7 +230,7 @@ scan_done m n scan s lazy done turns saw late (inr memory) values stale pruned s
 -- a scan that the map refused
 pub scan_refused : {E : Type 0} (r : Result (Option Reply) E) (m n : Map) (scan : ScanSoFar) (s : Sighting) (f : MapFault) → is_zero scan.head ≡ false → s ≡ sighting_so_far scan →
     IfOk r (λ a. a ≡ fault_reply f) → IfOk r IsSome → IsAnswerOrMemory (scan_answer (ground_of m) (values_of m) s) (Err f) →
-    SameValues (values_of m) (values_of n) → n.is_stale ≡ m.is_stale → (IsPruned m.tree → IsPruned n.tree) → ground_of n ≡ ground_of m → HasScanned m n (Scanning scan) r
+    SameValues (values_of m) (values_of n) → n.is_stale ≡ m.is_stale → (IsPruned m.tree → IsPruned n.tree) → Keeps m n → HasScanned m n (Scanning scan) r
 scan_refused (Ok a) m n scan s f turns saw is some (inl answer) values stale pruned setup = λ q at. (
   is ∙ scan_replied m q scan s (Err f) turns saw at answer,
   stands_kept n q (accepted a (block_action (Scanning scan))) (ap (λ b. cond b [] (block_action (Scanning scan))) (refuses f a some is))

@@ -1,5 +1,6 @@
 -- The command of a line, and the reply to it outside the block of a scan.
-use Rattle.std.specs.Prelude.{ℕ, [], ◌∷◌, ⊤, Option, Some, None, option_map, Result, Ok, Err, Bool, true, false, if◌then◌else◌}
+use Rattle.std.specs.Prelude.{ℕ, List, [], ◌∷◌, ⊤, Option, Some, None, option_map, is_some, Result, Ok, Err, Bool, true, false, if◌then◌else◌}
+use Rattle.oct_io.specs.Files.{Files, saved}
 use Rattle.oct_key.specs.Values.{Values}
 use Rattle.oct_odds.specs.Odds.{Odds}
 use Rattle.oct_odds.specs.Update.{Value, class_of}
@@ -10,6 +11,7 @@ use Rattle.oct_map.specs.Casts.{cast_answer}
 use Rattle.oct_map.specs.declared.fault.MapFault.{MapFault}
 use Rattle.oct_map.specs.declared.fault.MapFault.TheVariants as fault
 use Rattle.oct_script.specs.declared.command.Command.{Command}
+use Rattle.oct_script.specs.declared.command.Command.TheVariants as command
 use Rattle.oct_script.specs.declared.command.Command.TheVariants.{Blank, Edit, Get, Cast, Counts, Refresh, Prune, Clear, Quit, MaxLikelihood, Scan, Beam, End, NotYet, Box}
 use Rattle.oct_script.specs.declared.command.Syntax.{Syntax}
 use Rattle.oct_script.specs.declared.reply.Refusal.{Refusal}
@@ -50,6 +52,9 @@ refusal_of (fault.Full groups need) = Some (refusal.Full groups need)
 refusal_of fault.OriginOutside = Some refusal.OriginOutside
 refusal_of (fault.PointOutside index) = Some (refusal.PointOutside index)
 refusal_of (fault.TooManyCells index cells) = Some (refusal.TooManyCells index cells)
+refusal_of (fault.OtherResolution file session) = Some (refusal.OtherResolution file session)
+refusal_of (fault.WideWhileTracked count) = Some (refusal.WideWhileTracked count)
+refusal_of fault.NotTracked = Some refusal.NotTracked
 refusal_of fault.Memory = None
 
 -- the reply to a call that the map refuses
@@ -80,41 +85,71 @@ cast_reply (Err fault) = fault_reply fault
 abbrev pub counts_reply : Values → Reply
 counts_reply values = Counted (record { groups = group_count values; nodes = node_count values })
 
--- the reply to a line's command in a state, outside the block of a scan, by the map's answers in
--- that state; a blank line has none, and neither has `quit`, nor a line of a scan, whose block has
--- one reply in all
-abbrev pub reply : State → Result Command Refusal → Option Reply
-reply s (Err refusal) = Some (Refused refusal)
-reply s (Ok NotYet) = Some (Refused refusal.NotYet)
-reply s (Ok Blank) = None
-reply s (Ok Quit) = None
-reply s (Ok (Scan head)) = None
-reply s (Ok (Beam p)) = None
-reply s (Ok End) = None
-reply s (Ok (Edit p edit lazy)) = edit_reply (edit_answer s.base s.values p)
-reply s (Ok (Box low high edit)) = edit_reply (box_answer s.base s.values low high)
-reply s (Ok (Get p depth)) =
+-- the reply to a line's command over these files and in a state, outside the block of a scan, by the
+-- map's answers in that state; a blank line has none, and neither has `quit`, nor a line of a scan,
+-- whose block has one reply in all
+abbrev pub reply : Option Files → State → Result Command Refusal → Option Reply
+reply files s (Err refusal) = Some (Refused refusal)
+reply files s (Ok NotYet) = Some (Refused refusal.NotYet)
+reply files s (Ok (command.Save name)) = Some (Refused refusal.NotYet)
+reply files s (Ok (command.Load name)) = Some (Refused refusal.NotYet)
+reply files s (Ok (command.Snapshot name)) = Some (Refused refusal.NotYet)
+reply files s (Ok (command.Restore name)) = Some (Refused refusal.NotYet)
+reply files s (Ok command.Track) = Some (Refused refusal.NotYet)
+reply files s (Ok command.Untrack) = Some (Refused refusal.NotYet)
+reply files s (Ok command.Changes) = Some (Refused refusal.NotYet)
+reply files s (Ok command.NoLimit) = Some (Refused refusal.NotYet)
+reply files s (Ok Blank) = None
+reply files s (Ok Quit) = None
+reply files s (Ok (Scan head)) = None
+reply files s (Ok (Beam p)) = None
+reply files s (Ok End) = None
+reply files s (Ok (Edit p edit lazy)) = edit_reply (edit_answer s.base s.values p)
+reply files s (Ok (Box low high edit)) = edit_reply (box_answer s.base (is_some s.marked) s.values low high)
+reply files s (Ok (Get p depth)) =
     get_reply s.base.odds (get_answer s.base s.is_stale s.values p depth)
-reply s (Ok (Cast origin end ignore)) =
+reply files s (Ok (Cast origin end ignore)) =
     cast_reply (cast_answer s.base s.values origin end ignore)
-reply s (Ok Counts) = Some (counts_reply s.values)
-reply s (Ok Refresh) = Some Ok
-reply s (Ok Prune) = Some Ok
-reply s (Ok Clear) = Some Ok
-reply s (Ok MaxLikelihood) = Some Ok
+reply files s (Ok Counts) = Some (counts_reply s.values)
+reply files s (Ok Refresh) = Some Ok
+reply files s (Ok Prune) = Some Ok
+reply files s (Ok Clear) = Some Ok
+reply files s (Ok MaxLikelihood) = Some Ok
 
 -- what a command does, if it does anything that later replies or the map may depend on; to count is
 -- to prune first
-abbrev pub action_of : Result Command Refusal → History
-action_of (Ok (Edit p edit lazy)) = Edited p edit lazy ∷ []
-action_of (Ok (Box low high edit)) = Boxed low high edit ∷ []
-action_of (Ok Refresh) = Refreshed ∷ []
-action_of (Ok Counts) = Pruned ∷ []
-action_of (Ok Prune) = Pruned ∷ []
-action_of (Ok Clear) = Cleared ∷ []
-action_of (Ok MaxLikelihood) = Likened ∷ []
-action_of _ = []
+abbrev pub action_of : Option Files → State → Result Command Refusal → History
+action_of files s (Ok (Edit p edit lazy)) = Edited p edit lazy ∷ []
+action_of files s (Ok (Box low high edit)) = Boxed low high edit ∷ []
+action_of files s (Ok Refresh) = Refreshed ∷ []
+action_of files s (Ok Counts) = Pruned ∷ []
+action_of files s (Ok Prune) = Pruned ∷ []
+action_of files s (Ok Clear) = Cleared ∷ []
+action_of files s (Ok MaxLikelihood) = Likened ∷ []
+action_of files s _ = []
 
 -- what is done where the reply isn't a refusal
 abbrev pub accepted : Option Reply → History → History
 accepted answer actions = if is_refusal answer then [] else actions
+
+-- the bytes that are put under a name
+pub record Saving : Type 0 where
+  pub name : List ℕ
+  pub bytes : List ℕ
+
+-- what a command saves, if it saves anything
+abbrev pub saving_of : State → Result Command Refusal → Option Saving
+saving_of s _ = None
+
+-- the file that a command names, if it names one; of any other command the files hear nothing
+abbrev pub file_named : Result Command Refusal → Option (List ℕ)
+file_named _ = None
+
+-- what is saved where the reply isn't a refusal
+abbrev pub accepted_saving : Option Reply → Option Saving → Option Saving
+accepted_saving answer saving = if is_refusal answer then None else saving
+
+-- the files, where they are told, after something was saved, or nothing
+abbrev pub stored : Option Files → Option Saving → Option Files
+stored files None = files
+stored files (Some saving) = saved files saving.name saving.bytes

@@ -7,14 +7,14 @@ use Rattle.oct_session.specs.declared.service.TheConstants.{MOST_READ}
 use Rattle.oct_session.specs.Session.{Answer, progress, session}
 use Rattle.oct_session.specs.Setup.{Setup}
 use Rattle.oct_session.specs.declared.options.Status.{Status}
-use Rattle.oct_session.specs.declared.options.Status.TheVariants.{Done, Refused, Usage, BadFile, TooLong, ReadFault, WriteFault, Memory}
+use Rattle.oct_session.specs.declared.options.Status.TheVariants.{Done, Refused, Usage, BadFile, TooLong, ReadFault, WriteFault, Memory, StoreFault}
 
 -- the replies to the lines that end within these bytes
-abbrev pub replies_within : Setup → Files → List ℕ → List ℕ
+abbrev pub replies_within : Setup → Option Files → List ℕ → List ℕ
 replies_within o files bytes = (progress o files (ended_lines bytes)).text
 
 -- whether a `quit` line ends within these bytes
-abbrev pub has_quit_within : Setup → Files → List ℕ → Bool
+abbrev pub has_quit_within : Setup → Option Files → List ℕ → Bool
 has_quit_within o files bytes = (progress o files (ended_lines bytes)).has_quit
 
 -- the whole answer was written, and its status is this one
@@ -35,20 +35,20 @@ pub record HasTaken (taken : ℕ) (bytes : List ℕ) (left : Option (List ℕ)) 
   pub rest : left ≡ Some (drop taken bytes)
 
 -- the replies to the lines that end within these bytes were written, and maybe more after them
-pub record HasReplied (o : Setup) (files : Files) (bytes : List ℕ)
+pub record HasReplied (o : Setup) (files : Option Files) (bytes : List ℕ)
     (old new : Option (List ℕ)) : Type 0 where
   pub more : List ℕ
   pub written : new ≡ appended old (replies_within o files bytes ++ more)
 
 -- a `quit` line ended within the bytes taken, of which `max_bytes` count, and none had ended within
 -- all but the last 16,384 of them, as many as one read asks for
-pub record HasQuitIn (o : Setup) (files : Files) (bytes : List ℕ) (taken : ℕ) : Type 0 where
+pub record HasQuitIn (o : Setup) (files : Option Files) (bytes : List ℕ) (taken : ℕ) : Type 0 where
   pub quits : has_quit_within o files (take o.max_bytes (take taken bytes)) ≡ true
   pub at_once : has_quit_within o files (take (taken - MOST_READ) bytes) ≡ false
 
 -- the script was read to its end: nothing is left of it, or a `quit` line ended in what was read
 -- last
-pub record IsReadToEnd (o : Setup) (files : Files) (bytes : List ℕ)
+pub record IsReadToEnd (o : Setup) (files : Option Files) (bytes : List ℕ)
     (left : Option (List ℕ)) : Type 0 where
   pub taken : ℕ
   pub few : taken ≤ o.max_bytes + 1
@@ -57,7 +57,7 @@ pub record IsReadToEnd (o : Setup) (files : Files) (bytes : List ℕ)
 
 -- the input failed within the limit and before a `quit` line had ended, and exactly the replies to
 -- the lines that end within the bytes taken were written
-pub record IsCutOff (o : Setup) (files : Files) (bytes : List ℕ)
+pub record IsCutOff (o : Setup) (files : Option Files) (bytes : List ℕ)
     (left old new : Option (List ℕ)) : Type 0 where
   pub taken : ℕ
   pub few : taken ≤ o.max_bytes
@@ -65,10 +65,10 @@ pub record IsCutOff (o : Setup) (files : Files) (bytes : List ℕ)
   pub no_quit : has_quit_within o files (take taken bytes) ≡ false
   pub written : new ≡ appended old (replies_within o files (take taken bytes))
 
--- writing failed or memory ran out: at most one byte more than the limit was taken, and the lines
+-- writing failed, a file couldn't be read or written, or memory ran out: at most one byte more than the limit was taken, and the lines
 -- that end within all but the last 16,384 of the bytes taken, as many as one read asks for, were
 -- answered
-pub record HasStopped (o : Setup) (files : Files) (bytes : List ℕ)
+pub record HasStopped (o : Setup) (files : Option Files) (bytes : List ℕ)
     (left old new : Option (List ℕ)) : Type 0 where
   pub taken : ℕ
   pub few : taken ≤ o.max_bytes + 1
@@ -77,7 +77,7 @@ pub record HasStopped (o : Setup) (files : Files) (bytes : List ℕ)
 
 -- how a session over these bytes may end, status by status: what is left of the input, and what was
 -- written
-abbrev pub MayEnd : Setup → Files → List ℕ → Option (List ℕ) → Option (List ℕ) → Option (List ℕ)
+abbrev pub MayEnd : Setup → Option Files → List ℕ → Option (List ℕ) → Option (List ℕ) → Option (List ℕ)
     → Status → Type 0
 MayEnd o files bytes left old new Done =
     IsAnswered (session o files bytes) old new Done × IsReadToEnd o files bytes left
@@ -93,6 +93,8 @@ MayEnd o files bytes left old new WriteFault =
     IsBegun (session o files bytes).text old new × HasStopped o files bytes left old new
 MayEnd o files bytes left old new Memory =
     IsBegun (session o files bytes).text old new × HasStopped o files bytes left old new
+MayEnd o files bytes left old new StoreFault =
+    IsBegun (session o files bytes).text old new × HasStopped o files bytes left old new
 
 -- a status that comes with the whole answer
 abbrev pub IsWhole : Status → Type 0
@@ -104,3 +106,4 @@ IsWhole TooLong = Unit {0}
 IsWhole ReadFault = ⊥
 IsWhole WriteFault = ⊥
 IsWhole Memory = ⊥
+IsWhole StoreFault = ⊥

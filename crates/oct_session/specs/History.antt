@@ -1,5 +1,5 @@
 -- The plain fold: what a session has after the commands that were accepted.
-use Rattle.std.specs.Prelude.{List, fold, Some, None, Bool, true, false, not, ◌||◌, ◌&&◌}
+use Rattle.std.specs.Prelude.{List, fold, Some, None, Bool, true, false, Option, not, ◌||◌, ◌&&◌}
 use Rattle.oct_key.specs.Voxel.{Voxel, key_at}
 use Rattle.oct_key.specs.Values.{Values}
 use Rattle.oct_key.specs.declared.point.Point.{Point}
@@ -10,6 +10,7 @@ use Rattle.oct_odds.specs.Update.{Value}
 use Rattle.oct_odds.specs.declared.event.Event.{Event}
 use Rattle.oct_odds.specs.declared.event.Event.TheVariants as event
 use Rattle.oct_scan.specs.Beam.{Sighting}
+use Rattle.oct_values.specs.Classes.{Classes}
 use Rattle.oct_values.specs.Events.{Events, event_at, after_event, updated}
 use Rattle.oct_script.specs.declared.command.Edit.{Edit}
 use Rattle.oct_script.specs.declared.command.Edit.TheVariants.{Hit, Miss, Add, Set, Forget}
@@ -50,6 +51,10 @@ command_event g Pruned = λ k. None
 command_event g Cleared = λ k. Some event.Forget
 command_event g Likened = λ k. Some event.Likely
 
+-- what the map's answers read after a command: no command changes it
+abbrev pub base_by : Ground → Action → Ground
+base_by g action = g
+
 -- whether inner values may be out of date after a command: from a lazy edit or scan on they may,
 -- and from a refresh, a clear or maximum likelihood on they are right
 abbrev pub is_stale_by : Bool → Action → Bool
@@ -72,24 +77,32 @@ is_pruned_by is_pruned Pruned = true
 is_pruned_by is_pruned Cleared = true
 is_pruned_by is_pruned Likened = true
 
+-- the classes at the mark after a command: a clear takes the mark away
+abbrev pub marked_by : Option Classes → Action → Option Classes
+marked_by marked Cleared = None
+marked_by marked _ = marked
+
 -- what a session has between two commands: what the map's answers read beside the values, the value
--- of each voxel, whether inner values may be out of date, and whether the map is pruned
+-- of each voxel, its class at the mark, where one stands, whether inner values may be out of date,
+-- and whether the map is pruned
 pub record State : Type 0 where
   pub base : Ground
   pub values : Values
+  pub marked : Option Classes
   pub is_stale : Bool
   pub is_pruned : Bool
 
 -- before the first command: each voxel is unknown
 abbrev pub start_state : Setup → State
 start_state o =
-    record { base = ground_in o; values = λ k. None; is_stale = false; is_pruned = true }
+    record { base = ground_in o; values = λ k. None; marked = None; is_stale = false; is_pruned = true }
 
 -- after a command: each voxel has the value after its own event
 abbrev pub after : State → Action → State
 after s action = record {
-  base = s.base;
-  values = updated s.base.odds (command_event s.base action) s.values;
+  base = base_by s.base action;
+  values = updated (base_by s.base action).odds (command_event s.base action) s.values;
+  marked = marked_by s.marked action;
   is_stale = is_stale_by s.is_stale action;
   is_pruned = is_pruned_by s.is_pruned action;
 }
@@ -106,9 +119,21 @@ state_after o history = after_all (start_state o) history
 abbrev pub value_after : Setup → History → Values
 value_after o history = (state_after o history).values
 
+-- one voxel alone: what the map's answers read beside the values, and its value
+pub record Alone : Type 0 where
+  pub base : Ground
+  pub value : Value
+
+-- one voxel alone after a command, by its own event
+abbrev pub alone_by : Voxel → Alone → Action → Alone
+alone_by k alone action = record {
+  base = base_by alone.base action;
+  value =
+      after_event (base_by alone.base action).odds (command_event alone.base action k) alone.value;
+}
+
 -- one voxel alone after a history: the fold of its own events, from unknown on; a law says that
 -- `value_after` has this value
 abbrev pub alone_after : Setup → History → Voxel → Value
 alone_after o history k =
-    fold (λ value action. after_event o.odds (command_event (ground_in o) action k) value) None
-    history
+    (fold (alone_by k) (record { base = ground_in o; value = None }) history).value

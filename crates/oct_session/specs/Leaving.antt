@@ -1,106 +1,158 @@
--- What a session leaves of the map that it was lent.
-use Rattle.std.specs.Prelude.{◌≡◌, ◌⊎◌, ℕ, ◌<◌, length, List, [], ◌∷◌, ◌++◌, take, true, false, Option, IsSome}
-use Rattle.oct_io.specs.Files.{Files}
+-- What a session leaves of the map and the files that it was lent.
+use Rattle.std.specs.Prelude.{◌≡◌, ◌⊎◌, ℕ, ◌<◌, length, List, [], ◌∷◌, ◌++◌, take, true, false, Option, Some, None, IsSome}
+use Rattle.oct_io.specs.Files.{Files, KeepsOthers}
 use Rattle.oct_io.specs.Told.{appended}
 use Rattle.oct_map.specs.Map.{Map, ground_of, values_of}
+use Rattle.oct_map.specs.Marks.{SameMark, marked_of}
 use Rattle.oct_script.specs.Lines.{Line, ended_lines}
 use Rattle.oct_key.specs.Values.{SameValues}
 use Rattle.oct_tree.specs.Shape.{IsPruned}
+use Rattle.oct_session.specs.Commands.{file_named}
 use Rattle.oct_session.specs.Ending.{HasTaken}
 use Rattle.oct_session.specs.History.{History, State, state_after}
-use Rattle.oct_session.specs.Session.{Progress, after_line, progress, closed, is_too_long, lines_of, last_progress}
+use Rattle.oct_session.specs.Session.{Progress, next_command, after_line, progress, closed, is_too_long, lines_of, last_progress}
 use Rattle.oct_session.specs.Setup.{Setup}
 use Rattle.oct_session.specs.declared.options.Status.{Status}
-use Rattle.oct_session.specs.declared.options.Status.TheVariants.{Done, Refused, Usage, BadFile, TooLong, ReadFault, WriteFault, Memory}
+use Rattle.oct_session.specs.declared.options.Status.TheVariants.{Done, Refused, Usage, BadFile, TooLong, ReadFault, WriteFault, Memory, StoreFault}
 
 -- the map stands for a state: each voxel has its value there, the map's answers read the same beside
--- the values, inner values may be out of date exactly where they may be there, and it is pruned
--- where it is there
+-- the values, it has the same mark, inner values may be out of date exactly where they may be there,
+-- and it is pruned where it is there
 pub record StandsFor (map : Map) (s : State) : Type 0 where
   pub values : SameValues s.values (values_of map)
   pub base : ground_of map ≡ s.base
+  pub marked : SameMark s.marked (marked_of map)
   pub is_stale : map.is_stale ≡ s.is_stale
   pub pruned : s.is_pruned ≡ true → IsPruned map.tree
-
--- the map stands for the state after these lines
-abbrev pub StandsAfter : Setup → Map → Progress → Type 0
-StandsAfter o map p = StandsFor map (state_after o p.history)
 
 -- the map stands for the state after some history
 abbrev pub StandsForSome : Setup → Map → Type 0
 StandsForSome o map = (history : History) × StandsFor map (state_after o history)
 
--- what a session leaves of the map that is halted on its way from one state to the next, by the
--- status: on a write fault the next state, of whose reply a part was told; where memory runs out the
--- next one too, or, where nothing was told, the one before
-abbrev pub HasLeft : Setup → Progress → Progress → List ℕ → Map → Status → Type 0
-HasLeft o p q told map Done = ⊥
-HasLeft o p q told map Refused = ⊥
-HasLeft o p q told map Usage = ⊥
-HasLeft o p q told map BadFile = ⊥
-HasLeft o p q told map TooLong = ⊥
-HasLeft o p q told map ReadFault = ⊥
-HasLeft o p q told map WriteFault = StandsAfter o map q
-HasLeft o p q told map Memory = StandsAfter o map q ⊎ ((told ≡ []) × StandsAfter o map p)
+-- what a session works on: a map, the files of a store, where it tells them, and that the store is
+-- as it was at first
+pub record Desk : Type 1 where
+  pub map : Map
+  pub files : Option Files
+  pub kept : Type 0
 
--- The session was halted on its way from one state to the next. What it was to write on the way was
--- not written whole, unless it is inside a block, whose lines have no reply.
-pub record IsHaltedBetween (o : Setup) (p q : Progress) (old new : Option (List ℕ))
-    (map : Map) (status : Status) : Type 0 where
+abbrev pub desk : Map → Option Files → Type 0 → Desk
+desk map files kept = record { map = map; files = files; kept = kept }
+
+-- the map stands for this state, and the files that are told are these
+pub record IsLike (files : Option Files) (s : State) (map : Map) (held : Option Files)
+    : Type 0 where
+  pub stands : StandsFor map s
+  pub told : held ≡ files
+
+-- the map stands for this state, and the files that are told are these, but for that of one name,
+-- which may be any
+pub record IsTorn (files : Option Files) (s : State) (name : List ℕ) (map : Map)
+    (held : Option Files) : Type 0 where
+  pub stands : StandsFor map s
+  pub others : KeepsOthers files held name
+
+-- the same, of the file that a line names, if it names one
+abbrev pub IsTornAt : Option (List ℕ) → Option Files → State → Map → Option Files → Type 0
+IsTornAt named files s map held =
+    (name : List ℕ) × (named ≡ Some name) × IsTorn files s name map held
+
+-- map and files are as they are after these lines
+abbrev pub IsLikeAfter : Setup → Progress → Desk → Type 0
+IsLikeAfter o p d = IsLike p.files (state_after o p.history) d.map d.files
+
+-- they are so but for the file that a line names, if it names one
+abbrev pub IsTornAfter : Setup → Option (List ℕ) → Progress → Desk → Type 0
+IsTornAfter o named p d = IsTornAt named p.files (state_after o p.history) d.map d.files
+
+-- what a session leaves that is halted on its way from one state to the next, by the status: on a
+-- write fault all is done; on a store fault nothing is, but for the one file that the line names;
+-- where memory runs out either may be, or nothing is done at all; where it isn't all done, nothing
+-- of the reply was told
+abbrev pub HasLeft : Setup → Option (List ℕ) → Progress → Progress → List ℕ → Desk → Status
+    → Type 0
+HasLeft o named p q told d Done = ⊥
+HasLeft o named p q told d Refused = ⊥
+HasLeft o named p q told d Usage = ⊥
+HasLeft o named p q told d BadFile = ⊥
+HasLeft o named p q told d TooLong = ⊥
+HasLeft o named p q told d ReadFault = ⊥
+HasLeft o named p q told d WriteFault = IsLikeAfter o q d
+HasLeft o named p q told d Memory =
+    IsLikeAfter o q d ⊎ ((told ≡ []) × (IsLikeAfter o p d ⊎ IsTornAfter o named p d))
+HasLeft o named p q told d StoreFault = (told ≡ []) × IsTornAfter o named p d
+
+-- What was to be written on the way from one state to the next was not written whole, unless the
+-- way ends inside a block, whose lines have no reply.
+pub record IsCutBetween (p q : Progress) (old new : Option (List ℕ)) : Type 0 where
   pub running : p.has_quit ≡ false
   pub told : List ℕ
   pub untold : List ℕ
   pub reply : q.text ≡ p.text ++ (told ++ untold)
   pub written : new ≡ appended old (p.text ++ told)
   pub more : (0 < length untold) ⊎ IsSome q.block
-  pub has_left : HasLeft o p q told map status
+
+-- the session was halted on its way from one state to the next, by a line that may name a file; the
+-- store is as it was at first where none did
+pub record IsHaltedBetween (o : Setup) (named : Option (List ℕ)) (p q : Progress)
+    (old new : Option (List ℕ)) (d : Desk) (status : Status) : Type 0 where
+  pub cut : IsCutBetween p q old new
+  pub has_left : HasLeft o named p q cut.told d status
+  pub kept : q.names_file ≡ false → d.kept
+
+-- the session was halted at this line
+abbrev pub IsHaltedBy : Setup → Progress → Line → Option (List ℕ) → Option (List ℕ) → Desk
+    → Status → Type 0
+IsHaltedBy o p line old new d status =
+    IsHaltedBetween o (file_named (next_command p line)) p (after_line o p line) old new d status
+
+-- what was answered so far is known: the files are told, or no line named one
+abbrev pub IsKnown : Progress → Type 0
+IsKnown p = IsSome p.files ⊎ (p.names_file ≡ false)
 
 -- the session was halted at one of these lines, and all lines before it were answered
-pub record IsHalted (o : Setup) (files : Files) (lines : List Line) (old new : Option (List ℕ))
-    (map : Map) (status : Status) : Type 0 where
+pub record IsHalted (o : Setup) (files : Option Files) (lines : List Line)
+    (old new : Option (List ℕ)) (d : Desk) (status : Status) : Type 0 where
   pub before : List Line
   pub line : Line
   pub behind : List Line
   pub split : lines ≡ before ++ line ∷ behind
-  pub at : IsHaltedBetween o (progress o files before)
-      (after_line o (progress o files before) line) old new map status
+  pub at : IsHaltedBy o (progress o files before) line old new d status
 
--- all these lines were answered, and the session was halted at the end of the script after them
-abbrev pub IsHaltedAtEnd : Setup → Files → List Line → Option (List ℕ) → Option (List ℕ) → Map
-    → Status → Type 0
-IsHaltedAtEnd o files lines old new map status =
-    IsHaltedBetween o (progress o files lines) (closed (progress o files lines)) old new map status
+-- all these lines were answered, and the session was halted at the end of the script after them,
+-- which names no file
+abbrev pub IsHaltedAtEnd : Setup → Option Files → List Line → Option (List ℕ)
+    → Option (List ℕ) → Desk → Status → Type 0
+IsHaltedAtEnd o files lines old new d status =
+    IsHaltedBetween o None (progress o files lines) (closed (progress o files lines)) old new d
+    status
 
 -- the session was halted at one of its lines, or at the end of its script, which has one where it
 -- isn't too long
-abbrev pub HasHalted : Setup → Files → List ℕ → Option (List ℕ) → Option (List ℕ) → Map → Status
-    → Type 0
-HasHalted o files bytes old new map status =
-    IsHalted o files (lines_of o bytes) old new map status
-    ⊎ ((is_too_long o bytes ≡ false)
-    × IsHaltedAtEnd o files (lines_of o bytes) old new map status)
+abbrev pub HasHalted : Setup → Option Files → List ℕ → Option (List ℕ) → Option (List ℕ) → Desk
+    → Status → Type 0
+HasHalted o files bytes old new d status =
+    IsHalted o files (lines_of o bytes) old new d status
+    ⊎ ((is_too_long o bytes ≡ false) × IsHaltedAtEnd o files (lines_of o bytes) old new d status)
 
--- the map stands for the lines that end within the bytes taken
-pub record StandsForTaken (o : Setup) (files : Files) (bytes : List ℕ) (left : Option (List ℕ))
-    (map : Map) : Type 0 where
+-- map and files are as they are after the lines that end within the bytes taken
+pub record IsLikeTaken (o : Setup) (files : Option Files) (bytes : List ℕ)
+    (left : Option (List ℕ)) (d : Desk) : Type 0 where
   pub taken : ℕ
   pub input : HasTaken taken bytes left
-  pub stands : StandsAfter o map (progress o files (ended_lines (take taken bytes)))
+  pub like : IsLikeAfter o (progress o files (ended_lines (take taken bytes))) d
 
--- what a session over these bytes leaves of the map, status by status: it stands for all lines that
--- were to be answered, for those that end within the bytes taken, or for those that were answered
--- and at most one more
-abbrev pub Leaves : Setup → Files → List ℕ → Option (List ℕ) → Option (List ℕ) → Option (List ℕ)
-    → Map → Status → Type 0
-Leaves o files bytes left old new map Done = StandsAfter o map (last_progress o files bytes)
-Leaves o files bytes left old new map Refused =
-    StandsAfter o map (last_progress o files bytes)
-Leaves o files bytes left old new map Usage = ⊥
-Leaves o files bytes left old new map BadFile = ⊥
-Leaves o files bytes left old new map TooLong =
-    StandsAfter o map (last_progress o files bytes)
-Leaves o files bytes left old new map ReadFault = StandsForTaken o files bytes left map
-Leaves o files bytes left old new map WriteFault =
-    HasHalted o files bytes old new map WriteFault
-Leaves o files bytes left old new map Memory =
-    HasHalted o files bytes old new map Memory
+-- what a session over these bytes and files leaves, status by status: map and files are as after all
+-- lines that were to be answered, as after those that end within the bytes taken, or as after those
+-- that were answered and at most one more, but for the one file that a store fault leaves open
+abbrev pub Leaves : Setup → Option Files → List ℕ → Option (List ℕ) → Option (List ℕ)
+    → Option (List ℕ) → Desk → Status → Type 0
+Leaves o files bytes left old new d Done = IsLikeAfter o (last_progress o files bytes) d
+Leaves o files bytes left old new d Refused = IsLikeAfter o (last_progress o files bytes) d
+Leaves o files bytes left old new d Usage = ⊥
+Leaves o files bytes left old new d BadFile = ⊥
+Leaves o files bytes left old new d TooLong = IsLikeAfter o (last_progress o files bytes) d
+Leaves o files bytes left old new d ReadFault = IsLikeTaken o files bytes left d
+Leaves o files bytes left old new d WriteFault = HasHalted o files bytes old new d WriteFault
+Leaves o files bytes left old new d Memory = HasHalted o files bytes old new d Memory
+Leaves o files bytes left old new d StoreFault = HasHalted o files bytes old new d StoreFault

@@ -1,5 +1,5 @@
 -- What has been read of a scan.
-use Rattle.std.specs.Prelude.{ℕ, List, [], All}
+use Rattle.std.specs.Prelude.{ℕ, List, [], All, None}
 use Rattle.oct_key.specs.declared.point.Point.{Point}
 use Rattle.oct_pose.specs.Reach.{IsInReach}
 use Rattle.oct_scan.specs.Beam.{Sighting}
@@ -33,4 +33,5 @@ sighting_so_far scan = record {
   z = scan.head.z;
   points = scan.points;
   range = scan.head.range;
+  odds = None;
 }

@@ -1,12 +1,12 @@
 -- A session: the replies to a script.
-use Rattle.std.specs.Prelude.{ℕ, ◌+◌, List, [], ◌++◌, length, take, fold, nat_lt, Option, Some, None, is_some, Result, if◌then◌else◌, Bool, false, ◌||◌}
+use Rattle.std.specs.Prelude.{◌≡◌, ◌⊎◌, IsSome, ℕ, ◌+◌, List, [], ◌++◌, length, take, fold, nat_lt, Option, Some, None, is_some, Result, if◌then◌else◌, Bool, false, ◌||◌}
 use Rattle.oct_io.specs.Files.{Files}
 use Rattle.oct_script.specs.declared.command.Command.{Command}
 use Rattle.oct_script.specs.declared.reply.Refusal.{Refusal}
 use Rattle.oct_script.specs.declared.reply.Reply.{Reply}
 use Rattle.oct_script.specs.Lines.{Line, ended_lines, all_lines}
 use Rattle.oct_script.specs.Replies.{text_of, is_refusal}
-use Rattle.oct_session.specs.Commands.{command_on, is_quit, reply, action_of, accepted}
+use Rattle.oct_session.specs.Commands.{command_on, is_quit, reply, action_of, accepted, Saving, saving_of, file_named, accepted_saving, stored}
 use Rattle.oct_session.specs.History.{History, State, state_after}
 use Rattle.oct_session.specs.ScanBlock.{opened, with_line, is_end, block_reply, block_action, end_reply}
 use Rattle.oct_session.specs.Setup.{Setup}
@@ -14,42 +14,58 @@ use Rattle.oct_session.specs.declared.block.Block.{Block}
 use Rattle.oct_session.specs.declared.options.Status.{Status}
 use Rattle.oct_session.specs.declared.options.Status.TheVariants as status
 
--- what a line does: its reply, what it adds to the history, and the block that is open after it
+-- what a line does: its reply, what it adds to the history, what it saves, and the block that is open
+-- after it
 pub record Effect : Type 0 where
   pub reply : Option Reply
   pub added : History
+  pub saving : Option Saving
   pub block : Option Block
 
--- what a reply and actions come to, where the actions are done unless the reply is a refusal
-abbrev pub replied : Option Reply → History → Effect
-replied answer actions = record { reply = answer; added = accepted answer actions; block = None }
+-- what a reply, actions and a saving come to, where these are done unless the reply is a refusal
+abbrev pub replied : Option Reply → History → Option Saving → Effect
+replied answer actions saving = record {
+  reply = answer;
+  added = accepted answer actions;
+  saving = accepted_saving answer saving;
+  block = None;
+}
 
 -- a line inside a block or before one has no reply of its own
 abbrev pub silent : Block → Effect
-silent block = record { reply = None; added = []; block = Some block }
+silent block = record { reply = None; added = []; saving = None; block = Some block }
+
+-- what a line's command does outside a block, over these files and in a state
+abbrev pub effect_of_command : Option Files → State → Result Command Refusal → Effect
+effect_of_command files s command =
+    replied (reply files s command) (action_of files s command) (saving_of s command)
 
 -- what a line does outside a block, by the block that it opens
-abbrev pub effect_opened : State → Result Command Refusal → Option Block → Effect
-effect_opened s command None = replied (reply s command) (action_of command)
-effect_opened s command (Some block) = silent block
+abbrev pub effect_opened : Option Files → State → Result Command Refusal → Option Block → Effect
+effect_opened files s command None = effect_of_command files s command
+effect_opened files s command (Some block) = silent block
 
 -- what a line does inside a block, by whether it closes it
 abbrev pub effect_inside : State → ℕ → Result Command Refusal → Block → Effect
 effect_inside s number command block =
     if is_end command
-    then replied (block_reply s block) (block_action block)
+    then replied (block_reply s block) (block_action block) None
     else silent (with_line number command block)
 
--- what the line of this number does in a state, where a block is open or none
-abbrev pub effect : State → ℕ → Line → Result Command Refusal → Option Block → Effect
-effect s number line command None = effect_opened s command (opened number line command)
-effect s number line command (Some block) = effect_inside s number command block
+-- what the line of this number does over these files and in a state, where a block is open or none
+abbrev pub effect : Option Files → State → ℕ → Line → Result Command Refusal → Option Block
+    → Effect
+effect files s number line command None =
+    effect_opened files s command (opened number line command)
+effect files s number line command (Some block) = effect_inside s number command block
 
--- between two lines: the history, the files, how many lines there were, the block that is open,
--- whether a reply was a refusal and a line was `quit`, and the replies
+-- between two lines: the history, the files, where they are told, whether a line named one, how many
+-- lines there were, the block that is open, whether a reply was a refusal and a line was `quit`, and
+-- the replies
 pub record Progress : Type 0 where
   pub history : History
-  pub files : Files
+  pub files : Option Files
+  pub names_file : Bool
   pub line_count : ℕ
   pub block : Option Block
   pub refused : Bool
@@ -57,18 +73,17 @@ pub record Progress : Type 0 where
   pub text : List ℕ
 
 -- before the first line: no command, so each voxel is unknown
-abbrev pub start : Files → Progress
-start files =
-    record {
-      history = [];
-      files = files;
-      line_count = 0;
-      block = None;
-      refused = false;
-      has_quit =
-          false;
-      text = [];
-    }
+abbrev pub start : Option Files → Progress
+start files = record {
+  history = [];
+  files = files;
+  names_file = false;
+  line_count = 0;
+  block = None;
+  refused = false;
+  has_quit = false;
+  text = [];
+}
 
 -- the command on the next line, or why there is none
 abbrev pub next_command : Progress → Line → Result Command Refusal
@@ -77,13 +92,14 @@ next_command p line = command_on (is_some p.block) (p.line_count + 1) line
 -- what the next line does
 abbrev pub effect_of : Setup → Progress → Line → Effect
 effect_of o p line =
-    effect (state_after o p.history) (p.line_count + 1) line (next_command p line) p.block
+    effect p.files (state_after o p.history) (p.line_count + 1) line (next_command p line) p.block
 
 -- after one line more was taken in
 abbrev pub answered : Setup → Progress → Line → Progress
 answered o p line = record {
   history = p.history ++ (effect_of o p line).added;
-  files = p.files;
+  files = stored p.files (effect_of o p line).saving;
+  names_file = p.names_file || is_some (file_named (next_command p line));
   line_count = p.line_count + 1;
   block = (effect_of o p line).block;
   refused = p.refused || is_refusal (effect_of o p line).reply;
@@ -96,7 +112,7 @@ abbrev pub after_line : Setup → Progress → Line → Progress
 after_line o p line = if p.has_quit then p else answered o p line
 
 -- after these lines, one after another
-abbrev pub progress : Setup → Files → List Line → Progress
+abbrev pub progress : Setup → Option Files → List Line → Progress
 progress o files lines = fold (after_line o) (start files) lines
 
 -- after the end of the script: a block that is open there is refused
@@ -104,6 +120,7 @@ abbrev pub ended : Progress → Progress
 ended p = record {
   history = p.history;
   files = p.files;
+  names_file = p.names_file;
   line_count = p.line_count;
   block = None;
   refused = p.refused || is_refusal (end_reply p.block);
@@ -115,10 +132,10 @@ ended p = record {
 abbrev pub closed : Progress → Progress
 closed p = if p.has_quit then p else ended p
 
--- what a run leaves: the text that it has written, the files, and its status
+-- what a run leaves: the text that it has written, the files, where they are told, and its status
 pub record Answer : Type 0 where
   pub text : List ℕ
-  pub files : Files
+  pub files : Option Files
   pub status : Status
 
 -- the status where the script was read to its end, and some reply was a refusal or none
@@ -146,11 +163,16 @@ lines_of o bytes =
     if is_too_long o bytes then ended_lines (take o.max_bytes bytes) else all_lines bytes
 
 -- after the last of these lines
-abbrev pub last_progress : Setup → Files → List ℕ → Progress
+abbrev pub last_progress : Setup → Option Files → List ℕ → Progress
 last_progress o files bytes = progress o files (lines_of o bytes)
 
--- the answer to a script
-unfoldable pub session : Setup → Files → List ℕ → Answer
+-- the answer to a script over these files
+unfoldable pub session : Setup → Option Files → List ℕ → Answer
 session o files bytes =
     if is_too_long o bytes then cut_short (last_progress o files bytes) else finished
     (closed (last_progress o files bytes))
+
+-- all files that the session reads are told: the store tells its files, or no line names one
+abbrev pub ReadsTold : Setup → Option Files → List ℕ → Type 0
+ReadsTold o files bytes =
+    IsSome files ⊎ ((last_progress o files bytes).names_file ≡ false)

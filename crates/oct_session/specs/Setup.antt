@@ -1,5 +1,5 @@
 -- The numbers that a session is set up with.
-use Rattle.std.specs.Prelude.{ℕ}
+use Rattle.std.specs.Prelude.{ℕ, None}
 use Rattle.oct_map.specs.Ground.{Ground}
 use Rattle.oct_odds.specs.Odds.{Odds}
 
@@ -12,11 +12,12 @@ pub record Setup : Type 0 where
   pub max_cells : ℕ
   pub max_bytes : ℕ
 
--- what the map's answers read beside the values
+-- what the map's answers read beside the values, at first
 abbrev pub ground_in : Setup → Ground
 ground_in o = record {
   res = o.res;
   odds = o.odds;
+  update_box = None;
   max_groups = o.max_groups;
   max_cells = o.max_cells;
 }

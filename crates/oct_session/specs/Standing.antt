@@ -1,7 +1,9 @@
--- The map and the session at work: what they hold for the bytes that were taken.
-use Rattle.std.specs.Prelude.{◌≡◌, ℕ, ◌<◌, ◌⊎◌, List, ◌++◌, length, take, Option, IsSome, Result, Ok, Err, false}
+-- The desk and the session at work: what they hold for the bytes that were taken.
+use Rattle.std.specs.Prelude.{◌≡◌, ℕ, ◌<◌, ◌⊎◌, List, ◌++◌, length, take, Option, None, IsSome, Result, Ok, Err, false}
 use Rattle.oct_io.specs.Files.{Files}
 use Rattle.oct_io.specs.Told.{appended}
+use Rattle.oct_io.specs.declared.store.StoreFault.{StoreFault}
+use Rattle.oct_io.specs.declared.store.StoreFault.TheVariants as store_fault
 use Rattle.oct_map.specs.Map.{Map}
 use Rattle.oct_script.specs.declared.command.Command.{Command}
 use Rattle.oct_script.specs.declared.reply.Refusal.{Refusal}
@@ -9,135 +11,196 @@ use Rattle.oct_script.specs.declared.reply.Reply.{Reply}
 use Rattle.oct_script.specs.Lines.{Line, ended_lines, IsReading}
 use Rattle.oct_session.specs.declared.options.Status.{Status}
 use Rattle.oct_session.specs.declared.options.Stop.{Stop}
-use Rattle.oct_session.specs.declared.options.Stop.TheVariants.{TooLong, ReadFault, WriteFault, Memory}
+use Rattle.oct_session.specs.declared.options.Stop.TheVariants.{TooLong, ReadFault, WriteFault, Memory, StoreFault as StoreStop}
 use Rattle.oct_session.specs.declared.session.Session.{Session}
 use Rattle.oct_session.specs.Ending.{HasTaken, HasReplied, IsReadToEnd, MayEnd}
-use Rattle.oct_session.specs.Leaving.{StandsFor, StandsAfter, IsHalted, IsHaltedAtEnd, Leaves}
+use Rattle.oct_session.specs.Leaving.{StandsFor, StandsForSome, Desk, IsLike, IsTornAt, IsLikeAfter, IsTornAfter, IsKnown, IsHalted, IsHaltedAtEnd, Leaves}
 use Rattle.oct_session.specs.History.{History, State, after_all}
-use Rattle.oct_session.specs.Session.{Progress, Effect, effect_of, after_line, progress, closed, session, finished, last_progress}
-use Rattle.oct_session.specs.Commands.{reply, action_of, accepted}
+use Rattle.oct_session.specs.Session.{Progress, Effect, effect_of, next_command, after_line, progress, closed, session, finished, last_progress}
+use Rattle.oct_session.specs.Commands.{reply, action_of, accepted, stored, file_named}
 use Rattle.oct_session.specs.ScanBlock.{block_reply, block_action}
 use Rattle.oct_session.specs.Setup.{Setup}
 use Rattle.oct_session.specs.Stops.{status_of}
 use Rattle.oct_session.specs.declared.block.Block.{Block}
-use Rattle.oct_session.specs.declared.lines.LineDone.{LineDone}
+
+-- a map that stands for some history stands for some history afterwards
+abbrev pub KeepsStanding : Map → Map → Type 0
+KeepsStanding old new = (o : Setup) → StandsForSome o old → StandsForSome o new
 
 -- something was answered and done on a map that stood for some state: this is the reply there, and
 -- these are the actions, done unless the reply is a refusal
-abbrev pub HasAnswered : (State → Option Reply) → History → Map → Map → Option Reply → Type 0
+abbrev pub HasAnswered : (State → Option Reply) → (State → History) → Map → Map → Option Reply
+    → Type 0
 HasAnswered reply actions old new answer = (s : State) → StandsFor old s
-    → (answer ≡ reply s) × StandsFor new (after_all s (accepted answer actions))
+    → (answer ≡ reply s) × StandsFor new (after_all s (accepted answer (actions s)))
 
 -- that, or memory ran out, for something that has a reply, and nothing was done
-abbrev pub HasDone : {E : Type 0} → (State → Option Reply) → History → Map → Map
+abbrev pub HasDone : {E : Type 0} → (State → Option Reply) → (State → History) → Map → Map
     → Result (Option Reply) E → Type 0
 HasDone reply actions old new (Ok answer) = HasAnswered reply actions old new answer
 HasDone reply actions old new (Err fault) =
     (s : State) → StandsFor old s → IsSome (reply s) × StandsFor new s
 
--- a line's command outside a block was answered and done, or memory ran out
+-- a line's command outside a block, which names no file, was answered and done, or memory ran out
 abbrev pub HasObeyed : {E : Type 0} → Map → Map → Result Command Refusal
     → Result (Option Reply) E → Type 0
-HasObeyed old new command result =
-    HasDone (λ s. reply s command) (action_of command) old new result
+HasObeyed old new command result = (files : Option Files)
+    → HasDone (λ s. reply files s command) (λ s. action_of files s command) old new result
 
 -- a block that its `end` has closed was answered and done, or memory ran out
 abbrev pub HasScanned : {E : Type 0} → Map → Map → Block → Result (Option Reply) E → Type 0
 HasScanned old new block result =
-    HasDone (λ s. block_reply s block) (block_action block) old new result
-
--- a line had its effect on a map that stood for some state
-abbrev pub TakesEffect : (State → Effect) → Map → Map → LineDone → Type 0
-TakesEffect effect old new outcome = (s : State) → StandsFor old s
-    → (outcome.reply ≡ (effect s).reply) × (outcome.block ≡ (effect s).block)
-    × StandsFor new (after_all s (effect s).added)
+    HasDone (λ s. block_reply s block) (λ s. block_action block) old new result
 
 -- a line has a reply, or a block is open after it
 abbrev pub IsHeard : Effect → Type 0
 IsHeard effect = IsSome effect.reply ⊎ IsSome effect.block
 
--- a line had its effect, or memory ran out, for a line that is heard, and nothing was done
-abbrev pub HasEffect : {E : Type 0} → (State → Effect) → Map → Map → Result LineDone E → Type 0
-HasEffect effect old new (Ok outcome) = TakesEffect effect old new outcome
-HasEffect effect old new (Err fault) =
+-- a line inside a block had its effect on a map that stood for some state, or memory ran out, for a
+-- line that is heard, and nothing was done
+abbrev pub HasWorked : {E : Type 0} → (State → Effect) → Map → Map → Option Block
+    → Result (Option Reply) E → Type 0
+HasWorked effect old new block (Ok answer) = (s : State) → StandsFor old s
+    → (answer ≡ (effect s).reply) × (block ≡ (effect s).block)
+    × StandsFor new (after_all s (effect s).added)
+HasWorked effect old new block (Err fault) =
     (s : State) → StandsFor old s → IsHeard (effect s) × StandsFor new s
 
--- memory ran out at a line that is heard: the map stands for the lines before this one, or for this
--- one as well
-abbrev pub StandsBeside : Setup → Map → Progress → Line → Type 0
-StandsBeside o map p line = IsHeard (effect_of o p line)
-    × (StandsAfter o map p ⊎ StandsAfter o map (after_line o p line))
+-- a line names no file, or the files are told
+abbrev pub FindsTold : Option (List ℕ) → Option Files → Type 0
+FindsTold named files = (named ≡ None) ⊎ IsSome files
 
--- map and session stand between two lines, where that was done so far
-pub record IsBetween (o : Setup) (map : Map) (session : Session) (p : Progress) : Type 0 where
-  pub stands : StandsAfter o map p
+-- a line that may name a file had its effect on a map and files that were as some state and some
+-- files are: this is the reply, and this the block that is open after it
+abbrev pub TakesEffect : (Option Files → State → Effect) → Option (List ℕ) → Map → Option Files
+    → Map → Option Files → Option Block → Option Reply → Type 0
+TakesEffect effect named old told new untold block answer =
+    (files : Option Files) (s : State) → FindsTold named files → IsLike files s old told
+    → (answer ≡ (effect files s).reply) × (block ≡ (effect files s).block)
+    × IsLike (stored files (effect files s).saving) (after_all s (effect files s).added) new untold
+
+-- nothing of a line was done, but for the file that it names where the store failed
+abbrev pub HasFailed : Option (List ℕ) → Option Files → State → Map → Option Files → StoreFault
+    → Type 0
+HasFailed named files s map told store_fault.Failed = IsTornAt named files s map told
+HasFailed named files s map told store_fault.Memory =
+    IsLike files s map told ⊎ IsTornAt named files s map told
+
+-- a line had its effect, or it failed, and is heard
+abbrev pub HasEffect : (Option Files → State → Effect) → Option (List ℕ) → Map → Option Files
+    → Map → Option Files → Option Block → Result (Option Reply) StoreFault → Type 0
+HasEffect effect named old told new untold block (Ok answer) =
+    TakesEffect effect named old told new untold block answer
+HasEffect effect named old told new untold block (Err fault) =
+    (files : Option Files) (s : State) → FindsTold named files → IsLike files s old told
+    → IsHeard (effect files s) × HasFailed named files s new untold fault
+
+-- the next line failed, or all of it was done and memory ran out for its reply
+abbrev pub StandsBeside : Setup → Desk → Progress → Line → StoreFault → Type 0
+StandsBeside o d p line store_fault.Failed =
+    IsTornAfter o (file_named (next_command p line)) p d
+StandsBeside o d p line store_fault.Memory = IsLikeAfter o (after_line o p line) d
+    ⊎ (IsLikeAfter o p d ⊎ IsTornAfter o (file_named (next_command p line)) p d)
+
+-- the same, of a line that is heard; the store is as it was at first where no line named a file
+pub record HasStoppedAt (o : Setup) (d : Desk) (p : Progress) (line : Line) (fault : StoreFault)
+    : Type 0 where
+  pub heard : IsHeard (effect_of o p line)
+  pub beside : StandsBeside o d p line fault
+  pub kept : (after_line o p line).names_file ≡ false → d.kept
+
+-- the session stands between two lines, where that was done so far
+pub record IsInStep (session : Session) (p : Progress) : Type 0 where
   pub counted : session.line_count ≡ p.line_count
   pub block : session.block ≡ p.block
   pub refused : session.refused ≡ p.refused
   pub has_quit : session.has_quit ≡ p.has_quit
 
+-- desk and session stand there
+pub record IsBetween (o : Setup) (d : Desk) (session : Session) (p : Progress) : Type 0 where
+  pub like : IsLikeAfter o p d
+  pub kept : p.names_file ≡ false → d.kept
+  pub step : IsInStep session p
+
 -- they stand there, and since `old` the replies so far were written
-pub record HasReached (o : Setup) (old new : Option (List ℕ)) (map : Map) (session : Session)
+pub record HasReached (o : Setup) (old new : Option (List ℕ)) (d : Desk) (session : Session)
     (p : Progress) : Type 0 where
-  pub between : IsBetween o map session p
+  pub between : IsBetween o d session p
   pub written : new ≡ appended old p.text
 
 -- the session was given these bytes: the lines that end within them are answered, and, unless it
 -- has ended, the rest is kept
-pub record IsAt (o : Setup) (files : Files) (old new : Option (List ℕ)) (map : Map)
+pub record IsAt (o : Setup) (files : Option Files) (old new : Option (List ℕ)) (d : Desk)
     (session : Session) (bytes : List ℕ) : Type 0 where
-  pub reached : HasReached o old new map session (progress o files (ended_lines bytes))
+  pub reached : IsKnown (progress o files (ended_lines bytes))
+      → HasReached o old new d session (progress o files (ended_lines bytes))
   pub line : session.has_quit ≡ false → IsReading session.line bytes
 
 -- wherever the session was, it was then given this piece more
-abbrev pub Takes : Setup → Option (List ℕ) → Option (List ℕ) → Map → Map → Session → Session
+abbrev pub Takes : Setup → Option (List ℕ) → Option (List ℕ) → Desk → Desk → Session → Session
     → List ℕ → Type 0
-Takes o v u m n s t piece = (files : Files) (w : Option (List ℕ)) (bytes : List ℕ)
-    → IsAt o files w v m s bytes → IsAt o files w u n t (bytes ++ piece)
+Takes o v u d e s t piece = (files : Option Files) (w : Option (List ℕ)) (bytes : List ℕ)
+    → IsAt o files w v d s bytes → IsAt o files w u e t (bytes ++ piece)
 
--- wherever the session was, the replies to the lines that had ended there were written
-abbrev pub KeepsReplies : Setup → Option (List ℕ) → Option (List ℕ) → Map → Session → Type 0
-KeepsReplies o v u m s =
-    (files : Files) (w : Option (List ℕ)) (bytes : List ℕ) → IsAt o files w v m s bytes
-    → HasReplied o files bytes w u
+-- the session was halted at one of these lines, and the replies to the lines that end within these
+-- bytes were written
+abbrev pub IsHaltedBehind : Setup → Option Files → List ℕ → List Line → Option (List ℕ)
+    → Option (List ℕ) → Desk → Status → Type 0
+IsHaltedBehind o files bytes lines old new d status =
+    IsHalted o files lines old new d status × HasReplied o files bytes old new
 
--- the session was given some bytes
-abbrev pub IsAtSome : Setup → Files → Option (List ℕ) → Option (List ℕ) → Map → Session → Type 0
-IsAtSome o files old new map session = (bytes : List ℕ) × IsAt o files old new map session bytes
+-- wherever the session was, it was then halted at one of these lines, if they are known
+abbrev pub Halts : Setup → Option (List ℕ) → Option (List ℕ) → Desk → Desk → Session
+    → (List ℕ → List Line) → Status → Type 0
+Halts o v u d e s lines status = (files : Option Files) (w : Option (List ℕ)) (bytes : List ℕ)
+    → IsAt o files w v d s bytes → IsKnown (progress o files (lines bytes))
+    → IsHaltedBehind o files bytes (lines bytes) w u e status
 
 -- the session was given the bytes that were taken of its input
-pub record HasServed (o : Setup) (files : Files) (bytes : List ℕ) (left old new : Option (List ℕ))
-    (map : Map) (session : Session) (taken : ℕ) : Type 0 where
+pub record HasServed (o : Setup) (files : Option Files) (bytes : List ℕ)
+    (left old new : Option (List ℕ)) (d : Desk) (session : Session) (taken : ℕ) : Type 0 where
   pub input : HasTaken taken bytes left
-  pub at : IsAt o files old new map session (take taken bytes)
+  pub at : IsAt o files old new d session (take taken bytes)
 
 -- the session has answered its script, and has read it to its end
-pub record IsThrough (o : Setup) (files : Files) (bytes : List ℕ) (left old new : Option (List ℕ))
-    (map : Map) (s : Session) : Type 0 where
-  pub reached : HasReached o old new map s (closed (last_progress o files bytes))
+pub record IsThrough (o : Setup) (files : Option Files) (bytes : List ℕ)
+    (left old new : Option (List ℕ)) (d : Desk) (s : Session) : Type 0 where
+  pub reached : HasReached o old new d s (closed (last_progress o files bytes))
   pub whole : session o files bytes ≡ finished (closed (last_progress o files bytes))
   pub end : IsReadToEnd o files bytes left
 
--- the session was halted at one of the last lines, or at the end of the script after them
-abbrev pub StopsAtEnd : Setup → Files → List Line → Option (List ℕ) → Option (List ℕ) → Map
-    → Status → Type 0
-StopsAtEnd o files lines old new map status =
-    IsHalted o files lines old new map status ⊎ IsHaltedAtEnd o files lines old new map status
+-- the session was halted at one of the last lines, or at the end of the script after them, and the
+-- replies to the lines that end within these bytes were written
+abbrev pub StopsAtEnd : Setup → Option Files → List ℕ → List Line → Option (List ℕ)
+    → Option (List ℕ) → Desk → Status → Type 0
+StopsAtEnd o files bytes lines old new d status =
+    (IsHalted o files lines old new d status ⊎ IsHaltedAtEnd o files lines old new d status)
+    × HasReplied o files bytes old new
 
--- how a session over these bytes may end, and what it then leaves of the map
-pub record HasEndedAs (o : Setup) (files : Files) (bytes : List ℕ) (left old new : Option (List ℕ))
-    (map : Map) (status : Status) : Type 0 where
+-- how a session over these bytes may end, and what it then leaves of map and files; the store is as
+-- it was at first where no line named a file
+pub record HasEndedAs (o : Setup) (files : Option Files) (bytes : List ℕ)
+    (left old new : Option (List ℕ)) (d : Desk) (status : Status) : Type 0 where
   pub answer : MayEnd o files bytes left old new status
-  pub leaves : Leaves o files bytes left old new map status
+  pub leaves : Leaves o files bytes left old new d status
+  pub kept : (last_progress o files bytes).names_file ≡ false → d.kept
 
 -- how a session that was given these bytes may stop in a piece, of which `room` bytes may be taken
-abbrev pub StopsIn : Setup → Files → Option (List ℕ) → Option (List ℕ) → Map → Session → List ℕ
-    → List ℕ → ℕ → Stop → Type 0
-StopsIn o files old new map session bytes piece room TooLong =
+abbrev pub StopsIn : Setup → Option Files → Option (List ℕ) → Option (List ℕ) → Desk → Session
+    → List ℕ → List ℕ → ℕ → Stop → Type 0
+StopsIn o files old new d session bytes piece room TooLong =
     (room < length piece) × (session.has_quit ≡ false)
-    × IsAt o files old new map session (bytes ++ take room piece)
-StopsIn o files old new map session bytes piece room WriteFault =
-    IsHalted o files (ended_lines (bytes ++ take room piece)) old new map (status_of WriteFault)
-StopsIn o files old new map session bytes piece room Memory =
-    IsHalted o files (ended_lines (bytes ++ take room piece)) old new map (status_of Memory)
-StopsIn o files old new map session bytes piece room ReadFault = ⊥
+    × IsAt o files old new d session (bytes ++ take room piece)
+StopsIn o files old new d session bytes piece room WriteFault =
+    IsKnown (progress o files (ended_lines (bytes ++ take room piece)))
+    → IsHaltedBehind o files bytes (ended_lines (bytes ++ take room piece)) old new d
+    (status_of WriteFault)
+StopsIn o files old new d session bytes piece room Memory =
+    IsKnown (progress o files (ended_lines (bytes ++ take room piece)))
+    → IsHaltedBehind o files bytes (ended_lines (bytes ++ take room piece)) old new d
+    (status_of Memory)
+StopsIn o files old new d session bytes piece room StoreStop =
+    IsKnown (progress o files (ended_lines (bytes ++ take room piece)))
+    → IsHaltedBehind o files bytes (ended_lines (bytes ++ take room piece)) old new d
+    (status_of StoreStop)
+StopsIn o files old new d session bytes piece room ReadFault = ⊥

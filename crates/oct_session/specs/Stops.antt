@@ -1,26 +1,43 @@
 -- Why a session stops, and the status that it then has.
 use Rattle.oct_io.specs.declared.sink.SinkFault.{SinkFault}
-use Rattle.oct_io.specs.declared.sink.SinkFault.TheVariants as fault
+use Rattle.oct_io.specs.declared.sink.SinkFault.TheVariants as sink_fault
+use Rattle.oct_io.specs.declared.store.StoreFault.{StoreFault}
+use Rattle.oct_io.specs.declared.store.StoreFault.TheVariants as store_fault
 use Rattle.oct_session.specs.declared.options.Status.{Status}
 use Rattle.oct_session.specs.declared.options.Status.TheVariants as status
 use Rattle.oct_session.specs.declared.options.Stop.{Stop}
-use Rattle.oct_session.specs.declared.options.Stop.TheVariants.{TooLong, ReadFault, WriteFault, Memory}
+use Rattle.oct_session.specs.declared.options.Stop.TheVariants as stop
 
 -- the stop that a fault of the sink leads to
 abbrev pub stop_of_sink : SinkFault → Stop
-stop_of_sink fault.Failed = WriteFault
-stop_of_sink fault.Memory = Memory
+stop_of_sink sink_fault.Failed = stop.WriteFault
+stop_of_sink sink_fault.Memory = stop.Memory
+
+-- the stop that a fault of the store leads to
+abbrev pub stop_of_store : StoreFault → Stop
+stop_of_store store_fault.Failed = stop.StoreFault
+stop_of_store store_fault.Memory = stop.Memory
 
 -- the status after a stop
 abbrev pub status_of : Stop → Status
-status_of TooLong = status.TooLong
-status_of ReadFault = status.ReadFault
-status_of WriteFault = status.WriteFault
-status_of Memory = status.Memory
+status_of stop.TooLong = status.TooLong
+status_of stop.ReadFault = status.ReadFault
+status_of stop.WriteFault = status.WriteFault
+status_of stop.Memory = status.Memory
+status_of stop.StoreFault = status.StoreFault
+
+-- a stop that a line's own work may lead to
+abbrev pub IsHalt : Stop → Type 0
+IsHalt stop.TooLong = ⊥
+IsHalt stop.ReadFault = ⊥
+IsHalt stop.WriteFault = Unit {0}
+IsHalt stop.Memory = Unit {0}
+IsHalt stop.StoreFault = Unit {0}
 
 -- a stop that writing may lead to
 abbrev pub IsSinkStop : Stop → Type 0
-IsSinkStop TooLong = ⊥
-IsSinkStop ReadFault = ⊥
-IsSinkStop WriteFault = Unit {0}
-IsSinkStop Memory = Unit {0}
+IsSinkStop stop.TooLong = ⊥
+IsSinkStop stop.ReadFault = ⊥
+IsSinkStop stop.WriteFault = Unit {0}
+IsSinkStop stop.Memory = Unit {0}
+IsSinkStop stop.StoreFault = ⊥

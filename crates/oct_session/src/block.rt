@@ -1,7 +1,7 @@
 //! The block of a scan that is being read.
 ghost use Rattle.std.specs.Prelude.{◌≡◌, All, IfOk, IfSome, Ok, is_err, pos, ◌≤ℤ◌, ◌<ℤ◌, ◌^◌};
 ghost use Rattle.oct_pose.specs.Reach.{IsInReach};
-ghost use Rattle.oct_scan.specs.Beam.{sighting_of};
+ghost use Rattle.oct_scan.specs.Beam.{IsTrust, sighting_of};
 ghost use Rattle.oct_script.specs.Commands.{IsRange, IsSmallCommand};
 ghost use Rattle.oct_script.specs.Lines.{Line};
 ghost use Rattle.oct_session.specs.ScanSoFar.{begun, sighting_so_far};
@@ -109,6 +109,7 @@ impl PendingScan {
         ensures points { IfOk result (λ scan. All IsInReach scan.points) }
         ensures range { IfOk result
             (λ scan. IfSome scan.range (λ r. (pos 0 ≤ℤ r) × (r <ℤ pos (10 ^ 16)))) }
+        ensures odds { IfOk result (λ scan. IfSome scan.odds IsTrust) }
     {
         let head = self.head;
         let pose = Pose::new(head.t, head.w, head.x, head.y, head.z)?;
@@ -116,6 +117,7 @@ impl PendingScan {
             pose,
             points: self.points,
             range: head.range,
+            odds: None,
         })
     }
 }

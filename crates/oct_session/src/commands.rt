@@ -58,6 +58,11 @@ fn refusal_of(fault: MapFault) -> Result<Refusal, Memory>
         MapFault::OriginOutside => Ok(Refusal::OriginOutside),
         MapFault::PointOutside { index } => Ok(Refusal::PointOutside { index }),
         MapFault::TooManyCells { index, cells } => Ok(Refusal::TooManyCells { index, cells }),
+        MapFault::OtherResolution { file, session } => {
+            Ok(Refusal::OtherResolution { file, session })
+        }
+        MapFault::WideWhileTracked { count } => Ok(Refusal::WideWhileTracked { count }),
+        MapFault::NotTracked => Ok(Refusal::NotTracked),
         MapFault::Memory => Err(Memory),
     }
 }
@@ -130,6 +135,10 @@ fn obey(map: &mut OccMap, command: Command) -> Result<Option<Reply>, Memory>
         Command::Blank | Command::Quit => Ok(None),
         Command::Scan(_) | Command::Beam(_) | Command::End => Ok(None),
         Command::NotYet => Ok(Some(Reply::Refused(Refusal::NotYet))),
+        Command::Save(_) | Command::Load(_) => Ok(Some(Reply::Refused(Refusal::NotYet))),
+        Command::Snapshot(_) | Command::Restore(_) => Ok(Some(Reply::Refused(Refusal::NotYet))),
+        Command::Track | Command::Untrack => Ok(Some(Reply::Refused(Refusal::NotYet))),
+        Command::Changes | Command::NoLimit => Ok(Some(Reply::Refused(Refusal::NotYet))),
         Command::Edit { p, e, lazy } => edit(map, p, e, lazy),
         Command::Box { low, high, e } => edit_box(map, low, high, e),
         Command::Get { p, depth } => query(map, p, depth),

@@ -1,5 +1,5 @@
 //! What the definitions come to, with nothing to compute.
-ghost use Rattle.std.specs.Prelude.{◌≡◌, ◌≤◌, List};
+ghost use Rattle.std.specs.Prelude.{◌≡◌, ◌≤◌, List, Option};
 ghost use Rattle.oct_key.specs.Voxel.{Voxel};
 ghost use Rattle.oct_values.specs.Counts.{group_count};
 ghost use Rattle.oct_io.specs.Files.{Files};
@@ -18,6 +18,6 @@ pub fn values_are_folds()
 /// The groups that the values of a session need are never more than its limit. A law, with nothing
 /// to compute.
 pub fn groups_stay_within()
-    ensures { (o : Setup) (files : Files) (lines : List Line)
+    ensures { (o : Setup) (files : Option Files) (lines : List Line)
         → group_count (value_after o (progress o files lines).history) ≤ o.max_groups }
 {}

@@ -19,16 +19,17 @@
 //! - **Scans.** The lines of a scan are a block with one reply, after its `end` or at the end of
 //!   the script (`specs/ScanBlock.antt`). The first faulty line among its head and the lines inside
 //!   is what it is refused for; a scan is done whole or not at all.
-//! - **Endings.** Where source and sink tell their bytes, as those in memory do,
-//!   `specs/Ending.antt` says for each status what is written and what is left of the input.
+//! - **Endings.** Where source and sink tell their bytes, as those in memory do, and the store its
+//!   files or no line names one, `specs/Ending.antt` says for each status what is written and what is
+//!   left of the input.
 //!   Stopped by a fault or out of memory, what was written is a prefix of the answer; on a read
 //!   fault it is exactly the replies to the lines that end within the bytes taken.
 //! - **Counts.** A count of faults rises by one exactly where the status names its fault, and that
 //!   of a sink's shortages of memory by one at most, where the status is out of memory. So no read
 //!   that failed is tried again, and nothing is read after `quit` or after a fault: such a read
 //!   might fail, too.
-//! - **The map.** Under the same premise, whatever the status, the lent map then stands for a
-//!   history (`StandsFor` of `specs/Leaving.antt`): each voxel has its value after it, the map is
+//! - **Map and files.** Under the same premise, whatever the status, the lent map then stands for a
+//!   history, and the files are those after the same lines (`Leaves` of `specs/Leaving.antt`) (`StandsFor` of `specs/Leaving.antt`): each voxel has its value after it, the map is
 //!   stale where a lazy edit or scan stands after the last refresh, and pruned where none stands
 //!   after the last prune. It is the history of all lines that count, on a read fault of those that
 //!   end within the bytes taken, and on a write fault of every line whose reply was written whole

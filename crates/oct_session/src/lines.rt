@@ -1,24 +1,19 @@
 //! What a line does: its reply, and the block that is open after it.
-ghost use Rattle.std.specs.Prelude.{◌≡◌, IfOk};
+ghost use Rattle.std.specs.Prelude.{◌≡◌, IfOk, IsErrOf, None, OnOk, Some};
+ghost use Rattle.oct_io.specs.Told.{Rose};
 ghost use Rattle.oct_script.specs.Commands.{IsSmallCommand};
-ghost use Rattle.oct_session.specs.Commands.{command_on};
+ghost use Rattle.oct_session.specs.Commands.{command_on, file_named};
 ghost use Rattle.oct_session.specs.ScanBlock.{is_end};
 ghost use Rattle.oct_session.specs.Session.{effect_opened, effect_inside, effect};
-ghost use Rattle.oct_session.specs.Standing.{HasEffect};
+ghost use Rattle.oct_session.specs.Standing.{HasEffect, HasWorked, KeepsStanding};
 
 use crate::block::{Block, opened};
 use crate::commands::{execute, finish};
+use oct_io::{Store, StoreFault};
 use oct_map::OccMap;
 use oct_num::Memory;
 use oct_script::{Command, Lines, Refusal, Reply, Syntax, parse};
 use std::alloc::Global;
-
-/// What a line answers, and the block that is open after it.
-#[derive(Drop)]
-pub struct LineDone {
-    pub reply: Option<Reply>,
-    pub block: Option<Block>,
-}
 
 /// The command on the line of this number, inside a block or outside, or why there is none. A long
 /// line isn't read.
@@ -46,22 +41,31 @@ fn is_end(command: Result<Command, Refusal>) -> bool
 }
 
 /// What a line outside a block does, by the block that it opens.
-fn outside(
+fn outside<F: Store>(
     map: &mut OccMap,
+    store: &mut F,
     command: Result<Command, Refusal>,
     opened: Option<Block>,
-) -> Result<LineDone, Memory>
-    requires { IfOk command IsSmallCommand }
-    ensures { HasEffect (λ s. effect_opened s command opened) map.old map.new result }
+    block: &mut Option<Block>,
+) -> Result<Option<Reply>, StoreFault>
+    requires small { IfOk command IsSmallCommand }
+    requires closed { block.old ≡ None }
+    ensures effect { HasEffect (λ files s. effect_opened files s command opened)
+        (file_named command) map.old (F.files store.old) map.new (F.files store.new)
+        block.new result }
+    ensures stands { KeepsStanding map.old map.new }
+    ensures unnamed { file_named command ≡ None → store.new ≡ store.old }
+    ensures stays { OnOk result (F.faults store.new ≡ F.faults store.old) }
+    ensures memory { IsErrOf result StoreFault.Memory → F.faults store.new ≡ F.faults store.old }
+    ensures failed { IsErrOf result StoreFault.Failed
+        → Rose (F.faults store.old) (F.faults store.new) }
 {
     if opened.is_some() {
-        return Ok(LineDone {
-            reply: None,
-            block: opened,
-        });
+        *block = opened;
+        return Ok(None);
     }
     let reply = execute(map, command)?;
-    Ok(LineDone { reply, block: None })
+    Ok(reply)
 }
 
 /// What a line inside a block does.
@@ -69,37 +73,48 @@ fn inside(
     map: &mut OccMap,
     number: u64,
     command: Result<Command, Refusal>,
-    block: Block,
-) -> Result<LineDone, Memory>
+    block: &mut Option<Block>,
+) -> Result<Option<Reply>, Memory>
     requires { IfOk command IsSmallCommand }
-    ensures { HasEffect (λ s. effect_inside s number command block) map.old map.new result }
+    ensures { (first : Block) → block.old ≡ Some first
+        → HasWorked (λ s. effect_inside s number command first) map.old map.new block.new result }
 {
+    let Some(standing) = block.take() else {
+        return Ok(None);
+    };
     if is_end(command) {
-        let reply = finish(map, block)?;
-        return Ok(LineDone { reply, block: None });
+        return finish(map, standing);
     }
-    let block = block.with_line(number, command)?;
-    Ok(LineDone {
-        reply: None,
-        block: Some(block),
-    })
+    *block = Some(standing.with_line(number, command)?);
+    Ok(None)
 }
 
-/// Does what the line of this number says, where a block is open or none. Without memory nothing
-/// was done.
-pub fn take_line(
+/// Does what the line of this number says, where a block is open or none, and leaves the block that
+/// is open after it. Where it failed, nothing was done, but for the file that it names.
+pub fn take_line<F: Store>(
     alloc: Global,
     map: &mut OccMap,
+    store: &mut F,
     line: &Lines,
     number: u64,
-    command: Result<Command, Refusal>,
-    block: Option<Block>,
-) -> Result<LineDone, Memory>
-    requires { IfOk command IsSmallCommand }
-    ensures { HasEffect (λ s. effect s number line.now.line command block) map.old map.new result }
+    command: &Result<Command, Refusal>,
+    block: &mut Option<Block>,
+) -> Result<Option<Reply>, StoreFault>
+    requires { IfOk command.now IsSmallCommand }
+    ensures effect { HasEffect (λ files s. effect files s number line.now.line command.now block.old)
+        (file_named command.now) map.old (F.files store.old) map.new (F.files store.new)
+        block.new result }
+    ensures stands { KeepsStanding map.old map.new }
+    ensures unnamed { file_named command.now ≡ None → store.new ≡ store.old }
+    ensures stays { OnOk result (F.faults store.new ≡ F.faults store.old) }
+    ensures memory { IsErrOf result StoreFault.Memory → F.faults store.new ≡ F.faults store.old }
+    ensures failed { IsErrOf result StoreFault.Failed
+        → Rose (F.faults store.old) (F.faults store.new) }
 {
-    match block {
-        Some(block) => inside(map, number, command, block),
-        None => outside(map, command, opened(alloc, line, number, command)),
+    if block.is_some() {
+        let reply = inside(map, number, *command, block)?;
+        return Ok(reply);
     }
+    let opened = opened(alloc, line, number, *command);
+    outside(map, store, *command, opened, block)
 }

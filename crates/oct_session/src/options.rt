@@ -1,10 +1,10 @@
 //! What a session is set up with, and how a run ends.
 ghost use Rattle.std.specs.Prelude.{◌≡◌, ◌≤◌, ◌^◌};
 ghost use Rattle.oct_odds.specs.Odds.{odds_of};
-ghost use Rattle.oct_session.specs.Stops.{stop_of_sink, status_of};
+ghost use Rattle.oct_session.specs.Stops.{stop_of_sink, stop_of_store, status_of};
 ghost use Rattle.oct_session.specs.declared.options.Stop.TheVariants as stop;
 
-use oct_io::{Failed, SinkFault};
+use oct_io::{Failed, SinkFault, StoreFault};
 use oct_key::Res;
 use oct_map::Limits;
 use oct_num::Memory;
@@ -76,6 +76,8 @@ pub enum Status {
     WriteFault = 6,
     /// Memory ran out.
     Memory = 7,
+    /// The store failed, at a command that names a file.
+    StoreFault = 8,
 }
 
 impl fmt::Display for Status {
@@ -89,6 +91,7 @@ impl fmt::Display for Status {
             Status::ReadFault => "read fault",
             Status::WriteFault => "write fault",
             Status::Memory => "out of memory",
+            Status::StoreFault => "store fault",
         })
     }
 }
@@ -108,6 +111,9 @@ pub enum Stop {
     /// Memory ran out.
     #[error("out of memory")]
     Memory,
+    /// The store failed.
+    #[error("store fault")]
+    StoreFault,
 }
 
 impl From<Memory> for Stop {
@@ -137,6 +143,17 @@ impl From<SinkFault> for Stop {
     }
 }
 
+impl From<StoreFault> for Stop {
+    ghost from_gives = { λ fault e. e ≡ stop_of_store fault };
+
+    fn from(fault: StoreFault) -> Self {
+        match fault {
+            StoreFault::Failed => Stop::StoreFault,
+            StoreFault::Memory => Stop::Memory,
+        }
+    }
+}
+
 impl From<Stop> for Status {
     ghost from_gives = { λ e status. status ≡ status_of e };
 
@@ -146,6 +163,7 @@ impl From<Stop> for Status {
             Stop::ReadFault => Status::ReadFault,
             Stop::WriteFault => Status::WriteFault,
             Stop::Memory => Status::Memory,
+            Stop::StoreFault => Status::StoreFault,
         }
     }
 }
@@ -166,6 +184,7 @@ mod tests {
             (Status::ReadFault, 5, "read fault"),
             (Status::WriteFault, 6, "write fault"),
             (Status::Memory, 7, "out of memory"),
+            (Status::StoreFault, 8, "store fault"),
         ] {
             let text = format!(in rt.alloc(); "{status}")?;
             assert_eq!(rt; text.as_str(), name);

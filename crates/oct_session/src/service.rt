@@ -3,10 +3,10 @@ ghost use Rattle.std.specs.Prelude.{◌≡◌, ◌≢◌, ◌⊎◌, ℕ, ◌+�
 ghost use Rattle.oct_io.specs.Files.{Files};
 ghost use Rattle.oct_io.specs.Told.{dropped, Rose};
 ghost use Rattle.oct_session.specs.History.{start_state};
-ghost use Rattle.oct_session.specs.Session.{session as whole_session, status_at_end};
+ghost use Rattle.oct_session.specs.Session.{session as whole_session, status_at_end, last_progress, ReadsTold};
 ghost use Rattle.oct_session.specs.Ending.{MayEnd, IsWhole};
-ghost use Rattle.oct_session.specs.Leaving.{StandsFor, StandsForSome, Leaves};
-ghost use Rattle.oct_session.specs.Standing.{IsAt, Takes, KeepsReplies, IsAtSome, HasServed, IsThrough, HasEndedAs, StopsIn};
+ghost use Rattle.oct_session.specs.Leaving.{StandsFor, StandsForSome, desk, IsKnown, Leaves};
+ghost use Rattle.oct_session.specs.Standing.{KeepsStanding, IsAt, Takes, HasServed, IsThrough, HasEndedAs, StopsIn};
 ghost use Rattle.oct_session.specs.Stops.{status_of};
 
 use crate::options::{Options, Status, Stop};
@@ -48,9 +48,10 @@ fn wanted(room: u64) -> usize
 }
 
 /// Takes what a read gave, of which the last byte may be one more than the script may have.
-fn take_piece<K: Sink>(
+fn take_piece<K: Sink, F: Store>(
     options: &Options,
     map: &mut OccMap,
+    store: &mut F,
     session: &mut Session,
     piece: &[u8],
     room: u64,
@@ -58,35 +59,45 @@ fn take_piece<K: Sink>(
 ) -> Result<(), Stop>
     requires small { session.old.line_count + length piece.now < 2 ^ 63 }
     requires unended { session.old.line.has_ended ≡ false }
-    ensures ok { OnOk result (Takes options.now (K.written sink.old) (K.written sink.new)
-        map.old map.new session.old session.new (take room piece.now)) }
+    ensures ok { OnOk result ((home : F)
+        → Takes options.now (K.written sink.old) (K.written sink.new)
+        (desk map.old (F.files store.old) (store.old ≡ home))
+        (desk map.new (F.files store.new) (store.new ≡ home))
+        session.old session.new (take room piece.now)) }
     ensures fits { OnOk result (session.new.has_quit ≡ false → length piece.now ≤ room) }
-    ensures stops { IfErr result (λ stop. (files : Files) (w : Option (List ℕ)) (bytes : List ℕ)
-        → IsAt options.now files w (K.written sink.old) map.old session.old bytes
-        → StopsIn options.now files w
-        (K.written sink.new) map.new session.new bytes piece.now room stop) }
-    ensures replied { OnErr result
-        (KeepsReplies options.now (K.written sink.old) (K.written sink.new)
-        map.old session.old) }
+    ensures stops { IfErr result (λ stop. (home : F) (files : Option Files) (w : Option (List ℕ))
+        (bytes : List ℕ) → IsAt options.now files w (K.written sink.old)
+        (desk map.old (F.files store.old) (store.old ≡ home)) session.old bytes
+        → StopsIn options.now files w (K.written sink.new)
+        (desk map.new (F.files store.new) (store.new ≡ home))
+        session.new bytes piece.now room stop) }
+    ensures stands { KeepsStanding map.old map.new }
     ensures unended { OnOk result (session.new.line.has_ended ≡ false) }
     ensures counted { OnOk result
         (session.new.line_count ≤ session.old.line_count + length piece.now) }
     ensures stays { OnOk result ((K.faults sink.new ≡ K.faults sink.old)
-        × (K.shortages sink.new ≡ K.shortages sink.old)) }
+        × (K.shortages sink.new ≡ K.shortages sink.old)
+        × (F.faults store.new ≡ F.faults store.old)) }
     ensures failed { IsErrOf result Stop.WriteFault → Rose (K.faults sink.old) (K.faults sink.new)
-        × (K.shortages sink.new ≡ K.shortages sink.old) }
+        × (K.shortages sink.new ≡ K.shortages sink.old)
+        × (F.faults store.new ≡ F.faults store.old) }
     ensures memory { IsErrOf result Stop.Memory → (K.faults sink.new ≡ K.faults sink.old)
         × ((K.shortages sink.new ≡ K.shortages sink.old)
-        ⊎ Rose (K.shortages sink.old) (K.shortages sink.new)) }
+        ⊎ Rose (K.shortages sink.old) (K.shortages sink.new))
+        × (F.faults store.new ≡ F.faults store.old) }
+    ensures store_failed { IsErrOf result Stop.StoreFault → (K.faults sink.new ≡ K.faults sink.old)
+        × (K.shortages sink.new ≡ K.shortages sink.old)
+        × Rose (F.faults store.old) (F.faults store.new) }
     ensures long { IsErrOf result Stop.TooLong → (K.faults sink.new ≡ K.faults sink.old)
-        × (K.shortages sink.new ≡ K.shortages sink.old) }
+        × (K.shortages sink.new ≡ K.shortages sink.old)
+        × (F.faults store.new ≡ F.faults store.old) }
     ensures only { result ≢ Err Stop.ReadFault }
 {
     if piece.len() as u64 <= room {
-        return session.take(options, map, piece, sink);
+        return session.take(options, map, store, piece, sink);
     }
     let (front, _) = piece.split_at(room as usize);
-    session.take(options, map, front, sink)?;
+    session.take(options, map, store, front, sink)?;
     if session.has_quit {
         Ok(())
     } else {
@@ -96,9 +107,10 @@ fn take_piece<K: Sink>(
 
 /// One read, and the answers to what it gave: how many bytes, of which none tell the end of the
 /// script.
-fn turn<S: Source, K: Sink>(
+fn turn<S: Source, K: Sink, F: Store>(
     options: &Options,
     map: &mut OccMap,
+    store: &mut F,
     session: &mut Session,
     source: &mut S,
     sink: &mut K,
@@ -110,32 +122,28 @@ fn turn<S: Source, K: Sink>(
     requires small { session.old.line_count ≤ taken }
     requires few { taken ≤ options.now.max_bytes }
     requires wide { MOST_READ ≤ length buffer.old }
-    ensures goes { IfOk result
-        (λ n. session.new.has_quit ≡ false → (files : Files) (bytes : List ℕ) (w : Option (List ℕ))
-        → HasServed options.now files bytes (S.left source.old) w
-        (K.written sink.old) map.old session.old taken
-        → HasServed options.now files bytes (S.left source.new) w
-        (K.written sink.new) map.new session.new (taken + n)) }
-    ensures quits { OnOk result
-        (session.new.has_quit ≡ true → (files : Files) (bytes : List ℕ) (w : Option (List ℕ))
-        → HasServed options.now files bytes (S.left source.old) w
-        (K.written sink.old) map.old session.old taken
-        → IsThrough options.now files bytes (S.left source.new) w
-        (K.written sink.new) map.new session.new) }
+    ensures goes { IfOk result (λ n. session.new.has_quit ≡ false → (home : F)
+        (files : Option Files) (bytes : List ℕ) (w : Option (List ℕ))
+        → HasServed options.now files bytes (S.left source.old) w (K.written sink.old)
+        (desk map.old (F.files store.old) (store.old ≡ home)) session.old taken
+        → HasServed options.now files bytes (S.left source.new) w (K.written sink.new)
+        (desk map.new (F.files store.new) (store.new ≡ home)) session.new (taken + n)) }
+    ensures quits { OnOk result (session.new.has_quit ≡ true → (home : F)
+        (files : Option Files) (bytes : List ℕ) (w : Option (List ℕ))
+        → HasServed options.now files bytes (S.left source.old) w (K.written sink.old)
+        (desk map.old (F.files store.old) (store.old ≡ home)) session.old taken
+        → IsKnown (last_progress options.now files bytes)
+        → IsThrough options.now files bytes (S.left source.new) w (K.written sink.new)
+        (desk map.new (F.files store.new) (store.new ≡ home)) session.new) }
     ensures end { IfOk result (λ n. n ≡ 0 → IfSome (S.left source.new) (λ left. left ≡ [])) }
-    ensures stops { IfErr result (λ stop. (files : Files) (bytes : List ℕ) (w : Option (List ℕ))
-        → HasServed options.now files bytes (S.left source.old) w
-        (K.written sink.old) map.old session.old taken
-        → HasEndedAs options.now files bytes (S.left source.new) w (K.written sink.new) map.new
-        (status_of stop)) }
-    ensures given { OnOk result
-        ((files : Files) (w : Option (List ℕ))
-        → IsAtSome options.now files w (K.written sink.old) map.old session.old
-        → IsAtSome options.now files w (K.written sink.new) map.new session.new) }
-    ensures stands { OnErr result
-        ((files : Files) (w : Option (List ℕ))
-        → IsAtSome options.now files w (K.written sink.old) map.old session.old
-        → StandsForSome options.now map.new) }
+    ensures stops { IfErr result (λ stop. (home : F)
+        (files : Option Files) (bytes : List ℕ) (w : Option (List ℕ))
+        → HasServed options.now files bytes (S.left source.old) w (K.written sink.old)
+        (desk map.old (F.files store.old) (store.old ≡ home)) session.old taken
+        → IsKnown (last_progress options.now files bytes)
+        → HasEndedAs options.now files bytes (S.left source.new) w (K.written sink.new)
+        (desk map.new (F.files store.new) (store.new ≡ home)) (status_of stop)) }
+    ensures stands { KeepsStanding map.old map.new }
     ensures fits { IfOk result
         (λ n. session.new.has_quit ≡ false → taken + n ≤ options.now.max_bytes) }
     ensures unended { OnOk result (session.new.line.has_ended ≡ false) }
@@ -144,30 +152,41 @@ fn turn<S: Source, K: Sink>(
     ensures read { OnOk result (S.faults source.new ≡ S.faults source.old) }
     ensures unread { IsErrOf result Stop.ReadFault
         → Rose (S.faults source.old) (S.faults source.new)
-        × (K.faults sink.new ≡ K.faults sink.old) × (K.shortages sink.new ≡ K.shortages sink.old) }
+        × (K.faults sink.new ≡ K.faults sink.old) × (K.shortages sink.new ≡ K.shortages sink.old)
+        × (F.faults store.new ≡ F.faults store.old) }
     ensures stays { OnOk result ((K.faults sink.new ≡ K.faults sink.old)
-        × (K.shortages sink.new ≡ K.shortages sink.old)) }
+        × (K.shortages sink.new ≡ K.shortages sink.old)
+        × (F.faults store.new ≡ F.faults store.old)) }
     ensures failed { IsErrOf result Stop.WriteFault → (S.faults source.new ≡ S.faults source.old)
         × Rose (K.faults sink.old) (K.faults sink.new)
-        × (K.shortages sink.new ≡ K.shortages sink.old) }
+        × (K.shortages sink.new ≡ K.shortages sink.old)
+        × (F.faults store.new ≡ F.faults store.old) }
     ensures memory { IsErrOf result Stop.Memory → (S.faults source.new ≡ S.faults source.old)
         × (K.faults sink.new ≡ K.faults sink.old)
         × ((K.shortages sink.new ≡ K.shortages sink.old)
-        ⊎ Rose (K.shortages sink.old) (K.shortages sink.new)) }
+        ⊎ Rose (K.shortages sink.old) (K.shortages sink.new))
+        × (F.faults store.new ≡ F.faults store.old) }
+    ensures store_failed { IsErrOf result Stop.StoreFault → (S.faults source.new ≡ S.faults source.old)
+        × (K.faults sink.new ≡ K.faults sink.old)
+        × (K.shortages sink.new ≡ K.shortages sink.old)
+        × Rose (F.faults store.old) (F.faults store.new) }
     ensures long { IsErrOf result Stop.TooLong → (S.faults source.new ≡ S.faults source.old)
-        × (K.faults sink.new ≡ K.faults sink.old) × (K.shortages sink.new ≡ K.shortages sink.old) }
+        × (K.faults sink.new ≡ K.faults sink.old)
+        × (K.shortages sink.new ≡ K.shortages sink.old)
+        × (F.faults store.new ≡ F.faults store.old) }
 {
     let room = options.max_bytes() - taken;
     let count = read_front(source, buffer, wanted(room))?;
     let (piece, _) = buffer.split_at(count);
-    take_piece(options, map, session, piece, room, sink)?;
+    take_piece(options, map, store, session, piece, room, sink)?;
     Ok(count)
 }
 
 /// Reads the script to its end or to `quit`, and answers what a read gave before the next one.
-fn read_all<S: Source, K: Sink>(
+fn read_all<S: Source, K: Sink, F: Store>(
     options: &Options,
     map: &mut OccMap,
+    store: &mut F,
     session: &mut Session,
     source: &mut S,
     sink: &mut K,
@@ -175,44 +194,65 @@ fn read_all<S: Source, K: Sink>(
     requires none { session.old.line_count ≡ 0 }
     requires running { session.old.has_quit ≡ false }
     requires unended { session.old.line.has_ended ≡ false }
-    ensures done { OnOk result ((files : Files) (bytes : List ℕ) (w : Option (List ℕ))
-        → HasServed options.now files bytes (S.left source.old) w
-        (K.written sink.old) map.old session.old 0
-        → IsThrough options.now files bytes (S.left source.new) w
-        (K.written sink.new) map.new session.new) }
-    ensures stops { IfErr result (λ stop. (files : Files) (bytes : List ℕ) (w : Option (List ℕ))
-        → HasServed options.now files bytes (S.left source.old) w
-        (K.written sink.old) map.old session.old 0
-        → HasEndedAs options.now files bytes (S.left source.new) w (K.written sink.new) map.new
-        (status_of stop)) }
-    ensures stands { (files : Files) (w : Option (List ℕ))
-        → IsAtSome options.now files w (K.written sink.old) map.old session.old
-        → StandsForSome options.now map.new }
+    ensures done { OnOk result ((home : F) (files : Option Files) (bytes : List ℕ)
+        (w : Option (List ℕ))
+        → HasServed options.now files bytes (S.left source.old) w (K.written sink.old)
+        (desk map.old (F.files store.old) (store.old ≡ home)) session.old 0
+        → IsKnown (last_progress options.now files bytes)
+        → IsThrough options.now files bytes (S.left source.new) w (K.written sink.new)
+        (desk map.new (F.files store.new) (store.new ≡ home)) session.new) }
+    ensures stops { IfErr result (λ stop. (home : F) (files : Option Files) (bytes : List ℕ)
+        (w : Option (List ℕ))
+        → HasServed options.now files bytes (S.left source.old) w (K.written sink.old)
+        (desk map.old (F.files store.old) (store.old ≡ home)) session.old 0
+        → IsKnown (last_progress options.now files bytes)
+        → HasEndedAs options.now files bytes (S.left source.new) w (K.written sink.new)
+        (desk map.new (F.files store.new) (store.new ≡ home)) (status_of stop)) }
+    ensures stands { KeepsStanding map.old map.new }
     ensures read { OnOk result (S.faults source.new ≡ S.faults source.old) }
     ensures unread { IsErrOf result Stop.ReadFault
         → Rose (S.faults source.old) (S.faults source.new)
-        × (K.faults sink.new ≡ K.faults sink.old) × (K.shortages sink.new ≡ K.shortages sink.old) }
+        × (K.faults sink.new ≡ K.faults sink.old) × (K.shortages sink.new ≡ K.shortages sink.old)
+        × (F.faults store.new ≡ F.faults store.old) }
     ensures stays { OnOk result ((K.faults sink.new ≡ K.faults sink.old)
-        × (K.shortages sink.new ≡ K.shortages sink.old)) }
+        × (K.shortages sink.new ≡ K.shortages sink.old)
+        × (F.faults store.new ≡ F.faults store.old)) }
     ensures failed { IsErrOf result Stop.WriteFault → (S.faults source.new ≡ S.faults source.old)
         × Rose (K.faults sink.old) (K.faults sink.new)
-        × (K.shortages sink.new ≡ K.shortages sink.old) }
+        × (K.shortages sink.new ≡ K.shortages sink.old)
+        × (F.faults store.new ≡ F.faults store.old) }
     ensures memory { IsErrOf result Stop.Memory → (S.faults source.new ≡ S.faults source.old)
         × (K.faults sink.new ≡ K.faults sink.old)
         × ((K.shortages sink.new ≡ K.shortages sink.old)
-        ⊎ Rose (K.shortages sink.old) (K.shortages sink.new)) }
+        ⊎ Rose (K.shortages sink.old) (K.shortages sink.new))
+        × (F.faults store.new ≡ F.faults store.old) }
+    ensures store_failed { IsErrOf result Stop.StoreFault → (S.faults source.new ≡ S.faults source.old)
+        × (K.faults sink.new ≡ K.faults sink.old)
+        × (K.shortages sink.new ≡ K.shortages sink.old)
+        × Rose (F.faults store.old) (F.faults store.new) }
     ensures long { IsErrOf result Stop.TooLong → (S.faults source.new ≡ S.faults source.old)
-        × (K.faults sink.new ≡ K.faults sink.old) × (K.shortages sink.new ≡ K.shortages sink.old) }
+        × (K.faults sink.new ≡ K.faults sink.old)
+        × (K.shortages sink.new ≡ K.shortages sink.old)
+        × (F.faults store.new ≡ F.faults store.old) }
 {
     let mut buffer = [0u8; MOST_READ];
     let mut taken = 0u64;
     'reading: loop {
-        let count = turn(options, map, session, source, sink, &mut buffer, taken)?;
+        let count = turn(
+            options,
+            map,
+            store,
+            session,
+            source,
+            sink,
+            &mut buffer,
+            taken,
+        )?;
         if session.has_quit {
             return Ok(());
         }
         if count == 0 {
-            return session.end(options, map, sink);
+            return session.end(options, map, store, sink);
         }
         taken += count as u64;
     }
@@ -220,13 +260,15 @@ fn read_all<S: Source, K: Sink>(
 
 /// Answers a script line by line and block by block, to its end or to its `quit`, and answers what
 /// a read gave before the next one. It works on the map that it is lent: a map that is set up as
-/// the options say, in which each voxel is unknown and which isn't stale.
+/// the options say, in which each voxel is unknown and which isn't stale. Files are those of the
+/// store.
 ///
 /// The clause `answer` says, status by status, what is written and what is left of the input, and
-/// the clause `map` what the map then stands for. They speak wherever source and sink tell their
-/// bytes, as those in memory do; that the map stands for some history is said for any of them. A
-/// fault comes only where the count of that object rose in this call. Bytes after the line of
-/// `quit` have no effect, and those that one read gave with it may have been taken.
+/// the clause `leaves` what map and files then stand for. They speak wherever the source tells its
+/// bytes and the sink what was written, as those in memory do, and the store its files, or no line
+/// names one; that the map stands for some history is said for any of them. A fault comes only
+/// where the count of that object rose in this call. Bytes after the line of `quit` have no effect,
+/// and those that one read gave with it may have been taken.
 pub fn serve<S: Source, K: Sink, F: Store>(
     alloc: Global,
     options: &Options,
@@ -236,19 +278,25 @@ pub fn serve<S: Source, K: Sink, F: Store>(
     store: &mut F,
 ) -> Status
     requires { StandsFor map.old (start_state options.now) }
-    ensures answer { IfSome (S.left source.old) (λ bytes. (files : Files)
-        → MayEnd options.now files bytes (S.left source.new) (K.written sink.old)
+    ensures answer { IfSome (S.left source.old) (λ bytes.
+        ReadsTold options.now (F.files store.old) bytes
+        → MayEnd options.now (F.files store.old) bytes (S.left source.new) (K.written sink.old)
         (K.written sink.new) result) }
-    ensures map { IfSome (S.left source.old) (λ bytes. (files : Files)
-        → Leaves options.now files bytes (S.left source.new) (K.written sink.old)
-        (K.written sink.new) map.new result) }
+    ensures leaves { IfSome (S.left source.old) (λ bytes.
+        ReadsTold options.now (F.files store.old) bytes
+        → Leaves options.now (F.files store.old) bytes (S.left source.new) (K.written sink.old)
+        (K.written sink.new) (desk map.new (F.files store.new) (store.new ≡ store.old)) result) }
+    ensures files { IfSome (S.left source.old) (λ bytes.
+        ReadsTold options.now (F.files store.old) bytes → IsWhole result
+        → F.files store.new ≡ (whole_session options.now (F.files store.old) bytes).files) }
     ensures stands { StandsForSome options.now map.new }
-    ensures files { IfSome (F.files store.old)
-        (λ files. IfSome (S.left source.old) (λ bytes. IsWhole result
-        → F.files store.new ≡ Some (whole_session options.now files bytes).files)) }
-    ensures store { store.new ≡ store.old }
     ensures usage { result ≢ Status.Usage }
     ensures bad_file { result ≢ Status.BadFile }
+
+    // Where no line names a file, nothing is asked of the store.
+    ensures unnamed { IfSome (S.left source.old) (λ bytes.
+        (last_progress options.now (F.files store.old) bytes).names_file ≡ false
+        → store.new ≡ store.old) }
 
     // A fault is met once and ends the session: its count rises by one exactly where the status
     // names it, and no other count changes.
@@ -258,15 +306,20 @@ pub fn serve<S: Source, K: Sink, F: Store>(
     ensures write_fault { result ≡ Status.WriteFault
         → Rose (K.faults sink.old) (K.faults sink.new) }
     ensures no_write_fault { result ≢ Status.WriteFault → K.faults sink.new ≡ K.faults sink.old }
+    ensures store_fault { result ≡ Status.StoreFault
+        → Rose (F.faults store.old) (F.faults store.new) }
+    ensures no_store_fault { result ≢ Status.StoreFault
+        → F.faults store.new ≡ F.faults store.old }
     ensures memory { result ≡ Status.Memory → (K.shortages sink.new ≡ K.shortages sink.old)
         ⊎ Rose (K.shortages sink.old) (K.shortages sink.new) }
     ensures no_shortage { result ≢ Status.Memory → K.shortages sink.new ≡ K.shortages sink.old }
     ensures complete { ¬ Rose (S.faults source.old) (S.faults source.new)
         → ¬ Rose (K.faults sink.old) (K.faults sink.new)
+        → ¬ Rose (F.faults store.old) (F.faults store.new)
         → result ≢ Status.Memory → IsWhole result }
 {
     let mut session = Session::new(alloc);
-    match read_all(options, map, &mut session, source, sink) {
+    match read_all(options, map, store, &mut session, source, sink) {
         Ok(()) => done_or_refused(session.refused),
         Err(stop) => Status::from(stop),
     }

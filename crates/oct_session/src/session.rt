@@ -1,22 +1,21 @@
 //! A session between two bytes of its script, and what its lines do to it.
 ghost use Rattle.std.specs.Prelude.{◌≡◌, ◌⊎◌, ℕ, ◌+◌, ◌^◌, ◌<◌, ◌≤◌, List, ◌++◌, length, take, OnOk, OnErr, IfOk, IfErr, IsErrOf, Option, None, IsSome, false};
 ghost use Rattle.oct_io.specs.Files.{Files};
-ghost use Rattle.oct_io.specs.Told.{Rose};
-ghost use Rattle.oct_map.specs.Map.{Map};
+ghost use Rattle.oct_io.specs.Told.{Rose, appended};
 ghost use Rattle.oct_script.specs.Lines.{ended_lines, all_lines, unread};
 ghost use Rattle.oct_script.specs.Replies.{is_refusal, text_of};
 ghost use Rattle.oct_session.specs.Setup.{Setup};
 ghost use Rattle.oct_session.specs.Commands.{is_quit};
 ghost use Rattle.oct_session.specs.ScanBlock.{end_reply};
 ghost use Rattle.oct_session.specs.Session.{Progress, effect_of, after_line, progress, closed};
-ghost use Rattle.oct_session.specs.Leaving.{IsHalted, IsHaltedBetween};
-ghost use Rattle.oct_session.specs.Stops.{IsSinkStop, status_of};
-ghost use Rattle.oct_session.specs.Standing.{StandsBeside, IsBetween, HasReached, IsAt, Takes, KeepsReplies, StopsAtEnd};
+ghost use Rattle.oct_session.specs.Leaving.{desk, IsKnown, IsCutBetween, IsHaltedBy, IsHalted};
+ghost use Rattle.oct_session.specs.Stops.{IsHalt, IsSinkStop, status_of};
+ghost use Rattle.oct_session.specs.Standing.{KeepsStanding, HasStoppedAt, IsInStep, IsBetween, HasReached, IsAt, Takes, Halts, StopsAtEnd};
 
 use crate::block::Block;
 use crate::lines::{command_in, take_line};
 use crate::options::{Options, Stop};
-use oct_io::{Sink, write_all};
+use oct_io::{Sink, Store, StoreFault, write_all};
 use oct_map::OccMap;
 use oct_num::Memory;
 use oct_script::{Command, Lines, Refusal, Reply, push_reply};
@@ -49,8 +48,8 @@ fn is_refused(reply: &Option<Reply>) -> bool
 }
 
 /// Whether a line's command ends the session.
-fn is_quit(command: Result<Command, Refusal>) -> bool
-    ensures { result ≡ is_quit command }
+fn is_quit(command: &Result<Command, Refusal>) -> bool
+    ensures { result ≡ is_quit command.now }
 {
     matches!(command, Ok(Command::Quit))
 }
@@ -99,72 +98,105 @@ impl Session {
 
     /// Does what the line that was read says, makes the text of its reply, and begins the next
     /// line.
-    fn answer(&mut self, options: &Options, map: &mut OccMap) -> Result<(), Memory>
+    fn answer<F: Store>(
+        &mut self,
+        options: &Options,
+        map: &mut OccMap,
+        store: &mut F,
+    ) -> Result<(), StoreFault>
         requires few { self.old.line_count < 2 ^ 63 }
         requires running { self.old.has_quit ≡ false }
-        ensures text { OnOk result ((p : Progress) → IsBetween options.now map.old self.old p
+        ensures text { OnOk result ((home : F) (p : Progress)
+            → IsKnown (after_line options.now p self.old.line.line)
+            → IsBetween options.now (desk map.old (F.files store.old) (store.old ≡ home)) self.old p
             → self.new.text.items ≡ text_of (effect_of options.now p self.old.line.line).reply) }
-        ensures between { OnOk result ((p : Progress) → IsBetween options.now map.old self.old p
-            → IsBetween options.now map.new self.new
+        ensures between { OnOk result ((home : F) (p : Progress)
+            → IsKnown (after_line options.now p self.old.line.line)
+            → IsBetween options.now (desk map.old (F.files store.old) (store.old ≡ home)) self.old p
+            → IsBetween options.now (desk map.new (F.files store.new) (store.new ≡ home)) self.new
             (after_line options.now p self.old.line.line)) }
-        ensures err { OnErr result ((p : Progress) → IsBetween options.now map.old self.old p
-            → StandsBeside options.now map.new p self.old.line.line) }
+        ensures err { IfErr result (λ fault. (home : F) (p : Progress)
+            → IsKnown (after_line options.now p self.old.line.line)
+            → IsBetween options.now (desk map.old (F.files store.old) (store.old ≡ home)) self.old p
+            → HasStoppedAt options.now (desk map.new (F.files store.new) (store.new ≡ home)) p
+            self.old.line.line fault) }
+        ensures stands { KeepsStanding map.old map.new }
         ensures line { OnOk result (self.new.line ≡ unread) }
         ensures counted { OnOk result (self.new.line_count ≡ self.old.line_count + 1) }
+        ensures stays { OnOk result (F.faults store.new ≡ F.faults store.old) }
+        ensures memory { IsErrOf result StoreFault.Memory
+            → F.faults store.new ≡ F.faults store.old }
+        ensures failed { IsErrOf result StoreFault.Failed
+            → Rose (F.faults store.old) (F.faults store.new) }
     {
         let number = self.line_count + 1;
         let command = command_in(&self.line, number, self.block.is_some());
-        let block = self.block.take();
-        let done = take_line(self.alloc, map, &self.line, number, command, block)?;
-        tell(&mut self.text, &done.reply)?;
-        self.block = done.block;
-        self.refused |= is_refused(&done.reply);
-        self.has_quit = is_quit(command);
+        let has_quit = is_quit(&command);
+        let block = &mut self.block;
+        let reply = take_line(self.alloc, map, store, &self.line, number, &command, block)?;
+        tell(&mut self.text, &reply)?;
+        self.refused |= is_refused(&reply);
+        self.has_quit = has_quit;
         self.line_count = number;
         self.line.next();
         Ok(())
     }
 
     /// Answers the line that was read.
-    fn respond<K: Sink>(
+    fn respond<K: Sink, F: Store>(
         &mut self,
         options: &Options,
         map: &mut OccMap,
+        store: &mut F,
         sink: &mut K,
     ) -> Result<(), Stop>
         requires few { self.old.line_count < 2 ^ 63 }
         requires running { self.old.has_quit ≡ false }
-        ensures ok { OnOk result ((w : Option (List ℕ)) (p : Progress)
-            → HasReached options.now w (K.written sink.old) map.old self.old p
-            → HasReached options.now w (K.written sink.new) map.new self.new
+        ensures ok { OnOk result ((home : F) (w : Option (List ℕ)) (p : Progress)
+            → IsKnown (after_line options.now p self.old.line.line)
+            → HasReached options.now w (K.written sink.old)
+            (desk map.old (F.files store.old) (store.old ≡ home)) self.old p
+            → HasReached options.now w (K.written sink.new)
+            (desk map.new (F.files store.new) (store.new ≡ home)) self.new
             (after_line options.now p self.old.line.line)) }
-        ensures err { IfErr result (λ stop. (w : Option (List ℕ)) (p : Progress)
-            → HasReached options.now w (K.written sink.old) map.old self.old p
-            → IsHaltedBetween options.now p (after_line options.now p self.old.line.line) w
-            (K.written sink.new) map.new (status_of stop)) }
+        ensures err { IfErr result (λ stop. (home : F) (w : Option (List ℕ)) (p : Progress)
+            → IsKnown (after_line options.now p self.old.line.line)
+            → HasReached options.now w (K.written sink.old)
+            (desk map.old (F.files store.old) (store.old ≡ home)) self.old p
+            → IsHaltedBy options.now p self.old.line.line w (K.written sink.new)
+            (desk map.new (F.files store.new) (store.new ≡ home)) (status_of stop)) }
+        ensures stands { KeepsStanding map.old map.new }
         ensures line { OnOk result (self.new.line ≡ unread) }
         ensures counted { OnOk result (self.new.line_count ≡ self.old.line_count + 1) }
-        ensures only { IfErr result IsSinkStop }
+        ensures only { IfErr result IsHalt }
         ensures stays { OnOk result ((K.faults sink.new ≡ K.faults sink.old)
-            × (K.shortages sink.new ≡ K.shortages sink.old)) }
+            × (K.shortages sink.new ≡ K.shortages sink.old)
+            × (F.faults store.new ≡ F.faults store.old)) }
         ensures failed { IsErrOf result Stop.WriteFault
             → Rose (K.faults sink.old) (K.faults sink.new)
-            × (K.shortages sink.new ≡ K.shortages sink.old) }
+            × (K.shortages sink.new ≡ K.shortages sink.old)
+            × (F.faults store.new ≡ F.faults store.old) }
         ensures memory { IsErrOf result Stop.Memory → (K.faults sink.new ≡ K.faults sink.old)
             × ((K.shortages sink.new ≡ K.shortages sink.old)
-            ⊎ Rose (K.shortages sink.old) (K.shortages sink.new)) }
+            ⊎ Rose (K.shortages sink.old) (K.shortages sink.new))
+            × (F.faults store.new ≡ F.faults store.old) }
+        ensures store_failed { IsErrOf result Stop.StoreFault
+            → (K.faults sink.new ≡ K.faults sink.old)
+            × (K.shortages sink.new ≡ K.shortages sink.old)
+            × Rose (F.faults store.old) (F.faults store.new) }
     {
-        self.answer(options, map)?;
+        self.answer(options, map, store)?;
         write_all(sink, &self.text)?;
         Ok(())
     }
 
     /// Takes the bytes up to and with the next line feed, and answers the line that it ends: how
     /// many bytes.
-    fn advance<K: Sink>(
+    fn advance<K: Sink, F: Store>(
         &mut self,
         options: &Options,
         map: &mut OccMap,
+        store: &mut F,
         piece: &[u8],
         sink: &mut K,
     ) -> Result<usize, Stop>
@@ -172,126 +204,151 @@ impl Session {
         requires running { self.old.has_quit ≡ false }
         requires unended { self.old.line.has_ended ≡ false }
         requires some { 0 < length piece.now }
-        ensures ok { IfOk result (λ n. Takes options.now (K.written sink.old) (K.written sink.new)
-            map.old map.new self.old self.new (take n piece.now)) }
-        ensures err { IfErr result
-            (λ stop. (files : Files) (w : Option (List ℕ)) (bytes : List ℕ)
-            → IsAt options.now files w (K.written sink.old) map.old self.old bytes
-            → IsHalted options.now files (ended_lines (bytes ++ piece.now)) w
-            (K.written sink.new) map.new (status_of stop)) }
-        ensures replied { OnErr result
-            (KeepsReplies options.now (K.written sink.old) (K.written sink.new)
-            map.old self.old) }
+        ensures ok { IfOk result (λ n. (home : F)
+            → Takes options.now (K.written sink.old) (K.written sink.new)
+            (desk map.old (F.files store.old) (store.old ≡ home))
+            (desk map.new (F.files store.new) (store.new ≡ home))
+            self.old self.new (take n piece.now)) }
+        ensures err { IfErr result (λ stop. (home : F)
+            → Halts options.now (K.written sink.old) (K.written sink.new)
+            (desk map.old (F.files store.old) (store.old ≡ home))
+            (desk map.new (F.files store.new) (store.new ≡ home))
+            self.old (λ bytes. ended_lines (bytes ++ piece.now)) (status_of stop)) }
+        ensures stands { KeepsStanding map.old map.new }
         ensures unended { OnOk result (self.new.line.has_ended ≡ false) }
         ensures some { IfOk result (λ n. 0 < n) }
         ensures within { IfOk result (λ n. n ≤ length piece.now) }
         ensures counted { IfOk result (λ n. self.new.line_count ≤ self.old.line_count + n) }
-        ensures only { IfErr result IsSinkStop }
+        ensures only { IfErr result IsHalt }
         ensures stays { OnOk result ((K.faults sink.new ≡ K.faults sink.old)
-            × (K.shortages sink.new ≡ K.shortages sink.old)) }
+            × (K.shortages sink.new ≡ K.shortages sink.old)
+            × (F.faults store.new ≡ F.faults store.old)) }
         ensures failed { IsErrOf result Stop.WriteFault
             → Rose (K.faults sink.old) (K.faults sink.new)
-            × (K.shortages sink.new ≡ K.shortages sink.old) }
+            × (K.shortages sink.new ≡ K.shortages sink.old)
+            × (F.faults store.new ≡ F.faults store.old) }
         ensures memory { IsErrOf result Stop.Memory → (K.faults sink.new ≡ K.faults sink.old)
             × ((K.shortages sink.new ≡ K.shortages sink.old)
-            ⊎ Rose (K.shortages sink.old) (K.shortages sink.new)) }
+            ⊎ Rose (K.shortages sink.old) (K.shortages sink.new))
+            × (F.faults store.new ≡ F.faults store.old) }
+        ensures store_failed { IsErrOf result Stop.StoreFault
+            → (K.faults sink.new ≡ K.faults sink.old)
+            × (K.shortages sink.new ≡ K.shortages sink.old)
+            × Rose (F.faults store.old) (F.faults store.new) }
     {
         let fed = self.line.feed(piece);
         if !fed.ended {
             return Ok(fed.taken);
         }
-        self.respond(options, map, sink)?;
+        self.respond(options, map, store, sink)?;
         Ok(fed.taken)
     }
 
     /// Takes a piece of the script, and answers each line that ends in it, up to a `quit`.
-    pub fn take<K: Sink>(
+    pub fn take<K: Sink, F: Store>(
         &mut self,
         options: &Options,
         map: &mut OccMap,
+        store: &mut F,
         piece: &[u8],
         sink: &mut K,
     ) -> Result<(), Stop>
         requires few { self.old.line_count + length piece.now < 2 ^ 63 }
         requires unended { self.old.line.has_ended ≡ false }
-        ensures ok { OnOk result (Takes options.now (K.written sink.old) (K.written sink.new)
-            map.old map.new self.old self.new piece.now) }
-        ensures err { IfErr result
-            (λ stop. (files : Files) (w : Option (List ℕ)) (bytes : List ℕ)
-            → IsAt options.now files w (K.written sink.old) map.old self.old bytes
-            → IsHalted options.now files (ended_lines (bytes ++ piece.now)) w
-            (K.written sink.new) map.new (status_of stop)) }
-        ensures replied { OnErr result
-            (KeepsReplies options.now (K.written sink.old) (K.written sink.new)
-            map.old self.old) }
+        ensures ok { OnOk result ((home : F)
+            → Takes options.now (K.written sink.old) (K.written sink.new)
+            (desk map.old (F.files store.old) (store.old ≡ home))
+            (desk map.new (F.files store.new) (store.new ≡ home))
+            self.old self.new piece.now) }
+        ensures err { IfErr result (λ stop. (home : F)
+            → Halts options.now (K.written sink.old) (K.written sink.new)
+            (desk map.old (F.files store.old) (store.old ≡ home))
+            (desk map.new (F.files store.new) (store.new ≡ home))
+            self.old (λ bytes. ended_lines (bytes ++ piece.now)) (status_of stop)) }
+        ensures stands { KeepsStanding map.old map.new }
         ensures unended { OnOk result (self.new.line.has_ended ≡ false) }
         ensures counted { OnOk result
             (self.new.line_count ≤ self.old.line_count + length piece.now) }
-        ensures only { IfErr result IsSinkStop }
+        ensures only { IfErr result IsHalt }
         ensures stays { OnOk result ((K.faults sink.new ≡ K.faults sink.old)
-            × (K.shortages sink.new ≡ K.shortages sink.old)) }
+            × (K.shortages sink.new ≡ K.shortages sink.old)
+            × (F.faults store.new ≡ F.faults store.old)) }
         ensures failed { IsErrOf result Stop.WriteFault
             → Rose (K.faults sink.old) (K.faults sink.new)
-            × (K.shortages sink.new ≡ K.shortages sink.old) }
+            × (K.shortages sink.new ≡ K.shortages sink.old)
+            × (F.faults store.new ≡ F.faults store.old) }
         ensures memory { IsErrOf result Stop.Memory → (K.faults sink.new ≡ K.faults sink.old)
             × ((K.shortages sink.new ≡ K.shortages sink.old)
-            ⊎ Rose (K.shortages sink.old) (K.shortages sink.new)) }
+            ⊎ Rose (K.shortages sink.old) (K.shortages sink.new))
+            × (F.faults store.new ≡ F.faults store.old) }
+        ensures store_failed { IsErrOf result Stop.StoreFault
+            → (K.faults sink.new ≡ K.faults sink.old)
+            × (K.shortages sink.new ≡ K.shortages sink.old)
+            × Rose (F.faults store.old) (F.faults store.new) }
     {
         let mut taken = 0;
         while taken < piece.len() && !self.has_quit {
             let (_, rest) = piece.split_at(taken);
-            taken += self.advance(options, map, rest, sink)?;
+            taken += self.advance(options, map, store, rest, sink)?;
         }
         Ok(())
     }
 
     /// Answers the last line, if it lacks its line feed, where the script has ended.
-    fn respond_last<K: Sink>(
+    fn respond_last<K: Sink, F: Store>(
         &mut self,
         options: &Options,
         map: &mut OccMap,
+        store: &mut F,
         sink: &mut K,
     ) -> Result<(), Stop>
         requires few { self.old.line_count < 2 ^ 63 }
         requires running { self.old.has_quit ≡ false }
-        ensures ok { OnOk result ((files : Files) (w : Option (List ℕ)) (bytes : List ℕ)
-            → IsAt options.now files w (K.written sink.old) map.old self.old bytes
-            → HasReached options.now w (K.written sink.new) map.new self.new
+        ensures ok { OnOk result ((home : F) (files : Option Files) (w : Option (List ℕ))
+            (bytes : List ℕ) → IsAt options.now files w (K.written sink.old)
+            (desk map.old (F.files store.old) (store.old ≡ home)) self.old bytes
+            → IsKnown (progress options.now files (all_lines bytes))
+            → HasReached options.now w (K.written sink.new)
+            (desk map.new (F.files store.new) (store.new ≡ home)) self.new
             (progress options.now files (all_lines bytes))) }
-        ensures err { IfErr result
-            (λ stop. (files : Files) (w : Option (List ℕ)) (bytes : List ℕ)
-            → IsAt options.now files w (K.written sink.old) map.old self.old bytes
-            → IsHalted options.now files (all_lines bytes) w (K.written sink.new) map.new
-            (status_of stop)) }
-        ensures replied { OnErr result
-            (KeepsReplies options.now (K.written sink.old) (K.written sink.new)
-            map.old self.old) }
-        ensures only { IfErr result IsSinkStop }
+        ensures err { IfErr result (λ stop. (home : F)
+            → Halts options.now (K.written sink.old) (K.written sink.new)
+            (desk map.old (F.files store.old) (store.old ≡ home))
+            (desk map.new (F.files store.new) (store.new ≡ home))
+            self.old all_lines (status_of stop)) }
+        ensures stands { KeepsStanding map.old map.new }
+        ensures only { IfErr result IsHalt }
         ensures stays { OnOk result ((K.faults sink.new ≡ K.faults sink.old)
-            × (K.shortages sink.new ≡ K.shortages sink.old)) }
+            × (K.shortages sink.new ≡ K.shortages sink.old)
+            × (F.faults store.new ≡ F.faults store.old)) }
         ensures failed { IsErrOf result Stop.WriteFault
             → Rose (K.faults sink.old) (K.faults sink.new)
-            × (K.shortages sink.new ≡ K.shortages sink.old) }
+            × (K.shortages sink.new ≡ K.shortages sink.old)
+            × (F.faults store.new ≡ F.faults store.old) }
         ensures memory { IsErrOf result Stop.Memory → (K.faults sink.new ≡ K.faults sink.old)
             × ((K.shortages sink.new ≡ K.shortages sink.old)
-            ⊎ Rose (K.shortages sink.old) (K.shortages sink.new)) }
+            ⊎ Rose (K.shortages sink.old) (K.shortages sink.new))
+            × (F.faults store.new ≡ F.faults store.old) }
+        ensures store_failed { IsErrOf result Stop.StoreFault
+            → (K.faults sink.new ≡ K.faults sink.old)
+            × (K.shortages sink.new ≡ K.shortages sink.old)
+            × Rose (F.faults store.old) (F.faults store.new) }
     {
         if !self.line.has_rest() {
             return Ok(());
         }
-        self.respond(options, map, sink)
+        self.respond(options, map, store, sink)
     }
 
     /// Closes the block that is open where the script has ended, if one is, and answers it.
     fn close<K: Sink>(&mut self, sink: &mut K) -> Result<(), Stop>
         requires running { self.old.has_quit ≡ false }
-        ensures ok { OnOk result ((o : Setup) (map : Map) (w : Option (List ℕ)) (p : Progress)
-            → HasReached o w (K.written sink.old) map self.old p
-            → HasReached o w (K.written sink.new) map self.new (closed p)) }
-        ensures err { IfErr result
-            (λ stop. (o : Setup) (map : Map) (w : Option (List ℕ)) (p : Progress)
-            → HasReached o w (K.written sink.old) map self.old p
-            → IsHaltedBetween o p (closed p) w (K.written sink.new) map (status_of stop)) }
+        ensures ok { OnOk result ((w : Option (List ℕ)) (p : Progress) → IsInStep self.old p
+            → K.written sink.old ≡ appended w p.text → IsInStep self.new (closed p)
+            × (K.written sink.new ≡ appended w (closed p).text)) }
+        ensures err { OnErr result ((w : Option (List ℕ)) (p : Progress) → IsInStep self.old p
+            → K.written sink.old ≡ appended w p.text
+            → IsCutBetween p (closed p) w (K.written sink.new)) }
         ensures only { IfErr result IsSinkStop }
         ensures stays { OnOk result ((K.faults sink.new ≡ K.faults sink.old)
             × (K.shortages sink.new ≡ K.shortages sink.old)) }
@@ -311,37 +368,48 @@ impl Session {
 
     /// Answers the last line, if it lacks its line feed, and closes the block that is open, where
     /// the script has ended.
-    pub fn end<K: Sink>(
+    pub fn end<K: Sink, F: Store>(
         &mut self,
         options: &Options,
         map: &mut OccMap,
+        store: &mut F,
         sink: &mut K,
     ) -> Result<(), Stop>
         requires few { self.old.line_count < 2 ^ 63 }
         requires running { self.old.has_quit ≡ false }
-        ensures ok { OnOk result ((files : Files) (w : Option (List ℕ)) (bytes : List ℕ)
-            → IsAt options.now files w (K.written sink.old) map.old self.old bytes
-            → HasReached options.now w (K.written sink.new) map.new self.new (closed
-            (progress options.now files (all_lines bytes)))) }
-        ensures err { IfErr result
-            (λ stop. (files : Files) (w : Option (List ℕ)) (bytes : List ℕ)
-            → IsAt options.now files w (K.written sink.old) map.old self.old bytes
-            → StopsAtEnd options.now files (all_lines bytes) w (K.written sink.new) map.new
-            (status_of stop)) }
-        ensures replied { OnErr result
-            (KeepsReplies options.now (K.written sink.old) (K.written sink.new)
-            map.old self.old) }
-        ensures only { IfErr result IsSinkStop }
+        ensures ok { OnOk result ((home : F) (files : Option Files) (w : Option (List ℕ))
+            (bytes : List ℕ) → IsAt options.now files w (K.written sink.old)
+            (desk map.old (F.files store.old) (store.old ≡ home)) self.old bytes
+            → IsKnown (progress options.now files (all_lines bytes))
+            → HasReached options.now w (K.written sink.new)
+            (desk map.new (F.files store.new) (store.new ≡ home)) self.new
+            (closed (progress options.now files (all_lines bytes)))) }
+        ensures err { IfErr result (λ stop. (home : F) (files : Option Files)
+            (w : Option (List ℕ)) (bytes : List ℕ)
+            → IsAt options.now files w (K.written sink.old)
+            (desk map.old (F.files store.old) (store.old ≡ home)) self.old bytes
+            → IsKnown (progress options.now files (all_lines bytes))
+            → StopsAtEnd options.now files bytes (all_lines bytes) w (K.written sink.new)
+            (desk map.new (F.files store.new) (store.new ≡ home)) (status_of stop)) }
+        ensures stands { KeepsStanding map.old map.new }
+        ensures only { IfErr result IsHalt }
         ensures stays { OnOk result ((K.faults sink.new ≡ K.faults sink.old)
-            × (K.shortages sink.new ≡ K.shortages sink.old)) }
+            × (K.shortages sink.new ≡ K.shortages sink.old)
+            × (F.faults store.new ≡ F.faults store.old)) }
         ensures failed { IsErrOf result Stop.WriteFault
             → Rose (K.faults sink.old) (K.faults sink.new)
-            × (K.shortages sink.new ≡ K.shortages sink.old) }
+            × (K.shortages sink.new ≡ K.shortages sink.old)
+            × (F.faults store.new ≡ F.faults store.old) }
         ensures memory { IsErrOf result Stop.Memory → (K.faults sink.new ≡ K.faults sink.old)
             × ((K.shortages sink.new ≡ K.shortages sink.old)
-            ⊎ Rose (K.shortages sink.old) (K.shortages sink.new)) }
+            ⊎ Rose (K.shortages sink.old) (K.shortages sink.new))
+            × (F.faults store.new ≡ F.faults store.old) }
+        ensures store_failed { IsErrOf result Stop.StoreFault
+            → (K.faults sink.new ≡ K.faults sink.old)
+            × (K.shortages sink.new ≡ K.shortages sink.old)
+            × Rose (F.faults store.old) (F.faults store.new) }
     {
-        self.respond_last(options, map, sink)?;
+        self.respond_last(options, map, store, sink)?;
         if self.has_quit {
             return Ok(());
         }

@@ -1,31 +1,61 @@
 -- How a run ends, by its task.
-use Rattle.std.proofs.Common.{◌≡◌, ℕ, List, Option, Some, IfSome, sym, subst}
+use Rattle.std.proofs.Common.{◌≡◌, ℕ, List, Option, Some, None, IfSome, false, sym, subst}
 use Rattle.oct_io.specs.Files.{Files}
+use Rattle.oct_map.specs.Map.{Map}
 use Rattle.oct_session.specs.Ending as session_ending
 use Rattle.oct_session.specs.Ending.{IsWhole}
-use Rattle.oct_session.specs.Session.{session}
+use Rattle.oct_session.specs.Leaving as session_leaving
+use Rattle.oct_session.specs.Leaving.{desk}
+use Rattle.oct_session.specs.Session as session_reading
+use Rattle.oct_session.specs.Session.{session, last_progress}
 use Rattle.oct_session.specs.Setup.{Setup}
 use Rattle.oct_session.specs.declared.options.Status.{Status}
-use Rattle.octomap_cli.specs.Ending.{MayEnd, answer}
+use Rattle.octomap_cli.specs.Ending.{MayEnd, Leaves, ReadsTold, NamesNone, answer}
 use Rattle.octomap_cli.specs.Task.{Task, Session}
 
 -- a run whose task is a session ends as the session does
-pub run_session : (task : Option Task) (o : Setup) (left after v u : Option (List ℕ)) (s : Status) → task ≡ Some (Session o) →
-    IfSome left (λ bytes. (files : Files) → session_ending.MayEnd o files bytes after v u s) → IfSome left (λ bytes. (files : Files) → MayEnd task files bytes after v u s)
-run_session task o left after v u s is ends = subst (λ t. IfSome left (λ bytes. (files : Files) → MayEnd t files bytes after v u s)) (sym is) ends
+pub run_session : (task : Option Task) (o : Setup) (files : Option Files) (left after v u : Option (List ℕ)) (s : Status) → task ≡ Some (Session o) →
+    IfSome left (λ bytes. session_reading.ReadsTold o files bytes → session_ending.MayEnd o files bytes after v u s) → IfSome left (λ bytes. ReadsTold task files bytes → MayEnd task files bytes after v u s)
+run_session task o files left after v u s is ends = subst (λ t. IfSome left (λ bytes. ReadsTold t files bytes → MayEnd t files bytes after v u s)) (sym is) ends
 
--- and its files are those of the session
-pub run_files : (task : Option Task) (o : Setup) (told new : Option Files) (left : Option (List ℕ)) (s : Status) → task ≡ Some (Session o) →
-    IfSome told (λ files. IfSome left (λ bytes. IsWhole s → new ≡ Some (session o files bytes).files)) →
-    IfSome told (λ files. IfSome left (λ bytes. IsWhole s → new ≡ Some (answer task files bytes).files))
-run_files task o told new left s is files = subst (λ t. IfSome told (λ f. IfSome left (λ bytes. IsWhole s → new ≡ Some (answer t f bytes).files))) (sym is) files
+left_session : (o : Setup) (files : Option Files) (left after v u : Option (List ℕ)) (m : Map) (told : Option Files) (kept : Type 0) (s : Status) →
+    IfSome left (λ bytes. session_reading.ReadsTold o files bytes → session_leaving.Leaves o files bytes after v u (desk m told kept) s) →
+    IfSome left (λ bytes. ReadsTold (Some (Session o)) files bytes → Leaves (Some (Session o)) files bytes after v u told kept s)
+left_session o files None after v u m told kept s leaves = tt
+left_session o files (Some bytes) after v u m told kept s leaves = λ reads. (m, leaves reads)
+
+-- and leaves what it leaves
+pub run_leaves : (task : Option Task) (o : Setup) (files : Option Files) (left after v u : Option (List ℕ)) (m : Map) (told : Option Files) (kept : Type 0) (s : Status) → task ≡ Some (Session o) →
+    IfSome left (λ bytes. session_reading.ReadsTold o files bytes → session_leaving.Leaves o files bytes after v u (desk m told kept) s) →
+    IfSome left (λ bytes. ReadsTold task files bytes → Leaves task files bytes after v u told kept s)
+run_leaves task o files left after v u m told kept s is leaves =
+    subst (λ t. IfSome left (λ bytes. ReadsTold t files bytes → Leaves t files bytes after v u told kept s)) (sym is) (left_session o files left after v u m told kept s leaves)
+
+-- its files are those of the session
+pub run_files : (task : Option Task) (o : Setup) (files told : Option Files) (left : Option (List ℕ)) (s : Status) → task ≡ Some (Session o) →
+    IfSome left (λ bytes. session_reading.ReadsTold o files bytes → IsWhole s → told ≡ (session o files bytes).files) →
+    IfSome left (λ bytes. ReadsTold task files bytes → IsWhole s → told ≡ (answer task files bytes).files)
+run_files task o files told left s is ends = subst (λ t. IfSome left (λ bytes. ReadsTold t files bytes → IsWhole s → told ≡ (answer t files bytes).files)) (sym is) ends
+
+-- and it leaves the store where the session does
+pub run_unnamed : (task : Option Task) (o : Setup) (files : Option Files) (left : Option (List ℕ)) (kept : Type 0) → task ≡ Some (Session o) →
+    IfSome left (λ bytes. (last_progress o files bytes).names_file ≡ false → kept) → IfSome left (λ bytes. NamesNone task files bytes → kept)
+run_unnamed task o files left kept is keeps = subst (λ t. IfSome left (λ bytes. NamesNone t files bytes → kept)) (sym is) keeps
 
 -- a run of a task that the words ask for ends as the task does
-pub run_task : (asked : Option Task) (task : Task) (left after v u : Option (List ℕ)) (s : Status) → Some task ≡ asked →
-    IfSome left (λ bytes. (files : Files) → MayEnd (Some task) files bytes after v u s) → IfSome left (λ bytes. (files : Files) → MayEnd asked files bytes after v u s)
-run_task asked task left after v u s is ends = subst (λ t. IfSome left (λ bytes. (files : Files) → MayEnd t files bytes after v u s)) is ends
+pub run_task : (asked : Option Task) (task : Task) (files : Option Files) (left after v u : Option (List ℕ)) (s : Status) → Some task ≡ asked →
+    IfSome left (λ bytes. ReadsTold (Some task) files bytes → MayEnd (Some task) files bytes after v u s) → IfSome left (λ bytes. ReadsTold asked files bytes → MayEnd asked files bytes after v u s)
+run_task asked task files left after v u s is ends = subst (λ t. IfSome left (λ bytes. ReadsTold t files bytes → MayEnd t files bytes after v u s)) is ends
 
-pub task_files : (asked : Option Task) (task : Task) (told new : Option Files) (left : Option (List ℕ)) (s : Status) → Some task ≡ asked →
-    IfSome told (λ files. IfSome left (λ bytes. IsWhole s → new ≡ Some (answer (Some task) files bytes).files)) →
-    IfSome told (λ files. IfSome left (λ bytes. IsWhole s → new ≡ Some (answer asked files bytes).files))
-task_files asked task told new left s is files = subst (λ t. IfSome told (λ f. IfSome left (λ bytes. IsWhole s → new ≡ Some (answer t f bytes).files))) is files
+pub task_leaves : (asked : Option Task) (task : Task) (files told : Option Files) (left after v u : Option (List ℕ)) (kept : Type 0) (s : Status) → Some task ≡ asked →
+    IfSome left (λ bytes. ReadsTold (Some task) files bytes → Leaves (Some task) files bytes after v u told kept s) → IfSome left (λ bytes. ReadsTold asked files bytes → Leaves asked files bytes after v u told kept s)
+task_leaves asked task files told left after v u kept s is leaves = subst (λ t. IfSome left (λ bytes. ReadsTold t files bytes → Leaves t files bytes after v u told kept s)) is leaves
+
+pub task_files : (asked : Option Task) (task : Task) (files told : Option Files) (left : Option (List ℕ)) (s : Status) → Some task ≡ asked →
+    IfSome left (λ bytes. ReadsTold (Some task) files bytes → IsWhole s → told ≡ (answer (Some task) files bytes).files) →
+    IfSome left (λ bytes. ReadsTold asked files bytes → IsWhole s → told ≡ (answer asked files bytes).files)
+task_files asked task files told left s is ends = subst (λ t. IfSome left (λ bytes. ReadsTold t files bytes → IsWhole s → told ≡ (answer t files bytes).files)) is ends
+
+pub task_unnamed : (asked : Option Task) (task : Task) (files : Option Files) (left : Option (List ℕ)) (kept : Type 0) → Some task ≡ asked →
+    IfSome left (λ bytes. NamesNone (Some task) files bytes → kept) → IfSome left (λ bytes. NamesNone asked files bytes → kept)
+task_unnamed asked task files left kept is keeps = subst (λ t. IfSome left (λ bytes. NamesNone t files bytes → kept)) is keeps

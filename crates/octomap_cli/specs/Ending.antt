@@ -1,5 +1,5 @@
 -- What a run writes, and how it may end.
-use Rattle.std.specs.Prelude.{◌≡◌, ℕ, List, [], Option, Some, None}
+use Rattle.std.specs.Prelude.{◌≡◌, ℕ, List, [], Option, Some, None, Bool, true, false, ⊤}
 use Rattle.oct_convert.specs.Answers as file_answers
 use Rattle.oct_convert.specs.Answers.{convert_answer, inspect_answer}
 use Rattle.oct_convert.specs.Ending as file_ending
@@ -8,9 +8,13 @@ use Rattle.oct_convert.specs.declared.ending.Ending.TheVariants as ending
 use Rattle.oct_io.specs.Files.{Files}
 use Rattle.oct_session.specs.Ending.{IsAnswered}
 use Rattle.oct_session.specs.Ending as session_ending
-use Rattle.oct_session.specs.Session.{Answer, session}
+use Rattle.oct_map.specs.Map.{Map}
+use Rattle.oct_session.specs.Leaving.{desk}
+use Rattle.oct_session.specs.Leaving as session_leaving
+use Rattle.oct_session.specs.Session.{Answer, session, last_progress}
+use Rattle.oct_session.specs.Session as session_reading
 use Rattle.oct_session.specs.declared.options.Status.{Status}
-use Rattle.oct_session.specs.declared.options.Status.TheVariants.{Done, Refused, Usage, BadFile, TooLong, ReadFault, WriteFault, Memory}
+use Rattle.oct_session.specs.declared.options.Status.TheVariants.{Done, Refused, Usage, BadFile, TooLong, ReadFault, WriteFault, Memory, StoreFault}
 use Rattle.octomap_cli.specs.Task.{Task, Session, Convert, Inspect}
 
 -- the status of a task over a file
@@ -23,7 +27,7 @@ status_of ending.WriteFault = WriteFault
 status_of ending.Memory = Memory
 
 -- the answer of a task over a file, which changes no files
-abbrev pub file_answer : Files → file_answers.Answer → Answer
+abbrev pub file_answer : Option Files → file_answers.Answer → Answer
 file_answer files whole =
     record { text = whole.text; files = files; status = status_of whole.ending }
 
@@ -37,9 +41,10 @@ EndsAs ends TooLong = ends ending.TooLong
 EndsAs ends ReadFault = ends ending.ReadFault
 EndsAs ends WriteFault = ends ending.WriteFault
 EndsAs ends Memory = ends ending.Memory
+EndsAs ends StoreFault = ⊥
 
 -- the answer to a task, or to words that have none, on these files and this input
-abbrev pub answer : Option Task → Files → List ℕ → Answer
+abbrev pub answer : Option Task → Option Files → List ℕ → Answer
 answer None files bytes = record { text = []; files = files; status = Usage }
 answer (Some (Session o)) files bytes = session o files bytes
 answer (Some (Convert max_bytes)) files bytes = file_answer files (convert_answer max_bytes bytes)
@@ -47,7 +52,7 @@ answer (Some (Inspect max_bytes)) files bytes = file_answer files (inspect_answe
 
 -- how a run over these bytes may end: without a task the answer is the status alone and no byte was
 -- taken, and else it ends as the session may, or as the task over a file
-abbrev pub MayEnd : Option Task → Files → List ℕ → Option (List ℕ) → Option (List ℕ)
+abbrev pub MayEnd : Option Task → Option Files → List ℕ → Option (List ℕ) → Option (List ℕ)
     → Option (List ℕ) → Status → Type 0
 MayEnd None files bytes left old new status =
     IsAnswered (answer None files bytes) old new status × (left ≡ Some bytes)
@@ -57,3 +62,34 @@ MayEnd (Some (Convert max_bytes)) files bytes left old new status =
     EndsAs (file_ending.MayEnd (convert_answer max_bytes bytes) max_bytes bytes left old new) status
 MayEnd (Some (Inspect max_bytes)) files bytes left old new status =
     EndsAs (file_ending.MayEnd (inspect_answer max_bytes bytes) max_bytes bytes left old new) status
+
+-- all files that a task reads are told: only a session reads any
+abbrev pub ReadsTold : Option Task → Option Files → List ℕ → Type 0
+ReadsTold None files bytes = ⊤
+ReadsTold (Some (Session o)) files bytes = session_reading.ReadsTold o files bytes
+ReadsTold (Some (Convert max_bytes)) files bytes = ⊤
+ReadsTold (Some (Inspect max_bytes)) files bytes = ⊤
+
+-- no line of a task's script names a file
+abbrev pub NamesNone : Option Task → Option Files → List ℕ → Type 0
+NamesNone None files bytes = ⊤
+NamesNone (Some (Session o)) files bytes = (last_progress o files bytes).names_file ≡ false
+NamesNone (Some (Convert max_bytes)) files bytes = ⊤
+NamesNone (Some (Inspect max_bytes)) files bytes = ⊤
+
+-- whether a task reads a script, whose lines may name files
+abbrev pub has_script : Option Task → Bool
+has_script None = false
+has_script (Some (Session o)) = true
+has_script (Some (Convert max_bytes)) = false
+has_script (Some (Inspect max_bytes)) = false
+
+-- what a run over these bytes and files leaves of the files: a session leaves them as it says of
+-- them and its map, and any other task as they are
+abbrev pub Leaves : Option Task → Option Files → List ℕ → Option (List ℕ) → Option (List ℕ)
+    → Option (List ℕ) → Option Files → Type 0 → Status → Type 0
+Leaves None files bytes left old new told kept status = kept
+Leaves (Some (Session o)) files bytes left old new told kept status =
+    (map : Map) × session_leaving.Leaves o files bytes left old new (desk map told kept) status
+Leaves (Some (Convert max_bytes)) files bytes left old new told kept status = kept
+Leaves (Some (Inspect max_bytes)) files bytes left old new told kept status = kept

@@ -1,6 +1,5 @@
 //! The top call of the program.
-ghost use Rattle.std.specs.Prelude.{◌≡◌, ◌≢◌, ◌⊎◌, [], IfSome, Some, None};
-ghost use Rattle.oct_io.specs.Files.{Files};
+ghost use Rattle.std.specs.Prelude.{◌≡◌, ◌≢◌, ◌⊎◌, [], IfSome, Some, None, false};
 ghost use Rattle.oct_io.specs.Told.{Rose};
 ghost use Rattle.oct_session.specs.Ending.{IsWhole};
 ghost use Rattle.oct_session.specs.History.{start_state};
@@ -8,7 +7,7 @@ ghost use Rattle.oct_session.specs.Leaving.{StandsFor};
 ghost use Rattle.octomap_cli.specs.Words.{bytes_of};
 ghost use Rattle.octomap_cli.specs.Asked.{asked};
 ghost use Rattle.octomap_cli.specs.Task.{HasFewBytes, task_of};
-ghost use Rattle.octomap_cli.specs.Ending.{MayEnd, answer, status_of};
+ghost use Rattle.octomap_cli.specs.Ending.{MayEnd, Leaves, ReadsTold, NamesNone, has_script, answer, status_of};
 
 use crate::task::{Task, Usage, read_words};
 use oct_convert::{Ending, convert, inspect};
@@ -21,8 +20,10 @@ use std::alloc::Global;
 ///
 /// The replies to a script are those of the plain fold over each single voxel: the clause `answer`
 /// says, status by status, what is written, what is left of the input, and that both are those of
-/// the answer to the task on these bytes. It speaks wherever source and sink tell their bytes, as
-/// those in memory do. A fault comes only where the count of that object rose in this call.
+/// the answer to the task on these bytes and the files of the store; the clause `leaves` says which
+/// files then stand there. They speak wherever source and sink tell their bytes, as those in memory
+/// do, and the store its files, or no line names one. A fault comes only where the count of that
+/// object rose in this call.
 pub fn run<S: Source, K: Sink, F: Store>(
     alloc: Global,
     words: &[String],
@@ -30,15 +31,23 @@ pub fn run<S: Source, K: Sink, F: Store>(
     sink: &mut K,
     store: &mut F,
 ) -> Status
-    ensures answer { IfSome (S.left source.old) (λ bytes. (files : Files)
-        → MayEnd (task_of (bytes_of words.now)) files bytes (S.left source.new)
+    ensures answer { IfSome (S.left source.old) (λ bytes.
+        ReadsTold (task_of (bytes_of words.now)) (F.files store.old) bytes
+        → MayEnd (task_of (bytes_of words.now)) (F.files store.old) bytes (S.left source.new)
         (K.written sink.old) (K.written sink.new) result) }
+    ensures leaves { IfSome (S.left source.old) (λ bytes.
+        ReadsTold (task_of (bytes_of words.now)) (F.files store.old) bytes
+        → Leaves (task_of (bytes_of words.now)) (F.files store.old) bytes (S.left source.new)
+        (K.written sink.old) (K.written sink.new) (F.files store.new) (store.new ≡ store.old)
+        result) }
+    ensures files { IfSome (S.left source.old) (λ bytes.
+        ReadsTold (task_of (bytes_of words.now)) (F.files store.old) bytes → IsWhole result
+        → F.files store.new ≡ (answer (task_of (bytes_of words.now)) (F.files store.old) bytes).files) }
 
-    // The files are those of the answer; no task writes one yet.
-    ensures files { IfSome (F.files store.old) (λ files. IfSome (S.left source.old)
-        (λ bytes. IsWhole result → F.files store.new
-        ≡ Some (answer (task_of (bytes_of words.now)) files bytes).files)) }
-    ensures store { store.new ≡ store.old }
+    // Where no line names a file, nothing is asked of the store.
+    ensures unnamed { IfSome (S.left source.old) (λ bytes.
+        NamesNone (task_of (bytes_of words.now)) (F.files store.old) bytes → store.new ≡ store.old) }
+    ensures unused { has_script (task_of (bytes_of words.now)) ≡ false → store.new ≡ store.old }
 
     // Words without a task read and write nothing.
     ensures usage { task_of (bytes_of words.now) ≡ None → result ≡ Status.Usage }
@@ -54,11 +63,17 @@ pub fn run<S: Source, K: Sink, F: Store>(
     ensures write_fault { result ≡ Status.WriteFault
         → Rose (K.faults sink.old) (K.faults sink.new) }
     ensures no_write_fault { result ≢ Status.WriteFault → K.faults sink.new ≡ K.faults sink.old }
+    ensures store_fault { result ≡ Status.StoreFault
+        → Rose (F.faults store.old) (F.faults store.new) }
+    ensures no_store_fault { result ≢ Status.StoreFault
+        → F.faults store.new ≡ F.faults store.old }
     ensures memory { result ≡ Status.Memory → (K.shortages sink.new ≡ K.shortages sink.old)
         ⊎ Rose (K.shortages sink.old) (K.shortages sink.new) }
     ensures no_shortage { result ≢ Status.Memory → K.shortages sink.new ≡ K.shortages sink.old }
     ensures complete { ¬ Rose (S.faults source.old) (S.faults source.new)
-        → ¬ Rose (K.faults sink.old) (K.faults sink.new) → result ≢ Status.Memory → IsWhole result }
+        → ¬ Rose (K.faults sink.old) (K.faults sink.new)
+        → ¬ Rose (F.faults store.old) (F.faults store.new)
+        → result ≢ Status.Memory → IsWhole result }
 {
     match read_words(words) {
         Ok(task) => perform(alloc, &task, source, sink, store),
@@ -75,13 +90,21 @@ fn perform<S: Source, K: Sink, F: Store>(
     store: &mut F,
 ) -> Status
     requires few { HasFewBytes (asked task.now) }
-    ensures answer { IfSome (S.left source.old) (λ bytes. (files : Files)
-        → MayEnd (Some (asked task.now)) files bytes (S.left source.new)
+    ensures answer { IfSome (S.left source.old) (λ bytes.
+        ReadsTold (Some (asked task.now)) (F.files store.old) bytes
+        → MayEnd (Some (asked task.now)) (F.files store.old) bytes (S.left source.new)
         (K.written sink.old) (K.written sink.new) result) }
-    ensures files { IfSome (F.files store.old) (λ files. IfSome (S.left source.old)
-        (λ bytes. IsWhole result → F.files store.new
-        ≡ Some (answer (Some (asked task.now)) files bytes).files)) }
-    ensures store { store.new ≡ store.old }
+    ensures leaves { IfSome (S.left source.old) (λ bytes.
+        ReadsTold (Some (asked task.now)) (F.files store.old) bytes
+        → Leaves (Some (asked task.now)) (F.files store.old) bytes (S.left source.new)
+        (K.written sink.old) (K.written sink.new) (F.files store.new) (store.new ≡ store.old)
+        result) }
+    ensures files { IfSome (S.left source.old) (λ bytes.
+        ReadsTold (Some (asked task.now)) (F.files store.old) bytes → IsWhole result
+        → F.files store.new ≡ (answer (Some (asked task.now)) (F.files store.old) bytes).files) }
+    ensures unnamed { IfSome (S.left source.old) (λ bytes.
+        NamesNone (Some (asked task.now)) (F.files store.old) bytes → store.new ≡ store.old) }
+    ensures unused { has_script (Some (asked task.now)) ≡ false → store.new ≡ store.old }
     ensures usage { result ≢ Status.Usage }
     ensures read_fault { result ≡ Status.ReadFault
         → Rose (S.faults source.old) (S.faults source.new) }
@@ -89,11 +112,17 @@ fn perform<S: Source, K: Sink, F: Store>(
     ensures write_fault { result ≡ Status.WriteFault
         → Rose (K.faults sink.old) (K.faults sink.new) }
     ensures no_write_fault { result ≢ Status.WriteFault → K.faults sink.new ≡ K.faults sink.old }
+    ensures store_fault { result ≡ Status.StoreFault
+        → Rose (F.faults store.old) (F.faults store.new) }
+    ensures no_store_fault { result ≢ Status.StoreFault
+        → F.faults store.new ≡ F.faults store.old }
     ensures memory { result ≡ Status.Memory → (K.shortages sink.new ≡ K.shortages sink.old)
         ⊎ Rose (K.shortages sink.old) (K.shortages sink.new) }
     ensures no_shortage { result ≢ Status.Memory → K.shortages sink.new ≡ K.shortages sink.old }
     ensures complete { ¬ Rose (S.faults source.old) (S.faults source.new)
-        → ¬ Rose (K.faults sink.old) (K.faults sink.new) → result ≢ Status.Memory → IsWhole result }
+        → ¬ Rose (K.faults sink.old) (K.faults sink.new)
+        → ¬ Rose (F.faults store.old) (F.faults store.new)
+        → result ≢ Status.Memory → IsWhole result }
 {
     match task {
         Task::Session(options) => {

@@ -74,7 +74,7 @@ const SCAN_BLOCKS: [Case; 12] = [
         Status::Refused,
     ),
     (
-        "scan 0 0 0 1 0 0 0 all\nlist 0 0 0 0 0 0 16\nend\nhit 0 0 0\n",
+        "scan 0 0 0 1 0 0 0 all\nlists 0 0 0 0 0 0 16\nend\nhit 0 0 0\n",
         "refused 36 NotYet\nok\n",
         Status::Refused,
     ),

@@ -222,7 +222,7 @@ const REFUSALS: [Case; 6] = [
         Status::Refused,
     ),
     (
-        "changes\nsave m\nlist 0 0 0 1 1 1 16\ntrack\nget 0 0 0 0016\nget 0 0 0 12345678\n",
+        "changed\nsaves m\nlists 0 0 0 1 1 1 16\ntracks\nget 0 0 0 0016\nget 0 0 0 12345678\n",
         "refused 36 NotYet\nrefused 36 NotYet\nrefused 36 NotYet\nrefused 36 NotYet\nunknown\nrefused 29 Syntax line 6 column 11\n",
         Status::Refused,
     ),

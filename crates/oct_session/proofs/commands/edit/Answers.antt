@@ -9,10 +9,10 @@ returns-in-Ok c =
     let edited = c.in-Ok.ensures.edited in
     edit_done c.args.map.now c.edit.new.self c.args.p c.args.e c.args.lazy c.event_of-event.result
     (c.event_of-event.ensures.exact ∙ ap (λ odds. edit_event odds c.args.e) (c.odds.ensures ∙ ap (λ (t : Tree). t.odds) c.tree.ensures.exact))
-    c.in-Ok.ensures.answer edited.values edited.stale (λ eager. (edited.eager eager).pruned) c.edit.ensures.setup
+    c.in-Ok.ensures.answer edited.values edited.stale (λ eager. (edited.eager eager).pruned) (record { ground = c.edit.ensures.setup; mark = c.edit.ensures.mark })
 
 pub returns-in-Err : goal.returns-in-Err
 returns-in-Err c =
     let refused = c.in-Err.ensures.refused in
     edit_refused c.refuse.result c.args.map.now c.edit.new.self c.args.p c.args.e c.args.lazy c.in-Err.fault
-    c.refuse.ensures.ok c.refuse.ensures.some c.in-Err.ensures.answer refused.values refused.stale refused.pruned c.edit.ensures.setup
+    c.refuse.ensures.ok c.refuse.ensures.some c.in-Err.ensures.answer refused.values refused.stale refused.pruned (record { ground = c.edit.ensures.setup; mark = c.edit.ensures.mark })

@@ -9,10 +9,10 @@ returns-in-Ok c =
     let edited = c.in-Ok.ensures.edited in
     box_done c.args.map.now c.edit_box.new.self c.args.low c.args.high c.args.e c.event_of-event.result
     (c.event_of-event.ensures.exact ∙ ap (λ odds. edit_event odds c.args.e) (c.odds.ensures ∙ ap (λ (t : Tree). t.odds) c.tree.ensures.exact))
-    c.in-Ok.ensures.answer edited.values edited.stale (edited.eager (λ lazy. cc)).pruned c.edit_box.ensures.setup
+    c.in-Ok.ensures.answer edited.values edited.stale (edited.eager (λ lazy. cc)).pruned (record { ground = c.edit_box.ensures.setup; mark = c.edit_box.ensures.mark })
 
 pub returns-in-Err : goal.returns-in-Err
 returns-in-Err c =
     let refused = c.in-Err.ensures.refused in
     box_refused c.refuse.result c.args.map.now c.edit_box.new.self c.args.low c.args.high c.args.e c.in-Err.fault
-    c.refuse.ensures.ok c.refuse.ensures.some c.in-Err.ensures.answer refused.values refused.stale refused.pruned c.edit_box.ensures.setup
+    c.refuse.ensures.ok c.refuse.ensures.some c.in-Err.ensures.answer refused.values refused.stale refused.pruned (record { ground = c.edit_box.ensures.setup; mark = c.edit_box.ensures.mark })

@@ -1,12 +1,23 @@
-use Rattle.oct_session.proofs.Effects.{effect_on, effect_before}
+use Rattle.std.proofs.Common.{sym, ◌∙◌}
+use Rattle.oct_session.proofs.Effects.{inside_done, inside_failed, some_inside}
 use Rattle.oct_session.proofs.lines.take_line.Goals as goal
 
-pub returns-in-Some : goal.returns-in-Some
-returns-in-Some c =
-    effect_on c.inside.result c.args.map.now c.inside.new.map c.args.number c.args.line.now.line c.args.command c.args.block c.in-Some.block
-    c.in-Some.is c.inside.ensures
+pub returns-in_err-reply-clause-effect : goal.returns-in_err-reply-clause-effect
+returns-in_err-reply-clause-effect g c =
+    inside_failed c.from_residual.result c.args.map.now c.inside.new.map _ c.args.number c.args.line.now.line c.args.command.now c.args.block.now c.inside.new.block
+    (sym c.is_some.ensures ∙ c.if-is_some.true) c.from_residual.ensures.1 c.in_err-reply.ensures
 
-pub returns-in-None : goal.returns-in-None
-returns-in-None c =
-    effect_before c.outside.result c.args.map.now c.outside.new.map c.args.number c.args.line.now.line c.args.command c.args.block c.opened.result
-    c.in-None.is c.opened.ensures c.outside.ensures
+pub returns-in_err-reply-clause-stands : goal.returns-in_err-reply-clause-stands
+returns-in_err-reply-clause-stands g c =
+    some_inside c.inside.result c.args.map.now c.inside.new.map c.args.number c.args.command.now c.args.block.now c.inside.new.block
+    (sym c.is_some.ensures ∙ c.if-is_some.true) c.inside.ensures
+
+pub returns-then-is_some-clause-effect : goal.returns-then-is_some-clause-effect
+returns-then-is_some-clause-effect g c =
+    inside_done c.args.map.now c.inside.new.map _ c.args.number c.args.line.now.line c.args.command.now c.args.block.now c.inside.new.block c.in_ok-reply.reply
+    (sym c.is_some.ensures ∙ c.if-is_some.true) c.in_ok-reply.ensures
+
+pub returns-then-is_some-clause-stands : goal.returns-then-is_some-clause-stands
+returns-then-is_some-clause-stands g c =
+    some_inside c.inside.result c.args.map.now c.inside.new.map c.args.number c.args.command.now c.args.block.now c.inside.new.block
+    (sym c.is_some.ensures ∙ c.if-is_some.true) c.inside.ensures

@@ -1,35 +1,31 @@
 use Rattle.std.proofs.Common.{◌∙◌}
 use Rattle.oct_session.proofs.Endings.{after_stop, last_read, last_stop}
-use Rattle.oct_session.proofs.SomeHistory.{some_at, some_end}
 use Rattle.oct_session.proofs.service.read_all.Goals as goal
 
 pub returns-in_err-count-clause-stops : goal.returns-in_err-count-clause-stops
 returns-in_err-count-clause-stops g c = after_stop _ _ c.args.options.now _ _ _ _ _ _ _ _ _ _ _ _ c.from_residual.ensures.1 c.reading.invariant.at c.in_err-count.ensures.stops
 
 pub returns-then-session-clause-done : goal.returns-then-session-clause-done
-returns-then-session-clause-done g c = λ files bytes w at. c.in_ok-count.ensures.quits c.if-session.true files bytes w (c.reading.invariant.at files bytes w at)
+returns-then-session-clause-done g c = λ home files bytes w at known. c.in_ok-count.ensures.quits c.if-session.true home files bytes w (c.reading.invariant.at home files bytes w at) known
 
 pub returns-then-count-eq0-clause-done : goal.returns-then-count-eq0-clause-done
 returns-then-count-eq0-clause-done g c =
     last_read _ c.args.options.now _ _ _ _ _ _ _ _ _ _ _ _ (c.in_ok-count.ensures.fits c.if-session.false) (c.in_ok-count.ensures.end c.if-count-eq0.true)
-    (λ files bytes w at. c.in_ok-count.ensures.goes c.if-session.false files bytes w (c.reading.invariant.at files bytes w at)) c.end.ensures.ok
+    (λ home files bytes w at. c.in_ok-count.ensures.goes c.if-session.false home files bytes w (c.reading.invariant.at home files bytes w at)) c.end.ensures.ok
 
 pub returns-then-count-eq0-clause-stops : goal.returns-then-count-eq0-clause-stops
 returns-then-count-eq0-clause-stops g c =
     last_stop _ c.args.options.now _ _ _ _ _ _ _ _ _ _ _ (c.in_ok-count.ensures.fits c.if-session.false) (c.in_ok-count.ensures.end c.if-count-eq0.true)
-    (λ files bytes w at. c.in_ok-count.ensures.goes c.if-session.false files bytes w (c.reading.invariant.at files bytes w at)) c.end.ensures.only c.end.ensures.err c.end.ensures.replied
+    (λ home files bytes w at. c.in_ok-count.ensures.goes c.if-session.false home files bytes w (c.reading.invariant.at home files bytes w at)) c.end.ensures.only c.end.ensures.err
 
 pub returns-in_err-count-clause-stands : goal.returns-in_err-count-clause-stands
-returns-in_err-count-clause-stands g c = λ files w at. c.in_err-count.ensures.stands files w (c.reading.invariant.given files w at)
+returns-in_err-count-clause-stands g c = λ o some. c.turn.ensures.stands o (c.reading.invariant.stands o some)
 
 pub returns-then-session-clause-stands : goal.returns-then-session-clause-stands
-returns-then-session-clause-stands g c = λ files w at.
-    some_at c.args.options.now files w _ c.turn.new.map c.turn.new.session (c.in_ok-count.ensures.given files w (c.reading.invariant.given files w at))
+returns-then-session-clause-stands g c = λ o some. c.turn.ensures.stands o (c.reading.invariant.stands o some)
 
 pub returns-then-count-eq0-clause-stands : goal.returns-then-count-eq0-clause-stands
-returns-then-count-eq0-clause-stands g c = λ files w at.
-    some_end c.end.result c.args.options.now _ _ c.turn.new.map c.end.new.map c.turn.new.session c.end.new.self c.end.ensures.ok c.end.ensures.err files w
-    (c.in_ok-count.ensures.given files w (c.reading.invariant.given files w at))
+returns-then-count-eq0-clause-stands g c = λ o some. c.end.ensures.stands o (c.turn.ensures.stands o (c.reading.invariant.stands o some))
 
 pub reading-preserved : goal.reading-preserved
 reading-preserved g c = record {
@@ -37,9 +33,10 @@ reading-preserved g c = record {
   running = c.if-session.false;
   unended = c.in_ok-count.ensures.unended;
   counted = c.in_ok-count.ensures.counted;
-  at = λ files bytes w at. c.in_ok-count.ensures.goes c.if-session.false files bytes w (c.reading.invariant.at files bytes w at);
-  given = λ files w at. c.in_ok-count.ensures.given files w (c.reading.invariant.given files w at);
+  at = λ home files bytes w at. c.in_ok-count.ensures.goes c.if-session.false home files bytes w (c.reading.invariant.at home files bytes w at);
+  stands = λ o some. c.turn.ensures.stands o (c.reading.invariant.stands o some);
   read = c.in_ok-count.ensures.read ∙ c.reading.invariant.read;
   faults = c.in_ok-count.ensures.stays.0 ∙ c.reading.invariant.faults;
   shortages = c.in_ok-count.ensures.stays.1 ∙ c.reading.invariant.shortages;
+  store_faults = c.in_ok-count.ensures.stays.2 ∙ c.reading.invariant.store_faults;
 }

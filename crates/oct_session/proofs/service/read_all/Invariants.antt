@@ -1,6 +1,7 @@
 use Rattle.std.proofs.Common.{◌≡◌, ℕ, ◌-◌, ◌≤◌, List, Option, false}
 use Rattle.oct_io.specs.Files.{Files}
-use Rattle.oct_session.specs.Standing.{HasServed, IsAtSome}
+use Rattle.oct_session.specs.Leaving.{desk}
+use Rattle.oct_session.specs.Standing.{HasServed, KeepsStanding}
 use Rattle.oct_session.proofs.service.read_all.Given as goal
 
 abbrev pub invariant-reading : goal.invariant-reading
@@ -9,12 +10,14 @@ invariant-reading g l = record {
   running : l.session.has_quit ≡ false;
   unended : l.session.line.has_ended ≡ false;
   counted : l.session.line_count ≤ l.taken;
-  at : (files : Files) (bytes : List ℕ) (w : Option (List ℕ)) → HasServed l.options files bytes (g.S.Source.left l.fn.source) w (g.K.Sink.written l.fn.sink) l.fn.map l.fn.session 0
-      → HasServed l.options files bytes (g.S.Source.left l.source) w (g.K.Sink.written l.sink) l.map l.session l.taken;
-  given : (files : Files) (w : Option (List ℕ)) → IsAtSome l.options files w (g.K.Sink.written l.fn.sink) l.fn.map l.fn.session → IsAtSome l.options files w (g.K.Sink.written l.sink) l.map l.session;
+  at : (home : _) (files : Option Files) (bytes : List ℕ) (w : Option (List ℕ))
+      → HasServed l.options files bytes (g.S.Source.left l.fn.source) w (g.K.Sink.written l.fn.sink) (desk l.fn.map (g.F.Store.files l.fn.store) (l.fn.store ≡ home)) l.fn.session 0
+      → HasServed l.options files bytes (g.S.Source.left l.source) w (g.K.Sink.written l.sink) (desk l.map (g.F.Store.files l.store) (l.store ≡ home)) l.session l.taken;
+  stands : KeepsStanding l.fn.map l.map;
   read : g.S.Source.faults l.source ≡ g.S.Source.faults l.fn.source;
   faults : g.K.Sink.faults l.sink ≡ g.K.Sink.faults l.fn.sink;
   shortages : g.K.Sink.shortages l.sink ≡ g.K.Sink.shortages l.fn.sink;
+  store_faults : g.F.Store.faults l.store ≡ g.F.Store.faults l.fn.store;
 }
 
 abbrev pub decreases-reading : goal.decreases-reading

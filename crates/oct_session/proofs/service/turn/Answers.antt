@@ -1,11 +1,10 @@
 use Rattle.std.proofs.Common.{◌-◌, ap, arith}
 use Rattle.oct_session.proofs.Endings.{fault_ends, stop_ends, goes_on, quits_in}
-use Rattle.oct_session.proofs.SomeHistory.{some_same, some_stop, some_more}
 use Rattle.oct_session.proofs.service.turn.Goals as goal
 
 pub returns-in_err-count-clause-stops : goal.returns-in_err-count-clause-stops
 returns-in_err-count-clause-stops g c =
-    fault_ends _ c.args.options.now _ _ _ c.args.map.now c.args.session.now c.args.taken c.from_residual.ensures.1 c.in_err-count.ensures.err c.requires.few c.requires.running
+    fault_ends _ c.args.options.now _ _ _ _ c.args.session.now c.args.taken c.from_residual.ensures.1 c.in_err-count.ensures.err c.requires.few c.requires.running
 
 pub returns-in_err-take_piece-clause-stops : goal.returns-in_err-take_piece-clause-stops
 returns-in_err-take_piece-clause-stops g c =
@@ -21,7 +20,7 @@ returns-in_err-take_piece-clause-stops g c =
       is = c.split_at.ensures.front;
       len = c.split_at.ensures.front_len;
     })
-    c.in_err-take_piece.ensures.stops c.in_err-take_piece.ensures.replied
+    c.in_err-take_piece.ensures.stops
 
 pub returns-clause-goes : goal.returns-clause-goes
 returns-clause-goes g c =
@@ -54,14 +53,3 @@ returns-clause-quits g c =
       len = c.split_at.ensures.front_len;
     })
     c.requires.running c.in_ok-take_piece.ensures.ok
-
-pub returns-in_err-count-clause-stands : goal.returns-in_err-count-clause-stands
-returns-in_err-count-clause-stands g c = some_same _ c.args.options.now _ c.args.map.now c.args.session.now
-
-pub returns-in_err-take_piece-clause-stands : goal.returns-in_err-take_piece-clause-stands
-returns-in_err-take_piece-clause-stands g c =
-    some_stop _ c.args.options.now _ _ c.args.map.now c.take_piece.new.map c.args.session.now c.take_piece.new.session _ _ _ c.in_err-take_piece.ensures.stops
-
-pub returns-clause-given : goal.returns-clause-given
-returns-clause-given g c =
-    some_more c.args.options.now _ _ c.args.map.now c.take_piece.new.map c.args.session.now c.take_piece.new.session _ c.in_ok-take_piece.ensures.ok

@@ -1,11 +1,20 @@
-use Rattle.std.proofs.Common.{Some, ap}
+use Rattle.std.proofs.Common.{◌≡◌, Some, ap}
 use Rattle.octomap_cli.specs.declared.task.Task.{Task}
 use Rattle.octomap_cli.specs.Asked.{asked}
-use Rattle.octomap_cli.proofs.Runs.{run_session, run_files}
+use Rattle.octomap_cli.proofs.Runs.{run_session, run_leaves, run_files, run_unnamed}
 use Rattle.octomap_cli.proofs.program.perform.Goals as goal
 
 pub returns-in-Session-clause-answer : goal.returns-in-Session-clause-answer
-returns-in-Session-clause-answer g c = run_session _ _ _ _ _ _ _ (ap (λ (t : Task). Some (asked t)) c.in-Session.is) c.serve.ensures.answer
+returns-in-Session-clause-answer g c = run_session _ _ (g.F.Store.files c.args.store.now) _ _ _ _ _ (ap (λ (t : Task). Some (asked t)) c.in-Session.is) c.serve.ensures.answer
+
+pub returns-in-Session-clause-leaves : goal.returns-in-Session-clause-leaves
+returns-in-Session-clause-leaves g c =
+    run_leaves _ _ (g.F.Store.files c.args.store.now) _ _ _ _ c.serve.new.map (g.F.Store.files c.serve.new.store) (c.serve.new.store ≡ c.args.store.now) _
+    (ap (λ (t : Task). Some (asked t)) c.in-Session.is) c.serve.ensures.leaves
 
 pub returns-in-Session-clause-files : goal.returns-in-Session-clause-files
-returns-in-Session-clause-files g c = run_files _ _ _ _ _ _ (ap (λ (t : Task). Some (asked t)) c.in-Session.is) c.serve.ensures.files
+returns-in-Session-clause-files g c = run_files _ _ (g.F.Store.files c.args.store.now) _ _ _ (ap (λ (t : Task). Some (asked t)) c.in-Session.is) c.serve.ensures.files
+
+pub returns-in-Session-clause-unnamed : goal.returns-in-Session-clause-unnamed
+returns-in-Session-clause-unnamed g c =
+    run_unnamed _ _ (g.F.Store.files c.args.store.now) _ (c.serve.new.store ≡ c.args.store.now) (ap (λ (t : Task). Some (asked t)) c.in-Session.is) c.serve.ensures.unnamed

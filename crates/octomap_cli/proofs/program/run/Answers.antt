@@ -1,8 +1,17 @@
-use Rattle.octomap_cli.proofs.Runs.{run_task, task_files}
+use Rattle.std.proofs.Common.{◌≡◌}
+use Rattle.octomap_cli.proofs.Runs.{run_task, task_leaves, task_files, task_unnamed}
 use Rattle.octomap_cli.proofs.program.run.Goals as goal
 
 pub returns-in-Ok-clause-answer : goal.returns-in-Ok-clause-answer
-returns-in-Ok-clause-answer g c = run_task _ _ _ _ _ _ _ c.in-Ok.ensures.exact c.perform.ensures.answer
+returns-in-Ok-clause-answer g c = run_task _ _ (g.F.Store.files c.args.store.now) _ _ _ _ _ c.in-Ok.ensures.exact c.perform.ensures.answer
+
+pub returns-in-Ok-clause-leaves : goal.returns-in-Ok-clause-leaves
+returns-in-Ok-clause-leaves g c =
+    task_leaves _ _ (g.F.Store.files c.args.store.now) (g.F.Store.files c.perform.new.store) _ _ _ _ (c.perform.new.store ≡ c.args.store.now) _
+    c.in-Ok.ensures.exact c.perform.ensures.leaves
 
 pub returns-in-Ok-clause-files : goal.returns-in-Ok-clause-files
-returns-in-Ok-clause-files g c = task_files _ _ _ _ _ _ c.in-Ok.ensures.exact c.perform.ensures.files
+returns-in-Ok-clause-files g c = task_files _ _ (g.F.Store.files c.args.store.now) _ _ _ c.in-Ok.ensures.exact c.perform.ensures.files
+
+pub returns-in-Ok-clause-unnamed : goal.returns-in-Ok-clause-unnamed
+returns-in-Ok-clause-unnamed g c = task_unnamed _ _ (g.F.Store.files c.args.store.now) _ (c.perform.new.store ≡ c.args.store.now) c.in-Ok.ensures.exact c.perform.ensures.unnamed

@@ -1,17 +1,20 @@
-use Rattle.std.proofs.Common.{◌≡◌, ℕ, ◌+◌, ◌-◌, ◌≤◌, List, ◌++◌, length, take, Option, false}
-use Rattle.oct_io.specs.Files.{Files}
-use Rattle.oct_session.specs.Standing.{IsAt}
+use Rattle.std.proofs.Common.{◌≡◌, ◌+◌, ◌-◌, ◌≤◌, length, take, false}
+use Rattle.oct_session.specs.Leaving.{desk}
+use Rattle.oct_session.specs.Standing.{KeepsStanding, Takes}
 use Rattle.oct_session.proofs.session.Session.take.Given as goal
 
 abbrev pub invariant-loop-taken : goal.invariant-loop-taken
 invariant-loop-taken g l = record {
   within : l.taken ≤ length l.piece;
-  at : (files : Files) (w : Option (List ℕ)) (bytes : List ℕ) → IsAt l.options files w (g.K.Sink.written l.fn.sink) l.fn.map l.fn.self bytes
-      → IsAt l.options files w (g.K.Sink.written l.sink) l.map l.self (bytes ++ take l.taken l.piece);
+  at : (home : _) → Takes l.options (g.K.Sink.written l.fn.sink) (g.K.Sink.written l.sink)
+      (desk l.fn.map (g.F.Store.files l.fn.store) (l.fn.store ≡ home)) (desk l.map (g.F.Store.files l.store) (l.store ≡ home))
+      l.fn.self l.self (take l.taken l.piece);
+  stands : KeepsStanding l.fn.map l.map;
   unended : l.self.line.has_ended ≡ false;
   counted : l.self.line_count ≤ l.fn.self.line_count + l.taken;
   faults : g.K.Sink.faults l.sink ≡ g.K.Sink.faults l.fn.sink;
   shortages : g.K.Sink.shortages l.sink ≡ g.K.Sink.shortages l.fn.sink;
+  store_faults : g.F.Store.faults l.store ≡ g.F.Store.faults l.fn.store;
 }
 
 abbrev pub decreases-loop-taken : goal.decreases-loop-taken
