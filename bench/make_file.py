@@ -4,15 +4,25 @@
     bench/make_scans.py 1 5 500 | bench/make_file.py 0.05
 
 The script's lines are comments, `scan` with a range, `p`, `end` and `quit`. The beams' voxels are
-found plane by plane with exact fractions, and the values kept in a dictionary.
+found plane by plane with exact fractions, and the values kept in a dictionary. The model's `build`
+writes the same file, slower.
 """
 import itertools
 import sys
 from fractions import Fraction
 from pathlib import Path
 
-sys.path.insert(0, str(Path(__file__).resolve().parent.parent / "examples"))
-from reference import HIT, MISS, OCCUPIED, class_of, clamped, cut, key, nanometres, posed
+sys.dont_write_bytecode = True
+sys.path.insert(0, str(Path(__file__).resolve().parent / "model"))
+from beams import cut, key, posed
+from texts import metres
+from world import OCCUPIED, Odds
+
+ODDS = Odds()
+
+
+def nanometres(word):
+    return metres(word.encode())
 
 
 def voxels_met(place, end, edge):
@@ -46,14 +56,14 @@ def values_after(lines, edge):
             hits.update([] if is_cut else voxels[-1:])
         elif verb == "end":
             for voxel in hits | frees:
-                change = HIT if voxel in hits else MISS
-                values[voxel] = clamped(values.get(voxel, 0) + change)
+                change = ODDS.hit if voxel in hits else ODDS.miss
+                values[voxel] = ODDS.clamped(values.get(voxel, 0) + change)
     return values
 
 
 def node_data(values):
     """The records of the map's blocks, each before those of its children, and the known nodes."""
-    inner = {voxel: 2 if class_of(value) == OCCUPIED else 1 for voxel, value in values.items()}
+    inner = {voxel: 2 if ODDS.class_of(value) == OCCUPIED else 1 for voxel, value in values.items()}
     below = {}
     for _ in range(16):
         blocks = {}
