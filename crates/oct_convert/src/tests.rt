@@ -1,9 +1,9 @@
 //! Files from sources in memory, and from one that fails, and what the tasks write of them.
-ghost use Rattle.std.specs.Prelude.{◌<◌, None};
+ghost use Rattle.std.specs.Prelude.{◌<◌};
 
 use crate::{Ending, NoFile, convert, inspect, read_file};
 use oct_bt::{BtFault, HeaderWord};
-use oct_io::{CalmSink, CalmSource, Failed, FileBytes, Source};
+use oct_io::{CalmSink, CalmSource, FileBytes, KeptList, MemSource};
 use std::alloc::Global;
 use std::process::Abort;
 use std::test::Fail;
@@ -113,39 +113,14 @@ fn converts_and_inspects_files(rt: HostRuntime) -> Result<(), Fail> {
     Ok(())
 }
 
-/// Gives one byte, and then fails.
-#[derive(Drop)]
-struct TornSource {
-    byte: Option<u8>,
-    faults: u64,
-}
-
-impl Source for TornSource {
-    ghost left = { λ _. None };
-
-    ghost faults = { λ s. s.faults };
-
-    fn read(&mut self, buffer: &mut [u8]) -> Result<usize, Failed> {
-        match self.byte {
-            Some(byte) if !buffer.is_empty() => {
-                self.byte = None;
-                buffer[0] = byte;
-                Ok(1)
-            }
-            _ => {
-                self.faults = self.faults.saturating_add(1);
-                Err(Failed)
-            }
-        }
-    }
-}
-
 #[test]
-fn a_failed_read_comes_before_a_bad_file(rt: HostRuntime) {
-    for byte in [None, Some(b'x')] {
-        let mut source = TornSource { byte, faults: 0 };
+fn a_failed_read_comes_before_a_bad_file(rt: HostRuntime) -> Result<(), Fail> {
+    for (bytes, call) in [(b"".as_slice(), 1), (b"x".as_slice(), 2)] {
+        let mut fails = KeptList::new(rt.alloc());
+        fails.push(call)?;
+        let mut source = MemSource::new(FileBytes::from_slice(rt.alloc(), bytes)?, 1, fails);
         let got = read_file(rt.alloc(), 1, &mut source).err();
         assert_eq!(rt; got, Some(NoFile::ReadFault));
-        assert_eq!(rt; source.faults, 1);
     }
+    Ok(())
 }

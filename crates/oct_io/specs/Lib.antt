@@ -5,3 +5,4 @@ pub mod Loaded
 pub mod CalmFiles
 pub mod Taken
 pub mod Gathered
+pub mod Failing

@@ -19,27 +19,35 @@
 //!   other answer changes it. So who calls again after a fault is found out by the count. A write
 //!   that runs out of memory raises the sink's count of shortages in the same way.
 //!
-//! There are two forms of each. [`CalmSource`], [`CalmSink`] and [`CalmStore`] live in memory, tell
+//! There are three forms of each. [`CalmSource`], [`CalmSink`] and [`CalmStore`] live in memory, tell
 //! all that they hold and never fault; the tests and the proofs about whole programs run on them.
+//! [`MemSource`], [`MemSink`] and [`MemStore`] are the same, but that the calls of some numbers,
+//! counted from 1 on, fail: a test that lets call 1, 2, 3 and so on fail sees what each fault leaves.
 //! [`StdSource`], [`StdSink`] and [`FolderStore`] are the edge to the system: a few lines each over
 //! a reader, a writer and the files of the current folder. What the system does is told by no
 //! contract, so of these it is proved that they are safe, count their faults, pass on what a reader
 //! or writer of std tells, and take an error of opening a file for a missing file exactly where it
 //! says so.
 //!
-//! [`FileBytes`] is a list of bytes. The definitions that contracts cite are in `specs/`: `Told`
-//! for the bytes and the counts, `Files` for files by name, `Loaded` for the answers of a load.
-//! Laws of appending and of saving are in `proofs/Appending.antt` and `proofs/Filing.antt`.
+//! [`FileBytes`] is a list of bytes, and [`KeptList`] one of whole numbers. The definitions that
+//! contracts cite are in `specs/`: `Told` for the bytes and the counts, `Files` for files by name,
+//! `Loaded` for the answers of a load, `Failing` for calls that fail by their numbers. Laws of
+//! appending and of saving are in `proofs/Appending.antt` and `proofs/Filing.antt`.
 //! Sessions and the program stand on this crate.
 
 #![tactic(auto)]
 
+mod calls;
 mod calm_sink;
 mod calm_source;
 mod calm_store;
 mod file_bytes;
 mod folder_store;
 mod gather;
+mod kept_list;
+mod mem_sink;
+mod mem_source;
+mod mem_store;
 mod piece;
 mod sink;
 mod source;
@@ -55,6 +63,10 @@ pub use calm_store::CalmStore;
 pub use file_bytes::FileBytes;
 pub use folder_store::FolderStore;
 pub use gather::Gather;
+pub use kept_list::KeptList;
+pub use mem_sink::MemSink;
+pub use mem_source::MemSource;
+pub use mem_store::MemStore;
 pub use piece::read_piece;
 pub use sink::{Sink, SinkFault, write_all};
 pub use source::{Failed, Source};
