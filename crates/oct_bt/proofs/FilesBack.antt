@@ -1,5 +1,5 @@
 -- A canonical file is read back.
-use Rattle.std.proofs.Common.{◌≡◌, ℕ, ◌^◌, ◌<◌, ◌≤◌, pos, Bool, true, false, List, [], ◌∷◌, ◌++◌, length, drop, refl, sym, subst, ◌∙◌, ap, arith, length-append, Ok, nat_le, nat_eq, Some, get_or}
+use Rattle.std.proofs.Common.{◌≡◌, ℕ, ◌^◌, ◌<◌, ◌≤◌, pos, Bool, true, false, List, [], ◌∷◌, ◌++◌, length, refl, sym, subst, ◌∙◌, ap, arith, length-append, Ok, nat_le, nat_eq, Some, get_or}
 use Rattle.std.specs.Prelude.{codes}
 use Rattle.std.specs.List.{AllPass}
 use Rattle.std.specs.Fmt.{decimal}
@@ -20,7 +20,7 @@ use Rattle.oct_key.specs.Voxel.{IsResolution}
 use Rattle.oct_values.specs.Classes.{Classes}
 use Rattle.oct_bt.specs.Canonical.{canonical_data, canonical_size}
 use Rattle.oct_bt.specs.NodeData.{read_nodes}
-use Rattle.oct_bt.specs.Header.{is_line_feed, is_blank, resolution_of, head_of, header_of}
+use Rattle.oct_bt.specs.Header.{is_line_feed, is_blank, resolution_of}
 use Rattle.oct_bt.specs.File.{text_of_lines, header_lines, header_text, bt_text, file_with, after_header, reading}
 use Rattle.oct_bt.proofs.Sizes.{accepted_few}
 use Rattle.oct_bt.proofs.Standing.{canonical_accepted, canonical_reads}
@@ -125,35 +125,66 @@ header_long a b =
 header_few : (a b : List ℕ) → length a ≤ 100 → length b ≤ 100 → header_length a b ≤ 65536
 header_few a b l m = omega (arith, l, m)
 
+-- the texts of a size and of a resolution, as a header has them
+pub record HeaderTexts (size res : ℕ) : Type 0 where
+  pub d : ℕ
+  pub ds : List ℕ
+  pub e : ℕ
+  pub es : List ℕ
+  pub size_is : decimal size ≡ d ∷ ds
+  pub res_is : metres_text (pos res) ≡ e ∷ es
+  pub size_field : IsFieldText (d ∷ ds)
+  pub res_field : IsFieldText (e ∷ es)
+  pub few : length (text_of_lines (header_lines (d ∷ ds) (e ∷ es))) ≤ 65536
+  pub number : natural_of (d ∷ ds) ≡ Some size
+  pub edge : resolution_of (metres_of (e ∷ es)) ≡ Some res
+
+pub header_texts : (size res : ℕ) → size < 10 ^ 16 → IsResolution res → HeaderTexts size res
+header_texts size res small is =
+    let said = res_text res is in
+    let digits = whole_digits size (omega (arith, small)) in
+    let (d, ds, size_is) = some_first (decimal size) digits.some in
+    let (e, es, res_is) = some_first (metres_text (pos res)) said.some in
+    let size_few : length (decimal size) ≤ 100 = omega (arith, length-decimal-le 16 size (omega arith) small (omega (arith, small))) in
+    let long = header_long (d ∷ ds) (e ∷ es) in
+    let few = header_few (d ∷ ds) (e ∷ es) (subst (λ t. length t ≤ 100) size_is size_few) (subst (λ t. length t ≤ 100) res_is said.few) in
+    record {
+      d = d;
+      ds = ds;
+      e = e;
+      es = es;
+      size_is = size_is;
+      res_is = res_is;
+      size_field = subst IsFieldText size_is (field_digits (decimal size) digits.all);
+      res_field = subst IsFieldText res_is said.field;
+      few = omega (arith, long, few);
+      number = ap natural_of (sym size_is) ∙ size_reads size small;
+      edge = ap (λ t. resolution_of (metres_of t)) (sym res_is) ∙ said.read;
+    }
+
 -- ---- a file
+
+-- node data after a header that is written is read as node data
+pub after_written : (size res : ℕ) (t : HeaderTexts size res) (bytes : List ℕ)
+    → reading (text_of_lines (header_lines (t.d ∷ t.ds) (t.e ∷ t.es)) ++ bytes)
+    ≡ file_with (record { res = res; size = size; start = length (text_of_lines (header_lines (t.d ∷ t.ds) (t.e ∷ t.es))) })
+    (read_nodes (length (text_of_lines (header_lines (t.d ∷ t.ds) (t.e ∷ t.es)))) size bytes)
+unfolding reading
+after_written size res t bytes =
+    let long = header_long (t.d ∷ t.ds) (t.e ∷ t.es) in
+    let header = header_written t.d t.e t.ds t.es bytes size res t.size_field t.res_field t.few t.number t.edge in
+    let lines : List ℕ = text_of_lines (header_lines (t.d ∷ t.ds) (t.e ∷ t.es)) in
+    ap (after_header (lines ++ bytes)) (header ∙ ap (λ (n : ℕ). Ok (record { res = res; size = size; start = n })) (sym long))
+    ∙ ap (λ rest. file_with (record { res = res; size = size; start = length lines }) (read_nodes (length lines) size rest)) (drop-append_seam lines bytes)
 
 pub file_back : (res : ℕ) (c : Classes) → IsResolution res
     → reading (bt_text res c) ≡ Ok (record { res = res; codes = canonical_data c; nodes = canonical_size c })
-unfolding reading bt_text header_text
+unfolding bt_text header_text
 file_back res c is =
     let small : canonical_size c < 10 ^ 16 = accepted_few (canonical_size c) (canonical_data c) (canonical_accepted c) in
-    let said = res_text res is in
-    let digits = whole_digits (canonical_size c) (omega (arith, small)) in
-    let (d, ds, size_is) = some_first (decimal (canonical_size c)) digits.some in
-    let (e, es, res_is) = some_first (metres_text (pos res)) said.some in
-    let size_few : length (decimal (canonical_size c)) ≤ 100 = omega (arith, length-decimal-le 16 (canonical_size c) (omega arith) small (omega (arith, small))) in
-    by_texts (decimal (canonical_size c)) (metres_text (pos res)) d ds e es size_is res_is (field_digits (decimal (canonical_size c)) digits.all) said.field
-    size_few said.few (size_reads (canonical_size c) small) said.read
-  where
-    by_texts : (a b : List ℕ) (d : ℕ) (ds : List ℕ) (e : ℕ) (es : List ℕ) → a ≡ d ∷ ds → b ≡ e ∷ es → IsFieldText a → IsFieldText b → length a ≤ 100 → length b ≤ 100
-        → natural_of a ≡ Some (canonical_size c) → resolution_of (metres_of b) ≡ Some res
-        → after_header (text_of_lines (header_lines a b) ++ canonical_data c) (header_of (head_of (text_of_lines (header_lines a b) ++ canonical_data c)))
-        ≡ Ok (record { res = res; codes = canonical_data c; nodes = canonical_size c })
-    by_texts a b d ds e es a_is b_is s t few few' number resolution =
-        (let long = header_long (d ∷ ds) (e ∷ es) in
-        let header = header_written d e ds es (canonical_data c) (canonical_size c) res (subst IsFieldText a_is s) (subst IsFieldText b_is t)
-        (omega (arith, long, header_few (d ∷ ds) (e ∷ es) (subst (λ t. length t ≤ 100) a_is few) (subst (λ t. length t ≤ 100) b_is few')))
-        (ap natural_of (sym a_is) ∙ number) (ap (λ t. resolution_of (metres_of t)) (sym b_is) ∙ resolution) in
-        let rest : drop (header_length (d ∷ ds) (e ∷ es)) (text_of_lines (header_lines (d ∷ ds) (e ∷ es)) ++ canonical_data c) ≡ canonical_data c =
-        ap (λ (n : ℕ). drop n (text_of_lines (header_lines (d ∷ ds) (e ∷ es)) ++ canonical_data c)) (sym long)
-        ∙ drop-append_seam (text_of_lines (header_lines (d ∷ ds) (e ∷ es))) (canonical_data c) in
-        ap (λ a. after_header (text_of_lines (header_lines a b) ++ canonical_data c) (header_of (head_of (text_of_lines (header_lines a b) ++ canonical_data c)))) a_is
-        ∙ ap (λ b. after_header (text_of_lines (header_lines (d ∷ ds) b) ++ canonical_data c) (header_of (head_of (text_of_lines (header_lines (d ∷ ds) b) ++ canonical_data c)))) b_is
-        ∙ ap (after_header (text_of_lines (header_lines (d ∷ ds) (e ∷ es)) ++ canonical_data c)) header
-        ∙ ap (λ bytes. file_with (record { res = res; size = canonical_size c; start = header_length (d ∷ ds) (e ∷ es) }) (read_nodes (header_length (d ∷ ds) (e ∷ es)) (canonical_size c) bytes)) rest
-        ∙ ap (file_with (record { res = res; size = canonical_size c; start = header_length (d ∷ ds) (e ∷ es) })) (canonical_reads c (header_length (d ∷ ds) (e ∷ es))))
+    let t = header_texts (canonical_size c) res small is in
+    let lines : List ℕ = text_of_lines (header_lines (t.d ∷ t.ds) (t.e ∷ t.es)) in
+    ap (λ a. reading (text_of_lines (header_lines a (metres_text (pos res))) ++ canonical_data c)) t.size_is
+    ∙ ap (λ b. reading (text_of_lines (header_lines (t.d ∷ t.ds) b) ++ canonical_data c)) t.res_is
+    ∙ after_written (canonical_size c) res t (canonical_data c)
+    ∙ ap (file_with (record { res = res; size = canonical_size c; start = length lines })) (canonical_reads c (length lines))

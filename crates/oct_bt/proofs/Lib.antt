@@ -29,3 +29,4 @@ pub mod Encodings
 pub mod Volumes
 pub mod Tallies
 pub mod Rewrites
+pub mod Fronts

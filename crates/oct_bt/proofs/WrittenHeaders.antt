@@ -88,20 +88,20 @@ res_untrimmed : (d : ℕ) (ds : List ℕ) → IsFieldText (d ∷ ds) → trimmed
 unfolding no_return
 res_untrimmed d ds s = untrimmed (codes "res " ++ (d ∷ ds)) (omega arith) (All-append (λ b. nat_eq b 13 ≡ false) (codes "res ") (d ∷ ds) (unreturned (codes "res ") refl) s.no_return)
 
-size_name : (d : ℕ) (ds : List ℕ) → IsFieldText (d ∷ ds) → first_word (trimmed (codes "size " ++ (d ∷ ds))) ≡ codes "size"
+pub size_name : (d : ℕ) (ds : List ℕ) → IsFieldText (d ∷ ds) → first_word (trimmed (codes "size " ++ (d ∷ ds))) ≡ codes "size"
 size_name d ds s = ap first_word (size_untrimmed d ds s)
 
 size_value : (d : ℕ) (ds : List ℕ) → IsFieldText (d ∷ ds) → first_word (after_word (trimmed (codes "size " ++ (d ∷ ds)))) ≡ d ∷ ds
 size_value d ds s = ap (λ t. first_word (after_word t)) (size_untrimmed d ds s) ∙ value_is d ds s
 
-res_name : (d : ℕ) (ds : List ℕ) → IsFieldText (d ∷ ds) → first_word (trimmed (codes "res " ++ (d ∷ ds))) ≡ codes "res"
+pub res_name : (d : ℕ) (ds : List ℕ) → IsFieldText (d ∷ ds) → first_word (trimmed (codes "res " ++ (d ∷ ds))) ≡ codes "res"
 res_name d ds s = ap first_word (res_untrimmed d ds s)
 
 res_value : (d : ℕ) (ds : List ℕ) → IsFieldText (d ∷ ds) → first_word (after_word (trimmed (codes "res " ++ (d ∷ ds)))) ≡ d ∷ ds
 res_value d ds s = ap (λ t. first_word (after_word t)) (res_untrimmed d ds s) ∙ value_is d ds s
 
 -- no line of a header has a line feed
-no_feeds : (size res : List ℕ) → IsFieldText size → IsFieldText res → All (λ line. All (λ b. is_line_feed b ≡ false) line) (header_lines size res)
+pub no_feeds : (size res : List ℕ) → IsFieldText size → IsFieldText res → All (λ line. All (λ b. is_line_feed b ≡ false) line) (header_lines size res)
 unfolding no_feed
 no_feeds size res s r =
     All-cons Free (codes "# Octomap OcTree binary file") (codes "# (feel free to add / change comments, but leave the first line as it is!)" ∷ codes "#" ∷ codes "id OcTree" ∷ (codes "size " ++ size) ∷ (codes "res " ++ res) ∷ codes "data" ∷ []) (tested (codes "# Octomap OcTree binary file") refl)

@@ -1,8 +1,10 @@
 -- A whole file: how it is written, and what it is read as.
-use Rattle.std.specs.Prelude.{codes, ℕ, List, [], ◌∷◌, ◌++◌, drop, Result, Ok, Err}
+use Rattle.std.specs.Prelude.{codes, ℕ, nat_lt, List, [], ◌∷◌, ◌++◌, drop, Result, Ok, Err, if◌then◌else◌}
 use Rattle.std.specs.Fmt.{decimal}
 use Rattle.oct_num.specs.MetresText.{metres_text}
 use Rattle.oct_bt.specs.declared.fault.BtFault.{BtFault}
+use Rattle.oct_bt.specs.declared.fault.BtFault.TheVariants.{NotOctomap, MissingField, Truncated}
+use Rattle.oct_bt.specs.declared.fault.HeaderWord.TheVariants.{Data}
 use Rattle.oct_values.specs.Classes.{Classes}
 use Rattle.oct_bt.specs.Canonical.{canonical_data, canonical_size}
 use Rattle.oct_bt.specs.NodeData.{read_nodes}
@@ -62,3 +64,11 @@ reading file = after_header file (header_of (head_of file))
 -- a file that was read, written again: a header of the writer's form, and the same records
 abbrev pub file_text : FileRead → List ℕ
 file_text file = header_text file.nodes file.res ++ file.codes
+
+-- the fault of a canonical file whose header has so many bytes, where only so many of its first
+-- bytes are there
+abbrev pub front_fault : ℕ → ℕ → BtFault
+front_fault header n =
+    if nat_lt n 28 then NotOctomap
+    else if nat_lt n header then MissingField Data
+    else Truncated n

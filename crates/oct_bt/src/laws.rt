@@ -1,4 +1,4 @@
-ghost use Rattle.std.specs.Prelude.{◌≡◌, ◌≤◌, ◌<◌, ◌++◌, ◌↔◌, ℕ, List, length, Ok, Some};
+ghost use Rattle.std.specs.Prelude.{◌≡◌, ◌≤◌, ◌<◌, ◌++◌, ◌↔◌, ℕ, List, length, take, Ok, Err, Some};
 ghost use Rattle.std.specs.List.{All};
 ghost use Rattle.oct_key.specs.Voxel.{Voxel, IsInMap, IsResolution};
 ghost use Rattle.oct_key.specs.Block.{Cube, IsBlock, HoldsVoxel};
@@ -6,7 +6,7 @@ ghost use Rattle.oct_odds.specs.declared.event.Class.{Class};
 ghost use Rattle.oct_values.specs.Classes.{Classes, class_of_block};
 ghost use Rattle.oct_bt.specs.Records.{Entries, IsRecord, flat};
 ghost use Rattle.oct_bt.specs.Canonical.{canonical_data, canonical_size};
-ghost use Rattle.oct_bt.specs.File.{bt_text, reading};
+ghost use Rattle.oct_bt.specs.File.{bt_text, front_fault, header_text, reading};
 ghost use Rattle.oct_bt.specs.NodeData.{IsAccepted, IsDataOf, read_nodes};
 ghost use Rattle.oct_bt.specs.DataClasses.{data_classes};
 
@@ -63,4 +63,13 @@ pub fn canonical_files_read_back()
 pub fn data_classes_are_exact()
     ensures exact { (size : ℕ) (bytes : List ℕ) → IsAccepted size bytes
         → IsDataOf (data_classes bytes) bytes }
+{}
+
+/// A front of a canonical file is refused: before its first 28 bytes are there it is none of these
+/// files, before its header is whole the data line is missing, and after that it is truncated where
+/// it ends.
+pub fn fronts_are_refused()
+    ensures exact { (res : ℕ) (c : Classes) (n : ℕ) → IsResolution res → n < length (bt_text res c)
+        → reading (take n (bt_text res c))
+        ≡ Err (front_fault (length (header_text (canonical_size c) res)) n) }
 {}

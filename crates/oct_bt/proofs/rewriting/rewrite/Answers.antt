@@ -1,4 +1,4 @@
-use Rattle.std.proofs.Common.{ap, ◌∙◌}
+use Rattle.std.proofs.Common.{◌∙◌}
 use Rattle.oct_bt.specs.File.{file_text}
 use Rattle.oct_io.proofs.Gathering.{IsGathered, gathered_whole, gathered_cut}
 use Rattle.oct_bt.proofs.Rewrites.{on_ok_follows, on_err_follows, text_parts, two_pushed}
