@@ -6,3 +6,5 @@ pub mod FreeLists
 pub mod Ids
 pub mod Growth
 pub mod Packings
+pub mod Homes
+pub mod Splits

@@ -1,8 +1,7 @@
 -- An arena as its callers see it: a list of groups and vacant entries, where a group's id is the
 -- number of its entry.
 use Rattle.std.specs.Prelude.{◌≡◌, ℕ, ◌+◌, ◌^◌, ◌≤◌, Bool, IsTrue, List, length, replicate, Option, Some, None, is_none, is_some, option_map, count_by, slice_index_or, slice_set}
-use Rattle.oct_key.specs.Block.{Cube}
-use Rattle.oct_key.specs.CubeOf.{cube_of}
+use Rattle.oct_key.specs.Block.{Cube, child_of}
 use Rattle.oct_arena.specs.declared.node.Node.{Node}
 use Rattle.oct_arena.specs.declared.node.Node.TheVariants.{Absent}
 use Rattle.oct_arena.specs.declared.node.Group.{Group}
@@ -34,7 +33,7 @@ node_at gs id i = node_of (entry gs id) i
 
 -- the block that an entry's group is the home of, as a cube
 abbrev pub home_of : Option Group → Option Cube
-home_of e = option_map (λ g. cube_of g.home) e
+home_of e = option_map (λ g. g.home) e
 
 -- the home of the group under an id, or none where there is no group
 abbrev pub home_at : Groups → ℕ → Option Cube
@@ -44,6 +43,12 @@ home_at gs id = home_of (entry gs id)
 abbrev pub with_node : Option Group → ℕ → Node → Option Group
 with_node None i n = None
 with_node (Some g) i n = Some (record { home = g.home; nodes = slice_set g.nodes i n })
+
+-- a group of eight copies of node i of an entry, whose home is the block of that node
+abbrev pub copies_under : Option Group → ℕ → Option Group
+copies_under None i = None
+copies_under (Some g) i =
+    Some (record { home = child_of g.home i; nodes = replicate 8 (node_of (Some g) i) })
 
 -- how many entries are vacant
 abbrev pub spare : Groups → ℕ

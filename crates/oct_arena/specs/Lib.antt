@@ -1,5 +1,6 @@
 pub mod Chunks
 pub mod Entries
 pub mod Free
+pub mod Homes
 pub mod Nodes
 pub mod Packing

@@ -1,5 +1,6 @@
 -- What stands in a node.
 use Rattle.std.specs.Prelude.{◌≡◌, ℕ, ◌^◌, ℤ, pos, neg_ℤ, ◌≤ℤ◌, Option, Some, None}
+use Rattle.oct_arena.specs.declared.node.GroupId.{GroupId}
 use Rattle.oct_arena.specs.declared.node.Node.{Node}
 use Rattle.oct_arena.specs.declared.node.Node.TheVariants.{Absent, Leaf, Inner}
 
@@ -21,6 +22,12 @@ abbrev pub stored_in : Node → Option ℤ
 stored_in Absent = None
 stored_in (Leaf v) = Some v
 stored_in (Inner v id) = Some v
+
+-- the node that links a group in the place of one that links none: it has a leaf's value, or 0
+abbrev pub inner_over : Node → GroupId → Node
+inner_over Absent id = Inner (pos 0) id
+inner_over (Leaf v) id = Inner v id
+inner_over (Inner v x) id = Inner (pos 0) id
 
 -- the rank of a stored value: the number itself, or, of none, the least number of 32 bits
 abbrev pub IsRankOf : Option ℤ → ℤ → Type 0

@@ -1,10 +1,13 @@
 ghost use Rattle.std.specs.Prelude.{◌≡◌, ◌+◌, ◌-◌, ◌<◌, ◌≤◌, ◌^◌, [], ◌++◌, length, slice_set, Some, None, OnOk, OnErr, IsOk, max, pos};
 ghost use Rattle.oct_arena.specs.declared.node.Node.TheVariants.{Inner};
+ghost use Rattle.oct_key.specs.Block.{Cube};
 ghost use Rattle.oct_key.specs.CubeOf.{cube_of};
-ghost use Rattle.oct_arena.specs.Entries.{IsArena, IsLive, entry, node_at, home_at, with_node, spare, live, vacant};
+ghost use Rattle.oct_arena.specs.Nodes.{inner_over};
+ghost use Rattle.oct_arena.specs.Entries.{IsArena, IsLive, entry, node_at, home_at, with_node, copies_under, spare, live, vacant};
 
 use crate::chunk::CHUNK;
-use crate::node::{Group, GroupId, Node};
+use crate::home::PackedBlock;
+use crate::node::{Group, GroupId, Node, PackedNode};
 use crate::rows::Rows;
 use oct_key::Block;
 use oct_num::Memory;
@@ -44,7 +47,11 @@ fn link_last(rows: &mut Rows, spare: u32, head: GroupId, tail: GroupId, next: Gr
     if spare == 0 {
         return next;
     }
-    rows.set_node(tail.number() as usize, 0, Node::Inner(0, next));
+    rows.set_node(
+        tail.number() as usize,
+        0,
+        PackedNode::new(Node::Inner(0, next)),
+    );
     head
 }
 
@@ -104,17 +111,45 @@ impl NodeArena {
         requires { 1 ≤ spare self.old }
         ensures within { result.number < length self.old }
         ensures vacant { entry self.old result.number ≡ None }
-        ensures filled { self.new
-            ≡ slice_set self.old result.number (Some (record { home = home; nodes = nodes })) }
+        ensures filled { self.new ≡ slice_set self.old result.number
+            (Some (record { home = cube_of home; nodes = nodes })) }
         ensures spare { spare self.new + 1 ≡ spare self.old }
         ensures arena { IsArena self.new }
     {
         let id = self.head;
         let at = id.number() as usize;
         self.head = self.rows.get(at).next();
-        self.rows.fill(at, home, &nodes);
+        self.rows
+            .fill(at, PackedBlock::new(home), PackedNode::all(&nodes));
         self.spare -= 1;
         id
+    }
+
+    /// Puts a group of eight copies of node i of the group into a vacant entry, and makes the node
+    /// Inner, so that it links them. No other entry changes.
+    pub fn split(&mut self, id: GroupId, i: u8) -> GroupId
+        requires live { IsLive self.old id.number }
+        requires index { i ≤ 7 }
+        requires deep { (b : Cube) → home_at self.old id.number ≡ Some b → b.depth ≤ 15 }
+        requires spare { 1 ≤ spare self.old }
+        ensures within { result.number < length self.old }
+        ensures vacant { entry self.old result.number ≡ None }
+        ensures filled { let mid = slice_set self.old result.number
+            (copies_under (entry self.old id.number) i) in
+            self.new ≡ slice_set mid id.number
+            (with_node (entry mid id.number) i (inner_over (node_at self.old id.number i) result)) }
+        ensures spare { spare self.new + 1 ≡ spare self.old }
+        ensures arena { IsArena self.new }
+    {
+        let under = self.head;
+        let at = id.number() as usize;
+        let free = under.number() as usize;
+        self.head = self.rows.get(free).next();
+        self.spare -= 1;
+        let (home, node) = self.rows.get(at).child(i);
+        self.rows.fill(free, home, [node; 8]);
+        self.rows.set_node(at, i, node.over(under));
+        under
     }
 
     /// Takes the group away, so that its entry is vacant. No other entry changes.
@@ -126,7 +161,8 @@ impl NodeArena {
     {
         let at = id.number() as usize;
         let tail = if self.spare == 0 { id } else { self.tail };
-        self.rows.set_node(at, 0, Node::Inner(0, self.head));
+        self.rows
+            .set_node(at, 0, PackedNode::new(Node::Inner(0, self.head)));
         self.head = id;
         self.tail = tail;
         self.spare += 1;
@@ -161,7 +197,8 @@ impl NodeArena {
         ensures spare { spare self.new ≡ spare self.old }
         ensures arena { IsArena self.new }
     {
-        self.rows.set_node(id.number() as usize, i, n);
+        self.rows
+            .set_node(id.number() as usize, i, PackedNode::new(n));
     }
 
     /// The block whose children the group's nodes are of.
@@ -170,7 +207,7 @@ impl NodeArena {
         ensures exact { home_at self.now id.number ≡ Some (cube_of result) }
         ensures arena { IsArena self.now }
     {
-        self.rows.get(id.number() as usize).home
+        self.rows.get(id.number() as usize).home.block()
     }
 
     /// How many groups there are.

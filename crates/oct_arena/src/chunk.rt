@@ -2,9 +2,9 @@ ghost use Rattle.std.specs.Prelude.{◌≡◌, ◌+◌, ◌<◌, ◌≤◌, ◌^
 ghost use Rattle.oct_arena.specs.Entries.{entry, with_node};
 ghost use Rattle.oct_arena.specs.Chunks.{IsFresh};
 
+use crate::home::PackedBlock;
 use crate::node::{Group, GroupId, Node, PackedNode};
 use oct_cells::{Address, Cells, Grant, allocate, deallocate};
-use oct_key::Block;
 use std::alloc::{AllocError, Global};
 use std::marker::Model;
 
@@ -81,23 +81,23 @@ impl Chunk {
     }
 
     /// Writes a group in its place.
-    pub(crate) fn fill(&mut self, i: usize, home: Block, nodes: &[Node; 8])
+    pub(crate) fn fill(&mut self, i: usize, home: PackedBlock, nodes: [PackedNode; 8])
         requires { i < length self.old }
         ensures { self.new
-            ≡ slice_set self.old i (Some (record { home = home; nodes = nodes.now })) }
+            ≡ slice_set self.old i (Some (record { home = home; nodes = nodes })) }
     {
         let group = self.cells.get_mut(self.address, i);
         group.home = home;
-        group.nodes = PackedNode::all(nodes);
+        group.nodes = nodes;
     }
 
-    pub(crate) fn set_node(&mut self, i: usize, j: u8, node: Node)
+    pub(crate) fn set_node(&mut self, i: usize, j: u8, node: PackedNode)
         requires within { i < length self.old }
         requires child { j ≤ 7 }
         ensures { self.new ≡ slice_set self.old i (with_node (entry self.old i) j node) }
     {
         let group = self.cells.get_mut(self.address, i);
-        group.nodes[j as usize] = PackedNode::new(node);
+        group.nodes[j as usize] = node;
     }
 }
 

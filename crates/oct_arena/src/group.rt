@@ -1,8 +1,10 @@
 ghost use Rattle.std.specs.Prelude.{◌≡◌, ◌≤◌, ◌↔◌, IsTrue, length, Some};
+ghost use Rattle.oct_key.specs.Block.{child_of};
 ghost use Rattle.oct_arena.specs.Entries.{node_of};
 ghost use Rattle.oct_arena.specs.Free.{linked_number};
 ghost use Rattle.oct_arena.specs.Nodes.{stored_in, IsRankOf};
 
+use crate::home::PackedBlock;
 use crate::node::{Group, GroupId, Node, PackedNode};
 use oct_key::Block;
 
@@ -13,12 +15,12 @@ impl Group {
         ensures eight { length result.nodes ≡ 8 }
     {
         Group {
-            home: Block {
+            home: PackedBlock::new(Block {
                 depth: 0,
                 x: 0,
                 y: 0,
                 z: 0,
-            },
+            }),
             nodes: [PackedNode::new(Node::Inner(0, next)); 8],
         }
     }
@@ -39,6 +41,16 @@ impl Group {
         ensures { result ≡ node_of (Some self.now) i }
     {
         self.nodes[i as usize].node()
+    }
+
+    /// The block of node i, and the node as it lies.
+    pub(crate) fn child(&self, i: u8) -> (PackedBlock, PackedNode)
+        requires depth { self.now.home.depth ≤ 15 }
+        requires index { i ≤ 7 }
+        ensures home { result.0 ≡ child_of self.now.home i }
+        ensures node { result.1 ≡ node_of (Some self.now) i }
+    {
+        (self.home.child(i), self.nodes[i as usize])
     }
 
     /// Whether the nodes i and j are one, compared as they lie.

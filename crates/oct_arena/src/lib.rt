@@ -10,6 +10,7 @@
 //!
 //! - [`NodeArena::take`] puts the group that it is given into a vacant entry, [`NodeArena::give`]
 //!   makes the entry vacant again, and [`NodeArena::set_node`] changes one node of one group.
+//!   [`NodeArena::split`] does two of these at once: it puts eight copies of a node under it.
 //!   Nothing else changes: each says the whole list after the call.
 //! - [`NodeArena::node`], [`NodeArena::home`] and [`NodeArena::group`] answer what was put there.
 //!   They are asked for groups that are there alone. [`Group::are_same`] compares two nodes of a
@@ -22,14 +23,14 @@
 //! `reserve` is the only call that asks for memory. So a caller that reserves first what an edit
 //! may need can't fail on the way and leave half of it done.
 //!
-//! Groups lie in chunks of 1,024, which never move. A node takes eight bytes and a group 72. The
-//! vacant entries are a list that is threaded through their own memory: the first node of each
-//! links the next. The invariant says that each vacant entry stands on the list once, and that the
-//! list is as long as `spare` counts. `take` takes the first entry of the list, and `give` puts one
-//! in front. A new chunk goes to the end of the list, each of its groups written once, so new
-//! entries are taken in the order of their ids, and groups that are made one after another lie side
-//! by side. All calls but `reserve` take a few steps, however many groups there are. An arena that
-//! is dropped gives all memory back.
+//! Groups lie in chunks of 1,024, which never move. A node takes eight bytes, a home too, and a
+//! group 72. The vacant entries are a list that is threaded through their own memory: the first
+//! node of each links the next. The invariant says that each vacant entry stands on the list once,
+//! and that the list is as long as `spare` counts. `take` takes the first entry of the list, and
+//! `give` puts one in front. A new chunk goes to the end of the list, each of its groups written
+//! once, so new entries are taken in the order of their ids, and groups that are made one after
+//! another lie side by side. All calls but `reserve` take a few steps, however many groups there
+//! are. An arena that is dropped gives all memory back.
 //!
 //! The tree stands on this crate, and cites `Groups`, `entry`, `IsLive`, `node_at` and `home_at`.
 //! `IsArena` is what each list of an arena has: at most 2^31 + 1,023 entries, and eight nodes in
@@ -39,6 +40,7 @@
 mod arena;
 mod chunk;
 mod group;
+mod home;
 mod node;
 mod rows;
 

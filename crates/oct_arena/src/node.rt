@@ -2,7 +2,7 @@ ghost use Rattle.std.specs.Prelude.{◌≡◌, ◌<◌, ◌+◌, ◌*◌, ◌/�
 ghost use Rattle.std.specs.Int.{cast_signed, cast_unsigned};
 ghost use Rattle.std.proofs.Common.{w32};
 
-use oct_key::Block;
+use crate::home::PackedBlock;
 use std::marker::Model;
 use std::mem::size_of;
 
@@ -119,7 +119,7 @@ fn value_of(bits: u64) -> i32
 }
 
 impl PackedNode {
-    ghost use Rattle.oct_arena.specs.Nodes.{stored_in, IsRankOf};
+    ghost use Rattle.oct_arena.specs.Nodes.{stored_in, inner_over, IsRankOf};
 
     pub(crate) fn new(node: Node) -> PackedNode
         ensures { result ≡ node }
@@ -162,6 +162,16 @@ impl PackedNode {
         value_of(self.bits)
     }
 
+    /// The node that links the group in the place of this one.
+    pub(crate) fn over(self, id: GroupId) -> PackedNode
+        ensures { result ≡ inner_over self id }
+    {
+        match self.node() {
+            Node::Leaf(value) => PackedNode::new(Node::Inner(value, id)),
+            _ => PackedNode::new(Node::Inner(0, id)),
+        }
+    }
+
     pub(crate) fn all(nodes: &[Node; 8]) -> [PackedNode; 8]
         ensures { result ≡ nodes.now }
     {
@@ -182,7 +192,7 @@ impl PackedNode {
 /// group's home.
 #[derive(Clone, Copy)]
 pub struct Group {
-    pub(crate) home: Block,
+    pub(crate) home: PackedBlock,
     pub(crate) nodes: [PackedNode; 8],
 }
 

@@ -3,8 +3,8 @@ ghost use Rattle.oct_arena.specs.Entries.{entry, with_node};
 ghost use Rattle.oct_arena.specs.Chunks.{HasGrown};
 
 use crate::chunk::{CHUNK, Chunk};
-use crate::node::{Group, Node};
-use oct_key::Block;
+use crate::home::PackedBlock;
+use crate::node::{Group, PackedNode};
 use std::alloc::{AllocError, Global};
 use std::marker::Model;
 
@@ -51,16 +51,16 @@ impl Rows {
         chunk.get(i % CHUNK)
     }
 
-    pub(crate) fn fill(&mut self, i: usize, home: Block, nodes: &[Node; 8])
+    pub(crate) fn fill(&mut self, i: usize, home: PackedBlock, nodes: [PackedNode; 8])
         requires { i < length self.old }
         ensures { self.new
-            ≡ slice_set self.old i (Some (record { home = home; nodes = nodes.now })) }
+            ≡ slice_set self.old i (Some (record { home = home; nodes = nodes })) }
     {
         let chunk = &mut self.chunks[i / CHUNK];
         chunk.fill(i % CHUNK, home, nodes);
     }
 
-    pub(crate) fn set_node(&mut self, i: usize, j: u8, node: Node)
+    pub(crate) fn set_node(&mut self, i: usize, j: u8, node: PackedNode)
         requires within { i < length self.old }
         requires child { j ≤ 7 }
         ensures { self.new ≡ slice_set self.old i (with_node (entry self.old i) j node) }

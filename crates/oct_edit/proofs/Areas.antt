@@ -1,6 +1,6 @@
 -- The edit of a box on its way through the children of a block.
 use Rattle.std.proofs.Common.{◌≡◌, ℕ, suc, ◌+◌, ◌-◌, ◌<◌, ◌≤◌, Bool, true, false, cond, inl, inr, sym, subst, ◌∙◌, ap, arith, refl, Some, None}
-use Rattle.std.specs.Prelude.{Option, IsSome, is_some, IsTrue, ◌↔◌, ◌≤ℤ◌, sum_by, count_by}
+use Rattle.std.specs.Prelude.{Option, is_some, IsTrue, ◌↔◌, ◌≤ℤ◌, sum_by, count_by}
 use Rattle.std.proofs.lemmas.Bool.{false≢true, cases_lt}
 use Rattle.oct_key.specs.Voxel.{Voxel, IsInMap}
 use Rattle.oct_key.specs.Block.{Cube, IsBlock, HoldsVoxel, child_of, child_index_of, root_block, block_of}
@@ -168,10 +168,10 @@ area_skip s w p b i lo hi event low few out way =
 -- the place is where it was, and links its group
 pub area_back : (t s w : Tree) (p : Place) (b : Cube) (id : GroupId) (i : ℕ) (lo hi : Voxel) (event : Event)
     → IsEntered t s p b id → IsAreaUnderWay s w p b lo hi event i
-    → IsPlace w p × (block_in w p ≡ Some b) × IsSome (link_of (node_in w p))
+    → IsPlace w p × (block_in w p ≡ Some b) × (link_of (node_in w p) ≡ Some id.number)
 area_back t s w p b id i lo hi event e way =
     let (v, link) = e.link in
-    (way.done.place, way.done.block, ap is_some (ap link_of (way.done.node ∙ link)))
+    (way.done.place, way.done.block, ap link_of (way.done.node ∙ link))
 
 no_event : (other : Event) → ◌≡◌ {A = Option Event} None (Some other) → ⊥
 no_event other is = cc

@@ -7,7 +7,7 @@ use Rattle.oct_key.specs.Values.{is_same_voxel}
 use Rattle.oct_key.specs.Block.{Cube, HoldsVoxel, block_of, LiesIn}
 use Rattle.oct_key.proofs.SameVoxels.{is_same_voxel_exact, is_same_voxel_refl}
 use Rattle.oct_odds.specs.Odds.{Odds}
-use Rattle.oct_odds.specs.Update.{Value, IsSmallEvent}
+use Rattle.oct_odds.specs.Update.{Value}
 use Rattle.oct_odds.specs.declared.event.Event.{Event}
 use Rattle.oct_odds.specs.declared.event.Event.TheVariants.{Add, Set, Forget, Likely}
 use Rattle.oct_values.specs.Events.{Events, event_at, is_listed, after_event}
@@ -123,14 +123,6 @@ voxel_block b k deep held = around b k held ∙ ap (λ d. block_of d k) deep
 -- a place of depth 16 links nothing
 pub one_plain : (t : Tree) (p : Place) (b : Cube) (u : ListedUpdate) → IsLinked t → block_in t p ≡ Some b → b.depth ≡ 16 → IsUpdateIn b u → link_of (node_in t p) ≡ None
 one_plain t p b u l e deep inside = (let some = inside.some in voxel_plain t p some.voxel l (e ∙ ap Some (voxel_block b some.voxel deep some.here)))
-
--- an event of an update is one of its two
-pub small_event : (u : ListedUpdate) (k : Voxel) (event : Event) → IsSmallEvent u.hit → IsSmallEvent u.miss → events_of u k ≡ Some event → IsSmallEvent event
-small_event u k event hit miss is = elim (case_of u k) [
-  | is_hit _ e ↦ subst IsSmallEvent (some_injective (sym e ∙ is)) hit
-  | is_freed _ _ e ↦ subst IsSmallEvent (some_injective (sym e ∙ is)) miss
-  | is_left _ _ e ↦ absurd (some_not_none is e)
-]
 
 -- an update of the voxels of a block of depth 16 is an event on that voxel
 one_event : (u : ListedUpdate) (k : Voxel) (event : Event) → AreIn (block_of 16 k) u.hits → AreIn (block_of 16 k) u.frees → events_of u k ≡ Some event → (q : Voxel) → IsInMap q → event_at (Some k) event q ≡ events_of u q

@@ -1,6 +1,5 @@
 -- An update on its way through the children of a block.
 use Rattle.std.proofs.Common.{◌≡◌, ℕ, ◌+◌, ◌<◌, ◌≤◌, Bool, List, [], sym, subst, ◌∙◌, ap, arith, refl, Some}
-use Rattle.std.specs.Prelude.{IsSome, is_some}
 use Rattle.std.specs.List.{All}
 use Rattle.oct_key.specs.Voxel.{Voxel}
 use Rattle.oct_key.specs.Block.{Cube, IsBlock, child_of, child_index_of}
@@ -100,10 +99,10 @@ way_done s w p b u rest lazy low way hits frees =
     round_skip s w p b way.next 8 (events_of u) lazy low way.few (omega arith) (λ k _ _ a z. none_between b way.next 8 u rest way.hits way.frees (no_more b rest.hits hits) (no_more b rest.frees frees) k a z) way.done
 
 -- and the place is where it was, and links its group
-pub way_back : (t s w : Tree) (p : Place) (b : Cube) (id : GroupId) (u rest : ListedUpdate) (lazy : Bool) → IsEntered t s p b id → IsUnderWay s w p b u rest lazy → IsPlace w p × (block_in w p ≡ Some b) × IsSome (link_of (node_in w p))
+pub way_back : (t s w : Tree) (p : Place) (b : Cube) (id : GroupId) (u rest : ListedUpdate) (lazy : Bool) → IsEntered t s p b id → IsUnderWay s w p b u rest lazy → IsPlace w p × (block_in w p ≡ Some b) × (link_of (node_in w p) ≡ Some id.number)
 way_back t s w p b id u rest lazy e way =
     let (v, link) = e.link in
-    (way.done.place, way.done.block, ap is_some (ap link_of (way.done.node ∙ link)))
+    (way.done.place, way.done.block, ap link_of (way.done.node ∙ link))
 
 -- once the group is closed, the update is done
 pub way_end : (t s w z : Tree) (p : Place) (b : Cube) (id : GroupId) (u rest : ListedUpdate) (lazy : Bool) → IsLinked t → IsPlace t p → block_in t p ≡ Some b → b.depth ≤ 15 → IsUpdateIn b u → TakesSome t.odds u (value_of (node_in t p)) → IsEntered t s p b id → IsUnderWay s w p b u rest lazy → rest.hits ≡ [] → rest.frees ≡ [] → IsClosed w z b lazy → IsTouched t z b (events_of u) lazy

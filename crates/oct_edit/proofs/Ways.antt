@@ -1,6 +1,6 @@
 -- The way to a voxel, down the tree and up again.
 use Rattle.std.proofs.Common.{◌≡◌, ◌≢◌, ℕ, zero, suc, ◌+◌, ◌<◌, ◌≤◌, sym, subst, ◌∙◌, ap, arith, inl, inr, refl, List, length, get_or, ◌-◌, Some, None, Bool}
-use Rattle.std.specs.Prelude.{ℤ, IsSome, slice_set}
+use Rattle.std.specs.Prelude.{ℤ, IsSome, is_some, slice_set}
 use Rattle.std.proofs.lemmas.Bool.{cases_eq}
 use Rattle.std.proofs.lemmas.List.{get_or-set_same, get_or-set_other, get_or_default, length-set}
 use Rattle.oct_key.specs.Voxel.{Voxel, IsInMap}
@@ -128,7 +128,7 @@ back t w k places depth d event lazy l way low r =
       block = block;
       node = r.apart.outside.nodes (place_on places d) (block_of d k)
           (λ f. above_apart d (d + 1) k (omega arith) (omega arith) f) (way.at d (omega arith)).1;
-      inner = link_back t t w (place_on places d) d k id event lazy m e r;
+      inner = ap is_some (link_back t t w (place_on places d) d k id event lazy m e r);
     }
 
 -- one place up the way, where its group is closed

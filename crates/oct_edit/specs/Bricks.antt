@@ -1,8 +1,9 @@
 -- How bricks go down the tree: the working words of their proof, and what an update of bricks
 -- stands for.
-use Rattle.std.specs.Prelude.{◌≡◌, ℕ, ◌+◌, ◌-◌, ◌*◌, ◌/◌, ◌%◌, ◌^◌, ◌≤◌, Bool, List, [], ◌∷◌, take, drop, Some}
+use Rattle.std.specs.Prelude.{◌≡◌, ℕ, ◌+◌, ◌-◌, ◌*◌, ◌/◌, ◌%◌, ◌^◌, ◌≤◌, ◌==◌, if◌then◌else◌, bit_and, Bool, List, [], ◌∷◌, take, drop, Some}
 use Rattle.std.specs.List.{All, Contains}
 use Rattle.oct_key.specs.Block.{Cube}
+use Rattle.oct_odds.specs.declared.event.Event.{Event}
 use Rattle.oct_odds.specs.Update.{IsSmallEvent}
 use Rattle.oct_arena.specs.Entries.{spare}
 use Rattle.oct_tree.specs.declared.place.Place.{Place}
@@ -23,6 +24,10 @@ listed update = update_of update.bricks.now update.hit update.miss
 -- those of the update of one brick
 abbrev pub listed_one : BrickUpdate → ListedUpdate
 listed_one update = update_of (update.brick ∷ []) update.hit update.miss
+
+-- the event of the voxel whose bit this is
+abbrev pub event_of_bit : BrickUpdate → ℕ → Event
+event_of_bit update bit = if bit_and update.brick.hits bit == 0 then update.miss else update.hit
 
 -- which child of the block of a depth, 13 at most, holds the brick of a code
 abbrev pub brick_child : ℕ → ℕ → ℕ

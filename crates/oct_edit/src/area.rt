@@ -134,7 +134,7 @@ fn touch_part(tree: &mut OccTree, p: Place, block: Block, lo: Key, hi: Key, even
             touch_part(tree, Place::Slot(id, i), child, lo, hi, event);
         }
     }
-    close(tree, p, false);
+    close(tree, p, id, false);
 }
 
 /// Whether the value that the place gives its voxels takes nothing from the event.

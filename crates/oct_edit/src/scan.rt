@@ -1,16 +1,16 @@
-ghost use Rattle.std.specs.Prelude.{◌≡◌, ◌≢◌, ℕ, ◌+◌, ◌-◌, ◌*◌, ◌/◌, ◌%◌, ◌^◌, ◌==◌, if◌then◌else◌, true, bit_and, ◌≤◌, ◌≤ℤ◌, ◌<◌, ◌↔◌, ◌⊎◌, [], ◌∷◌, All, IsTrue, IsSome, IfSome, IfNone, OnSome, Some, slice_get};
+ghost use Rattle.std.specs.Prelude.{◌≡◌, ◌≢◌, ℕ, ◌+◌, ◌-◌, ◌*◌, ◌/◌, ◌%◌, ◌^◌, ◌==◌, if◌then◌else◌, true, bit_and, ◌≤◌, ◌≤ℤ◌, ◌<◌, ◌↔◌, ◌⊎◌, [], ◌∷◌, All, Bool, IsTrue, IsSome, IfSome, IfNone, OnSome, Some, slice_get};
 ghost use Rattle.std.specs.Bool.{OnTrue, OnFalse};
 ghost use Rattle.std.specs.List.Sorted.{IsNonDecreasingBy};
 ghost use Rattle.oct_key.specs.Voxel.{Voxel, IsInMap};
-ghost use Rattle.oct_key.specs.Block.{Cube};
+ghost use Rattle.oct_key.specs.Block.{Cube, block_of};
 ghost use Rattle.oct_odds.specs.Odds.{odds_of};
 ghost use Rattle.oct_odds.specs.Update.{IsSmallEvent};
-ghost use Rattle.oct_values.specs.Events.{is_listed};
+ghost use Rattle.oct_values.specs.Events.{event_at, is_listed};
 ghost use Rattle.oct_values.specs.Needs.{event_need};
 ghost use Rattle.oct_brick.specs.Bricks.{IsBrick, AreAscending};
 ghost use Rattle.oct_brick.specs.Voxels.{hit_voxels, freed_voxels};
 ghost use Rattle.oct_arena.specs.Entries.{live, spare};
-ghost use Rattle.oct_arena.specs.Nodes.{value_of};
+ghost use Rattle.oct_arena.specs.Nodes.{link_of, value_of};
 ghost use Rattle.oct_tree.specs.Tree.{IsLinked, IsPlace, node_in, block_in};
 ghost use Rattle.oct_tree.specs.Shape.{IsWellFormed};
 ghost use Rattle.oct_edit.specs.Saturated.{IsSaturated, TakesFrom};
@@ -18,7 +18,7 @@ ghost use Rattle.oct_edit.specs.Edits.{IsEdited, IsEagerEdit, IsLazyEdit, IsTidy
 ghost use Rattle.oct_edit.specs.Steps.{IsTouched};
 ghost use Rattle.oct_edit.specs.Parts.{IsUpdateIn, IsAtRest, IsFirstChild, need_in};
 ghost use Rattle.oct_edit.specs.Scan.{events_of, AreDisjoint};
-ghost use Rattle.oct_edit.specs.Bricks.{listed, listed_one, brick_child, CanApply, IsApplied};
+ghost use Rattle.oct_edit.specs.Bricks.{listed, listed_one, brick_child, event_of_bit, CanApply, IsApplied};
 ghost use Rattle.oct_edit.specs.Bricks.{AreAlike, AreCut, IsFirstBrick};
 
 use crate::voxel::{apply_at, close, enter, note_eager, stays};
@@ -124,7 +124,7 @@ fn touch_within(tree: &mut OccTree, p: Place, depth: u8, update: ScanUpdate, laz
         touch_within(tree, Place::Slot(id, i), depth + 1, part, lazy);
         rest = others;
     }
-    close(tree, p, lazy);
+    close(tree, p, id, lazy);
 }
 
 /// Applies the events of a brick, which is the block of the place.
@@ -143,7 +143,7 @@ fn touch_brick(tree: &mut OccTree, p: Place, update: BrickUpdate, lazy: bool)
         touch_octet(tree, Place::Slot(id, i), rest.within(octet), lazy);
         rest = rest.within(!octet);
     }
-    close(tree, p, lazy);
+    close(tree, p, id, lazy);
 }
 
 /// Applies the events of an octet of a brick, which is the block of the place.
@@ -160,10 +160,10 @@ fn touch_octet(tree: &mut OccTree, p: Place, update: BrickUpdate, lazy: bool)
         let place = rest.brick.scanned.trailing_zeros();
         let i = (place % 8) as u8;
         let bit = 1_u64 << place;
-        apply_at(tree, Place::Slot(id, i), rest.event_at(bit));
+        rest.apply_bit(tree, Place::Slot(id, i), bit);
         rest = rest.within(!bit);
     }
-    close(tree, p, lazy);
+    close(tree, p, id, lazy);
 }
 
 /// The eight bits of an octet.
@@ -189,15 +189,24 @@ impl BrickUpdate {
         }
     }
 
-    /// The event of the voxel of a bit.
-    fn event_at(&self, bit: u64) -> Event
-        ensures { result ≡ (if bit_and self.now.brick.hits bit == 0
-            then self.now.miss else self.now.hit) }
+    /// Applies the event of the voxel of a bit at its place, which links no group.
+    // Each kind has a call of its own, so that the event isn't asked for its own kind in vain.
+    fn apply_bit(&self, tree: &mut OccTree, p: Place, bit: u64)
+        requires linked { IsLinked tree.old }
+        requires place { IsPlace tree.old p }
+        requires plain { link_of (node_in tree.old p) ≡ None }
+        requires hit { IsSmallEvent self.now.hit }
+        requires miss { IsSmallEvent self.now.miss }
+        ensures spare { spare tree.new.groups ≡ spare tree.old.groups }
+        ensures touched { (k : Voxel) (lazy : Bool) → IsInMap k
+            → block_in tree.old p ≡ Some (block_of 16 k)
+            → IsTouched tree.old tree.new (block_of 16 k)
+            (event_at (Some k) (event_of_bit self.now bit)) lazy }
     {
         if self.brick.hits & bit != 0 {
-            self.hit
+            apply_at(tree, p, self.hit);
         } else {
-            self.miss
+            apply_at(tree, p, self.miss);
         }
     }
 

@@ -114,7 +114,10 @@ fn close_over(tree: &mut OccTree, p: Place, lazy: bool) -> bool
     ensures kept { IsTrue result → node_in tree.new p ≡ node_in tree.old p }
 {
     let before = tree.node(p);
-    close(tree, p, lazy);
+    let Node::Inner(_, id) = before else {
+        unreachable!();
+    };
+    close(tree, p, id, lazy);
     is_same(before, tree.node(p))
 }
 

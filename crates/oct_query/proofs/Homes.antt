@@ -4,7 +4,6 @@ use Rattle.std.specs.Prelude.{Option, sum_by}
 use Rattle.std.proofs.lemmas.List.Sums.{sum_by-cons}
 use Rattle.std.proofs.lemmas.List.Elements.{All-from_get_or}
 use Rattle.oct_key.specs.Block.{Cube, IsBlock, is_same_block}
-use Rattle.oct_key.specs.CubeOf.{cube_of}
 use Rattle.oct_values.specs.Blocks.{blocks_above_voxels}
 use Rattle.oct_values.proofs.Listed.{block_listed_once}
 use Rattle.oct_key.proofs.Blocks.{is_same_block_exact, is_same_block_refl}
@@ -16,7 +15,7 @@ use Rattle.oct_tree.proofs.Paths.{some_injective, some_not_none}
 -- whether the block is the home of the entry's group
 abbrev pub has_home : Cube → Option Group → Bool
 has_home b None = false
-has_home b (Some g) = is_same_block (cube_of g.home) b
+has_home b (Some g) = is_same_block g.home b
 
 -- what the entries with this home come to, where each counts as f says
 abbrev pub at_home : (Option Group → ℕ) → Groups → Cube → ℕ
@@ -26,14 +25,14 @@ at_home f gs b = sum_by (λ e. cond (has_home b e) (f e) 0) gs
 home_passes : (b : Cube) (e : Option Group) → home_of e ≡ Some b → has_home b e ≡ true
 home_passes b None h = cc
 home_passes b (Some g) h =
-    let is : cube_of g.home ≡ b = some_injective h in ap (is_same_block (cube_of g.home)) (sym is) ∙ is_same_block_refl (cube_of g.home)
+    let is : g.home ≡ b = some_injective h in ap (is_same_block g.home) (sym is) ∙ is_same_block_refl g.home
 
 home_fails : (b : Cube) (e : Option Group) → (home_of e ≡ Some b → ⊥) → has_home b e ≡ false
 home_fails b None h = refl
-home_fails b (Some g) h = by_test (is_same_block (cube_of g.home) b) refl
+home_fails b (Some g) h = by_test (is_same_block g.home b) refl
   where
-    by_test : (same : Bool) → is_same_block (cube_of g.home) b ≡ same → is_same_block (cube_of g.home) b ≡ false
-    by_test true e = absurd (h (ap Some (is_same_block_exact (cube_of g.home) b e)))
+    by_test : (same : Bool) → is_same_block g.home b ≡ same → is_same_block g.home b ≡ false
+    by_test true e = absurd (h (ap Some (is_same_block_exact g.home b e)))
     by_test false e = e
 
 -- a block that is no group's home
@@ -66,9 +65,9 @@ entry_counted : (f : Option Group → ℕ) → f None ≡ 0 → (e : Option Grou
     → sum_by (λ b. cond (has_home b e) (f e) 0) blocks_above_voxels ≡ f e
 entry_counted f vacant None h = sum_by-none blocks_above_voxels ∙ sym vacant
 entry_counted f vacant (Some g) h =
-    let (ok, low) = h (cube_of g.home) refl in
-    let all = sum_by-counted (is_same_block (cube_of g.home)) (f (Some g)) blocks_above_voxels in
-    let once = block_listed_once (cube_of g.home) ok low in
+    let (ok, low) = h g.home refl in
+    let all = sum_by-counted (is_same_block g.home) (f (Some g)) blocks_above_voxels in
+    let once = block_listed_once g.home ok low in
     let one : 1 * f (Some g) ≡ f (Some g) = omega arith in
     all ∙ ap (λ n. n * f (Some g)) once ∙ one
 

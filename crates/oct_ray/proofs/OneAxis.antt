@@ -1,14 +1,12 @@
 -- An axis is told by its ends, so that the walk along a segment is the list that is computed.
-use Rattle.std.proofs.Common.{◌≡◌, ℕ, ◌+◌, ◌-◌, ◌*◌, ◌/◌, ◌%◌, ◌<◌, ◌≤◌, Bool, true, false, List}
-use Rattle.std.proofs.Common.{refl, sym, ap, subst, ◌∙◌, inl, inr, arith, ℤ, pos, ◌-ℤ◌}
-use Rattle.std.specs.Prelude.{max, IsSome}
+use Rattle.std.proofs.Common.{◌≡◌, ℕ, ◌*◌, ◌/◌, ◌≤◌, Bool, true}
+use Rattle.std.proofs.Common.{refl, ap, ◌∙◌, inl, inr, arith, ℤ, pos, ◌-ℤ◌}
 use Rattle.std.proofs.lemmas.Bool.{cases_lt, eq-eqb, ne_eqb, le-leb, lt-leb}
 use Rattle.std.proofs.lemmas.Int.{ints}
-use Rattle.oct_key.specs.Voxel.{Voxel, IsResolution, key_at}
 use Rattle.oct_key.specs.declared.point.Point.{Point}
 use Rattle.oct_ray.specs.declared.axis.Axis.{Axis}
 use Rattle.oct_ray.specs.declared.track.Track.{Track}
-use Rattle.oct_ray.specs.Axis.{IsAxisBetween, IsAxisOf, IsRisingAxis, IsFallingAxis, axis_keys}
+use Rattle.oct_ray.specs.Axis.{IsAxisBetween, IsAxisOf, IsRisingAxis, IsFallingAxis}
 use Rattle.oct_ray.specs.Met.{height_of, rising_axis, falling_axis, axis_between, axis_of}
 use Rattle.oct_ray.specs.Met.{keys_along, met_by}
 use Rattle.oct_ray.specs.Track.{IsTrackOf, keys_to_come}

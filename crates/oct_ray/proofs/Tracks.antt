@@ -1,5 +1,5 @@
 -- The tracks of three axes step as the axes do, by additions alone.
-use Rattle.std.proofs.Common.{◌≡◌, ℕ, zero, suc, ◌+◌, ◌-◌, ◌*◌, ◌^◌, ◌<◌, ◌≤◌, Bool, true, false, not, eqb, ◌&&◌, ◌||◌, [], ◌∷◌, refl, arith, sym, ◌∙◌, ap, subst, length}
+use Rattle.std.proofs.Common.{◌≡◌, ◌≢◌, ◌⊎◌, inl, inr, ℕ, zero, suc, ◌+◌, ◌-◌, ◌*◌, ◌^◌, ◌<◌, ◌≤◌, Bool, true, false, not, eqb, ◌&&◌, ◌||◌, [], ◌∷◌, refl, arith, sym, ◌∙◌, ap, subst, length}
 use Rattle.std.proofs.lemmas.Bool.Decides.{nat_tests}
 use Rattle.std.proofs.lemmas.Nat.{mul-lt}
 use Rattle.oct_ray.specs.Moment.{NotAfter, Before}
@@ -202,6 +202,20 @@ keys_are w r e = keys_to_come_more w e ∙ track_keys_are (w.x.crossings + w.y.c
 
 pub walk_ends : (w : Inside) → w.more ≡ true → has_ended w.x w.y w.z ≡ true → keys_to_come w ≡ track_voxel w.x w.y w.z ∷ []
 walk_ends w m e = keys_to_come_more w m ∙ track_keys_end (w.x.crossings + w.y.crossings + w.z.crossings) w.x w.y w.z e
+
+-- no walk comes to an end before its last voxel
+some_keys : (fuel : ℕ) (x y z : Track) → track_keys fuel x y z ≢ []
+unfolding track_keys
+some_keys zero x y z e = cc
+some_keys (suc fuel) x y z e = cc
+
+pub walk_goes_on : (w v : Inside) → w.more ≡ true → v.more ≡ w.more → keys_to_come v ≢ []
+walk_goes_on w v m em none = some_keys (v.x.crossings + v.y.crossings + v.z.crossings) v.x v.y v.z (sym (keys_to_come_more v (em ∙ m)) ∙ none)
+
+-- at most one voxel is left where the walk has ended
+pub walk_left : (w : Inside) → (w.more ≡ false) ⊎ ((w.more ≡ true) × (has_ended w.x w.y w.z ≡ true)) → length (keys_to_come w) ≤ 1
+walk_left w (inl none) = rw none (omega arith)
+walk_left w (inr (more, ended)) = rw (walk_ends w more ended) (omega arith)
 
 abbrev pub after : Inside → Inside
 after w = record {

@@ -1,4 +1,4 @@
-ghost use Rattle.std.specs.Prelude.{◌≡◌, ◌+◌, ◌-◌, ◌*◌, ◌^◌, ◌<◌, ◌≤◌, [], length, slice_get};
+ghost use Rattle.std.specs.Prelude.{◌≡◌, ◌≢◌, ◌+◌, ◌-◌, ◌*◌, ◌^◌, ◌<◌, ◌≤◌, [], length, slice_get};
 ghost use Rattle.std.specs.Prelude.{IsSome, IfSome, IfNone};
 ghost use Rattle.std.specs.Iterator.{YieldsFirst, item_count};
 ghost use Rattle.oct_key.specs.Voxel.{IsResolution, key_at};
@@ -82,6 +82,23 @@ impl Walk {
             advance(&mut self.x, &mut self.y, &mut self.z);
         }
         Some(code)
+    }
+
+    /// The code of the next voxel, or `None` where that is the last one, or none is left. Then the
+    /// walk stays as it is.
+    #[inline(always)]
+    pub fn next_but_last(&mut self) -> Option<u64>
+        ensures next { IfSome result (HasGiven self.old self.new) }
+        ensures below { IfSome result (λ code. code < 2 ^ 48) }
+        ensures more { IfSome result (λ _. self.new ≢ []) }
+        ensures none { IfNone result ((self.new ≡ self.old) × (length self.old ≤ 1)) }
+    {
+        if !self.more || has_ended(&self.x, &self.y, &self.z) {
+            return None;
+        }
+        let next = morton_of_axes(&self.x.key, &self.y.key, &self.z.key);
+        advance(&mut self.x, &mut self.y, &mut self.z);
+        Some(next)
     }
 }
 

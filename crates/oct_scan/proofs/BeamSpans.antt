@@ -1,5 +1,5 @@
 -- The voxels that a beam meets lie in the box that those of its ends span.
-use Rattle.std.proofs.Common.{◌≡◌, ℕ, ◌+◌, ◌-◌, ◌*◌, ◌<◌, ◌≤◌, Some, arith, sym, subst, ℤ, pos, ◌+ℤ◌, ◌-ℤ◌, ◌*ℤ◌}
+use Rattle.std.proofs.Common.{◌≡◌, ℕ, ◌+◌, ◌-◌, ◌*◌, ◌<◌, ◌≤◌, Some, arith, sym, subst, ℤ, ◌-ℤ◌}
 use Rattle.std.specs.Prelude.{min, max}
 use Rattle.std.proofs.Math.Nat.{mul-le-mul_right, lt_of_mul-lt-mul_right}
 use borrow.Author.Differences.{up, down}

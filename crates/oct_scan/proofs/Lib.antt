@@ -15,3 +15,4 @@ pub mod Settled
 pub mod Tests
 pub mod Faults
 pub mod Totals
+pub mod Ends

@@ -1,6 +1,6 @@
 -- One voxel more of a walk of which only what lies in a box is kept.
-use Rattle.std.proofs.Common.{◌≡◌, ◌≢◌, ℕ, ◌≤◌, ◌⊎◌, ◌↔◌, inl, inr, Bool, true, false, Option, Some, List, [], ◌∷◌, map, sym, subst, ◌∙◌, ap, arith}
-use Rattle.std.specs.Prelude.{min, max, Result, OnOk}
+use Rattle.std.proofs.Common.{◌≡◌, ◌≢◌, ℕ, ◌⊎◌, ◌↔◌, inl, inr, Bool, true, false, Option, Some, List, [], ◌∷◌, map, sym, subst, ◌∙◌, ap, arith}
+use Rattle.std.specs.Prelude.{min, max, Result, Ok, Err, IfOk}
 use Rattle.std.specs.List.{Contains}
 use Rattle.oct_key.specs.Voxel.{Voxel, IsInMap}
 use Rattle.oct_key.specs.Boxes.{Corners, IsBetween, IsInBox, is_in_box}
@@ -8,7 +8,7 @@ use Rattle.oct_key.specs.Morton.{morton_of}
 use Rattle.oct_brick.specs.declared.brick.Brick.{Brick}
 use Rattle.oct_brick.specs.Bricks.{scanned_codes}
 use Rattle.oct_brick.proofs.Lists.{contains_none}
-use Rattle.oct_scan.specs.Gathered.{IsHeld, IsSpanned, kept}
+use Rattle.oct_scan.specs.Gathered.{IsHeld, IsSpanned, IsWayAdded, kept}
 use Rattle.oct_scan.proofs.Kept.{kept_first, kept_without}
 use Rattle.oct_scan.proofs.Holding.{IsOnWay, way_passed, way_marked}
 
@@ -44,8 +44,21 @@ spanned_inside box a b k first last h = record {
 abbrev pub AreAdded : List Brick → List Brick → List Voxel → ℕ → Type 0
 AreAdded old new ks end = (c : ℕ) → Contains (scanned_codes new) c ↔ (Contains (scanned_codes old) c ⊎ (Contains (map morton_of ks) c × (end ≢ c)))
 
-pub added_as : {X E : Type 0} (r : Result X E) (P : Type 0) (old new : List Brick) (ks ls : List Voxel) (end code : ℕ) → ls ≡ ks → code ≡ end → OnOk r (P → AreAdded old new ks code) → OnOk r (P → AreAdded old new ls end)
-added_as r P old new ks ls end code same is h = subst (λ l. OnOk r (P → AreAdded old new l end)) (sym same) (subst (λ e. OnOk r (P → AreAdded old new ks e)) is h)
+-- what is added in one box is what is added in another, where both keep the same
+added_so : (window window' : Option Corners) (end end' : ℕ) (walk : List Voxel) (room : ℕ) (old new : List Brick) (met : ℕ) → kept window' walk ≡ kept window walk → end ≡ end'
+    → IsWayAdded window end walk room old new met → IsWayAdded window' end' walk room old new met
+added_so window window' end end' walk room old new met same is h = record {
+  counted = h.counted;
+  on_map = h.on_map;
+  scanned = λ fits. subst (λ l. AreAdded old new l end') (sym same) (subst (λ e. AreAdded old new (kept window walk) e) is (h.scanned fits));
+  hits = h.hits;
+  bricks = h.bricks;
+}
+
+pub added_as : {E : Type 0} (r : Result ℕ E) (window window' : Option Corners) (end end' : ℕ) (walk : List Voxel) (room : ℕ) (old new : List Brick) → kept window' walk ≡ kept window walk → end ≡ end'
+    → IfOk r (IsWayAdded window end walk room old new) → IfOk r (IsWayAdded window' end' walk room old new)
+added_as (Ok met) window window' end end' walk room old new same is h = added_so window window' end end' walk room old new met same is h
+added_as (Err e) window window' end end' walk room old new same is h = h
 
 pub none_added : (old : List Brick) (ks : List Voxel) (end : ℕ) → ks ≡ [] → AreAdded old old ks end
 none_added old ks end none c = (

@@ -1,5 +1,5 @@
 -- Working words for the codes that are gathered along the beams.
-use Rattle.std.specs.Prelude.{◌≡◌, ℕ, ◌^◌, ◌<◌, ◌≤◌, ◌↔◌, ◌⊎◌, Bool, false, not, ◌||◌}
+use Rattle.std.specs.Prelude.{◌≡◌, ◌≢◌, ℕ, ◌^◌, ◌<◌, ◌≤◌, ◌↔◌, ◌⊎◌, Bool, false, not, ◌||◌}
 use Rattle.std.specs.Prelude.{if◌then◌else◌, Option, Some, None, min, max}
 use Rattle.std.specs.List.{filter}
 use Rattle.std.specs.Prelude.{List, [], ◌∷◌, ◌++◌, map, length, All, Contains}
@@ -10,7 +10,7 @@ use Rattle.oct_key.specs.declared.point.Point.{Point}
 use Rattle.oct_ray.specs.Segment.{Meets, IsWalkAlong}
 use Rattle.oct_brick.specs.declared.brick.Brick.{Brick}
 use Rattle.oct_brick.specs.Masks.{HasCode}
-use Rattle.oct_brick.specs.Bricks.{scanned_codes, hit_codes}
+use Rattle.oct_brick.specs.Bricks.{scanned_codes, hit_codes, IsBrick}
 use Rattle.oct_scan.specs.declared.beam.Beam.{Beam}
 use Rattle.oct_scan.specs.Scanned.{EndsIn}
 
@@ -51,10 +51,29 @@ IsSpanned a b k = IsInBox
     (record { x = min a.x b.x; y = min a.y b.y; z = min a.z b.z })
     (record { x = max a.x b.x; y = max a.y b.y; z = max a.z b.z }) k
 
+-- a list of voxels ends at this one, which stands nowhere else in it
+abbrev pub EndsAt : Voxel → List Voxel → Type 0
+EndsAt end [] = ⊥
+EndsAt end (k ∷ []) = k ≡ end
+EndsAt end (k ∷ l ∷ ks) = (k ≢ end) × EndsAt end (l ∷ ks)
+
 -- the voxels of a list that lie in the box, where one stands
 abbrev pub kept : Option Corners → List Voxel → List Voxel
 kept None ks = ks
 kept (Some box) ks = filter (is_in_box box.lo box.hi) ks
+
+-- The voxels of a walk that lie in the box, where one stands, have come to those of bricks, but not
+-- that of its end, and no voxel is hit by them. So many does the walk meet. Where there is no room
+-- for them, what came to the bricks isn't said.
+pub record IsWayAdded (window : Option Corners) (end : ℕ) (walk : List Voxel) (room : ℕ)
+    (old new : List Brick) (met : ℕ) : Type 0 where
+  pub counted : met ≡ length walk
+  pub on_map : All IsInMap walk
+  pub scanned : length walk ≤ room → (code : ℕ) → Contains (scanned_codes new) code ↔
+      (Contains (scanned_codes old) code
+      ⊎ (Contains (map morton_of (kept window walk)) code × (end ≢ code)))
+  pub hits : (code : ℕ) → Contains (hit_codes new) code ↔ Contains (hit_codes old) code
+  pub bricks : All IsBrick new
 
 -- whether a beam says nothing of the voxel where it ends: it is cut there, or that voxel lies
 -- outside the box

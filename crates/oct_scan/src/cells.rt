@@ -8,7 +8,7 @@ ghost use Rattle.oct_brick.specs.Masks.{HasCode};
 ghost use Rattle.oct_brick.specs.Bricks.{scanned_codes, hit_codes, IsBrick};
 ghost use Rattle.oct_scan.specs.Answer.{MeetsSoMany, MeetAtMost, IsExcessFault};
 ghost use Rattle.oct_scan.specs.Gathered.{HoldGathered, IsBeamHeld, IsHeld, IsCurrent, IsSpanned};
-ghost use Rattle.oct_scan.specs.Gathered.{kept, is_mute};
+ghost use Rattle.oct_scan.specs.Gathered.{is_mute, EndsAt, IsWayAdded};
 
 use crate::beam::Beam;
 use crate::fault::ScanFault;
@@ -101,17 +101,11 @@ fn push_kept(
     room: u64,
 ) -> Result<u64, Memory>
     requires few { length walk ≤ 3 * 65535 + 1 }
+    requires ends { EndsAt end walk }
     requires between { (k : Voxel) → Contains walk k → IsSpanned start end k }
     requires bricks { All IsBrick bricks.old.items }
-    ensures met { IfOk result (λ met. met ≡ length walk) }
-    ensures on_map { OnOk result (All IsInMap walk) }
-    ensures scanned { OnOk result (length walk ≤ room → (c : ℕ) →
-        Contains (scanned_codes bricks.new.items) c ↔
-        (Contains (scanned_codes bricks.old.items) c ⊎
-        (Contains (map morton_of (kept window.now walk)) c × (morton_of end ≢ c)))) }
-    ensures hits { OnOk result ((c : ℕ) →
-        Contains (hit_codes bricks.new.items) c ↔ Contains (hit_codes bricks.old.items) c) }
-    ensures bricks { OnOk result (All IsBrick bricks.new.items) }
+    ensures { IfOk result (IsWayAdded window.now (morton_of end) walk room
+        bricks.old.items bricks.new.items) }
 {
     match window {
         None => push_way(bricks, walk, morton(end), room),
@@ -130,17 +124,11 @@ fn push_part(
     room: u64,
 ) -> Result<u64, Memory>
     requires few { length walk ≤ 3 * 65535 + 1 }
+    requires ends { EndsAt end walk }
     requires between { (k : Voxel) → Contains walk k → IsSpanned start end k }
     requires bricks { All IsBrick bricks.old.items }
-    ensures met { IfOk result (λ met. met ≡ length walk) }
-    ensures on_map { OnOk result (All IsInMap walk) }
-    ensures scanned { OnOk result (length walk ≤ room → (c : ℕ) →
-        Contains (scanned_codes bricks.new.items) c ↔
-        (Contains (scanned_codes bricks.old.items) c ⊎
-        (Contains (map morton_of (kept (Some window.now) walk)) c × (morton_of end ≢ c)))) }
-    ensures hits { OnOk result ((c : ℕ) →
-        Contains (hit_codes bricks.new.items) c ↔ Contains (hit_codes bricks.old.items) c) }
-    ensures bricks { OnOk result (All IsBrick bricks.new.items) }
+    ensures { IfOk result (IsWayAdded (Some window.now) (morton_of end) walk room
+        bricks.old.items bricks.new.items) }
 {
     if window.holds(start) && window.holds(end) {
         push_way(bricks, walk, morton(end), room)
@@ -188,26 +176,19 @@ fn push_within(
     requires few { length walk ≤ 3 * 65535 + 1 }
     requires end { end < 2 ^ 48 }
     requires bricks { All IsBrick bricks.old.items }
-    ensures met { IfOk result (λ met. met ≡ length walk) }
-    ensures on_map { OnOk result (All IsInMap walk) }
-    ensures scanned { OnOk result (length walk ≤ room → (c : ℕ) →
-        Contains (scanned_codes bricks.new.items) c ↔
-        (Contains (scanned_codes bricks.old.items) c ⊎
-        (Contains (map morton_of (kept (Some window.now) walk)) c × (end ≢ c)))) }
-    ensures hits { OnOk result ((c : ℕ) →
-        Contains (hit_codes bricks.new.items) c ↔ Contains (hit_codes bricks.old.items) c) }
-    ensures bricks { OnOk result (All IsBrick bricks.new.items) }
+    ensures { IfOk result (IsWayAdded (Some window.now) end walk room
+        bricks.old.items bricks.new.items) }
 {
     let mut walk = walk;
     let mut met = 0;
     let mut brick = Brick::around(end);
     while let Some(code) = walk.next_code() {
         met += 1;
-        if window.holds(from_morton(code)) && code != end && met <= room {
-            brick = push_code(bricks, brick, code)?;
+        if window.holds(from_morton(code)) && code != end {
+            brick = push_code(bricks, brick, code, met <= room)?;
         }
     }
-    push_some(bricks, brick)?;
+    push_some(bricks, brick, met <= room)?;
     Ok(met)
 }
 
@@ -215,38 +196,35 @@ fn push_within(
 /// there are with that one.
 fn push_way(bricks: &mut Vec<Brick>, walk: Walk, end: u64, room: u64) -> Result<u64, Memory>
     requires few { length walk ≤ 3 * 65535 + 1 }
+    requires ends { (k : Voxel) × IsInMap k × (morton_of k ≡ end) × EndsAt k walk }
     requires end { end < 2 ^ 48 }
     requires bricks { All IsBrick bricks.old.items }
-    ensures met { IfOk result (λ met. met ≡ length walk) }
-    ensures on_map { OnOk result (All IsInMap walk) }
-    ensures scanned { OnOk result (length walk ≤ room → (c : ℕ) →
-        Contains (scanned_codes bricks.new.items) c ↔
-        (Contains (scanned_codes bricks.old.items) c ⊎
-        (Contains (map morton_of walk) c × (end ≢ c)))) }
-    ensures hits { OnOk result ((c : ℕ) →
-        Contains (hit_codes bricks.new.items) c ↔ Contains (hit_codes bricks.old.items) c) }
-    ensures bricks { OnOk result (All IsBrick bricks.new.items) }
+    ensures { IfOk result (IsWayAdded None end walk room
+        bricks.old.items bricks.new.items) }
 {
     let mut walk = walk;
-    let mut met = 0;
+    let mut met = 1;
     let mut brick = Brick::around(end);
-    while let Some(code) = walk.next_code() {
+    while let Some(code) = walk.next_but_last() {
         met += 1;
-        if code != end && met <= room {
-            brick = push_code(bricks, brick, code)?;
-        }
+        brick = push_code(bricks, brick, code, met <= room)?;
     }
-    push_some(bricks, brick)?;
+    push_some(bricks, brick, met <= room)?;
     Ok(met)
 }
 
-/// Adds a voxel to the current brick, where it lies in that, and else adds that one to the bricks
-/// and goes on with the voxel's own.
-fn push_code(bricks: &mut Vec<Brick>, brick: Brick, code: u64) -> Result<Brick, Memory>
+/// Adds a voxel to the current brick, where it lies in that, and else adds that one to the bricks,
+/// as long as there is room, and goes on with the voxel's own.
+fn push_code(
+    bricks: &mut Vec<Brick>,
+    brick: Brick,
+    code: u64,
+    has_room: bool,
+) -> Result<Brick, Memory>
     requires bricks { All IsBrick bricks.old.items }
     requires current { IsCurrent brick }
     requires code { code < 2 ^ 48 }
-    ensures scanned { IfOk result (λ next. (c : ℕ) →
+    ensures scanned { IfOk result (λ next. IsTrue has_room → (c : ℕ) →
         IsHeld bricks.new.items next c ↔ (IsHeld bricks.old.items brick c ⊎ (code ≡ c))) }
     ensures hits { OnOk result ((c : ℕ) →
         Contains (hit_codes bricks.new.items) c ↔ Contains (hit_codes bricks.old.items) c) }
@@ -256,21 +234,21 @@ fn push_code(bricks: &mut Vec<Brick>, brick: Brick, code: u64) -> Result<Brick, 
     if code >> 6 == brick.code {
         return Ok(brick.with_scanned(code));
     }
-    push_some(bricks, brick)?;
+    push_some(bricks, brick, has_room)?;
     Ok(Brick::around(code).with_scanned(code))
 }
 
-/// Adds a brick, where a voxel is freed in it.
-fn push_some(bricks: &mut Vec<Brick>, brick: Brick) -> Result<(), Memory>
+/// Adds a brick, where a voxel is freed in it and there is room.
+fn push_some(bricks: &mut Vec<Brick>, brick: Brick, has_room: bool) -> Result<(), Memory>
     requires bricks { All IsBrick bricks.old.items }
     requires current { IsCurrent brick }
-    ensures scanned { OnOk result ((c : ℕ) →
+    ensures scanned { OnOk result (IsTrue has_room → (c : ℕ) →
         Contains (scanned_codes bricks.new.items) c ↔ IsHeld bricks.old.items brick c) }
     ensures hits { OnOk result ((c : ℕ) →
         Contains (hit_codes bricks.new.items) c ↔ Contains (hit_codes bricks.old.items) c) }
     ensures bricks { OnOk result (All IsBrick bricks.new.items) }
 {
-    if brick.scanned != 0 {
+    if has_room && brick.scanned != 0 {
         bricks.push(brick)?;
     }
     Ok(())

@@ -3,8 +3,6 @@ use Rattle.std.proofs.Common.{◌≡◌, ◌≢◌, ℕ, ◌+◌, ◌<◌, lengt
 use Rattle.std.specs.Prelude.{Option, ℤ, option_map, slice_set}
 use Rattle.std.proofs.lemmas.Bool.{cases_eq}
 use Rattle.std.proofs.lemmas.List.{length-set, get_or-replicate, length-replicate}
-use Rattle.oct_key.specs.declared.block.Block.{Block}
-use Rattle.oct_key.specs.CubeOf.{cube_of}
 use Rattle.oct_key.specs.Block.{Cube, child_of}
 use Rattle.oct_key.proofs.Blocks.{depth_child_of}
 use Rattle.oct_arena.specs.declared.node.GroupId.{GroupId}
@@ -91,14 +89,14 @@ entry_place t id e Root n ok = tt
 entry_place t id e (Slot y i) n ok = (rw (entry_set_other t.groups id y.number e (λ f. n (ap Some f))) ok.0, ok.1)
 
 -- the group of eight copies
-abbrev pub copies_group : Block → Node → Group
+abbrev pub copies_group : Cube → Node → Group
 copies_group b n = record { home = b; nodes = replicate 8 n }
 
-pub arena_copies : (gs : Groups) (id : ℕ) (b : Block) (n : Node) → IsArena gs → IsArena (slice_set gs id (Some (copies_group b n)))
+pub arena_copies : (gs : Groups) (id : ℕ) (b : Cube) (n : Node) → IsArena gs → IsArena (slice_set gs id (Some (copies_group b n)))
 arena_copies gs id b n a = arena_filled gs id (copies_group b n) a (length-replicate 8 n)
 
 -- a group of copies under the place, and a link to it at the place, are a split
-pub is_split : (t u : Tree) (p : Place) (id : GroupId) (v : ℤ) (b : Block) → IsPlace t p → block_in t p ≡ Some (cube_of b) → entry t.groups id.number ≡ None → id.number < length t.groups
+pub is_split : (t u : Tree) (p : Place) (id : GroupId) (v : ℤ) (b : Cube) → IsPlace t p → block_in t p ≡ Some b → entry t.groups id.number ≡ None → id.number < length t.groups
     → IsWritten (with_entry t id.number (Some (copies_group b (node_in t p)))) u p (Inner v id) → IsSplit t u p id v
 is_split t u p id v b ok e vacant l w = record {
   vacant = vacant;

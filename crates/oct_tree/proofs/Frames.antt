@@ -3,10 +3,7 @@ use Rattle.std.proofs.Common.{◌≡◌, ℕ, ◌+◌, ◌^◌, ◌<◌, ◌≤�
 use Rattle.std.specs.Prelude.{Option, ℤ, option_map}
 use Rattle.std.proofs.lemmas.List.{ext_get_or}
 use Rattle.oct_key.specs.Voxel.{Voxel, IsInMap}
-use Rattle.oct_key.specs.declared.block.Block.{Block}
-use Rattle.oct_key.specs.CubeOf.{cube_of}
 use Rattle.oct_key.specs.Block.{Cube, HoldsVoxel, child_of, LiesIn}
-use Rattle.oct_key.proofs.Blocks.{same_block}
 use Rattle.oct_key.proofs.Nested.{lies_in_self, child_lies_in, parent_outside, holds_apart}
 use Rattle.oct_odds.specs.Odds.{Odds}
 use Rattle.oct_arena.specs.declared.node.GroupId.{GroupId}
@@ -112,12 +109,11 @@ collapsed_same_outside t u p id v b l s e = record {
     low = (l.homes id.number b home).1
 
 -- a group is its home and its eight nodes
-same_group : (g h : Group) → cube_of g.home ≡ cube_of h.home → length g.nodes ≡ 8 → length h.nodes ≡ 8 → ((i : ℕ) → i < 8 → node_of (Some g) i ≡ node_of (Some h) i) → g ≡ h
+same_group : (g h : Group) → g.home ≡ h.home → length g.nodes ≡ 8 → length h.nodes ≡ 8 → ((i : ℕ) → i < 8 → node_of (Some g) i ≡ node_of (Some h) i) → g ≡ h
 same_group g h e lg lh nodes =
-    let home : g.home ≡ h.home = same_block g.home h.home e in
     let list : g.nodes ≡ h.nodes = ext_get_or Absent g.nodes h.nodes (lg ∙ sym lh) (λ i m. nodes i (omega arith)) in
-    let group : Block → List Node → Group = λ b ns. record { home = b; nodes = ns } in
-    let is : group g.home g.nodes ≡ group h.home h.nodes = rw (home, list) refl in
+    let group : Cube → List Node → Group = λ b ns. record { home = b; nodes = ns } in
+    let is : group g.home g.nodes ≡ group h.home h.nodes = rw (e, list) refl in
     is
 
 same_entry : (a e : Option Group) (c : Cube) → home_of a ≡ Some c → home_of e ≡ Some c → ((g : Group) → a ≡ Some g → length g.nodes ≡ 8) → ((g : Group) → e ≡ Some g → length g.nodes ≡ 8) → ((i : ℕ) → i < 8 → node_of a i ≡ node_of e i) → a ≡ e

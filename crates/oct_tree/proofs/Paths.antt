@@ -16,6 +16,7 @@ use Rattle.oct_arena.proofs.Ids.{same_ids}
 use Rattle.oct_tree.specs.declared.place.Place.{Place}
 use Rattle.oct_tree.specs.declared.place.Place.TheVariants.{Root, Slot}
 use Rattle.oct_arena.specs.Nodes.{link_of, value_of}
+use Rattle.oct_tree.specs.Places.{IsAboveVoxels}
 use Rattle.oct_tree.specs.Tree.{Tree, IsLinked, IsPlace, node_in, block_in, step, reach, value_at}
 
 pub some_injective : {A : Type 0} {x y : A} → ◌≡◌ {A = Option A} (Some x) (Some y) → x ≡ y
@@ -53,6 +54,17 @@ pub unlinked_step : (gs : Groups) (n : Node) (i : ℕ) → link_of n ≡ None �
 unlinked_step gs Absent i e = refl
 unlinked_step gs (Leaf v) i e = refl
 unlinked_step gs (Inner v id) i e = cc
+
+-- a node that links a group is Inner over it
+pub linked_node : (n : Node) (id : GroupId) → link_of n ≡ Some id.number → (v : ℤ) × (n ≡ Inner v id)
+linked_node Absent id e = cc
+linked_node (Leaf v) id e = cc
+linked_node (Inner v x) id e = (v, ap (λ y. Inner v y) (same_ids x id (some_injective e)))
+
+-- homes are above the voxels
+pub above_voxels : (t : Tree) (p : Place) → IsLinked t → IsAboveVoxels t.groups p
+above_voxels t Root l = tt
+above_voxels t (Slot id i) l = λ b e. (l.homes id.number b e).1
 
 pub not_inner : (n : Node) → ((v : ℤ) (id : GroupId) → n ≡ Inner v id → ⊥) → link_of n ≡ None
 not_inner Absent h = refl

@@ -1,8 +1,6 @@
 -- What each call of a tree leaves: one record for each, over the tree before and the tree after it.
 use Rattle.std.proofs.Common.{◌≡◌, ◌<◌, ◌≤◌, length, refl, sym, ◌∙◌, ap, subst, inl, inr, Some, None}
 use Rattle.std.specs.Prelude.{ℤ, slice_set}
-use Rattle.oct_key.specs.declared.block.Block.{Block}
-use Rattle.oct_key.specs.CubeOf.{cube_of}
 use Rattle.oct_key.specs.Block.{Cube}
 use Rattle.oct_odds.specs.Update.{IsWithin}
 use Rattle.oct_arena.specs.declared.node.GroupId.{GroupId}
@@ -18,7 +16,7 @@ use Rattle.oct_tree.specs.Places.{groups_with, root_with}
 use Rattle.oct_tree.specs.Tree.{Tree, IsLinked, IsPlace, node_in, block_in, value_at}
 use Rattle.oct_tree.specs.Changes.{SetsBlock, IsWritten, IsSplit, IsCollapsed, IsRenewed, IsSameOutside, CanCollapse}
 use Rattle.oct_key.specs.Values.{SameValues}
-use Rattle.oct_tree.proofs.Paths.{some_injective, linked_live, live_home, homed_entry}
+use Rattle.oct_tree.proofs.Paths.{some_injective, linked_live, linked_node, live_home, homed_entry, place_block}
 use Rattle.oct_tree.proofs.Links.{same_place, live_place, written_linked, alike_values, written_outside, place_value, split_values, split_linked, collapsed_linked}
 use Rattle.oct_tree.proofs.Entries.{tree_with, with_entry, copies_group, arena_copies, arena_with, is_written, entry_place, is_split, not_own, is_collapsed, block_kept}
 use Rattle.oct_tree.proofs.Surveys.{all_collapsible}
@@ -57,10 +55,10 @@ pub record IsSplitStep (t u : Tree) (p : Place) (id : GroupId) : Type 0 where
   pub linked : IsLinked u
 
 -- the tree that a split makes
-abbrev pub split_tree : Tree → Place → GroupId → Block → Tree
+abbrev pub split_tree : Tree → Place → GroupId → Cube → Tree
 split_tree t p id b = tree_with (with_entry t id.number (Some (copies_group b (node_in t p)))) p (Inner (inherited (node_in t p)) id)
 
-pub split_step : (t u : Tree) (p : Place) (id : GroupId) (b : Block) → IsLinked t → IsPlace t p → block_in t p ≡ Some (cube_of b) → b.depth ≤ 15 → link_of (node_in t p) ≡ None
+pub split_step : (t u : Tree) (p : Place) (id : GroupId) (b : Cube) → IsLinked t → IsPlace t p → block_in t p ≡ Some b → b.depth ≤ 15 → link_of (node_in t p) ≡ None
     → entry t.groups id.number ≡ None → id.number < length t.groups → u ≡ split_tree t p id b → IsSplitStep t u p id
 split_step t u p id b l ok e low none vacant within is =
     let v = inherited (node_in t p) in
@@ -70,7 +68,7 @@ split_step t u p id b l ok e low none vacant within is =
     let w : IsWritten mid u p (Inner v id) = subst (λ x. IsWritten mid x p (Inner v id)) (sym is) (is_written mid p (Inner v id) a ok') in
     let s = is_split t u p id v b ok e vacant within w in
     let a' = subst (λ (x : Tree). IsArena x.groups) (sym is) (arena_with mid.groups p (Inner v id) a) in
-    let m = split_linked t u p id v (cube_of b) l ok e low none s a' in
+    let m = split_linked t u p id v b l ok e low none s a' in
     record {
       split = s;
       values = split_values t u p id v l m s none;
@@ -145,15 +143,16 @@ set_call t s p n gs root e l ok before none within f g =
     let is : ◌≡◌ {A = Tree} (record { groups = gs; root = root; res = t.res; odds = t.odds }) (tree_with t p n) = rw (f, g) refl in
     set_step s u p n (subst IsLinked e l) ok before none within (is ∙ ap (λ x. tree_with x p n) e)
 
-pub split_call : (t s : Tree) (p : Place) (id : GroupId) (b : Block) (node inner : Node) (mid gs : Groups) (root : Node) → t ≡ s → IsLinked t → IsPlace s p → link_of (node_in s p) ≡ None
-    → ((c : Cube) → block_in s p ≡ Some c → c.depth ≤ 15) → node ≡ node_in t p → block_in t p ≡ Some (cube_of b) → entry t.groups id.number ≡ None → id.number < length t.groups
-    → mid ≡ slice_set t.groups id.number (Some (copies_group b node)) → inner ≡ Inner (inherited node) id → gs ≡ groups_with mid p inner → root ≡ root_with t.root p inner
+pub split_call : (t s : Tree) (p : Place) (id : GroupId) (gs : Groups) (root : Node) → t ≡ s → IsLinked t → IsPlace s p → link_of (node_in s p) ≡ None
+    → ((b : Cube) → block_in s p ≡ Some b → b.depth ≤ 15) → entry t.groups id.number ≡ None → id.number < length t.groups
+    → ((b : Cube) → block_in t p ≡ Some b → gs ≡ groups_with (slice_set t.groups id.number (Some (copies_group b (node_in t p)))) p (Inner (inherited (node_in t p)) id))
+    → root ≡ root_with t.root p (Inner (inherited (node_in t p)) id)
     → IsSplitStep s (record { groups = gs; root = root; res = t.res; odds = t.odds }) p id
-split_call t s p id b node inner mid gs root e l ok none low at block vacant within h k f g =
+split_call t s p id gs root e l ok none low vacant within f g =
     let u : Tree = record { groups = gs; root = root; res = t.res; odds = t.odds } in
-    let is : ◌≡◌ {A = Tree} (record { groups = gs; root = root; res = t.res; odds = t.odds }) (split_tree t p id b) = rw (f, g, h, k, at) refl in
-    let block' : block_in s p ≡ Some (cube_of b) = subst (λ x. block_in x p ≡ Some (cube_of b)) e block in
-    split_step s u p id b (subst IsLinked e l) ok block' (low (cube_of b) block') none (subst (λ (x : Tree). entry x.groups id.number ≡ None) e vacant) (subst (λ (x : Tree). id.number < length x.groups) e within) (is ∙ ap (λ x. split_tree x p id b) e)
+    let (b, block) = place_block s p ok in
+    let is : ◌≡◌ {A = Tree} (record { groups = gs; root = root; res = t.res; odds = t.odds }) (split_tree t p id b) = rw (f b (subst (λ x. block_in x p ≡ Some b) (sym e) block), g) refl in
+    split_step s u p id b (subst IsLinked e l) ok block (low b block) none (subst (λ (x : Tree). entry x.groups id.number ≡ None) e vacant) (subst (λ (x : Tree). id.number < length x.groups) e within) (is ∙ ap (λ x. split_tree x p id b) e)
 
 pub collapse_call : (t s : Tree) (p : Place) (id : GroupId) (v : ℤ) (n : Node) (gs : Groups) (root : Node) → t ≡ s → IsLinked t → IsPlace s p → node_in t p ≡ Inner v id → link_of n ≡ None → IsAll t.groups id.number n
     → gs ≡ groups_with (slice_set t.groups id.number None) p n → root ≡ root_with t.root p n → IsCollapseStep s (record { groups = gs; root = root; res = t.res; odds = t.odds }) p
@@ -172,6 +171,10 @@ renew_call t s p id v m gs root e l ok link greatest f g =
 -- the group that the place links is live
 pub live_call : (t s : Tree) (p : Place) (id : GroupId) (v : ℤ) → t ≡ s → IsLinked t → IsPlace s p → node_in t p ≡ Inner v id → IsLive t.groups id.number
 live_call t s p id v e l ok link = linked_live t l p (subst (λ x. IsPlace x p) (sym e) ok) id.number (ap link_of link)
+
+-- the place that links a group is Inner
+pub linked_at : (t s : Tree) (p : Place) (id : GroupId) → t ≡ s → link_of (node_in s p) ≡ Some id.number → (v : ℤ) × (node_in t p ≡ Inner v id)
+linked_at t s p id e link = linked_node (node_in t p) id (subst (λ x. link_of (node_in x p) ≡ Some id.number) (sym e) link)
 
 -- the place can be collapsed where its group's nodes are one node that is not Inner
 pub can_collapse : (t s : Tree) (p : Place) (id : GroupId) (v : ℤ) (n : Node) → t ≡ s → node_in t p ≡ Inner v id → link_of n ≡ None → IsAll t.groups id.number n → CanCollapse s p

@@ -1,10 +1,14 @@
 //! Reading and writing the node of a place, in the arena or at the root.
 
-ghost use Rattle.std.specs.Prelude.{◌≡◌, ◌+◌, ◌<◌, ◌≤◌, ◌≢◌, Some, None, slice_set};
+ghost use Rattle.std.specs.Prelude.{◌≡◌, ◌+◌, ◌<◌, ◌≤◌, ◌≢◌, Some, None, length, replicate, slice_set};
+ghost use Rattle.oct_key.specs.Block.{Cube, root_block};
 ghost use Rattle.oct_key.specs.CubeOf.{cube_of};
-ghost use Rattle.oct_arena.specs.Entries.{IsLive, spare};
+ghost use Rattle.oct_arena.specs.declared.node.Node.TheVariants.{Inner};
+ghost use Rattle.oct_arena.specs.Entries.{IsLive, entry, spare};
+ghost use Rattle.oct_tree.specs.Nodes.{inherited};
 ghost use Rattle.oct_tree.specs.Places.{IsPlaceOf, IsAboveVoxels, node_at_place, block_at_place, groups_with, root_with};
 
+use crate::nodes::inner_over;
 use crate::place::Place;
 use oct_arena::{GroupId, Node, NodeArena};
 use oct_key::Block;
@@ -20,20 +24,39 @@ pub(crate) fn read(arena: &NodeArena, root: Node, p: Place) -> Node
     }
 }
 
-/// The block of the node at the place.
-pub(crate) fn block(arena: &NodeArena, p: Place) -> Block
-    requires place { IsPlaceOf arena.now p }
-    requires home { IsAboveVoxels arena.now p }
-    ensures { block_at_place arena.now p ≡ Some (cube_of result) }
+/// The block of the whole map.
+fn map() -> Block
+    ensures { cube_of result ≡ root_block }
+{
+    Block {
+        depth: 0,
+        x: 0,
+        y: 0,
+        z: 0,
+    }
+}
+
+/// Puts a group of eight copies of the place's node under it.
+pub(crate) fn split(arena: &mut NodeArena, root: &mut Node, p: Place) -> GroupId
+    requires place { IsPlaceOf arena.old p }
+    requires home { IsAboveVoxels arena.old p }
+    requires room { 1 ≤ spare arena.old }
+    ensures within { result.number < length arena.old }
+    ensures vacant { entry arena.old result.number ≡ None }
+    ensures groups { (b : Cube) → block_at_place arena.old p ≡ Some b → arena.new
+        ≡ groups_with (slice_set arena.old result.number
+        (Some (record { home = b; nodes = replicate 8 (node_at_place arena.old root.old p) }))) p
+        (Inner (inherited (node_at_place arena.old root.old p)) result) }
+    ensures root { root.new
+        ≡ root_with root.old p (Inner (inherited (node_at_place arena.old root.old p)) result) }
 {
     match p {
-        Place::Root => Block {
-            depth: 0,
-            x: 0,
-            y: 0,
-            z: 0,
-        },
-        Place::Slot(id, i) => arena.home(id).child(i),
+        Place::Root => {
+            let id = arena.take(map(), [*root; 8]);
+            *root = inner_over(*root, id);
+            id
+        }
+        Place::Slot(id, i) => arena.split(id, i),
     }
 }
 

@@ -10,7 +10,7 @@ ghost use Rattle.oct_arena.specs.Entries.{IsArena, home_at, spare, live, vacant}
 ghost use Rattle.oct_tree.specs.Nodes.{inherited, IsKnown};
 ghost use Rattle.oct_arena.specs.Nodes.{link_of, value_of};
 
-use crate::nodes::{Survey, common_node, greatest, inner_over, is_absent, read_group};
+use crate::nodes::{Survey, common_node, greatest, is_absent, read_group};
 use crate::place::Place;
 use crate::slots;
 use crate::tidiness::{NOTHING, Tidiness};
@@ -219,12 +219,8 @@ impl OccTree {
             → IsSameOutside self.old self.new b }
         ensures linked { IsLinked self.new }
     {
-        let node = slots::read(&self.arena, self.root, p);
-        let home = slots::block(&self.arena, p);
-        let id = self.arena.take(home, [node; 8]);
         self.known = NOTHING;
-        slots::write(&mut self.arena, &mut self.root, p, inner_over(node, id));
-        id
+        slots::split(&mut self.arena, &mut self.root, p)
     }
 
     /// Gives back the group of an Inner place whose eight nodes are all absent, or all leaves of
@@ -311,6 +307,22 @@ impl OccTree {
         let Node::Inner(_, id) = slots::read(&self.arena, self.root, p) else {
             unreachable!();
         };
+        self.settle_group(p, id)
+    }
+
+    /// The same, for whoever knows which group the place links.
+    #[inline(always)]
+    pub fn settle_group(&mut self, p: Place, id: GroupId) -> bool
+        requires place { IsPlace self.old p }
+        requires inner { link_of (node_in self.old p) ≡ Some id.number }
+        ensures when { IsTrue result ↔ CanCollapse self.old p }
+        ensures collapsed { OnTrue result (IsCollapsed self.old self.new p) }
+        ensures renewed { OnFalse result (IsRenewed self.old self.new p) }
+        ensures values { SameValues (value_at self.old) (value_at self.new) }
+        ensures outside { (b : Cube) → block_in self.old p ≡ Some b
+            → IsSameOutside self.old self.new b }
+        ensures linked { IsLinked self.new }
+    {
         match read_group(&self.arena, id) {
             Survey::Alike(node) => {
                 self.known = NOTHING;

@@ -5,14 +5,13 @@ use Rattle.oct_key.proofs.Blocks.{depth_child_of}
 use Rattle.oct_tree.specs.declared.place.Place.TheVariants.{Slot}
 use Rattle.oct_tree.proofs.Paths.{place_block}
 use Rattle.oct_odds.specs.Update.{IsSmallEvent}
-use Rattle.oct_brick.specs.Voxels.{coded_voxel}
 use Rattle.oct_edit.specs.Listed.{update_of}
-use Rattle.oct_edit.specs.Bricks.{listed_one}
+use Rattle.oct_edit.specs.Bricks.{listed_one, event_of_bit}
 use Rattle.oct_edit.proofs.Needs.{place_in_map}
-use Rattle.oct_edit.proofs.UpdateEnds.{one_plain, small_event, rest_touched}
+use Rattle.oct_edit.proofs.UpdateEnds.{one_plain, rest_touched}
 use Rattle.oct_edit.proofs.BrickParts.{IsWithin}
 use Rattle.oct_edit.proofs.BrickRounds.{rest_of_brick, rest_within, rest_less, none_left}
-use Rattle.oct_edit.proofs.BrickWays.{part_of, first_of, voxel_index, voxel_at, voxel_masked, voxel_inside, voxel_event, voxel_step}
+use Rattle.oct_edit.proofs.BrickWays.{part_of, voxel_index, voxel_at, voxel_masked, voxel_inside, voxel_step}
 use Rattle.oct_edit.proofs.Updates.{way_start, way_place, way_back, way_end, way_spared, need_some}
 use Rattle.oct_edit.proofs.scan.touch_octet.Goals as goal
 
@@ -36,18 +35,18 @@ loop-rest-init c = record {
   rest = rest_of_brick c.args.update.brick c.requires.brick;
 }
 
-pub apply_at-requires-clause-linked : goal.apply_at-requires-clause-linked
-apply_at-requires-clause-linked c = (let (b, e) = place_block c.args.tree.now c.args.p c.requires.place in let way = c.loop-rest.invariant.way b e in way.done.linked)
+pub apply_bit-requires-clause-linked : goal.apply_bit-requires-clause-linked
+apply_bit-requires-clause-linked c = (let (b, e) = place_block c.args.tree.now c.args.p c.requires.place in let way = c.loop-rest.invariant.way b e in way.done.linked)
 
-pub apply_at-requires-clause-place : goal.apply_at-requires-clause-place
-apply_at-requires-clause-place c =
+pub apply_bit-requires-clause-place : goal.apply_bit-requires-clause-place
+apply_bit-requires-clause-place c =
     let (b, e) = place_block c.args.tree.now c.args.p c.requires.place in
     let t = trailing_zeros w64 c.loop-rest.rest.brick.scanned in
     let few : t % 8 < 8 = omega arith in
     (way_place c.args.tree.now c.enter-id.new.tree c.loop-rest.tree c.args.p b c.enter-id.result (t % 8) (listed_one c.args.update) (listed_one c.loop-rest.rest) c.args.lazy few (c.enter-id.ensures b e) (c.loop-rest.invariant.way b e)).0
 
-pub apply_at-requires-clause-plain : goal.apply_at-requires-clause-plain
-apply_at-requires-clause-plain c =
+pub apply_bit-requires-clause-plain : goal.apply_bit-requires-clause-plain
+apply_bit-requires-clause-plain c =
     let (b, e) = place_block c.args.tree.now c.args.p c.requires.place in
     let r = c.loop-rest.rest.brick in
     let h = voxel_at c.enter-id.new.tree c.loop-rest.tree c.args.p b (listed_one c.args.update) c.args.update.brick c.loop-rest.rest.brick c.loop-rest.rest.hit c.loop-rest.rest.miss c.args.lazy (c.requires.depth b e) c.requires.brick c.loop-rest.invariant.rest c.loop-rest-test.true (c.loop-rest.invariant.way b e) (c.requires.inside b e) in
@@ -58,12 +57,15 @@ apply_at-requires-clause-plain c =
     one_plain c.loop-rest.tree (Slot c.enter-id.result (voxel_index r)) (child_of b (voxel_index r)) (update_of (part_of r x ∷ []) c.loop-rest.rest.hit c.loop-rest.rest.miss) h.way.done.linked place.1 (depth_child_of b (voxel_index r) ∙ ap (λ (d : ℕ). d + 1) deep)
     (voxel_inside c.enter-id.new.tree c.loop-rest.tree c.args.p b (listed_one c.args.update) c.args.update.brick r c.loop-rest.rest.hit c.loop-rest.rest.miss x c.args.lazy h)
 
-pub apply_at-requires-clause-small : goal.apply_at-requires-clause-small
-apply_at-requires-clause-small c =
+pub apply_bit-requires-clause-hit : goal.apply_bit-requires-clause-hit
+apply_bit-requires-clause-hit c =
     let (b, e) = place_block c.args.tree.now c.args.p c.requires.place in
-    let way = c.loop-rest.invariant.way b e in
-    small_event (update_of (part_of c.loop-rest.rest.brick (1 * 2 ^ trailing_zeros w64 c.loop-rest.rest.brick.scanned % 2 ^ 64) ∷ []) c.loop-rest.rest.hit c.loop-rest.rest.miss) (coded_voxel (first_of c.loop-rest.rest.brick)) c.event_at.result (subst IsSmallEvent (sym way.hit) c.requires.hit) (subst IsSmallEvent (sym way.miss) c.requires.miss)
-    (voxel_event c.enter-id.new.tree c.loop-rest.tree c.args.p b (listed_one c.args.update) c.args.update.brick c.loop-rest.rest.brick c.loop-rest.rest.hit c.loop-rest.rest.miss c.event_at.result (1 * 2 ^ trailing_zeros w64 c.loop-rest.rest.brick.scanned % 2 ^ 64) c.args.lazy (voxel_at c.enter-id.new.tree c.loop-rest.tree c.args.p b (listed_one c.args.update) c.args.update.brick c.loop-rest.rest.brick c.loop-rest.rest.hit c.loop-rest.rest.miss c.args.lazy (c.requires.depth b e) c.requires.brick c.loop-rest.invariant.rest c.loop-rest-test.true (c.loop-rest.invariant.way b e) (c.requires.inside b e)) c.event_at.ensures)
+    let way = c.loop-rest.invariant.way b e in subst IsSmallEvent (sym way.hit) c.requires.hit
+
+pub apply_bit-requires-clause-miss : goal.apply_bit-requires-clause-miss
+apply_bit-requires-clause-miss c =
+    let (b, e) = place_block c.args.tree.now c.args.p c.requires.place in
+    let way = c.loop-rest.invariant.way b e in subst IsSmallEvent (sym way.miss) c.requires.miss
 
 -- what is left of it
 left_over : (c : goal.After-within-rest) → IsWithin c.loop-rest.rest.brick (bit_not w64 (1 * 2 ^ trailing_zeros w64 c.loop-rest.rest.brick.scanned % 2 ^ 64)) c.within-rest.result.brick
@@ -84,8 +86,8 @@ loop-rest-preserved c = record {
       let r = c.loop-rest.rest.brick in
       let x : ℕ = 1 * 2 ^ trailing_zeros w64 r.scanned % 2 ^ 64 in
       let entered = c.enter-id.ensures b e in
-      voxel_step c.args.tree.now c.enter-id.new.tree c.loop-rest.tree c.apply_at.new.tree c.args.p b c.enter-id.result (listed_one c.args.update) c.args.update.brick r c.within-rest.result.brick c.loop-rest.rest.hit c.loop-rest.rest.miss c.within-rest.result.hit c.within-rest.result.miss c.event_at.result x c.args.lazy
-      entered.linked (place_in_map c.args.tree.now c.args.p b c.requires.linked e) entered (voxel_at c.enter-id.new.tree c.loop-rest.tree c.args.p b (listed_one c.args.update) c.args.update.brick c.loop-rest.rest.brick c.loop-rest.rest.hit c.loop-rest.rest.miss c.args.lazy (c.requires.depth b e) c.requires.brick c.loop-rest.invariant.rest c.loop-rest-test.true (c.loop-rest.invariant.way b e) (c.requires.inside b e)) (left_over c) c.within-rest.ensures.hit c.within-rest.ensures.miss c.event_at.ensures c.apply_at.ensures.spare c.apply_at.ensures.touched;
+      voxel_step c.args.tree.now c.enter-id.new.tree c.loop-rest.tree c.apply_bit.new.tree c.args.p b c.enter-id.result (listed_one c.args.update) c.args.update.brick r c.within-rest.result.brick c.loop-rest.rest.hit c.loop-rest.rest.miss c.within-rest.result.hit c.within-rest.result.miss (event_of_bit c.loop-rest.rest x) x c.args.lazy
+      entered.linked (place_in_map c.args.tree.now c.args.p b c.requires.linked e) entered (voxel_at c.enter-id.new.tree c.loop-rest.tree c.args.p b (listed_one c.args.update) c.args.update.brick c.loop-rest.rest.brick c.loop-rest.rest.hit c.loop-rest.rest.miss c.args.lazy (c.requires.depth b e) c.requires.brick c.loop-rest.invariant.rest c.loop-rest-test.true (c.loop-rest.invariant.way b e) (c.requires.inside b e)) (left_over c) c.within-rest.ensures.hit c.within-rest.ensures.miss refl c.apply_bit.ensures.spare c.apply_bit.ensures.touched;
   rest = rest_within c.loop-rest.rest.brick c.within-rest.result.brick c.args.update.brick (bit_not w64 (1 * 2 ^ trailing_zeros w64 c.loop-rest.rest.brick.scanned % 2 ^ 64)) c.loop-rest.invariant.rest (left_over c);
 }
 

@@ -1,14 +1,15 @@
 use Rattle.std.proofs.Common.{◌≡◌, ℕ, ◌+◌, ◌≤◌, ◌↔◌, length, All}
 use Rattle.std.specs.List.{Contains}
-use Rattle.oct_key.specs.Voxel.{IsInMap}
+use Rattle.oct_key.specs.Voxel.{Voxel, IsInMap}
 use Rattle.oct_brick.specs.Bricks.{IsBrick, hit_codes}
-use Rattle.oct_scan.specs.Gathered.{IsCurrent}
+use Rattle.oct_scan.specs.Gathered.{IsCurrent, EndsAt}
 use Rattle.oct_scan.proofs.Holding.{IsOnWay}
 use Rattle.oct_scan.proofs.cells.push_way.Given as goal
 
 abbrev pub invariant-loop-code : goal.invariant-loop-code
 invariant-loop-code l = record {
-  counted : l.met + length l.walk ≡ length l.fn.walk;
+  counted : l.met + length l.walk ≡ length l.fn.walk + 1;
+  ends : (k : Voxel) → EndsAt k l.fn.walk → EndsAt k l.walk;
   on_map : All IsInMap l.walk → All IsInMap l.fn.walk;
   bricks : All IsBrick l.bricks.items;
   current : IsCurrent l.brick;

@@ -27,7 +27,7 @@ after c =
       | else-self-eq0 w ↦ tail_kept a.spare c.args.id.number a.tail.number c.if-self-eq0.tail.number w.if-self-eq0.false (ap (λ (i : GroupId). i.number) w.tail-is)
     ] in
     gave a.rows a.head.number a.tail.number a.spare c.args.self.now c.self.invariant c.self.view_is c.args.id.number c.if-self-eq0.tail.number a.head (pos 0) c.set_node.new.self c.requires refl
-    (c.set_node.ensures ∙ ap (λ i. slice_set a.rows i (with_node (entry a.rows i) 0 (Inner (pos 0) a.head))) c.number-at.ensures.same) tail
+    (c.set_node.ensures ∙ ap (λ n. slice_set a.rows c.number-at.result (with_node (entry a.rows c.number-at.result) 0 n)) c.new.ensures ∙ ap (λ i. slice_set a.rows i (with_node (entry a.rows i) 0 (Inner (pos 0) a.head))) c.number-at.ensures.same) tail
 
 pub invariant_of-self : goal.invariant_of-self
 invariant_of-self c = (after c).threaded

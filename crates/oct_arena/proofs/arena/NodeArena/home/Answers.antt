@@ -1,4 +1,4 @@
-use Rattle.std.proofs.Common.{◌∙◌, ap, subst, sym, length, ◌<◌}
+use Rattle.std.proofs.Common.{Some, ◌∙◌, ap, subst, sym, length, ◌<◌}
 use Rattle.oct_arena.specs.Entries.{entry, home_of}
 use Rattle.oct_arena.proofs.Calls.{within, in_memory, arena}
 use Rattle.oct_arena.proofs.arena.NodeArena.home.Goals as goal
@@ -12,7 +12,7 @@ pub returns-clause-exact : goal.returns-clause-exact
 returns-clause-exact c =
     let a = c.self.inside in
     ap home_of (in_memory a.rows a.head.number a.tail.number a.spare c.args.self.now c.self.invariant c.self.view_is c.args.id.number c.requires
-    ∙ ap (entry a.rows) (sym c.number.ensures.same) ∙ c.get.ensures)
+    ∙ ap (entry a.rows) (sym c.number.ensures.same) ∙ c.get.ensures) ∙ ap Some (sym c.block.ensures)
 
 pub returns-clause-arena : goal.returns-clause-arena
 returns-clause-arena c = let a = c.self.inside in arena a.rows a.head.number a.tail.number a.spare c.args.self.now c.self.invariant c.self.view_is

@@ -13,7 +13,7 @@ after : (c : goal.After-set_node) → (let a = c.self.inside in Changed a.rows a
 after c =
     let a = c.self.inside in
     has_changed a.rows a.head.number a.tail.number a.spare c.args.self.now c.self.invariant c.self.view_is c.args.id.number c.args.i c.args.n c.set_node.new.self c.requires.live
-    (c.set_node.ensures ∙ ap (λ i. slice_set a.rows i (with_node (entry a.rows i) c.args.i c.args.n)) c.number.ensures.same)
+    (c.set_node.ensures ∙ ap (λ n. slice_set a.rows c.number.result (with_node (entry a.rows c.number.result) c.args.i n)) c.new.ensures ∙ ap (λ i. slice_set a.rows i (with_node (entry a.rows i) c.args.i c.args.n)) c.number.ensures.same)
 
 pub invariant_of-self : goal.invariant_of-self
 invariant_of-self c = (after c).threaded

@@ -1,7 +1,7 @@
 use Rattle.std.proofs.Common.{◌≡◌, ◌∙◌, ap}
 use Rattle.oct_odds.specs.Odds.{odds_of}
 use Rattle.oct_arena.specs.declared.node.Node.TheVariants.{Absent}
-use Rattle.oct_tree.specs.Tree.{Tree, IsLinked}
+use Rattle.oct_tree.specs.Tree.{Tree}
 use Rattle.oct_tree.proofs.Shapes.{unknown_linked, unknown_known}
 use Rattle.oct_tree.proofs.tree.OccTree.set_odds.Goals as goal
 
