@@ -28,6 +28,10 @@ ghost use Rattle.oct_map.specs.Marks.{KeepsMark};
 ghost use Rattle.oct_map.specs.Lists.{list_answer};
 ghost use Rattle.oct_map.specs.Edits.{outcome_in, scan_need, IsMapEdited, IsMapRefused, ReservesFew, entries_of};
 
+mod loading;
+mod marking;
+mod restoring;
+
 use crate::done::ScanDone;
 use crate::fault::MapFault;
 use crate::limits::Limits;
@@ -228,8 +232,8 @@ impl OccMap {
     }
 
     /// Restricts the scans that come to the box whose corners are the voxels that hold the two
-    /// points, both included. Nothing else looks at the box, and only `limit` and `no_limit` change
-    /// it. Takes no memory.
+    /// points, both included. Nothing else looks at the box, and only `limit`, `no_limit` and a
+    /// snapshot of version 2 change it. Takes no memory.
     ///
     /// It is refused for a corner outside the map, and then where on some axis the first corner
     /// lies beyond the second. The box that stood stays then.
@@ -265,6 +269,7 @@ impl OccMap {
     /// The box to which scans are restricted, where one stands.
     pub fn window(&self) -> Option<Window>
         ensures exact { result ≡ self.now.update_box }
+        ensures map { IsMap self.now }
     {
         self.window
     }
@@ -572,11 +577,9 @@ fn is_box(lo: Key, hi: Key) -> bool
     ensures exact { result ≡ boxes.is_box lo hi }
     ensures order { IsTrue result → IsBox lo hi }
 {
-    lo.x <= hi.x && lo.y <= hi.y && lo.z <= hi.z
+    Window::new(lo, hi).is_some()
 }
 
-mod loading;
-mod marking;
 /// How many voxels there are in the box of two corners.
 fn volume(lo: Key, hi: Key) -> u64
     requires { IsBox lo hi }

@@ -10,7 +10,10 @@ use Rattle.oct_odds.specs.Update.{IsWithin}
 use Rattle.oct_snap.specs.declared.fault.SnapFault.{SnapFault}
 use Rattle.oct_snap.specs.declared.fault.SnapFault.TheVariants.{BadSnapshot}
 use Rattle.oct_snap.specs.Nodes.{Nodes, End, Whole, Parted, joined, number_bytes, text_of, are_alike, AreNodes}
+use Rattle.oct_key.specs.Values.{Values}
+use Rattle.oct_snap.specs.Texts.{map_text}
 use Rattle.oct_snap.specs.Reading.{Found, found, Reader, is_within, value_node, parted_node, after_node, read_row, read_node}
+use Rattle.oct_snap.proofs.MapNodes.{AreMapNodes}
 use Rattle.oct_snap.proofs.Numbers.{number_back}
 use Rattle.oct_snap.proofs.Rows.{joined_end, joined_assoc, text_joined}
 use Rattle.oct_snap.proofs.Exact.{passes_within, node_found}
@@ -103,3 +106,10 @@ nodes_exactly o h at nodes bytes rest sound small =
     let from : AreNodes o h 1 nodes × (bytes ≡ text_of nodes ++ rest) → read_node o h at bytes ≡ Ok (found nodes (at + length (text_of nodes)) rest) =
     λ (are, text). ap (read_node o h at) text ∙ node_back o sound h at nodes rest are in
     (to, from)
+
+-- the text of the values of a map is read back as nodes of these values
+pub map_back : (o : Odds) (values : Values) → IsSound o → (nodes : Nodes) → AreMapNodes o values nodes → (at : ℕ) (rest : List ℕ)
+    → read_node o 16 at (map_text values ++ rest) ≡ Ok (found nodes (at + length (map_text values)) rest)
+map_back o values sound nodes m at rest =
+    ap (λ (t : List ℕ). read_node o 16 at (t ++ rest)) (sym m.text) ∙ node_back o sound 16 at nodes rest m.are
+    ∙ ap (λ (t : List ℕ). Ok (found nodes (at + length t) rest)) m.text

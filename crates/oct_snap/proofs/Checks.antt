@@ -19,14 +19,14 @@ use Rattle.oct_snap.proofs.Drops.{drop_at, drop_end, drop_four}
 
 -- ---- nodes without nodes of their own
 
-few_bytes : (o : Odds) (at : ℕ) (xs : List ℕ) → length xs < 4 → value_node o at xs ≡ Err (Truncated (at + 1 + length xs))
+pub few_bytes : (o : Odds) (at : ℕ) (xs : List ℕ) → length xs < 4 → value_node o at xs ≡ Err (Truncated (at + 1 + length xs))
 few_bytes o at [] less = refl
 few_bytes o at (a ∷ []) less = refl
 few_bytes o at (a ∷ b ∷ []) less = refl
 few_bytes o at (a ∷ b ∷ c ∷ []) less = refl
 few_bytes o at (a ∷ b ∷ c ∷ d ∷ xs) less = absurd (omega arith)
 
-drop_length : (xs : List ℕ) (n : ℕ) → n ≤ length xs → n + length (drop n xs) ≡ length xs
+pub drop_length : (xs : List ℕ) (n : ℕ) → n ≤ length xs → n + length (drop n xs) ≡ length xs
 drop_length xs zero less = omega arith
 drop_length [] (suc n) less = absurd (omega arith)
 drop_length (x ∷ xs) (suc n) less = (let h = drop_length xs n (omega arith) in omega (arith, h))
@@ -41,7 +41,7 @@ value_ends o bytes at inside few =
     ∙ ap (λ (n : ℕ). Err (Truncated n)) (omega (arith, long)) in
     subst (λ (r : Result Found SnapFault). IsNodeRead bytes at r (Err (Truncated (length bytes)))) (sym is) refl
 
-value_at_place : (o : Odds) (bytes : List ℕ) (at : ℕ) (n : ℤ) (within : Bool) → at + 5 ≤ length bytes → n ≡ number_at bytes (at + 1)
+pub value_at_place : (o : Odds) (bytes : List ℕ) (at : ℕ) (n : ℤ) (within : Bool) → at + 5 ≤ length bytes → n ≡ number_at bytes (at + 1)
     → is_within o n ≡ within
     → value_node o at (drop (at + 1) bytes) ≡ cond {A = Result Found SnapFault} within (Ok (found (Whole (Some n) End) (at + 5) (drop (at + 5) bytes))) (Err (BadSnapshot at))
 value_at_place o bytes at n within inside is test =

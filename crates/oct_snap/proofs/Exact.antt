@@ -91,7 +91,7 @@ row_found o h next finds (suc n) s f small is =
     (λ g one e. row_found o h next finds n (found (joined s.nodes g.nodes) g.at g.rest) f one.small e)
     is
 
-within_test : (o : Odds) (n : ℤ) → is_within o n ≡ true → IsWithin o (Some n)
+pub within_test : (o : Odds) (n : ℤ) → is_within o n ≡ true → IsWithin o (Some n)
 within_test o n h = grind (arith, ints)
 
 pub passes_within : (o : Odds) (n : ℤ) → IsWithin o (Some n) → is_within o n ≡ true

@@ -16,7 +16,7 @@ use Rattle.oct_snap.specs.Checked.{AreFieldsRead}
 less_test : (a b : ℕ) → a < b → nat_lt a b ≡ true
 less_test a b h = grind (arith, h)
 
-not_less_test : (a b : ℕ) → b ≤ a → nat_lt a b ≡ false
+pub not_less_test : (a b : ℕ) → b ≤ a → nat_lt a b ≡ false
 not_less_test a b h = grind (arith, h)
 
 pub fields_by : (bytes : List ℕ) (r q : Result Fields SnapFault) (seen : Result FieldsRead SnapFault) → r ≡ q → AreFieldsRead bytes q seen
@@ -100,7 +100,7 @@ res_ends o bytes old few = fields_by bytes _ (Err (Truncated (length bytes))) (E
     (cond {A = Result Fields SnapFault} (is_resolution (res_at bytes)) (read_version o bytes (res_at bytes) old) (Err (BadSnapshot 8))))
     (less_test (length bytes) 16 few)) refl
 
-res_test : (o : Odds) (bytes : List ℕ) (old is : Bool) → 16 ≤ length bytes → is_resolution (res_at bytes) ≡ is
+pub res_test : (o : Odds) (bytes : List ℕ) (old is : Bool) → 16 ≤ length bytes → is_resolution (res_at bytes) ≡ is
     → read_res o bytes old ≡ cond {A = Result Fields SnapFault} is (read_version o bytes (res_at bytes) old) (Err (BadSnapshot 8))
 res_test o bytes old is many test =
     ap (λ (b : Bool). cond {A = Result Fields SnapFault} b (Err (Truncated (length bytes)))

@@ -11,3 +11,14 @@ pub mod Whole
 pub mod Writes
 pub mod Heads
 pub mod Meanings
+pub mod FoundNodes
+pub mod Fillings
+pub mod NodeFills
+pub mod FirstBytes
+pub mod WholeFills
+pub mod MapNodes
+pub mod GroupCounts
+pub mod HeadsBack
+pub mod TextsBack
+pub mod Again
+pub mod TextsOnly

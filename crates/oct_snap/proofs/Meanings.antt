@@ -21,19 +21,19 @@ use Rattle.oct_snap.proofs.Commons.{common_of_all, common_down}
 use Rattle.oct_snap.proofs.Writes.{node_of_one}
 
 -- the value of the first node, or none where it is of several
-abbrev kind_of : Nodes → Option Value
+abbrev pub kind_of : Nodes → Option Value
 kind_of End = None
 kind_of (Whole v later) = Some v
 kind_of (Parted i later) = None
 
-numbers : ℕ → ℕ → List ℕ
+unfoldable pub numbers : ℕ → ℕ → List ℕ
 numbers m zero = []
 numbers m (suc n) = m ∷ numbers (suc m) n
 
 -- a node is that of a block of these values
-record IsNodeOf (values : Values) (h : ℕ) (b : Cube) (one : Nodes) : Type 0 where
-  text : text_of one ≡ node_text h values b
-  kind : kind_of one ≡ common_value values b
+pub record IsNodeOf (values : Values) (h : ℕ) (b : Cube) (one : Nodes) : Type 0 where
+  pub text : text_of one ≡ node_text h values b
+  pub kind : kind_of one ≡ common_value values b
 
 -- nodes in a row are those of the children from m on
 record AreNodesOf (values : Values) (h : ℕ) (b : Cube) (m n : ℕ) (row : Nodes) : Type 0 where
@@ -45,7 +45,7 @@ abbrev EachIs : Odds → Values → ℕ → ℕ → Cube → Type 0
 EachIs o values h d b = (i : ℕ) (one : Nodes) → i < 8 → AreNodes o h 1 one
     → ((k : Voxel) → HoldsVoxel (child_of b i) k → value_in d one 0 k ≡ values k) → IsNodeOf values h (child_of b i) one
 
-abbrev Agree : Values → ℕ → Cube → ℕ → ℕ → Nodes → Type 0
+abbrev pub Agree : Values → ℕ → Cube → ℕ → ℕ → Nodes → Type 0
 Agree values d b m n row = (j : ℕ) (k : Voxel) → j < n → HoldsVoxel (child_of b (m + j)) k → value_in d row j k ≡ values k
 
 some_or : Option Value → Value → Value
@@ -60,7 +60,7 @@ whole_alike : (v w : Value) (o : Option Value) (rest : Bool) → Some v ≡ o �
 whole_alike v w o rest e f all =
     ap (λ (x : Value). is_same_value w x && rest) (some_same v w (e ∙ f)) ∙ ap (λ (b : Bool). b && rest) (is_same_value_refl w) ∙ all
 
-first_agrees : (values : Values) (d : ℕ) (b : Cube) (m n : ℕ) (row : Nodes) → Agree values d b m (suc n) row
+pub first_agrees : (values : Values) (d : ℕ) (b : Cube) (m n : ℕ) (row : Nodes) → Agree values d b m (suc n) row
     → (k : Voxel) → HoldsVoxel (child_of b m) k → value_in d row 0 k ≡ values k
 first_agrees values d b m n row agree k held =
     (let e : m ≡ m + 0 = omega arith in agree 0 k (omega arith) (subst (λ (i : ℕ). HoldsVoxel (child_of b i) k) e held))
@@ -117,7 +117,7 @@ none_common values h b row None is ok low rows varied = sym is
 none_common values h b row (Some v) is ok low rows varied =
     absurd (alike_row row v (rows.alike v (λ i li. common_down values b v i ok low (omega (arith, li)) is)) varied)
 
-row_agrees : (values : Values) (d : ℕ) (b : Cube) (row : Nodes) → b.depth ≡ d → d < 16
+pub row_agrees : (values : Values) (d : ℕ) (b : Cube) (row : Nodes) → b.depth ≡ d → d < 16
     → ((k : Voxel) → HoldsVoxel b k → value_in (suc d) row (child_index_of d k) k ≡ values k) → Agree values (suc d) b 0 8 row
 row_agrees values d b row deep low agree j k lj held =
     let e : 0 + j ≡ j = omega arith in
@@ -148,7 +148,7 @@ whole_is values h b v ok agree =
     }
 
 -- a node whose values these are is the block's
-node_is : (o : Odds) (values : Values) (h d : ℕ) (b : Cube) (nodes : Nodes) → b.depth ≡ d → d + h ≡ 16 → IsBlock b → AreNodes o h 1 nodes
+pub node_is : (o : Odds) (values : Values) (h d : ℕ) (b : Cube) (nodes : Nodes) → b.depth ≡ d → d + h ≡ 16 → IsBlock b → AreNodes o h 1 nodes
     → ((k : Voxel) → HoldsVoxel b k → value_in d nodes 0 k ≡ values k) → IsNodeOf values h b nodes
 unfolding value_in
 node_is o values h d b End deep all ok are agree = absurd are

@@ -3,3 +3,4 @@ pub mod Texts
 pub mod Reading
 pub mod Common
 pub mod Checked
+pub mod Filled

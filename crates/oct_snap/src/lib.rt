@@ -3,6 +3,7 @@
 //! ```text
 //! let bytes = write(&tree, window, &mut sink)?;
 //! let info = check(file, odds)?;
+//! fill(file, &mut tree);
 //! ```
 //!
 //! What the contracts promise:
@@ -15,6 +16,13 @@
 //! - [`check`] answers what a file says of itself, or the first fault that its bytes complete
 //!   (`read_snapshot` in `specs/Reading.antt`): it reads versions 1 and 2, goes through the bytes
 //!   once, at most sixteen calls deep, and takes no memory.
+//! - [`fill`] makes the tree of the values of a snapshot that is accepted: fresh and pruned, with
+//!   exactly as many groups as the snapshot says. It reads each byte once, at most sixteen calls
+//!   deep, and takes no memory.
+//! - The text of every map of values within the bounds is accepted, and says what it is the text of
+//!   ([`texts_are_accepted`]). What is accepted is the text of the values that it gives, so that
+//!   these have no other one of its version ([`texts_are_the_only_ones`]), and its groups are as many
+//!   as the values need ([`groups_are_needed`]).
 //!
 //! The definitions are in the format's own words and know nothing of trees: whole nodes in a row
 //! and their text (`Nodes`), the text of a value for each voxel (`Texts`), and what a file is read
@@ -26,6 +34,7 @@
 mod checking;
 mod common;
 mod fault;
+mod filling;
 mod head;
 mod heading;
 mod info;
@@ -35,6 +44,10 @@ mod tests;
 mod writing;
 
 pub use fault::SnapFault;
+pub use filling::fill;
 pub use info::{SnapInfo, check};
-pub use laws::{maps_are_read_exactly, nodes_are_read_exactly};
+pub use laws::{
+    groups_are_needed, maps_are_read_exactly, nodes_are_read_exactly, snapshots_are_read_again,
+    texts_are_accepted, texts_are_the_only_ones, values_have_nodes,
+};
 pub use writing::write;

@@ -1,10 +1,8 @@
 use crate::{SnapFault, check, write};
-use oct_arena::Node;
 use oct_io::CalmSink;
 use oct_key::{Key, Res, Window};
 use oct_odds::OddsModel;
-use oct_tree::{OccTree, Place};
-use std::alloc::Global;
+use oct_tree::OccTree;
 
 /// The snapshot of the empty map at 0.1 m.
 const EMPTY: [u8; 38] = [
@@ -63,9 +61,78 @@ fn reads_what_it_writes(rt: HostRuntime) {
     }
 }
 
+/// The empty map's of version 1.
+const OLD_EMPTY: [u8; 17] = [
+    0x4F, 0x43, 0x54, 0x53, 0x4E, 0x41, 0x50, 0x31, 0x00, 0x00, 0x00, 0x00, 0x05, 0xF5, 0xE1, 0x00,
+    0x00,
+];
+
+/// The snapshot of version 1 of a map whose voxels all have the value 850.
+const WHOLE: [u8; 21] = [
+    0x4F, 0x43, 0x54, 0x53, 0x4E, 0x41, 0x50, 0x31, 0x00, 0x00, 0x00, 0x00, 0x05, 0xF5, 0xE1, 0x00,
+    0x01, 0x00, 0x00, 0x03, 0x52,
+];
+
+/// A field or node that isn't one.
+fn bad(at: u64) -> Option<SnapFault> {
+    Some(SnapFault::BadSnapshot { at })
+}
+
 #[test]
 fn names_the_first_fault(rt: HostRuntime) {
-    assert_eq!(rt; fault(&EIGHT), Some(SnapFault::BadSnapshot { at: 16 }));
-    assert_eq!(rt; fault(&EMPTY[..7]), Some(SnapFault::BadMagic));
-    assert_eq!(rt; fault(&EMPTY[..37]), Some(SnapFault::Truncated { at: 37 }));
+    assert_eq!(rt; fault(&OLD_EMPTY), None);
+    assert_eq!(rt; fault(&EIGHT), bad(16));
+    for n in 0..EMPTY.len() {
+        let want = if n < 8 {
+            SnapFault::BadMagic
+        } else {
+            SnapFault::Truncated { at: n as u64 }
+        };
+        assert_eq!(rt; fault(&EMPTY[..n]), Some(want), "{n} bytes");
+    }
+}
+
+#[test]
+fn names_the_fault_of_a_changed_node(rt: HostRuntime) {
+    for (place, byte, want) in [
+        (0, 0x50, Some(SnapFault::BadMagic)),
+        (7, 0x33, Some(SnapFault::BadMagic)),
+        (7, 0x32, Some(SnapFault::Truncated { at: 21 })),
+        (8, 0x01, bad(8)),
+        (11, 0x18, bad(8)),
+        (12, 0x00, None),
+        (16, 0x00, Some(SnapFault::TrailingBytes { at: 17 })),
+        (16, 0x02, bad(19)),
+        (16, 0x03, bad(16)),
+        (17, 0x80, bad(16)),
+        (19, 0x0D, None),
+        (19, 0x0E, bad(16)),
+        (20, 0x00, None),
+    ] {
+        let mut bytes = WHOLE;
+        if let Some(there) = bytes.get_mut(place) {
+            *there = byte;
+        }
+        assert_eq!(rt; fault(&bytes), want, "{byte} at {place}");
+    }
+}
+
+#[test]
+fn names_the_fault_of_a_changed_field(rt: HostRuntime) {
+    for (place, byte, want) in [
+        (16, 0x80, bad(16)),
+        (20, 0x00, bad(20)),
+        (24, 0x00, bad(24)),
+        (28, 0x80, bad(28)),
+        (34, 0x0E, bad(32)),
+        (36, 0x02, bad(36)),
+        (36, 0x01, Some(SnapFault::Truncated { at: 38 })),
+        (37, 0x03, bad(37)),
+    ] {
+        let mut bytes = EMPTY;
+        if let Some(there) = bytes.get_mut(place) {
+            *there = byte;
+        }
+        assert_eq!(rt; fault(&bytes), want, "{byte} at {place}");
+    }
 }
