@@ -5,8 +5,8 @@ use Rattle.std.proofs.lemmas.Slice.Eq.{bytes_eq-Decides}
 use Rattle.std.proofs.lemmas.List.Elements.{filter_map-append}
 use Rattle.std.specs.List.{cons_option, list_any, find}
 use Rattle.oct_script.specs.Commands.{all_behind}
-use Rattle.oct_script.specs.Grammar.{Form, Ends, Exactly, Row, behind, grammar, block_grammar, rows_of, forms_in, forms_of}
-use Rattle.oct_script.specs.Reading.{forms_of_row, forms_at, forms_behind, forms_of_verb, row_seen}
+use Rattle.oct_script.specs.Grammar.{Form, Exactly, Row, behind, grammar, block_grammar, rows_of, forms_in, forms_of}
+use Rattle.oct_script.specs.Reading.{forms_of_row, forms_at, forms_of_verb, row_seen}
 use Rattle.oct_script.specs.declared.verbs.Verb.{Verb}
 use Rattle.oct_script.specs.declared.verbs.FirstWord.{FirstWord}
 use Rattle.oct_script.specs.Words.{Word}

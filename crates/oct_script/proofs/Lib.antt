@@ -6,4 +6,5 @@ pub mod WordSplits
 pub mod Lengths
 pub mod Leaving
 pub mod FirstWords
+pub mod Appending
 pub mod Parsing

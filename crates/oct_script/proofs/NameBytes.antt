@@ -1,12 +1,12 @@
 -- The bytes of names.
-use Rattle.std.proofs.Common.{◌≡◌, ℕ, zero, suc, ◌+◌, ◌-◌, ◌<◌, ◌≤◌, Bool, true, false, not, ◌&&◌, ◌||◌, ◌⊎◌, inl, inr, List, [], ◌∷◌, ◌++◌, length, take, drop, replicate, get_or, nat_le, nat_lt, nat_eq, Option, Some, None, cond, refl, sym, ap, subst, ◌∙◌, arith, rules, tests}
+use Rattle.std.proofs.Common.{◌≡◌, ℕ, zero, suc, ◌+◌, ◌-◌, ◌<◌, ◌≤◌, Bool, true, List, [], ◌∷◌, ◌++◌, length, take, drop, replicate, get_or, Option, Some, None, cond, refl, sym, ap, subst, ◌∙◌, arith, rules, tests}
 use Rattle.std.proofs.Math.Seq.{take-append_seam}
 use Rattle.std.proofs.lemmas.Bool.{and_parts}
 use Rattle.std.proofs.lemmas.List.{drop-replicate}
 use Rattle.std.proofs.lemmas.Str.{IsUtf8-from_ascii}
 use Rattle.std.specs.List.{prefix_len, list_all}
 use Rattle.std.specs.Str.{IsAscii, IsUtf8}
-use Rattle.oct_script.specs.Names.{is_name_byte, begins_no_name, is_name, name_of, is_kept, padded, without_padding}
+use Rattle.oct_script.specs.Names.{is_name_byte, is_name, name_of, is_kept, padded, without_padding}
 
 named_kept : (b : ℕ) → is_name_byte b ≡ true → is_kept b ≡ true
 named_kept b e = search (rules, tests)

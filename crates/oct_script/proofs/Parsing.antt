@@ -1,11 +1,13 @@
 -- The parser reads a line as the grammar's forms have it.
 use Rattle.std.proofs.Common.{◌≡◌, ℕ, ℤ, List, [], ◌∷◌, Bool, true, false, not, cond, Option, Some, None, Result, Ok, Err, option_map, map, codes, bytes_eq, refl, sym, ap, ◌∙◌}
+use Rattle.std.proofs.lemmas.Slice.Eq.{bytes_eq-Decides}
 use Rattle.std.specs.List.{cons_option}
 use Rattle.std.specs.Option.{ok_or}
+use Rattle.oct_num.specs.Whole as whole
 use Rattle.oct_key.specs.declared.point.Point.{Point}
 use Rattle.oct_script.specs.Commands.{fault, all_behind, ended_command, if_any, command_by, is_comment, command_in}
-use Rattle.oct_script.specs.Grammar.{Form, Ends, Exactly, Metres, Number, Depth, Component, Range, FileName, length_of, number_of, depth_of, component_of, range_of, behind, point, two_points, lazy, head, cast, scan, rows_of, forms_of, box, file, forms_in, Row, row, alone}
-use Rattle.oct_script.specs.Reading.{◌>>=◌, number_or, number_in, point_in, excess, unless_fault, end_in, flag_in, edit_end_in, edit_in, points_in, point_number_in, number_edit_in, query_in, cast_in, rotation_in, scan_in, beam_in, file_in, behind_verb, forms_behind, single_command, forms_of_verb, forms_at, misplaced, by_forms, behind_first, line_in, edit_number_in, edit_word_in, box_in, forms_of_row}
+use Rattle.oct_script.specs.Grammar.{Form, Ends, Exactly, Metres, Number, Depth, Component, Range, FileName, HitOdds, MissOdds, length_of, number_of, depth_of, component_of, range_of, hit_of, miss_of, behind, point, two_points, lazy, own_odds, cast, listing, limit, scan, rows_of, forms_of, box, file, forms_in, Row, row, alone}
+use Rattle.oct_script.specs.Reading.{◌>>=◌, number_or, number_in, point_in, excess, unless_fault, end_in, flag_in, edit_end_in, edit_in, points_in, point_number_in, number_edit_in, query_in, cast_in, rotation_in, scan_in, beam_in, file_in, behind_verb, forms_behind, single_command, forms_of_verb, forms_at, by_forms, behind_first, line_in, edit_number_in, edit_word_in, box_in, listing_in, limit_in, miss_in, head_end_in, forms_of_row}
 use Rattle.oct_script.proofs.FirstWords.{first_word, forms_first}
 use Rattle.oct_script.specs.Names.{name_of}
 use Rattle.oct_script.specs.Words.{Word, PlacedWord}
@@ -13,10 +15,12 @@ use Rattle.oct_script.specs.declared.command.Syntax.{Syntax}
 use Rattle.oct_script.specs.declared.command.Edit.{Edit}
 use Rattle.oct_script.specs.declared.command.Edit.TheVariants as an_edit
 use Rattle.oct_script.specs.declared.command.ScanHead.{ScanHead}
+use Rattle.oct_script.specs.declared.command.ScanOdds.{ScanOdds}
 use Rattle.oct_script.specs.declared.command.Command.{Command}
 use Rattle.oct_script.specs.declared.command.Command.TheVariants as command
 use Rattle.oct_script.specs.declared.verbs.Verb.{Verb}
-use Rattle.oct_script.specs.declared.verbs.Verb.TheVariants.{Hit, Miss, Add, Set, Forget, Get, Cast, Scan, Beam, Alone, Box, Save, Load, Snapshot, Restore}
+use Rattle.oct_script.specs.declared.verbs.Verb.TheVariants as verb
+use Rattle.oct_script.specs.declared.verbs.Verb.TheVariants.{Hit, Miss, Add, Set, Forget, Get, Cast, Scan, Beam, Alone, Box, Limit, Save, Load, Snapshot, Restore}
 
 -- no word may stand any more
 ends : (c : Command) (end : ℕ) (words : List PlacedWord) → command_by (Ends c ∷ []) end words ≡ end_in c words
@@ -152,6 +156,24 @@ points_two f g end words =
     point_two (λ p. point (λ q. f p q)) (λ p. point (λ q. g p q)) end words ∙ then_then (point_in end words) _ _ _ (λ p.
     point_two (λ q. f p.0 q) (λ q. g p.0 q) end p.1 ∙ then_then (point_in end p.1) _ _ _ (λ q. refl))
 
+-- in one form
+points_one : (f : Point → Point → Form) (end : ℕ) (words : List PlacedWord) →
+    command_by (two_points f ∷ []) end words ≡ (points_in end words >>= λ r. command_by (f r.0 r.1 ∷ []) end r.2)
+unfolding points_in
+points_one f end words =
+    point_one (λ p. point (λ q. f p q)) end words ∙ then_then (point_in end words) _ _ _ (λ p.
+    point_one (λ q. f p.0 q) end p.1 ∙ then_then (point_in end p.1) _ _ _ (λ q. refl))
+
+listings : (end : ℕ) (words : List PlacedWord) → command_by listing end words ≡ listing_in end words
+unfolding listing_in
+listings end words =
+    points_one (λ low high. Depth (λ depth. Ends (command.List low high depth))) end words ∙ then_same (points_in end words) _ _ (λ r.
+    place_one Depth depth_of depth_place _ end r.2 ∙ then_same (number_in depth_of end r.2) _ _ (λ d. ends (command.List r.0 r.1 d.0) end d.1))
+
+limits : (end : ℕ) (words : List PlacedWord) → command_by limit end words ≡ limit_in end words
+unfolding limit_in
+limits end words = points_one (λ low high. Ends (command.Limit low high)) end words ∙ then_same (points_in end words) _ _ (λ r. ends (command.Limit r.0 r.1) end r.2)
+
 casts : (end : ℕ) (words : List PlacedWord) → command_by cast end words ≡ cast_in end words
 unfolding cast_in
 casts end words =
@@ -242,37 +264,109 @@ unfolding box_in
 boxes end words =
     points_five _ _ _ _ _ end words ∙ then_same (points_in end words) _ _ (λ r. edit_words (λ e. command.Box r.0 r.1 e) end r.2)
 
--- a quaternion may stand, in two forms
-rotation_two : (f g : ℤ → ℤ → ℤ → ℤ → Form) (end : ℕ) (words : List PlacedWord) →
-    command_by (Component (λ w. Component (λ x. Component (λ y. Component (λ z. f w x y z)))) ∷ Component (λ w. Component (λ x. Component (λ y. Component (λ z. g w x y z)))) ∷ []) end words
-    ≡ (rotation_in end words >>= λ q. command_by (f q.0 q.1 q.2 q.3 ∷ g q.0 q.1 q.2 q.3 ∷ []) end q.4)
+-- in four forms
+place_four : {A : Type 0} (place : (A → Form) → Form) (read : Word → Option A) → IsPlace place read → (f g h i : A → Form) (end : ℕ) (words : List PlacedWord) →
+    command_by (place f ∷ place g ∷ place h ∷ place i ∷ []) end words ≡ (number_in read end words >>= λ n. command_by (f n.0 ∷ g n.0 ∷ h n.0 ∷ i n.0 ∷ []) end n.1)
+place_four place read is f g h i end words = place_all place read is f (g ∷ h ∷ i ∷ []) end words
+
+point_four : (f g h i : Point → Form) (end : ℕ) (words : List PlacedWord) →
+    command_by (point f ∷ point g ∷ point h ∷ point i ∷ []) end words ≡ (point_in end words >>= λ p. command_by (f p.0 ∷ g p.0 ∷ h p.0 ∷ i p.0 ∷ []) end p.1)
+unfolding point_in
+point_four f g h i end words =
+    place_four Metres length_of length_place _ _ _ _ end words ∙ then_then (number_in length_of end words) _ _ _ (λ x.
+    place_four Metres length_of length_place _ _ _ _ end x.1 ∙ then_then (number_in length_of end x.1) _ _ _ (λ y.
+    place_four Metres length_of length_place _ _ _ _ end y.1 ∙ then_then (number_in length_of end y.1) _ _ _ (λ z. refl)))
+
+-- a quaternion
+abbrev rotation : (ℤ → ℤ → ℤ → ℤ → Form) → Form
+rotation f = Component (λ w. Component (λ x. Component (λ y. Component (λ z. f w x y z))))
+
+-- a quaternion may stand, in four forms
+rotation_four : (f g h i : ℤ → ℤ → ℤ → ℤ → Form) (end : ℕ) (words : List PlacedWord) →
+    command_by (rotation f ∷ rotation g ∷ rotation h ∷ rotation i ∷ []) end words
+    ≡ (rotation_in end words >>= λ q. command_by (f q.0 q.1 q.2 q.3 ∷ g q.0 q.1 q.2 q.3 ∷ h q.0 q.1 q.2 q.3 ∷ i q.0 q.1 q.2 q.3 ∷ []) end q.4)
 unfolding rotation_in
-rotation_two f g end words =
-    place_two Component component_of component_place _ _ end words ∙ then_then (number_in component_of end words) _ _ _ (λ w.
-    place_two Component component_of component_place _ _ end w.1 ∙ then_then (number_in component_of end w.1) _ _ _ (λ x.
-    place_two Component component_of component_place _ _ end x.1 ∙ then_then (number_in component_of end x.1) _ _ _ (λ y.
-    place_two Component component_of component_place _ _ end y.1 ∙ then_then (number_in component_of end y.1) _ _ _ (λ z. refl))))
+rotation_four f g h i end words =
+    place_four Component component_of component_place _ _ _ _ end words ∙ then_then (number_in component_of end words) _ _ _ (λ w.
+    place_four Component component_of component_place _ _ _ _ end w.1 ∙ then_then (number_in component_of end w.1) _ _ _ (λ x.
+    place_four Component component_of component_place _ _ _ _ end x.1 ∙ then_then (number_in component_of end x.1) _ _ _ (λ y.
+    place_four Component component_of component_place _ _ _ _ end y.1 ∙ then_then (number_in component_of end y.1) _ _ _ (λ z. refl))))
 
 -- behind the pose of a scan
-abbrev behind_pose : ((Bool → ScanHead) → Form) → Point → ℤ → ℤ → ℤ → ℤ → Form
-behind_pose form t w x y z = Range (λ range. form (λ lazy. record { t = t; w = w; x = x; y = y; z = z; range = range; lazy = lazy }))
+abbrev behind_pose : ((Option ScanOdds → Bool → ScanHead) → Form) → Point → ℤ → ℤ → ℤ → ℤ → Form
+behind_pose form t w x y z = Range (λ range. form (λ odds lazy. record { t = t; w = w; x = x; y = y; z = z; range = range; odds = odds; lazy = lazy }))
 
-abbrev behind_point : ((Bool → ScanHead) → Form) → Point → Form
-behind_point form t = Component (λ w. Component (λ x. Component (λ y. Component (λ z. behind_pose form t w x y z))))
+abbrev behind_point : ((Option ScanOdds → Bool → ScanHead) → Form) → Point → Form
+behind_point form t = rotation (λ w x y z. behind_pose form t w x y z)
 
-abbrev at_once : (Bool → ScanHead) → Form
-at_once head = Ends (command.Scan (head false))
+-- what may end the head of a scan: nothing, `lazy`, and the two behind HIT and MISS
+abbrev at_once : (Option ScanOdds → Bool → Command) → Form
+at_once make = Ends (make None false)
 
-abbrev lazily : (Bool → ScanHead) → Form
-lazily head = lazy (command.Scan (head true))
+abbrev lazily : (Option ScanOdds → Bool → Command) → Form
+lazily make = lazy (make None true)
+
+abbrev trusted : (Option ScanOdds → Bool → Command) → Form
+trusted make = own_odds (λ odds. Ends (make odds false))
+
+abbrev trusted_lazily : (Option ScanOdds → Bool → Command) → Form
+trusted_lazily make = own_odds (λ odds. lazy (make odds true))
+
+hit_place : IsPlace HitOdds hit_of
+hit_place = record { takes = λ f word. refl; goes_on = λ f forms. refl }
+
+miss_place : IsPlace MissOdds miss_of
+miss_place = record { takes = λ f word. refl; goes_on = λ f forms. refl }
+
+-- the odds of these two numbers
+abbrev odds_of : ℤ → ℤ → Option ScanOdds
+odds_of hit miss = Some (record { hit = hit; miss = miss })
+
+-- behind a HIT
+misses : (make : Option ScanOdds → Bool → Command) (hit : ℤ) (end : ℕ) (words : List PlacedWord) →
+    command_by (MissOdds (λ miss. Ends (make (odds_of hit miss) false)) ∷ MissOdds (λ miss. lazy (make (odds_of hit miss) true)) ∷ []) end words
+    ≡ (miss_in hit end words >>= λ r. Ok (make r.0 r.1))
+unfolding miss_in
+misses make hit end words =
+    place_two MissOdds miss_of miss_place _ _ end words ∙ then_then (number_in miss_of end words) _ _ _ (λ miss.
+    ends_flag (codes "lazy") (λ lazy. make (odds_of hit miss.0) lazy) end miss.1 ∙ then_then (flag_in (codes "lazy") miss.1) _ _ _ (λ lazy. refl))
+
+-- `lazy` is no number
+lazy_is_no_hit : (word : Word) → bytes_eq word (codes "lazy") ≡ true → hit_of word ≡ None
+unfolding whole.whole_of whole.natural_of
+lazy_is_no_hit word is = ap hit_of ((bytes_eq-Decides word (codes "lazy")).0 is)
+
+-- what may stand behind a RANGE, by whether the word is `lazy` and what it spells as a HIT
+abbrev behind_range : (Option ScanOdds → Bool → Command) → Bool → Option ℤ → List Form
+behind_range make is_lazy hit =
+    cons_option (cond is_lazy (Some (Ends (make None true))) None)
+    (cons_option (option_map (λ hit. MissOdds (λ miss. Ends (make (odds_of hit miss) false))) hit)
+    (cons_option (option_map (λ hit. MissOdds (λ miss. lazy (make (odds_of hit miss) true))) hit) []))
+
+range_behind : (make : Option ScanOdds → Bool → Command) (word : PlacedWord) (is_lazy : Bool) (hit : Option ℤ) → (is_lazy ≡ true → hit ≡ None) → (end : ℕ) (words : List PlacedWord) →
+    if_any (behind_range make is_lazy hit) (command_by (behind_range make is_lazy hit) end words) (Err (fault word.column))
+    ≡ (cond is_lazy (end_in (None, true) words) (number_or word.column words hit >>= λ h. miss_in h.0 end h.1) >>= λ r. Ok (make r.0 r.1))
+range_behind make word true None no_hit end words = ends (make None true) end words ∙ ends_then (None, true) words (λ r. make r.0 r.1)
+range_behind make word true (Some hit) no_hit end words = let none : Some hit ≡ None = no_hit refl in cc
+range_behind make word false None no_hit end words = refl
+range_behind make word false (Some hit) no_hit end words = misses make hit end words
+
+head_ends : (make : Option ScanOdds → Bool → Command) (end : ℕ) (words : List PlacedWord) →
+    command_by (at_once make ∷ lazily make ∷ trusted make ∷ trusted_lazily make ∷ []) end words ≡ (head_end_in end words >>= λ r. Ok (make r.0 r.1))
+unfolding command_by head_end_in
+head_ends make end [] = refl
+head_ends make end (word ∷ words) = range_behind make word (bytes_eq word.text (codes "lazy")) (hit_of word.text) (lazy_is_no_hit word.text) end words
 
 scans : (end : ℕ) (words : List PlacedWord) → command_by scan end words ≡ scan_in end words
 unfolding scan_in
 scans end words =
-    point_two (behind_point at_once) (behind_point lazily) end words ∙ then_same (point_in end words) _ _ (λ t.
-    rotation_two (behind_pose at_once t.0) (behind_pose lazily t.0) end t.1 ∙ then_same (rotation_in end t.1) _ _ (λ q.
-    place_two Range range_of range_place _ _ end q.4 ∙ then_same (number_in range_of end q.4) _ _ (λ range.
-    ends_flag (codes "lazy") (λ lazy. command.Scan (record { t = t.0; w = q.0; x = q.1; y = q.2; z = q.3; range = range.0; lazy = lazy })) end range.1)))
+    point_four
+    (behind_point (λ of_scan. at_once (λ odds lazy. command.Scan (of_scan odds lazy)))) (behind_point (λ of_scan. lazily (λ odds lazy. command.Scan (of_scan odds lazy))))
+    (behind_point (λ of_scan. trusted (λ odds lazy. command.Scan (of_scan odds lazy)))) (behind_point (λ of_scan. trusted_lazily (λ odds lazy. command.Scan (of_scan odds lazy)))) end words
+    ∙ then_same (point_in end words) _ _ (λ t.
+    rotation_four _ _ _ _ end t.1 ∙ then_same (rotation_in end t.1) _ _ (λ q.
+    place_four Range range_of range_place _ _ _ _ end q.4 ∙ then_same (number_in range_of end q.4) _ _ (λ range.
+    head_ends (λ odds lazy. command.Scan (record { t = t.0; w = q.0; x = q.1; y = q.2; z = q.3; range = range.0; odds = odds; lazy = lazy })) end range.1)))
 
 beams : (end : ℕ) (words : List PlacedWord) → command_by (point (λ p. Ends (command.Beam p)) ∷ []) end words ≡ beam_in end words
 unfolding beam_in
@@ -294,6 +388,8 @@ behind_any Forget end words none = edits an_edit.Forget end words
 behind_any Add end words none = number_edits an_edit.Add end words
 behind_any Set end words none = number_edits an_edit.Set end words
 behind_any Get end words none = queries end words
+behind_any verb.List end words none = listings end words
+behind_any Limit end words none = limits end words
 behind_any Cast end words none = casts end words
 behind_any Box end words none = boxes end words
 behind_any Scan end words none = scans end words
@@ -304,56 +400,23 @@ behind_any Snapshot end words none = files command.Snapshot end words
 behind_any Restore end words none = files command.Restore end words
 behind_any (Alone single) end words none = ends (single_command single) end words
 
--- some form stands behind each verb
-some_behind : (verb : Verb) (some none : Result Command Syntax) → if_any (forms_behind verb) some none ≡ some
-some_behind Hit some none = refl
-some_behind Miss some none = refl
-some_behind Forget some none = refl
-some_behind Add some none = refl
-some_behind Set some none = refl
-some_behind Get some none = refl
-some_behind Cast some none = refl
-some_behind Box some none = refl
-some_behind Scan some none = refl
-some_behind Beam some none = refl
-some_behind Save some none = refl
-some_behind Load some none = refl
-some_behind Snapshot some none = refl
-some_behind Restore some none = refl
-some_behind (Alone single) some none = refl
-
 -- a first word that may stand here
 pub stands_here : (inside : Bool) (first : PlacedWord) (end : ℕ) (words : List PlacedWord) (here : Option Verb) (verb : Verb) → here ≡ Some verb →
     forms_of_verb here ≡ forms_at first.text (rows_of inside) → behind_verb verb end words ≡ behind_first inside first end words
 unfolding behind_first
 stands_here inside first end words here verb is same =
-    sym (behind_any verb end words (if_any (forms_at first.text (rows_of (not inside))) (Err (fault first.column)) (Ok command.NotYet)))
-    ∙ ap (λ forms. by_forms forms (forms_at first.text (rows_of (not inside))) first.column end words) (ap forms_of_verb (sym is) ∙ same)
+    sym (behind_any verb end words (Err (fault first.column))) ∙ ap (λ forms. by_forms forms first.column end words) (ap forms_of_verb (sym is) ∙ same)
 
 -- one that may not
-pub stands_away : (inside : Bool) (first : PlacedWord) (end : ℕ) (words : List PlacedWord) (here elsewhere : Option Verb) → here ≡ None →
-    forms_of_verb here ≡ forms_at first.text (rows_of inside) → forms_of_verb elsewhere ≡ forms_at first.text (rows_of (not inside)) →
-    misplaced first.column elsewhere ≡ behind_first inside first end words
+pub stands_away : (s : Syntax) (inside : Bool) (first : PlacedWord) (end : ℕ) (words : List PlacedWord) (here : Option Verb) → s.column ≡ first.column → here ≡ None →
+    forms_of_verb here ≡ forms_at first.text (rows_of inside) → ◌≡◌ {A = Result Command Syntax} (Err s) (behind_first inside first end words)
 unfolding behind_first
-stands_away inside first end words here elsewhere is same others =
-    (elim elsewhere as (λ o. misplaced first.column o ≡ by_forms [] (forms_of_verb o) first.column end words) [
-      | None ↦ refl
-      | Some verb ↦ sym (some_behind verb (Err (fault first.column)) (Ok command.NotYet))
-    ])
-    ∙ ap (λ forms. by_forms [] forms first.column end words) others
-    ∙ ap (λ forms. by_forms forms (forms_at first.text (rows_of (not inside))) first.column end words) (ap forms_of_verb (sym is) ∙ same)
-
--- the fault of a word that may stand elsewhere alone
-pub fault_away : (s : Syntax) (column : ℕ) (elsewhere : Option Verb) (verb : Verb) → s.column ≡ column → elsewhere ≡ Some verb →
-    ◌≡◌ {A = Result Command Syntax} (Err s) (misplaced column elsewhere)
-fault_away s column elsewhere verb at is =
-    ap (λ k. let r : Result Command Syntax = Err (fault k) in r) at ∙ sym (ap (misplaced column) is)
+stands_away s inside first end words here at is same =
+    ap (λ k. let r : Result Command Syntax = Err (fault k) in r) at ∙ ap (λ forms. by_forms forms first.column end words) (ap forms_of_verb (sym is) ∙ same)
 
 -- a line, as the parser reads it, is what the grammar says
 pub line_is : (inside : Bool) (end : ℕ) (words : List PlacedWord) → line_in inside end words ≡ command_in inside end words
-unfolding line_in command_in behind_first
+unfolding line_in command_in behind_first command_by
 line_is inside end [] = refl
 line_is inside end (first ∷ words) =
-    ap (λ r. cond (is_comment first.text) (Ok command.Blank) r) (sym (
-    ap (λ forms. by_forms forms (all_behind first.text (forms_of (not inside))) first.column end words) (first_word inside first.text)
-    ∙ ap (λ forms. by_forms (forms_at first.text (rows_of inside)) forms first.column end words) (first_word (not inside) first.text)))
+    ap (λ r. cond (is_comment first.text) (Ok command.Blank) r) (sym (ap (λ forms. by_forms forms first.column end words) (first_word inside first.text)))

@@ -1,5 +1,5 @@
 -- The command of a line.
-use Rattle.std.specs.Prelude.{ℕ, ◌+◌, ◌^◌, ◌<◌, ℤ, pos, ◌≤ℤ◌, ◌<ℤ◌, not, List, [], ◌∷◌, length}
+use Rattle.std.specs.Prelude.{ℕ, ◌+◌, ◌^◌, ◌<◌, ℤ, pos, neg_ℤ, ◌≤ℤ◌, ◌<ℤ◌, List, [], ◌∷◌, length}
 use Rattle.std.specs.Prelude.{nat_eq, slice_index, if◌then◌else◌, Bool, Option, Some, None, Result}
 use Rattle.std.specs.Prelude.{Ok, Err, IfSome, ⊤, codes, bytes_eq}
 use Rattle.std.specs.List.{filter_map}
@@ -8,6 +8,7 @@ use Rattle.oct_odds.specs.Odds.{IsSmall}
 use Rattle.oct_pose.specs.Reach.{IsInReach}
 use Rattle.oct_script.specs.Grammar.{Form, Ends, behind, forms_of}
 use Rattle.oct_script.specs.Words.{Word, PlacedWord, placed_words, first_text}
+use Rattle.oct_script.specs.declared.command.ScanOdds.{ScanOdds}
 use Rattle.oct_script.specs.declared.command.Syntax.{Syntax}
 use Rattle.oct_script.specs.declared.command.Edit.{Edit}
 use Rattle.oct_script.specs.declared.command.Edit.TheVariants.{Hit, Miss, Add, Set, Forget}
@@ -15,7 +16,7 @@ use Rattle.oct_script.specs.declared.command.Command.{Command}
 use Rattle.oct_script.specs.declared.command.Command.TheVariants as command
 use Rattle.oct_script.specs.declared.command.Command.TheVariants.{Blank, Get, Counts, Refresh}
 use Rattle.oct_script.specs.declared.command.Command.TheVariants.{Prune, Clear, Quit, Scan, Beam, End}
-use Rattle.oct_script.specs.declared.command.Command.TheVariants.{Cast, MaxLikelihood, NotYet}
+use Rattle.oct_script.specs.declared.command.Command.TheVariants.{Cast, MaxLikelihood}
 use Rattle.oct_script.specs.declared.command.Command.TheVariants.{Track, Untrack, Changes, NoLimit}
 use Rattle.oct_script.specs.declared.command.Command.TheVariants.{Save, Load, Snapshot, Restore}
 
@@ -52,16 +53,12 @@ abbrev pub is_comment : Word → Bool
 is_comment first = nat_eq (slice_index first 0) 35
 
 -- the command of a line's words, where the line ends before a column, inside the block of a scan or
--- outside: a line that needs no reply is blank; one whose first word begins a form elsewhere alone
--- is at fault there, and one whose first word begins none is not built yet
+-- outside: a line that needs no reply is blank, and any other has one of the forms that may stand
+-- there, or a fault
 unfoldable pub command_in : Bool → ℕ → List PlacedWord → Result Command Syntax
 command_in inside end [] = Ok Blank
 command_in inside end (first ∷ words) =
-    let here = all_behind first.text (forms_of inside) in
-    let elsewhere = all_behind first.text (forms_of (not inside)) in
-    if is_comment first.text then Ok Blank
-    else if_any here (command_by here end words)
-    (if_any elsewhere (Err (fault first.column)) (Ok NotYet))
+    if is_comment first.text then Ok Blank else command_by (forms_of inside) end (first ∷ words)
 
 -- the command of a line that isn't long, inside the block of a scan or outside, or the column where
 -- it leaves the grammar
@@ -84,14 +81,28 @@ IsSmallEdit Forget = ⊤
 abbrev pub IsRange : Option ℤ → Type 0
 IsRange range = IfSome range (λ r. (pos 0 ≤ℤ r) × (r <ℤ pos (10 ^ 16)))
 
+-- what a hit of one scan may add: from 1 to a million
+abbrev pub IsHitOdds : ℤ → Type 0
+IsHitOdds n = (pos 1 ≤ℤ n) × (n ≤ℤ pos 1000000)
+
+-- what a miss of one scan may add: from minus a million to minus 1
+abbrev pub IsMissOdds : ℤ → Type 0
+IsMissOdds n = (neg_ℤ (pos 1000000) ≤ℤ n) × (n ≤ℤ neg_ℤ (pos 1))
+
+-- what the hits and misses of one scan may add
+pub record IsOwnOdds (odds : ScanOdds) : Type 0 where
+  pub hit : IsHitOdds odds.hit
+  pub miss : IsMissOdds odds.miss
+
 -- the numbers in a command are small: that of an edit has a magnitude of at most a million, a depth
--- has at most seven digits, and the points of a scan and its range stay below ten thousand
--- kilometres
+-- has at most seven digits, the points of a scan and its range stay below ten thousand kilometres,
+-- and its own log-odds are such as it may have
 abbrev pub IsSmallCommand : Command → Type 0
 IsSmallCommand Blank = ⊤
 IsSmallCommand (command.Edit p e lazy) = IsSmallEdit e
 IsSmallCommand (command.Box low high e) = IsSmallEdit e
 IsSmallCommand (Get p depth) = depth < 10000000
+IsSmallCommand (command.List low high depth) = depth < 10000000
 IsSmallCommand (Cast origin end ignore) = ⊤
 IsSmallCommand Counts = ⊤
 IsSmallCommand Refresh = ⊤
@@ -101,13 +112,14 @@ IsSmallCommand MaxLikelihood = ⊤
 IsSmallCommand Track = ⊤
 IsSmallCommand Untrack = ⊤
 IsSmallCommand Changes = ⊤
+IsSmallCommand (command.Limit low high) = ⊤
 IsSmallCommand NoLimit = ⊤
 IsSmallCommand (Save name) = ⊤
 IsSmallCommand (Load name) = ⊤
 IsSmallCommand (Snapshot name) = ⊤
 IsSmallCommand (Restore name) = ⊤
 IsSmallCommand Quit = ⊤
-IsSmallCommand (Scan head) = IsInReach head.t × IsRange head.range
+IsSmallCommand (Scan head) =
+    IsInReach head.t × IsRange head.range × IfSome head.odds IsOwnOdds
 IsSmallCommand (Beam p) = IsInReach p
 IsSmallCommand End = ⊤
-IsSmallCommand NotYet = ⊤

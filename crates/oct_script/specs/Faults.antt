@@ -6,7 +6,7 @@ use Rattle.oct_script.specs.Commands.{ended_command, is_comment}
 use Rattle.oct_script.specs.Grammar.{Form, behind}
 use Rattle.oct_script.specs.Words.{Word, PlacedWord}
 use Rattle.oct_script.specs.declared.command.Command.{Command}
-use Rattle.oct_script.specs.declared.command.Command.TheVariants.{Blank, NotYet}
+use Rattle.oct_script.specs.declared.command.Command.TheVariants.{Blank}
 
 -- the bytes of words
 abbrev pub texts : List PlacedWord → List Word
@@ -28,29 +28,20 @@ IsStuck forms end front [] column = (ended_command (possible forms front) ≡ No
 IsStuck forms end front (word ∷ words) column =
     (possible forms (front ++ word ∷ []) ≡ []) × (column ≡ word.column)
 
--- the first of the words begins one of the forms
-abbrev pub BeginsOneOf : List Form → List PlacedWord → Type 0
-BeginsOneOf forms [] = ⊥
-BeginsOneOf forms (first ∷ words) = possible forms (first ∷ []) ≢ []
-
--- words that end before a column, and of which the first begins a form here or elsewhere, leave the
--- forms here at a column: after the longest front of them that begins a form
-pub record LeavesAt (here elsewhere : List Form) (end : ℕ) (words : List PlacedWord) (column : ℕ) :
+-- words that end before a column leave the forms at a column: after the longest front of them that
+-- begins a form
+pub record LeavesAt (forms : List Form) (end : ℕ) (words : List PlacedWord) (column : ℕ) :
     Type 0 where
   pub front : List PlacedWord
   pub rest : List PlacedWord
   pub split : words ≡ front ++ rest
-  pub known : BeginsOneOf here words ⊎ BeginsOneOf elsewhere words
-  pub begins : possible here front ≢ []
-  pub stuck : IsStuck here end front rest column
+  pub begins : possible forms front ≢ []
+  pub stuck : IsStuck forms end front rest column
 
--- the words of a line mean a command: none or a comment, words of which the first begins no form
--- here or elsewhere, or all the words of a form here
-abbrev pub IsMeant : List Form → List Form → List PlacedWord → Command → Type 0
-IsMeant here elsewhere [] command = command ≡ Blank
-IsMeant here elsewhere (first ∷ words) command =
+-- the words of a line mean a command: none or a comment, or all the words of a form
+abbrev pub IsMeant : List Form → List PlacedWord → Command → Type 0
+IsMeant forms [] command = command ≡ Blank
+IsMeant forms (first ∷ words) command =
     ((is_comment first.text ≡ true) × (command ≡ Blank))
-    ⊎ ((is_comment first.text ≡ false) × (possible here (first ∷ []) ≡ [])
-    × (possible elsewhere (first ∷ []) ≡ []) × (command ≡ NotYet))
     ⊎ ((is_comment first.text ≡ false)
-    × (ended_command (possible here (first ∷ words)) ≡ Some command))
+    × (ended_command (possible forms (first ∷ words)) ≡ Some command))

@@ -1,5 +1,5 @@
 -- The grammar of scripts: the forms that a line may have.
-use Rattle.std.specs.Prelude.{ℕ, ℤ, pos, neg_ℤ, int_le, unsigned_abs, nat_lt, nat_le}
+use Rattle.std.specs.Prelude.{ℕ, ℤ, pos, neg_ℤ, int_le, int_lt, unsigned_abs, nat_lt, nat_le}
 use Rattle.std.specs.Prelude.{Bool, ◌&&◌, true, false, if◌then◌else◌}
 use Rattle.std.specs.Prelude.{List, [], ◌∷◌, ◌++◌, length, map, codes, bytes_eq}
 use Rattle.std.specs.Prelude.{Option, Some, None, option_map, option_and_then}
@@ -13,6 +13,7 @@ use Rattle.oct_script.specs.Words.{Word}
 use Rattle.oct_script.specs.declared.command.Edit.{Edit}
 use Rattle.oct_script.specs.declared.command.Edit.TheVariants.{Hit, Miss, Add, Set, Forget}
 use Rattle.oct_script.specs.declared.command.ScanHead.{ScanHead}
+use Rattle.oct_script.specs.declared.command.ScanOdds.{ScanOdds}
 use Rattle.oct_script.specs.declared.command.Command.{Command}
 use Rattle.oct_script.specs.declared.command.Command.TheVariants as command
 
@@ -32,6 +33,10 @@ pub data Form : Type 0 where
   Component : (ℤ → Form) → Form
   -- a RANGE
   Range : (Option ℤ → Form) → Form
+  -- a HIT
+  HitOdds : (ℤ → Form) → Form
+  -- a MISS
+  MissOdds : (ℤ → Form) → Form
   -- a NAME
   FileName : (Word → Form) → Form
 
@@ -73,6 +78,22 @@ range_of word =
     if bytes_eq word (codes "all") then Some None
     else option_and_then if_not_negative (length_of word)
 
+-- a number above 0
+abbrev pub if_positive : ℤ → Option ℤ
+if_positive n = if int_lt (pos 0) n then Some n else None
+
+-- a number below 0
+abbrev pub if_negative : ℤ → Option ℤ
+if_negative n = if int_lt n (pos 0) then Some n else None
+
+-- HIT: an N above 0
+abbrev pub hit_of : Word → Option ℤ
+hit_of word = option_and_then if_positive (number_of word)
+
+-- MISS: an N below 0
+abbrev pub miss_of : Word → Option ℤ
+miss_of word = option_and_then if_negative (number_of word)
+
 -- what may stand after a word, or none where the word itself can't stand there
 abbrev pub behind : Word → Form → Option Form
 behind word (Ends command) = None
@@ -82,6 +103,8 @@ behind word (Number form) = option_map form (number_of word)
 behind word (Depth form) = option_map form (depth_of word)
 behind word (Component form) = option_map form (component_of word)
 behind word (Range form) = option_map form (range_of word)
+behind word (HitOdds form) = option_map form (hit_of word)
+behind word (MissOdds form) = option_map form (miss_of word)
 behind word (FileName form) = option_map form (name_of word)
 
 -- X Y Z
@@ -96,11 +119,24 @@ two_points form = point (λ p. point (λ q. form p q))
 abbrev pub lazy : Command → Form
 lazy command = Exactly (codes "lazy") (Ends command)
 
--- X Y Z Q Q Q Q RANGE, for the head of a scan that may be lazy
-abbrev pub head : ((Bool → ScanHead) → Form) → Form
+-- X Y Z Q Q Q Q RANGE, for the head of a scan that may have log-odds of its own and may be lazy
+abbrev pub head : ((Option ScanOdds → Bool → ScanHead) → Form) → Form
 head form = point (λ t. Component (λ w. Component (λ x. Component (λ y. Component (λ z.
-    Range (λ range. form (λ lazy.
-    record { t = t; w = w; x = x; y = y; z = z; range = range; lazy = lazy })))))))
+    Range (λ range. form (λ odds lazy. record {
+      t = t;
+      w = w;
+      x = x;
+      y = y;
+      z = z;
+      range = range;
+      odds = odds;
+      lazy = lazy;
+    })))))))
+
+-- HIT MISS
+abbrev pub own_odds : (Option ScanOdds → Form) → Form
+own_odds form =
+    HitOdds (λ hit. MissOdds (λ miss. form (Some (record { hit = hit; miss = miss }))))
 
 -- no more words
 abbrev pub alone : Command → List Form
@@ -143,6 +179,14 @@ box =
 abbrev pub query : List Form
 query = point (λ p. Depth (λ depth. Ends (command.Get p depth))) ∷ []
 
+-- X Y Z X Y Z D
+abbrev pub listing : List Form
+listing = two_points (λ low high. Depth (λ depth. Ends (command.List low high depth))) ∷ []
+
+-- X Y Z X Y Z
+abbrev pub limit : List Form
+limit = two_points (λ low high. Ends (command.Limit low high)) ∷ []
+
 -- X Y Z X Y Z [ignore]
 abbrev pub cast : List Form
 cast =
@@ -150,11 +194,13 @@ cast =
     ∷ two_points (λ origin end. Exactly (codes "ignore") (Ends (command.Cast origin end true)))
     ∷ []
 
--- X Y Z Q Q Q Q RANGE [lazy]
+-- X Y Z Q Q Q Q RANGE [HIT MISS] [lazy]
 abbrev pub scan : List Form
 scan =
-    head (λ of_scan. Ends (command.Scan (of_scan false)))
-    ∷ head (λ of_scan. lazy (command.Scan (of_scan true)))
+    head (λ of_scan. Ends (command.Scan (of_scan None false)))
+    ∷ head (λ of_scan. lazy (command.Scan (of_scan None true)))
+    ∷ head (λ of_scan. own_odds (λ odds. Ends (command.Scan (of_scan odds false))))
+    ∷ head (λ of_scan. own_odds (λ odds. lazy (command.Scan (of_scan odds true))))
     ∷ []
 
 -- NAME
@@ -189,6 +235,7 @@ grammar =
     ∷ row (codes "maxlik") (alone command.MaxLikelihood)
     ∷ row (codes "cast") cast
     ∷ row (codes "box") box
+    ∷ row (codes "list") listing
     ∷ row (codes "quit") (alone command.Quit)
     ∷ row (codes "scan") scan
     ∷ row (codes "save") (file command.Save)
@@ -198,6 +245,7 @@ grammar =
     ∷ row (codes "track") (alone command.Track)
     ∷ row (codes "untrack") (alone command.Untrack)
     ∷ row (codes "changes") (alone command.Changes)
+    ∷ row (codes "limit") limit
     ∷ row (codes "nolimit") (alone command.NoLimit)
     ∷ []
 

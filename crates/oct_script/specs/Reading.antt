@@ -5,17 +5,20 @@ use Rattle.std.specs.List.{find}
 use Rattle.oct_key.specs.declared.point.Point.{Point}
 use Rattle.oct_script.specs.Commands.{fault, if_any, command_by, is_comment}
 use Rattle.oct_script.specs.Grammar.{length_of, number_of, depth_of, component_of, range_of}
-use Rattle.oct_script.specs.Grammar.{Form, Row, alone, edit, number_edit, query, cast, scan, beam, box, file}
+use Rattle.oct_script.specs.Grammar.{hit_of, miss_of}
+use Rattle.oct_script.specs.Grammar.{Form, Row, alone, edit, number_edit, query, cast, scan, beam, box, file, listing, limit}
 use Rattle.oct_script.specs.Grammar.{rows_of}
 use Rattle.oct_script.specs.Names.{name_of}
 use Rattle.oct_script.specs.Words.{Word, PlacedWord}
 use Rattle.oct_script.specs.declared.command.Syntax.{Syntax}
 use Rattle.oct_script.specs.declared.command.Edit.{Edit}
 use Rattle.oct_script.specs.declared.command.Edit.TheVariants as an_edit
+use Rattle.oct_script.specs.declared.command.ScanOdds.{ScanOdds}
 use Rattle.oct_script.specs.declared.command.Command.{Command}
 use Rattle.oct_script.specs.declared.command.Command.TheVariants as command
 use Rattle.oct_script.specs.declared.verbs.Verb.{Verb}
-use Rattle.oct_script.specs.declared.verbs.Verb.TheVariants.{Hit, Miss, Add, Set, Forget, Get, Scan, Beam, Cast, Alone, Box, Save, Load, Snapshot, Restore}
+use Rattle.oct_script.specs.declared.verbs.Verb.TheVariants as verb
+use Rattle.oct_script.specs.declared.verbs.Verb.TheVariants.{Hit, Miss, Add, Set, Forget, Get, Scan, Beam, Cast, Alone, Box, Limit, Save, Load, Snapshot, Restore}
 use Rattle.oct_script.specs.declared.verbs.Single.{Single}
 use Rattle.oct_script.specs.declared.verbs.Single.TheVariants as single
 use Rattle.oct_script.specs.declared.verbs.FirstWord.{FirstWord}
@@ -138,6 +141,19 @@ query_in end words = do
   d ← number_in depth_of end p.1
   end_in (command.Get p.0 d.0) d.1
 
+-- X Y Z X Y Z D
+unfoldable pub listing_in : ℕ → List PlacedWord → Result Command Syntax
+listing_in end words = do
+  r ← points_in end words
+  d ← number_in depth_of end r.2
+  end_in (command.List r.0 r.1 d.0) d.1
+
+-- X Y Z X Y Z
+unfoldable pub limit_in : ℕ → List PlacedWord → Result Command Syntax
+limit_in end words = do
+  r ← points_in end words
+  end_in (command.Limit r.0 r.1) r.2
+
 -- X Y Z X Y Z [ignore]
 unfoldable pub cast_in : ℕ → List PlacedWord → Result Command Syntax
 cast_in end words = do
@@ -154,13 +170,27 @@ rotation_in end words = do
   z ← number_in component_of end y.1
   Ok (w.0, x.0, y.0, z.0, z.1)
 
--- X Y Z Q Q Q Q RANGE [lazy]
+-- MISS [lazy], after a HIT
+unfoldable pub miss_in : ℤ → ℕ → List PlacedWord → Result (Option ScanOdds × Bool) Syntax
+miss_in hit end words = do
+  miss ← number_in miss_of end words
+  lazy ← flag_in (codes "lazy") miss.1
+  Ok (Some (record { hit = hit; miss = miss.0 }), lazy)
+
+-- [HIT MISS] [lazy]
+unfoldable pub head_end_in : ℕ → List PlacedWord → Result (Option ScanOdds × Bool) Syntax
+head_end_in end [] = Ok (None, false)
+head_end_in end (word ∷ words) =
+    if bytes_eq word.text (codes "lazy") then end_in (None, true) words
+    else (number_or word.column words (hit_of word.text) >>= λ hit. miss_in hit.0 end hit.1)
+
+-- X Y Z Q Q Q Q RANGE [HIT MISS] [lazy]
 unfoldable pub scan_in : ℕ → List PlacedWord → Result Command Syntax
 scan_in end words = do
   t ← point_in end words
   q ← rotation_in end t.1
   range ← number_in range_of end q.4
-  lazy ← flag_in (codes "lazy") range.1
+  r ← head_end_in end range.1
   Ok (command.Scan (record {
     t = t.0;
     w = q.0;
@@ -168,7 +198,8 @@ scan_in end words = do
     y = q.2;
     z = q.3;
     range = range.0;
-    lazy = lazy;
+    odds = r.0;
+    lazy = r.1;
   }))
 
 -- X Y Z, in the block of a scan
@@ -205,6 +236,8 @@ behind_verb Forget end words = edit_in an_edit.Forget end words
 behind_verb Add end words = number_edit_in an_edit.Add end words
 behind_verb Set end words = number_edit_in an_edit.Set end words
 behind_verb Get end words = query_in end words
+behind_verb verb.List end words = listing_in end words
+behind_verb Limit end words = limit_in end words
 behind_verb Cast end words = cast_in end words
 behind_verb Box end words = box_in end words
 behind_verb Scan end words = scan_in end words
@@ -223,6 +256,8 @@ forms_behind Forget = edit an_edit.Forget
 forms_behind Add = number_edit an_edit.Add
 forms_behind Set = number_edit an_edit.Set
 forms_behind Get = query
+forms_behind verb.List = listing
+forms_behind Limit = limit
 forms_behind Cast = cast
 forms_behind Box = box
 forms_behind Scan = scan
@@ -236,7 +271,7 @@ forms_behind (Alone single) = alone (single_command single)
 -- the forms after a first word, and none where there is none
 abbrev pub forms_of_verb : Option Verb → List Form
 forms_of_verb None = []
-forms_of_verb (Some verb) = forms_behind verb
+forms_of_verb (Some v) = forms_behind v
 
 -- a row of the parser's table as one of the grammar
 abbrev pub row_seen : FirstWord → Row
@@ -251,23 +286,14 @@ forms_of_row (Some row) = row.forms
 abbrev pub forms_at : Word → List Row → List Form
 forms_at word rows = forms_of_row (find (λ (row : Row). bytes_eq word row.word) rows)
 
--- the words after a first one at a column, by the forms that may stand there, and by those that
--- may stand there elsewhere
-abbrev pub by_forms : List Form → List Form → ℕ → ℕ → List PlacedWord → Result Command Syntax
-by_forms here elsewhere column end words =
-    if_any here (command_by here end words)
-    (if_any elsewhere (Err (fault column)) (Ok command.NotYet))
-
--- what comes of a first word at a column that begins no line here, by what it begins elsewhere
-abbrev pub misplaced : ℕ → Option Verb → Result Command Syntax
-misplaced column None = Ok command.NotYet
-misplaced column (Some verb) = Err (fault column)
+-- the words after a first one at a column, by the forms that may stand there
+abbrev pub by_forms : List Form → ℕ → ℕ → List PlacedWord → Result Command Syntax
+by_forms forms column end words = if_any forms (command_by forms end words) (Err (fault column))
 
 -- the words after a first one at a column
 unfoldable pub behind_first : Bool → PlacedWord → ℕ → List PlacedWord → Result Command Syntax
 behind_first inside first end words =
-    by_forms (forms_at first.text (rows_of inside)) (forms_at first.text (rows_of (not inside)))
-    first.column end words
+    by_forms (forms_at first.text (rows_of inside)) first.column end words
 
 -- a line
 unfoldable pub line_in : Bool → ℕ → List PlacedWord → Result Command Syntax

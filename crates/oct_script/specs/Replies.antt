@@ -1,12 +1,17 @@
 -- The texts of replies.
-use Rattle.std.specs.Prelude.{ℕ, List, [], ◌++◌, codes, decimal, Bool, true, false, Option, Some}
-use Rattle.std.specs.Prelude.{None}
+use Rattle.std.specs.Prelude.{ℕ, ℤ, int_lt, List, [], ◌++◌, codes, decimal, length, Bool, true}
+use Rattle.std.specs.Prelude.{false, Option, Some, None, if◌then◌else◌}
+use Rattle.std.specs.List.{flat_map}
 use Rattle.std.specs.Fmt.{signed_decimal}
 use Rattle.oct_cast.specs.declared.outcome.Cast.{Cast}
 use Rattle.oct_cast.specs.declared.outcome.Cast.TheVariants as cast
+use Rattle.oct_change.specs.declared.kind.Change.{Change}
+use Rattle.oct_change.specs.declared.kind.Kind.{Kind}
+use Rattle.oct_change.specs.declared.kind.Kind.TheVariants as kind
 use Rattle.oct_key.specs.Voxel.{Voxel}
 use Rattle.oct_odds.specs.declared.event.Class.{Class}
 use Rattle.oct_odds.specs.declared.event.Class.TheVariants as class
+use Rattle.oct_query.specs.Shown.{Shown}
 use Rattle.oct_query.specs.declared.totals.Counts.{Counts}
 use Rattle.oct_script.specs.declared.reply.Refusal.{Refusal}
 use Rattle.oct_script.specs.declared.reply.Refusal.TheVariants.{ZeroQuaternion, OriginOutside}
@@ -21,13 +26,14 @@ use Rattle.oct_script.specs.declared.reply.Refusal.TheVariants.{TrailingBytes, S
 use Rattle.oct_script.specs.declared.reply.Refusal.TheVariants.{BadMagic, BadSnapshot}
 use Rattle.oct_script.specs.declared.reply.Refusal.TheVariants.{WideWhileTracked, NotTracked}
 use Rattle.oct_script.specs.declared.reply.Refusal.TheVariants.{NoFile, FileTooLarge}
-use Rattle.oct_script.specs.declared.reply.Refusal.TheVariants.{OtherResolution, NotYet}
+use Rattle.oct_script.specs.declared.reply.Refusal.TheVariants.{OtherResolution}
 use Rattle.oct_script.specs.declared.reply.HeaderWord.{HeaderWord}
 use Rattle.oct_script.specs.declared.reply.HeaderWord.TheVariants.{Id, Res, Size, Data}
 use Rattle.oct_script.specs.declared.reply.ScanDone.{ScanDone}
 use Rattle.oct_script.specs.declared.reply.Reply.{Reply}
 use Rattle.oct_script.specs.declared.reply.Reply.TheVariants.{Ok, Known, Unknown, Scanned, Counted}
 use Rattle.oct_script.specs.declared.reply.Reply.TheVariants.{Casted, Saved, Loaded, Restored, Refused}
+use Rattle.oct_script.specs.declared.reply.Reply.TheVariants.{Blocks, Changed}
 
 -- the name of a class
 abbrev pub class_name : Class → List ℕ
@@ -81,7 +87,6 @@ refusal_text FileTooLarge = codes "34 FileTooLarge"
 refusal_text (OtherResolution file session) =
     (codes "35 OtherResolution file " ++ signed_decimal file)
     ++ (codes " session " ++ signed_decimal session)
-refusal_text NotYet = codes "36 NotYet"
 
 -- how many voxels a scan hit and freed
 abbrev pub scan_text : ScanDone → List ℕ
@@ -102,7 +107,46 @@ cast_text (cast.Hit k) = codes "cast hit " ++ voxel_text k
 cast_text (cast.Unknown k) = codes "cast unknown " ++ voxel_text k
 cast_text cast.Clear = codes "cast clear"
 
--- the line of a reply, with its line feed
+-- the class that a known value shows, where values from a threshold on are occupied
+abbrev pub class_shown : ℤ → ℤ → Class
+class_shown threshold value = if int_lt value threshold then class.Free else class.Occupied
+
+-- a value and its class
+abbrev pub value_text : ℤ → Class → List ℕ
+value_text value class = codes " " ++ signed_decimal value ++ (codes " " ++ class_name class)
+
+-- the line of a block with its value
+abbrev pub block_text : ℤ → Shown → List ℕ
+block_text threshold shown =
+    (codes "block "
+    ++ voxel_text (record { x = shown.block.x; y = shown.block.y; z = shown.block.z }))
+    ++ value_text shown.value (class_shown threshold shown.value) ++ codes "\n"
+
+-- how a voxel changed
+abbrev pub kind_name : Kind → List ℕ
+kind_name kind.New = codes "new"
+kind_name kind.Lost = codes "lost"
+kind_name kind.Occupied = codes "occupied"
+kind_name kind.Freed = codes "freed"
+
+-- the line of a voxel that changed
+abbrev pub change_text : Change → List ℕ
+change_text change =
+    kind_name change.kind ++ (codes " " ++ voxel_text change.key) ++ codes "\n"
+
+-- the line after a list of so many lines
+abbrev pub end_text : ℕ → List ℕ
+end_text count = (codes "end " ++ decimal count) ++ codes "\n"
+
+-- a line for each block, and how many there are
+abbrev pub blocks_text : ℤ → List Shown → List ℕ
+blocks_text threshold blocks = flat_map (block_text threshold) blocks ++ end_text (length blocks)
+
+-- a line for each change, and how many there are
+abbrev pub changes_text : List Change → List ℕ
+changes_text changes = flat_map change_text changes ++ end_text (length changes)
+
+-- the line of a reply, with its line feed, or its lines
 abbrev pub reply_text : Reply → List ℕ
 reply_text Ok = codes "ok\n"
 reply_text (Known value class) =
@@ -110,6 +154,8 @@ reply_text (Known value class) =
 reply_text Unknown = codes "unknown\n"
 reply_text (Scanned done) = scan_text done ++ codes "\n"
 reply_text (Counted counts) = counts_text counts ++ codes "\n"
+reply_text (Blocks blocks threshold) = blocks_text threshold blocks
+reply_text (Changed changes) = changes_text changes
 reply_text (Casted found) = cast_text found ++ codes "\n"
 reply_text (Saved bytes) = (codes "saved " ++ decimal bytes) ++ codes "\n"
 reply_text (Loaded nodes) = (codes "loaded " ++ decimal nodes) ++ codes "\n"
@@ -129,6 +175,8 @@ is_refusal (Some (Known value class)) = false
 is_refusal (Some Unknown) = false
 is_refusal (Some (Scanned done)) = false
 is_refusal (Some (Counted counts)) = false
+is_refusal (Some (Blocks blocks threshold)) = false
+is_refusal (Some (Changed changes)) = false
 is_refusal (Some (Casted found)) = false
 is_refusal (Some (Saved bytes)) = false
 is_refusal (Some (Loaded nodes)) = false

@@ -19,6 +19,14 @@ pub enum Edit {
     Forget,
 }
 
+/// How far the sensor of one scan is trusted: the log-odds that its hits and misses add, in
+/// thousandths. A hit's is from 1 to 1,000,000, and a miss's from -1,000,000 to -1.
+#[derive(Clone, Copy, Debug, PartialEq, Eq)]
+pub struct ScanOdds {
+    pub hit: i32,
+    pub miss: i32,
+}
+
 /// The head of a scan: where the sensor was, how it was turned, and how far its beams count.
 #[derive(Clone, Copy, Debug, PartialEq, Eq)]
 pub struct ScanHead {
@@ -32,6 +40,8 @@ pub struct ScanHead {
     pub z: i16,
     /// Where a longer beam is cut, in nanometres, if beams are cut at all.
     pub range: Option<i64>,
+    /// The scan's own log-odds, if it doesn't go by those of the session.
+    pub odds: Option<ScanOdds>,
     /// Whether inner values are left to a later refresh.
     pub lazy: bool,
 }
@@ -66,6 +76,13 @@ pub enum Command {
         p: Point,
         depth: u32,
     },
+    /// The values of the known blocks of this depth that meet the box whose corners hold the two
+    /// points, both included. The depth has at most seven digits, and may be above that of a voxel.
+    List {
+        low: Point,
+        high: Point,
+        depth: u32,
+    },
     /// What lies first on the straight way from a point to another one. Unknown voxels stop it
     /// unless they are ignored.
     Cast {
@@ -89,6 +106,11 @@ pub enum Command {
     Untrack,
     /// The voxels that have changed since `Track`.
     Changes,
+    /// From now on scans are limited to the box whose corners hold the two points, both included.
+    Limit {
+        low: Point,
+        high: Point,
+    },
     /// Scans are no longer limited to a box.
     NoLimit,
     /// The classes of all voxels, written to the file of this name.
@@ -101,8 +123,6 @@ pub enum Command {
     Restore(Name),
     /// The end of the session.
     Quit,
-    /// A command that isn't built yet.
-    NotYet,
 }
 
 /// A line isn't in the grammar of scripts.

@@ -42,7 +42,7 @@ mod tests;
 mod verbs;
 mod words;
 
-pub use command::{Command, Edit, ScanHead, Syntax};
+pub use command::{Command, Edit, ScanHead, ScanOdds, Syntax};
 pub use lines::{Fed, LONGEST_LINE, Lines};
 pub use name::Name;
 pub use numbers::number_of;

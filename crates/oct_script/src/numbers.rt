@@ -2,8 +2,8 @@
 ghost use Rattle.std.specs.Prelude.{◌≡◌, ◌^◌, ◌<◌, ℤ, unsigned_abs, IfSome};
 ghost use Rattle.oct_odds.specs.Odds.{IsSmall};
 ghost use Rattle.oct_script.specs.Grammar.{length_of, short_whole, number_of, depth_of};
-ghost use Rattle.oct_script.specs.Grammar.{component_of, range_of};
-ghost use Rattle.oct_script.specs.Commands.{IsRange};
+ghost use Rattle.oct_script.specs.Grammar.{component_of, range_of, hit_of, miss_of};
+ghost use Rattle.oct_script.specs.Commands.{IsRange, IsHitOdds, IsMissOdds};
 
 use oct_num::{read_metres, read_natural, read_whole, split_sign};
 
@@ -44,6 +44,24 @@ pub fn number_of(word: &[u8]) -> Option<i32>
         return None;
     }
     Some(n as i32)
+}
+
+/// What a HIT spells: an N above 0.
+pub fn hit_of(word: &[u8]) -> Option<i32>
+    ensures exact { result ≡ hit_of word.now }
+    ensures within { IfSome result IsHitOdds }
+{
+    let n = number_of(word)?;
+    if n > 0 { Some(n) } else { None }
+}
+
+/// What a MISS spells: an N below 0.
+pub fn miss_of(word: &[u8]) -> Option<i32>
+    ensures exact { result ≡ miss_of word.now }
+    ensures within { IfSome result IsMissOdds }
+{
+    let n = number_of(word)?;
+    if n < 0 { Some(n) } else { None }
 }
 
 /// The depth that a D spells.

@@ -1,21 +1,22 @@
 //! How a line is read as a command.
 ghost use Rattle.std.specs.Prelude.{◌≡◌, ◌+◌, ◌<◌, ◌≤◌, length, not, MatchResult, IfOk, IfErr};
-ghost use Rattle.std.specs.Prelude.{Some, None, Ok, Err};
+ghost use Rattle.std.specs.Prelude.{IfSome, Some, None, Ok, Err};
 ghost use Rattle.oct_odds.specs.Odds.{IsSmall};
 ghost use Rattle.oct_pose.specs.Reach.{IsInReach};
 ghost use Rattle.oct_script.specs.Words.{placed_words};
-ghost use Rattle.oct_script.specs.Grammar.{number_of, depth_of, component_of, range_of, forms_of};
+ghost use Rattle.oct_script.specs.Grammar.{number_of, depth_of, component_of, range_of, miss_of};
+ghost use Rattle.oct_script.specs.Grammar.{forms_of};
 ghost use Rattle.oct_script.specs.Names.{name_of};
 ghost use Rattle.oct_script.specs.Faults.{IsMeant, LeavesAt};
 ghost use Rattle.oct_script.specs.Commands.{command_of, opens_scan, IsSmallEdit, IsRange};
-ghost use Rattle.oct_script.specs.Commands.{IsSmallCommand};
+ghost use Rattle.oct_script.specs.Commands.{IsHitOdds, IsMissOdds, IsOwnOdds, IsSmallCommand};
 ghost use Rattle.oct_script.specs.Reading.{number_in, point_in, point_number_in, rotation_in};
-ghost use Rattle.oct_script.specs.Reading.{excess, end_in, flag_in, edit_end_in, edit_in, points_in, number_edit_in, query_in, cast_in, scan_in, beam_in, file_in, behind_verb, behind_first, line_in, edit_number_in, edit_word_in, box_in};
+ghost use Rattle.oct_script.specs.Reading.{excess, end_in, flag_in, edit_end_in, edit_in, points_in, number_edit_in, query_in, cast_in, scan_in, beam_in, file_in, behind_verb, behind_first, line_in, edit_number_in, edit_word_in, box_in, listing_in, limit_in, miss_in, head_end_in};
 
-use crate::command::{Command, Edit, ScanHead, Syntax};
+use crate::command::{Command, Edit, ScanHead, ScanOdds, Syntax};
 use crate::lines::LONGEST_LINE;
 use crate::name::Name;
-use crate::numbers::{component_of, depth_of, number_of, range_of};
+use crate::numbers::{component_of, depth_of, hit_of, miss_of, number_of, range_of};
 use crate::table::verb_of;
 use crate::verbs::Verb;
 use crate::words::{WordAt, Words, first_word};
@@ -65,6 +66,7 @@ fn read_range(words: &mut Words<'_>) -> Result<Option<i64>, Syntax>
     ensures exact { MatchResult result
         (λ range. number_in range_of words.old.end words.old.words ≡ Ok (range, words.new.words))
         (λ s. number_in range_of words.old.end words.old.words ≡ Err s) }
+    ensures end { words.new.end ≡ words.old.end }
     ensures within { IfOk result IsRange }
 {
     let word = words.take_word()?;
@@ -262,6 +264,29 @@ fn read_points(words: &mut Words<'_>) -> Result<(Point, Point), Syntax>
     Ok((p, q))
 }
 
+/// Reads `X Y Z X Y Z D`, after `list`.
+#[tactic(auto, unfolding(crate::specs::Reading::listing_in))]
+fn read_listing(words: &mut Words<'_>) -> Result<Command, Syntax>
+    ensures exact { result ≡ listing_in words.old.end words.old.words }
+    ensures small { IfOk result IsSmallCommand }
+{
+    let (low, high) = read_points(words)?;
+    let depth = read_depth(words)?;
+    read_end(words)?;
+    Ok(Command::List { low, high, depth })
+}
+
+/// Reads `X Y Z X Y Z`, after `limit`.
+#[tactic(auto, unfolding(crate::specs::Reading::limit_in))]
+fn read_limit(words: &mut Words<'_>) -> Result<Command, Syntax>
+    ensures exact { result ≡ limit_in words.old.end words.old.words }
+    ensures small { IfOk result IsSmallCommand }
+{
+    let (low, high) = read_points(words)?;
+    read_end(words)?;
+    Ok(Command::Limit { low, high })
+}
+
 /// Reads `X Y Z X Y Z [ignore]`, after `cast`.
 #[tactic(auto, unfolding(crate::specs::Reading::cast_in))]
 fn read_cast(words: &mut Words<'_>) -> Result<Command, Syntax>
@@ -292,7 +317,48 @@ fn read_rotation(words: &mut Words<'_>) -> Result<(i16, i16, i16, i16), Syntax>
     Ok((w, x, y, z))
 }
 
-/// Reads `X Y Z Q Q Q Q RANGE [lazy]`, after `scan`.
+/// Reads a MISS.
+#[tactic(auto, unfolding(crate::specs::Reading::number_in))]
+fn read_miss(words: &mut Words<'_>) -> Result<i32, Syntax>
+    ensures exact { MatchResult result
+        (λ n. number_in miss_of words.old.end words.old.words ≡ Ok (n, words.new.words))
+        (λ s. number_in miss_of words.old.end words.old.words ≡ Err s) }
+    ensures within { IfOk result IsMissOdds }
+{
+    let word = words.take_word()?;
+    miss_of(word.text).ok_or(word.fault())
+}
+
+/// Reads `MISS [lazy]`, after a HIT.
+#[tactic(auto, unfolding(crate::specs::Reading::miss_in))]
+fn read_odds(hit: i32, words: &mut Words<'_>) -> Result<(Option<ScanOdds>, bool), Syntax>
+    requires { IsHitOdds hit }
+    ensures exact { result ≡ miss_in hit words.old.end words.old.words }
+    ensures trusted { IfOk result (λ r. IfSome r.0 IsOwnOdds) }
+{
+    let miss = read_miss(words)?;
+    let lazy = read_flag(b"lazy", words)?;
+    Ok((Some(ScanOdds { hit, miss }), lazy))
+}
+
+/// Reads `[HIT MISS] [lazy]`, at the end of a scan's head.
+#[tactic(auto, unfolding(crate::specs::Reading::head_end_in))]
+fn read_head_end(words: &mut Words<'_>) -> Result<(Option<ScanOdds>, bool), Syntax>
+    ensures exact { result ≡ head_end_in words.old.end words.old.words }
+    ensures trusted { IfOk result (λ r. IfSome r.0 IsOwnOdds) }
+{
+    let Some(word) = words.next_word() else {
+        return Ok((None, false));
+    };
+    if word.text == b"lazy".as_slice() {
+        read_end(words)?;
+        return Ok((None, true));
+    }
+    let hit = hit_of(word.text).ok_or(word.fault())?;
+    read_odds(hit, words)
+}
+
+/// Reads `X Y Z Q Q Q Q RANGE [HIT MISS] [lazy]`, after `scan`.
 #[tactic(auto, unfolding(crate::specs::Reading::scan_in))]
 fn read_scan(words: &mut Words<'_>) -> Result<Command, Syntax>
     ensures exact { result ≡ scan_in words.old.end words.old.words }
@@ -301,7 +367,7 @@ fn read_scan(words: &mut Words<'_>) -> Result<Command, Syntax>
     let t = read_point(words)?;
     let (w, x, y, z) = read_rotation(words)?;
     let range = read_range(words)?;
-    let lazy = read_flag(b"lazy", words)?;
+    let (odds, lazy) = read_head_end(words)?;
     Ok(Command::Scan(ScanHead {
         t,
         w,
@@ -309,6 +375,7 @@ fn read_scan(words: &mut Words<'_>) -> Result<Command, Syntax>
         y,
         z,
         range,
+        odds,
         lazy,
     }))
 }
@@ -368,8 +435,10 @@ fn read_behind(verb: &Verb, words: &mut Words<'_>) -> Result<Command, Syntax>
         Verb::Add => read_add(words),
         Verb::Set => read_set(words),
         Verb::Get => read_query(words),
+        Verb::List => read_listing(words),
         Verb::Cast => read_cast(words),
         Verb::Box => read_box(words),
+        Verb::Limit => read_limit(words),
         Verb::Scan => read_scan(words),
         Verb::Beam => read_beam(words),
         Verb::Save => Ok(Command::Save(read_file(words)?)),
@@ -391,12 +460,9 @@ fn read_behind_first(
         words.old.end words.old.words }
     ensures small { IfOk result IsSmallCommand }
 {
-    if let Some(verb) = verb_of(first.text, inside) {
-        return read_behind(verb, words);
-    }
-    match verb_of(first.text, !inside) {
-        Some(_) => Err(first.fault()),
-        None => Ok(Command::NotYet),
+    match verb_of(first.text, inside) {
+        Some(verb) => read_behind(verb, words),
+        None => Err(first.fault()),
     }
 }
 
@@ -418,18 +484,17 @@ fn read_words(inside: bool, words: &mut Words<'_>) -> Result<Command, Syntax>
 /// Reads a line, which isn't long, as a command of the script. It stands inside the block of an
 /// open scan, or outside.
 ///
-/// A line that needs no reply is [`Command::Blank`]: an empty line, one of blanks, and a comment.
-/// Any other line whose first word begins no form of the grammar, here or elsewhere, is
-/// [`Command::NotYet`]. A line that isn't in the grammar is a [`Syntax`], with the column of the
-/// first word that can't stand there, or one more than the line's length where a word is missing.
-/// Inside a block only `p X Y Z` and `end` are in the grammar, and outside they aren't.
+/// A line that needs no reply is [`Command::Blank`]: an empty line, one of blanks, and a comment. A
+/// line that isn't in the grammar is a [`Syntax`], with the column of the first word that can't stand
+/// there, or one more than the line's length where a word is missing. Inside a block only `p X Y Z`
+/// and `end` are in the grammar, and outside they aren't.
 pub fn parse(line: &[u8], inside: bool) -> Result<Command, Syntax>
     requires { length line.now ≤ LONGEST_LINE }
     ensures exact { result ≡ command_of inside line.now }
     ensures means { IfOk result
-        (IsMeant (forms_of inside) (forms_of (not inside)) (placed_words line.now)) }
-    ensures leaves { IfErr result (λ s. LeavesAt (forms_of inside) (forms_of (not inside))
-        (length line.now + 1) (placed_words line.now) s.column) }
+        (IsMeant (forms_of inside) (placed_words line.now)) }
+    ensures leaves { IfErr result (λ s. LeavesAt (forms_of inside) (length line.now + 1)
+        (placed_words line.now) s.column) }
     ensures small { IfOk result IsSmallCommand }
 {
     read_words(inside, &mut Words::new(line))

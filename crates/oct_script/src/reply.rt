@@ -1,16 +1,21 @@
 //! Replies, and their texts.
 ghost use Rattle.std.specs.Prelude.{◌≡◌, ◌++◌, OnOk, OnErr, Option, Some, None, decimal, take};
-ghost use Rattle.std.specs.Prelude.{vec_len};
+ghost use Rattle.std.specs.Prelude.{vec_len, map};
+ghost use Rattle.std.specs.List.{flat_map};
 ghost use Rattle.oct_script.specs.Replies.{class_name, refusal_text, voxel_text, cast_text, word_text};
+ghost use Rattle.oct_script.specs.Replies.{class_shown, value_text, block_text, kind_name};
+ghost use Rattle.oct_script.specs.Replies.{change_text, end_text, blocks_text, changes_text};
 ghost use Rattle.oct_script.specs.Replies.{reply_text};
+ghost use Rattle.oct_query.specs.Shown.{shown_as};
 ghost use Rattle.std.specs.Fmt.{signed_decimal};
 
 use itoa::{Buffer, Integer};
 use oct_cast::Cast;
+use oct_change::{Change, ChangeList, Kind};
 use oct_key::Key;
 use oct_num::{Memory, push_whole};
 use oct_odds::Class;
-use oct_query::Counts;
+use oct_query::{BlockList, Counts, Found};
 
 /// How many voxels a scan hit, and how many it freed.
 #[derive(Clone, Copy, Debug, PartialEq, Eq)]
@@ -96,12 +101,10 @@ pub enum Refusal {
     FileTooLarge,
     /// The resolutions of the file and of the session differ. Both are in nanometres.
     OtherResolution { file: i64, session: i64 },
-    /// The command isn't built yet.
-    NotYet,
 }
 
 /// The reply to a line or to the block of a scan.
-#[derive(Clone, Copy, Debug, PartialEq, Eq)]
+#[derive(Debug, Drop)]
 pub enum Reply {
     /// The command was done.
     Ok,
@@ -111,6 +114,10 @@ pub enum Reply {
     Unknown,
     /// The scan was done.
     Scanned(ScanDone),
+    /// Known blocks with their values. Values from the threshold on show as occupied.
+    Blocks { blocks: BlockList, threshold: i32 },
+    /// The voxels that changed.
+    Changed(ChangeList),
     /// How many groups and nodes there are.
     Counted(Counts),
     /// What a cast finds.
@@ -254,7 +261,6 @@ fn append_refusal(out: &mut Vec<u8>, refusal: &Refusal) -> Result<(), Memory>
                 session,
             )?;
         }
-        Refusal::NotYet => out.extend_from_slice(b"36 NotYet")?,
     }
     Ok(())
 }
@@ -280,18 +286,137 @@ fn append_cast(out: &mut Vec<u8>, found: Cast) -> Result<(), Memory>
     }
 }
 
-/// Appends a reply's line. After an error a part of it may stand there.
-fn append_reply(out: &mut Vec<u8>, reply: Reply) -> Result<(), Memory>
-    ensures ok { OnOk result (out.new.items ≡ out.old.items ++ reply_text reply) }
+/// The class that a known value shows.
+fn class_shown(threshold: i32, value: i32) -> Class
+    ensures { result ≡ class_shown threshold value }
+{
+    if value < threshold {
+        Class::Free
+    } else {
+        Class::Occupied
+    }
+}
+
+/// Appends a value and its class.
+fn append_value(out: &mut Vec<u8>, value: i32, class: Class) -> Result<(), Memory>
+    ensures ok { OnOk result (out.new.items ≡ out.old.items ++ value_text value class) }
+    ensures err { OnErr result (take (vec_len out.old) out.new.items ≡ out.old.items) }
+{
+    out.extend_from_slice(b" ")?;
+    push_whole(out, i64::from(value))?;
+    out.extend_from_slice(b" ")?;
+    out.extend_from_slice(name_of(class).as_bytes())?;
+    Ok(())
+}
+
+/// Appends the line of a block.
+fn append_block(out: &mut Vec<u8>, threshold: i32, found: Found) -> Result<(), Memory>
+    ensures ok { OnOk result
+        (out.new.items ≡ out.old.items ++ block_text threshold (shown_as found)) }
+    ensures err { OnErr result (take (vec_len out.old) out.new.items ≡ out.old.items) }
+{
+    let block = found.block;
+    let place = Key {
+        x: block.x,
+        y: block.y,
+        z: block.z,
+    };
+    append_voxel(out, b"block ", place)?;
+    append_value(out, found.value, class_shown(threshold, found.value))?;
+    out.extend_from_slice(b"\n")?;
+    Ok(())
+}
+
+/// The name of a change.
+fn name_of_kind(kind: Kind) -> &'static str
+    ensures { result.now ≡ kind_name kind }
+{
+    match kind {
+        Kind::New => "new",
+        Kind::Lost => "lost",
+        Kind::Occupied => "occupied",
+        Kind::Freed => "freed",
+    }
+}
+
+/// Appends the line of a change.
+fn append_change(out: &mut Vec<u8>, change: Change) -> Result<(), Memory>
+    ensures ok { OnOk result (out.new.items ≡ out.old.items ++ change_text change) }
+    ensures err { OnErr result (take (vec_len out.old) out.new.items ≡ out.old.items) }
+{
+    out.extend_from_slice(name_of_kind(change.kind).as_bytes())?;
+    append_voxel(out, b" ", change.key)?;
+    out.extend_from_slice(b"\n")?;
+    Ok(())
+}
+
+/// Appends the line after a list of so many lines.
+fn append_end(out: &mut Vec<u8>, count: usize) -> Result<(), Memory>
+    ensures ok { OnOk result (out.new.items ≡ out.old.items ++ end_text count) }
+    ensures err { OnErr result (take (vec_len out.old) out.new.items ≡ out.old.items) }
+{
+    append_field(out, b"end ", count)?;
+    out.extend_from_slice(b"\n")?;
+    Ok(())
+}
+
+/// Appends a line for each block.
+fn append_found(out: &mut Vec<u8>, threshold: i32, blocks: &[Found]) -> Result<(), Memory>
+    ensures ok { OnOk result (out.new.items
+        ≡ out.old.items ++ flat_map (block_text threshold) (map shown_as blocks.now)) }
+    ensures err { OnErr result (take (vec_len out.old) out.new.items ≡ out.old.items) }
+{
+    for found in blocks {
+        append_block(out, threshold, *found)?;
+    }
+    Ok(())
+}
+
+/// Appends the lines of blocks, and how many there are.
+fn append_blocks(out: &mut Vec<u8>, threshold: i32, blocks: &BlockList) -> Result<(), Memory>
+    ensures ok { OnOk result
+        (out.new.items ≡ out.old.items ++ blocks_text threshold blocks.now) }
+    ensures err { OnErr result (take (vec_len out.old) out.new.items ≡ out.old.items) }
+{
+    let found = blocks.as_slice();
+    append_found(out, threshold, found)?;
+    append_end(out, found.len())
+}
+
+/// Appends a line for each change.
+fn append_each(out: &mut Vec<u8>, changes: &[Change]) -> Result<(), Memory>
+    ensures ok { OnOk result
+        (out.new.items ≡ out.old.items ++ flat_map change_text changes.now) }
+    ensures err { OnErr result (take (vec_len out.old) out.new.items ≡ out.old.items) }
+{
+    for change in changes {
+        append_change(out, *change)?;
+    }
+    Ok(())
+}
+
+/// Appends the lines of changes, and how many there are.
+fn append_changes(out: &mut Vec<u8>, changes: &ChangeList) -> Result<(), Memory>
+    ensures ok { OnOk result (out.new.items ≡ out.old.items ++ changes_text changes.now) }
+    ensures err { OnErr result (take (vec_len out.old) out.new.items ≡ out.old.items) }
+{
+    let changes = changes.as_slice();
+    append_each(out, changes)?;
+    append_end(out, changes.len())
+}
+
+/// Appends a reply's line or lines. After an error a part of them may stand there.
+fn append_reply(out: &mut Vec<u8>, reply: &Reply) -> Result<(), Memory>
+    ensures ok { OnOk result (out.new.items ≡ out.old.items ++ reply_text reply.now) }
     ensures err { OnErr result (take (vec_len out.old) out.new.items ≡ out.old.items) }
 {
     match reply {
         Reply::Ok => out.extend_from_slice(b"ok\n")?,
         Reply::Known { value, class } => {
             out.extend_from_slice(b"known ")?;
-            push_whole(out, i64::from(value))?;
+            push_whole(out, i64::from(*value))?;
             out.extend_from_slice(b" ")?;
-            out.extend_from_slice(name_of(class).as_bytes())?;
+            out.extend_from_slice(name_of(*class).as_bytes())?;
             out.extend_from_slice(b"\n")?;
         }
         Reply::Unknown => out.extend_from_slice(b"unknown\n")?,
@@ -303,38 +428,40 @@ fn append_reply(out: &mut Vec<u8>, reply: Reply) -> Result<(), Memory>
             append_fields(out, b"groups ", counts.groups, b" nodes ", counts.nodes)?;
             out.extend_from_slice(b"\n")?;
         }
+        Reply::Blocks { blocks, threshold } => append_blocks(out, *threshold, blocks)?,
+        Reply::Changed(changes) => append_changes(out, changes)?,
         Reply::Casted(found) => {
-            append_cast(out, found)?;
+            append_cast(out, *found)?;
             out.extend_from_slice(b"\n")?;
         }
         Reply::Saved(bytes) => {
-            append_field(out, b"saved ", bytes)?;
+            append_field(out, b"saved ", *bytes)?;
             out.extend_from_slice(b"\n")?;
         }
         Reply::Loaded(nodes) => {
-            append_field(out, b"loaded ", nodes)?;
+            append_field(out, b"loaded ", *nodes)?;
             out.extend_from_slice(b"\n")?;
         }
         Reply::Restored(groups) => {
-            append_field(out, b"restored groups ", groups)?;
+            append_field(out, b"restored groups ", *groups)?;
             out.extend_from_slice(b"\n")?;
         }
         Reply::Refused(refusal) => {
             out.extend_from_slice(b"refused ")?;
-            append_refusal(out, &refusal)?;
+            append_refusal(out, refusal)?;
             out.extend_from_slice(b"\n")?;
         }
     }
     Ok(())
 }
 
-/// Appends the line of a reply, with its line feed. After an error nothing was appended.
+/// Appends the line of a reply, or its lines, with line feeds. After an error nothing was appended.
 pub fn push_reply(out: &mut Vec<u8>, reply: &Reply) -> Result<(), Memory>
     ensures ok { OnOk result (out.new.items ≡ out.old.items ++ reply_text reply.now) }
     ensures err { OnErr result (out.new.items ≡ out.old.items) }
 {
     let len = out.len();
-    let appended = append_reply(out, *reply);
+    let appended = append_reply(out, reply);
     if appended.is_err() {
         out.truncate(len);
     }

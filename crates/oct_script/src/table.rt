@@ -14,7 +14,7 @@ macro_rules! row {
 }
 
 /// The first words of lines outside the block of a scan.
-const OUTSIDE: [FirstWord; 23] = [
+const OUTSIDE: [FirstWord; 25] = [
     row!(b"get", Verb::Get),
     row!(b"hit", Verb::Hit),
     row!(b"miss", Verb::Miss),
@@ -28,6 +28,7 @@ const OUTSIDE: [FirstWord; 23] = [
     row!(b"maxlik", Verb::Alone(Single::MaxLikelihood)),
     row!(b"cast", Verb::Cast),
     row!(b"box", Verb::Box),
+    row!(b"list", Verb::List),
     row!(b"quit", Verb::Alone(Single::Quit)),
     row!(b"scan", Verb::Scan),
     row!(b"save", Verb::Save),
@@ -37,6 +38,7 @@ const OUTSIDE: [FirstWord; 23] = [
     row!(b"track", Verb::Alone(Single::Track)),
     row!(b"untrack", Verb::Alone(Single::Untrack)),
     row!(b"changes", Verb::Alone(Single::Changes)),
+    row!(b"limit", Verb::Limit),
     row!(b"nolimit", Verb::Alone(Single::NoLimit)),
 ];
 

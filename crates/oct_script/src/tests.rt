@@ -1,12 +1,15 @@
 //! Worked examples of lines, commands and replies.
+ghost use Rattle.std.specs.Prelude.{◌≤◌};
+
 use crate::{
     Command, Edit, HeaderWord, LONGEST_LINE, Lines, Name, Refusal, Reply, ScanDone, ScanHead,
-    Syntax, opens_scan, parse, push_reply,
+    ScanOdds, Syntax, opens_scan, parse, push_reply,
 };
 use oct_cast::Cast;
-use oct_key::{Key, Point};
+use oct_change::{Change, ChangeList, Kind};
+use oct_key::{Block, Key, Point};
 use oct_odds::Class;
-use oct_query::Counts;
+use oct_query::{BlockList, Counts, Found};
 use std::test::Fail;
 
 /// The text of a line that isn't long.
@@ -139,9 +142,23 @@ macro_rules! cast {
     };
 }
 
+/// A list of the blocks of a depth in a box.
+macro_rules! list {
+    ($low:expr, $high:expr, $depth:expr) => {
+        Command::List { low: $low, high: $high, depth: $depth }
+    };
+}
+
+/// Log-odds of a scan's own.
+macro_rules! odds {
+    ($hit:expr, $miss:expr) => {
+        Some(ScanOdds { hit: $hit, miss: $miss })
+    };
+}
+
 /// The head of a scan that is turned about the vertical axis.
 macro_rules! scan {
-    ($w:expr, $z:expr, $range:expr, $lazy:expr) => {
+    ($w:expr, $z:expr, $range:expr, $odds:expr, $lazy:expr) => {
         Command::Scan(ScanHead {
             t: Point { x: 1_000_000_000, y: 0, z: -500_000_000 },
             w: $w,
@@ -149,13 +166,14 @@ macro_rules! scan {
             y: 0,
             z: $z,
             range: $range,
+            odds: $odds,
             lazy: $lazy,
         })
     };
 }
 
 /// Lines outside the block of a scan, and their commands.
-const COMMANDS: [(&str, Command); 42] = [
+const COMMANDS: [(&str, Command); 45] = [
     ("hit 0 0 0", edit!(ORIGIN, Edit::Hit, false)),
     ("miss 0 0 0", edit!(ORIGIN, Edit::Miss, false)),
     (
@@ -185,6 +203,14 @@ const COMMANDS: [(&str, Command); 42] = [
         " cast 1.5 -0.000000001 9999999.999999999 0 -0 0.0 ignore ",
         cast!(FAR, ORIGIN, true),
     ),
+    (
+        "list 0 0 0 1.5 -0.000000001 9999999.999999999 16",
+        list!(ORIGIN, FAR, 16),
+    ),
+    (
+        " list 1.5 -0.000000001 9999999.999999999 0 0 0 9999999 ",
+        list!(FAR, ORIGIN, 9_999_999),
+    ),
     ("counts", Command::Counts),
     (" refresh", Command::Refresh),
     ("prune ", Command::Prune),
@@ -204,37 +230,59 @@ const COMMANDS: [(&str, Command); 42] = [
     ("track", Command::Track),
     ("\tuntrack", Command::Untrack),
     ("changes ", Command::Changes),
+    (
+        "limit 0 0 0 \t 1.5 -0.000000001 9999999.999999999 ",
+        Command::Limit {
+            low: ORIGIN,
+            high: FAR,
+        },
+    ),
     ("nolimit", Command::NoLimit),
     ("quit", Command::Quit),
     ("", Command::Blank),
     (" \t ", Command::Blank),
     (" #hit 0 0 x", Command::Blank),
-    ("clears", Command::NotYet),
-    ("counted", Command::NotYet),
-    ("Hit 0 0", Command::NotYet),
-    ("scan 1 0 -0.5 1 0 0 0 all", scan!(1, 0, None, false)),
+    ("scan 1 0 -0.5 1 0 0 0 all", scan!(1, 0, None, None, false)),
     (
         " scan 1 0 -0.5 -32768 -0 0 0032767 8 lazy",
-        scan!(-32768, 32767, Some(8_000_000_000), true),
+        scan!(-32768, 32767, Some(8_000_000_000), None, true),
     ),
-    ("scan 1 0 -0.5 0 0 0 0 -0", scan!(0, 0, Some(0), false)),
+    (
+        "scan 1 0 -0.5 0 0 0 0 -0",
+        scan!(0, 0, Some(0), None, false),
+    ),
     (
         "scan 1 0 -0.5 0 0 0 0 9999999.999999999",
-        scan!(0, 0, Some(9_999_999_999_999_999), false),
+        scan!(0, 0, Some(9_999_999_999_999_999), None, false),
+    ),
+    (
+        "scan 1 0 -0.5 1 0 0 0 all 1 -1",
+        scan!(1, 0, None, odds!(1, -1), false),
+    ),
+    (
+        "scan 1 0 -0.5 1 0 0 0 0 1000000 -1000000 lazy",
+        scan!(1, 0, Some(0), odds!(1_000_000, -1_000_000), true),
+    ),
+    (
+        "scan 1 0 -0.5 1 0 0 0 all  0000850 \t -0000400",
+        scan!(1, 0, None, odds!(850, -400), false),
     ),
 ];
 
 /// Lines inside the block of a scan, and their commands.
-const BLOCK_COMMANDS: [(&str, Command); 5] = [
+const BLOCK_COMMANDS: [(&str, Command); 4] = [
     ("p 0 0.0 -0", Command::Beam(ORIGIN)),
     (" end ", Command::End),
     ("", Command::Blank),
     ("\t# end", Command::Blank),
-    ("clears", Command::NotYet),
 ];
 
 /// Lines outside the block of a scan that aren't in the grammar, and the columns of their faults.
-const FAULTS: [(&str, u32); 71] = [
+const FAULTS: [(&str, u32); 94] = [
+    ("clears", 1),
+    (" counted 0", 2),
+    ("Hit 0 0", 1),
+    ("\r", 1),
     ("get 0 0", 8),
     ("hit 0 0 x", 9),
     ("hit", 4),
@@ -281,6 +329,14 @@ const FAULTS: [(&str, u32); 71] = [
     ("box 0 0 0 0 0 0 add", 20),
     ("box 0 0 0 0 0 0 add 1000001", 21),
     ("box 0 0 0 0 0 0 set 0 lazy", 23),
+    ("list", 5),
+    ("list 0 0 0 0 0 0", 17),
+    ("list 0 0 0 0 0 0 -1", 18),
+    ("list 0 0 0 0 0 0 12345678", 18),
+    ("list 0 0 0 0 0 0 16 16", 21),
+    ("limit 0 0 0 0 0", 16),
+    ("limit 0 0 0 0 0 x", 17),
+    ("limit 0 0 0 0 0 0 16", 19),
     ("quit now", 6),
     ("scan", 5),
     ("scan 0 0 0 1 0 0 0", 19),
@@ -292,6 +348,17 @@ const FAULTS: [(&str, u32); 71] = [
     ("scan 0 0 0 1 0 0 0 alls", 20),
     ("scan 0 0 0 1 0 0 0 all all", 24),
     ("scan 0 0 0 1 0 0 0 8 lazy x", 27),
+    ("scan 0 0 0 1 0 0 0 8 lazy 1 -1", 27),
+    ("scan 0 0 0 1 0 0 0 8 0 -1", 22),
+    ("scan 0 0 0 1 0 0 0 8 -1 -1", 22),
+    ("scan 0 0 0 1 0 0 0 8 1000001 -1", 22),
+    ("scan 0 0 0 1 0 0 0 8 1", 23),
+    ("scan 0 0 0 1 0 0 0 8 1 0", 24),
+    ("scan 0 0 0 1 0 0 0 8 1 1", 24),
+    ("scan 0 0 0 1 0 0 0 8 1 -1000001", 24),
+    ("scan 0 0 0 1 0 0 0 8 1 lazy", 24),
+    ("scan 0 0 0 1 0 0 0 8 1 -1 x", 27),
+    ("scan 0 0 0 1 0 0 0 8 1 -1 lazy 1", 32),
     ("save", 5),
     ("save  ", 7),
     ("save .m", 6),
@@ -310,7 +377,8 @@ const FAULTS: [(&str, u32); 71] = [
 
 /// Lines inside the block of a scan that aren't in the grammar there, and the columns of their
 /// faults.
-const BLOCK_FAULTS: [(&str, u32); 14] = [
+const BLOCK_FAULTS: [(&str, u32); 17] = [
+    ("clears", 1),
     ("p", 2),
     ("p 0 0", 6),
     ("p 0 0 0 0", 9),
@@ -325,6 +393,8 @@ const BLOCK_FAULTS: [(&str, u32); 14] = [
     ("scan 0 0 0", 1),
     (" save m", 2),
     ("track", 1),
+    ("list", 1),
+    (" limit 0 0", 2),
 ];
 
 #[test]
@@ -454,7 +524,7 @@ const REPLIES: [(Reply, &str); 12] = [
 ];
 
 /// Refusals, and their lines.
-const REFUSALS: [(Refusal, &str); 34] = [
+const REFUSALS: [(Refusal, &str); 33] = [
     (Refusal::ZeroQuaternion, "refused 5 ZeroQuaternion\n"),
     (Refusal::OriginOutside, "refused 6 OriginOutside\n"),
     (
@@ -565,7 +635,6 @@ const REFUSALS: [(Refusal, &str); 34] = [
         },
         "refused 35 OtherResolution file 100000000 session 50000000\n",
     ),
-    (Refusal::NotYet, "refused 36 NotYet\n"),
 ];
 
 #[test]
@@ -584,8 +653,55 @@ fn replies_are_lines(rt: HostRuntime) -> Result<(), Fail> {
     push_reply(&mut out, &Reply::Ok)?;
     assert_eq!(rt;
         out.as_slice(),
-        b"refused 36 NotYet\nok\n".as_slice(),
+        b"refused 35 OtherResolution file 100000000 session 50000000\nok\n".as_slice(),
         "a reply is appended"
+    );
+    Ok(())
+}
+
+/// A block of a voxel, with a value.
+fn found(x: u16, y: u16, z: u16, depth: u8, value: i32) -> Found
+    requires { depth ≤ 16 }
+{
+    Found {
+        block: Block::of(Key { x, y, z }, depth),
+        value,
+    }
+}
+
+#[test]
+fn lists_have_a_line_for_each_row(rt: HostRuntime) -> Result<(), Fail> {
+    let mut out = Vec::new(rt.alloc());
+    let mut blocks = BlockList::new(rt.alloc());
+    blocks.push(found(0, 65535, 32768, 16, -400))?;
+    blocks.push(found(0, 65535, 32768, 1, 0))?;
+    blocks.push(found(1, 2, 3, 16, 3500))?;
+    push_reply(
+        &mut out,
+        &Reply::Blocks {
+            blocks,
+            threshold: 0,
+        },
+    )?;
+    assert_eq!(rt;
+        out.as_slice(),
+        b"block 0 65535 32768 -400 free\nblock 0 1 1 0 occupied\nblock 1 2 3 3500 occupied\nend 3\n".as_slice()
+    );
+    out.clear();
+    let mut changes = ChangeList::new(rt.alloc());
+    let key = Key {
+        x: 65535,
+        y: 0,
+        z: 7,
+    };
+    for kind in [Kind::New, Kind::Lost, Kind::Occupied, Kind::Freed] {
+        changes.push(Change { key, kind })?;
+    }
+    push_reply(&mut out, &Reply::Changed(changes))?;
+    push_reply(&mut out, &Reply::Changed(ChangeList::new(rt.alloc())))?;
+    assert_eq!(rt;
+        out.as_slice(),
+        b"new 65535 0 7\nlost 65535 0 7\noccupied 65535 0 7\nfreed 65535 0 7\nend 4\nend 0\n".as_slice()
     );
     Ok(())
 }

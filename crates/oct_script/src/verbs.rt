@@ -43,8 +43,7 @@ impl Single {
     }
 }
 
-/// What a first word begins: an edit, a query, a cast, a scan, a beam or a file's command with words
-/// of its own, or a whole command.
+/// What a first word begins: a command with words of its own, or a whole command.
 #[derive(Clone, Copy, Debug, PartialEq, Eq)]
 pub enum Verb {
     Hit,
@@ -53,8 +52,10 @@ pub enum Verb {
     Set,
     Forget,
     Get,
+    List,
     Cast,
     Box,
+    Limit,
     Scan,
     Beam,
     Save,

@@ -1,6 +1,5 @@
-use Rattle.std.proofs.Common.{option_map, sym, ap, ◌∙◌}
-use Rattle.oct_script.specs.Reading.{misplaced}
-use Rattle.oct_script.proofs.Parsing.{stands_here, stands_away, fault_away}
+use Rattle.std.proofs.Common.{option_map, ap, ◌∙◌}
+use Rattle.oct_script.proofs.Parsing.{stands_here, stands_away}
 use Rattle.oct_script.proofs.parser.read_behind_first.Goals as goal
 
 pub returns-in-Some-clause-exact : goal.returns-in-Some-clause-exact
@@ -8,12 +7,5 @@ returns-in-Some-clause-exact c =
     c.read_behind.ensures.exact
     ∙ stands_here c.args.inside _ _ _ _ _ (ap (option_map (λ verb. verb.now)) c.in-Some.is) c.verb_of.ensures
 
-pub returns-in-Some-verb_of-clause-exact : goal.returns-in-Some-verb_of-clause-exact
-returns-in-Some-verb_of-clause-exact c =
-    fault_away _ _ _ _ c.fault.ensures (ap (option_map (λ verb. verb.now)) c.in-Some-verb_of.is)
-    ∙ stands_away c.args.inside _ _ _ _ _ (ap (option_map (λ verb. verb.now)) c.in_default.is) c.verb_of.ensures c.verb_of-2.ensures
-
 pub returns-in-None-clause-exact : goal.returns-in-None-clause-exact
-returns-in-None-clause-exact c =
-    ap (misplaced c.args.first.now.column) (sym (ap (option_map (λ verb. verb.now)) c.in-None.is))
-    ∙ stands_away c.args.inside _ _ _ _ _ (ap (option_map (λ verb. verb.now)) c.in_default.is) c.verb_of.ensures c.verb_of-2.ensures
+returns-in-None-clause-exact c = stands_away _ c.args.inside _ _ _ _ c.fault.ensures (ap (option_map (λ verb. verb.now)) c.in-None.is) c.verb_of.ensures
