@@ -4,3 +4,4 @@ pub mod Texts
 pub mod Steps
 pub mod Filling
 pub mod Written
+pub mod Lengths

@@ -22,6 +22,8 @@
 //!   one write of the sink gave up, for the same reason.
 //! - A [`Generator`] is a source of the same text. It always tells what is still to come, no read
 //!   of it fails, and each read fills its buffer, but for the last one.
+//! - A script has at most 62 bytes, and for each scan 59, and 41 for each of its points
+//!   ([`scripts_are_short`]).
 //!
 //! `specs/Draws.antt` names each draw by its index: the state after so many steps from the seed,
 //! without its lowest 33 bits. In `specs/Script.antt` each line is a function of the index of its
@@ -36,6 +38,7 @@
 
 mod draws;
 mod generator;
+mod laws;
 mod line;
 mod lines;
 #[cfg(test)]
@@ -43,4 +46,5 @@ mod tests;
 mod writing;
 
 pub use generator::Generator;
+pub use laws::scripts_are_short;
 pub use writing::{gen_script, generate};
