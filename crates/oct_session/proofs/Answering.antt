@@ -13,7 +13,7 @@ use Rattle.oct_cast.specs.declared.outcome.Cast.{Cast}
 use Rattle.oct_cast.specs.Cast.{cast_along}
 use Rattle.oct_map.specs.Casts.{cast_answer, cast_answer_at}
 use Rattle.oct_change.specs.Held.{Held}
-use Rattle.oct_map.specs.Marks.{SameMark, classes_in}
+use Rattle.oct_map.specs.Marks.{SameMark, classes_in, marked_of, changes_answer}
 use Rattle.oct_map.specs.Notes.{marked_by_notes}
 use Rattle.oct_map.specs.Answers.{edit_answer, edit_answer_at, edit_need, room_answer, scan_answer, scan_answer_by, get_answer, get_answer_at, block_answer, box_answer, box_answer_by, box_fault}
 use Rattle.oct_map.specs.Outcome.{need_of, done_of, corner_need}
@@ -28,6 +28,9 @@ use Rattle.oct_values.specs.Classes.{Classes, classes_of}
 use Rattle.oct_session.specs.History.{State}
 use Rattle.oct_session.specs.Leaving.{StandsFor}
 use Rattle.oct_session.proofs.Casting.{same_along}
+use Rattle.oct_session.proofs.Listings.{same_list_at, same_changes}
+use Rattle.oct_session.proofs.MapHistory.{same_classes}
+use Rattle.oct_map.specs.Lists.{list_answer}
 
 -- the room beside two maps' values that are one
 same_room : (most need : ℕ) (v w : Values) → SameValues v w → room_answer most v need ≡ room_answer most w need
@@ -89,6 +92,16 @@ same_cast m s o e ignore at =
     ap (λ g. cast_answer g (values_of m) o e ignore) at.base
     ∙ sym (same_cast_at s.base.res o e ignore (classes_of s.base.odds s.values) (classes_of s.base.odds (values_of m)) (key_at s.base.res o) (key_at s.base.res e) refl refl
     (λ k low. ap (class_of s.base.odds) (at.values k low)))
+
+-- a map's answer to a list
+pub same_list : (m : Map) (s : State) (lo hi : Point) (depth : ℕ) → StandsFor m s → list_answer (ground_of m) m.is_stale (values_of m) lo hi depth ≡ list_answer s.base s.is_stale s.values lo hi depth
+same_list m s lo hi depth at =
+    ap (λ g. list_answer g m.is_stale (values_of m) lo hi depth) at.base ∙ ap (λ b. list_answer s.base b (values_of m) lo hi depth) at.is_stale
+    ∙ sym (same_list_at s.is_stale s.values (values_of m) depth (key_at s.base.res lo) (key_at s.base.res hi) at.values)
+
+-- a map's answer to what has changed since its mark
+pub same_changed : (m : Map) (s : State) → StandsFor m s → changes_answer (marked_of m) (classes_in m) ≡ changes_answer s.marked (classes_of s.base.odds s.values)
+same_changed m s at = sym (same_changes s.marked (marked_of m) (classes_of s.base.odds s.values) (classes_in m) at.marked (same_classes m s at))
 
 -- a map's answer to a scan
 pub same_scan : (m : Map) (s : State) (scan : Sighting) → StandsFor m s → scan_answer (ground_of m) (values_of m) scan ≡ scan_answer s.base s.values scan

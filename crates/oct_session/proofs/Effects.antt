@@ -1,10 +1,11 @@
 -- What a line does, and where desk and session then stand.
-use Rattle.std.proofs.Common.{◌≡◌, ℕ, ◌+◌, ◌++◌, ◌||◌, true, false, cond, is_some, IsSome, IsErr, Some, None, refl, Option, Result, Ok, Err, IfErr, IsErrAnd, inl, inr, sym, ap, subst, ◌∙◌}
+use Rattle.std.proofs.Common.{◌≡◌, ℕ, ◌+◌, List, ◌++◌, ◌||◌, true, false, cond, is_some, IsSome, IsErr, Some, None, refl, Option, Result, Ok, Err, IfErr, IsErrAnd, inl, inr, sym, ap, subst, ◌∙◌}
 use Rattle.oct_io.specs.Files.{Files}
 use Rattle.oct_io.specs.declared.store.StoreFault.{StoreFault}
 use Rattle.oct_io.specs.declared.store.StoreFault.TheVariants as store_fault
 use Rattle.oct_map.specs.Map.{Map}
 use Rattle.oct_script.specs.declared.command.Command.{Command}
+use Rattle.oct_script.specs.declared.command.Command.TheVariants as command
 use Rattle.oct_script.specs.declared.reply.Refusal.{Refusal}
 use Rattle.oct_script.specs.declared.reply.Reply.{Reply}
 use Rattle.oct_script.specs.Lines.{Line}
@@ -17,12 +18,13 @@ use Rattle.oct_session.specs.History.{History, State, after_all, state_after}
 use Rattle.oct_session.specs.Leaving.{StandsFor, StandsForSome, Desk, IsLike, IsLikeAfter, IsKnown}
 use Rattle.oct_session.specs.Session.{Progress, Effect, effect, effect_of_command, effect_opened, effect_inside, effect_of, next_command, replied, silent, after_line}
 use Rattle.oct_session.specs.Setup.{Setup}
-use Rattle.oct_session.specs.Standing.{KeepsStanding, HasAnswered, HasObeyed, HasScanned, HasWorked, FindsTold, TakesEffect, HasEffect, HasFailed, IsHeard, StandsBeside, HasStoppedAt, IsInStep, IsBetween}
+use Rattle.oct_session.specs.Tally.{counted as count_reply}
+use Rattle.oct_session.specs.Standing.{KeepsStanding, HasAnswered, HasDone, HasObeyed, HasScanned, HasWorked, FindsTold, TakesEffect, HasEffect, HasFailed, IsHeard, StandsBeside, HasStoppedAt, IsInStep, IsBetween}
 use Rattle.oct_session.proofs.MapHistory.{state_more}
 use Rattle.oct_session.proofs.Progresses.{after_answered, line_finds_told, unnamed_next}
 
 -- nothing is saved where there is nothing to save
-saves_none : (r : Option Reply) (saving : Option Saving) → saving ≡ None → accepted_saving r saving ≡ None
+pub saves_none : (r : Option Reply) (saving : Option Saving) → saving ≡ None → accepted_saving r saving ≡ None
 saves_none r saving none = elim (is_refusal r) as (λ b. cond b None saving ≡ None) [ true ↦ refl | false ↦ none ]
 
 -- a line inside a block saves nothing
@@ -34,17 +36,21 @@ inside_saves s number c block =
     ]
 
 -- files among which nothing was saved
-same_files : (told files : Option Files) (saving : Option Saving) → told ≡ files → saving ≡ None → told ≡ stored files saving
+pub same_files : (told files : Option Files) (saving : Option Saving) → told ≡ files → saving ≡ None → told ≡ stored files saving
 same_files told files saving is none = is ∙ ap (stored files) (sym none)
 
 -- a map that stands for some history after more commands
 pub some_more : (o : Setup) (m n : Map) (some : StandsForSome o m) (more : History) → StandsFor n (after_all (state_after o some.0) more) → StandsForSome o n
 some_more o m n some more at = (some.0 ++ more, subst (StandsFor n) (sym (state_more o some.0 more)) at)
 
--- a map that has obeyed a command stands for some history, as before
+-- a map on which something was done stands for some history, as before
+pub some_done : {E : Type 0} (r : Result (Option Reply) E) (m n : Map) (reply : State → Option Reply) (actions : State → History) → HasDone reply actions m n r → KeepsStanding m n
+some_done (Ok a) m n reply actions done = λ o some. some_more o m n some (accepted a (actions (state_after o some.0))) (done (state_after o some.0) some.1).1
+some_done (Err x) m n reply actions done = λ o some. (some.0, (done (state_after o some.0) some.1).1)
+
+-- and so does one that has obeyed a command
 pub some_obeyed : {E : Type 0} (r : Result (Option Reply) E) (m n : Map) (c : Result Command Refusal) → HasObeyed m n c r → KeepsStanding m n
-some_obeyed (Ok a) m n c done = λ o some. some_more o m n some (accepted a (action_of None (state_after o some.0) c)) (done None (state_after o some.0) some.1).1
-some_obeyed (Err x) m n c done = λ o some. (some.0, (done None (state_after o some.0) some.1).1)
+some_obeyed r m n c done = some_done r m n (λ s. reply None s c) (λ s. action_of None s c) (done None)
 
 -- and so does one that has worked on a line
 pub some_worked : {E : Type 0} (r : Result (Option Reply) E) (m n : Map) (block : Option Block) (e : State → Effect) → HasWorked e m n block r → KeepsStanding m n
@@ -103,36 +109,92 @@ pub some_inside : {E : Type 0} (r : Result (Option Reply) E) (m n : Map) (number
 some_inside r m n number c None new some works = cc
 some_inside r m n number c (Some first) new some works = some_worked r m n new (λ s. effect_inside s number c first) (works first refl)
 
+-- a command that names no file saves none
+saves_not : (c : Result Command Refusal) → file_named c ≡ None → (s : State) → saving_of s c ≡ None
+saves_not (Err refusal) none s = refl
+saves_not (Ok command.Blank) none s = refl
+saves_not (Ok (command.Edit p e lazy)) none s = refl
+saves_not (Ok (command.Box low high e)) none s = refl
+saves_not (Ok (command.Scan head)) none s = refl
+saves_not (Ok (command.Beam p)) none s = refl
+saves_not (Ok command.End) none s = refl
+saves_not (Ok (command.Get p depth)) none s = refl
+saves_not (Ok (command.Cast o e ignore)) none s = refl
+saves_not (Ok command.Counts) none s = refl
+saves_not (Ok command.Refresh) none s = refl
+saves_not (Ok command.Prune) none s = refl
+saves_not (Ok command.Clear) none s = refl
+saves_not (Ok command.MaxLikelihood) none s = refl
+saves_not (Ok command.Quit) none s = refl
+saves_not (Ok (command.Save name)) none s = cc
+saves_not (Ok (command.Load name)) none s = refl
+saves_not (Ok (command.Snapshot name)) none s = cc
+saves_not (Ok (command.Restore name)) none s = refl
+saves_not (Ok (command.List low high depth)) none s = refl
+saves_not (Ok (command.Limit low high)) none s = refl
+saves_not (Ok command.Track) none s = refl
+saves_not (Ok command.Untrack) none s = refl
+saves_not (Ok command.Changes) none s = refl
+saves_not (Ok command.NoLimit) none s = refl
+
+-- a command that is none of those that name a file
+pub names_not : (c : Command) → ((name : List ℕ) → c ≡ command.Save name → ⊥) → ((name : List ℕ) → c ≡ command.Load name → ⊥) → ((name : List ℕ) → c ≡ command.Snapshot name → ⊥) → ((name : List ℕ) → c ≡ command.Restore name → ⊥) →
+    file_named (Ok c) ≡ None
+names_not command.Blank save load snapshot restore = refl
+names_not (command.Edit p e lazy) save load snapshot restore = refl
+names_not (command.Box low high e) save load snapshot restore = refl
+names_not (command.Scan head) save load snapshot restore = refl
+names_not (command.Beam p) save load snapshot restore = refl
+names_not command.End save load snapshot restore = refl
+names_not (command.Get p depth) save load snapshot restore = refl
+names_not (command.Cast o e ignore) save load snapshot restore = refl
+names_not command.Counts save load snapshot restore = refl
+names_not command.Refresh save load snapshot restore = refl
+names_not command.Prune save load snapshot restore = refl
+names_not command.Clear save load snapshot restore = refl
+names_not command.MaxLikelihood save load snapshot restore = refl
+names_not command.Quit save load snapshot restore = refl
+names_not (command.Save name) save load snapshot restore = absurd (save name refl)
+names_not (command.Load name) save load snapshot restore = absurd (load name refl)
+names_not (command.Snapshot name) save load snapshot restore = absurd (snapshot name refl)
+names_not (command.Restore name) save load snapshot restore = absurd (restore name refl)
+names_not (command.List low high depth) save load snapshot restore = refl
+names_not (command.Limit low high) save load snapshot restore = refl
+names_not command.Track save load snapshot restore = refl
+names_not command.Untrack save load snapshot restore = refl
+names_not command.Changes save load snapshot restore = refl
+names_not command.NoLimit save load snapshot restore = refl
+
 -- a command that names no file, with the files that stand by
-pub command_done : (m n : Map) (f : Option Files) (c : Result Command Refusal) (block : Option Block) (a : Option Reply) → block ≡ None → ((s : State) → saving_of s c ≡ None) → ((files : Option Files) → HasAnswered (λ s. reply files s c) (λ s. action_of files s c) m n a) →
-    TakesEffect (λ files s. effect_of_command files s c) (file_named c) m f n f block a
-command_done m n f c block a closed none done = λ files s finds at.
+pub command_done : (m n : Map) (f : Option Files) (c : Result Command Refusal) (a : Option Reply) → file_named c ≡ None → ((files : Option Files) → HasAnswered (λ s. reply files s c) (λ s. action_of files s c) m n a) →
+    TakesEffect (λ files s. effect_of_command files s c) (file_named c) m f n f None a
+command_done m n f c a unnamed done = λ files s finds at.
     let took = done files s at.stands in (
       took.0,
-      closed,
+      refl,
       record {
         stands = subst (λ x. StandsFor n (after_all s (accepted x (action_of files s c)))) took.0 took.1;
-        told = same_files f files (accepted_saving (reply files s c) (saving_of s c)) at.told (saves_none (reply files s c) (saving_of s c) (none s));
+        told = same_files f files (accepted_saving (reply files s c) (saving_of s c)) at.told (saves_none (reply files s c) (saving_of s c) (saves_not c unnamed s));
       },
     )
 
-pub command_failed : (r : Result (Option Reply) StoreFault) (m n : Map) (f : Option Files) (c : Result Command Refusal) (block : Option Block) → IsErrAnd r (λ x. x ≡ store_fault.Memory) →
-    ((files : Option Files) (s : State) → StandsFor m s → IsSome (reply files s c) × StandsFor n s) → HasEffect (λ files s. effect_of_command files s c) (file_named c) m f n f block r
-command_failed (Ok x) m n f c block memory kept = absurd memory
-command_failed (Err x) m n f c block memory kept = λ files s finds at.
+pub command_failed : (r : Result (Option Reply) StoreFault) (m n : Map) (f : Option Files) (c : Result Command Refusal) → IsErrAnd r (λ x. x ≡ store_fault.Memory) →
+    ((files : Option Files) (s : State) → StandsFor m s → IsSome (reply files s c) × StandsFor n s) → HasEffect (λ files s. effect_of_command files s c) (file_named c) m f n f None r
+command_failed (Ok x) m n f c memory kept = absurd memory
+command_failed (Err x) m n f c memory kept = λ files s finds at.
     let done = kept files s at.stands in
     (inl done.0, subst (λ y. HasFailed (file_named c) files s n f y) (sym memory) (inl (record { stands = done.1; told = at.told })))
 
 -- the effect of a line on the command that was read
-pub effect_read : (r : Result (Option Reply) StoreFault) (m n : Map) (f g : Option Files) (c read : Result Command Refusal) (block : Option Block) → c ≡ read →
-    HasEffect (λ files s. effect_of_command files s read) (file_named read) m f n g block r → HasEffect (λ files s. effect_of_command files s c) (file_named c) m f n g block r
-effect_read r m n f g c read block is took = subst (λ x. HasEffect (λ files s. effect_of_command files s x) (file_named x) m f n g block r) (sym is) took
+pub effect_read : (r : Result (Option Reply) StoreFault) (m n : Map) (f g : Option Files) (c read : Result Command Refusal) → c ≡ read →
+    HasEffect (λ files s. effect_of_command files s read) (file_named read) m f n g None r → HasEffect (λ files s. effect_of_command files s c) (file_named c) m f n g None r
+effect_read r m n f g c read is took = subst (λ x. HasEffect (λ files s. effect_of_command files s x) (file_named x) m f n g None r) (sym is) took
 
 -- a line outside a block that opens none
-pub effect_outside : (r : Result (Option Reply) StoreFault) (m n : Map) (f g : Option Files) (c : Result Command Refusal) (opened block : Option Block) → is_some opened ≡ false →
-    HasEffect (λ files s. effect_of_command files s c) (file_named c) m f n g block r → HasEffect (λ files s. effect_opened files s c opened) (file_named c) m f n g block r
-effect_outside r m n f g c (Some inner) block none took = cc
-effect_outside r m n f g c None block none took = took
+pub effect_outside : (r : Result (Option Reply) StoreFault) (m n : Map) (f g : Option Files) (c : Result Command Refusal) (opened block : Option Block) → is_some opened ≡ false → block ≡ None →
+    HasEffect (λ files s. effect_of_command files s c) (file_named c) m f n g None r → HasEffect (λ files s. effect_opened files s c opened) (file_named c) m f n g block r
+effect_outside r m n f g c (Some inner) block none closed took = cc
+effect_outside r m n f g c None block none closed took = subst (λ x. HasEffect (λ files s. effect_of_command files s c) (file_named c) m f n g x r) (sym closed) took
 
 -- a line that opens a block
 pub effect_opens : (m : Map) (f : Option Files) (c : Result Command Refusal) (opened block : Option Block) → is_some opened ≡ true → block ≡ opened →
@@ -197,9 +259,9 @@ kept_line o d e s p c running read keeps at none =
 -- desk and session after the next line
 pub between_line : (o : Setup) (d e : Desk) (s t : Session) (p : Progress) (c : Result Command Refusal) (block : Option Block) (a : Option Reply) → IsWorked s c d.map e.map d.files e.files block (Ok a) →
     (file_named c ≡ None → d.kept → e.kept) →
-    t.line_count ≡ s.line_count + 1 → t.block ≡ block → t.refused ≡ (s.refused || is_refusal a) → t.has_quit ≡ is_quit c →
+    t.line_count ≡ s.line_count + 1 → t.block ≡ block → t.refused ≡ (s.refused || is_refusal a) → t.has_quit ≡ is_quit c → t.tally ≡ count_reply s.tally a →
     IsKnown (after_line o p s.line.line) → IsBetween o d s p → IsBetween o e t (after_line o p s.line.line)
-between_line o d e s t p c block a w keeps counted is refused quit known at =
+between_line o d e s t p c block a w keeps counted is refused quit tally known at =
     let line = s.line.line in
     let after = after_answered o p line (sym at.step.has_quit ∙ w.running) in
     record {
@@ -211,6 +273,7 @@ between_line o d e s t p c block a w keeps counted is refused quit known at =
             ∙ ap (λ (x : Progress). x.block) (sym after);
         refused = refused ∙ ap (λ b. b || is_refusal a) at.step.refused ∙ ap (λ x. p.refused || is_refusal x) (told_line o d e.map e.files s p c block a w known at) ∙ ap (λ (x : Progress). x.refused) (sym after);
         has_quit = quit ∙ ap is_quit (same_command s p c at.step w.read) ∙ ap (λ (x : Progress). x.has_quit) (sym after);
+        tally = tally ∙ ap (λ x. count_reply x a) at.step.tally ∙ ap (count_reply p.tally) (told_line o d e.map e.files s p c block a w known at) ∙ ap (λ (x : Progress). x.tally) (sym after);
       };
     }
 

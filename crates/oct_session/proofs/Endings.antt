@@ -20,6 +20,7 @@ use Rattle.oct_session.specs.Leaving.{StandsFor, Desk, desk, IsLikeAfter, IsKnow
 use Rattle.oct_session.specs.History.{start_state}
 use Rattle.oct_session.specs.Session.{Progress, Answer, start, progress, lines_of, last_progress, session, finished, cut_short, closed, is_too_long, status_at_end, ReadsTold}
 use Rattle.oct_session.specs.Setup.{Setup}
+use Rattle.oct_session.specs.Tally.{no_replies}
 use Rattle.oct_session.specs.Standing.{Takes, IsHaltedBehind, StopsAtEnd, HasReached, IsAt, HasServed, IsThrough, HasEndedAs, StopsIn}
 use Rattle.oct_session.specs.Stops.{status_of, IsHalt}
 use Rattle.oct_session.proofs.Progresses.{progress_grows, progress_behind_quit, no_quit_before, replied_first, known_before, known_bytes, unnamed_before, told_fold}
@@ -177,11 +178,12 @@ pub record IsNew (o : Setup) (m : Map) (s : Session) : Type 0 where
   pub block : s.block ≡ None
   pub refused : s.refused ≡ false
   pub running : s.has_quit ≡ false
+  pub tally : s.tally ≡ no_replies
 
 -- a new session with the map that it is lent
-pub begins : {o : Setup} {m : Map} {s : Session} → StandsFor m (start_state o) → s.line ≡ unread → s.line_count ≡ 0 → s.block ≡ None → s.refused ≡ false → s.has_quit ≡ false → IsNew o m s
-begins stands line counted block refused running =
-    record { stands = stands; line = line; counted = counted; block = block; refused = refused; running = running }
+pub begins : {o : Setup} {m : Map} {s : Session} → StandsFor m (start_state o) → s.line ≡ unread → s.line_count ≡ 0 → s.block ≡ None → s.refused ≡ false → s.has_quit ≡ false → s.tally ≡ no_replies → IsNew o m s
+begins stands line counted block refused running tally =
+    record { stands = stands; line = line; counted = counted; block = block; refused = refused; running = running; tally = tally }
 
 -- before the first read
 pub serving_start : (o : Setup) (files : Option Files) (bytes : List ℕ) (w : Option (List ℕ)) (m : Map) (kept : Type 0) (s : Session) → kept → IsNew o m s → HasServed o files bytes (Some bytes) w w (desk m files kept) s 0
@@ -192,7 +194,7 @@ serving_start o files bytes w m kept s is new = record {
       between = record {
         like = record { stands = new.stands; told = refl };
         kept = λ none. is;
-        step = record { counted = new.counted; block = new.block; refused = new.refused; has_quit = new.running };
+        step = record { counted = new.counted; block = new.block; refused = new.refused; has_quit = new.running; tally = new.tally };
       };
       written = appended_nil w;
     };

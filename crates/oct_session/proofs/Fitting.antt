@@ -1,18 +1,27 @@
 -- That the groups which the values of a session need are within its limit.
-use Rattle.std.proofs.Common.{◌≡◌, ◌≢◌, ℕ, ◌+◌, ◌≤◌, List, [], ◌∷◌, Bool, true, false, cond, not, ◌⊎◌, Option, Some, None, Result, Ok, Err, inl, inr, refl, sym, subst, ◌∙◌, arith, ◌&&◌, nat_lt, is_some}
+use Rattle.std.proofs.Common.{◌≡◌, ◌≢◌, ℕ, ◌+◌, ◌≤◌, List, [], ◌∷◌, Bool, true, false, cond, not, ◌⊎◌, Option, Some, None, Result, Ok, Err, inl, inr, refl, sym, subst, ◌∙◌, arith, ◌&&◌, nat_lt, is_some, pos}
+use Rattle.std.specs.Prelude.{⊤, nat_eq}
 use Rattle.std.specs.List.{fold}
 use Rattle.std.specs.Option.{option_or}
-use Rattle.std.proofs.lemmas.Bool.{cases_lt, lt-ltb, le-ltb}
+use Rattle.std.proofs.lemmas.Bool.{cases_lt, lt-ltb, le-ltb, ltb-false}
+use Rattle.oct_bt.specs.declared.fault.BtFault.{BtFault}
+use Rattle.oct_bt.specs.DataClasses.{data_classes}
+use Rattle.oct_bt.specs.File.{FileRead, reading}
+use Rattle.oct_bt.specs.Records.{record_total}
 use Rattle.oct_io.specs.Files.{Files}
+use Rattle.oct_io.specs.declared.store.Loaded.{Loaded}
+use Rattle.oct_io.specs.declared.store.Loaded.TheVariants.{Bytes, Missing, TooLarge}
 use Rattle.oct_key.specs.Block.{Cube, IsBlock}
 use Rattle.oct_key.specs.Voxel.{Voxel, key_at}
 use Rattle.oct_key.specs.Values.{Values}
 use Rattle.oct_key.specs.declared.point.Point.{Point}
 use Rattle.oct_key.proofs.Faces.{IsInMap-key_at}
-use Rattle.oct_map.specs.Answers.{edit_answer_at, edit_need, room_answer, scan_answer_by, is_full, box_answer_by, box_fault, wide_fault, most_noted}
+use Rattle.oct_map.specs.Answers.{edit_answer_at, edit_need, room_answer, scan_answer_by, is_full, box_answer_by, box_fault, wide_fault, most_noted, limit_answer}
 use Rattle.oct_map.specs.Outcome.{outcome_of, need_of, done_of, corner_need, corner_events}
 use Rattle.oct_map.specs.declared.fault.MapFault.{MapFault}
 use Rattle.oct_map.specs.declared.fault.MapFault.TheVariants as fault
+use Rattle.oct_odds.specs.declared.event.Class.{Class}
+use Rattle.oct_odds.specs.declared.event.Class.TheVariants.{Unknown, Free, Occupied}
 use Rattle.oct_odds.specs.Odds.{Odds}
 use Rattle.oct_odds.specs.Update.{Value}
 use Rattle.oct_odds.specs.declared.event.Event.{Event}
@@ -41,13 +50,19 @@ use Rattle.oct_values.proofs.Listed.{all_above_voxels}
 use Rattle.oct_values.proofs.Sums.{All-follows, sum_by-each_le, sum_by-counted, sum_by-none}
 use Rattle.oct_values.proofs.Uniform.{uniform_of, same_group_count}
 use Rattle.oct_session.specs.Commands.{reply, action_of, accepted, edit_reply}
-use Rattle.oct_session.specs.History.{History, State, Action, Edited, Scanned, Refreshed, Pruned, Cleared, Likened, edit_event, after, after_all, start_state, state_after, value_after, Boxed}
+use Rattle.oct_session.specs.History.{History, State, Action, Edited, Scanned, Refreshed, Pruned, Cleared, Likened, Replaced, Restored, class_event, edit_event, after, after_all, start_state, state_after, value_after, Boxed, Tracked, Untracked, Limited, Unlimited}
 use Rattle.oct_session.specs.ScanBlock.{opened, with_line, is_end, is_zero, scan_reply, block_reply, block_action}
 use Rattle.oct_session.specs.ScanSoFar.{sighting_so_far}
 use Rattle.oct_session.specs.Session.{Progress, Effect, effect, effect_of, effect_opened, next_command, answered, after_line, start, progress, replied, silent}
 use Rattle.oct_session.specs.Setup.{Setup}
 use Rattle.oct_session.specs.declared.block.Block.{Block}
 use Rattle.oct_session.specs.declared.block.Block.TheVariants.{Scanning, Spoilt}
+use Rattle.oct_session.specs.FileCommands.{found_in, nodes_reply, reading_reply, reading_action, load_reply, load_action, groups_reply, snapshot_reply, snapshot_action, restore_reply, restore_action}
+use Rattle.oct_session.proofs.LowBytes.{groups_of_file}
+use Rattle.oct_session.proofs.RestoredGroups.{groups_restored}
+use Rattle.oct_snap.specs.Nodes.{group_total}
+use Rattle.oct_snap.specs.Reading.{Snapshot, read_snapshot}
+use Rattle.oct_snap.specs.declared.fault.SnapFault.{SnapFault}
 use Rattle.oct_session.proofs.MapHistory.{state_more}
 use Rattle.oct_session.proofs.NonemptyReplies.{fault_known}
 
@@ -134,6 +149,66 @@ box_fits_at s low high e (Some a) (Some b) is_low is_high fits = elim (is_box a 
 none_fits : (s : State) (r : Option Reply) → Fits s → Fits (after_all s (accepted r []))
 none_fits s r fits = elim (is_refusal r) as (λ b. Fits (after_all s (cond {A = History} b [] []))) [ true ↦ fits | false ↦ fits ]
 
+-- the value of a voxel of this class after a load
+abbrev given : Odds → Class → Value
+given odds c = after_event odds (Some (class_event odds c)) None
+
+given_to : (odds : Odds) (c : Class) (old : Value) → after_event odds (Some (class_event odds c)) old ≡ given odds c
+given_to odds Unknown old = refl
+given_to odds Free old = refl
+given_to odds Occupied old = refl
+
+-- the values of a file need no more groups than it has records
+file_fits : (s : State) (bytes : List ℕ) (file : FileRead) → reading bytes ≡ Ok file → record_total file.codes ≤ s.base.max_groups → Fits (after s (Replaced (data_classes file.codes)))
+file_fits s bytes file is few =
+    let same : group_count (updated s.base.odds (λ k. Some (class_event s.base.odds (data_classes file.codes k))) s.values) ≡ group_count (λ k. given s.base.odds (data_classes file.codes k)) =
+    same_group_count (updated s.base.odds (λ k. Some (class_event s.base.odds (data_classes file.codes k))) s.values) (λ k. given s.base.odds (data_classes file.codes k)) (λ k low. given_to s.base.odds (data_classes file.codes k) (s.values k)) in
+    let needs = groups_of_file bytes file (given s.base.odds) is in
+    omega (arith, same, needs, few)
+
+-- by the test of the resolution, and then by that of the room
+tested_fits : (s : State) (bytes : List ℕ) (file : FileRead) (same full : Bool) → reading bytes ≡ Ok file → nat_lt s.base.max_groups (record_total file.codes) ≡ full → Fits s →
+    Fits (after_all s (accepted (nodes_reply file.nodes (cond {A = Result ⊤ MapFault} same (cond {A = Result ⊤ MapFault} full (Err (fault.Full 0 (record_total file.codes))) (Ok tt)) (Err (fault.OtherResolution (pos file.res) (pos s.base.res))))) (Replaced (data_classes file.codes) ∷ [])))
+tested_fits s bytes file false full is room fits = fits
+tested_fits s bytes file true true is room fits = fits
+tested_fits s bytes file true false is room fits = file_fits s bytes file is (ltb-false s.base.max_groups (record_total file.codes) room)
+
+-- what was read of a file
+reading_fits : (s : State) (bytes : List ℕ) (read : Result FileRead BtFault) → reading bytes ≡ read → Fits s → Fits (after_all s (accepted (reading_reply s.base read) (reading_action read)))
+reading_fits s bytes (Err f) is fits = none_fits s (reading_reply s.base (Err f)) fits
+reading_fits s bytes (Ok file) is fits = tested_fits s bytes file (nat_eq file.res s.base.res) (nat_lt s.base.max_groups (record_total file.codes)) is refl fits
+
+load_fits : (s : State) (found : Option Loaded) → Fits s → Fits (after_all s (accepted (load_reply s.base found) (load_action found)))
+load_fits s None fits = fits
+load_fits s (Some Missing) fits = fits
+load_fits s (Some TooLarge) fits = fits
+load_fits s (Some (Bytes bytes)) fits = reading_fits s bytes (reading bytes) refl fits
+
+-- by the test of a snapshot's resolution, and then by that of the room
+restored_fits : (s : State) (bytes : List ℕ) (q : Snapshot) (same full : Bool) → read_snapshot s.base.odds bytes ≡ Ok q → nat_lt s.base.max_groups (group_total q.nodes) ≡ full → Fits s →
+    Fits (after_all s (accepted (groups_reply (cond {A = Result ℕ MapFault} same (cond {A = Result ℕ MapFault} full (Err (fault.Full 0 (group_total q.nodes))) (Ok (group_total q.nodes))) (Err (fault.OtherResolution (pos q.head.res) (pos s.base.res))))) (Restored q ∷ [])))
+restored_fits s bytes q false full is room fits = fits
+restored_fits s bytes q true true is room fits = fits
+restored_fits s bytes q true false is room fits =
+    let few = ltb-false s.base.max_groups (group_total q.nodes) room in
+    let needs = groups_restored q.head.odds s.base.odds bytes q s.values is in
+    omega (arith, few, needs)
+
+-- what a snapshot was read as
+snapshot_fits : (s : State) (bytes : List ℕ) (read : Result Snapshot SnapFault) → read_snapshot s.base.odds bytes ≡ read → Fits s → Fits (after_all s (accepted (snapshot_reply s.base read) (snapshot_action read)))
+snapshot_fits s bytes (Err f) is fits = none_fits s (snapshot_reply s.base (Err f)) fits
+snapshot_fits s bytes (Ok q) is fits = restored_fits s bytes q (nat_eq q.head.res s.base.res) (nat_lt s.base.max_groups (group_total q.nodes)) is refl fits
+
+restore_fits : (s : State) (found : Option Loaded) → Fits s → Fits (after_all s (accepted (restore_reply s.base found) (restore_action s.base found)))
+restore_fits s None fits = fits
+restore_fits s (Some Missing) fits = fits
+restore_fits s (Some TooLarge) fits = fits
+restore_fits s (Some (Bytes bytes)) fits = snapshot_fits s bytes (read_snapshot s.base.odds bytes) refl fits
+
+-- something was done or not, and both fit
+either_fits : (s : State) (r : Option Reply) (actions : History) → Fits s → Fits (after_all s actions) → Fits (after_all s (accepted r actions))
+either_fits s r actions fits done = elim (is_refusal r) as (λ b. Fits (after_all s (cond {A = History} b [] actions))) [ true ↦ fits | false ↦ done ]
+
 command_fits : (files : Option Files) (s : State) (c : Result Command Refusal) → Fits s → Fits (after_all s (accepted (reply files s c) (action_of files s c)))
 command_fits files s (Err refusal) fits = fits
 command_fits files s (Ok command.Blank) fits = fits
@@ -151,14 +226,15 @@ command_fits files s (Ok command.Clear) fits = clear_fits s
 command_fits files s (Ok command.MaxLikelihood) fits = likely_fits s fits
 command_fits files s (Ok command.Quit) fits = fits
 command_fits files s (Ok (command.Save name)) fits = fits
-command_fits files s (Ok (command.Load name)) fits = fits
+command_fits files s (Ok (command.Load name)) fits = load_fits s (found_in files name) fits
 command_fits files s (Ok (command.Snapshot name)) fits = fits
-command_fits files s (Ok (command.Restore name)) fits = fits
+command_fits files s (Ok (command.Restore name)) fits = restore_fits s (found_in files name) fits
+command_fits files s (Ok (command.List low high depth)) fits = none_fits s (reply files s (Ok (command.List low high depth))) fits
 command_fits files s (Ok command.Track) fits = fits
 command_fits files s (Ok command.Untrack) fits = fits
-command_fits files s (Ok command.Changes) fits = fits
+command_fits files s (Ok command.Changes) fits = none_fits s (reply files s (Ok command.Changes)) fits
+command_fits files s (Ok (command.Limit low high)) fits = either_fits s (edit_reply (limit_answer s.base low high)) (Limited low high ∷ []) fits fits
 command_fits files s (Ok command.NoLimit) fits = fits
-command_fits files s (Ok command.NotYet) fits = fits
 
 -- the scan's own fault, and room for it
 scan_fits_by : (s : State) (seen : Sighting) (lazy : Bool) (own : Option ScanFault) → own ≢ Some scan_fault_of.Memory → Fits s →
@@ -215,6 +291,12 @@ action_most s Refreshed = refl
 action_most s Pruned = refl
 action_most s Cleared = refl
 action_most s Likened = refl
+action_most s (Replaced classes) = refl
+action_most s (Restored q) = refl
+action_most s Tracked = refl
+action_most s Untracked = refl
+action_most s (Limited low high) = refl
+action_most s Unlimited = refl
 
 history_most : (s : State) (h : History) → (after_all s h).base.max_groups ≡ s.base.max_groups
 history_most s [] = refl

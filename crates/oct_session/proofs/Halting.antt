@@ -23,6 +23,7 @@ use Rattle.oct_session.specs.Leaving.{Desk, IsLikeAfter, HasLeft, IsKnown, IsCut
 use Rattle.oct_session.specs.Session.{Progress, effect_of, next_command, after_line, progress, ended, closed}
 use Rattle.oct_session.specs.ScanBlock.{end_reply}
 use Rattle.oct_session.specs.Setup.{Setup}
+use Rattle.oct_session.specs.Tally.{counted as count_reply}
 use Rattle.oct_session.specs.Standing.{IsHeard, StandsBeside, HasStoppedAt, IsInStep, IsBetween, HasReached}
 use Rattle.oct_session.specs.Stops.{stop_of_sink, stop_of_store, status_of, IsSinkStop}
 use Rattle.oct_session.proofs.Prefixes.{begun_more}
@@ -137,8 +138,8 @@ like_closed o d p at = elim p.has_quit as (λ v. IsLikeAfter o (cond v p (ended 
 -- the end of the script, answered whole
 pub told_end : (w v u : Option (List ℕ)) (s t : Session) (p : Progress) (r : Option Reply) (text : List ℕ) → s.has_quit ≡ false → IsInStep s p → v ≡ appended w p.text → r ≡ end_reply s.block →
     text ≡ text_of r → u ≡ appended v text → t.line_count ≡ s.line_count → t.block ≡ None → t.refused ≡ (s.refused || is_refusal r) → t.has_quit ≡ s.has_quit →
-    IsInStep t (closed p) × (u ≡ appended w (closed p).text)
-told_end w v u s t p r text running at before is told written answered block refused quit =
+    t.tally ≡ count_reply s.tally r → IsInStep t (closed p) × (u ≡ appended w (closed p).text)
+told_end w v u s t p r text running at before is told written answered block refused quit tally =
     let same : r ≡ end_reply p.block = is ∙ ap end_reply at.block in
     subst (λ (x : Progress). IsInStep t x × (u ≡ appended w x.text)) (sym (closed_ended p (sym at.has_quit ∙ running))) (
       record {
@@ -146,6 +147,7 @@ told_end w v u s t p r text running at before is told written answered block ref
         block = block;
         refused = refused ∙ ap (λ b. b || is_refusal r) at.refused ∙ ap (λ x. p.refused || is_refusal x) same;
         has_quit = quit ∙ at.has_quit;
+        tally = tally ∙ ap (λ x. count_reply x r) at.tally ∙ ap (count_reply p.tally) same;
       },
       written ∙ ap (λ x. appended x text) before ∙ appended_twice w p.text text ∙ ap (λ x. appended w (p.text ++ x)) (told ∙ ap text_of same),
     )

@@ -1,5 +1,5 @@
 -- What has a reply, and that no reply is empty.
-use Rattle.std.proofs.Common.{Bool, ◌≢◌, ℕ, ◌<◌, List, ◌++◌, length, true, false, cond, is_none, Option, Some, None, IsSome, Result, Ok, Err, refl, arith, length-append, ◌&&◌, nat_lt}
+use Rattle.std.proofs.Common.{Bool, ◌≢◌, ℕ, ℤ, ◌<◌, List, ◌++◌, length, true, false, cond, is_none, Option, Some, None, IsSome, Result, Ok, Err, refl, arith, length-append, ◌&&◌, nat_lt}
 use Rattle.std.specs.Prelude.{⊤, codes, decimal}
 use Rattle.oct_key.specs.declared.point.Point.{Point}
 use Rattle.oct_key.specs.Values.{Values}
@@ -8,7 +8,7 @@ use Rattle.oct_cast.specs.declared.outcome.Cast.{Cast}
 use Rattle.oct_cast.specs.declared.outcome.Cast.TheVariants as cast
 use Rattle.std.specs.Option.{option_or}
 use Rattle.oct_values.specs.Boxes.{box_volume}
-use Rattle.oct_map.specs.Answers.{edit_answer, edit_answer_at, edit_need, is_full, room_answer, scan_answer_by, box_answer, box_answer_by, box_fault, wide_fault, most_noted}
+use Rattle.oct_map.specs.Answers.{edit_answer, edit_answer_at, edit_need, is_full, room_answer, scan_answer_by, box_answer, box_answer_by, box_fault, wide_fault, most_noted, limit_answer, corner_fault}
 use Rattle.oct_map.specs.Ground.{Ground}
 use Rattle.oct_map.specs.Outcome.{need_of, done_of, corner_need}
 use Rattle.oct_map.specs.declared.fault.MapFault.{MapFault}
@@ -24,13 +24,19 @@ use Rattle.oct_key.specs.Boxes.{is_box}
 use Rattle.oct_values.specs.Counts.{group_count}
 use Rattle.oct_script.specs.declared.reply.Reply.{Reply}
 use Rattle.oct_script.specs.declared.reply.Reply.TheVariants as reply_of
-use Rattle.oct_script.specs.Replies.{text_of, reply_text, class_name, scan_text, counts_text, voxel_text, cast_text, refusal_text}
-use Rattle.oct_session.specs.Commands.{edit_reply}
+use Rattle.oct_script.specs.Replies.{text_of, reply_text, class_name, scan_text, counts_text, voxel_text, cast_text, refusal_text, block_text, change_text, end_text}
+use Rattle.std.specs.List.{flat_map}
+use Rattle.oct_session.specs.Commands.{edit_reply, list_reply, changes_reply}
 use Rattle.oct_session.specs.History.{State}
 use Rattle.oct_session.specs.ScanBlock.{is_zero, scan_reply, block_reply}
 use Rattle.oct_session.specs.ScanSoFar.{ScanSoFar, sighting_so_far}
 use Rattle.oct_session.specs.declared.block.Block.TheVariants.{Scanning}
 use Rattle.std.specs.Fmt.{signed_decimal}
+use Rattle.oct_values.specs.Classes.{Classes}
+use Rattle.oct_map.specs.Lists.{list_most, list_answer, list_answer_at}
+use Rattle.oct_map.specs.Marks.{changes_answer}
+use Rattle.oct_query.specs.Shown.{Shown}
+use Rattle.oct_query.specs.Listed.{met_blocks, listed_blocks}
 
 -- a text with a beginning
 begins : (front back : List ℕ) → 0 < length front → 0 < length (front ++ back)
@@ -41,6 +47,11 @@ cast_some (cast.Hit k) = begins (codes "cast hit ") (voxel_text k) (omega arith)
 cast_some (cast.Unknown k) = begins (codes "cast unknown ") (voxel_text k) (omega arith)
 cast_some cast.Clear = omega arith
 
+-- lines with a line after them
+ends_so : (lines : List ℕ) (count : ℕ) → 0 < length (lines ++ end_text count)
+ends_so lines count =
+    omega (arith, length-append lines (end_text count), begins (codes "end " ++ decimal count) (codes "\n") (begins (codes "end ") (decimal count) (omega arith)))
+
 reply_some : (r : Reply) → 0 < length (reply_text r)
 reply_some reply_of.Ok = omega arith
 reply_some (reply_of.Known value class) = begins (codes "known ") (signed_decimal value ++ codes " " ++ class_name class ++ codes "\n") (omega arith)
@@ -49,6 +60,8 @@ reply_some (reply_of.Scanned done) = begins (scan_text done) (codes "\n")
     (begins (codes "ok hits " ++ decimal done.hits) (codes " frees " ++ decimal done.frees) (begins (codes "ok hits ") (decimal done.hits) (omega arith)))
 reply_some (reply_of.Counted counts) = begins (counts_text counts) (codes "\n")
     (begins (codes "groups " ++ decimal counts.groups) (codes " nodes " ++ decimal counts.nodes) (begins (codes "groups ") (decimal counts.groups) (omega arith)))
+reply_some (reply_of.Blocks blocks threshold) = ends_so (flat_map (block_text threshold) blocks) (length blocks)
+reply_some (reply_of.Changed changes) = ends_so (flat_map change_text changes) (length changes)
 reply_some (reply_of.Casted found) = begins (cast_text found) (codes "\n") (cast_some found)
 reply_some (reply_of.Saved bytes) = begins (codes "saved ") (decimal bytes ++ codes "\n") (omega arith)
 reply_some (reply_of.Loaded nodes) = begins (codes "loaded ") (decimal nodes ++ codes "\n") (omega arith)
@@ -89,6 +102,41 @@ corners_some marked (Some low) (Some high) room some =
 pub box_some : (g : Ground) (marked : Bool) (values : Values) (low high : Point) → IsSome (edit_reply (box_answer g marked values low high))
 box_some g marked values low high =
     corners_some marked (key_at g.res low) (key_at g.res high) _ (room_some g.max_groups values (corner_need (key_at g.res low) (key_at g.res high)))
+
+limit_some_at : (a b : Option Voxel) → IsSome (edit_reply (box_answer_by (corner_fault a b) (Ok tt)))
+limit_some_at None b = refl
+limit_some_at (Some low) None = refl
+limit_some_at (Some low) (Some high) =
+    elim (is_box low high) as (λ t. IsSome (edit_reply (box_answer_by (cond {A = Option MapFault} t None (Some map_fault.BadBox)) (Ok tt)))) [ true ↦ refl | false ↦ refl ]
+
+-- a limit has a reply
+pub limit_some : (g : Ground) (low high : Point) → IsSome (edit_reply (limit_answer g low high))
+limit_some g low high = limit_some_at (key_at g.res low) (key_at g.res high)
+
+list_some_by : (threshold : ℤ) (deep box stale many : Bool) (count : ℕ) (blocks : List Shown) →
+    IsSome (list_reply threshold (cond {A = Result (List Shown) MapFault} deep (Err map_fault.BadDepth)
+    (cond box (cond stale (Err map_fault.Stale) (cond many (Err (map_fault.TooManyBlocks count)) (Ok blocks))) (Err map_fault.BadBox))))
+list_some_by threshold true box stale many count blocks = refl
+list_some_by threshold false false stale many count blocks = refl
+list_some_by threshold false true true many count blocks = refl
+list_some_by threshold false true false true count blocks = refl
+list_some_by threshold false true false false count blocks = refl
+
+list_some_at : (threshold : ℤ) (stale : Bool) (values : Values) (depth : ℕ) (a b : Option Voxel) → IsSome (list_reply threshold (list_answer_at stale values depth a b))
+list_some_at threshold stale values depth None b = refl
+list_some_at threshold stale values depth (Some low) None = refl
+list_some_at threshold stale values depth (Some low) (Some high) =
+    list_some_by threshold (nat_lt 16 depth) (is_box low high) (stale && nat_lt depth 16) (nat_lt list_most (length (met_blocks low high depth))) (length (met_blocks low high depth))
+    (listed_blocks values low high depth)
+
+-- a list has a reply
+pub list_some : (threshold : ℤ) (g : Ground) (stale : Bool) (values : Values) (low high : Point) (depth : ℕ) → IsSome (list_reply threshold (list_answer g stale values low high depth))
+list_some threshold g stale values low high depth = list_some_at threshold stale values depth (key_at g.res low) (key_at g.res high)
+
+-- so has what has changed
+pub changes_some : (marked : Option Classes) (now : Classes) → IsSome (changes_reply (changes_answer marked now))
+changes_some None now = refl
+changes_some (Some before) now = refl
 
 point_known : (edge : ℕ) (s : Sighting) (outside excess : Option ℕ) → point_fault outside (cells_fault edge s excess) ≢ Some scan_fault_of.Memory
 point_known edge s None None = λ is. cc

@@ -32,6 +32,7 @@ pub record IsBeside (f s : Session) : Type 0 where
   pub block : f.block ≡ s.block
   pub refused : f.refused ≡ s.refused
   pub has_quit : f.has_quit ≡ s.has_quit
+  pub tally : f.tally ≡ s.tally
 
 -- a session that has other bytes of the line that stands
 moved : (o : Setup) (w v : Option (List ℕ)) (d : Desk) (s f : Session) (p : Progress) → IsBeside f s → HasReached o w v d s p → HasReached o w v d f p
@@ -44,6 +45,7 @@ moved o w v d s f p beside at = record {
       block = beside.block ∙ at.between.step.block;
       refused = beside.refused ∙ at.between.step.refused;
       has_quit = beside.has_quit ∙ at.between.step.has_quit;
+      tally = beside.tally ∙ at.between.step.tally;
     };
   };
   written = at.written;

@@ -1,12 +1,13 @@
 -- What a command or a scan answers, and what the map then stands for.
-use Rattle.std.proofs.Common.{◌≡◌, ℕ, [], ◌||◌, ◌&&◌, nat_lt, Bool, true, false, cond, IsTrue, IsSome, Option, Some, None, Result, Ok, Err, IfOk, OnErr, inl, inr, refl, sym, ap, subst, ◌∙◌, is_some}
+use Rattle.std.specs.Prelude.{⊤, List}
+use Rattle.std.proofs.Common.{◌≡◌, ℕ, ℤ, [], ◌||◌, ◌&&◌, nat_lt, Bool, true, false, cond, IsTrue, IsSome, Option, Some, None, Result, Ok, Err, IfOk, OnErr, inl, inr, refl, sym, ap, subst, ◌∙◌, is_some}
 use Rattle.std.proofs.Math.Bool.{or-false}
 use Rattle.oct_io.specs.Files.{Files}
 use Rattle.oct_key.specs.declared.point.Point.{Point}
 use Rattle.oct_odds.specs.declared.event.Event.{Event}
 use Rattle.oct_odds.specs.declared.event.Event.TheVariants as event
 use Rattle.oct_odds.specs.Update.{Value}
-use Rattle.oct_map.specs.Answers.{edit_answer, scan_answer, get_answer, get_answer_at, block_answer, IsAnswerOrMemory, box_answer}
+use Rattle.oct_map.specs.Answers.{edit_answer, scan_answer, get_answer, get_answer_at, block_answer, IsAnswerOrMemory, box_answer, limit_answer}
 use Rattle.oct_cast.specs.declared.outcome.Cast.{Cast}
 use Rattle.oct_cast.specs.Cast.{cast_along}
 use Rattle.oct_map.specs.Casts.{cast_answer, cast_answer_at}
@@ -14,7 +15,12 @@ use Rattle.oct_values.specs.Classes.{classes_of}
 use Rattle.oct_map.specs.Ground.{Ground}
 use Rattle.oct_map.specs.Map.{Map, ground_of, values_of}
 use Rattle.oct_map.specs.Edits.{outcome_in}
-use Rattle.oct_map.specs.Outcome.{corner_events}
+use Rattle.oct_map.specs.Outcome.{corner_events, corner_box}
+use Rattle.oct_map.specs.Lists.{list_answer}
+use Rattle.oct_map.specs.Marks.{SameMark, marked_of, classes_in, changes_answer}
+use Rattle.oct_change.specs.Held.{Held}
+use Rattle.oct_change.specs.declared.kind.Change.{Change}
+use Rattle.oct_query.specs.Shown.{Shown}
 use Rattle.oct_map.specs.declared.fault.MapFault.{MapFault}
 use Rattle.oct_map.specs.declared.fault.MapFault.TheVariants as fault
 use Rattle.oct_map.specs.declared.done.ScanDone.{ScanDone}
@@ -35,16 +41,17 @@ use Rattle.oct_script.specs.declared.reply.Refusal.{Refusal}
 use Rattle.oct_script.specs.declared.reply.Reply.{Reply}
 use Rattle.oct_script.specs.declared.reply.Reply.TheVariants as reply_of
 use Rattle.oct_script.specs.Replies.{is_refusal}
-use Rattle.oct_session.specs.Commands.{reply, action_of, accepted, fault_reply, edit_reply, value_reply, get_reply, cast_reply}
+use Rattle.oct_session.specs.Commands.{reply, action_of, accepted, edit_reply, value_reply, get_reply, cast_reply, list_reply, changes_reply}
+use Rattle.oct_session.specs.Refusals.{fault_reply}
 use Rattle.oct_session.specs.History.{History, State, Scanned, edit_event, after, after_all}
 use Rattle.oct_session.specs.Leaving.{StandsFor}
 use Rattle.oct_session.specs.ScanBlock.{is_zero, scan_reply, block_reply, block_action}
 use Rattle.oct_session.specs.ScanSoFar.{ScanSoFar, sighting_so_far}
 use Rattle.oct_session.specs.Standing.{HasAnswered, HasObeyed, HasScanned}
 use Rattle.oct_session.specs.declared.block.Block.TheVariants.{Scanning}
-use Rattle.oct_session.proofs.Answering.{same_edit, same_get, same_cast, same_scan, same_box}
-use Rattle.oct_session.proofs.NonemptyReplies.{edit_some, block_some, box_some}
-use Rattle.oct_session.proofs.MapHistory.{Keeps, stands_same, stands_edited, stands_scanned, stands_refreshed, stands_pruned, stands_cleared, stands_likened, stands_boxed}
+use Rattle.oct_session.proofs.Answering.{same_edit, same_get, same_cast, same_scan, same_box, same_list, same_changed}
+use Rattle.oct_session.proofs.NonemptyReplies.{edit_some, block_some, box_some, list_some, changes_some, limit_some}
+use Rattle.oct_session.proofs.MapHistory.{Keeps, stands_same, stands_edited, stands_scanned, stands_refreshed, stands_pruned, stands_cleared, stands_likened, stands_boxed, stands_tracked, stands_untracked, stands_limited, stands_unlimited}
 
 -- a command that does nothing that later replies may depend on
 accepted_none : (r : Option Reply) (actions : History) → actions ≡ [] → accepted r actions ≡ []
@@ -62,16 +69,12 @@ Scans m n scan r = HasAnswered (λ s. block_reply s (Scanning scan)) (λ s. bloc
 stands_kept : (m : Map) (s : State) (more : History) → more ≡ [] → StandsFor m s → StandsFor m (after_all s more)
 stands_kept m s more none at = subst (λ x. StandsFor m (after_all s x)) (sym none) at
 
--- what was answered to the command that was read
-pub answered_as : (m n : Map) (c read : Command) (r : Option Reply) → c ≡ read → Obeys m n (Ok read) r → Obeys m n (Ok c) r
-answered_as m n c read r is done = subst (λ x. Obeys m n (Ok x) r) (sym is) done
-
--- and what was done for it
+-- what was done for the command that was read
 pub obeyed_as : {E : Type 0} (r : Result (Option Reply) E) (m n : Map) (c read : Result Command Refusal) → c ≡ read → HasObeyed m n read r → HasObeyed m n c r
 obeyed_as r m n c read is done = subst (λ x. HasObeyed m n x r) (sym is) done
 
 -- a reply to a refusal of the map is a refusal
-refuses : (f : MapFault) (r : Option Reply) → IsSome r → r ≡ fault_reply f → is_refusal r ≡ true
+pub refuses : (f : MapFault) (r : Option Reply) → IsSome r → r ≡ fault_reply f → is_refusal r ≡ true
 refuses (fault.Outside point) r some is = ap is_refusal is
 refuses fault.BadDepth r some is = ap is_refusal is
 refuses fault.BadBox r some is = ap is_refusal is
@@ -81,13 +84,17 @@ refuses (fault.Full groups need) r some is = ap is_refusal is
 refuses fault.OriginOutside r some is = ap is_refusal is
 refuses (fault.PointOutside index) r some is = ap is_refusal is
 refuses (fault.TooManyCells index cells) r some is = ap is_refusal is
+refuses fault.BadMagic r some is = ap is_refusal is
+refuses (fault.Truncated at) r some is = ap is_refusal is
+refuses (fault.TrailingBytes at) r some is = ap is_refusal is
+refuses (fault.BadSnapshot at) r some is = ap is_refusal is
 refuses (fault.OtherResolution file session) r some is = ap is_refusal is
 refuses (fault.WideWhileTracked count) r some is = ap is_refusal is
 refuses fault.NotTracked r some is = ap is_refusal is
 refuses fault.Memory r some is = let none : IsSome (fault_reply fault.Memory) = subst IsSome is some in cc
 
 -- a reply to a fault of memory there is none
-no_reply : (f : MapFault) (r : Option Reply) → IsSome r → r ≡ fault_reply f → f ≡ fault.Memory → ⊥
+pub no_reply : (f : MapFault) (r : Option Reply) → IsSome r → r ≡ fault_reply f → f ≡ fault.Memory → ⊥
 no_reply f r some is none = let absent : IsSome (fault_reply fault.Memory) = subst IsSome (is ∙ ap fault_reply none) some in cc
 
 -- an edit that the map did
@@ -209,6 +216,71 @@ clear_done m n unknown fresh pruned setup none = λ files q at. (refl, stands_cl
 pub likelihood_done : (m n : Map) → SameValues (updated m.tree.odds (λ k. Some event.Likely) (values_of m)) (values_of n) → n.is_stale ≡ false → IsPruned n.tree → Keeps m n →
     Obeys m n (Ok command.MaxLikelihood) (Some reply_of.Ok)
 likelihood_done m n values fresh pruned setup = λ files q at. (refl, stands_likened m n q values fresh pruned setup at)
+
+-- a mark that is set
+pub track_done : (m n : Map) (x : Option Held) → n ≡ record m { mark = x } → SameMark (Some (classes_in m)) (marked_of n) → Obeys m n (Ok command.Track) (Some reply_of.Ok)
+track_done m n x exact mark = λ files q at. (refl, stands_tracked m n q x exact mark at)
+
+-- a mark that is taken away
+pub untrack_done : (m n : Map) → n ≡ record m { mark = None } → Obeys m n (Ok command.Untrack) (Some reply_of.Ok)
+untrack_done m n exact = λ files q at. (refl, stands_untracked m n q exact at)
+
+-- the end of a limit
+pub no_limit_done : (m n : Map) → n ≡ record m { update_box = None } → Obeys m n (Ok command.NoLimit) (Some reply_of.Ok)
+no_limit_done m n exact = λ files q at. (refl, stands_unlimited m n q exact at)
+
+-- a limit that the map took
+pub limit_done : (m n : Map) (low high : Point) → n ≡ record m { update_box = corner_box (key_at m.tree.res low) (key_at m.tree.res high) } →
+    ◌≡◌ {A = Result ⊤ MapFault} (Ok tt) (limit_answer (ground_of m) low high) → Obeys m n (Ok (command.Limit low high)) (Some reply_of.Ok)
+limit_done m n low high exact answer = λ files q at.
+    (ap edit_reply (answer ∙ ap (λ g. limit_answer g low high) at.base), stands_limited m n q low high exact at)
+
+-- a limit that the map refused
+pub limit_refused : {E : Type 0} (r : Result (Option Reply) E) (m n : Map) (low high : Point) (f : MapFault) → IfOk r (λ a. a ≡ fault_reply f) → IfOk r IsSome → n ≡ m →
+    ◌≡◌ {A = Result ⊤ MapFault} (Err f) (limit_answer (ground_of m) low high) → HasObeyed m n (Ok (command.Limit low high)) r
+limit_refused (Ok a) m n low high f is some same answer = λ files q at. (
+  is ∙ ap edit_reply (answer ∙ ap (λ g. limit_answer g low high) at.base),
+  stands_kept n q (accepted a (action_of files q (Ok (command.Limit low high)))) (ap (λ b. cond b [] (action_of files q (Ok (command.Limit low high)))) (refuses f a some is))
+      (subst (λ (t : Map). StandsFor t q) (sym same) at),
+)
+limit_refused (Err x) m n low high f is some same answer = λ files q at. (limit_some q.base low high, subst (λ (t : Map). StandsFor t q) (sym same) at)
+
+-- a list that the map answered
+pub list_done : (m : Map) (low high : Point) (depth : ℕ) (blocks : List Shown) (threshold : ℤ) → threshold ≡ m.tree.odds.thr →
+    IsAnswerOrMemory (list_answer (ground_of m) m.is_stale (values_of m) low high depth) (Ok blocks) → Obeys m m (Ok (command.List low high depth)) (Some (reply_of.Blocks blocks threshold))
+list_done m low high depth blocks threshold is (inl answer) = λ files q at. (
+  ap (λ t. Some (reply_of.Blocks blocks t)) (is ∙ ap (λ (g : Ground). g.odds.thr) at.base) ∙ ap (list_reply q.base.odds.thr) (answer ∙ same_list m q low high depth at),
+  stands_kept m q (accepted (Some (reply_of.Blocks blocks threshold)) []) (accepted_none (Some (reply_of.Blocks blocks threshold)) [] refl) at,
+)
+list_done m low high depth blocks threshold is (inr memory) = cc
+
+-- a list that the map refused
+pub list_refused : {E : Type 0} (r : Result (Option Reply) E) (m : Map) (low high : Point) (depth : ℕ) (f : MapFault) → IfOk r (λ a. a ≡ fault_reply f) → IfOk r IsSome →
+    IsAnswerOrMemory (list_answer (ground_of m) m.is_stale (values_of m) low high depth) (Err f) → HasObeyed m m (Ok (command.List low high depth)) r
+list_refused (Ok a) m low high depth f is some (inl answer) = λ files q at. (
+  is ∙ ap (list_reply q.base.odds.thr) (answer ∙ same_list m q low high depth at),
+  stands_kept m q (accepted a []) (accepted_none a [] refl) at,
+)
+list_refused (Ok a) m low high depth f is some (inr memory) = absurd (no_reply f a some is cc)
+list_refused (Err x) m low high depth f is some answer = λ files q at. (list_some q.base.odds.thr q.base q.is_stale q.values low high depth, at)
+
+-- what has changed, as the map answered it
+pub changes_done : (m : Map) (changes : List Change) → IsAnswerOrMemory (changes_answer (marked_of m) (classes_in m)) (Ok changes) → Obeys m m (Ok command.Changes) (Some (reply_of.Changed changes))
+changes_done m changes (inl answer) = λ files q at. (
+  ap changes_reply (answer ∙ same_changed m q at),
+  stands_kept m q (accepted (Some (reply_of.Changed changes)) []) (accepted_none (Some (reply_of.Changed changes)) [] refl) at,
+)
+changes_done m changes (inr memory) = cc
+
+-- what has changed, where the map refused it
+pub changes_refused : {E : Type 0} (r : Result (Option Reply) E) (m : Map) (f : MapFault) → IfOk r (λ a. a ≡ fault_reply f) → IfOk r IsSome →
+    IsAnswerOrMemory (changes_answer (marked_of m) (classes_in m)) (Err f) → HasObeyed m m (Ok command.Changes) r
+changes_refused (Ok a) m f is some (inl answer) = λ files q at. (
+  is ∙ ap changes_reply (answer ∙ same_changed m q at),
+  stands_kept m q (accepted a []) (accepted_none a [] refl) at,
+)
+changes_refused (Ok a) m f is some (inr memory) = absurd (no_reply f a some is cc)
+changes_refused (Err x) m f is some answer = λ files q at. (changes_some q.marked (classes_of q.base.odds q.values), at)
 
 -- the reply to a scan whose quaternion isn't 0
 scan_replied : (m : Map) (q : State) (scan : ScanSoFar) (s : Sighting) (r : Result ScanDone MapFault) → is_zero scan.head ≡ false → s ≡ sighting_so_far scan → StandsFor m q →

@@ -1,28 +1,36 @@
 -- The command of a line, and the reply to it outside the block of a scan.
-use Rattle.std.specs.Prelude.{ℕ, List, [], ◌∷◌, ⊤, Option, Some, None, option_map, is_some, Result, Ok, Err, Bool, true, false, if◌then◌else◌}
+use Rattle.std.specs.Prelude.{ℕ, ℤ, List, [], ◌∷◌, ⊤, Option, Some, None, is_some, Result, Ok, Err, Bool, true, false, if◌then◌else◌}
 use Rattle.oct_io.specs.Files.{Files, saved}
 use Rattle.oct_key.specs.Values.{Values}
 use Rattle.oct_odds.specs.Odds.{Odds}
 use Rattle.oct_odds.specs.Update.{Value, class_of}
 use Rattle.oct_values.specs.Counts.{group_count, node_count}
 use Rattle.oct_cast.specs.declared.outcome.Cast.{Cast as Found}
-use Rattle.oct_map.specs.Answers.{edit_answer, get_answer, box_answer}
+use Rattle.oct_change.specs.declared.kind.Change.{Change}
+use Rattle.oct_map.specs.Answers.{edit_answer, get_answer, box_answer, limit_answer}
 use Rattle.oct_map.specs.Casts.{cast_answer}
+use Rattle.oct_map.specs.Lists.{list_answer}
+use Rattle.oct_map.specs.Marks.{changes_answer}
 use Rattle.oct_map.specs.declared.fault.MapFault.{MapFault}
-use Rattle.oct_map.specs.declared.fault.MapFault.TheVariants as fault
+use Rattle.oct_query.specs.Shown.{Shown}
 use Rattle.oct_script.specs.declared.command.Command.{Command}
 use Rattle.oct_script.specs.declared.command.Command.TheVariants as command
-use Rattle.oct_script.specs.declared.command.Command.TheVariants.{Blank, Edit, Get, Cast, Counts, Refresh, Prune, Clear, Quit, MaxLikelihood, Scan, Beam, End, NotYet, Box}
+use Rattle.oct_script.specs.declared.command.Command.TheVariants.{Blank, Edit, Get, Cast, Counts, Refresh, Prune, Clear, Quit, MaxLikelihood, Scan, Beam, End, Box, Save, Load, Snapshot, Restore}
 use Rattle.oct_script.specs.declared.command.Syntax.{Syntax}
 use Rattle.oct_script.specs.declared.reply.Refusal.{Refusal}
 use Rattle.oct_script.specs.declared.reply.Refusal.TheVariants as refusal
 use Rattle.oct_script.specs.declared.reply.Reply.{Reply}
 use Rattle.oct_script.specs.declared.reply.Reply.TheVariants.{Ok, Known, Unknown, Counted}
 use Rattle.oct_script.specs.declared.reply.Reply.TheVariants.{Casted, Refused}
+use Rattle.oct_script.specs.declared.reply.Reply.TheVariants.{Blocks, Changed}
 use Rattle.oct_script.specs.Commands.{command_of}
 use Rattle.oct_script.specs.Lines.{Line, Text, Long}
 use Rattle.oct_script.specs.Replies.{is_refusal}
+use Rattle.oct_session.specs.FileCommands.{found_in, load_reply, load_action, classes_file, save_reply, restore_reply, restore_action, snapshot_file}
 use Rattle.oct_session.specs.History.{History, State, Edited, Refreshed, Pruned, Cleared, Likened, Boxed}
+use Rattle.oct_session.specs.Refusals.{fault_reply}
+use Rattle.oct_session.specs.History.{Tracked, Untracked, Limited, Unlimited}
+use Rattle.oct_values.specs.Classes.{classes_of}
 
 -- the command that was read on the line of this number, or the refusal where the line isn't in the
 -- grammar
@@ -40,26 +48,6 @@ command_on inside number Long = Err (refusal.LongLine number)
 abbrev pub is_quit : Result Command Refusal → Bool
 is_quit (Ok Quit) = true
 is_quit _ = false
-
--- why the map refuses a call, as a reply says it; out of memory a session ends without one
-abbrev pub refusal_of : MapFault → Option Refusal
-refusal_of (fault.Outside point) = Some (refusal.Outside point)
-refusal_of fault.BadDepth = Some refusal.BadDepth
-refusal_of fault.BadBox = Some refusal.BadBox
-refusal_of (fault.TooManyBlocks count) = Some (refusal.TooManyBlocks count)
-refusal_of fault.Stale = Some refusal.Stale
-refusal_of (fault.Full groups need) = Some (refusal.Full groups need)
-refusal_of fault.OriginOutside = Some refusal.OriginOutside
-refusal_of (fault.PointOutside index) = Some (refusal.PointOutside index)
-refusal_of (fault.TooManyCells index cells) = Some (refusal.TooManyCells index cells)
-refusal_of (fault.OtherResolution file session) = Some (refusal.OtherResolution file session)
-refusal_of (fault.WideWhileTracked count) = Some (refusal.WideWhileTracked count)
-refusal_of fault.NotTracked = Some refusal.NotTracked
-refusal_of fault.Memory = None
-
--- the reply to a call that the map refuses
-abbrev pub fault_reply : MapFault → Option Reply
-fault_reply fault = option_map Refused (refusal_of fault)
 
 -- the reply to an edit of a voxel or a box, by the map's answer
 abbrev pub edit_reply : Result ⊤ MapFault → Option Reply
@@ -81,31 +69,33 @@ abbrev pub cast_reply : Result Found MapFault → Option Reply
 cast_reply (Ok found) = Some (Casted found)
 cast_reply (Err fault) = fault_reply fault
 
+-- the reply to a list of blocks, by the map's answer, where values from a threshold on are occupied
+abbrev pub list_reply : ℤ → Result (List Shown) MapFault → Option Reply
+list_reply threshold (Ok blocks) = Some (Blocks blocks threshold)
+list_reply threshold (Err fault) = fault_reply fault
+
+-- the reply that shows what has changed since the mark, by the map's answer
+abbrev pub changes_reply : Result (List Change) MapFault → Option Reply
+changes_reply (Ok changes) = Some (Changed changes)
+changes_reply (Err fault) = fault_reply fault
+
 -- the reply that shows how many groups and nodes these values need
 abbrev pub counts_reply : Values → Reply
 counts_reply values = Counted (record { groups = group_count values; nodes = node_count values })
 
--- the reply to a line's command over these files and in a state, outside the block of a scan, by the
--- map's answers in that state; a blank line has none, and neither has `quit`, nor a line of a scan,
--- whose block has one reply in all
+-- the reply to a line's command over these files and in a state, outside the block of a scan, by
+-- the map's answers in that state; a blank line has none, and neither has `quit`, nor a line of a
+-- scan, whose block has one reply in all
 abbrev pub reply : Option Files → State → Result Command Refusal → Option Reply
 reply files s (Err refusal) = Some (Refused refusal)
-reply files s (Ok NotYet) = Some (Refused refusal.NotYet)
-reply files s (Ok (command.Save name)) = Some (Refused refusal.NotYet)
-reply files s (Ok (command.Load name)) = Some (Refused refusal.NotYet)
-reply files s (Ok (command.Snapshot name)) = Some (Refused refusal.NotYet)
-reply files s (Ok (command.Restore name)) = Some (Refused refusal.NotYet)
-reply files s (Ok command.Track) = Some (Refused refusal.NotYet)
-reply files s (Ok command.Untrack) = Some (Refused refusal.NotYet)
-reply files s (Ok command.Changes) = Some (Refused refusal.NotYet)
-reply files s (Ok command.NoLimit) = Some (Refused refusal.NotYet)
 reply files s (Ok Blank) = None
 reply files s (Ok Quit) = None
 reply files s (Ok (Scan head)) = None
 reply files s (Ok (Beam p)) = None
 reply files s (Ok End) = None
 reply files s (Ok (Edit p edit lazy)) = edit_reply (edit_answer s.base s.values p)
-reply files s (Ok (Box low high edit)) = edit_reply (box_answer s.base (is_some s.marked) s.values low high)
+reply files s (Ok (Box low high edit)) =
+    edit_reply (box_answer s.base (is_some s.marked) s.values low high)
 reply files s (Ok (Get p depth)) =
     get_reply s.base.odds (get_answer s.base s.is_stale s.values p depth)
 reply files s (Ok (Cast origin end ignore)) =
@@ -115,6 +105,18 @@ reply files s (Ok Refresh) = Some Ok
 reply files s (Ok Prune) = Some Ok
 reply files s (Ok Clear) = Some Ok
 reply files s (Ok MaxLikelihood) = Some Ok
+reply files s (Ok (Save name)) = save_reply (classes_file s)
+reply files s (Ok (Load name)) = load_reply s.base (found_in files name)
+reply files s (Ok (Snapshot name)) = save_reply (snapshot_file s)
+reply files s (Ok (Restore name)) = restore_reply s.base (found_in files name)
+reply files s (Ok (command.List low high depth)) =
+    list_reply s.base.odds.thr (list_answer s.base s.is_stale s.values low high depth)
+reply files s (Ok command.Track) = Some Ok
+reply files s (Ok command.Untrack) = Some Ok
+reply files s (Ok command.Changes) =
+    changes_reply (changes_answer s.marked (classes_of s.base.odds s.values))
+reply files s (Ok (command.Limit low high)) = edit_reply (limit_answer s.base low high)
+reply files s (Ok command.NoLimit) = Some Ok
 
 -- what a command does, if it does anything that later replies or the map may depend on; to count is
 -- to prune first
@@ -126,6 +128,12 @@ action_of files s (Ok Counts) = Pruned ∷ []
 action_of files s (Ok Prune) = Pruned ∷ []
 action_of files s (Ok Clear) = Cleared ∷ []
 action_of files s (Ok MaxLikelihood) = Likened ∷ []
+action_of files s (Ok (Load name)) = load_action (found_in files name)
+action_of files s (Ok (Restore name)) = restore_action s.base (found_in files name)
+action_of files s (Ok command.Track) = Tracked ∷ []
+action_of files s (Ok command.Untrack) = Untracked ∷ []
+action_of files s (Ok (command.Limit low high)) = Limited low high ∷ []
+action_of files s (Ok command.NoLimit) = Unlimited ∷ []
 action_of files s _ = []
 
 -- what is done where the reply isn't a refusal
@@ -139,10 +147,16 @@ pub record Saving : Type 0 where
 
 -- what a command saves, if it saves anything
 abbrev pub saving_of : State → Result Command Refusal → Option Saving
+saving_of s (Ok (Save name)) = Some (record { name = name; bytes = classes_file s })
+saving_of s (Ok (Snapshot name)) = Some (record { name = name; bytes = snapshot_file s })
 saving_of s _ = None
 
 -- the file that a command names, if it names one; of any other command the files hear nothing
 abbrev pub file_named : Result Command Refusal → Option (List ℕ)
+file_named (Ok (Save name)) = Some name
+file_named (Ok (Load name)) = Some name
+file_named (Ok (Snapshot name)) = Some name
+file_named (Ok (Restore name)) = Some name
 file_named _ = None
 
 -- what is saved where the reply isn't a refusal

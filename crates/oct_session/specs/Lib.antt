@@ -1,10 +1,15 @@
 pub mod Stops
 pub mod Setup
 pub mod History
+pub mod Refusals
+pub mod FileCommands
 pub mod ScanSoFar
 pub mod Commands
 pub mod ScanBlock
+pub mod Tally
 pub mod Session
 pub mod Ending
 pub mod Leaving
 pub mod Standing
+pub mod Building
+pub mod Drill

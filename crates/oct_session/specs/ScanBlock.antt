@@ -6,7 +6,7 @@ use Rattle.oct_map.specs.declared.fault.MapFault.{MapFault}
 use Rattle.oct_map.specs.declared.done.ScanDone as map_done
 use Rattle.oct_key.specs.declared.point.Point.{Point}
 use Rattle.oct_script.specs.declared.command.Command.{Command}
-use Rattle.oct_script.specs.declared.command.Command.TheVariants.{Scan, Beam, End, NotYet}
+use Rattle.oct_script.specs.declared.command.Command.TheVariants.{Scan, Beam, End}
 use Rattle.oct_script.specs.declared.command.ScanHead.{ScanHead}
 use Rattle.oct_script.specs.declared.reply.Refusal.{Refusal}
 use Rattle.oct_script.specs.declared.reply.Refusal.TheVariants as refusal
@@ -15,7 +15,7 @@ use Rattle.oct_script.specs.declared.reply.Reply.TheVariants as reply_of
 use Rattle.oct_script.specs.Commands.{opens_scan}
 use Rattle.oct_script.specs.Lines.{Line, Text, Long}
 use Rattle.oct_session.specs.declared.block.TheConstants.{MOST_POINTS}
-use Rattle.oct_session.specs.Commands.{fault_reply}
+use Rattle.oct_session.specs.Refusals.{fault_reply}
 use Rattle.oct_session.specs.History.{History, State, Scanned}
 use Rattle.oct_session.specs.ScanSoFar.{ScanSoFar, begun, sighting_so_far}
 use Rattle.oct_session.specs.declared.block.Block.{Block}
@@ -45,7 +45,6 @@ with_point number p scan =
 abbrev pub with_line : ℕ → Result Command Refusal → Block → Block
 with_line number command (Spoilt first) = Spoilt first
 with_line number (Err refusal) (Scanning scan) = Spoilt refusal
-with_line number (Ok NotYet) (Scanning scan) = Spoilt refusal.NotYet
 with_line number (Ok (Beam p)) (Scanning scan) = with_point number p scan
 with_line number (Ok _) (Scanning scan) = Scanning scan
 

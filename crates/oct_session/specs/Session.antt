@@ -10,8 +10,10 @@ use Rattle.oct_session.specs.Commands.{command_on, is_quit, reply, action_of, ac
 use Rattle.oct_session.specs.History.{History, State, state_after}
 use Rattle.oct_session.specs.ScanBlock.{opened, with_line, is_end, block_reply, block_action, end_reply}
 use Rattle.oct_session.specs.Setup.{Setup}
+use Rattle.oct_session.specs.Tally.{counted, no_replies}
 use Rattle.oct_session.specs.declared.block.Block.{Block}
 use Rattle.oct_session.specs.declared.options.Status.{Status}
+use Rattle.oct_session.specs.declared.tally.Tally.{Tally}
 use Rattle.oct_session.specs.declared.options.Status.TheVariants as status
 
 -- what a line does: its reply, what it adds to the history, what it saves, and the block that is open
@@ -60,8 +62,8 @@ effect files s number line command None =
 effect files s number line command (Some block) = effect_inside s number command block
 
 -- between two lines: the history, the files, where they are told, whether a line named one, how many
--- lines there were, the block that is open, whether a reply was a refusal and a line was `quit`, and
--- the replies
+-- lines there were, the block that is open, whether a reply was a refusal and a line was `quit`, what
+-- the replies come to, and the replies
 pub record Progress : Type 0 where
   pub history : History
   pub files : Option Files
@@ -70,6 +72,7 @@ pub record Progress : Type 0 where
   pub block : Option Block
   pub refused : Bool
   pub has_quit : Bool
+  pub tally : Tally
   pub text : List ℕ
 
 -- before the first line: no command, so each voxel is unknown
@@ -82,6 +85,7 @@ start files = record {
   block = None;
   refused = false;
   has_quit = false;
+  tally = no_replies;
   text = [];
 }
 
@@ -104,6 +108,7 @@ answered o p line = record {
   block = (effect_of o p line).block;
   refused = p.refused || is_refusal (effect_of o p line).reply;
   has_quit = is_quit (next_command p line);
+  tally = counted p.tally (effect_of o p line).reply;
   text = p.text ++ text_of (effect_of o p line).reply;
 }
 
@@ -125,6 +130,7 @@ ended p = record {
   block = None;
   refused = p.refused || is_refusal (end_reply p.block);
   has_quit = p.has_quit;
+  tally = counted p.tally (end_reply p.block);
   text = p.text ++ text_of (end_reply p.block);
 }
 

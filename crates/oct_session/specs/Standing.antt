@@ -115,6 +115,7 @@ pub record IsInStep (session : Session) (p : Progress) : Type 0 where
   pub block : session.block ≡ p.block
   pub refused : session.refused ≡ p.refused
   pub has_quit : session.has_quit ≡ p.has_quit
+  pub tally : session.tally ≡ p.tally
 
 -- desk and session stand there
 pub record IsBetween (o : Setup) (d : Desk) (session : Session) (p : Progress) : Type 0 where

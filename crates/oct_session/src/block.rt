@@ -1,17 +1,17 @@
 //! The block of a scan that is being read.
-ghost use Rattle.std.specs.Prelude.{◌≡◌, All, IfOk, IfSome, Ok, is_err, pos, ◌≤ℤ◌, ◌<ℤ◌, ◌^◌};
+ghost use Rattle.std.specs.Prelude.{◌≡◌, option_map, All, IfOk, IfSome, Ok, is_err, pos, ◌≤ℤ◌, ◌<ℤ◌, ◌^◌};
 ghost use Rattle.oct_pose.specs.Reach.{IsInReach};
 ghost use Rattle.oct_scan.specs.Beam.{IsTrust, sighting_of};
-ghost use Rattle.oct_script.specs.Commands.{IsRange, IsSmallCommand};
+ghost use Rattle.oct_script.specs.Commands.{IsOwnOdds, IsRange, IsSmallCommand};
 ghost use Rattle.oct_script.specs.Lines.{Line};
-ghost use Rattle.oct_session.specs.ScanSoFar.{begun, sighting_so_far};
+ghost use Rattle.oct_session.specs.ScanSoFar.{begun, sighting_so_far, trust_of};
 ghost use Rattle.oct_session.specs.ScanBlock.{opens_block, opened, with_point, with_line, is_zero, end_refusal};
 
 use oct_key::{Point, PointList};
 use oct_num::Memory;
 use oct_pose::{Pose, ZeroQuaternion};
-use oct_scan::Scan;
-use oct_script::{Command, Lines, Refusal, ScanHead, opens_scan};
+use oct_scan::{Scan, ScanOdds};
+use oct_script::{self as script, Command, Lines, Refusal, ScanHead, opens_scan};
 use std::alloc::Global;
 use std::marker::Model;
 
@@ -46,10 +46,25 @@ pub enum Block {
     Spoilt(Refusal),
 }
 
+/// The log-odds of a head, as a scan has them.
+fn trust_of(own: Option<script::ScanOdds>) -> Option<ScanOdds>
+    requires { IfSome own IsOwnOdds }
+    ensures exact { result ≡ option_map trust_of own }
+    ensures trusted { IfSome result IsTrust }
+{
+    match own {
+        None => None,
+        Some(own) => Some(ScanOdds {
+            hit: own.hit,
+            miss: own.miss,
+        }),
+    }
+}
+
 impl PendingScan {
     /// A scan of which the head was read.
     fn new(alloc: Global, line: u64, head: ScanHead) -> Self
-        requires { IsInReach head.t × IsRange head.range }
+        requires { IsInReach head.t × IsRange head.range × IfSome head.odds IsOwnOdds }
         ensures { result ≡ begun line head }
     {
         PendingScan {
@@ -86,7 +101,6 @@ impl PendingScan {
     {
         match command {
             Command::Beam(p) => self.with_point(number, p),
-            Command::NotYet => Ok(Block::Spoilt(Refusal::NotYet)),
             _ => Ok(Block::Scanning(self)),
         }
     }
@@ -117,7 +131,7 @@ impl PendingScan {
             pose,
             points: self.points,
             range: head.range,
-            odds: None,
+            odds: trust_of(head.odds),
         })
     }
 }

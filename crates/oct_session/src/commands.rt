@@ -1,11 +1,12 @@
 //! What commands do to the map, and what they answer.
-ghost use Rattle.std.specs.Prelude.{◌≡◌, OnErr, IfOk, Option, Some, IsSome, Ok};
+ghost use Rattle.std.specs.Prelude.{◌≡◌, OnErr, IfOk, Option, Some, None, IsSome, Ok};
 ghost use Rattle.oct_odds.specs.Odds.{odds_of};
 ghost use Rattle.oct_odds.specs.Update.{IsSmallEvent};
 ghost use Rattle.oct_map.specs.declared.fault.MapFault.{MapFault};
 ghost use Rattle.oct_script.specs.Commands.{IsSmallEdit, IsSmallCommand};
 ghost use Rattle.oct_session.specs.History.{edit_event};
-ghost use Rattle.oct_session.specs.Commands.{refusal_of, fault_reply, value_reply};
+ghost use Rattle.oct_session.specs.Commands.{file_named, value_reply};
+ghost use Rattle.oct_session.specs.Refusals.{refusal_of, fault_reply};
 ghost use Rattle.oct_session.specs.Standing.{HasObeyed, HasScanned};
 
 use crate::block::{Block, PendingScan};
@@ -58,6 +59,10 @@ fn refusal_of(fault: MapFault) -> Result<Refusal, Memory>
         MapFault::OriginOutside => Ok(Refusal::OriginOutside),
         MapFault::PointOutside { index } => Ok(Refusal::PointOutside { index }),
         MapFault::TooManyCells { index, cells } => Ok(Refusal::TooManyCells { index, cells }),
+        MapFault::BadMagic => Ok(Refusal::BadMagic),
+        MapFault::Truncated { at } => Ok(Refusal::Truncated { at }),
+        MapFault::TrailingBytes { at } => Ok(Refusal::TrailingBytes { at }),
+        MapFault::BadSnapshot { at } => Ok(Refusal::BadSnapshot { at }),
         MapFault::OtherResolution { file, session } => {
             Ok(Refusal::OtherResolution { file, session })
         }
@@ -68,7 +73,7 @@ fn refusal_of(fault: MapFault) -> Result<Refusal, Memory>
 }
 
 /// The reply to a call that the map refuses, unless memory ran out.
-fn refuse(fault: MapFault) -> Result<Option<Reply>, Memory>
+pub fn refuse(fault: MapFault) -> Result<Option<Reply>, Memory>
     ensures ok { IfOk result (λ reply. reply ≡ fault_reply fault) }
     ensures some { IfOk result IsSome }
     ensures err { OnErr result (fault ≡ MapFault.Memory) }
@@ -126,19 +131,115 @@ fn cast(
     }
 }
 
-/// Does what a command says, and answers its reply.
-fn obey(map: &mut OccMap, command: Command) -> Result<Option<Reply>, Memory>
-    requires { IsSmallCommand command }
+/// Asks for the known blocks of a depth in a box, and answers them.
+fn list(map: &OccMap, low: Point, high: Point, depth: u32) -> Result<Option<Reply>, Memory>
+    ensures { HasObeyed map.now map.now (Ok (Command.List low high depth)) result }
+{
+    match map.list(low, high, depth) {
+        Ok(blocks) => Ok(Some(Reply::Blocks {
+            blocks,
+            threshold: map.tree().odds().thr,
+        })),
+        Err(fault) => refuse(fault),
+    }
+}
+
+/// Asks what has changed since the mark, and answers it.
+fn changes(map: &OccMap) -> Result<Option<Reply>, Memory>
+    ensures { HasObeyed map.now map.now (Ok Command.Changes) result }
+{
+    match map.changes() {
+        Ok(changes) => Ok(Some(Reply::Changed(changes))),
+        Err(fault) => refuse(fault),
+    }
+}
+
+/// Limits scans to a box, and answers it.
+fn limit(map: &mut OccMap, low: Point, high: Point) -> Result<Option<Reply>, Memory>
+    ensures { HasObeyed map.old map.new (Ok (Command.Limit low high)) result }
+{
+    match map.limit(low, high) {
+        Ok(()) => Ok(Some(Reply::Ok)),
+        Err(fault) => refuse(fault),
+    }
+}
+
+/// Counts the groups and nodes that the values need, and answers it.
+fn count(map: &mut OccMap) -> Result<Option<Reply>, Memory>
+    ensures { HasObeyed map.old map.new (Ok Command.Counts) result }
+{
+    let counts = map.counts();
+    Ok(Some(Reply::Counted(counts)))
+}
+
+/// Makes inner values right again, and answers it.
+fn refresh(map: &mut OccMap) -> Result<Option<Reply>, Memory>
+    ensures { HasObeyed map.old map.new (Ok Command.Refresh) result }
+{
+    map.refresh();
+    Ok(Some(Reply::Ok))
+}
+
+/// Gives back the groups that the values don't need, and answers it.
+fn prune(map: &mut OccMap) -> Result<Option<Reply>, Memory>
+    ensures { HasObeyed map.old map.new (Ok Command.Prune) result }
+{
+    map.prune();
+    Ok(Some(Reply::Ok))
+}
+
+/// Makes each voxel unknown, and answers it.
+fn clear(map: &mut OccMap) -> Result<Option<Reply>, Memory>
+    ensures { HasObeyed map.old map.new (Ok Command.Clear) result }
+{
+    map.clear();
+    Ok(Some(Reply::Ok))
+}
+
+/// Makes each known voxel as sure as it can be, and answers it.
+fn max_likelihood(map: &mut OccMap) -> Result<Option<Reply>, Memory>
+    ensures { HasObeyed map.old map.new (Ok Command.MaxLikelihood) result }
+{
+    map.max_likelihood();
+    Ok(Some(Reply::Ok))
+}
+
+/// Sets the mark, and answers it.
+fn track(map: &mut OccMap) -> Result<Option<Reply>, Memory>
+    ensures { HasObeyed map.old map.new (Ok Command.Track) result }
+{
+    map.track();
+    Ok(Some(Reply::Ok))
+}
+
+/// Takes the mark away, and answers it.
+fn untrack(map: &mut OccMap) -> Result<Option<Reply>, Memory>
+    ensures { HasObeyed map.old map.new (Ok Command.Untrack) result }
+{
+    map.untrack();
+    Ok(Some(Reply::Ok))
+}
+
+/// Ends the limit of scans, and answers it.
+fn no_limit(map: &mut OccMap) -> Result<Option<Reply>, Memory>
+    ensures { HasObeyed map.old map.new (Ok Command.NoLimit) result }
+{
+    map.no_limit();
+    Ok(Some(Reply::Ok))
+}
+
+/// Does what a command says that names no file, and answers its reply. Without memory nothing was
+/// done.
+pub fn obey(map: &mut OccMap, command: Command) -> Result<Option<Reply>, Memory>
+    requires small { IsSmallCommand command }
+    requires unnamed { file_named (Ok command) ≡ None }
     ensures { HasObeyed map.old map.new (Ok command) result }
 {
     match command {
         Command::Blank | Command::Quit => Ok(None),
         Command::Scan(_) | Command::Beam(_) | Command::End => Ok(None),
-        Command::NotYet => Ok(Some(Reply::Refused(Refusal::NotYet))),
-        Command::Save(_) | Command::Load(_) => Ok(Some(Reply::Refused(Refusal::NotYet))),
-        Command::Snapshot(_) | Command::Restore(_) => Ok(Some(Reply::Refused(Refusal::NotYet))),
-        Command::Track | Command::Untrack => Ok(Some(Reply::Refused(Refusal::NotYet))),
-        Command::Changes | Command::NoLimit => Ok(Some(Reply::Refused(Refusal::NotYet))),
+        Command::Save(_) | Command::Load(_) => unreachable!(),
+        Command::Snapshot(_) | Command::Restore(_) => unreachable!(),
         Command::Edit { p, e, lazy } => edit(map, p, e, lazy),
         Command::Box { low, high, e } => edit_box(map, low, high, e),
         Command::Get { p, depth } => query(map, p, depth),
@@ -147,37 +248,17 @@ fn obey(map: &mut OccMap, command: Command) -> Result<Option<Reply>, Memory>
             end,
             ignore_unknown,
         } => cast(map, origin, end, ignore_unknown),
-        Command::Counts => {
-            let counts = map.counts();
-            Ok(Some(Reply::Counted(counts)))
-        }
-        Command::Refresh => {
-            map.refresh();
-            Ok(Some(Reply::Ok))
-        }
-        Command::Prune => {
-            map.prune();
-            Ok(Some(Reply::Ok))
-        }
-        Command::Clear => {
-            map.clear();
-            Ok(Some(Reply::Ok))
-        }
-        Command::MaxLikelihood => {
-            map.max_likelihood();
-            Ok(Some(Reply::Ok))
-        }
-    }
-}
-
-/// Does what a line outside a block says, and answers its reply. Without memory nothing was done.
-pub fn execute(map: &mut OccMap, command: Result<Command, Refusal>) -> Result<Option<Reply>, Memory>
-    requires { IfOk command IsSmallCommand }
-    ensures { HasObeyed map.old map.new command result }
-{
-    match command {
-        Ok(command) => obey(map, command),
-        Err(refusal) => Ok(Some(Reply::Refused(refusal))),
+        Command::Counts => count(map),
+        Command::Refresh => refresh(map),
+        Command::Prune => prune(map),
+        Command::Clear => clear(map),
+        Command::MaxLikelihood => max_likelihood(map),
+        Command::List { low, high, depth } => list(map, low, high, depth),
+        Command::Track => track(map),
+        Command::Untrack => untrack(map),
+        Command::Changes => changes(map),
+        Command::Limit { low, high } => limit(map, low, high),
+        Command::NoLimit => no_limit(map),
     }
 }
 

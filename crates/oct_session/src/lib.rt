@@ -12,30 +12,36 @@
 //! - **Replies.** `specs/Session.antt` defines a session as a function of the whole byte string:
 //!   its lines up to a `quit` or to the end, each line outside a scan block, and each block as a
 //!   whole, answered from the plain fold over each single voxel's history (`specs/History.antt`,
-//!   and [`values_are_folds`], which says that no voxel reads another one).
-//!   No tree is in that definition: a query shows the largest known value among the voxels of its
-//!   block, an edit or a scan is full by what the values need, and lazy edits, lazy scans and
-//!   prunes can't be told from a reply, but for the one refusal of a stale map.
+//!   and [`values_are_folds`], which says that no voxel reads another one). No tree is in that
+//!   definition: a query shows the largest known value among the voxels of its block, an edit or a
+//!   scan is full by what the values need, and lazy edits, lazy scans and prunes can't be told
+//!   from a reply, but for the one refusal of a stale map.
 //! - **Scans.** The lines of a scan are a block with one reply, after its `end` or at the end of
-//!   the script (`specs/ScanBlock.antt`). The first faulty line among its head and the lines inside
-//!   is what it is refused for; a scan is done whole or not at all.
+//!   the script (`specs/ScanBlock.antt`). The first faulty line among its head and the lines
+//!   inside is what it is refused for; a scan is done whole or not at all.
+//! - **Files.** `save` puts the canonical file of the voxels' classes under a name of the store,
+//!   and `load` makes the map that of the classes of the file that stands there, or is refused for
+//!   the first thing that is wrong with it (`specs/FileCommands.antt`). So do `snapshot` and `restore`
+//!   with the voxels' values, the log-odds and the update box; from a restore on, the session goes by
+//!   the log-odds of its snapshot.
 //! - **Endings.** Where source and sink tell their bytes, as those in memory do, and the store its
-//!   files or no line names one, `specs/Ending.antt` says for each status what is written and what is
-//!   left of the input.
-//!   Stopped by a fault or out of memory, what was written is a prefix of the answer; on a read
-//!   fault it is exactly the replies to the lines that end within the bytes taken.
+//!   files or no line names one, `specs/Ending.antt` says for each status what is written and what
+//!   is left of the input. Stopped by a fault or out of memory, what was written is a prefix of
+//!   the answer; on a read fault it is exactly the replies to the lines that end within the bytes
+//!   taken.
 //! - **Counts.** A count of faults rises by one exactly where the status names its fault, and that
 //!   of a sink's shortages of memory by one at most, where the status is out of memory. So no read
 //!   that failed is tried again, and nothing is read after `quit` or after a fault: such a read
 //!   might fail, too.
-//! - **Map and files.** Under the same premise, whatever the status, the lent map then stands for a
-//!   history, and the files are those after the same lines (`Leaves` of `specs/Leaving.antt`) (`StandsFor` of `specs/Leaving.antt`): each voxel has its value after it, the map is
-//!   stale where a lazy edit or scan stands after the last refresh, and pruned where none stands
-//!   after the last prune. It is the history of all lines that count, on a read fault of those that
-//!   end within the bytes taken, and on a write fault of every line whose reply was written whole
-//!   and of the one whose reply wasn't, or of all lines where the fault came at the end. Out of
-//!   memory it is the same, or without that last line where nothing of its reply was written.
-//!   Without the premise it stands for some history all the same.
+//! - **Map and files.** Under the same premise, whatever the status, the lent map then stands for
+//!   a history, and the files are those after the same lines (`StandsFor` and `Leaves` of
+//!   `specs/Leaving.antt`): each voxel has its value after it, the map is stale where a lazy edit
+//!   or scan stands after the last refresh, and pruned where none stands after the last prune. It
+//!   is the history of all lines that count, on a read fault of those that end within the bytes
+//!   taken, and on a write fault of every line whose reply was written whole and of the one whose
+//!   reply wasn't, or of all lines where the fault came at the end. Out of memory it is the same,
+//!   or without that last line where nothing of its reply was written. Without the premise it
+//!   stands for some history all the same.
 //!
 //! # How it works
 //!
@@ -43,9 +49,11 @@
 //! line to `oct_script` and writes the reply's text by `write_all`. `lines` says what a line does,
 //! inside a block and outside; `block` keeps the head and the points of the scan that is being
 //! read, or its first fault; `commands` does each command and each scan on the map, and makes the
-//! map's answer a reply. `options` holds what a session is set up with and how a run ends. A
-//! reply's text stands in place of the last one, so that it allocates only where it is longer than
-//! all before it.
+//! map's answer a reply; `files` does the commands that name a file, on map and store. `options`
+//! holds what a session is set up with and how a run ends. A reply's text stands in place of the
+//! last one, so that it allocates only where it is longer than all before it.
+//! `building` writes the file of a script's map in place of the replies, and `drilling` four lines
+//! about the session over a script that `oct_gen` makes; `tally` has what its replies come to.
 //!
 //! # Who stands on it
 //!
@@ -56,13 +64,19 @@
 #![tactic(auto)]
 
 mod block;
+mod building;
 mod commands;
+mod drilling;
+mod files;
 mod laws;
 mod lines;
 mod options;
 mod service;
 mod session;
+mod tally;
 
+pub use building::build;
+pub use drilling::{drill, status_written};
 pub use laws::{groups_stay_within, values_are_folds};
 pub use options::{MOST_BYTES, Options, Status};
 pub use service::serve;

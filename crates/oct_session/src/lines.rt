@@ -1,14 +1,15 @@
 //! What a line does: its reply, and the block that is open after it.
-ghost use Rattle.std.specs.Prelude.{◌≡◌, IfOk, IsErrOf, None, OnOk, Some};
+ghost use Rattle.std.specs.Prelude.{◌≡◌, IfOk, IsErrOf, None, Ok, OnOk, Some};
 ghost use Rattle.oct_io.specs.Told.{Rose};
 ghost use Rattle.oct_script.specs.Commands.{IsSmallCommand};
 ghost use Rattle.oct_session.specs.Commands.{command_on, file_named};
 ghost use Rattle.oct_session.specs.ScanBlock.{is_end};
-ghost use Rattle.oct_session.specs.Session.{effect_opened, effect_inside, effect};
+ghost use Rattle.oct_session.specs.Session.{effect_of_command, effect_opened, effect_inside, effect};
 ghost use Rattle.oct_session.specs.Standing.{HasEffect, HasWorked, KeepsStanding};
 
 use crate::block::{Block, opened};
-use crate::commands::{execute, finish};
+use crate::commands::{finish, obey};
+use crate::files::{load, restore, save, snapshot};
 use oct_io::{Store, StoreFault};
 use oct_map::OccMap;
 use oct_num::Memory;
@@ -40,21 +41,76 @@ fn is_end(command: Result<Command, Refusal>) -> bool
     matches!(command, Ok(Command::End))
 }
 
-/// What a line outside a block does, by the block that it opens.
-fn outside<F: Store>(
+/// Does what a command outside a block says, and answers its reply.
+fn perform<F: Store>(
+    alloc: Global,
     map: &mut OccMap,
     store: &mut F,
-    command: Result<Command, Refusal>,
+    command: &Command,
+) -> Result<Option<Reply>, StoreFault>
+    requires { IsSmallCommand command.now }
+    ensures effect { HasEffect (λ files s. effect_of_command files s (Ok command.now))
+        (file_named (Ok command.now)) map.old (F.files store.old) map.new (F.files store.new)
+        None result }
+    ensures stands { KeepsStanding map.old map.new }
+    ensures unnamed { file_named (Ok command.now) ≡ None → store.new ≡ store.old }
+    ensures stays { OnOk result (F.faults store.new ≡ F.faults store.old) }
+    ensures memory { IsErrOf result StoreFault.Memory → F.faults store.new ≡ F.faults store.old }
+    ensures failed { IsErrOf result StoreFault.Failed
+        → Rose (F.faults store.old) (F.faults store.new) }
+{
+    match command {
+        Command::Save(name) => save(alloc, map, store, name),
+        Command::Load(name) => load(alloc, map, store, name),
+        Command::Snapshot(name) => snapshot(alloc, map, store, name),
+        Command::Restore(name) => restore(alloc, map, store, name),
+        _ => {
+            let reply = obey(map, *command)?;
+            Ok(reply)
+        }
+    }
+}
+
+/// Does what a line outside a block says that opens none, and answers its reply.
+fn execute<F: Store>(
+    alloc: Global,
+    map: &mut OccMap,
+    store: &mut F,
+    command: &Result<Command, Refusal>,
+) -> Result<Option<Reply>, StoreFault>
+    requires { IfOk command.now IsSmallCommand }
+    ensures effect { HasEffect (λ files s. effect_of_command files s command.now)
+        (file_named command.now) map.old (F.files store.old) map.new (F.files store.new)
+        None result }
+    ensures stands { KeepsStanding map.old map.new }
+    ensures unnamed { file_named command.now ≡ None → store.new ≡ store.old }
+    ensures stays { OnOk result (F.faults store.new ≡ F.faults store.old) }
+    ensures memory { IsErrOf result StoreFault.Memory → F.faults store.new ≡ F.faults store.old }
+    ensures failed { IsErrOf result StoreFault.Failed
+        → Rose (F.faults store.old) (F.faults store.new) }
+{
+    match command {
+        Ok(command) => perform(alloc, map, store, command),
+        Err(refusal) => Ok(Some(Reply::Refused(*refusal))),
+    }
+}
+
+/// What a line outside a block does, by the block that it opens.
+fn outside<F: Store>(
+    alloc: Global,
+    map: &mut OccMap,
+    store: &mut F,
+    command: &Result<Command, Refusal>,
     opened: Option<Block>,
     block: &mut Option<Block>,
 ) -> Result<Option<Reply>, StoreFault>
-    requires small { IfOk command IsSmallCommand }
+    requires small { IfOk command.now IsSmallCommand }
     requires closed { block.old ≡ None }
-    ensures effect { HasEffect (λ files s. effect_opened files s command opened)
-        (file_named command) map.old (F.files store.old) map.new (F.files store.new)
+    ensures effect { HasEffect (λ files s. effect_opened files s command.now opened)
+        (file_named command.now) map.old (F.files store.old) map.new (F.files store.new)
         block.new result }
     ensures stands { KeepsStanding map.old map.new }
-    ensures unnamed { file_named command ≡ None → store.new ≡ store.old }
+    ensures unnamed { file_named command.now ≡ None → store.new ≡ store.old }
     ensures stays { OnOk result (F.faults store.new ≡ F.faults store.old) }
     ensures memory { IsErrOf result StoreFault.Memory → F.faults store.new ≡ F.faults store.old }
     ensures failed { IsErrOf result StoreFault.Failed
@@ -64,8 +120,7 @@ fn outside<F: Store>(
         *block = opened;
         return Ok(None);
     }
-    let reply = execute(map, command)?;
-    Ok(reply)
+    execute(alloc, map, store, command)
 }
 
 /// What a line inside a block does.
@@ -116,5 +171,5 @@ pub fn take_line<F: Store>(
         return Ok(reply);
     }
     let opened = opened(alloc, line, number, *command);
-    outside(map, store, *command, opened, block)
+    outside(alloc, map, store, command, opened, block)
 }

@@ -183,7 +183,7 @@ fn turn<S: Source, K: Sink, F: Store>(
 }
 
 /// Reads the script to its end or to `quit`, and answers what a read gave before the next one.
-fn read_all<S: Source, K: Sink, F: Store>(
+pub(crate) fn read_all<S: Source, K: Sink, F: Store>(
     options: &Options,
     map: &mut OccMap,
     store: &mut F,
@@ -326,7 +326,7 @@ pub fn serve<S: Source, K: Sink, F: Store>(
 }
 
 /// The status of a session that has read its script to the end.
-fn done_or_refused(refused: bool) -> Status
+pub(crate) fn done_or_refused(refused: bool) -> Status
     ensures { result ≡ status_at_end refused }
 {
     if refused {

@@ -8,6 +8,7 @@ ghost use Rattle.oct_session.specs.Setup.{Setup};
 ghost use Rattle.oct_session.specs.Commands.{is_quit};
 ghost use Rattle.oct_session.specs.ScanBlock.{end_reply};
 ghost use Rattle.oct_session.specs.Session.{Progress, effect_of, after_line, progress, closed};
+ghost use Rattle.oct_session.specs.Tally.{no_replies};
 ghost use Rattle.oct_session.specs.Leaving.{desk, IsKnown, IsCutBetween, IsHaltedBy, IsHalted};
 ghost use Rattle.oct_session.specs.Stops.{IsHalt, IsSinkStop, status_of};
 ghost use Rattle.oct_session.specs.Standing.{KeepsStanding, HasStoppedAt, IsInStep, IsBetween, HasReached, IsAt, Takes, Halts, StopsAtEnd};
@@ -15,6 +16,7 @@ ghost use Rattle.oct_session.specs.Standing.{KeepsStanding, HasStoppedAt, IsInSt
 use crate::block::Block;
 use crate::lines::{command_in, take_line};
 use crate::options::{Options, Stop};
+use crate::tally::Tally;
 use oct_io::{Sink, Store, StoreFault, write_all};
 use oct_map::OccMap;
 use oct_num::Memory;
@@ -34,6 +36,8 @@ pub struct Session {
     pub line_count: u64,
     /// Whether a reply was a refusal.
     pub refused: bool,
+    /// What the replies come to.
+    pub tally: Tally,
     /// Whether the last of them was `quit`.
     pub has_quit: bool,
     /// The text of the last reply.
@@ -83,6 +87,7 @@ impl Session {
         ensures block { result.block ≡ None }
         ensures counted { result.line_count ≡ 0 }
         ensures refused { result.refused ≡ false }
+        ensures tally { result.tally ≡ no_replies }
         ensures running { result.has_quit ≡ false }
     {
         Session {
@@ -91,6 +96,7 @@ impl Session {
             block: None,
             line_count: 0,
             refused: false,
+            tally: Tally::new(),
             has_quit: false,
             text: Vec::new(alloc),
         }
@@ -136,6 +142,7 @@ impl Session {
         let reply = take_line(self.alloc, map, store, &self.line, number, &command, block)?;
         tell(&mut self.text, &reply)?;
         self.refused |= is_refused(&reply);
+        self.tally.count(&reply);
         self.has_quit = has_quit;
         self.line_count = number;
         self.line.next();
@@ -363,6 +370,7 @@ impl Session {
         tell(&mut self.text, &reply)?;
         write_all(sink, &self.text)?;
         self.refused |= is_refused(&reply);
+        self.tally.count(&reply);
         Ok(())
     }
 

@@ -10,6 +10,8 @@ use oct_odds::OddsModel;
 use oct_query::Counts;
 use std::test::Fail;
 
+mod files;
+
 /// A point of voxel 0.
 const ORIGIN: Point = Point { x: 0, y: 0, z: 0 };
 

@@ -9,7 +9,7 @@ returns-in-Ok-clause-answer g c =
     (desk c.read_all.new.map (g.F.Store.files c.read_all.new.store) (c.read_all.new.store ≡ c.args.store.now)) _
     (serve_read c.args.options.now (g.F.Store.files c.args.store.now) _ _ _ _ c.args.map.now (λ home. c.args.store.now ≡ home)
     (λ home. desk c.read_all.new.map (g.F.Store.files c.read_all.new.store) (c.read_all.new.store ≡ home))
-    c.args.store.now _ _ _ refl (begins c.requires c.new-session.ensures.line c.new-session.ensures.counted c.new-session.ensures.block c.new-session.ensures.refused c.new-session.ensures.running)
+    c.args.store.now _ _ _ refl (begins c.requires c.new-session.ensures.line c.new-session.ensures.counted c.new-session.ensures.block c.new-session.ensures.refused c.new-session.ensures.running c.new-session.ensures.tally)
     c.done_or_refused.ensures c.in-Ok.ensures.done)
 
 pub returns-clause-answer : goal.returns-clause-answer
@@ -18,7 +18,7 @@ returns-clause-answer g c =
     (desk c.read_all.new.map (g.F.Store.files c.read_all.new.store) (c.read_all.new.store ≡ c.args.store.now)) _
     (serve_stop c.args.options.now (g.F.Store.files c.args.store.now) _ _ _ _ c.args.map.now (λ home. c.args.store.now ≡ home)
     (λ home. desk c.read_all.new.map (g.F.Store.files c.read_all.new.store) (c.read_all.new.store ≡ home))
-    c.args.store.now _ _ _ refl (begins c.requires c.new-session.ensures.line c.new-session.ensures.counted c.new-session.ensures.block c.new-session.ensures.refused c.new-session.ensures.running)
+    c.args.store.now _ _ _ refl (begins c.requires c.new-session.ensures.line c.new-session.ensures.counted c.new-session.ensures.block c.new-session.ensures.refused c.new-session.ensures.running c.new-session.ensures.tally)
     c.from.ensures c.in-Err.ensures.stops)
 
 pub returns-in-Ok-clause-leaves : goal.returns-in-Ok-clause-leaves
@@ -27,7 +27,7 @@ returns-in-Ok-clause-leaves g c =
     (desk c.read_all.new.map (g.F.Store.files c.read_all.new.store) (c.read_all.new.store ≡ c.args.store.now)) _
     (serve_read c.args.options.now (g.F.Store.files c.args.store.now) _ _ _ _ c.args.map.now (λ home. c.args.store.now ≡ home)
     (λ home. desk c.read_all.new.map (g.F.Store.files c.read_all.new.store) (c.read_all.new.store ≡ home))
-    c.args.store.now _ _ _ refl (begins c.requires c.new-session.ensures.line c.new-session.ensures.counted c.new-session.ensures.block c.new-session.ensures.refused c.new-session.ensures.running)
+    c.args.store.now _ _ _ refl (begins c.requires c.new-session.ensures.line c.new-session.ensures.counted c.new-session.ensures.block c.new-session.ensures.refused c.new-session.ensures.running c.new-session.ensures.tally)
     c.done_or_refused.ensures c.in-Ok.ensures.done)
 
 pub returns-clause-leaves : goal.returns-clause-leaves
@@ -36,7 +36,7 @@ returns-clause-leaves g c =
     (desk c.read_all.new.map (g.F.Store.files c.read_all.new.store) (c.read_all.new.store ≡ c.args.store.now)) _
     (serve_stop c.args.options.now (g.F.Store.files c.args.store.now) _ _ _ _ c.args.map.now (λ home. c.args.store.now ≡ home)
     (λ home. desk c.read_all.new.map (g.F.Store.files c.read_all.new.store) (c.read_all.new.store ≡ home))
-    c.args.store.now _ _ _ refl (begins c.requires c.new-session.ensures.line c.new-session.ensures.counted c.new-session.ensures.block c.new-session.ensures.refused c.new-session.ensures.running)
+    c.args.store.now _ _ _ refl (begins c.requires c.new-session.ensures.line c.new-session.ensures.counted c.new-session.ensures.block c.new-session.ensures.refused c.new-session.ensures.running c.new-session.ensures.tally)
     c.from.ensures c.in-Err.ensures.stops)
 
 pub returns-in-Ok-clause-files : goal.returns-in-Ok-clause-files
@@ -45,7 +45,7 @@ returns-in-Ok-clause-files g c =
     (desk c.read_all.new.map (g.F.Store.files c.read_all.new.store) (c.read_all.new.store ≡ c.args.store.now)) _
     (serve_read c.args.options.now (g.F.Store.files c.args.store.now) _ _ _ _ c.args.map.now (λ home. c.args.store.now ≡ home)
     (λ home. desk c.read_all.new.map (g.F.Store.files c.read_all.new.store) (c.read_all.new.store ≡ home))
-    c.args.store.now _ _ _ refl (begins c.requires c.new-session.ensures.line c.new-session.ensures.counted c.new-session.ensures.block c.new-session.ensures.refused c.new-session.ensures.running)
+    c.args.store.now _ _ _ refl (begins c.requires c.new-session.ensures.line c.new-session.ensures.counted c.new-session.ensures.block c.new-session.ensures.refused c.new-session.ensures.running c.new-session.ensures.tally)
     c.done_or_refused.ensures c.in-Ok.ensures.done)
 
 pub returns-clause-files : goal.returns-clause-files
@@ -54,7 +54,7 @@ returns-clause-files g c =
     (desk c.read_all.new.map (g.F.Store.files c.read_all.new.store) (c.read_all.new.store ≡ c.args.store.now)) _
     (serve_stop c.args.options.now (g.F.Store.files c.args.store.now) _ _ _ _ c.args.map.now (λ home. c.args.store.now ≡ home)
     (λ home. desk c.read_all.new.map (g.F.Store.files c.read_all.new.store) (c.read_all.new.store ≡ home))
-    c.args.store.now _ _ _ refl (begins c.requires c.new-session.ensures.line c.new-session.ensures.counted c.new-session.ensures.block c.new-session.ensures.refused c.new-session.ensures.running)
+    c.args.store.now _ _ _ refl (begins c.requires c.new-session.ensures.line c.new-session.ensures.counted c.new-session.ensures.block c.new-session.ensures.refused c.new-session.ensures.running c.new-session.ensures.tally)
     c.from.ensures c.in-Err.ensures.stops)
 
 pub returns-in-Ok-clause-unnamed : goal.returns-in-Ok-clause-unnamed
@@ -63,7 +63,7 @@ returns-in-Ok-clause-unnamed g c =
     (desk c.read_all.new.map (g.F.Store.files c.read_all.new.store) (c.read_all.new.store ≡ c.args.store.now)) _
     (serve_read c.args.options.now (g.F.Store.files c.args.store.now) _ _ _ _ c.args.map.now (λ home. c.args.store.now ≡ home)
     (λ home. desk c.read_all.new.map (g.F.Store.files c.read_all.new.store) (c.read_all.new.store ≡ home))
-    c.args.store.now _ _ _ refl (begins c.requires c.new-session.ensures.line c.new-session.ensures.counted c.new-session.ensures.block c.new-session.ensures.refused c.new-session.ensures.running)
+    c.args.store.now _ _ _ refl (begins c.requires c.new-session.ensures.line c.new-session.ensures.counted c.new-session.ensures.block c.new-session.ensures.refused c.new-session.ensures.running c.new-session.ensures.tally)
     c.done_or_refused.ensures c.in-Ok.ensures.done)
 
 pub returns-clause-unnamed : goal.returns-clause-unnamed
@@ -72,7 +72,7 @@ returns-clause-unnamed g c =
     (desk c.read_all.new.map (g.F.Store.files c.read_all.new.store) (c.read_all.new.store ≡ c.args.store.now)) _
     (serve_stop c.args.options.now (g.F.Store.files c.args.store.now) _ _ _ _ c.args.map.now (λ home. c.args.store.now ≡ home)
     (λ home. desk c.read_all.new.map (g.F.Store.files c.read_all.new.store) (c.read_all.new.store ≡ home))
-    c.args.store.now _ _ _ refl (begins c.requires c.new-session.ensures.line c.new-session.ensures.counted c.new-session.ensures.block c.new-session.ensures.refused c.new-session.ensures.running)
+    c.args.store.now _ _ _ refl (begins c.requires c.new-session.ensures.line c.new-session.ensures.counted c.new-session.ensures.block c.new-session.ensures.refused c.new-session.ensures.running c.new-session.ensures.tally)
     c.from.ensures c.in-Err.ensures.stops)
 
 pub returns-in-Ok-clause-stands : goal.returns-in-Ok-clause-stands

@@ -16,7 +16,7 @@ returns-clause-between g c = λ home p known at.
     between_line c.args.options.now (desk c.args.map.now (g.F.Store.files c.args.store.now) (c.args.store.now ≡ home)) (desk c.take_line.new.map (g.F.Store.files c.take_line.new.store) (c.take_line.new.store ≡ home))
     c.args.self.now _ p c.command_in-command.result c.take_line.new.block c.in_ok-reply.reply
     (record { running = c.requires.running; read = c.command_in-command.ensures.exact ∙ ap (λ b. command_on b (c.args.self.now.line_count + 1) c.args.self.now.line.line) c.is_some.ensures; took = c.in_ok-reply.ensures.effect }) (λ none kept. c.take_line.ensures.unnamed none ∙ kept)
-    refl refl (ap (λ b. c.args.self.now.refused || b) c.is_refused.ensures) c.is_quit-has_quit.ensures known at
+    refl refl (ap (λ b. c.args.self.now.refused || b) c.is_refused.ensures) c.is_quit-has_quit.ensures c.count.ensures known at
 
 pub returns-in_err-reply-clause-err : goal.returns-in_err-reply-clause-err
 returns-in_err-reply-clause-err g c =

@@ -16,4 +16,4 @@ pub returns-clause-ok : goal.returns-clause-ok
 returns-clause-ok g c = λ w p at before.
     told_end w _ _ c.args.self.now _ p c.end_reply-reply.result c.deref.result.now c.requires.running at before
     (c.end_reply-reply.ensures ∙ ap end_reply c.take.ensures.value) (c.deref.ensures.value ∙ c.in_ok-tell.ensures.ok) c.in_ok-write_all.ensures.ok
-    refl c.take.ensures.after (ap (λ b. c.args.self.now.refused || b) c.is_refused.ensures) refl
+    refl c.take.ensures.after (ap (λ b. c.args.self.now.refused || b) c.is_refused.ensures) refl c.count.ensures

@@ -1,0 +1,18 @@
+use Rattle.std.proofs.Common.{rules, to_z, of_z, ap, ◌∙◌}
+use Rattle.std.proofs.lemmas.Int.{to_z-of_z}
+use mir.Val.{SFits}
+use mir.Syntax.{w32}
+use Rattle.oct_odds.specs.Odds.{Odds}
+use Rattle.oct_tree.specs.Tree.{Tree}
+use Rattle.oct_session.proofs.Replying.{list_done, list_refused}
+use Rattle.oct_session.proofs.commands.list.Goals as goal
+
+pub returns-in-Ok : goal.returns-in-Ok
+returns-in-Ok c =
+    let fits : SFits w32 c.odds.result.thr = search rules in
+    list_done c.args.map.now c.args.low c.args.high c.args.depth c.in-Ok.blocks (to_z w32 (of_z w32 c.odds.result.thr))
+    (to_z-of_z w32 c.odds.result.thr fits ∙ ap (λ (o : Odds). o.thr) (c.odds.ensures ∙ ap (λ (t : Tree). t.odds) c.tree.ensures.exact)) c.in-Ok.ensures.answer
+
+pub returns-in-Err : goal.returns-in-Err
+returns-in-Err c =
+    list_refused c.refuse.result c.args.map.now c.args.low c.args.high c.args.depth c.in-Err.fault c.refuse.ensures.ok c.refuse.ensures.some c.in-Err.ensures.answer

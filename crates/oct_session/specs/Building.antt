@@ -1,0 +1,91 @@
+-- A build: the file of the map that a script leaves, in place of its replies.
+use Rattle.std.specs.Prelude.{◌≡◌, ◌⊎◌, ℕ, List, [], Option, None, Bool, true, false}
+use Rattle.oct_bt.specs.Mixtures.{IsCutOff}
+use Rattle.oct_io.specs.Files.{Files}
+use Rattle.oct_io.specs.Told.{appended}
+use Rattle.oct_session.specs.Ending as script
+use Rattle.oct_session.specs.Ending.{IsAnswered, IsReadToEnd}
+use Rattle.oct_session.specs.FileCommands.{classes_file}
+use Rattle.oct_session.specs.History.{State, state_after}
+use Rattle.oct_session.specs.Leaving as lent
+use Rattle.oct_session.specs.Leaving.{Desk, IsLikeAfter}
+use Rattle.oct_session.specs.Session.{Answer, last_progress, session}
+use Rattle.oct_session.specs.Setup.{Setup}
+use Rattle.oct_session.specs.declared.options.Status.{Status}
+use Rattle.oct_session.specs.declared.options.Status.TheVariants.{Done, Refused, Usage, BadFile, TooLong, ReadFault, WriteFault, Memory, StoreFault}
+
+-- the state after the last line of a script
+abbrev pub last_state : Setup → Option Files → List ℕ → State
+last_state o files bytes = state_after o (last_progress o files bytes).history
+
+-- what a build writes, by the status of its script: this file, or nothing where it is too long
+abbrev pub text_built : List ℕ → Status → List ℕ
+text_built file TooLong = []
+text_built file _ = file
+
+-- the answer of a build: that of the session over its script, with the file of the last state in
+-- place of the replies
+unfoldable pub build : Setup → Option Files → List ℕ → Answer
+build o files bytes = record {
+  text = text_built (classes_file (last_state o files bytes)) (session o files bytes).status;
+  files = (session o files bytes).files;
+  status = (session o files bytes).status;
+}
+
+-- whether a script has ended with this status, so that its map is written
+abbrev pub has_ended : Status → Bool
+has_ended Done = true
+has_ended Refused = true
+has_ended _ = false
+
+-- how the writing of a text may end behind a script that ended with a status: with that status where
+-- all of it was written
+abbrev pub EndsWriting : List ℕ → Option (List ℕ) → Option (List ℕ) → Status → Status → Type 0
+EndsWriting text old new ended WriteFault = IsCutOff old new text
+EndsWriting text old new ended Memory = IsCutOff old new text
+EndsWriting text old new ended status = (status ≡ ended) × (new ≡ appended old text)
+
+-- the script was read to its end, and a part of the text was written, and not all of it
+pub record IsHaltedBehind (o : Setup) (files : Option Files) (bytes : List ℕ)
+    (left old new : Option (List ℕ)) : Type 0 where
+  pub begun : IsCutOff old new (build o files bytes).text
+  pub end : IsReadToEnd o files bytes left
+
+-- the script hasn't ended: nothing was written, and it was stopped as a session is that tells no one
+-- what it replies
+pub record IsStopped (o : Setup) (files : Option Files) (bytes : List ℕ)
+    (left old new : Option (List ℕ)) (status : Status) : Type 0 where
+  pub unwritten : new ≡ old
+  pub stopped : script.MayEnd o files bytes left None None status
+
+-- how a build over these bytes may end, status by status: what is left of the input, and what was
+-- written
+abbrev pub MayEnd : Setup → Option Files → List ℕ → Option (List ℕ) → Option (List ℕ)
+    → Option (List ℕ) → Status → Type 0
+MayEnd o files bytes left old new Done =
+    IsAnswered (build o files bytes) old new Done × IsReadToEnd o files bytes left
+MayEnd o files bytes left old new Refused =
+    IsAnswered (build o files bytes) old new Refused × IsReadToEnd o files bytes left
+MayEnd o files bytes left old new Usage = ⊥
+MayEnd o files bytes left old new BadFile = ⊥
+MayEnd o files bytes left old new TooLong =
+    IsAnswered (build o files bytes) old new TooLong × IsStopped o files bytes left old new TooLong
+MayEnd o files bytes left old new ReadFault = IsStopped o files bytes left old new ReadFault
+MayEnd o files bytes left old new WriteFault = IsHaltedBehind o files bytes left old new
+MayEnd o files bytes left old new Memory =
+    IsStopped o files bytes left old new Memory ⊎ IsHaltedBehind o files bytes left old new
+MayEnd o files bytes left old new StoreFault = IsStopped o files bytes left old new StoreFault
+
+-- what a build over these bytes and files leaves of map and files: the same as the session, and all
+-- of it where the script has ended
+abbrev pub Leaves : Setup → Option Files → List ℕ → Option (List ℕ) → Desk → Status → Type 0
+Leaves o files bytes left d Done = IsLikeAfter o (last_progress o files bytes) d
+Leaves o files bytes left d Refused = IsLikeAfter o (last_progress o files bytes) d
+Leaves o files bytes left d Usage = ⊥
+Leaves o files bytes left d BadFile = ⊥
+Leaves o files bytes left d TooLong = lent.Leaves o files bytes left None None d TooLong
+Leaves o files bytes left d ReadFault = lent.Leaves o files bytes left None None d ReadFault
+Leaves o files bytes left d WriteFault = IsLikeAfter o (last_progress o files bytes) d
+Leaves o files bytes left d Memory = lent.Leaves o files bytes left None None d Memory
+    ⊎ IsLikeAfter o (last_progress o files bytes) d
+Leaves o files bytes left d StoreFault = lent.Leaves o files bytes left None None d StoreFault

@@ -1,0 +1,81 @@
+-- A drill: a session over a script that a number makes, and four lines about it.
+use Rattle.std.specs.Prelude.{ℕ, ◌^◌, ◌++◌, List, codes, decimal, length, nat_lt, Option, Some, Result, Ok, Err, ⊤}
+use Rattle.oct_bt.specs.Mixtures.{IsCutOff}
+use Rattle.oct_gen.specs.Script.{script_of}
+use Rattle.oct_io.specs.Files.{Files, no_files}
+use Rattle.oct_io.specs.declared.sink.SinkFault.{SinkFault}
+use Rattle.oct_io.specs.declared.sink.SinkFault.TheVariants as sink
+use Rattle.oct_odds.specs.Odds.{default_odds}
+use Rattle.oct_values.specs.Counts.{group_count, node_count}
+use Rattle.oct_session.specs.Ending.{IsAnswered}
+use Rattle.oct_session.specs.FileCommands.{classes_file}
+use Rattle.oct_session.specs.History.{State, state_after}
+use Rattle.oct_session.specs.Session.{Answer, Progress, closed, last_progress, status_at_end}
+use Rattle.oct_session.specs.Setup.{Setup}
+use Rattle.oct_session.specs.declared.options.Status.{Status}
+use Rattle.oct_session.specs.declared.options.Status.TheVariants.{Done, Refused, Usage, BadFile, TooLong, ReadFault, WriteFault, Memory, StoreFault}
+use Rattle.oct_session.specs.declared.tally.Tally.{Tally}
+
+-- what a drill is set up with: voxels of 0.05 m, and the default of each option
+abbrev pub drill_setup : Setup
+drill_setup = record {
+  res = 50000000;
+  odds = default_odds;
+  max_groups = 2 ^ 24;
+  max_cells = 2 ^ 26;
+  max_bytes = 2 ^ 40;
+}
+
+-- after the session over the script of these numbers, with no files
+unfoldable pub drilled : ℕ → ℕ → ℕ → Progress
+drilled seed scans points =
+    closed (last_progress drill_setup (Some no_files) (script_of seed scans points))
+
+-- the state that it leaves
+abbrev pub drilled_state : ℕ → ℕ → ℕ → State
+drilled_state seed scans points = state_after drill_setup (drilled seed scans points).history
+
+-- a line of two words, each with its number
+abbrev pub line_of_two : List ℕ → ℕ → List ℕ → ℕ → List ℕ
+line_of_two word n other m = word ++ decimal n ++ other ++ decimal m ++ codes "\n"
+
+-- four lines: how many scans there were and how many were refused, the sums of hits and frees over
+-- those that were done, the groups and nodes of the map, and the length of its file
+unfoldable pub summary : ℕ → Tally → ℕ → ℕ → ℕ → List ℕ
+summary scans tally groups nodes bytes =
+    line_of_two (codes "scans ") scans (codes " refused ") tally.refused
+    ++ line_of_two (codes "hits ") tally.hits (codes " frees ") tally.frees
+    ++ line_of_two (codes "groups ") groups (codes " nodes ") nodes
+    ++ (codes "bt " ++ decimal bytes ++ codes "\n")
+
+-- the lines about a state and what the replies on the way to it come to
+abbrev pub summary_of : ℕ → Tally → State → List ℕ
+summary_of scans tally s =
+    summary scans tally (group_count s.values) (node_count s.values) (length (classes_file s))
+
+-- the answer of a drill, which changes no files
+abbrev pub drill : Option Files → ℕ → ℕ → ℕ → Answer
+drill files seed scans points = record {
+  text = summary_of scans (drilled seed scans points).tally (drilled_state seed scans points);
+  files = files;
+  status = status_at_end (nat_lt 0 (drilled seed scans points).tally.refused);
+}
+
+-- how a task that reads nothing may end, by what it writes: the whole text, or a part of it where the
+-- sink fails or memory runs out
+abbrev pub EndsUnread : Answer → Option (List ℕ) → Option (List ℕ) → Status → Type 0
+EndsUnread whole old new Done = IsAnswered whole old new Done
+EndsUnread whole old new Refused = IsAnswered whole old new Refused
+EndsUnread whole old new Usage = ⊥
+EndsUnread whole old new BadFile = ⊥
+EndsUnread whole old new TooLong = ⊥
+EndsUnread whole old new ReadFault = ⊥
+EndsUnread whole old new WriteFault = IsCutOff old new whole.text
+EndsUnread whole old new Memory = IsCutOff old new whole.text
+EndsUnread whole old new StoreFault = ⊥
+
+-- the status of a task whose text was written, or else that of the sink's fault
+abbrev pub status_written : Status → Result ⊤ SinkFault → Status
+status_written whole (Ok done) = whole
+status_written whole (Err sink.Failed) = WriteFault
+status_written whole (Err sink.Memory) = Memory

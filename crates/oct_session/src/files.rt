@@ -1,0 +1,244 @@
+//! What a command does that names a file: a save or a snapshot to the store, or a load or a restore
+//! from it.
+ghost use Rattle.std.specs.Prelude.{◌≡◌, ◌⊎◌, IfOk, IsErrOf, None, Ok, OnErr, OnOk, Option, Some, Err};
+ghost use Rattle.oct_io.specs.Told.{Rose};
+ghost use Rattle.oct_bt.specs.declared.fault.BtFault.{BtFault};
+ghost use Rattle.oct_bt.specs.File.{bt_text, reading};
+ghost use Rattle.oct_bt.specs.Mixtures.{classes_in};
+ghost use Rattle.oct_map.specs.Map.{values_of};
+ghost use Rattle.oct_snap.specs.Reading.{read_snapshot};
+ghost use Rattle.oct_snap.specs.Texts.{snap_text};
+ghost use Rattle.oct_script.specs.declared.command.Command.{Command};
+ghost use Rattle.oct_session.specs.Commands.{file_named};
+ghost use Rattle.oct_session.specs.FileCommands.{load_action, load_reply, reading_action, reading_reply};
+ghost use Rattle.oct_session.specs.FileCommands.{restore_action, restore_reply, snapshot_action, snapshot_reply};
+ghost use Rattle.oct_session.specs.Refusals.{file_refusal, word_of};
+ghost use Rattle.oct_session.specs.Session.{effect_of_command};
+ghost use Rattle.oct_session.specs.Standing.{HasDone, HasEffect, KeepsStanding};
+
+use crate::commands::refuse;
+use oct_bt::{BtFault, BtFile, Reader, write};
+use oct_io::{CalmSink, Loaded, Store, StoreFault};
+use oct_map::OccMap;
+use oct_num::Memory;
+use oct_script::{HeaderWord, Name, Refusal, Reply};
+use oct_snap as snap;
+use std::alloc::Global;
+
+/// The most bytes of a file that are written at once.
+const MOST_WRITTEN: usize = 1 << 16;
+
+/// The file of the map's classes, written to memory.
+fn write_classes(alloc: Global, map: &OccMap) -> Result<CalmSink, Memory>
+    ensures { IfOk result (λ sink. sink.written
+        ≡ bt_text map.now.tree.res (classes_in map.now.tree)) }
+{
+    let mut sink = CalmSink::new(alloc, MOST_WRITTEN);
+    if write(map.tree(), &mut sink).is_err() {
+        return Err(Memory);
+    }
+    Ok(sink)
+}
+
+/// Puts the file of the map's classes under a name of the store, and answers its length.
+pub fn save<F: Store>(
+    alloc: Global,
+    map: &OccMap,
+    store: &mut F,
+    name: &Name,
+) -> Result<Option<Reply>, StoreFault>
+    ensures effect { HasEffect (λ files s. effect_of_command files s (Ok (Command.Save name.now)))
+        (file_named (Ok (Command.Save name.now))) map.now (F.files store.old) map.now
+        (F.files store.new) None result }
+    ensures stays { OnOk result (F.faults store.new ≡ F.faults store.old) }
+    ensures memory { IsErrOf result StoreFault.Memory → F.faults store.new ≡ F.faults store.old }
+    ensures failed { IsErrOf result StoreFault.Failed
+        → Rose (F.faults store.old) (F.faults store.new) }
+{
+    let file = write_classes(alloc, map)?;
+    let bytes = file.written();
+    store.save(name.as_str(), bytes)?;
+    Ok(Some(Reply::Saved(bytes.len() as u64)))
+}
+
+/// A word of a file's header, as a reply names it.
+fn word_of(word: oct_bt::HeaderWord) -> HeaderWord
+    ensures { result ≡ word_of word }
+{
+    match word {
+        oct_bt::HeaderWord::Id => HeaderWord::Id,
+        oct_bt::HeaderWord::Res => HeaderWord::Res,
+        oct_bt::HeaderWord::Size => HeaderWord::Size,
+        oct_bt::HeaderWord::Data => HeaderWord::Data,
+    }
+}
+
+/// What a reply says is wrong with a file, unless memory ran out.
+fn file_refusal(fault: BtFault) -> Result<Refusal, Memory>
+    ensures ok { IfOk result (λ refusal. file_refusal fault ≡ Some refusal) }
+    ensures err { OnErr result (fault ≡ BtFault.Memory) }
+{
+    match fault {
+        BtFault::NotOctomap => Ok(Refusal::NotOctomap),
+        BtFault::FloatTree => Ok(Refusal::FloatTree),
+        BtFault::WrongId => Ok(Refusal::WrongId),
+        BtFault::MissingField { word } => Ok(Refusal::MissingField {
+            word: word_of(word),
+        }),
+        BtFault::BadField { word } => Ok(Refusal::BadField {
+            word: word_of(word),
+        }),
+        BtFault::HeaderTooLong => Ok(Refusal::HeaderTooLong),
+        BtFault::TooDeep { at } => Ok(Refusal::TooDeep { at }),
+        BtFault::Truncated { at } => Ok(Refusal::Truncated { at }),
+        BtFault::TrailingBytes { at } => Ok(Refusal::TrailingBytes { at }),
+        BtFault::SizeMismatch { said, found } => Ok(Refusal::SizeMismatch { said, found }),
+        BtFault::Memory => Err(Memory),
+    }
+}
+
+/// The file of classes that these bytes are, or what is wrong with them.
+fn read(alloc: Global, bytes: &[u8]) -> Result<BtFile, BtFault>
+    ensures { (result ≡ reading bytes.now) ⊎ (result ≡ Err BtFault.Memory) }
+{
+    let mut reader = Reader::new(alloc);
+    reader.feed(bytes)?;
+    reader.finish()
+}
+
+/// Puts the classes of a file in place of the map, and answers its number of nodes.
+fn replace(map: &mut OccMap, file: &BtFile) -> Result<Option<Reply>, Memory>
+    ensures { HasDone (λ s. reading_reply s.base (Ok file.now))
+        (λ s. reading_action (Ok file.now)) map.old map.new result }
+{
+    match map.load(file) {
+        Ok(()) => Ok(Some(Reply::Loaded(file.nodes()))),
+        Err(fault) => refuse(fault),
+    }
+}
+
+/// Loads the file of these bytes, and answers it.
+fn load_bytes(alloc: Global, map: &mut OccMap, bytes: &[u8]) -> Result<Option<Reply>, Memory>
+    ensures { HasDone (λ s. reading_reply s.base (reading bytes.now))
+        (λ s. reading_action (reading bytes.now)) map.old map.new result }
+{
+    match read(alloc, bytes) {
+        Ok(file) => replace(map, &file),
+        Err(fault) => {
+            let refusal = file_refusal(fault)?;
+            Ok(Some(Reply::Refused(refusal)))
+        }
+    }
+}
+
+/// Loads what a store has under a name, and answers it.
+fn take_in(alloc: Global, map: &mut OccMap, loaded: Loaded) -> Result<Option<Reply>, Memory>
+    ensures { HasDone (λ s. load_reply s.base (Some loaded)) (λ s. load_action (Some loaded))
+        map.old map.new result }
+{
+    match loaded {
+        Loaded::Bytes(bytes) => load_bytes(alloc, map, bytes.as_slice()),
+        Loaded::Missing => Ok(Some(Reply::Refused(Refusal::NoFile))),
+        Loaded::TooLarge => Ok(Some(Reply::Refused(Refusal::FileTooLarge))),
+    }
+}
+
+/// Loads the file of this name of the store, and answers it.
+pub fn load<F: Store>(
+    alloc: Global,
+    map: &mut OccMap,
+    store: &mut F,
+    name: &Name,
+) -> Result<Option<Reply>, StoreFault>
+    ensures effect { HasEffect (λ files s. effect_of_command files s (Ok (Command.Load name.now)))
+        (file_named (Ok (Command.Load name.now))) map.old (F.files store.old) map.new
+        (F.files store.new) None result }
+    ensures stands { KeepsStanding map.old map.new }
+    ensures stays { OnOk result (F.faults store.new ≡ F.faults store.old) }
+    ensures memory { IsErrOf result StoreFault.Memory → F.faults store.new ≡ F.faults store.old }
+    ensures failed { IsErrOf result StoreFault.Failed
+        → Rose (F.faults store.old) (F.faults store.new) }
+{
+    let loaded = store.load(alloc, name.as_str())?;
+    let reply = take_in(alloc, map, loaded)?;
+    Ok(reply)
+}
+
+/// The snapshot of the map, written to memory.
+fn write_snapshot(alloc: Global, map: &OccMap) -> Result<CalmSink, Memory>
+    ensures { IfOk result (λ sink. sink.written ≡ snap_text map.now.tree.res map.now.tree.odds
+        map.now.update_box (values_of map.now)) }
+{
+    let mut sink = CalmSink::new(alloc, MOST_WRITTEN);
+    if snap::write(map.tree(), map.window(), &mut sink).is_err() {
+        return Err(Memory);
+    }
+    Ok(sink)
+}
+
+/// Puts the snapshot of the map under a name of the store, and answers its length.
+pub fn snapshot<F: Store>(
+    alloc: Global,
+    map: &OccMap,
+    store: &mut F,
+    name: &Name,
+) -> Result<Option<Reply>, StoreFault>
+    ensures effect { HasEffect
+        (λ files s. effect_of_command files s (Ok (Command.Snapshot name.now)))
+        (file_named (Ok (Command.Snapshot name.now))) map.now (F.files store.old) map.now
+        (F.files store.new) None result }
+    ensures stays { OnOk result (F.faults store.new ≡ F.faults store.old) }
+    ensures memory { IsErrOf result StoreFault.Memory → F.faults store.new ≡ F.faults store.old }
+    ensures failed { IsErrOf result StoreFault.Failed
+        → Rose (F.faults store.old) (F.faults store.new) }
+{
+    let file = write_snapshot(alloc, map)?;
+    let text = file.written();
+    store.save(name.as_str(), text)?;
+    Ok(Some(Reply::Saved(text.len() as u64)))
+}
+
+/// Makes the map that of the snapshot of these bytes, and answers it.
+fn restore_bytes(map: &mut OccMap, bytes: &[u8]) -> Result<Option<Reply>, Memory>
+    ensures { HasDone (λ s. snapshot_reply s.base (read_snapshot s.base.odds bytes.now))
+        (λ s. snapshot_action (read_snapshot s.base.odds bytes.now)) map.old map.new result }
+{
+    match map.restore(bytes) {
+        Ok(groups) => Ok(Some(Reply::Restored(groups))),
+        Err(fault) => refuse(fault),
+    }
+}
+
+/// Restores what a store has under a name, and answers it.
+fn take_back(map: &mut OccMap, loaded: Loaded) -> Result<Option<Reply>, Memory>
+    ensures { HasDone (λ s. restore_reply s.base (Some loaded))
+        (λ s. restore_action s.base (Some loaded)) map.old map.new result }
+{
+    match loaded {
+        Loaded::Bytes(bytes) => restore_bytes(map, bytes.as_slice()),
+        Loaded::Missing => Ok(Some(Reply::Refused(Refusal::NoFile))),
+        Loaded::TooLarge => Ok(Some(Reply::Refused(Refusal::FileTooLarge))),
+    }
+}
+
+/// Restores the snapshot of this name of the store, and answers it.
+pub fn restore<F: Store>(
+    alloc: Global,
+    map: &mut OccMap,
+    store: &mut F,
+    name: &Name,
+) -> Result<Option<Reply>, StoreFault>
+    ensures effect { HasEffect
+        (λ files s. effect_of_command files s (Ok (Command.Restore name.now)))
+        (file_named (Ok (Command.Restore name.now))) map.old (F.files store.old) map.new
+        (F.files store.new) None result }
+    ensures stands { KeepsStanding map.old map.new }
+    ensures stays { OnOk result (F.faults store.new ≡ F.faults store.old) }
+    ensures memory { IsErrOf result StoreFault.Memory → F.faults store.new ≡ F.faults store.old }
+    ensures failed { IsErrOf result StoreFault.Failed
+        → Rose (F.faults store.old) (F.faults store.new) }
+{
+    let loaded = store.load(alloc, name.as_str())?;
+    let reply = take_back(map, loaded)?;
+    Ok(reply)
+}
