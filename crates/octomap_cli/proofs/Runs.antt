@@ -2,6 +2,8 @@
 use Rattle.std.proofs.Common.{◌≡◌, ℕ, List, Option, Some, None, IfSome, false, sym, subst}
 use Rattle.oct_io.specs.Files.{Files}
 use Rattle.oct_map.specs.Map.{Map}
+use Rattle.oct_session.specs.Building as building
+use Rattle.oct_session.specs.Building.{build}
 use Rattle.oct_session.specs.Ending as session_ending
 use Rattle.oct_session.specs.Ending.{IsWhole}
 use Rattle.oct_session.specs.Leaving as session_leaving
@@ -10,8 +12,8 @@ use Rattle.oct_session.specs.Session as session_reading
 use Rattle.oct_session.specs.Session.{session, last_progress}
 use Rattle.oct_session.specs.Setup.{Setup}
 use Rattle.oct_session.specs.declared.options.Status.{Status}
-use Rattle.octomap_cli.specs.Ending.{MayEnd, Leaves, ReadsTold, NamesNone, answer}
-use Rattle.octomap_cli.specs.Task.{Task, Session}
+use Rattle.octomap_cli.specs.Ending.{MayEnd, EndsAlone, Leaves, ReadsTold, NamesNone, answer}
+use Rattle.octomap_cli.specs.Task.{Task, Session, Build}
 
 -- a run whose task is a session ends as the session does
 pub run_session : (task : Option Task) (o : Setup) (files : Option Files) (left after v u : Option (List ℕ)) (s : Status) → task ≡ Some (Session o) →
@@ -42,6 +44,35 @@ pub run_unnamed : (task : Option Task) (o : Setup) (files : Option Files) (left 
     IfSome left (λ bytes. (last_progress o files bytes).names_file ≡ false → kept) → IfSome left (λ bytes. NamesNone task files bytes → kept)
 run_unnamed task o files left kept is keeps = subst (λ t. IfSome left (λ bytes. NamesNone t files bytes → kept)) (sym is) keeps
 
+-- a run whose task is a build ends as the build does
+pub run_build : (task : Option Task) (o : Setup) (files : Option Files) (left after v u : Option (List ℕ)) (s : Status) → task ≡ Some (Build o) →
+    IfSome left (λ bytes. session_reading.ReadsTold o files bytes → building.MayEnd o files bytes after v u s) → IfSome left (λ bytes. ReadsTold task files bytes → MayEnd task files bytes after v u s)
+run_build task o files left after v u s is ends = subst (λ t. IfSome left (λ bytes. ReadsTold t files bytes → MayEnd t files bytes after v u s)) (sym is) ends
+
+left_build : (o : Setup) (files : Option Files) (left after v u : Option (List ℕ)) (m : Map) (told : Option Files) (kept : Type 0) (s : Status) →
+    IfSome left (λ bytes. session_reading.ReadsTold o files bytes → building.Leaves o files bytes after (desk m told kept) s) →
+    IfSome left (λ bytes. ReadsTold (Some (Build o)) files bytes → Leaves (Some (Build o)) files bytes after v u told kept s)
+left_build o files None after v u m told kept s leaves = tt
+left_build o files (Some bytes) after v u m told kept s leaves = λ reads. (m, leaves reads)
+
+-- and leaves what it leaves
+pub run_build_leaves : (task : Option Task) (o : Setup) (files : Option Files) (left after v u : Option (List ℕ)) (m : Map) (told : Option Files) (kept : Type 0) (s : Status) → task ≡ Some (Build o) →
+    IfSome left (λ bytes. session_reading.ReadsTold o files bytes → building.Leaves o files bytes after (desk m told kept) s) →
+    IfSome left (λ bytes. ReadsTold task files bytes → Leaves task files bytes after v u told kept s)
+run_build_leaves task o files left after v u m told kept s is leaves =
+    subst (λ t. IfSome left (λ bytes. ReadsTold t files bytes → Leaves t files bytes after v u told kept s)) (sym is) (left_build o files left after v u m told kept s leaves)
+
+-- its files are those of the build
+pub run_build_files : (task : Option Task) (o : Setup) (files told : Option Files) (left : Option (List ℕ)) (s : Status) → task ≡ Some (Build o) →
+    IfSome left (λ bytes. session_reading.ReadsTold o files bytes → IsWhole s → told ≡ (build o files bytes).files) →
+    IfSome left (λ bytes. ReadsTold task files bytes → IsWhole s → told ≡ (answer task files bytes).files)
+run_build_files task o files told left s is ends = subst (λ t. IfSome left (λ bytes. ReadsTold t files bytes → IsWhole s → told ≡ (answer t files bytes).files)) (sym is) ends
+
+-- and it leaves the store where the build does
+pub run_build_unnamed : (task : Option Task) (o : Setup) (files : Option Files) (left : Option (List ℕ)) (kept : Type 0) → task ≡ Some (Build o) →
+    IfSome left (λ bytes. (last_progress o files bytes).names_file ≡ false → kept) → IfSome left (λ bytes. NamesNone task files bytes → kept)
+run_build_unnamed task o files left kept is keeps = subst (λ t. IfSome left (λ bytes. NamesNone t files bytes → kept)) (sym is) keeps
+
 -- a run of a task that the words ask for ends as the task does
 pub run_task : (asked : Option Task) (task : Task) (files : Option Files) (left after v u : Option (List ℕ)) (s : Status) → Some task ≡ asked →
     IfSome left (λ bytes. ReadsTold (Some task) files bytes → MayEnd (Some task) files bytes after v u s) → IfSome left (λ bytes. ReadsTold asked files bytes → MayEnd asked files bytes after v u s)
@@ -59,3 +90,6 @@ task_files asked task files told left s is ends = subst (λ t. IfSome left (λ b
 pub task_unnamed : (asked : Option Task) (task : Task) (files : Option Files) (left : Option (List ℕ)) (kept : Type 0) → Some task ≡ asked →
     IfSome left (λ bytes. NamesNone (Some task) files bytes → kept) → IfSome left (λ bytes. NamesNone asked files bytes → kept)
 task_unnamed asked task files left kept is keeps = subst (λ t. IfSome left (λ bytes. NamesNone t files bytes → kept)) is keeps
+
+pub task_made : (asked : Option Task) (task : Task) (files : Option Files) (v u : Option (List ℕ)) (s : Status) → Some task ≡ asked → EndsAlone (Some task) files v u s → EndsAlone asked files v u s
+task_made asked task files v u s is ends = subst (λ t. EndsAlone t files v u s) is ends

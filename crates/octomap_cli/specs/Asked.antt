@@ -1,5 +1,5 @@
 -- A task in the words of the definitions.
-use Rattle.octomap_cli.specs.Task.{Session, Convert, Inspect}
+use Rattle.octomap_cli.specs.Task.{Session, Build, Convert, Inspect, Generate, Drill}
 use Rattle.octomap_cli.specs.Task as meant
 use Rattle.octomap_cli.specs.declared.task.Task.{Task}
 use Rattle.octomap_cli.specs.declared.task.Task.TheVariants as code
@@ -7,5 +7,8 @@ use Rattle.octomap_cli.specs.declared.task.Task.TheVariants as code
 -- the task that a value of the program stands for
 abbrev pub asked : Task → meant.Task
 asked (code.Session options) = Session options
+asked (code.Build options) = Build options
 asked (code.Convert max_bytes) = Convert max_bytes
 asked (code.Inspect max_bytes) = Inspect max_bytes
+asked (code.Generate load) = Generate load
+asked (code.Drill load) = Drill load

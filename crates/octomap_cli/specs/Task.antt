@@ -9,13 +9,19 @@ use Rattle.oct_odds.specs.declared.model.OddsField.{OddsField}
 use Rattle.oct_script.specs.Grammar.{number_of}
 use Rattle.oct_script.specs.Words.{Word}
 use Rattle.oct_session.specs.Setup.{Setup}
+use Rattle.octomap_cli.specs.declared.task.Workload.{Workload}
 use Rattle.octomap_cli.specs.Words.{value_of, are_options}
 
--- a task of the program: a session, or one over a file of at most so many bytes
+-- a task of the program: a session, the building of a map's file by a script, one over a file of at
+-- most so many bytes, or the writing of a script that a number makes, or of four lines about its
+-- session
 pub data Task : Type 0 where
   Session : Setup → Task
+  Build : Setup → Task
   Convert : ℕ → Task
   Inspect : ℕ → Task
+  Generate : Workload → Task
+  Drill : Workload → Task
 
 -- a number in a range, both ends included
 abbrev pub within : ℕ → ℕ → Option ℤ → Option ℕ
@@ -95,11 +101,10 @@ setup_asked res options =
     setup_from (resolution_of res) (chosen_model options) (chosen_groups options)
     (chosen_cells options) (chosen_bytes options)
 
--- the task of the words after `session`: a resolution and options
-abbrev pub session_asked : List Word → Option Task
-session_asked [] = None
-session_asked (res ∷ options) =
-    if are_options options then option_map Session (setup_asked res options) else None
+-- what the words after `session` or `build` choose: a resolution and options
+abbrev pub options_asked : List Word → Option Setup
+options_asked [] = None
+options_asked (res ∷ options) = if are_options options then setup_asked res options else None
 
 -- the most bytes of a file that one word spells
 abbrev pub file_number : List Word → Option ℕ
@@ -114,12 +119,28 @@ file_bytes [] = Some (2 ^ 26)
 file_bytes (name ∷ words) =
     if bytes_eq name (codes "--max-bytes") then file_number words else None
 
+-- a script of these numbers, where all are there
+abbrev pub workload_from : Option ℕ → Option ℕ → Option ℕ → Option Workload
+workload_from (Some seed) (Some scans) (Some points) =
+    Some (record { seed = seed; scans = scans; points = points })
+workload_from _ _ _ = None
+
+-- the script that three words ask for: a seed of one to eighteen digits, at most 1,000 scans, and at
+-- most 100,000 points in each
+abbrev pub workload_of : List Word → Option Workload
+workload_of (seed ∷ scans ∷ points ∷ []) =
+    workload_from (count_of 0 (10 ^ 18) seed) (count_of 0 1000 scans) (count_of 0 100000 points)
+workload_of _ = None
+
 -- the task of a command and the words after it
 abbrev pub task_by : Word → List Word → Option Task
 task_by command words =
-    if bytes_eq command (codes "session") then session_asked words
+    if bytes_eq command (codes "session") then option_map Session (options_asked words)
+    else if bytes_eq command (codes "build") then option_map Build (options_asked words)
     else if bytes_eq command (codes "convert") then option_map Convert (file_bytes words)
     else if bytes_eq command (codes "inspect") then option_map Inspect (file_bytes words)
+    else if bytes_eq command (codes "gen") then option_map Generate (workload_of words)
+    else if bytes_eq command (codes "drill") then option_map Drill (workload_of words)
     else None
 
 -- the task that the words ask for; words with another command have none
@@ -127,8 +148,12 @@ unfoldable pub task_of : List Word → Option Task
 task_of [] = None
 task_of (command ∷ words) = task_by command words
 
--- a task over a file has a limit of at most 2^32 bytes
-abbrev pub HasFewBytes : Task → Type 0
-HasFewBytes (Session o) = ⊤
-HasFewBytes (Convert max_bytes) = max_bytes ≤ 2 ^ 32
-HasFewBytes (Inspect max_bytes) = max_bytes ≤ 2 ^ 32
+-- the numbers of a task are in their ranges: at most 2^32 bytes of a file, and at most 1,000 scans of
+-- at most 100,000 points each
+abbrev pub IsInRange : Task → Type 0
+IsInRange (Session o) = ⊤
+IsInRange (Build o) = ⊤
+IsInRange (Convert max_bytes) = max_bytes ≤ 2 ^ 32
+IsInRange (Inspect max_bytes) = max_bytes ≤ 2 ^ 32
+IsInRange (Generate load) = (load.scans ≤ 1000) × (load.points ≤ 100000)
+IsInRange (Drill load) = (load.scans ≤ 1000) × (load.points ≤ 100000)

@@ -8,8 +8,10 @@
 //! of occupancy is that of Hornung et al. 2013 and of the OctoMap library's class `OcTree`, in
 //! whole numbers.
 //!
-//! `octomap convert` and `octomap inspect` read a `.bt` file of that library from the input: the one
-//! writes the canonical file of the same classes, the other six lines about the file.
+//! `octomap convert` and `octomap inspect` read a `.bt` file of that library from the input: the
+//! one writes the canonical file of the same classes, the other six lines about the file.
+//! `octomap build` writes the file of the map that a script leaves. `octomap gen` writes a script
+//! that a number makes, and `octomap drill` does that script and writes four lines about it.
 //!
 //! # What it promises
 //!
@@ -24,9 +26,9 @@
 //! # How it works
 //!
 //! `words` finds the options among the words of the command line, and `task` reads the task that
-//! they ask for. For a session `program` makes the map of the unknown world, which may grow as far as the options
-//! say, and lends it to the loop of `oct_session`. `main` joins all this to the standard input and
-//! output and to the current folder.
+//! they ask for. For a session `program` makes the map of the unknown world, which may grow as far
+//! as the options say, and lends it to the loop of `oct_session`. `main` joins all this to the
+//! standard input and output and to the current folder.
 //!
 //! # Who stands on it
 //!

@@ -6,14 +6,15 @@ ghost use Rattle.oct_session.specs.History.{start_state};
 ghost use Rattle.oct_session.specs.Leaving.{StandsFor};
 ghost use Rattle.octomap_cli.specs.Words.{bytes_of};
 ghost use Rattle.octomap_cli.specs.Asked.{asked};
-ghost use Rattle.octomap_cli.specs.Task.{HasFewBytes, task_of};
-ghost use Rattle.octomap_cli.specs.Ending.{MayEnd, Leaves, ReadsTold, NamesNone, has_script, answer, status_of};
+ghost use Rattle.octomap_cli.specs.Task.{IsInRange, task_of};
+ghost use Rattle.octomap_cli.specs.Ending.{MayEnd, EndsAlone, Leaves, ReadsTold, NamesNone, has_script, has_input, takes_memory, answer, status_of};
 
 use crate::task::{Task, Usage, read_words};
 use oct_convert::{Ending, convert, inspect};
+use oct_gen::generate;
 use oct_io::{Sink, Source, Store};
 use oct_map::OccMap;
-use oct_session::{Options, Status, serve};
+use oct_session::{Options, Status, build, drill, serve, status_written};
 use std::alloc::Global;
 
 /// Does what the words ask for, which don't have the program's own name.
@@ -22,7 +23,8 @@ use std::alloc::Global;
 /// says, status by status, what is written, what is left of the input, and that both are those of
 /// the answer to the task on these bytes and the files of the store; the clause `leaves` says which
 /// files then stand there. They speak wherever source and sink tell their bytes, as those in memory
-/// do, and the store its files, or no line names one. A fault comes only where the count of that
+/// do, and the store its files, or no line names one. Of a task that reads nothing `made` says what is
+/// written, whatever the source tells. A fault comes only where the count of that
 /// object rose in this call.
 pub fn run<S: Source, K: Sink, F: Store>(
     alloc: Global,
@@ -49,11 +51,13 @@ pub fn run<S: Source, K: Sink, F: Store>(
         NamesNone (task_of (bytes_of words.now)) (F.files store.old) bytes → store.new ≡ store.old) }
     ensures unused { has_script (task_of (bytes_of words.now)) ≡ false → store.new ≡ store.old }
 
-    // Words without a task read and write nothing.
+    // Words without a task read and write nothing, and to make a script nothing is read.
     ensures usage { task_of (bytes_of words.now) ≡ None → result ≡ Status.Usage }
     ensures only { result ≡ Status.Usage → task_of (bytes_of words.now) ≡ None }
-    ensures unread { result ≡ Status.Usage → source.new ≡ source.old }
+    ensures unread { has_input (task_of (bytes_of words.now)) ≡ false → source.new ≡ source.old }
     ensures unwritten { result ≡ Status.Usage → sink.new ≡ sink.old }
+    ensures made { EndsAlone (task_of (bytes_of words.now)) (F.files store.old)
+        (K.written sink.old) (K.written sink.new) result }
 
     // A fault is met once and ends the run: its count rises by one exactly where the status names
     // it, and no other count changes.
@@ -70,6 +74,8 @@ pub fn run<S: Source, K: Sink, F: Store>(
     ensures memory { result ≡ Status.Memory → (K.shortages sink.new ≡ K.shortages sink.old)
         ⊎ Rose (K.shortages sink.old) (K.shortages sink.new) }
     ensures no_shortage { result ≢ Status.Memory → K.shortages sink.new ≡ K.shortages sink.old }
+    ensures alone { takes_memory (task_of (bytes_of words.now)) ≡ false → result ≡ Status.Memory
+        → Rose (K.shortages sink.old) (K.shortages sink.new) }
     ensures complete { ¬ Rose (S.faults source.old) (S.faults source.new)
         → ¬ Rose (K.faults sink.old) (K.faults sink.new)
         → ¬ Rose (F.faults store.old) (F.faults store.new)
@@ -89,7 +95,7 @@ fn perform<S: Source, K: Sink, F: Store>(
     sink: &mut K,
     store: &mut F,
 ) -> Status
-    requires few { HasFewBytes (asked task.now) }
+    requires few { IsInRange (asked task.now) }
     ensures answer { IfSome (S.left source.old) (λ bytes.
         ReadsTold (Some (asked task.now)) (F.files store.old) bytes
         → MayEnd (Some (asked task.now)) (F.files store.old) bytes (S.left source.new)
@@ -106,6 +112,9 @@ fn perform<S: Source, K: Sink, F: Store>(
         NamesNone (Some (asked task.now)) (F.files store.old) bytes → store.new ≡ store.old) }
     ensures unused { has_script (Some (asked task.now)) ≡ false → store.new ≡ store.old }
     ensures usage { result ≢ Status.Usage }
+    ensures unread { has_input (Some (asked task.now)) ≡ false → source.new ≡ source.old }
+    ensures made { EndsAlone (Some (asked task.now)) (F.files store.old)
+        (K.written sink.old) (K.written sink.new) result }
     ensures read_fault { result ≡ Status.ReadFault
         → Rose (S.faults source.old) (S.faults source.new) }
     ensures no_read_fault { result ≢ Status.ReadFault → S.faults source.new ≡ S.faults source.old }
@@ -119,6 +128,8 @@ fn perform<S: Source, K: Sink, F: Store>(
     ensures memory { result ≡ Status.Memory → (K.shortages sink.new ≡ K.shortages sink.old)
         ⊎ Rose (K.shortages sink.old) (K.shortages sink.new) }
     ensures no_shortage { result ≢ Status.Memory → K.shortages sink.new ≡ K.shortages sink.old }
+    ensures alone { takes_memory (Some (asked task.now)) ≡ false → result ≡ Status.Memory
+        → Rose (K.shortages sink.old) (K.shortages sink.new) }
     ensures complete { ¬ Rose (S.faults source.old) (S.faults source.new)
         → ¬ Rose (K.faults sink.old) (K.faults sink.new)
         → ¬ Rose (F.faults store.old) (F.faults store.new)
@@ -129,8 +140,17 @@ fn perform<S: Source, K: Sink, F: Store>(
             let mut map = map_for(alloc, options);
             serve(alloc, options, &mut map, source, sink, store)
         }
+        Task::Build(options) => {
+            let mut map = map_for(alloc, options);
+            build(alloc, options, &mut map, source, sink, store)
+        }
         Task::Convert { max_bytes } => status_of(convert(alloc, *max_bytes, source, sink)),
         Task::Inspect { max_bytes } => status_of(inspect(alloc, *max_bytes, source, sink)),
+        Task::Generate(load) => {
+            let written = generate(load.seed, load.scans, load.points, sink);
+            status_written(Status::Done, written)
+        }
+        Task::Drill(load) => drill(alloc, load.seed, load.scans, load.points, sink),
     }
 }
 

@@ -3,7 +3,7 @@ ghost use Rattle.std.specs.Prelude.{◌≡◌, ◌≤◌, ◌^◌, option_map, O
 ghost use Rattle.std.specs.Result.{result_ok};
 ghost use Rattle.oct_odds.specs.Odds.{odds_of, IsSmall};
 ghost use Rattle.octomap_cli.specs.Words.{bytes_of};
-ghost use Rattle.octomap_cli.specs.Task.{HasFewBytes, file_bytes, file_number, session_asked, task_by, resolution_of, count_of, chosen_number, chosen_count, chosen_model, chosen_groups, chosen_cells, chosen_bytes, setup_asked, task_of};
+ghost use Rattle.octomap_cli.specs.Task.{IsInRange, file_bytes, file_number, workload_of, options_asked, task_by, resolution_of, count_of, chosen_number, chosen_count, chosen_model, chosen_groups, chosen_cells, chosen_bytes, setup_asked, task_of};
 ghost use Rattle.octomap_cli.specs.Asked.{asked};
 
 use crate::words::{are_options, value_of};
@@ -54,15 +54,50 @@ const FILE_BYTES: Choice = Choice {
     default: 1 << 26,
 };
 
+/// The seeds of a script: one to eighteen digits.
+const SEEDS: Choice = Choice {
+    low: 0,
+    high: 1_000_000_000_000_000_000,
+    default: 0,
+};
+
+/// How many scans a script may have that a number makes.
+const SCANS: Choice = Choice {
+    low: 0,
+    high: 1000,
+    default: 0,
+};
+
+/// How many points each of its scans may have.
+const POINTS: Choice = Choice {
+    low: 0,
+    high: 100_000,
+    default: 0,
+};
+
+/// A script that a number makes: of which seed, and of how many scans of how many points each.
+#[derive(Clone, Copy, Debug)]
+pub struct Workload {
+    pub seed: u64,
+    pub scans: u32,
+    pub points: u32,
+}
+
 /// A task of the program.
 #[derive(Debug, Drop)]
 pub enum Task {
     /// A script from the input, and its replies to the output.
     Session(Options),
+    /// A script from the input, and the file of the map that it leaves to the output.
+    Build(Options),
     /// A file of classes from the input, and the canonical one of the same classes to the output.
     Convert { max_bytes: u64 },
     /// A file of classes from the input, and six lines about it to the output.
     Inspect { max_bytes: u64 },
+    /// A script that a number makes, to the output.
+    Generate(Workload),
+    /// The session over such a script, and four lines about it to the output.
+    Drill(Workload),
 }
 
 /// The words ask for no task.
@@ -171,10 +206,10 @@ fn read_options(res: &[u8], words: &[String]) -> Option<Options>
     })
 }
 
-/// Reads the words after `session`: RES, and pairs of an option and its value, in any order, each
-/// option at most once.
-fn read_session(words: &[String]) -> Option<Task>
-    ensures { option_map asked result ≡ session_asked (bytes_of words.now) }
+/// Reads the words after `session` or `build`: RES, and pairs of an option and its value, in any
+/// order, each option at most once.
+fn read_setup(words: &[String]) -> Option<Options>
+    ensures { result ≡ options_asked (bytes_of words.now) }
 {
     let [res, options @ ..] = words else {
         return None;
@@ -182,7 +217,7 @@ fn read_session(words: &[String]) -> Option<Task>
     if !are_options(options) {
         return None;
     }
-    Some(Task::Session(read_options(res.as_bytes(), options)?))
+    read_options(res.as_bytes(), options)
 }
 
 /// Reads the number of a file's bytes, which is the only word.
@@ -211,19 +246,40 @@ fn read_file_bytes(words: &[String]) -> Option<u64>
     }
 }
 
+/// Reads the words after `gen` or `drill`: SEED, SCANS and POINTS.
+fn read_workload(words: &[String]) -> Option<Workload>
+    ensures exact { result ≡ workload_of (bytes_of words.now) }
+    ensures small { IfSome result (λ load. (load.scans ≤ 1000) × (load.points ≤ 100000)) }
+{
+    let [seed, scans, points] = words else {
+        return None;
+    };
+    Some(Workload {
+        seed: read_count(seed.as_bytes(), SEEDS.low, SEEDS.high)?,
+        scans: read_count(scans.as_bytes(), SCANS.low, SCANS.high)? as u32,
+        points: read_count(points.as_bytes(), POINTS.low, POINTS.high)? as u32,
+    })
+}
+
 /// Reads the words after a command.
 fn read_task(command: &[u8], words: &[String]) -> Option<Task>
     ensures exact { option_map asked result ≡ task_by command.now (bytes_of words.now) }
-    ensures few { IfSome result (λ task. HasFewBytes (asked task)) }
+    ensures few { IfSome result (λ task. IsInRange (asked task)) }
 {
     if command == b"session".as_slice() {
-        read_session(words)
+        Some(Task::Session(read_setup(words)?))
+    } else if command == b"build".as_slice() {
+        Some(Task::Build(read_setup(words)?))
     } else if command == b"convert".as_slice() {
         let max_bytes = read_file_bytes(words)?;
         Some(Task::Convert { max_bytes })
     } else if command == b"inspect".as_slice() {
         let max_bytes = read_file_bytes(words)?;
         Some(Task::Inspect { max_bytes })
+    } else if command == b"gen".as_slice() {
+        Some(Task::Generate(read_workload(words)?))
+    } else if command == b"drill".as_slice() {
+        Some(Task::Drill(read_workload(words)?))
     } else {
         None
     }
@@ -234,7 +290,7 @@ fn read_task(command: &[u8], words: &[String]) -> Option<Task>
 #[tactic(auto, unfolding(crate::specs::Task::task_of))]
 pub fn read_words(words: &[String]) -> Result<Task, Usage>
     ensures exact { option_map asked (result_ok result) ≡ task_of (bytes_of words.now) }
-    ensures few { IfOk result (λ task. HasFewBytes (asked task)) }
+    ensures few { IfOk result (λ task. IsInRange (asked task)) }
 {
     let [command, rest @ ..] = words else {
         return Err(Usage);

@@ -1,12 +1,16 @@
 //! Scripts and their replies, by the program's top call.
 ghost use Rattle.std.specs.Prelude.{◌<◌};
 
+mod builds;
 mod faults;
 mod fold;
+mod generated;
 mod limits;
+mod lists;
 mod options;
 mod scans;
 mod scripts;
+mod snapshots;
 
 use crate::program::run;
 use oct_io::{CalmSink, CalmSource, CalmStore, FileBytes};

@@ -99,24 +99,53 @@ fn a_read_that_fails_leaves_the_replies_to_what_was_read(rt: HostRuntime) -> Res
 }
 
 #[test]
-fn a_write_that_fails_ends_the_session(rt: HostRuntime) -> Result<(), Fail> {
-    let mut source = CalmSource::new(
-        FileBytes::from_slice(rt.alloc(), b"hit 0 0 0\nget 0 0 0 16\n")?,
-        100,
-    );
-    let mut sink = FullSink {
-        taken: None,
+fn a_read_that_fails_builds_nothing(rt: HostRuntime) -> Result<(), Fail> {
+    let mut source = TornSource {
+        bytes: b"hit 0 0 0\n",
+        reads: 0,
         faults: 0,
     };
+    let mut sink = CalmSink::new(rt.alloc(), 100);
     let status = run(
         rt.alloc(),
-        &owned(rt.alloc(), &["session", "0.1"])?,
+        &owned(rt.alloc(), &["build", "0.1"])?,
         &mut source,
         &mut sink,
         &mut CalmStore::new(rt.alloc()),
     );
-    assert_eq!(rt; status, Status::WriteFault);
-    assert_eq!(rt; sink.taken, Some(b'o'));
-    assert_eq!(rt; sink.faults, 1);
+    assert_eq!(rt; (status, source.faults), (Status::ReadFault, 1));
+    assert!(rt; sink.written().is_empty());
+    Ok(())
+}
+
+/// Words, and the first byte of what they have written.
+const TASKS: [(&[&str], u8); 4] = [
+    (&["session", "0.1"], b'o'),
+    (&["build", "0.1"], b'#'),
+    (&["gen", "1", "2", "3"], b'#'),
+    (&["drill", "1", "1", "2"], b's'),
+];
+
+#[test]
+fn a_write_that_fails_ends_the_task(rt: HostRuntime) -> Result<(), Fail> {
+    for (words, first) in TASKS {
+        let mut source = CalmSource::new(
+            FileBytes::from_slice(rt.alloc(), b"hit 0 0 0\nget 0 0 0 16\n")?,
+            100,
+        );
+        let mut sink = FullSink {
+            taken: None,
+            faults: 0,
+        };
+        let status = run(
+            rt.alloc(),
+            &owned(rt.alloc(), words)?,
+            &mut source,
+            &mut sink,
+            &mut CalmStore::new(rt.alloc()),
+        );
+        assert_eq!(rt; status, Status::WriteFault, "at {words:?}");
+        assert_eq!(rt; (sink.taken, sink.faults), (Some(first), 1), "at {words:?}");
+    }
     Ok(())
 }

@@ -4,7 +4,7 @@ use oct_session::Status;
 use std::test::Fail;
 
 /// Words that ask for no task.
-const NO_TASK: [&[&str]; 40] = [
+const NO_TASK: [&[&str]; 52] = [
     &[],
     &["session"],
     &["session", "0.1", "0.1"],
@@ -45,6 +45,18 @@ const NO_TASK: [&[&str]; 40] = [
     &["session", "0.1", "--max-bytes", "-0"],
     &["session", "0.1", "--max-bytes", "0000000000000000010"],
     &["session", "0.1", "--max-bytes", "ten"],
+    &["build"],
+    &["build", "0.1", "--hit", "0"],
+    &["gen", "1", "1"],
+    &["gen", "1", "1", "1", "1"],
+    &["gen", "1000000000000000000", "0", "0"],
+    &["gen", "-1", "0", "0"],
+    &["gen", "", "0", "0"],
+    &["gen", "0", "1001", "0"],
+    &["gen", "0", "0", "100001"],
+    &["gen", "0", "0.5", "0"],
+    &["drill", "1", "1"],
+    &["drill", "0", "0", "100001"],
 ];
 
 #[test]

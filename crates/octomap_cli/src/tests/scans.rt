@@ -75,7 +75,7 @@ const SCAN_BLOCKS: [Case; 12] = [
     ),
     (
         "scan 0 0 0 1 0 0 0 all\nlists 0 0 0 0 0 0 16\nend\nhit 0 0 0\n",
-        "refused 36 NotYet\nok\n",
+        "refused 29 Syntax line 2 column 1\nok\n",
         Status::Refused,
     ),
     (

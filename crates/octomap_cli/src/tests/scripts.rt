@@ -205,7 +205,11 @@ const QUITS: [Case; 7] = [
         "refused 29 Syntax line 1 column 6\nok\n",
         Status::Refused,
     ),
-    ("quit\r", "refused 36 NotYet\n", Status::Refused),
+    (
+        "quit\r",
+        "refused 29 Syntax line 1 column 1\n",
+        Status::Refused,
+    ),
     ("# quit\nhit 0 0 0\n", "ok\n", Status::Done),
 ];
 
@@ -223,7 +227,7 @@ const REFUSALS: [Case; 6] = [
     ),
     (
         "changed\nsaves m\nlists 0 0 0 1 1 1 16\ntracks\nget 0 0 0 0016\nget 0 0 0 12345678\n",
-        "refused 36 NotYet\nrefused 36 NotYet\nrefused 36 NotYet\nrefused 36 NotYet\nunknown\nrefused 29 Syntax line 6 column 11\n",
+        "refused 29 Syntax line 1 column 1\nrefused 29 Syntax line 2 column 1\nrefused 29 Syntax line 3 column 1\nrefused 29 Syntax line 4 column 1\nunknown\nrefused 29 Syntax line 6 column 11\n",
         Status::Refused,
     ),
     (
@@ -321,7 +325,7 @@ const LINES: [Case; 6] = [
         "refused 29 Syntax line 1 column 11\n",
         Status::Refused,
     ),
-    ("\r", "refused 36 NotYet\n", Status::Refused),
+    ("\r", "refused 29 Syntax line 1 column 1\n", Status::Refused),
     ("#\r", "", Status::Done),
 ];
 

@@ -1,7 +1,7 @@
 use Rattle.std.proofs.Common.{◌≡◌, Some, ap}
 use Rattle.octomap_cli.specs.declared.task.Task.{Task}
 use Rattle.octomap_cli.specs.Asked.{asked}
-use Rattle.octomap_cli.proofs.Runs.{run_session, run_leaves, run_files, run_unnamed}
+use Rattle.octomap_cli.proofs.Runs.{run_session, run_leaves, run_files, run_unnamed, run_build, run_build_leaves, run_build_files, run_build_unnamed}
 use Rattle.octomap_cli.proofs.program.perform.Goals as goal
 
 pub returns-in-Session-clause-answer : goal.returns-in-Session-clause-answer
@@ -18,3 +18,18 @@ returns-in-Session-clause-files g c = run_files _ _ (g.F.Store.files c.args.stor
 pub returns-in-Session-clause-unnamed : goal.returns-in-Session-clause-unnamed
 returns-in-Session-clause-unnamed g c =
     run_unnamed _ _ (g.F.Store.files c.args.store.now) _ (c.serve.new.store ≡ c.args.store.now) (ap (λ (t : Task). Some (asked t)) c.in-Session.is) c.serve.ensures.unnamed
+
+pub returns-in-Build-clause-answer : goal.returns-in-Build-clause-answer
+returns-in-Build-clause-answer g c = run_build _ _ (g.F.Store.files c.args.store.now) _ _ _ _ _ (ap (λ (t : Task). Some (asked t)) c.in-Build.is) c.build.ensures.answer
+
+pub returns-in-Build-clause-leaves : goal.returns-in-Build-clause-leaves
+returns-in-Build-clause-leaves g c =
+    run_build_leaves _ _ (g.F.Store.files c.args.store.now) _ _ _ _ c.build.new.map (g.F.Store.files c.build.new.store) (c.build.new.store ≡ c.args.store.now) _
+    (ap (λ (t : Task). Some (asked t)) c.in-Build.is) c.build.ensures.leaves
+
+pub returns-in-Build-clause-files : goal.returns-in-Build-clause-files
+returns-in-Build-clause-files g c = run_build_files _ _ (g.F.Store.files c.args.store.now) _ _ _ (ap (λ (t : Task). Some (asked t)) c.in-Build.is) c.build.ensures.files
+
+pub returns-in-Build-clause-unnamed : goal.returns-in-Build-clause-unnamed
+returns-in-Build-clause-unnamed g c =
+    run_build_unnamed _ _ (g.F.Store.files c.args.store.now) _ (c.build.new.store ≡ c.args.store.now) (ap (λ (t : Task). Some (asked t)) c.in-Build.is) c.build.ensures.unnamed

@@ -1,5 +1,5 @@
 use Rattle.std.proofs.Common.{◌≡◌}
-use Rattle.octomap_cli.proofs.Runs.{run_task, task_leaves, task_files, task_unnamed}
+use Rattle.octomap_cli.proofs.Runs.{run_task, task_leaves, task_files, task_unnamed, task_made}
 use Rattle.octomap_cli.proofs.program.run.Goals as goal
 
 pub returns-in-Ok-clause-answer : goal.returns-in-Ok-clause-answer
@@ -15,3 +15,6 @@ returns-in-Ok-clause-files g c = task_files _ _ (g.F.Store.files c.args.store.no
 
 pub returns-in-Ok-clause-unnamed : goal.returns-in-Ok-clause-unnamed
 returns-in-Ok-clause-unnamed g c = task_unnamed _ _ (g.F.Store.files c.args.store.now) _ (c.perform.new.store ≡ c.args.store.now) c.in-Ok.ensures.exact c.perform.ensures.unnamed
+
+pub returns-in-Ok-clause-made : goal.returns-in-Ok-clause-made
+returns-in-Ok-clause-made g c = task_made _ _ (g.F.Store.files c.args.store.now) _ _ _ c.in-Ok.ensures.exact c.perform.ensures.made

@@ -1,0 +1,65 @@
+//! Files that are built by a script.
+use super::answer;
+use oct_session::Status;
+use std::test::Fail;
+
+/// The lines of a header around the number of nodes, at a resolution of 0.1 m.
+const HEAD: &str =
+    "# Octomap OcTree binary file\n# (feel free to add / change comments, but leave the first line as it is!)\n#\nid OcTree\nsize ";
+
+const TAIL: &str = "\nres 0.1\ndata\n";
+
+/// Words, a script, the number of nodes in its file and the node data, and the status.
+const BUILDS: [(&[&str], &str, &str, &[u8], Status); 5] = [
+    (&["build", "0.1"], "", "0", b"", Status::Done),
+    (
+        &["build", "0.1"],
+        "box -3276.8 -3276.8 -3276.8 3276.7 3276.7 3276.7 set 850\n",
+        "9",
+        b"\xAA\xAA",
+        Status::Done,
+    ),
+    (
+        &["build", "0.1"],
+        "hit 0 0 0 lazy\nget 0 0 0 0\nquit\nclear\n",
+        "17",
+        b"\x00\xC0\x03\x00\x03\x00\x03\x00\x03\x00\x03\x00\x03\x00\x03\x00\x03\x00\x03\x00\x03\x00\x03\x00\x03\x00\x03\x00\x03\x00\x02\x00",
+        Status::Refused,
+    ),
+    (
+        &["build", "0.1", "--max-bytes", "60"],
+        "box -3276.8 -3276.8 -3276.8 3276.7 3276.7 3276.7 miss\nhit\n",
+        "9",
+        b"\x55\x55",
+        Status::Refused,
+    ),
+    (
+        &["build", "0.1"],
+        "scan 0 0 0 1 0 0 0 all\n",
+        "0",
+        b"",
+        Status::Refused,
+    ),
+];
+
+#[test]
+fn a_build_writes_the_file_of_the_last_map(rt: HostRuntime) -> Result<(), Fail> {
+    for (words, script, size, data, ends) in BUILDS {
+        let mut file = Vec::new(rt.alloc());
+        for part in [HEAD.as_bytes(), size.as_bytes(), TAIL.as_bytes(), data] {
+            file.extend_from_slice(part)?;
+        }
+        let (status, text) = answer(rt.alloc(), words, script.as_bytes(), 4096, 100)?;
+        assert_eq!(rt; status, ends, "at {script:?}");
+        assert_eq!(rt; text.as_slice(), file.as_slice(), "at {script:?}");
+    }
+    Ok(())
+}
+
+#[test]
+fn a_script_that_is_too_long_builds_nothing(rt: HostRuntime) -> Result<(), Fail> {
+    let words = ["build", "0.1", "--max-bytes", "10"];
+    let (status, text) = answer(rt.alloc(), &words, b"hit 0 0 0\nhit 0 0 0\n", 4096, 100)?;
+    assert_eq!(rt; (status, text.len()), (Status::TooLong, 0));
+    Ok(())
+}

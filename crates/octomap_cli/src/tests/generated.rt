@@ -1,0 +1,85 @@
+//! Scripts that a number makes, and drills of them.
+use super::answer;
+use oct_session::Status;
+use std::test::Fail;
+
+/// Words, and the script that they ask for.
+const SCRIPTS: [(&[&str], &str); 5] = [
+    (&["gen", "7", "0", "0"], "# octomap gen 7 0 0\nquit\n"),
+    (
+        &["gen", "0", "1", "0"],
+        "# octomap gen 0 1 0\nscan -0.17 -0.161 -0.962 1 0 0 -1 8\nend\nquit\n",
+    ),
+    (
+        &["gen", "1", "1", "2"],
+        "# octomap gen 1 1 2\nscan 1.623 0.736 -0.802 1 0 0 -2 8\np -4.77 -2.678 3.186\np -2.145 2.778 -0.864\nend\nquit\n",
+    ),
+    (
+        &["gen", "000000000000000007", "000", "100000"],
+        "# octomap gen 7 0 100000\nquit\n",
+    ),
+    (
+        &["gen", "999999999999999999", "0", "1"],
+        "# octomap gen 999999999999999999 0 1\nquit\n",
+    ),
+];
+
+#[test]
+fn a_script_is_made_and_nothing_is_read(rt: HostRuntime) -> Result<(), Fail> {
+    for (words, script) in SCRIPTS {
+        let (status, text) = answer(rt.alloc(), words, b"hit 0 0 0\n", 4096, 7)?;
+        assert_eq!(rt; status, Status::Done, "at {words:?}");
+        assert_eq!(rt; text.as_slice(), script.as_bytes(), "at {words:?}");
+    }
+    let (status, text) = answer(rt.alloc(), &["gen", "0", "1000", "0"], b"", 4096, 4096)?;
+    assert_eq!(rt; (status, text.len()), (Status::Done, 38554));
+    Ok(())
+}
+
+/// Words, and the four lines of the drill that they ask for.
+const DRILLS: [(&[&str], &str); 4] = [
+    (
+        &["drill", "0", "0", "0"],
+        "scans 0 refused 0\nhits 0 frees 0\ngroups 0 nodes 0\nbt 137\n",
+    ),
+    (
+        &["drill", "7", "1000", "0"],
+        "scans 1000 refused 0\nhits 0 frees 0\ngroups 0 nodes 0\nbt 137\n",
+    ),
+    (
+        &["drill", "1", "1", "2"],
+        "scans 1 refused 0\nhits 2 frees 274\ngroups 288 nodes 564\nbt 715\n",
+    ),
+    (
+        &["drill", "1", "3", "50"],
+        "scans 3 refused 0\nhits 150 frees 20648\ngroups 17469 nodes 38133\nbt 35079\n",
+    ),
+];
+
+#[test]
+fn a_drill_writes_four_lines_and_reads_nothing(rt: HostRuntime) -> Result<(), Fail> {
+    for (words, lines) in DRILLS {
+        let (status, text) = answer(rt.alloc(), words, b"hit\n", 4096, 7)?;
+        assert_eq!(rt; status, Status::Done, "at {words:?}");
+        assert_eq!(rt; text.as_slice(), lines.as_bytes(), "at {words:?}");
+    }
+    Ok(())
+}
+
+/// What the session over the script of the last drill replies, and the counts after it.
+const REPLIES: &str =
+    "ok hits 50 frees 7349\nok hits 50 frees 6503\nok hits 50 frees 6796\ngroups 17469 nodes 38133\n";
+
+#[test]
+fn a_drill_sums_up_the_session_over_its_script(rt: HostRuntime) -> Result<(), Fail> {
+    let (_, mut script) = answer(rt.alloc(), &["gen", "1", "3", "50"], b"", 4096, 4096)?;
+    let (_, file) = answer(rt.alloc(), &["build", "0.05"], &script, 4096, 4096)?;
+    assert_eq!(rt; file.len(), 35079);
+    // Counts are asked in place of `quit`.
+    script.truncate(script.len().saturating_sub(5));
+    script.extend_from_slice(b"counts\n")?;
+    let (status, replies) = answer(rt.alloc(), &["session", "0.05"], &script, 4096, 4096)?;
+    assert_eq!(rt; status, Status::Done);
+    assert_eq!(rt; replies.as_slice(), REPLIES.as_bytes());
+    Ok(())
+}

@@ -1,0 +1,160 @@
+//! Sessions that write and restore snapshots.
+use super::{CalmSink, CalmSource, CalmStore, Case, FileBytes, check, owned, run};
+use oct_io::Store;
+use oct_session::Status;
+use std::alloc::Global;
+use std::test::Fail;
+
+/// The status of a session over these files with a script, and its replies.
+fn over(
+    alloc: Global,
+    words: &[&str],
+    store: &mut CalmStore,
+    script: &[u8],
+) -> Result<(Status, Vec<u8>), Fail> {
+    let texts = owned(alloc, words)?;
+    let mut source = CalmSource::new(FileBytes::from_slice(alloc, script)?, 100);
+    let mut sink = CalmSink::new(alloc, 100);
+    let status = run(alloc, &texts, &mut source, &mut sink, store);
+    Ok((status, Vec::from_slice(alloc, sink.written())?))
+}
+
+/// What stands between a snapshot and its restore doesn't matter, and a refused restore does nothing.
+const ROUNDS: [Case; 5] = [
+    (
+        "hit 0 0 0\nsnapshot a\nclear\nget 0 0 0 16\nrestore a\nget 0 0 0 16\n",
+        "ok\nsaved 170\nok\nunknown\nrestored groups 16\nknown 850 occupied\n",
+        Status::Done,
+    ),
+    (
+        "limit 0 0 0 1 1 1\nhit 0 0 0\nsnapshot a\n",
+        "ok\nok\nsaved 182\n",
+        Status::Done,
+    ),
+    // The box that stood is back, and the mark and staleness are gone.
+    (
+        "limit 0.1 0 0 0.1 0 0\nsnapshot a\nnolimit\ntrack\nhit 0 0 0 lazy\nrestore a\nget 0 0 0 0\nchanges\nscan 0.05 0.05 0.05 1 0 0 0 all\np 0.2 0 0\nend\n",
+        "ok\nsaved 50\nok\nok\nok\nrestored groups 0\nunknown\nrefused 28 NotTracked\nok hits 0 frees 1\n",
+        Status::Refused,
+    ),
+    (
+        "hit 0 0 0\nsave m\nrestore m\nrestore n\nget 0 0 0 16\n",
+        "ok\nsaved 169\nrefused 20 BadMagic\nrefused 33 NoFile\nknown 850 occupied\n",
+        Status::Refused,
+    ),
+    // Values are kept that no file of classes has, of stale maps too.
+    (
+        "set 0 0 0 -7\nset 0.1 0 0 3 lazy\nsnapshot a\nmaxlik\nrestore a\nget 0 0 0 16\nget 0 0 0 15\nmaxlik\nget 0 0 0 15\n",
+        "ok\nok\nsaved 174\nok\nrestored groups 16\nknown -7 free\nknown 3 occupied\nok\nknown 3500 occupied\n",
+        Status::Done,
+    ),
+];
+
+#[test]
+fn a_snapshot_is_restored_whole(rt: HostRuntime) -> Result<(), Fail> {
+    check(&rt, rt.alloc(), &ROUNDS)
+}
+
+/// What a snapshot of version 1 begins with, at 0.1 m.
+const OLD_FRONT: &[u8] = b"OCTSNAP1\0\0\0\0\x05\xf5\xe1\0";
+
+/// The snapshot of the unknown world at 0.1 m, with the log-odds of a session that names none.
+const UNKNOWN: &[u8] = b"OCTSNAP2\0\0\0\0\x05\xf5\xe1\0\
+    \0\0\x03\x52\xff\xff\xfe\x70\xff\xff\xf8\x30\0\0\x0d\xac\0\0\0\0\0\0";
+
+/// The snapshot of version 1 of one voxel that was hit once.
+fn old_hit(alloc: Global) -> Result<FileBytes, Fail> {
+    let mut bytes = FileBytes::from_slice(alloc, OLD_FRONT)?;
+    bytes.extend_from_slice(&[2, 0, 0, 0, 0, 0, 0, 0])?;
+    bytes.extend_from_slice(&[2; 15])?;
+    bytes.extend_from_slice(&[1, 0, 0, 3, 0x52])?;
+    bytes.extend_from_slice(&[0; 105])?;
+    Ok(bytes)
+}
+
+#[test]
+fn the_unknown_world_has_a_snapshot(rt: HostRuntime) -> Result<(), Fail> {
+    let mut store = CalmStore::new(rt.alloc());
+    let words = ["session", "0.1"];
+    let (status, text) = over(rt.alloc(), &words, &mut store, b"snapshot e\nrestore e\n")?;
+    assert_eq!(rt; status, Status::Done);
+    assert_eq!(rt;
+        text.as_slice(),
+        b"saved 38\nrestored groups 0\n".as_slice()
+    );
+    assert_eq!(rt; store.file("e"), Some(UNKNOWN));
+    Ok(())
+}
+
+#[test]
+fn an_older_snapshot_leaves_the_log_odds(rt: HostRuntime) -> Result<(), Fail> {
+    let mut store = CalmStore::new(rt.alloc());
+    store.save("a", old_hit(rt.alloc())?.as_slice())?;
+    let words = ["session", "0.1", "--hit", "500"];
+    let script = b"restore a\nhit 0 0 0\nget 0 0 0 16\nsnapshot b\n";
+    let (status, text) = over(rt.alloc(), &words, &mut store, script)?;
+    let replies = b"restored groups 16\nok\nknown 1350 occupied\nsaved 170\n".as_slice();
+    assert_eq!(rt; status, Status::Done);
+    assert_eq!(rt; text.as_slice(), replies);
+    Ok(())
+}
+
+#[test]
+fn a_snapshot_brings_its_log_odds(rt: HostRuntime) -> Result<(), Fail> {
+    let mut store = CalmStore::new(rt.alloc());
+    let words = ["session", "0.1"];
+    let (status, text) = over(rt.alloc(), &words, &mut store, b"hit 0 0 0\nsnapshot a\n")?;
+    assert_eq!(rt; status, Status::Done);
+    assert_eq!(rt; text.as_slice(), b"ok\nsaved 170\n".as_slice());
+    let others = [
+        "session", "0.1", "--hit", "500", "--max", "1000", "--thr", "900",
+    ];
+    let script =
+        b"hit 1 0 0\nget 1 0 0 16\nrestore a\nhit 0 0 0\nget 0 0 0 16\nget 1 0 0 16\nclear\nhit 0 0 0\nget 0 0 0 16\n";
+    let (status, text) = over(rt.alloc(), &others, &mut store, script)?;
+    let replies =
+        b"ok\nknown 500 free\nrestored groups 16\nok\nknown 1700 occupied\nunknown\nok\nok\nknown 850 occupied\n".as_slice();
+    assert_eq!(rt; status, Status::Done);
+    assert_eq!(rt; text.as_slice(), replies);
+    Ok(())
+}
+
+/// Files that are refused, and why.
+const FAULTS: [(&[u8], &[u8]); 5] = [
+    (
+        b"OCTSNAP2\0\0\0\0\x05\xf5\xe1\0\
+          \0\0\x03\x52\xff\xff\xfe\x70\xff\xff\xf8\x30\0\0\x0d\xac\0\0\0\0\x02\0",
+        b"refused 21 BadSnapshot at 36\nknown 850 occupied\n",
+    ),
+    (
+        b"OCTSNAP2\0\0\0\0\x05\xf5\xe1\0\
+          \0\0\0\0\xff\xff\xfe\x70\xff\xff\xf8\x30\0\0\x0d\xac\0\0\0\0\0\0",
+        b"refused 21 BadSnapshot at 16\nknown 850 occupied\n",
+    ),
+    (
+        b"OCTSNAP1\0\0\0\0\x05\xf5\xe1\0\x02\0\0\0\0\0\0\0\0",
+        b"refused 21 BadSnapshot at 16\nknown 850 occupied\n",
+    ),
+    (
+        b"OCTSNAP1\0\0\0\0\x05\xf5\xe1\0\0\0",
+        b"refused 18 TrailingBytes at 17\nknown 850 occupied\n",
+    ),
+    (
+        b"OCTSNAP1\0\0\0\0\x0b\xeb\xc2\0\0",
+        b"refused 35 OtherResolution file 200000000 session 100000000\nknown 850 occupied\n",
+    ),
+];
+
+#[test]
+fn a_bad_snapshot_is_refused(rt: HostRuntime) -> Result<(), Fail> {
+    for (file, replies) in FAULTS {
+        let mut store = CalmStore::new(rt.alloc());
+        store.save("a", file)?;
+        let words = ["session", "0.1"];
+        let script = b"hit 0 0 0\nrestore a\nget 0 0 0 16\n";
+        let (status, text) = over(rt.alloc(), &words, &mut store, script)?;
+        assert_eq!(rt; status, Status::Refused);
+        assert_eq!(rt; text.as_slice().strip_prefix(b"ok\n"), Some(replies));
+    }
+    Ok(())
+}
