@@ -1,0 +1,55 @@
+#!/bin/sh
+# Counts the instructions of commands at voxels of 5 cm, on the map of 5 scans of 500 points (edits:
+# on an empty one), and fails where a limit is exceeded: those of an edit, a query, a block that a
+# list looks at, a cast, and a byte of a snapshot. Needs python3 and valgrind.
+
+set -eu
+
+here=$(CDPATH='' cd -- "$(dirname -- "$0")" && pwd)
+program=${1:-$here/../crates/octomap_cli/out/octomap_cli}
+program=$(realpath -- "$program")
+folder=$(mktemp -d)
+trap 'rm -rf -- "$folder"' EXIT
+failed=0
+
+[ $# -gt 0 ] || "$here/../octomap" session 0.05 </dev/null
+python3 "$here/make_scans.py" 1 5 500 | sed '/^quit$/d' >"$folder/scans"
+
+# The instructions of the script of this name in the folder; its replies go to NAME.replies.
+count() (
+    cd -- "$folder"
+    valgrind --tool=callgrind --callgrind-out-file=callgrind "$program" session 0.05 \
+        <"$1" >"$1.replies" 2>log
+    awk '/Collected/ { print $NF }' log
+)
+
+# Says what KIND took after these lines had been served, shared by so many, and at most how much.
+measure() {
+    kind=$1 before=$2 taken=$3 shares=$4 most=$5
+    each=$(((taken - before) / shares))
+    echo "$kind: $each instructions each of $shares (at most $most)"
+    [ "$each" -le "$most" ] || failed=1
+}
+
+# A script of this kind after the scans.
+after_scans() {
+    python3 "$here/make_commands.py" "$1" | cat -- "$folder/scans" - >"$folder/$1"
+}
+
+: >"$folder/nothing"
+python3 "$here/make_commands.py" edits >"$folder/edits"
+measure edits "$(count nothing)" "$(count edits)" 100000 3400
+scans=$(count scans)
+after_scans gets
+measure gets "$scans" "$(count gets)" 20000 2200
+after_scans list
+measure 'blocks of a list' "$scans" "$(count list)" 1000000 300
+after_scans casts
+measure casts "$scans" "$(count casts)" 1000 3500
+after_scans ignoring
+measure 'casts that ignore unknown voxels' "$scans" "$(count ignoring)" 1000 26000
+after_scans snapshot
+taken=$(count snapshot)
+bytes=$(awk '/^saved/ { print $2 }' "$folder/snapshot.replies")
+measure 'bytes of a snapshot, written and restored' "$scans" "$taken" "${bytes:-1}" 300
+exit "$failed"
