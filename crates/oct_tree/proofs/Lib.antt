@@ -8,6 +8,8 @@ pub mod Surveys
 pub mod Formed
 pub mod Grown
 pub mod Within
+pub mod Tidy
+pub mod Fillings
 pub mod Over
 pub mod Tidied
 pub mod Callers

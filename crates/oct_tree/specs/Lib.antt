@@ -6,3 +6,4 @@ pub mod Shape
 pub mod Changes
 pub mod Passes
 pub mod Tidiness
+pub mod Filled

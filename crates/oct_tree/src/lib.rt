@@ -42,8 +42,8 @@
 //! Edits, passes, queries and the map stand on this crate. They cite the definitions in `specs/`,
 //! and `proofs/` has the lemmas for them: how paths run and which places they read (`Paths`), what
 //! they come to over a block (`Over`), which blocks a change leaves alone (`Frames`), what joins
-//! the two (`Links`), what more room leaves (`Grown`), and how a pass goes from the children of a
-//! block to the block (`Within`).
+//! the two (`Links`), what more room leaves (`Grown`), how a pass goes from the children of a block
+//! to the block (`Within`), and how a block is filled child by child (`Fillings`).
 #![tactic(auto)]
 
 mod nodes;
