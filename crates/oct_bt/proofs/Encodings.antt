@@ -12,20 +12,20 @@ use Rattle.oct_odds.specs.declared.event.Class.{Class}
 use Rattle.oct_odds.specs.declared.event.Class.TheVariants.{Unknown, Free, Occupied}
 use Rattle.oct_values.specs.Blocks.{child_numbers}
 use Rattle.oct_values.proofs.Eights.{all_eight}
-use Rattle.oct_io.specs.Told.{appended}
+use Rattle.oct_io.specs.Taken.{IsCutOff, IsGathered, IsTaken, IsRefused}
+use Rattle.oct_io.proofs.Gathering.{gathered_first, taken_more, refused_first, refused_second}
 use Rattle.oct_bt.specs.declared.mixture.Mixture.{Mixture}
 use Rattle.oct_bt.specs.declared.mixture.Mixture.TheVariants.{Pure, Mixed}
 use Rattle.oct_values.specs.Classes.{Classes, class_of_block}
 use Rattle.oct_bt.specs.Records.{class_code, code_bytes}
 use Rattle.oct_bt.specs.Canonical.{child_codes, data_of_child, data_below, is_unknown, canonical_data, canonical_size, known_codes, node_total}
 use Rattle.oct_bt.specs.File.{text_of_lines, header_lines, header_text, bt_text}
-use Rattle.oct_bt.specs.Mixtures.{IsMixtureOf, leaves_text, IsCounted, IsCutOff}
+use Rattle.oct_bt.specs.Mixtures.{IsMixtureOf, leaves_text, IsCounted}
 use Rattle.oct_bt.proofs.Alike.{class_of_all, class_of_each}
 use Rattle.oct_bt.proofs.Uniform.{one_class_down, repeated}
 use Rattle.oct_bt.proofs.Canonicals.{flat_map-same}
 use Rattle.oct_bt.proofs.Injective.{unknown_exactly, data_of_known, data_of_unknown}
 use Rattle.oct_bt.proofs.Mixtures.{IsAbove, class_by_mixture}
-use Rattle.oct_bt.proofs.Writes.{cut_behind, appended_nothing, appended_twice}
 use Rattle.oct_bt.proofs.Counts.{to_tally, tally_small}
 
 -- ---- the data
@@ -102,16 +102,17 @@ root_above = record {
   child = λ i. (let deep = depth_child_of root_block i in omega (arith, deep));
 }
 
-pub counted_mixed : (c : Classes) (x : Class) (way nodes number : ℕ) → IsMixtureOf c 16 root_block (Mixed x way)
+pub counted_parted : (c : Classes) (nodes number : ℕ) → class_of_block c root_block ≡ None
     → IsCounted (data_below c 16 root_block) nodes number → IsDataCount c nodes number
-counted_mixed c x way nodes number is counted =
+counted_parted c nodes number none counted =
     let t = to_tally c 0 root_block nodes number root_above counted in
     let few = tally_small c 0 root_block root_above in
     let k = t.known in
     let r = t.records in
     let a = few.0 in
     let e = few.1 in
-    (subst (λ t. IsCounted t nodes number) (sym (data_of_root c (Mixed x way) is)) counted, omega (arith, k, a), omega (arith, r, e))
+    let whole : canonical_data c ≡ data_below c 16 root_block = known_root c (λ is. absurd (false≢true (ap is_some (sym none ∙ is)))) in
+    (subst (λ t. IsCounted t nodes number) (sym whole) counted, omega (arith, k, a), omega (arith, r, e))
 
 -- the number of nodes
 pub nodes_none : (c : Classes) (nodes : ℕ) → IsCounted (canonical_data c) nodes 0 → 0 ≡ canonical_size c
@@ -141,26 +142,32 @@ file_length res size number nodes header c s same long =
     let head : header ≡ length (header_text (canonical_size c) res) = long ∙ ap (λ (n : ℕ). length (header_text n res)) same in
     omega (arith, whole, data_long, head)
 
-pub sent_file : (res : ℕ) (c : Classes) (old out new : Option (List ℕ)) (header : List ℕ) → header ≡ header_text (canonical_size c) res
-    → out ≡ appended old header → new ≡ appended out (canonical_data c) → new ≡ appended old (bt_text res c)
-unfolding bt_text
-sent_file res c old out new header is before after =
-    after ∙ ap (λ o. appended o (canonical_data c)) before ∙ appended_twice old header (canonical_data c)
-    ∙ ap (λ t. appended old (t ++ canonical_data c)) is
+-- a gather that holds nothing
+holds_nothing : (old : Option (List ℕ)) (held : List ℕ) → held ≡ [] → IsGathered [] old old held
+holds_nothing old held none = subst (IsGathered [] old old) (sym none) (gathered_first old)
 
-pub cut_header : (res : ℕ) (c : Classes) (old new : Option (List ℕ)) (header : List ℕ) → header ≡ header_text (canonical_size c) res
-    → IsCutOff old new header → IsCutOff old new (bt_text res c)
+pub sent_file : (res : ℕ) (c : Classes) (old out new : Option (List ℕ)) (none held left header : List ℕ) → none ≡ []
+    → header ≡ header_text (canonical_size c) res → IsTaken header old none out held → IsTaken (canonical_data c) out held new left
+    → IsGathered (bt_text res c) old new left
 unfolding bt_text
-cut_header res c old new header is cut =
+sent_file res c old out new none held left header empty is before after =
+    subst (λ t. IsGathered t old new left) (ap (λ t. t ++ canonical_data c) is)
+    (taken_more header (canonical_data c) old out new none held left before after [] old (holds_nothing old none empty))
+
+pub cut_header : (res : ℕ) (c : Classes) (old new : Option (List ℕ)) (none header : List ℕ) → none ≡ []
+    → header ≡ header_text (canonical_size c) res → IsRefused header old none new → IsCutOff old new (bt_text res c)
+unfolding bt_text
+cut_header res c old new none header empty is cut =
     subst (IsCutOff old new) (ap (λ t. t ++ canonical_data c) is)
-    (cut_behind old old new [] header (canonical_data c) (appended_nothing old) cut)
+    (refused_first header (canonical_data c) old new none cut [] old (holds_nothing old none empty))
 
-pub cut_data : (res : ℕ) (c : Classes) (old out new : Option (List ℕ)) (header : List ℕ) → header ≡ header_text (canonical_size c) res
-    → out ≡ appended old header → IsCutOff out new (canonical_data c) → IsCutOff old new (bt_text res c)
+pub cut_data : (res : ℕ) (c : Classes) (old out new : Option (List ℕ)) (none held header : List ℕ) → none ≡ []
+    → header ≡ header_text (canonical_size c) res → IsTaken header old none out held → IsRefused (canonical_data c) out held new
+    → IsCutOff old new (bt_text res c)
 unfolding bt_text
-cut_data res c old out new header is before cut =
-    subst (IsCutOff old new) (ap (λ t. header ++ t) (append-nil (canonical_data c)) ∙ ap (λ t. t ++ canonical_data c) is)
-    (cut_behind old out new header (canonical_data c) [] before cut)
+cut_data res c old out new none held header empty is before cut =
+    subst (IsCutOff old new) (ap (λ t. t ++ canonical_data c) is)
+    (refused_second header (canonical_data c) old out new none held before cut [] old (holds_nothing old none empty))
 
 -- the pieces of the header
 pub header_pieces : (nodes res : ℕ) (first second last : List ℕ) (size metres : List ℕ)

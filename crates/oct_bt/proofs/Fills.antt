@@ -28,7 +28,7 @@ use Rattle.oct_bt.proofs.Texts.{class_code_below, class_of_code}
 use Rattle.oct_bt.specs.Plain.{is_plain}
 use Rattle.oct_bt.proofs.Uniform.{repeated}
 use Rattle.oct_bt.proofs.Plains.{plain_class}
-use Rattle.oct_bt.proofs.Tidy.{tidy_leaf, tidy_whole}
+use Rattle.oct_tree.proofs.Tidy.{tidy_leaf, tidy_whole, none_live}
 use Rattle.oct_bt.proofs.Fillings.{filling_first, filling_next}
 
 -- the first i children of the place's block are filled from a record, and what is left of it are
@@ -306,10 +306,12 @@ plain_filled t u b d codes r tail first second is text one two plain filled =
         let room = f.room in
         let none = row.none in (
           record {
-            inside = λ k inmap held. f.inside k inmap held
-                ∙ ap (value_for t.odds) (sym (row.classes (child_index_of d k) k (child_index_below d k)));
-            outside = f.outside;
-            tidy = f.tidy;
+            whole = record {
+              inside = λ k inmap held. f.whole.inside k inmap held
+                  ∙ ap (value_for t.odds) (sym (row.classes (child_index_of d k) k (child_index_below d k)));
+              outside = f.whole.outside;
+              tidy = f.whole.tidy;
+            };
             room = omega (arith, room);
           },
           omega (arith, none),
@@ -339,23 +341,13 @@ pub root_filled : (t u : Tree) (codes : List ℕ) (c : Classes) → IsDataOf c c
     → (k : Voxel) → IsInMap k → value_at u k ≡ value_for t.odds (c k)
 root_filled t u codes c (inl (empty, all)) some filled k ok = (let l : length codes ≡ 0 = ap length empty in absurd (omega (arith, l, some)))
 root_filled t u codes c (inr (r, is, text, gives)) some filled k ok =
-    (filled r [] is (text ∙ sym (append-nil (flat r)))).inside k ok (root_holds k ok) ∙ ap (value_for t.odds) (gives k ok)
+    (filled r [] is (text ∙ sym (append-nil (flat r)))).whole.inside k ok (root_holds k ok) ∙ ap (value_for t.odds) (gives k ok)
 
 pub none_filled : (t : Tree) (codes : List ℕ) (c : Classes) → IsLinked t → t.root ≡ Absent → IsDataOf c codes → length codes ≡ 0
     → (k : Voxel) → IsInMap k → value_at t k ≡ value_for t.odds (c k)
 none_filled t codes c l none (inl (empty, all)) few k ok =
     place_value t Root root_block l tt refl (ap link_of none) k ok (root_holds k ok) ∙ ap value_of none ∙ sym (ap (value_for t.odds) (all k ok))
 none_filled t codes c l none (inr (r, is, text, gives)) few k ok = (let m : length codes ≡ length (flat r) = ap length text in absurd (omega (arith, m, few)))
-
--- a tree of the unknown world has no group
-none_live : (gs : Groups) → ((x : ℕ) → entry gs x ≡ None) → live gs ≡ 0
-none_live [] none = refl
-none_live (e ∷ gs) none =
-    let first : e ≡ None = none 0 in
-    let rest : live gs ≡ 0 = none_live gs (λ x. none (suc x)) in
-    let all : live (e ∷ gs) ≡ cond {A = ℕ} (is_some e) 1 0 + live gs = sum_by-cons (λ (x : Option Group). cond (is_some x) 1 0) e gs in
-    let zero_is : cond {A = ℕ} (is_some e) 1 0 ≡ 0 = ap (λ (x : Option Group). cond {A = ℕ} (is_some x) 1 0) first in
-    omega (arith, rest, all, zero_is)
 
 -- how many groups there are, and how much room is left
 pub record HasFilled (t u : Tree) (most : ℕ) : Type 0 where
@@ -386,10 +378,10 @@ has_filled t u codes whole size same some accepted room shape l none filled =
     by r =
         let f = filled r.r [] r.is r.text in
         let empty = none_live t.groups (shape.bare (ap link_of none)) in
-        let tidy = tidy_whole u l f.tidy in
+        let tidy = tidy_whole u l f.whole.tidy in
         let before = live_spare t.groups in
         let after = live_spare u.groups in
-        let kept = f.outside.length in
+        let kept = f.whole.outside.length in
         let taken = f.room in
         let long : length whole ≡ length (flat r.r) = ap length (sym same ∙ r.text ∙ append-nil (flat r.r)) in
         let counted = flat_counted r.r in

@@ -18,14 +18,15 @@ pub mod Headers
 pub mod HeadSteps
 pub mod FilesBack
 pub mod DataClassed
-pub mod Tidy
 pub mod Fillings
 pub mod Fills
 pub mod Short
 pub mod Mixtures
 pub mod Writes
+pub mod Parting
 pub mod Counts
 pub mod Encodings
+pub mod Adding
 pub mod Volumes
 pub mod Tallies
 pub mod Rewrites

@@ -1,7 +1,8 @@
 -- A file that is written again.
 use Rattle.std.proofs.Common.{◌≡◌, ℕ, inl, inr, List, [], ◌++◌, take, drop, Option, Result, Ok, Err, OnOk, OnErr, sym, subst, ◌∙◌, ap}
 use Rattle.oct_io.specs.Told.{appended}
-use Rattle.oct_io.proofs.Gathering.{IsGathered, gathered_first, gathered_push}
+use Rattle.oct_io.specs.Taken.{IsBegun, IsGathered, IsRefused, IsTaken}
+use Rattle.oct_io.proofs.Gathering.{gathered_first, gathered_push, cut_begun}
 use Rattle.oct_values.specs.Classes.{Classes}
 use Rattle.oct_bt.specs.Canonical.{canonical_data, canonical_size, node_total}
 use Rattle.oct_bt.specs.File.{FileRead, bt_text, file_text, header_text}
@@ -45,3 +46,10 @@ two_pushed text first second g0 g1 g2 n m old w1 w2 is none wrote1 held1 wrote2 
     subst (λ l. IsGathered l old w2 g2) (sym is) (gathered_push first second g1 g2 m old w1 w2
     (gathered_push [] first [] g1 n old old w1 (gathered_first old) (wrote1 ∙ ap (λ (l : List ℕ). appended old (take n (l ++ first))) none)
     (held1 ∙ ap (λ (l : List ℕ). drop n (l ++ first)) none)) wrote2 held2)
+
+-- the second of them was cut off
+pub two_refused : (text first second g0 g1 : List ℕ) (old w1 w2 : Option (List ℕ)) → text ≡ first ++ second → g0 ≡ []
+    → IsTaken first old g0 w1 g1 → IsRefused second w1 g1 w2 → IsBegun text old w2
+two_refused text first second g0 g1 old w1 w2 is none one cut =
+    subst (λ (l : List ℕ). IsBegun l old w2) (sym is) (cut_begun old w2 (first ++ second)
+    (cut first old (one [] old (subst (IsGathered [] old old) (sym none) (gathered_first old)))))

@@ -13,3 +13,5 @@ pub mod DataClasses
 pub mod Filled
 pub mod Mixtures
 pub mod Voxels
+pub mod Counts
+pub mod Parts

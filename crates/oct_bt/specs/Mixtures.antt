@@ -1,9 +1,8 @@
 -- What the voxels of a block are: of one class, or the first of them of one and then one of another.
-use Rattle.std.specs.Prelude.{◌≡◌, ◌≢◌, ℕ, zero, suc, ◌+◌, ◌*◌, ◌/◌, ◌%◌, ◌^◌, ◌<◌, Option, Some, None, List, [], ◌∷◌, length, take, ⊤}
+use Rattle.std.specs.Prelude.{◌≡◌, ◌≢◌, ℕ, zero, suc, ◌+◌, ◌*◌, ◌/◌, ◌%◌, ◌^◌, ◌<◌, Option, Some, None, List, [], ◌∷◌, length, ⊤}
 use Rattle.oct_key.specs.Voxel.{Voxel}
 use Rattle.oct_key.specs.Block.{Cube, child_of, lowest_voxel}
 use Rattle.oct_odds.specs.declared.event.Class.{Class}
-use Rattle.oct_io.specs.Told.{appended}
 use Rattle.oct_tree.specs.Tree.{Tree, value_at}
 use Rattle.oct_bt.specs.declared.mixture.Mixture.{Mixture}
 use Rattle.oct_bt.specs.declared.mixture.Mixture.TheVariants.{Pure, Mixed}
@@ -49,23 +48,6 @@ IsMixtureOf classes depths b (Mixed x way) = (0 < way) × IsFirstOther classes x
 abbrev pub class_of_mixture : Mixture → Option Class
 class_of_mixture (Pure x) = Some x
 class_of_mixture (Mixed x way) = None
-
--- the mixtures are those of the children of a block from this one on
-unfoldable pub AreMixtures : Classes → ℕ → Cube → ℕ → List Mixture → Type 0
-AreMixtures classes depths b i [] = ⊤
-AreMixtures classes depths b i (mixture ∷ more) =
-    IsMixtureOf classes depths (child_of b i) mixture × AreMixtures classes depths b (suc i) more
-
--- the codes of blocks of these mixtures, two bits for each, the first one in the lowest
-unfoldable pub mixture_codes : List Mixture → ℕ
-mixture_codes [] = 0
-mixture_codes (mixture ∷ more) =
-    block_code (class_of_mixture mixture) + 4 * mixture_codes more
-
--- of a text a part was written, and not all of it
-abbrev pub IsCutOff : Option (List ℕ) → Option (List ℕ) → List ℕ → Type 0
-IsCutOff old new text =
-    (count : ℕ) × (count < length text) × (new ≡ appended old (take count text))
 
 -- how many nodes a block of this class, or of several, has itself
 abbrev pub entry_nodes : Option Class → ℕ

@@ -1,17 +1,18 @@
 //! The file of a tree's classes.
-ghost use Rattle.std.specs.Prelude.{◌≡◌, ◌+◌, ◌*◌, ◌<◌, ◌≤◌, ◌^◌, OnOk, OnErr, IfOk, IsErrOf, length};
+ghost use Rattle.std.specs.Prelude.{◌≡◌, ◌⊎◌, ◌+◌, ◌*◌, ◌<◌, ◌≤◌, ◌↔◌, ◌^◌, IsTrue, OnOk, OnErr, IfOk, IsErrOf, length};
 ghost use Rattle.oct_key.specs.Block.{root_block};
+ghost use Rattle.oct_io.specs.Taken.{IsCutOff, IsRefused, IsTaken};
 ghost use Rattle.oct_io.specs.Told.{Rose, appended};
 ghost use Rattle.oct_bt.specs.Canonical.{canonical_data, canonical_size};
 ghost use Rattle.oct_bt.specs.File.{header_text, bt_text};
-ghost use Rattle.oct_bt.specs.Mixtures.{classes_in, leaves_text, IsMixtureOf, IsCounted, IsCutOff};
+ghost use Rattle.oct_bt.specs.Mixtures.{classes_in, leaves_text, IsMixtureOf, IsCounted};
 
-use crate::counting::{DataCount, count_block};
+use crate::counting::{BlockCount, Kind, count_at};
 use crate::mixture::{Mixture, mixture_at};
 use crate::writing::{write_block, write_record};
 use arrayvec::ArrayString;
 use itoa::Buffer;
-use oct_io::{Sink, SinkFault, write_all};
+use oct_io::{Gather, Sink, SinkFault};
 use oct_key::Res;
 use oct_num::metres_text;
 use oct_odds::Class;
@@ -37,42 +38,36 @@ pub(crate) fn header_of(nodes: u64, res: Res) -> ArrayString<256>
     text
 }
 
-/// What the node data of a map has that is all of this class.
-fn count_leaves(class: Class) -> DataCount
-    ensures counted { IsCounted (leaves_text class) result.known result.records }
-    ensures few { (result.known ≤ 8) × (result.records ≤ 1) }
+/// Whether this is the kind of a block that is all of a known class.
+fn is_known(kind: Kind) -> bool
+    ensures { IsTrue result ↔ ((kind ≡ Kind.Free) ⊎ (kind ≡ Kind.Occupied)) }
 {
-    match class {
-        Class::Unknown => DataCount {
-            known: 0,
-            records: 0,
-        },
-        Class::Free | Class::Occupied => DataCount {
-            known: 8,
-            records: 1,
-        },
-    }
+    matches!(kind, Kind::Free | Kind::Occupied)
 }
 
-/// What the node data of the whole map has, which is of this mixture.
-fn count_data(tree: &OccTree, mixture: Mixture) -> DataCount
-    requires { IsMixtureOf (classes_in tree.now) 16 root_block mixture }
+/// What the node data of the whole map has. A map of one known class has eight leaves.
+fn count_data(tree: &OccTree) -> BlockCount
     ensures counted { IsCounted (canonical_data (classes_in tree.now)) result.known result.records }
     ensures small { result.known < 2 ^ 50 }
     ensures few { result.records < 2 ^ 51 }
 {
-    match mixture {
-        Mixture::Pure(class) => count_leaves(class),
-        Mixture::Mixed(class, way) => count_block(tree, Place::Root, 0, class, way),
+    let count = count_at(tree, Place::Root, 0);
+    if is_known(count.kind) {
+        return BlockCount {
+            kind: count.kind,
+            known: 8,
+            records: 1,
+        };
     }
+    count
 }
 
 /// Writes the node data of a map that is all of this class.
-fn write_leaves<K: Sink>(class: Class, sink: &mut K) -> Result<(), SinkFault>
-    ensures written { OnOk result
-        (K.written sink.new ≡ appended (K.written sink.old) (leaves_text class)) }
+fn write_leaves<K: Sink>(class: Class, gather: &mut Gather, sink: &mut K) -> Result<(), SinkFault>
+    ensures written { OnOk result (IsTaken (leaves_text class)
+        (K.written sink.old) gather.old (K.written sink.new) gather.new) }
     ensures cut { OnErr result
-        (IsCutOff (K.written sink.old) (K.written sink.new) (leaves_text class)) }
+        (IsRefused (leaves_text class) (K.written sink.old) gather.old (K.written sink.new)) }
     ensures stays { OnOk result
         ((K.faults sink.new ≡ K.faults sink.old) × (K.shortages sink.new ≡ K.shortages sink.old)) }
     ensures failed { IsErrOf result SinkFault.Failed → Rose (K.faults sink.old) (K.faults sink.new)
@@ -82,18 +77,23 @@ fn write_leaves<K: Sink>(class: Class, sink: &mut K) -> Result<(), SinkFault>
 {
     match class {
         Class::Unknown => Ok(()),
-        Class::Free => write_record(sink, 0x5555),
-        Class::Occupied => write_record(sink, 0xaaaa),
+        Class::Free => write_record(0x5555, gather, sink),
+        Class::Occupied => write_record(0xaaaa, gather, sink),
     }
 }
 
 /// Writes the node data of the whole map, which is of this mixture.
-fn write_data<K: Sink>(tree: &OccTree, mixture: Mixture, sink: &mut K) -> Result<(), SinkFault>
+fn write_data<K: Sink>(
+    tree: &OccTree,
+    mixture: Mixture,
+    gather: &mut Gather,
+    sink: &mut K,
+) -> Result<(), SinkFault>
     requires { IsMixtureOf (classes_in tree.now) 16 root_block mixture }
-    ensures written { OnOk result (K.written sink.new
-        ≡ appended (K.written sink.old) (canonical_data (classes_in tree.now))) }
-    ensures cut { OnErr result (IsCutOff (K.written sink.old) (K.written sink.new)
-        (canonical_data (classes_in tree.now))) }
+    ensures written { OnOk result (IsTaken (canonical_data (classes_in tree.now))
+        (K.written sink.old) gather.old (K.written sink.new) gather.new) }
+    ensures cut { OnErr result (IsRefused (canonical_data (classes_in tree.now))
+        (K.written sink.old) gather.old (K.written sink.new)) }
     ensures stays { OnOk result
         ((K.faults sink.new ≡ K.faults sink.old) × (K.shortages sink.new ≡ K.shortages sink.old)) }
     ensures failed { IsErrOf result SinkFault.Failed → Rose (K.faults sink.old) (K.faults sink.new)
@@ -102,8 +102,8 @@ fn write_data<K: Sink>(tree: &OccTree, mixture: Mixture, sink: &mut K) -> Result
         × Rose (K.shortages sink.old) (K.shortages sink.new) }
 {
     match mixture {
-        Mixture::Pure(class) => write_leaves(class, sink),
-        Mixture::Mixed(class, way) => write_block(tree, Place::Root, 0, class, way, sink),
+        Mixture::Pure(class) => write_leaves(class, gather, sink),
+        Mixture::Mixed(class, way) => write_block(tree, Place::Root, 0, class, way, gather, sink),
     }
 }
 
@@ -123,7 +123,7 @@ fn plan_file(tree: &OccTree) -> FilePlan
     ensures length { result.length ≡ length (bt_text tree.now.res (classes_in tree.now)) }
 {
     let mixture = mixture_at(tree, Place::Root, 0);
-    let count = count_data(tree, mixture);
+    let count = count_data(tree);
     let nodes = if count.records == 0 {
         0
     } else {
@@ -149,8 +149,9 @@ pub fn encoded_len(tree: &OccTree) -> u64
 /// collapsed and blocks of several values but one class are written as if they were one node, so
 /// that the file depends on the classes of the voxels alone.
 ///
-/// Takes no memory, and hands each record on. After an error a part of the file was written, and
-/// exactly one write of the sink gave up, for that reason.
+/// Takes no memory, looks at each node a few times, however deep the tree is, and hands the sink
+/// pieces of 4,096 bytes. After an error a part of the file was written, and exactly one write of the
+/// sink gave up, for that reason.
 pub fn write<K: Sink>(tree: &OccTree, sink: &mut K) -> Result<u64, SinkFault>
     ensures length { IfOk result
         (λ bytes. bytes ≡ length (bt_text tree.now.res (classes_in tree.now))) }
@@ -166,7 +167,9 @@ pub fn write<K: Sink>(tree: &OccTree, sink: &mut K) -> Result<u64, SinkFault>
         × Rose (K.shortages sink.old) (K.shortages sink.new) }
 {
     let plan = plan_file(tree);
-    write_all(sink, plan.header.as_bytes())?;
-    write_data(tree, plan.mixture, sink)?;
+    let mut gather = Gather::new();
+    gather.push(sink, plan.header.as_bytes())?;
+    write_data(tree, plan.mixture, &mut gather, sink)?;
+    gather.flush(sink)?;
     Ok(plan.length)
 }

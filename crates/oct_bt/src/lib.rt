@@ -13,8 +13,8 @@
 //! - [`fill`] makes a tree of a file: each voxel gets the value of its class, no group could be
 //!   collapsed, and each Inner value is the greatest of its group. The groups are at most the
 //!   records; a record is read once, and its group closed once.
-//! - [`write`] writes the canonical file of a tree's classes to a sink, record by record, and
-//!   answers its length, which [`encoded_len`] tells beforehand. What it writes depends on the
+//! - [`write`] writes the canonical file of a tree's classes to a sink, in pieces of 4,096 bytes,
+//!   and answers its length, which [`encoded_len`] tells beforehand. What it writes depends on the
 //!   classes of the voxels alone (`bt_text` in `specs/File.antt`), also on trees that aren't pruned.
 //! - [`rewrite`] writes a file that was read with its records as they are. Where they are canonical
 //!   that is the canonical file, with no tree made.

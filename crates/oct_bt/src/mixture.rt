@@ -27,6 +27,7 @@ impl Default for Mixture {
 }
 
 /// What the voxels of a node's block count as, where the node isn't Inner.
+#[inline(always)]
 pub(crate) fn leaf_class(tree: &OccTree, node: Node) -> Class
     ensures { link_of node ≡ None → result ≡ class_of tree.now.odds (value_of node) }
 {

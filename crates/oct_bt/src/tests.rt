@@ -1,4 +1,7 @@
-use crate::{BtFault, HeaderWord, Reader, push_fault};
+use crate::{BtFault, BtFile, HeaderWord, Reader, fill, push_fault, write};
+use oct_io::{KeptList, MemSink, SinkFault};
+use oct_odds::OddsModel;
+use oct_tree::OccTree;
 use std::alloc::Global;
 use std::test::Fail;
 
@@ -340,5 +343,39 @@ fn names_each_fault_with_its_number_and_fields(rt: HostRuntime) -> Result<(), Fa
     let mut out = Vec::from_slice(rt.alloc(), b"refused ")?;
     assert!(rt; push_fault(&mut out, BtFault::Memory).is_err());
     assert_eq!(rt; out.as_slice(), b"refused ".as_slice());
+    Ok(())
+}
+
+/// The file of a header and node data.
+fn file_of(alloc: Global, header: &str, data: &[u8]) -> Result<BtFile, BtFault> {
+    let mut reader = Reader::new(alloc);
+    reader.feed(header.as_bytes())?;
+    reader.feed(data)?;
+    reader.finish()
+}
+
+/// A sink of which the write of this number fails.
+fn failing(alloc: Global, number: u64) -> Result<MemSink, Fail> {
+    let mut fails = KeptList::new(alloc);
+    fails.push(number)?;
+    Ok(MemSink::new(alloc, 4096, fails))
+}
+
+#[test]
+fn hands_a_sink_whole_pieces(rt: HostRuntime) -> Result<(), Fail> {
+    let Ok(file) = file_of(rt.alloc(), HEADER, ONE_VOXEL) else {
+        return Ok(());
+    };
+    let mut tree = OccTree::new(rt.alloc(), file.res(), OddsModel::default());
+    assert_eq!(rt; file.records(), 16);
+    tree.reserve(16)?;
+    fill(&file, &mut tree);
+    // The header and all records come in one write: the second one would fail.
+    let mut sink = failing(rt.alloc(), 2)?;
+    assert_eq!(rt; write(&tree, &mut sink), Ok(169));
+    assert_eq!(rt; sink.written().get(137..), Some(ONE_VOXEL));
+    let mut sink = failing(rt.alloc(), 1)?;
+    assert_eq!(rt; write(&tree, &mut sink), Err(SinkFault::Failed));
+    assert_eq!(rt; sink.written(), [].as_slice());
     Ok(())
 }

@@ -1,22 +1,46 @@
 //! The writing of a tree's classes, record by record.
-ghost use Rattle.std.specs.Prelude.{◌≡◌, ◌+◌, ◌-◌, ◌<◌, ◌≤◌, Some, None, OnOk, OnErr, IsErrOf, length};
+ghost use Rattle.std.specs.Prelude.{◌≡◌, ◌+◌, ◌-◌, ◌<◌, ◌≤◌, [], Some, None, OnOk, OnErr, IsErrOf};
 ghost use Rattle.oct_key.specs.Block.{Cube, child_of};
 ghost use Rattle.oct_odds.specs.declared.event.Class.{Class};
-ghost use Rattle.oct_io.specs.Told.{Rose, appended};
+ghost use Rattle.oct_io.specs.Taken.{IsRefused, IsTaken};
+ghost use Rattle.oct_io.specs.Told.{Rose};
 ghost use Rattle.oct_arena.specs.Nodes.{link_of};
 ghost use Rattle.oct_tree.specs.Tree.{IsLinked, IsPlace, block_in, node_in};
 ghost use Rattle.oct_bt.specs.Records.{code_bytes};
 ghost use Rattle.oct_bt.specs.Canonical.{block_code, data_below};
-ghost use Rattle.oct_bt.specs.Mixtures.{classes_in, class_of_mixture, mixture_codes, AreMixtures, IsMixtureOf, IsFirstOther, IsCutOff};
+ghost use Rattle.oct_bt.specs.Mixtures.{classes_in, class_of_mixture, IsMixtureOf, IsFirstOther};
+ghost use Rattle.oct_bt.specs.Parts.{IsRecordOf};
 
-use crate::mixture::{Mixture, mixture_at};
+use crate::mixture::{Mixture, leaf_class, mixture_at};
 use arrayvec::ArrayVec;
 use oct_arena::{GroupId, Node};
-use oct_io::{Sink, SinkFault, write_all};
+use oct_io::{Gather, Sink, SinkFault};
 use oct_odds::Class;
 use oct_tree::{OccTree, Place};
 
+/// A child whose voxels are of several classes.
+#[derive(Clone, Copy)]
+pub(crate) struct Part {
+    /// Its child index.
+    pub(crate) i: u8,
+    /// The class of its first voxels.
+    pub(crate) class: Class,
+    /// The way from it to its first voxel of another class.
+    pub(crate) way: u64,
+}
+
+impl Default for Part {
+    fn default() -> Self {
+        Part {
+            i: 0,
+            class: Class::Unknown,
+            way: 0,
+        }
+    }
+}
+
 /// The code of a block of this mixture.
+#[inline(always)]
 fn code_of(mixture: Mixture) -> u8
     ensures code { result ≡ block_code (class_of_mixture mixture) }
     ensures small { result < 4 }
@@ -29,21 +53,10 @@ fn code_of(mixture: Mixture) -> u8
     }
 }
 
-/// The codes of eight blocks, two bits for each, the first one in the lowest.
-fn codes_of(mixtures: &[Mixture]) -> u16
-    requires { length mixtures.now ≡ 8 }
-    ensures { result ≡ mixture_codes mixtures.now }
-{
-    let mut codes: u16 = 0;
-    for done in 0..8 {
-        codes = u16::from(code_of(mixtures[7 - done])) + 4 * codes;
-    }
-    codes
-}
-
 /// The mixture of a child of an Inner place's block, which has this depth, and of which this way
 /// leads to the first voxel that isn't of the class. Only a child that begins there or behind it is
 /// looked at.
+#[inline(always)]
 fn child_mixture(
     tree: &OccTree,
     p: Place,
@@ -64,6 +77,11 @@ fn child_mixture(
     ensures { (b : Cube) → block_in tree.now p ≡ Some b
         → IsMixtureOf (classes_in tree.now) (16 - (depth + 1)) (child_of b i) result }
 {
+    let slot = Place::Slot(id, i);
+    let node = tree.node(slot);
+    let Node::Inner(..) = node else {
+        return Mixture::Pure(leaf_class(tree, node));
+    };
     let at = (way % 8) as u8;
     if i < at {
         return Mixture::Pure(class);
@@ -71,18 +89,22 @@ fn child_mixture(
     if i == at && way / 8 > 0 {
         return Mixture::Mixed(class, way / 8);
     }
-    mixture_at(tree, Place::Slot(id, i), depth + 1)
+    mixture_at(tree, slot, depth + 1)
 }
 
-/// The mixtures of the children of an Inner place's block.
-pub(crate) fn child_mixtures(
+/// The codes of an Inner place's block, which has this depth, and of which this way leads to the
+/// first voxel that isn't of the class: two bits for each child, the first one in the lowest. Notes
+/// the children of several classes, the last one first.
+#[inline(always)]
+fn read_record(
     tree: &OccTree,
     p: Place,
     id: GroupId,
     depth: u8,
     class: Class,
     way: u64,
-) -> ArrayVec<Mixture, 8>
+    parts: &mut ArrayVec<Part, 8>,
+) -> u16
     requires place { IsPlace tree.now p }
     requires block { (b : Cube) → block_in tree.now p ≡ Some b → b.depth ≡ depth }
     requires link { link_of (node_in tree.now p) ≡ Some id.number }
@@ -90,23 +112,32 @@ pub(crate) fn child_mixtures(
     requires levels { depth ≤ 15 }
     requires mixed { (b : Cube) → block_in tree.now p ≡ Some b
         → IsFirstOther (classes_in tree.now) class (16 - depth) b way }
-    ensures count { length result.items ≡ 8 }
-    ensures mixtures { (b : Cube) → block_in tree.now p ≡ Some b
-        → AreMixtures (classes_in tree.now) (16 - (depth + 1)) b 0 result.items }
+    requires none { parts.old.items ≡ [] }
+    ensures { (b : Cube) → block_in tree.now p ≡ Some b
+        → IsRecordOf (classes_in tree.now) depth b result parts.new.items }
 {
-    let mut mixtures = ArrayVec::new();
-    for i in 0..8 {
-        mixtures.push(child_mixture(tree, p, id, depth, class, way, i));
+    let mut codes: u16 = 0;
+    for done in 0..8 {
+        let i = 7 - done;
+        let mixture = child_mixture(tree, p, id, depth, class, way, i);
+        codes = u16::from(code_of(mixture)) + 4 * codes;
+        if let Mixture::Mixed(class, way) = mixture {
+            parts.push(Part { i, class, way });
+        }
     }
-    mixtures
+    codes
 }
 
 /// Writes the two bytes of a record.
-pub(crate) fn write_record<K: Sink>(sink: &mut K, codes: u16) -> Result<(), SinkFault>
-    ensures written { OnOk result
-        (K.written sink.new ≡ appended (K.written sink.old) (code_bytes codes)) }
+pub(crate) fn write_record<K: Sink>(
+    codes: u16,
+    gather: &mut Gather,
+    sink: &mut K,
+) -> Result<(), SinkFault>
+    ensures written { OnOk result (IsTaken (code_bytes codes)
+        (K.written sink.old) gather.old (K.written sink.new) gather.new) }
     ensures cut { OnErr result
-        (IsCutOff (K.written sink.old) (K.written sink.new) (code_bytes codes)) }
+        (IsRefused (code_bytes codes) (K.written sink.old) gather.old (K.written sink.new)) }
     ensures stays { OnOk result
         ((K.faults sink.new ≡ K.faults sink.old) × (K.shortages sink.new ≡ K.shortages sink.old)) }
     ensures failed { IsErrOf result SinkFault.Failed → Rose (K.faults sink.old) (K.faults sink.new)
@@ -114,7 +145,7 @@ pub(crate) fn write_record<K: Sink>(sink: &mut K, codes: u16) -> Result<(), Sink
     ensures memory { IsErrOf result SinkFault.Memory → (K.faults sink.new ≡ K.faults sink.old)
         × Rose (K.shortages sink.old) (K.shortages sink.new) }
 {
-    write_all(sink, &[(codes % 256) as u8, (codes / 256) as u8])
+    gather.push(sink, &[(codes % 256) as u8, (codes / 256) as u8])
 }
 
 /// Writes the data of a place's block, which has this depth, and of which this way leads to the
@@ -125,6 +156,7 @@ pub(crate) fn write_block<K: Sink>(
     depth: u8,
     class: Class,
     way: u64,
+    gather: &mut Gather,
     sink: &mut K,
 ) -> Result<(), SinkFault>
     requires place { IsPlace tree.now p }
@@ -133,11 +165,11 @@ pub(crate) fn write_block<K: Sink>(
     requires mixed { (b : Cube) → block_in tree.now p ≡ Some b
         → (0 < way) × IsFirstOther (classes_in tree.now) class (16 - depth) b way }
     ensures written { OnOk result ((b : Cube) → block_in tree.now p ≡ Some b
-        → K.written sink.new
-        ≡ appended (K.written sink.old) (data_below (classes_in tree.now) (16 - depth) b)) }
+        → IsTaken (data_below (classes_in tree.now) (16 - depth) b)
+        (K.written sink.old) gather.old (K.written sink.new) gather.new) }
     ensures cut { OnErr result ((b : Cube) → block_in tree.now p ≡ Some b
-        → IsCutOff (K.written sink.old) (K.written sink.new)
-        (data_below (classes_in tree.now) (16 - depth) b)) }
+        → IsRefused (data_below (classes_in tree.now) (16 - depth) b)
+        (K.written sink.old) gather.old (K.written sink.new)) }
     ensures stays { OnOk result
         ((K.faults sink.new ≡ K.faults sink.old) × (K.shortages sink.new ≡ K.shortages sink.old)) }
     ensures failed { IsErrOf result SinkFault.Failed → Rose (K.faults sink.old) (K.faults sink.new)
@@ -149,13 +181,12 @@ pub(crate) fn write_block<K: Sink>(
     let Node::Inner(_, id) = tree.node(p) else {
         unreachable!();
     };
-    let mixtures = child_mixtures(tree, p, id, depth, class, way);
-    let codes = codes_of(&mixtures);
-    write_record(sink, codes)?;
-    for i in 0..8 {
-        if let Mixture::Mixed(class, way) = mixtures[usize::from(i)] {
-            write_block(tree, Place::Slot(id, i), depth + 1, class, way, sink)?;
-        }
+    let mut parts = ArrayVec::new();
+    let codes = read_record(tree, p, id, depth, class, way, &mut parts);
+    write_record(codes, gather, sink)?;
+    while let Some(part) = parts.pop() {
+        let slot = Place::Slot(id, part.i);
+        write_block(tree, slot, depth + 1, part.class, part.way, gather, sink)?;
     }
     Ok(())
 }

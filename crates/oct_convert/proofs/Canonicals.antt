@@ -38,6 +38,16 @@ same_text : (res : ℕ) (c e : Classes) → canonical_data c ≡ canonical_data 
 unfolding bt_text canonical_size
 same_text res c e same = ap (λ (data' : List ℕ). header_text (node_total data') res ++ data') same
 
+-- a tree that was filled has the classes of the file
+pub filled_classes : (s t u : Tree) (file : FileRead) → s.odds ≡ default_odds → IsGrown s t → IsAccepted file.nodes file.codes
+    → ((classes : Classes) → IsDataOf classes file.codes → (k : Voxel) → IsInMap k → value_at u k ≡ value_for t.odds (classes k))
+    → u.odds ≡ t.odds → (k : Voxel) → IsInMap k → classes_of u.odds (value_at u) k ≡ data_classes file.codes k
+filled_classes s t u file odds grown accepted values kept_odds k in_map =
+    ap (class_of u.odds) (values (data_classes file.codes) (data_classed file.nodes file.codes accepted) k in_map)
+    ∙ ap (λ (o : Odds). class_of o (value_for t.odds (data_classes file.codes k))) (kept_odds ∙ grown.odds ∙ odds)
+    ∙ ap (λ (o : Odds). class_of default_odds (value_for o (data_classes file.codes k))) (grown.odds ∙ odds)
+    ∙ class_kept (data_classes file.codes k)
+
 -- the text of a tree that was filled is that of the file
 pub filled_text : (s t u : Tree) (file : FileRead) → s.res ≡ file.res → s.odds ≡ default_odds → IsGrown s t → IsAccepted file.nodes file.codes
     → ((classes : Classes) → IsDataOf classes file.codes → (k : Voxel) → IsInMap k → value_at u k ≡ value_for t.odds (classes k))
@@ -45,14 +55,8 @@ pub filled_text : (s t u : Tree) (file : FileRead) → s.res ≡ file.res → s.
 filled_text s t u file res odds grown accepted values kept_res kept_odds =
     ap (λ (r : ℕ). bt_text r (classes_of u.odds (value_at u))) (kept_res ∙ grown.res ∙ res)
     ∙ same_text file.res (classes_of u.odds (value_at u)) (data_classes file.codes)
-    (same_data (classes_of u.odds (value_at u)) (data_classes file.codes) same)
-  where
-    same : (k : Voxel) → IsInMap k → classes_of u.odds (value_at u) k ≡ data_classes file.codes k
-    same k in_map =
-        ap (class_of u.odds) (values (data_classes file.codes) (data_classed file.nodes file.codes accepted) k in_map)
-        ∙ ap (λ (o : Odds). class_of o (value_for t.odds (data_classes file.codes k))) (kept_odds ∙ grown.odds ∙ odds)
-        ∙ ap (λ (o : Odds). class_of default_odds (value_for o (data_classes file.codes k))) (grown.odds ∙ odds)
-        ∙ class_kept (data_classes file.codes k)
+    (same_data (classes_of u.odds (value_at u)) (data_classes file.codes)
+    (filled_classes s t u file odds grown accepted values kept_odds))
 
 -- a file whose node data is canonical, written again, is the canonical one
 again : (file : FileRead) → IsAccepted file.nodes file.codes → is_canonical_data file.codes ≡ true → file_text file ≡ canonical_text file

@@ -18,6 +18,8 @@
 //!   functions of the input's bytes). Nothing is written before the input has ended; on a fault of
 //!   the sink, or where memory runs out, a prefix of that text was. `specs/Ending.antt` says how
 //!   each may end.
+//! - [`refuse`] ends any such task for which there is no file, so that a program's own tasks over a
+//!   file end as these do.
 //! - A count of faults rises by one exactly where the ending names the fault.
 //!
 //! `convert` writes a file whose node data is canonical with the records that were read. Of any other
@@ -34,4 +36,4 @@ mod texts;
 
 pub use ending::Ending;
 pub use input::{NoFile, read_file};
-pub use tasks::{convert, inspect};
+pub use tasks::{convert, inspect, refuse};

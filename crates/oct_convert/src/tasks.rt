@@ -89,11 +89,12 @@ pub fn inspect<S: Source, K: Sink>(
 }
 
 /// Ends a task for which there is no file: where the input isn't one, its refusal is written.
-fn refuse<K: Sink>(alloc: Global, reason: NoFile, sink: &mut K) -> Ending
+pub fn refuse<K: Sink>(alloc: Global, reason: NoFile, sink: &mut K) -> Ending
     ensures ends { (text : FileRead → List ℕ) (most : ℕ) (bytes : List ℕ)
         (left : Option (List ℕ)) → MayRead most bytes left (Err reason)
         → MayEnd (task_answer text most bytes) most bytes left
         (K.written sink.old) (K.written sink.new) result }
+    ensures undone { result ≢ Ending.Done }
     ensures read_fault { result ≡ Ending.ReadFault ↔ reason ≡ NoFile.ReadFault }
     ensures write_fault { result ≡ Ending.WriteFault
         → Rose (K.faults sink.old) (K.faults sink.new) }

@@ -5,7 +5,8 @@ use Rattle.oct_tree.specs.Tree.{IsLinked}
 use Rattle.oct_tree.proofs.Paths.{place_block}
 use Rattle.oct_tree.proofs.Within.{place_by_block}
 use Rattle.oct_bt.specs.Records.{class_by, record_count}
-use Rattle.oct_bt.proofs.Fillings.{slot_asked, filling_all}
+use Rattle.oct_tree.proofs.Fillings.{slot_asked}
+use Rattle.oct_bt.proofs.Fillings.{filling_all}
 use Rattle.oct_bt.proofs.Fills.{IsUnderWay, plain_filled, under_first, under_leaf, under_record, under_all, record_ahead, ahead_within, ahead_fits}
 use Rattle.oct_bt.proofs.filling.+fill_block.Goals as goal
 use Rattle.oct_bt.proofs.filling.+fill_block.Goals.{then-rest-eq3, else-rest-eq3}
@@ -36,8 +37,8 @@ fill_block-next-requires t c =
     let (r, tail, is, text, room) = c.requires.record_there in
     let (b, at) = place_block c.args.tree.now c.args.p c.requires.place in
     let s = c.loop-i.invariant.under r tail b is text at in
-    let a = slot_asked c.args.tree.now c.loop-i.tree c.args.p c.split-id.result b c.args.depth c.loop-i.i _ _ (c.requires.block b at)
-    c.loop-i-test.true c.requires.place s.filling in
+    let a = slot_asked c.args.tree.now c.loop-i.tree c.args.p c.split-id.result b c.args.depth c.loop-i.i _ (c.requires.block b at)
+    c.loop-i-test.true c.requires.place s.filling.part in
     let f = record_ahead _ _ _ _ _ _ _ _ _ _ _ _ room c.loop-i-test.true c.if-rest-eq3.true s in
     let low = f.low in (
       search rules,
@@ -64,8 +65,8 @@ overflow_add-next t c =
     let (r, tail, is, text, room) = c.requires.record_there in
     let (b, at) = place_block c.args.tree.now c.args.p c.requires.place in
     let s = c.loop-i.invariant.under r tail b is text at in
-    let a = slot_asked c.args.tree.now c.loop-i.tree c.args.p c.split-id.result b c.args.depth c.loop-i.i _ _ (c.requires.block b at)
-    c.loop-i-test.true c.requires.place s.filling in
+    let a = slot_asked c.args.tree.now c.loop-i.tree c.args.p c.split-id.result b c.args.depth c.loop-i.i _ (c.requires.block b at)
+    c.loop-i-test.true c.requires.place s.filling.part in
     let f = record_ahead _ _ _ _ _ _ _ _ _ _ _ _ room c.loop-i-test.true c.if-rest-eq3.true s in
     let fits = ahead_fits c.args.depth c.args.codes.now c.loop-i.next _ f in
     let took = (c.fill_block-next.ensures.filled f.r f.tail (child_of b c.loop-i.i) f.is (c.split_at.ensures.back ∙ f.text) a.block).1 in
@@ -79,8 +80,8 @@ fill_leaf-requires-else-rest-eq3-clause-place t c =
     let (r, tail, is, text, room) = c.requires.record_there in
     let (b, at) = place_block c.args.tree.now c.args.p c.requires.place in
     let s = c.loop-i.invariant.under r tail b is text at in
-    let a = slot_asked c.args.tree.now c.loop-i.tree c.args.p c.split-id.result b c.args.depth c.loop-i.i _ _ (c.requires.block b at)
-    c.loop-i-test.true c.requires.place s.filling in
+    let a = slot_asked c.args.tree.now c.loop-i.tree c.args.p c.split-id.result b c.args.depth c.loop-i.i _ (c.requires.block b at)
+    c.loop-i-test.true c.requires.place s.filling.part in
     a.place
 
 pub fill_leaf-requires-else-rest-eq3-clause-absent :
@@ -89,16 +90,16 @@ fill_leaf-requires-else-rest-eq3-clause-absent t c =
     let (r, tail, is, text, room) = c.requires.record_there in
     let (b, at) = place_block c.args.tree.now c.args.p c.requires.place in
     let s = c.loop-i.invariant.under r tail b is text at in
-    let a = slot_asked c.args.tree.now c.loop-i.tree c.args.p c.split-id.result b c.args.depth c.loop-i.i _ _ (c.requires.block b at)
-    c.loop-i-test.true c.requires.place s.filling in
+    let a = slot_asked c.args.tree.now c.loop-i.tree c.args.p c.split-id.result b c.args.depth c.loop-i.i _ (c.requires.block b at)
+    c.loop-i-test.true c.requires.place s.filling.part in
     a.absent
 
 pub loop-i-preserved : goal.loop-i-preserved
 loop-i-preserved t c = record {
   under = λ r tail b is text at.
       (let s = c.loop-i.invariant.under r tail b is text at in
-      let a = slot_asked c.args.tree.now c.loop-i.tree c.args.p c.split-id.result b c.args.depth c.loop-i.i _ _ (c.requires.block b at)
-      c.loop-i-test.true c.requires.place s.filling in
+      let a = slot_asked c.args.tree.now c.loop-i.tree c.args.p c.split-id.result b c.args.depth c.loop-i.i _ (c.requires.block b at)
+      c.loop-i-test.true c.requires.place s.filling.part in
       elim c.if-rest-eq3.branch [
         | then-rest-eq3 w ↦
             subst (λ u. IsUnderWay c.args.tree.now u c.args.p c.split-id.result b c.args.depth c.args.codes.now c.if-rest-eq3.next
@@ -131,14 +132,14 @@ settle-requires-clause-place t c =
     let (r, tail, is, text, room) = c.requires.record_there in
     let (b, at) = place_block c.args.tree.now c.args.p c.requires.place in
     let s = c.loop-i.invariant.under r tail b is text at in
-    place_by_block c.args.tree.now c.loop-i.tree c.args.p b c.requires.place s.filling.block
+    place_by_block c.args.tree.now c.loop-i.tree c.args.p b c.requires.place s.filling.part.block
 
 pub settle-requires-clause-inner : goal.settle-requires-clause-inner
 settle-requires-clause-inner t c =
     let (r, tail, is, text, room) = c.requires.record_there in
     let (b, at) = place_block c.args.tree.now c.args.p c.requires.place in
     let s = c.loop-i.invariant.under r tail b is text at in
-    ap is_some s.filling.link
+    ap is_some s.filling.part.link
 
 pub returns-clause-filled : goal.returns-clause-filled
 returns-clause-filled t c = λ r tail b is text at.
@@ -147,8 +148,8 @@ returns-clause-filled t c = λ r tail b is text at.
     let low = c.requires.levels in
     let all = under_all c.args.tree.now c.loop-i.tree c.args.p c.split-id.result b c.args.depth c.args.codes.now c.loop-i.next
     c.loop-i.rest c.loop-i.i r tail (omega arith) s in (
-      filling_all c.args.tree.now c.loop-i.tree c.settle.new.self c.args.p c.split-id.result b 8 (1 + record_count r)
-          (class_by c.args.depth r) c.settle.result (omega (arith, deep, low)) refl c.requires.linked c.requires.place all.filling
+      filling_all c.args.tree.now c.loop-i.tree c.settle.new.self c.args.p c.split-id.result b (1 + record_count r)
+          (class_by c.args.depth r) c.settle.result (omega (arith, deep, low)) c.requires.linked c.requires.place all.filling
           c.settle.ensures.linked c.settle.ensures.values c.settle.ensures.outside c.settle.ensures.when c.settle.ensures.collapsed
           c.settle.ensures.renewed,
       all.length,

@@ -24,7 +24,7 @@ outside c =
     let r = root_asked c.as_slice-codes.result.now c.args.file.now.nodes (spare c.args.tree.now.groups) some
     (subst (IsAccepted c.args.file.now.nodes) (sym (codes_are c)) c.codes.ensures.accepted)
     (subst (λ (bytes : List ℕ). record_total bytes ≤ spare c.args.tree.now.groups) (sym (codes_are c)) c.requires.room) in
-    (c.fill_block.ensures.filled r.r [] root_block r.is r.text refl).0.outside
+    (c.fill_block.ensures.filled r.r [] root_block r.is r.text refl).0.whole.outside
 
 pub fill_block-requires-clause-record_there : goal.fill_block-requires-clause-record_there
 fill_block-requires-clause-record_there c =
