@@ -144,7 +144,7 @@ pub whole_several : (t u : Tree) (p : Place) (id : GroupId) (b : Cube) (o : Odds
 unfolding value_in
 whole_several t u p id b o d bytes next g deep low ok are varied s =
     (node_is o (value_at u) (suc (16 - (d + 1))) d b (Parted g.nodes End) deep (omega (arith, low)) ok (are, varied, tt)
-    (λ k held. sym (s.filling.done (child_index_of b.depth k) k (child_index_below b.depth k) (held_in_map b k ok held)
+    (λ k held. sym (s.filling.part.done (child_index_of b.depth k) k (child_index_below b.depth k) (held_in_map b k ok held)
     (held_by_child b k (omega (arith, deep, low)) held)))).kind
 
 -- ---- a node

@@ -8,11 +8,11 @@ use Rattle.oct_key.proofs.Blocks.{root_holds}
 use Rattle.oct_odds.specs.Odds.{Odds}
 use Rattle.oct_arena.specs.declared.node.Node.TheVariants.{Absent}
 use Rattle.oct_arena.specs.Entries.{live, spare}
+use Rattle.oct_arena.specs.Nodes.{link_of}
 use Rattle.oct_arena.proofs.Entries.{live_spare}
 use Rattle.oct_tree.specs.Tree.{Tree, IsLinked, value_at}
 use Rattle.oct_tree.specs.Shape.{IsShaped, IsFresh, IsPruned}
-use Rattle.oct_bt.proofs.Fills.{unfilled}
-use Rattle.oct_bt.proofs.Tidy.{tidy_whole}
+use Rattle.oct_tree.proofs.Tidy.{tidy_whole, none_live}
 use Rattle.oct_snap.specs.declared.fault.SnapFault.{SnapFault}
 use Rattle.oct_snap.specs.declared.head.FieldsRead.{FieldsRead}
 use Rattle.oct_snap.specs.Nodes.{Nodes, group_total, value_in}
@@ -91,20 +91,20 @@ pub has_filled : (t u : Tree) (bytes : List ℕ) (s : Snapshot) (f : Found) (nex
     → f.nodes ≡ s.nodes → IsNodeFilled t u root_block 0 bytes f next → HasFilled t u s
 has_filled t u bytes s f next shape lt l none same n =
     let filled = n.filled in
-    let empty = (unfilled t 0 shape lt none).groups in
-    let tidy = tidy_whole u l filled.tidy in
+    let empty = none_live t.groups (shape.bare (ap link_of none)) in
+    let tidy = tidy_whole u l filled.whole.tidy in
     let before = live_spare t.groups in
     let after = live_spare u.groups in
-    let kept = filled.outside.length in
+    let kept = filled.whole.outside.length in
     let taken = filled.room in
     let groups : group_total f.nodes ≡ group_total s.nodes = ap group_total same in
     record {
-      values = λ k ok. ap (λ (n : Nodes). value_in 0 n 0 k) (sym same) ∙ sym (filled.inside k ok (root_holds k ok));
+      values = λ k ok. ap (λ (n : Nodes). value_in 0 n 0 k) (sym same) ∙ sym (filled.whole.inside k ok (root_holds k ok));
       fresh = tidy.fresh;
       pruned = tidy.pruned;
       groups = omega (arith, empty, before, after, kept, taken, groups);
       spare = omega (arith, empty, before, after, kept);
       length = kept;
-      res = filled.outside.res;
-      odds = filled.outside.odds;
+      res = filled.whole.outside.res;
+      odds = filled.whole.outside.odds;
     }

@@ -1,5 +1,5 @@
 -- Writing a node child by child.
-use Rattle.std.proofs.Common.{◌≡◌, ℕ, zero, suc, ◌+◌, ◌-◌, ◌*◌, ◌^◌, ◌<◌, ◌≤◌, Option, Some, None, List, [], ◌∷◌, ◌++◌, length, take, refl, sym, subst, ◌∙◌, ap, arith, append_assoc, append-nil, length-append}
+use Rattle.std.proofs.Common.{◌≡◌, ℕ, zero, suc, ◌+◌, ◌-◌, ◌*◌, ◌^◌, ◌<◌, ◌≤◌, Option, Some, None, List, [], ◌∷◌, ◌++◌, length, refl, sym, subst, ◌∙◌, ap, arith, append_assoc, append-nil, length-append}
 use Rattle.std.specs.Prelude.{Result, Ok, Err, OnOk, OnErr, IfOk, is_some}
 use Rattle.std.specs.List.{flat_map}
 use Rattle.std.proofs.lemmas.Bool.{false≢true}
@@ -12,7 +12,8 @@ use Rattle.oct_key.proofs.Blocks.{lowest_held}
 use Rattle.oct_odds.specs.Odds.{Odds}
 use Rattle.oct_odds.specs.Update.{Value}
 use Rattle.oct_values.specs.Blocks.{child_numbers}
-use Rattle.oct_io.specs.Told.{appended}
+use Rattle.oct_io.specs.Taken.{IsCutOff, IsGathered, IsTaken, IsRefused}
+use Rattle.oct_io.proofs.Gathering.{gathered_first, taken_more, refused_first, refused_second}
 use Rattle.oct_arena.specs.declared.node.Node.{Node}
 use Rattle.oct_arena.specs.Nodes.{link_of, value_of}
 use Rattle.oct_tree.specs.declared.place.Place.{Place}
@@ -22,42 +23,11 @@ use Rattle.oct_snap.specs.declared.common.Common.{Common as Shared}
 use Rattle.oct_snap.specs.declared.common.Common.TheVariants.{Value as OfValue, Several}
 use Rattle.oct_snap.specs.Nodes.{whole_text}
 use Rattle.oct_snap.specs.Texts.{common_value, text_with, node_text, map_text, head_bytes, snap_text}
-use Rattle.oct_snap.specs.Common.{value_of_common, IsCutOff}
+use Rattle.oct_snap.specs.Common.{value_of_common}
 use Rattle.oct_snap.proofs.Places.{IsAbove}
 use Rattle.oct_snap.proofs.Commons.{leaf_common, common_of_each, common_exact}
 
--- ---- a text in parts
-
-pub appended_twice : (o : Option (List ℕ)) (a b : List ℕ) → appended (appended o a) b ≡ appended o (a ++ b)
-appended_twice None a b = refl
-appended_twice (Some w) a b = ap Some (append_assoc w a b)
-
-pub appended_nothing : (o : Option (List ℕ)) → o ≡ appended o []
-appended_nothing None = refl
-appended_nothing (Some w) = ap Some (sym (append-nil w))
-
-take_front : (xs ys : List ℕ) (n : ℕ) → take (length xs + n) (xs ++ ys) ≡ xs ++ take n ys
-take_front [] ys n = (let e : 0 + n ≡ n = omega arith in ap (λ (k : ℕ). take k ys) e)
-take_front (x ∷ xs) ys n = (let e : suc (length xs) + n ≡ suc (length xs + n) = omega arith in
-    ap (λ (k : ℕ). take k (x ∷ (xs ++ ys))) e ∙ ap (λ t. x ∷ t) (take_front xs ys n))
-
-take_within : (xs ys : List ℕ) (n : ℕ) → n ≤ length xs → take n (xs ++ ys) ≡ take n xs
-take_within xs ys zero l = refl
-take_within [] ys (suc n) l = absurd (omega arith)
-take_within (x ∷ xs) ys (suc n) l = ap (λ t. x ∷ t) (take_within xs ys n (omega arith))
-
--- a part of a piece that comes behind what was written, before more
-pub cut_behind : (old out new : Option (List ℕ)) (front piece more : List ℕ) → out ≡ appended old front → IsCutOff out new piece
-    → IsCutOff old new (front ++ (piece ++ more))
-cut_behind old out new front piece more before (count, less, is) =
-    let long = length-append front (piece ++ more) in
-    let all = length-append piece more in (
-      length front + count,
-      omega (arith, less, long, all),
-      is ∙ ap (λ o. appended o (take count piece)) before ∙ appended_twice old front (take count piece)
-          ∙ ap (appended old) (ap (λ t. front ++ t) (sym (take_within piece more count (omega (arith, less))))
-          ∙ sym (take_front front (piece ++ more) count)),
-    )
+-- ---- what follows of a result
 
 pub on_any_err : {T E : Type 0} (r : Result T E) (Q : Type 0) → Q → OnErr r Q
 on_any_err (Ok x) Q q = tt
@@ -198,38 +168,37 @@ node_parted values d b r a common other =
     ∙ ap (λ (o : Option Value). text_with o (flat_map (child_text values d b) child_numbers)) (sym none)
     ∙ ap (λ (h : ℕ). node_text h values b) (sym a.next)
 
-pub cut_first : (values : Values) (d : ℕ) (b : Cube) (r : Shared) (old new : Option (List ℕ)) → IsAbove d b
+pub cut_first : (values : Values) (d : ℕ) (b : Cube) (r : Shared) (old new : Option (List ℕ)) (held : List ℕ) → IsAbove d b
     → value_of_common r ≡ common_value values b → ((v : Value) → r ≡ OfValue v → ⊥)
-    → IsCutOff old new (2 ∷ []) → IsCutOff old new (node_text (16 - d) values b)
-cut_first values d b r old new a common other cut =
-    subst (IsCutOff old new) (node_parted values d b r a common other)
-    (cut_behind old old new [] (2 ∷ []) (first_texts (child_text values d b) 8) (appended_nothing old) cut)
+    → IsRefused (2 ∷ []) old held new → IsRefused (node_text (16 - d) values b) old held new
+cut_first values d b r old new held a common other cut =
+    subst (λ t. IsRefused t old held new) (node_parted values d b r a common other)
+    (refused_first (2 ∷ []) (first_texts (child_text values d b) 8) old new held cut)
 
-pub cut_child : (values : Values) (d : ℕ) (b : Cube) (r : Shared) (i : ℕ) (old out new : Option (List ℕ)) → IsAbove d b
+pub cut_child : (values : Values) (d : ℕ) (b : Cube) (r : Shared) (i : ℕ) (old out new : Option (List ℕ)) (held kept : List ℕ) → IsAbove d b
     → value_of_common r ≡ common_value values b → ((v : Value) → r ≡ OfValue v → ⊥) → i < 8
-    → out ≡ appended old (before values d b i) → IsCutOff out new (child_text values d b i)
-    → IsCutOff old new (node_text (16 - d) values b)
-cut_child values d b r i old out new a common other li sent cut =
+    → IsTaken (before values d b i) old held out kept → IsRefused (child_text values d b i) out kept new
+    → IsRefused (node_text (16 - d) values b) old held new
+cut_child values d b r i old out new held kept a common other li sent cut =
     let (rest, all) = texts_left (child_text values d b) (i + 1) (7 - i) (omega (arith, li)) in
-    subst (IsCutOff old new)
-    (ap (λ (t : List ℕ). 2 ∷ t) (sym (append_assoc (first_texts (child_text values d b) i) (child_text values d b i) rest)
-    ∙ ap (λ (t : List ℕ). t ++ rest) (sym (texts_next (child_text values d b) i)) ∙ sym all)
+    subst (λ t. IsRefused t old held new)
+    (ap (λ (t : List ℕ). 2 ∷ t) (ap (λ (t : List ℕ). t ++ rest) (sym (texts_next (child_text values d b) i)) ∙ sym all)
     ∙ node_parted values d b r a common other)
-    (cut_behind old out new (before values d b i) (child_text values d b i) rest sent cut)
+    (refused_first (before values d b i ++ child_text values d b i) rest old new held
+    (refused_second (before values d b i) (child_text values d b i) old out new held kept sent cut))
 
-pub sent_child : (values : Values) (d : ℕ) (b : Cube) (i : ℕ) (old out new : Option (List ℕ))
-    → out ≡ appended old (before values d b i) → new ≡ appended out (child_text values d b i)
-    → new ≡ appended old (before values d b (i + 1))
-sent_child values d b i old out new sent after =
-    after ∙ ap (λ o. appended o (child_text values d b i)) sent
-    ∙ appended_twice old (before values d b i) (child_text values d b i)
-    ∙ ap (appended old) (sym (before_next values d b i))
+pub sent_child : (values : Values) (d : ℕ) (b : Cube) (i : ℕ) (old out new : Option (List ℕ)) (held kept left : List ℕ)
+    → IsTaken (before values d b i) old held out kept → IsTaken (child_text values d b i) out kept new left
+    → IsTaken (before values d b (i + 1)) old held new left
+sent_child values d b i old out new held kept left sent after =
+    subst (λ t. IsTaken t old held new left) (sym (before_next values d b i))
+    (taken_more (before values d b i) (child_text values d b i) old out new held kept left sent after)
 
-pub sent_all : (values : Values) (d : ℕ) (b : Cube) (r : Shared) (i : ℕ) (old out : Option (List ℕ)) → IsAbove d b
+pub sent_all : (values : Values) (d : ℕ) (b : Cube) (r : Shared) (i : ℕ) (old out : Option (List ℕ)) (held kept : List ℕ) → IsAbove d b
     → value_of_common r ≡ common_value values b → ((v : Value) → r ≡ OfValue v → ⊥) → i ≡ 8
-    → out ≡ appended old (before values d b i) → out ≡ appended old (node_text (16 - d) values b)
-sent_all values d b r i old out a common other end sent =
-    sent ∙ ap (appended old) (ap (before values d b) end ∙ node_parted values d b r a common other)
+    → IsTaken (before values d b i) old held out kept → IsTaken (node_text (16 - d) values b) old held out kept
+sent_all values d b r i old out held kept a common other end sent =
+    subst (λ t. IsTaken t old held out kept) (ap (before values d b) end ∙ node_parted values d b r a common other) sent
 
 pub long_child : (values : Values) (d : ℕ) (b : Cube) (i n m : ℕ) → n ≡ length (before values d b i)
     → m ≡ length (child_text values d b i) → n + m ≡ length (before values d b (i + 1))
@@ -253,28 +222,32 @@ before_short values d b i n li e =
 
 -- ---- the whole text
 
-pub cut_fields : (res : ℕ) (o : Odds) (window : Option Corners) (values : Values) (old new : Option (List ℕ)) (head : List ℕ)
-    → head ≡ head_bytes res o window → IsCutOff old new head → IsCutOff old new (snap_text res o window values)
-unfolding snap_text
-cut_fields res o window values old new head is cut =
-    subst (IsCutOff old new) (ap (λ (t : List ℕ). t ++ map_text values) is)
-    (cut_behind old old new [] head (map_text values) (appended_nothing old) cut)
+-- a gather that holds nothing
+holds_nothing : (old : Option (List ℕ)) (held : List ℕ) → held ≡ [] → IsGathered [] old old held
+holds_nothing old held none = subst (IsGathered [] old old) (sym none) (gathered_first old)
 
-pub cut_nodes : (res : ℕ) (o : Odds) (window : Option Corners) (values : Values) (old out new : Option (List ℕ)) (head : List ℕ)
-    → head ≡ head_bytes res o window → out ≡ appended old head → IsCutOff out new (map_text values)
+pub cut_fields : (res : ℕ) (o : Odds) (window : Option Corners) (values : Values) (old new : Option (List ℕ)) (none head : List ℕ)
+    → none ≡ [] → head ≡ head_bytes res o window → IsRefused head old none new → IsCutOff old new (snap_text res o window values)
+unfolding snap_text
+cut_fields res o window values old new none head empty is cut =
+    subst (IsCutOff old new) (ap (λ (t : List ℕ). t ++ map_text values) is)
+    (refused_first head (map_text values) old new none cut [] old (holds_nothing old none empty))
+
+pub cut_nodes : (res : ℕ) (o : Odds) (window : Option Corners) (values : Values) (old out new : Option (List ℕ)) (none held head : List ℕ)
+    → none ≡ [] → head ≡ head_bytes res o window → IsTaken head old none out held → IsRefused (map_text values) out held new
     → IsCutOff old new (snap_text res o window values)
 unfolding snap_text
-cut_nodes res o window values old out new head is sent cut =
-    subst (IsCutOff old new) (ap (λ (t : List ℕ). head ++ t) (append-nil (map_text values)) ∙ ap (λ (t : List ℕ). t ++ map_text values) is)
-    (cut_behind old out new head (map_text values) [] sent cut)
+cut_nodes res o window values old out new none held head empty is sent cut =
+    subst (IsCutOff old new) (ap (λ (t : List ℕ). t ++ map_text values) is)
+    (refused_second head (map_text values) old out new none held sent cut [] old (holds_nothing old none empty))
 
-pub sent_snap : (res : ℕ) (o : Odds) (window : Option Corners) (values : Values) (old out new : Option (List ℕ)) (head : List ℕ)
-    → head ≡ head_bytes res o window → out ≡ appended old head → new ≡ appended out (map_text values)
-    → new ≡ appended old (snap_text res o window values)
+pub sent_snap : (res : ℕ) (o : Odds) (window : Option Corners) (values : Values) (old out new : Option (List ℕ)) (none held left head : List ℕ)
+    → none ≡ [] → head ≡ head_bytes res o window → IsTaken head old none out held → IsTaken (map_text values) out held new left
+    → IsGathered (snap_text res o window values) old new left
 unfolding snap_text
-sent_snap res o window values old out new head is sent after =
-    after ∙ ap (λ (w : Option (List ℕ)). appended w (map_text values)) sent ∙ appended_twice old head (map_text values)
-    ∙ ap (λ (t : List ℕ). appended old (t ++ map_text values)) is
+sent_snap res o window values old out new none held left head empty is sent after =
+    subst (λ t. IsGathered t old new left) (ap (λ (t : List ℕ). t ++ map_text values) is)
+    (taken_more head (map_text values) old out new none held left sent after [] old (holds_nothing old none empty))
 
 pub long_snap : (res : ℕ) (o : Odds) (window : Option Corners) (values : Values) (head : List ℕ) (n m : ℕ)
     → head ≡ head_bytes res o window → n ≡ length head → m ≡ length (map_text values) → n + m ≡ length (snap_text res o window values)

@@ -7,6 +7,7 @@ ghost use Rattle.oct_snap.specs.Checked.{IsNodeRead};
 
 use crate::common::Common;
 use crate::fault::SnapFault;
+use crate::tags::{PARTED, VALUE};
 use oct_odds::OddsModel;
 
 /// A node that was read.
@@ -74,10 +75,10 @@ fn check_leaf(bytes: &[u8], at: usize, odds: &OddsModel) -> Result<NodeRead, Sna
     if at == bytes.len() {
         return Err(SnapFault::Truncated { at: at as u64 });
     }
-    if bytes[at] == 1 {
+    if bytes[at] == VALUE {
         return check_value(bytes, at, odds);
     }
-    if bytes[at] > 1 {
+    if bytes[at] > VALUE {
         return Err(SnapFault::BadSnapshot { at: at as u64 });
     }
     Ok(NodeRead {
@@ -92,7 +93,7 @@ fn is_parted(bytes: &[u8], at: usize, depth: u8) -> bool
     ensures { IsTrue result
         ↔ ((depth < 16) × (at < length bytes.now) × (slice_index bytes.now at ≡ 2)) }
 {
-    depth < 16 && at < bytes.len() && bytes[at] == 2
+    depth < 16 && at < bytes.len() && bytes[at] == PARTED
 }
 
 /// The node of a block of this depth that begins at this place, or the first fault. Each byte is

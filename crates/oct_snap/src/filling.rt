@@ -12,6 +12,7 @@ ghost use Rattle.oct_snap.specs.Filled.{IsNodeFilled};
 
 use crate::checking::number_at;
 use crate::head::read_fields;
+use crate::tags::{UNKNOWN, VALUE};
 use oct_arena::Node;
 use oct_tree::{OccTree, Place};
 
@@ -60,10 +61,10 @@ fn fill_node(tree: &mut OccTree, p: Place, depth: u8, bytes: &[u8], at: usize) -
         → IsNodeFilled tree.old tree.new b depth bytes.now f result }
     ensures linked { IsLinked tree.new }
 {
-    if bytes[at] == 0 {
+    if bytes[at] == UNKNOWN {
         return at + 1;
     }
-    if bytes[at] == 1 {
+    if bytes[at] == VALUE {
         let value = number_at(bytes, at + 1);
         tree.set_place(p, Node::Leaf(value));
         return at + 5;

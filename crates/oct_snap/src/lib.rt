@@ -11,8 +11,8 @@
 //! - [`write`] appends exactly the text of the tree's values (`snap_text` in `specs/Texts.antt`) to
 //!   a sink, and answers its length. The text is a function of the resolution, the log-odds, the
 //!   box and the values of the voxels alone, also on trees that aren't pruned or fresh: a block
-//!   whose voxels all have one value is one node. It takes no memory, and after an error a part of
-//!   the text was written.
+//!   whose voxels all have one value is one node. It takes no memory and hands the sink pieces of
+//!   4,096 bytes, and after an error a part of the text was written.
 //! - [`check`] answers what a file says of itself, or the first fault that its bytes complete
 //!   (`read_snapshot` in `specs/Reading.antt`): it reads versions 1 and 2, goes through the bytes
 //!   once, at most sixteen calls deep, and takes no memory.
@@ -39,6 +39,7 @@ mod head;
 mod heading;
 mod info;
 mod laws;
+mod tags;
 #[cfg(test)]
 mod tests;
 mod writing;

@@ -1,8 +1,9 @@
 use crate::{SnapFault, check, write};
-use oct_io::CalmSink;
+use oct_io::{CalmSink, KeptList, MemSink, SinkFault};
 use oct_key::{Key, Res, Window};
 use oct_odds::OddsModel;
 use oct_tree::OccTree;
+use std::test::Fail;
 
 /// The snapshot of the empty map at 0.1 m.
 const EMPTY: [u8; 38] = [
@@ -44,6 +45,26 @@ fn writes_the_empty_map(rt: HostRuntime) {
     assert_eq!(rt; write(&tree, Window::new(lo, hi), &mut sink), Ok(50));
     let want = [1, 0, 1, 0, 2, 0, 3, 1, 0, 0, 2, 0, 4, 0];
     assert_eq!(rt; sink.written().get(36..), Some(want.as_slice()));
+}
+
+#[test]
+fn hands_a_sink_whole_pieces(rt: HostRuntime) -> Result<(), Fail> {
+    let (Some(odds), Ok(res)) = (odds(), Res::new(100_000_000)) else {
+        return Ok(());
+    };
+    let tree = OccTree::new(rt.alloc(), res, odds);
+    // The fields and the node come in one write: the second one would fail.
+    let mut second = KeptList::new(rt.alloc());
+    second.push(2)?;
+    let mut sink = MemSink::new(rt.alloc(), 4096, second);
+    assert_eq!(rt; write(&tree, None, &mut sink), Ok(38));
+    assert_eq!(rt; sink.written(), EMPTY.as_slice());
+    let mut first = KeptList::new(rt.alloc());
+    first.push(1)?;
+    let mut sink = MemSink::new(rt.alloc(), 4096, first);
+    assert_eq!(rt; write(&tree, None, &mut sink), Err(SinkFault::Failed));
+    assert_eq!(rt; sink.written(), [].as_slice());
+    Ok(())
 }
 
 #[test]

@@ -14,7 +14,8 @@ use Rattle.oct_snap.specs.Nodes.{group_total}
 use Rattle.oct_snap.specs.Reading.{Found, read_node}
 use Rattle.oct_snap.proofs.Exact.{ok_is}
 use Rattle.oct_snap.proofs.FoundNodes.{eight_are, node_one}
-use Rattle.oct_snap.proofs.Fillings.{filling_all, put_filled, left_absent, slot_asked}
+use Rattle.oct_tree.proofs.Fillings.{slot_asked}
+use Rattle.oct_snap.proofs.Fillings.{filling_all, put_filled, left_absent}
 use Rattle.oct_snap.proofs.FirstBytes.{node_inside, value_of_node, parted_of_node}
 use Rattle.oct_snap.proofs.NodeFills.{under_first, child_ahead, under_next, under_all, whole_several, unknown_filled, value_filled, parted_filled, eight_room}
 use Rattle.oct_snap.proofs.filling.+fill_node.Goals as goal
@@ -24,15 +25,15 @@ bounds-bytes-at t c =
     let (f, is, room) = c.requires.node_there in
     node_inside c.args.tree.now.odds (16 - c.args.depth) c.args.at c.args.bytes.now f is
 
-pub returns-then-bytes-at-eq0-clause-filled : goal.returns-then-bytes-at-eq0-clause-filled
-returns-then-bytes-at-eq0-clause-filled t c = λ f b is at.
+pub returns-then-bytes-at-eq-UNKNOWN-clause-filled : goal.returns-then-bytes-at-eq-UNKNOWN-clause-filled
+returns-then-bytes-at-eq-UNKNOWN-clause-filled t c = λ f b is at.
     unknown_filled c.args.tree.now c.args.tree.now b c.args.tree.now.odds c.args.depth (16 - c.args.depth) c.args.bytes.now c.args.at f
-    c.if-bytes-at-eq0.true is (left_absent c.args.tree.now c.args.p b c.requires.linked c.requires.place at c.requires.absent)
+    c.if-bytes-at-eq-UNKNOWN.true is (left_absent c.args.tree.now c.args.p b c.requires.linked c.requires.place at c.requires.absent)
 
 pub number_at-value-requires : goal.number_at-value-requires
 number_at-value-requires t c =
     let (f, is, room) = c.requires.node_there in
-    let inside = (value_of_node c.args.tree.now.odds (16 - c.args.depth) c.args.at c.args.bytes.now f c.if-bytes-at-eq1.true is).inside in
+    let inside = (value_of_node c.args.tree.now.odds (16 - c.args.depth) c.args.at c.args.bytes.now f c.if-bytes-at-eq-VALUE.true is).inside in
     omega (arith, inside)
 
 pub set_place-requires-clause-within : goal.set_place-requires-clause-within
@@ -40,28 +41,28 @@ set_place-requires-clause-within t c =
     let (f, is, room) = c.requires.node_there in
     let fits : SFits w32 c.number_at-value.result = search rules in
     subst (λ n. IsWithin c.args.tree.now.odds (Some n)) (sym (to_z-of_z w32 c.number_at-value.result fits ∙ c.number_at-value.ensures))
-    (value_of_node c.args.tree.now.odds (16 - c.args.depth) c.args.at c.args.bytes.now f c.if-bytes-at-eq1.true is).within
+    (value_of_node c.args.tree.now.odds (16 - c.args.depth) c.args.at c.args.bytes.now f c.if-bytes-at-eq-VALUE.true is).within
 
-pub returns-then-bytes-at-eq1-clause-filled : goal.returns-then-bytes-at-eq1-clause-filled
-returns-then-bytes-at-eq1-clause-filled t c = λ f b is at.
+pub returns-then-bytes-at-eq-VALUE-clause-filled : goal.returns-then-bytes-at-eq-VALUE-clause-filled
+returns-then-bytes-at-eq-VALUE-clause-filled t c = λ f b is at.
     (let fits : SFits w32 c.number_at-value.result = search rules in
     value_filled c.args.tree.now c.set_place.new.self b c.args.tree.now.odds c.args.depth c.args.bytes.now c.args.at _ f
     (to_z-of_z w32 c.number_at-value.result fits ∙ c.number_at-value.ensures)
-    (value_of_node c.args.tree.now.odds (16 - c.args.depth) c.args.at c.args.bytes.now f c.if-bytes-at-eq1.true is)
+    (value_of_node c.args.tree.now.odds (16 - c.args.depth) c.args.at c.args.bytes.now f c.if-bytes-at-eq-VALUE.true is)
     (put_filled c.args.tree.now c.set_place.new.self c.args.p _ b _ c.requires.linked c.set_place.ensures.linked c.requires.place at refl
     (c.set_place.ensures.values b at) (c.set_place.ensures.outside b at) c.set_place.ensures.written))
 
 pub split-id-requires-clause-depth : goal.split-id-requires-clause-depth
 split-id-requires-clause-depth t c = λ b at.
     (let (f, is, room) = c.requires.node_there in
-    let low = (parted_of_node c.args.tree.now.odds c.args.depth c.args.at c.args.bytes.now f c.if-bytes-at-eq0.false c.if-bytes-at-eq1.false is).low in
+    let low = (parted_of_node c.args.tree.now.odds c.args.depth c.args.at c.args.bytes.now f c.if-bytes-at-eq-UNKNOWN.false c.if-bytes-at-eq-VALUE.false is).low in
     let deep = c.requires.block b at in
     omega (arith, low, deep))
 
 pub split-id-requires-clause-room : goal.split-id-requires-clause-room
 split-id-requires-clause-room t c =
     let (f, is, room) = c.requires.node_there in
-    let p = parted_of_node c.args.tree.now.odds c.args.depth c.args.at c.args.bytes.now f c.if-bytes-at-eq0.false c.if-bytes-at-eq1.false is in
+    let p = parted_of_node c.args.tree.now.odds c.args.depth c.args.at c.args.bytes.now f c.if-bytes-at-eq-UNKNOWN.false c.if-bytes-at-eq-VALUE.false is in
     let enough = eight_room c.args.tree.now.odds c.args.depth c.args.bytes.now c.args.at _ f p room in
     omega (arith, enough)
 
@@ -78,12 +79,12 @@ loop-i-init t c = record {
 pub fill_node-next-requires : goal.fill_node-next-requires
 fill_node-next-requires t c =
     let (f, is, room) = c.requires.node_there in
-    let p = parted_of_node c.args.tree.now.odds c.args.depth c.args.at c.args.bytes.now f c.if-bytes-at-eq0.false c.if-bytes-at-eq1.false is in
+    let p = parted_of_node c.args.tree.now.odds c.args.depth c.args.at c.args.bytes.now f c.if-bytes-at-eq-UNKNOWN.false c.if-bytes-at-eq-VALUE.false is in
     let enough = eight_room c.args.tree.now.odds c.args.depth c.args.bytes.now c.args.at _ f p room in
     let (b, at) = place_block c.args.tree.now c.args.p c.requires.place in
     let s = c.loop-i.invariant.under p.eight b p.read at in
-    let a = slot_asked c.args.tree.now c.loop-i.tree c.args.p c.split-id.result b c.args.depth c.loop-i.i _ _ (c.requires.block b at)
-    c.loop-i-test.true c.requires.place s.filling in
+    let a = slot_asked c.args.tree.now c.loop-i.tree c.args.p c.split-id.result b c.args.depth c.loop-i.i _ (c.requires.block b at)
+    c.loop-i-test.true c.requires.place s.filling.part in
     let ahead = child_ahead c.args.tree.now c.loop-i.tree c.args.p c.split-id.result b c.args.tree.now.odds c.args.depth c.args.bytes.now
     c.loop-i.next c.loop-i.i p.eight enough c.loop-i-test.true s in
     let low = p.low in (
@@ -103,7 +104,7 @@ fill_node-next-requires t c =
                   (
                     ahead.one,
                     subst (λ (o : Odds). read_node o (16 - (c.args.depth + 1)) c.loop-i.next (drop c.loop-i.next c.args.bytes.now) ≡ Ok ahead.one)
-                        (sym s.filling.outside.odds) ahead.first,
+                        (sym s.filling.part.outside.odds) ahead.first,
                     ahead.enough,
                   ),
                 ),
@@ -118,14 +119,14 @@ pub loop-i-preserved : goal.loop-i-preserved
 loop-i-preserved t c = record {
   under = λ g b is at.
       (let (f, there, room) = c.requires.node_there in
-      let p = parted_of_node c.args.tree.now.odds c.args.depth c.args.at c.args.bytes.now f c.if-bytes-at-eq0.false c.if-bytes-at-eq1.false there in
+      let p = parted_of_node c.args.tree.now.odds c.args.depth c.args.at c.args.bytes.now f c.if-bytes-at-eq-UNKNOWN.false c.if-bytes-at-eq-VALUE.false there in
       let enough = eight_room c.args.tree.now.odds c.args.depth c.args.bytes.now c.args.at _ f p room in
       let same = ok_is p.eight g (sym p.read ∙ is) in
       let s = c.loop-i.invariant.under g b is at in
       let deep = c.requires.block b at in
       let low = p.low in
-      let a = slot_asked c.args.tree.now c.loop-i.tree c.args.p c.split-id.result b c.args.depth c.loop-i.i _ _ deep
-      c.loop-i-test.true c.requires.place s.filling in
+      let a = slot_asked c.args.tree.now c.loop-i.tree c.args.p c.split-id.result b c.args.depth c.loop-i.i _ deep
+      c.loop-i-test.true c.requires.place s.filling.part in
       let ahead = child_ahead c.args.tree.now c.loop-i.tree c.args.p c.split-id.result b c.args.tree.now.odds c.args.depth c.args.bytes.now
       c.loop-i.next c.loop-i.i g (subst (λ (g : Found). 1 + group_total g.nodes ≤ spare c.args.tree.now.groups) same enough) c.loop-i-test.true s in
       under_next c.args.tree.now c.loop-i.tree c.fill_node-next.new.tree c.args.p c.split-id.result b c.args.tree.now.odds c.args.depth
@@ -133,29 +134,29 @@ loop-i-preserved t c = record {
       c.fill_node-next.ensures.linked s ahead
       (c.fill_node-next.ensures.filled ahead.one (child_of b c.loop-i.i)
       (subst (λ (o : Odds). read_node o (16 - (c.args.depth + 1)) c.loop-i.next (drop c.loop-i.next c.args.bytes.now) ≡ Ok ahead.one)
-      (sym s.filling.outside.odds) ahead.first) a.block));
+      (sym s.filling.part.outside.odds) ahead.first) a.block));
   linked = c.fill_node-next.ensures.linked;
 }
 
 pub settle-requires-clause-place : goal.settle-requires-clause-place
 settle-requires-clause-place t c =
     let (f, is, room) = c.requires.node_there in
-    let p = parted_of_node c.args.tree.now.odds c.args.depth c.args.at c.args.bytes.now f c.if-bytes-at-eq0.false c.if-bytes-at-eq1.false is in
+    let p = parted_of_node c.args.tree.now.odds c.args.depth c.args.at c.args.bytes.now f c.if-bytes-at-eq-UNKNOWN.false c.if-bytes-at-eq-VALUE.false is in
     let (b, at) = place_block c.args.tree.now c.args.p c.requires.place in
     let s = c.loop-i.invariant.under p.eight b p.read at in
-    place_by_block c.args.tree.now c.loop-i.tree c.args.p b c.requires.place s.filling.block
+    place_by_block c.args.tree.now c.loop-i.tree c.args.p b c.requires.place s.filling.part.block
 
 pub settle-requires-clause-inner : goal.settle-requires-clause-inner
 settle-requires-clause-inner t c =
     let (f, is, room) = c.requires.node_there in
-    let p = parted_of_node c.args.tree.now.odds c.args.depth c.args.at c.args.bytes.now f c.if-bytes-at-eq0.false c.if-bytes-at-eq1.false is in
+    let p = parted_of_node c.args.tree.now.odds c.args.depth c.args.at c.args.bytes.now f c.if-bytes-at-eq-UNKNOWN.false c.if-bytes-at-eq-VALUE.false is in
     let (b, at) = place_block c.args.tree.now c.args.p c.requires.place in
     let s = c.loop-i.invariant.under p.eight b p.read at in
-    ap is_some s.filling.link
+    ap is_some s.filling.part.link
 
 pub returns-clause-filled : goal.returns-clause-filled
 returns-clause-filled t c = λ f b is at.
-    (let p = parted_of_node c.args.tree.now.odds c.args.depth c.args.at c.args.bytes.now f c.if-bytes-at-eq0.false c.if-bytes-at-eq1.false is in
+    (let p = parted_of_node c.args.tree.now.odds c.args.depth c.args.at c.args.bytes.now f c.if-bytes-at-eq-UNKNOWN.false c.if-bytes-at-eq-VALUE.false is in
     let s = c.loop-i.invariant.under p.eight b p.read at in
     let deep = c.requires.block b at in
     let low = p.low in
