@@ -1,9 +1,9 @@
 //! Scripts that a second program wrote from the same numbers, in pieces of any length, and a sink
 //! that fails.
-ghost use Rattle.std.specs.Prelude.{◌≤◌, None};
+ghost use Rattle.std.specs.Prelude.{◌≤◌};
 
 use crate::{Generator, gen_script, generate};
-use oct_io::{CalmSink, Sink, SinkFault, Source};
+use oct_io::{CalmSink, KeptList, MemSink, SinkFault, Source};
 use std::alloc::Global;
 use std::test::Fail;
 
@@ -121,47 +121,20 @@ fn a_sink_gets_the_same_text(rt: HostRuntime) -> Result<(), Fail> {
     Ok(())
 }
 
-/// Takes so many bytes, and then fails.
-#[derive(Drop)]
-struct FullSink {
-    room: usize,
-    faults: u64,
-}
-
-impl Sink for FullSink {
-    ghost written = { λ _. None };
-
-    ghost faults = { λ s. s.faults };
-
-    ghost shortages = { λ _. 0 };
-
-    fn write(&mut self, piece: &[u8]) -> Result<usize, SinkFault> {
-        let count = piece.len().min(self.room);
-        if count == 0 && !piece.is_empty() {
-            self.faults = self.faults.saturating_add(1);
-            return Err(SinkFault::Failed);
-        }
-        self.room -= count;
-        Ok(count)
-    }
-}
-
 #[test]
 fn a_sink_that_fails_has_a_prefix(rt: HostRuntime) -> Result<(), Fail> {
-    for room in [0, 1, 3337] {
-        let mut sink = FullSink { room, faults: 0 };
-        assert_eq!(rt;
-            generate(1, 3, 50, &mut sink),
-            Err(SinkFault::Failed),
-            "{room}"
-        );
-        assert_eq!(rt; (sink.room, sink.faults), (0, 1), "{room}");
+    let want = script(rt.alloc(), 1, 3, 50)?;
+    for (number, length, ends) in [
+        (1, 0, Err(SinkFault::Failed)),
+        (2, 1, Err(SinkFault::Failed)),
+        (3338, 3337, Err(SinkFault::Failed)),
+        (3339, 3338, Ok(())),
+    ] {
+        let mut fails = KeptList::new(rt.alloc());
+        fails.push(number)?;
+        let mut sink = MemSink::new(rt.alloc(), 1, fails);
+        assert_eq!(rt; generate(1, 3, 50, &mut sink), ends, "{number}");
+        assert_eq!(rt; Some(sink.written()), want.get(..length), "{number}");
     }
-    let mut sink = FullSink {
-        room: 3338,
-        faults: 0,
-    };
-    assert_eq!(rt; generate(1, 3, 50, &mut sink), Ok(()));
-    assert_eq!(rt; (sink.room, sink.faults), (0, 0));
     Ok(())
 }

@@ -1,10 +1,10 @@
 -- Bytes that are handed on in pieces of 4,096.
-use Rattle.std.proofs.Common.{◌≡◌, ℕ, suc, ◌+◌, ◌-◌, ◌*◌, ◌<◌, ◌≤◌, ◌⊎◌, inl, inr, List, [], ◌++◌, length, take, drop, Option, refl, sym, ◌∙◌, ap, subst, arith, append_assoc, length-append}
+use Rattle.std.proofs.Common.{◌≡◌, ℕ, zero, suc, ◌+◌, ◌-◌, ◌*◌, ◌<◌, ◌≤◌, ◌⊎◌, inl, inr, List, [], ◌∷◌, ◌++◌, length, take, drop, Option, refl, sym, ◌∙◌, ap, subst, arith, append_assoc, append-nil, length-append}
 use Rattle.std.specs.Prelude.{Result, Ok, Err, OnErr}
 use Rattle.std.proofs.Math.Seq.{take-add, take-append-add, drop-append-add}
 use Rattle.std.proofs.lemmas.List.{take-append-drop, drop-drop, length-drop}
 use Rattle.oct_io.specs.Gathered.{handed_on}
-use Rattle.oct_io.specs.Taken.{IsBegun}
+use Rattle.oct_io.specs.Taken.{IsBegun, IsCutOff, IsGathered, IsTaken, IsRefused}
 use Rattle.oct_io.specs.Told.{appended}
 use Rattle.oct_io.proofs.Appending.{appended_twice, appended_nil}
 
@@ -57,23 +57,48 @@ pushing_long all held rest room old new p full over short =
     let long = p.long in
     omega (arith, long, parts, full, over, short)
 
--- where it gives up, a prefix of all was handed on
-pub pushing_begun : (all held rest : List ℕ) (room n : ℕ) (old new next : Option (List ℕ)) → IsPushing all held rest old new
-    → room + length held ≡ 4096 → next ≡ appended new (take n (held ++ take room rest))
-    → IsBegun all old next
-pushing_begun all held rest room n old new next p full wrote =
-    let count : length held + room ≡ 4096 = omega (arith, full) in
-    let piece : take 4096 (held ++ rest) ≡ held ++ take room rest = ap (λ n. take n (held ++ rest)) (sym count) ∙ take-append-add held rest room in
-    let whole : held ++ rest ≡ take n (held ++ take room rest) ++ (drop n (held ++ take room rest) ++ drop room rest) =
-    ap (λ l. held ++ l) (sym (take-append-drop room rest)) ∙ sym (append_assoc held (take room rest) (drop room rest))
-    ∙ ap (λ l. l ++ drop room rest) (sym (take-append-drop n (held ++ take room rest))) ∙ append_assoc (take n (held ++ take room rest)) (drop n (held ++ take room rest)) (drop room rest) in
-    record {
-      done = take (p.rounds * 4096) all ++ take n (held ++ take room rest);
-      rest = drop n (held ++ take room rest) ++ drop room rest;
-      written = wrote ∙ ap (λ w. appended w (take n (held ++ take room rest))) p.written ∙ appended_twice old (take (p.rounds * 4096) all) (take n (held ++ take room rest));
-      split = sym (take-append-drop (p.rounds * 4096) all) ∙ ap (λ l. take (p.rounds * 4096) all ++ l) (sym p.left ∙ whole)
-          ∙ sym (append_assoc (take (p.rounds * 4096) all) (take n (held ++ take room rest)) (drop n (held ++ take room rest) ++ drop room rest));
-    }
+-- a part of a piece that comes behind what was written, before more
+pub cut_behind : (old out new : Option (List ℕ)) (front piece more : List ℕ) → out ≡ appended old front → IsCutOff out new piece
+    → IsCutOff old new (front ++ (piece ++ more))
+cut_behind old out new front piece more before (count, less, is) =
+    let long = length-append front (piece ++ more) in
+    let all = length-append piece more in (
+      length front + count,
+      omega (arith, less, long, all),
+      is ∙ ap (λ o. appended o (take count piece)) before ∙ appended_twice old front (take count piece)
+          ∙ ap (appended old) (ap (λ t. front ++ t) (sym (take_within piece more count (omega (arith, less))))
+          ∙ sym (take_front front (piece ++ more) count)),
+    )
+  where
+    take_front : (xs ys : List ℕ) (n : ℕ) → take (length xs + n) (xs ++ ys) ≡ xs ++ take n ys
+    take_front [] ys n = (let e : 0 + n ≡ n = omega arith in ap (λ (k : ℕ). take k ys) e)
+    take_front (x ∷ xs) ys n = (let e : suc (length xs) + n ≡ suc (length xs + n) = omega arith in
+        ap (λ (k : ℕ). take k (x ∷ (xs ++ ys))) e ∙ ap (λ t. x ∷ t) (take_front xs ys n))
+
+    take_within : (xs ys : List ℕ) (n : ℕ) → n ≤ length xs → take n (xs ++ ys) ≡ take n xs
+    take_within xs ys zero l = refl
+    take_within [] ys (suc n) l = absurd (omega arith)
+    take_within (x ∷ xs) ys (suc n) l = ap (λ t. x ∷ t) (take_within xs ys n (omega arith))
+
+-- of which a part is a front
+pub cut_begun : (old new : Option (List ℕ)) (text : List ℕ) → IsCutOff old new text → IsBegun text old new
+cut_begun old new text (count, less, is) = record {
+  done = take count text;
+  rest = drop count text;
+  written = is;
+  split = sym (take-append-drop count text);
+}
+
+-- where it gives up, a part of all was handed on
+pub pushing_cut : (all held rest : List ℕ) (room n : ℕ) (old new next : Option (List ℕ)) → IsPushing all held rest old new
+    → n < length (held ++ take room rest) → next ≡ appended new (take n (held ++ take room rest)) → IsCutOff old next all
+pushing_cut all held rest room n old new next p less wrote =
+    subst (IsCutOff old next) whole
+    (cut_behind old new next (take (p.rounds * 4096) all) (held ++ take room rest) (drop room rest) p.written (n, less, wrote))
+  where
+    whole : take (p.rounds * 4096) all ++ ((held ++ take room rest) ++ drop room rest) ≡ all
+    whole = ap (λ l. take (p.rounds * 4096) all ++ l) (append_assoc held (take room rest) (drop room rest)
+        ∙ ap (λ l. held ++ l) (take-append-drop room rest) ∙ p.left) ∙ take-append-drop (p.rounds * 4096) all
 
 -- so many whole pieces are those of the number
 whole_pieces : (rounds left total : ℕ) → rounds * 4096 + left ≡ total → left ≤ 4096 → (rounds ≡ 0) ⊎ (0 < left) → handed_on total ≡ rounds * 4096
@@ -117,11 +142,6 @@ pushing_handed all held rest old new p fits =
 
 -- ---- for those who push: a text of which a front was written, and the rest is held
 
-pub record IsGathered (text : List ℕ) (old new : Option (List ℕ)) (held : List ℕ) : Type 0 where
-  pub front : List ℕ
-  pub written : new ≡ appended old front
-  pub split : text ≡ front ++ held
-
 -- of no text
 pub gathered_first : (old : Option (List ℕ)) → IsGathered [] old old []
 gathered_first old = record { front = []; written = appended_nil old; split = refl }
@@ -137,16 +157,13 @@ gathered_push text piece held held' n old new next g wrote is = record {
       ∙ sym (append_assoc g.front (take n (held ++ piece)) held');
 }
 
--- a piece that failed
-pub gathered_begun : (text piece held : List ℕ) (old new next : Option (List ℕ)) → IsGathered text old new held
-    → IsBegun (held ++ piece) new next → IsBegun (text ++ piece) old next
-gathered_begun text piece held old new next g b = record {
-  done = g.front ++ b.done;
-  rest = b.rest;
-  written = b.written ∙ ap (λ w. appended w b.done) g.written ∙ appended_twice old g.front b.done;
-  split = ap (λ l. l ++ piece) g.split ∙ append_assoc g.front held piece ∙ ap (λ l. g.front ++ l) b.split
-      ∙ sym (append_assoc g.front b.done b.rest);
-}
+-- a piece that was cut off
+pub gathered_refused : (text piece held : List ℕ) (old new next : Option (List ℕ)) → IsGathered text old new held
+    → IsCutOff new next (held ++ piece) → IsCutOff old next (text ++ piece)
+gathered_refused text piece held old new next g cut =
+    subst (IsCutOff old next)
+    (ap (λ l. g.front ++ l) (append-nil (held ++ piece)) ∙ sym (append_assoc g.front held piece) ∙ ap (λ l. l ++ piece) (sym g.split))
+    (cut_behind old new next g.front (held ++ piece) [] g.written cut)
 
 -- all that is held, written
 pub gathered_whole : (text held : List ℕ) (old new next : Option (List ℕ)) → IsGathered text old new held
@@ -155,11 +172,41 @@ gathered_whole text held old new next g wrote =
     wrote ∙ ap (λ w. appended w held) g.written ∙ appended_twice old g.front held ∙ ap (appended old) (sym g.split)
 
 -- or a part of it
-pub gathered_cut : (text held : List ℕ) (n : ℕ) (old new next : Option (List ℕ)) → IsGathered text old new held
-    → next ≡ appended new (take n held) → IsBegun text old next
-gathered_cut text held n old new next g wrote = record {
-  done = g.front ++ take n held;
-  rest = drop n held;
-  written = wrote ∙ ap (λ w. appended w (take n held)) g.written ∙ appended_twice old g.front (take n held);
-  split = g.split ∙ ap (λ l. g.front ++ l) (sym (take-append-drop n held)) ∙ sym (append_assoc g.front (take n held) (drop n held));
-}
+pub gathered_cut : (text held : List ℕ) (old new next : Option (List ℕ)) → IsGathered text old new held
+    → IsCutOff new next held → IsCutOff old next text
+gathered_cut text held old new next g cut =
+    subst (IsCutOff old next) (ap (λ l. g.front ++ l) (append-nil held) ∙ sym g.split)
+    (cut_behind old new next g.front held [] g.written cut)
+
+-- ---- pieces one after another
+
+-- no piece
+pub taken_none : (old : Option (List ℕ)) (held : List ℕ) → IsTaken [] old held old held
+taken_none old held text start g = subst (λ t. IsGathered t start old held) (sym (append-nil text)) g
+
+-- two pieces
+pub taken_more : (first second : List ℕ) (old new next : Option (List ℕ)) (held held' held'' : List ℕ) → IsTaken first old held new held'
+    → IsTaken second new held' next held'' → IsTaken (first ++ second) old held next held''
+taken_more first second old new next held held' held'' one two text start g =
+    subst (λ t. IsGathered t start next held'') (append_assoc text first second) (two (text ++ first) start (one text start g))
+
+-- the first of two is cut off
+pub refused_first : (first second : List ℕ) (old new : Option (List ℕ)) (held : List ℕ) → IsRefused first old held new
+    → IsRefused (first ++ second) old held new
+refused_first first second old new held cut text start g =
+    subst (IsCutOff start new) (append_assoc text first second) (longer (text ++ first) (cut text start g))
+  where
+    longer : (t : List ℕ) → IsCutOff start new t → IsCutOff start new (t ++ second)
+    longer t c = cut_behind start start new [] t second (appended_nil start) c
+
+-- the second one is
+pub refused_second : (first second : List ℕ) (old new next : Option (List ℕ)) (held held' : List ℕ) → IsTaken first old held new held'
+    → IsRefused second new held' next → IsRefused (first ++ second) old held next
+refused_second first second old new next held held' one cut text start g =
+    subst (IsCutOff start next) (append_assoc text first second) (cut (text ++ first) start (one text start g))
+
+-- what was written and what is held, under other names
+pub taken_as : (piece : List ℕ) (old : Option (List ℕ)) (held : List ℕ) (new new' : Option (List ℕ)) (left left' : List ℕ) → new' ≡ new → left' ≡ left
+    → IsTaken piece old held new left → IsTaken piece old held new' left'
+taken_as piece old held new new' left left' same alike taken =
+    subst (λ (n : Option (List ℕ)). IsTaken piece old held n left') (sym same) (subst (λ (l : List ℕ). IsTaken piece old held new l) (sym alike) taken)

@@ -1,7 +1,7 @@
 //! Bytes on their way to a sink.
 ghost use Rattle.std.specs.Prelude.{◌≡◌, ◌<◌, ◌≤◌, ◌+◌, ◌++◌, ℕ, [], length, take, drop, OnErr, OnOk, IsErrOf, IsTrue};
 ghost use Rattle.oct_io.specs.Gathered.{handed_on};
-ghost use Rattle.oct_io.specs.Taken.{IsBegun};
+ghost use Rattle.oct_io.specs.Taken.{IsCutOff, IsRefused, IsTaken};
 ghost use Rattle.oct_io.specs.Told.{appended, Rose};
 
 use crate::sink::{Sink, SinkFault, write_all};
@@ -56,8 +56,14 @@ impl Gather {
         ensures waits { length (self.old ++ piece.now) ≤ 4096 → sink.new ≡ sink.old }
         ensures few { length self.new ≤ 4096 }
         ensures err { OnErr result (self.new ≡ []) }
-        ensures begun { OnErr result
-            (IsBegun (self.old ++ piece.now) (K.written sink.old) (K.written sink.new)) }
+        ensures cut { OnErr result
+            (IsCutOff (K.written sink.old) (K.written sink.new) (self.old ++ piece.now)) }
+
+        // In words of a text that is pushed piece by piece.
+        ensures taken { OnOk result
+            (IsTaken piece.now (K.written sink.old) self.old (K.written sink.new) self.new) }
+        ensures refused { OnErr result
+            (IsRefused piece.now (K.written sink.old) self.old (K.written sink.new)) }
 
         // Where it gives up, exactly one write of the sink did, for the same reason.
         ensures stays { OnOk result ((K.faults sink.new ≡ K.faults sink.old)

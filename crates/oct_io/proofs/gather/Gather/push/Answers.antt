@@ -1,6 +1,6 @@
-use Rattle.std.proofs.Common.{rules, ◌≡◌, ◌<◌, ◌≤◌, ◌+◌, ◌++◌, length, take, refl, ap, ◌∙◌}
+use Rattle.std.proofs.Common.{rules, ◌≡◌, ◌<◌, ◌≤◌, ◌+◌, ◌++◌, length, take, refl, ap, subst, ◌∙◌}
 use Rattle.oct_io.specs.Told.{appended}
-use Rattle.oct_io.proofs.Gathering.{pushing_first, pushing_next, pushing_long, pushing_begun, pushing_handed, pushing_held, on_any_err}
+use Rattle.oct_io.proofs.Gathering.{pushing_first, pushing_next, pushing_long, pushing_cut, pushing_handed, pushing_held, gathered_push, gathered_refused, on_any_err}
 use Rattle.oct_io.proofs.gather.Gather.push.Goals as goal
 
 pub loop-rest-init : goal.loop-rest-init
@@ -11,11 +11,21 @@ loop-rest-init g c = record {
   shortages = refl;
 }
 
-pub returns-in_err-flush-clause-begun : goal.returns-in_err-flush-clause-begun
-returns-in_err-flush-clause-begun g c =
-    let (n, few, wrote) = c.in_err-flush.ensures.err in
-    on_any_err c.from_residual.result _ (pushing_begun _ _ c.loop-rest.rest.now c.room-in-loop-rest.result n _ _ _ c.loop-rest.invariant.pushing
-    c.room-in-loop-rest.ensures (wrote ∙ ap (λ l. appended (g.K.Sink.written c.loop-rest.sink) (take n l)) held))
+pub returns-in_err-flush-clause-cut : goal.returns-in_err-flush-clause-cut
+returns-in_err-flush-clause-cut g c =
+    let (n, less, wrote) = c.in_err-flush.ensures.err in
+    on_any_err c.from_residual.result _ (pushing_cut _ _ c.loop-rest.rest.now c.room-in-loop-rest.result n _ _ _ c.loop-rest.invariant.pushing
+    (subst (λ l. n < length l) held less) (wrote ∙ ap (λ l. appended (g.K.Sink.written c.loop-rest.sink) (take n l)) held))
+  where
+    held : c.hold.new.self ≡ c.loop-rest.self ++ take c.room-in-loop-rest.result c.loop-rest.rest.now
+    held = c.hold.ensures ∙ ap (λ l. c.loop-rest.self ++ l) c.split_at.ensures.front
+
+pub returns-in_err-flush-clause-refused : goal.returns-in_err-flush-clause-refused
+returns-in_err-flush-clause-refused g c =
+    let (n, less, wrote) = c.in_err-flush.ensures.err in
+    on_any_err c.from_residual.result _ (λ text start gathered. gathered_refused text c.args.piece.now _ start _ _ gathered
+    (pushing_cut _ _ c.loop-rest.rest.now c.room-in-loop-rest.result n _ _ _ c.loop-rest.invariant.pushing
+    (subst (λ l. n < length l) held less) (wrote ∙ ap (λ l. appended (g.K.Sink.written c.loop-rest.sink) (take n l)) held)))
   where
     held : c.hold.new.self ≡ c.loop-rest.self ++ take c.room-in-loop-rest.result c.loop-rest.rest.now
     held = c.hold.ensures ∙ ap (λ l. c.loop-rest.self ++ l) c.split_at.ensures.front
@@ -41,6 +51,14 @@ returns-clause-handed g c = pushing_handed _ _ _ _ _ c.loop-rest.invariant.pushi
 
 pub returns-clause-held : goal.returns-clause-held
 returns-clause-held g c = c.hold-2.ensures ∙ pushing_held _ _ _ _ _ c.loop-rest.invariant.pushing fits
+  where
+    fits : length c.loop-rest.self + length c.loop-rest.rest.now ≤ 4096
+    fits = search rules
+
+pub returns-clause-taken : goal.returns-clause-taken
+returns-clause-taken g c = λ text start gathered.
+    gathered_push text _ _ _ _ start _ _ gathered (pushing_handed _ _ _ _ _ c.loop-rest.invariant.pushing fits)
+    (c.hold-2.ensures ∙ pushing_held _ _ _ _ _ c.loop-rest.invariant.pushing fits)
   where
     fits : length c.loop-rest.self + length c.loop-rest.rest.now ≤ 4096
     fits = search rules
