@@ -1,0 +1,9 @@
+pub mod Steps
+pub mod Faces
+pub mod Neighbours
+pub mod Founds
+pub mod Looks
+pub mod Walks
+pub mod Lists
+pub mod Exact
+pub mod Same

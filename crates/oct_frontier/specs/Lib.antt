@@ -1,0 +1,3 @@
+pub mod Frontier
+pub mod Patches
+pub mod Found

@@ -1,0 +1,38 @@
+//! The frontier of a map: the free voxels beside unknown space, where a robot that explores may
+//! look next.
+//!
+//! [`frontier`] lists, between two corners, the voxels that are free and have an unknown voxel of
+//! the map beside them on an axis, by ascending x, then y, then z:
+//!
+//!     let keys = frontier(alloc, &tree, lo, hi, 1_000_000)?;
+//!
+//! The promise is that the list is a function of the voxels' classes (`frontier_between`): of the
+//! voxels of the map in their order those that lie between the corners and at the frontier, and
+//! that it has exactly these (`IsFrontierBetween`). A neighbour counts where it lies beyond the
+//! corners, and not where it would lie beyond the map. More voxels than are allowed are refused,
+//! exactly where there are more, and then none is listed. It takes no memory but for the voxels
+//! that it answers.
+//!
+//! It goes down the tree by blocks, and takes along the nodes over the six blocks beside the one
+//! where it is (`Patch`), so that those of a child are one step further each, and nothing is looked
+//! up from the root. A block that is unknown or occupied is passed over, and so is a free one
+//! beside which nothing is unknown (`look_at`). So of a free block only what lies at a face to
+//! something unknown, or to something smaller, is entered. A first walk counts the voxels and ends
+//! at the first one too many, and a second one lists them into room for exactly that many; they
+//! are put in order by std's sort.
+//!
+//! It stands on `oct_tree`, and on `oct_values` for what classes are; `oct_edit` makes the maps of
+//! its tests.
+#![tactic(auto)]
+
+mod fault;
+mod listing;
+mod look;
+mod patch;
+mod walk;
+
+pub use fault::FrontierFault;
+pub use listing::frontier;
+
+#[cfg(test)]
+mod tests;

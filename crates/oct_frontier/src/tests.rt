@@ -1,0 +1,265 @@
+ghost use Rattle.std.specs.Prelude.{◌≡◌, ◌<◌, ◌≤◌, IfOk};
+ghost use Rattle.oct_odds.specs.Update.{IsSmallEvent};
+ghost use Rattle.oct_values.specs.Boxes as boxes;
+ghost use Rattle.oct_key.specs.Boxes.{IsBox};
+ghost use Rattle.oct_tree.specs.Shape.{IsWellFormed};
+
+use super::*;
+use oct_edit::{box_need, touch_box};
+use oct_key::{Key, KeyList, Res};
+use oct_odds::{Class, Event, OddsModel};
+use oct_tree::OccTree;
+use std::alloc::Global;
+use std::process::Abort;
+use std::test::Fail;
+
+const FREE: Event = Event::Set(-400);
+
+const OCCUPIED: Event = Event::Set(850);
+
+const fn key(x: u16, y: u16, z: u16) -> Key {
+    Key { x, y, z }
+}
+
+/// The voxel with this number on each axis.
+const fn all(n: u16) -> Key {
+    key(n, n, n)
+}
+
+/// The unknown world, with room for 2000 groups.
+fn world(alloc: Global) -> Result<OccTree, Fail>
+    ensures { IfOk result (λ tree. IsWellFormed tree) }
+{
+    let mut tree = OccTree::new(alloc, Res::new(100_000_000)?, OddsModel::default());
+    tree.reserve(2000)?;
+    Ok(tree)
+}
+
+/// The need of a box, once it is seen that its corners are in order.
+fn need(rt: &impl Abort, lo: Key, hi: Key) -> u128
+    ensures order { IsBox lo hi }
+    ensures exact { result ≡ boxes.box_need lo hi }
+{
+    assert!(rt; lo.x <= hi.x);
+    assert!(rt; lo.y <= hi.y);
+    assert!(rt; lo.z <= hi.z);
+    box_need(lo, hi)
+}
+
+/// Applies the event to a box where there is room for it.
+fn apply(rt: &impl Abort, tree: &mut OccTree, lo: Key, hi: Key, event: Event)
+    requires formed { IsWellFormed tree.old }
+    requires small { IsSmallEvent event }
+    ensures { IsWellFormed tree.new }
+{
+    let room = u128::from(tree.arena().spare());
+    assert!(rt; need(rt, lo, hi) <= room);
+    touch_box(tree, lo, hi, event);
+}
+
+/// The frontier of a box of which it is seen that its corners are in order.
+fn ask(
+    rt: &impl Abort,
+    alloc: Global,
+    tree: &OccTree,
+    lo: Key,
+    hi: Key,
+    most: u64,
+) -> Result<KeyList, FrontierFault> {
+    need(rt, lo, hi);
+    frontier(alloc, tree, lo, hi, most)
+}
+
+/// Whether the frontier of a box has these voxels, in this order.
+fn has(
+    rt: &impl Abort,
+    alloc: Global,
+    tree: &OccTree,
+    lo: Key,
+    hi: Key,
+    want: &[Key],
+) -> Result<bool, FrontierFault> {
+    Ok(ask(rt, alloc, tree, lo, hi, 1000)?.as_slice() == want)
+}
+
+/// Whether the frontier of the whole map has more voxels than that.
+fn has_more(rt: &impl Abort, alloc: Global, tree: &OccTree, most: u64) -> bool {
+    matches!(
+        ask(rt, alloc, tree, all(0), all(65_535), most),
+        Err(FrontierFault::TooManyFrontiers)
+    )
+}
+
+#[test]
+fn lists_free_voxels_beside_unknown_ones(rt: HostRuntime) -> Result<(), Fail> {
+    let mut tree = world(rt.alloc())?;
+    assert!(rt; has(&rt, rt.alloc(), &tree, all(0), all(65_535), &[])?);
+    // One free voxel.
+    apply(&rt, &mut tree, all(32_768), all(32_768), FREE);
+    let one = [all(32_768)];
+    assert!(rt; has(&rt, rt.alloc(), &tree, all(32_768), all(32_768), &one)?);
+    assert!(rt; has(&rt, rt.alloc(), &tree, all(0), all(65_535), &one)?);
+    assert!(rt; has(&rt, rt.alloc(), &tree, all(0), all(32_767), &[])?);
+    // A cube of them: all but the middle one.
+    apply(&rt, &mut tree, all(32_768), all(32_770), FREE);
+    let shell = ask(&rt, rt.alloc(), &tree, all(32_768), all(32_770), 26)?;
+    assert_eq!(rt; shell.as_slice().len(), 26);
+    assert_eq!(rt; shell.as_slice().first(), Some(&all(32_768)));
+    assert_eq!(rt;
+        shell.as_slice().get(12),
+        Some(&key(32_769, 32_769, 32_768))
+    );
+    assert_eq!(rt;
+        shell.as_slice().get(13),
+        Some(&key(32_769, 32_769, 32_770))
+    );
+    assert_eq!(rt; shell.as_slice().last(), Some(&all(32_770)));
+    assert!(rt; has_more(&rt, rt.alloc(), &tree, 25));
+    assert!(rt; !has_more(&rt, rt.alloc(), &tree, 26));
+    // An occupied voxel is none, and what is beside it alone isn't either.
+    apply(&rt, &mut tree, all(32_767), all(32_771), OCCUPIED);
+    apply(&rt, &mut tree, all(32_769), all(32_769), FREE);
+    assert!(rt; has(&rt, rt.alloc(), &tree, all(0), all(65_535), &[])?);
+    Ok(())
+}
+
+#[test]
+fn passes_over_large_blocks(rt: HostRuntime) -> Result<(), Fail> {
+    let mut tree = world(rt.alloc())?;
+    // The lower half of the map on x is free.
+    apply(&rt, &mut tree, all(0), key(32_767, 65_535, 65_535), FREE);
+    let border = key(32_767, 32_768, 32_768);
+    let behind = key(32_766, 32_768, 32_768);
+    assert!(rt; has(&rt, rt.alloc(), &tree, border, border, &[border])?);
+    assert!(rt; has(&rt, rt.alloc(), &tree, behind, behind, &[])?);
+    assert!(rt; has_more(&rt, rt.alloc(), &tree, 1000));
+    // All of it is: nothing beyond the map counts.
+    apply(&rt, &mut tree, all(0), all(65_535), FREE);
+    assert!(rt; has(&rt, rt.alloc(), &tree, all(0), all(65_535), &[])?);
+    // One voxel is unknown: those on its six faces.
+    apply(&rt, &mut tree, all(32_768), all(32_768), Event::Forget);
+    let faces = [
+        key(32_767, 32_768, 32_768),
+        key(32_768, 32_767, 32_768),
+        key(32_768, 32_768, 32_767),
+        key(32_768, 32_768, 32_769),
+        key(32_768, 32_769, 32_768),
+        key(32_769, 32_768, 32_768),
+    ];
+    assert!(rt; has(&rt, rt.alloc(), &tree, all(0), all(65_535), &faces)?);
+    for face in faces {
+        assert!(rt; has(&rt, rt.alloc(), &tree, face, face, &[face])?);
+    }
+    Ok(())
+}
+
+#[test]
+fn looks_at_the_corners_of_the_map(rt: HostRuntime) -> Result<(), Fail> {
+    let mut tree = world(rt.alloc())?;
+    apply(&rt, &mut tree, all(0), all(65_535), FREE);
+    apply(&rt, &mut tree, all(0), all(0), Event::Forget);
+    apply(&rt, &mut tree, all(65_535), all(65_535), Event::Forget);
+    let corners = [
+        key(0, 0, 1),
+        key(0, 1, 0),
+        key(1, 0, 0),
+        key(65_534, 65_535, 65_535),
+        key(65_535, 65_534, 65_535),
+        key(65_535, 65_535, 65_534),
+    ];
+    assert!(rt; has(&rt, rt.alloc(), &tree, all(0), all(65_535), &corners)?);
+    Ok(())
+}
+
+/// Whether the voxel of these numbers is in the map and unknown.
+fn is_unknown(tree: &OccTree, x: Option<u16>, y: Option<u16>, z: Option<u16>) -> bool {
+    match (x, y, z) {
+        (Some(x), Some(y), Some(z)) => tree.at(key(x, y, z)).is_none(),
+        _ => false,
+    }
+}
+
+/// Whether the voxel is free and has an unknown one beside it.
+fn is_border(tree: &OccTree, k: Key) -> bool {
+    let (x, y, z) = (Some(k.x), Some(k.y), Some(k.z));
+    tree.odds().class(tree.at(k)) == Class::Free
+        && (is_unknown(tree, k.x.checked_sub(1), y, z)
+            || is_unknown(tree, k.x.checked_add(1), y, z)
+            || is_unknown(tree, x, k.y.checked_sub(1), z)
+            || is_unknown(tree, x, k.y.checked_add(1), z)
+            || is_unknown(tree, x, y, k.z.checked_sub(1))
+            || is_unknown(tree, x, y, k.z.checked_add(1)))
+}
+
+/// The voxels of a cube of edge 4 that are free and have an unknown one beside them, looked at one by
+/// one.
+fn borders(alloc: Global, tree: &OccTree, low: u16) -> Result<Vec<Key>, Fail>
+    requires { low ≤ 65532 }
+{
+    let mut found = Vec::new(alloc);
+    for x in 0u16..4 {
+        for y in 0u16..4 {
+            for z in 0u16..4 {
+                let k = key(low + x, low + y, low + z);
+                if is_border(tree, k) {
+                    found.push(k)?;
+                }
+            }
+        }
+    }
+    Ok(found)
+}
+
+/// A number that looks like chance.
+fn next(seed: u32) -> u32 {
+    seed.wrapping_mul(1_664_525).wrapping_add(1_013_904_223)
+}
+
+/// Draws a few small boxes in a cube of edge 4.
+fn scribble(rt: &impl Abort, tree: &mut OccTree, low: u16, seed: u32)
+    requires formed { IsWellFormed tree.old }
+    requires low { low ≤ 65532 }
+    ensures { IsWellFormed tree.new }
+{
+    let mut seed = seed;
+    for round in 0u32..12 {
+        seed = next(seed ^ round);
+        let bits = (seed >> 16) as u16;
+        let lo = key(low + bits % 4, low + bits / 4 % 4, low + bits / 16 % 4);
+        let hi = key(
+            lo.x.max(low + bits / 64 % 4),
+            lo.y.max(low + bits / 256 % 4),
+            lo.z.max(low + bits / 1024 % 4),
+        );
+        let event = match bits / 4096 % 4 {
+            0 => OCCUPIED,
+            1 => Event::Forget,
+            _ => FREE,
+        };
+        apply(rt, tree, lo, hi, event);
+    }
+}
+
+#[test]
+fn agrees_with_a_look_at_each_voxel(rt: HostRuntime) -> Result<(), Fail> {
+    for (low, seed) in [
+        (0, 1),
+        (32_766, 2),
+        (32_766, 3),
+        (32_767, 4),
+        (32_768, 5),
+        (40_001, 6),
+        (65_532, 7),
+        (65_532, 8),
+    ] {
+        assert!(rt; low <= 65_532);
+        let mut tree = world(rt.alloc())?;
+        scribble(&rt, &mut tree, low, seed);
+        let want = borders(rt.alloc(), &tree, low)?;
+        assert!(rt;
+            has(&rt, rt.alloc(), &tree, all(low), all(low + 3), &want)?,
+            "seed {seed}"
+        );
+    }
+    Ok(())
+}
