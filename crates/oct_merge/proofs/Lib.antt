@@ -1,0 +1,7 @@
+pub mod Joined
+pub mod Known
+pub mod Needs
+pub mod Parts
+pub mod Shares
+pub mod Tables
+pub mod Homes

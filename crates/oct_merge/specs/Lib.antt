@@ -1,0 +1,5 @@
+pub mod Merged
+pub mod Need
+pub mod Walk
+pub mod Pairs
+pub mod Shared

@@ -1,0 +1,158 @@
+ghost use Rattle.std.specs.Prelude.{◌≡◌, ℕ, ◌+◌, ◌≤◌, ◌↔◌, IsTrue, IsSome, Some, None, false};
+ghost use Rattle.oct_key.specs.Voxel.{Voxel, IsInMap};
+ghost use Rattle.oct_key.specs.Block.{Cube, IsBlock, HoldsVoxel};
+ghost use Rattle.oct_key.specs.CubeOf.{cube_of};
+ghost use Rattle.oct_odds.specs.Update.{IsWithin};
+ghost use Rattle.oct_values.specs.Events.{Events};
+ghost use Rattle.oct_arena.specs.declared.node.Node.{Node};
+ghost use Rattle.oct_arena.specs.Entries.{live, spare};
+ghost use Rattle.oct_arena.specs.Nodes.{link_of, value_of};
+ghost use Rattle.oct_tree.specs.Tree.{IsLinked, IsPlace, node_in, block_in, value_at};
+ghost use Rattle.oct_tree.specs.Shape.{IsWellFormed};
+ghost use Rattle.oct_tree.specs.Tidiness.{IsTrueOf};
+ghost use Rattle.oct_edit.specs.Edits.{IsEdited, IsEagerEdit, IsTidyAlong};
+ghost use Rattle.oct_edit.specs.Steps.{IsEntered, IsTouched, IsClosed};
+ghost use Rattle.oct_merge.specs.declared.rule.Rule.{Rule};
+ghost use Rattle.oct_merge.specs.Merged.{merged, merge_event, merge_events};
+ghost use Rattle.oct_merge.specs.Need.{merge_need};
+ghost use Rattle.oct_merge.specs.Walk.{IsOver, need_in};
+
+use crate::rule::Rule;
+use crate::walk::{MAP, child_node, is_plain};
+use oct_arena::{GroupId, Node};
+use oct_key::Block;
+use oct_tree::{OccTree, Place};
+
+/// Merges the other map into this one, voxel by voxel. Both have one resolution and one model, and
+/// `into` has room for [`merge_need`](crate::merge_need) groups. It can't fail, and takes no
+/// memory.
+pub fn merge(into: &mut OccTree, other: &OccTree, rule: Rule)
+    requires into { IsWellFormed into.old }
+    requires other { IsWellFormed other.now }
+    requires res { into.old.res ≡ other.now.res }
+    requires odds { into.old.odds ≡ other.now.odds }
+    requires room { merge_need into.old other.now ≤ spare into.old.groups }
+    ensures values { (k : Voxel) → IsInMap k → value_at into.new k
+        ≡ merged rule (value_at into.old k) (value_at other.now k) }
+    ensures edited { IsEdited into.old into.new
+        (merge_events rule (value_at into.old) (value_at other.now)) }
+    ensures eager { IsEagerEdit into.old into.new
+        (merge_events rule (value_at into.old) (value_at other.now)) }
+    ensures path { (k : Voxel) → IsInMap k → IsSome (value_at other.now k)
+        → IsTidyAlong into.new k }
+    ensures groups { live into.new.groups
+        ≤ live into.old.groups + merge_need into.old other.now }
+    ensures room { live into.new.groups + spare into.new.groups
+        ≡ live into.old.groups + spare into.old.groups }
+{
+    let known = into.tidiness();
+    merge_part(into, Place::Root, other, other.root(), MAP, rule);
+    into.note(known);
+}
+
+/// Merges the voxels of the block of the place, over which this node stands in the other tree, and
+/// closes the groups from there on.
+fn merge_part(tree: &mut OccTree, p: Place, other: &OccTree, node: Node, block: Block, rule: Rule)
+    requires linked { IsLinked tree.old }
+    requires place { IsPlace tree.old p }
+    requires block { block_in tree.old p ≡ Some (cube_of block) }
+    requires other { IsWellFormed other.now }
+    requires over { IsOver other.now (cube_of block) node }
+    requires odds { tree.old.odds ≡ other.now.odds }
+    requires room { need_in tree.old other.now (cube_of block) ≤ spare tree.old.groups }
+    ensures touched { IsTouched tree.old tree.new (cube_of block)
+        (merge_events rule (value_at tree.old) (value_at other.now)) false }
+    ensures room { spare tree.old.groups
+        ≤ spare tree.new.groups + need_in tree.old other.now (cube_of block) }
+{
+    if is_absent(node) {
+        return;
+    }
+    if is_kept(tree, p, rule) {
+        return;
+    }
+    if are_plain(tree, p, node) {
+        write_leaf(tree, p, node, rule);
+        return;
+    }
+    let id = enter(tree, p);
+    for i in 0..8 {
+        let child = child_node(other, node, i);
+        merge_part(tree, Place::Slot(id, i), other, child, block.child(i), rule);
+    }
+    close(tree, p, id);
+}
+
+/// Whether the node is absent.
+fn is_absent(node: Node) -> bool
+    ensures { IsTrue result ↔ (node ≡ Node.Absent) }
+{
+    match node {
+        Node::Absent => true,
+        _ => false,
+    }
+}
+
+/// Whether the place has a leaf, and the rule takes the first map's value, so that each voxel of
+/// its block stays as it is.
+fn is_kept(tree: &OccTree, p: Place, rule: Rule) -> bool
+    requires { IsPlace tree.now p }
+    ensures { IsTrue result → (rule ≡ Rule.First) × IsSome (value_of (node_in tree.now p)) }
+{
+    match rule {
+        Rule::First => tree.node(p).value().is_some(),
+        _ => false,
+    }
+}
+
+/// Whether neither the place nor the other node links a group.
+fn are_plain(tree: &OccTree, p: Place, node: Node) -> bool
+    requires { IsPlace tree.now p }
+    ensures { IsTrue result ↔ ((link_of (node_in tree.now p) ≡ None) × (link_of node ≡ None)) }
+{
+    is_plain(tree.node(p)) && is_plain(node)
+}
+
+/// Merges the leaf of the other tree into the leaf or absent node of the place.
+fn write_leaf(tree: &mut OccTree, p: Place, node: Node, rule: Rule)
+    requires linked { IsLinked tree.old }
+    requires place { IsPlace tree.old p }
+    requires plain { link_of (node_in tree.old p) ≡ None }
+    requires leaf { IsSome (value_of node) }
+    requires within { IsWithin tree.old.odds (value_of node) }
+    ensures touched { (b : Cube) (events : Events) → IsBlock b → block_in tree.old p ≡ Some b
+        → ((k : Voxel) → IsInMap k → HoldsVoxel b k
+        → events k ≡ merge_event rule (value_of (node_in tree.old p)) (value_of node))
+        → IsTouched tree.old tree.new b events false }
+    ensures spare { spare tree.new.groups ≡ spare tree.old.groups }
+{
+    let Some(value) = node.value() else {
+        unreachable!();
+    };
+    let joined = rule.join(tree.node(p).value(), value);
+    tree.set_place(p, Node::Leaf(joined));
+}
+
+/// The group under the place. Where it has none, the place is split.
+fn enter(tree: &mut OccTree, p: Place) -> GroupId
+    requires place { IsPlace tree.old p }
+    requires depth { (b : Cube) → block_in tree.old p ≡ Some b → b.depth ≤ 15 }
+    requires room { link_of (node_in tree.old p) ≡ None → 1 ≤ spare tree.old.groups }
+    ensures { (b : Cube) → block_in tree.old p ≡ Some b → IsEntered tree.old tree.new p b result }
+{
+    match tree.node(p) {
+        Node::Inner(_, id) => id,
+        _ => tree.split(p),
+    }
+}
+
+/// Closes that group under the place: collapses it where it can be, and else renews the value of
+/// the place.
+fn close(tree: &mut OccTree, p: Place, id: GroupId)
+    requires linked { IsLinked tree.old }
+    requires place { IsPlace tree.old p }
+    requires inner { link_of (node_in tree.old p) ≡ Some id.number }
+    ensures { (b : Cube) → block_in tree.old p ≡ Some b → IsClosed tree.old tree.new b false }
+{
+    tree.settle_group(p, id);
+}
