@@ -1,0 +1,11 @@
+pub mod Columns
+pub mod Pushes
+pub mod Runs
+pub mod Rows
+pub mod Places
+pub mod Boxes
+pub mod Counts
+pub mod Walks
+pub mod Lines
+pub mod Sizes
+pub mod Orders

@@ -1,0 +1,6 @@
+pub mod Seen
+pub mod Bands
+pub mod Grids
+pub mod Boxes
+pub mod BoxTexts
+pub mod Pushed

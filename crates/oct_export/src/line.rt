@@ -1,0 +1,162 @@
+//! The line of a box.
+ghost use Rattle.std.specs.Prelude.{◌≡◌, ◌+◌, ◌^◌, ◌<◌, ◌≤◌, ◌++◌};
+ghost use Rattle.arrayvec.specs.ArrayString.{array_string_len};
+ghost use Rattle.oct_key.specs.CubeOf.{cube_of};
+ghost use Rattle.oct_key.specs.Voxel.{IsResolution};
+ghost use Rattle.oct_num.specs.Form.{fraction_text};
+ghost use Rattle.oct_num.specs.MetresText.{leading_digits};
+ghost use Rattle.oct_num.specs.Sign.{sign_text};
+ghost use Rattle.oct_export.specs.BoxTexts.{box_line, fine_text, middle_text, size_text};
+
+use arrayvec::ArrayString;
+use itoa::Buffer;
+use oct_key::{Block, Res};
+use oct_num::metres_text;
+
+/// How many ten-billionths a metre has.
+const PER_METRE: u64 = 10_000_000_000;
+
+/// Twice the number of voxels from the lowest face of the map to the origin.
+const ORIGIN: u64 = 65_536;
+
+/// Appends the digits of a number of this many digits, up to the last one that isn't 0.
+fn push_digits(text: &mut ArrayString<32>, places: u32, n: u64)
+    requires most { places ≤ 10 }
+    requires few { n < 10 ^ places }
+    requires room { array_string_len text.old + places ≤ 32 }
+    ensures appended { text.new.bytes ≡ text.old.bytes ++ leading_digits places n }
+{
+    if n > 0 {
+        let unit = 10u64.pow(places - 1);
+        text.push(char::from(b'0' + (n / unit) as u8));
+        push_digits(text, places - 1, n % unit);
+    }
+}
+
+/// Appends a point and the digits of these ten-billionths, or nothing for none.
+fn push_fraction(text: &mut ArrayString<32>, n: u64)
+    requires few { n < 10 ^ 10 }
+    requires room { array_string_len text.old ≤ 21 }
+    ensures appended { text.new.bytes ≡ text.old.bytes ++ fraction_text (leading_digits 10 n) }
+{
+    if n > 0 {
+        text.push('.');
+        push_digits(text, 10, n);
+    }
+}
+
+/// Appends a length in ten-billionths of a metre, in metres.
+fn push_fine(text: &mut ArrayString<32>, n: u64)
+    requires { array_string_len text.old ≤ 1 }
+    ensures { text.new.bytes ≡ text.old.bytes ++ fine_text n }
+{
+    text.push_str(Buffer::new().format(n / PER_METRE));
+    push_fraction(text, n % PER_METRE);
+}
+
+/// A minus, or nothing.
+fn sign_of(minus: bool) -> ArrayString<32>
+    ensures { result.bytes ≡ sign_text minus }
+{
+    let mut text = ArrayString::new();
+    if minus {
+        text.push('-');
+    }
+    text
+}
+
+/// The middle of a block of this depth and number on an axis, in metres.
+fn middle_of(edge: u64, depth: u8, number: u16) -> ArrayString<32>
+    requires edge { IsResolution edge }
+    requires depth { depth ≤ 16 }
+    requires number { number < 2 ^ depth }
+    ensures { result.bytes ≡ middle_text edge depth number }
+{
+    let side = 1u64 << (16 - depth);
+    let faces = (2 * u64::from(number) + 1) * side;
+    let mut text = sign_of(faces < ORIGIN);
+    let gap = faces.abs_diff(ORIGIN) * edge;
+    push_fine(&mut text, 5 * gap);
+    text
+}
+
+/// The edge of a voxel, in nanometres.
+fn edge_of(res: Res) -> u64
+    ensures value { result ≡ res }
+    ensures range { IsResolution result }
+{
+    res.nm() as u64
+}
+
+/// The edge of a block of this depth, in metres.
+fn size_of(edge: u64, depth: u8) -> ArrayString<24>
+    requires edge { IsResolution edge }
+    requires depth { depth ≤ 16 }
+    ensures { result.bytes ≡ size_text edge depth }
+{
+    let side = 1u64 << (16 - depth);
+    let nm = side * edge;
+    metres_text(nm as i64)
+}
+
+/// The line of a box.
+pub(crate) fn line_of(res: Res, block: Block) -> ArrayString<256>
+    ensures { result.bytes ≡ box_line res (cube_of block) }
+{
+    let edge = edge_of(res);
+    let size = size_of(edge, block.depth);
+    let mut text = ArrayString::new();
+    text.push_str("Transform { translation ");
+    text.push_str(middle_of(edge, block.depth, block.x).as_str());
+    text.push_str(" ");
+    text.push_str(middle_of(edge, block.depth, block.y).as_str());
+    text.push_str(" ");
+    text.push_str(middle_of(edge, block.depth, block.z).as_str());
+    text.push_str(" children [ Shape { geometry Box { size ");
+    text.push_str(size.as_str());
+    text.push_str(" ");
+    text.push_str(size.as_str());
+    text.push_str(" ");
+    text.push_str(size.as_str());
+    text.push_str(" } } ] }\n");
+    text
+}
+
+#[cfg(test)]
+mod tests {
+    use super::*;
+    use std::test::Fail;
+
+    #[test]
+    fn a_middle_is_told_to_the_half_nanometre(rt: HostRuntime) {
+        for (edge, depth, number, want) in [
+            (100_001, 16, 32_768, "0.0000500005"),
+            (100_001, 16, 32_767, "-0.0000500005"),
+            (100_001, 16, 32_769, "0.0001500015"),
+            (100_001, 15, 16_384, "0.000100001"),
+            (100_000_000, 0, 0, "0"),
+            (100_000_000, 1, 0, "-1638.4"),
+            (100_000_000, 15, 16_384, "0.1"),
+            (100_000_000_000, 16, 0, "-3276750"),
+            (99_999_999_999, 16, 65_535, "3276749.9999672325"),
+        ] {
+            let text = middle_of(edge, depth, number);
+            assert_eq!(rt; text.as_str(), want, "at {edge} {depth} {number}");
+        }
+    }
+
+    #[test]
+    fn a_line_has_the_middle_and_the_edge(rt: HostRuntime) -> Result<(), Fail> {
+        let voxel = Block {
+            depth: 16,
+            x: 32_768,
+            y: 32_767,
+            z: 32_768,
+        };
+        let line = line_of(Res::new(100_001)?, voxel);
+        let want = "Transform { translation 0.0000500005 -0.0000500005 0.0000500005 children [ \
+            Shape { geometry Box { size 0.000100001 0.000100001 0.000100001 } } ] }\n";
+        assert_eq!(rt; line.as_str(), want);
+        Ok(())
+    }
+}
