@@ -1,8 +1,9 @@
 -- Where words leave the forms that they begin.
-use Rattle.std.proofs.Common.{◌≡◌, ◌≢◌, ℕ, List, [], ◌∷◌, ◌++◌, Bool, true, false, cond, inl, inr, Option, Some, None, option_and_then, Result, Ok, Err, IfOk, IfErr, refl, sym, ap, subst, ◌∙◌, append_assoc, append-nil}
+use Rattle.std.specs.Prelude.{⊤}
+use Rattle.std.proofs.Common.{◌≡◌, ◌≢◌, ℕ, List, [], ◌∷◌, ◌++◌, Bool, true, false, cond, inl, inr, Option, Some, None, option_and_then, Result, Ok, Err, OnOk, IfErr, refl, sym, ap, subst, ◌∙◌, append_assoc, append-nil}
 use Rattle.std.specs.List.{filter_map, cons_option}
 use Rattle.std.specs.Option.{ok_or}
-use Rattle.oct_script.specs.Commands.{fault, all_behind, ended_command, if_any, command_by, is_comment, command_in}
+use Rattle.oct_script.specs.Commands.{fault, all_behind, ended_command, if_any, command_by, is_comment, command_in, IsRead}
 use Rattle.oct_script.specs.Faults.{texts, behind_all, possible, LeavesAt, IsMeant}
 use Rattle.oct_script.specs.Grammar.{Form, behind, forms_of}
 use Rattle.oct_script.specs.Words.{Word, PlacedWord}
@@ -124,11 +125,17 @@ line_leaves inside end (first ∷ words) s e = elim (is_comment first.text)
       | false ↦ λ e. leaves (forms_of inside) end (first ∷ words) [] (first ∷ words) s (subst (λ forms. command_by forms end (first ∷ words) ≡ Err s) (possible_none (forms_of inside)) e) refl (some_form inside)
     ] e
 
-pub means_answer : (r : Result Command Syntax) (inside : Bool) (end : ℕ) (words : List PlacedWord) → r ≡ command_in inside end words → IfOk r (IsMeant (forms_of inside) words)
-means_answer (Ok c) inside end words e = line_means inside end words c (sym e)
-means_answer (Err s) inside end words e = tt
+-- what was read is what the words come to, which is the same
+pub same_read : (r : Result ⊤ Syntax) (c : Command) (x y : Result Command Syntax) → x ≡ y → IsRead r c x → IsRead r c y
+same_read (Ok done) c x y same read = sym same ∙ read
+same_read (Err s) c x y same read = sym same ∙ read
 
-pub leaves_answer : (r : Result Command Syntax) (inside : Bool) (end : ℕ) (words : List PlacedWord) → r ≡ command_in inside end words →
+-- a line that was read has a form, and one that was refused leaves them all at its column
+pub means_read : (r : Result ⊤ Syntax) (c : Command) (inside : Bool) (end : ℕ) (words : List PlacedWord) → IsRead r c (command_in inside end words) → OnOk r (IsMeant (forms_of inside) words c)
+means_read (Ok done) c inside end words read = line_means inside end words c read
+means_read (Err s) c inside end words read = tt
+
+pub leaves_read : (r : Result ⊤ Syntax) (c : Command) (inside : Bool) (end : ℕ) (words : List PlacedWord) → IsRead r c (command_in inside end words) →
     IfErr r (λ s. LeavesAt (forms_of inside) end words s.column)
-leaves_answer (Ok c) inside end words e = tt
-leaves_answer (Err s) inside end words e = line_leaves inside end words s (sym e)
+leaves_read (Ok done) c inside end words read = tt
+leaves_read (Err s) c inside end words read = line_leaves inside end words s read

@@ -1,5 +1,5 @@
 -- The command of a line.
-use Rattle.std.specs.Prelude.{ℕ, ◌+◌, ◌^◌, ◌<◌, ℤ, pos, neg_ℤ, ◌≤ℤ◌, ◌<ℤ◌, List, [], ◌∷◌, length}
+use Rattle.std.specs.Prelude.{◌≡◌, ℕ, ◌+◌, ◌^◌, ◌<◌, ℤ, pos, neg_ℤ, ◌≤ℤ◌, ◌<ℤ◌, List, [], ◌∷◌, length}
 use Rattle.std.specs.Prelude.{nat_eq, slice_index, if◌then◌else◌, Bool, Option, Some, None, Result}
 use Rattle.std.specs.Prelude.{Ok, Err, IfSome, ⊤, codes, bytes_eq}
 use Rattle.std.specs.List.{filter_map}
@@ -64,6 +64,11 @@ command_in inside end (first ∷ words) =
 -- it leaves the grammar
 unfoldable pub command_of : Bool → List ℕ → Result Command Syntax
 command_of inside line = command_in inside (length line + 1) (placed_words line)
+
+-- a command stands in its place that is what these words come to, or it is their fault
+abbrev pub IsRead : Result ⊤ Syntax → Command → Result Command Syntax → Type 0
+IsRead (Ok done) command read = read ≡ Ok command
+IsRead (Err fault) command read = read ≡ Err fault
 
 -- a line that opens the block of a scan, whatever its other words are
 abbrev pub opens_scan : List ℕ → Bool

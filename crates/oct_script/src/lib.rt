@@ -1,8 +1,9 @@
 //! Scripts: their lines, the commands that the lines ask for, and the texts of the replies.
 //!
 //! A script is bytes. [`Lines`] takes them in pieces, as they come, and holds the line that is
-//! being read; [`parse`] reads a line as a [`Command`]; [`push_reply`] appends the text of a
-//! [`Reply`]. What a command does isn't known here, nor whether a scan is open: the caller says so.
+//! being read; [`parse`] reads a line as a [`Command`], and [`parse_into`] puts it in a place;
+//! [`push_reply`] appends the text of a [`Reply`]. What a command does isn't known here, nor whether
+//! a scan is open: the caller says so.
 //!
 //! What the contracts promise:
 //!
@@ -25,7 +26,8 @@
 //! `lines` keeps a line in an `ArrayVec` of 4,096 bytes, and `words` goes through it once, from the
 //! left; neither allocates. `numbers` says what a word spells, `verbs` what a first word begins,
 //! and `table` has the first words. `parser` reads word by word, with one small function for each
-//! part of a form. `specs/Reading.antt` says how, for the proofs; the grammar doesn't rest on it.
+//! part of a form, and the last one puts the command in its place, so that it isn't moved from call
+//! to call. `specs/Reading.antt` says how, for the proofs; the grammar doesn't rest on it.
 //!
 //! Sessions stand on this crate.
 #![tactic(auto)]
@@ -46,5 +48,5 @@ pub use command::{Command, Edit, ScanHead, ScanOdds, Syntax};
 pub use lines::{Fed, LONGEST_LINE, Lines};
 pub use name::Name;
 pub use numbers::number_of;
-pub use parser::{opens_scan, parse};
+pub use parser::{opens_scan, parse, parse_into};
 pub use reply::{HeaderWord, Refusal, Reply, ScanDone, push_reply};

@@ -1,5 +1,5 @@
 //! How a line is read as a command.
-ghost use Rattle.std.specs.Prelude.{◌≡◌, ◌+◌, ◌<◌, ◌≤◌, length, not, MatchResult, IfOk, IfErr};
+ghost use Rattle.std.specs.Prelude.{◌≡◌, ◌+◌, ◌<◌, ◌≤◌, length, not, MatchResult, IfOk, OnOk, IfErr};
 ghost use Rattle.std.specs.Prelude.{IfSome, Some, None, Ok, Err};
 ghost use Rattle.oct_odds.specs.Odds.{IsSmall};
 ghost use Rattle.oct_pose.specs.Reach.{IsInReach};
@@ -8,8 +8,10 @@ ghost use Rattle.oct_script.specs.Grammar.{number_of, depth_of, component_of, ra
 ghost use Rattle.oct_script.specs.Grammar.{forms_of};
 ghost use Rattle.oct_script.specs.Names.{name_of};
 ghost use Rattle.oct_script.specs.Faults.{IsMeant, LeavesAt};
-ghost use Rattle.oct_script.specs.Commands.{command_of, opens_scan, IsSmallEdit, IsRange};
+ghost use Rattle.oct_script.specs.Commands.{command_of, IsRead, opens_scan, IsSmallEdit, IsRange};
 ghost use Rattle.oct_script.specs.Commands.{IsHitOdds, IsMissOdds, IsOwnOdds, IsSmallCommand};
+ghost use Rattle.oct_script.specs.declared.verbs.Verb.TheVariants.{Save, Load, Snapshot, Restore};
+ghost use Rattle.oct_script.specs.Reading.{single_command};
 ghost use Rattle.oct_script.specs.Reading.{number_in, point_in, point_number_in, rotation_in};
 ghost use Rattle.oct_script.specs.Reading.{excess, end_in, flag_in, edit_end_in, edit_in, points_in, number_edit_in, query_in, cast_in, scan_in, beam_in, file_in, behind_verb, behind_first, line_in, edit_number_in, edit_word_in, box_in, listing_in, limit_in, miss_in, head_end_in};
 
@@ -18,7 +20,7 @@ use crate::lines::LONGEST_LINE;
 use crate::name::Name;
 use crate::numbers::{component_of, depth_of, hit_of, miss_of, number_of, range_of};
 use crate::table::verb_of;
-use crate::verbs::Verb;
+use crate::verbs::{Single, Verb};
 use crate::words::{WordAt, Words, first_word};
 use oct_key::Point;
 
@@ -120,24 +122,30 @@ fn read_flag(flag: &[u8], words: &mut Words<'_>) -> Result<bool, Syntax>
 
 /// Reads `[lazy]`, after an edit of a point.
 #[tactic(auto, unfolding(crate::specs::Reading::edit_end_in))]
-fn read_edit_end(p: Point, e: Edit, words: &mut Words<'_>) -> Result<Command, Syntax>
+fn read_edit_end(
+    p: Point,
+    e: Edit,
+    words: &mut Words<'_>,
+    command: &mut Command,
+) -> Result<(), Syntax>
     requires { IsSmallEdit e }
-    ensures exact { result ≡ edit_end_in p e words.old.words }
-    ensures small { IfOk result IsSmallCommand }
+    ensures exact { IsRead result command.new (edit_end_in p e words.old.words) }
+    ensures small { OnOk result (IsSmallCommand command.new) }
 {
     let lazy = read_flag(b"lazy", words)?;
-    Ok(Command::Edit { p, e, lazy })
+    *command = Command::Edit { p, e, lazy };
+    Ok(())
 }
 
 /// Reads `X Y Z [lazy]`, after the verb of an edit.
 #[tactic(auto, unfolding(crate::specs::Reading::edit_in))]
-fn read_edit(e: Edit, words: &mut Words<'_>) -> Result<Command, Syntax>
+fn read_edit(e: Edit, words: &mut Words<'_>, command: &mut Command) -> Result<(), Syntax>
     requires { IsSmallEdit e }
-    ensures exact { result ≡ edit_in e words.old.end words.old.words }
-    ensures small { IfOk result IsSmallCommand }
+    ensures exact { IsRead result command.new (edit_in e words.old.end words.old.words) }
+    ensures small { OnOk result (IsSmallCommand command.new) }
 {
     let p = read_point(words)?;
-    read_edit_end(p, e, words)
+    read_edit_end(p, e, words, command)
 }
 
 /// Reads `X Y Z N`.
@@ -156,22 +164,24 @@ fn read_point_number(words: &mut Words<'_>) -> Result<(Point, i32), Syntax>
 
 /// Reads `X Y Z N [lazy]`, after `add`.
 #[tactic(auto, unfolding(crate::specs::Reading::number_edit_in))]
-fn read_add(words: &mut Words<'_>) -> Result<Command, Syntax>
-    ensures exact { result ≡ number_edit_in Edit.Add words.old.end words.old.words }
-    ensures small { IfOk result IsSmallCommand }
+fn read_add(words: &mut Words<'_>, command: &mut Command) -> Result<(), Syntax>
+    ensures exact { IsRead result command.new
+        (number_edit_in Edit.Add words.old.end words.old.words) }
+    ensures small { OnOk result (IsSmallCommand command.new) }
 {
     let (p, n) = read_point_number(words)?;
-    read_edit_end(p, Edit::Add(n), words)
+    read_edit_end(p, Edit::Add(n), words, command)
 }
 
 /// Reads `X Y Z N [lazy]`, after `set`.
 #[tactic(auto, unfolding(crate::specs::Reading::number_edit_in))]
-fn read_set(words: &mut Words<'_>) -> Result<Command, Syntax>
-    ensures exact { result ≡ number_edit_in Edit.Set words.old.end words.old.words }
-    ensures small { IfOk result IsSmallCommand }
+fn read_set(words: &mut Words<'_>, command: &mut Command) -> Result<(), Syntax>
+    ensures exact { IsRead result command.new
+        (number_edit_in Edit.Set words.old.end words.old.words) }
+    ensures small { OnOk result (IsSmallCommand command.new) }
 {
     let (p, n) = read_point_number(words)?;
-    read_edit_end(p, Edit::Set(n), words)
+    read_edit_end(p, Edit::Set(n), words, command)
 }
 
 /// Reads the end of a line after an edit that is one word.
@@ -230,25 +240,27 @@ fn read_edit_word(words: &mut Words<'_>) -> Result<Edit, Syntax>
 
 /// Reads `X Y Z X Y Z` and an edit, after `box`.
 #[tactic(auto, unfolding(crate::specs::Reading::box_in))]
-fn read_box(words: &mut Words<'_>) -> Result<Command, Syntax>
-    ensures exact { result ≡ box_in words.old.end words.old.words }
-    ensures small { IfOk result IsSmallCommand }
+fn read_box(words: &mut Words<'_>, command: &mut Command) -> Result<(), Syntax>
+    ensures exact { IsRead result command.new (box_in words.old.end words.old.words) }
+    ensures small { OnOk result (IsSmallCommand command.new) }
 {
     let (low, high) = read_points(words)?;
     let e = read_edit_word(words)?;
-    Ok(Command::Box { low, high, e })
+    *command = Command::Box { low, high, e };
+    Ok(())
 }
 
 /// Reads `X Y Z D`, after `get`.
 #[tactic(auto, unfolding(crate::specs::Reading::query_in))]
-fn read_query(words: &mut Words<'_>) -> Result<Command, Syntax>
-    ensures exact { result ≡ query_in words.old.end words.old.words }
-    ensures small { IfOk result IsSmallCommand }
+fn read_query(words: &mut Words<'_>, command: &mut Command) -> Result<(), Syntax>
+    ensures exact { IsRead result command.new (query_in words.old.end words.old.words) }
+    ensures small { OnOk result (IsSmallCommand command.new) }
 {
     let p = read_point(words)?;
     let depth = read_depth(words)?;
     read_end(words)?;
-    Ok(Command::Get { p, depth })
+    *command = Command::Get { p, depth };
+    Ok(())
 }
 
 /// Reads `X Y Z X Y Z`.
@@ -266,40 +278,43 @@ fn read_points(words: &mut Words<'_>) -> Result<(Point, Point), Syntax>
 
 /// Reads `X Y Z X Y Z D`, after `list`.
 #[tactic(auto, unfolding(crate::specs::Reading::listing_in))]
-fn read_listing(words: &mut Words<'_>) -> Result<Command, Syntax>
-    ensures exact { result ≡ listing_in words.old.end words.old.words }
-    ensures small { IfOk result IsSmallCommand }
+fn read_listing(words: &mut Words<'_>, command: &mut Command) -> Result<(), Syntax>
+    ensures exact { IsRead result command.new (listing_in words.old.end words.old.words) }
+    ensures small { OnOk result (IsSmallCommand command.new) }
 {
     let (low, high) = read_points(words)?;
     let depth = read_depth(words)?;
     read_end(words)?;
-    Ok(Command::List { low, high, depth })
+    *command = Command::List { low, high, depth };
+    Ok(())
 }
 
 /// Reads `X Y Z X Y Z`, after `limit`.
 #[tactic(auto, unfolding(crate::specs::Reading::limit_in))]
-fn read_limit(words: &mut Words<'_>) -> Result<Command, Syntax>
-    ensures exact { result ≡ limit_in words.old.end words.old.words }
-    ensures small { IfOk result IsSmallCommand }
+fn read_limit(words: &mut Words<'_>, command: &mut Command) -> Result<(), Syntax>
+    ensures exact { IsRead result command.new (limit_in words.old.end words.old.words) }
+    ensures small { OnOk result (IsSmallCommand command.new) }
 {
     let (low, high) = read_points(words)?;
     read_end(words)?;
-    Ok(Command::Limit { low, high })
+    *command = Command::Limit { low, high };
+    Ok(())
 }
 
 /// Reads `X Y Z X Y Z [ignore]`, after `cast`.
 #[tactic(auto, unfolding(crate::specs::Reading::cast_in))]
-fn read_cast(words: &mut Words<'_>) -> Result<Command, Syntax>
-    ensures exact { result ≡ cast_in words.old.end words.old.words }
-    ensures small { IfOk result IsSmallCommand }
+fn read_cast(words: &mut Words<'_>, command: &mut Command) -> Result<(), Syntax>
+    ensures exact { IsRead result command.new (cast_in words.old.end words.old.words) }
+    ensures small { OnOk result (IsSmallCommand command.new) }
 {
     let (origin, end) = read_points(words)?;
     let ignore_unknown = read_flag(b"ignore", words)?;
-    Ok(Command::Cast {
+    *command = Command::Cast {
         origin,
         end,
         ignore_unknown,
-    })
+    };
+    Ok(())
 }
 
 /// Reads `Q Q Q Q`, the numbers of a quaternion from its real part on.
@@ -360,15 +375,15 @@ fn read_head_end(words: &mut Words<'_>) -> Result<(Option<ScanOdds>, bool), Synt
 
 /// Reads `X Y Z Q Q Q Q RANGE [HIT MISS] [lazy]`, after `scan`.
 #[tactic(auto, unfolding(crate::specs::Reading::scan_in))]
-fn read_scan(words: &mut Words<'_>) -> Result<Command, Syntax>
-    ensures exact { result ≡ scan_in words.old.end words.old.words }
-    ensures small { IfOk result IsSmallCommand }
+fn read_scan(words: &mut Words<'_>, command: &mut Command) -> Result<(), Syntax>
+    ensures exact { IsRead result command.new (scan_in words.old.end words.old.words) }
+    ensures small { OnOk result (IsSmallCommand command.new) }
 {
     let t = read_point(words)?;
     let (w, x, y, z) = read_rotation(words)?;
     let range = read_range(words)?;
     let (odds, lazy) = read_head_end(words)?;
-    Ok(Command::Scan(ScanHead {
+    *command = Command::Scan(ScanHead {
         t,
         w,
         x,
@@ -377,18 +392,20 @@ fn read_scan(words: &mut Words<'_>) -> Result<Command, Syntax>
         range,
         odds,
         lazy,
-    }))
+    });
+    Ok(())
 }
 
 /// Reads `X Y Z`, after `p`.
 #[tactic(auto, unfolding(crate::specs::Reading::beam_in))]
-fn read_beam(words: &mut Words<'_>) -> Result<Command, Syntax>
-    ensures exact { result ≡ beam_in words.old.end words.old.words }
-    ensures small { IfOk result IsSmallCommand }
+fn read_beam(words: &mut Words<'_>, command: &mut Command) -> Result<(), Syntax>
+    ensures exact { IsRead result command.new (beam_in words.old.end words.old.words) }
+    ensures small { OnOk result (IsSmallCommand command.new) }
 {
     let p = read_point(words)?;
     read_end(words)?;
-    Ok(Command::Beam(p))
+    *command = Command::Beam(p);
+    Ok(())
 }
 
 /// Reads NAME.
@@ -412,40 +429,85 @@ fn read_file(words: &mut Words<'_>) -> Result<Name, Syntax>
     Ok(name)
 }
 
+/// Reads NAME and the end of the line, after `save`.
+#[tactic(auto, unfolding(crate::specs::Reading::behind_verb))]
+fn read_save(words: &mut Words<'_>, command: &mut Command) -> Result<(), Syntax>
+    ensures exact { IsRead result command.new (behind_verb Save words.old.end words.old.words) }
+    ensures small { OnOk result (IsSmallCommand command.new) }
+{
+    let name = read_file(words)?;
+    *command = Command::Save(name);
+    Ok(())
+}
+
+/// Reads NAME and the end of the line, after `load`.
+#[tactic(auto, unfolding(crate::specs::Reading::behind_verb))]
+fn read_load(words: &mut Words<'_>, command: &mut Command) -> Result<(), Syntax>
+    ensures exact { IsRead result command.new (behind_verb Load words.old.end words.old.words) }
+    ensures small { OnOk result (IsSmallCommand command.new) }
+{
+    let name = read_file(words)?;
+    *command = Command::Load(name);
+    Ok(())
+}
+
+/// Reads NAME and the end of the line, after `snapshot`.
+#[tactic(auto, unfolding(crate::specs::Reading::behind_verb))]
+fn read_snapshot(words: &mut Words<'_>, command: &mut Command) -> Result<(), Syntax>
+    ensures exact { IsRead result command.new (behind_verb Snapshot words.old.end words.old.words) }
+    ensures small { OnOk result (IsSmallCommand command.new) }
+{
+    let name = read_file(words)?;
+    *command = Command::Snapshot(name);
+    Ok(())
+}
+
+/// Reads NAME and the end of the line, after `restore`.
+#[tactic(auto, unfolding(crate::specs::Reading::behind_verb))]
+fn read_restore(words: &mut Words<'_>, command: &mut Command) -> Result<(), Syntax>
+    ensures exact { IsRead result command.new (behind_verb Restore words.old.end words.old.words) }
+    ensures small { OnOk result (IsSmallCommand command.new) }
+{
+    let name = read_file(words)?;
+    *command = Command::Restore(name);
+    Ok(())
+}
+
 /// Reads the end of a line whose one word is its command.
-fn read_alone(command: Command, words: &mut Words<'_>) -> Result<Command, Syntax>
-    requires { IsSmallCommand command }
-    ensures exact { result ≡ end_in command words.old.words }
-    ensures small { IfOk result IsSmallCommand }
+fn read_alone(single: Single, words: &mut Words<'_>, command: &mut Command) -> Result<(), Syntax>
+    ensures exact { IsRead result command.new (end_in (single_command single) words.old.words) }
+    ensures small { OnOk result (IsSmallCommand command.new) }
 {
     read_end(words)?;
-    Ok(command)
+    *command = single.command();
+    Ok(())
 }
 
 /// Reads what stands after a verb.
 #[tactic(auto, unfolding(crate::specs::Reading::behind_verb))]
-fn read_behind(verb: &Verb, words: &mut Words<'_>) -> Result<Command, Syntax>
-    ensures exact { result ≡ behind_verb verb.now words.old.end words.old.words }
-    ensures small { IfOk result IsSmallCommand }
+fn read_behind(verb: &Verb, words: &mut Words<'_>, command: &mut Command) -> Result<(), Syntax>
+    ensures exact { IsRead result command.new
+        (behind_verb verb.now words.old.end words.old.words) }
+    ensures small { OnOk result (IsSmallCommand command.new) }
 {
     match verb {
-        Verb::Hit => read_edit(Edit::Hit, words),
-        Verb::Miss => read_edit(Edit::Miss, words),
-        Verb::Forget => read_edit(Edit::Forget, words),
-        Verb::Add => read_add(words),
-        Verb::Set => read_set(words),
-        Verb::Get => read_query(words),
-        Verb::List => read_listing(words),
-        Verb::Cast => read_cast(words),
-        Verb::Box => read_box(words),
-        Verb::Limit => read_limit(words),
-        Verb::Scan => read_scan(words),
-        Verb::Beam => read_beam(words),
-        Verb::Save => Ok(Command::Save(read_file(words)?)),
-        Verb::Load => Ok(Command::Load(read_file(words)?)),
-        Verb::Snapshot => Ok(Command::Snapshot(read_file(words)?)),
-        Verb::Restore => Ok(Command::Restore(read_file(words)?)),
-        Verb::Alone(single) => read_alone(single.command(), words),
+        Verb::Hit => read_edit(Edit::Hit, words, command),
+        Verb::Miss => read_edit(Edit::Miss, words, command),
+        Verb::Forget => read_edit(Edit::Forget, words, command),
+        Verb::Add => read_add(words, command),
+        Verb::Set => read_set(words, command),
+        Verb::Get => read_query(words, command),
+        Verb::List => read_listing(words, command),
+        Verb::Cast => read_cast(words, command),
+        Verb::Box => read_box(words, command),
+        Verb::Limit => read_limit(words, command),
+        Verb::Scan => read_scan(words, command),
+        Verb::Beam => read_beam(words, command),
+        Verb::Save => read_save(words, command),
+        Verb::Load => read_load(words, command),
+        Verb::Snapshot => read_snapshot(words, command),
+        Verb::Restore => read_restore(words, command),
+        Verb::Alone(single) => read_alone(*single, words, command),
     }
 }
 
@@ -454,31 +516,35 @@ fn read_behind_first(
     first: &WordAt<'_>,
     inside: bool,
     words: &mut Words<'_>,
-) -> Result<Command, Syntax>
-    ensures exact { result ≡ behind_first inside
+    command: &mut Command,
+) -> Result<(), Syntax>
+    ensures exact { IsRead result command.new (behind_first inside
         (record { text = first.now.text.now; column = first.now.column })
-        words.old.end words.old.words }
-    ensures small { IfOk result IsSmallCommand }
+        words.old.end words.old.words) }
+    ensures small { OnOk result (IsSmallCommand command.new) }
 {
     match verb_of(first.text, inside) {
-        Some(verb) => read_behind(verb, words),
+        Some(verb) => read_behind(verb, words, command),
         None => Err(first.fault()),
     }
 }
 
 /// Reads a line from its first word on.
 #[tactic(auto, unfolding(crate::specs::Reading::line_in))]
-fn read_words(inside: bool, words: &mut Words<'_>) -> Result<Command, Syntax>
-    ensures exact { result ≡ line_in inside words.old.end words.old.words }
-    ensures small { IfOk result IsSmallCommand }
+fn read_words(inside: bool, words: &mut Words<'_>, command: &mut Command) -> Result<(), Syntax>
+    ensures exact { IsRead result command.new
+        (line_in inside words.old.end words.old.words) }
+    ensures small { OnOk result (IsSmallCommand command.new) }
 {
     let Some(first) = words.next_word() else {
-        return Ok(Command::Blank);
+        *command = Command::Blank;
+        return Ok(());
     };
     if first.text.first() == Some(&b'#') {
-        return Ok(Command::Blank);
+        *command = Command::Blank;
+        return Ok(());
     }
-    read_behind_first(&first, inside, words)
+    read_behind_first(&first, inside, words, command)
 }
 
 /// Reads a line, which isn't long, as a command of the script. It stands inside the block of an
@@ -497,7 +563,23 @@ pub fn parse(line: &[u8], inside: bool) -> Result<Command, Syntax>
         (placed_words line.now) s.column) }
     ensures small { IfOk result IsSmallCommand }
 {
-    read_words(inside, &mut Words::new(line))
+    let mut command = Command::Blank;
+    parse_into(line, inside, &mut command)?;
+    Ok(command)
+}
+
+/// Does what [`parse`] does, with the command put in a place. What stands there after a fault isn't
+/// told.
+pub fn parse_into(line: &[u8], inside: bool, command: &mut Command) -> Result<(), Syntax>
+    requires { length line.now ≤ LONGEST_LINE }
+    ensures exact { IsRead result command.new (command_of inside line.now) }
+    ensures means { OnOk result
+        (IsMeant (forms_of inside) (placed_words line.now) command.new) }
+    ensures leaves { IfErr result (λ s. LeavesAt (forms_of inside) (length line.now + 1)
+        (placed_words line.now) s.column) }
+    ensures small { OnOk result (IsSmallCommand command.new) }
+{
+    read_words(inside, &mut Words::new(line), command)
 }
 
 /// Whether a line opens the block of a scan, if it isn't long: whether its first word is `scan`,
