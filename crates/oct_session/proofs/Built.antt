@@ -1,7 +1,8 @@
 -- How a build ends.
 use Rattle.std.proofs.Common.{◌≡◌, ℕ, List, true, false, Option, Some, None, IfSome, inl, inr, refl, sym, ap, subst, ◌∙◌, arith}
 use Rattle.oct_bt.specs.File.{bt_text}
-use Rattle.oct_bt.specs.Mixtures.{classes_in, IsCutOff}
+use Rattle.oct_io.specs.Taken.{IsCutOff}
+use Rattle.oct_bt.specs.Mixtures.{classes_in}
 use Rattle.oct_io.specs.Files.{Files}
 use Rattle.oct_io.specs.Told.{appended, Rose}
 use Rattle.oct_io.proofs.Appending.{appended_nil}

@@ -1,5 +1,5 @@
 -- What a line does, and where desk and session then stand.
-use Rattle.std.proofs.Common.{◌≡◌, ℕ, ◌+◌, List, ◌++◌, ◌||◌, true, false, cond, is_some, IsSome, IsErr, Some, None, refl, Option, Result, Ok, Err, IfErr, IsErrAnd, inl, inr, sym, ap, subst, ◌∙◌}
+use Rattle.std.proofs.Common.{◌≡◌, ℕ, ◌+◌, List, ◌++◌, ◌||◌, Bool, true, false, cond, is_some, IsSome, IsErr, Some, None, refl, Option, Result, Ok, Err, IfErr, OnErr, IsErrAnd, inl, inr, sym, ap, subst, ◌∙◌}
 use Rattle.oct_io.specs.Files.{Files}
 use Rattle.oct_io.specs.declared.store.StoreFault.{StoreFault}
 use Rattle.oct_io.specs.declared.store.StoreFault.TheVariants as store_fault
@@ -8,18 +8,24 @@ use Rattle.oct_script.specs.declared.command.Command.{Command}
 use Rattle.oct_script.specs.declared.command.Command.TheVariants as command
 use Rattle.oct_script.specs.declared.reply.Refusal.{Refusal}
 use Rattle.oct_script.specs.declared.reply.Reply.{Reply}
-use Rattle.oct_script.specs.Lines.{Line}
+use Rattle.oct_script.specs.declared.command.ScanHead.{ScanHead}
+use Rattle.oct_script.specs.declared.command.Syntax.{Syntax}
+use Rattle.oct_script.specs.declared.reply.Refusal.TheVariants as refusal_of
+use Rattle.oct_script.specs.Commands.{command_of}
+use Rattle.oct_script.specs.Lines.{Line, Text, Long, is_long}
 use Rattle.oct_script.specs.Replies.{is_refusal}
 use Rattle.oct_session.specs.declared.block.Block.{Block}
+use Rattle.oct_session.specs.declared.block.Block.TheVariants.{Scanning, Spoilt}
 use Rattle.oct_session.specs.declared.session.Session.{Session}
-use Rattle.oct_session.specs.Commands.{Saving, command_on, is_quit, reply, action_of, saving_of, file_named, accepted, accepted_saving, stored}
-use Rattle.oct_session.specs.ScanBlock.{opened, is_end, with_line, block_reply, block_action}
+use Rattle.oct_session.specs.Commands.{Saving, numbered, command_on, is_quit, reply, action_of, saving_of, file_named, accepted, accepted_saving, stored}
+use Rattle.oct_session.specs.ScanBlock.{opens_block, opened, is_end, with_line, spoilt_by, spoilt_reply, block_reply, block_action}
+use Rattle.oct_session.specs.ScanSoFar.{begun}
 use Rattle.oct_session.specs.History.{History, State, after_all, state_after}
 use Rattle.oct_session.specs.Leaving.{StandsFor, StandsForSome, Desk, IsLike, IsLikeAfter, IsKnown}
 use Rattle.oct_session.specs.Session.{Progress, Effect, effect, effect_of_command, effect_opened, effect_inside, effect_of, next_command, replied, silent, after_line}
 use Rattle.oct_session.specs.Setup.{Setup}
 use Rattle.oct_session.specs.Tally.{counted as count_reply}
-use Rattle.oct_session.specs.Standing.{KeepsStanding, HasAnswered, HasDone, HasObeyed, HasScanned, HasWorked, FindsTold, TakesEffect, HasEffect, HasFailed, IsHeard, StandsBeside, HasStoppedAt, IsInStep, IsBetween}
+use Rattle.oct_session.specs.Standing.{with_reply, KeepsStanding, HasAnswered, HasDone, HasObeyed, HasScanned, HasWorked, FindsTold, TakesEffect, HasEffect, HasFailed, IsHeard, StandsBeside, HasStoppedAt, IsInStep, IsBetween}
 use Rattle.oct_session.proofs.MapHistory.{state_more}
 use Rattle.oct_session.proofs.Progresses.{after_answered, line_finds_told, unnamed_next}
 
@@ -34,6 +40,19 @@ inside_saves s number c block =
       | true ↦ saves_none (block_reply s block) None refl
       | false ↦ refl
     ]
+
+-- a fault is one whatever stands in the place of its reply
+pub failed_for : {A : Type 0} (r : Result A StoreFault) (a : Option Reply) (fault : StoreFault) → IsErrAnd r (λ x. x ≡ fault) → IsErrAnd (with_reply r a) (λ x. x ≡ fault)
+failed_for (Ok x) a fault failed = failed
+failed_for (Err x) a fault failed = failed
+
+pub is_failed : {A E : Type 0} (r : Result A E) (a : Option Reply) → IsErr r → IsErr (with_reply r a)
+is_failed (Ok x) a err = cc
+is_failed (Err x) a err = err
+
+pub on_failed : {A E : Type 0} (r : Result A E) (a : Option Reply) (P : Type 0) → OnErr r P → OnErr (with_reply r a) P
+on_failed (Ok x) a P on = on
+on_failed (Err x) a P on = on
 
 -- files among which nothing was saved
 pub same_files : (told files : Option Files) (saving : Option Saving) → told ≡ files → saving ≡ None → told ≡ stored files saving
@@ -201,6 +220,73 @@ pub effect_opens : (m : Map) (f : Option Files) (c : Result Command Refusal) (op
     TakesEffect (λ files s. effect_opened files s c opened) (file_named c) m f m f block None
 effect_opens m f c (Some inner) block some is = λ files s finds at. (refl, is, at)
 effect_opens m f c None block some is = cc
+
+-- only the head of a scan opens a block
+pub opens_none : (number : ℕ) (line : Line) (c : Command) → ((head : ScanHead) → c ≡ command.Scan head → ⊥) → is_some (opened number line (Ok c)) ≡ false
+opens_none number line command.Blank not_scan = refl
+opens_none number line (command.Edit p e lazy) not_scan = refl
+opens_none number line (command.Box low high e) not_scan = refl
+opens_none number line (command.Scan head) not_scan = absurd (not_scan head refl)
+opens_none number line (command.Beam p) not_scan = refl
+opens_none number line command.End not_scan = refl
+opens_none number line (command.Get p depth) not_scan = refl
+opens_none number line (command.Cast o e ignore) not_scan = refl
+opens_none number line command.Counts not_scan = refl
+opens_none number line command.Refresh not_scan = refl
+opens_none number line command.Prune not_scan = refl
+opens_none number line command.Clear not_scan = refl
+opens_none number line command.MaxLikelihood not_scan = refl
+opens_none number line command.Quit not_scan = refl
+opens_none number line (command.Save name) not_scan = refl
+opens_none number line (command.Load name) not_scan = refl
+opens_none number line (command.Snapshot name) not_scan = refl
+opens_none number line (command.Restore name) not_scan = refl
+opens_none number line (command.List low high depth) not_scan = refl
+opens_none number line (command.Limit low high) not_scan = refl
+opens_none number line command.Track not_scan = refl
+opens_none number line command.Untrack not_scan = refl
+opens_none number line command.Changes not_scan = refl
+opens_none number line command.NoLimit not_scan = refl
+
+-- the head of a scan opens its block
+pub scan_opens : (m : Map) (f : Option Files) (number : ℕ) (line : Line) (c : Command) (head : ScanHead) (block : Option Block) → c ≡ command.Scan head → block ≡ Some (Scanning (begun number head)) →
+    TakesEffect (λ files s. effect_opened files s (Ok c) (opened number line (Ok c))) (file_named (Ok c)) m f m f block None
+scan_opens m f number line c head block is opens = subst (λ x. TakesEffect (λ files s. effect_opened files s (Ok x) (opened number line (Ok x))) (file_named (Ok x)) m f m f block None) (sym is)
+    (effect_opens m f (Ok (command.Scan head)) (Some (Scanning (begun number head))) block refl opens)
+
+-- a line that isn't in the grammar, where no block is open
+fault_before : (m : Map) (f : Option Files) (refusal : Refusal) (opens : Bool) (new : Option Block) (a : Option Reply) → new ≡ cond opens (Some (Spoilt refusal)) None → a ≡ spoilt_reply refusal new →
+    TakesEffect (λ files s. effect_opened files s (Err refusal) (cond opens (Some (Spoilt refusal)) None)) None m f m f new a
+fault_before m f refusal true new a is told = λ files s finds at. (told ∙ ap (spoilt_reply refusal) is, is, at)
+fault_before m f refusal false new a is told = λ files s finds at. (told ∙ ap (spoilt_reply refusal) is, is, at)
+
+-- such a line, wherever it stands
+pub fault_taken : (m : Map) (f : Option Files) (number : ℕ) (line : Line) (refusal : Refusal) (old new : Option Block) (a : Option Reply) → new ≡ spoilt_by number line refusal old → a ≡ spoilt_reply refusal new →
+    TakesEffect (λ files s. effect files s number line (Err refusal) old) None m f m f new a
+fault_taken m f number line refusal None new a is told = fault_before m f refusal (opens_block line) new a is told
+fault_taken m f number line refusal (Some block) new a is told = λ files s finds at. (told ∙ ap (spoilt_reply refusal) is, is, at)
+
+-- the effect of a line on the command that was read of it
+pub taken_as : (r : Result (Option Reply) StoreFault) (m n : Map) (f g : Option Files) (number : ℕ) (line : Line) (c read : Result Command Refusal) (old new : Option Block) → c ≡ read →
+    HasEffect (λ files s. effect files s number line read old) (file_named read) m f n g new r → HasEffect (λ files s. effect files s number line c old) (file_named c) m f n g new r
+taken_as r m n f g number line c read old new is took = subst (λ x. HasEffect (λ files s. effect files s number line x old) (file_named x) m f n g new r) (sym is) took
+
+-- a line that failed, and whose fault was passed on
+pub still_failed : {A : Type 0} (r : Result A StoreFault) (a : Option Reply) (e : Option Files → State → Effect) (named : Option (List ℕ)) (x : StoreFault) (m n : Map) (f g : Option Files) (block : Option Block) → IsErrAnd r (λ y. y ≡ x) →
+    HasEffect e named m f n g block (Err x) → HasEffect e named m f n g block (with_reply r a)
+still_failed (Ok y) a e named x m n f g block same took = absurd same
+still_failed (Err y) a e named x m n f g block same took = subst (λ z. HasEffect e named m f n g block (Err z)) (sym same) took
+
+-- the command of a line that was read, or why there is none
+pub read_in : (inside asked : Bool) (number : ℕ) (line : Line) (text : List ℕ) (c : Command) → asked ≡ inside → line ≡ Text text → command_of asked text ≡ Ok c → command_on inside number line ≡ Ok c
+read_in inside asked number line text c same is read = ap (command_on inside number) is ∙ ap (λ b. numbered number (command_of b text)) (sym same) ∙ ap (numbered number) read
+
+pub misspelt_in : (inside asked : Bool) (number : ℕ) (line : Line) (text : List ℕ) (s : Syntax) → asked ≡ inside → line ≡ Text text → command_of asked text ≡ Err s → command_on inside number line ≡ Err (refusal_of.Syntax number s.column)
+misspelt_in inside asked number line text s same is read = ap (command_on inside number) is ∙ ap (λ b. numbered number (command_of b text)) (sym same) ∙ ap (numbered number) read
+
+pub long_in : (inside : Bool) (number : ℕ) (line : Line) → is_long line ≡ true → command_on inside number line ≡ Err (refusal_of.LongLine number)
+long_in inside number (Text text) long = cc
+long_in inside number Long long = refl
 
 -- the effect of a line where no block is inner
 pub effect_before : (r : Result (Option Reply) StoreFault) (m n : Map) (f g : Option Files) (number : ℕ) (line : Line) (c : Result Command Refusal) (old opens new : Option Block) → is_some old ≡ false → opens ≡ opened number line c →

@@ -21,3 +21,7 @@ pub mod Restoring
 pub mod Endings
 pub mod Built
 pub mod Drilled
+pub mod StateActions
+pub mod SnapshotFields
+pub mod StateCommands
+pub mod GivenBack

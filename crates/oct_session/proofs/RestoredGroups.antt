@@ -38,7 +38,7 @@ groups_made make values = sum_by-each_le (λ b. cond (not (is_uniform (λ k. mak
     (λ b at. counted_made (is_uniform values b) (is_uniform (λ k. make (values k)) b) (uniform_made make values b at.0)) all_above_voxels)
 
 -- a snapshot that was read has as many groups as its values need
-groups_of_snapshot : (o : Odds) (bytes : List ℕ) (s : Snapshot) → read_snapshot o bytes ≡ Ok s → group_total s.nodes ≡ group_count (values_of s)
+pub groups_of_snapshot : (o : Odds) (bytes : List ℕ) (s : Snapshot) → read_snapshot o bytes ≡ Ok s → group_total s.nodes ≡ group_count (values_of s)
 groups_of_snapshot o bytes s is =
     let w = whole_read o bytes s is in
     groups_are s.head.odds (values_of s) s.nodes

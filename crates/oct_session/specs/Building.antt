@@ -1,6 +1,6 @@
 -- A build: the file of the map that a script leaves, in place of its replies.
 use Rattle.std.specs.Prelude.{◌≡◌, ◌⊎◌, ℕ, List, [], Option, None, Bool, true, false}
-use Rattle.oct_bt.specs.Mixtures.{IsCutOff}
+use Rattle.oct_io.specs.Taken.{IsCutOff}
 use Rattle.oct_io.specs.Files.{Files}
 use Rattle.oct_io.specs.Told.{appended}
 use Rattle.oct_session.specs.Ending as script

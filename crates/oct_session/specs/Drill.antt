@@ -1,6 +1,6 @@
 -- A drill: a session over a script that a number makes, and four lines about it.
 use Rattle.std.specs.Prelude.{ℕ, ◌^◌, ◌++◌, List, codes, decimal, length, nat_lt, Option, Some, Result, Ok, Err, ⊤}
-use Rattle.oct_bt.specs.Mixtures.{IsCutOff}
+use Rattle.oct_io.specs.Taken.{IsCutOff}
 use Rattle.oct_gen.specs.Script.{script_of}
 use Rattle.oct_io.specs.Files.{Files, no_files}
 use Rattle.oct_io.specs.declared.sink.SinkFault.{SinkFault}

@@ -13,3 +13,4 @@ pub mod Leaving
 pub mod Standing
 pub mod Building
 pub mod Drill
+pub mod GivenBack

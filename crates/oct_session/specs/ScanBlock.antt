@@ -48,6 +48,17 @@ with_line number (Err refusal) (Scanning scan) = Spoilt refusal
 with_line number (Ok (Beam p)) (Scanning scan) = with_point number p scan
 with_line number (Ok _) (Scanning scan) = Scanning scan
 
+-- the block that is open after a line that isn't in the grammar: the one that was open, or the one
+-- that the line opens
+abbrev pub spoilt_by : ℕ → Line → Refusal → Option Block → Option Block
+spoilt_by number line refusal None = opened number line (Err refusal)
+spoilt_by number line refusal (Some block) = Some (with_line number (Err refusal) block)
+
+-- the reply to such a line, which has none where a block is open after it
+abbrev pub spoilt_reply : Refusal → Option Block → Option Reply
+spoilt_reply refusal None = Some (reply_of.Refused refusal)
+spoilt_reply refusal (Some block) = None
+
 -- the line that closes a block
 abbrev pub is_end : Result Command Refusal → Bool
 is_end (Ok End) = true

@@ -34,6 +34,11 @@ abbrev pub HasAnswered : (State → Option Reply) → (State → History) → Ma
 HasAnswered reply actions old new answer = (s : State) → StandsFor old s
     → (answer ≡ reply s) × StandsFor new (after_all s (accepted answer (actions s)))
 
+-- the answer of something whose reply stands in its place, or its fault
+abbrev pub with_reply : {A E : Type 0} → Result A E → Option Reply → Result (Option Reply) E
+with_reply (Ok done) reply = Ok reply
+with_reply (Err fault) reply = Err fault
+
 -- that, or memory ran out, for something that has a reply, and nothing was done
 abbrev pub HasDone : {E : Type 0} → (State → Option Reply) → (State → History) → Map → Map
     → Result (Option Reply) E → Type 0

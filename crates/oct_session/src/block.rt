@@ -1,11 +1,10 @@
 //! The block of a scan that is being read.
-ghost use Rattle.std.specs.Prelude.{◌≡◌, option_map, All, IfOk, IfSome, Ok, is_err, pos, ◌≤ℤ◌, ◌<ℤ◌, ◌^◌};
+ghost use Rattle.std.specs.Prelude.{◌≡◌, ℕ, option_map, All, IfOk, IfSome, Some, Ok, Err, is_err, pos, ◌≤ℤ◌, ◌<ℤ◌, ◌^◌};
 ghost use Rattle.oct_pose.specs.Reach.{IsInReach};
 ghost use Rattle.oct_scan.specs.Beam.{IsTrust, sighting_of};
 ghost use Rattle.oct_script.specs.Commands.{IsOwnOdds, IsRange, IsSmallCommand};
-ghost use Rattle.oct_script.specs.Lines.{Line};
 ghost use Rattle.oct_session.specs.ScanSoFar.{begun, sighting_so_far, trust_of};
-ghost use Rattle.oct_session.specs.ScanBlock.{opens_block, opened, with_point, with_line, is_zero, end_refusal};
+ghost use Rattle.oct_session.specs.ScanBlock.{opens_block, with_point, with_line, spoilt_by, is_zero, end_refusal};
 
 use oct_key::{Point, PointList};
 use oct_num::Memory;
@@ -105,17 +104,6 @@ impl PendingScan {
         }
     }
 
-    /// The block with one line more.
-    fn with_line(self, number: u64, command: Result<Command, Refusal>) -> Result<Block, Memory>
-        requires { IfOk command IsSmallCommand }
-        ensures { IfOk result (λ block. block ≡ with_line number command (Block.Scanning self)) }
-    {
-        match command {
-            Ok(command) => self.with_command(number, command),
-            Err(refusal) => Ok(Block::Spoilt(refusal)),
-        }
-    }
-
     /// The scan of these points, unless its quaternion is 0.
     pub fn into_scan(self) -> Result<Scan, ZeroQuaternion>
         ensures zero { is_err result ≡ is_zero self.head }
@@ -137,14 +125,24 @@ impl PendingScan {
 }
 
 impl Block {
-    /// The block with one line more, which is the line of this number and doesn't close it.
-    pub fn with_line(self, number: u64, command: Result<Command, Refusal>) -> Result<Block, Memory>
-        requires { IfOk command IsSmallCommand }
-        ensures { IfOk result (λ block. block ≡ with_line number command self) }
+    /// The block with one command more, which is on the line of this number and doesn't close it.
+    pub fn with_command(self, number: u64, command: Command) -> Result<Block, Memory>
+        requires { IsSmallCommand command }
+        ensures { IfOk result (λ block. block ≡ with_line number (Ok command) self) }
     {
         match self {
             Block::Spoilt(first) => Ok(Block::Spoilt(first)),
-            Block::Scanning(scan) => scan.with_line(number, command),
+            Block::Scanning(scan) => scan.with_command(number, command),
+        }
+    }
+
+    /// The block with a line more that is refused for this.
+    fn spoilt(self, refusal: Refusal) -> Block
+        ensures { (number : ℕ) → result ≡ with_line number (Err refusal) self }
+    {
+        match self {
+            Block::Spoilt(first) => Block::Spoilt(first),
+            Block::Scanning(_) => Block::Spoilt(refusal),
         }
     }
 
@@ -166,34 +164,23 @@ fn opens_block(line: &Lines) -> bool
     !line.is_long() && opens_scan(line.text())
 }
 
-/// The block that a command opens, if it opens one.
-fn opened_by(alloc: Global, number: u64, command: Command) -> Option<Block>
-    requires { IsSmallCommand command }
-    ensures { (line : Line) → result ≡ opened number line (Ok command) }
+/// Opens the block of a scan with this head.
+pub fn open_scan(alloc: Global, number: u64, head: ScanHead, block: &mut Option<Block>)
+    requires { IsSmallCommand (Command.Scan head) }
+    ensures { block.new ≡ Some (Block.Scanning (begun number head)) }
 {
-    match command {
-        Command::Scan(head) => Some(Block::Scanning(PendingScan::new(alloc, number, head))),
-        _ => None,
-    }
+    *block = Some(Block::Scanning(PendingScan::new(alloc, number, head)));
 }
 
-/// The block that a line outside a block opens, if it opens one.
-pub fn opened(
-    alloc: Global,
-    line: &Lines,
-    number: u64,
-    command: Result<Command, Refusal>,
-) -> Option<Block>
-    requires { IfOk command IsSmallCommand }
-    ensures { result ≡ opened number line.now.line command }
+/// Spoils the block that is open, or the one that a faulty line opens.
+pub fn spoil(line: &Lines, refusal: Refusal, block: &mut Option<Block>)
+    ensures { (number : ℕ) → block.new ≡ spoilt_by number line.now.line refusal block.old }
 {
-    match command {
-        Ok(command) => opened_by(alloc, number, command),
-        Err(refusal) => {
+    match block.take() {
+        Some(standing) => *block = Some(standing.spoilt(refusal)),
+        None => {
             if opens_block(line) {
-                Some(Block::Spoilt(refusal))
-            } else {
-                None
+                *block = Some(Block::Spoilt(refusal));
             }
         }
     }

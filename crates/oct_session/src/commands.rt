@@ -7,7 +7,7 @@ ghost use Rattle.oct_script.specs.Commands.{IsSmallEdit, IsSmallCommand};
 ghost use Rattle.oct_session.specs.History.{edit_event};
 ghost use Rattle.oct_session.specs.Commands.{file_named, value_reply};
 ghost use Rattle.oct_session.specs.Refusals.{refusal_of, fault_reply};
-ghost use Rattle.oct_session.specs.Standing.{HasObeyed, HasScanned};
+ghost use Rattle.oct_session.specs.Standing.{with_reply, HasObeyed, HasScanned};
 
 use crate::block::{Block, PendingScan};
 use oct_key::Point;
@@ -72,47 +72,70 @@ fn refusal_of(fault: MapFault) -> Result<Refusal, Memory>
     }
 }
 
-/// The reply to a call that the map refuses, unless memory ran out.
-pub fn refuse(fault: MapFault) -> Result<Option<Reply>, Memory>
-    ensures ok { IfOk result (λ reply. reply ≡ fault_reply fault) }
-    ensures some { IfOk result IsSome }
+/// Answers a call that the map refuses, unless memory ran out.
+pub fn refuse(fault: MapFault, reply: &mut Option<Reply>) -> Result<(), Memory>
+    ensures ok { IfOk (with_reply result reply.new) (λ reply. reply ≡ fault_reply fault) }
+    ensures some { IfOk (with_reply result reply.new) IsSome }
     ensures err { OnErr result (fault ≡ MapFault.Memory) }
 {
     let refusal = refusal_of(fault)?;
-    Ok(Some(Reply::Refused(refusal)))
+    *reply = Some(Reply::Refused(refusal));
+    Ok(())
 }
 
 /// Does an edit of the voxel that holds a point, and answers it.
-fn edit(map: &mut OccMap, p: Point, e: Edit, lazy: bool) -> Result<Option<Reply>, Memory>
+fn edit(
+    map: &mut OccMap,
+    p: Point,
+    e: Edit,
+    lazy: bool,
+    reply: &mut Option<Reply>,
+) -> Result<(), Memory>
     requires { IsSmallEdit e }
-    ensures { HasObeyed map.old map.new (Ok (Command.Edit p e lazy)) result }
+    ensures { HasObeyed map.old map.new (Ok (Command.Edit p e lazy)) (with_reply result reply.new) }
 {
     let event = event_of(&map.tree().odds(), e);
     match map.edit(p, event, lazy) {
-        Ok(()) => Ok(Some(Reply::Ok)),
-        Err(fault) => refuse(fault),
+        Ok(()) => {
+            *reply = Some(Reply::Ok);
+            Ok(())
+        }
+        Err(fault) => refuse(fault, reply),
     }
 }
 
 /// Does an edit of each voxel of a box, and answers it.
-fn edit_box(map: &mut OccMap, low: Point, high: Point, e: Edit) -> Result<Option<Reply>, Memory>
+fn edit_box(
+    map: &mut OccMap,
+    low: Point,
+    high: Point,
+    e: Edit,
+    reply: &mut Option<Reply>,
+) -> Result<(), Memory>
     requires { IsSmallEdit e }
-    ensures { HasObeyed map.old map.new (Ok (Command.Box low high e)) result }
+    ensures { HasObeyed map.old map.new (Ok (Command.Box low high e))
+        (with_reply result reply.new) }
 {
     let event = event_of(&map.tree().odds(), e);
     match map.edit_box(low, high, event) {
-        Ok(()) => Ok(Some(Reply::Ok)),
-        Err(fault) => refuse(fault),
+        Ok(()) => {
+            *reply = Some(Reply::Ok);
+            Ok(())
+        }
+        Err(fault) => refuse(fault, reply),
     }
 }
 
 /// Asks for the value of the block of that depth around a point, and answers it.
-fn query(map: &OccMap, p: Point, depth: u32) -> Result<Option<Reply>, Memory>
-    ensures { HasObeyed map.now map.now (Ok (Command.Get p depth)) result }
+fn query(map: &OccMap, p: Point, depth: u32, reply: &mut Option<Reply>) -> Result<(), Memory>
+    ensures { HasObeyed map.now map.now (Ok (Command.Get p depth)) (with_reply result reply.new) }
 {
     match map.get(p, depth) {
-        Ok(value) => Ok(Some(show(&map.tree().odds(), value))),
-        Err(fault) => refuse(fault),
+        Ok(value) => {
+            *reply = Some(show(&map.tree().odds(), value));
+            Ok(())
+        }
+        Err(fault) => refuse(fault, reply),
     }
 }
 
@@ -122,170 +145,213 @@ fn cast(
     origin: Point,
     end: Point,
     ignore_unknown: bool,
-) -> Result<Option<Reply>, Memory>
-    ensures { HasObeyed map.now map.now (Ok (Command.Cast origin end ignore_unknown)) result }
+    reply: &mut Option<Reply>,
+) -> Result<(), Memory>
+    ensures { HasObeyed map.now map.now (Ok (Command.Cast origin end ignore_unknown))
+        (with_reply result reply.new) }
 {
     match map.cast(origin, end, ignore_unknown) {
-        Ok(found) => Ok(Some(Reply::Casted(found))),
-        Err(fault) => refuse(fault),
+        Ok(found) => {
+            *reply = Some(Reply::Casted(found));
+            Ok(())
+        }
+        Err(fault) => refuse(fault, reply),
     }
 }
 
 /// Asks for the known blocks of a depth in a box, and answers them.
-fn list(map: &OccMap, low: Point, high: Point, depth: u32) -> Result<Option<Reply>, Memory>
-    ensures { HasObeyed map.now map.now (Ok (Command.List low high depth)) result }
+fn list(
+    map: &OccMap,
+    low: Point,
+    high: Point,
+    depth: u32,
+    reply: &mut Option<Reply>,
+) -> Result<(), Memory>
+    ensures { HasObeyed map.now map.now (Ok (Command.List low high depth))
+        (with_reply result reply.new) }
 {
     match map.list(low, high, depth) {
-        Ok(blocks) => Ok(Some(Reply::Blocks {
-            blocks,
-            threshold: map.tree().odds().thr,
-        })),
-        Err(fault) => refuse(fault),
+        Ok(blocks) => {
+            *reply = Some(Reply::Blocks {
+                blocks,
+                threshold: map.tree().odds().thr,
+            });
+            Ok(())
+        }
+        Err(fault) => refuse(fault, reply),
     }
 }
 
 /// Asks what has changed since the mark, and answers it.
-fn changes(map: &OccMap) -> Result<Option<Reply>, Memory>
-    ensures { HasObeyed map.now map.now (Ok Command.Changes) result }
+fn changes(map: &OccMap, reply: &mut Option<Reply>) -> Result<(), Memory>
+    ensures { HasObeyed map.now map.now (Ok Command.Changes) (with_reply result reply.new) }
 {
     match map.changes() {
-        Ok(changes) => Ok(Some(Reply::Changed(changes))),
-        Err(fault) => refuse(fault),
+        Ok(changes) => {
+            *reply = Some(Reply::Changed(changes));
+            Ok(())
+        }
+        Err(fault) => refuse(fault, reply),
     }
 }
 
 /// Limits scans to a box, and answers it.
-fn limit(map: &mut OccMap, low: Point, high: Point) -> Result<Option<Reply>, Memory>
-    ensures { HasObeyed map.old map.new (Ok (Command.Limit low high)) result }
+fn limit(map: &mut OccMap, low: Point, high: Point, reply: &mut Option<Reply>) -> Result<(), Memory>
+    ensures { HasObeyed map.old map.new (Ok (Command.Limit low high))
+        (with_reply result reply.new) }
 {
     match map.limit(low, high) {
-        Ok(()) => Ok(Some(Reply::Ok)),
-        Err(fault) => refuse(fault),
+        Ok(()) => {
+            *reply = Some(Reply::Ok);
+            Ok(())
+        }
+        Err(fault) => refuse(fault, reply),
     }
 }
 
 /// Counts the groups and nodes that the values need, and answers it.
-fn count(map: &mut OccMap) -> Result<Option<Reply>, Memory>
-    ensures { HasObeyed map.old map.new (Ok Command.Counts) result }
+fn count(map: &mut OccMap, reply: &mut Option<Reply>) -> Result<(), Memory>
+    ensures { HasObeyed map.old map.new (Ok Command.Counts) (with_reply result reply.new) }
 {
     let counts = map.counts();
-    Ok(Some(Reply::Counted(counts)))
+    *reply = Some(Reply::Counted(counts));
+    Ok(())
 }
 
 /// Makes inner values right again, and answers it.
-fn refresh(map: &mut OccMap) -> Result<Option<Reply>, Memory>
-    ensures { HasObeyed map.old map.new (Ok Command.Refresh) result }
+fn refresh(map: &mut OccMap, reply: &mut Option<Reply>) -> Result<(), Memory>
+    ensures { HasObeyed map.old map.new (Ok Command.Refresh) (with_reply result reply.new) }
 {
     map.refresh();
-    Ok(Some(Reply::Ok))
+    *reply = Some(Reply::Ok);
+    Ok(())
 }
 
 /// Gives back the groups that the values don't need, and answers it.
-fn prune(map: &mut OccMap) -> Result<Option<Reply>, Memory>
-    ensures { HasObeyed map.old map.new (Ok Command.Prune) result }
+fn prune(map: &mut OccMap, reply: &mut Option<Reply>) -> Result<(), Memory>
+    ensures { HasObeyed map.old map.new (Ok Command.Prune) (with_reply result reply.new) }
 {
     map.prune();
-    Ok(Some(Reply::Ok))
+    *reply = Some(Reply::Ok);
+    Ok(())
 }
 
 /// Makes each voxel unknown, and answers it.
-fn clear(map: &mut OccMap) -> Result<Option<Reply>, Memory>
-    ensures { HasObeyed map.old map.new (Ok Command.Clear) result }
+fn clear(map: &mut OccMap, reply: &mut Option<Reply>) -> Result<(), Memory>
+    ensures { HasObeyed map.old map.new (Ok Command.Clear) (with_reply result reply.new) }
 {
     map.clear();
-    Ok(Some(Reply::Ok))
+    *reply = Some(Reply::Ok);
+    Ok(())
 }
 
 /// Makes each known voxel as sure as it can be, and answers it.
-fn max_likelihood(map: &mut OccMap) -> Result<Option<Reply>, Memory>
-    ensures { HasObeyed map.old map.new (Ok Command.MaxLikelihood) result }
+fn max_likelihood(map: &mut OccMap, reply: &mut Option<Reply>) -> Result<(), Memory>
+    ensures { HasObeyed map.old map.new (Ok Command.MaxLikelihood) (with_reply result reply.new) }
 {
     map.max_likelihood();
-    Ok(Some(Reply::Ok))
+    *reply = Some(Reply::Ok);
+    Ok(())
 }
 
 /// Sets the mark, and answers it.
-fn track(map: &mut OccMap) -> Result<Option<Reply>, Memory>
-    ensures { HasObeyed map.old map.new (Ok Command.Track) result }
+fn track(map: &mut OccMap, reply: &mut Option<Reply>) -> Result<(), Memory>
+    ensures { HasObeyed map.old map.new (Ok Command.Track) (with_reply result reply.new) }
 {
     map.track();
-    Ok(Some(Reply::Ok))
+    *reply = Some(Reply::Ok);
+    Ok(())
 }
 
 /// Takes the mark away, and answers it.
-fn untrack(map: &mut OccMap) -> Result<Option<Reply>, Memory>
-    ensures { HasObeyed map.old map.new (Ok Command.Untrack) result }
+fn untrack(map: &mut OccMap, reply: &mut Option<Reply>) -> Result<(), Memory>
+    ensures { HasObeyed map.old map.new (Ok Command.Untrack) (with_reply result reply.new) }
 {
     map.untrack();
-    Ok(Some(Reply::Ok))
+    *reply = Some(Reply::Ok);
+    Ok(())
 }
 
 /// Ends the limit of scans, and answers it.
-fn no_limit(map: &mut OccMap) -> Result<Option<Reply>, Memory>
-    ensures { HasObeyed map.old map.new (Ok Command.NoLimit) result }
+fn no_limit(map: &mut OccMap, reply: &mut Option<Reply>) -> Result<(), Memory>
+    ensures { HasObeyed map.old map.new (Ok Command.NoLimit) (with_reply result reply.new) }
 {
     map.no_limit();
-    Ok(Some(Reply::Ok))
+    *reply = Some(Reply::Ok);
+    Ok(())
 }
 
-/// Does what a command says that names no file, and answers its reply. Without memory nothing was
-/// done.
-pub fn obey(map: &mut OccMap, command: Command) -> Result<Option<Reply>, Memory>
-    requires small { IsSmallCommand command }
-    requires unnamed { file_named (Ok command) ≡ None }
-    ensures { HasObeyed map.old map.new (Ok command) result }
+/// Does what a command says that names no file, and puts its reply in its place. Without memory
+/// nothing was done.
+pub fn obey(map: &mut OccMap, command: &Command, reply: &mut Option<Reply>) -> Result<(), Memory>
+    requires small { IsSmallCommand command.now }
+    requires unnamed { file_named (Ok command.now) ≡ None }
+    ensures { HasObeyed map.old map.new (Ok command.now) (with_reply result reply.new) }
 {
     match command {
-        Command::Blank | Command::Quit => Ok(None),
-        Command::Scan(_) | Command::Beam(_) | Command::End => Ok(None),
-        Command::Save(_) | Command::Load(_) => unreachable!(),
-        Command::Snapshot(_) | Command::Restore(_) => unreachable!(),
-        Command::Edit { p, e, lazy } => edit(map, p, e, lazy),
-        Command::Box { low, high, e } => edit_box(map, low, high, e),
-        Command::Get { p, depth } => query(map, p, depth),
+        Command::Edit { p, e, lazy } => edit(map, *p, *e, *lazy, reply),
+        Command::Get { p, depth } => query(map, *p, *depth, reply),
         Command::Cast {
             origin,
             end,
             ignore_unknown,
-        } => cast(map, origin, end, ignore_unknown),
-        Command::Counts => count(map),
-        Command::Refresh => refresh(map),
-        Command::Prune => prune(map),
-        Command::Clear => clear(map),
-        Command::MaxLikelihood => max_likelihood(map),
-        Command::List { low, high, depth } => list(map, low, high, depth),
-        Command::Track => track(map),
-        Command::Untrack => untrack(map),
-        Command::Changes => changes(map),
-        Command::Limit { low, high } => limit(map, low, high),
-        Command::NoLimit => no_limit(map),
+        } => cast(map, *origin, *end, *ignore_unknown, reply),
+        Command::Box { low, high, e } => edit_box(map, *low, *high, *e, reply),
+        Command::List { low, high, depth } => list(map, *low, *high, *depth, reply),
+        Command::Limit { low, high } => limit(map, *low, *high, reply),
+        Command::NoLimit => no_limit(map, reply),
+        Command::Counts => count(map, reply),
+        Command::Refresh => refresh(map, reply),
+        Command::Prune => prune(map, reply),
+        Command::Clear => clear(map, reply),
+        Command::MaxLikelihood => max_likelihood(map, reply),
+        Command::Track => track(map, reply),
+        Command::Untrack => untrack(map, reply),
+        Command::Changes => changes(map, reply),
+        Command::Blank | Command::Quit => {
+            *reply = None;
+            Ok(())
+        }
+        Command::Scan(_) | Command::Beam(_) | Command::End => {
+            *reply = None;
+            Ok(())
+        }
+        Command::Save(_) | Command::Load(_) => unreachable!(),
+        Command::Snapshot(_) | Command::Restore(_) => unreachable!(),
     }
 }
 
 /// Does a scan whose points have all been read, and answers it.
-fn scan(map: &mut OccMap, pending: PendingScan) -> Result<Option<Reply>, Memory>
-    ensures { HasScanned map.old map.new (Block.Scanning pending) result }
+fn scan(map: &mut OccMap, pending: PendingScan, reply: &mut Option<Reply>) -> Result<(), Memory>
+    ensures { HasScanned map.old map.new (Block.Scanning pending) (with_reply result reply.new) }
 {
     let lazy = pending.is_lazy();
     let Ok(scan) = pending.into_scan() else {
-        return Ok(Some(Reply::Refused(Refusal::ZeroQuaternion)));
+        *reply = Some(Reply::Refused(Refusal::ZeroQuaternion));
+        return Ok(());
     };
     match map.scan(&scan, lazy) {
-        Ok(done) => Ok(Some(Reply::Scanned(ScanDone {
-            hits: done.hits,
-            frees: done.frees,
-        }))),
-        Err(fault) => refuse(fault),
+        Ok(done) => {
+            *reply = Some(Reply::Scanned(ScanDone {
+                hits: done.hits,
+                frees: done.frees,
+            }));
+            Ok(())
+        }
+        Err(fault) => refuse(fault, reply),
     }
 }
 
-/// Does what a block says that its `end` has closed, and answers its one reply. Without memory
-/// nothing was done.
-pub fn finish(map: &mut OccMap, block: Block) -> Result<Option<Reply>, Memory>
-    ensures { HasScanned map.old map.new block result }
+/// Does what a block says that its `end` has closed, and puts its one reply in its place. Without
+/// memory nothing was done.
+pub fn finish(map: &mut OccMap, block: Block, reply: &mut Option<Reply>) -> Result<(), Memory>
+    ensures { HasScanned map.old map.new block (with_reply result reply.new) }
 {
     match block {
-        Block::Spoilt(refusal) => Ok(Some(Reply::Refused(refusal))),
-        Block::Scanning(pending) => scan(map, pending),
+        Block::Spoilt(refusal) => {
+            *reply = Some(Reply::Refused(refusal));
+            Ok(())
+        }
+        Block::Scanning(pending) => scan(map, pending, reply),
     }
 }

@@ -1,7 +1,8 @@
 //! Drills: a session over a script that a number makes, and four lines about it.
 ghost use Rattle.std.specs.Prelude.{◌≡◌, ◌≢◌, ◌⊎◌, ◌≤◌, ◌++◌, ◌^◌, decimal, length, None, nat_lt, OnOk, OnErr, IfOk, IfErr, IsErrOf};
 ghost use Rattle.oct_bt.specs.File.{bt_text};
-ghost use Rattle.oct_bt.specs.Mixtures.{IsCutOff, classes_in};
+ghost use Rattle.oct_io.specs.Taken.{IsCutOff};
+ghost use Rattle.oct_bt.specs.Mixtures.{classes_in};
 ghost use Rattle.oct_io.specs.Told.{Rose, appended};
 ghost use Rattle.oct_map.specs.Map.{values_of};
 ghost use Rattle.oct_values.specs.Counts.{group_count, node_count};

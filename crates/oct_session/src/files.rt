@@ -14,7 +14,7 @@ ghost use Rattle.oct_session.specs.FileCommands.{load_action, load_reply, readin
 ghost use Rattle.oct_session.specs.FileCommands.{restore_action, restore_reply, snapshot_action, snapshot_reply};
 ghost use Rattle.oct_session.specs.Refusals.{file_refusal, word_of};
 ghost use Rattle.oct_session.specs.Session.{effect_of_command};
-ghost use Rattle.oct_session.specs.Standing.{HasDone, HasEffect, KeepsStanding};
+ghost use Rattle.oct_session.specs.Standing.{with_reply, HasDone, HasEffect, KeepsStanding};
 
 use crate::commands::refuse;
 use oct_bt::{BtFault, BtFile, Reader, write};
@@ -46,10 +46,11 @@ pub fn save<F: Store>(
     map: &OccMap,
     store: &mut F,
     name: &Name,
-) -> Result<Option<Reply>, StoreFault>
+    reply: &mut Option<Reply>,
+) -> Result<(), StoreFault>
     ensures effect { HasEffect (λ files s. effect_of_command files s (Ok (Command.Save name.now)))
         (file_named (Ok (Command.Save name.now))) map.now (F.files store.old) map.now
-        (F.files store.new) None result }
+        (F.files store.new) None (with_reply result reply.new) }
     ensures stays { OnOk result (F.faults store.new ≡ F.faults store.old) }
     ensures memory { IsErrOf result StoreFault.Memory → F.faults store.new ≡ F.faults store.old }
     ensures failed { IsErrOf result StoreFault.Failed
@@ -58,7 +59,8 @@ pub fn save<F: Store>(
     let file = write_classes(alloc, map)?;
     let bytes = file.written();
     store.save(name.as_str(), bytes)?;
-    Ok(Some(Reply::Saved(bytes.len() as u64)))
+    *reply = Some(Reply::Saved(bytes.len() as u64));
+    Ok(())
 }
 
 /// A word of a file's header, as a reply names it.
@@ -107,39 +109,59 @@ fn read(alloc: Global, bytes: &[u8]) -> Result<BtFile, BtFault>
 }
 
 /// Puts the classes of a file in place of the map, and answers its number of nodes.
-fn replace(map: &mut OccMap, file: &BtFile) -> Result<Option<Reply>, Memory>
+fn replace(map: &mut OccMap, file: &BtFile, reply: &mut Option<Reply>) -> Result<(), Memory>
     ensures { HasDone (λ s. reading_reply s.base (Ok file.now))
-        (λ s. reading_action (Ok file.now)) map.old map.new result }
+        (λ s. reading_action (Ok file.now)) map.old map.new (with_reply result reply.new) }
 {
     match map.load(file) {
-        Ok(()) => Ok(Some(Reply::Loaded(file.nodes()))),
-        Err(fault) => refuse(fault),
+        Ok(()) => {
+            *reply = Some(Reply::Loaded(file.nodes()));
+            Ok(())
+        }
+        Err(fault) => refuse(fault, reply),
     }
 }
 
 /// Loads the file of these bytes, and answers it.
-fn load_bytes(alloc: Global, map: &mut OccMap, bytes: &[u8]) -> Result<Option<Reply>, Memory>
+fn load_bytes(
+    alloc: Global,
+    map: &mut OccMap,
+    bytes: &[u8],
+    reply: &mut Option<Reply>,
+) -> Result<(), Memory>
     ensures { HasDone (λ s. reading_reply s.base (reading bytes.now))
-        (λ s. reading_action (reading bytes.now)) map.old map.new result }
+        (λ s. reading_action (reading bytes.now)) map.old map.new (with_reply result reply.new) }
 {
     match read(alloc, bytes) {
-        Ok(file) => replace(map, &file),
+        Ok(file) => replace(map, &file, reply),
         Err(fault) => {
             let refusal = file_refusal(fault)?;
-            Ok(Some(Reply::Refused(refusal)))
+            *reply = Some(Reply::Refused(refusal));
+            Ok(())
         }
     }
 }
 
 /// Loads what a store has under a name, and answers it.
-fn take_in(alloc: Global, map: &mut OccMap, loaded: Loaded) -> Result<Option<Reply>, Memory>
+fn take_in(
+    alloc: Global,
+    map: &mut OccMap,
+    loaded: Loaded,
+    reply: &mut Option<Reply>,
+) -> Result<(), Memory>
     ensures { HasDone (λ s. load_reply s.base (Some loaded)) (λ s. load_action (Some loaded))
-        map.old map.new result }
+        map.old map.new (with_reply result reply.new) }
 {
     match loaded {
-        Loaded::Bytes(bytes) => load_bytes(alloc, map, bytes.as_slice()),
-        Loaded::Missing => Ok(Some(Reply::Refused(Refusal::NoFile))),
-        Loaded::TooLarge => Ok(Some(Reply::Refused(Refusal::FileTooLarge))),
+        Loaded::Bytes(bytes) => load_bytes(alloc, map, bytes.as_slice(), reply),
+        Loaded::Missing => {
+            *reply = Some(Reply::Refused(Refusal::NoFile));
+            Ok(())
+        }
+        Loaded::TooLarge => {
+            *reply = Some(Reply::Refused(Refusal::FileTooLarge));
+            Ok(())
+        }
     }
 }
 
@@ -149,10 +171,11 @@ pub fn load<F: Store>(
     map: &mut OccMap,
     store: &mut F,
     name: &Name,
-) -> Result<Option<Reply>, StoreFault>
+    reply: &mut Option<Reply>,
+) -> Result<(), StoreFault>
     ensures effect { HasEffect (λ files s. effect_of_command files s (Ok (Command.Load name.now)))
         (file_named (Ok (Command.Load name.now))) map.old (F.files store.old) map.new
-        (F.files store.new) None result }
+        (F.files store.new) None (with_reply result reply.new) }
     ensures stands { KeepsStanding map.old map.new }
     ensures stays { OnOk result (F.faults store.new ≡ F.faults store.old) }
     ensures memory { IsErrOf result StoreFault.Memory → F.faults store.new ≡ F.faults store.old }
@@ -160,8 +183,8 @@ pub fn load<F: Store>(
         → Rose (F.faults store.old) (F.faults store.new) }
 {
     let loaded = store.load(alloc, name.as_str())?;
-    let reply = take_in(alloc, map, loaded)?;
-    Ok(reply)
+    take_in(alloc, map, loaded, reply)?;
+    Ok(())
 }
 
 /// The snapshot of the map, written to memory.
@@ -182,11 +205,12 @@ pub fn snapshot<F: Store>(
     map: &OccMap,
     store: &mut F,
     name: &Name,
-) -> Result<Option<Reply>, StoreFault>
+    reply: &mut Option<Reply>,
+) -> Result<(), StoreFault>
     ensures effect { HasEffect
         (λ files s. effect_of_command files s (Ok (Command.Snapshot name.now)))
         (file_named (Ok (Command.Snapshot name.now))) map.now (F.files store.old) map.now
-        (F.files store.new) None result }
+        (F.files store.new) None (with_reply result reply.new) }
     ensures stays { OnOk result (F.faults store.new ≡ F.faults store.old) }
     ensures memory { IsErrOf result StoreFault.Memory → F.faults store.new ≡ F.faults store.old }
     ensures failed { IsErrOf result StoreFault.Failed
@@ -195,29 +219,40 @@ pub fn snapshot<F: Store>(
     let file = write_snapshot(alloc, map)?;
     let text = file.written();
     store.save(name.as_str(), text)?;
-    Ok(Some(Reply::Saved(text.len() as u64)))
+    *reply = Some(Reply::Saved(text.len() as u64));
+    Ok(())
 }
 
 /// Makes the map that of the snapshot of these bytes, and answers it.
-fn restore_bytes(map: &mut OccMap, bytes: &[u8]) -> Result<Option<Reply>, Memory>
+fn restore_bytes(map: &mut OccMap, bytes: &[u8], reply: &mut Option<Reply>) -> Result<(), Memory>
     ensures { HasDone (λ s. snapshot_reply s.base (read_snapshot s.base.odds bytes.now))
-        (λ s. snapshot_action (read_snapshot s.base.odds bytes.now)) map.old map.new result }
+        (λ s. snapshot_action (read_snapshot s.base.odds bytes.now)) map.old map.new
+        (with_reply result reply.new) }
 {
     match map.restore(bytes) {
-        Ok(groups) => Ok(Some(Reply::Restored(groups))),
-        Err(fault) => refuse(fault),
+        Ok(groups) => {
+            *reply = Some(Reply::Restored(groups));
+            Ok(())
+        }
+        Err(fault) => refuse(fault, reply),
     }
 }
 
 /// Restores what a store has under a name, and answers it.
-fn take_back(map: &mut OccMap, loaded: Loaded) -> Result<Option<Reply>, Memory>
+fn take_back(map: &mut OccMap, loaded: Loaded, reply: &mut Option<Reply>) -> Result<(), Memory>
     ensures { HasDone (λ s. restore_reply s.base (Some loaded))
-        (λ s. restore_action s.base (Some loaded)) map.old map.new result }
+        (λ s. restore_action s.base (Some loaded)) map.old map.new (with_reply result reply.new) }
 {
     match loaded {
-        Loaded::Bytes(bytes) => restore_bytes(map, bytes.as_slice()),
-        Loaded::Missing => Ok(Some(Reply::Refused(Refusal::NoFile))),
-        Loaded::TooLarge => Ok(Some(Reply::Refused(Refusal::FileTooLarge))),
+        Loaded::Bytes(bytes) => restore_bytes(map, bytes.as_slice(), reply),
+        Loaded::Missing => {
+            *reply = Some(Reply::Refused(Refusal::NoFile));
+            Ok(())
+        }
+        Loaded::TooLarge => {
+            *reply = Some(Reply::Refused(Refusal::FileTooLarge));
+            Ok(())
+        }
     }
 }
 
@@ -227,11 +262,12 @@ pub fn restore<F: Store>(
     map: &mut OccMap,
     store: &mut F,
     name: &Name,
-) -> Result<Option<Reply>, StoreFault>
+    reply: &mut Option<Reply>,
+) -> Result<(), StoreFault>
     ensures effect { HasEffect
         (λ files s. effect_of_command files s (Ok (Command.Restore name.now)))
         (file_named (Ok (Command.Restore name.now))) map.old (F.files store.old) map.new
-        (F.files store.new) None result }
+        (F.files store.new) None (with_reply result reply.new) }
     ensures stands { KeepsStanding map.old map.new }
     ensures stays { OnOk result (F.faults store.new ≡ F.faults store.old) }
     ensures memory { IsErrOf result StoreFault.Memory → F.faults store.new ≡ F.faults store.old }
@@ -239,6 +275,6 @@ pub fn restore<F: Store>(
         → Rose (F.faults store.old) (F.faults store.new) }
 {
     let loaded = store.load(alloc, name.as_str())?;
-    let reply = take_back(map, loaded)?;
-    Ok(reply)
+    take_back(map, loaded, reply)?;
+    Ok(())
 }

@@ -1,10 +1,12 @@
 //! What the definitions come to, with nothing to compute.
-ghost use Rattle.std.specs.Prelude.{◌≡◌, ◌≤◌, List, Option};
+ghost use Rattle.std.specs.Prelude.{◌≡◌, ◌≤◌, ℕ, List, Option, IfSome};
 ghost use Rattle.oct_key.specs.Voxel.{Voxel};
 ghost use Rattle.oct_values.specs.Counts.{group_count};
 ghost use Rattle.oct_io.specs.Files.{Files};
 ghost use Rattle.oct_script.specs.Lines.{Line};
-ghost use Rattle.oct_session.specs.History.{History, value_after, alone_after};
+ghost use Rattle.oct_session.specs.GivenBack.{IsSetUp, AreBytes, IsState, AreSnapshotAndRestore};
+ghost use Rattle.oct_session.specs.GivenBack.{GivesBack};
+ghost use Rattle.oct_session.specs.History.{History, state_after, value_after, alone_after};
 ghost use Rattle.oct_session.specs.Session.{progress};
 ghost use Rattle.oct_session.specs.Setup.{Setup};
 
@@ -20,4 +22,23 @@ pub fn values_are_folds()
 pub fn groups_stay_within()
     ensures { (o : Setup) (files : Option Files) (lines : List Line)
         → group_count (value_after o (progress o files lines).history) ≤ o.max_groups }
+{}
+
+/// Between any two lines of a session its log-odds make a model, the box to which scans are
+/// restricted lies in the map, and each known value lies within the bounds. A law, with nothing to
+/// compute.
+pub fn states_stay_sound()
+    ensures { (o : Setup) (files : Option Files) (lines : List Line) → IsSetUp o
+        → IfSome files AreBytes → IsState (state_after o (progress o files lines).history) }
+{}
+
+/// A restore gives back what the snapshot of that name kept, and isn't refused, whatever stands
+/// between them: scans, edits, a clear, loads, other files, other log-odds. Every voxel has the
+/// value that it had at the snapshot, and the session goes by the log-odds and the box of then. A
+/// law, with nothing to compute.
+pub fn snapshots_are_restored()
+    ensures { (o : Setup) (files : Files) (name : List ℕ) (before : List Line) (snapshot : Line)
+        (between : List Line) (restore : Line) → IsSetUp o → AreBytes files
+        → AreSnapshotAndRestore o files name before snapshot between restore
+        → GivesBack o files before snapshot between restore }
 {}

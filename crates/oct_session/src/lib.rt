@@ -24,6 +24,9 @@
 //!   the first thing that is wrong with it (`specs/FileCommands.antt`). So do `snapshot` and `restore`
 //!   with the voxels' values, the log-odds and the update box; from a restore on, the session goes by
 //!   the log-odds of its snapshot.
+//!   Whatever stands between a snapshot and a restore of its name, the restore gives back what was
+//!   kept and isn't refused, as long as no line between them writes that file
+//!   ([`snapshots_are_restored`]).
 //! - **Endings.** Where source and sink tell their bytes, as those in memory do, and the store its
 //!   files or no line names one, `specs/Ending.antt` says for each status what is written and what
 //!   is left of the input. Stopped by a fault or out of memory, what was written is a prefix of
@@ -47,7 +50,8 @@
 //!
 //! `service` reads pieces of at most 16 KiB and hands each to `session`, which feeds them line by
 //! line to `oct_script` and writes the reply's text by `write_all`. `lines` says what a line does,
-//! inside a block and outside; `block` keeps the head and the points of the scan that is being
+//! inside a block and outside, and keeps a place for its command and for its reply, so that neither
+//! is moved from call to call; `block` keeps the head and the points of the scan that is being
 //! read, or its first fault; `commands` does each command and each scan on the map, and makes the
 //! map's answer a reply; `files` does the commands that name a file, on map and store. `options`
 //! holds what a session is set up with and how a run ends. A reply's text stands in place of the
@@ -77,6 +81,6 @@ mod tally;
 
 pub use building::build;
 pub use drilling::{drill, status_written};
-pub use laws::{groups_stay_within, values_are_folds};
+pub use laws::{groups_stay_within, snapshots_are_restored, states_stay_sound, values_are_folds};
 pub use options::{MOST_BYTES, Options, Status};
 pub use service::serve;

@@ -1,57 +1,48 @@
 //! What a line does: its reply, and the block that is open after it.
-ghost use Rattle.std.specs.Prelude.{◌≡◌, IfOk, IsErrOf, None, Ok, OnOk, Some};
+ghost use Rattle.std.specs.Prelude.{◌≡◌, ℕ, IfOk, IsErrOf, None, Ok, OnOk, Some, is_some};
 ghost use Rattle.oct_io.specs.Told.{Rose};
 ghost use Rattle.oct_script.specs.Commands.{IsSmallCommand};
-ghost use Rattle.oct_session.specs.Commands.{command_on, file_named};
-ghost use Rattle.oct_session.specs.ScanBlock.{is_end};
+ghost use Rattle.oct_script.specs.Lines.{Line};
+ghost use Rattle.oct_session.specs.Commands.{command_on, file_named, is_quit};
+ghost use Rattle.oct_session.specs.ScanBlock.{is_end, opened, spoilt_by, spoilt_reply};
 ghost use Rattle.oct_session.specs.Session.{effect_of_command, effect_opened, effect_inside, effect};
-ghost use Rattle.oct_session.specs.Standing.{HasEffect, HasWorked, KeepsStanding};
+ghost use Rattle.oct_session.specs.Standing.{with_reply, HasEffect, HasWorked, KeepsStanding};
 
-use crate::block::{Block, opened};
+use crate::block::{Block, open_scan, spoil};
 use crate::commands::{finish, obey};
 use crate::files::{load, restore, save, snapshot};
 use oct_io::{Store, StoreFault};
 use oct_map::OccMap;
 use oct_num::Memory;
-use oct_script::{Command, Lines, Refusal, Reply, Syntax, parse};
+use oct_script::{Command, Lines, Refusal, Reply, Syntax, parse_into};
 use std::alloc::Global;
 
-/// The command on the line of this number, inside a block or outside, or why there is none. A long
-/// line isn't read.
-pub fn command_in(line: &Lines, number: u64, inside: bool) -> Result<Command, Refusal>
-    ensures exact { result ≡ command_on inside number line.now.line }
-    ensures small { IfOk result IsSmallCommand }
+/// Whether a command closes a block.
+fn is_end(command: &Command) -> bool
+    ensures { result ≡ is_end (Ok command.now) }
 {
-    if line.is_long() {
-        return Err(Refusal::LongLine { line: number });
-    }
-    match parse(line.text(), inside) {
-        Ok(command) => Ok(command),
-        Err(Syntax { column }) => Err(Refusal::Syntax {
-            line: number,
-            column,
-        }),
-    }
+    matches!(command, Command::End)
 }
 
-/// Whether a line closes its block.
-fn is_end(command: Result<Command, Refusal>) -> bool
-    ensures { result ≡ is_end command }
+/// Whether a command ends the session.
+fn is_quit(command: &Command) -> bool
+    ensures { result ≡ is_quit (Ok command.now) }
 {
-    matches!(command, Ok(Command::End))
+    matches!(command, Command::Quit)
 }
 
-/// Does what a command outside a block says, and answers its reply.
+/// Does what a command outside a block says, and puts its reply in its place.
 fn perform<F: Store>(
     alloc: Global,
     map: &mut OccMap,
     store: &mut F,
     command: &Command,
-) -> Result<Option<Reply>, StoreFault>
+    reply: &mut Option<Reply>,
+) -> Result<(), StoreFault>
     requires { IsSmallCommand command.now }
     ensures effect { HasEffect (λ files s. effect_of_command files s (Ok command.now))
         (file_named (Ok command.now)) map.old (F.files store.old) map.new (F.files store.new)
-        None result }
+        None (with_reply result reply.new) }
     ensures stands { KeepsStanding map.old map.new }
     ensures unnamed { file_named (Ok command.now) ≡ None → store.new ≡ store.old }
     ensures stays { OnOk result (F.faults store.new ≡ F.faults store.old) }
@@ -60,116 +51,182 @@ fn perform<F: Store>(
         → Rose (F.faults store.old) (F.faults store.new) }
 {
     match command {
-        Command::Save(name) => save(alloc, map, store, name),
-        Command::Load(name) => load(alloc, map, store, name),
-        Command::Snapshot(name) => snapshot(alloc, map, store, name),
-        Command::Restore(name) => restore(alloc, map, store, name),
+        Command::Save(name) => save(alloc, map, store, name, reply),
+        Command::Load(name) => load(alloc, map, store, name, reply),
+        Command::Snapshot(name) => snapshot(alloc, map, store, name, reply),
+        Command::Restore(name) => restore(alloc, map, store, name, reply),
         _ => {
-            let reply = obey(map, *command)?;
-            Ok(reply)
+            obey(map, command, reply)?;
+            Ok(())
         }
     }
 }
 
-/// Does what a line outside a block says that opens none, and answers its reply.
-fn execute<F: Store>(
+/// What a command does outside a block.
+fn outside<F: Store>(
     alloc: Global,
     map: &mut OccMap,
     store: &mut F,
-    command: &Result<Command, Refusal>,
-) -> Result<Option<Reply>, StoreFault>
-    requires { IfOk command.now IsSmallCommand }
-    ensures effect { HasEffect (λ files s. effect_of_command files s command.now)
-        (file_named command.now) map.old (F.files store.old) map.new (F.files store.new)
-        None result }
+    number: u64,
+    command: &Command,
+    block: &mut Option<Block>,
+    reply: &mut Option<Reply>,
+) -> Result<(), StoreFault>
+    requires small { IsSmallCommand command.now }
+    requires closed { block.old ≡ None }
+    ensures effect { (line : Line) → HasEffect
+        (λ files s. effect_opened files s (Ok command.now) (opened number line (Ok command.now)))
+        (file_named (Ok command.now)) map.old (F.files store.old) map.new (F.files store.new)
+        block.new (with_reply result reply.new) }
     ensures stands { KeepsStanding map.old map.new }
-    ensures unnamed { file_named command.now ≡ None → store.new ≡ store.old }
+    ensures unnamed { file_named (Ok command.now) ≡ None → store.new ≡ store.old }
     ensures stays { OnOk result (F.faults store.new ≡ F.faults store.old) }
     ensures memory { IsErrOf result StoreFault.Memory → F.faults store.new ≡ F.faults store.old }
     ensures failed { IsErrOf result StoreFault.Failed
         → Rose (F.faults store.old) (F.faults store.new) }
 {
     match command {
-        Ok(command) => perform(alloc, map, store, command),
-        Err(refusal) => Ok(Some(Reply::Refused(*refusal))),
+        Command::Scan(head) => {
+            open_scan(alloc, number, *head, block);
+            *reply = None;
+            Ok(())
+        }
+        _ => perform(alloc, map, store, command, reply),
     }
 }
 
-/// What a line outside a block does, by the block that it opens.
-fn outside<F: Store>(
-    alloc: Global,
-    map: &mut OccMap,
-    store: &mut F,
-    command: &Result<Command, Refusal>,
-    opened: Option<Block>,
-    block: &mut Option<Block>,
-) -> Result<Option<Reply>, StoreFault>
-    requires small { IfOk command.now IsSmallCommand }
-    requires closed { block.old ≡ None }
-    ensures effect { HasEffect (λ files s. effect_opened files s command.now opened)
-        (file_named command.now) map.old (F.files store.old) map.new (F.files store.new)
-        block.new result }
-    ensures stands { KeepsStanding map.old map.new }
-    ensures unnamed { file_named command.now ≡ None → store.new ≡ store.old }
-    ensures stays { OnOk result (F.faults store.new ≡ F.faults store.old) }
-    ensures memory { IsErrOf result StoreFault.Memory → F.faults store.new ≡ F.faults store.old }
-    ensures failed { IsErrOf result StoreFault.Failed
-        → Rose (F.faults store.old) (F.faults store.new) }
-{
-    if opened.is_some() {
-        *block = opened;
-        return Ok(None);
-    }
-    execute(alloc, map, store, command)
-}
-
-/// What a line inside a block does.
+/// What a command does inside a block.
 fn inside(
     map: &mut OccMap,
     number: u64,
-    command: Result<Command, Refusal>,
+    command: &Command,
     block: &mut Option<Block>,
-) -> Result<Option<Reply>, Memory>
-    requires { IfOk command IsSmallCommand }
+    reply: &mut Option<Reply>,
+) -> Result<(), Memory>
+    requires { IsSmallCommand command.now }
     ensures { (first : Block) → block.old ≡ Some first
-        → HasWorked (λ s. effect_inside s number command first) map.old map.new block.new result }
+        → HasWorked (λ s. effect_inside s number (Ok command.now) first) map.old map.new block.new
+        (with_reply result reply.new) }
 {
     let Some(standing) = block.take() else {
-        return Ok(None);
+        return Ok(());
     };
     if is_end(command) {
-        return finish(map, standing);
+        return finish(map, standing, reply);
     }
-    *block = Some(standing.with_line(number, command)?);
-    Ok(None)
+    *reply = None;
+    *block = Some(standing.with_command(number, *command)?);
+    Ok(())
 }
 
-/// Does what the line of this number says, where a block is open or none, and leaves the block that
-/// is open after it. Where it failed, nothing was done, but for the file that it names.
-pub fn take_line<F: Store>(
+/// Does what a command says, where a block is open or none.
+fn take_command<F: Store>(
     alloc: Global,
     map: &mut OccMap,
     store: &mut F,
-    line: &Lines,
     number: u64,
-    command: &Result<Command, Refusal>,
+    command: &Command,
     block: &mut Option<Block>,
-) -> Result<Option<Reply>, StoreFault>
-    requires { IfOk command.now IsSmallCommand }
-    ensures effect { HasEffect (λ files s. effect files s number line.now.line command.now block.old)
-        (file_named command.now) map.old (F.files store.old) map.new (F.files store.new)
-        block.new result }
+    reply: &mut Option<Reply>,
+) -> Result<(), StoreFault>
+    requires { IsSmallCommand command.now }
+    ensures effect { (line : Line) → HasEffect
+        (λ files s. effect files s number line (Ok command.now) block.old)
+        (file_named (Ok command.now)) map.old (F.files store.old) map.new (F.files store.new)
+        block.new (with_reply result reply.new) }
     ensures stands { KeepsStanding map.old map.new }
-    ensures unnamed { file_named command.now ≡ None → store.new ≡ store.old }
+    ensures unnamed { file_named (Ok command.now) ≡ None → store.new ≡ store.old }
     ensures stays { OnOk result (F.faults store.new ≡ F.faults store.old) }
     ensures memory { IsErrOf result StoreFault.Memory → F.faults store.new ≡ F.faults store.old }
     ensures failed { IsErrOf result StoreFault.Failed
         → Rose (F.faults store.old) (F.faults store.new) }
 {
     if block.is_some() {
-        let reply = inside(map, number, *command, block)?;
-        return Ok(reply);
+        inside(map, number, command, block, reply)?;
+        return Ok(());
     }
-    let opened = opened(alloc, line, number, *command);
-    outside(alloc, map, store, command, opened, block)
+    outside(alloc, map, store, number, command, block, reply)
+}
+
+/// What a line does that isn't in the grammar: it spoils the block that is open, or the one that it
+/// opens, and is refused where it does neither.
+fn take_fault(line: &Lines, refusal: Refusal, block: &mut Option<Block>, reply: &mut Option<Reply>)
+    ensures block { (number : ℕ) → block.new ≡ spoilt_by number line.now.line refusal block.old }
+    ensures reply { reply.new ≡ spoilt_reply refusal block.new }
+{
+    spoil(line, refusal, block);
+    *reply = match block {
+        None => Some(Reply::Refused(refusal)),
+        Some(_) => None,
+    };
+}
+
+/// What a line does that leaves the grammar.
+fn take_misspelt(
+    line: &Lines,
+    number: u64,
+    syntax: Syntax,
+    block: &mut Option<Block>,
+    reply: &mut Option<Reply>,
+)
+    ensures block { block.new
+        ≡ spoilt_by number line.now.line (Refusal.Syntax number syntax.column) block.old }
+    ensures reply { reply.new ≡ spoilt_reply (Refusal.Syntax number syntax.column) block.new }
+{
+    let refusal = Refusal::Syntax {
+        line: number,
+        column: syntax.column,
+    };
+    take_fault(line, refusal, block, reply);
+}
+
+/// What a line does that is too long to be read.
+fn take_long(line: &Lines, number: u64, block: &mut Option<Block>, reply: &mut Option<Reply>)
+    ensures block { block.new ≡ spoilt_by number line.now.line (Refusal.LongLine number) block.old }
+    ensures reply { reply.new ≡ spoilt_reply (Refusal.LongLine number) block.new }
+{
+    take_fault(line, Refusal::LongLine { line: number }, block, reply);
+}
+
+/// Does what the line of this number says, where a block is open or none, leaves the block that is
+/// open after it, and puts its reply in its place: whether it ends the session. Where it failed,
+/// nothing was done, but for the file that it names.
+pub fn take_line<F: Store>(
+    alloc: Global,
+    map: &mut OccMap,
+    store: &mut F,
+    line: &Lines,
+    number: u64,
+    block: &mut Option<Block>,
+    reply: &mut Option<Reply>,
+) -> Result<bool, StoreFault>
+    ensures effect { let command = command_on (is_some block.old) number line.now.line in
+        HasEffect (λ files s. effect files s number line.now.line command block.old)
+        (file_named command) map.old (F.files store.old) map.new (F.files store.new)
+        block.new (with_reply result reply.new) }
+    ensures quits { IfOk result (λ quits. quits
+        ≡ is_quit (command_on (is_some block.old) number line.now.line)) }
+    ensures stands { KeepsStanding map.old map.new }
+    ensures unnamed { file_named (command_on (is_some block.old) number line.now.line) ≡ None
+        → store.new ≡ store.old }
+    ensures stays { OnOk result (F.faults store.new ≡ F.faults store.old) }
+    ensures memory { IsErrOf result StoreFault.Memory → F.faults store.new ≡ F.faults store.old }
+    ensures failed { IsErrOf result StoreFault.Failed
+        → Rose (F.faults store.old) (F.faults store.new) }
+{
+    if line.is_long() {
+        take_long(line, number, block, reply);
+        return Ok(false);
+    }
+    let mut command = Command::Blank;
+    match parse_into(line.text(), block.is_some(), &mut command) {
+        Ok(()) => {
+            take_command(alloc, map, store, number, &command, block, reply)?;
+            Ok(is_quit(&command))
+        }
+        Err(syntax) => {
+            take_misspelt(line, number, syntax, block, reply);
+            Ok(false)
+        }
+    }
 }

@@ -5,7 +5,6 @@ ghost use Rattle.oct_io.specs.Told.{Rose, appended};
 ghost use Rattle.oct_script.specs.Lines.{ended_lines, all_lines, unread};
 ghost use Rattle.oct_script.specs.Replies.{is_refusal, text_of};
 ghost use Rattle.oct_session.specs.Setup.{Setup};
-ghost use Rattle.oct_session.specs.Commands.{is_quit};
 ghost use Rattle.oct_session.specs.ScanBlock.{end_reply};
 ghost use Rattle.oct_session.specs.Session.{Progress, effect_of, after_line, progress, closed};
 ghost use Rattle.oct_session.specs.Tally.{no_replies};
@@ -14,13 +13,13 @@ ghost use Rattle.oct_session.specs.Stops.{IsHalt, IsSinkStop, status_of};
 ghost use Rattle.oct_session.specs.Standing.{KeepsStanding, HasStoppedAt, IsInStep, IsBetween, HasReached, IsAt, Takes, Halts, StopsAtEnd};
 
 use crate::block::Block;
-use crate::lines::{command_in, take_line};
+use crate::lines::take_line;
 use crate::options::{Options, Stop};
 use crate::tally::Tally;
 use oct_io::{Sink, Store, StoreFault, write_all};
 use oct_map::OccMap;
 use oct_num::Memory;
-use oct_script::{Command, Lines, Refusal, Reply, push_reply};
+use oct_script::{Lines, Reply, push_reply};
 use std::alloc::Global;
 
 /// A session between two bytes of its script.
@@ -49,13 +48,6 @@ fn is_refused(reply: &Option<Reply>) -> bool
     ensures { result ≡ is_refusal reply.now }
 {
     matches!(reply, Some(Reply::Refused(_)))
-}
-
-/// Whether a line's command ends the session.
-fn is_quit(command: &Result<Command, Refusal>) -> bool
-    ensures { result ≡ is_quit command.now }
-{
-    matches!(command, Ok(Command::Quit))
 }
 
 /// Makes the text of a reply, in place of the last one.
@@ -136,10 +128,11 @@ impl Session {
             → Rose (F.faults store.old) (F.faults store.new) }
     {
         let number = self.line_count + 1;
-        let command = command_in(&self.line, number, self.block.is_some());
-        let has_quit = is_quit(&command);
         let block = &mut self.block;
-        let reply = take_line(self.alloc, map, store, &self.line, number, &command, block)?;
+        let mut reply = None;
+        let has_quit = take_line(
+            self.alloc, map, store, &self.line, number, block, &mut reply,
+        )?;
         tell(&mut self.text, &reply)?;
         self.refused |= is_refused(&reply);
         self.tally.count(&reply);

@@ -1,9 +1,9 @@
-ghost use Rattle.std.specs.Prelude.{◌≤◌, ◌^◌, None};
+ghost use Rattle.std.specs.Prelude.{◌≤◌, ◌^◌};
 ghost use Rattle.oct_session.specs.History.{start_state};
 ghost use Rattle.oct_session.specs.Leaving.{StandsFor};
 
 use super::*;
-use oct_io::{CalmSink, CalmSource, CalmStore, FileBytes, SinkFault};
+use oct_io::{CalmSink, CalmSource, CalmStore, FileBytes, KeptList, MemSink, MemSource, MemStore};
 use oct_key::{Point, Res};
 use oct_map::{Limits, MapFault};
 use oct_odds::OddsModel;
@@ -55,51 +55,11 @@ fn asked(
     (map.get(ORIGIN, 16), map.get(BESIDE, 16), map.is_stale())
 }
 
-/// Gives its bytes in one read, and then fails.
-#[derive(Drop)]
-struct TornSource {
-    bytes: &'static [u8],
-    has_read: bool,
-    faults: u64,
-}
-
-impl Source for TornSource {
-    ghost left = { λ _. None };
-
-    ghost faults = { λ s. s.faults };
-
-    fn read(&mut self, buffer: &mut [u8]) -> Result<usize, Failed> {
-        if self.has_read || self.bytes.len() > buffer.len() {
-            self.faults = self.faults.saturating_add(1);
-            return Err(Failed);
-        }
-        self.has_read = true;
-        let count = self.bytes.len();
-        buffer[..count].copy_from_slice(self.bytes);
-        Ok(count)
-    }
-}
-
-/// Takes nothing.
-#[derive(Drop)]
-struct ShutSink {
-    faults: u64,
-}
-
-impl Sink for ShutSink {
-    ghost written = { λ _. None };
-
-    ghost faults = { λ s. s.faults };
-
-    ghost shortages = { λ _. 0 };
-
-    fn write(&mut self, piece: &[u8]) -> Result<usize, SinkFault> {
-        if piece.is_empty() {
-            return Ok(0);
-        }
-        self.faults = self.faults.saturating_add(1);
-        Err(SinkFault::Failed)
-    }
+/// The list of this number alone.
+fn only(alloc: Global, number: u64) -> Result<KeptList, Fail> {
+    let mut list = KeptList::new(alloc);
+    list.push(number)?;
+    Ok(list)
 }
 
 #[test]
@@ -202,11 +162,9 @@ fn a_block_has_one_reply(rt: HostRuntime) -> Result<(), Fail> {
 fn the_lent_map_stands_for_the_lines_before_a_fault(rt: HostRuntime) -> Result<(), Fail> {
     let options = options(1000)?;
     let mut map = unknown(rt.alloc(), &options);
-    let mut source = TornSource {
-        bytes: b"hit 0 0 0 lazy\nrefresh\nhit 0.1 0 0\nmiss 0 0",
-        has_read: false,
-        faults: 0,
-    };
+    let script = b"hit 0 0 0 lazy\nrefresh\nhit 0.1 0 0\nmiss 0 0";
+    let bytes = FileBytes::from_slice(rt.alloc(), script)?;
+    let mut source = MemSource::new(bytes, 100, only(rt.alloc(), 2)?);
     let status = serve(
         rt.alloc(),
         &options,
@@ -232,7 +190,7 @@ fn the_lent_map_stands_for_the_line_whose_reply_was_not_written(
         &options,
         &mut map,
         &mut CalmSource::new(FileBytes::from_slice(rt.alloc(), script)?, 100),
-        &mut ShutSink { faults: 0 },
+        &mut MemSink::new(rt.alloc(), 100, only(rt.alloc(), 1)?),
         &mut CalmStore::new(rt.alloc()),
     );
     assert_eq!(rt; status, Status::WriteFault);

@@ -1,6 +1,7 @@
 use Rattle.std.proofs.Common.{ap, ◌∙◌}
 use Rattle.oct_tree.specs.Tree.{Tree}
 use Rattle.oct_session.specs.History.{edit_event}
+use Rattle.oct_session.specs.Standing.{with_reply}
 use Rattle.oct_session.proofs.Replying.{edit_done, edit_refused}
 use Rattle.oct_session.proofs.commands.edit.Goals as goal
 
@@ -14,5 +15,5 @@ returns-in-Ok c =
 pub returns-in-Err : goal.returns-in-Err
 returns-in-Err c =
     let refused = c.in-Err.ensures.refused in
-    edit_refused c.refuse.result c.args.map.now c.edit.new.self c.args.p c.args.e c.args.lazy c.in-Err.fault
+    edit_refused (with_reply c.refuse.result c.refuse.new.reply) c.args.map.now c.edit.new.self c.args.p c.args.e c.args.lazy c.in-Err.fault
     c.refuse.ensures.ok c.refuse.ensures.some c.in-Err.ensures.answer refused.values refused.stale refused.pruned (record { ground = c.edit.ensures.setup; mark = c.edit.ensures.mark })

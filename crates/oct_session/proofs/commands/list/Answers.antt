@@ -4,6 +4,7 @@ use mir.Val.{SFits}
 use mir.Syntax.{w32}
 use Rattle.oct_odds.specs.Odds.{Odds}
 use Rattle.oct_tree.specs.Tree.{Tree}
+use Rattle.oct_session.specs.Standing.{with_reply}
 use Rattle.oct_session.proofs.Replying.{list_done, list_refused}
 use Rattle.oct_session.proofs.commands.list.Goals as goal
 
@@ -15,4 +16,4 @@ returns-in-Ok c =
 
 pub returns-in-Err : goal.returns-in-Err
 returns-in-Err c =
-    list_refused c.refuse.result c.args.map.now c.args.low c.args.high c.args.depth c.in-Err.fault c.refuse.ensures.ok c.refuse.ensures.some c.in-Err.ensures.answer
+    list_refused (with_reply c.refuse.result c.refuse.new.reply) c.args.map.now c.args.low c.args.high c.args.depth c.in-Err.fault c.refuse.ensures.ok c.refuse.ensures.some c.in-Err.ensures.answer

@@ -1,6 +1,8 @@
 use Rattle.std.proofs.Common.{ap, ◌∙◌}
 use Rattle.oct_tree.specs.Tree.{Tree}
 use Rattle.oct_session.specs.Commands.{value_reply}
+use Rattle.oct_session.specs.Standing.{with_reply}
+use Rattle.oct_session.proofs.Effects.{on_failed}
 use Rattle.oct_session.proofs.Replying.{query_done, query_refused}
 use Rattle.oct_session.proofs.commands.query.Goals as goal
 
@@ -10,4 +12,4 @@ returns-in-Ok c =
 
 pub returns-in-Err : goal.returns-in-Err
 returns-in-Err c =
-    query_refused c.refuse.result c.args.map.now c.args.p c.args.depth c.in-Err.fault c.refuse.ensures.ok c.refuse.ensures.err c.in-Err.ensures.answer
+    query_refused (with_reply c.refuse.result c.refuse.new.reply) c.args.map.now c.args.p c.args.depth c.in-Err.fault c.refuse.ensures.ok (on_failed c.refuse.result c.refuse.new.reply _ c.refuse.ensures.err) c.in-Err.ensures.answer

@@ -1,5 +1,6 @@
 use Rattle.std.proofs.Common.{sym}
 use Rattle.oct_scan.specs.Beam.{sighting_of}
+use Rattle.oct_session.specs.Standing.{with_reply}
 use Rattle.oct_session.proofs.Replying.{scan_done, scan_refused}
 use Rattle.oct_session.proofs.commands.scan.Goals as goal
 
@@ -13,6 +14,6 @@ returns-in-Ok-scan c =
 pub returns : goal.returns
 returns c =
     let refused = c.in-Err.ensures.refused in
-    scan_refused c.refuse.result c.args.map.now c.scan.new.self c.args.pending (sighting_of c.in-Ok.scan) c.in-Err.fault
+    scan_refused (with_reply c.refuse.result c.refuse.new.reply) c.args.map.now c.scan.new.self c.args.pending (sighting_of c.in-Ok.scan) c.in-Err.fault
     (sym c.in-Ok.ensures.zero) c.in-Ok.ensures.sighting c.refuse.ensures.ok c.refuse.ensures.some c.in-Err.ensures.answer refused.values refused.stale
     refused.pruned (record { ground = c.scan.ensures.setup; mark = c.scan.ensures.mark })

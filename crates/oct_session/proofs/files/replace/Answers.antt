@@ -1,3 +1,4 @@
+use Rattle.oct_session.specs.Standing.{with_reply}
 use Rattle.oct_session.proofs.Loading.{replace_done, replace_refused}
 use Rattle.oct_session.proofs.files.replace.Goals as goal
 
@@ -6,4 +7,4 @@ returns-in-Ok c = replace_done c.args.map.now c.load.new.self c.args.file.now c.
 
 pub returns-in-Err : goal.returns-in-Err
 returns-in-Err c =
-    replace_refused c.refuse.result c.args.map.now c.load.new.self c.args.file.now c.in-Err.fault c.refuse.ensures.ok c.refuse.ensures.some c.in-Err.ensures.answer c.in-Err.ensures.refused
+    replace_refused (with_reply c.refuse.result c.refuse.new.reply) c.args.map.now c.load.new.self c.args.file.now c.in-Err.fault c.refuse.ensures.ok c.refuse.ensures.some c.in-Err.ensures.answer c.in-Err.ensures.refused

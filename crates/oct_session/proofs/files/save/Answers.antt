@@ -1,15 +1,18 @@
 use Rattle.std.proofs.Common.{rules, IsErr, refl, ◌∙◌}
 use Rattle.oct_session.specs.FileCommands.{classes_file}
+use Rattle.oct_io.specs.declared.store.StoreFault.TheVariants as store_fault
+use Rattle.oct_session.specs.Standing.{with_reply}
+use Rattle.oct_session.proofs.Effects.{failed_for, is_failed}
 use Rattle.oct_session.proofs.Loading.{classes_saved, save_done, save_failed, save_unwritten}
 use Rattle.oct_session.proofs.files.save.Goals as goal
 
 pub returns-in_err-file-clause-effect : goal.returns-in_err-file-clause-effect
-returns-in_err-file-clause-effect g c = save_unwritten c.from_residual.result c.args.map.now _ c.args.name.now classes_file c.from_residual.ensures.1
+returns-in_err-file-clause-effect g c = save_unwritten (with_reply c.from_residual.result c.args.reply.now) c.args.map.now _ c.args.name.now classes_file (failed_for _ c.args.reply.now store_fault.Memory c.from_residual.ensures.1)
 
 pub returns-in_err-save-clause-effect : goal.returns-in_err-save-clause-effect
 returns-in_err-save-clause-effect g c =
     let err : IsErr c.from_residual-in_err-save.result = search rules in
-    save_failed c.from_residual-in_err-save.result c.args.map.now _ _ c.as_str.result.now c.args.name.now classes_file c.as_str.ensures err c.in_err-save.ensures.others
+    save_failed (with_reply c.from_residual-in_err-save.result c.args.reply.now) c.args.map.now _ _ c.as_str.result.now c.args.name.now classes_file c.as_str.ensures (is_failed _ c.args.reply.now err) c.in_err-save.ensures.others
 
 pub returns-clause-effect : goal.returns-clause-effect
 returns-clause-effect g c =

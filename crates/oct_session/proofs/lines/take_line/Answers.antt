@@ -1,23 +1,52 @@
-use Rattle.std.proofs.Common.{sym, ◌∙◌}
-use Rattle.oct_session.proofs.Effects.{inside_done, inside_failed, some_inside}
+use Rattle.std.proofs.Common.{◌≡◌, Ok, Err, is_some, sym, ap, ◌∙◌}
+use Rattle.oct_script.specs.declared.reply.Refusal.TheVariants as refusal
+use Rattle.oct_session.specs.Commands.{command_on, file_named, is_quit}
+use Rattle.oct_session.specs.Session.{effect}
+use Rattle.oct_session.specs.Standing.{with_reply}
+use Rattle.oct_session.proofs.Effects.{fault_taken, long_in, misspelt_in, read_in, still_failed, taken_as}
 use Rattle.oct_session.proofs.lines.take_line.Goals as goal
 
-pub returns-in_err-reply-clause-effect : goal.returns-in_err-reply-clause-effect
-returns-in_err-reply-clause-effect g c =
-    inside_failed c.from_residual.result c.args.map.now c.inside.new.map _ c.args.number c.args.line.now.line c.args.command.now c.args.block.now c.inside.new.block
-    (sym c.is_some.ensures ∙ c.if-is_some.true) c.from_residual.ensures.1 c.in_err-reply.ensures
+pub returns-then-is_long-clause-effect : goal.returns-then-is_long-clause-effect
+returns-then-is_long-clause-effect g c =
+    taken_as (Ok c.take_long.new.reply) c.args.map.now c.args.map.now _ _ c.args.number c.args.line.now.line _ (Err (refusal.LongLine c.args.number)) c.args.block.now c.take_long.new.block
+    (long_in (is_some c.args.block.now) c.args.number c.args.line.now.line (sym c.is_long.ensures ∙ c.if-is_long.true))
+    (fault_taken c.args.map.now _ c.args.number c.args.line.now.line (refusal.LongLine c.args.number) c.args.block.now c.take_long.new.block c.take_long.new.reply c.take_long.ensures.block c.take_long.ensures.reply)
 
-pub returns-in_err-reply-clause-stands : goal.returns-in_err-reply-clause-stands
-returns-in_err-reply-clause-stands g c =
-    some_inside c.inside.result c.args.map.now c.inside.new.map c.args.number c.args.command.now c.args.block.now c.inside.new.block
-    (sym c.is_some.ensures ∙ c.if-is_some.true) c.inside.ensures
+pub returns-then-is_long-clause-quits : goal.returns-then-is_long-clause-quits
+returns-then-is_long-clause-quits g c = sym (ap is_quit (long_in (is_some c.args.block.now) c.args.number c.args.line.now.line (sym c.is_long.ensures ∙ c.if-is_long.true)))
 
-pub returns-then-is_some-clause-effect : goal.returns-then-is_some-clause-effect
-returns-then-is_some-clause-effect g c =
-    inside_done c.args.map.now c.inside.new.map _ c.args.number c.args.line.now.line c.args.command.now c.args.block.now c.inside.new.block c.in_ok-reply.reply
-    (sym c.is_some.ensures ∙ c.if-is_some.true) c.in_ok-reply.ensures
+pub returns-in-Err-clause-effect : goal.returns-in-Err-clause-effect
+returns-in-Err-clause-effect g c =
+    taken_as (Ok c.take_misspelt.new.reply) c.args.map.now c.args.map.now _ _ c.args.number c.args.line.now.line _ (Err (refusal.Syntax c.args.number c.in-Err.syntax.column)) c.args.block.now c.take_misspelt.new.block
+    (misspelt_in (is_some c.args.block.now) c.is_some.result c.args.number c.args.line.now.line c.text.result.now c.in-Err.syntax c.is_some.ensures c.text.ensures.text c.in-Err.ensures.exact)
+    (fault_taken c.args.map.now _ c.args.number c.args.line.now.line (refusal.Syntax c.args.number c.in-Err.syntax.column) c.args.block.now c.take_misspelt.new.block c.take_misspelt.new.reply c.take_misspelt.ensures.block c.take_misspelt.ensures.reply)
 
-pub returns-then-is_some-clause-stands : goal.returns-then-is_some-clause-stands
-returns-then-is_some-clause-stands g c =
-    some_inside c.inside.result c.args.map.now c.inside.new.map c.args.number c.args.command.now c.args.block.now c.inside.new.block
-    (sym c.is_some.ensures ∙ c.if-is_some.true) c.inside.ensures
+pub returns-in-Err-clause-quits : goal.returns-in-Err-clause-quits
+returns-in-Err-clause-quits g c =
+    sym (ap is_quit (misspelt_in (is_some c.args.block.now) c.is_some.result c.args.number c.args.line.now.line c.text.result.now c.in-Err.syntax c.is_some.ensures c.text.ensures.text c.in-Err.ensures.exact))
+
+pub returns-in_err-take_command-in-Ok-clause-effect : goal.returns-in_err-take_command-in-Ok-clause-effect
+returns-in_err-take_command-in-Ok-clause-effect g c =
+    taken_as (with_reply c.from_residual.result c.take_command.new.reply) c.args.map.now c.take_command.new.map _ _ c.args.number c.args.line.now.line _ (Ok c.parse_into.new.command) c.args.block.now c.take_command.new.block
+    (read_in (is_some c.args.block.now) c.is_some.result c.args.number c.args.line.now.line c.text.result.now c.parse_into.new.command c.is_some.ensures c.text.ensures.text c.in-Ok.ensures.exact)
+    (still_failed c.from_residual.result c.take_command.new.reply
+    (λ files s. effect files s c.args.number c.args.line.now.line (Ok c.parse_into.new.command) c.args.block.now)
+    (file_named (Ok c.parse_into.new.command)) _ c.args.map.now c.take_command.new.map _ _ c.take_command.new.block c.from_residual.ensures.1 (c.in_err-take_command-in-Ok.ensures.effect c.args.line.now.line))
+
+pub returns-in_err-take_command-in-Ok-clause-unnamed : goal.returns-in_err-take_command-in-Ok-clause-unnamed
+returns-in_err-take_command-in-Ok-clause-unnamed g c = λ none.
+    c.take_command.ensures.unnamed (sym (ap file_named (read_in (is_some c.args.block.now) c.is_some.result c.args.number c.args.line.now.line c.text.result.now c.parse_into.new.command c.is_some.ensures c.text.ensures.text c.in-Ok.ensures.exact)) ∙ none)
+
+pub returns-in_ok-take_command-in-Ok-clause-effect : goal.returns-in_ok-take_command-in-Ok-clause-effect
+returns-in_ok-take_command-in-Ok-clause-effect g c =
+    taken_as (Ok c.take_command.new.reply) c.args.map.now c.take_command.new.map _ _ c.args.number c.args.line.now.line _ (Ok c.parse_into.new.command) c.args.block.now c.take_command.new.block
+    (read_in (is_some c.args.block.now) c.is_some.result c.args.number c.args.line.now.line c.text.result.now c.parse_into.new.command c.is_some.ensures c.text.ensures.text c.in-Ok.ensures.exact)
+    (c.in_ok-take_command-in-Ok.ensures.effect c.args.line.now.line)
+
+pub returns-in_ok-take_command-in-Ok-clause-quits : goal.returns-in_ok-take_command-in-Ok-clause-quits
+returns-in_ok-take_command-in-Ok-clause-quits g c =
+    c.is_quit.ensures ∙ sym (ap is_quit (read_in (is_some c.args.block.now) c.is_some.result c.args.number c.args.line.now.line c.text.result.now c.parse_into.new.command c.is_some.ensures c.text.ensures.text c.in-Ok.ensures.exact))
+
+pub returns-in_ok-take_command-in-Ok-clause-unnamed : goal.returns-in_ok-take_command-in-Ok-clause-unnamed
+returns-in_ok-take_command-in-Ok-clause-unnamed g c = λ none.
+    c.take_command.ensures.unnamed (sym (ap file_named (read_in (is_some c.args.block.now) c.is_some.result c.args.number c.args.line.now.line c.text.result.now c.parse_into.new.command c.is_some.ensures c.text.ensures.text c.in-Ok.ensures.exact)) ∙ none)

@@ -1,8 +1,5 @@
 //! Sessions that save and load files.
-ghost use Rattle.std.specs.Prelude.{◌≡◌, None};
-
 use super::*;
-use oct_io::{Loaded, StoreFault};
 use oct_num::Memory;
 
 /// A file's header before the number of its nodes.
@@ -119,6 +116,46 @@ fn a_snapshot_has_the_values(rt: HostRuntime) -> Result<(), Fail> {
     Ok(())
 }
 
+/// The five numbers of log-odds, each of which alone differs from that of [`NOTHING`] in one row.
+const OTHERS: [[i32; 5]; 5] = [
+    [500, -400, -2000, 3500, 0],
+    [850, -300, -2000, 3500, 0],
+    [850, -400, -1000, 3500, 0],
+    [850, -400, -2000, 3000, 0],
+    [850, -400, -2000, 3500, 100],
+];
+
+/// Sessions of these log-odds at a resolution of 0.1 m.
+fn trusting(odds: OddsModel) -> Result<Options, Fail> {
+    Ok(Options {
+        res: Res::new(100_000_000)?,
+        odds,
+        limits: Limits {
+            max_groups: 64,
+            max_cells: 1000,
+        },
+        max_bytes: 1000,
+    })
+}
+
+#[test]
+fn a_restore_brings_each_number_of_the_log_odds(rt: HostRuntime) -> Result<(), Fail> {
+    for [hit, miss, min, max, thr] in OTHERS {
+        let options = trusting(OddsModel::new(hit, miss, min, max, thr)?)?;
+        let mut store = CalmStore::new(rt.alloc());
+        store.save("a", NOTHING)?;
+        let script = b"snapshot b\nrestore a\nsnapshot c\nrestore b\nsnapshot d\n";
+        let (status, sink) = answer(rt.alloc(), &options, &mut store, script)?;
+        let replies = b"saved 38\nrestored groups 0\nsaved 38\nrestored groups 0\nsaved 38\n";
+        assert_eq!(rt; status, Status::Done);
+        assert_eq!(rt; sink.written(), replies.as_slice());
+        assert!(rt; store.file("b") != Some(NOTHING));
+        assert_eq!(rt; store.file("c"), Some(NOTHING));
+        assert_eq!(rt; store.file("d"), store.file("b"));
+    }
+    Ok(())
+}
+
 #[test]
 fn a_load_gives_the_classes_back(rt: HostRuntime) -> Result<(), Fail> {
     let options = options(1000)?;
@@ -154,68 +191,37 @@ fn a_file_of_another_resolution_is_refused(rt: HostRuntime) -> Result<(), Fail> 
     Ok(())
 }
 
-/// Takes any file and has none, but for the call of one number, counted from 1, which fails.
-#[derive(Drop)]
-struct TornStore {
-    calls: u64,
-    torn: u64,
-    faults: u64,
-}
-
-impl TornStore {
-    /// Counts a call, and answers whether it fails.
-    fn fails(&mut self) -> bool
-        ensures { self.new.faults ≡ self.old.faults }
-    {
-        self.calls = self.calls.saturating_add(1);
-        self.calls == self.torn
-    }
-}
-
-impl Store for TornStore {
-    ghost files = { λ _. None };
-
-    ghost faults = { λ s. s.faults };
-
-    fn load(&mut self, alloc: Global, name: &str) -> Result<Loaded, StoreFault> {
-        if self.fails() {
-            self.faults = self.faults.saturating_add(1);
-            return Err(StoreFault::Failed);
-        }
-        Ok(Loaded::Missing)
-    }
-
-    fn save(&mut self, name: &str, bytes: &[u8]) -> Result<(), StoreFault> {
-        if self.fails() {
-            self.faults = self.faults.saturating_add(1);
-            return Err(StoreFault::Failed);
-        }
-        Ok(())
-    }
-}
-
 #[test]
 fn a_store_that_fails_ends_the_session(rt: HostRuntime) -> Result<(), Fail> {
     let options = options(1000)?;
-    for (torn, ends, replies) in [
-        (1, Status::StoreFault, b"".as_slice()),
-        (2, Status::StoreFault, b"saved 136\n"),
-        (3, Status::StoreFault, b"saved 136\nrefused 33 NoFile\n"),
+    for (number, ends, replies, has_first, has_second) in [
+        (1, Status::StoreFault, b"".as_slice(), false, false),
+        (2, Status::StoreFault, b"saved 136\n", true, false),
+        (
+            3,
+            Status::StoreFault,
+            b"saved 136\nrefused 33 NoFile\n",
+            true,
+            false,
+        ),
         (
             4,
             Status::Refused,
             b"saved 136\nrefused 33 NoFile\nsaved 136\nok\n",
+            true,
+            true,
         ),
     ] {
-        let mut store = TornStore {
-            calls: 0,
-            torn,
-            faults: 0,
-        };
-        let script = b"save m\nload m\nsave n\nclear\n";
+        let mut store = MemStore::new(rt.alloc(), only(rt.alloc(), number)?);
+        let script = b"save m\nload n\nsave n\nclear\n";
         let (status, sink) = answer(rt.alloc(), &options, &mut store, script)?;
-        assert_eq!(rt; status, ends);
-        assert_eq!(rt; sink.written(), replies);
+        assert_eq!(rt; status, ends, "call {number}");
+        assert_eq!(rt; sink.written(), replies, "call {number}");
+        assert_eq!(rt;
+            (store.file("m").is_some(), store.file("n").is_some()),
+            (has_first, has_second),
+            "call {number}"
+        );
     }
     Ok(())
 }

@@ -1,4 +1,4 @@
-use Rattle.std.proofs.Common.{◌≡◌, ◌+◌, ◌||◌, ◌∙◌, ap, refl}
+use Rattle.std.proofs.Common.{◌≡◌, ◌+◌, ◌||◌, is_some, ◌∙◌, ap, refl}
 use Rattle.oct_script.specs.Replies.{text_of}
 use Rattle.oct_session.specs.Commands.{command_on}
 use Rattle.oct_session.specs.Leaving.{desk}
@@ -8,24 +8,24 @@ use Rattle.oct_session.proofs.session.Session.answer.Goals as goal
 pub returns-clause-text : goal.returns-clause-text
 returns-clause-text g c = λ home p known at.
     c.in_ok-tell.ensures.ok ∙ ap text_of (told_line c.args.options.now (desk c.args.map.now (g.F.Store.files c.args.store.now) (c.args.store.now ≡ home)) c.take_line.new.map (g.F.Store.files c.take_line.new.store)
-    c.args.self.now p c.command_in-command.result c.take_line.new.block c.in_ok-reply.reply
-    (record { running = c.requires.running; read = c.command_in-command.ensures.exact ∙ ap (λ b. command_on b (c.args.self.now.line_count + 1) c.args.self.now.line.line) c.is_some.ensures; took = c.in_ok-reply.ensures.effect }) known at)
+    c.args.self.now p (command_on (is_some c.args.self.now.block) (c.args.self.now.line_count + 1) c.args.self.now.line.line) c.take_line.new.block c.take_line.new.reply
+    (record { running = c.requires.running; read = refl; took = c.in_ok-has_quit.ensures.effect }) known at)
 
 pub returns-clause-between : goal.returns-clause-between
 returns-clause-between g c = λ home p known at.
     between_line c.args.options.now (desk c.args.map.now (g.F.Store.files c.args.store.now) (c.args.store.now ≡ home)) (desk c.take_line.new.map (g.F.Store.files c.take_line.new.store) (c.take_line.new.store ≡ home))
-    c.args.self.now _ p c.command_in-command.result c.take_line.new.block c.in_ok-reply.reply
-    (record { running = c.requires.running; read = c.command_in-command.ensures.exact ∙ ap (λ b. command_on b (c.args.self.now.line_count + 1) c.args.self.now.line.line) c.is_some.ensures; took = c.in_ok-reply.ensures.effect }) (λ none kept. c.take_line.ensures.unnamed none ∙ kept)
-    refl refl (ap (λ b. c.args.self.now.refused || b) c.is_refused.ensures) c.is_quit-has_quit.ensures c.count.ensures known at
+    c.args.self.now _ p (command_on (is_some c.args.self.now.block) (c.args.self.now.line_count + 1) c.args.self.now.line.line) c.take_line.new.block c.take_line.new.reply
+    (record { running = c.requires.running; read = refl; took = c.in_ok-has_quit.ensures.effect }) (λ none kept. c.take_line.ensures.unnamed none ∙ kept)
+    refl refl (ap (λ b. c.args.self.now.refused || b) c.is_refused.ensures) c.in_ok-has_quit.ensures.quits c.count.ensures known at
 
-pub returns-in_err-reply-clause-err : goal.returns-in_err-reply-clause-err
-returns-in_err-reply-clause-err g c =
+pub returns-in_err-has_quit-clause-err : goal.returns-in_err-has_quit-clause-err
+returns-in_err-has_quit-clause-err g c =
     before_err _ _ c.args.options.now (λ home. desk c.args.map.now (g.F.Store.files c.args.store.now) (c.args.store.now ≡ home)) (λ home. desk c.take_line.new.map (g.F.Store.files c.take_line.new.store) (c.take_line.new.store ≡ home))
-    c.args.self.now c.command_in-command.result c.take_line.new.block c.from_residual.ensures.1
-    (λ home. (record { running = c.requires.running; read = c.command_in-command.ensures.exact ∙ ap (λ b. command_on b (c.args.self.now.line_count + 1) c.args.self.now.line.line) c.is_some.ensures; took = c.in_err-reply.ensures.effect })) (λ home none kept. c.take_line.ensures.unnamed none ∙ kept)
+    c.args.self.now (command_on (is_some c.args.self.now.block) (c.args.self.now.line_count + 1) c.args.self.now.line.line) c.take_line.new.block c.from_residual.ensures.1
+    (λ home. (record { running = c.requires.running; read = refl; took = c.in_err-has_quit.ensures.effect })) (λ home none kept. c.take_line.ensures.unnamed none ∙ kept)
 
 pub returns-in_err-tell-clause-err : goal.returns-in_err-tell-clause-err
 returns-in_err-tell-clause-err g c =
     after_err _ c.args.options.now (λ home. desk c.args.map.now (g.F.Store.files c.args.store.now) (c.args.store.now ≡ home)) (λ home. desk c.take_line.new.map (g.F.Store.files c.take_line.new.store) (c.take_line.new.store ≡ home))
-    c.args.self.now c.command_in-command.result c.take_line.new.block c.in_ok-reply.reply c.from_residual-in_err-tell.ensures.1
-    (λ home. (record { running = c.requires.running; read = c.command_in-command.ensures.exact ∙ ap (λ b. command_on b (c.args.self.now.line_count + 1) c.args.self.now.line.line) c.is_some.ensures; took = c.in_ok-reply.ensures.effect })) (λ home none kept. c.take_line.ensures.unnamed none ∙ kept) c.in_err-tell.ensures.err
+    c.args.self.now (command_on (is_some c.args.self.now.block) (c.args.self.now.line_count + 1) c.args.self.now.line.line) c.take_line.new.block c.take_line.new.reply c.from_residual-in_err-tell.ensures.1
+    (λ home. (record { running = c.requires.running; read = refl; took = c.in_ok-has_quit.ensures.effect })) (λ home none kept. c.take_line.ensures.unnamed none ∙ kept) c.in_err-tell.ensures.err

@@ -1,0 +1,89 @@
+-- What a snapshot keeps, and a restore of its name gives back, within one session.
+use Rattle.std.specs.Prelude.{◌≡◌, ◌≢◌, ◌≤◌, ◌<◌, ◌^◌, ℕ, List, [], ◌∷◌, ◌++◌, length, false, ⊤, Option, Some, None, option_map, IfSome, Ok}
+use Rattle.std.specs.List.{All}
+use Rattle.oct_io.specs.Files.{Files}
+use Rattle.oct_key.specs.Boxes.{Corners, IsBox}
+use Rattle.oct_key.specs.Values.{SameValues}
+use Rattle.oct_key.specs.Voxel.{Voxel, IsInMap, IsResolution}
+use Rattle.oct_odds.specs.Odds.{IsSound}
+use Rattle.oct_odds.specs.Update.{IsWithin}
+use Rattle.oct_script.specs.Lines.{Line}
+use Rattle.oct_script.specs.declared.command.Command.{Command}
+use Rattle.oct_script.specs.declared.command.Command.TheVariants.{Snapshot, Restore}
+use Rattle.oct_script.specs.declared.reply.Reply.{Reply}
+use Rattle.oct_script.specs.declared.reply.Reply.TheVariants.{Restored}
+use Rattle.oct_values.specs.Counts.{group_count}
+use Rattle.oct_session.specs.Commands.{Saving}
+use Rattle.oct_session.specs.FileCommands.{snapshot_file}
+use Rattle.oct_session.specs.History.{State, state_after}
+use Rattle.oct_session.specs.Session.{Progress, effect_of, next_command, after_line, progress}
+use Rattle.oct_session.specs.Setup.{Setup}
+
+-- ---- what holds between any two lines
+
+-- two corners of a box of the map
+abbrev pub IsMapBox : Corners → Type 0
+IsMapBox box = IsInMap box.lo × IsInMap box.hi × IsBox box.lo box.hi
+
+-- a state that a session may have: the log-odds in force make a model, the box to which scans are
+-- restricted lies in the map, where one stands, and each voxel is unknown or has a value within the
+-- bounds
+pub record IsState (s : State) : Type 0 where
+  pub odds : IsSound s.base.odds
+  pub update_box : IfSome s.base.update_box IsMapBox
+  pub values : (k : Voxel) → IsInMap k → IsWithin s.base.odds (s.values k)
+
+-- a session is set up with a resolution, and with log-odds that make a model
+pub record IsSetUp (o : Setup) : Type 0 where
+  pub res : IsResolution o.res
+  pub odds : IsSound o.odds
+
+-- the files consist of bytes
+abbrev pub AreBytes : Files → Type 0
+AreBytes files = (name : List ℕ) → IfSome (files name) (All (λ byte. byte < 256))
+
+-- ---- a snapshot, and a restore of the same name later on
+
+-- the next line is this command, outside the block of a scan, of a session that goes on
+pub record IsNext (p : Progress) (line : Line) (command : Command) : Type 0 where
+  pub running : p.has_quit ≡ false
+  pub outside : p.block ≡ None
+  pub reads : next_command p line ≡ Ok command
+
+-- the name of the file that the next line writes, if it writes one
+abbrev pub name_written : Setup → Progress → Line → Option (List ℕ)
+name_written o p line = option_map (λ (saving : Saving). saving.name) (effect_of o p line).saving
+
+-- none of these lines, one after another, writes the file of this name
+unfoldable pub NoneWrites : Setup → List ℕ → Progress → List Line → Type 0
+NoneWrites o name p [] = ⊤
+NoneWrites o name p (line ∷ lines) =
+    (name_written o p line ≢ Some name) × NoneWrites o name (after_line o p line) lines
+
+-- After some lines one is a snapshot of this name, and behind more lines, whatever they do, one is
+-- a restore of it. Between them no line writes the file of that name, by a snapshot or a save, and
+-- the snapshot has no more bytes than a file may have that is loaded.
+pub record AreSnapshotAndRestore (o : Setup) (files : Files) (name : List ℕ) (before : List Line)
+    (snapshot : Line) (between : List Line) (restore : Line) : Type 0 where
+  pub first : IsNext (progress o (Some files) before) snapshot (Snapshot name)
+  pub kept : NoneWrites o name (progress o (Some files) (before ++ snapshot ∷ [])) between
+  pub last : IsNext (progress o (Some files) (before ++ snapshot ∷ between)) restore (Restore name)
+  pub loadable :
+      length (snapshot_file (state_after o (progress o (Some files) before).history)) ≤ 2 ^ 30
+
+-- A restore isn't refused, and replies with the groups that the values need which were there when
+-- the snapshot was written; after it each voxel has the value that it had then, and the log-odds and
+-- the box to which scans are restricted are those of then.
+pub record IsGivenBack (old : State) (reply : Option Reply) (new : State) : Type 0 where
+  pub answer : reply ≡ Some (Restored (group_count old.values))
+  pub values : SameValues new.values old.values
+  pub odds : new.base.odds ≡ old.base.odds
+  pub update_box : new.base.update_box ≡ old.base.update_box
+
+-- what the restore behind these lines gives back
+abbrev pub GivesBack : Setup → Files → List Line → Line → List Line → Line → Type 0
+GivesBack o files before snapshot between restore = IsGivenBack
+    (state_after o (progress o (Some files) before).history)
+    (effect_of o (progress o (Some files) (before ++ snapshot ∷ between)) restore).reply
+    (state_after o
+    (progress o (Some files) ((before ++ snapshot ∷ between) ++ restore ∷ [])).history)
