@@ -1,2 +1,4 @@
 pub mod Choosing
 pub mod Runs
+pub mod OverFile
+pub mod Replies

@@ -19,7 +19,9 @@ use Rattle.oct_session.specs.Session.{Answer, session, last_progress}
 use Rattle.oct_session.specs.Session as session_reading
 use Rattle.oct_session.specs.declared.options.Status.{Status}
 use Rattle.oct_session.specs.declared.options.Status.TheVariants.{Done, Refused, Usage, BadFile, TooLong, ReadFault, WriteFault, Memory, StoreFault}
-use Rattle.octomap_cli.specs.Task.{Task, Session, Build, Convert, Inspect, Generate, Drill}
+use Rattle.octomap_cli.specs.Task.{Task, Session, Build, Convert, Inspect, Frontier, Generate, Drill}
+use Rattle.octomap_cli.specs.Frontiers.{frontier_answer}
+use Rattle.octomap_cli.specs.OverFile.{Reply, EndsOverFile}
 use Rattle.octomap_cli.specs.declared.task.Workload.{Workload}
 
 -- the status of a task over a file
@@ -48,6 +50,10 @@ EndsAs ends WriteFault = ends ending.WriteFault
 EndsAs ends Memory = ends ending.Memory
 EndsAs ends StoreFault = ⊥
 
+-- the answer of a task over a file that may be refused, which changes no files
+abbrev pub over_file : Option Files → Reply → Answer
+over_file files whole = record { text = whole.text; files = files; status = whole.status }
+
 -- the answer of a task that writes the script of these numbers
 abbrev pub script_answer : Option Files → Workload → Answer
 script_answer files load =
@@ -60,6 +66,8 @@ answer (Some (Session o)) files bytes = session o files bytes
 answer (Some (Build o)) files bytes = build o files bytes
 answer (Some (Convert max_bytes)) files bytes = file_answer files (convert_answer max_bytes bytes)
 answer (Some (Inspect max_bytes)) files bytes = file_answer files (inspect_answer max_bytes bytes)
+answer (Some (Frontier lo hi max_bytes)) files bytes =
+    over_file files (frontier_answer lo hi max_bytes bytes)
 answer (Some (Generate load)) files bytes = script_answer files load
 answer (Some (Drill load)) files bytes = drill files load.seed load.scans load.points
 
@@ -71,6 +79,7 @@ EndsAlone (Some (Session o)) files old new status = ⊤
 EndsAlone (Some (Build o)) files old new status = ⊤
 EndsAlone (Some (Convert max_bytes)) files old new status = ⊤
 EndsAlone (Some (Inspect max_bytes)) files old new status = ⊤
+EndsAlone (Some (Frontier lo hi max_bytes)) files old new status = ⊤
 EndsAlone (Some (Generate load)) files old new status =
     EndsUnread (script_answer files load) old new status
 EndsAlone (Some (Drill load)) files old new status =
@@ -91,6 +100,8 @@ MayEnd (Some (Convert max_bytes)) files bytes left old new status =
     EndsAs (file_ending.MayEnd (convert_answer max_bytes bytes) max_bytes bytes left old new) status
 MayEnd (Some (Inspect max_bytes)) files bytes left old new status =
     EndsAs (file_ending.MayEnd (inspect_answer max_bytes bytes) max_bytes bytes left old new) status
+MayEnd (Some (Frontier lo hi max_bytes)) files bytes left old new status =
+    EndsOverFile (frontier_answer lo hi max_bytes bytes) max_bytes bytes left old new status
 MayEnd (Some (Generate load)) files bytes left old new status =
     EndsAlone (Some (Generate load)) files old new status × (left ≡ Some bytes)
 MayEnd (Some (Drill load)) files bytes left old new status =
@@ -103,6 +114,7 @@ ReadsTold (Some (Session o)) files bytes = session_reading.ReadsTold o files byt
 ReadsTold (Some (Build o)) files bytes = session_reading.ReadsTold o files bytes
 ReadsTold (Some (Convert max_bytes)) files bytes = ⊤
 ReadsTold (Some (Inspect max_bytes)) files bytes = ⊤
+ReadsTold (Some (Frontier lo hi max_bytes)) files bytes = ⊤
 ReadsTold (Some (Generate load)) files bytes = ⊤
 ReadsTold (Some (Drill load)) files bytes = ⊤
 
@@ -113,6 +125,7 @@ NamesNone (Some (Session o)) files bytes = (last_progress o files bytes).names_f
 NamesNone (Some (Build o)) files bytes = (last_progress o files bytes).names_file ≡ false
 NamesNone (Some (Convert max_bytes)) files bytes = ⊤
 NamesNone (Some (Inspect max_bytes)) files bytes = ⊤
+NamesNone (Some (Frontier lo hi max_bytes)) files bytes = ⊤
 NamesNone (Some (Generate load)) files bytes = ⊤
 NamesNone (Some (Drill load)) files bytes = ⊤
 
@@ -123,6 +136,7 @@ has_script (Some (Session o)) = true
 has_script (Some (Build o)) = true
 has_script (Some (Convert max_bytes)) = false
 has_script (Some (Inspect max_bytes)) = false
+has_script (Some (Frontier lo hi max_bytes)) = false
 has_script (Some (Generate load)) = false
 has_script (Some (Drill load)) = false
 
@@ -133,6 +147,7 @@ has_input (Some (Session o)) = true
 has_input (Some (Build o)) = true
 has_input (Some (Convert max_bytes)) = true
 has_input (Some (Inspect max_bytes)) = true
+has_input (Some (Frontier lo hi max_bytes)) = true
 has_input (Some (Generate load)) = false
 has_input (Some (Drill load)) = false
 
@@ -143,6 +158,7 @@ takes_memory (Some (Session o)) = true
 takes_memory (Some (Build o)) = true
 takes_memory (Some (Convert max_bytes)) = true
 takes_memory (Some (Inspect max_bytes)) = true
+takes_memory (Some (Frontier lo hi max_bytes)) = true
 takes_memory (Some (Generate load)) = false
 takes_memory (Some (Drill load)) = true
 
@@ -157,5 +173,6 @@ Leaves (Some (Build o)) files bytes left old new told kept status =
     (map : Map) × building.Leaves o files bytes left (desk map told kept) status
 Leaves (Some (Convert max_bytes)) files bytes left old new told kept status = kept
 Leaves (Some (Inspect max_bytes)) files bytes left old new told kept status = kept
+Leaves (Some (Frontier lo hi max_bytes)) files bytes left old new told kept status = kept
 Leaves (Some (Generate load)) files bytes left old new told kept status = kept
 Leaves (Some (Drill load)) files bytes left old new told kept status = kept

@@ -4,6 +4,7 @@ use Rattle.std.specs.Result.{result_ok}
 use Rattle.oct_num.specs.Metres.{metres_of}
 use Rattle.oct_num.specs.Sign.{has_minus}
 use Rattle.oct_num.specs.Whole.{whole_of}
+use Rattle.oct_key.specs.declared.point.Point.{Point}
 use Rattle.oct_odds.specs.Odds.{Odds, odds, default_odds, first_bad_field}
 use Rattle.oct_odds.specs.declared.model.OddsField.{OddsField}
 use Rattle.oct_script.specs.Grammar.{number_of}
@@ -20,6 +21,7 @@ pub data Task : Type 0 where
   Build : Setup → Task
   Convert : ℕ → Task
   Inspect : ℕ → Task
+  Frontier : Point → Point → ℕ → Task
   Generate : Workload → Task
   Drill : Workload → Task
 
@@ -119,6 +121,27 @@ file_bytes [] = Some (2 ^ 26)
 file_bytes (name ∷ words) =
     if bytes_eq name (codes "--max-bytes") then file_number words else None
 
+-- the point of these coordinates, where all are there
+abbrev pub point_from : Option ℤ → Option ℤ → Option ℤ → Option Point
+point_from (Some x) (Some y) (Some z) = Some (record { x = x; y = y; z = z })
+point_from _ _ _ = None
+
+-- the point that three words spell, each a length in metres
+abbrev pub point_of : Word → Word → Word → Option Point
+point_of x y z =
+    point_from (result_ok (metres_of x)) (result_ok (metres_of y)) (result_ok (metres_of z))
+
+-- a frontier between two points of a file of at most so many bytes, where all are there
+abbrev pub frontier_from : Option Point → Option Point → Option ℕ → Option Task
+frontier_from (Some lo) (Some hi) (Some max_bytes) = Some (Frontier lo hi max_bytes)
+frontier_from _ _ _ = None
+
+-- what the words after `frontier` ask for: two points, and the most bytes of the file
+abbrev pub frontier_asked : List Word → Option Task
+frontier_asked (a ∷ b ∷ c ∷ d ∷ e ∷ f ∷ words) =
+    frontier_from (point_of a b c) (point_of d e f) (file_bytes words)
+frontier_asked _ = None
+
 -- a script of these numbers, where all are there
 abbrev pub workload_from : Option ℕ → Option ℕ → Option ℕ → Option Workload
 workload_from (Some seed) (Some scans) (Some points) =
@@ -139,6 +162,7 @@ task_by command words =
     else if bytes_eq command (codes "build") then option_map Build (options_asked words)
     else if bytes_eq command (codes "convert") then option_map Convert (file_bytes words)
     else if bytes_eq command (codes "inspect") then option_map Inspect (file_bytes words)
+    else if bytes_eq command (codes "frontier") then frontier_asked words
     else if bytes_eq command (codes "gen") then option_map Generate (workload_of words)
     else if bytes_eq command (codes "drill") then option_map Drill (workload_of words)
     else None
@@ -155,5 +179,6 @@ IsInRange (Session o) = ⊤
 IsInRange (Build o) = ⊤
 IsInRange (Convert max_bytes) = max_bytes ≤ 2 ^ 32
 IsInRange (Inspect max_bytes) = max_bytes ≤ 2 ^ 32
+IsInRange (Frontier lo hi max_bytes) = max_bytes ≤ 2 ^ 32
 IsInRange (Generate load) = (load.scans ≤ 1000) × (load.points ≤ 100000)
 IsInRange (Drill load) = (load.scans ≤ 1000) × (load.points ≤ 100000)

@@ -10,8 +10,10 @@
 //!
 //! `octomap convert` and `octomap inspect` read a `.bt` file of that library from the input: the
 //! one writes the canonical file of the same classes, the other six lines about the file.
-//! `octomap build` writes the file of the map that a script leaves. `octomap gen` writes a script
-//! that a number makes, and `octomap drill` does that script and writes four lines about it.
+//! `octomap frontier` lists the free voxels of such a file, between two points, that have unknown
+//! ones beside them. `octomap build` writes the file of the map that a script leaves. `octomap gen`
+//! writes a script that a number makes, and `octomap drill` does that script and writes four lines
+//! about it.
 //!
 //! # What it promises
 //!
@@ -27,17 +29,20 @@
 //!
 //! `words` finds the options among the words of the command line, and `task` reads the task that
 //! they ask for. For a session `program` makes the map of the unknown world, which may grow as far
-//! as the options say, and lends it to the loop of `oct_session`. `main` joins all this to the
-//! standard input and output and to the current folder.
+//! as the options say, and lends it to the loop of `oct_session`. `frontiers` fills a tree with the
+//! classes of a file and replies to what is asked of it. `main` joins all this to the standard input
+//! and output and to the current folder.
 //!
 //! # Who stands on it
 //!
 //! Nothing: this is the top. It stands on `oct_session` for the loop, on `oct_map` for the map that
-//! the loop is lent, on `oct_convert` for the tasks over a file, on `oct_num`, `oct_key` and
-//! `oct_odds` for the numbers of the command line, on `oct_script` for what a number is, and on
-//! `oct_io` for the world.
+//! the loop is lent, on `oct_convert` for the tasks over a file, on `oct_bt`, `oct_tree` and
+//! `oct_frontier` for the frontier of one, on `oct_num`, `oct_key` and `oct_odds` for the numbers of
+//! the command line, on `oct_script` for what a number is, and on `oct_io` for the world.
 #![tactic(auto)]
 
+mod frontier_text;
+mod frontiers;
 mod program;
 mod task;
 #[cfg(test)]

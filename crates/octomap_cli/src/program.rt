@@ -9,6 +9,7 @@ ghost use Rattle.octomap_cli.specs.Asked.{asked};
 ghost use Rattle.octomap_cli.specs.Task.{IsInRange, task_of};
 ghost use Rattle.octomap_cli.specs.Ending.{MayEnd, EndsAlone, Leaves, ReadsTold, NamesNone, has_script, has_input, takes_memory, answer, status_of};
 
+use crate::frontiers::list_frontier;
 use crate::task::{Task, Usage, read_words};
 use oct_convert::{Ending, convert, inspect};
 use oct_gen::generate;
@@ -146,6 +147,9 @@ fn perform<S: Source, K: Sink, F: Store>(
         }
         Task::Convert { max_bytes } => status_of(convert(alloc, *max_bytes, source, sink)),
         Task::Inspect { max_bytes } => status_of(inspect(alloc, *max_bytes, source, sink)),
+        Task::Frontier { lo, hi, max_bytes } => {
+            list_frontier(alloc, *lo, *hi, *max_bytes, source, sink)
+        }
         Task::Generate(load) => {
             let written = generate(load.seed, load.scans, load.points, sink);
             status_written(Status::Done, written)
@@ -155,7 +159,7 @@ fn perform<S: Source, K: Sink, F: Store>(
 }
 
 /// The status of a task over a file.
-fn status_of(ending: Ending) -> Status
+pub(crate) fn status_of(ending: Ending) -> Status
     ensures { result ≡ status_of ending }
 {
     match ending {

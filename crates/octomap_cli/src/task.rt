@@ -3,11 +3,11 @@ ghost use Rattle.std.specs.Prelude.{◌≡◌, ◌≤◌, ◌^◌, option_map, O
 ghost use Rattle.std.specs.Result.{result_ok};
 ghost use Rattle.oct_odds.specs.Odds.{odds_of, IsSmall};
 ghost use Rattle.octomap_cli.specs.Words.{bytes_of};
-ghost use Rattle.octomap_cli.specs.Task.{IsInRange, file_bytes, file_number, workload_of, options_asked, task_by, resolution_of, count_of, chosen_number, chosen_count, chosen_model, chosen_groups, chosen_cells, chosen_bytes, setup_asked, task_of};
+ghost use Rattle.octomap_cli.specs.Task.{IsInRange, file_bytes, file_number, frontier_asked, point_of, workload_of, options_asked, task_by, resolution_of, count_of, chosen_number, chosen_count, chosen_model, chosen_groups, chosen_cells, chosen_bytes, setup_asked, task_of};
 ghost use Rattle.octomap_cli.specs.Asked.{asked};
 
 use crate::words::{are_options, value_of};
-use oct_key::Res;
+use oct_key::{Point, Res};
 use oct_map::Limits;
 use oct_num::{read_metres, read_whole};
 use oct_odds::OddsModel;
@@ -91,9 +91,19 @@ pub enum Task {
     /// A script from the input, and the file of the map that it leaves to the output.
     Build(Options),
     /// A file of classes from the input, and the canonical one of the same classes to the output.
-    Convert { max_bytes: u64 },
+    Convert {
+        max_bytes: u64,
+    },
     /// A file of classes from the input, and six lines about it to the output.
-    Inspect { max_bytes: u64 },
+    Inspect {
+        max_bytes: u64,
+    },
+    /// A file of classes from the input, and its frontier between two points to the output.
+    Frontier {
+        lo: Point,
+        hi: Point,
+        max_bytes: u64,
+    },
     /// A script that a number makes, to the output.
     Generate(Workload),
     /// The session over such a script, and four lines about it to the output.
@@ -246,6 +256,32 @@ fn read_file_bytes(words: &[String]) -> Option<u64>
     }
 }
 
+/// Reads a point, by three words.
+fn read_point(x: &[u8], y: &[u8], z: &[u8]) -> Option<Point>
+    ensures { result ≡ point_of x.now y.now z.now }
+{
+    Some(Point {
+        x: read_metres(x).ok()?,
+        y: read_metres(y).ok()?,
+        z: read_metres(z).ok()?,
+    })
+}
+
+/// Reads the words after `frontier`: two points, and behind them what stands after `convert`.
+fn read_frontier(words: &[String]) -> Option<Task>
+    ensures exact { option_map asked result ≡ frontier_asked (bytes_of words.now) }
+    ensures few { IfSome result (λ task. IsInRange (asked task)) }
+{
+    let [a, b, c, d, e, f, rest @ ..] = words else {
+        return None;
+    };
+    Some(Task::Frontier {
+        lo: read_point(a.as_bytes(), b.as_bytes(), c.as_bytes())?,
+        hi: read_point(d.as_bytes(), e.as_bytes(), f.as_bytes())?,
+        max_bytes: read_file_bytes(rest)?,
+    })
+}
+
 /// Reads the words after `gen` or `drill`: SEED, SCANS and POINTS.
 fn read_workload(words: &[String]) -> Option<Workload>
     ensures exact { result ≡ workload_of (bytes_of words.now) }
@@ -276,6 +312,8 @@ fn read_task(command: &[u8], words: &[String]) -> Option<Task>
     } else if command == b"inspect".as_slice() {
         let max_bytes = read_file_bytes(words)?;
         Some(Task::Inspect { max_bytes })
+    } else if command == b"frontier".as_slice() {
+        read_frontier(words)
     } else if command == b"gen".as_slice() {
         Some(Task::Generate(read_workload(words)?))
     } else if command == b"drill".as_slice() {

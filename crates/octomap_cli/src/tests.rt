@@ -4,6 +4,7 @@ ghost use Rattle.std.specs.Prelude.{◌<◌};
 mod builds;
 mod faults;
 mod fold;
+mod frontiers;
 mod generated;
 mod limits;
 mod lists;

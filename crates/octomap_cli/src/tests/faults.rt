@@ -1,151 +1,297 @@
-//! Sources and sinks that fail.
-ghost use Rattle.std.specs.Prelude.{None};
+//! Sources, sinks and stores of which one call fails: the first, the second, and so on, until none
+//! does.
+ghost use Rattle.std.specs.Prelude.{◌<◌};
 
 use super::owned;
 use crate::program::run;
-use oct_io::{CalmSink, CalmSource, CalmStore, Failed, FileBytes, Sink, SinkFault, Source};
+use oct_io::{FileBytes, KeptList, MemSink, MemSource, MemStore};
 use oct_session::Status;
+use std::alloc::Global;
+use std::process::Abort;
 use std::test::Fail;
 
-/// Gives its bytes in one read, and then fails.
-#[derive(Drop)]
-struct TornSource {
-    bytes: &'static [u8],
-    reads: u64,
-    faults: u64,
+/// The number of the read, of the write and of the call of the store that fails, from 1 on; with 0
+/// none does.
+#[derive(Clone, Copy)]
+struct Failing {
+    read: u64,
+    write: u64,
+    file: u64,
 }
 
-impl Source for TornSource {
-    ghost left = { λ _. None };
+/// Nothing fails.
+const WHOLE: Failing = Failing {
+    read: 0,
+    write: 0,
+    file: 0,
+};
 
-    ghost faults = { λ s. s.faults };
+/// The list of this number alone.
+fn only(alloc: Global, number: u64) -> Result<KeptList, Fail> {
+    let mut list = KeptList::new(alloc);
+    list.push(number)?;
+    Ok(list)
+}
 
-    fn read(&mut self, buffer: &mut [u8]) -> Result<usize, Failed> {
-        if self.reads > 0 || self.bytes.len() > buffer.len() {
-            self.faults = self.faults.saturating_add(1);
-            return Err(Failed);
+/// The status of the program on its words and an input that is read by so many bytes, and what it
+/// leaves in sink and store. Each write takes one byte.
+fn torn(
+    alloc: Global,
+    words: &[&str],
+    input: &[u8],
+    most: usize,
+    failing: Failing,
+) -> Result<(Status, MemSink, MemStore), Fail>
+    requires read { 0 < most }
+{
+    let words = owned(alloc, words)?;
+    let bytes = FileBytes::from_slice(alloc, input)?;
+    let mut source = MemSource::new(bytes, most, only(alloc, failing.read)?);
+    let mut sink = MemSink::new(alloc, 1, only(alloc, failing.write)?);
+    let mut store = MemStore::new(alloc, only(alloc, failing.file)?);
+    let status = run(alloc, &words, &mut source, &mut sink, &mut store);
+    Ok((status, sink, store))
+}
+
+/// A script with each kind of command that changes the map or names a file.
+const SCRIPT: &[u8] =
+    b"hit 0 0 0\nscan 0 0 0 1 0 0 0 all\np 0 0 0\nend\nsave m\nload m\nsnapshot s\nrestore s\n";
+
+/// Its replies.
+const REPLIES: &[u8] =
+    b"ok\nok hits 1 frees 0\nsaved 169\nloaded 17\nsaved 170\nrestored groups 16\n";
+
+/// How many bytes of the script each reply takes, and how many bytes of replies there are then.
+const REPLIED: [(usize, usize); 6] = [(10, 3), (45, 21), (52, 31), (59, 41), (70, 51), (80, 70)];
+
+/// The file `m` that it saves: the one voxel is occupied.
+const SAVED: &[u8] =
+    b"# Octomap OcTree binary file\n# (feel free to add / change comments, but leave the first line as it is!)\n#\nid OcTree\nsize 17\nres 0.1\ndata\n\x00\xC0\x03\x00\x03\x00\x03\x00\x03\x00\x03\x00\x03\x00\x03\x00\x03\x00\x03\x00\x03\x00\x03\x00\x03\x00\x03\x00\x03\x00\x02\x00";
+
+/// What `inspect` says of it.
+const INSPECTED: &[u8] = b"res 0.1\nsize 17\nrecords 16\nfree 0\noccupied 1\ncanonical yes\n";
+
+/// How many bytes of replies there are once so many bytes of the script were read.
+fn replied(taken: usize) -> usize {
+    let mut length = 0;
+    for (script, replies) in REPLIED {
+        if script <= taken {
+            length = replies;
         }
-        self.reads = 1;
-        let count = self.bytes.len();
-        buffer[..count].copy_from_slice(self.bytes);
-        Ok(count)
     }
+    length
 }
 
-/// Takes one byte, and then fails.
-#[derive(Drop)]
-struct FullSink {
-    taken: Option<u8>,
-    faults: u64,
+/// The file `s` of the snapshot behind the load: the one voxel has the largest value.
+fn kept(alloc: Global) -> Result<FileBytes, Fail> {
+    let mut bytes = FileBytes::from_slice(alloc, b"OCTSNAP2\0\0\0\0\x05\xf5\xe1\0")?;
+    bytes.extend_from_slice(b"\0\0\x03\x52\xff\xff\xfe\x70\xff\xff\xf8\x30\0\0\x0d\xac\0\0\0\0\0")?;
+    bytes.extend_from_slice(&[2, 0, 0, 0, 0, 0, 0, 0])?;
+    bytes.extend_from_slice(&[2; 15])?;
+    bytes.extend_from_slice(&[1, 0, 0, 0x0d, 0xac])?;
+    bytes.extend_from_slice(&[0; 105])?;
+    Ok(bytes)
 }
 
-impl Sink for FullSink {
-    ghost written = { λ _. None };
-
-    ghost faults = { λ s. s.faults };
-
-    ghost shortages = { λ _. 0 };
-
-    fn write(&mut self, piece: &[u8]) -> Result<usize, SinkFault> {
-        match piece {
-            [] => Ok(0),
-            [first, ..] if self.taken.is_none() => {
-                self.taken = Some(*first);
-                Ok(1)
-            }
-            _ => {
-                self.faults = self.faults.saturating_add(1);
-                Err(SinkFault::Failed)
-            }
-        }
-    }
+/// Of two files the first one is there or not, and so is the second.
+fn check_files(
+    rt: &impl Abort,
+    alloc: Global,
+    store: &MemStore,
+    has_saved: bool,
+    has_kept: bool,
+) -> Result<(), Fail> {
+    let kept = kept(alloc)?;
+    assert_eq!(rt; store.file("m"), has_saved.then_some(SAVED));
+    assert_eq!(rt; store.file("s"), has_kept.then_some(kept.as_slice()));
+    Ok(())
 }
 
 #[test]
-fn a_read_that_fails_leaves_the_replies_to_what_was_read(rt: HostRuntime) -> Result<(), Fail> {
-    for (bytes, replies, ends, faults) in [
-        (
-            "hit 0 0 0\nget 0 0 0 16\nget 0",
-            "ok\nknown 850 occupied\n",
-            Status::ReadFault,
-            1,
-        ),
-        (
-            "hit 0 0 0\nhit 0 0 0 x\nquit",
-            "ok\nrefused 29 Syntax line 2 column 11\n",
-            Status::ReadFault,
-            1,
-        ),
-        ("hit 0 0 0\nquit\n", "ok\n", Status::Done, 0),
-    ] {
-        let mut source = TornSource {
-            bytes: bytes.as_bytes(),
-            reads: 0,
-            faults: 0,
+fn a_read_that_fails_leaves_what_was_read_done(rt: HostRuntime) -> Result<(), Fail> {
+    for taken in 0..=81u8 {
+        let fault = Failing {
+            read: u64::from(taken) + 1,
+            ..WHOLE
         };
-        let mut sink = CalmSink::new(rt.alloc(), 100);
-        let status = run(
-            rt.alloc(),
-            &owned(rt.alloc(), &["session", "0.1", "--max-bytes", "1000"])?,
-            &mut source,
-            &mut sink,
-            &mut CalmStore::new(rt.alloc()),
+        let (status, sink, store) = torn(rt.alloc(), &["session", "0.1"], SCRIPT, 1, fault)?;
+        let taken = usize::from(taken);
+        let ends = if taken > 80 {
+            Status::Done
+        } else {
+            Status::ReadFault
+        };
+        assert_eq!(rt; status, ends, "{taken}");
+        assert_eq!(rt;
+            Some(sink.written()),
+            REPLIES.get(..replied(taken)),
+            "{taken}"
         );
-        assert_eq!(rt; status, ends, "at {bytes:?}");
-        assert_eq!(rt; source.faults, faults, "at {bytes:?}");
-        assert_eq!(rt; sink.written(), replies.as_bytes(), "at {bytes:?}");
+        check_files(&rt, rt.alloc(), &store, taken >= 52, taken >= 70)?;
     }
     Ok(())
 }
 
 #[test]
-fn a_read_that_fails_builds_nothing(rt: HostRuntime) -> Result<(), Fail> {
-    let mut source = TornSource {
-        bytes: b"hit 0 0 0\n",
-        reads: 0,
-        faults: 0,
-    };
-    let mut sink = CalmSink::new(rt.alloc(), 100);
-    let status = run(
-        rt.alloc(),
-        &owned(rt.alloc(), &["build", "0.1"])?,
-        &mut source,
-        &mut sink,
-        &mut CalmStore::new(rt.alloc()),
-    );
-    assert_eq!(rt; (status, source.faults), (Status::ReadFault, 1));
-    assert!(rt; sink.written().is_empty());
+fn a_write_that_fails_ends_the_session(rt: HostRuntime) -> Result<(), Fail> {
+    for written in 0..=70u8 {
+        let fault = Failing {
+            write: u64::from(written) + 1,
+            ..WHOLE
+        };
+        let (status, sink, store) = torn(rt.alloc(), &["session", "0.1"], SCRIPT, 7, fault)?;
+        let written = usize::from(written);
+        let ends = if written == 70 {
+            Status::Done
+        } else {
+            Status::WriteFault
+        };
+        assert_eq!(rt; status, ends, "{written}");
+        assert_eq!(rt; Some(sink.written()), REPLIES.get(..written), "{written}");
+        check_files(&rt, rt.alloc(), &store, written >= 21, written >= 41)?;
+    }
     Ok(())
 }
 
-/// Words, and the first byte of what they have written.
-const TASKS: [(&[&str], u8); 4] = [
-    (&["session", "0.1"], b'o'),
-    (&["build", "0.1"], b'#'),
-    (&["gen", "1", "2", "3"], b'#'),
-    (&["drill", "1", "1", "2"], b's'),
+#[test]
+fn a_file_that_fails_ends_the_session(rt: HostRuntime) -> Result<(), Fail> {
+    for (number, ends, length, has_saved, has_kept) in [
+        (1, Status::StoreFault, 21, false, false),
+        (2, Status::StoreFault, 31, true, false),
+        (3, Status::StoreFault, 41, true, false),
+        (4, Status::StoreFault, 51, true, true),
+        (5, Status::Done, 70, true, true),
+    ] {
+        let fault = Failing {
+            file: number,
+            ..WHOLE
+        };
+        let (status, sink, store) = torn(rt.alloc(), &["session", "0.1"], SCRIPT, 7, fault)?;
+        assert_eq!(rt; status, ends, "{number}");
+        assert_eq!(rt; Some(sink.written()), REPLIES.get(..length), "{number}");
+        check_files(&rt, rt.alloc(), &store, has_saved, has_kept)?;
+        let (status, sink, store) = torn(rt.alloc(), &["build", "0.1"], SCRIPT, 7, fault)?;
+        let built = if number == 5 { SAVED } else { b"" };
+        assert_eq!(rt; status, ends, "{number}");
+        assert_eq!(rt; sink.written(), built, "{number}");
+        check_files(&rt, rt.alloc(), &store, has_saved, has_kept)?;
+    }
+    Ok(())
+}
+
+/// Words, an input, and what is written once all of it was read.
+const TASKS: [(&[&str], &[u8], &[u8]); 3] = [
+    (&["convert"], SAVED, SAVED),
+    (&["inspect"], SAVED, INSPECTED),
+    (&["build", "0.1"], SCRIPT, SAVED),
 ];
 
 #[test]
-fn a_write_that_fails_ends_the_task(rt: HostRuntime) -> Result<(), Fail> {
-    for (words, first) in TASKS {
-        let mut source = CalmSource::new(
-            FileBytes::from_slice(rt.alloc(), b"hit 0 0 0\nget 0 0 0 16\n")?,
-            100,
-        );
-        let mut sink = FullSink {
-            taken: None,
-            faults: 0,
-        };
-        let status = run(
-            rt.alloc(),
-            &owned(rt.alloc(), words)?,
-            &mut source,
-            &mut sink,
-            &mut CalmStore::new(rt.alloc()),
-        );
-        assert_eq!(rt; status, Status::WriteFault, "at {words:?}");
-        assert_eq!(rt; (sink.taken, sink.faults), (Some(first), 1), "at {words:?}");
+fn a_read_that_fails_leaves_nothing_written(rt: HostRuntime) -> Result<(), Fail> {
+    for (words, input, whole) in TASKS {
+        for taken in 0..=170u8 {
+            let fault = Failing {
+                read: u64::from(taken) + 1,
+                ..WHOLE
+            };
+            let (status, sink, _) = torn(rt.alloc(), words, input, 1, fault)?;
+            let (ends, text) = if usize::from(taken) > input.len() {
+                (Status::Done, whole)
+            } else {
+                (Status::ReadFault, b"".as_slice())
+            };
+            assert_eq!(rt; status, ends, "{words:?} {taken}");
+            assert_eq!(rt; sink.written(), text, "{words:?} {taken}");
+        }
     }
     Ok(())
+}
+
+#[test]
+fn a_write_that_fails_leaves_a_front(rt: HostRuntime) -> Result<(), Fail> {
+    for (words, input, whole) in TASKS {
+        for written in 0..=169u8 {
+            let fault = Failing {
+                write: u64::from(written) + 1,
+                ..WHOLE
+            };
+            let (status, sink, _) = torn(rt.alloc(), words, input, 100, fault)?;
+            let written = usize::from(written);
+            let ends = if written < whole.len() {
+                Status::WriteFault
+            } else {
+                Status::Done
+            };
+            assert_eq!(rt; status, ends, "{words:?} {written}");
+            let text = whole.get(..written).unwrap_or(whole);
+            assert_eq!(rt; sink.written(), text, "{words:?} {written}");
+        }
+    }
+    Ok(())
+}
+
+#[test]
+fn a_write_that_fails_ends_a_task_without_input(rt: HostRuntime) -> Result<(), Fail> {
+    let tasks: [(&[&str], u8); 2] = [
+        (&["gen", "1", "2", "3"], b'#'),
+        (&["drill", "1", "1", "2"], b's'),
+    ];
+    let fault = Failing { write: 2, ..WHOLE };
+    for (words, first) in tasks {
+        let (status, sink, _) = torn(rt.alloc(), words, b"", 1, fault)?;
+        assert_eq!(rt; status, Status::WriteFault, "{words:?}");
+        assert_eq!(rt; sink.written(), [first].as_slice(), "{words:?}");
+    }
+    Ok(())
+}
+
+/// A session over an input that is read by so many bytes: its status and its replies.
+fn check_session(
+    rt: &impl Abort,
+    alloc: Global,
+    input: &[u8],
+    most: usize,
+    fault: Failing,
+    ends: Status,
+    replies: &[u8],
+) -> Result<(), Fail>
+    requires read { 0 < most }
+{
+    let words = ["session", "0.1", "--max-bytes", "100"];
+    let (status, sink, _) = torn(alloc, &words, input, most, fault)?;
+    assert_eq!(rt; status, ends, "{input:?}");
+    assert_eq!(rt; sink.written(), replies, "{input:?}");
+    Ok(())
+}
+
+#[test]
+fn nothing_is_read_or_done_that_need_not_be(rt: HostRuntime) -> Result<(), Fail> {
+    let second = Failing { read: 2, ..WHOLE };
+    let alloc = rt.alloc();
+    let hit = b"hit 0 0 0\nget 0 0 0 16\n";
+    check_session(&rt, alloc, hit, 12, second, Status::ReadFault, b"ok\n")?;
+    let shut = Failing { write: 1, ..WHOLE };
+    check_session(&rt, alloc, hit, 100, shut, Status::WriteFault, b"")?;
+    let saved = b"hit 0 0 0\nsave m\nclear\nload m\nget 0 0 0 16\nload n\nchanges\n";
+    let first = Failing { file: 1, ..WHOLE };
+    check_session(&rt, alloc, saved, 100, first, Status::StoreFault, b"ok\n")?;
+    check_session(&rt, alloc, b"quit\n", 5, second, Status::Done, b"")?;
+    check_session(
+        &rt,
+        alloc,
+        b"hit 0 0 0\nquit\n",
+        100,
+        second,
+        Status::Done,
+        b"ok\n",
+    )?;
+    let scan = b"scan 0 0 0 1 0 0 0 all\n";
+    check_session(&rt, alloc, scan, 100, second, Status::ReadFault, b"")?;
+    let wrong = b"hit 0 0 0\nhit 0 0 0 x\nquit";
+    let refused = b"ok\nrefused 29 Syntax line 2 column 11\n";
+    check_session(&rt, alloc, wrong, 100, second, Status::ReadFault, refused)?;
+    let full = b"hit 0 0 0\nhit 0 0 0\nhit 0 0 0\nhit 0 0 0\nhit 0 0 0\n\
+        hit 0 0 0\nhit 0 0 0\nhit 0 0 0\nhit 0 0 0\nhit 0 0 0\n";
+    let tens = b"ok\nok\nok\nok\nok\nok\nok\nok\nok\nok\n";
+    check_session(&rt, alloc, full, 100, second, Status::ReadFault, tens)
 }

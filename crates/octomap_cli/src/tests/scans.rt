@@ -6,8 +6,10 @@ use std::test::Fail;
 /// Scans, and what they leave.
 const BEAMS: [Case; 5] = [
     (
-        "scan 0.05 0.05 0.05 1 0 0 0 all\np 0.2 0 0\np 0.4 0 0\nend\ncounts\nget 0 0 0 16\nget 0.1 0 0 16\nget 0.2 0 0 16\nget 0.3 0 0 16\nget 0.4 0 0 16\n",
-        "ok hits 2 frees 3\ngroups 19 nodes 24\nknown -400 free\nknown -400 free\nknown 850 occupied\nknown -400 free\nknown 850 occupied\n",
+        "scan 0.05 0.05 0.05 1 0 0 0 all\np 0.2 0 0\np 0.4 0 0\nend\ncounts\nget 0 0 0 16\n\
+         get 0.1 0 0 16\nget 0.2 0 0 16\nget 0.3 0 0 16\nget 0.4 0 0 16\n",
+        "ok hits 2 frees 3\ngroups 19 nodes 24\nknown -400 free\nknown -400 free\n\
+         known 850 occupied\nknown -400 free\nknown 850 occupied\n",
         Status::Done,
     ),
     // A beam that is cut at its range leaves the voxel of the cut as it was.

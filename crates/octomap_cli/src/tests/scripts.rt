@@ -24,13 +24,17 @@ const VALUES: [Case; 8] = [
         Status::Done,
     ),
     (
-        "hit 0 0 0\nhit 0 0 0\nhit 0 0 0\nhit 0 0 0\nhit 0 0 0\nget 0 0 0 16\nhit 0 0 0\nget 0 0 0 16\nmiss 0 0 0\nget 0 0 0 16\n",
-        "ok\nok\nok\nok\nok\nknown 3500 occupied\nok\nknown 3500 occupied\nok\nknown 3100 occupied\n",
+        "hit 0 0 0\nhit 0 0 0\nhit 0 0 0\nhit 0 0 0\nhit 0 0 0\nget 0 0 0 16\nhit 0 0 0\n\
+         get 0 0 0 16\nmiss 0 0 0\nget 0 0 0 16\n",
+        "ok\nok\nok\nok\nok\nknown 3500 occupied\nok\nknown 3500 occupied\nok\n\
+         known 3100 occupied\n",
         Status::Done,
     ),
     (
-        "miss 0 0 0\nmiss 0 0 0\nmiss 0 0 0\nmiss 0 0 0\nmiss 0 0 0\nmiss 0 0 0\nget 0 0 0 16\nhit 0 0 0\nget 0 0 0 16\nhit 0 0 0\nget 0 0 0 16\nhit 0 0 0\nget 0 0 0 16\n",
-        "ok\nok\nok\nok\nok\nok\nknown -2000 free\nok\nknown -1150 free\nok\nknown -300 free\nok\nknown 550 occupied\n",
+        "miss 0 0 0\nmiss 0 0 0\nmiss 0 0 0\nmiss 0 0 0\nmiss 0 0 0\nmiss 0 0 0\nget 0 0 0 16\n\
+         hit 0 0 0\nget 0 0 0 16\nhit 0 0 0\nget 0 0 0 16\nhit 0 0 0\nget 0 0 0 16\n",
+        "ok\nok\nok\nok\nok\nok\nknown -2000 free\nok\nknown -1150 free\nok\nknown -300 free\n\
+         ok\nknown 550 occupied\n",
         Status::Done,
     ),
     (
@@ -68,8 +72,10 @@ const BLOCKS: [Case; 8] = [
         Status::Refused,
     ),
     (
-        "set 0 0 0 3500\nhit 0 0 0 lazy\nprune\ncounts\nget 4000 0 0 17\nget 0 0 0 17\nget 0 0 0 0\n",
-        "ok\nok\nok\ngroups 16 nodes 17\nrefused 24 Outside point 1\nrefused 25 BadDepth\nrefused 22 Stale\n",
+        "set 0 0 0 3500\nhit 0 0 0 lazy\nprune\ncounts\nget 4000 0 0 17\nget 0 0 0 17\n\
+         get 0 0 0 0\n",
+        "ok\nok\nok\ngroups 16 nodes 17\nrefused 24 Outside point 1\nrefused 25 BadDepth\n\
+         refused 22 Stale\n",
         Status::Refused,
     ),
     (
@@ -78,18 +84,25 @@ const BLOCKS: [Case; 8] = [
         Status::Done,
     ),
     (
-        "miss 0 0 0\nhit 0.1 0 0 lazy\nmaxlik\nget 0 0 0 16\nget 0.2 0 0 16\nget 0 0 0 0\ncounts\nset 0.1 0 0 -1\nmaxlik\nget 0.1 0 0 16\nget 0 0 0 0\n",
-        "ok\nok\nok\nknown -2000 free\nunknown\nknown 3500 occupied\ngroups 16 nodes 18\nok\nok\nknown -2000 free\nknown -2000 free\n",
+        "miss 0 0 0\nhit 0.1 0 0 lazy\nmaxlik\nget 0 0 0 16\nget 0.2 0 0 16\nget 0 0 0 0\n\
+         counts\nset 0.1 0 0 -1\nmaxlik\nget 0.1 0 0 16\nget 0 0 0 0\n",
+        "ok\nok\nok\nknown -2000 free\nunknown\nknown 3500 occupied\ngroups 16 nodes 18\nok\n\
+         ok\nknown -2000 free\nknown -2000 free\n",
         Status::Done,
     ),
     (
-        "hit 0 0 0 lazy\nbox -0.1 -0.1 -0.1 0.05 0 0 set 70\nget 0 0 0 16\nget -0.1 0 -0.1 16\nget 0.1 0 0 16\nget 0 0 0 15\nrefresh\nget 0 0 0 0\ncounts\n",
-        "ok\nok\nknown 70 occupied\nknown 70 occupied\nunknown\nrefused 22 Stale\nok\nknown 70 occupied\ngroups 121 nodes 129\n",
+        "hit 0 0 0 lazy\nbox -0.1 -0.1 -0.1 0.05 0 0 set 70\nget 0 0 0 16\nget -0.1 0 -0.1 16\n\
+         get 0.1 0 0 16\nget 0 0 0 15\nrefresh\nget 0 0 0 0\ncounts\n",
+        "ok\nok\nknown 70 occupied\nknown 70 occupied\nunknown\nrefused 22 Stale\nok\n\
+         known 70 occupied\ngroups 121 nodes 129\n",
         Status::Refused,
     ),
     (
-        "box 0 0 0 4000 0 0 hit\nbox 4000 0 0 4000 0 0 hit\nbox 0 0.1 0 1 0 1 hit\nbox 0.05 0 0 0 0 0 miss\nget 0 0 0 0\nbox -3276.8 -3276.8 -3276.8 3276.75 3276.7 3276.7 add 5\nget 9 9 9 16\ncounts\n",
-        "refused 24 Outside point 2\nrefused 24 Outside point 1\nrefused 26 BadBox\nok\nknown -400 free\nok\nknown 5 occupied\ngroups 16 nodes 129\n",
+        "box 0 0 0 4000 0 0 hit\nbox 4000 0 0 4000 0 0 hit\nbox 0 0.1 0 1 0 1 hit\n\
+         box 0.05 0 0 0 0 0 miss\nget 0 0 0 0\n\
+         box -3276.8 -3276.8 -3276.8 3276.75 3276.7 3276.7 add 5\nget 9 9 9 16\ncounts\n",
+        "refused 24 Outside point 2\nrefused 24 Outside point 1\nrefused 26 BadBox\nok\n\
+         known -400 free\nok\nknown 5 occupied\ngroups 16 nodes 129\n",
         Status::Refused,
     ),
 ];
@@ -107,8 +120,10 @@ const CASTS: [Case; 5] = [
         Status::Done,
     ),
     (
-        "miss 0 0 0\nmiss 0.1 0 0\nhit 0.2 0 0\nhit 0.4 0 0\ncast 0 0 0 0.5 0 0\ncast 0.5 0 0 0 0 0\ncast 0.5 0 0 0 0 0 ignore\ncast 0 0 0 0.1 0 0\n",
-        "ok\nok\nok\nok\ncast hit 32770 32768 32768\ncast unknown 32773 32768 32768\ncast hit 32772 32768 32768\ncast clear\n",
+        "miss 0 0 0\nmiss 0.1 0 0\nhit 0.2 0 0\nhit 0.4 0 0\ncast 0 0 0 0.5 0 0\n\
+         cast 0.5 0 0 0 0 0\ncast 0.5 0 0 0 0 0 ignore\ncast 0 0 0 0.1 0 0\n",
+        "ok\nok\nok\nok\ncast hit 32770 32768 32768\ncast unknown 32773 32768 32768\n\
+         cast hit 32772 32768 32768\ncast clear\n",
         Status::Done,
     ),
     (
@@ -122,8 +137,10 @@ const CASTS: [Case; 5] = [
         Status::Refused,
     ),
     (
-        "scan 0 0 0 1 0 0 0 all\np 0.3 0 0\nend\ncast 0 0 0 1 0 0\nmaxlik\nget 0.2 0 0 16\nclear\ncast 0 0 0 1 0 0\n",
-        "ok hits 1 frees 3\ncast hit 32771 32768 32768\nok\nknown -2000 free\nok\ncast unknown 32768 32768 32768\n",
+        "scan 0 0 0 1 0 0 0 all\np 0.3 0 0\nend\ncast 0 0 0 1 0 0\nmaxlik\nget 0.2 0 0 16\n\
+         clear\ncast 0 0 0 1 0 0\n",
+        "ok hits 1 frees 3\ncast hit 32771 32768 32768\nok\nknown -2000 free\nok\n\
+         cast unknown 32768 32768 32768\n",
         Status::Done,
     ),
 ];
@@ -222,27 +239,35 @@ fn quit_ends_the_session(rt: HostRuntime) -> Result<(), Fail> {
 const REFUSALS: [Case; 6] = [
     (
         "get 0 0\nhit 0 0 x\nhit 4000 0 0\nget 0 0 0 17\n",
-        "refused 29 Syntax line 1 column 8\nrefused 29 Syntax line 2 column 9\nrefused 24 Outside point 1\nrefused 25 BadDepth\n",
+        "refused 29 Syntax line 1 column 8\nrefused 29 Syntax line 2 column 9\n\
+         refused 24 Outside point 1\nrefused 25 BadDepth\n",
         Status::Refused,
     ),
     (
         "changed\nsaves m\nlists 0 0 0 1 1 1 16\ntracks\nget 0 0 0 0016\nget 0 0 0 12345678\n",
-        "refused 29 Syntax line 1 column 1\nrefused 29 Syntax line 2 column 1\nrefused 29 Syntax line 3 column 1\nrefused 29 Syntax line 4 column 1\nunknown\nrefused 29 Syntax line 6 column 11\n",
+        "refused 29 Syntax line 1 column 1\nrefused 29 Syntax line 2 column 1\n\
+         refused 29 Syntax line 3 column 1\nrefused 29 Syntax line 4 column 1\nunknown\n\
+         refused 29 Syntax line 6 column 11\n",
         Status::Refused,
     ),
     (
         "p 1 0 0\n end\nend 1\np\n",
-        "refused 29 Syntax line 1 column 1\nrefused 29 Syntax line 2 column 2\nrefused 29 Syntax line 3 column 1\nrefused 29 Syntax line 4 column 1\n",
+        "refused 29 Syntax line 1 column 1\nrefused 29 Syntax line 2 column 2\n\
+         refused 29 Syntax line 3 column 1\nrefused 29 Syntax line 4 column 1\n",
         Status::Refused,
     ),
     (
         "hit 0 0 0 lazy lazy\ncounts 1\nrefresh lazy\nprune x\nhit 0 0 lazy\n",
-        "refused 29 Syntax line 1 column 16\nrefused 29 Syntax line 2 column 8\nrefused 29 Syntax line 3 column 9\nrefused 29 Syntax line 4 column 7\nrefused 29 Syntax line 5 column 9\n",
+        "refused 29 Syntax line 1 column 16\nrefused 29 Syntax line 2 column 8\n\
+         refused 29 Syntax line 3 column 9\nrefused 29 Syntax line 4 column 7\n\
+         refused 29 Syntax line 5 column 9\n",
         Status::Refused,
     ),
     (
         "hit 0 0 0 x\nhit x 0 0\nhit\nget 0 0 0\nset 0 0 0 1000001\n",
-        "refused 29 Syntax line 1 column 11\nrefused 29 Syntax line 2 column 5\nrefused 29 Syntax line 3 column 4\nrefused 29 Syntax line 4 column 10\nrefused 29 Syntax line 5 column 11\n",
+        "refused 29 Syntax line 1 column 11\nrefused 29 Syntax line 2 column 5\n\
+         refused 29 Syntax line 3 column 4\nrefused 29 Syntax line 4 column 10\n\
+         refused 29 Syntax line 5 column 11\n",
         Status::Refused,
     ),
     (

@@ -1,0 +1,51 @@
+-- How a run may end whose task is over a file, and may be refused by what it asks of that.
+use Rattle.std.specs.Prelude.{◌≡◌, ◌⊎◌, ◌+◌, ℕ, List, Option}
+use Rattle.oct_io.specs.Taken.{HasTaken, IsBegun}
+use Rattle.oct_io.specs.Told.{appended}
+use Rattle.oct_convert.specs.Ending.{IsStopped}
+use Rattle.oct_convert.specs.Input.{IsReadToEnd}
+use Rattle.oct_session.specs.declared.options.Status.{Status}
+use Rattle.oct_session.specs.declared.options.Status.TheVariants.{Done, Refused, Usage, BadFile, TooLong, ReadFault, WriteFault, Memory, StoreFault}
+
+-- what a task writes, and its status
+pub record Reply : Type 0 where
+  pub text : List ℕ
+  pub status : Status
+
+-- a status with which a whole reply to a file is written
+abbrev pub IsSettled : Status → Type 0
+IsSettled status = (status ≡ Done) ⊎ (status ≡ Refused)
+
+-- the whole reply was written, the status is its own, and the input was read to its end
+pub record IsReplied (whole : Reply) (max_bytes : ℕ) (bytes : List ℕ)
+    (left old new : Option (List ℕ)) (status : Status) : Type 0 where
+  pub written : new ≡ appended old whole.text
+  pub same : whole.status ≡ status
+  pub input : IsReadToEnd max_bytes bytes left
+
+-- the input was read to its end, and a prefix of the reply was written
+pub record IsHalted (whole : Reply) (max_bytes : ℕ) (bytes : List ℕ)
+    (left old new : Option (List ℕ)) : Type 0 where
+  pub begun : IsBegun whole.text old new
+  pub input : IsReadToEnd max_bytes bytes left
+
+-- how a task with this reply to an input of at most so many bytes may end: what is left of the
+-- input, and what was written
+abbrev pub EndsOverFile : Reply → ℕ → List ℕ → Option (List ℕ) → Option (List ℕ)
+    → Option (List ℕ) → Status → Type 0
+EndsOverFile whole max_bytes bytes left old new Done =
+    IsReplied whole max_bytes bytes left old new Done
+EndsOverFile whole max_bytes bytes left old new Refused =
+    IsReplied whole max_bytes bytes left old new Refused
+EndsOverFile whole max_bytes bytes left old new Usage = ⊥
+EndsOverFile whole max_bytes bytes left old new BadFile =
+    IsReplied whole max_bytes bytes left old new BadFile
+EndsOverFile whole max_bytes bytes left old new TooLong =
+    (whole.status ≡ TooLong) × (new ≡ old) × HasTaken (max_bytes + 1) bytes left
+EndsOverFile whole max_bytes bytes left old new ReadFault =
+    IsStopped max_bytes bytes left old new
+EndsOverFile whole max_bytes bytes left old new WriteFault =
+    IsHalted whole max_bytes bytes left old new
+EndsOverFile whole max_bytes bytes left old new Memory =
+    IsStopped max_bytes bytes left old new ⊎ IsHalted whole max_bytes bytes left old new
+EndsOverFile whole max_bytes bytes left old new StoreFault = ⊥

@@ -1,0 +1,102 @@
+//! Frontiers of files.
+use super::answer;
+use oct_session::Status;
+use std::test::Fail;
+
+/// One free voxel, that of key 32768 on each axis.
+const ONE: &[u8] = b"# Octomap OcTree binary file\nid OcTree\nsize 17\nres 0.1\ndata\n\
+    \x00\xC0\x03\x00\x03\x00\x03\x00\x03\x00\x03\x00\x03\x00\x03\x00\x03\x00\x03\x00\x03\x00\x03\x00\x03\x00\x03\x00\x03\x00\x01\x00";
+
+/// The lower half of the map on x is free.
+const HALF: &[u8] = b"# Octomap OcTree binary file\nid OcTree\nsize 5\nres 0.1\ndata\n\x11\x11";
+
+/// The words after the command, the file, what is written, and the status.
+type Case = (&'static [&'static str], &'static [u8], &'static str, Status);
+
+const LOW: &str = "-3276.8";
+
+const HIGH: &str = "3276.7";
+
+const CASES: [Case; 11] = [
+    (
+        &["0", "0", "0", "0", "0", "0"],
+        ONE,
+        "frontier 32768 32768 32768\nend 1\n",
+        Status::Done,
+    ),
+    (
+        &["-0.1", "0", "0", "-0.1", "0", "0"],
+        HALF,
+        "frontier 32767 32768 32768\nend 1\n",
+        Status::Done,
+    ),
+    (
+        &["-0.2", "0", "0", "-0.2", "0", "0", "--max-bytes", "1000"],
+        HALF,
+        "end 0\n",
+        Status::Done,
+    ),
+    (
+        &["3276.8", "0", "0", "9999", "0", "0"],
+        ONE,
+        "refused 24 Outside point 1\n",
+        Status::Refused,
+    ),
+    (
+        &["0", "0", "0", "3276.8", "-1", "0"],
+        ONE,
+        "refused 24 Outside point 2\n",
+        Status::Refused,
+    ),
+    (
+        &["0", "0", "0", "0", "0", "-0.1"],
+        ONE,
+        "refused 26 BadBox\n",
+        Status::Refused,
+    ),
+    (
+        &["9999", "0", "0", "0", "0", "0"],
+        b"# Octomap OcTree file\n",
+        "refused 11 FloatTree\n",
+        Status::BadFile,
+    ),
+    (
+        &["0", "0", "0", "0", "0", "0", "--max-bytes", "10"],
+        ONE,
+        "",
+        Status::TooLong,
+    ),
+    (&["0", "0", "0", "0", "0"], ONE, "", Status::Usage),
+    (&["0", "0", "0", "0", "0", "x"], ONE, "", Status::Usage),
+    (
+        &["0", "0", "0", "0", "0", "0", "--max-bytes"],
+        ONE,
+        "",
+        Status::Usage,
+    ),
+];
+
+#[test]
+fn a_frontier_is_listed_or_refused(rt: HostRuntime) -> Result<(), Fail> {
+    for (words, file, text, ends) in CASES {
+        let mut command = Vec::new(rt.alloc());
+        command.push("frontier")?;
+        command.extend_from_slice(words)?;
+        let (status, written) = answer(rt.alloc(), &command, file, 4096, 100)?;
+        assert_eq!(rt; status, ends, "at {words:?}");
+        assert_eq!(rt; written.as_slice(), text.as_bytes(), "at {words:?}");
+    }
+    Ok(())
+}
+
+#[test]
+fn a_face_of_half_the_map_is_too_much(rt: HostRuntime) -> Result<(), Fail> {
+    let command = ["frontier", LOW, LOW, LOW, HIGH, HIGH, HIGH];
+    let (status, written) = answer(rt.alloc(), &command, HALF, 4096, 100)?;
+    assert_eq!(rt; status, Status::Refused);
+    assert_eq!(rt;
+        written.as_slice(),
+        b"refused 37 TooManyFrontiers\n".as_slice()
+    );
+    Ok(())
+}
