@@ -1,7 +1,7 @@
 #!/bin/sh
 # Counts the instructions of commands at voxels of 5 cm, on the map of 5 scans of 500 points (edits:
 # on an empty one), and fails where a limit is exceeded: those of an edit, a query, a block that a
-# list looks at, a cast, and a byte of a snapshot. Needs python3 and valgrind.
+# list looks at, a cast, and a byte of a file and of a snapshot. Needs python3 and valgrind.
 
 set -eu
 
@@ -38,18 +38,25 @@ after_scans() {
 
 : >"$folder/nothing"
 python3 "$here/make_commands.py" edits >"$folder/edits"
-measure edits "$(count nothing)" "$(count edits)" 100000 3400
+measure edits "$(count nothing)" "$(count edits)" 100000 2900
 scans=$(count scans)
 after_scans gets
-measure gets "$scans" "$(count gets)" 20000 2200
+measure gets "$scans" "$(count gets)" 20000 1700
 after_scans list
 measure 'blocks of a list' "$scans" "$(count list)" 1000000 300
 after_scans casts
 measure casts "$scans" "$(count casts)" 1000 3500
 after_scans ignoring
 measure 'casts that ignore unknown voxels' "$scans" "$(count ignoring)" 1000 26000
+# The bytes that the script of this kind saved.
+saved() {
+    awk '/^saved/ { print $2 }' "$folder/$1.replies"
+}
+
+after_scans save
+taken=$(count save)
+measure 'bytes of a file that is saved' "$scans" "$taken" "$(saved save)" 450
 after_scans snapshot
 taken=$(count snapshot)
-bytes=$(awk '/^saved/ { print $2 }' "$folder/snapshot.replies")
-measure 'bytes of a snapshot, written and restored' "$scans" "$taken" "${bytes:-1}" 300
+measure 'bytes of a snapshot, written and restored' "$scans" "$taken" "$(saved snapshot)" 300
 exit "$failed"

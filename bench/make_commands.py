@@ -1,13 +1,14 @@
 #!/usr/bin/env python3
 """Prints the lines of a script that `bench/commands.sh` measures, by kind.
 
-    make_commands.py edits | gets | list | casts | ignoring | snapshot
+    make_commands.py edits | gets | list | casts | ignoring | save | snapshot
 
 edits      100,000 hits and misses at random within 8 m
 gets       20,000 queries at random within 8 m, at depth 16
 list       the blocks of depth 16 in a box of 100 voxels of 5 cm a side
 casts      1,000 casts of 8 m from one place, which unknown voxels stop
 ignoring   the same, where unknown voxels are ignored
+save       the file of the map
 snapshot   a snapshot, written and restored
 """
 import math
@@ -39,6 +40,8 @@ def lines(kind):
         return (f"cast 0 0 0 {beam(chance)}" for _ in range(1_000))
     if kind == "ignoring":
         return (f"cast 0 0 0 {beam(chance)} ignore" for _ in range(1_000))
+    if kind == "save":
+        return ["save m"]
     if kind == "snapshot":
         return ["snapshot m", "restore m"]
     sys.exit(__doc__)

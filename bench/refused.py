@@ -1,0 +1,164 @@
+#!/usr/bin/env python3
+"""Refuses the program one request for memory, the first, the second and so on, each in a run of its
+own, until a run asks for no more than was granted; over a session in which every command stands, and
+over each other task. Each run must end with the whole answer, or out of memory with a beginning of
+it, and with the files that stand after the lines that were answered, or after one line more.
+
+    bench/refused.py [PROGRAM]
+
+Needs Linux and a C compiler (cc), for the few lines that count the requests.
+"""
+import os
+import subprocess
+import sys
+import tempfile
+from pathlib import Path
+
+HERE = Path(__file__).resolve().parent
+PROGRAM = str(Path(sys.argv[1] if len(sys.argv) > 1 else
+                   HERE.parent / "crates/octomap_cli/out/octomap_cli").resolve())
+OUT_OF_MEMORY = 7
+
+REFUSE = r"""
+#include <stdlib.h>
+extern void *__libc_malloc(size_t size);
+extern void *__libc_realloc(void *old, size_t size);
+static long left = -1;
+__attribute__((constructor)) static void begin(void) {
+    const char *number = getenv("OCTOMAP_REFUSE");
+    if (number != NULL) left = atol(number);
+}
+static int refused(void) { return left > 0 && --left == 0; }
+void *malloc(size_t size) { return refused() ? NULL : __libc_malloc(size); }
+void *realloc(void *old, size_t size) { return refused() ? NULL : __libc_realloc(old, size); }
+"""
+
+# A script in which every command stands.
+LINES = """\
+hit 0.05 0.05 0.05
+add 1.05 1.05 1.05 -300 lazy
+get 0.05 0.05 0.05 16
+scan 0 0 0 1 0 0 0 5
+p 3 1 0.5
+p 3 -1 0.5
+p 0 4 1
+p 40 1 1
+end
+save first
+snapshot values
+track
+box 0.5 0.5 0.5 1.5 1.5 1.5 hit
+miss 3.05 1.05 0.55
+changes
+list 0 0 0 1 1 1 16
+refresh
+list -1 -1 -1 5 5 1 12
+cast 0 0 0 6 2 1 ignore
+limit 0 0 0 10 10 10
+scan 0 0 0 1 0 0 0 all 700 -100 lazy
+p 30 20 10
+p -3 2 0
+end
+refresh
+counts
+box -0.7 -0.7 -0.7 0 0 0 add 300
+maxlik
+prune
+changes
+snapshot late
+load first
+get 0 0 0 0
+changes
+restore values
+counts
+save second
+restore late
+untrack
+clear
+load second
+counts
+restore nothing
+"""
+
+
+def units_of(lines):
+    """The units of a script: its lines, those of a scan's block as one."""
+    units, block = [], ""
+    for line in lines.splitlines(keepends=True):
+        block += line
+        if not block.startswith("scan") or line == "end\n":
+            units.append(block)
+            block = ""
+    return units
+
+
+def run(words, data, folder, refuse=None, shim=None):
+    """Status and output of a run, and the files that it left."""
+    world = dict(os.environ)
+    if refuse is not None:
+        world |= {"LD_PRELOAD": shim, "OCTOMAP_REFUSE": str(refuse)}
+    done = subprocess.run([PROGRAM, *words], input=data, cwd=folder, env=world,
+                          stdout=subprocess.PIPE, stderr=subprocess.DEVNULL)
+    files = {file.name: file.read_bytes() for file in Path(folder).iterdir()}
+    return done.returncode, done.stdout, files
+
+
+def fresh(words, data, **how):
+    with tempfile.TemporaryDirectory() as folder:
+        return run(words, data, folder, **how)
+
+
+def marks_of(words, units):
+    """Output and files after each number of units."""
+    return [fresh(words, "".join(units[:k]).encode())[1:] for k in range(len(units) + 1)]
+
+
+def is_due(came, whole, stands):
+    """Whether a run that was refused memory ended as it may."""
+    status, output, files = came
+    if came == whole:
+        return True
+    if status != OUT_OF_MEMORY or not whole[1].startswith(output):
+        return False
+    answered = [k for k, (text, _) in enumerate(stands) if len(text) <= len(output)]
+    return any(files == left for _, left in stands[answered[0]:answered[-1] + 2])
+
+
+def attempt(name, words, data, stands, shim):
+    """Refuses each request in turn; the number of runs that didn't end as they may."""
+    whole, faults, cut = fresh(words, data), 0, 0
+    for number in range(1, 100000):
+        came = fresh(words, data, refuse=number, shim=shim)
+        cut += came[0] == OUT_OF_MEMORY
+        if not is_due(came, whole, stands):
+            faults += 1
+            print(f"{name}: request {number} refused: status {came[0]}, {len(came[1])} bytes, "
+                  f"files {sorted(came[2])}")
+        # As many requests in a row without an effect as no run comes to: the last was passed.
+        if came == whole and fresh(words, data, refuse=number + 1, shim=shim) == whole \
+                and fresh(words, data, refuse=number + 50, shim=shim) == whole:
+            break
+    print(f"{name}: {number - 1} requests refused one by one, {cut} runs ended out of memory")
+    return faults
+
+
+def main():
+    units, script = units_of(LINES), LINES.encode()
+    session, build = ["session", "0.1"], ["build", "0.1"]
+    with tempfile.TemporaryDirectory() as room:
+        shim = f"{room}/refuse.so"
+        subprocess.run(["cc", "-shared", "-fPIC", "-x", "c", "-", "-o", shim], input=REFUSE.encode(),
+                       check=True)
+        faults = attempt("session", session, script, marks_of(session, units), shim)
+        # A build writes nothing before its script has ended, whatever files stand by then.
+        stands = [(b"", left) for _, left in marks_of(session, units)]
+        faults += attempt("build", build, script, stands, shim)
+        whole = fresh(build, script)
+        for words, data in ((["convert"], whole[1]), (["inspect"], whole[1]),
+                            (["gen", "1", "3", "50"], b""), (["drill", "1", "3", "50"], b"")):
+            answer = fresh(words, data)
+            faults += attempt(words[0], words, data, [(b"", {}), (answer[1], {})], shim)
+    sys.exit(1 if faults else 0)
+
+
+main()
