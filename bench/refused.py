@@ -155,6 +155,7 @@ def main():
         faults += attempt("build", build, script, stands, shim)
         whole = fresh(build, script)
         for words, data in ((["convert"], whole[1]), (["inspect"], whole[1]),
+                            (["frontier", *"0 0 0 1 1 1".split()], whole[1]),
                             (["gen", "1", "3", "50"], b""), (["drill", "1", "3", "50"], b"")):
             answer = fresh(words, data)
             faults += attempt(words[0], words, data, [(b"", {}), (answer[1], {})], shim)
