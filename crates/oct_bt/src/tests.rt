@@ -3,6 +3,7 @@ use oct_io::{KeptList, MemSink, SinkFault};
 use oct_odds::OddsModel;
 use oct_tree::OccTree;
 use std::alloc::Global;
+use std::process::Abort;
 use std::test::Fail;
 
 /// The node data of one occupied voxel, at the corner of the middle of the map.
@@ -55,32 +56,39 @@ fn read(alloc: Global, header: &str, data: &[u8], most: usize) -> Result<Said, B
     Ok((file.res().nm(), file.nodes(), bytes, file.is_canonical()))
 }
 
+/// Expects that a file of a header and node data is read so.
+fn expect_read(
+    rt: &impl Abort,
+    alloc: Global,
+    (header, data): (&str, &[u8]),
+    most: usize,
+    want: Result<Said, BtFault>,
+) {
+    assert_eq!(rt; read(alloc, header, data, most), want, "at {header:?}");
+}
+
+/// What is read of a file of one voxel.
+const ONE: Result<Said, BtFault> = Ok((100_000_000, 17, 32, true));
+
 #[test]
 fn reads_one_voxel_however_the_header_is_cut(rt: HostRuntime) {
     for most in [1, 2, 7, 4096] {
-        let want = Ok((100_000_000, 17, 32, true));
-        assert_eq!(rt;
-            read(rt.alloc(), HEADER, ONE_VOXEL, most),
-            want,
-            "at {most}"
-        );
+        expect_read(&rt, rt.alloc(), (HEADER, ONE_VOXEL), most, ONE);
     }
 }
 
+/// Headers of a file of one voxel.
+const FORMS: [&str; 4] = [
+    "# Octomap OcTree binary file\r\nid OcTree\r\nsize 17\r\nres 0.1\r\ndata\r\n",
+    "# Octomap OcTree binary file\n  id\tOcTree  \n size 17 nodes\n\nres 0.10\n\tdata here\n",
+    "# Octomap OcTree binary file\nres 0.1\n# a comment\nsize 5\nsize 017\nid OcTree\ndata\n",
+    "# Octomap OcTree binary files\nid x\nid OcTree\nsize 17\nres 0.1\ndata\n",
+];
+
 #[test]
 fn reads_every_form_of_a_header(rt: HostRuntime) {
-    for header in [
-        "# Octomap OcTree binary file\r\nid OcTree\r\nsize 17\r\nres 0.1\r\ndata\r\n",
-        "# Octomap OcTree binary file\n  id\tOcTree  \n size 17 nodes\n\nres 0.10\n\tdata here\n",
-        "# Octomap OcTree binary file\nres 0.1\n# a comment\nsize 5\nsize 017\nid OcTree\ndata\n",
-        "# Octomap OcTree binary files\nid x\nid OcTree\nsize 17\nres 0.1\ndata\n",
-    ] {
-        let want = Ok((100_000_000, 17, 32, true));
-        assert_eq!(rt;
-            read(rt.alloc(), header, ONE_VOXEL, 16),
-            want,
-            "at {header:?}"
-        );
+    for header in FORMS {
+        expect_read(&rt, rt.alloc(), (header, ONE_VOXEL), 16, ONE);
     }
 }
 
@@ -90,255 +98,257 @@ fn reads_eight_voxels_in_canonical_and_in_longer_data(rt: HostRuntime) {
         # (feel free to add / change comments, but leave the first line as it is!)\n\
         #\nid OcTree\nsize 16\nres 0.1\ndata\n";
     let want = Ok((100_000_000, 16, 30, true));
-    assert_eq!(rt; read(rt.alloc(), header, ONE_BLOCK, 100), want);
+    expect_read(&rt, rt.alloc(), (header, ONE_BLOCK), 100, want);
     let header = "# Octomap OcTree binary file\r\n# a comment\r\nauthor x\r\nsize 24\r\n\
         res 0.1\r\nid OcTree\r\ndata\r\n";
     let want = Ok((100_000_000, 24, 32, false));
-    assert_eq!(rt; read(rt.alloc(), header, EIGHT_VOXELS, 100), want);
+    expect_read(&rt, rt.alloc(), (header, EIGHT_VOXELS), 100, want);
+}
+
+/// The fault of a file whose first line is followed by so many pairs of bytes, and by no other line.
+fn fault_behind(alloc: Global, pairs: u32) -> Option<BtFault> {
+    let mut reader = Reader::new(alloc);
+    if let Err(fault) = reader.feed(b"# Octomap OcTree binary file\n") {
+        return Some(fault.into());
+    }
+    for _ in 0..pairs {
+        if let Err(fault) = reader.feed(b"##") {
+            return Some(fault.into());
+        }
+    }
+    reader.finish().err()
 }
 
 #[test]
 fn looks_for_a_header_in_65536_bytes(rt: HostRuntime) {
-    for (pairs, want) in [
-        (
-            32_753,
-            BtFault::MissingField {
-                word: HeaderWord::Data,
-            },
-        ),
-        (32_754, BtFault::HeaderTooLong),
-    ] {
-        let mut reader = Reader::new(rt.alloc());
-        assert!(rt; reader.feed(b"# Octomap OcTree binary file\n").is_ok());
-        for _ in 0..pairs {
-            assert!(rt; reader.feed(b"##").is_ok());
-        }
-        assert_eq!(rt; reader.finish().err(), Some(want), "at {pairs}");
-    }
+    let word = HeaderWord::Data;
+    let missing = BtFault::MissingField { word };
+    assert_eq!(rt; fault_behind(rt.alloc(), 32_753), Some(missing));
+    assert_eq!(rt;
+        fault_behind(rt.alloc(), 32_754),
+        Some(BtFault::HeaderTooLong)
+    );
 }
+
+/// Headers, and their first faults.
+const HEADER_FAULTS: [(&str, BtFault); 13] = [
+    ("", BtFault::NotOctomap),
+    ("# Octomap OcTree binary fil\n", BtFault::NotOctomap),
+    ("# Octomap OcTree file\nid OcTree\n", BtFault::FloatTree),
+    ("# Octomap OcTree files\n", BtFault::FloatTree),
+    (
+        "# Octomap OcTree binary file\nid OcTree\nsize 17\nres 0.1\ndata",
+        BtFault::MissingField {
+            word: HeaderWord::Data,
+        },
+    ),
+    (
+        "# Octomap OcTree binary file\nsize x\ndata\n",
+        BtFault::MissingField {
+            word: HeaderWord::Id,
+        },
+    ),
+    (
+        "# Octomap OcTree binary file\nid\nsize x\ndata\n",
+        BtFault::WrongId,
+    ),
+    (
+        "# Octomap OcTree binary file\nid OcTree\nid ColorOcTree\nsize x\ndata\n",
+        BtFault::WrongId,
+    ),
+    (
+        "# Octomap OcTree binary file\nid OcTree\nsize x\ndata\n",
+        BtFault::MissingField {
+            word: HeaderWord::Res,
+        },
+    ),
+    (
+        "# Octomap OcTree binary file\nid OcTree\nsize x\nres 1e-05\ndata\n",
+        BtFault::BadField {
+            word: HeaderWord::Res,
+        },
+    ),
+    (
+        "# Octomap OcTree binary file\nid OcTree\nres 0.1\ndata\nsize 17\n",
+        BtFault::MissingField {
+            word: HeaderWord::Size,
+        },
+    ),
+    (
+        "# Octomap OcTree binary file\nid OcTree\nres 0.1\nsize -1\ndata\n",
+        BtFault::BadField {
+            word: HeaderWord::Size,
+        },
+    ),
+    (
+        "# Octomap OcTree binary file\nid OcTree\nres 0.1\nsize\ndata\n",
+        BtFault::BadField {
+            word: HeaderWord::Size,
+        },
+    ),
+];
 
 #[test]
 fn names_the_first_fault_of_a_header(rt: HostRuntime) {
-    for (header, want) in [
-        ("", BtFault::NotOctomap),
-        ("# Octomap OcTree binary fil\n", BtFault::NotOctomap),
-        ("# Octomap OcTree file\nid OcTree\n", BtFault::FloatTree),
-        ("# Octomap OcTree files\n", BtFault::FloatTree),
-        (
-            "# Octomap OcTree binary file\nid OcTree\nsize 17\nres 0.1\ndata",
-            BtFault::MissingField {
-                word: HeaderWord::Data,
-            },
-        ),
-        (
-            "# Octomap OcTree binary file\nsize x\ndata\n",
-            BtFault::MissingField {
-                word: HeaderWord::Id,
-            },
-        ),
-        (
-            "# Octomap OcTree binary file\nid\nsize x\ndata\n",
-            BtFault::WrongId,
-        ),
-        (
-            "# Octomap OcTree binary file\nid OcTree\nid ColorOcTree\nsize x\ndata\n",
-            BtFault::WrongId,
-        ),
-        (
-            "# Octomap OcTree binary file\nid OcTree\nsize x\ndata\n",
-            BtFault::MissingField {
-                word: HeaderWord::Res,
-            },
-        ),
-        (
-            "# Octomap OcTree binary file\nid OcTree\nsize x\nres 1e-05\ndata\n",
-            BtFault::BadField {
-                word: HeaderWord::Res,
-            },
-        ),
-        (
-            "# Octomap OcTree binary file\nid OcTree\nres 0.1\ndata\nsize 17\n",
-            BtFault::MissingField {
-                word: HeaderWord::Size,
-            },
-        ),
-        (
-            "# Octomap OcTree binary file\nid OcTree\nres 0.1\nsize -1\ndata\n",
-            BtFault::BadField {
-                word: HeaderWord::Size,
-            },
-        ),
-        (
-            "# Octomap OcTree binary file\nid OcTree\nres 0.1\nsize\ndata\n",
-            BtFault::BadField {
-                word: HeaderWord::Size,
-            },
-        ),
-    ] {
-        assert_eq!(rt;
-            read(rt.alloc(), header, &[], 5),
-            Err(want),
-            "at {header:?}"
-        );
+    for (header, want) in HEADER_FAULTS {
+        expect_read(&rt, rt.alloc(), (header, &[]), 5, Err(want));
     }
 }
+
+/// Node data behind the header of 60 bytes, and its first faults.
+const DATA_FAULTS: [(&[u8], BtFault); 5] = [
+    (TOO_DEEP, BtFault::TooDeep { at: 90 }),
+    (b"", BtFault::Truncated { at: 60 }),
+    (b"\x00\x00\x00", BtFault::TrailingBytes { at: 62 }),
+    (b"\xAA\xAA", BtFault::SizeMismatch { said: 17, found: 9 }),
+    (b"\x00\x00", BtFault::SizeMismatch { said: 17, found: 1 }),
+];
 
 #[test]
 fn names_the_first_fault_of_node_data(rt: HostRuntime) {
-    let (short, _) = ONE_VOXEL.split_at(31);
-    for (data, want) in [
-        (TOO_DEEP, BtFault::TooDeep { at: 90 }),
-        (short, BtFault::Truncated { at: 91 }),
-        (b"".as_slice(), BtFault::Truncated { at: 60 }),
-        (
-            b"\x00\x00\x00".as_slice(),
-            BtFault::TrailingBytes { at: 62 },
-        ),
-        (
-            b"\xAA\xAA".as_slice(),
-            BtFault::SizeMismatch { said: 17, found: 9 },
-        ),
-        (
-            b"\x00\x00".as_slice(),
-            BtFault::SizeMismatch { said: 17, found: 1 },
-        ),
-    ] {
-        assert_eq!(rt; read(rt.alloc(), HEADER, data, 60), Err(want), "at {want}");
+    for (data, want) in DATA_FAULTS {
+        expect_read(&rt, rt.alloc(), (HEADER, data), 60, Err(want));
     }
+    let (short, _) = ONE_VOXEL.split_at(31);
+    let ends = BtFault::Truncated { at: 91 };
+    expect_read(&rt, rt.alloc(), (HEADER, short), 60, Err(ends));
 }
+
+/// Nodes, bytes of records, whether they are canonical, and the free and the occupied voxels.
+type Counted = (u64, usize, bool, u64, u64);
+
+/// Reads a file whose header has this line of a size.
+fn count(alloc: Global, size: &str, data: &[u8]) -> Result<Counted, BtFault> {
+    let mut reader = Reader::new(alloc);
+    reader.feed(b"# Octomap OcTree binary file\nid OcTree\n")?;
+    reader.feed(size.as_bytes())?;
+    reader.feed(b"\nres 0.1\ndata\n")?;
+    reader.feed(data)?;
+    let file = reader.finish()?;
+    let bytes = file.codes().as_slice().len();
+    let voxels = file.voxels();
+    Ok((
+        file.nodes(),
+        bytes,
+        file.is_canonical(),
+        voxels.free,
+        voxels.occupied,
+    ))
+}
+
+/// Lines of a size, node data, and what is read of them.
+const RECORDS: [(&str, &[u8], Result<Counted, BtFault>); 6] = [
+    ("size 0", b"", Ok((0, 0, true, 0, 0))),
+    ("size 1", b"\x00\x00", Ok((1, 2, false, 0, 0))),
+    ("size 9", b"\xAA\xAA", Ok((9, 2, true, 0, 1 << 48))),
+    ("size 9", b"\x55\x55", Ok((9, 2, true, 1 << 48, 0))),
+    ("size 4", b"\x06\x40", Ok((4, 2, true, 2 << 45, 1 << 45))),
+    (
+        "size 0",
+        b"\x00\x00",
+        Err(BtFault::TrailingBytes { at: 59 }),
+    ),
+];
 
 #[test]
 fn reads_data_of_one_record_and_of_none(rt: HostRuntime) {
-    for (size, data, want) in [
-        ("size 0", b"".as_slice(), Ok((0, 0, true, 0, 0))),
-        ("size 1", b"\x00\x00".as_slice(), Ok((1, 2, false, 0, 0))),
-        (
-            "size 9",
-            b"\xAA\xAA".as_slice(),
-            Ok((9, 2, true, 0, 1 << 48)),
-        ),
-        (
-            "size 9",
-            b"\x55\x55".as_slice(),
-            Ok((9, 2, true, 1 << 48, 0)),
-        ),
-        (
-            "size 4",
-            b"\x06\x40".as_slice(),
-            Ok((4, 2, true, 2 << 45, 1 << 45)),
-        ),
-        (
-            "size 0",
-            b"\x00\x00".as_slice(),
-            Err(BtFault::TrailingBytes { at: 59 }),
-        ),
-    ] {
-        let mut reader = Reader::new(rt.alloc());
-        let mut fault = None;
-        for part in [
-            "# Octomap OcTree binary file\nid OcTree\n",
-            size,
-            "\nres 0.1\ndata\n",
-        ] {
-            if reader.feed(part.as_bytes()).is_err() {
-                fault = Some(BtFault::Memory);
-            }
-        }
-        assert_eq!(rt; fault, None);
-        assert!(rt; reader.feed(data).is_ok());
-        let got = match reader.finish() {
-            Ok(file) => Ok((
-                file.nodes(),
-                file.codes().as_slice().len(),
-                file.is_canonical(),
-                file.voxels().free,
-                file.voxels().occupied,
-            )),
-            Err(fault) => Err(fault),
-        };
-        assert_eq!(rt; got, want, "at {size}");
+    for (size, data, want) in RECORDS {
+        assert_eq!(rt; count(rt.alloc(), size, data), want, "at {size}");
     }
 }
 
+/// Faults, and their texts.
+const TEXTS: [(BtFault, &str); 5] = [
+    (
+        BtFault::MissingField {
+            word: HeaderWord::Data,
+        },
+        "the header has no line data",
+    ),
+    (
+        BtFault::BadField {
+            word: HeaderWord::Res,
+        },
+        "the value of res isn't of its form",
+    ),
+    (
+        BtFault::TooDeep { at: 90 },
+        "the record at byte 90 is too deep",
+    ),
+    (
+        BtFault::SizeMismatch {
+            said: 18,
+            found: 17,
+        },
+        "the header says 18 nodes, and there are 17",
+    ),
+    (BtFault::Memory, "out of memory"),
+];
+
 #[test]
-fn prints_the_faults(rt: HostRuntime) {
-    for (fault, want) in [
-        (
-            BtFault::MissingField {
-                word: HeaderWord::Data,
-            },
-            "the header has no line data",
-        ),
-        (
-            BtFault::BadField {
-                word: HeaderWord::Res,
-            },
-            "the value of res isn't of its form",
-        ),
-        (
-            BtFault::TooDeep { at: 90 },
-            "the record at byte 90 is too deep",
-        ),
-        (
-            BtFault::SizeMismatch {
-                said: 18,
-                found: 17,
-            },
-            "the header says 18 nodes, and there are 17",
-        ),
-        (BtFault::Memory, "out of memory"),
-    ] {
-        let text = format!(in rt.alloc(); "{fault}");
-        assert!(rt; text.is_ok_and(|text| text.as_str() == want), "at {want}");
+fn prints_the_faults(rt: HostRuntime) -> Result<(), Fail> {
+    for (fault, want) in TEXTS {
+        let text = format!(in rt.alloc(); "{fault}")?;
+        assert_eq!(rt; text.as_str(), want);
     }
+    Ok(())
+}
+
+/// Faults, and their numbers, names and fields.
+const NUMBERS: [(BtFault, &str); 12] = [
+    (BtFault::NotOctomap, "10 NotOctomap"),
+    (BtFault::FloatTree, "11 FloatTree"),
+    (BtFault::WrongId, "12 WrongId"),
+    (
+        BtFault::MissingField {
+            word: HeaderWord::Id,
+        },
+        "13 MissingField id",
+    ),
+    (
+        BtFault::MissingField {
+            word: HeaderWord::Data,
+        },
+        "13 MissingField data",
+    ),
+    (
+        BtFault::BadField {
+            word: HeaderWord::Res,
+        },
+        "14 BadField res",
+    ),
+    (
+        BtFault::BadField {
+            word: HeaderWord::Size,
+        },
+        "14 BadField size",
+    ),
+    (BtFault::HeaderTooLong, "15 HeaderTooLong"),
+    (BtFault::TooDeep { at: 90 }, "16 TooDeep at 90"),
+    (BtFault::Truncated { at: 136 }, "17 Truncated at 136"),
+    (BtFault::TrailingBytes { at: 59 }, "18 TrailingBytes at 59"),
+    (
+        BtFault::SizeMismatch {
+            said: 18,
+            found: 17,
+        },
+        "19 SizeMismatch said 18 found 17",
+    ),
+];
+
+/// Expects that a fault is written so behind what stood there.
+fn expect_number(rt: &impl Abort, alloc: Global, fault: BtFault, want: &str) -> Result<(), Fail> {
+    let mut out = Vec::from_slice(alloc, b"refused ")?;
+    push_fault(&mut out, fault)?;
+    let (_, text) = out.as_slice().split_at(8);
+    assert_eq!(rt; text, want.as_bytes());
+    Ok(())
 }
 
 #[test]
 fn names_each_fault_with_its_number_and_fields(rt: HostRuntime) -> Result<(), Fail> {
-    for (fault, want) in [
-        (BtFault::NotOctomap, "10 NotOctomap"),
-        (BtFault::FloatTree, "11 FloatTree"),
-        (BtFault::WrongId, "12 WrongId"),
-        (
-            BtFault::MissingField {
-                word: HeaderWord::Id,
-            },
-            "13 MissingField id",
-        ),
-        (
-            BtFault::MissingField {
-                word: HeaderWord::Data,
-            },
-            "13 MissingField data",
-        ),
-        (
-            BtFault::BadField {
-                word: HeaderWord::Res,
-            },
-            "14 BadField res",
-        ),
-        (
-            BtFault::BadField {
-                word: HeaderWord::Size,
-            },
-            "14 BadField size",
-        ),
-        (BtFault::HeaderTooLong, "15 HeaderTooLong"),
-        (BtFault::TooDeep { at: 90 }, "16 TooDeep at 90"),
-        (BtFault::Truncated { at: 136 }, "17 Truncated at 136"),
-        (BtFault::TrailingBytes { at: 59 }, "18 TrailingBytes at 59"),
-        (
-            BtFault::SizeMismatch {
-                said: 18,
-                found: 17,
-            },
-            "19 SizeMismatch said 18 found 17",
-        ),
-    ] {
-        let mut out = Vec::from_slice(rt.alloc(), b"refused ")?;
-        push_fault(&mut out, fault)?;
-        let (_, text) = out.as_slice().split_at(8);
-        assert_eq!(rt; text, want.as_bytes(), "at {want}");
+    for (fault, want) in NUMBERS {
+        expect_number(&rt, rt.alloc(), fault, want)?;
     }
     let mut out = Vec::from_slice(rt.alloc(), b"refused ")?;
     assert!(rt; push_fault(&mut out, BtFault::Memory).is_err());
@@ -361,21 +371,37 @@ fn failing(alloc: Global, number: u64) -> Result<MemSink, Fail> {
     Ok(MemSink::new(alloc, 4096, fails))
 }
 
-#[test]
-fn hands_a_sink_whole_pieces(rt: HostRuntime) -> Result<(), Fail> {
-    let Ok(file) = file_of(rt.alloc(), HEADER, ONE_VOXEL) else {
-        return Ok(());
-    };
-    let mut tree = OccTree::new(rt.alloc(), file.res(), OddsModel::default());
+/// The tree of the file of one voxel.
+fn one_voxel(rt: &impl Abort, alloc: Global) -> Result<OccTree, Fail> {
+    let file = file_of(alloc, HEADER, ONE_VOXEL)?;
     assert_eq!(rt; file.records(), 16);
+    let mut tree = OccTree::new(alloc, file.res(), OddsModel::default());
     tree.reserve(16)?;
     fill(&file, &mut tree);
+    Ok(tree)
+}
+
+/// Expects that a write of the file of a tree is answered so, and that the sink then has these bytes
+/// behind a header of 137.
+fn expect_written(
+    rt: &impl Abort,
+    sink: &mut MemSink,
+    tree: &OccTree,
+    want: Result<u64, SinkFault>,
+    data: Option<&[u8]>,
+) {
+    assert_eq!(rt; write(tree, sink), want);
+    assert_eq!(rt; sink.written().get(137..), data);
+}
+
+#[test]
+fn hands_a_sink_whole_pieces(rt: HostRuntime) -> Result<(), Fail> {
+    let tree = one_voxel(&rt, rt.alloc())?;
     // The header and all records come in one write: the second one would fail.
     let mut sink = failing(rt.alloc(), 2)?;
-    assert_eq!(rt; write(&tree, &mut sink), Ok(169));
-    assert_eq!(rt; sink.written().get(137..), Some(ONE_VOXEL));
+    expect_written(&rt, &mut sink, &tree, Ok(169), Some(ONE_VOXEL));
     let mut sink = failing(rt.alloc(), 1)?;
-    assert_eq!(rt; write(&tree, &mut sink), Err(SinkFault::Failed));
-    assert_eq!(rt; sink.written(), [].as_slice());
+    expect_written(&rt, &mut sink, &tree, Err(SinkFault::Failed), None);
+    assert!(rt; sink.written().is_empty());
     Ok(())
 }

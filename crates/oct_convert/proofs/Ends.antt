@@ -95,11 +95,6 @@ pub sends_piece : {T : Type 0} (r : Result T SinkFault) (text piece : List ℕ) 
 sends_piece (Ok t) text piece old new is done part = done ∙ ap (appended old) is
 sends_piece (Err fault) text piece old new is done (n, few, written) = begun_first text n old new (written ∙ ap (λ x. appended old (take n x)) is)
 
--- an error before anything was written
-pub sends_none : {T : Type 0} (r : Result T SinkFault) (text : List ℕ) (old new : Option (List ℕ)) → IsErr r → new ≡ old → Sends text old new r
-sends_none (Ok t) text old new err same = absurd (false≢true err)
-sends_none (Err fault) text old new err same = begun_none text old new same
-
 -- an error after the first bytes of a text
 pub sends_part : {T : Type 0} (r : Result T SinkFault) (text piece : List ℕ) (n : ℕ) (old new : Option (List ℕ)) → IsErr r → piece ≡ text
     → new ≡ appended old (take n piece) → Sends text old new r

@@ -1,10 +1,10 @@
 -- What is read of a file, piece by piece, and how the reading ends.
 use Rattle.std.specs.Prelude.{◌⊎◌}
-use Rattle.std.proofs.Common.{◌≡◌, ℕ, ◌+◌, ◌-◌, ◌<◌, ◌≤◌, List, [], ◌++◌, length, take, drop, Option, Some, None, IfSome, Result, Ok, Err, IsErrAnd, inl, inr, refl, sym, ◌∙◌, ap, subst, arith, length-append}
+use Rattle.std.proofs.Common.{◌≡◌, ℕ, ◌+◌, ◌-◌, ◌<◌, ◌≤◌, List, [], ◌++◌, length, take, drop, Option, Some, None, IfSome, Result, Ok, Err, IsErrAnd, inl, inr, sym, ◌∙◌, ap, subst, arith, length-append}
 use Rattle.std.proofs.lemmas.List.{length-take-le}
 use Rattle.oct_io.specs.Told.{dropped}
 use Rattle.oct_io.specs.Taken.{HasTaken, before}
-use Rattle.oct_io.proofs.Taking.{before_none, before_piece, before_twice, before_taken, before_all}
+use Rattle.oct_io.proofs.Taking.{before_piece, before_twice, before_taken, before_all}
 use Rattle.oct_bt.specs.declared.fault.BtFault.{BtFault}
 use Rattle.oct_bt.specs.declared.fault.BtFault.TheVariants as fault
 use Rattle.oct_bt.specs.File.{FileRead, reading}
@@ -14,26 +14,11 @@ use Rattle.oct_convert.specs.declared.input.NoFile.{NoFile}
 use Rattle.oct_convert.specs.declared.input.NoFile.TheVariants.{ReadFault, Memory}
 use Rattle.oct_convert.specs.Input.{MayRead, IsReadToEnd, HasTakenAtMost, by_fault, HasFed}
 
--- a reader that was fed nothing
-pub fed_none : (reader : FileProgress) (left : Option (List ℕ)) → StandsFor reader [] → HasFed reader 0 left left
-fed_none reader left fresh = record { bytes = []; count = refl; stands = fresh; input = before_none left }
-
 -- one read, whose piece was taken after what the reader was fed
 pub record HasRead (piece : List ℕ) (n : ℕ) (old new : Option (List ℕ)) : Type 0 where
   pub count : length piece ≡ n
   pub moved : new ≡ dropped n old
   pub same : IfSome old (λ left. piece ≡ take n left)
-
--- and was fed to it
-pub fed_more : (old_reader new_reader : FileProgress) (taken n : ℕ) (first old new : Option (List ℕ)) (piece : List ℕ)
-    → HasRead piece n old new → ((text : List ℕ) → StandsFor old_reader text → StandsFor new_reader (text ++ piece))
-    → HasFed old_reader taken first old → HasFed new_reader (taken + n) first new
-fed_more old_reader new_reader taken n first old new piece read feeds fed = record {
-  bytes = fed.bytes ++ piece;
-  count = (let long = length-append fed.bytes piece in let a = fed.count in let b = read.count in omega (arith, long, a, b));
-  stands = feeds fed.bytes fed.stands;
-  input = fed.input ∙ ap (before fed.bytes) (before_piece old new piece n read.moved read.same) ∙ before_twice fed.bytes piece new;
-}
 
 -- a read that gave nothing, where nothing is left
 pub record HasEnded (n : ℕ) (old new : Option (List ℕ)) : Type 0 where
@@ -167,9 +152,3 @@ pub stopped_in_piece : (r : Result FileRead NoFile) (reader : FileProgress) (tak
 stopped_in_piece (Ok file) reader taken n most first old new piece is few within read fed = absurd is
 stopped_in_piece (Err stop) reader taken n most first old new piece is few within read fed =
     cut_as stop first new most (inl is) (cut_more reader taken n most first old new piece few within read fed)
-
-pub stopped_at_read : (r : Result FileRead NoFile) (reader : FileProgress) (taken most : ℕ) (first old left : Option (List ℕ))
-    → IsErrAnd r (λ stop. stop ≡ ReadFault) → taken ≤ most → left ≡ old → HasFed reader taken first old → IfSome first (λ bytes. MayRead most bytes left r)
-stopped_at_read (Ok file) reader taken most first old left is few same fed = absurd is
-stopped_at_read (Err stop) reader taken most first old left is few same fed =
-    cut_as stop first left most (inr is) (cut_off reader taken most first old left few same fed)

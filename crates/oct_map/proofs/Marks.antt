@@ -1,5 +1,5 @@
 -- What keeps the mark of a map, and what is noted.
-use Rattle.std.proofs.Common.{◌≡◌, ℕ, ◌+◌, ◌≤◌, List, [], ◌∷◌, length, Bool, true, false, Option, Some, None, Ok, Err, inl, inr, refl, sym, ap, subst, ◌∙◌, arith}
+use Rattle.std.proofs.Common.{◌≡◌, ℕ, ◌+◌, ◌≤◌, List, [], ◌∷◌, ◌++◌, length, Bool, true, false, Option, Some, None, Ok, Err, inl, inr, refl, sym, ap, subst, ◌∙◌, append-nil, arith}
 use Rattle.std.specs.Prelude.{◌⊎◌, ⊤, max, is_some, IsSome, IsOk, Result, All, Contains}
 use Rattle.std.specs.Option.{option_or, unwrap_or}
 use Rattle.std.proofs.lemmas.Bool.{false≢true}
@@ -139,11 +139,18 @@ marked_few now P n None b h = rw h (omega arith, refl)
 marked_few now P n (Some old) b (held, is, h, used, kept) =
     rw is (omega (arith, used, kept), kept)
 
+-- the notes that there were stay, with more behind them
+marked_added : (now : Classes) (P : Voxel → Type 0) (n : ℕ) (a b : Option Held)
+    → HasMarked now P n a b → (added : List Note) × (notes_of b ≡ notes_of a ++ added)
+marked_added now P n None b h = ([], ap notes_of h)
+marked_added now P n (Some old) b (held, is, h, used, kept) = (h.added, ap notes_of is ∙ h.split)
+
 -- room is made and these voxels are noted
 pub noted_few : (now : Classes) (P : Voxel → Type 0) (n : ℕ) (a m b : Option Held) (events : Events)
-    → IsSameNoted a m → ReservesFewNotes a m n → HasMarked now P n m b
+    → IsSameNoted a m → ReservesFewNotes a m n → (HasRoomForNotes a n → m ≡ a)
+    → HasMarked now P n m b
     → ((k : Voxel) → IsInMap k → P k → IsSome (events k)) → NotesFew a b events n
-noted_few now P n a m b events same few h asked = record {
+noted_few now P n a m b events same few enough h asked = record {
   only = λ k v noted. elim (marked_only now P n m b h k noted) [
     | inl before ↦ inl (subst IsSome (same.first k) before)
     | inr later ↦ inr (asked k v later)
@@ -151,15 +158,20 @@ noted_few now P n a m b events same few h asked = record {
   few = (let more = (marked_few now P n m b h).0 in let fewer = same.few in omega (arith, more, fewer));
   room = subst (λ r. r ≤ max (note_room a) (length (notes_of a) + max n (length (notes_of a))))
       (sym (marked_few now P n m b h).1) few;
+  enough = λ there. (marked_few now P n m b h).1 ∙ ap note_room (enough there);
+  kept = λ there. subst (λ x. (added : List Note) × (notes_of b ≡ notes_of x ++ added)) (enough there)
+      (marked_added now P n m b h);
 }
 
 -- room is made, and nothing is noted
 pub kept_few : (n : ℕ) (a b : Option Held) (events : Events) → IsSameNoted a b
-    → ReservesFewNotes a b n → NotesFew a b events n
-kept_few n a b events same few = record {
+    → ReservesFewNotes a b n → (HasRoomForNotes a n → b ≡ a) → NotesFew a b events n
+kept_few n a b events same few enough = record {
   only = λ k v noted. inl (subst IsSome (same.first k) noted);
   few = (let fewer = same.few in omega (arith, fewer));
   room = few;
+  enough = λ there. ap note_room (enough there);
+  kept = λ there. ([], ap notes_of (enough there) ∙ sym (append-nil (notes_of a)));
 }
 
 -- nothing is noted
@@ -168,6 +180,7 @@ same_few n a b events e =
     kept_few n a b events (same_noted a b e)
     (subst (λ x. ReservesFewNotes a x n) (sym e)
     (le-max_left (note_room a) (length (notes_of a) + max n (length (notes_of a)))))
+    (λ _. e)
 
 -- room was made in a map
 pub readied_mark : (m u : Map) (need : ℕ) → IsReadied m u need → u.mark ≡ m.mark → KeepsMark m u

@@ -1,6 +1,6 @@
 -- The notes of a map's mark, where one stands: which voxels are noted, and for how many there is
 -- room.
-use Rattle.std.specs.Prelude.{◌≡◌, ℕ, ◌+◌, ◌≤◌, max, List, [], length, ◌⊎◌, Option, Some, None, IsSome, IfSome, is_some, option_map}
+use Rattle.std.specs.Prelude.{◌≡◌, ℕ, ◌+◌, ◌≤◌, ◌++◌, max, List, [], length, ◌⊎◌, Option, Some, None, IsSome, IfSome, is_some, option_map}
 use Rattle.oct_key.specs.Voxel.{Voxel, IsInMap}
 use Rattle.oct_values.specs.Classes.{Classes}
 use Rattle.oct_values.specs.Events.{Events}
@@ -54,8 +54,11 @@ HasMarked now asked n (Some old) new =
 
 -- What a call does to the notes of a mark, which has these events, for so many voxels: it notes no
 -- voxel without an event, by no more notes than these, and makes room for no more than these, or for
--- as many as there are.
+-- as many as there are. Where there is room already, none is made, and the notes that there are
+-- stay as they are.
 pub record NotesFew (a b : Option Held) (events : Events) (n : ℕ) : Type 0 where
   pub only : (k : Voxel) → IsInMap k → IsNoted b k → IsNoted a k ⊎ IsSome (events k)
   pub few : length (notes_of b) ≤ length (notes_of a) + n
   pub room : ReservesFewNotes a b n
+  pub enough : HasRoomForNotes a n → note_room b ≡ note_room a
+  pub kept : HasRoomForNotes a n → (added : List Note) × (notes_of b ≡ notes_of a ++ added)

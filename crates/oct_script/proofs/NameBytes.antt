@@ -48,9 +48,6 @@ name_kept word is =
 pub name_text : (word : List ℕ) → is_name word ≡ true → IsUtf8 word
 name_text word is = IsUtf8-from_ascii word (all_ascii word (parts_of word is).1)
 
-pub name_short : (word : List ℕ) → is_name word ≡ true → length word ≤ 64
-name_short word is = (parts_of word is).0
-
 pub zeros_behind : (word : List ℕ) → word ++ drop (length word) (replicate 64 0) ≡ padded word
 zeros_behind word = ap (λ zeros. word ++ zeros) (drop-replicate (length word) 64 0)
 

@@ -6,7 +6,7 @@ use Rattle.std.specs.Option.{ok_or}
 use Rattle.oct_num.specs.Whole as whole
 use Rattle.oct_key.specs.declared.point.Point.{Point}
 use Rattle.oct_script.specs.Commands.{fault, all_behind, ended_command, if_any, command_by, is_comment, command_in}
-use Rattle.oct_script.specs.Grammar.{Form, Ends, Exactly, Metres, Number, Depth, Component, Range, FileName, HitOdds, MissOdds, length_of, number_of, depth_of, component_of, range_of, hit_of, miss_of, behind, point, two_points, lazy, own_odds, cast, listing, limit, scan, rows_of, forms_of, box, file, forms_in, Row, row, alone}
+use Rattle.oct_script.specs.Grammar.{Form, Ends, Exactly, Metres, Number, Depth, Component, Range, FileName, MissOdds, length_of, number_of, depth_of, component_of, range_of, hit_of, miss_of, behind, point, two_points, lazy, own_odds, cast, listing, limit, scan, rows_of, box, file, forms_in, Row, row, alone}
 use Rattle.oct_script.specs.Reading.{◌>>=◌, number_or, number_in, point_in, excess, unless_fault, end_in, flag_in, edit_end_in, edit_in, points_in, point_number_in, number_edit_in, query_in, cast_in, rotation_in, scan_in, beam_in, file_in, behind_verb, forms_behind, single_command, forms_of_verb, forms_at, by_forms, behind_first, line_in, edit_number_in, edit_word_in, box_in, listing_in, limit_in, miss_in, head_end_in, forms_of_row}
 use Rattle.oct_script.proofs.FirstWords.{first_word, forms_first}
 use Rattle.oct_script.specs.Names.{name_of}
@@ -311,9 +311,6 @@ trusted make = own_odds (λ odds. Ends (make odds false))
 
 abbrev trusted_lazily : (Option ScanOdds → Bool → Command) → Form
 trusted_lazily make = own_odds (λ odds. lazy (make odds true))
-
-hit_place : IsPlace HitOdds hit_of
-hit_place = record { takes = λ f word. refl; goes_on = λ f forms. refl }
 
 miss_place : IsPlace MissOdds miss_of
 miss_place = record { takes = λ f word. refl; goes_on = λ f forms. refl }

@@ -1,5 +1,5 @@
 //! Worked examples of lines, commands and replies.
-ghost use Rattle.std.specs.Prelude.{◌≤◌};
+ghost use Rattle.std.specs.Prelude.{◌≡◌, ◌≤◌, false};
 
 use crate::{
     Command, Edit, HeaderWord, LONGEST_LINE, Lines, Name, Refusal, Reply, ScanDone, ScanHead,
@@ -8,8 +8,11 @@ use crate::{
 use oct_cast::Cast;
 use oct_change::{Change, ChangeList, Kind};
 use oct_key::{Block, Key, Point};
+use oct_num::Memory;
 use oct_odds::Class;
 use oct_query::{BlockList, Counts, Found};
+use std::alloc::Global;
+use std::process::Abort;
 use std::test::Fail;
 
 /// The text of a line that isn't long.
@@ -21,12 +24,33 @@ fn text_of(lines: &Lines) -> Option<&[u8]> {
     }
 }
 
+/// Expects that the line so far has this text.
+fn expect_text(rt: &impl Abort, lines: &Lines, want: &[u8]) {
+    assert_eq!(rt; text_of(lines), Some(want));
+}
+
+/// Feeds a piece to a line that hasn't ended, and expects that so many bytes of it are taken, and
+/// that the line ends there or doesn't.
+fn expect_fed(rt: &impl Abort, lines: &mut Lines, piece: &[u8], taken: usize, ended: bool)
+    requires { lines.old.has_ended ≡ false }
+    ensures { lines.new.has_ended ≡ ended }
+{
+    let fed = lines.feed(piece);
+    assert_eq!(rt; fed.taken, taken);
+    assert!(rt; fed.ended == ended);
+}
+
 /// What a line that isn't long is read as, inside the block of a scan or outside.
 fn read(line: &str, inside: bool) -> Option<Result<Command, Syntax>> {
     if line.len() > LONGEST_LINE {
         return None;
     }
     Some(parse(line.as_bytes(), inside))
+}
+
+/// Expects that a line is read so, inside the block of a scan or outside.
+fn expect_read(rt: &impl Abort, line: &str, inside: bool, want: Result<Command, Syntax>) {
+    assert_eq!(rt; read(line, inside), Some(want), "at {line:?}");
 }
 
 /// Whether a line that isn't long opens the block of a scan.
@@ -38,70 +62,49 @@ fn opens(line: &str) -> bool {
 fn lines_end_at_line_feeds(rt: HostRuntime) {
     let mut lines = Lines::new();
     assert!(rt; !lines.has_rest());
-    let fed = lines.feed(b"hit 0 0 0\r\nget");
-    assert_eq!(rt; fed.taken, 11);
-    assert!(rt; fed.ended && !lines.has_rest());
-    assert_eq!(rt;
-        text_of(&lines),
-        Some(b"hit 0 0 0".as_slice()),
-        "one carriage return is dropped"
-    );
+    expect_fed(&rt, &mut lines, b"hit 0 0 0\r\nget", 11, true);
+    assert!(rt; !lines.has_rest());
+    // One carriage return is dropped.
+    expect_text(&rt, &lines, b"hit 0 0 0");
     lines.next();
-    let fed = lines.feed(b"get");
-    assert_eq!(rt; fed.taken, 3);
-    assert!(rt; !fed.ended && lines.has_rest());
+    expect_fed(&rt, &mut lines, b"get", 3, false);
+    assert!(rt; lines.has_rest());
+}
+
+#[test]
+fn lines_lose_one_carriage_return_alone(rt: HostRuntime) {
+    let mut lines = Lines::new();
+    expect_fed(&rt, &mut lines, b"a\r\r\n\n", 4, true);
+    expect_text(&rt, &lines, b"a\r");
     lines.next();
-    let fed = lines.feed(b"a\r\r\n\n");
-    assert_eq!(rt; fed.taken, 4);
-    assert_eq!(rt; text_of(&lines), Some(b"a\r".as_slice()), "and no other");
-    lines.next();
-    let fed = lines.feed(b"\n");
-    assert!(rt; fed.ended);
-    assert_eq!(rt; text_of(&lines), Some(b"".as_slice()), "an empty line");
+    expect_fed(&rt, &mut lines, b"\n", 1, true);
+    expect_text(&rt, &lines, b"");
 }
 
 #[test]
 fn lines_are_the_same_in_any_cut(rt: HostRuntime) {
     let mut lines = Lines::new();
-    let first = lines.feed(b"qu");
-    if first.ended {
-        lines.next();
-    }
-    let second = lines.feed(b"it\r");
-    assert!(rt; !first.ended && !second.ended);
-    assert_eq!(rt;
-        text_of(&lines),
-        Some(b"quit\r".as_slice()),
-        "without its line feed it keeps the carriage return"
-    );
-    if second.ended {
-        lines.next();
-    }
-    let third = lines.feed(b"\n");
-    assert!(rt; third.ended);
-    assert_eq!(rt; third.taken, 1);
-    assert_eq!(rt; text_of(&lines), Some(b"quit".as_slice()));
+    expect_fed(&rt, &mut lines, b"qu", 2, false);
+    expect_fed(&rt, &mut lines, b"it\r", 3, false);
+    // Without its line feed it keeps the carriage return.
+    expect_text(&rt, &lines, b"quit\r");
+    expect_fed(&rt, &mut lines, b"\n", 1, true);
+    expect_text(&rt, &lines, b"quit");
 }
 
 #[test]
 fn a_long_line_has_more_than_4096_bytes(rt: HostRuntime) {
     let most = [b' '; 4096];
     let mut lines = Lines::new();
-    let fed = lines.feed(&most);
-    assert!(rt; !fed.ended && !lines.is_long() && lines.has_rest());
-    if !fed.ended {
-        let fed = lines.feed(b"\n");
-        assert!(rt; fed.ended && !lines.is_long());
-    }
+    expect_fed(&rt, &mut lines, &most, 4096, false);
+    assert!(rt; !lines.is_long() && lines.has_rest());
+    expect_fed(&rt, &mut lines, b"\n", 1, true);
+    assert!(rt; !lines.is_long());
     lines.next();
-    let fed = lines.feed(&most);
-    if !fed.ended {
-        let fed = lines.feed(b"\r\n");
-        assert!(rt;
-            fed.ended && lines.is_long(),
-            "a carriage return counts, and blanks too"
-        );
-    }
+    // A carriage return counts, and blanks too.
+    expect_fed(&rt, &mut lines, &most, 4096, false);
+    expect_fed(&rt, &mut lines, b"\r\n", 2, true);
+    assert!(rt; lines.is_long());
     lines.next();
     assert!(rt; !lines.is_long());
 }
@@ -400,28 +403,20 @@ const BLOCK_FAULTS: [(&str, u32); 17] = [
 #[test]
 fn lines_are_commands(rt: HostRuntime) {
     for (line, command) in COMMANDS {
-        assert_eq!(rt; read(line, false), Some(Ok(command)), "at {line:?}");
+        expect_read(&rt, line, false, Ok(command));
     }
     for (line, command) in BLOCK_COMMANDS {
-        assert_eq!(rt; read(line, true), Some(Ok(command)), "at {line:?}");
+        expect_read(&rt, line, true, Ok(command));
     }
 }
 
 #[test]
 fn faults_have_columns(rt: HostRuntime) {
     for (line, column) in FAULTS {
-        assert_eq!(rt;
-            read(line, false),
-            Some(Err(Syntax { column })),
-            "at {line:?}"
-        );
+        expect_read(&rt, line, false, Err(Syntax { column }));
     }
     for (line, column) in BLOCK_FAULTS {
-        assert_eq!(rt;
-            read(line, true),
-            Some(Err(Syntax { column })),
-            "at {line:?}"
-        );
+        expect_read(&rt, line, true, Err(Syntax { column }));
     }
 }
 
@@ -432,21 +427,36 @@ const LONGEST: &str = "a23456789_123456789-123456789.123456789012345678901234567
 const NAMES: [&str; 7] = ["m", "_", "0", "Map.bt", "a..b--c__", "9-", LONGEST];
 
 /// Words that aren't.
-const NO_NAMES: [&str; 9] = [".", "-", ".bt", "-m", "a/b", "/m", "m\\", "m:", "k\u{e4}se"];
+const NO_NAMES: [&str; 10] = [
+    "",
+    ".",
+    "-",
+    ".bt",
+    "-m",
+    "a/b",
+    "/m",
+    "m\\",
+    "m:",
+    "k\u{e4}se",
+];
+
+/// Expects that a word is a name, or that it isn't.
+fn expect_name(rt: &impl Abort, word: &str, want: bool) {
+    let is_kept = match Name::new(word.as_bytes()) {
+        Some(name) => name.as_str() == word,
+        None => false,
+    };
+    assert_eq!(rt; is_kept, want, "{word:?}");
+}
 
 #[test]
 fn names_are_words_of_files(rt: HostRuntime) {
     for word in NAMES {
-        let name = Name::new(word.as_bytes());
-        assert!(rt;
-            matches!(&name, Some(name) if name.as_str() == word),
-            "{word:?}"
-        );
+        expect_name(&rt, word, true);
     }
     for word in NO_NAMES {
-        assert_eq!(rt; Name::new(word.as_bytes()), None, "{word:?}");
+        expect_name(&rt, word, false);
     }
-    assert_eq!(rt; Name::new(b""), None);
     assert_eq!(rt; Name::new(&[b'm'; 65]), None);
 }
 
@@ -456,14 +466,10 @@ fn lines_name_files(rt: HostRuntime) {
         assert!(rt; false, "a name isn't taken for one");
         return;
     };
-    for (line, command) in [
-        ("save Map_1.bt", Command::Save(name)),
-        (" load \t Map_1.bt ", Command::Load(name)),
-        ("snapshot Map_1.bt", Command::Snapshot(name)),
-        ("restore Map_1.bt", Command::Restore(name)),
-    ] {
-        assert_eq!(rt; read(line, false), Some(Ok(command)), "{line}");
-    }
+    expect_read(&rt, "save Map_1.bt", false, Ok(Command::Save(name)));
+    expect_read(&rt, " load \t Map_1.bt ", false, Ok(Command::Load(name)));
+    expect_read(&rt, "snapshot Map_1.bt", false, Ok(Command::Snapshot(name)));
+    expect_read(&rt, "restore Map_1.bt", false, Ok(Command::Restore(name)));
 }
 
 #[test]
@@ -637,25 +643,31 @@ const REFUSALS: [(Refusal, &str); 33] = [
     ),
 ];
 
+/// Expects that a reply is written so.
+fn expect_reply(rt: &impl Abort, alloc: Global, reply: &Reply, want: &str) -> Result<(), Memory> {
+    let mut out = Vec::new(alloc);
+    push_reply(&mut out, reply)?;
+    assert_eq!(rt; out.as_slice(), want.as_bytes());
+    Ok(())
+}
+
 #[test]
 fn replies_are_lines(rt: HostRuntime) -> Result<(), Fail> {
-    let mut out = Vec::new(rt.alloc());
     for (reply, line) in REPLIES {
-        out.clear();
-        push_reply(&mut out, &reply)?;
-        assert_eq!(rt; out.as_slice(), line.as_bytes());
+        expect_reply(&rt, rt.alloc(), &reply, line)?;
     }
     for (refusal, line) in REFUSALS {
-        out.clear();
-        push_reply(&mut out, &Reply::Refused(refusal))?;
-        assert_eq!(rt; out.as_slice(), line.as_bytes());
+        expect_reply(&rt, rt.alloc(), &Reply::Refused(refusal), line)?;
     }
+    Ok(())
+}
+
+#[test]
+fn a_reply_is_appended(rt: HostRuntime) -> Result<(), Fail> {
+    let mut out = Vec::new(rt.alloc());
+    push_reply(&mut out, &Reply::Loaded(17))?;
     push_reply(&mut out, &Reply::Ok)?;
-    assert_eq!(rt;
-        out.as_slice(),
-        b"refused 35 OtherResolution file 100000000 session 50000000\nok\n".as_slice(),
-        "a reply is appended"
-    );
+    assert_eq!(rt; out.as_slice(), b"loaded 17\nok\n".as_slice());
     Ok(())
 }
 
@@ -670,24 +682,23 @@ fn found(x: u16, y: u16, z: u16, depth: u8, value: i32) -> Found
 }
 
 #[test]
-fn lists_have_a_line_for_each_row(rt: HostRuntime) -> Result<(), Fail> {
-    let mut out = Vec::new(rt.alloc());
+fn lists_have_a_line_for_each_block(rt: HostRuntime) -> Result<(), Fail> {
     let mut blocks = BlockList::new(rt.alloc());
     blocks.push(found(0, 65535, 32768, 16, -400))?;
     blocks.push(found(0, 65535, 32768, 1, 0))?;
     blocks.push(found(1, 2, 3, 16, 3500))?;
-    push_reply(
-        &mut out,
-        &Reply::Blocks {
-            blocks,
-            threshold: 0,
-        },
-    )?;
-    assert_eq!(rt;
-        out.as_slice(),
-        b"block 0 65535 32768 -400 free\nblock 0 1 1 0 occupied\nblock 1 2 3 3500 occupied\nend 3\n".as_slice()
-    );
-    out.clear();
+    let reply = Reply::Blocks {
+        blocks,
+        threshold: 0,
+    };
+    let want =
+        "block 0 65535 32768 -400 free\nblock 0 1 1 0 occupied\nblock 1 2 3 3500 occupied\nend 3\n";
+    expect_reply(&rt, rt.alloc(), &reply, want)?;
+    Ok(())
+}
+
+#[test]
+fn lists_have_a_line_for_each_change(rt: HostRuntime) -> Result<(), Fail> {
     let mut changes = ChangeList::new(rt.alloc());
     let key = Key {
         x: 65535,
@@ -697,11 +708,9 @@ fn lists_have_a_line_for_each_row(rt: HostRuntime) -> Result<(), Fail> {
     for kind in [Kind::New, Kind::Lost, Kind::Occupied, Kind::Freed] {
         changes.push(Change { key, kind })?;
     }
-    push_reply(&mut out, &Reply::Changed(changes))?;
-    push_reply(&mut out, &Reply::Changed(ChangeList::new(rt.alloc())))?;
-    assert_eq!(rt;
-        out.as_slice(),
-        b"new 65535 0 7\nlost 65535 0 7\noccupied 65535 0 7\nfreed 65535 0 7\nend 4\nend 0\n".as_slice()
-    );
+    let want = "new 65535 0 7\nlost 65535 0 7\noccupied 65535 0 7\nfreed 65535 0 7\nend 4\n";
+    expect_reply(&rt, rt.alloc(), &Reply::Changed(changes), want)?;
+    let none = Reply::Changed(ChangeList::new(rt.alloc()));
+    expect_reply(&rt, rt.alloc(), &none, "end 0\n")?;
     Ok(())
 }

@@ -47,6 +47,21 @@ fn apply(rt: &impl Abort, tree: &mut OccTree, lo: Key, hi: Key, event: Event)
     touch_box(tree, lo, hi, event);
 }
 
+/// Expects so many groups, and these values of the voxels 32,767 and 32,766.
+fn expect_state(
+    rt: &impl Abort,
+    tree: &OccTree,
+    groups: u32,
+    value: Option<i32>,
+    beside: Option<i32>,
+) {
+    assert_eq!(rt; tree.arena().live(), groups);
+    assert_eq!(rt;
+        (tree.at(all(32_767)), tree.at(all(32_766))),
+        (value, beside)
+    );
+}
+
 #[test]
 fn counts_the_blocks_that_a_box_cuts(rt: HostRuntime) {
     for (lo, hi, want) in [
@@ -75,7 +90,6 @@ fn applies_events_to_boxes(rt: HostRuntime) -> Result<(), Fail> {
     let high = all(65_535);
     let within = all(32_767);
     let above = all(32_768);
-    let outside = all(32_766);
     // Each row: an event, a box, the groups afterwards, and the values of a voxel in all boxes but
     // that of voxel 5, and of one beside the small ones.
     for (event, lo, hi, groups, value, beside) in [
@@ -97,8 +111,7 @@ fn applies_events_to_boxes(rt: HostRuntime) -> Result<(), Fail> {
         (Event::Add(850), within, above, 0, Some(3500), Some(3500)),
     ] {
         apply(&rt, &mut tree, lo, hi, event);
-        assert_eq!(rt; tree.arena().live(), groups, "after {event:?}");
-        assert_eq!(rt; (tree.at(within), tree.at(outside)), (value, beside));
+        expect_state(&rt, &tree, groups, value, beside);
     }
     Ok(())
 }

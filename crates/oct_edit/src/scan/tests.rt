@@ -1,3 +1,4 @@
+ghost use Rattle.std.specs.Prelude.{◌≤◌, IfOk};
 ghost use Rattle.oct_odds.specs.Update.{IsSmallEvent};
 ghost use Rattle.oct_tree.specs.Shape.{IsWellFormed};
 
@@ -5,6 +6,7 @@ use super::*;
 use crate::touch;
 use oct_arena::Node;
 use oct_key::{Key, Res};
+use std::alloc::Global;
 use std::process::Abort;
 use std::test::Fail;
 
@@ -79,50 +81,76 @@ fn state(tree: &OccTree) -> ([Option<i32>; 5], Option<i32>, u32) {
     )
 }
 
+/// Expects these values of the first five voxels on the x axis, this one at the root, and so many
+/// groups.
+fn expect_state(
+    rt: &impl Abort,
+    tree: &OccTree,
+    values: [Option<i32>; 5],
+    root: Option<i32>,
+    groups: u32,
+) {
+    assert_eq!(rt; state(tree), (values, root, groups));
+}
+
+/// A tree of voxels of a tenth of a metre, with room for so many groups.
+fn world(alloc: Global, room: u32) -> Result<OccTree, Fail>
+    requires { room ≤ 5000 }
+    ensures { IfOk result (λ tree. IsWellFormed tree) }
+{
+    let mut tree = OccTree::new(alloc, Res::new(100_000_000)?, OddsModel::default());
+    tree.reserve(room)?;
+    Ok(tree)
+}
+
 /// Places 0, 1, 8 and 9 of the first brick, and place 0 of the one beside it, are the first five
 /// voxels on the x axis. 2 and 4 are hit.
 const ROW: [(u64, u64); 2] = [(0b11_0000_0011, 0b1_0000_0000), (1, 1)];
 
 #[test]
 fn applies_scans_as_voxel_by_voxel(rt: HostRuntime) -> Result<(), Fail> {
-    let mut tree = OccTree::new(rt.alloc(), Res::new(100_000_000)?, OddsModel::default());
-    tree.reserve(5000)?;
+    let mut tree = world(rt.alloc(), 5000)?;
     scan(&rt, &mut tree, ROW, false);
     let (hit, free) = (Some(850), Some(-400));
-    assert_eq!(rt; state(&tree), ([free, free, hit, free, hit], hit, 19));
-    let mut beside = OccTree::new(rt.alloc(), Res::new(100_000_000)?, OddsModel::default());
-    beside.reserve(100)?;
+    expect_state(&rt, &tree, [free, free, hit, free, hit], hit, 19);
+    let mut beside = world(rt.alloc(), 100)?;
     apply(&rt, &mut beside, 0, MISS);
     apply(&rt, &mut beside, 1, MISS);
     apply(&rt, &mut beside, 2, HIT);
     apply(&rt, &mut beside, 3, MISS);
     apply(&rt, &mut beside, 4, HIT);
-    assert_eq!(rt; state(&tree), state(&beside));
+    expect_state(&rt, &beside, [free, free, hit, free, hit], hit, 19);
+    Ok(())
+}
+
+#[test]
+fn mends_the_inner_values_after_a_lazy_scan(rt: HostRuntime) -> Result<(), Fail> {
+    let mut tree = world(rt.alloc(), 5000)?;
+    scan(&rt, &mut tree, ROW, false);
     // A lazy scan leaves the inner values, and the next one mends them.
     scan(&rt, &mut tree, ROW, true);
     let (hit, free) = (Some(1700), Some(-800));
-    assert_eq!(rt; state(&tree), ([free, free, hit, free, hit], Some(850), 19));
+    expect_state(&rt, &tree, [free, free, hit, free, hit], Some(850), 19);
     scan(&rt, &mut tree, [(1, 0), (1, 1)], false);
     let (first, last) = (Some(-1200), Some(2550));
-    assert_eq!(rt; state(&tree), ([first, free, hit, free, last], last, 19));
+    expect_state(&rt, &tree, [first, free, hit, free, last], last, 19);
     Ok(())
 }
 
 #[test]
 fn leaves_a_saturated_leaf_whole(rt: HostRuntime) -> Result<(), Fail> {
-    let mut tree = OccTree::new(rt.alloc(), Res::new(100_000_000)?, OddsModel::default());
-    tree.reserve(5000)?;
+    let mut tree = world(rt.alloc(), 5000)?;
     // Five misses take all voxels of both bricks to the lower bound, and the bricks are leaves.
     for _ in 0..5 {
         scan(&rt, &mut tree, [(u64::MAX, 0), (u64::MAX, 0)], false);
     }
     let low = Some(-2000);
-    assert_eq!(rt; state(&tree), ([low; 5], low, 14));
+    expect_state(&rt, &tree, [low; 5], low, 14);
     scan(&rt, &mut tree, [(u64::MAX, 0), (3, 0)], true);
-    assert_eq!(rt; state(&tree), ([low; 5], low, 14));
+    expect_state(&rt, &tree, [low; 5], low, 14);
     // A hit expands the leaf of its brick alone.
     scan(&rt, &mut tree, [(1, 1), (1, 0)], false);
     let first = Some(-1150);
-    assert_eq!(rt; state(&tree), ([first, low, low, low, low], first, 16));
+    expect_state(&rt, &tree, [first, low, low, low, low], first, 16);
     Ok(())
 }

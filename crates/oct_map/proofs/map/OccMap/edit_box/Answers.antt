@@ -158,7 +158,7 @@ returns-clause-noted c =
     subst (NotesFew c.args.self.now.mark c.note_box.new.self (corner_events (key_at c.args.self.now.tree.res c.args.lo) (key_at c.args.self.now.tree.res c.args.hi) c.args.event)) many
     (few_after c.volume-count.result c.args.self.now.mark map.mark c.note_box.new.self (corner_events (key_at c.args.self.now.tree.res c.args.lo) (key_at c.args.self.now.tree.res c.args.hi) c.args.event) same
     (noted_few (classes_in map) (IsInBox c.in-Some.low c.in-Some-key_of.high) c.volume-count.result map.mark c.reserve.new.self c.note_box.new.self (corner_events (key_at c.args.self.now.tree.res c.args.lo) (key_at c.args.self.now.tree.res c.args.hi) c.args.event)
-    c.reserve.ensures.kept c.reserve.ensures.few
+    c.reserve.ensures.kept c.reserve.ensures.few (λ there. (c.reserve.ensures.enough there).1)
     (subst (λ n. HasMarked (classes_in map) (IsInBox c.in-Some.low c.in-Some-key_of.high) n c.reserve.new.self c.note_box.new.self) (sym c.volume-count.ensures) c.note_box.ensures)
     (λ q v e. asked_box (key_at c.args.self.now.tree.res c.args.lo) (key_at c.args.self.now.tree.res c.args.hi) c.in-Some.low c.in-Some-key_of.high c.args.event q low high e)))
 
@@ -196,7 +196,7 @@ returns-in_err-reserve-clause-noted c =
     let same : map.mark ≡ c.args.self.now.mark = ap (λ (m : Map). m.mark) c.self-2.view_is ∙ c.make_room.ensures.notes in
     subst (NotesFew c.args.self.now.mark c.reserve.new.self (corner_events (key_at c.args.self.now.tree.res c.args.lo) (key_at c.args.self.now.tree.res c.args.hi) c.args.event)) many
     (few_after c.volume-count.result c.args.self.now.mark map.mark c.reserve.new.self (corner_events (key_at c.args.self.now.tree.res c.args.lo) (key_at c.args.self.now.tree.res c.args.hi) c.args.event) same
-    (kept_few c.volume-count.result map.mark c.reserve.new.self (corner_events (key_at c.args.self.now.tree.res c.args.lo) (key_at c.args.self.now.tree.res c.args.hi) c.args.event) c.reserve.ensures.kept c.reserve.ensures.few))
+    (kept_few c.volume-count.result map.mark c.reserve.new.self (corner_events (key_at c.args.self.now.tree.res c.args.lo) (key_at c.args.self.now.tree.res c.args.hi) c.args.event) c.reserve.ensures.kept c.reserve.ensures.few (λ there. (c.reserve.ensures.enough there).1)))
 
 pub returns-in_err-reserve-clause-refused : goal.returns-in_err-reserve-clause-refused
 returns-in_err-reserve-clause-refused c =

@@ -131,7 +131,8 @@ returns-clause-noted c =
     subst (NotesFew c.args.self.now.mark c.note_bricks.new.self (outcome_in c.args.self.now (sighting_of c.args.scan.now))) many
     (few_after (length (hit_voxels c.bricks-bricks.result.now) + length (freed_voxels c.bricks-bricks.result.now)) c.args.self.now.mark c.self-2.inside.mark c.note_bricks.new.self (outcome_in c.args.self.now (sighting_of c.args.scan.now)) same
     (noted_few (classes_in (roomy c)) (λ q. Contains (hit_voxels c.bricks-bricks.result.now) q ⊎ Contains (freed_voxels c.bricks-bricks.result.now) q) (length (hit_voxels c.bricks-bricks.result.now) + length (freed_voxels c.bricks-bricks.result.now)) c.self-2.inside.mark c.reserve.new.self c.note_bricks.new.self (outcome_in c.args.self.now (sighting_of c.args.scan.now))
-    c.reserve.ensures.kept (subst (ReservesFewNotes c.self-2.inside.mark c.reserve.new.self) counts c.reserve.ensures.few) c.note_bricks.ensures
+    c.reserve.ensures.kept (subst (ReservesFewNotes c.self-2.inside.mark c.reserve.new.self) counts c.reserve.ensures.few)
+    (subst (λ n. HasRoomForNotes c.self-2.inside.mark n → c.reserve.new.self ≡ c.self-2.inside.mark) counts (λ there. (c.reserve.ensures.enough there).1)) c.note_bricks.ensures
     (λ q v asked. asked_scan (given c) (outcome_in c.args.self.now (sighting_of c.args.scan.now)) q (ready c).same v asked)))
 
 pub returns-in_err-reserve-clause-mark : goal.returns-in_err-reserve-clause-mark
@@ -159,7 +160,7 @@ returns-in_err-reserve-clause-noted c =
     let counts : c.hit_count.result + c.free_count.result ≡ (hit_count c.args.self.now.tree.res c.args.self.now.update_box (sighting_of c.args.scan.now) + free_count c.args.self.now.tree.res c.args.self.now.update_box (sighting_of c.args.scan.now)) = omega (arith, hit, free) in
     subst (NotesFew c.args.self.now.mark c.reserve.new.self (outcome_in c.args.self.now (sighting_of c.args.scan.now))) counts
     (few_after (c.hit_count.result + c.free_count.result) c.args.self.now.mark c.self-2.inside.mark c.reserve.new.self (outcome_in c.args.self.now (sighting_of c.args.scan.now)) same
-    (kept_few (c.hit_count.result + c.free_count.result) c.self-2.inside.mark c.reserve.new.self (outcome_in c.args.self.now (sighting_of c.args.scan.now)) c.reserve.ensures.kept c.reserve.ensures.few))
+    (kept_few (c.hit_count.result + c.free_count.result) c.self-2.inside.mark c.reserve.new.self (outcome_in c.args.self.now (sighting_of c.args.scan.now)) c.reserve.ensures.kept c.reserve.ensures.few (λ there. (c.reserve.ensures.enough there).1)))
 
 pub returns-in_err-reserve-clause-refused : goal.returns-in_err-reserve-clause-refused
 returns-in_err-reserve-clause-refused c =

@@ -1,0 +1,227 @@
+//! Maps that take the values of files.
+ghost use Rattle.std.specs.Prelude.{◌≤◌};
+
+use super::*;
+use oct_bt::{BtFault, Reader};
+
+/// A file of one occupied voxel at the origin's corner, in the records of sixteen blocks.
+const ONE_VOXEL: &[u8] = &[
+    0x00, 0xC0, 0x03, 0x00, 0x03, 0x00, 0x03, 0x00, 0x03, 0x00, 0x03, 0x00, 0x03, 0x00, 0x03, 0x00,
+    0x03, 0x00, 0x03, 0x00, 0x03, 0x00, 0x03, 0x00, 0x03, 0x00, 0x03, 0x00, 0x03, 0x00, 0x02, 0x00,
+];
+
+/// Five voxels along the x axis, the third and the fifth of them occupied and the others free.
+const FIVE_VOXELS: &[u8] = &[
+    0x00, 0xC0, 0x03, 0x00, 0x03, 0x00, 0x03, 0x00, 0x03, 0x00, 0x03, 0x00, 0x03, 0x00, 0x03, 0x00,
+    0x03, 0x00, 0x03, 0x00, 0x03, 0x00, 0x03, 0x00, 0x03, 0x00, 0x0F, 0x00, 0x0F, 0x00, 0x05, 0x00,
+    0x06, 0x00, 0x03, 0x00, 0x02, 0x00,
+];
+
+/// The header of a file of one voxel, of so many metres.
+const ONE_HEADER: &str = "# Octomap OcTree binary file\nid OcTree\nsize 17\nres 0.1\ndata\n";
+
+const COARSE_HEADER: &str = "# Octomap OcTree binary file\nid OcTree\nsize 17\nres 0.2\ndata\n";
+
+const FIVE_HEADER: &str = "# Octomap OcTree binary file\nid OcTree\nsize 24\nres 0.1\ndata\n";
+
+const EMPTY_HEADER: &str = "# Octomap OcTree binary file\nid OcTree\nsize 0\nres 0.1\ndata\n";
+
+/// Expects that a load of the file of a header and node data is answered so.
+fn expect_load(
+    rt: &impl Abort,
+    alloc: Global,
+    map: &mut OccMap,
+    (header, data): (&str, &[u8]),
+    want: Result<(), MapFault>,
+) -> Result<(), BtFault> {
+    let mut reader = Reader::new(alloc);
+    reader.feed(header.as_bytes())?;
+    reader.feed(data)?;
+    let file = reader.finish()?;
+    assert_eq!(rt; map.load(&file), want);
+    Ok(())
+}
+
+#[test]
+fn leaves_the_map_where_a_load_is_refused(rt: HostRuntime) -> Result<(), Fail> {
+    let mut map = world(rt.alloc(), 18)?;
+    expect_edit(&rt, &mut map, BEFORE, HIT, true, Ok(()));
+    let other = MapFault::OtherResolution {
+        file: 200_000_000,
+        session: 100_000_000,
+    };
+    let full = MapFault::Full {
+        groups: 0,
+        need: 19,
+    };
+    expect_load(
+        &rt,
+        rt.alloc(),
+        &mut map,
+        (COARSE_HEADER, ONE_VOXEL),
+        Err(other),
+    )?;
+    expect_load(
+        &rt,
+        rt.alloc(),
+        &mut map,
+        (FIVE_HEADER, FIVE_VOXELS),
+        Err(full),
+    )?;
+    expect_stale(&rt, &map, true);
+    expect_voxel(&rt, &map, BEFORE, Some(850));
+    Ok(())
+}
+
+#[test]
+fn takes_the_classes_of_a_file(rt: HostRuntime) -> Result<(), Fail> {
+    let mut map = world(rt.alloc(), 19)?;
+    expect_edit(&rt, &mut map, BEFORE, HIT, true, Ok(()));
+    expect_load(&rt, rt.alloc(), &mut map, (ONE_HEADER, ONE_VOXEL), Ok(()))?;
+    expect_stale(&rt, &map, false);
+    expect_voxel(&rt, &map, BEFORE, None);
+    expect_block(&rt, &map, ORIGIN, 0, Ok(Some(3500)));
+    expect_load(
+        &rt,
+        rt.alloc(),
+        &mut map,
+        (FIVE_HEADER, FIVE_VOXELS),
+        Ok(()),
+    )?;
+    expect_row(&rt, &map, [-2000, -2000, 3500, -2000, 3500]);
+    expect_load(&rt, rt.alloc(), &mut map, (EMPTY_HEADER, &[]), Ok(()))?;
+    expect_block(&rt, &map, tenths(2, 0, 0), 0, Ok(None));
+    Ok(())
+}
+
+/// The fields of a snapshot of version 1, of voxels of a tenth of a metre.
+const OLD_HEAD: [u8; 16] = [
+    0x4F, 0x43, 0x54, 0x53, 0x4E, 0x41, 0x50, 0x31, 0x00, 0x00, 0x00, 0x00, 0x05, 0xF5, 0xE1, 0x00,
+];
+
+/// The snapshot of version 1 of a map whose voxels all have the value 70.
+const OLD_WHOLE: &[u8] = &[
+    0x4F, 0x43, 0x54, 0x53, 0x4E, 0x41, 0x50, 0x31, 0x00, 0x00, 0x00, 0x00, 0x05, 0xF5, 0xE1, 0x00,
+    0x01, 0x00, 0x00, 0x00, 0x46,
+];
+
+/// The same of version 2, with the log-odds 500, -300, -1000, 3000 and 1, and with a box.
+const NEW_WHOLE: &[u8] = &[
+    0x4F, 0x43, 0x54, 0x53, 0x4E, 0x41, 0x50, 0x32, 0x00, 0x00, 0x00, 0x00, 0x05, 0xF5, 0xE1, 0x00,
+    0x00, 0x00, 0x01, 0xF4, 0xFF, 0xFF, 0xFE, 0xD4, 0xFF, 0xFF, 0xFC, 0x18, 0x00, 0x00, 0x0B, 0xB8,
+    0x00, 0x00, 0x00, 0x01, 0x01, 0x00, 0x01, 0x00, 0x02, 0x00, 0x03, 0x01, 0x00, 0x00, 0x02, 0x00,
+    0x03, 0x01, 0x00, 0x00, 0x00, 0x46,
+];
+
+/// And without a box.
+const BOXLESS: &[u8] = &[
+    0x4F, 0x43, 0x54, 0x53, 0x4E, 0x41, 0x50, 0x32, 0x00, 0x00, 0x00, 0x00, 0x05, 0xF5, 0xE1, 0x00,
+    0x00, 0x00, 0x01, 0xF4, 0xFF, 0xFF, 0xFE, 0xD4, 0xFF, 0xFF, 0xFC, 0x18, 0x00, 0x00, 0x0B, 0xB8,
+    0x00, 0x00, 0x00, 0x01, 0x00, 0x01, 0x00, 0x00, 0x00, 0x46,
+];
+
+/// The snapshot of version 1 of a hit in the lowest voxel of each of the last so many children of
+/// the map.
+fn hits(alloc: Global, children: u8) -> Result<Vec<u8>, Fail>
+    requires { children ≤ 8 }
+{
+    let mut bytes = Vec::from_slice(alloc, &OLD_HEAD)?;
+    bytes.push(2)?;
+    for _ in children..8 {
+        bytes.push(0)?;
+    }
+    for _ in 0..children {
+        bytes.extend_from_slice(&[2; 15])?;
+        bytes.extend_from_slice(&[1, 0, 0, 3, 0x52])?;
+        bytes.extend_from_slice(&[0; 105])?;
+    }
+    Ok(bytes)
+}
+
+/// Expects that a restore of the snapshot is answered so.
+fn expect_restore(rt: &impl Abort, map: &mut OccMap, snapshot: &[u8], want: Result<u64, MapFault>) {
+    assert_eq!(rt; map.restore(snapshot), want);
+}
+
+/// Expects that the map has these log-odds and this update box.
+fn expect_setup(rt: &impl Abort, map: &OccMap, odds: OddsModel, window: Option<Window>) {
+    assert!(rt; map.tree().odds() == odds && map.window() == window);
+}
+
+/// Expects that scans are restricted to the box of the two points.
+fn limit_to(rt: &impl Abort, map: &mut OccMap, lo: Point, hi: Point) {
+    assert_eq!(rt; map.limit(lo, hi), Ok(()));
+}
+
+#[test]
+fn takes_the_values_of_a_snapshot(rt: HostRuntime) -> Result<(), Fail> {
+    let mut map = world(rt.alloc(), 16)?;
+    expect_edit(&rt, &mut map, BEFORE, HIT, true, Ok(()));
+    let one = hits(rt.alloc(), 1)?;
+    assert_eq!(rt; one.len(), 149);
+    expect_restore(&rt, &mut map, &one, Ok(16));
+    expect_stale(&rt, &map, false);
+    expect_voxel(&rt, &map, BEFORE, None);
+    expect_block(&rt, &map, ORIGIN, 0, Ok(Some(850)));
+    Ok(())
+}
+
+#[test]
+fn takes_log_odds_and_box_of_version_2(rt: HostRuntime) -> Result<(), Fail> {
+    let mut map = world(rt.alloc(), 16)?;
+    limit_to(&rt, &mut map, BEFORE, ORIGIN);
+    let standing = map.window();
+    expect_restore(&rt, &mut map, OLD_WHOLE, Ok(0));
+    expect_voxel(&rt, &map, BEFORE, Some(70));
+    expect_setup(&rt, &map, OddsModel::default(), standing);
+    expect_restore(&rt, &mut map, NEW_WHOLE, Ok(0));
+    let lo = Key { x: 1, y: 2, z: 3 };
+    let hi = Key { x: 256, y: 2, z: 3 };
+    let odds = OddsModel::new(500, -300, -1000, 3000, 1)?;
+    expect_setup(&rt, &map, odds, Window::new(lo, hi));
+    expect_edit(&rt, &mut map, BEFORE, Event::Add(5000), false, Ok(()));
+    expect_voxel(&rt, &map, BEFORE, Some(3000));
+    expect_restore(&rt, &mut map, BOXLESS, Ok(0));
+    expect_voxel(&rt, &map, BEFORE, Some(70));
+    expect_setup(&rt, &map, odds, None);
+    Ok(())
+}
+
+/// Snapshots that are refused, and why.
+const REFUSED: [(&[u8], MapFault); 3] = [
+    (
+        b"OCTSNAP1\x00\x00\x00\x00\x0B\xEB\xC2\x00\x00",
+        MapFault::OtherResolution {
+            file: 200_000_000,
+            session: 100_000_000,
+        },
+    ),
+    (
+        b"OCTSNAP1\x00\x00\x00\x00\x05\xF5\xE1\x00\x02\x00\x00\x00\x00\x00\x00\x00\x00",
+        MapFault::BadSnapshot { at: 16 },
+    ),
+    (b"", MapFault::BadMagic),
+];
+
+#[test]
+fn leaves_the_map_where_a_restore_is_refused(rt: HostRuntime) -> Result<(), Fail> {
+    let mut map = world(rt.alloc(), 16)?;
+    limit_to(&rt, &mut map, ORIGIN, ORIGIN);
+    expect_edit(&rt, &mut map, ORIGIN, HIT, true, Ok(()));
+    let standing = map.window();
+    let two = hits(rt.alloc(), 2)?;
+    let full = MapFault::Full {
+        groups: 0,
+        need: 31,
+    };
+    expect_restore(&rt, &mut map, &two, Err(full));
+    let short = MapFault::Truncated { at: 53 };
+    expect_restore(&rt, &mut map, &NEW_WHOLE[..53], Err(short));
+    for (bytes, want) in REFUSED {
+        expect_restore(&rt, &mut map, bytes, Err(want));
+    }
+    expect_stale(&rt, &map, true);
+    expect_voxel(&rt, &map, ORIGIN, Some(850));
+    expect_setup(&rt, &map, OddsModel::default(), standing);
+    Ok(())
+}
