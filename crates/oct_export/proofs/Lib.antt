@@ -9,3 +9,4 @@ pub mod Walks
 pub mod Lines
 pub mod Sizes
 pub mod Orders
+pub mod Same

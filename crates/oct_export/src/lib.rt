@@ -33,8 +33,8 @@
 //! waited with, which are the children before its way down. No call takes memory: bytes go through
 //! the fixed buffer of a `Gather`, and lines are made in one of their own.
 //!
-//! Any viewer of PGM shows the grid, and any viewer of VRML97 the boxes. Nothing stands on this crate
-//! yet: the program has no task that writes either.
+//! Any viewer of PGM shows the grid, and any viewer of VRML97 the boxes. The tasks `project` and
+//! `vrml` of the program stand on this crate.
 #![tactic(auto)]
 
 mod counting;

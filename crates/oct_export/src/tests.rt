@@ -4,10 +4,10 @@ ghost use Rattle.oct_odds.specs.Odds.{odds_of, IsSmall};
 ghost use Rattle.oct_odds.specs.Update.{IsWithin};
 ghost use Rattle.oct_arena.specs.Nodes.{link_of, value_of};
 
-use crate::{band, box_count, vrml};
+use crate::{band, box_count, pgm, vrml};
 use oct_arena::Node;
 use oct_io::{KeptList, MemSink};
-use oct_key::Res;
+use oct_key::{Key, Res, Window};
 use oct_odds::{Class, Event, OddsModel};
 use oct_tree::{OccTree, Place};
 use std::alloc::Global;
@@ -74,6 +74,53 @@ fn a_band_is_occupied_before_free_before_unknown(rt: HostRuntime) -> Result<(), 
             band(&tree, x, y, z, top),
             want,
             "at {x} {y} from {z} to {top}"
+        );
+    }
+    Ok(())
+}
+
+/// The picture of a box, written in pieces of 100 bytes, is this text.
+fn has_grid(alloc: Global, tree: &OccTree, window: Option<Window>, text: &[u8]) -> bool {
+    let Some(window) = window else {
+        return false;
+    };
+    let mut sink = MemSink::new(alloc, 100, KeptList::new(alloc));
+    let length = pgm(tree, window.lo(), window.hi(), &mut sink);
+    length == Ok(text.len() as u64) && sink.written() == text
+}
+
+#[test]
+fn a_grid_shows_a_band_for_each_column(rt: HostRuntime) -> Result<(), Fail> {
+    let tree = two_leaves(rt.alloc())?;
+    let cases: [((u16, u16, u16), (u16, u16, u16), &[u8]); 5] = [
+        (
+            (32_767, 32_767, 0),
+            (32_768, 32_768, 32_767),
+            b"P5\n2 2\n255\n\xCD\xCD\xFE\xCD",
+        ),
+        (
+            (32_767, 32_767, 32_767),
+            (32_768, 32_767, 32_768),
+            b"P5\n2 1\n255\n\x00\xCD",
+        ),
+        ((5, 9, 40_000), (5, 9, 40_000), b"P5\n1 1\n255\n\x00"),
+        ((5, 9, 7), (5, 11, 8), b"P5\n1 3\n255\n\xFE\xFE\xFE"),
+        (
+            (65_533, 65_535, 0),
+            (65_535, 65_535, 65_535),
+            b"P5\n3 1\n255\n\xCD\xCD\xCD",
+        ),
+    ];
+    for ((x, y, z), (far_x, far_y, far_z), text) in cases {
+        let far = Key {
+            x: far_x,
+            y: far_y,
+            z: far_z,
+        };
+        let window = Window::new(Key { x, y, z }, far);
+        assert!(rt;
+            has_grid(rt.alloc(), &tree, window, text),
+            "from {x} {y} {z}"
         );
     }
     Ok(())

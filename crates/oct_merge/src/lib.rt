@@ -29,7 +29,7 @@
 //! the box. None takes memory, and how deep they call themselves is bounded by the depth of the
 //! trees.
 //!
-//! Nothing stands on this crate yet. It is made for tasks of the program over two files.
+//! The program stands on it, for its tasks `merge` and `table` over two files.
 #![tactic(auto)]
 
 mod merging;

@@ -15,13 +15,13 @@ use Rattle.oct_io.proofs.Appending.{appended_nil}
 use Rattle.oct_map.specs.Map.{Map, values_of}
 use Rattle.oct_values.specs.Counts.{group_count, node_count}
 use Rattle.oct_values.proofs.Uniform.{same_group_count, same_node_count}
-use Rattle.oct_session.specs.Drill.{drill, drill_setup, drilled, drilled_state, line_of_two, summary, summary_of, EndsUnread, status_written}
+use Rattle.oct_session.specs.Drill.{drill, drill_setup, drilled, drilled_state, line_of_two, summary, summary_of, EndsUnread}
 use Rattle.oct_session.specs.History.{State}
 use Rattle.oct_session.specs.Leaving.{StandsFor, Desk, desk, IsKnown}
 use Rattle.oct_session.specs.Session.{Answer, last_progress, status_at_end}
 use Rattle.oct_session.specs.Setup.{Setup}
 use Rattle.oct_session.specs.Standing.{HasServed, IsThrough, HasEndedAs}
-use Rattle.oct_session.specs.Stops.{status_of}
+use Rattle.oct_session.specs.Stops.{status_of, status_written}
 use Rattle.oct_session.specs.declared.options.Status.{Status}
 use Rattle.oct_session.specs.declared.options.Stop.{Stop}
 use Rattle.oct_session.specs.declared.options.Stop.TheVariants.{TooLong, ReadFault, WriteFault, Memory, StoreFault}
@@ -114,16 +114,6 @@ text_ends (Ok done) whole true text v u status is written cut = record { written
 text_ends (Ok done) whole false text v u status is written cut = record { written = written ∙ ap (appended v) is; same_status = status }
 text_ends (Err sink.Failed) whole refused text v u status is written cut = subst (IsCutOff v u) is cut
 text_ends (Err sink.Memory) whole refused text v u status is written cut = subst (IsCutOff v u) is cut
-
--- a line of two words behind a text
-pub line_behind : (z a b c word n other m end : List ℕ) → a ≡ z ++ word ++ n → b ≡ a ++ other ++ m → c ≡ b ++ end → c ≡ z ++ (word ++ n ++ other ++ m ++ end)
-line_behind z a b c word n other m end ea eb ec =
-    rw (ec, eb, ea) (
-    ap (λ t. ((t ++ other) ++ m) ++ end) (append_assoc z word n)
-    ∙ ap (λ t. (t ++ m) ++ end) (append_assoc z (word ++ n) other)
-    ∙ ap (λ t. t ++ end) (append_assoc z (word ++ n ++ other) m)
-    ∙ append_assoc z (word ++ n ++ other ++ m) end
-    )
 
 -- three lines, and one of one word behind them
 pub lines_joined : (z a b c d e k l m n o : List ℕ) (p : List ℕ) → z ≡ [] → a ≡ z ++ k → b ≡ a ++ l → c ≡ b ++ m → d ≡ c ++ n ++ o → e ≡ d ++ p → e ≡ k ++ l ++ m ++ (n ++ o ++ p)

@@ -17,7 +17,7 @@ use Rattle.oct_script.specs.Replies.{is_refusal}
 use Rattle.oct_session.specs.declared.block.Block.{Block}
 use Rattle.oct_session.specs.declared.block.Block.TheVariants.{Scanning, Spoilt}
 use Rattle.oct_session.specs.declared.session.Session.{Session}
-use Rattle.oct_session.specs.Commands.{Saving, numbered, command_on, is_quit, reply, action_of, saving_of, file_named, accepted, accepted_saving, stored}
+use Rattle.oct_session.specs.Commands.{Saving, numbered, command_on, is_quit, reply, action_of, saving_of, file_named, file_saved, accepted, accepted_saving, stored}
 use Rattle.oct_session.specs.ScanBlock.{opens_block, opened, is_end, with_line, spoilt_by, spoilt_reply, block_reply, block_action}
 use Rattle.oct_session.specs.ScanSoFar.{begun}
 use Rattle.oct_session.specs.History.{History, State, after_all, state_after}
@@ -86,17 +86,6 @@ effect_closed (Ok a) m n number c inner block end none done = λ s at. let took 
 )
 effect_closed (Err x) m n number c inner block end none done = λ s at. let kept = done s at in rw end (inl kept.0, kept.1)
 
--- a line of a block
-pub effect_added : (m : Map) (number : ℕ) (c : Result Command Refusal) (inner : Block) (block : Option Block) → is_end c ≡ false → block ≡ Some (with_line number c inner) →
-    (s : State) → StandsFor m s → (None ≡ (effect_inside s number c inner).reply) × (block ≡ (effect_inside s number c inner).block) × StandsFor m (after_all s (effect_inside s number c inner).added)
-effect_added m number c inner block end is s at = rw end (refl, is, at)
-
--- a line of a block, where memory runs out for its point
-pub effect_unkept : {E : Type 0} (r : Result (Option Reply) E) (m : Map) (number : ℕ) (c : Result Command Refusal) (inner : Block) (block : Option Block) → IsErr r → is_end c ≡ false →
-    HasWorked (λ s. effect_inside s number c inner) m m block r
-effect_unkept (Ok x) m number c inner block err end = cc
-effect_unkept (Err x) m number c inner block err end = λ s at. rw end (inr refl, at)
-
 -- a line that closes the block that was open
 pub effect_taken : {E : Type 0} (r : Result (Option Reply) E) (m n : Map) (number : ℕ) (c : Result Command Refusal) (old taken new : Option Block) (standing : Block) → is_end c ≡ true → new ≡ None → taken ≡ old → taken ≡ Some standing →
     HasScanned m n standing r → (first : Block) → old ≡ Some first → HasWorked (λ s. effect_inside s number c first) m n new r
@@ -155,6 +144,47 @@ saves_not (Ok command.Track) none s = refl
 saves_not (Ok command.Untrack) none s = refl
 saves_not (Ok command.Changes) none s = refl
 saves_not (Ok command.NoLimit) none s = refl
+
+-- a command that changes no file saves none
+saves_unsaved : (c : Result Command Refusal) → file_saved c ≡ None → (s : State) → saving_of s c ≡ None
+saves_unsaved (Err refusal) none s = refl
+saves_unsaved (Ok command.Blank) none s = refl
+saves_unsaved (Ok (command.Edit p e lazy)) none s = refl
+saves_unsaved (Ok (command.Box low high e)) none s = refl
+saves_unsaved (Ok (command.Scan head)) none s = refl
+saves_unsaved (Ok (command.Beam p)) none s = refl
+saves_unsaved (Ok command.End) none s = refl
+saves_unsaved (Ok (command.Get p depth)) none s = refl
+saves_unsaved (Ok (command.Cast o e ignore)) none s = refl
+saves_unsaved (Ok command.Counts) none s = refl
+saves_unsaved (Ok command.Refresh) none s = refl
+saves_unsaved (Ok command.Prune) none s = refl
+saves_unsaved (Ok command.Clear) none s = refl
+saves_unsaved (Ok command.MaxLikelihood) none s = refl
+saves_unsaved (Ok command.Quit) none s = refl
+saves_unsaved (Ok (command.Save name)) none s = cc
+saves_unsaved (Ok (command.Load name)) none s = refl
+saves_unsaved (Ok (command.Snapshot name)) none s = cc
+saves_unsaved (Ok (command.Restore name)) none s = refl
+saves_unsaved (Ok (command.List low high depth)) none s = refl
+saves_unsaved (Ok (command.Limit low high)) none s = refl
+saves_unsaved (Ok command.Track) none s = refl
+saves_unsaved (Ok command.Untrack) none s = refl
+saves_unsaved (Ok command.Changes) none s = refl
+saves_unsaved (Ok command.NoLimit) none s = refl
+
+opened_saves : (files : Option Files) (s : State) (c : Result Command Refusal) (block : Option Block) → file_saved c ≡ None → (effect_opened files s c block).saving ≡ None
+opened_saves files s c None none = saves_none (reply files s c) (saving_of s c) (saves_unsaved c none s)
+opened_saves files s c (Some block) none = refl
+
+effect_saves : (files : Option Files) (s : State) (number : ℕ) (line : Line) (c : Result Command Refusal) (block : Option Block) → file_saved c ≡ None → (effect files s number line c block).saving ≡ None
+effect_saves files s number line c None none = opened_saves files s c (opened number line c) none
+effect_saves files s number line c (Some block) none = inside_saves s number c block
+
+-- so that a line which saves no file leaves the files as they were
+pub files_stay : (o : Setup) (p : Progress) (line : Line) → p.has_quit ≡ false → file_saved (next_command p line) ≡ None → (after_line o p line).files ≡ p.files
+files_stay o p line running none = ap (λ (x : Progress). x.files) (after_answered o p line running)
+    ∙ ap (stored p.files) (effect_saves p.files (state_after o p.history) (p.line_count + 1) line (next_command p line) p.block none)
 
 -- a command that is none of those that name a file
 pub names_not : (c : Command) → ((name : List ℕ) → c ≡ command.Save name → ⊥) → ((name : List ℕ) → c ≡ command.Load name → ⊥) → ((name : List ℕ) → c ≡ command.Snapshot name → ⊥) → ((name : List ℕ) → c ≡ command.Restore name → ⊥) →
@@ -342,6 +372,11 @@ kept_line o d e s p c running read keeps at none =
     let both = unnamed_next o p s.line.line (sym at.step.has_quit ∙ running) none in
     keeps (ap file_named (same_command s p c at.step read) ∙ both.1) (at.kept both.0)
 
+-- the files are as they were where the line saves none
+unsaved_line : (o : Setup) (d e : Desk) (s : Session) (p : Progress) (c : Result Command Refusal) → c ≡ command_on (is_some s.block) (s.line_count + 1) s.line.line →
+    (file_saved c ≡ None → e.files ≡ d.files) → IsBetween o d s p → file_saved (next_command p s.line.line) ≡ None → e.files ≡ p.files
+unsaved_line o d e s p c read keeps at none = keeps (ap file_saved (same_command s p c at.step read) ∙ none) ∙ at.like.told
+
 -- desk and session after the next line
 pub between_line : (o : Setup) (d e : Desk) (s t : Session) (p : Progress) (c : Result Command Refusal) (block : Option Block) (a : Option Reply) → IsWorked s c d.map e.map d.files e.files block (Ok a) →
     (file_named c ≡ None → d.kept → e.kept) →
@@ -370,9 +405,10 @@ failed_beside o e p line store_fault.Memory less = inr less
 -- where the command failed, nothing of the line is done, but for the file that it names
 pub before_err : {T H : Type 0} (x : Result T StoreFault) (fault : StoreFault) (o : Setup) (d e : H → Desk) (s : Session) (c : Result Command Refusal) (block : Option Block) → IsErrAnd x (λ y. y ≡ fault) →
     ((home : H) → IsWorked s c (d home).map (e home).map (d home).files (e home).files block (Err fault)) → ((home : H) → file_named c ≡ None → (d home).kept → (e home).kept) →
+    ((home : H) → file_saved c ≡ None → (e home).files ≡ (d home).files) →
     IfErr x (λ y. (home : H) (p : Progress) → IsKnown (after_line o p s.line.line) → IsBetween o (d home) s p → HasStoppedAt o (e home) p s.line.line y)
-before_err (Ok x) fault o d e s c block same works keeps = absurd same
-before_err (Err x) fault o d e s c block same works keeps = λ home p known at.
+before_err (Ok x) fault o d e s c block same works keeps unsaves = absurd same
+before_err (Err x) fault o d e s c block same works keeps unsaves = λ home p known at.
     let w = works home in
     let done = w.took p.files (state_after o p.history) (finds_line o s p c w.running at.step w.read known) at.like in
     let failed : HasFailed (file_named (next_command p s.line.line)) p.files (state_after o p.history) (e home).map (e home).files x =
@@ -381,18 +417,21 @@ before_err (Err x) fault o d e s c block same works keeps = λ home p known at.
     record {
       heard = subst (λ (y : Effect). IsHeard y) (same_effect o s p c at.step w.read) done.0;
       beside = failed_beside o (e home) p s.line.line x failed;
+      unsaved = unsaved_line o (d home) (e home) s p c w.read (unsaves home) at;
       kept = kept_line o (d home) (e home) s p c w.running w.read (keeps home) at;
     }
 
 -- where memory runs out for the reply, all of it is done
 pub after_err : {T H : Type 0} (x : Result T StoreFault) (o : Setup) (d e : H → Desk) (s : Session) (c : Result Command Refusal) (block : Option Block) (a : Option Reply) → IsErrAnd x (λ y. y ≡ store_fault.Memory) →
-    ((home : H) → IsWorked s c (d home).map (e home).map (d home).files (e home).files block (Ok a)) → ((home : H) → file_named c ≡ None → (d home).kept → (e home).kept) → IsSome a →
+    ((home : H) → IsWorked s c (d home).map (e home).map (d home).files (e home).files block (Ok a)) → ((home : H) → file_named c ≡ None → (d home).kept → (e home).kept) →
+    ((home : H) → file_saved c ≡ None → (e home).files ≡ (d home).files) → IsSome a →
     IfErr x (λ y. (home : H) (p : Progress) → IsKnown (after_line o p s.line.line) → IsBetween o (d home) s p → HasStoppedAt o (e home) p s.line.line y)
-after_err (Ok x) o d e s c block a memory works keeps some = absurd memory
-after_err (Err x) o d e s c block a memory works keeps some = λ home p known at.
+after_err (Ok x) o d e s c block a memory works keeps unsaves some = absurd memory
+after_err (Err x) o d e s c block a memory works keeps unsaves some = λ home p known at.
     let w = works home in
     record {
       heard = inl (subst (λ (r : Option Reply). IsSome r) (told_line o (d home) (e home).map (e home).files s p c block a w known at) some);
       beside = subst (λ y. StandsBeside o (e home) p s.line.line y) (sym memory) (inl (like_line o (d home) (e home) s p c block a w known at));
+      unsaved = unsaved_line o (d home) (e home) s p c w.read (unsaves home) at;
       kept = kept_line o (d home) (e home) s p c w.running w.read (keeps home) at;
     }

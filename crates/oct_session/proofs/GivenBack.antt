@@ -48,7 +48,7 @@ use Rattle.oct_session.proofs.StateCommands.{session_is, res_of, most_of}
 -- ---- the file that was written
 
 -- the bytes under a name
-abbrev file_in : Option Files → List ℕ → Option (List ℕ)
+abbrev pub file_in : Option Files → List ℕ → Option (List ℕ)
 file_in None name = None
 file_in (Some files) name = files name
 
@@ -59,7 +59,7 @@ by_name : (a b : List ℕ) (t : Bool) → bytes_eq a b ≡ t → a ≢ b → t �
 by_name a b true e other = absurd (other ((bytes_eq-Decides a b).0 e))
 by_name a b false e other = refl
 
-saved_there : (files : Option Files) (saving : Saving) → IsSome files → file_in (stored files (Some saving)) saving.name ≡ Some saving.bytes
+pub saved_there : (files : Option Files) (saving : Saving) → IsSome files → file_in (stored files (Some saving)) saving.name ≡ Some saving.bytes
 saved_there None saving told = cc
 saved_there (Some files) saving told = ap (λ b. cond {A = Option (List ℕ)} b (Some saving.bytes) (files saving.name)) (equal_names saving.name saving.name refl)
 
@@ -76,7 +76,7 @@ kept_line o p line name bytes other there = elim p.has_quit as (λ v. file_in (c
   | false ↦ stored_beside p.files (effect_of o p line).saving name bytes other there
 ]
 
-kept_lines : (o : Setup) (p : Progress) (lines : List Line) (name bytes : List ℕ) → NoneWrites o name p lines → file_in p.files name ≡ Some bytes → file_in (fold (after_line o) p lines).files name ≡ Some bytes
+pub kept_lines : (o : Setup) (p : Progress) (lines : List Line) (name bytes : List ℕ) → NoneWrites o name p lines → file_in p.files name ≡ Some bytes → file_in (fold (after_line o) p lines).files name ≡ Some bytes
 unfolding NoneWrites
 kept_lines o p [] name bytes none there = there
 kept_lines o p (line ∷ lines) name bytes none there = kept_lines o (after_line o p line) lines name bytes none.1 (kept_line o p line name bytes none.0 there)
@@ -84,7 +84,7 @@ kept_lines o p (line ∷ lines) name bytes none there = kept_lines o (after_line
 -- ---- the two lines
 
 -- what a command does outside a block
-effect_next : (o : Setup) (p : Progress) (line : Line) (c : Command) → IsNext p line c → effect_of o p line ≡ effect p.files (state_after o p.history) (p.line_count + 1) line (Ok c) None
+pub effect_next : (o : Setup) (p : Progress) (line : Line) (c : Command) → IsNext p line c → effect_of o p line ≡ effect p.files (state_after o p.history) (p.line_count + 1) line (Ok c) None
 effect_next o p line c next =
     ap (λ (b : Option Block). effect p.files (state_after o p.history) (p.line_count + 1) line (next_command p line) b) next.outside
     ∙ ap (λ (r : Result Command Refusal). effect p.files (state_after o p.history) (p.line_count + 1) line r None) next.reads
@@ -98,7 +98,7 @@ written_there o p line name next told =
     ∙ saved_there p.files (record { name = name; bytes = snapshot_file (state_after o p.history) }) told
 
 -- the restore finds it
-found_there : (files : Option Files) (name bytes : List ℕ) → file_in files name ≡ Some bytes → length bytes ≤ 2 ^ 30 → found_in files name ≡ Some (Bytes bytes)
+pub found_there : (files : Option Files) (name bytes : List ℕ) → file_in files name ≡ Some bytes → length bytes ≤ 2 ^ 30 → found_in files name ≡ Some (Bytes bytes)
 found_there None name bytes there few = cc
 found_there (Some files) name bytes there few =
     ap (λ (f : Option (List ℕ)). Some (loaded_of f)) there ∙ ap (λ b. Some (cond {A = Loaded} b (Bytes bytes) TooLarge)) (le-leb (length bytes) (2 ^ 30) few)

@@ -26,6 +26,7 @@ use Rattle.oct_session.specs.Setup.{Setup}
 use Rattle.oct_session.specs.Tally.{counted as count_reply}
 use Rattle.oct_session.specs.Standing.{IsHeard, StandsBeside, HasStoppedAt, IsInStep, IsBetween, HasReached}
 use Rattle.oct_session.specs.Stops.{stop_of_sink, stop_of_store, status_of, IsSinkStop}
+use Rattle.oct_session.proofs.Effects.{files_stay}
 use Rattle.oct_session.proofs.Prefixes.{begun_more}
 use Rattle.oct_session.proofs.NonemptyReplies.{text_some}
 use Rattle.oct_session.proofs.Progresses.{progress_push, progress_grows, after_answered, unnamed_before}
@@ -87,6 +88,7 @@ untold_err (Err x) fault o v d e s is running beside = λ home w p known at.
       cut = cut_untold w v s p (after_line o p s.line.line) (text_of (effect_of o p s.line.line).reply) running at.between.step at.written (text_line o s p running at.between.step)
           (heard_line o p s.line.line (sym at.between.step.has_quit ∙ running) b.heard);
       has_left = left_beside o (e home) p s.line.line fault b.beside;
+      unsaved = b.unsaved;
       kept = b.kept;
     })
 
@@ -103,6 +105,7 @@ part_err (Err x) fault o v u d e s t text k is running between same less written
       cut = cut_part w v u s p (after_line o p s.line.line) text k running at.between.step at.written
           (text_line o s p running at.between.step ∙ ap (λ x. p.text ++ x) (sym (same home p known at.between))) less written;
       has_left = left_all o (file_named (next_command p s.line.line)) (e home) p (after_line o p s.line.line) (take k text) fault b.like;
+      unsaved = λ none. b.like.told ∙ files_stay o p s.line.line (sym at.between.step.has_quit ∙ running) none;
       kept = b.kept;
     })
 
@@ -193,10 +196,11 @@ left_closed o d p told stop_as.StoreFault sink like = absurd sink
 
 -- a halt at the end of the script, with the desk that stands by
 pub halted_closed : (o : Setup) (w v u : Option (List ℕ)) (d : Desk) (s : Session) (p : Progress) (stop : Stop) → IsSinkStop stop → HasReached o w v d s p → IsCutBetween p (closed p) w u →
-    IsHaltedBetween o None p (closed p) w u d (status_of stop)
+    IsHaltedBetween o None None p (closed p) w u d (status_of stop)
 halted_closed o w v u d s p stop sink at cut = record {
   cut = cut;
   has_left = left_closed o d p cut.told stop sink (like_closed o d p at.between.like);
+  unsaved = λ none. at.between.like.told;
   kept = λ none. at.between.kept (sym (closed_unnamed p) ∙ none);
 }
 

@@ -25,3 +25,5 @@ pub mod StateActions
 pub mod SnapshotFields
 pub mod StateCommands
 pub mod GivenBack
+pub mod SavedRecords
+pub mod LoadedBack

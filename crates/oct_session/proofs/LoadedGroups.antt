@@ -24,11 +24,11 @@ use Rattle.oct_values.proofs.Listed.{sum_of_blocks, sum_of_no_blocks}
 use Rattle.oct_values.proofs.Uniform.{uniform_of}
 
 -- how many blocks aren't uniform among a block and those in it, of so many depths from its own on
-abbrev varied : Values → ℕ → Cube → ℕ
+abbrev pub varied : Values → ℕ → Cube → ℕ
 varied values h b = count_by (λ c. not (is_uniform values c)) (blocks_below h b)
 
 -- none where all voxels of the block have one value
-none_varied : (values : Values) (value : Value) (h : ℕ) (b : Cube) → b.depth + h ≡ 16 → IsBlock b → ((k : Voxel) → HoldsVoxel b k → values k ≡ value) → varied values h b ≡ 0
+pub none_varied : (values : Values) (value : Value) (h : ℕ) (b : Cube) → b.depth + h ≡ 16 → IsBlock b → ((k : Voxel) → HoldsVoxel b k → values k ≡ value) → varied values h b ≡ 0
 none_varied values value zero b d ok same = sum_of_no_blocks (λ c. cond (not (is_uniform values c)) 1 0) b
 none_varied values value (suc h) b d ok same =
     let all = sum_of_blocks (λ c. cond (not (is_uniform values c)) 1 0) h b in

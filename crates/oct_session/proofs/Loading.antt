@@ -26,7 +26,7 @@ use Rattle.oct_script.specs.declared.reply.Refusal.{Refusal}
 use Rattle.oct_script.specs.declared.reply.Reply.{Reply}
 use Rattle.oct_script.specs.declared.reply.Reply.TheVariants as reply_of
 use Rattle.oct_session.specs.Commands.{accepted, accepted_saving}
-use Rattle.oct_session.specs.FileCommands.{found_in, nodes_reply, reading_reply, reading_action, load_reply, load_action, classes_file, save_reply}
+use Rattle.oct_session.specs.FileCommands.{found_in, nodes_reply, reading_reply, reading_action, load_reply, classes_file, save_reply}
 use Rattle.oct_session.specs.History.{History, State, after_all}
 use Rattle.oct_session.specs.Leaving.{StandsFor, IsTornAt}
 use Rattle.oct_session.specs.Refusals.{file_refusal, fault_reply}
@@ -96,11 +96,6 @@ read_ok : (bytes : List ℕ) (file : FileRead) → IsRead bytes (Ok file) → Ok
 read_ok bytes file (inl is) = is
 read_ok bytes file (inr memory) = cc
 
--- a file that was read
-pub bytes_done : {E : Type 0} (r : Result (Option Reply) E) (m n : Map) (bytes : List ℕ) (file : FileRead) → IsRead bytes (Ok file) →
-    HasDone (λ s. reading_reply s.base (Ok file)) (λ s. reading_action (Ok file)) m n r → HasDone (λ s. reading_reply s.base (reading bytes)) (λ s. reading_action (reading bytes)) m n r
-bytes_done r m n bytes file read done = subst (λ x. HasDone (λ s. reading_reply s.base x) (λ s. reading_action x) m n r) (read_ok bytes file read) done
-
 -- what has a refusal isn't that memory ran out
 told_fault : (f : BtFault) (refusal : Refusal) → file_refusal f ≡ Some refusal → f ≡ bt_fault.Memory → ⊥
 told_fault f refusal is memory = (let absent : ◌≡◌ {A = Option Refusal} None (Some refusal) = sym (ap file_refusal memory) ∙ is in cc)
@@ -109,22 +104,10 @@ read_err : (bytes : List ℕ) (f : BtFault) (refusal : Refusal) → file_refusal
 read_err bytes f refusal is (inl same) = same
 read_err bytes f refusal is (inr memory) = absurd (told_fault f refusal is cc)
 
--- a file with which something is wrong
-pub bytes_refused : (m : Map) (bytes : List ℕ) (f : BtFault) (refusal : Refusal) → file_refusal f ≡ Some refusal → IsRead bytes (Err f) →
-    HasAnswered (λ s. reading_reply s.base (reading bytes)) (λ s. reading_action (reading bytes)) m m (Some (reply_of.Refused refusal))
-bytes_refused m bytes f refusal is read =
-    subst (λ x. HasAnswered (λ s. reading_reply s.base x) (λ s. reading_action x) m m (Some (reply_of.Refused refusal))) (read_err bytes f refusal is read)
-    (λ s at. (ap (λ o. option_map reply_of.Refused o) (sym is), at))
-
 -- a file that memory ran out for
 pub bytes_unread : {E : Type 0} (r : Result (Option Reply) E) (m : Map) (bytes : List ℕ) → IsErr r → HasDone (λ s. reading_reply s.base (reading bytes)) (λ s. reading_action (reading bytes)) m m r
 bytes_unread (Ok x) m bytes err = cc
 bytes_unread (Err x) m bytes err = λ s at. (reading_some s.base bytes, at)
-
--- what the store had
-pub found_as : {E : Type 0} (r : Result (Option Reply) E) (m n : Map) (bytes : List ℕ) (loaded : Loaded) → loaded ≡ Bytes bytes →
-    HasDone (λ s. reading_reply s.base (reading bytes)) (λ s. reading_action (reading bytes)) m n r → HasDone (λ s. load_reply s.base (Some loaded)) (λ s. load_action (Some loaded)) m n r
-found_as r m n bytes loaded is done = subst (λ x. HasDone (λ s. load_reply s.base (Some x)) (λ s. load_action (Some x)) m n r) (sym is) done
 
 -- ---- map and store
 

@@ -137,7 +137,7 @@ inside low high n false true f g l h = absurd (let no : high <ℤ n = grind (ari
 inside low high n false false f g l h = refl
 
 -- the event of a load gives a voxel the value of its class in the file
-replaced_by : (odds : Odds) (c : Class) (old new : Value) → value_for odds c ≡ new → IsWithin odds new → after_event odds (Some (class_event odds c)) old ≡ new
+pub replaced_by : (odds : Odds) (c : Class) (old new : Value) → value_for odds c ≡ new → IsWithin odds new → after_event odds (Some (class_event odds c)) old ≡ new
 replaced_by odds Unknown old new is within = is
 replaced_by odds Free old new is within =
     let bounds : IsWithin odds (Some odds.min) = subst (IsWithin odds) (sym is) within in

@@ -180,15 +180,6 @@ last_lines bytes line last = ap (λ x. ended_lines bytes ++ x) last
 standing : (s : Session) (bytes : List ℕ) (has_rest b : Bool) → has_rest ≡ b → last_line (rest_of bytes) ≡ cond has_rest (s.line.line ∷ []) [] → last_line (rest_of bytes) ≡ cond b (s.line.line ∷ []) []
 standing s bytes has_rest b is last = subst (λ x. last_line (rest_of bytes) ≡ cond x (s.line.line ∷ []) []) is last
 
--- no line stands where the script ends
-pub end_rested : (o : Setup) (files : Option Files) (w v : Option (List ℕ)) (d : Desk) (s : Session) (bytes : List ℕ) (has_rest : Bool) → s.has_quit ≡ false → has_rest ≡ false →
-    ((bytes : List ℕ) → IsReading s.line bytes → last_line (rest_of bytes) ≡ cond has_rest (s.line.line ∷ []) []) →
-    IsAt o files w v d s bytes → IsKnown (progress o files (all_lines bytes)) → HasReached o w v d s (progress o files (all_lines bytes))
-end_rested o files w v d s bytes has_rest running none last at known =
-    let rest : last_line (rest_of bytes) ≡ [] = standing s bytes has_rest false none (last bytes (at.line running)) in
-    let lines : all_lines bytes ≡ ended_lines bytes = ap (λ x. ended_lines bytes ++ x) rest ∙ append-nil (ended_lines bytes) in
-    subst (λ x. HasReached o w v d s (progress o files x)) (sym lines) (at.reached (subst (λ x. IsKnown (progress o files x)) lines known))
-
 -- the line that stands where the script ends was answered
 pub end_answered : {T E H : Type 0} (r : Result T E) (o : Setup) (v u : Option (List ℕ)) (d e : H → Desk) (s t : Session) (has_rest : Bool) → s.has_quit ≡ false → has_rest ≡ true →
     ((bytes : List ℕ) → IsReading s.line bytes → last_line (rest_of bytes) ≡ cond has_rest (s.line.line ∷ []) []) →

@@ -97,10 +97,6 @@ replied_first o files bytes k taken w u few at =
     sym (take-append-drop k (take taken bytes)) ∙ ap (λ x. x ++ drop k (take taken bytes)) (take-take k taken bytes few) in
     replied_before o files (take k bytes) (drop k (take taken bytes)) w u (subst (λ x. HasReplied o files x w u) parts at)
 
--- the replies to the lines that end within these bytes were written, and nothing else
-pub replied_all : (o : Setup) (files : Option Files) (bytes : List ℕ) (w u : Option (List ℕ)) → u ≡ appended w (replies_within o files bytes) → HasReplied o files bytes w u
-replied_all o files bytes w u written = record { more = []; written = written ∙ ap (appended w) (sym (append-nil (replies_within o files bytes))) }
-
 -- both of two truth values are false where their disjunction is
 both_false : (a b : Bool) → (a || b) ≡ false → (a ≡ false) × (b ≡ false)
 both_false true b is = cc

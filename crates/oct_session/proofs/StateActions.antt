@@ -3,9 +3,12 @@ use Rattle.std.proofs.Common.{◌≡◌, ℤ, ◌≤ℤ◌, ◌<ℤ◌, Bool, tr
 use Rattle.std.specs.Prelude.{int_lt, IfSome}
 use Rattle.std.proofs.lemmas.Int.{ints}
 use Rattle.oct_key.specs.Boxes.{Corners}
+use Rattle.oct_bt.specs.Classes.{value_for}
 use Rattle.oct_map.specs.Ground.{Ground}
 use Rattle.oct_odds.specs.Odds.{Odds, IsSound}
 use Rattle.oct_odds.specs.Update.{Value, IsWithin, clamped, applied}
+use Rattle.oct_odds.specs.declared.event.Class.{Class}
+use Rattle.oct_odds.specs.declared.event.Class.TheVariants.{Unknown, Free, Occupied}
 use Rattle.oct_odds.specs.declared.event.Event.{Event}
 use Rattle.oct_odds.specs.declared.event.Event.TheVariants as event
 use Rattle.oct_snap.specs.Reading.{Snapshot}
@@ -34,6 +37,12 @@ clamped_within o sound n = clamped_by o.min o.max n (int_lt n o.min) (int_lt o.m
 either_bound : (o : Odds) → IsSound o → (b : Bool) → IsWithin o (Some (cond b o.min o.max))
 either_bound o sound true = (at_most_itself o.min, bounds_in_order o sound)
 either_bound o sound false = (bounds_in_order o sound, at_most_itself o.max)
+
+-- and so does the value that a voxel of a class is given
+pub bound_within : (o : Odds) → IsSound o → (c : Class) → IsWithin o (value_for o c)
+bound_within o sound Unknown = tt
+bound_within o sound Free = either_bound o sound true
+bound_within o sound Occupied = either_bound o sound false
 
 -- whatever an event finds, it leaves a value within the bounds
 applied_within : (o : Odds) → IsSound o → (e : Event) (value : Value) → IsWithin o (applied o e value)

@@ -159,6 +159,12 @@ file_named (Ok (Snapshot name)) = Some name
 file_named (Ok (Restore name)) = Some name
 file_named _ = None
 
+-- the file that a command may change, if it may change one: a load and a restore change none
+abbrev pub file_saved : Result Command Refusal → Option (List ℕ)
+file_saved (Ok (Save name)) = Some name
+file_saved (Ok (Snapshot name)) = Some name
+file_saved _ = None
+
 -- what is saved where the reply isn't a refusal
 abbrev pub accepted_saving : Option Reply → Option Saving → Option Saving
 accepted_saving answer saving = if is_refusal answer then None else saving

@@ -1,10 +1,8 @@
 -- A drill: a session over a script that a number makes, and four lines about it.
-use Rattle.std.specs.Prelude.{ℕ, ◌^◌, ◌++◌, List, codes, decimal, length, nat_lt, Option, Some, Result, Ok, Err, ⊤}
+use Rattle.std.specs.Prelude.{ℕ, ◌^◌, ◌++◌, List, codes, decimal, length, nat_lt, Option, Some}
 use Rattle.oct_io.specs.Taken.{IsCutOff}
 use Rattle.oct_gen.specs.Script.{script_of}
 use Rattle.oct_io.specs.Files.{Files, no_files}
-use Rattle.oct_io.specs.declared.sink.SinkFault.{SinkFault}
-use Rattle.oct_io.specs.declared.sink.SinkFault.TheVariants as sink
 use Rattle.oct_odds.specs.Odds.{default_odds}
 use Rattle.oct_values.specs.Counts.{group_count, node_count}
 use Rattle.oct_session.specs.Ending.{IsAnswered}
@@ -73,9 +71,3 @@ EndsUnread whole old new ReadFault = ⊥
 EndsUnread whole old new WriteFault = IsCutOff old new whole.text
 EndsUnread whole old new Memory = IsCutOff old new whole.text
 EndsUnread whole old new StoreFault = ⊥
-
--- the status of a task whose text was written, or else that of the sink's fault
-abbrev pub status_written : Status → Result ⊤ SinkFault → Status
-status_written whole (Ok done) = whole
-status_written whole (Err sink.Failed) = WriteFault
-status_written whole (Err sink.Memory) = Memory

@@ -7,7 +7,7 @@ use Rattle.oct_map.specs.Marks.{SameMark, marked_of}
 use Rattle.oct_script.specs.Lines.{Line, ended_lines}
 use Rattle.oct_key.specs.Values.{SameValues}
 use Rattle.oct_tree.specs.Shape.{IsPruned}
-use Rattle.oct_session.specs.Commands.{file_named}
+use Rattle.oct_session.specs.Commands.{file_named, file_saved}
 use Rattle.oct_session.specs.Ending.{HasTaken}
 use Rattle.oct_session.specs.History.{History, State, state_after}
 use Rattle.oct_session.specs.Session.{Progress, next_command, after_line, progress, closed, is_too_long, lines_of, last_progress}
@@ -92,19 +92,22 @@ pub record IsCutBetween (p q : Progress) (old new : Option (List ℕ)) : Type 0 
   pub written : new ≡ appended old (p.text ++ told)
   pub more : (0 < length untold) ⊎ IsSome q.block
 
--- the session was halted on its way from one state to the next, by a line that may name a file; the
--- store is as it was at first where none did
-pub record IsHaltedBetween (o : Setup) (named : Option (List ℕ)) (p q : Progress)
+-- the session was halted on its way from one state to the next, by a line that may name a file and
+-- may save one; the files are as they were where it saves none, and the store is as it was at first
+-- where no line named a file
+pub record IsHaltedBetween (o : Setup) (named saved : Option (List ℕ)) (p q : Progress)
     (old new : Option (List ℕ)) (d : Desk) (status : Status) : Type 0 where
   pub cut : IsCutBetween p q old new
   pub has_left : HasLeft o named p q cut.told d status
+  pub unsaved : saved ≡ None → d.files ≡ p.files
   pub kept : q.names_file ≡ false → d.kept
 
 -- the session was halted at this line
 abbrev pub IsHaltedBy : Setup → Progress → Line → Option (List ℕ) → Option (List ℕ) → Desk
     → Status → Type 0
 IsHaltedBy o p line old new d status =
-    IsHaltedBetween o (file_named (next_command p line)) p (after_line o p line) old new d status
+    IsHaltedBetween o (file_named (next_command p line)) (file_saved (next_command p line)) p
+    (after_line o p line) old new d status
 
 -- what was answered so far is known: the files are told, or no line named one
 abbrev pub IsKnown : Progress → Type 0
@@ -124,7 +127,7 @@ pub record IsHalted (o : Setup) (files : Option Files) (lines : List Line)
 abbrev pub IsHaltedAtEnd : Setup → Option Files → List Line → Option (List ℕ)
     → Option (List ℕ) → Desk → Status → Type 0
 IsHaltedAtEnd o files lines old new d status =
-    IsHaltedBetween o None (progress o files lines) (closed (progress o files lines)) old new d
+    IsHaltedBetween o None None (progress o files lines) (closed (progress o files lines)) old new d
     status
 
 -- the session was halted at one of its lines, or at the end of its script, which has one where it

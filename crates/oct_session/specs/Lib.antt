@@ -1,4 +1,5 @@
 pub mod Stops
+pub mod Counts
 pub mod Setup
 pub mod History
 pub mod Refusals
@@ -14,3 +15,4 @@ pub mod Standing
 pub mod Building
 pub mod Drill
 pub mod GivenBack
+pub mod LoadedBack

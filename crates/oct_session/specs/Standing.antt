@@ -17,7 +17,7 @@ use Rattle.oct_session.specs.Ending.{HasTaken, HasReplied, IsReadToEnd, MayEnd}
 use Rattle.oct_session.specs.Leaving.{StandsFor, StandsForSome, Desk, IsLike, IsTornAt, IsLikeAfter, IsTornAfter, IsKnown, IsHalted, IsHaltedAtEnd, Leaves}
 use Rattle.oct_session.specs.History.{History, State, after_all}
 use Rattle.oct_session.specs.Session.{Progress, Effect, effect_of, next_command, after_line, progress, closed, session, finished, last_progress}
-use Rattle.oct_session.specs.Commands.{reply, action_of, accepted, stored, file_named}
+use Rattle.oct_session.specs.Commands.{reply, action_of, accepted, stored, file_named, file_saved}
 use Rattle.oct_session.specs.ScanBlock.{block_reply, block_action}
 use Rattle.oct_session.specs.Setup.{Setup}
 use Rattle.oct_session.specs.Stops.{status_of}
@@ -107,11 +107,13 @@ StandsBeside o d p line store_fault.Failed =
 StandsBeside o d p line store_fault.Memory = IsLikeAfter o (after_line o p line) d
     ⊎ (IsLikeAfter o p d ⊎ IsTornAfter o (file_named (next_command p line)) p d)
 
--- the same, of a line that is heard; the store is as it was at first where no line named a file
+-- the same, of a line that is heard; the files are as they were where it saves none, and the store is
+-- as it was at first where no line named a file
 pub record HasStoppedAt (o : Setup) (d : Desk) (p : Progress) (line : Line) (fault : StoreFault)
     : Type 0 where
   pub heard : IsHeard (effect_of o p line)
   pub beside : StandsBeside o d p line fault
+  pub unsaved : file_saved (next_command p line) ≡ None → d.files ≡ p.files
   pub kept : (after_line o p line).names_file ≡ false → d.kept
 
 -- the session stands between two lines, where that was done so far

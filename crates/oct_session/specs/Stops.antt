@@ -1,4 +1,5 @@
 -- Why a session stops, and the status that it then has.
+use Rattle.std.specs.Prelude.{Result, Ok, Err, ⊤}
 use Rattle.oct_io.specs.declared.sink.SinkFault.{SinkFault}
 use Rattle.oct_io.specs.declared.sink.SinkFault.TheVariants as sink_fault
 use Rattle.oct_io.specs.declared.store.StoreFault.{StoreFault}
@@ -25,6 +26,12 @@ status_of stop.ReadFault = status.ReadFault
 status_of stop.WriteFault = status.WriteFault
 status_of stop.Memory = status.Memory
 status_of stop.StoreFault = status.StoreFault
+
+-- the status of a task whose text was written, or else that of the sink's fault
+abbrev pub status_written : Status → Result ⊤ SinkFault → Status
+status_written whole (Ok done) = whole
+status_written whole (Err sink_fault.Failed) = status.WriteFault
+status_written whole (Err sink_fault.Memory) = status.Memory
 
 -- a stop that a line's own work may lead to
 abbrev pub IsHalt : Stop → Type 0

@@ -33,7 +33,11 @@ impl Model for PendingScan {
 
     ghost view = { λ s. record { line = s.line; head = s.head; points = s.points } };
 
-    ghost invariant = { λ s. IsReadable (record { line = s.line; head = s.head; points = s.points }) };
+    ghost invariant = { λ s. IsReadable (record {
+      line = s.line;
+      head = s.head;
+      points = s.points;
+    }) };
 }
 
 /// The block of a scan, between two of its lines.

@@ -3,6 +3,7 @@ ghost use Rattle.std.specs.Prelude.{◌≡◌, ◌≢◌, ◌⊎◌, IfSome, Non
 ghost use Rattle.oct_io.specs.Told.{Rose};
 ghost use Rattle.oct_bt.specs.File.{bt_text};
 ghost use Rattle.oct_bt.specs.Mixtures.{classes_in};
+ghost use Rattle.oct_session.specs.Counts.{IsSourceCounted, IsSinkCounted, IsStoreCounted};
 ghost use Rattle.oct_session.specs.Building.{build as whole_build, has_ended, EndsWriting, MayEnd, Leaves};
 ghost use Rattle.oct_session.specs.Ending.{IsWhole};
 ghost use Rattle.oct_session.specs.History.{start_state};
@@ -101,19 +102,10 @@ pub fn build<S: Source, K: Sink, F: Store>(
 
     // A fault is met once and ends the build: its count rises by one exactly where the status names
     // it, and no other count changes.
-    ensures read_fault { result ≡ Status.ReadFault
-        → Rose (S.faults source.old) (S.faults source.new) }
-    ensures no_read_fault { result ≢ Status.ReadFault → S.faults source.new ≡ S.faults source.old }
-    ensures write_fault { result ≡ Status.WriteFault
-        → Rose (K.faults sink.old) (K.faults sink.new) }
-    ensures no_write_fault { result ≢ Status.WriteFault → K.faults sink.new ≡ K.faults sink.old }
-    ensures store_fault { result ≡ Status.StoreFault
-        → Rose (F.faults store.old) (F.faults store.new) }
-    ensures no_store_fault { result ≢ Status.StoreFault
-        → F.faults store.new ≡ F.faults store.old }
-    ensures memory { result ≡ Status.Memory → (K.shortages sink.new ≡ K.shortages sink.old)
-        ⊎ Rose (K.shortages sink.old) (K.shortages sink.new) }
-    ensures no_shortage { result ≢ Status.Memory → K.shortages sink.new ≡ K.shortages sink.old }
+    ensures source_counts { IsSourceCounted result (S.faults source.old) (S.faults source.new) }
+    ensures sink_counts { IsSinkCounted result (K.faults sink.old) (K.faults sink.new)
+        (K.shortages sink.old) (K.shortages sink.new) }
+    ensures store_counts { IsStoreCounted result (F.faults store.old) (F.faults store.new) }
     ensures complete { ¬ Rose (S.faults source.old) (S.faults source.new)
         → ¬ Rose (K.faults sink.old) (K.faults sink.new)
         → ¬ Rose (F.faults store.old) (F.faults store.new)

@@ -1,18 +1,19 @@
 //! Drills: a session over a script that a number makes, and four lines about it.
-ghost use Rattle.std.specs.Prelude.{◌≡◌, ◌≢◌, ◌⊎◌, ◌≤◌, ◌++◌, ◌^◌, decimal, length, None, nat_lt, OnOk, OnErr, IfOk, IfErr, IsErrOf};
+ghost use Rattle.std.specs.Prelude.{◌≡◌, ◌≤◌, ◌++◌, decimal, length, None, OnOk, OnErr, IfOk, IfErr};
 ghost use Rattle.oct_bt.specs.File.{bt_text};
 ghost use Rattle.oct_io.specs.Taken.{IsCutOff};
 ghost use Rattle.oct_bt.specs.Mixtures.{classes_in};
-ghost use Rattle.oct_io.specs.Told.{Rose, appended};
+ghost use Rattle.oct_io.specs.Told.{appended};
 ghost use Rattle.oct_map.specs.Map.{values_of};
 ghost use Rattle.oct_values.specs.Counts.{group_count, node_count};
-ghost use Rattle.oct_session.specs.Drill.{drill as whole_drill, drill_setup, drilled, drilled_state, line_of_two, summary, EndsUnread, status_written};
+ghost use Rattle.oct_session.specs.Counts.{IsSinkCounted, IsWriteCounted};
+ghost use Rattle.oct_session.specs.Drill.{drill as whole_drill, drill_setup, drilled, drilled_state, line_of_two, summary, EndsUnread};
 ghost use Rattle.oct_session.specs.History.{start_state};
 ghost use Rattle.oct_session.specs.Leaving.{StandsFor};
 ghost use Rattle.oct_session.specs.Session.{status_at_end};
 
 use crate::building::Discard;
-use crate::options::{MOST_BYTES, Options, Status, Stop};
+use crate::options::{MOST_BYTES, Options, Status, Stop, status_written};
 use crate::service::{done_or_refused, read_all};
 use crate::session::Session;
 use crate::tally::Tally;
@@ -26,17 +27,6 @@ use oct_num::Memory;
 use oct_odds::OddsModel;
 use oct_query::Counts;
 use std::alloc::Global;
-
-/// The status of a task whose text was written, or else that of the sink's fault.
-pub fn status_written(whole: Status, written: Result<(), SinkFault>) -> Status
-    ensures { result ≡ status_written whole written }
-{
-    match written {
-        Ok(()) => whole,
-        Err(SinkFault::Failed) => Status::WriteFault,
-        Err(SinkFault::Memory) => Status::Memory,
-    }
-}
 
 /// What a drill is set up with: voxels of 0.05 m, and the default of each option.
 fn drill_options() -> Options
@@ -122,13 +112,8 @@ fn write_summary<K: Sink>(
     ensures err { OnErr result (IsCutOff (K.written sink.old) (K.written sink.new)
         (summary scans tally.now (group_count (values_of map.old)) (node_count (values_of map.old))
         (length (bt_text map.old.tree.res (classes_in map.old.tree))))) }
-    ensures stays { OnOk result
-        ((K.faults sink.new ≡ K.faults sink.old) × (K.shortages sink.new ≡ K.shortages sink.old)) }
-    ensures failed { IsErrOf result SinkFault.Failed → Rose (K.faults sink.old) (K.faults sink.new)
-        × (K.shortages sink.new ≡ K.shortages sink.old) }
-    ensures memory { IsErrOf result SinkFault.Memory → (K.faults sink.new ≡ K.faults sink.old)
-        × ((K.shortages sink.new ≡ K.shortages sink.old)
-        ⊎ Rose (K.shortages sink.old) (K.shortages sink.new)) }
+    ensures sink_counts { IsWriteCounted result (K.faults sink.old) (K.faults sink.new)
+        (K.shortages sink.old) (K.shortages sink.new) }
 {
     let bytes = encoded_len(map.tree());
     let counts = map.counts();
@@ -176,12 +161,8 @@ pub fn drill<K: Sink>(alloc: Global, seed: u64, scans: u32, points: u32, sink: &
     requires few_points { points ≤ 100000 }
     ensures answer { EndsUnread (whole_drill None seed scans points)
         (K.written sink.old) (K.written sink.new) result }
-    ensures write_fault { result ≡ Status.WriteFault
-        → Rose (K.faults sink.old) (K.faults sink.new) }
-    ensures no_write_fault { result ≢ Status.WriteFault → K.faults sink.new ≡ K.faults sink.old }
-    ensures memory { result ≡ Status.Memory → (K.shortages sink.new ≡ K.shortages sink.old)
-        ⊎ Rose (K.shortages sink.old) (K.shortages sink.new) }
-    ensures no_shortage { result ≢ Status.Memory → K.shortages sink.new ≡ K.shortages sink.old }
+    ensures sink_counts { IsSinkCounted result (K.faults sink.old) (K.faults sink.new)
+        (K.shortages sink.old) (K.shortages sink.new) }
 {
     let options = drill_options();
     let mut map = OccMap::new(alloc, options.res, options.odds, options.limits);

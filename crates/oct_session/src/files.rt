@@ -1,7 +1,6 @@
 //! What a command does that names a file: a save or a snapshot to the store, or a load or a restore
 //! from it.
-ghost use Rattle.std.specs.Prelude.{◌≡◌, ◌⊎◌, IfOk, IsErrOf, None, Ok, OnErr, OnOk, Option, Some, Err};
-ghost use Rattle.oct_io.specs.Told.{Rose};
+ghost use Rattle.std.specs.Prelude.{◌≡◌, ◌⊎◌, IfOk, None, Ok, OnErr, Option, Some, Err};
 ghost use Rattle.oct_bt.specs.declared.fault.BtFault.{BtFault};
 ghost use Rattle.oct_bt.specs.File.{bt_text, reading};
 ghost use Rattle.oct_bt.specs.Mixtures.{classes_in};
@@ -9,6 +8,7 @@ ghost use Rattle.oct_map.specs.Map.{values_of};
 ghost use Rattle.oct_snap.specs.Reading.{read_snapshot};
 ghost use Rattle.oct_snap.specs.Texts.{snap_text};
 ghost use Rattle.oct_script.specs.declared.command.Command.{Command};
+ghost use Rattle.oct_session.specs.Counts.{IsAskCounted};
 ghost use Rattle.oct_session.specs.Commands.{file_named};
 ghost use Rattle.oct_session.specs.FileCommands.{load_action, load_reply, reading_action, reading_reply};
 ghost use Rattle.oct_session.specs.FileCommands.{restore_action, restore_reply, snapshot_action, snapshot_reply};
@@ -51,10 +51,7 @@ pub fn save<F: Store>(
     ensures effect { HasEffect (λ files s. effect_of_command files s (Ok (Command.Save name.now)))
         (file_named (Ok (Command.Save name.now))) map.now (F.files store.old) map.now
         (F.files store.new) None (with_reply result reply.new) }
-    ensures stays { OnOk result (F.faults store.new ≡ F.faults store.old) }
-    ensures memory { IsErrOf result StoreFault.Memory → F.faults store.new ≡ F.faults store.old }
-    ensures failed { IsErrOf result StoreFault.Failed
-        → Rose (F.faults store.old) (F.faults store.new) }
+    ensures store_counts { IsAskCounted result (F.faults store.old) (F.faults store.new) }
 {
     let file = write_classes(alloc, map)?;
     let bytes = file.written();
@@ -177,10 +174,8 @@ pub fn load<F: Store>(
         (file_named (Ok (Command.Load name.now))) map.old (F.files store.old) map.new
         (F.files store.new) None (with_reply result reply.new) }
     ensures stands { KeepsStanding map.old map.new }
-    ensures stays { OnOk result (F.faults store.new ≡ F.faults store.old) }
-    ensures memory { IsErrOf result StoreFault.Memory → F.faults store.new ≡ F.faults store.old }
-    ensures failed { IsErrOf result StoreFault.Failed
-        → Rose (F.faults store.old) (F.faults store.new) }
+    ensures unsaved { F.files store.new ≡ F.files store.old }
+    ensures store_counts { IsAskCounted result (F.faults store.old) (F.faults store.new) }
 {
     let loaded = store.load(alloc, name.as_str())?;
     take_in(alloc, map, loaded, reply)?;
@@ -211,10 +206,7 @@ pub fn snapshot<F: Store>(
         (λ files s. effect_of_command files s (Ok (Command.Snapshot name.now)))
         (file_named (Ok (Command.Snapshot name.now))) map.now (F.files store.old) map.now
         (F.files store.new) None (with_reply result reply.new) }
-    ensures stays { OnOk result (F.faults store.new ≡ F.faults store.old) }
-    ensures memory { IsErrOf result StoreFault.Memory → F.faults store.new ≡ F.faults store.old }
-    ensures failed { IsErrOf result StoreFault.Failed
-        → Rose (F.faults store.old) (F.faults store.new) }
+    ensures store_counts { IsAskCounted result (F.faults store.old) (F.faults store.new) }
 {
     let file = write_snapshot(alloc, map)?;
     let text = file.written();
@@ -269,10 +261,8 @@ pub fn restore<F: Store>(
         (file_named (Ok (Command.Restore name.now))) map.old (F.files store.old) map.new
         (F.files store.new) None (with_reply result reply.new) }
     ensures stands { KeepsStanding map.old map.new }
-    ensures stays { OnOk result (F.faults store.new ≡ F.faults store.old) }
-    ensures memory { IsErrOf result StoreFault.Memory → F.faults store.new ≡ F.faults store.old }
-    ensures failed { IsErrOf result StoreFault.Failed
-        → Rose (F.faults store.old) (F.faults store.new) }
+    ensures unsaved { F.files store.new ≡ F.files store.old }
+    ensures store_counts { IsAskCounted result (F.faults store.old) (F.faults store.new) }
 {
     let loaded = store.load(alloc, name.as_str())?;
     take_back(map, loaded, reply)?;

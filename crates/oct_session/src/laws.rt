@@ -6,6 +6,7 @@ ghost use Rattle.oct_io.specs.Files.{Files};
 ghost use Rattle.oct_script.specs.Lines.{Line};
 ghost use Rattle.oct_session.specs.GivenBack.{IsSetUp, AreBytes, IsState, AreSnapshotAndRestore};
 ghost use Rattle.oct_session.specs.GivenBack.{GivesBack};
+ghost use Rattle.oct_session.specs.LoadedBack.{IsLimited, AreSaveAndLoad, LoadsBack};
 ghost use Rattle.oct_session.specs.History.{History, state_after, value_after, alone_after};
 ghost use Rattle.oct_session.specs.Session.{progress};
 ghost use Rattle.oct_session.specs.Setup.{Setup};
@@ -41,4 +42,15 @@ pub fn snapshots_are_restored()
         (between : List Line) (restore : Line) → IsSetUp o → AreBytes files
         → AreSnapshotAndRestore o files name before snapshot between restore
         → GivesBack o files before snapshot between restore }
+{}
+
+/// A load gives back the classes that the save of that name wrote, and isn't refused, whatever
+/// stands between them: scans, edits, a clear, loads, other files, other log-odds. The reply has
+/// the number of nodes of the file that was saved, and each voxel has the class that it had at the
+/// save, with a value that is as sure of it as can be. A law, with nothing to compute.
+pub fn saves_are_loaded()
+    ensures { (o : Setup) (files : Files) (name : List ℕ) (before : List Line) (save : Line)
+        (between : List Line) (load : Line) → IsSetUp o → IsLimited o → AreBytes files
+        → AreSaveAndLoad o files name before save between load
+        → LoadsBack o files before save between load }
 {}

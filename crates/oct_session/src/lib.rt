@@ -21,12 +21,13 @@
 //!   inside is what it is refused for; a scan is done whole or not at all.
 //! - **Files.** `save` puts the canonical file of the voxels' classes under a name of the store,
 //!   and `load` makes the map that of the classes of the file that stands there, or is refused for
-//!   the first thing that is wrong with it (`specs/FileCommands.antt`). So do `snapshot` and `restore`
-//!   with the voxels' values, the log-odds and the update box; from a restore on, the session goes by
-//!   the log-odds of its snapshot.
+//!   the first thing that is wrong with it (`specs/FileCommands.antt`). So do `snapshot` and
+//!   `restore` with the voxels' values, the log-odds and the update box; from a restore on, the
+//!   session goes by the log-odds of its snapshot.
 //!   Whatever stands between a snapshot and a restore of its name, the restore gives back what was
 //!   kept and isn't refused, as long as no line between them writes that file
-//!   ([`snapshots_are_restored`]).
+//!   ([`snapshots_are_restored`]). So does a load with the classes that a save of its name wrote
+//!   ([`saves_are_loaded`]).
 //! - **Endings.** Where source and sink tell their bytes, as those in memory do, and the store its
 //!   files or no line names one, `specs/Ending.antt` says for each status what is written and what
 //!   is left of the input. Stopped by a fault or out of memory, what was written is a prefix of
@@ -80,7 +81,10 @@ mod session;
 mod tally;
 
 pub use building::build;
-pub use drilling::{drill, status_written};
-pub use laws::{groups_stay_within, snapshots_are_restored, states_stay_sound, values_are_folds};
-pub use options::{MOST_BYTES, Options, Status};
+pub use drilling::drill;
+pub use laws::{
+    groups_stay_within, saves_are_loaded, snapshots_are_restored, states_stay_sound,
+    values_are_folds,
+};
+pub use options::{MOST_BYTES, Options, Status, status_written};
 pub use service::serve;

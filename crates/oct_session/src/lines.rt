@@ -1,9 +1,9 @@
 //! What a line does: its reply, and the block that is open after it.
-ghost use Rattle.std.specs.Prelude.{◌≡◌, ℕ, IfOk, IsErrOf, None, Ok, OnOk, Some, is_some};
-ghost use Rattle.oct_io.specs.Told.{Rose};
+ghost use Rattle.std.specs.Prelude.{◌≡◌, ℕ, IfOk, None, Ok, Some, is_some};
 ghost use Rattle.oct_script.specs.Commands.{IsSmallCommand};
 ghost use Rattle.oct_script.specs.Lines.{Line};
-ghost use Rattle.oct_session.specs.Commands.{command_on, file_named, is_quit};
+ghost use Rattle.oct_session.specs.Counts.{IsAskCounted};
+ghost use Rattle.oct_session.specs.Commands.{command_on, file_named, file_saved, is_quit};
 ghost use Rattle.oct_session.specs.ScanBlock.{is_end, opened, spoilt_by, spoilt_reply};
 ghost use Rattle.oct_session.specs.Session.{effect_of_command, effect_opened, effect_inside, effect};
 ghost use Rattle.oct_session.specs.Standing.{with_reply, HasEffect, HasWorked, KeepsStanding};
@@ -45,10 +45,9 @@ fn perform<F: Store>(
         None (with_reply result reply.new) }
     ensures stands { KeepsStanding map.old map.new }
     ensures unnamed { file_named (Ok command.now) ≡ None → store.new ≡ store.old }
-    ensures stays { OnOk result (F.faults store.new ≡ F.faults store.old) }
-    ensures memory { IsErrOf result StoreFault.Memory → F.faults store.new ≡ F.faults store.old }
-    ensures failed { IsErrOf result StoreFault.Failed
-        → Rose (F.faults store.old) (F.faults store.new) }
+    ensures unsaved { file_saved (Ok command.now) ≡ None
+        → F.files store.new ≡ F.files store.old }
+    ensures store_counts { IsAskCounted result (F.faults store.old) (F.faults store.new) }
 {
     match command {
         Command::Save(name) => save(alloc, map, store, name, reply),
@@ -80,10 +79,9 @@ fn outside<F: Store>(
         block.new (with_reply result reply.new) }
     ensures stands { KeepsStanding map.old map.new }
     ensures unnamed { file_named (Ok command.now) ≡ None → store.new ≡ store.old }
-    ensures stays { OnOk result (F.faults store.new ≡ F.faults store.old) }
-    ensures memory { IsErrOf result StoreFault.Memory → F.faults store.new ≡ F.faults store.old }
-    ensures failed { IsErrOf result StoreFault.Failed
-        → Rose (F.faults store.old) (F.faults store.new) }
+    ensures unsaved { file_saved (Ok command.now) ≡ None
+        → F.files store.new ≡ F.files store.old }
+    ensures store_counts { IsAskCounted result (F.faults store.old) (F.faults store.new) }
 {
     match command {
         Command::Scan(head) => {
@@ -136,10 +134,9 @@ fn take_command<F: Store>(
         block.new (with_reply result reply.new) }
     ensures stands { KeepsStanding map.old map.new }
     ensures unnamed { file_named (Ok command.now) ≡ None → store.new ≡ store.old }
-    ensures stays { OnOk result (F.faults store.new ≡ F.faults store.old) }
-    ensures memory { IsErrOf result StoreFault.Memory → F.faults store.new ≡ F.faults store.old }
-    ensures failed { IsErrOf result StoreFault.Failed
-        → Rose (F.faults store.old) (F.faults store.new) }
+    ensures unsaved { file_saved (Ok command.now) ≡ None
+        → F.files store.new ≡ F.files store.old }
+    ensures store_counts { IsAskCounted result (F.faults store.old) (F.faults store.new) }
 {
     if block.is_some() {
         inside(map, number, command, block, reply)?;
@@ -209,10 +206,9 @@ pub fn take_line<F: Store>(
     ensures stands { KeepsStanding map.old map.new }
     ensures unnamed { file_named (command_on (is_some block.old) number line.now.line) ≡ None
         → store.new ≡ store.old }
-    ensures stays { OnOk result (F.faults store.new ≡ F.faults store.old) }
-    ensures memory { IsErrOf result StoreFault.Memory → F.faults store.new ≡ F.faults store.old }
-    ensures failed { IsErrOf result StoreFault.Failed
-        → Rose (F.faults store.old) (F.faults store.new) }
+    ensures unsaved { file_saved (command_on (is_some block.old) number line.now.line) ≡ None
+        → F.files store.new ≡ F.files store.old }
+    ensures store_counts { IsAskCounted result (F.faults store.old) (F.faults store.new) }
 {
     if line.is_long() {
         take_long(line, number, block, reply);

@@ -1,7 +1,8 @@
 //! What a session is set up with, and how a run ends.
 ghost use Rattle.std.specs.Prelude.{◌≡◌, ◌≤◌, ◌^◌};
 ghost use Rattle.oct_odds.specs.Odds.{odds_of};
-ghost use Rattle.oct_session.specs.Stops.{stop_of_sink, stop_of_store, status_of};
+ghost use Rattle.oct_session.specs.LoadedBack.{IsLimited};
+ghost use Rattle.oct_session.specs.Stops.{stop_of_sink, stop_of_store, status_of, status_written};
 ghost use Rattle.oct_session.specs.declared.options.Stop.TheVariants as stop;
 
 use oct_io::{Failed, SinkFault, StoreFault};
@@ -52,6 +53,7 @@ impl Options {
     pub fn max_bytes(&self) -> u64
         ensures exact { result ≡ self.now.max_bytes }
         ensures few { result ≤ 2 ^ 40 }
+        ensures limited { IsLimited self.now }
     {
         self.max_bytes
     }
@@ -165,6 +167,17 @@ impl From<Stop> for Status {
             Stop::Memory => Status::Memory,
             Stop::StoreFault => Status::StoreFault,
         }
+    }
+}
+
+/// The status of a task whose text was written, or else that of the sink's fault.
+pub fn status_written(whole: Status, written: Result<(), SinkFault>) -> Status
+    ensures { result ≡ status_written whole written }
+{
+    match written {
+        Ok(()) => whole,
+        Err(SinkFault::Failed) => Status::WriteFault,
+        Err(SinkFault::Memory) => Status::Memory,
     }
 }
 

@@ -1,7 +1,8 @@
 //! The loop of a session: from the bytes of a source to the replies in a sink.
-ghost use Rattle.std.specs.Prelude.{◌≡◌, ◌≢◌, ◌⊎◌, ℕ, ◌+◌, ◌-◌, ◌^◌, ◌<◌, ◌≤◌, List, [], ◌++◌, length, min, take, OnOk, OnErr, IfOk, IfErr, IfSome, IsErrOf, Option, Some, Err, true, false};
+ghost use Rattle.std.specs.Prelude.{◌≡◌, ◌≢◌, ◌⊎◌, ℕ, ◌+◌, ◌-◌, ◌^◌, ◌<◌, ◌≤◌, List, [], length, min, take, OnOk, OnErr, IfOk, IfErr, IfSome, IsErrOf, Option, Err, true, false};
 ghost use Rattle.oct_io.specs.Files.{Files};
 ghost use Rattle.oct_io.specs.Told.{dropped, Rose};
+ghost use Rattle.oct_session.specs.Counts.{IsSourceCounted, IsSinkCounted, IsStoreCounted, IsStopCounted};
 ghost use Rattle.oct_session.specs.History.{start_state};
 ghost use Rattle.oct_session.specs.Session.{session as whole_session, status_at_end, last_progress, ReadsTold};
 ghost use Rattle.oct_session.specs.Ending.{MayEnd, IsWhole};
@@ -75,19 +76,9 @@ fn take_piece<K: Sink, F: Store>(
     ensures unended { OnOk result (session.new.line.has_ended ≡ false) }
     ensures counted { OnOk result
         (session.new.line_count ≤ session.old.line_count + length piece.now) }
-    ensures stays { OnOk result ((K.faults sink.new ≡ K.faults sink.old)
-        × (K.shortages sink.new ≡ K.shortages sink.old)
-        × (F.faults store.new ≡ F.faults store.old)) }
-    ensures failed { IsErrOf result Stop.WriteFault → Rose (K.faults sink.old) (K.faults sink.new)
-        × (K.shortages sink.new ≡ K.shortages sink.old)
-        × (F.faults store.new ≡ F.faults store.old) }
-    ensures memory { IsErrOf result Stop.Memory → (K.faults sink.new ≡ K.faults sink.old)
-        × ((K.shortages sink.new ≡ K.shortages sink.old)
-        ⊎ Rose (K.shortages sink.old) (K.shortages sink.new))
-        × (F.faults store.new ≡ F.faults store.old) }
-    ensures store_failed { IsErrOf result Stop.StoreFault → (K.faults sink.new ≡ K.faults sink.old)
-        × (K.shortages sink.new ≡ K.shortages sink.old)
-        × Rose (F.faults store.old) (F.faults store.new) }
+    ensures counts { IsStopCounted result (K.faults sink.old) (K.faults sink.new)
+        (K.shortages sink.old) (K.shortages sink.new)
+        (F.faults store.old) (F.faults store.new) }
     ensures long { IsErrOf result Stop.TooLong → (K.faults sink.new ≡ K.faults sink.old)
         × (K.shortages sink.new ≡ K.shortages sink.old)
         × (F.faults store.new ≡ F.faults store.old) }
@@ -166,7 +157,8 @@ fn turn<S: Source, K: Sink, F: Store>(
         × ((K.shortages sink.new ≡ K.shortages sink.old)
         ⊎ Rose (K.shortages sink.old) (K.shortages sink.new))
         × (F.faults store.new ≡ F.faults store.old) }
-    ensures store_failed { IsErrOf result Stop.StoreFault → (S.faults source.new ≡ S.faults source.old)
+    ensures store_failed { IsErrOf result Stop.StoreFault
+        → (S.faults source.new ≡ S.faults source.old)
         × (K.faults sink.new ≡ K.faults sink.old)
         × (K.shortages sink.new ≡ K.shortages sink.old)
         × Rose (F.faults store.old) (F.faults store.new) }
@@ -226,7 +218,8 @@ pub(crate) fn read_all<S: Source, K: Sink, F: Store>(
         × ((K.shortages sink.new ≡ K.shortages sink.old)
         ⊎ Rose (K.shortages sink.old) (K.shortages sink.new))
         × (F.faults store.new ≡ F.faults store.old) }
-    ensures store_failed { IsErrOf result Stop.StoreFault → (S.faults source.new ≡ S.faults source.old)
+    ensures store_failed { IsErrOf result Stop.StoreFault
+        → (S.faults source.new ≡ S.faults source.old)
         × (K.faults sink.new ≡ K.faults sink.old)
         × (K.shortages sink.new ≡ K.shortages sink.old)
         × Rose (F.faults store.old) (F.faults store.new) }
@@ -300,19 +293,10 @@ pub fn serve<S: Source, K: Sink, F: Store>(
 
     // A fault is met once and ends the session: its count rises by one exactly where the status
     // names it, and no other count changes.
-    ensures read_fault { result ≡ Status.ReadFault
-        → Rose (S.faults source.old) (S.faults source.new) }
-    ensures no_read_fault { result ≢ Status.ReadFault → S.faults source.new ≡ S.faults source.old }
-    ensures write_fault { result ≡ Status.WriteFault
-        → Rose (K.faults sink.old) (K.faults sink.new) }
-    ensures no_write_fault { result ≢ Status.WriteFault → K.faults sink.new ≡ K.faults sink.old }
-    ensures store_fault { result ≡ Status.StoreFault
-        → Rose (F.faults store.old) (F.faults store.new) }
-    ensures no_store_fault { result ≢ Status.StoreFault
-        → F.faults store.new ≡ F.faults store.old }
-    ensures memory { result ≡ Status.Memory → (K.shortages sink.new ≡ K.shortages sink.old)
-        ⊎ Rose (K.shortages sink.old) (K.shortages sink.new) }
-    ensures no_shortage { result ≢ Status.Memory → K.shortages sink.new ≡ K.shortages sink.old }
+    ensures source_counts { IsSourceCounted result (S.faults source.old) (S.faults source.new) }
+    ensures sink_counts { IsSinkCounted result (K.faults sink.old) (K.faults sink.new)
+        (K.shortages sink.old) (K.shortages sink.new) }
+    ensures store_counts { IsStoreCounted result (F.faults store.old) (F.faults store.new) }
     ensures complete { ¬ Rose (S.faults source.old) (S.faults source.new)
         → ¬ Rose (K.faults sink.old) (K.faults sink.new)
         → ¬ Rose (F.faults store.old) (F.faults store.new)

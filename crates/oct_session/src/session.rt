@@ -4,6 +4,7 @@ ghost use Rattle.oct_io.specs.Files.{Files};
 ghost use Rattle.oct_io.specs.Told.{Rose, appended};
 ghost use Rattle.oct_script.specs.Lines.{ended_lines, all_lines, unread};
 ghost use Rattle.oct_script.specs.Replies.{is_refusal, text_of};
+ghost use Rattle.oct_session.specs.Counts.{IsAskCounted, IsStopCounted};
 ghost use Rattle.oct_session.specs.Setup.{Setup};
 ghost use Rattle.oct_session.specs.ScanBlock.{end_reply};
 ghost use Rattle.oct_session.specs.Session.{Progress, effect_of, after_line, progress, closed};
@@ -121,11 +122,7 @@ impl Session {
         ensures stands { KeepsStanding map.old map.new }
         ensures line { OnOk result (self.new.line ≡ unread) }
         ensures counted { OnOk result (self.new.line_count ≡ self.old.line_count + 1) }
-        ensures stays { OnOk result (F.faults store.new ≡ F.faults store.old) }
-        ensures memory { IsErrOf result StoreFault.Memory
-            → F.faults store.new ≡ F.faults store.old }
-        ensures failed { IsErrOf result StoreFault.Failed
-            → Rose (F.faults store.old) (F.faults store.new) }
+        ensures store_counts { IsAskCounted result (F.faults store.old) (F.faults store.new) }
     {
         let number = self.line_count + 1;
         let block = &mut self.block;
@@ -169,21 +166,9 @@ impl Session {
         ensures line { OnOk result (self.new.line ≡ unread) }
         ensures counted { OnOk result (self.new.line_count ≡ self.old.line_count + 1) }
         ensures only { IfErr result IsHalt }
-        ensures stays { OnOk result ((K.faults sink.new ≡ K.faults sink.old)
-            × (K.shortages sink.new ≡ K.shortages sink.old)
-            × (F.faults store.new ≡ F.faults store.old)) }
-        ensures failed { IsErrOf result Stop.WriteFault
-            → Rose (K.faults sink.old) (K.faults sink.new)
-            × (K.shortages sink.new ≡ K.shortages sink.old)
-            × (F.faults store.new ≡ F.faults store.old) }
-        ensures memory { IsErrOf result Stop.Memory → (K.faults sink.new ≡ K.faults sink.old)
-            × ((K.shortages sink.new ≡ K.shortages sink.old)
-            ⊎ Rose (K.shortages sink.old) (K.shortages sink.new))
-            × (F.faults store.new ≡ F.faults store.old) }
-        ensures store_failed { IsErrOf result Stop.StoreFault
-            → (K.faults sink.new ≡ K.faults sink.old)
-            × (K.shortages sink.new ≡ K.shortages sink.old)
-            × Rose (F.faults store.old) (F.faults store.new) }
+        ensures counts { IsStopCounted result (K.faults sink.old) (K.faults sink.new)
+            (K.shortages sink.old) (K.shortages sink.new)
+            (F.faults store.old) (F.faults store.new) }
     {
         self.answer(options, map, store)?;
         write_all(sink, &self.text)?;
@@ -220,21 +205,9 @@ impl Session {
         ensures within { IfOk result (λ n. n ≤ length piece.now) }
         ensures counted { IfOk result (λ n. self.new.line_count ≤ self.old.line_count + n) }
         ensures only { IfErr result IsHalt }
-        ensures stays { OnOk result ((K.faults sink.new ≡ K.faults sink.old)
-            × (K.shortages sink.new ≡ K.shortages sink.old)
-            × (F.faults store.new ≡ F.faults store.old)) }
-        ensures failed { IsErrOf result Stop.WriteFault
-            → Rose (K.faults sink.old) (K.faults sink.new)
-            × (K.shortages sink.new ≡ K.shortages sink.old)
-            × (F.faults store.new ≡ F.faults store.old) }
-        ensures memory { IsErrOf result Stop.Memory → (K.faults sink.new ≡ K.faults sink.old)
-            × ((K.shortages sink.new ≡ K.shortages sink.old)
-            ⊎ Rose (K.shortages sink.old) (K.shortages sink.new))
-            × (F.faults store.new ≡ F.faults store.old) }
-        ensures store_failed { IsErrOf result Stop.StoreFault
-            → (K.faults sink.new ≡ K.faults sink.old)
-            × (K.shortages sink.new ≡ K.shortages sink.old)
-            × Rose (F.faults store.old) (F.faults store.new) }
+        ensures counts { IsStopCounted result (K.faults sink.old) (K.faults sink.new)
+            (K.shortages sink.old) (K.shortages sink.new)
+            (F.faults store.old) (F.faults store.new) }
     {
         let fed = self.line.feed(piece);
         if !fed.ended {
@@ -270,21 +243,9 @@ impl Session {
         ensures counted { OnOk result
             (self.new.line_count ≤ self.old.line_count + length piece.now) }
         ensures only { IfErr result IsHalt }
-        ensures stays { OnOk result ((K.faults sink.new ≡ K.faults sink.old)
-            × (K.shortages sink.new ≡ K.shortages sink.old)
-            × (F.faults store.new ≡ F.faults store.old)) }
-        ensures failed { IsErrOf result Stop.WriteFault
-            → Rose (K.faults sink.old) (K.faults sink.new)
-            × (K.shortages sink.new ≡ K.shortages sink.old)
-            × (F.faults store.new ≡ F.faults store.old) }
-        ensures memory { IsErrOf result Stop.Memory → (K.faults sink.new ≡ K.faults sink.old)
-            × ((K.shortages sink.new ≡ K.shortages sink.old)
-            ⊎ Rose (K.shortages sink.old) (K.shortages sink.new))
-            × (F.faults store.new ≡ F.faults store.old) }
-        ensures store_failed { IsErrOf result Stop.StoreFault
-            → (K.faults sink.new ≡ K.faults sink.old)
-            × (K.shortages sink.new ≡ K.shortages sink.old)
-            × Rose (F.faults store.old) (F.faults store.new) }
+        ensures counts { IsStopCounted result (K.faults sink.old) (K.faults sink.new)
+            (K.shortages sink.old) (K.shortages sink.new)
+            (F.faults store.old) (F.faults store.new) }
     {
         let mut taken = 0;
         while taken < piece.len() && !self.has_quit {
@@ -318,21 +279,9 @@ impl Session {
             self.old all_lines (status_of stop)) }
         ensures stands { KeepsStanding map.old map.new }
         ensures only { IfErr result IsHalt }
-        ensures stays { OnOk result ((K.faults sink.new ≡ K.faults sink.old)
-            × (K.shortages sink.new ≡ K.shortages sink.old)
-            × (F.faults store.new ≡ F.faults store.old)) }
-        ensures failed { IsErrOf result Stop.WriteFault
-            → Rose (K.faults sink.old) (K.faults sink.new)
-            × (K.shortages sink.new ≡ K.shortages sink.old)
-            × (F.faults store.new ≡ F.faults store.old) }
-        ensures memory { IsErrOf result Stop.Memory → (K.faults sink.new ≡ K.faults sink.old)
-            × ((K.shortages sink.new ≡ K.shortages sink.old)
-            ⊎ Rose (K.shortages sink.old) (K.shortages sink.new))
-            × (F.faults store.new ≡ F.faults store.old) }
-        ensures store_failed { IsErrOf result Stop.StoreFault
-            → (K.faults sink.new ≡ K.faults sink.old)
-            × (K.shortages sink.new ≡ K.shortages sink.old)
-            × Rose (F.faults store.old) (F.faults store.new) }
+        ensures counts { IsStopCounted result (K.faults sink.old) (K.faults sink.new)
+            (K.shortages sink.old) (K.shortages sink.new)
+            (F.faults store.old) (F.faults store.new) }
     {
         if !self.line.has_rest() {
             return Ok(());
@@ -394,21 +343,9 @@ impl Session {
             (desk map.new (F.files store.new) (store.new ≡ home)) (status_of stop)) }
         ensures stands { KeepsStanding map.old map.new }
         ensures only { IfErr result IsHalt }
-        ensures stays { OnOk result ((K.faults sink.new ≡ K.faults sink.old)
-            × (K.shortages sink.new ≡ K.shortages sink.old)
-            × (F.faults store.new ≡ F.faults store.old)) }
-        ensures failed { IsErrOf result Stop.WriteFault
-            → Rose (K.faults sink.old) (K.faults sink.new)
-            × (K.shortages sink.new ≡ K.shortages sink.old)
-            × (F.faults store.new ≡ F.faults store.old) }
-        ensures memory { IsErrOf result Stop.Memory → (K.faults sink.new ≡ K.faults sink.old)
-            × ((K.shortages sink.new ≡ K.shortages sink.old)
-            ⊎ Rose (K.shortages sink.old) (K.shortages sink.new))
-            × (F.faults store.new ≡ F.faults store.old) }
-        ensures store_failed { IsErrOf result Stop.StoreFault
-            → (K.faults sink.new ≡ K.faults sink.old)
-            × (K.shortages sink.new ≡ K.shortages sink.old)
-            × Rose (F.faults store.old) (F.faults store.new) }
+        ensures counts { IsStopCounted result (K.faults sink.old) (K.faults sink.new)
+            (K.shortages sink.old) (K.shortages sink.new)
+            (F.faults store.old) (F.faults store.new) }
     {
         self.respond_last(options, map, store, sink)?;
         if self.has_quit {

@@ -8,7 +8,7 @@ use Rattle.std.specs.declared.alloc.Global.{Global}
 use Rattle.oct_odds.specs.Odds.{Odds, odds, odds_of, default_odds, first_bad_field, IsSmall}
 use Rattle.oct_odds.specs.declared.model.BadModel.{BadModel}
 use Rattle.oct_odds.specs.declared.model.OddsModel.{OddsModel}
-use Rattle.octomap_cli.specs.Task.{chosen_number, sound_odds, odds_from, chosen_model}
+use Rattle.octomap_cli.specs.Task.{chosen_number, sound_odds, odds_from, chosen_model, table_asked}
 use Rattle.oct_script.specs.Words.{Word}
 use Rattle.octomap_cli.specs.Words.{bytes_of, value_of, are_options}
 
@@ -25,6 +25,12 @@ unfolding are_options
 are_options_end [] few = refl
 are_options_end (word ∷ []) few = refl
 are_options_end (word ∷ next ∷ words) few = absurd (omega (arith, few))
+
+-- too few words for two names
+pub table_none : (words : List (String Global)) → length words < 2 → None ≡ table_asked (bytes_of words)
+table_none [] few = refl
+table_none (word ∷ []) few = refl
+table_none (word ∷ next ∷ words) few = absurd (omega (arith, few))
 
 -- five numbers in place of five that are equal to them
 odds_alike : (hit miss min max thr hit' miss' min' max' thr' : Option ℤ) → hit ≡ hit' → miss ≡ miss' → min ≡ min' → max ≡ max' → thr ≡ thr' →

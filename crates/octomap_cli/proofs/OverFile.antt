@@ -1,5 +1,5 @@
 -- How a task over a file ends, by its reply and by what was written of it.
-use Rattle.std.specs.Prelude.{◌⊎◌, ⊤}
+use Rattle.std.specs.Prelude.{⊤}
 use Rattle.std.proofs.Common.{◌≡◌, ℕ, ◌<◌, List, length, take, Option, Result, Ok, Err, OnOk, OnErr, inl, inr, refl, sym, ◌∙◌, ap, subst}
 use Rattle.oct_io.specs.declared.sink.SinkFault.{SinkFault}
 use Rattle.oct_io.specs.declared.sink.SinkFault.TheVariants as sink
@@ -11,30 +11,57 @@ use Rattle.oct_convert.specs.Input.{IsReadToEnd}
 use Rattle.oct_convert.specs.declared.ending.Ending.{Ending}
 use Rattle.oct_convert.specs.declared.ending.Ending.TheVariants as ending
 use Rattle.oct_convert.proofs.Ends.{begun_none, begun_first}
-use Rattle.oct_session.specs.Drill.{status_written}
+use Rattle.oct_session.specs.Stops.{status_written}
 use Rattle.oct_session.specs.declared.options.Status.{Status}
-use Rattle.oct_session.specs.declared.options.Status.TheVariants.{BadFile, TooLong, Memory}
+use Rattle.oct_session.specs.declared.options.Status.TheVariants.{Done, BadFile, TooLong, WriteFault, Memory}
 use Rattle.octomap_cli.specs.Ending.{status_of}
-use Rattle.octomap_cli.specs.OverFile.{Reply, EndsOverFile, IsHalted, IsSettled}
+use Rattle.octomap_cli.specs.OverFile.{Reply, EndsOverFile, IsHalted, IsSettled, status_sent}
 
--- a reply whose text was written, or not whole
+-- the status of a sink's fault
+abbrev status_of_fault : SinkFault → Status
+status_of_fault sink.Failed = WriteFault
+status_of_fault sink.Memory = Memory
+
+-- a reply that isn't written whole
+halted_by : (fault : SinkFault) (end : Status) (whole : Reply) (most : ℕ) (bytes : List ℕ) (left old new : Option (List ℕ)) → end ≡ status_of_fault fault
+    → IsBegun whole.text old new → IsReadToEnd most bytes left → EndsOverFile whole most bytes left old new end
+halted_by sink.Failed end whole most bytes left old new ends begun to_end =
+    let halted : IsHalted whole most bytes left old new = record { begun = begun; input = to_end } in
+    subst (EndsOverFile whole most bytes left old new) (sym ends) halted
+halted_by sink.Memory end whole most bytes left old new ends begun to_end =
+    let halted : IsHalted whole most bytes left old new = record { begun = begun; input = to_end } in
+    subst (EndsOverFile whole most bytes left old new) (sym ends) (inr halted)
+
+-- a reply that is
+replied_as : (status end : Status) (whole : Reply) (most : ℕ) (bytes : List ℕ) (left old new : Option (List ℕ)) → IsSettled status → end ≡ status
+    → status ≡ whole.status → new ≡ appended old whole.text → IsReadToEnd most bytes left → EndsOverFile whole most bytes left old new end
+replied_as status end whole most bytes left old new (inl done) ends same written to_end =
+    subst (EndsOverFile whole most bytes left old new) (sym (ends ∙ done)) (record { written = written; same = sym same ∙ done; input = to_end })
+replied_as status end whole most bytes left old new (inr refused) ends same written to_end =
+    subst (EndsOverFile whole most bytes left old new) (sym (ends ∙ refused)) (record { written = written; same = sym same ∙ refused; input = to_end })
+
+-- a reply whose text was written in one piece, or not whole
 pub reply_sent : (r : Result ⊤ SinkFault) (text : List ℕ) (status end : Status) (whole : Reply) (most : ℕ) (bytes : List ℕ) (left old new : Option (List ℕ))
     → IsSettled status → text ≡ whole.text → status ≡ whole.status → end ≡ status_written status r → OnOk r (new ≡ appended old text)
     → OnErr r ((n : ℕ) × (n < length text) × (new ≡ appended old (take n text))) → IsReadToEnd most bytes left → EndsOverFile whole most bytes left old new end
-reply_sent (Ok t) text status end whole most bytes left old new (inl done) same_text same_status ends ok err to_end =
-    subst (EndsOverFile whole most bytes left old new) (sym (ends ∙ done))
-    (record { written = ok ∙ ap (appended old) same_text; same = sym same_status ∙ done; input = to_end })
-reply_sent (Ok t) text status end whole most bytes left old new (inr refused) same_text same_status ends ok err to_end =
-    subst (EndsOverFile whole most bytes left old new) (sym (ends ∙ refused))
-    (record { written = ok ∙ ap (appended old) same_text; same = sym same_status ∙ refused; input = to_end })
+reply_sent (Ok t) text status end whole most bytes left old new settled same_text same_status ends ok err to_end =
+    replied_as status end whole most bytes left old new settled ends same_status (ok ∙ ap (appended old) same_text) to_end
 reply_sent (Err sink.Failed) text status end whole most bytes left old new settled same_text same_status ends ok (n, few, written) to_end =
-    let halted : IsHalted whole most bytes left old new =
-    record { begun = begun_first whole.text n old new (written ∙ ap (λ x. appended old (take n x)) same_text); input = to_end } in
-    subst (EndsOverFile whole most bytes left old new) (sym ends) halted
+    halted_by sink.Failed end whole most bytes left old new ends (begun_first whole.text n old new (written ∙ ap (λ x. appended old (take n x)) same_text)) to_end
 reply_sent (Err sink.Memory) text status end whole most bytes left old new settled same_text same_status ends ok (n, few, written) to_end =
-    let halted : IsHalted whole most bytes left old new =
-    record { begun = begun_first whole.text n old new (written ∙ ap (λ x. appended old (take n x)) same_text); input = to_end } in
-    subst (EndsOverFile whole most bytes left old new) (sym ends) (inr halted)
+    halted_by sink.Memory end whole most bytes left old new ends (begun_first whole.text n old new (written ∙ ap (λ x. appended old (take n x)) same_text)) to_end
+
+-- a reply that a writer wrote piece by piece, or not whole
+pub text_sent : (r : Result ℕ SinkFault) (text other : List ℕ) (end : Status) (whole : Reply) (most : ℕ) (bytes : List ℕ) (left old new : Option (List ℕ))
+    → text ≡ other → whole ≡ record { text = other; status = Done } → end ≡ status_sent r → OnOk r (new ≡ appended old text)
+    → OnErr r (IsBegun text old new) → IsReadToEnd most bytes left → EndsOverFile whole most bytes left old new end
+text_sent (Ok n) text other end whole most bytes left old new same is ends ok err to_end =
+    replied_as Done end whole most bytes left old new (inl refl) ends (sym (ap (λ (r : Reply). r.status) is))
+    (ok ∙ ap (appended old) (same ∙ sym (ap (λ (r : Reply). r.text) is))) to_end
+text_sent (Err sink.Failed) text other end whole most bytes left old new same is ends ok err to_end =
+    halted_by sink.Failed end whole most bytes left old new ends (subst (λ t. IsBegun t old new) (same ∙ sym (ap (λ (r : Reply). r.text) is)) err) to_end
+text_sent (Err sink.Memory) text other end whole most bytes left old new same is ends ok err to_end =
+    halted_by sink.Memory end whole most bytes left old new ends (subst (λ t. IsBegun t old new) (same ∙ sym (ap (λ (r : Reply). r.text) is)) err) to_end
 
 -- a reply of which nothing was written for want of memory
 pub none_sent : (whole : Reply) (most : ℕ) (bytes : List ℕ) (left old : Option (List ℕ)) → IsReadToEnd most bytes left → EndsOverFile whole most bytes left old old Memory

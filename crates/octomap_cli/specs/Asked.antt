@@ -1,5 +1,5 @@
 -- A task in the words of the definitions.
-use Rattle.octomap_cli.specs.Task.{Session, Build, Convert, Inspect, Frontier, Generate, Drill}
+use Rattle.octomap_cli.specs.Task.{Session, Build, Convert, Inspect, OverFile, OverStore, Generate, Drill}
 use Rattle.octomap_cli.specs.Task as meant
 use Rattle.octomap_cli.specs.declared.task.Task.{Task}
 use Rattle.octomap_cli.specs.declared.task.Task.TheVariants as code
@@ -10,6 +10,7 @@ asked (code.Session options) = Session options
 asked (code.Build options) = Build options
 asked (code.Convert max_bytes) = Convert max_bytes
 asked (code.Inspect max_bytes) = Inspect max_bytes
-asked (code.Frontier lo hi max_bytes) = Frontier lo hi max_bytes
+asked (code.OverFile task max_bytes) = OverFile task max_bytes
+asked (code.OverStore task) = OverStore task
 asked (code.Generate load) = Generate load
 asked (code.Drill load) = Drill load

@@ -5,23 +5,33 @@ use Rattle.oct_num.specs.Metres.{metres_of}
 use Rattle.oct_num.specs.Sign.{has_minus}
 use Rattle.oct_num.specs.Whole.{whole_of}
 use Rattle.oct_key.specs.declared.point.Point.{Point}
+use Rattle.oct_merge.specs.declared.rule.Rule.{Rule}
+use Rattle.oct_merge.specs.declared.rule.Rule.TheVariants.{Greatest, Least, First}
 use Rattle.oct_odds.specs.Odds.{Odds, odds, default_odds, first_bad_field}
 use Rattle.oct_odds.specs.declared.model.OddsField.{OddsField}
 use Rattle.oct_script.specs.Grammar.{number_of}
+use Rattle.oct_script.specs.Names.{name_of}
 use Rattle.oct_script.specs.Words.{Word}
 use Rattle.oct_session.specs.Setup.{Setup}
+use Rattle.octomap_cli.specs.declared.file_task.FileTask.{FileTask}
+use Rattle.octomap_cli.specs.declared.file_task.FileTask.TheVariants.{Frontier, Project, Vrml}
+use Rattle.octomap_cli.specs.declared.task.Stretch.{Stretch}
+use Rattle.octomap_cli.specs.declared.store_task.PairTask.{PairTask}
+use Rattle.octomap_cli.specs.declared.store_task.PairTask.TheVariants.{Merge, Table}
+use Rattle.octomap_cli.specs.declared.store_task.StoreTask.{StoreTask}
 use Rattle.octomap_cli.specs.declared.task.Workload.{Workload}
 use Rattle.octomap_cli.specs.Words.{value_of, are_options}
 
 -- a task of the program: a session, the building of a map's file by a script, one over a file of at
--- most so many bytes, or the writing of a script that a number makes, or of four lines about its
--- session
+-- most so many bytes, one over two files of the store, or the writing of a script that a number
+-- makes, or of four lines about its session
 pub data Task : Type 0 where
   Session : Setup → Task
   Build : Setup → Task
   Convert : ℕ → Task
   Inspect : ℕ → Task
-  Frontier : Point → Point → ℕ → Task
+  OverFile : FileTask → ℕ → Task
+  OverStore : StoreTask → Task
   Generate : Workload → Task
   Drill : Workload → Task
 
@@ -131,16 +141,60 @@ abbrev pub point_of : Word → Word → Word → Option Point
 point_of x y z =
     point_from (result_ok (metres_of x)) (result_ok (metres_of y)) (result_ok (metres_of z))
 
--- a frontier between two points of a file of at most so many bytes, where all are there
-abbrev pub frontier_from : Option Point → Option Point → Option ℕ → Option Task
-frontier_from (Some lo) (Some hi) (Some max_bytes) = Some (Frontier lo hi max_bytes)
-frontier_from _ _ _ = None
+-- two points and the most bytes of a file, where all are there
+abbrev pub stretch_from : Option Point → Option Point → Option ℕ → Option Stretch
+stretch_from (Some lo) (Some hi) (Some max_bytes) =
+    Some (record { lo = lo; hi = hi; max_bytes = max_bytes })
+stretch_from _ _ _ = None
 
--- what the words after `frontier` ask for: two points, and the most bytes of the file
-abbrev pub frontier_asked : List Word → Option Task
-frontier_asked (a ∷ b ∷ c ∷ d ∷ e ∷ f ∷ words) =
-    frontier_from (point_of a b c) (point_of d e f) (file_bytes words)
-frontier_asked _ = None
+-- what the words after `frontier` or `project` choose: two points, and the most bytes of the file
+abbrev pub stretch_of : List Word → Option Stretch
+stretch_of (a ∷ b ∷ c ∷ d ∷ e ∷ f ∷ words) =
+    stretch_from (point_of a b c) (point_of d e f) (file_bytes words)
+stretch_of _ = None
+
+-- what is asked of the file between them
+abbrev pub task_in : (Point → Point → FileTask) → Stretch → Task
+task_in asks stretch = OverFile (asks stretch.lo stretch.hi) stretch.max_bytes
+
+-- the rule that a word names
+abbrev pub rule_of : Word → Option Rule
+rule_of word =
+    if bytes_eq word (codes "greatest") then Some Greatest
+    else if bytes_eq word (codes "least") then Some Least
+    else if bytes_eq word (codes "first") then Some First
+    else None
+
+-- a task over two files, where both names are there and what is asked of them
+abbrev pub store_task_from : Option (List ℕ) → Option (List ℕ) → Option PairTask → Option StoreTask
+store_task_from (Some first) (Some second) (Some asks) =
+    Some (record { first = first; second = second; asks = asks })
+store_task_from _ _ _ = None
+
+-- a task over two files of these names, by what is asked of them
+unfoldable pub store_task_of : Word → Word → Option PairTask → Option StoreTask
+store_task_of first second asks = store_task_from (name_of first) (name_of second) asks
+
+-- what the words after `merge` ask for: a rule and two names
+abbrev pub merge_asked : List Word → Option StoreTask
+merge_asked (rule ∷ first ∷ second ∷ []) =
+    store_task_of first second (option_map Merge (rule_of rule))
+merge_asked _ = None
+
+-- a table between two points, where both are there
+abbrev pub table_from : Option Point → Option Point → Option PairTask
+table_from (Some lo) (Some hi) = Some (Table lo hi)
+table_from _ _ = None
+
+-- the table between two points that six words spell
+abbrev pub table_between : List Word → Option PairTask
+table_between (a ∷ b ∷ c ∷ d ∷ e ∷ f ∷ []) = table_from (point_of a b c) (point_of d e f)
+table_between _ = None
+
+-- what the words after `table` ask for: two names, and two points
+abbrev pub table_asked : List Word → Option StoreTask
+table_asked (first ∷ second ∷ points) = store_task_of first second (table_between points)
+table_asked _ = None
 
 -- a script of these numbers, where all are there
 abbrev pub workload_from : Option ℕ → Option ℕ → Option ℕ → Option Workload
@@ -162,7 +216,11 @@ task_by command words =
     else if bytes_eq command (codes "build") then option_map Build (options_asked words)
     else if bytes_eq command (codes "convert") then option_map Convert (file_bytes words)
     else if bytes_eq command (codes "inspect") then option_map Inspect (file_bytes words)
-    else if bytes_eq command (codes "frontier") then frontier_asked words
+    else if bytes_eq command (codes "frontier") then option_map (task_in Frontier) (stretch_of words)
+    else if bytes_eq command (codes "project") then option_map (task_in Project) (stretch_of words)
+    else if bytes_eq command (codes "vrml") then option_map (OverFile Vrml) (file_bytes words)
+    else if bytes_eq command (codes "merge") then option_map OverStore (merge_asked words)
+    else if bytes_eq command (codes "table") then option_map OverStore (table_asked words)
     else if bytes_eq command (codes "gen") then option_map Generate (workload_of words)
     else if bytes_eq command (codes "drill") then option_map Drill (workload_of words)
     else None
@@ -179,6 +237,7 @@ IsInRange (Session o) = ⊤
 IsInRange (Build o) = ⊤
 IsInRange (Convert max_bytes) = max_bytes ≤ 2 ^ 32
 IsInRange (Inspect max_bytes) = max_bytes ≤ 2 ^ 32
-IsInRange (Frontier lo hi max_bytes) = max_bytes ≤ 2 ^ 32
+IsInRange (OverFile task max_bytes) = max_bytes ≤ 2 ^ 32
+IsInRange (OverStore task) = ⊤
 IsInRange (Generate load) = (load.scans ≤ 1000) × (load.points ≤ 100000)
 IsInRange (Drill load) = (load.scans ≤ 1000) × (load.points ≤ 100000)

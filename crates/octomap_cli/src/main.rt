@@ -11,9 +11,12 @@
 //! `octomap convert` and `octomap inspect` read a `.bt` file of that library from the input: the
 //! one writes the canonical file of the same classes, the other six lines about the file.
 //! `octomap frontier` lists the free voxels of such a file, between two points, that have unknown
-//! ones beside them. `octomap build` writes the file of the map that a script leaves. `octomap gen`
-//! writes a script that a number makes, and `octomap drill` does that script and writes four lines
-//! about it.
+//! ones beside them, `octomap project` writes the height band between two points as a grey picture,
+//! and `octomap vrml` the occupied space as a scene of boxes. `octomap merge` and `octomap table`
+//! read two such files from the current folder: the one writes the file of the map that they give
+//! together, the other how many voxels between two points have which classes in them. `octomap build`
+//! writes the file of the map that a script leaves. `octomap gen` writes a script that a number
+//! makes, and `octomap drill` does that script and writes four lines about it.
 //!
 //! # What it promises
 //!
@@ -21,32 +24,45 @@
 //! bytes, what is written and the status are those of the plain fold over each single voxel.
 //! Stopped by a fault or out of memory, what was written is a prefix of that; on a read fault it is
 //! exactly the replies to the lines that lie whole in the bytes taken. What a task over a file
-//! writes is a function of the file. `specs/Ending.antt` says this over the tasks that the words of
-//! the command line ask for (`Words`, `Task`), over the session of `oct_session`, and over the
-//! endings of `oct_convert`.
+//! writes is a function of the file, and what one over two files writes a function of both.
+//! `specs/Ending.antt` says this over the tasks that the words of the command line ask for (`Words`,
+//! `Task`), over the session of `oct_session`, and over the endings of `oct_convert`.
 //!
 //! # How it works
 //!
 //! `words` finds the options among the words of the command line, and `task` reads the task that
 //! they ask for. For a session `program` makes the map of the unknown world, which may grow as far
-//! as the options say, and lends it to the loop of `oct_session`. `frontiers` fills a tree with the
-//! classes of a file and replies to what is asked of it. `main` joins all this to the standard input
-//! and output and to the current folder.
+//! as the options say, and lends it to the loop of `oct_session`. `file_task` reads a file and hands
+//! it to what is asked of it: `frontiers` and `grids` fill a tree with its classes (`file_tree`), and
+//! `sending` writes their replies, a `refusal` among them. `merging` goes by two files, which
+//! `two_files` loads. `main` joins all this to the standard input and output and to the current
+//! folder.
 //!
 //! # Who stands on it
 //!
 //! Nothing: this is the top. It stands on `oct_session` for the loop, on `oct_map` for the map that
-//! the loop is lent, on `oct_convert` for the tasks over a file, on `oct_bt`, `oct_tree` and
-//! `oct_frontier` for the frontier of one, on `oct_num`, `oct_key` and `oct_odds` for the numbers of
-//! the command line, on `oct_script` for what a number is, and on `oct_io` for the world.
+//! the loop is lent, on `oct_convert` for the tasks over a file, on `oct_bt`, `oct_tree`,
+//! `oct_frontier` and `oct_export` for the frontier, the grid and the boxes of one, on `oct_merge`
+//! for two side by side, on `oct_num`,
+//! `oct_key` and `oct_odds` for the numbers of the command line, on `oct_script` for what a number
+//! is, and on `oct_io` for the world.
 #![tactic(auto)]
 
+mod file_task;
+mod file_tree;
 mod frontier_text;
 mod frontiers;
+mod grids;
+mod merging;
+mod pair_text;
 mod program;
+mod refusal;
+mod sending;
+mod store_task;
 mod task;
 #[cfg(test)]
 mod tests;
+mod two_files;
 mod words;
 
 use crate::program::run;

@@ -1,15 +1,17 @@
 //! The top call of the program.
-ghost use Rattle.std.specs.Prelude.{◌≡◌, ◌≢◌, ◌⊎◌, [], IfSome, Some, None, false};
+ghost use Rattle.std.specs.Prelude.{◌≡◌, ◌≢◌, IfSome, Some, None, false};
 ghost use Rattle.oct_io.specs.Told.{Rose};
+ghost use Rattle.oct_session.specs.Counts.{IsSourceCounted, IsSinkCounted, IsStoreCounted};
 ghost use Rattle.oct_session.specs.Ending.{IsWhole};
 ghost use Rattle.oct_session.specs.History.{start_state};
 ghost use Rattle.oct_session.specs.Leaving.{StandsFor};
 ghost use Rattle.octomap_cli.specs.Words.{bytes_of};
 ghost use Rattle.octomap_cli.specs.Asked.{asked};
 ghost use Rattle.octomap_cli.specs.Task.{IsInRange, task_of};
-ghost use Rattle.octomap_cli.specs.Ending.{MayEnd, EndsAlone, Leaves, ReadsTold, NamesNone, has_script, has_input, takes_memory, answer, status_of};
+ghost use Rattle.octomap_cli.specs.Ending.{MayEnd, EndsAlone, Leaves, ReadsTold, NamesNone, has_script, names_files, has_input, takes_memory, answer, status_of};
 
-use crate::frontiers::list_frontier;
+use crate::file_task::answer_over_file;
+use crate::merging::do_over_store;
 use crate::task::{Task, Usage, read_words};
 use oct_convert::{Ending, convert, inspect};
 use oct_gen::generate;
@@ -47,34 +49,27 @@ pub fn run<S: Source, K: Sink, F: Store>(
         ReadsTold (task_of (bytes_of words.now)) (F.files store.old) bytes → IsWhole result
         → F.files store.new ≡ (answer (task_of (bytes_of words.now)) (F.files store.old) bytes).files) }
 
-    // Where no line names a file, nothing is asked of the store.
+    // Where neither a word nor a line names a file, nothing is asked of the store.
     ensures unnamed { IfSome (S.left source.old) (λ bytes.
         NamesNone (task_of (bytes_of words.now)) (F.files store.old) bytes → store.new ≡ store.old) }
-    ensures unused { has_script (task_of (bytes_of words.now)) ≡ false → store.new ≡ store.old }
+    ensures unused { names_files (task_of (bytes_of words.now)) ≡ false → store.new ≡ store.old }
 
     // Words without a task read and write nothing, and to make a script nothing is read.
     ensures usage { task_of (bytes_of words.now) ≡ None → result ≡ Status.Usage }
     ensures only { result ≡ Status.Usage → task_of (bytes_of words.now) ≡ None }
     ensures unread { has_input (task_of (bytes_of words.now)) ≡ false → source.new ≡ source.old }
     ensures unwritten { result ≡ Status.Usage → sink.new ≡ sink.old }
+    ensures unloaded { has_script (task_of (bytes_of words.now)) ≡ false
+        → result ≡ Status.StoreFault → sink.new ≡ sink.old }
     ensures made { EndsAlone (task_of (bytes_of words.now)) (F.files store.old)
         (K.written sink.old) (K.written sink.new) result }
 
     // A fault is met once and ends the run: its count rises by one exactly where the status names
     // it, and no other count changes.
-    ensures read_fault { result ≡ Status.ReadFault
-        → Rose (S.faults source.old) (S.faults source.new) }
-    ensures no_read_fault { result ≢ Status.ReadFault → S.faults source.new ≡ S.faults source.old }
-    ensures write_fault { result ≡ Status.WriteFault
-        → Rose (K.faults sink.old) (K.faults sink.new) }
-    ensures no_write_fault { result ≢ Status.WriteFault → K.faults sink.new ≡ K.faults sink.old }
-    ensures store_fault { result ≡ Status.StoreFault
-        → Rose (F.faults store.old) (F.faults store.new) }
-    ensures no_store_fault { result ≢ Status.StoreFault
-        → F.faults store.new ≡ F.faults store.old }
-    ensures memory { result ≡ Status.Memory → (K.shortages sink.new ≡ K.shortages sink.old)
-        ⊎ Rose (K.shortages sink.old) (K.shortages sink.new) }
-    ensures no_shortage { result ≢ Status.Memory → K.shortages sink.new ≡ K.shortages sink.old }
+    ensures source_counts { IsSourceCounted result (S.faults source.old) (S.faults source.new) }
+    ensures sink_counts { IsSinkCounted result (K.faults sink.old) (K.faults sink.new)
+        (K.shortages sink.old) (K.shortages sink.new) }
+    ensures store_counts { IsStoreCounted result (F.faults store.old) (F.faults store.new) }
     ensures alone { takes_memory (task_of (bytes_of words.now)) ≡ false → result ≡ Status.Memory
         → Rose (K.shortages sink.old) (K.shortages sink.new) }
     ensures complete { ¬ Rose (S.faults source.old) (S.faults source.new)
@@ -111,24 +106,17 @@ fn perform<S: Source, K: Sink, F: Store>(
         → F.files store.new ≡ (answer (Some (asked task.now)) (F.files store.old) bytes).files) }
     ensures unnamed { IfSome (S.left source.old) (λ bytes.
         NamesNone (Some (asked task.now)) (F.files store.old) bytes → store.new ≡ store.old) }
-    ensures unused { has_script (Some (asked task.now)) ≡ false → store.new ≡ store.old }
+    ensures unused { names_files (Some (asked task.now)) ≡ false → store.new ≡ store.old }
     ensures usage { result ≢ Status.Usage }
+    ensures unloaded { has_script (Some (asked task.now)) ≡ false
+        → result ≡ Status.StoreFault → sink.new ≡ sink.old }
     ensures unread { has_input (Some (asked task.now)) ≡ false → source.new ≡ source.old }
     ensures made { EndsAlone (Some (asked task.now)) (F.files store.old)
         (K.written sink.old) (K.written sink.new) result }
-    ensures read_fault { result ≡ Status.ReadFault
-        → Rose (S.faults source.old) (S.faults source.new) }
-    ensures no_read_fault { result ≢ Status.ReadFault → S.faults source.new ≡ S.faults source.old }
-    ensures write_fault { result ≡ Status.WriteFault
-        → Rose (K.faults sink.old) (K.faults sink.new) }
-    ensures no_write_fault { result ≢ Status.WriteFault → K.faults sink.new ≡ K.faults sink.old }
-    ensures store_fault { result ≡ Status.StoreFault
-        → Rose (F.faults store.old) (F.faults store.new) }
-    ensures no_store_fault { result ≢ Status.StoreFault
-        → F.faults store.new ≡ F.faults store.old }
-    ensures memory { result ≡ Status.Memory → (K.shortages sink.new ≡ K.shortages sink.old)
-        ⊎ Rose (K.shortages sink.old) (K.shortages sink.new) }
-    ensures no_shortage { result ≢ Status.Memory → K.shortages sink.new ≡ K.shortages sink.old }
+    ensures source_counts { IsSourceCounted result (S.faults source.old) (S.faults source.new) }
+    ensures sink_counts { IsSinkCounted result (K.faults sink.old) (K.faults sink.new)
+        (K.shortages sink.old) (K.shortages sink.new) }
+    ensures store_counts { IsStoreCounted result (F.faults store.old) (F.faults store.new) }
     ensures alone { takes_memory (Some (asked task.now)) ≡ false → result ≡ Status.Memory
         → Rose (K.shortages sink.old) (K.shortages sink.new) }
     ensures complete { ¬ Rose (S.faults source.old) (S.faults source.new)
@@ -147,9 +135,10 @@ fn perform<S: Source, K: Sink, F: Store>(
         }
         Task::Convert { max_bytes } => status_of(convert(alloc, *max_bytes, source, sink)),
         Task::Inspect { max_bytes } => status_of(inspect(alloc, *max_bytes, source, sink)),
-        Task::Frontier { lo, hi, max_bytes } => {
-            list_frontier(alloc, *lo, *hi, *max_bytes, source, sink)
+        Task::OverFile { task, max_bytes } => {
+            answer_over_file(alloc, *task, *max_bytes, source, sink)
         }
+        Task::OverStore(task) => do_over_store(alloc, task, sink, store),
         Task::Generate(load) => {
             let written = generate(load.seed, load.scans, load.points, sink);
             status_written(Status::Done, written)

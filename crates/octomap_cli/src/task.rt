@@ -3,15 +3,19 @@ ghost use Rattle.std.specs.Prelude.{◌≡◌, ◌≤◌, ◌^◌, option_map, O
 ghost use Rattle.std.specs.Result.{result_ok};
 ghost use Rattle.oct_odds.specs.Odds.{odds_of, IsSmall};
 ghost use Rattle.octomap_cli.specs.Words.{bytes_of};
-ghost use Rattle.octomap_cli.specs.Task.{IsInRange, file_bytes, file_number, frontier_asked, point_of, workload_of, options_asked, task_by, resolution_of, count_of, chosen_number, chosen_count, chosen_model, chosen_groups, chosen_cells, chosen_bytes, setup_asked, task_of};
+ghost use Rattle.octomap_cli.specs.Task.{IsInRange, file_bytes, file_number, point_of, stretch_of, merge_asked, table_asked, table_between, store_task_of, rule_of, workload_of, options_asked, task_by, resolution_of, count_of, chosen_number, chosen_count, chosen_model, chosen_groups, chosen_cells, chosen_bytes, setup_asked, task_of};
 ghost use Rattle.octomap_cli.specs.Asked.{asked};
+ghost use Rattle.octomap_cli.specs.declared.store_task.PairTask.TheVariants.{Merge};
 
+use crate::file_task::FileTask;
+use crate::store_task::{PairTask, StoreTask};
 use crate::words::{are_options, value_of};
 use oct_key::{Point, Res};
 use oct_map::Limits;
+use oct_merge::Rule;
 use oct_num::{read_metres, read_whole};
 use oct_odds::OddsModel;
-use oct_script::number_of;
+use oct_script::{Name, number_of};
 use oct_session::{MOST_BYTES, Options};
 use thiserror::Error;
 
@@ -83,6 +87,14 @@ pub struct Workload {
     pub points: u32,
 }
 
+/// Two points, and the most bytes of the file of which something is asked between them.
+#[derive(Clone, Copy, Debug)]
+pub struct Stretch {
+    pub lo: Point,
+    pub hi: Point,
+    pub max_bytes: u64,
+}
+
 /// A task of the program.
 #[derive(Debug, Drop)]
 pub enum Task {
@@ -91,19 +103,13 @@ pub enum Task {
     /// A script from the input, and the file of the map that it leaves to the output.
     Build(Options),
     /// A file of classes from the input, and the canonical one of the same classes to the output.
-    Convert {
-        max_bytes: u64,
-    },
+    Convert { max_bytes: u64 },
     /// A file of classes from the input, and six lines about it to the output.
-    Inspect {
-        max_bytes: u64,
-    },
-    /// A file of classes from the input, and its frontier between two points to the output.
-    Frontier {
-        lo: Point,
-        hi: Point,
-        max_bytes: u64,
-    },
+    Inspect { max_bytes: u64 },
+    /// A file of classes from the input, and what is asked of it to the output.
+    OverFile { task: FileTask, max_bytes: u64 },
+    /// Two files of the store, and what is asked of both to the output.
+    OverStore(StoreTask),
     /// A script that a number makes, to the output.
     Generate(Workload),
     /// The session over such a script, and four lines about it to the output.
@@ -267,19 +273,89 @@ fn read_point(x: &[u8], y: &[u8], z: &[u8]) -> Option<Point>
     })
 }
 
-/// Reads the words after `frontier`: two points, and behind them what stands after `convert`.
-fn read_frontier(words: &[String]) -> Option<Task>
-    ensures exact { option_map asked result ≡ frontier_asked (bytes_of words.now) }
-    ensures few { IfSome result (λ task. IsInRange (asked task)) }
+/// Reads the words after `frontier` or `project`: two points, and behind them what stands after
+/// `convert`.
+fn read_stretch(words: &[String]) -> Option<Stretch>
+    ensures exact { result ≡ stretch_of (bytes_of words.now) }
+    ensures few { IfSome result (λ stretch. stretch.max_bytes ≤ 2 ^ 32) }
 {
     let [a, b, c, d, e, f, rest @ ..] = words else {
         return None;
     };
-    Some(Task::Frontier {
+    Some(Stretch {
         lo: read_point(a.as_bytes(), b.as_bytes(), c.as_bytes())?,
         hi: read_point(d.as_bytes(), e.as_bytes(), f.as_bytes())?,
         max_bytes: read_file_bytes(rest)?,
     })
+}
+
+/// Reads a rule, by its name.
+fn read_rule(word: &[u8]) -> Option<Rule>
+    ensures { result ≡ rule_of word.now }
+{
+    if word == b"greatest".as_slice() {
+        Some(Rule::Greatest)
+    } else if word == b"least".as_slice() {
+        Some(Rule::Least)
+    } else if word == b"first".as_slice() {
+        Some(Rule::First)
+    } else {
+        None
+    }
+}
+
+/// Reads the names of a task over two files, of which it is known what is asked.
+#[tactic(auto, unfolding(crate::specs::Task::store_task_of))]
+fn read_store_task(first: &[u8], second: &[u8], asks: Option<PairTask>) -> Option<StoreTask>
+    ensures { result ≡ store_task_of first.now second.now asks }
+{
+    Some(StoreTask {
+        first: Name::new(first)?,
+        second: Name::new(second)?,
+        asks: asks?,
+    })
+}
+
+/// Reads what is asked of two files that are merged.
+fn read_merge_rule(word: &[u8]) -> Option<PairTask>
+    ensures { result ≡ option_map Merge (rule_of word.now) }
+{
+    Some(PairTask::Merge(read_rule(word)?))
+}
+
+/// Reads the words after `merge`: a rule and two names.
+fn read_merge(words: &[String]) -> Option<StoreTask>
+    ensures { result ≡ merge_asked (bytes_of words.now) }
+{
+    let [rule, first, second] = words else {
+        return None;
+    };
+    let asks = read_merge_rule(rule.as_bytes());
+    read_store_task(first.as_bytes(), second.as_bytes(), asks)
+}
+
+/// Reads the points of a table.
+fn read_table_points(words: &[String]) -> Option<PairTask>
+    ensures { result ≡ table_between (bytes_of words.now) }
+{
+    let [a, b, c, d, e, f] = words else {
+        return None;
+    };
+    Some(PairTask::Table {
+        lo: read_point(a.as_bytes(), b.as_bytes(), c.as_bytes())?,
+        hi: read_point(d.as_bytes(), e.as_bytes(), f.as_bytes())?,
+    })
+}
+
+/// Reads the words after `table`: two names and two points.
+fn read_table(words: &[String]) -> Option<StoreTask>
+    ensures { result ≡ table_asked (bytes_of words.now) }
+{
+    let [first, second, points @ ..] = words else {
+        return None;
+    };
+    let asks = read_table_points(points);
+    read_store_task(first.as_bytes(), second.as_bytes(), asks)
 }
 
 /// Reads the words after `gen` or `drill`: SEED, SCANS and POINTS.
@@ -313,7 +389,21 @@ fn read_task(command: &[u8], words: &[String]) -> Option<Task>
         let max_bytes = read_file_bytes(words)?;
         Some(Task::Inspect { max_bytes })
     } else if command == b"frontier".as_slice() {
-        read_frontier(words)
+        let Stretch { lo, hi, max_bytes } = read_stretch(words)?;
+        let task = FileTask::Frontier { lo, hi };
+        Some(Task::OverFile { task, max_bytes })
+    } else if command == b"project".as_slice() {
+        let Stretch { lo, hi, max_bytes } = read_stretch(words)?;
+        let task = FileTask::Project { lo, hi };
+        Some(Task::OverFile { task, max_bytes })
+    } else if command == b"vrml".as_slice() {
+        let task = FileTask::Vrml;
+        let max_bytes = read_file_bytes(words)?;
+        Some(Task::OverFile { task, max_bytes })
+    } else if command == b"merge".as_slice() {
+        Some(Task::OverStore(read_merge(words)?))
+    } else if command == b"table".as_slice() {
+        Some(Task::OverStore(read_table(words)?))
     } else if command == b"gen".as_slice() {
         Some(Task::Generate(read_workload(words)?))
     } else if command == b"drill".as_slice() {

@@ -1,14 +1,18 @@
 //! Scripts and their replies, by the program's top call.
 ghost use Rattle.std.specs.Prelude.{◌<◌};
 
+mod bad_files;
 mod builds;
 mod faults;
 mod fold;
 mod frontiers;
 mod generated;
+mod grids;
 mod limits;
 mod lists;
+mod merges;
 mod options;
+mod pieces;
 mod scans;
 mod scripts;
 mod snapshots;

@@ -1,13 +1,15 @@
-ghost use Rattle.std.specs.Prelude.{◌≤◌, ◌^◌};
+ghost use Rattle.std.specs.Prelude.{◌<◌, ◌≤◌, ◌^◌};
 ghost use Rattle.oct_session.specs.History.{start_state};
 ghost use Rattle.oct_session.specs.Leaving.{StandsFor};
 
 use super::*;
 use oct_io::{CalmSink, CalmSource, CalmStore, FileBytes, KeptList, MemSink, MemSource, MemStore};
 use oct_key::{Point, Res};
-use oct_map::{Limits, MapFault};
+use oct_map::Limits;
+use oct_num::Memory;
 use oct_odds::OddsModel;
 use oct_query::Counts;
+use std::process::Abort;
 use std::test::Fail;
 
 mod files;
@@ -44,17 +46,6 @@ fn unknown(alloc: Global, options: &Options) -> OccMap
     OccMap::new(alloc, options.res, options.odds, options.limits)
 }
 
-/// What a map answers for the two voxels, and whether it is stale.
-fn asked(
-    map: &OccMap,
-) -> (
-    Result<Option<i32>, MapFault>,
-    Result<Option<i32>, MapFault>,
-    bool,
-) {
-    (map.get(ORIGIN, 16), map.get(BESIDE, 16), map.is_stale())
-}
-
 /// The list of this number alone.
 fn only(alloc: Global, number: u64) -> Result<KeptList, Fail> {
     let mut list = KeptList::new(alloc);
@@ -62,119 +53,162 @@ fn only(alloc: Global, number: u64) -> Result<KeptList, Fail> {
     Ok(list)
 }
 
-#[test]
-fn the_lent_map_stands_for_all_lines_that_count(rt: HostRuntime) -> Result<(), Fail> {
-    let script = b"hit 0 0 0\nmiss 0.1 0 0 lazy\nget 0 0 0 0\nprune\n";
-    for (options, ends, beside, is_stale, nodes) in [
-        (options(1000)?, Status::Refused, Some(-400), true, 18),
-        (options(20)?, Status::TooLong, None, false, 17),
-    ] {
-        let mut map = unknown(rt.alloc(), &options);
-        let status = serve(
-            rt.alloc(),
-            &options,
-            &mut map,
-            &mut CalmSource::new(FileBytes::from_slice(rt.alloc(), script)?, 7),
-            &mut CalmSink::new(rt.alloc(), 100),
-            &mut CalmStore::new(rt.alloc()),
-        );
-        assert_eq!(rt; status, ends);
-        assert_eq!(rt;
-            asked(&map),
-            (Ok(Some(850)), Ok(beside), is_stale),
-            "{ends}"
-        );
-        assert_eq!(rt; map.counts(), Counts { groups: 16, nodes }, "{ends}");
-    }
+/// How a session on the unknown world ends, and the map that it leaves.
+fn ended<S: Source, K: Sink, F: Store>(
+    alloc: Global,
+    options: &Options,
+    source: &mut S,
+    sink: &mut K,
+    store: &mut F,
+) -> (Status, OccMap) {
+    let mut map = unknown(alloc, options);
+    let status = serve(alloc, options, &mut map, source, sink, store);
+    (status, map)
+}
+
+/// A source of a script in reads of so many bytes.
+fn script(alloc: Global, text: &str, most: usize) -> Result<CalmSource, Memory>
+    requires { 0 < most }
+{
+    Ok(CalmSource::new(FileBytes::from_slice(alloc, text.as_bytes())?, most))
+}
+
+/// Expects that the voxels have these values, and that the map is stale or isn't.
+fn expect_map(
+    rt: &impl Abort,
+    map: &OccMap,
+    origin: Option<i32>,
+    beside: Option<i32>,
+    is_stale: bool,
+) {
+    assert_eq!(rt; map.get(ORIGIN, 16), Ok(origin));
+    assert_eq!(rt; map.get(BESIDE, 16), Ok(beside));
+    assert_eq!(rt; map.is_stale(), is_stale);
+}
+
+/// Expects that a script of at most so many bytes ends so, and that the map has then these values
+/// and so many nodes, and is stale or isn't.
+fn expect_end(
+    rt: &impl Abort,
+    alloc: Global,
+    max_bytes: u64,
+    want: Status,
+    left: (Option<i32>, bool, u64),
+) -> Result<(), Fail>
+    requires { max_bytes ≤ 2 ^ 40 }
+{
+    let (beside, is_stale, nodes) = left;
+    let text = "hit 0 0 0\nmiss 0.1 0 0 lazy\nget 0 0 0 0\nprune\n";
+    let mut source = script(alloc, text, 7)?;
+    let mut sink = CalmSink::new(alloc, 100);
+    let mut store = CalmStore::new(alloc);
+    let options = options(max_bytes)?;
+    let (status, mut map) = ended(alloc, &options, &mut source, &mut sink, &mut store);
+    assert_eq!(rt; status, want);
+    expect_map(rt, &map, Some(850), beside, is_stale);
+    assert_eq!(rt; map.counts(), Counts { groups: 16, nodes });
     Ok(())
 }
 
 #[test]
-fn a_block_has_one_reply(rt: HostRuntime) -> Result<(), Fail> {
+fn the_lent_map_stands_for_all_lines_that_count(rt: HostRuntime) -> Result<(), Fail> {
+    let all = (Some(-400), true, 18);
+    expect_end(&rt, rt.alloc(), 1000, Status::Refused, all)?;
+    let first = (None, false, 17);
+    expect_end(&rt, rt.alloc(), 20, Status::TooLong, first)?;
+    Ok(())
+}
+
+/// Scripts with the block of a scan, their replies, the values of the two voxels, and whether the
+/// map is stale.
+const BLOCKS: [(&str, &str, Option<i32>, Option<i32>, bool); 6] = [
+    (
+        "scan 0.05 0.05 0.05 1 0 0 0 all lazy\np 0.2 0 0\n# aside\np 0.4 0 0\nend\n",
+        "ok hits 2 frees 3\n",
+        Some(-400),
+        Some(-400),
+        true,
+    ),
+    (
+        "scan 0 0 0 1 0 0 0 all\np 0.1 0 0\nend",
+        "ok hits 1 frees 1\n",
+        Some(-400),
+        Some(850),
+        false,
+    ),
+    (
+        "scan 0 0 0 1 0 0 0 all\np 1 0\nhit 0 0 x\nend\nget 0 0 0 16\n",
+        "refused 29 Syntax line 2 column 6\nunknown\n",
+        None,
+        None,
+        false,
+    ),
+    (
+        "scan 0\np 1 0\nend\nget 0 0 0 16",
+        "refused 29 Syntax line 1 column 7\nunknown\n",
+        None,
+        None,
+        false,
+    ),
+    (
+        "prune\nscan 0 0 0 0 0 0 0 all lazy\np 1 0 0",
+        "ok\nrefused 31 OpenScan line 2\n",
+        None,
+        None,
+        false,
+    ),
+    (
+        "scan 0 0 0 0 0 0 0 all\nend",
+        "refused 5 ZeroQuaternion\n",
+        None,
+        None,
+        false,
+    ),
+];
+
+/// Expects that a script is answered so, and the map that it leaves.
+fn expect_replies(
+    rt: &impl Abort,
+    alloc: Global,
+    text: &str,
+    replies: &str,
+    want: Status,
+) -> Result<OccMap, Fail> {
+    let mut source = script(alloc, text, 7)?;
+    let mut sink = CalmSink::new(alloc, 100);
+    let mut store = CalmStore::new(alloc);
     let options = options(1000)?;
-    for (script, text, origin, beside, is_stale) in [
-        (
-            "scan 0.05 0.05 0.05 1 0 0 0 all lazy\np 0.2 0 0\n# aside\np 0.4 0 0\nend\n",
-            "ok hits 2 frees 3\n",
-            Some(-400),
-            Some(-400),
-            true,
-        ),
-        (
-            "scan 0 0 0 1 0 0 0 all\np 0.1 0 0\nend",
-            "ok hits 1 frees 1\n",
-            Some(-400),
-            Some(850),
-            false,
-        ),
-        (
-            "scan 0 0 0 1 0 0 0 all\np 1 0\nhit 0 0 x\nend\nget 0 0 0 16\n",
-            "refused 29 Syntax line 2 column 6\nunknown\n",
-            None,
-            None,
-            false,
-        ),
-        (
-            "scan 0\np 1 0\nend\nget 0 0 0 16",
-            "refused 29 Syntax line 1 column 7\nunknown\n",
-            None,
-            None,
-            false,
-        ),
-        (
-            "prune\nscan 0 0 0 0 0 0 0 all lazy\np 1 0 0",
-            "ok\nrefused 31 OpenScan line 2\n",
-            None,
-            None,
-            false,
-        ),
-        (
-            "scan 0 0 0 0 0 0 0 all\nend",
-            "refused 5 ZeroQuaternion\n",
-            None,
-            None,
-            false,
-        ),
-    ] {
-        let mut map = unknown(rt.alloc(), &options);
-        let mut sink = CalmSink::new(rt.alloc(), 100);
-        let status = serve(
-            rt.alloc(),
-            &options,
-            &mut map,
-            &mut CalmSource::new(FileBytes::from_slice(rt.alloc(), script.as_bytes())?, 7),
-            &mut sink,
-            &mut CalmStore::new(rt.alloc()),
-        );
-        let ends = if origin.is_some() {
+    let (status, map) = ended(alloc, &options, &mut source, &mut sink, &mut store);
+    assert_eq!(rt; status, want, "{text}");
+    assert_eq!(rt; sink.written(), replies.as_bytes(), "{text}");
+    Ok(map)
+}
+
+#[test]
+fn a_block_has_one_reply(rt: HostRuntime) -> Result<(), Fail> {
+    for (text, replies, origin, beside, is_stale) in BLOCKS {
+        let want = if origin.is_some() {
             Status::Done
         } else {
             Status::Refused
         };
-        assert_eq!(rt; status, ends, "{script}");
-        assert_eq!(rt; sink.written(), text.as_bytes(), "{script}");
-        assert_eq!(rt; asked(&map), (Ok(origin), Ok(beside), is_stale), "{script}");
+        let map = expect_replies(&rt, rt.alloc(), text, replies, want)?;
+        expect_map(&rt, &map, origin, beside, is_stale);
     }
     Ok(())
 }
 
 #[test]
 fn the_lent_map_stands_for_the_lines_before_a_fault(rt: HostRuntime) -> Result<(), Fail> {
-    let options = options(1000)?;
-    let mut map = unknown(rt.alloc(), &options);
-    let script = b"hit 0 0 0 lazy\nrefresh\nhit 0.1 0 0\nmiss 0 0";
-    let bytes = FileBytes::from_slice(rt.alloc(), script)?;
+    let text = b"hit 0 0 0 lazy\nrefresh\nhit 0.1 0 0\nmiss 0 0";
+    let bytes = FileBytes::from_slice(rt.alloc(), text)?;
     let mut source = MemSource::new(bytes, 100, only(rt.alloc(), 2)?);
-    let status = serve(
-        rt.alloc(),
-        &options,
-        &mut map,
-        &mut source,
-        &mut CalmSink::new(rt.alloc(), 100),
-        &mut CalmStore::new(rt.alloc()),
-    );
+    let mut sink = CalmSink::new(rt.alloc(), 100);
+    let mut store = CalmStore::new(rt.alloc());
+    let options = options(1000)?;
+    let (status, map) = ended(rt.alloc(), &options, &mut source, &mut sink, &mut store);
     assert_eq!(rt; status, Status::ReadFault);
-    assert_eq!(rt; asked(&map), (Ok(Some(850)), Ok(Some(850)), false));
+    expect_map(&rt, &map, Some(850), Some(850), false);
     Ok(())
 }
 
@@ -182,18 +216,12 @@ fn the_lent_map_stands_for_the_lines_before_a_fault(rt: HostRuntime) -> Result<(
 fn the_lent_map_stands_for_the_line_whose_reply_was_not_written(
     rt: HostRuntime,
 ) -> Result<(), Fail> {
+    let mut source = script(rt.alloc(), "hit 0 0 0 lazy\nhit 0.1 0 0\n", 100)?;
+    let mut sink = MemSink::new(rt.alloc(), 100, only(rt.alloc(), 1)?);
+    let mut store = CalmStore::new(rt.alloc());
     let options = options(1000)?;
-    let mut map = unknown(rt.alloc(), &options);
-    let script = b"hit 0 0 0 lazy\nhit 0.1 0 0\n";
-    let status = serve(
-        rt.alloc(),
-        &options,
-        &mut map,
-        &mut CalmSource::new(FileBytes::from_slice(rt.alloc(), script)?, 100),
-        &mut MemSink::new(rt.alloc(), 100, only(rt.alloc(), 1)?),
-        &mut CalmStore::new(rt.alloc()),
-    );
+    let (status, map) = ended(rt.alloc(), &options, &mut source, &mut sink, &mut store);
     assert_eq!(rt; status, Status::WriteFault);
-    assert_eq!(rt; asked(&map), (Ok(Some(850)), Ok(None), true));
+    expect_map(&rt, &map, Some(850), None, true);
     Ok(())
 }

@@ -53,6 +53,35 @@ fn torn(
     Ok((status, sink, store))
 }
 
+/// Expects that the program ends so on an input that is read by so many bytes, and that it has
+/// written this then. Returns its store.
+fn check_torn(
+    rt: &impl Abort,
+    alloc: Global,
+    words: &[&str],
+    input: (&[u8], usize),
+    failing: Failing,
+    want: (Status, &[u8]),
+) -> Result<MemStore, Fail> {
+    let (bytes, most) = input;
+    let (ends, text) = want;
+    assert!(rt; most > 0);
+    let (status, sink, store) = torn(alloc, words, bytes, most, failing)?;
+    assert_eq!(rt; status, ends, "{words:?} {}", sink.written().len());
+    assert_eq!(rt; sink.written(), text, "{words:?} {}", text.len());
+    Ok(store)
+}
+
+/// The first so many bytes, or all where there are no more.
+fn front(bytes: &[u8], length: usize) -> &[u8] {
+    bytes.get(..length).unwrap_or(bytes)
+}
+
+/// The words of a session and of a build.
+const SESSION: &[&str] = &["session", "0.1"];
+
+const BUILD: &[&str] = &["build", "0.1"];
+
 /// A script with each kind of command that changes the map or names a file.
 const SCRIPT: &[u8] =
     b"hit 0 0 0\nscan 0 0 0 1 0 0 0 all\np 0 0 0\nend\nsave m\nload m\nsnapshot s\nrestore s\n";
@@ -114,19 +143,14 @@ fn a_read_that_fails_leaves_what_was_read_done(rt: HostRuntime) -> Result<(), Fa
             read: u64::from(taken) + 1,
             ..WHOLE
         };
-        let (status, sink, store) = torn(rt.alloc(), &["session", "0.1"], SCRIPT, 1, fault)?;
         let taken = usize::from(taken);
         let ends = if taken > 80 {
             Status::Done
         } else {
             Status::ReadFault
         };
-        assert_eq!(rt; status, ends, "{taken}");
-        assert_eq!(rt;
-            Some(sink.written()),
-            REPLIES.get(..replied(taken)),
-            "{taken}"
-        );
+        let want = (ends, front(REPLIES, replied(taken)));
+        let store = check_torn(&rt, rt.alloc(), SESSION, (SCRIPT, 1), fault, want)?;
         check_files(&rt, rt.alloc(), &store, taken >= 52, taken >= 70)?;
     }
     Ok(())
@@ -139,15 +163,14 @@ fn a_write_that_fails_ends_the_session(rt: HostRuntime) -> Result<(), Fail> {
             write: u64::from(written) + 1,
             ..WHOLE
         };
-        let (status, sink, store) = torn(rt.alloc(), &["session", "0.1"], SCRIPT, 7, fault)?;
         let written = usize::from(written);
         let ends = if written == 70 {
             Status::Done
         } else {
             Status::WriteFault
         };
-        assert_eq!(rt; status, ends, "{written}");
-        assert_eq!(rt; Some(sink.written()), REPLIES.get(..written), "{written}");
+        let want = (ends, front(REPLIES, written));
+        let store = check_torn(&rt, rt.alloc(), SESSION, (SCRIPT, 7), fault, want)?;
         check_files(&rt, rt.alloc(), &store, written >= 21, written >= 41)?;
     }
     Ok(())
@@ -166,42 +189,54 @@ fn a_file_that_fails_ends_the_session(rt: HostRuntime) -> Result<(), Fail> {
             file: number,
             ..WHOLE
         };
-        let (status, sink, store) = torn(rt.alloc(), &["session", "0.1"], SCRIPT, 7, fault)?;
-        assert_eq!(rt; status, ends, "{number}");
-        assert_eq!(rt; Some(sink.written()), REPLIES.get(..length), "{number}");
+        let want = (ends, front(REPLIES, length));
+        let store = check_torn(&rt, rt.alloc(), SESSION, (SCRIPT, 7), fault, want)?;
         check_files(&rt, rt.alloc(), &store, has_saved, has_kept)?;
-        let (status, sink, store) = torn(rt.alloc(), &["build", "0.1"], SCRIPT, 7, fault)?;
         let built = if number == 5 { SAVED } else { b"" };
-        assert_eq!(rt; status, ends, "{number}");
-        assert_eq!(rt; sink.written(), built, "{number}");
+        let store = check_torn(&rt, rt.alloc(), BUILD, (SCRIPT, 7), fault, (ends, built))?;
         check_files(&rt, rt.alloc(), &store, has_saved, has_kept)?;
     }
     Ok(())
 }
 
-/// Words, an input, and what is written once all of it was read.
-const TASKS: [(&[&str], &[u8], &[u8]); 3] = [
-    (&["convert"], SAVED, SAVED),
-    (&["inspect"], SAVED, INSPECTED),
-    (&["build", "0.1"], SCRIPT, SAVED),
+/// The picture of its voxel's column, and one beside it.
+const GRID: &[u8] = b"P5\n2 1\n255\n\xCD\0";
+
+/// The scene of its voxel.
+const SCENE: &[u8] = b"#VRML V2.0 utf8\nTransform { translation 0.05 0.05 0.05 children \
+    [ Shape { geometry Box { size 0.1 0.1 0.1 } } ] }\n";
+
+/// Words, an input, what is written once all of it was read, and whether files are saved meanwhile.
+const TASKS: [(&[&str], &[u8], &[u8], bool); 5] = [
+    (
+        &["project", "-0.1", "0", "0", "0", "0", "0"],
+        SAVED,
+        GRID,
+        false,
+    ),
+    (&["vrml"], SAVED, SCENE, false),
+    (&["convert"], SAVED, SAVED, false),
+    (&["inspect"], SAVED, INSPECTED, false),
+    (&["build", "0.1"], SCRIPT, SAVED, true),
 ];
 
 #[test]
 fn a_read_that_fails_leaves_nothing_written(rt: HostRuntime) -> Result<(), Fail> {
-    for (words, input, whole) in TASKS {
+    for (words, input, whole, saves) in TASKS {
         for taken in 0..=170u8 {
             let fault = Failing {
                 read: u64::from(taken) + 1,
                 ..WHOLE
             };
-            let (status, sink, _) = torn(rt.alloc(), words, input, 1, fault)?;
-            let (ends, text) = if usize::from(taken) > input.len() {
+            let want = if usize::from(taken) > input.len() {
                 (Status::Done, whole)
             } else {
                 (Status::ReadFault, b"".as_slice())
             };
-            assert_eq!(rt; status, ends, "{words:?} {taken}");
-            assert_eq!(rt; sink.written(), text, "{words:?} {taken}");
+            let store = check_torn(&rt, rt.alloc(), words, (input, 1), fault, want)?;
+            let has_saved = saves && taken >= 52;
+            let has_kept = saves && taken >= 70;
+            check_files(&rt, rt.alloc(), &store, has_saved, has_kept)?;
         }
     }
     Ok(())
@@ -209,22 +244,21 @@ fn a_read_that_fails_leaves_nothing_written(rt: HostRuntime) -> Result<(), Fail>
 
 #[test]
 fn a_write_that_fails_leaves_a_front(rt: HostRuntime) -> Result<(), Fail> {
-    for (words, input, whole) in TASKS {
+    for (words, input, whole, saves) in TASKS {
         for written in 0..=169u8 {
             let fault = Failing {
                 write: u64::from(written) + 1,
                 ..WHOLE
             };
-            let (status, sink, _) = torn(rt.alloc(), words, input, 100, fault)?;
             let written = usize::from(written);
             let ends = if written < whole.len() {
                 Status::WriteFault
             } else {
                 Status::Done
             };
-            assert_eq!(rt; status, ends, "{words:?} {written}");
-            let text = whole.get(..written).unwrap_or(whole);
-            assert_eq!(rt; sink.written(), text, "{words:?} {written}");
+            let want = (ends, front(whole, written));
+            let store = check_torn(&rt, rt.alloc(), words, (input, 100), fault, want)?;
+            check_files(&rt, rt.alloc(), &store, saves, saves)?;
         }
     }
     Ok(())
@@ -238,29 +272,25 @@ fn a_write_that_fails_ends_a_task_without_input(rt: HostRuntime) -> Result<(), F
     ];
     let fault = Failing { write: 2, ..WHOLE };
     for (words, first) in tasks {
-        let (status, sink, _) = torn(rt.alloc(), words, b"", 1, fault)?;
-        assert_eq!(rt; status, Status::WriteFault, "{words:?}");
-        assert_eq!(rt; sink.written(), [first].as_slice(), "{words:?}");
+        let text = [first];
+        let want = (Status::WriteFault, text.as_slice());
+        check_torn(&rt, rt.alloc(), words, (b"", 1), fault, want)?;
     }
     Ok(())
 }
 
-/// A session over an input that is read by so many bytes: its status and its replies.
+/// A session of at most 100 bytes over an input that is read by so many bytes: its status and its
+/// replies.
 fn check_session(
     rt: &impl Abort,
     alloc: Global,
-    input: &[u8],
-    most: usize,
+    input: (&[u8], usize),
     fault: Failing,
     ends: Status,
     replies: &[u8],
-) -> Result<(), Fail>
-    requires read { 0 < most }
-{
+) -> Result<(), Fail> {
     let words = ["session", "0.1", "--max-bytes", "100"];
-    let (status, sink, _) = torn(alloc, &words, input, most, fault)?;
-    assert_eq!(rt; status, ends, "{input:?}");
-    assert_eq!(rt; sink.written(), replies, "{input:?}");
+    check_torn(rt, alloc, &words, input, fault, (ends, replies))?;
     Ok(())
 }
 
@@ -269,29 +299,28 @@ fn nothing_is_read_or_done_that_need_not_be(rt: HostRuntime) -> Result<(), Fail>
     let second = Failing { read: 2, ..WHOLE };
     let alloc = rt.alloc();
     let hit = b"hit 0 0 0\nget 0 0 0 16\n";
-    check_session(&rt, alloc, hit, 12, second, Status::ReadFault, b"ok\n")?;
+    check_session(&rt, alloc, (hit, 12), second, Status::ReadFault, b"ok\n")?;
     let shut = Failing { write: 1, ..WHOLE };
-    check_session(&rt, alloc, hit, 100, shut, Status::WriteFault, b"")?;
+    check_session(&rt, alloc, (hit, 100), shut, Status::WriteFault, b"")?;
     let saved = b"hit 0 0 0\nsave m\nclear\nload m\nget 0 0 0 16\nload n\nchanges\n";
     let first = Failing { file: 1, ..WHOLE };
-    check_session(&rt, alloc, saved, 100, first, Status::StoreFault, b"ok\n")?;
-    check_session(&rt, alloc, b"quit\n", 5, second, Status::Done, b"")?;
+    check_session(&rt, alloc, (saved, 100), first, Status::StoreFault, b"ok\n")?;
+    check_session(&rt, alloc, (b"quit\n", 5), second, Status::Done, b"")?;
     check_session(
         &rt,
         alloc,
-        b"hit 0 0 0\nquit\n",
-        100,
+        (b"hit 0 0 0\nquit\n", 100),
         second,
         Status::Done,
         b"ok\n",
     )?;
     let scan = b"scan 0 0 0 1 0 0 0 all\n";
-    check_session(&rt, alloc, scan, 100, second, Status::ReadFault, b"")?;
+    check_session(&rt, alloc, (scan, 100), second, Status::ReadFault, b"")?;
     let wrong = b"hit 0 0 0\nhit 0 0 0 x\nquit";
     let refused = b"ok\nrefused 29 Syntax line 2 column 11\n";
-    check_session(&rt, alloc, wrong, 100, second, Status::ReadFault, refused)?;
+    check_session(&rt, alloc, (wrong, 100), second, Status::ReadFault, refused)?;
     let full = b"hit 0 0 0\nhit 0 0 0\nhit 0 0 0\nhit 0 0 0\nhit 0 0 0\n\
         hit 0 0 0\nhit 0 0 0\nhit 0 0 0\nhit 0 0 0\nhit 0 0 0\n";
     let tens = b"ok\nok\nok\nok\nok\nok\nok\nok\nok\nok\n";
-    check_session(&rt, alloc, full, 100, second, Status::ReadFault, tens)
+    check_session(&rt, alloc, (full, 100), second, Status::ReadFault, tens)
 }

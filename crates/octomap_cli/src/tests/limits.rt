@@ -35,10 +35,17 @@ fn a_full_map_refuses_edits(rt: HostRuntime) -> Result<(), Fail> {
 }
 
 /// Limits that a scan meets.
-const SCANS: [LimitCase; 8] = [
+const SCANS: [LimitCase; 9] = [
     (
         "--max-cells",
         "3",
+        "scan 0.05 0.05 0.05 1 0 0 0 all\np 0.2 0 0\np 0.4 0 0\nend\n",
+        "refused 8 TooManyCells index 1 cells 8\n",
+        Status::Refused,
+    ),
+    (
+        "--max-cells",
+        "7",
         "scan 0.05 0.05 0.05 1 0 0 0 all\np 0.2 0 0\np 0.4 0 0\nend\n",
         "refused 8 TooManyCells index 1 cells 8\n",
         Status::Refused,

@@ -24,13 +24,13 @@ pub returns-else-has_ended-clause-answer : goal.returns-else-has_ended-clause-an
 returns-else-has_ended-clause-answer g c =
     stopped_answer c.args.options.now (g.F.Store.files c.args.store.now) _ _ _ _
     (desk c.serve-ended.new.map (g.F.Store.files c.serve-ended.new.store) (c.serve-ended.new.store ≡ c.args.store.now)) _
-    (sym c.has_ended.ensures ∙ c.if-has_ended.false) (λ fault. zero_stays (c.serve-ended.ensures.write_fault fault)) refl (c.serve-ended.ensures.answer, c.serve-ended.ensures.leaves)
+    (sym c.has_ended.ensures ∙ c.if-has_ended.false) (λ fault. zero_stays (c.serve-ended.ensures.sink_counts.write_fault fault)) refl (c.serve-ended.ensures.answer, c.serve-ended.ensures.leaves)
 
 pub returns-else-has_ended-clause-leaves : goal.returns-else-has_ended-clause-leaves
 returns-else-has_ended-clause-leaves g c =
     stopped_leaves c.args.options.now (g.F.Store.files c.args.store.now) _ _ (g.K.Sink.written c.args.sink.now) _
     (desk c.serve-ended.new.map (g.F.Store.files c.serve-ended.new.store) (c.serve-ended.new.store ≡ c.args.store.now)) _
-    (sym c.has_ended.ensures ∙ c.if-has_ended.false) (λ fault. zero_stays (c.serve-ended.ensures.write_fault fault)) refl (c.serve-ended.ensures.answer, c.serve-ended.ensures.leaves)
+    (sym c.has_ended.ensures ∙ c.if-has_ended.false) (λ fault. zero_stays (c.serve-ended.ensures.sink_counts.write_fault fault)) refl (c.serve-ended.ensures.answer, c.serve-ended.ensures.leaves)
 
 pub returns-else-has_ended-clause-files : goal.returns-else-has_ended-clause-files
 returns-else-has_ended-clause-files g c =

@@ -1,6 +1,6 @@
-use Rattle.std.proofs.Common.{◌≡◌, Ok, Err, is_some, sym, ap, ◌∙◌}
+use Rattle.std.proofs.Common.{Ok, Err, is_some, sym, ap, ◌∙◌}
 use Rattle.oct_script.specs.declared.reply.Refusal.TheVariants as refusal
-use Rattle.oct_session.specs.Commands.{command_on, file_named, is_quit}
+use Rattle.oct_session.specs.Commands.{file_named, file_saved, is_quit}
 use Rattle.oct_session.specs.Session.{effect}
 use Rattle.oct_session.specs.Standing.{with_reply}
 use Rattle.oct_session.proofs.Effects.{fault_taken, long_in, misspelt_in, read_in, still_failed, taken_as}
@@ -37,6 +37,10 @@ pub returns-in_err-take_command-in-Ok-clause-unnamed : goal.returns-in_err-take_
 returns-in_err-take_command-in-Ok-clause-unnamed g c = λ none.
     c.take_command.ensures.unnamed (sym (ap file_named (read_in (is_some c.args.block.now) c.is_some.result c.args.number c.args.line.now.line c.text.result.now c.parse_into.new.command c.is_some.ensures c.text.ensures.text c.in-Ok.ensures.exact)) ∙ none)
 
+pub returns-in_err-take_command-in-Ok-clause-unsaved : goal.returns-in_err-take_command-in-Ok-clause-unsaved
+returns-in_err-take_command-in-Ok-clause-unsaved g c = λ none.
+    c.take_command.ensures.unsaved (sym (ap file_saved (read_in (is_some c.args.block.now) c.is_some.result c.args.number c.args.line.now.line c.text.result.now c.parse_into.new.command c.is_some.ensures c.text.ensures.text c.in-Ok.ensures.exact)) ∙ none)
+
 pub returns-in_ok-take_command-in-Ok-clause-effect : goal.returns-in_ok-take_command-in-Ok-clause-effect
 returns-in_ok-take_command-in-Ok-clause-effect g c =
     taken_as (Ok c.take_command.new.reply) c.args.map.now c.take_command.new.map _ _ c.args.number c.args.line.now.line _ (Ok c.parse_into.new.command) c.args.block.now c.take_command.new.block
@@ -50,3 +54,7 @@ returns-in_ok-take_command-in-Ok-clause-quits g c =
 pub returns-in_ok-take_command-in-Ok-clause-unnamed : goal.returns-in_ok-take_command-in-Ok-clause-unnamed
 returns-in_ok-take_command-in-Ok-clause-unnamed g c = λ none.
     c.take_command.ensures.unnamed (sym (ap file_named (read_in (is_some c.args.block.now) c.is_some.result c.args.number c.args.line.now.line c.text.result.now c.parse_into.new.command c.is_some.ensures c.text.ensures.text c.in-Ok.ensures.exact)) ∙ none)
+
+pub returns-in_ok-take_command-in-Ok-clause-unsaved : goal.returns-in_ok-take_command-in-Ok-clause-unsaved
+returns-in_ok-take_command-in-Ok-clause-unsaved g c = λ none.
+    c.take_command.ensures.unsaved (sym (ap file_saved (read_in (is_some c.args.block.now) c.is_some.result c.args.number c.args.line.now.line c.text.result.now c.parse_into.new.command c.is_some.ensures c.text.ensures.text c.in-Ok.ensures.exact)) ∙ none)

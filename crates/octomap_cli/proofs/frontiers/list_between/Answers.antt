@@ -1,34 +1,33 @@
-use Rattle.std.proofs.Common.{◌≡◌, IfOk, length, sym, subst}
+use Rattle.std.proofs.Common.{length, sym, ap, subst}
 use Rattle.oct_bt.specs.DataClasses.{data_classes}
-use Rattle.oct_frontier.specs.Found.{classes_in}
+use Rattle.oct_export.specs.Seen.{classes_in}
 use Rattle.oct_frontier.specs.Frontier.{frontier_between, IsRefused}
 use Rattle.oct_frontier.specs.declared.fault.FrontierFault.{FrontierFault}
-use Rattle.octomap_cli.specs.OverFile.{Reply}
+use Rattle.octomap_cli.specs.Frontiers.{list_reply}
+use Rattle.octomap_cli.specs.OverFile.{Reply, EndsOverFile}
+use Rattle.octomap_cli.proofs.OverFile.{none_sent}
 use Rattle.octomap_cli.proofs.Replies.{list_told, list_refused}
 use Rattle.octomap_cli.proofs.frontiers.list_between.Goals as goal
 
-pub returns-in-Ok-clause-text : goal.returns-in-Ok-clause-text
-returns-in-Ok-clause-text c =
-    subst (λ (whole : Reply). IfOk c.listed.result (λ said. said.text.items ≡ whole.text))
-    (sym (list_told (classes_in c.in_ok-tree.tree) (data_classes c.args.file.now.codes) c.args.low c.args.high c.as_slice.result.now c.in-Ok.keys
-    c.in_ok-tree.ensures c.as_slice.ensures c.in-Ok.ensures.exact c.in-Ok.ensures.few)) c.listed.ensures.text
+pub returns-in_default-clause-ends : goal.returns-in_default-clause-ends
+returns-in_default-clause-ends g c = λ most bytes left to_end.
+    none_sent (list_reply (frontier_between (data_classes c.args.file.now.codes) c.args.low c.args.high)) most bytes left _ to_end
 
-pub returns-in-Ok-clause-status : goal.returns-in-Ok-clause-status
-returns-in-Ok-clause-status c =
-    subst (λ (whole : Reply). IfOk c.listed.result (λ said. said.status ≡ whole.status))
-    (sym (list_told (classes_in c.in_ok-tree.tree) (data_classes c.args.file.now.codes) c.args.low c.args.high c.as_slice.result.now c.in-Ok.keys
-    c.in_ok-tree.ensures c.as_slice.ensures c.in-Ok.ensures.exact c.in-Ok.ensures.few)) c.listed.ensures.status
+pub returns-in-Ok-frontier-clause-ends : goal.returns-in-Ok-frontier-clause-ends
+returns-in-Ok-frontier-clause-ends g c = λ most bytes left to_end.
+    let told = list_told (classes_in c.in-Ok.tree) (data_classes c.args.file.now.codes) c.args.low c.args.high c.as_slice.result.now c.in-Ok-frontier.keys
+    c.in-Ok.ensures.classes c.as_slice.ensures c.in-Ok-frontier.ensures.exact c.in-Ok-frontier.ensures.few in
+    c.send_listing.ensures.ends (list_reply (frontier_between (data_classes c.args.file.now.codes) c.args.low c.args.high)) most bytes left
+    (sym (ap (λ (r : Reply). r.text) told)) (sym (ap (λ (r : Reply). r.status) told)) to_end
 
-pub returns-in-Err-TooManyFrontiers-clause-text : goal.returns-in-Err-TooManyFrontiers-clause-text
-returns-in-Err-TooManyFrontiers-clause-text c =
-    subst (λ (whole : Reply). IfOk c.refused.result (λ said. said.text.items ≡ whole.text))
-    (sym (list_refused (classes_in c.in_ok-tree.tree) (data_classes c.args.file.now.codes) c.args.low c.args.high c.in_ok-tree.ensures
-    (subst (λ (fault : FrontierFault). IsRefused fault (length (frontier_between (classes_in c.in_ok-tree.tree) c.args.low c.args.high)) 1000000)
-    c.in-Err-TooManyFrontiers.field-0-is c.in-Err-TooManyFrontiers.ensures.refused))) c.refused.ensures.text
+pub returns-in-Err-TooManyFrontiers-clause-ends : goal.returns-in-Err-TooManyFrontiers-clause-ends
+returns-in-Err-TooManyFrontiers-clause-ends g c = λ most bytes left to_end.
+    subst (λ (whole : Reply). EndsOverFile whole most bytes left (g.K.Sink.written c.args.sink.now) (g.K.Sink.written c.send_refusal.new.sink) c.send_refusal.result)
+    (sym (list_refused (classes_in c.in-Ok.tree) (data_classes c.args.file.now.codes) c.args.low c.args.high c.in-Ok.ensures.classes
+    (subst (λ (fault : FrontierFault). IsRefused fault (length (frontier_between (classes_in c.in-Ok.tree) c.args.low c.args.high)) 1000000)
+    c.in-Err-TooManyFrontiers.field-0-is c.in-Err-TooManyFrontiers.ensures.refused)))
+    (c.send_refusal.ensures.ends most bytes left to_end)
 
-pub returns-in-Err-TooManyFrontiers-clause-status : goal.returns-in-Err-TooManyFrontiers-clause-status
-returns-in-Err-TooManyFrontiers-clause-status c =
-    subst (λ (whole : Reply). IfOk c.refused.result (λ said. said.status ≡ whole.status))
-    (sym (list_refused (classes_in c.in_ok-tree.tree) (data_classes c.args.file.now.codes) c.args.low c.args.high c.in_ok-tree.ensures
-    (subst (λ (fault : FrontierFault). IsRefused fault (length (frontier_between (classes_in c.in_ok-tree.tree) c.args.low c.args.high)) 1000000)
-    c.in-Err-TooManyFrontiers.field-0-is c.in-Err-TooManyFrontiers.ensures.refused))) c.refused.ensures.status
+pub returns-clause-ends : goal.returns-clause-ends
+returns-clause-ends g c = λ most bytes left to_end.
+    none_sent (list_reply (frontier_between (data_classes c.args.file.now.codes) c.args.low c.args.high)) most bytes left _ to_end

@@ -23,9 +23,11 @@ returns-in_err-has_quit-clause-err g c =
     before_err _ _ c.args.options.now (λ home. desk c.args.map.now (g.F.Store.files c.args.store.now) (c.args.store.now ≡ home)) (λ home. desk c.take_line.new.map (g.F.Store.files c.take_line.new.store) (c.take_line.new.store ≡ home))
     c.args.self.now (command_on (is_some c.args.self.now.block) (c.args.self.now.line_count + 1) c.args.self.now.line.line) c.take_line.new.block c.from_residual.ensures.1
     (λ home. (record { running = c.requires.running; read = refl; took = c.in_err-has_quit.ensures.effect })) (λ home none kept. c.take_line.ensures.unnamed none ∙ kept)
+    (λ home none. c.take_line.ensures.unsaved none)
 
 pub returns-in_err-tell-clause-err : goal.returns-in_err-tell-clause-err
 returns-in_err-tell-clause-err g c =
     after_err _ c.args.options.now (λ home. desk c.args.map.now (g.F.Store.files c.args.store.now) (c.args.store.now ≡ home)) (λ home. desk c.take_line.new.map (g.F.Store.files c.take_line.new.store) (c.take_line.new.store ≡ home))
     c.args.self.now (command_on (is_some c.args.self.now.block) (c.args.self.now.line_count + 1) c.args.self.now.line.line) c.take_line.new.block c.take_line.new.reply c.from_residual-in_err-tell.ensures.1
-    (λ home. (record { running = c.requires.running; read = refl; took = c.in_ok-has_quit.ensures.effect })) (λ home none kept. c.take_line.ensures.unnamed none ∙ kept) c.in_err-tell.ensures.err
+    (λ home. (record { running = c.requires.running; read = refl; took = c.in_ok-has_quit.ensures.effect })) (λ home none kept. c.take_line.ensures.unnamed none ∙ kept)
+    (λ home none. c.take_line.ensures.unsaved none) c.in_err-tell.ensures.err

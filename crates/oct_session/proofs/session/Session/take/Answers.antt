@@ -9,9 +9,9 @@ loop-taken-preserved g c = record {
   stands = λ o some. c.advance.ensures.stands o (c.loop-taken.invariant.stands o some);
   unended = c.in_ok-taken.ensures.unended;
   counted = omega (arith, c.in_ok-taken.ensures.counted, c.loop-taken.invariant.counted);
-  faults = c.in_ok-taken.ensures.stays.0 ∙ c.loop-taken.invariant.faults;
-  shortages = c.in_ok-taken.ensures.stays.1 ∙ c.loop-taken.invariant.shortages;
-  store_faults = c.in_ok-taken.ensures.stays.2 ∙ c.loop-taken.invariant.store_faults;
+  faults = c.in_ok-taken.ensures.counts.stays.0 ∙ c.loop-taken.invariant.faults;
+  shortages = c.in_ok-taken.ensures.counts.stays.1 ∙ c.loop-taken.invariant.shortages;
+  store_faults = c.in_ok-taken.ensures.counts.stays.2 ∙ c.loop-taken.invariant.store_faults;
 }
 
 pub returns-else-not-self-clause-ok : goal.returns-else-not-self-clause-ok

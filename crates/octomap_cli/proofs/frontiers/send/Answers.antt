@@ -1,8 +1,0 @@
-use Rattle.std.proofs.Common.{◌∙◌, ap, subst}
-use Rattle.octomap_cli.proofs.OverFile.{reply_sent}
-use Rattle.octomap_cli.proofs.frontiers.send.Goals as goal
-
-pub returns-clause-ends : goal.returns-clause-ends
-returns-clause-ends g c = λ whole most bytes left same_text same_status to_end.
-    reply_sent c.write_all.result c.deref.result.now c.args.said.now.status _ whole most bytes left _ _ c.requires.settled
-    (c.deref.ensures.value ∙ same_text) same_status c.status_written.ensures c.write_all.ensures.ok c.write_all.ensures.err to_end

@@ -1,0 +1,331 @@
+//! Two files of the store: their merged map, and the table of their classes.
+ghost use Rattle.std.specs.Prelude.{◌<◌};
+
+use super::owned;
+use crate::program::run;
+use oct_io::{
+    CalmSink, CalmSource, CalmStore, FileBytes, KeptList, MemSink, MemSource, MemStore, Store,
+};
+use oct_session::Status;
+use std::alloc::Global;
+use std::process::Abort;
+use std::test::Fail;
+
+/// The eight voxels from that of key 32768 on each axis are occupied.
+const EIGHT: &[u8] =
+    b"# Octomap OcTree binary file\n# (feel free to add / change comments, but leave the first line as it is!)\n#\nid OcTree\nsize 16\nres 0.1\ndata\n\x00\xC0\x03\x00\x03\x00\x03\x00\x03\x00\x03\x00\x03\x00\x03\x00\x03\x00\x03\x00\x03\x00\x03\x00\x03\x00\x03\x00\x02\x00";
+
+/// The voxel of key 32768 on each axis is free.
+const ONE: &[u8] =
+    b"# Octomap OcTree binary file\n# (feel free to add / change comments, but leave the first line as it is!)\n#\nid OcTree\nsize 17\nres 0.1\ndata\n\x00\xC0\x03\x00\x03\x00\x03\x00\x03\x00\x03\x00\x03\x00\x03\x00\x03\x00\x03\x00\x03\x00\x03\x00\x03\x00\x03\x00\x03\x00\x01\x00";
+
+/// That voxel is free, and the other seven are occupied.
+const BOTH: &[u8] =
+    b"# Octomap OcTree binary file\n# (feel free to add / change comments, but leave the first line as it is!)\n#\nid OcTree\nsize 24\nres 0.1\ndata\n\x00\xC0\x03\x00\x03\x00\x03\x00\x03\x00\x03\x00\x03\x00\x03\x00\x03\x00\x03\x00\x03\x00\x03\x00\x03\x00\x03\x00\x03\x00\xA9\xAA";
+
+/// All is occupied, at voxels of half the edge; its node data isn't the shortest.
+const FINE: &[u8] =
+    b"# Octomap OcTree binary file\nid OcTree\nsize 17\nres 0.05\ndata\n\xAB\xAA\xAA\xAA";
+
+/// The same in its shortest form.
+const FINE_AGAIN: &[u8] =
+    b"# Octomap OcTree binary file\n# (feel free to add / change comments, but leave the first line as it is!)\n#\nid OcTree\nsize 9\nres 0.05\ndata\n\xAA\xAA";
+
+/// A file without its last byte.
+const SHORT: &[u8] = b"# Octomap OcTree binary file\nid OcTree\nsize 9\nres 0.1\ndata\n\xAA";
+
+/// The files of the store: `A` and `B`, and what else these tests name. There is no file `c`.
+const FILES: [(&str, &[u8]); 6] = [
+    ("A", EIGHT),
+    ("B", ONE),
+    ("fine", FINE),
+    ("short", SHORT),
+    ("float", b"# Octomap OcTree file\n"),
+    ("empty", b""),
+];
+
+/// Puts the files into a store.
+fn fill<F: Store>(store: &mut F) -> Result<(), Fail> {
+    for (name, bytes) in FILES {
+        store.save(name, bytes)?;
+    }
+    Ok(())
+}
+
+/// The status of the program on its words, and what it writes. It has an input, which it leaves.
+fn answer(rt: &impl Abort, alloc: Global, words: &[&str]) -> Result<(Status, Vec<u8>), Fail> {
+    let texts = owned(alloc, words)?;
+    let mut source = CalmSource::new(FileBytes::from_slice(alloc, b"hit 0 0 0\n")?, 4096);
+    let mut sink = CalmSink::new(alloc, 100);
+    let mut store = CalmStore::new(alloc);
+    fill(&mut store)?;
+    let status = run(alloc, &texts, &mut source, &mut sink, &mut store);
+    for (name, bytes) in FILES {
+        assert_eq!(rt; store.file(name), Some(bytes), "at {words:?}");
+    }
+    Ok((status, Vec::from_slice(alloc, sink.written())?))
+}
+
+/// The words, what is written, and the status.
+type Case = (&'static [&'static str], &'static [u8], Status);
+
+const MERGES: [Case; 8] = [
+    (&["merge", "greatest", "A", "B"], EIGHT, Status::Done),
+    (&["merge", "least", "A", "B"], BOTH, Status::Done),
+    (&["merge", "first", "B", "A"], BOTH, Status::Done),
+    (&["merge", "first", "A", "B"], EIGHT, Status::Done),
+    (&["merge", "least", "B", "A"], BOTH, Status::Done),
+    (&["merge", "first", "A", "A"], EIGHT, Status::Done),
+    (
+        &["merge", "least", "fine", "fine"],
+        FINE_AGAIN,
+        Status::Done,
+    ),
+    (
+        &["merge", "greatest", "fine", "fine"],
+        FINE_AGAIN,
+        Status::Done,
+    ),
+];
+
+const TABLES: [Case; 4] = [
+    (
+        &["table", "A", "B", "0", "0", "0", "0.1", "0.1", "0.1"],
+        b"unknown unknown 0\nunknown free 0\nunknown occupied 0\n\
+            free unknown 0\nfree free 0\nfree occupied 0\n\
+            occupied unknown 7\noccupied free 1\noccupied occupied 0\n",
+        Status::Done,
+    ),
+    (
+        &["table", "B", "A", "0", "0", "0", "0.2", "0", "0"],
+        b"unknown unknown 1\nunknown free 0\nunknown occupied 1\n\
+            free unknown 0\nfree free 0\nfree occupied 1\n\
+            occupied unknown 0\noccupied free 0\noccupied occupied 0\n",
+        Status::Done,
+    ),
+    (
+        &[
+            "table", "A", "B", "-3276.8", "-3276.8", "-3276.8", "3276.7", "3276.7", "3276.7",
+        ],
+        b"unknown unknown 281474976710648\nunknown free 0\nunknown occupied 0\n\
+            free unknown 0\nfree free 0\nfree occupied 0\n\
+            occupied unknown 7\noccupied free 1\noccupied occupied 0\n",
+        Status::Done,
+    ),
+    (
+        &["table", "fine", "fine", "1", "1", "1", "1", "1", "1"],
+        b"unknown unknown 0\nunknown free 0\nunknown occupied 0\n\
+            free unknown 0\nfree free 0\nfree occupied 0\n\
+            occupied unknown 0\noccupied free 0\noccupied occupied 1\n",
+        Status::Done,
+    ),
+];
+
+const REFUSALS: [Case; 14] = [
+    (
+        &["merge", "first", "A", "c"],
+        b"second refused 33 NoFile\n",
+        Status::Refused,
+    ),
+    (
+        &["merge", "first", "c", "d"],
+        b"first refused 33 NoFile\n",
+        Status::Refused,
+    ),
+    (
+        &["merge", "least", "float", "short"],
+        b"first refused 11 FloatTree\n",
+        Status::Refused,
+    ),
+    (
+        &["merge", "least", "B", "short"],
+        b"second refused 17 Truncated at 60\n",
+        Status::Refused,
+    ),
+    (
+        &["merge", "least", "short", "short"],
+        b"first refused 17 Truncated at 60\n",
+        Status::Refused,
+    ),
+    (
+        &["merge", "greatest", "empty", "A"],
+        b"first refused 10 NotOctomap\n",
+        Status::Refused,
+    ),
+    (
+        &["merge", "greatest", "A", "fine"],
+        b"refused 35 OtherResolution file 50000000 session 100000000\n",
+        Status::Refused,
+    ),
+    (
+        &["merge", "greatest", "fine", "A"],
+        b"refused 35 OtherResolution file 100000000 session 50000000\n",
+        Status::Refused,
+    ),
+    (
+        &["table", "c", "A", "9999", "0", "0", "0", "0", "0"],
+        b"first refused 33 NoFile\n",
+        Status::Refused,
+    ),
+    (
+        &["table", "A", "float", "9999", "0", "0", "0", "0", "0"],
+        b"second refused 11 FloatTree\n",
+        Status::Refused,
+    ),
+    (
+        &["table", "A", "fine", "9999", "0", "0", "0", "0", "0"],
+        b"refused 35 OtherResolution file 50000000 session 100000000\n",
+        Status::Refused,
+    ),
+    (
+        &["table", "A", "B", "9999", "0", "0", "9999", "0", "0"],
+        b"refused 24 Outside point 1\n",
+        Status::Refused,
+    ),
+    (
+        &["table", "A", "B", "1", "0", "0", "3276.8", "0", "0"],
+        b"refused 24 Outside point 2\n",
+        Status::Refused,
+    ),
+    (
+        &["table", "A", "B", "0", "0", "0.1", "0", "0", "0"],
+        b"refused 26 BadBox\n",
+        Status::Refused,
+    ),
+];
+
+const USAGES: [Case; 8] = [
+    (&["merge", "greatest", "A"], b"", Status::Usage),
+    (&["merge", "greatest", "A", "B", "B"], b"", Status::Usage),
+    (&["merge", "Greatest", "A", "B"], b"", Status::Usage),
+    (&["merge", "A", "B", "least"], b"", Status::Usage),
+    (&["merge", "least", "A", "../B"], b"", Status::Usage),
+    (
+        &["table", "A", "B", "0", "0", "0", "0", "0"],
+        b"",
+        Status::Usage,
+    ),
+    (
+        &["table", "A", ".B", "0", "0", "0", "0", "0", "0"],
+        b"",
+        Status::Usage,
+    ),
+    (
+        &[
+            "table",
+            "A",
+            "B",
+            "0",
+            "0",
+            "0",
+            "0",
+            "0",
+            "0",
+            "--max-bytes",
+            "9",
+        ],
+        b"",
+        Status::Usage,
+    ),
+];
+
+/// Runs each case of a table.
+fn check(rt: &impl Abort, alloc: Global, cases: &[Case]) -> Result<(), Fail> {
+    for (words, text, ends) in cases {
+        let (status, written) = answer(rt, alloc, words)?;
+        assert_eq!(rt; status, *ends, "at {words:?}");
+        assert_eq!(rt; written.as_slice(), *text, "at {words:?}");
+    }
+    Ok(())
+}
+
+#[test]
+fn two_files_are_merged(rt: HostRuntime) -> Result<(), Fail> {
+    check(&rt, rt.alloc(), &MERGES)
+}
+
+#[test]
+fn classes_are_counted_by_pairs(rt: HostRuntime) -> Result<(), Fail> {
+    check(&rt, rt.alloc(), &TABLES)
+}
+
+#[test]
+fn the_first_refusal_is_the_reply(rt: HostRuntime) -> Result<(), Fail> {
+    check(&rt, rt.alloc(), &REFUSALS)
+}
+
+#[test]
+fn other_words_ask_for_nothing(rt: HostRuntime) -> Result<(), Fail> {
+    check(&rt, rt.alloc(), &USAGES)
+}
+
+/// The list of this number alone.
+fn only(alloc: Global, number: u64) -> Result<KeptList, Fail> {
+    let mut list = KeptList::new(alloc);
+    list.push(number)?;
+    Ok(list)
+}
+
+/// The number of the first load of a store, behind the saves that fill it.
+const FIRST_LOAD: u8 = 7;
+
+/// The status of the program on its words, and what it wrote, where the write of one number fails,
+/// from 1 on, and the call of the store of another; with 0 none does. Each write takes one byte, and
+/// the first read of the input would fail.
+fn torn(alloc: Global, words: &[&str], write: u8, call: u8) -> Result<(Status, Vec<u8>), Fail> {
+    let texts = owned(alloc, words)?;
+    let mut source = MemSource::new(FileBytes::new(alloc), 1, only(alloc, 1)?);
+    let mut sink = MemSink::new(alloc, 1, only(alloc, u64::from(write))?);
+    let mut store = MemStore::new(alloc, only(alloc, u64::from(call))?);
+    fill(&mut store)?;
+    let status = run(alloc, &texts, &mut source, &mut sink, &mut store);
+    Ok((status, Vec::from_slice(alloc, sink.written())?))
+}
+
+const MERGE: [&str; 4] = ["merge", "least", "A", "B"];
+
+const TABLE: [&str; 9] = ["table", "A", "A", "0", "0", "0", "0", "0", "0"];
+
+#[test]
+fn a_load_that_fails_leaves_nothing_written(rt: HostRuntime) -> Result<(), Fail> {
+    for call in FIRST_LOAD..=8 {
+        let (status, written) = torn(rt.alloc(), &MERGE, 0, call)?;
+        assert_eq!(rt; status, Status::StoreFault, "{call}");
+        assert_eq!(rt; written.len(), 0, "{call}");
+        let (status, written) = torn(rt.alloc(), &TABLE, 0, call)?;
+        assert_eq!(rt; status, Status::StoreFault, "{call}");
+        assert_eq!(rt; written.len(), 0, "{call}");
+    }
+    let (status, written) = torn(rt.alloc(), &MERGE, 0, 9)?;
+    assert_eq!(rt; status, Status::Done);
+    assert_eq!(rt; written.as_slice(), BOTH);
+    Ok(())
+}
+
+#[test]
+fn behind_a_first_refusal_nothing_is_loaded(rt: HostRuntime) -> Result<(), Fail> {
+    let words = ["merge", "least", "c", "B"];
+    let (status, written) = torn(rt.alloc(), &words, 0, 8)?;
+    assert_eq!(rt; status, Status::Refused);
+    assert_eq!(rt; written.as_slice(), b"first refused 33 NoFile\n".as_slice());
+    Ok(())
+}
+
+#[test]
+fn a_write_that_fails_leaves_a_beginning(rt: HostRuntime) -> Result<(), Fail> {
+    for count in 0..=169u8 {
+        let (status, written) = torn(rt.alloc(), &MERGE, count + 1, 0)?;
+        let ends = if count == 169 {
+            Status::Done
+        } else {
+            Status::WriteFault
+        };
+        assert_eq!(rt; status, ends, "{count}");
+        assert_eq!(rt;
+            Some(written.as_slice()),
+            BOTH.get(..usize::from(count)),
+            "{count}"
+        );
+    }
+    Ok(())
+}
