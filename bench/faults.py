@@ -93,6 +93,9 @@ def folder_for_a_file(folder):
     expect("save over a folder: store fault", run(b"hit 0 0 0\nsave m\n", folder), STORE, b"ok\n")
     say("  nothing is left of that save", names_in(folder) == ["m"], names_in(folder))
     expect("load of a folder: store fault", run(b"load m\n", folder), STORE, b"")
+    done = subprocess.run([PROGRAM, "merge", "first", "m", "m"], cwd=folder,
+                          stdout=subprocess.PIPE, stderr=subprocess.DEVNULL)
+    expect("merge of a folder: store fault", (done.returncode, done.stdout), STORE, b"")
     (folder / "m").rmdir()
 
 

@@ -103,8 +103,11 @@ def run(words, data, folder, refuse=None, shim=None):
     return done.returncode, done.stdout, files
 
 
-def fresh(words, data, **how):
+def fresh(words, data, files=(), **how):
+    """The same in a folder of its own, where these files stand."""
     with tempfile.TemporaryDirectory() as folder:
+        for name, text in dict(files).items():
+            Path(folder, name).write_bytes(text)
         return run(words, data, folder, **how)
 
 
@@ -124,19 +127,21 @@ def is_due(came, whole, stands):
     return any(files == left for _, left in stands[answered[0]:answered[-1] + 2])
 
 
-def attempt(name, words, data, stands, shim):
+def attempt(name, words, data, stands, shim, files=()):
     """Refuses each request in turn; the number of runs that didn't end as they may."""
-    whole, faults, cut = fresh(words, data), 0, 0
+    def once(refuse):
+        return fresh(words, data, files, refuse=refuse, shim=shim)
+
+    whole, faults, cut = fresh(words, data, files), 0, 0
     for number in range(1, 100000):
-        came = fresh(words, data, refuse=number, shim=shim)
+        came = once(number)
         cut += came[0] == OUT_OF_MEMORY
         if not is_due(came, whole, stands):
             faults += 1
             print(f"{name}: request {number} refused: status {came[0]}, {len(came[1])} bytes, "
                   f"files {sorted(came[2])}")
         # As many requests in a row without an effect as no run comes to: the last was passed.
-        if came == whole and fresh(words, data, refuse=number + 1, shim=shim) == whole \
-                and fresh(words, data, refuse=number + 50, shim=shim) == whole:
+        if came == whole and once(number + 1) == whole and once(number + 50) == whole:
             break
     print(f"{name}: {number - 1} requests refused one by one, {cut} runs ended out of memory")
     return faults
@@ -156,9 +161,14 @@ def main():
         whole = fresh(build, script)
         for words, data in ((["convert"], whole[1]), (["inspect"], whole[1]),
                             (["frontier", *"0 0 0 1 1 1".split()], whole[1]),
+                            (["project", *"-1 -1 0 1 1 1".split()], whole[1]), (["vrml"], whole[1]),
                             (["gen", "1", "3", "50"], b""), (["drill", "1", "3", "50"], b"")):
             answer = fresh(words, data)
             faults += attempt(words[0], words, data, [(b"", {}), (answer[1], {})], shim)
+        files = {"a": whole[1], "b": fresh(build, b"miss 0 0 0\nhit 1 1 1\n")[1]}
+        for words in ["merge", "least", "a", "b"], ["table", "a", "b", *"0 0 0 1 1 1".split()]:
+            answer = fresh(words, b"", files)
+            faults += attempt(words[0], words, b"", [(b"", files), (answer[1], files)], shim, files)
     sys.exit(1 if faults else 0)
 
 

@@ -1,4 +1,4 @@
-"""Poses and beams, in exact fractions."""
+"""Poses and beams, in exact fractions and in whole parts of a segment."""
 import functools
 import math
 from fractions import Fraction
@@ -46,20 +46,21 @@ def cut(place, end, reach):
     return tuple(o + int(Fraction((e - o) * reach, length)) for o, e in zip(place, end)), True
 
 
-def part_in(start, end, number, edge):
-    """The part of a coordinate's way, from 0 to 1, that lies in a voxel's span, or None.
+def part_in(start, end, number, edge, whole):
+    """The part of a coordinate's way, from 0 to a whole, that lies in a voxel's span, or None.
 
-    A span lacks its upper face. Each bound stands with 1 where its own point doesn't count, so that
-    the greater of two lower bounds and the smaller of two upper ones come by comparing pairs.
+    The whole is a multiple of the way, so that each moment at a face is a whole number. A span
+    lacks its upper face. Each bound stands with 1 where its own point doesn't count, so that the
+    greater of two lower bounds and the smaller of two upper ones come by comparing pairs.
     """
     lower = (number - MIDDLE) * edge
     upper = lower + edge
     if start == end:
-        return ((0, 0), (1, 0)) if lower <= start < upper else None
-    enters, leaves = (Fraction(it - start, end - start) for it in (lower, upper))
+        return ((0, 0), (whole, 0)) if lower <= start < upper else None
+    enters, leaves = ((it - start) * (whole // (end - start)) for it in (lower, upper))
     if start < end:
-        return max((0, 0), (enters, 0)), min((1, 0), (leaves, -1))
-    return max((0, 0), (leaves, 1)), min((1, 0), (enters, 0))
+        return max((0, 0), (enters, 0)), min((whole, 0), (leaves, -1))
+    return max((0, 0), (leaves, 1)), min((whole, 0), (enters, 0))
 
 
 def common(first, second):
@@ -78,6 +79,7 @@ def voxels_met(place, end, edge):
     and so on. A number that is tried and isn't met leaves no part.
     """
     met = []
+    whole = math.lcm(*(stop - start or 1 for start, stop in zip(place, end)))
 
     def go(voxel, part):
         axis = len(voxel)
@@ -85,13 +87,14 @@ def voxels_met(place, end, edge):
             met.append((part[0], voxel))
             return
         start, stop = place[axis], end[axis]
-        places = [math.floor(start + (stop - start) * bound[0]) // edge + MIDDLE for bound in part]
+        ways = [(stop - start) * moment // whole for moment, _ in part]
+        places = [(start + way) // edge + MIDDLE for way in ways]
         for number in range(min(places) - 1, max(places) + 2):
-            inside = common(part, part_in(start, stop, number, edge))
+            inside = common(part, part_in(start, stop, number, edge, whole))
             if inside is not None:
                 go((*voxel, number), inside)
 
-    go((), ((0, 0), (1, 0)))
+    go((), ((0, 0), (whole, 0)))
     return [voxel for _, voxel in sorted(met)]
 
 

@@ -1,5 +1,7 @@
 """The tasks of the program: what each writes, and its status."""
 import bt_file
+import grids
+import pairs
 import texts
 from session import session
 from texts import LONG_DIGITS, Refused, metres_text, within
@@ -69,9 +71,13 @@ def read_file(words, data, write):
     if len(data) > options(words, {"--max-bytes": FILE_BYTES}).get("max-bytes", 2**26):
         return 4, b""
     try:
-        return 0, write(*bt_file.read(data))
+        file = bt_file.read(data)
     except Refused as refusal:
         return 3, f"refused {refusal}\n".encode()
+    try:
+        return 0, write(*file)
+    except Refused as refusal:
+        return 1, f"refused {refusal}\n".encode()
 
 
 def canonical(root):
@@ -94,6 +100,40 @@ def inspected(edge, root, size):
 
 def run_inspect(words, data, _):
     return read_file(words, data, inspected)
+
+
+def run_project(words, data, _):
+    points = required(grids.points(words[:6]))
+    return read_file(words[6:], data, lambda edge, root, _: grids.picture(edge, root, points))
+
+
+def run_vrml(words, data, _):
+    return read_file(words, data, lambda edge, root, _: grids.scene(edge, root))
+
+
+def pair_task(names, files, write):
+    """What `write` makes of two files, or their refusal."""
+    try:
+        asked = [required(texts.name(it.encode())) for it in names]
+        return 0, write(*pairs.load_both(files, asked))
+    except Refused as refusal:
+        return 1, f"{refusal}\n".encode()
+
+
+def run_merge(words, _, files):
+    rule, *names = words
+    if rule not in pairs.RULES or len(names) != 2:
+        raise Usage
+    return pair_task(names, files, lambda edge, first, second: bt_file.text(
+        edge, bt_file.root_of(bt_file.merged(pairs.merge(rule, first, second)))))
+
+
+def run_table(words, _, files):
+    if len(words) != 8:
+        raise Usage
+    spelled = [required(texts.metres(it.encode())) for it in words[2:]]
+    points = spelled[:3], spelled[3:]
+    return pair_task(words[:2], files, lambda *maps: pairs.table(*maps, points))
 
 
 class Draws:
@@ -155,6 +195,10 @@ TASKS = {
     "build": run_build,
     "convert": run_convert,
     "inspect": run_inspect,
+    "project": run_project,
+    "vrml": run_vrml,
+    "merge": run_merge,
+    "table": run_table,
     "gen": run_gen,
     "drill": run_drill,
 }

@@ -72,8 +72,22 @@ def runs(draw, without):
     if "build" not in without:
         yield ["build", *words[1:]], data, {}
     _, text = tasks.run(["build", "0.1"], data, {})
-    for task in ("convert", "inspect"):
-        yield [task], changed(draw, text), {}
+    project = ["project", *scripts.corners(draw).split()]
+    for task in (["convert"], ["inspect"], project, ["vrml"]):
+        yield task, changed(draw, text), {}
+    if "build" not in without:
+        _, other = tasks.run(["build", "0.1"], scripts.script(draw, without), {})
+        yield from pair_runs(draw, text, other)
+
+
+def pair_runs(draw, first, second):
+    """Runs over two files, one of which is changed now and then, or isn't there."""
+    files = {"a": changed(draw, first) if draw.random() < 0.2 else first, "b": second}
+    names = draw.choice([("a", "b"), ("b", "a"), ("a", "a"), ("b", "c")])
+    yield ["merge", draw.choice(["greatest", "least", "first"]), *names], b"", files
+    ends = [sorted(draw.choices(range(-9, 10), k=2)) for _ in range(3)]
+    low, high = ([str(pair[end] / 10) for pair in ends] for end in (0, 1))
+    yield ["table", *names, *low, *high], b"", files
 
 
 def main():
