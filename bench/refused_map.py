@@ -1,6 +1,6 @@
 #!/usr/bin/env python3
 """Refuses a map one request for memory, the first, the second and so on, while it is edited,
-scanned, loaded and restored under a mark (refused_map.rt), and says whether each left all that a
+scanned, loaded and restored under a mark (refused_map.rt.in), and says whether each left all that a
 caller can see as it was: values, the value at the root, the stale flag, counts, changes since the
 mark, log-odds and the update box. What was refused is asked for again, and is done then.
 
@@ -30,7 +30,7 @@ fn meets_{number}(rt: HostRuntime) -> Result<(), Fail> {{
 
 def trial(last):
     """The source of the tests: of each request, after as many others as make it the last one."""
-    with open(os.path.join(HERE, "refused_map.rt"), encoding="utf-8") as file:
+    with open(os.path.join(HERE, "refused_map.rt.in"), encoding="utf-8") as file:
         text = file.read()
     numbers = range(1, last + 1)
     return text + "".join(TESTS.format(number=it, before=last - it) for it in numbers)
