@@ -1,12 +1,14 @@
 -- Codes in bytes, one after another.
-use Rattle.std.proofs.Common.{◌≡◌, ℕ, zero, suc, ◌+◌, ◌*◌, ◌/◌, ◌%◌, ◌<◌, cond, List, [], ◌∷◌, ◌++◌, refl, ◌∙◌, ap, arith, append-nil}
+use Rattle.std.proofs.Common.{◌≡◌, ℕ, zero, suc, ◌+◌, ◌*◌, ◌/◌, ◌%◌, ◌<◌, cond, List, [], ◌∷◌, ◌++◌}
+use Rattle.std.proofs.Common.{refl, ◌∙◌, ap, arith, append-nil}
 use Rattle.std.specs.Prelude.{nat_eq, not, count_by}
 use Rattle.std.specs.List.{flat_map}
 use Rattle.std.proofs.lemmas.List.Sums.{sum_by-cons, sum_by-append}
 use Rattle.std.proofs.lemmas.List.Concat.{flat_map-append}
 use Rattle.oct_odds.specs.declared.event.Class.{Class}
 use Rattle.oct_odds.specs.declared.event.Class.TheVariants.{Unknown, Free, Occupied}
-use Rattle.oct_bt.specs.Records.{Entries, End, Plain, Record, AreEntries, IsRecord, class_code, codes_of, code_bytes, bodies_of, flat, known_entries}
+use Rattle.oct_bt.specs.Records.{Entries, End, Plain, Record, AreEntries, IsRecord, class_code}
+use Rattle.oct_bt.specs.Records.{codes_of, code_bytes, bodies_of, flat, known_entries}
 use Rattle.oct_bt.specs.Canonical.{codes_in, known_codes, node_total}
 use Rattle.oct_bt.specs.NodeData.{records_in}
 use Rattle.oct_bt.proofs.Texts.{class_code_below}
@@ -37,7 +39,8 @@ digits_in_bytes c =
     rw (c1, c2, c3, c4, c5, c6, c7, c8) refl
 
 -- the codes of entries are those of their number
-pub digits_of_codes : (es : Entries) (d n : ℕ) → AreEntries d n es → digits n (codes_of es) ≡ code_list es
+pub digits_of_codes : (es : Entries) (d n : ℕ) → AreEntries d n es → digits n (codes_of es)
+    ≡ code_list es
 unfolding digits code_list codes_of
 digits_of_codes End d zero h = refl
 digits_of_codes End d (suc n) h = absurd h
@@ -54,7 +57,8 @@ digits_of_codes (Record r es) d (suc n) (low, inner, h) =
     rw (first, rest, digits_of_codes es d n h) refl
 
 -- the codes of a record, in its two bytes
-pub codes_of_record : (r : Entries) (d : ℕ) → IsRecord d r → codes_in (codes_of r % 256) ++ codes_in (codes_of r / 256) ≡ code_list r
+pub codes_of_record : (r : Entries) (d : ℕ) → IsRecord d r
+    → codes_in (codes_of r % 256) ++ codes_in (codes_of r / 256) ≡ code_list r
 codes_of_record r d h = digits_in_bytes (codes_of r) ∙ digits_of_codes r d 8 h
 
 -- how many of the entries are records
@@ -66,20 +70,25 @@ records_among (Record r later) = suc (records_among later)
 records_listed : (es : Entries) → count_by (λ code. nat_eq code 3) (code_list es) ≡ records_among es
 unfolding code_list records_among
 records_listed End = refl
-records_listed (Plain c es) = sum_by-cons (λ code. cond {A = ℕ} (nat_eq code 3) 1 0) (class_code c) (code_list es) ∙ by_class c (records_listed es)
+records_listed (Plain c es) = sum_by-cons (λ code. cond {A = ℕ} (nat_eq code 3) 1 0) (class_code c)
+    (code_list es) ∙ by_class c (records_listed es)
   where
     by_class : (c : Class) → count_by (λ code. nat_eq code 3) (code_list es) ≡ records_among es
-        → cond {A = ℕ} (nat_eq (class_code c) 3) 1 0 + count_by (λ code. nat_eq code 3) (code_list es) ≡ records_among es
+        → cond {A = ℕ} (nat_eq (class_code c) 3) 1 0 + count_by (λ code. nat_eq code 3)
+        (code_list es) ≡ records_among es
     by_class Unknown h = omega arith
     by_class Free h = omega arith
     by_class Occupied h = omega arith
 records_listed (Record r es) =
-    let rest : count_by (λ code. nat_eq code 3) (code_list es) ≡ records_among es = records_listed es in
+    let rest : count_by (λ code. nat_eq code 3) (code_list es) ≡ records_among es =
+    records_listed es in
     sum_by-cons (λ code. cond {A = ℕ} (nat_eq code 3) 1 0) 3 (code_list es) ∙ omega arith
 
 -- the two bytes of a record say how many of its entries are records
-pub records_in_record : (r : Entries) (d : ℕ) → IsRecord d r → records_in (codes_of r % 256) (codes_of r / 256) ≡ records_among r
-records_in_record r d h = ap (count_by (λ code. nat_eq code 3)) (codes_of_record r d h) ∙ records_listed r
+pub records_in_record : (r : Entries) (d : ℕ) → IsRecord d r → records_in (codes_of r % 256)
+    (codes_of r / 256) ≡ records_among r
+records_in_record r d h = ap (count_by (λ code. nat_eq code 3)) (codes_of_record r d h)
+    ∙ records_listed r
 
 -- how many of the entries themselves aren't unknown
 unfoldable pub known_among : Entries → ℕ
@@ -89,34 +98,49 @@ known_among (Plain Free later) = suc (known_among later)
 known_among (Plain Occupied later) = suc (known_among later)
 known_among (Record r later) = suc (known_among later)
 
-known_listed : (es : Entries) → count_by (λ code. not (nat_eq code 0)) (code_list es) ≡ known_among es
+known_listed : (es : Entries) → count_by (λ code. not (nat_eq code 0)) (code_list es)
+    ≡ known_among es
 unfolding code_list known_among
 known_listed End = refl
-known_listed (Plain Unknown es) = (let rest = known_listed es in sum_by-cons (λ code. cond {A = ℕ} (not (nat_eq code 0)) 1 0) 0 (code_list es) ∙ omega arith)
-known_listed (Plain Free es) = (let rest = known_listed es in sum_by-cons (λ code. cond {A = ℕ} (not (nat_eq code 0)) 1 0) 1 (code_list es) ∙ omega arith)
-known_listed (Plain Occupied es) = (let rest = known_listed es in sum_by-cons (λ code. cond {A = ℕ} (not (nat_eq code 0)) 1 0) 2 (code_list es) ∙ omega arith)
-known_listed (Record r es) = (let rest = known_listed es in sum_by-cons (λ code. cond {A = ℕ} (not (nat_eq code 0)) 1 0) 3 (code_list es) ∙ omega arith)
+known_listed (Plain Unknown es) =
+    (let rest = known_listed es in
+    sum_by-cons (λ code. cond {A = ℕ} (not (nat_eq code 0)) 1 0) 0 (code_list es) ∙ omega arith)
+known_listed (Plain Free es) =
+    (let rest = known_listed es in
+    sum_by-cons (λ code. cond {A = ℕ} (not (nat_eq code 0)) 1 0) 1 (code_list es) ∙ omega arith)
+known_listed (Plain Occupied es) =
+    (let rest = known_listed es in
+    sum_by-cons (λ code. cond {A = ℕ} (not (nat_eq code 0)) 1 0) 2 (code_list es) ∙ omega arith)
+known_listed (Record r es) =
+    (let rest = known_listed es in
+    sum_by-cons (λ code. cond {A = ℕ} (not (nat_eq code 0)) 1 0) 3 (code_list es) ∙ omega arith)
 
 -- known codes of joined bytes
 pub known_joined : (xs ys : List ℕ) → known_codes (xs ++ ys) ≡ known_codes xs + known_codes ys
 known_joined xs ys = ap (count_by (λ code. not (nat_eq code 0))) (flat_map-append codes_in xs ys)
-    ∙ sum_by-append (λ code. cond {A = ℕ} (not (nat_eq code 0)) 1 0) (flat_map codes_in xs) (flat_map codes_in ys)
+    ∙ sum_by-append (λ code. cond {A = ℕ} (not (nat_eq code 0)) 1 0) (flat_map codes_in xs)
+    (flat_map codes_in ys)
 
 -- of the two bytes of a record
-known_in_bytes : (r : Entries) (d : ℕ) → IsRecord d r → known_codes (code_bytes (codes_of r)) ≡ known_among r
+known_in_bytes : (r : Entries) (d : ℕ) → IsRecord d r → known_codes (code_bytes (codes_of r))
+    ≡ known_among r
 known_in_bytes r d h =
-    let two : flat_map codes_in (code_bytes (codes_of r)) ≡ codes_in (codes_of r % 256) ++ codes_in (codes_of r / 256) =
+    let two : flat_map codes_in (code_bytes (codes_of r))
+    ≡ codes_in (codes_of r % 256) ++ codes_in (codes_of r / 256) =
     ap (λ t. codes_in (codes_of r % 256) ++ t) (append-nil (codes_in (codes_of r / 256))) in
     ap (count_by (λ code. not (nat_eq code 0))) (two ∙ codes_of_record r d h) ∙ known_listed r
 
--- the text of the records among entries has a code that isn't 0 for each entry in them that isn't unknown
-known_in_bodies : (es : Entries) (d n : ℕ) → AreEntries d n es → known_among es + known_codes (bodies_of es) ≡ known_entries es
+-- the text of the records among entries has a code that isn't 0 for each entry in them that isn't
+-- unknown
+known_in_bodies : (es : Entries) (d n : ℕ) → AreEntries d n es
+    → known_among es + known_codes (bodies_of es) ≡ known_entries es
 unfolding known_among bodies_of known_entries
 known_in_bodies End d n h = refl
 known_in_bodies (Plain c es) d zero h = absurd h
 known_in_bodies (Plain Unknown es) d (suc n) h = known_in_bodies es d n h
 known_in_bodies (Plain Free es) d (suc n) h = (let rest = known_in_bodies es d n h in omega arith)
-known_in_bodies (Plain Occupied es) d (suc n) h = (let rest = known_in_bodies es d n h in omega arith)
+known_in_bodies (Plain Occupied es) d (suc n) h =
+    (let rest = known_in_bodies es d n h in omega arith)
 known_in_bodies (Record r es) d zero h = absurd h
 known_in_bodies (Record r es) d (suc n) (low, inner, h) =
     let rest = known_in_bodies es d n h in
@@ -135,4 +159,6 @@ known_in_flat r d h =
     omega (arith, all, bytes, inside)
 
 pub total_of_flat : (r : Entries) (d : ℕ) → IsRecord d r → node_total (flat r) ≡ 1 + known_entries r
-total_of_flat r d h = (let known : known_codes (flat r) ≡ known_entries r = known_in_flat r d h in ap (λ (n : ℕ). 1 + n) known)
+total_of_flat r d h =
+    (let known : known_codes (flat r) ≡ known_entries r = known_in_flat r d h in
+    ap (λ (n : ℕ). 1 + n) known)

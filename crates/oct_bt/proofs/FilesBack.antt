@@ -1,5 +1,7 @@
 -- A canonical file is read back.
-use Rattle.std.proofs.Common.{◌≡◌, ℕ, ◌^◌, ◌<◌, ◌≤◌, pos, Bool, true, false, List, [], ◌∷◌, ◌++◌, length, refl, sym, subst, ◌∙◌, ap, arith, length-append, Ok, nat_le, nat_eq, Some, get_or}
+use Rattle.std.proofs.Common.{◌≡◌, ℕ, ◌^◌, ◌<◌, ◌≤◌, pos, Bool, true, false, List, [], ◌∷◌, ◌++◌}
+use Rattle.std.proofs.Common.{length, refl, sym, subst, ◌∙◌, ap, arith, length-append, Ok, nat_le}
+use Rattle.std.proofs.Common.{nat_eq, Some, get_or}
 use Rattle.std.specs.Prelude.{codes}
 use Rattle.std.specs.List.{AllPass}
 use Rattle.std.specs.Fmt.{decimal}
@@ -21,14 +23,16 @@ use Rattle.oct_values.specs.Classes.{Classes}
 use Rattle.oct_bt.specs.Canonical.{canonical_data, canonical_size}
 use Rattle.oct_bt.specs.NodeData.{read_nodes}
 use Rattle.oct_bt.specs.Header.{is_line_feed, is_blank, resolution_of}
-use Rattle.oct_bt.specs.File.{text_of_lines, header_lines, header_text, bt_text, file_with, after_header, reading}
+use Rattle.oct_bt.specs.File.{text_of_lines, header_lines, header_text, bt_text, file_with}
+use Rattle.oct_bt.specs.File.{after_header, reading}
 use Rattle.oct_bt.proofs.Sizes.{accepted_few}
 use Rattle.oct_bt.proofs.Standing.{canonical_accepted, canonical_reads}
 use Rattle.oct_bt.proofs.WrittenHeaders.{IsFieldText, header_length, header_written}
 
 -- ---- the texts of the fields
 
-digit_plain : (b : ℕ) → is_digit b ≡ true → (is_line_feed b ≡ false) × (nat_eq b 13 ≡ false) × (is_blank b ≡ false)
+digit_plain : (b : ℕ) → is_digit b ≡ true → (is_line_feed b ≡ false) × (nat_eq b 13 ≡ false)
+    × (is_blank b ≡ false)
 digit_plain b digit =
     let test = and_parts (nat_le 48 b) (nat_le b 57) digit in
     let low = leb-true 48 b test.0 in (
@@ -59,7 +63,8 @@ field_nil = record {
 }
 
 -- a point, and a minus
-field_byte : (b : ℕ) (text : List ℕ) → is_line_feed b ≡ false → nat_eq b 13 ≡ false → is_blank b ≡ false → IsFieldText text → IsFieldText (b ∷ text)
+field_byte : (b : ℕ) (text : List ℕ) → is_line_feed b ≡ false → nat_eq b 13 ≡ false
+    → is_blank b ≡ false → IsFieldText text → IsFieldText (b ∷ text)
 field_byte b text feed return blank s = record {
   no_feed = All-cons (λ b. is_line_feed b ≡ false) b text feed s.no_feed;
   no_return = All-cons (λ b. nat_eq b 13 ≡ false) b text return s.no_return;
@@ -68,7 +73,8 @@ field_byte b text feed return blank s = record {
 
 field_fraction : (digits : List ℕ) → AllPass is_digit digits → IsFieldText (fraction_text digits)
 field_fraction [] all = field_nil
-field_fraction (d ∷ digits) all = field_byte 46 (d ∷ digits) refl refl refl (field_digits (d ∷ digits) all)
+field_fraction (d ∷ digits) all =
+    field_byte 46 (d ∷ digits) refl refl refl (field_digits (d ∷ digits) all)
 
 field_sign : (minus : Bool) → IsFieldText (sign_text minus)
 field_sign true = field_byte 45 [] refl refl refl field_nil
@@ -91,22 +97,39 @@ sign_few false = omega arith
 
 res_text : (res : ℕ) → IsResolution res → IsResText (metres_text (pos res)) res
 res_text res (low, high) =
-    let reads : metres_of (metres_text (pos res)) ≡ Ok (pos res) = text_reads (pos res) (metres_text (pos res)) refl (omega (arith, high)) in
-    let m : IsMetres (metres_text (pos res)) (pos res) = (value_law (metres_text (pos res)) (metres_of (metres_text (pos res))) refl (pos res)).0 reads in
-    let parts = length-append (sign_text m.form.minus) (m.form.whole ++ fraction_text m.form.fraction) in
+    let reads : metres_of (metres_text (pos res)) ≡ Ok (pos res) =
+    text_reads (pos res) (metres_text (pos res)) refl (omega (arith, high)) in
+    let m : IsMetres (metres_text (pos res)) (pos res) =
+    (value_law (metres_text (pos res)) (metres_of (metres_text (pos res))) refl (pos res)).0
+    reads in
+    let parts = length-append (sign_text m.form.minus)
+    (m.form.whole ++ fraction_text m.form.fraction) in
     let digits = length-append m.form.whole (fraction_text m.form.fraction) in
     record {
-      field = subst IsFieldText (sym m.form.spelled) (field_append (sign_text m.form.minus) (m.form.whole ++ fraction_text m.form.fraction) (field_sign m.form.minus)
-          (field_append m.form.whole (fraction_text m.form.fraction) (field_digits m.form.whole m.form.before.all) (field_fraction m.form.fraction m.form.behind)));
+      field = subst IsFieldText (sym m.form.spelled)
+          (field_append (sign_text m.form.minus) (m.form.whole ++ fraction_text m.form.fraction)
+          (field_sign m.form.minus)
+          (field_append m.form.whole (fraction_text m.form.fraction)
+          (field_digits m.form.whole m.form.before.all)
+          (field_fraction m.form.fraction m.form.behind)));
       some = omega (arith, ap length m.form.spelled, parts, digits, m.form.before.some);
-      few = omega (arith, ap length m.form.spelled, parts, digits, m.before, fraction_few m.form.fraction m.behind, sign_few m.form.minus);
+      few = omega (
+        arith,
+        ap length m.form.spelled,
+        parts,
+        digits,
+        m.before,
+        fraction_few m.form.fraction m.behind,
+        sign_few m.form.minus,
+      );
       read = ap resolution_of reads ∙ rw (le-leb 100000 res low, le-leb res 100000000000 high) refl;
     }
 
 -- the text of a size
 size_reads : (n : ℕ) → n < 10 ^ 16 → natural_of (decimal n) ≡ Some n
 size_reads n small =
-    natural_read (decimal n) (whole_digits n (omega (arith, small))) (omega (arith, length-decimal-le 16 n (omega arith) small (omega (arith, small))))
+    natural_read (decimal n) (whole_digits n (omega (arith, small)))
+    (omega (arith, length-decimal-le 16 n (omega arith) small (omega (arith, small))))
     ∙ ap Some (digits_value-decimal numerals n (omega (arith, small)))
 
 -- ---- a header
@@ -145,9 +168,11 @@ header_texts size res small is =
     let digits = whole_digits size (omega (arith, small)) in
     let (d, ds, size_is) = some_first (decimal size) digits.some in
     let (e, es, res_is) = some_first (metres_text (pos res)) said.some in
-    let size_few : length (decimal size) ≤ 100 = omega (arith, length-decimal-le 16 size (omega arith) small (omega (arith, small))) in
+    let size_few : length (decimal size) ≤ 100 =
+    omega (arith, length-decimal-le 16 size (omega arith) small (omega (arith, small))) in
     let long = header_long (d ∷ ds) (e ∷ es) in
-    let few = header_few (d ∷ ds) (e ∷ es) (subst (λ t. length t ≤ 100) size_is size_few) (subst (λ t. length t ≤ 100) res_is said.few) in
+    let few = header_few (d ∷ ds) (e ∷ es) (subst (λ t. length t ≤ 100) size_is size_few)
+    (subst (λ t. length t ≤ 100) res_is said.few) in
     record {
       d = d;
       ds = ds;
@@ -167,24 +192,39 @@ header_texts size res small is =
 -- node data after a header that is written is read as node data
 pub after_written : (size res : ℕ) (t : HeaderTexts size res) (bytes : List ℕ)
     → reading (text_of_lines (header_lines (t.d ∷ t.ds) (t.e ∷ t.es)) ++ bytes)
-    ≡ file_with (record { res = res; size = size; start = length (text_of_lines (header_lines (t.d ∷ t.ds) (t.e ∷ t.es))) })
+    ≡ file_with (record {
+      res = res;
+      size = size;
+      start = length (text_of_lines (header_lines (t.d ∷ t.ds) (t.e ∷ t.es)));
+    })
     (read_nodes (length (text_of_lines (header_lines (t.d ∷ t.ds) (t.e ∷ t.es)))) size bytes)
 unfolding reading
 after_written size res t bytes =
     let long = header_long (t.d ∷ t.ds) (t.e ∷ t.es) in
-    let header = header_written t.d t.e t.ds t.es bytes size res t.size_field t.res_field t.few t.number t.edge in
+    let header =
+    header_written t.d t.e t.ds t.es bytes size res t.size_field t.res_field t.few t.number
+    t.edge in
     let lines : List ℕ = text_of_lines (header_lines (t.d ∷ t.ds) (t.e ∷ t.es)) in
-    ap (after_header (lines ++ bytes)) (header ∙ ap (λ (n : ℕ). Ok (record { res = res; size = size; start = n })) (sym long))
-    ∙ ap (λ rest. file_with (record { res = res; size = size; start = length lines }) (read_nodes (length lines) size rest)) (drop-append_seam lines bytes)
+    ap (after_header (lines ++ bytes))
+    (header ∙ ap (λ (n : ℕ). Ok (record { res = res; size = size; start = n })) (sym long))
+    ∙ ap (λ rest. file_with (record { res = res; size = size; start = length lines })
+    (read_nodes (length lines) size rest)) (drop-append_seam lines bytes)
 
 pub file_back : (res : ℕ) (c : Classes) → IsResolution res
-    → reading (bt_text res c) ≡ Ok (record { res = res; codes = canonical_data c; nodes = canonical_size c })
+    → reading (bt_text res c) ≡ Ok (record {
+      res = res;
+      codes = canonical_data c;
+      nodes = canonical_size c;
+    })
 unfolding bt_text header_text
 file_back res c is =
-    let small : canonical_size c < 10 ^ 16 = accepted_few (canonical_size c) (canonical_data c) (canonical_accepted c) in
+    let small : canonical_size c < 10 ^ 16 = accepted_few (canonical_size c) (canonical_data c)
+    (canonical_accepted c) in
     let t = header_texts (canonical_size c) res small is in
     let lines : List ℕ = text_of_lines (header_lines (t.d ∷ t.ds) (t.e ∷ t.es)) in
-    ap (λ a. reading (text_of_lines (header_lines a (metres_text (pos res))) ++ canonical_data c)) t.size_is
+    ap (λ a. reading (text_of_lines (header_lines a (metres_text (pos res))) ++ canonical_data c))
+    t.size_is
     ∙ ap (λ b. reading (text_of_lines (header_lines (t.d ∷ t.ds) b) ++ canonical_data c)) t.res_is
     ∙ after_written (canonical_size c) res t (canonical_data c)
-    ∙ ap (file_with (record { res = res; size = canonical_size c; start = length lines })) (canonical_reads c (length lines))
+    ∙ ap (file_with (record { res = res; size = canonical_size c; start = length lines }))
+    (canonical_reads c (length lines))

@@ -1,7 +1,9 @@
 -- Filling a block from the text of a record.
-use Rattle.std.proofs.Common.{◌≡◌, ℕ, zero, suc, ◌+◌, ◌-◌, ◌*◌, ◌/◌, ◌%◌, ◌<◌, ◌≤◌, Some, None, cond, inl, inr, List, [], ◌∷◌, ◌++◌, length, drop, get_or, append_assoc, length-append, length-drop, append-nil, refl, sym, subst, ◌∙◌, ap, arith}
-use Rattle.std.specs.Prelude.{ℤ, true, Option, is_some}
-use Rattle.std.proofs.lemmas.List.Sums.{sum_by-cons}
+use Rattle.std.proofs.Common.{◌≡◌, ℕ, zero, suc, ◌+◌, ◌-◌, ◌*◌, ◌/◌, ◌%◌, ◌<◌, ◌≤◌, Some}
+use Rattle.std.proofs.Common.{inl, inr, List, [], ◌∷◌, ◌++◌, length, drop, get_or}
+use Rattle.std.proofs.Common.{append_assoc, length-append, length-drop, append-nil, refl, sym}
+use Rattle.std.proofs.Common.{subst, ◌∙◌, ap, arith}
+use Rattle.std.specs.Prelude.{ℤ, true}
 use Rattle.oct_key.specs.Voxel.{Voxel, IsInMap}
 use Rattle.oct_key.specs.Block.{Cube, HoldsVoxel, child_of, child_index_of, root_block}
 use Rattle.oct_key.proofs.Blocks.{child_index_below, child_holds, root_holds}
@@ -9,8 +11,7 @@ use Rattle.oct_odds.specs.declared.event.Class.{Class}
 use Rattle.oct_odds.specs.declared.event.Class.TheVariants.{Unknown, Free, Occupied}
 use Rattle.oct_arena.specs.declared.node.GroupId.{GroupId}
 use Rattle.oct_arena.specs.declared.node.Node.TheVariants.{Absent}
-use Rattle.oct_arena.specs.declared.node.Group.{Group}
-use Rattle.oct_arena.specs.Entries.{Groups, entry, live, spare}
+use Rattle.oct_arena.specs.Entries.{live, spare}
 use Rattle.oct_arena.proofs.Entries.{live_spare}
 use Rattle.oct_arena.specs.Nodes.{link_of, value_of}
 use Rattle.oct_tree.specs.declared.place.Place.{Place}
@@ -21,7 +22,8 @@ use Rattle.oct_tree.specs.Changes.{IsSplit}
 use Rattle.oct_tree.proofs.Links.{place_value}
 use Rattle.oct_values.specs.Classes.{Classes}
 use Rattle.oct_bt.specs.Classes.{value_for}
-use Rattle.oct_bt.specs.Records.{Entries, End, Plain, Record, AreEntries, IsRecord, class_code, codes_of, bodies_of, flat, record_count, class_in, class_by}
+use Rattle.oct_bt.specs.Records.{Entries, End, Plain, Record, AreEntries, IsRecord, class_code}
+use Rattle.oct_bt.specs.Records.{codes_of, bodies_of, flat, record_count, class_in, class_by}
 use Rattle.oct_bt.specs.NodeData.{IsAccepted, IsDataOf}
 use Rattle.oct_bt.specs.Filled.{IsFilled, IsFilling}
 use Rattle.oct_bt.proofs.Texts.{class_code_below, class_of_code}
@@ -33,7 +35,8 @@ use Rattle.oct_bt.proofs.Fillings.{filling_first, filling_next}
 
 -- the first i children of the place's block are filled from a record, and what is left of it are
 -- these entries
-pub record IsUnderWay (t u : Tree) (p : Place) (id : GroupId) (b : Cube) (d : ℕ) (codes : List ℕ) (next rest i : ℕ)
+pub record IsUnderWay (t u : Tree) (p : Place) (id : GroupId) (b : Cube) (d : ℕ) (codes : List ℕ)
+    (next rest i : ℕ)
     (r : Entries) (tail : List ℕ) : Type 0 where
   pub es : Entries
   pub are : AreEntries d (8 - i) es
@@ -44,8 +47,10 @@ pub record IsUnderWay (t u : Tree) (p : Place) (id : GroupId) (b : Cube) (d : �
   pub few : record_count es ≤ record_count r
   pub filling : IsFilling t u p id b i (class_by d r) (1 + record_count r - record_count es)
 
-pub under_first : (t u : Tree) (p : Place) (id : GroupId) (v : ℤ) (b : Cube) (d : ℕ) (codes : List ℕ) (r : Entries) (tail : List ℕ)
-    (first second : ℕ) → IsLinked u → IsSplit t u p id v → node_in t p ≡ Absent → block_in t p ≡ Some b → IsRecord d r
+pub under_first : (t u : Tree) (p : Place) (id : GroupId) (v : ℤ) (b : Cube) (d : ℕ)
+    (codes : List ℕ) (r : Entries) (tail : List ℕ)
+    (first second : ℕ) → IsLinked u → IsSplit t u p id v → node_in t p ≡ Absent
+    → block_in t p ≡ Some b → IsRecord d r
     → codes ≡ flat r ++ tail → first ≡ get_or codes 0 0 → second ≡ get_or codes 1 0
     → IsUnderWay t u p id b d codes 2 (first + 256 * second) 0 r tail
 under_first t u p id v b d codes r tail first second m s none at is text one two = record {
@@ -63,12 +68,14 @@ under_first t u p id v b d codes r tail first second m s none at is text one two
 }
 
 -- the classes of a child's voxels
-child_classes : (b : Cube) (d i : ℕ) (r : Entries) (k : Voxel) → b.depth ≡ d → d ≤ 15 → i < 8 → HoldsVoxel (child_of b i) k
+child_classes : (b : Cube) (d i : ℕ) (r : Entries) (k : Voxel) → b.depth ≡ d → d ≤ 15 → i < 8
+    → HoldsVoxel (child_of b i) k
     → class_by d r k ≡ class_in d r (i + 0) k
 child_classes b d i r k e low li held =
     let index = ((child_holds b i k (omega arith) li).0 held).1 in
     let at : child_index_of d k ≡ i + 0 =
-    (let x : child_index_of d k ≡ i = subst (λ (d : ℕ). child_index_of d k ≡ i) e index in omega (arith, x)) in
+    (let x : child_index_of d k ≡ i = subst (λ (d : ℕ). child_index_of d k ≡ i) e index in
+    omega (arith, x)) in
     ap (λ (i : ℕ). class_in d r i k) at
 
 -- what a recursive call is asked for
@@ -80,20 +87,24 @@ pub record IsAhead (d : ℕ) (codes : List ℕ) (next room : ℕ) : Type 0 where
   pub enough : 1 + record_count r ≤ room
   pub low : d < 15
 
-pub record_ahead : (t u : Tree) (p : Place) (id : GroupId) (b : Cube) (d : ℕ) (codes : List ℕ) (next rest i : ℕ) (r : Entries)
+pub record_ahead : (t u : Tree) (p : Place) (id : GroupId) (b : Cube) (d : ℕ) (codes : List ℕ)
+    (next rest i : ℕ) (r : Entries)
     (tail : List ℕ) → 1 + record_count r ≤ spare t.groups → i < 8 → rest % 4 ≡ 3
     → IsUnderWay t u p id b d codes next rest i r tail → IsAhead d codes next (spare u.groups)
 unfolding codes_of bodies_of record_count
 record_ahead t u p id b d codes next rest i r tail room li three s =
     by_entries s.es (8 - i) (omega arith) s.are (sym s.left) s.text s.few s.filling.room
   where
-    by_entries : (es : Entries) (n : ℕ) → 0 < n → AreEntries d n es → codes_of es ≡ rest → drop next codes ≡ bodies_of es ++ tail
-        → record_count es ≤ record_count r → spare t.groups ≤ spare u.groups + (1 + record_count r - record_count es)
+    by_entries : (es : Entries) (n : ℕ) → 0 < n → AreEntries d n es → codes_of es ≡ rest
+        → drop next codes ≡ bodies_of es ++ tail
+        → record_count es ≤ record_count r
+        → spare t.groups ≤ spare u.groups + (1 + record_count r - record_count es)
         → IsAhead d codes next (spare u.groups)
     by_entries End zero some are left text few taken = absurd (omega arith)
     by_entries End (suc n) some are left text few taken = absurd are
     by_entries (Plain c es) zero some are left text few taken = absurd are
-    by_entries (Plain c es) (suc n) some are left text few taken = (let small = class_code_below c in absurd (omega (arith, small, left, three)))
+    by_entries (Plain c es) (suc n) some are left text few taken =
+        (let small = class_code_below c in absurd (omega (arith, small, left, three)))
     by_entries (Record q es) zero some are left text few taken = absurd are
     by_entries (Record q es) (suc n) some (low, inner, are) left text few taken =
         (let deep : suc d ≡ d + 1 = omega arith in
@@ -107,7 +118,8 @@ record_ahead t u p id b d codes next rest i r tail room li three s =
         })
 
 -- after a child that is a leaf
-pub under_leaf : (t u w : Tree) (p : Place) (id : GroupId) (b : Cube) (d : ℕ) (codes : List ℕ) (next rest i : ℕ) (r : Entries)
+pub under_leaf : (t u w : Tree) (p : Place) (id : GroupId) (b : Cube) (d : ℕ) (codes : List ℕ)
+    (next rest i : ℕ) (r : Entries)
     (tail : List ℕ) → b.depth ≡ d → d ≤ 15 → i < 8 → IsLinked t → IsLinked w → (rest % 4 ≡ 3 → ⊥)
     → IsUnderWay t u p id b d codes next rest i r tail
     → ((c : Class) → class_code c ≡ rest % 4 → IsFilled u w (child_of b i) (λ k. c) 0)
@@ -116,9 +128,12 @@ unfolding codes_of bodies_of record_count class_in
 under_leaf t u w p id b d codes next rest i r tail deep low li lt lw other s filled =
     by_entries s.es (8 - i) refl s.are (sym s.left) s.text s.same s.used s.few s.filling
   where
-    by_entries : (es : Entries) (n : ℕ) → 8 - i ≡ n → AreEntries d n es → codes_of es ≡ rest → drop next codes ≡ bodies_of es ++ tail
-        → ((j : ℕ) (k : Voxel) → class_in d r (i + j) k ≡ class_in d es j k) → next + length (bodies_of es) ≡ length (flat r)
-        → record_count es ≤ record_count r → IsFilling t u p id b i (class_by d r) (1 + record_count r - record_count es)
+    by_entries : (es : Entries) (n : ℕ) → 8 - i ≡ n → AreEntries d n es → codes_of es ≡ rest
+        → drop next codes ≡ bodies_of es ++ tail
+        → ((j : ℕ) (k : Voxel) → class_in d r (i + j) k ≡ class_in d es j k)
+        → next + length (bodies_of es) ≡ length (flat r)
+        → record_count es ≤ record_count r → IsFilling t u p id b i (class_by d r)
+        (1 + record_count r - record_count es)
         → IsUnderWay t w p id b d codes next (rest / 4) (i + 1) r tail
     by_entries End zero at are left text same used few filling = absurd (omega arith)
     by_entries End (suc n) at are left text same used few filling = absurd are
@@ -127,21 +142,26 @@ under_leaf t u w p id b d codes next rest i r tail deep low li lt lw other s fil
         (let small = class_code_below c in
         let here : class_code c ≡ rest % 4 = omega (arith, small, left) in
         let later : 8 - (i + 1) ≡ n = omega (arith, at, li) in
-        let none : 1 + record_count r - record_count es + 0 ≡ 1 + record_count r - record_count es = omega arith in
+        let none : 1 + record_count r - record_count es + 0 ≡ 1 + record_count r - record_count es =
+        omega arith in
         record {
           es = es;
           are = subst (λ (n : ℕ). AreEntries d n es) (sym later) are;
           left = omega (arith, small, left);
           text = text;
-          same = λ j k. (let e : i + 1 + j ≡ i + suc j = omega arith in ap (λ (n : ℕ). class_in d r n k) e ∙ same (suc j) k);
+          same = λ j k. (let e : i + 1 + j ≡ i + suc j = omega arith in
+              ap (λ (n : ℕ). class_in d r n k) e ∙ same (suc j) k);
           used = used;
           few = few;
           filling = subst (λ (n : ℕ). IsFilling t w p id b (i + 1) (class_by d r) n) none
-              (filling_next t u w p id b i (1 + record_count r - record_count es) 0 (class_by d r) (λ k. c) (omega arith) li lt filling lw
-              (filled c here) (λ k inmap held. sym (child_classes b d i r k deep low li held ∙ same 0 k)));
+              (filling_next t u w p id b i (1 + record_count r - record_count es) 0 (class_by d r)
+              (λ k. c) (omega arith) li lt filling lw
+              (filled c here)
+              (λ k inmap held. sym (child_classes b d i r k deep low li held ∙ same 0 k)));
         })
     by_entries (Record q es) zero at are left text same used few filling = absurd are
-    by_entries (Record q es) (suc n) at are left text same used few filling = absurd (other (omega (arith, left)))
+    by_entries (Record q es) (suc n) at are left text same used few filling =
+        absurd (other (omega (arith, left)))
 
 pub drop_front : (xs ys : List ℕ) → drop (length xs) (xs ++ ys) ≡ ys
 drop_front [] ys = refl
@@ -149,24 +169,33 @@ drop_front (x ∷ xs) ys = drop_front xs ys
 
 pub drop_more : (xs : List ℕ) (n m : ℕ) → drop m (drop n xs) ≡ drop (n + m) xs
 drop_more xs zero m = (let e : m ≡ 0 + m = omega arith in ap (λ (k : ℕ). drop k xs) e)
-drop_more [] (suc n) zero = (let e : suc (n + 0) ≡ suc n + 0 = omega arith in ap (λ (k : ℕ). drop k []) e)
-drop_more [] (suc n) (suc m) = (let e : suc (n + suc m) ≡ suc n + suc m = omega arith in ap (λ (k : ℕ). drop k []) e)
-drop_more (x ∷ xs) (suc n) m = (let e : suc (n + m) ≡ suc n + m = omega arith in drop_more xs n m ∙ ap (λ (k : ℕ). drop k (x ∷ xs)) e)
+drop_more [] (suc n) zero =
+    (let e : suc (n + 0) ≡ suc n + 0 = omega arith in ap (λ (k : ℕ). drop k []) e)
+drop_more [] (suc n) (suc m) =
+    (let e : suc (n + suc m) ≡ suc n + suc m = omega arith in ap (λ (k : ℕ). drop k []) e)
+drop_more (x ∷ xs) (suc n) m =
+    (let e : suc (n + m) ≡ suc n + m = omega arith in drop_more xs n m
+    ∙ ap (λ (k : ℕ). drop k (x ∷ xs)) e)
 
 -- after one that is a record
-pub under_record : (t u w : Tree) (p : Place) (id : GroupId) (b : Cube) (d : ℕ) (codes : List ℕ) (next rest i taken : ℕ) (r : Entries)
+pub under_record : (t u w : Tree) (p : Place) (id : GroupId) (b : Cube) (d : ℕ) (codes : List ℕ)
+    (next rest i taken : ℕ) (r : Entries)
     (tail : List ℕ) → b.depth ≡ d → d ≤ 15 → i < 8 → IsLinked t → IsLinked w → rest % 4 ≡ 3
     → IsUnderWay t u p id b d codes next rest i r tail
     → ((q : Entries) (later : List ℕ) → IsRecord (d + 1) q → drop next codes ≡ flat q ++ later
-    → IsFilled u w (child_of b i) (class_by (d + 1) q) (1 + record_count q) × (taken ≡ length (flat q)))
+    → IsFilled u w (child_of b i) (class_by (d + 1) q) (1 + record_count q)
+    × (taken ≡ length (flat q)))
     → IsUnderWay t w p id b d codes (next + taken) (rest / 4) (i + 1) r tail
 unfolding codes_of bodies_of record_count class_in
 under_record t u w p id b d codes next rest i taken r tail deep low li lt lw three s filled =
     by_entries s.es (8 - i) refl s.are (sym s.left) s.text s.same s.used s.few s.filling
   where
-    by_entries : (es : Entries) (n : ℕ) → 8 - i ≡ n → AreEntries d n es → codes_of es ≡ rest → drop next codes ≡ bodies_of es ++ tail
-        → ((j : ℕ) (k : Voxel) → class_in d r (i + j) k ≡ class_in d es j k) → next + length (bodies_of es) ≡ length (flat r)
-        → record_count es ≤ record_count r → IsFilling t u p id b i (class_by d r) (1 + record_count r - record_count es)
+    by_entries : (es : Entries) (n : ℕ) → 8 - i ≡ n → AreEntries d n es → codes_of es ≡ rest
+        → drop next codes ≡ bodies_of es ++ tail
+        → ((j : ℕ) (k : Voxel) → class_in d r (i + j) k ≡ class_in d es j k)
+        → next + length (bodies_of es) ≡ length (flat r)
+        → record_count es ≤ record_count r → IsFilling t u p id b i (class_by d r)
+        (1 + record_count r - record_count es)
         → IsUnderWay t w p id b d codes (next + taken) (rest / 4) (i + 1) r tail
     by_entries End zero at are left text same used few filling = absurd (omega arith)
     by_entries End (suc n) at are left text same used few filling = absurd are
@@ -176,43 +205,59 @@ under_record t u w p id b d codes next rest i taken r tail deep low li lt lw thr
     by_entries (Record q es) zero at are left text same used few filling = absurd are
     by_entries (Record q es) (suc n) at (deeper, inner, are) left text same used few filling =
         (let next_depth : suc d ≡ d + 1 = omega arith in
-        let front : drop next codes ≡ flat q ++ (bodies_of es ++ tail) = text ∙ append_assoc (flat q) (bodies_of es) tail in
-        let (done, took) = filled q (bodies_of es ++ tail) (subst (λ (d : ℕ). IsRecord d q) next_depth inner) front in
+        let front : drop next codes ≡ flat q ++ (bodies_of es ++ tail) =
+        text ∙ append_assoc (flat q) (bodies_of es) tail in
+        let (done, took) =
+        filled q (bodies_of es ++ tail) (subst (λ (d : ℕ). IsRecord d q) next_depth inner) front
+        in
         let later : 8 - (i + 1) ≡ n = omega (arith, at, li) in
         let long = length-append (flat q) (bodies_of es) in
-        let total : 1 + record_count r - (1 + record_count q + record_count es) + (1 + record_count q)
+        let total : 1 + record_count r - (1 + record_count q + record_count es)
+        + (1 + record_count q)
         ≡ 1 + record_count r - record_count es = omega (arith, few) in
         record {
           es = es;
           are = subst (λ (n : ℕ). AreEntries d n es) (sym later) are;
           left = omega (arith, left);
           text = sym (drop_more codes next taken) ∙ ap (drop taken) front
-              ∙ ap (λ (n : ℕ). drop n (flat q ++ (bodies_of es ++ tail))) took ∙ drop_front (flat q) (bodies_of es ++ tail);
-          same = λ j k. (let e : i + 1 + j ≡ i + suc j = omega arith in ap (λ (n : ℕ). class_in d r n k) e ∙ same (suc j) k);
+              ∙ ap (λ (n : ℕ). drop n (flat q ++ (bodies_of es ++ tail))) took
+              ∙ drop_front (flat q) (bodies_of es ++ tail);
+          same = λ j k. (let e : i + 1 + j ≡ i + suc j = omega arith in
+              ap (λ (n : ℕ). class_in d r n k) e ∙ same (suc j) k);
           used = omega (arith, used, long, took);
           few = omega (arith, few);
           filling = subst (λ (n : ℕ). IsFilling t w p id b (i + 1) (class_by d r) n) total
-              (filling_next t u w p id b i _ (1 + record_count q) (class_by d r) (class_by (d + 1) q) (omega arith) li lt filling lw done
-              (λ k inmap held. ap (λ (n : ℕ). class_by n q k) (sym next_depth) ∙ sym (child_classes b d i r k deep low li held ∙ same 0 k)));
+              (filling_next t u w p id b i _ (1 + record_count q) (class_by d r)
+              (class_by (d + 1) q) (omega arith) li lt filling lw done
+              (λ k inmap held. ap (λ (n : ℕ). class_by n q k) (sym next_depth)
+              ∙ sym (child_classes b d i r k deep low li held ∙ same 0 k)));
         })
 
 -- after the last child
-pub record IsWhole (t u : Tree) (p : Place) (id : GroupId) (b : Cube) (d next : ℕ) (r : Entries) : Type 0 where
+pub record IsWhole (t u : Tree) (p : Place) (id : GroupId) (b : Cube) (d next : ℕ)
+    (r : Entries) : Type 0 where
   pub filling : IsFilling t u p id b 8 (class_by d r) (1 + record_count r)
   pub length : next ≡ length (flat r)
 
-pub under_all : (t u : Tree) (p : Place) (id : GroupId) (b : Cube) (d : ℕ) (codes : List ℕ) (next rest i : ℕ) (r : Entries) (tail : List ℕ)
+pub under_all : (t u : Tree) (p : Place) (id : GroupId) (b : Cube) (d : ℕ) (codes : List ℕ)
+    (next rest i : ℕ) (r : Entries) (tail : List ℕ)
     → i ≡ 8 → IsUnderWay t u p id b d codes next rest i r tail → IsWhole t u p id b d next r
 unfolding bodies_of record_count
 under_all t u p id b d codes next rest i r tail end s =
-    by_entries s.es (8 - i) (omega arith) s.are s.used (subst (λ (n : ℕ). IsFilling t u p id b n (class_by d r) (1 + record_count r - record_count s.es)) end s.filling)
+    by_entries s.es (8 - i)
+    (omega arith) s.are s.used
+    (subst (λ (n : ℕ). IsFilling t u p id b n (class_by d r)
+    (1 + record_count r - record_count s.es)) end s.filling)
   where
-    by_entries : (es : Entries) (n : ℕ) → n ≡ 0 → AreEntries d n es → next + length (bodies_of es) ≡ length (flat r)
-        → IsFilling t u p id b 8 (class_by d r) (1 + record_count r - record_count es) → IsWhole t u p id b d next r
-    by_entries End n none are used filling = (let whole : 1 + record_count r - 0 ≡ 1 + record_count r = omega arith in record {
-      filling = subst (λ (n : ℕ). IsFilling t u p id b 8 (class_by d r) n) whole filling;
-      length = omega (arith, used);
-    })
+    by_entries : (es : Entries) (n : ℕ) → n ≡ 0 → AreEntries d n es → next + length (bodies_of es)
+        ≡ length (flat r)
+        → IsFilling t u p id b 8 (class_by d r) (1 + record_count r - record_count es)
+        → IsWhole t u p id b d next r
+    by_entries End n none are used filling =
+        (let whole : 1 + record_count r - 0 ≡ 1 + record_count r = omega arith in record {
+          filling = subst (λ (n : ℕ). IsFilling t u p id b 8 (class_by d r) n) whole filling;
+          length = omega (arith, used);
+        })
     by_entries (Plain c es) zero none are used filling = absurd are
     by_entries (Plain c es) (suc n) none are used filling = absurd (omega arith)
     by_entries (Record q es) zero none are used filling = absurd are
@@ -221,10 +266,12 @@ under_all t u p id b d codes next rest i r tail end s =
 -- ---- places in the text
 
 -- there are bytes ahead
-pub ahead_within : (d : ℕ) (codes : List ℕ) (next room : ℕ) → IsAhead d codes next room → next ≤ length codes
+pub ahead_within : (d : ℕ) (codes : List ℕ) (next room : ℕ) → IsAhead d codes next room
+    → next ≤ length codes
 ahead_within d codes next room s =
     let long : length (drop next codes) ≡ length (flat s.r ++ s.tail) = ap length s.text in
-    within codes next (let some : 0 < length (flat s.r ++ s.tail) = omega arith in omega (arith, long, some))
+    within codes next (let some : 0 < length (flat s.r ++ s.tail) = omega arith in
+    omega (arith, long, some))
   where
     within : (xs : List ℕ) (n : ℕ) → 0 < length (drop n xs) → n ≤ length xs
     within xs zero some = omega arith
@@ -232,10 +279,12 @@ ahead_within d codes next room s =
     within (x ∷ xs) (suc n) some = (let rest = within xs n some in omega arith)
 
 -- the bytes of the record ahead lie within
-pub ahead_fits : (d : ℕ) (codes : List ℕ) (next room : ℕ) (s : IsAhead d codes next room) → next + length (flat s.r) ≤ length codes
+pub ahead_fits : (d : ℕ) (codes : List ℕ) (next room : ℕ) (s : IsAhead d codes next room)
+    → next + length (flat s.r) ≤ length codes
 ahead_fits d codes next room s =
     let within = ahead_within d codes next room s in
-    let long : length (drop next codes) ≡ length (flat s.r) + length s.tail = ap length s.text ∙ length-append (flat s.r) s.tail in
+    let long : length (drop next codes) ≡ length (flat s.r) + length s.tail = ap length s.text
+    ∙ length-append (flat s.r) s.tail in
     let all = length-drop next codes in
     omega (arith, long, all, within)
 
@@ -261,7 +310,8 @@ pub record IsLeafRow (d n : ℕ) (es : Entries) (c : Class) : Type 0 where
   pub classes : (j : ℕ) (k : Voxel) → j < n → class_in d es j k ≡ c
   pub none : length (bodies_of es) ≡ 0
 
-pub leaf_row : (es : Entries) (d n : ℕ) (c : Class) → AreEntries d n es → codes_of es ≡ repeated (class_code c) n → IsLeafRow d n es c
+pub leaf_row : (es : Entries) (d n : ℕ) (c : Class) → AreEntries d n es
+    → codes_of es ≡ repeated (class_code c) n → IsLeafRow d n es c
 unfolding codes_of bodies_of class_in repeated
 leaf_row End d zero c are codes = record { classes = λ j k l. absurd (omega arith); none = refl }
 leaf_row End d (suc n) c are codes = absurd are
@@ -274,11 +324,13 @@ leaf_row (Plain x es) d (suc n) c are codes =
     let later = leaf_row es d n c are rest in
     record { classes = by later (class_of_code x c here); none = later.none }
   where
-    by : IsLeafRow d n es c → x ≡ c → (j : ℕ) (k : Voxel) → j < suc n → class_in d (Plain x es) j k ≡ c
+    by : IsLeafRow d n es c → x ≡ c → (j : ℕ) (k : Voxel) → j < suc n → class_in d (Plain x es) j k
+        ≡ c
     by later same zero k l = same
     by later same (suc j) k l = later.classes j k (omega arith)
 leaf_row (Record r es) d zero c are codes = absurd are
-leaf_row (Record r es) d (suc n) c are codes = (let few = class_code_below c in absurd (omega (arith, codes, few)))
+leaf_row (Record r es) d (suc n) c are codes =
+    (let few = class_code_below c in absurd (omega (arith, codes, few)))
 
 -- the code of a class, repeated
 first_repeated : (x : Class) → repeated (class_code x) 8 % 4 ≡ class_code x
@@ -288,8 +340,10 @@ first_repeated Free = refl
 first_repeated Occupied = refl
 
 -- a record of eight equal leaves makes one of its block
-pub plain_filled : (t u : Tree) (b : Cube) (d : ℕ) (codes : List ℕ) (r : Entries) (tail : List ℕ) (first second : ℕ) → IsRecord d r
-    → codes ≡ flat r ++ tail → first ≡ get_or codes 0 0 → second ≡ get_or codes 1 0 → is_plain (first + 256 * second) ≡ true
+pub plain_filled : (t u : Tree) (b : Cube) (d : ℕ) (codes : List ℕ) (r : Entries) (tail : List ℕ)
+    (first second : ℕ) → IsRecord d r
+    → codes ≡ flat r ++ tail → first ≡ get_or codes 0 0 → second ≡ get_or codes 1 0
+    → is_plain (first + 256 * second) ≡ true
     → ((c : Class) → class_code c ≡ (first + 256 * second) % 4 → IsFilled t u b (λ k. c) 0)
     → IsFilled t u b (class_by d r) (1 + record_count r) × (2 ≡ length (flat r))
 plain_filled t u b d codes r tail first second is text one two plain filled =
@@ -298,7 +352,8 @@ plain_filled t u b d codes r tail first second is text one two plain filled =
     let whole : first + 256 * second ≡ codes_of r = omega (arith, a, e) in
     by (plain_class (first + 256 * second) plain) whole
   where
-    by : ((x : Class) × (first + 256 * second ≡ repeated (class_code x) 8)) → first + 256 * second ≡ codes_of r
+    by : ((x : Class) × (first + 256 * second ≡ repeated (class_code x) 8)) → first + 256 * second
+        ≡ codes_of r
         → IsFilled t u b (class_by d r) (1 + record_count r) × (2 ≡ length (flat r))
     by (x, same) whole =
         let row = leaf_row r d 8 x is (sym whole ∙ same) in
@@ -308,7 +363,8 @@ plain_filled t u b d codes r tail first second is text one two plain filled =
           record {
             whole = record {
               inside = λ k inmap held. f.whole.inside k inmap held
-                  ∙ ap (value_for t.odds) (sym (row.classes (child_index_of d k) k (child_index_below d k)));
+                  ∙ ap (value_for t.odds)
+                  (sym (row.classes (child_index_of d k) k (child_index_below d k)));
               outside = f.whole.outside;
               tidy = f.whole.tidy;
             };
@@ -326,28 +382,37 @@ pub record IsRoot (codes : List ℕ) (room : ℕ) : Type 0 where
   pub text : codes ≡ flat r ++ []
   pub enough : 1 + record_count r ≤ room
 
-pub root_asked : (codes : List ℕ) (size n : ℕ) → 0 < length codes → IsAccepted size codes → length codes / 2 ≤ n → IsRoot codes n
-root_asked codes size n some (inl (none, empty)) room = (let l : length codes ≡ 0 = ap length empty in absurd (omega (arith, l, some)))
+pub root_asked : (codes : List ℕ) (size n : ℕ) → 0 < length codes → IsAccepted size codes
+    → length codes / 2 ≤ n → IsRoot codes n
+root_asked codes size n some (inl (none, empty)) room =
+    (let l : length codes ≡ 0 = ap length empty in absurd (omega (arith, l, some)))
 root_asked codes size n some (inr (r, is, text, total)) room = record {
   r = r;
   is = is;
   text = text ∙ sym (append-nil (flat r));
-  enough = (let l : length codes ≡ length (flat r) = ap length text in let m = flat_counted r in omega (arith, l, m, room));
+  enough = (let l : length codes ≡ length (flat r) = ap length text in let m = flat_counted r in
+      omega (arith, l, m, room));
 }
 
 -- the values of the whole map
 pub root_filled : (t u : Tree) (codes : List ℕ) (c : Classes) → IsDataOf c codes → 0 < length codes
-    → ((r : Entries) (tail : List ℕ) → IsRecord 0 r → codes ≡ flat r ++ tail → IsFilled t u root_block (class_by 0 r) (1 + record_count r))
+    → ((r : Entries) (tail : List ℕ) → IsRecord 0 r → codes ≡ flat r ++ tail
+    → IsFilled t u root_block (class_by 0 r) (1 + record_count r))
     → (k : Voxel) → IsInMap k → value_at u k ≡ value_for t.odds (c k)
-root_filled t u codes c (inl (empty, all)) some filled k ok = (let l : length codes ≡ 0 = ap length empty in absurd (omega (arith, l, some)))
+root_filled t u codes c (inl (empty, all)) some filled k ok =
+    (let l : length codes ≡ 0 = ap length empty in absurd (omega (arith, l, some)))
 root_filled t u codes c (inr (r, is, text, gives)) some filled k ok =
-    (filled r [] is (text ∙ sym (append-nil (flat r)))).whole.inside k ok (root_holds k ok) ∙ ap (value_for t.odds) (gives k ok)
+    (filled r [] is (text ∙ sym (append-nil (flat r)))).whole.inside k ok (root_holds k ok)
+    ∙ ap (value_for t.odds) (gives k ok)
 
-pub none_filled : (t : Tree) (codes : List ℕ) (c : Classes) → IsLinked t → t.root ≡ Absent → IsDataOf c codes → length codes ≡ 0
+pub none_filled : (t : Tree) (codes : List ℕ) (c : Classes) → IsLinked t → t.root ≡ Absent
+    → IsDataOf c codes → length codes ≡ 0
     → (k : Voxel) → IsInMap k → value_at t k ≡ value_for t.odds (c k)
 none_filled t codes c l none (inl (empty, all)) few k ok =
-    place_value t Root root_block l tt refl (ap link_of none) k ok (root_holds k ok) ∙ ap value_of none ∙ sym (ap (value_for t.odds) (all k ok))
-none_filled t codes c l none (inr (r, is, text, gives)) few k ok = (let m : length codes ≡ length (flat r) = ap length text in absurd (omega (arith, m, few)))
+    place_value t Root root_block l tt refl (ap link_of none) k ok (root_holds k ok)
+    ∙ ap value_of none ∙ sym (ap (value_for t.odds) (all k ok))
+none_filled t codes c l none (inr (r, is, text, gives)) few k ok =
+    (let m : length codes ≡ length (flat r) = ap length text in absurd (omega (arith, m, few)))
 
 -- how many groups there are, and how much room is left
 pub record HasFilled (t u : Tree) (most : ℕ) : Type 0 where
@@ -367,12 +432,15 @@ unfilled t n shape l none =
       spare = omega (arith, empty);
     }
 
-pub has_filled : (t u : Tree) (codes whole : List ℕ) (size : ℕ) → codes ≡ whole → 0 < length codes → IsAccepted size codes
+pub has_filled : (t u : Tree) (codes whole : List ℕ) (size : ℕ) → codes ≡ whole → 0 < length codes
+    → IsAccepted size codes
     → length whole / 2 ≤ spare t.groups → IsShaped t → IsLinked u → t.root ≡ Absent
-    → ((r : Entries) (tail : List ℕ) → IsRecord 0 r → codes ≡ flat r ++ tail → IsFilled t u root_block (class_by 0 r) (1 + record_count r))
+    → ((r : Entries) (tail : List ℕ) → IsRecord 0 r → codes ≡ flat r ++ tail
+    → IsFilled t u root_block (class_by 0 r) (1 + record_count r))
     → HasFilled t u (length whole / 2)
 has_filled t u codes whole size same some accepted room shape l none filled =
-    by (root_asked codes size (spare t.groups) some accepted (subst (λ (bytes : List ℕ). length bytes / 2 ≤ spare t.groups) (sym same) room))
+    by (root_asked codes size (spare t.groups) some accepted
+    (subst (λ (bytes : List ℕ). length bytes / 2 ≤ spare t.groups) (sym same) room))
   where
     by : IsRoot codes (spare t.groups) → HasFilled t u (length whole / 2)
     by r =
@@ -383,7 +451,8 @@ has_filled t u codes whole size same some accepted room shape l none filled =
         let after = live_spare u.groups in
         let kept = f.whole.outside.length in
         let taken = f.room in
-        let long : length whole ≡ length (flat r.r) = ap length (sym same ∙ r.text ∙ append-nil (flat r.r)) in
+        let long : length whole ≡ length (flat r.r) =
+        ap length (sym same ∙ r.text ∙ append-nil (flat r.r)) in
         let counted = flat_counted r.r in
         record {
           fresh = tidy.fresh;

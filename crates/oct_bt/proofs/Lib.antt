@@ -16,11 +16,13 @@ pub mod Plains
 pub mod WrittenHeaders
 pub mod Headers
 pub mod HeadSteps
+pub mod HeadEnds
 pub mod FilesBack
 pub mod DataClassed
 pub mod Fillings
 pub mod Fills
 pub mod Short
+pub mod NoWant
 pub mod Mixtures
 pub mod Writes
 pub mod Parting

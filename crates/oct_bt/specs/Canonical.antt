@@ -1,5 +1,6 @@
 -- The canonical node data of a class for each voxel.
-use Rattle.std.specs.Prelude.{ℕ, zero, suc, ◌+◌, ◌*◌, ◌/◌, ◌%◌, nat_eq, Bool, not, List, [], ◌∷◌, ◌++◌, Option, Some, None, count_by, if◌then◌else◌}
+use Rattle.std.specs.Prelude.{ℕ, zero, suc, ◌+◌, ◌*◌, ◌/◌, ◌%◌, nat_eq, Bool, not, List, [], ◌∷◌}
+use Rattle.std.specs.Prelude.{◌++◌, Option, Some, None, count_by, if◌then◌else◌}
 use Rattle.std.specs.List.{flat_map, list_all}
 use Rattle.oct_key.specs.Block.{Cube, child_of, root_block}
 use Rattle.oct_odds.specs.declared.event.Class.{Class}
@@ -24,7 +25,7 @@ abbrev pub data_of_child : Option Class → List ℕ → List ℕ
 data_of_child (Some class) below = []
 data_of_child None below = below
 
--- the data of a block that stands so many depths above the voxels: the codes of its children, and
+-- the data of a block that stands this many depths above the voxels: the codes of its children, and
 -- the data of each child that isn't of one class
 unfoldable pub data_below : Classes → ℕ → Cube → List ℕ
 data_below classes zero b = []

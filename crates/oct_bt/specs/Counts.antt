@@ -17,8 +17,8 @@ class_of_kind Free = Some class.Free
 class_of_kind Occupied = Some class.Occupied
 class_of_kind Several = None
 
--- the kind of a block that stands so many depths above the voxels, and what its own data has, if it
--- has data
+-- the kind of a block that stands this many depths above the voxels, and what its own data has, if
+-- it has data
 pub record IsBlockCount (classes : Classes) (depths : ℕ) (b : Cube) (count : BlockCount)
     : Type 0 where
   pub kind : class_of_block classes b ≡ class_of_kind count.kind

@@ -11,17 +11,22 @@ pub record Split : Type 0 where
   pub entries : Entries
   pub rest : List ℕ
 
+-- a child that is all of a class, before the entries of those after it
 abbrev pub with_plain : Class → Split → Split
 with_plain class later = record { entries = Plain class later.entries; rest = later.rest }
 
+-- a child with a record of its own, before the entries of those after it
 abbrev pub with_record : Split → Split → Split
 with_record first later = record {
   entries = Record first.entries later.entries;
   rest = later.rest;
 }
 
--- the entries of these codes, one after another, where the text of a record at the front is split
--- off by the first argument
+-- The entries of these codes, from the left. A code of 0, 1 or 2 is an entry by itself and has no
+-- text. A code of 3 says that the child has a record of its own, and that stands at the front of
+-- the text: it is split off, and what stands after it is the text of the codes that follow. How a
+-- record of the depth below is split off a text is the first argument, which `split_record` fills
+-- in.
 unfoldable pub split_entries : (List ℕ → Split) → List ℕ → List ℕ → Split
 split_entries first_record [] text = record { entries = End; rest = text }
 split_entries first_record (zero ∷ codes) text =
@@ -33,7 +38,8 @@ split_entries first_record (suc (suc zero) ∷ codes) text =
 split_entries first_record (suc (suc (suc more)) ∷ codes) text =
     with_record (first_record text) (split_entries first_record codes (first_record text).rest)
 
--- the record of a block that stands so many depths above the voxels, at the front of a text
+-- the record of a block that stands this many depths above the voxels, at the front of a text: two
+-- bytes with the codes of its children, and then the records of those that have one
 unfoldable pub split_record : ℕ → List ℕ → Split
 split_record zero text = record { entries = End; rest = text }
 split_record (suc depths) (first ∷ second ∷ text) =

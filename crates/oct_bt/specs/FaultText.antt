@@ -3,7 +3,10 @@ use Rattle.std.specs.Prelude.{ℕ, List, [], ◌++◌, codes, decimal}
 use Rattle.oct_bt.specs.declared.fault.HeaderWord.{HeaderWord}
 use Rattle.oct_bt.specs.declared.fault.HeaderWord.TheVariants.{Id, Res, Size, Data}
 use Rattle.oct_bt.specs.declared.fault.BtFault.{BtFault}
-use Rattle.oct_bt.specs.declared.fault.BtFault.TheVariants.{NotOctomap, FloatTree, WrongId, MissingField, BadField, HeaderTooLong, TooDeep, Truncated, TrailingBytes, SizeMismatch, Memory}
+use Rattle.oct_bt.specs.declared.fault.BtFault.TheVariants.{NotOctomap, FloatTree, WrongId}
+use Rattle.oct_bt.specs.declared.fault.BtFault.TheVariants.{MissingField, BadField, HeaderTooLong}
+use Rattle.oct_bt.specs.declared.fault.BtFault.TheVariants.{TooDeep, Truncated, TrailingBytes}
+use Rattle.oct_bt.specs.declared.fault.BtFault.TheVariants.{SizeMismatch, Memory}
 
 -- the word of a header's line
 abbrev pub word_text : HeaderWord → List ℕ
@@ -12,7 +15,8 @@ word_text Res = codes "res"
 word_text Size = codes "size"
 word_text Data = codes "data"
 
--- a fault: its number, its name and its fields; want of memory isn't a fault of the file, and has none
+-- a fault: its number, its name and its fields; out of memory isn't a fault of the file, and has
+-- none
 abbrev pub fault_text : BtFault → List ℕ
 fault_text NotOctomap = codes "10 NotOctomap"
 fault_text FloatTree = codes "11 FloatTree"

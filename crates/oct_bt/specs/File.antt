@@ -1,5 +1,6 @@
 -- A whole file: how it is written, and what it is read as.
-use Rattle.std.specs.Prelude.{codes, ℕ, nat_lt, List, [], ◌∷◌, ◌++◌, drop, Result, Ok, Err, if◌then◌else◌}
+use Rattle.std.specs.Prelude.{codes, ℕ, nat_lt, List, [], ◌∷◌, ◌++◌, drop, Result, Ok, Err}
+use Rattle.std.specs.Prelude.{if◌then◌else◌}
 use Rattle.std.specs.Fmt.{decimal}
 use Rattle.oct_num.specs.MetresText.{metres_text}
 use Rattle.oct_bt.specs.declared.fault.BtFault.{BtFault}
@@ -47,11 +48,13 @@ pub record FileRead : Type 0 where
   pub codes : List ℕ
   pub nodes : ℕ
 
+-- the file of a header and the records that were read after it
 abbrev pub file_with : Header → Result (List ℕ) BtFault → Result FileRead BtFault
 file_with header (Ok records) =
     Ok (record { res = header.res; codes = records; nodes = header.size })
 file_with header (Err fault) = Err fault
 
+-- what a file is read as after its header
 abbrev pub after_header : List ℕ → Result Header BtFault → Result FileRead BtFault
 after_header file (Err fault) = Err fault
 after_header file (Ok header) =
@@ -65,7 +68,7 @@ reading file = after_header file (header_of (head_of file))
 abbrev pub file_text : FileRead → List ℕ
 file_text file = header_text file.nodes file.res ++ file.codes
 
--- the fault of a canonical file whose header has so many bytes, where only so many of its first
+-- the fault of a canonical file whose header has this many bytes, where only n of its first
 -- bytes are there
 abbrev pub front_fault : ℕ → ℕ → BtFault
 front_fault header n =

@@ -10,7 +10,7 @@ use Rattle.oct_values.specs.Classes.{Classes}
 use Rattle.oct_bt.specs.Classes.{value_for}
 
 -- The second tree is the first one with these classes in a block, in which it is tidy, and took at
--- most so many groups for it.
+-- most this many groups for it.
 pub record IsFilled (t u : Tree) (b : Cube) (classes : Classes) (groups : ℕ) : Type 0 where
   pub whole : IsFilledWith t u b (λ k. value_for t.odds (classes k))
   pub room : spare t.groups ≤ spare u.groups + groups

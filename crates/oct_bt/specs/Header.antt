@@ -1,15 +1,20 @@
 -- The header of a file: its lines up to the data line, and what they say.
-use Rattle.std.specs.Prelude.{codes, bytes_eq, ℕ, ◌+◌, ◌-◌, ℤ, pos, negsuc, nat_eq, nat_lt, nat_le, Bool, true, false, not, ◌&&◌, ◌||◌, List, [], ◌∷◌, length, take, drop, take_while, slice_index, fold, Option, Some, None, option_map, Result, Ok, Err, if◌then◌else◌}
+use Rattle.std.specs.Prelude.{codes, bytes_eq, ℕ, ◌+◌, ◌-◌, ℤ, pos, negsuc, nat_eq, nat_lt, nat_le}
+use Rattle.std.specs.Prelude.{Bool, true, false, not, ◌&&◌, ◌||◌, List, [], ◌∷◌, length, take, drop}
+use Rattle.std.specs.Prelude.{take_while, slice_index, fold, Option, Some, None, option_map, Result}
+use Rattle.std.specs.Prelude.{Ok, Err, if◌then◌else◌}
 use Rattle.std.specs.List.{slice_split, find, prefix_len, starts_with}
 use Rattle.oct_num.specs.Metres.{metres_of}
 use Rattle.oct_num.specs.Whole.{natural_of}
 use Rattle.oct_num.specs.declared.metres.NumFault.{NumFault}
 use Rattle.oct_bt.specs.declared.fault.BtFault.{BtFault}
-use Rattle.oct_bt.specs.declared.fault.BtFault.TheVariants.{NotOctomap, FloatTree, WrongId, MissingField, BadField, HeaderTooLong}
+use Rattle.oct_bt.specs.declared.fault.BtFault.TheVariants.{NotOctomap, FloatTree, WrongId}
+use Rattle.oct_bt.specs.declared.fault.BtFault.TheVariants.{MissingField, BadField, HeaderTooLong}
 use Rattle.oct_bt.specs.declared.fault.HeaderWord.TheVariants.{Id, Res, Size, Data}
 
 -- ---- lines and words
 
+-- the byte that ends a line
 abbrev pub is_line_feed : ℕ → Bool
 is_line_feed b = nat_eq b 10
 
@@ -17,21 +22,25 @@ is_line_feed b = nat_eq b 10
 abbrev pub is_blank : ℕ → Bool
 is_blank b = nat_eq b 32 || nat_eq b 9
 
+-- any other byte is part of a word
 abbrev pub is_in_word : ℕ → Bool
 is_in_word b = not (is_blank b)
 
--- a text without the carriage return at its end, if there is one
+-- a text without the carriage return at its end, if there is one; an empty text has none, since a
+-- byte that isn't there is read as 0
 abbrev pub trimmed : List ℕ → List ℕ
 trimmed text =
     if nat_eq (slice_index text (length text - 1)) 13 then take (length text - 1) text else text
 
+-- a text without the blanks at its front
 abbrev pub without_blanks : List ℕ → List ℕ
 without_blanks text = drop (prefix_len is_blank text) text
 
--- the first word of a text, empty where there is none, and what stands after it
+-- the first word of a text, empty where there is none
 abbrev pub first_word : List ℕ → List ℕ
 first_word text = take_while is_in_word (without_blanks text)
 
+-- what stands after the first word
 abbrev pub after_word : List ℕ → List ℕ
 after_word text = drop (prefix_len is_in_word (without_blanks text)) (without_blanks text)
 
@@ -41,6 +50,7 @@ pub record HeaderLine : Type 0 where
   pub value : List ℕ
   pub after : ℕ
 
+-- the line that a text is, whose line feed stands before this place
 abbrev pub line_of : List ℕ → ℕ → HeaderLine
 line_of text after = record {
   name = first_word (trimmed text);
@@ -60,9 +70,11 @@ lines_from at (part ∷ next ∷ parts) =
 abbrev pub lines_of : List ℕ → List HeaderLine
 lines_of bytes = drop 1 (lines_from 0 (slice_split is_line_feed bytes))
 
+-- whether the first word of a line is this name
 abbrev pub is_named : List ℕ → HeaderLine → Bool
 is_named name line = bytes_eq line.name name
 
+-- whether the node data begins after a line
 abbrev pub is_data_line : HeaderLine → Bool
 is_data_line line = is_named (codes "data") line
 
@@ -86,9 +98,11 @@ pub record Fields : Type 0 where
   pub res : Option (Option ℕ)
   pub size : Option (Option ℕ)
 
+-- whether this is the id of the files
 abbrev pub is_octree : List ℕ → Bool
 is_octree value = bytes_eq value (codes "OcTree")
 
+-- the fields that these lines say
 abbrev pub fields_of : List HeaderLine → Fields
 fields_of lines = record {
   id = option_map is_octree (value_among (codes "id") lines);
@@ -103,24 +117,26 @@ pub record Header : Type 0 where
   pub size : ℕ
   pub start : ℕ
 
--- the fields, judged in the order id, resolution, size
+-- the header, where all but the size is judged
 abbrev pub judged_size : ℕ → ℕ → Option (Option ℕ) → Result Header BtFault
 judged_size start res None = Err (MissingField Size)
 judged_size start res (Some None) = Err (BadField Size)
 judged_size start res (Some (Some size)) = Ok (record { res = res; size = size; start = start })
 
-abbrev pub judged_res :
-    ℕ → Option (Option ℕ) → Option (Option ℕ) → Result Header BtFault
+-- where the resolution and the size are to be judged
+abbrev pub judged_res : ℕ → Option (Option ℕ) → Option (Option ℕ) → Result Header BtFault
 judged_res start None size = Err (MissingField Res)
 judged_res start (Some None) size = Err (BadField Res)
 judged_res start (Some (Some res)) size = judged_size start res size
 
-abbrev pub judged_id :
-    ℕ → Option Bool → Option (Option ℕ) → Option (Option ℕ) → Result Header BtFault
+-- where all three are
+abbrev pub judged_id : ℕ → Option Bool → Option (Option ℕ) → Option (Option ℕ)
+    → Result Header BtFault
 judged_id start None res size = Err (MissingField Id)
 judged_id start (Some false) res size = Err WrongId
 judged_id start (Some true) res size = judged_res start res size
 
+-- the header of these fields, or its first fault, in the order id, resolution, size
 abbrev pub judged_fields : ℕ → Fields → Result Header BtFault
 judged_fields start fields = judged_id start fields.id fields.res fields.size
 
@@ -133,7 +149,7 @@ mark_fault text =
     else if starts_with nat_eq text (codes "# Octomap OcTree file") then Some FloatTree
     else Some NotOctomap
 
--- only so many first bytes of a file are looked at for its header
+-- only the first n bytes of a file are looked at for its header
 abbrev pub head_of : List ℕ → List ℕ
 head_of file = take 65536 file
 
@@ -154,6 +170,7 @@ unless_marked None header = header
 abbrev pub no_data_line : ℕ → BtFault
 no_data_line total = if nat_lt total 65536 then MissingField Data else HeaderTooLong
 
+-- the header of a head that is marked as one, by its data line
 abbrev pub header_at : List ℕ → Option HeaderLine → Result Header BtFault
 header_at head None = Err (no_data_line (length head))
 header_at head (Some line) = judged_fields line.after (head_fields head)

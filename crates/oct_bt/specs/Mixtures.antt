@@ -1,5 +1,7 @@
--- What the voxels of a block are: of one class, or the first of them of one and then one of another.
-use Rattle.std.specs.Prelude.{◌≡◌, ◌≢◌, ℕ, zero, suc, ◌+◌, ◌*◌, ◌/◌, ◌%◌, ◌^◌, ◌<◌, Option, Some, None, List, [], ◌∷◌, length, ⊤}
+-- What the voxels of a block are: of one class, or the first of them of one and then one of
+-- another.
+use Rattle.std.specs.Prelude.{◌≡◌, ◌≢◌, ℕ, zero, suc, ◌*◌, ◌/◌, ◌%◌, ◌^◌, ◌<◌, Option, Some}
+use Rattle.std.specs.Prelude.{None, List, [], length, ⊤}
 use Rattle.oct_key.specs.Voxel.{Voxel}
 use Rattle.oct_key.specs.Block.{Cube, child_of, lowest_voxel}
 use Rattle.oct_odds.specs.declared.event.Class.{Class}
@@ -9,7 +11,7 @@ use Rattle.oct_bt.specs.declared.mixture.Mixture.TheVariants.{Pure, Mixed}
 use Rattle.oct_values.specs.Classes.{Classes, classes_of, class_of_block}
 use Rattle.oct_odds.specs.declared.event.Class.TheVariants.{Unknown, Free, Occupied}
 use Rattle.oct_bt.specs.Records.{code_bytes}
-use Rattle.oct_bt.specs.Canonical.{block_code, known_codes}
+use Rattle.oct_bt.specs.Canonical.{known_codes}
 
 -- what each voxel of a tree counts as
 abbrev pub classes_in : Tree → Classes
@@ -29,7 +31,8 @@ IsPureBefore classes x (suc depths) b way =
     × IsPureBefore classes x depths (child_of b (way % 8)) (way / 8)
 
 -- the way leads to the first voxel of the block that isn't of this class
-pub record IsFirstOther (classes : Classes) (x : Class) (depths : ℕ) (b : Cube) (way : ℕ) : Type 0 where
+pub record IsFirstOther (classes : Classes) (x : Class) (depths : ℕ) (b : Cube)
+    (way : ℕ) : Type 0 where
   pub before : IsPureBefore classes x depths b way
   pub other : classes (voxel_on depths b way) ≢ x
   pub short : way < 8 ^ depths
@@ -56,7 +59,7 @@ entry_nodes (Some Unknown) = 0
 entry_nodes (Some Free) = 1
 entry_nodes (Some Occupied) = 1
 
--- node data has so many codes that aren't 0, and so many records
+-- node data has this many codes that aren't 0, and this many records
 pub record IsCounted (bytes : List ℕ) (nodes number : ℕ) : Type 0 where
   pub known : known_codes bytes ≡ nodes
   pub records : length bytes ≡ 2 * number

@@ -1,8 +1,11 @@
 -- The reading of node data, byte by byte from the left.
-use Rattle.std.specs.Prelude.{◌≡◌, ℕ, zero, suc, ◌+◌, ◌<◌, nat_eq, nat_lt, ◌&&◌, List, [], ◌∷◌, ◌++◌, length, replicate, count_by, fold, Option, Some, None, Result, Ok, Err, if◌then◌else◌, ◌⊎◌}
+use Rattle.std.specs.Prelude.{◌≡◌, ℕ, zero, suc, ◌+◌, ◌<◌, nat_eq, nat_lt, ◌&&◌, List, [], ◌∷◌}
+use Rattle.std.specs.Prelude.{◌++◌, length, replicate, count_by, fold, Option, Some, None, Result}
+use Rattle.std.specs.Prelude.{Ok, Err, if◌then◌else◌, ◌⊎◌}
 use Rattle.std.specs.List.{All}
 use Rattle.oct_bt.specs.declared.fault.BtFault.{BtFault}
-use Rattle.oct_bt.specs.declared.fault.BtFault.TheVariants.{TooDeep, Truncated, TrailingBytes, SizeMismatch}
+use Rattle.oct_bt.specs.declared.fault.BtFault.TheVariants.{TooDeep, Truncated, TrailingBytes}
+use Rattle.oct_bt.specs.declared.fault.BtFault.TheVariants.{SizeMismatch}
 use Rattle.oct_key.specs.Voxel.{Voxel, IsInMap}
 use Rattle.oct_odds.specs.declared.event.Class.TheVariants.{Unknown}
 use Rattle.oct_values.specs.Classes.{Classes}
@@ -46,7 +49,7 @@ at_first (suc n) = Reads (0 ∷ []) None []
 unfoldable pub after_bytes : ℕ → ℕ → List ℕ → Progress
 after_bytes start size bytes = fold (after_byte start) (at_first size) bytes
 
--- what node data of so many bytes is where it ends here: the bytes of its records, or the first
+-- what node data of this many bytes is where it ends here: the bytes of its records, or the first
 -- fault
 abbrev pub judged : ℕ → ℕ → ℕ → Progress → Result (List ℕ) BtFault
 judged start size total (Stopped fault) = Err fault

@@ -24,8 +24,9 @@ parts_text classes depth b [] = []
 parts_text classes depth b (part ∷ more) =
     parts_text classes depth b more ++ data_below classes (16 - (depth + 1)) (child_of b part.i)
 
--- the record of a block: its codes, and its children that are written behind them
+-- the record of a block: its codes, and its children that are written after them
 pub record IsRecordOf (classes : Classes) (depth : ℕ) (b : Cube) (codes : ℕ) (parts : List Part)
     : Type 0 where
   pub are : ArePart classes depth b parts
-  pub text : data_below classes (16 - depth) b ≡ code_bytes codes ++ parts_text classes depth b parts
+  pub text : data_below classes (16 - depth) b
+      ≡ code_bytes codes ++ parts_text classes depth b parts

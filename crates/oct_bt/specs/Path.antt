@@ -1,5 +1,6 @@
 -- The path of the reading: how many records of each depth are still to come.
-use Rattle.std.specs.Prelude.{ℕ, suc, ◌-◌, ◌<◌, List, [], ◌∷◌, ◌++◌, length, replicate, slice_index, slice_set}
+use Rattle.std.specs.Prelude.{ℕ, suc, ◌-◌, ◌<◌, List, [], ◌∷◌, ◌++◌, length, replicate, slice_index}
+use Rattle.std.specs.Prelude.{slice_set}
 
 -- the depths of the records that are to come, the deepest first, where the first of these numbers
 -- counts those of this depth, and each further one those of the next

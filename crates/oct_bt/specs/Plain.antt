@@ -1,6 +1,7 @@
 -- The test for canonical node data: no record but the root's has eight equal leaves, and the root's
 -- doesn't have eight unknown ones.
-use Rattle.std.specs.Prelude.{ℕ, ◌+◌, ◌*◌, Bool, true, false, not, ◌&&◌, ◌||◌, nat_eq, List, [], ◌∷◌}
+use Rattle.std.specs.Prelude.{ℕ, ◌+◌, ◌*◌, Bool, true, false, not, ◌&&◌, ◌||◌, nat_eq, List, []}
+use Rattle.std.specs.Prelude.{◌∷◌}
 
 -- eight equal leaves: unknown, free or occupied ones
 abbrev pub is_plain : ℕ → Bool

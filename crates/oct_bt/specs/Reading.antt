@@ -1,11 +1,16 @@
 -- What a reader holds of a file, of which it keeps neither the lines nor the records' places.
-use Rattle.std.specs.Prelude.{codes, ◌≡◌, ℕ, ◌+◌, Bool, true, false, ◌&&◌, nat_lt, List, [], ◌∷◌, ◌++◌, length, drop, Option, Some, None, Result, Ok, Err, if◌then◌else◌}
+use Rattle.std.specs.Prelude.{codes, ◌≡◌, ℕ, ◌+◌, Bool, true, false, ◌&&◌, nat_lt, List, [], ◌∷◌}
+use Rattle.std.specs.Prelude.{◌++◌, length, drop, Option, Some, None, Result, Ok, Err}
+use Rattle.std.specs.Prelude.{if◌then◌else◌}
 use Rattle.std.specs.List.{slice_split}
 use Rattle.oct_bt.specs.declared.fault.BtFault.{BtFault}
 use Rattle.oct_bt.specs.NodeData.{Progress, after_bytes, after_byte, at_first}
 use Rattle.oct_num.specs.Metres.{metres_of}
 use Rattle.oct_num.specs.Whole.{natural_of}
-use Rattle.oct_bt.specs.Header.{is_octree, resolution_of, Fields, Header, HeaderLine, is_line_feed, lines_of, line_of, is_named, is_data_line, fields_of, judged_fields, mark_fault, unless_marked, no_data_line, data_line, head_of, header_of}
+use Rattle.oct_bt.specs.Header.{is_octree, resolution_of, Fields, Header, HeaderLine, is_line_feed}
+use Rattle.oct_bt.specs.Header.{lines_of, line_of, is_named, is_data_line, fields_of, judged_fields}
+use Rattle.oct_bt.specs.Header.{mark_fault, unless_marked, no_data_line, data_line, head_of}
+use Rattle.oct_bt.specs.Header.{header_of}
 
 -- ---- the head of a file, while no data line has ended
 
@@ -50,11 +55,13 @@ pub data FileProgress : Type 0 where
   Body : Header → Progress → FileProgress
   Spent : FileProgress
 
+-- what a file whose data line has ended comes to, by its header
 abbrev pub body_of : List ℕ → Result Header BtFault → FileProgress
 body_of file (Err fault) = Refused fault
 body_of file (Ok header) =
     Body header (after_bytes header.start header.size (drop header.start file))
 
+-- what a file with this head comes to, by its data line
 abbrev pub progress_at : List ℕ → List ℕ → Option HeaderLine → FileProgress
 progress_at file head None = Heading (heading_of head)
 progress_at file head (Some line) = body_of file (header_of head)
@@ -103,6 +110,7 @@ ended_line head = record {
 abbrev pub closed_head : Head → Result Header BtFault
 closed_head head = unless_marked head.mark (judged_fields (head.total + 1) head.fields)
 
+-- what a file comes to at the end of its data line
 abbrev pub opened : Result Header BtFault → FileProgress
 opened (Err fault) = Refused fault
 opened (Ok header) = Body header (at_first header.size)
@@ -112,23 +120,27 @@ abbrev pub after_take : Option (Result Header BtFault) → Head → FileProgress
 after_take None head = Heading head
 after_take (Some header) head = opened header
 
+-- a head, after a line feed
 abbrev pub after_line_feed : Head → FileProgress
 after_line_feed head =
     if head.begun && is_data_line (line_of head.line 0) then opened (closed_head head)
     else Heading (ended_line head)
 
+-- a head, after a byte; beyond the most that a head has it stays as it is
 abbrev pub after_head_byte : Head → ℕ → FileProgress
 after_head_byte head byte =
     if nat_lt head.total 65536 then
     (if is_line_feed byte then after_line_feed head else Heading (longer_line head byte))
     else Heading head
 
+-- a file, after a byte
 abbrev pub after_file_byte : FileProgress → ℕ → FileProgress
 after_file_byte (Heading head) byte = after_head_byte head byte
 after_file_byte (Refused fault) byte = Refused fault
 after_file_byte (Body header progress) byte = Body header (after_byte header.start progress byte)
 after_file_byte Spent byte = Spent
 
+-- the first fault if there is one, else the other
 abbrev pub fault_or : Option BtFault → BtFault → BtFault
 fault_or (Some fault) other = fault
 fault_or None other = other

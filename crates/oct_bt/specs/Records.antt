@@ -5,14 +5,14 @@ use Rattle.oct_key.specs.Block.{child_index_of}
 use Rattle.oct_odds.specs.declared.event.Class.{Class}
 use Rattle.oct_odds.specs.declared.event.Class.TheVariants.{Unknown, Free, Occupied}
 
--- entries in a row: no more, one that is a class and those after it, or one that is a record, by its
--- own entries, and those after it
+-- entries in a row: no more, one that is a class and those after it, or one that is a record, by
+-- its own entries, and those after it
 pub data Entries : Type 0 where
   End : Entries
   Plain : Class → Entries → Entries
   Record : Entries → Entries → Entries
 
--- so many entries of a block of this depth; a record among them is of a child, which is no voxel,
+-- this many entries of a block of this depth; a record among them is of a child, which is no voxel,
 -- and has eight entries
 abbrev pub AreEntries : ℕ → ℕ → Entries → Type 0
 AreEntries depth zero End = ⊤

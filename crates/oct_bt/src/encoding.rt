@@ -1,8 +1,10 @@
 //! The file of a tree's classes.
-ghost use Rattle.std.specs.Prelude.{◌≡◌, ◌⊎◌, ◌+◌, ◌*◌, ◌<◌, ◌≤◌, ◌↔◌, ◌^◌, IsTrue, OnOk, OnErr, IfOk, IsErrOf, length};
+ghost use Rattle.std.specs.Prelude.{◌≡◌, ◌⊎◌, ◌+◌, ◌*◌, ◌<◌, ◌↔◌, ◌^◌, IsTrue, OnOk, OnErr};
+ghost use Rattle.std.specs.Prelude.{IfOk, length};
 ghost use Rattle.oct_key.specs.Block.{root_block};
+ghost use Rattle.oct_io.specs.Counts.{IsWriteCounted};
 ghost use Rattle.oct_io.specs.Taken.{IsCutOff, IsRefused, IsTaken};
-ghost use Rattle.oct_io.specs.Told.{Rose, appended};
+ghost use Rattle.oct_io.specs.Told.{appended};
 ghost use Rattle.oct_bt.specs.Canonical.{canonical_data, canonical_size};
 ghost use Rattle.oct_bt.specs.File.{header_text, bt_text};
 ghost use Rattle.oct_bt.specs.Mixtures.{classes_in, leaves_text, IsMixtureOf, IsCounted};
@@ -25,7 +27,7 @@ const FIRST_LINES: &str = "# Octomap OcTree binary file\n\
     id OcTree\n\
     size ";
 
-/// The header of a file of so many nodes.
+/// The header of a file of this many nodes.
 pub(crate) fn header_of(nodes: u64, res: Res) -> ArrayString<256>
     ensures { result.bytes ≡ header_text nodes res }
 {
@@ -68,12 +70,8 @@ fn write_leaves<K: Sink>(class: Class, gather: &mut Gather, sink: &mut K) -> Res
         (K.written sink.old) gather.old (K.written sink.new) gather.new) }
     ensures cut { OnErr result
         (IsRefused (leaves_text class) (K.written sink.old) gather.old (K.written sink.new)) }
-    ensures stays { OnOk result
-        ((K.faults sink.new ≡ K.faults sink.old) × (K.shortages sink.new ≡ K.shortages sink.old)) }
-    ensures failed { IsErrOf result SinkFault.Failed → Rose (K.faults sink.old) (K.faults sink.new)
-        × (K.shortages sink.new ≡ K.shortages sink.old) }
-    ensures memory { IsErrOf result SinkFault.Memory → (K.faults sink.new ≡ K.faults sink.old)
-        × Rose (K.shortages sink.old) (K.shortages sink.new) }
+    ensures counts { IsWriteCounted result (K.faults sink.old) (K.faults sink.new)
+        (K.shortages sink.old) (K.shortages sink.new) }
 {
     match class {
         Class::Unknown => Ok(()),
@@ -94,12 +92,8 @@ fn write_data<K: Sink>(
         (K.written sink.old) gather.old (K.written sink.new) gather.new) }
     ensures cut { OnErr result (IsRefused (canonical_data (classes_in tree.now))
         (K.written sink.old) gather.old (K.written sink.new)) }
-    ensures stays { OnOk result
-        ((K.faults sink.new ≡ K.faults sink.old) × (K.shortages sink.new ≡ K.shortages sink.old)) }
-    ensures failed { IsErrOf result SinkFault.Failed → Rose (K.faults sink.old) (K.faults sink.new)
-        × (K.shortages sink.new ≡ K.shortages sink.old) }
-    ensures memory { IsErrOf result SinkFault.Memory → (K.faults sink.new ≡ K.faults sink.old)
-        × Rose (K.shortages sink.old) (K.shortages sink.new) }
+    ensures counts { IsWriteCounted result (K.faults sink.old) (K.faults sink.new)
+        (K.shortages sink.old) (K.shortages sink.new) }
 {
     match mixture {
         Mixture::Pure(class) => write_leaves(class, gather, sink),
@@ -150,8 +144,8 @@ pub fn encoded_len(tree: &OccTree) -> u64
 /// that the file depends on the classes of the voxels alone.
 ///
 /// Takes no memory, looks at each node a few times, however deep the tree is, and hands the sink
-/// pieces of 4,096 bytes. After an error a part of the file was written, and exactly one write of the
-/// sink gave up, for that reason.
+/// pieces of 4,096 bytes. After an error a part of the file was written, and exactly one write of
+/// the sink gave up, for that reason.
 pub fn write<K: Sink>(tree: &OccTree, sink: &mut K) -> Result<u64, SinkFault>
     ensures length { IfOk result
         (λ bytes. bytes ≡ length (bt_text tree.now.res (classes_in tree.now))) }
@@ -159,12 +153,8 @@ pub fn write<K: Sink>(tree: &OccTree, sink: &mut K) -> Result<u64, SinkFault>
         ≡ appended (K.written sink.old) (bt_text tree.now.res (classes_in tree.now))) }
     ensures cut { OnErr result (IsCutOff (K.written sink.old) (K.written sink.new)
         (bt_text tree.now.res (classes_in tree.now))) }
-    ensures stays { OnOk result
-        ((K.faults sink.new ≡ K.faults sink.old) × (K.shortages sink.new ≡ K.shortages sink.old)) }
-    ensures failed { IsErrOf result SinkFault.Failed → Rose (K.faults sink.old) (K.faults sink.new)
-        × (K.shortages sink.new ≡ K.shortages sink.old) }
-    ensures memory { IsErrOf result SinkFault.Memory → (K.faults sink.new ≡ K.faults sink.old)
-        × Rose (K.shortages sink.old) (K.shortages sink.new) }
+    ensures counts { IsWriteCounted result (K.faults sink.old) (K.faults sink.new)
+        (K.shortages sink.old) (K.shortages sink.new) }
 {
     let plan = plan_file(tree);
     let mut gather = Gather::new();

@@ -9,7 +9,8 @@ ghost use Rattle.oct_tree.specs.Shape.{IsFresh, IsPruned};
 ghost use Rattle.oct_values.specs.Classes.{Classes};
 ghost use Rattle.oct_bt.specs.Classes.{value_for};
 ghost use Rattle.oct_bt.specs.NodeData.{IsDataOf};
-ghost use Rattle.oct_bt.specs.Records.{Entries, IsRecord, class_code, class_by, flat, record_count, record_total};
+ghost use Rattle.oct_bt.specs.Records.{Entries, IsRecord, class_code, class_by, flat, record_count};
+ghost use Rattle.oct_bt.specs.Records.{record_total};
 ghost use Rattle.oct_bt.specs.Filled.{IsFilled};
 
 use crate::bt_file::BtFile;
@@ -20,8 +21,8 @@ use oct_tree::{OccTree, Place};
 /// Fills the tree of the unknown world with the classes of a file: free voxels get the lower bound,
 /// occupied ones the upper bound.
 ///
-/// The tree has room for a group for each record. It comes out fresh and pruned, and what it doesn't
-/// need of the room stays.
+/// The tree has room for a group for each record. It comes out fresh and pruned, and what it
+/// doesn't need of the room stays.
 pub fn fill(file: &BtFile, tree: &mut OccTree)
     requires unknown { tree.old.root ≡ Node.Absent }
     requires room { record_total file.now.codes ≤ spare tree.old.groups }

@@ -1,8 +1,11 @@
 //! The head of a file, line by line.
-ghost use Rattle.std.specs.Prelude.{◌≡◌, ◌∷◌, [], ◌<◌, ◌≤◌, Bool, not, nat_lt, ◌&&◌, if◌then◌else◌, true, false, OnOk, OnErr, IfOk, IfSome};
+ghost use Rattle.std.specs.Prelude.{◌≡◌, ◌∷◌, [], ◌<◌, ◌≤◌, Bool, not, nat_lt, ◌&&◌, if◌then◌else◌};
+ghost use Rattle.std.specs.Prelude.{true, false, OnOk, OnErr, IfOk, IfSome};
 ghost use Rattle.oct_num.specs.Metres.{metres_of};
-ghost use Rattle.oct_bt.specs.Header.{resolution_of, mark_fault, is_data_line, line_of, judged_fields, no_data_line};
-ghost use Rattle.oct_bt.specs.Reading.{Head, heading_of, longer_line, ended_line, closed_head, head_fault, with_line, after_head_byte, after_take};
+ghost use Rattle.oct_bt.specs.Header.{resolution_of, mark_fault, is_data_line, line_of};
+ghost use Rattle.oct_bt.specs.Header.{judged_fields, no_data_line};
+ghost use Rattle.oct_bt.specs.Reading.{Head, heading_of, longer_line, ended_line, closed_head};
+ghost use Rattle.oct_bt.specs.Reading.{head_fault, with_line, after_head_byte, after_take};
 
 use crate::fault::{BtFault, HeaderWord};
 use crate::words::{split_word, trimmed};
@@ -11,7 +14,7 @@ use oct_num::{Memory, read_metres, read_natural};
 use std::alloc::Global;
 use std::marker::Model;
 
-/// Only so many first bytes of a file are looked at for its header.
+/// Only the first n bytes of a file are looked at for its header.
 const MOST_HEADER_BYTES: u64 = 65_536;
 
 /// What a header says.

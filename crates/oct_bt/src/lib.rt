@@ -15,7 +15,8 @@
 //!   records; a record is read once, and its group closed once.
 //! - [`write`] writes the canonical file of a tree's classes to a sink, in pieces of 4,096 bytes,
 //!   and answers its length, which [`encoded_len`] tells beforehand. What it writes depends on the
-//!   classes of the voxels alone (`bt_text` in `specs/File.antt`), also on trees that aren't pruned.
+//!   classes of the voxels alone (`bt_text` in `specs/File.antt`), also on trees that aren't
+//!   pruned.
 //! - [`rewrite`] writes a file that was read with its records as they are. Where they are canonical
 //!   that is the canonical file, with no tree made.
 //! - Laws say what node data is worth: a block is coded as a class exactly where all its voxels
@@ -34,7 +35,7 @@
 //! come (`NodeData`). What a reader holds of a file is `file_progress` (`Reading`), and `StandsFor`
 //! says that it was fed exactly that text.
 //!
-//! `feed` and `push_fault` alone can fail for want of memory; `fill` takes room that was made
+//! `feed` and `push_fault` alone can fail because memory ran out; `fill` takes room that was made
 //! before, and `write` takes none.
 #![tactic(auto)]
 

@@ -44,7 +44,7 @@ pub(crate) fn is_same(a: Class, b: Class) -> bool
     a == b
 }
 
-/// What the voxels of the place's block are, which has this depth. Looks at no node behind the
+/// What the voxels of the place's block are, which has this depth. Looks at no node after the
 /// first voxel of another class.
 pub(crate) fn mixture_at(tree: &OccTree, p: Place, depth: u8) -> Mixture
     requires place { IsPlace tree.now p }

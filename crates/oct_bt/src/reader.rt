@@ -1,5 +1,6 @@
 //! The reading of a file in pieces.
-ghost use Rattle.std.specs.Prelude.{◌≡◌, ◌++◌, [], List, ℕ, OnOk, OnErr, IsErr, Err, IfOk, ◌≤◌, ◌↔◌, IsTrue};
+ghost use Rattle.std.specs.Prelude.{◌≡◌, ◌++◌, [], List, ℕ, OnOk, OnErr, IsErr, Err, IfOk, ◌≤◌};
+ghost use Rattle.std.specs.Prelude.{◌↔◌, IsTrue};
 ghost use Rattle.oct_bt.specs.File.{reading, file_with};
 ghost use Rattle.oct_bt.specs.NodeData.{HasRead, read_nodes};
 ghost use Rattle.oct_bt.specs.Reading.{FileProgress, Spent, StandsFor, after_file_byte, opened};

@@ -1,7 +1,8 @@
 //! A file that was read, written again.
-ghost use Rattle.std.specs.Prelude.{◌≡◌, OnOk, OnErr, IsErrOf};
+ghost use Rattle.std.specs.Prelude.{◌≡◌, OnOk, OnErr};
+ghost use Rattle.oct_io.specs.Counts.{IsWriteCounted};
 ghost use Rattle.oct_io.specs.Taken.{IsBegun};
-ghost use Rattle.oct_io.specs.Told.{Rose, appended};
+ghost use Rattle.oct_io.specs.Told.{appended};
 ghost use Rattle.oct_bt.specs.File.{file_text};
 
 use crate::bt_file::BtFile;
@@ -18,12 +19,8 @@ pub fn rewrite<K: Sink>(file: &BtFile, sink: &mut K) -> Result<(), SinkFault>
         (K.written sink.new ≡ appended (K.written sink.old) (file_text file.now)) }
     ensures begun { OnErr result
         (IsBegun (file_text file.now) (K.written sink.old) (K.written sink.new)) }
-    ensures stays { OnOk result
-        ((K.faults sink.new ≡ K.faults sink.old) × (K.shortages sink.new ≡ K.shortages sink.old)) }
-    ensures failed { IsErrOf result SinkFault.Failed → Rose (K.faults sink.old) (K.faults sink.new)
-        × (K.shortages sink.new ≡ K.shortages sink.old) }
-    ensures memory { IsErrOf result SinkFault.Memory → (K.faults sink.new ≡ K.faults sink.old)
-        × Rose (K.shortages sink.old) (K.shortages sink.new) }
+    ensures counts { IsWriteCounted result (K.faults sink.old) (K.faults sink.new)
+        (K.shortages sink.old) (K.shortages sink.new) }
 {
     let header = header_of(file.nodes(), file.res());
     let mut gather = Gather::new();

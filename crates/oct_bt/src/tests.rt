@@ -105,7 +105,8 @@ fn reads_eight_voxels_in_canonical_and_in_longer_data(rt: HostRuntime) {
     expect_read(&rt, rt.alloc(), (header, EIGHT_VOXELS), 100, want);
 }
 
-/// The fault of a file whose first line is followed by so many pairs of bytes, and by no other line.
+/// The fault of a file whose first line is followed by this many pairs of bytes, and by no other
+/// line.
 fn fault_behind(alloc: Global, pairs: u32) -> Option<BtFault> {
     let mut reader = Reader::new(alloc);
     if let Err(fault) = reader.feed(b"# Octomap OcTree binary file\n") {
@@ -195,7 +196,7 @@ fn names_the_first_fault_of_a_header(rt: HostRuntime) {
     }
 }
 
-/// Node data behind the header of 60 bytes, and its first faults.
+/// Node data after the header of 60 bytes, and its first faults.
 const DATA_FAULTS: [(&[u8], BtFault); 5] = [
     (TOO_DEEP, BtFault::TooDeep { at: 90 }),
     (b"", BtFault::Truncated { at: 60 }),
@@ -336,7 +337,7 @@ const NUMBERS: [(BtFault, &str); 12] = [
     ),
 ];
 
-/// Expects that a fault is written so behind what stood there.
+/// Expects that a fault is written so after what stood there.
 fn expect_number(rt: &impl Abort, alloc: Global, fault: BtFault, want: &str) -> Result<(), Fail> {
     let mut out = Vec::from_slice(alloc, b"refused ")?;
     push_fault(&mut out, fault)?;
@@ -381,8 +382,8 @@ fn one_voxel(rt: &impl Abort, alloc: Global) -> Result<OccTree, Fail> {
     Ok(tree)
 }
 
-/// Expects that a write of the file of a tree is answered so, and that the sink then has these bytes
-/// behind a header of 137.
+/// Expects that a write of the file of a tree is answered so, and that the sink then has these
+/// bytes after a header of 137.
 fn expect_written(
     rt: &impl Abort,
     sink: &mut MemSink,

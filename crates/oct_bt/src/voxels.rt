@@ -1,7 +1,8 @@
 //! How many voxels of each class the records of a file give the map.
-ghost use Rattle.std.specs.Prelude.{◌≡◌, ◌≢◌, ◌+◌, ◌≤◌, ◌<◌, ◌++◌, List, ℕ};
+ghost use Rattle.std.specs.Prelude.{◌≡◌, ◌+◌, ◌≤◌, ◌<◌, ◌++◌, List, ℕ};
 ghost use Rattle.oct_odds.specs.declared.event.Class.{Class};
-ghost use Rattle.oct_odds.specs.declared.event.Class.TheVariants.{Free as free, Occupied as occupied};
+ghost use Rattle.oct_odds.specs.declared.event.Class.TheVariants.{Free as free};
+ghost use Rattle.oct_odds.specs.declared.event.Class.TheVariants.{Occupied as occupied};
 ghost use Rattle.oct_bt.specs.Records.{Entries, IsRecord, class_code, flat};
 ghost use Rattle.oct_bt.specs.Voxels.{IsRecordCount, leaf_voxels};
 

@@ -1,9 +1,9 @@
 //! The writing of a tree's classes, record by record.
-ghost use Rattle.std.specs.Prelude.{◌≡◌, ◌+◌, ◌-◌, ◌<◌, ◌≤◌, [], Some, None, OnOk, OnErr, IsErrOf};
+ghost use Rattle.std.specs.Prelude.{◌≡◌, ◌+◌, ◌-◌, ◌<◌, ◌≤◌, [], Some, OnOk, OnErr};
 ghost use Rattle.oct_key.specs.Block.{Cube, child_of};
 ghost use Rattle.oct_odds.specs.declared.event.Class.{Class};
+ghost use Rattle.oct_io.specs.Counts.{IsWriteCounted};
 ghost use Rattle.oct_io.specs.Taken.{IsRefused, IsTaken};
-ghost use Rattle.oct_io.specs.Told.{Rose};
 ghost use Rattle.oct_arena.specs.Nodes.{link_of};
 ghost use Rattle.oct_tree.specs.Tree.{IsLinked, IsPlace, block_in, node_in};
 ghost use Rattle.oct_bt.specs.Records.{code_bytes};
@@ -54,7 +54,7 @@ fn code_of(mixture: Mixture) -> u8
 }
 
 /// The mixture of a child of an Inner place's block, which has this depth, and of which this way
-/// leads to the first voxel that isn't of the class. Only a child that begins there or behind it is
+/// leads to the first voxel that isn't of the class. Only a child that begins there or after it is
 /// looked at.
 #[inline(always)]
 fn child_mixture(
@@ -138,12 +138,8 @@ pub(crate) fn write_record<K: Sink>(
         (K.written sink.old) gather.old (K.written sink.new) gather.new) }
     ensures cut { OnErr result
         (IsRefused (code_bytes codes) (K.written sink.old) gather.old (K.written sink.new)) }
-    ensures stays { OnOk result
-        ((K.faults sink.new ≡ K.faults sink.old) × (K.shortages sink.new ≡ K.shortages sink.old)) }
-    ensures failed { IsErrOf result SinkFault.Failed → Rose (K.faults sink.old) (K.faults sink.new)
-        × (K.shortages sink.new ≡ K.shortages sink.old) }
-    ensures memory { IsErrOf result SinkFault.Memory → (K.faults sink.new ≡ K.faults sink.old)
-        × Rose (K.shortages sink.old) (K.shortages sink.new) }
+    ensures counts { IsWriteCounted result (K.faults sink.old) (K.faults sink.new)
+        (K.shortages sink.old) (K.shortages sink.new) }
 {
     gather.push(sink, &[(codes % 256) as u8, (codes / 256) as u8])
 }
@@ -170,12 +166,8 @@ pub(crate) fn write_block<K: Sink>(
     ensures cut { OnErr result ((b : Cube) → block_in tree.now p ≡ Some b
         → IsRefused (data_below (classes_in tree.now) (16 - depth) b)
         (K.written sink.old) gather.old (K.written sink.new)) }
-    ensures stays { OnOk result
-        ((K.faults sink.new ≡ K.faults sink.old) × (K.shortages sink.new ≡ K.shortages sink.old)) }
-    ensures failed { IsErrOf result SinkFault.Failed → Rose (K.faults sink.old) (K.faults sink.new)
-        × (K.shortages sink.new ≡ K.shortages sink.old) }
-    ensures memory { IsErrOf result SinkFault.Memory → (K.faults sink.new ≡ K.faults sink.old)
-        × Rose (K.shortages sink.old) (K.shortages sink.new) }
+    ensures counts { IsWriteCounted result (K.faults sink.old) (K.faults sink.new)
+        (K.shortages sink.old) (K.shortages sink.new) }
     ensures linked { IsLinked tree.now }
 {
     let Node::Inner(_, id) = tree.node(p) else {

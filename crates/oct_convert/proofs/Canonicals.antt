@@ -1,5 +1,6 @@
 -- The canonical text of a tree that was filled from a file.
-use Rattle.std.proofs.Common.{◌≡◌, ℕ, ℤ, pos, true, List, [], ◌++◌, Option, Result, Ok, Err, OnOk, OnErr, refl, ◌∙◌, ap, subst, arith}
+use Rattle.std.proofs.Common.{◌≡◌, ℕ, ℤ, pos, true, List, [], ◌++◌, Option, Result, Ok, Err, OnOk}
+use Rattle.std.proofs.Common.{OnErr, refl, ◌∙◌, ap, subst, arith}
 use mir.Val.{SFits, to_z, of_z}
 use mir.Syntax.{w64}
 use Rattle.std.proofs.lemmas.Int.{ints, to_z-of_z}
@@ -34,24 +35,34 @@ class_kept Free = refl
 class_kept Occupied = refl
 
 -- files of one node data and one resolution are one text
-same_text : (res : ℕ) (c e : Classes) → canonical_data c ≡ canonical_data e → bt_text res c ≡ bt_text res e
+same_text : (res : ℕ) (c e : Classes) → canonical_data c ≡ canonical_data e
+    → bt_text res c ≡ bt_text res e
 unfolding bt_text canonical_size
 same_text res c e same = ap (λ (data' : List ℕ). header_text (node_total data') res ++ data') same
 
 -- a tree that was filled has the classes of the file
-pub filled_classes : (s t u : Tree) (file : FileRead) → s.odds ≡ default_odds → IsGrown s t → IsAccepted file.nodes file.codes
-    → ((classes : Classes) → IsDataOf classes file.codes → (k : Voxel) → IsInMap k → value_at u k ≡ value_for t.odds (classes k))
-    → u.odds ≡ t.odds → (k : Voxel) → IsInMap k → classes_of u.odds (value_at u) k ≡ data_classes file.codes k
+pub filled_classes : (s t u : Tree) (file : FileRead) → s.odds ≡ default_odds → IsGrown s t
+    → IsAccepted file.nodes file.codes
+    → ((classes : Classes) → IsDataOf classes file.codes → (k : Voxel) → IsInMap k
+    → value_at u k ≡ value_for t.odds (classes k))
+    → u.odds ≡ t.odds → (k : Voxel) → IsInMap k → classes_of u.odds (value_at u) k
+    ≡ data_classes file.codes k
 filled_classes s t u file odds grown accepted values kept_odds k in_map =
-    ap (class_of u.odds) (values (data_classes file.codes) (data_classed file.nodes file.codes accepted) k in_map)
-    ∙ ap (λ (o : Odds). class_of o (value_for t.odds (data_classes file.codes k))) (kept_odds ∙ grown.odds ∙ odds)
-    ∙ ap (λ (o : Odds). class_of default_odds (value_for o (data_classes file.codes k))) (grown.odds ∙ odds)
+    ap (class_of u.odds)
+    (values (data_classes file.codes) (data_classed file.nodes file.codes accepted) k in_map)
+    ∙ ap (λ (o : Odds). class_of o (value_for t.odds (data_classes file.codes k)))
+    (kept_odds ∙ grown.odds ∙ odds)
+    ∙ ap (λ (o : Odds). class_of default_odds (value_for o (data_classes file.codes k)))
+    (grown.odds ∙ odds)
     ∙ class_kept (data_classes file.codes k)
 
 -- the text of a tree that was filled is that of the file
-pub filled_text : (s t u : Tree) (file : FileRead) → s.res ≡ file.res → s.odds ≡ default_odds → IsGrown s t → IsAccepted file.nodes file.codes
-    → ((classes : Classes) → IsDataOf classes file.codes → (k : Voxel) → IsInMap k → value_at u k ≡ value_for t.odds (classes k))
-    → u.res ≡ t.res → u.odds ≡ t.odds → bt_text u.res (classes_of u.odds (value_at u)) ≡ canonical_text file
+pub filled_text : (s t u : Tree) (file : FileRead) → s.res ≡ file.res → s.odds ≡ default_odds
+    → IsGrown s t → IsAccepted file.nodes file.codes
+    → ((classes : Classes) → IsDataOf classes file.codes → (k : Voxel) → IsInMap k
+    → value_at u k ≡ value_for t.odds (classes k))
+    → u.res ≡ t.res → u.odds ≡ t.odds → bt_text u.res (classes_of u.odds (value_at u))
+    ≡ canonical_text file
 filled_text s t u file res odds grown accepted values kept_res kept_odds =
     ap (λ (r : ℕ). bt_text r (classes_of u.odds (value_at u))) (kept_res ∙ grown.res ∙ res)
     ∙ same_text file.res (classes_of u.odds (value_at u)) (data_classes file.codes)
@@ -59,22 +70,31 @@ filled_text s t u file res odds grown accepted values kept_res kept_odds =
     (filled_classes s t u file odds grown accepted values kept_odds))
 
 -- a file whose node data is canonical, written again, is the canonical one
-again : (file : FileRead) → IsAccepted file.nodes file.codes → is_canonical_data file.codes ≡ true → file_text file ≡ canonical_text file
+again : (file : FileRead) → IsAccepted file.nodes file.codes → is_canonical_data file.codes ≡ true
+    → file_text file ≡ canonical_text file
 again file accepted test = canonical_again file (data_classes file.codes) accepted
-    ((canonical_data_exactly (data_classes file.codes) file.codes (data_classed file.nodes file.codes accepted)).0 test)
+    ((canonical_data_exactly (data_classes file.codes) file.codes
+    (data_classed file.nodes file.codes accepted)).0 test)
 
 -- six lines, one after another
-pub six_lines : (z a b c d e f k l m n o p q r s t u v : List ℕ) → z ≡ [] → a ≡ z ++ k → b ≡ a ++ l → c ≡ b ++ m → d ≡ c ++ n → e ≡ d ++ o → f ≡ e ++ p
+pub six_lines : (z a b c d e f k l m n o p q r s t u v : List ℕ) → z ≡ [] → a ≡ z ++ k → b ≡ a ++ l
+    → c ≡ b ++ m → d ≡ c ++ n → e ≡ d ++ o → f ≡ e ++ p
     → k ≡ q → l ≡ r → m ≡ s → n ≡ t → o ≡ u → p ≡ v → f ≡ q ++ r ++ s ++ t ++ u ++ v
-six_lines z a b c d e f k l m n o p q r s t u v ez ea eb ec ed ee ef ek el em en eo ep = rw (ef, ee, ed, ec, eb, ea, ez, ek, el, em, en, eo, ep) refl
+six_lines z a b c d e f k l m n o p q r s t u v ez ea eb ec ed ee ef ek el em en eo ep =
+    rw (ef, ee, ed, ec, eb, ea, ez, ek, el, em, en, eo, ep) refl
 
 -- a resolution as the code passes it on
 pub passed_on : (n : ℤ) (res : ℕ) → n ≡ pos res → IsResolution res → to_z w64 (of_z w64 n) ≡ pos res
-passed_on n res is range = ap (λ (n : ℤ). to_z w64 (of_z w64 n)) is ∙ (let fits : SFits w64 (pos res) = omega (arith, ints, range) in to_z-of_z w64 (pos res) fits)
+passed_on n res is range = ap (λ (n : ℤ). to_z w64 (of_z w64 n)) is
+    ∙ (let fits : SFits w64 (pos res) = omega (arith, ints, range) in to_z-of_z w64 (pos res) fits)
 
 -- a canonical file that was written again, or a prefix of it
-pub sends_again : {T : Type 0} (r : Result T SinkFault) (file : FileRead) (old new : Option (List ℕ)) → IsAccepted file.nodes file.codes
-    → is_canonical_data file.codes ≡ true → OnOk r (new ≡ appended old (file_text file)) → OnErr r (IsBegun (file_text file) old new)
+pub sends_again : {T : Type 0} (r : Result T SinkFault) (file : FileRead)
+    (old new : Option (List ℕ)) → IsAccepted file.nodes file.codes
+    → is_canonical_data file.codes ≡ true → OnOk r (new ≡ appended old (file_text file))
+    → OnErr r (IsBegun (file_text file) old new)
     → Sends (canonical_text file) old new r
-sends_again (Ok t) file old new accepted test done begun = done ∙ ap (appended old) (again file accepted test)
-sends_again (Err fault) file old new accepted test done begun = subst (λ l. IsBegun l old new) (again file accepted test) begun
+sends_again (Ok t) file old new accepted test done begun =
+    done ∙ ap (appended old) (again file accepted test)
+sends_again (Err fault) file old new accepted test done begun =
+    subst (λ l. IsBegun l old new) (again file accepted test) begun

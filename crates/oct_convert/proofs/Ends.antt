@@ -1,6 +1,8 @@
 -- How a task ends, by what was read and what was written.
 use Rattle.std.specs.Prelude.{◌⊎◌}
-use Rattle.std.proofs.Common.{◌≡◌, ℕ, ◌+◌, ◌<◌, ◌≤◌, List, [], length, take, drop, Option, Some, None, IfSome, Result, Ok, Err, OnOk, OnErr, IsErr, inl, inr, refl, sym, ◌∙◌, ap, subst, arith}
+use Rattle.std.proofs.Common.{◌≡◌, ℕ, ◌+◌, ◌<◌, ◌≤◌, List, [], length, take, drop, Option, Some}
+use Rattle.std.proofs.Common.{None, IfSome, Result, Ok, Err, OnOk, OnErr, IsErr, inl, inr, refl}
+use Rattle.std.proofs.Common.{sym, ◌∙◌, ap, subst, arith}
 use Rattle.std.proofs.lemmas.Bool.{lt-ltb, le-ltb, false≢true}
 use Rattle.std.proofs.lemmas.List.{take-append-drop}
 use Rattle.oct_io.specs.declared.sink.SinkFault.{SinkFault}
@@ -19,7 +21,8 @@ use Rattle.oct_convert.specs.Ending.{MayEnd, Sends, ending_of}
 use Rattle.oct_convert.specs.Input.{MayRead, IsReadToEnd}
 
 -- the answer to an input that isn't too long
-answer_short : (text : FileRead → List ℕ) (most : ℕ) (bytes : List ℕ) → length bytes ≤ most → task_answer text most bytes ≡ answer_to text (reading bytes)
+answer_short : (text : FileRead → List ℕ) (most : ℕ) (bytes : List ℕ) → length bytes ≤ most
+    → task_answer text most bytes ≡ answer_to text (reading bytes)
 unfolding task_answer
 answer_short text most bytes few = rw (le-ltb most (length bytes) few) refl
 
@@ -29,23 +32,45 @@ unfolding task_answer
 answer_long text most bytes more = rw (lt-ltb most (length bytes) more) refl
 
 -- a text that was written, or not whole, where the whole answer is that text and this ending
-sent : {T : Type 0} (r : Result T SinkFault) (whole : Answer) (text : List ℕ) (end : Ending) (most : ℕ) (bytes : List ℕ) (left old new : Option (List ℕ))
-    → whole ≡ record { text = text; ending = end } → (end ≡ ending.Done) ⊎ (end ≡ ending.BadFile) → IsReadToEnd most bytes left → Sends text old new r
+sent : {T : Type 0} (r : Result T SinkFault) (whole : Answer) (text : List ℕ) (end : Ending)
+    (most : ℕ) (bytes : List ℕ) (left old new : Option (List ℕ))
+    → whole ≡ record { text = text; ending = end } → (end ≡ ending.Done) ⊎ (end ≡ ending.BadFile)
+    → IsReadToEnd most bytes left → Sends text old new r
     → MayEnd whole most bytes left old new (ending_of end r)
 sent (Ok t) whole text end most bytes left old new is (inl done) to_end sends =
-    subst (MayEnd whole most bytes left old new) (sym done)
-    (record { written = sends ∙ ap (λ (a : Answer). appended old a.text) (sym is); same = ap (λ (a : Answer). a.ending) is ∙ done }, to_end)
+    subst (MayEnd whole most bytes left old new) (sym done) (
+      record {
+        written = sends ∙ ap (λ (a : Answer). appended old a.text) (sym is);
+        same =
+            ap (λ (a : Answer). a.ending) is ∙ done;
+      },
+      to_end,
+    )
 sent (Ok t) whole text end most bytes left old new is (inr bad) to_end sends =
-    subst (MayEnd whole most bytes left old new) (sym bad)
-    (record { written = sends ∙ ap (λ (a : Answer). appended old a.text) (sym is); same = ap (λ (a : Answer). a.ending) is ∙ bad }, to_end)
+    subst (MayEnd whole most bytes left old new) (sym bad) (
+      record {
+        written = sends ∙ ap (λ (a : Answer). appended old a.text) (sym is);
+        same =
+            ap (λ (a : Answer). a.ending) is ∙ bad;
+      },
+      to_end,
+    )
 sent (Err sink.Failed) whole text end most bytes left old new is which to_end sends =
-    record { begun = subst (λ x. IsBegun x old new) (ap (λ (a : Answer). a.text) (sym is)) sends; input = to_end }
+    record {
+      begun = subst (λ x. IsBegun x old new) (ap (λ (a : Answer). a.text) (sym is)) sends;
+      input = to_end;
+    }
 sent (Err sink.Memory) whole text end most bytes left old new is which to_end sends =
-    inr (record { begun = subst (λ x. IsBegun x old new) (ap (λ (a : Answer). a.text) (sym is)) sends; input = to_end })
+    inr (record {
+      begun = subst (λ x. IsBegun x old new) (ap (λ (a : Answer). a.text) (sym is)) sends;
+      input = to_end;
+    })
 
 -- a task that read a file
-pub file_ends : {T : Type 0} (r : Result T SinkFault) (text : FileRead → List ℕ) (file : FileRead) (most : ℕ) (first left old new : Option (List ℕ)) (end : Ending)
-    → end ≡ ending_of ending.Done r → IfSome first (λ bytes. MayRead most bytes left (Ok file)) → Sends (text file) old new r
+pub file_ends : {T : Type 0} (r : Result T SinkFault) (text : FileRead → List ℕ) (file : FileRead)
+    (most : ℕ) (first left old new : Option (List ℕ)) (end : Ending)
+    → end ≡ ending_of ending.Done r → IfSome first (λ bytes. MayRead most bytes left (Ok file))
+    → Sends (text file) old new r
     → IfSome first (λ bytes. MayEnd (task_answer text most bytes) most bytes left old new end)
 file_ends r text file most None left old new end ends read sends = tt
 file_ends r text file most (Some bytes) left old new end ends (is, to_end) sends =
@@ -54,28 +79,46 @@ file_ends r text file most (Some bytes) left old new end ends (is, to_end) sends
     (answer_short text most bytes to_end.few ∙ ap (answer_to text) is) (inl refl) to_end sends)
 
 -- a task whose input isn't a file
-pub fault_ends : {T : Type 0} (r : Result T SinkFault) (text : FileRead → List ℕ) (reason : NoFile) (fault : BtFault) (most : ℕ) (bytes : List ℕ)
-    (left old new : Option (List ℕ)) (end : Ending) → reason ≡ BadFile fault → end ≡ ending_of ending.BadFile r → MayRead most bytes left (Err reason)
-    → Sends (refusal_line fault) old new r → MayEnd (task_answer text most bytes) most bytes left old new end
+pub fault_ends : {T : Type 0} (r : Result T SinkFault) (text : FileRead → List ℕ) (reason : NoFile)
+    (fault : BtFault) (most : ℕ) (bytes : List ℕ)
+    (left old new : Option (List ℕ)) (end : Ending) → reason ≡ BadFile fault
+    → end ≡ ending_of ending.BadFile r → MayRead most bytes left (Err reason)
+    → Sends (refusal_line fault) old new r
+    → MayEnd (task_answer text most bytes) most bytes left old new end
 fault_ends r text reason fault most bytes left old new end is ends read sends =
-    let (faulty, to_end) : MayRead most bytes left (Err (BadFile fault)) = subst (λ reason. MayRead most bytes left (Err reason)) is read in
+    let (faulty, to_end) : MayRead most bytes left (Err (BadFile fault)) =
+    subst (λ reason. MayRead most bytes left (Err reason)) is read in
     subst (MayEnd (task_answer text most bytes) most bytes left old new) (sym ends)
-    (sent r (task_answer text most bytes) (refusal_line fault) ending.BadFile most bytes left old new
+    (sent r (task_answer text most bytes)
+    (refusal_line fault) ending.BadFile most bytes left old new
     (answer_short text most bytes to_end.few ∙ ap (answer_to text) faulty) (inr refl) to_end sends)
 
 -- a task whose input is too long
-pub long_ends : (text : FileRead → List ℕ) (reason : NoFile) (most : ℕ) (bytes : List ℕ) (left old : Option (List ℕ)) → reason ≡ TooLong
-    → MayRead most bytes left (Err reason) → MayEnd (task_answer text most bytes) most bytes left old old ending.TooLong
+pub long_ends : (text : FileRead → List ℕ) (reason : NoFile) (most : ℕ) (bytes : List ℕ)
+    (left old : Option (List ℕ)) → reason ≡ TooLong
+    → MayRead most bytes left (Err reason)
+    → MayEnd (task_answer text most bytes) most bytes left old old ending.TooLong
 long_ends text reason most bytes left old reason_is read =
-    let taken : HasTaken (most + 1) bytes left = subst (λ reason. MayRead most bytes left (Err reason)) reason_is read in
+    let taken : HasTaken (most + 1) bytes left =
+    subst (λ reason. MayRead most bytes left (Err reason)) reason_is read in
     let within = taken.within in
-    let is = answer_long text most bytes (omega (arith, within)) in
-    (record { written = appended_nil old ∙ ap (λ (a : Answer). appended old a.text) (sym is); same = ap (λ (a : Answer). a.ending) is }, refl, taken)
+    let is = answer_long text most bytes (omega (arith, within)) in (
+      record {
+        written = appended_nil old ∙ ap (λ (a : Answer). appended old a.text) (sym is);
+        same =
+            ap (λ (a : Answer). a.ending) is;
+      },
+      refl,
+      taken,
+    )
 
 -- what a task answers to a reason for which there is no file
-pub reason_ends : (first left old new : Option (List ℕ)) (reason : NoFile) (text : FileRead → List ℕ) (most : ℕ) (end : Ending)
-    → ((bytes : List ℕ) → MayRead most bytes left (Err reason) → MayEnd (task_answer text most bytes) most bytes left old new end)
-    → IfSome first (λ bytes. MayRead most bytes left (Err reason)) → IfSome first (λ bytes. MayEnd (task_answer text most bytes) most bytes left old new end)
+pub reason_ends : (first left old new : Option (List ℕ)) (reason : NoFile)
+    (text : FileRead → List ℕ) (most : ℕ) (end : Ending)
+    → ((bytes : List ℕ) → MayRead most bytes left (Err reason)
+    → MayEnd (task_answer text most bytes) most bytes left old new end)
+    → IfSome first (λ bytes. MayRead most bytes left (Err reason))
+    → IfSome first (λ bytes. MayEnd (task_answer text most bytes) most bytes left old new end)
 reason_ends None left old new reason text most end by read = tt
 reason_ends (Some bytes) left old new reason text most end by read = by bytes read
 
@@ -83,20 +126,37 @@ reason_ends (Some bytes) left old new reason text most end by read = by bytes re
 
 -- nothing of a text is a prefix of it
 pub begun_none : (text : List ℕ) (old new : Option (List ℕ)) → new ≡ old → IsBegun text old new
-begun_none text old new same = record { done = []; rest = text; written = same ∙ appended_nil old; split = refl }
+begun_none text old new same = record {
+  done = [];
+  rest = text;
+  written = same ∙ appended_nil old;
+  split = refl;
+}
 
 -- and so are the first of its bytes
-pub begun_first : (text : List ℕ) (n : ℕ) (old new : Option (List ℕ)) → new ≡ appended old (take n text) → IsBegun text old new
-begun_first text n old new written = record { done = take n text; rest = drop n text; written = written; split = sym (take-append-drop n text) }
+pub begun_first : (text : List ℕ) (n : ℕ) (old new : Option (List ℕ))
+    → new ≡ appended old (take n text) → IsBegun text old new
+begun_first text n old new written = record {
+  done = take n text;
+  rest = drop n text;
+  written = written;
+  split = sym (take-append-drop n text);
+}
 
 -- a whole piece that was written, or its first bytes
-pub sends_piece : {T : Type 0} (r : Result T SinkFault) (text piece : List ℕ) (old new : Option (List ℕ)) → piece ≡ text
-    → OnOk r (new ≡ appended old piece) → OnErr r ((n : ℕ) × (n < length piece) × (new ≡ appended old (take n piece))) → Sends text old new r
+pub sends_piece : {T : Type 0} (r : Result T SinkFault) (text piece : List ℕ)
+    (old new : Option (List ℕ)) → piece ≡ text
+    → OnOk r (new ≡ appended old piece)
+    → OnErr r ((n : ℕ) × (n < length piece) × (new ≡ appended old (take n piece)))
+    → Sends text old new r
 sends_piece (Ok t) text piece old new is done part = done ∙ ap (appended old) is
-sends_piece (Err fault) text piece old new is done (n, few, written) = begun_first text n old new (written ∙ ap (λ x. appended old (take n x)) is)
+sends_piece (Err fault) text piece old new is done (n, few, written) =
+    begun_first text n old new (written ∙ ap (λ x. appended old (take n x)) is)
 
 -- an error after the first bytes of a text
-pub sends_part : {T : Type 0} (r : Result T SinkFault) (text piece : List ℕ) (n : ℕ) (old new : Option (List ℕ)) → IsErr r → piece ≡ text
+pub sends_part : {T : Type 0} (r : Result T SinkFault) (text piece : List ℕ) (n : ℕ)
+    (old new : Option (List ℕ)) → IsErr r → piece ≡ text
     → new ≡ appended old (take n piece) → Sends text old new r
 sends_part (Ok t) text piece n old new err is written = absurd (false≢true err)
-sends_part (Err fault) text piece n old new err is written = begun_first text n old new (written ∙ ap (λ x. appended old (take n x)) is)
+sends_part (Err fault) text piece n old new err is written =
+    begun_first text n old new (written ∙ ap (λ x. appended old (take n x)) is)

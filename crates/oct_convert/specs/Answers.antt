@@ -1,5 +1,6 @@
 -- What the tasks over a file of classes write, and how they end, as functions of the bytes.
-use Rattle.std.specs.Prelude.{◌++◌, ℕ, pos, codes, decimal, List, [], length, nat_lt, count_by, Bool, true, false, Result, Ok, Err, if◌then◌else◌}
+use Rattle.std.specs.Prelude.{◌++◌, ℕ, pos, codes, decimal, List, [], length, nat_lt, count_by}
+use Rattle.std.specs.Prelude.{Bool, true, false, Result, Ok, Err, if◌then◌else◌}
 use Rattle.oct_num.specs.MetresText.{metres_text}
 use Rattle.oct_key.specs.Block.{root_block}
 use Rattle.oct_odds.specs.declared.event.Class.{Class}
@@ -39,10 +40,16 @@ task_answer text max_bytes bytes =
 abbrev pub canonical_text : FileRead → List ℕ
 canonical_text file = bt_text file.res (data_classes file.codes)
 
+-- whether what was read is a file whose node data is canonical
+abbrev pub is_canonical_file : Result FileRead BtFault → Bool
+is_canonical_file (Ok file) = is_canonical_data file.codes
+is_canonical_file (Err fault) = false
+
 -- the number of voxels of the map that are of a class
 unfoldable pub voxel_count : Class → Classes → ℕ
 voxel_count class classes = count_by (λ k. is_same_class (classes k) class) (voxels_of root_block)
 
+-- the word for whether something is so
 abbrev pub yes_or_no : Bool → List ℕ
 yes_or_no true = codes "yes"
 yes_or_no false = codes "no"

@@ -5,7 +5,8 @@ use Rattle.oct_io.specs.declared.sink.SinkFault.TheVariants as sink
 use Rattle.oct_io.specs.Taken.{HasTaken, IsBegun}
 use Rattle.oct_io.specs.Told.{appended}
 use Rattle.oct_convert.specs.declared.ending.Ending.{Ending}
-use Rattle.oct_convert.specs.declared.ending.Ending.TheVariants.{Done, BadFile, TooLong, ReadFault, WriteFault, Memory}
+use Rattle.oct_convert.specs.declared.ending.Ending.TheVariants.{Done, BadFile, TooLong, ReadFault}
+use Rattle.oct_convert.specs.declared.ending.Ending.TheVariants.{WriteFault, Memory}
 use Rattle.oct_convert.specs.Answers.{Answer}
 use Rattle.oct_convert.specs.Input.{IsReadToEnd, HasTakenAtMost}
 
@@ -20,12 +21,13 @@ pub record IsHalted (whole : Answer) (max_bytes : ℕ) (bytes : List ℕ)
   pub begun : IsBegun whole.text old new
   pub input : IsReadToEnd max_bytes bytes left
 
--- the input hasn't ended: at most so many bytes of it were taken, and nothing was written
-pub record IsStopped (max_bytes : ℕ) (bytes : List ℕ) (left old new : Option (List ℕ)) : Type 0 where
+-- the input hasn't ended: at most this many bytes of it were taken, and nothing was written
+pub record IsStopped (max_bytes : ℕ) (bytes : List ℕ)
+    (left old new : Option (List ℕ)) : Type 0 where
   pub unwritten : new ≡ old
   pub input : HasTakenAtMost max_bytes bytes left
 
--- how a task with this answer to an input of at most so many bytes may end: what is left of the
+-- how a task with this answer to an input of at most this many bytes may end: what is left of the
 -- input, and what was written
 abbrev pub MayEnd : Answer → ℕ → List ℕ → Option (List ℕ) → Option (List ℕ) → Option (List ℕ)
     → Ending → Type 0

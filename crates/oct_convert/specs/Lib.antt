@@ -1,3 +1,4 @@
 pub mod Input
 pub mod Answers
 pub mod Ending
+pub mod Counts

@@ -1,6 +1,6 @@
 //! A file from a source.
-ghost use Rattle.std.specs.Prelude.{◌≡◌, ◌≢◌, ◌≤◌, ◌-◌, length, IfOk, IfSome, IsErrOf, Err};
-ghost use Rattle.oct_io.specs.Told.{Rose};
+ghost use Rattle.std.specs.Prelude.{◌≤◌, ◌-◌, length, IfOk, IfSome};
+ghost use Rattle.oct_convert.specs.Counts.{IsFileCounted};
 ghost use Rattle.oct_convert.specs.Input.{MayRead, by_fault};
 
 use oct_bt::{BtFault, BtFile, Reader};
@@ -69,15 +69,13 @@ impl From<BtFault> for NoFile {
 ///
 /// The file is judged when the input has ended: a failed read comes before any fault of the file,
 /// and so does an input that is too long, of which one byte more than it may have is taken. Nothing
-/// is read after a failed read, after the end, after one byte too many or after want of memory.
+/// is read after a failed read, after the end, after one byte too many or after memory ran out.
 pub fn read_file<S: Source>(alloc: Global, max_bytes: u64, source: &mut S) -> Result<BtFile, NoFile>
     ensures answer { IfSome (S.left source.old)
         (λ bytes. MayRead max_bytes bytes (S.left source.new) result) }
     ensures few { IfOk result (λ file. length file.codes ≤ max_bytes) }
-    ensures read_fault { result ≡ Err NoFile.ReadFault
-        → Rose (S.faults source.old) (S.faults source.new) }
-    ensures no_read_fault { result ≢ Err NoFile.ReadFault
-        → S.faults source.new ≡ S.faults source.old }
+    ensures counts { IsFileCounted result (S.faults source.old) (S.faults source.new)
+        (S.ends source.old) (S.ends source.new) }
 {
     let mut reader = Reader::new(alloc);
     let mut buffer = [0u8; MOST_READ];

@@ -4,7 +4,7 @@
 //!     match convert(alloc, 1 << 26, &mut source, &mut sink) {
 //!         Ending::Done => {}       // the canonical file of the same classes was written
 //!         Ending::BadFile => {}    // a line was written, as `refused 13 MissingField size`
-//!         _ => {}                  // too long, a fault, or want of memory
+//!         _ => {}                  // too long, a fault, or memory runs out
 //!     }
 //!
 //! What the contracts promise:
@@ -20,11 +20,13 @@
 //!   each may end.
 //! - [`refuse`] ends any such task for which there is no file, so that a program's own tasks over a
 //!   file end as these do.
-//! - A count of faults rises by one exactly where the ending names the fault.
+//! - A count of faults rises by one exactly where the ending names the fault, and the end of the
+//!   input is met once at most (`specs/Counts.antt`).
 //!
-//! `convert` writes a file whose node data is canonical with the records that were read. Of any other
-//! it fills a tree with the classes, so that the writer merges what is of one class. The program
-//! `octomap` stands on this crate; it stands on `oct_bt` for the file and on `oct_io`.
+//! `convert` writes a file whose node data is canonical with the records that were read, and needs
+//! no memory for it once the input has ended. Of any other it fills a tree with the classes, so
+//! that the writer merges what is of one class. The program `octomap` stands on this crate; it
+//! stands on `oct_bt` for the file and on `oct_io`.
 #![tactic(auto)]
 
 mod ending;

@@ -1,10 +1,13 @@
 //! The tasks: a file in, and a text out.
-ghost use Rattle.std.specs.Prelude.{◌≡◌, ◌≢◌, ◌≤◌, ◌^◌, ◌⊎◌, ◌↔◌, ℕ, List, Option, IfSome, Result, Err};
+ghost use Rattle.std.specs.Prelude.{◌≡◌, ◌≢◌, ◌≤◌, ◌^◌, ◌⊎◌, ◌↔◌, ℕ, List, Option, IfSome};
+ghost use Rattle.std.specs.Prelude.{Err, false};
 ghost use Rattle.oct_io.specs.Told.{Rose};
-ghost use Rattle.oct_bt.specs.File.{FileRead};
+ghost use Rattle.oct_bt.specs.File.{FileRead, reading};
 ghost use Rattle.oct_convert.specs.Answers.{convert_answer, inspect_answer, task_answer};
+ghost use Rattle.oct_convert.specs.Answers.{is_canonical_file};
+ghost use Rattle.oct_convert.specs.Counts.{IsSinkCounted, IsSourceCounted};
 ghost use Rattle.oct_convert.specs.Ending.{MayEnd};
-ghost use Rattle.oct_convert.specs.Input.{MayRead};
+ghost use Rattle.oct_convert.specs.Input.{MayRead, IsBadFile};
 
 use crate::ending::{Ending, ending_of};
 use crate::input::{NoFile, read_file};
@@ -29,16 +32,18 @@ pub fn convert<S: Source, K: Sink>(
         (K.written sink.old) (K.written sink.new) result) }
 
     // A fault is met once and ends the task: its count rises by one exactly where the ending names
-    // it, and no other count changes.
-    ensures read_fault { result ≡ Ending.ReadFault
-        → Rose (S.faults source.old) (S.faults source.new) }
-    ensures no_read_fault { result ≢ Ending.ReadFault → S.faults source.new ≡ S.faults source.old }
-    ensures write_fault { result ≡ Ending.WriteFault
-        → Rose (K.faults sink.old) (K.faults sink.new) }
-    ensures no_write_fault { result ≢ Ending.WriteFault → K.faults sink.new ≡ K.faults sink.old }
-    ensures memory { result ≡ Ending.Memory → (K.shortages sink.new ≡ K.shortages sink.old)
-        ⊎ Rose (K.shortages sink.old) (K.shortages sink.new) }
-    ensures no_shortage { result ≢ Ending.Memory → K.shortages sink.new ≡ K.shortages sink.old }
+    // it, and no other count changes. The end of the input is met once at most.
+    ensures source_counts { IsSourceCounted result (S.faults source.old) (S.faults source.new)
+        (S.ends source.old) (S.ends source.new) }
+    ensures sink_counts { IsSinkCounted result (K.faults sink.old) (K.faults sink.new)
+        (K.shortages sink.old) (K.shortages sink.new) }
+
+    // Memory of its own is wanted before the input has ended, where the sink isn't touched, and for
+    // what isn't a canonical file.
+    ensures memory { result ≡ Ending.Memory
+        → ((S.ends source.new ≡ S.ends source.old) × (sink.new ≡ sink.old))
+        ⊎ Rose (K.shortages sink.old) (K.shortages sink.new)
+        ⊎ IfSome (S.left source.old) (λ bytes. is_canonical_file (reading bytes) ≡ false) }
 
     // The sink isn't touched where the input hasn't ended.
     ensures too_long { result ≡ Ending.TooLong → sink.new ≡ sink.old }
@@ -67,16 +72,11 @@ pub fn inspect<S: Source, K: Sink>(
         (K.written sink.old) (K.written sink.new) result) }
 
     // A fault is met once and ends the task: its count rises by one exactly where the ending names
-    // it, and no other count changes.
-    ensures read_fault { result ≡ Ending.ReadFault
-        → Rose (S.faults source.old) (S.faults source.new) }
-    ensures no_read_fault { result ≢ Ending.ReadFault → S.faults source.new ≡ S.faults source.old }
-    ensures write_fault { result ≡ Ending.WriteFault
-        → Rose (K.faults sink.old) (K.faults sink.new) }
-    ensures no_write_fault { result ≢ Ending.WriteFault → K.faults sink.new ≡ K.faults sink.old }
-    ensures memory { result ≡ Ending.Memory → (K.shortages sink.new ≡ K.shortages sink.old)
-        ⊎ Rose (K.shortages sink.old) (K.shortages sink.new) }
-    ensures no_shortage { result ≢ Ending.Memory → K.shortages sink.new ≡ K.shortages sink.old }
+    // it, and no other count changes. The end of the input is met once at most.
+    ensures source_counts { IsSourceCounted result (S.faults source.old) (S.faults source.new)
+        (S.ends source.old) (S.ends source.new) }
+    ensures sink_counts { IsSinkCounted result (K.faults sink.old) (K.faults sink.new)
+        (K.shortages sink.old) (K.shortages sink.new) }
 
     // The sink isn't touched where the input hasn't ended.
     ensures too_long { result ≡ Ending.TooLong → sink.new ≡ sink.old }
@@ -96,12 +96,10 @@ pub fn refuse<K: Sink>(alloc: Global, reason: NoFile, sink: &mut K) -> Ending
         (K.written sink.old) (K.written sink.new) result }
     ensures undone { result ≢ Ending.Done }
     ensures read_fault { result ≡ Ending.ReadFault ↔ reason ≡ NoFile.ReadFault }
-    ensures write_fault { result ≡ Ending.WriteFault
-        → Rose (K.faults sink.old) (K.faults sink.new) }
-    ensures no_write_fault { result ≢ Ending.WriteFault → K.faults sink.new ≡ K.faults sink.old }
-    ensures memory { result ≡ Ending.Memory → (K.shortages sink.new ≡ K.shortages sink.old)
-        ⊎ Rose (K.shortages sink.old) (K.shortages sink.new) }
-    ensures no_shortage { result ≢ Ending.Memory → K.shortages sink.new ≡ K.shortages sink.old }
+    ensures memory { result ≡ Ending.Memory
+        → IsBadFile reason ⊎ ((reason ≡ NoFile.Memory) × (sink.new ≡ sink.old)) }
+    ensures sink_counts { IsSinkCounted result (K.faults sink.old) (K.faults sink.new)
+        (K.shortages sink.old) (K.shortages sink.new) }
     ensures too_long { result ≡ Ending.TooLong → sink.new ≡ sink.old }
     ensures unread { result ≡ Ending.ReadFault → sink.new ≡ sink.old }
 {

@@ -1,7 +1,10 @@
 //! The texts that the tasks write.
 ghost use Rattle.std.specs.Prelude.{◌≡◌, ◌++◌, ◌≤◌, ◌^◌, ◌⊎◌, OnOk, IfOk, IsErrOf, decimal, length};
+ghost use Rattle.std.specs.Prelude.{false};
+ghost use Rattle.oct_io.specs.Counts.{IsMakingCounted};
 ghost use Rattle.oct_io.specs.Told.{Rose};
 ghost use Rattle.oct_bt.specs.NodeData.{IsAccepted};
+ghost use Rattle.oct_bt.specs.Plain.{is_canonical_data};
 ghost use Rattle.oct_convert.specs.Answers.{canonical_text, line, refusal_line, report, yes_or_no};
 ghost use Rattle.oct_convert.specs.Ending.{Sends};
 
@@ -67,13 +70,8 @@ fn report(alloc: Global, file: &BtFile) -> Result<Vec<u8>, Memory>
 /// Writes the line of a refusal. After an error a prefix of it was written.
 pub fn write_refusal<K: Sink>(alloc: Global, fault: BtFault, sink: &mut K) -> Result<(), SinkFault>
     ensures sends { Sends (refusal_line fault) (K.written sink.old) (K.written sink.new) result }
-    ensures stays { OnOk result ((K.faults sink.new ≡ K.faults sink.old)
-        × (K.shortages sink.new ≡ K.shortages sink.old)) }
-    ensures failed { IsErrOf result SinkFault.Failed → Rose (K.faults sink.old) (K.faults sink.new)
-        × (K.shortages sink.new ≡ K.shortages sink.old) }
-    ensures memory { IsErrOf result SinkFault.Memory → (K.faults sink.new ≡ K.faults sink.old)
-        × ((K.shortages sink.new ≡ K.shortages sink.old)
-        ⊎ Rose (K.shortages sink.old) (K.shortages sink.new)) }
+    ensures counts { IsMakingCounted result (K.faults sink.old) (K.faults sink.new)
+        (K.shortages sink.old) (K.shortages sink.new) }
 {
     let text = refusal(alloc, fault)?;
     write_all(sink, &text)
@@ -83,31 +81,24 @@ pub fn write_refusal<K: Sink>(alloc: Global, fault: BtFault, sink: &mut K) -> Re
 pub fn write_report<K: Sink>(alloc: Global, file: &BtFile, sink: &mut K) -> Result<(), SinkFault>
     requires accepted { IsAccepted file.now.nodes file.now.codes }
     ensures sends { Sends (report file.now) (K.written sink.old) (K.written sink.new) result }
-    ensures stays { OnOk result ((K.faults sink.new ≡ K.faults sink.old)
-        × (K.shortages sink.new ≡ K.shortages sink.old)) }
-    ensures failed { IsErrOf result SinkFault.Failed → Rose (K.faults sink.old) (K.faults sink.new)
-        × (K.shortages sink.new ≡ K.shortages sink.old) }
-    ensures memory { IsErrOf result SinkFault.Memory → (K.faults sink.new ≡ K.faults sink.old)
-        × ((K.shortages sink.new ≡ K.shortages sink.old)
-        ⊎ Rose (K.shortages sink.old) (K.shortages sink.new)) }
+    ensures counts { IsMakingCounted result (K.faults sink.old) (K.faults sink.new)
+        (K.shortages sink.old) (K.shortages sink.new) }
 {
     let text = report(alloc, file)?;
     write_all(sink, &text)
 }
 
-/// Writes the canonical file of the classes of a file: its own records where they are canonical, and
-/// else through a tree. After an error a prefix of it was written.
+/// Writes the canonical file of the classes of a file: its own records where they are canonical,
+/// and else through a tree. After an error a prefix of it was written.
 pub fn write_canonical<K: Sink>(alloc: Global, file: &BtFile, sink: &mut K) -> Result<(), SinkFault>
     requires accepted { IsAccepted file.now.nodes file.now.codes }
     requires few { length file.now.codes ≤ 2 ^ 32 }
-    ensures sends { Sends (canonical_text file.now) (K.written sink.old) (K.written sink.new) result }
-    ensures stays { OnOk result ((K.faults sink.new ≡ K.faults sink.old)
-        × (K.shortages sink.new ≡ K.shortages sink.old)) }
-    ensures failed { IsErrOf result SinkFault.Failed → Rose (K.faults sink.old) (K.faults sink.new)
-        × (K.shortages sink.new ≡ K.shortages sink.old) }
-    ensures memory { IsErrOf result SinkFault.Memory → (K.faults sink.new ≡ K.faults sink.old)
-        × ((K.shortages sink.new ≡ K.shortages sink.old)
-        ⊎ Rose (K.shortages sink.old) (K.shortages sink.new)) }
+    ensures sends { Sends (canonical_text file.now)
+        (K.written sink.old) (K.written sink.new) result }
+    ensures counts { IsMakingCounted result (K.faults sink.old) (K.faults sink.new)
+        (K.shortages sink.old) (K.shortages sink.new) }
+    ensures memory { IsErrOf result SinkFault.Memory → (is_canonical_data file.now.codes ≡ false)
+        ⊎ Rose (K.shortages sink.old) (K.shortages sink.new) }
 {
     if file.is_canonical() {
         rewrite(file, sink)
@@ -121,14 +112,10 @@ pub fn write_canonical<K: Sink>(alloc: Global, file: &BtFile, sink: &mut K) -> R
 fn write_merged<K: Sink>(alloc: Global, file: &BtFile, sink: &mut K) -> Result<(), SinkFault>
     requires accepted { IsAccepted file.now.nodes file.now.codes }
     requires few { length file.now.codes ≤ 2 ^ 32 }
-    ensures sends { Sends (canonical_text file.now) (K.written sink.old) (K.written sink.new) result }
-    ensures stays { OnOk result ((K.faults sink.new ≡ K.faults sink.old)
-        × (K.shortages sink.new ≡ K.shortages sink.old)) }
-    ensures failed { IsErrOf result SinkFault.Failed → Rose (K.faults sink.old) (K.faults sink.new)
-        × (K.shortages sink.new ≡ K.shortages sink.old) }
-    ensures memory { IsErrOf result SinkFault.Memory → (K.faults sink.new ≡ K.faults sink.old)
-        × ((K.shortages sink.new ≡ K.shortages sink.old)
-        ⊎ Rose (K.shortages sink.old) (K.shortages sink.new)) }
+    ensures sends { Sends (canonical_text file.now)
+        (K.written sink.old) (K.written sink.new) result }
+    ensures counts { IsMakingCounted result (K.faults sink.old) (K.faults sink.new)
+        (K.shortages sink.old) (K.shortages sink.new) }
 {
     let mut tree = OccTree::new(alloc, file.res(), OddsModel::default());
     tree.reserve(file.records() as u32)?;

@@ -1,5 +1,6 @@
 -- The boxes stand in the order of the Morton codes of their lowest voxels.
-use Rattle.std.proofs.Common.{◌≡◌, ℕ, zero, suc, ◌+◌, ◌-◌, ◌*◌, ◌/◌, ◌%◌, ◌^◌, ◌<◌, ◌≤◌, Bool, true, false, List, [], ◌∷◌, ◌++◌, refl, sym, subst, ◌∙◌, ap, arith, pow_pos}
+use Rattle.std.proofs.Common.{◌≡◌, ℕ, zero, suc, ◌+◌, ◌-◌, ◌*◌, ◌/◌, ◌%◌, ◌^◌, ◌<◌, ◌≤◌, Bool, true}
+use Rattle.std.proofs.Common.{false, List, [], ◌∷◌, ◌++◌, refl, sym, subst, ◌∙◌, ap, arith, pow_pos}
 use Rattle.std.specs.List.{AllPairs, AllByRecursion}
 use Rattle.std.proofs.Math.Nat.{div-div-eq-div-mul, div-mul-le_self, div-lt_iff_lt-mul}
 use Rattle.std.proofs.lemmas.Nat.{pow-add}
@@ -8,7 +9,8 @@ use Rattle.std.proofs.lemmas.List.Kept.{AllPairs-cons}
 use Rattle.oct_key.specs.Voxel.{Voxel}
 use Rattle.oct_key.specs.Block.{Cube, IsBlock, HoldsVoxel, child_of, lowest_voxel, root_block}
 use Rattle.oct_key.specs.Morton.{morton_of, code_prefix}
-use Rattle.oct_key.proofs.Blocks.{block_of_held, child_holds, child_in_map, depth_child_of, lowest_held, root_in_map}
+use Rattle.oct_key.proofs.Blocks.{block_of_held, child_holds, child_in_map, depth_child_of}
+use Rattle.oct_key.proofs.Blocks.{lowest_held, root_in_map}
 use Rattle.oct_key.proofs.Held.{held_in_map, held_by_parent}
 use Rattle.oct_key.proofs.Interleavings.{same_prefix, digit_of_morton}
 use Rattle.oct_values.specs.Classes.{Classes}
@@ -19,10 +21,13 @@ use Rattle.oct_export.proofs.Boxes.{first_boxes, boxes_of_full, boxes_of_parts, 
 next_prefix : (m h : ℕ) → m / 2 ^ (3 * h) / 8 ≡ m / 2 ^ (3 * (h + 1))
 next_prefix m h =
     let more : 3 * (h + 1) ≡ 3 * h + 3 = omega arith in
-    div-div-eq-div-mul m (2 ^ (3 * h)) 8 ∙ ap (λ (n : ℕ). m / n) (sym (ap (λ (n : ℕ). 2 ^ n) more ∙ pow-add 2 (3 * h) 3))
+    div-div-eq-div-mul m (2 ^ (3 * h)) 8
+    ∙ ap (λ (n : ℕ). m / n) (sym (ap (λ (n : ℕ). 2 ^ n) more ∙ pow-add 2 (3 * h) 3))
 
 prefix_above : (depth m : ℕ) → depth ≤ 15 → m / 2 ^ (3 * (15 - depth)) / 8 ≡ code_prefix depth m
-prefix_above depth m low = (let deep : 15 - depth + 1 ≡ 16 - depth = omega arith in next_prefix m (15 - depth) ∙ ap (λ (n : ℕ). m / 2 ^ (3 * n)) deep)
+prefix_above depth m low =
+    (let deep : 15 - depth + 1 ≡ 16 - depth = omega arith in next_prefix m (15 - depth)
+    ∙ ap (λ (n : ℕ). m / 2 ^ (3 * n)) deep)
 
 -- a smaller quotient is of a smaller number
 smaller : (m n d : ℕ) → 0 < d → m / d < n / d → m < n
@@ -32,19 +37,23 @@ smaller m n d some less =
     omega (arith, low, most)
 
 -- of two children of a block, the voxels of the one with the smaller number have the smaller codes
-below_by_child : (b : Cube) (i j : ℕ) (k l : Voxel) → IsBlock b → b.depth < 16 → i < 8 → j < 8 → i < j
+below_by_child : (b : Cube) (i j : ℕ) (k l : Voxel) → IsBlock b → b.depth < 16 → i < 8 → j < 8
+    → i < j
     → HoldsVoxel (child_of b i) k → HoldsVoxel (child_of b j) l → morton_of k < morton_of l
 below_by_child b i j k l ok low li lj less held_k held_l =
     let in_k = (child_holds b i k low li).0 held_k in
     let in_l = (child_holds b j l low lj).0 held_l in
-    let same = (same_prefix b.depth k l (omega (arith, low)) (held_in_map b k ok in_k.0) (held_in_map b l ok in_l.0)).1
+    let same = (same_prefix b.depth k l (omega (arith, low)) (held_in_map b k ok in_k.0)
+    (held_in_map b l ok in_l.0)).1
     (block_of_held b k in_k.0 ∙ sym (block_of_held b l in_l.0)) in
     let above_k = prefix_above b.depth (morton_of k) (omega (arith, low)) in
     let above_l = prefix_above b.depth (morton_of l) (omega (arith, low)) in
     let digit_k = digit_of_morton b.depth k (omega (arith, low)) ∙ in_k.1 in
     let digit_l = digit_of_morton b.depth l (omega (arith, low)) ∙ in_l.1 in
     smaller (morton_of k) (morton_of l) (2 ^ (3 * (15 - b.depth))) (pow_pos (3 * (15 - b.depth)))
-    (digits (morton_of k / 2 ^ (3 * (15 - b.depth))) (morton_of l / 2 ^ (3 * (15 - b.depth))) i j (above_k ∙ same ∙ sym above_l) digit_k digit_l less)
+    (digits (morton_of k / 2 ^ (3 * (15 - b.depth)))
+    (morton_of l / 2 ^ (3 * (15 - b.depth))) i j (above_k ∙ same ∙ sym above_l) digit_k digit_l
+    less)
   where
     digits : (p q i j : ℕ) → p / 8 ≡ q / 8 → p % 8 ≡ i → q % 8 ≡ j → i < j → p < q
     digits p q i j e f h less = omega (arith, e, f, h, less)
@@ -55,44 +64,53 @@ below_by_child b i j k l ok low li lj less held_k held_l =
 abbrev pub IsBelow : Cube → Cube → Type 0
 IsBelow a b = morton_of (lowest_voxel a) < morton_of (lowest_voxel b)
 
--- each is below all behind it
+-- each is below all after it
 abbrev Rises : List Cube → Type 0
 Rises [] = Unit {0}
 Rises (a ∷ more) = AllByRecursion (IsBelow a) more × Rises more
 
-all_append : (P : Cube → Type 0) (xs ys : List Cube) → AllByRecursion P xs → AllByRecursion P ys → AllByRecursion P (xs ++ ys)
+all_append : (P : Cube → Type 0) (xs ys : List Cube) → AllByRecursion P xs → AllByRecursion P ys
+    → AllByRecursion P (xs ++ ys)
 all_append P [] ys p q = q
 all_append P (x ∷ xs) ys (p, more) q = (p, all_append P xs ys more q)
 
-all_mapped : (P Q : Cube → Type 0) (xs : List Cube) → ((x : Cube) → P x → Q x) → AllByRecursion P xs → AllByRecursion Q xs
+all_mapped : (P Q : Cube → Type 0) (xs : List Cube) → ((x : Cube) → P x → Q x) → AllByRecursion P xs
+    → AllByRecursion Q xs
 all_mapped P Q [] f p = tt
 all_mapped P Q (x ∷ xs) f (p, more) = (f x p, all_mapped P Q xs f more)
 
-rises_append : (xs ys : List Cube) → Rises xs → Rises ys → AllByRecursion (λ x. AllByRecursion (IsBelow x) ys) xs → Rises (xs ++ ys)
+rises_append : (xs ys : List Cube) → Rises xs → Rises ys
+    → AllByRecursion (λ x. AllByRecursion (IsBelow x) ys) xs → Rises (xs ++ ys)
 rises_append [] ys p q below = q
-rises_append (x ∷ xs) ys (p, more) q (here, later) = (all_append (IsBelow x) xs ys p here, rises_append xs ys more q later)
+rises_append (x ∷ xs) ys (p, more) q (here, later) =
+    (all_append (IsBelow x) xs ys p here, rises_append xs ys more q later)
 
 pairs : (xs : List Cube) → Rises xs → AllPairs IsBelow xs
 pairs [] r = λ i j d less short. absurd (omega arith)
-pairs (x ∷ xs) (p, more) = AllPairs-cons IsBelow x xs (All-from_recursion (IsBelow x) xs p) (pairs xs more)
+pairs (x ∷ xs) (p, more) = AllPairs-cons IsBelow x xs (All-from_recursion (IsBelow x) xs p)
+    (pairs xs more)
 
 -- a box has its lowest voxel in a block
 abbrev StartsIn : Cube → Cube → Type 0
 StartsIn b a = HoldsVoxel b (lowest_voxel a)
 
--- or in one of the first so many children of it
+-- or in one of the first n children of it
 abbrev StartsInFirst : Cube → ℕ → Cube → Type 0
 StartsInFirst b n a = (i : ℕ) × (i < n) × HoldsVoxel (child_of b i) (lowest_voxel a)
 
--- the boxes of the first so many children
-first_start : (c : Classes) (h : ℕ) (b : Cube) → ((i : ℕ) → i < 8 → AllByRecursion (StartsIn (child_of b i)) (boxes_below c h (child_of b i)))
+-- the boxes of the first n children
+first_start : (c : Classes) (h : ℕ) (b : Cube)
+    → ((i : ℕ) → i < 8 → AllByRecursion (StartsIn (child_of b i)) (boxes_below c h (child_of b i)))
     → (n : ℕ) → n ≤ 8 → AllByRecursion (StartsInFirst b n) (first_boxes c h b n)
 unfolding first_boxes
 first_start c h b each zero l = tt
 first_start c h b each (suc n) l =
     all_append (StartsInFirst b (suc n)) (first_boxes c h b n) (boxes_below c h (child_of b n))
-    (all_mapped (StartsInFirst b n) (StartsInFirst b (suc n)) (first_boxes c h b n) (λ a (i, less, held). (i, omega (arith, less), held)) (first_start c h b each n (omega (arith, l))))
-    (all_mapped (StartsIn (child_of b n)) (StartsInFirst b (suc n)) (boxes_below c h (child_of b n)) (λ a held. (n, omega arith, held)) (each n (omega (arith, l))))
+    (all_mapped (StartsInFirst b n) (StartsInFirst b (suc n)) (first_boxes c h b n)
+    (λ a (i, less, held). (i, omega (arith, less), held))
+    (first_start c h b each n (omega (arith, l))))
+    (all_mapped (StartsIn (child_of b n)) (StartsInFirst b (suc n)) (boxes_below c h (child_of b n))
+    (λ a held. (n, omega arith, held)) (each n (omega (arith, l))))
 
 first_rise : (c : Classes) (h : ℕ) (b : Cube) → IsBlock b → b.depth < 16
     → ((i : ℕ) → i < 8 → AllByRecursion (StartsIn (child_of b i)) (boxes_below c h (child_of b i)))
@@ -101,10 +119,15 @@ first_rise : (c : Classes) (h : ℕ) (b : Cube) → IsBlock b → b.depth < 16
 unfolding first_boxes
 first_rise c h b ok low start each zero l = tt
 first_rise c h b ok low start each (suc n) l =
-    rises_append (first_boxes c h b n) (boxes_below c h (child_of b n)) (first_rise c h b ok low start each n (omega (arith, l))) (each n (omega (arith, l)))
-    (all_mapped (StartsInFirst b n) (λ x. AllByRecursion (IsBelow x) (boxes_below c h (child_of b n))) (first_boxes c h b n)
-    (λ a (i, less, held). all_mapped (StartsIn (child_of b n)) (IsBelow a) (boxes_below c h (child_of b n))
-    (λ e there. below_by_child b i n (lowest_voxel a) (lowest_voxel e) ok low (omega (arith, less, l)) (omega (arith, l)) less held there) (start n (omega (arith, l))))
+    rises_append (first_boxes c h b n) (boxes_below c h (child_of b n))
+    (first_rise c h b ok low start each n (omega (arith, l))) (each n (omega (arith, l)))
+    (all_mapped (StartsInFirst b n)
+    (λ x. AllByRecursion (IsBelow x) (boxes_below c h (child_of b n))) (first_boxes c h b n)
+    (λ a (i, less, held). all_mapped (StartsIn (child_of b n)) (IsBelow a)
+    (boxes_below c h (child_of b n))
+    (λ e there. below_by_child b i n (lowest_voxel a)
+    (lowest_voxel e) ok low (omega (arith, less, l)) (omega (arith, l)) less held there)
+    (start n (omega (arith, l))))
     (first_start c h b start n (omega (arith, l))))
 
 -- the boxes of a block start in it, and rise
@@ -114,17 +137,22 @@ pub record IsInOrder (c : Classes) (h : ℕ) (b : Cube) : Type 0 where
 
 one_in_order : (c : Classes) (h : ℕ) (b : Cube) → is_full c b ≡ true → IsInOrder c h b
 one_in_order c h b full = record {
-  start = subst (λ l. AllByRecursion (StartsIn b) l) (sym (boxes_of_full c h b full)) (lowest_held b, tt);
+  start = subst (λ l. AllByRecursion (StartsIn b) l) (sym (boxes_of_full c h b full))
+      (lowest_held b, tt);
   rise = subst (λ l. Rises l) (sym (boxes_of_full c h b full)) (tt, tt);
 }
 
-parts_in_order : (c : Classes) (h : ℕ) (b : Cube) → IsBlock b → b.depth < 16 → is_full c b ≡ false → ((i : ℕ) → i < 8 → IsInOrder c h (child_of b i))
+parts_in_order : (c : Classes) (h : ℕ) (b : Cube) → IsBlock b → b.depth < 16 → is_full c b ≡ false
+    → ((i : ℕ) → i < 8 → IsInOrder c h (child_of b i))
     → IsInOrder c (suc h) b
 parts_in_order c h b ok low part each = record {
   start = subst (λ l. AllByRecursion (StartsIn b) l) (sym (boxes_of_parts c h b part))
-      (all_mapped (StartsInFirst b 8) (StartsIn b) (first_boxes c h b 8) (λ a (i, less, held). held_by_parent b i (lowest_voxel a) low less held)
+      (all_mapped (StartsInFirst b 8) (StartsIn b) (first_boxes c h b 8)
+      (λ a (i, less, held). held_by_parent b i (lowest_voxel a) low less held)
       (first_start c h b (λ i li. (each i li).start) 8 (omega arith)));
-  rise = subst (λ l. Rises l) (sym (boxes_of_parts c h b part)) (first_rise c h b ok low (λ i li. (each i li).start) (λ i li. (each i li).rise) 8 (omega arith));
+  rise = subst (λ l. Rises l) (sym (boxes_of_parts c h b part))
+      (first_rise c h b ok low (λ i li. (each i li).start)
+      (λ i li. (each i li).rise) 8 (omega arith));
 }
 
 none_in_order : (c : Classes) (b : Cube) → is_full c b ≡ false → IsInOrder c 0 b
@@ -137,11 +165,18 @@ in_order c zero b ok d = by (is_full c b) refl
     by : (t : Bool) → is_full c b ≡ t → IsInOrder c 0 b
     by true is = one_in_order c 0 b is
     by false is = none_in_order c b is
-in_order c (suc h) b ok d = by (λ i li. (let down = depth_child_of b i in in_order c h (child_of b i) (child_in_map b i ok (omega (arith, d))) (omega (arith, d, down)))) (is_full c b) refl
+in_order c (suc h) b ok d =
+    by (λ i li. (let down = depth_child_of b i in
+    in_order c h (child_of b i) (child_in_map b i ok (omega (arith, d))) (omega (arith, d, down))))
+    (is_full c b) refl
   where
-    by : ((i : ℕ) → i < 8 → IsInOrder c h (child_of b i)) → (t : Bool) → is_full c b ≡ t → IsInOrder c (suc h) b
+    by : ((i : ℕ) → i < 8 → IsInOrder c h (child_of b i)) → (t : Bool) → is_full c b ≡ t
+        → IsInOrder c (suc h) b
     by each true is = one_in_order c (suc h) b is
     by each false is = parts_in_order c h b ok (omega (arith, d)) is each
 
-pub boxes_rise : (c : Classes) → AllPairs (λ a b. morton_of (lowest_voxel a) < morton_of (lowest_voxel b)) (boxes_of c)
-boxes_rise c = pairs (boxes_of c) (subst (λ l. Rises l) (sym (boxes_of_root c)) (in_order c 16 root_block root_in_map refl).rise)
+pub boxes_rise : (c : Classes)
+    → AllPairs (λ a b. morton_of (lowest_voxel a) < morton_of (lowest_voxel b)) (boxes_of c)
+boxes_rise c =
+    pairs (boxes_of c)
+    (subst (λ l. Rises l) (sym (boxes_of_root c)) (in_order c 16 root_block root_in_map refl).rise)

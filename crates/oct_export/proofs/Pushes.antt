@@ -1,5 +1,6 @@
--- Texts that are pushed to a gather, one behind the other.
-use Rattle.std.proofs.Common.{◌≡◌, ℕ, List, [], ◌++◌, take, drop, Option, refl, sym, ◌∙◌, ap, subst, append_assoc, append-nil}
+-- Texts that are pushed to a gather, one after the other.
+use Rattle.std.proofs.Common.{◌≡◌, ℕ, List, [], ◌++◌, take, drop, Option, refl, sym, ◌∙◌, ap, subst}
+use Rattle.std.proofs.Common.{append_assoc, append-nil}
 use Rattle.std.specs.Prelude.{Result, Ok, Err, OnOk, OnErr, IfOk}
 use Rattle.std.proofs.lemmas.List.{take-append-drop}
 use Rattle.oct_io.specs.Told.{appended}
@@ -9,91 +10,123 @@ use Rattle.oct_export.specs.Pushed.{IsPushed}
 
 -- nothing yet
 pub pushed_none : (held : List ℕ) (told : Option (List ℕ)) → IsPushed [] held held told told
-pushed_none held told = (record { done = []; rest = held ++ []; written = appended_nil told; split = refl }, append-nil held)
+pushed_none held told = (
+  record { done = []; rest = held ++ []; written = appended_nil told; split = refl },
+  append-nil held,
+)
 
-pub pushed_start : (t held : List ℕ) (told : Option (List ℕ)) → t ≡ [] → IsPushed t held held told told
-pushed_start t held told none = subst (λ l. IsPushed l held held told told) (sym none) (pushed_none held told)
+pub pushed_start : (t held : List ℕ) (told : Option (List ℕ)) → t ≡ []
+    → IsPushed t held held told told
+pushed_start t held told none = subst (λ l. IsPushed l held held told told) (sym none)
+    (pushed_none held told)
 
 -- another text, where it is the same one
-pub pushed_as : (t u h h' : List ℕ) (w w' : Option (List ℕ)) → IsPushed t h h' w w' → t ≡ u → IsPushed u h h' w w'
+pub pushed_as : (t u h h' : List ℕ) (w w' : Option (List ℕ)) → IsPushed t h h' w w' → t ≡ u
+    → IsPushed u h h' w w'
 pushed_as t u h h' w w' p same = subst (λ l. IsPushed l h h' w w') same p
 
 -- one piece
-pub pushed_piece : (piece h h' : List ℕ) (n : ℕ) (w w' : Option (List ℕ)) → w' ≡ appended w (take n (h ++ piece))
+pub pushed_piece : (piece h h' : List ℕ) (n : ℕ) (w w' : Option (List ℕ))
+    → w' ≡ appended w (take n (h ++ piece))
     → h' ≡ drop n (h ++ piece) → IsPushed piece h h' w w'
 pushed_piece piece h h' n w w' wrote is = (
-  record { done = take n (h ++ piece); rest = drop n (h ++ piece); written = wrote; split = sym (take-append-drop n (h ++ piece)) },
+  record {
+    done = take n (h ++ piece);
+    rest = drop n (h ++ piece);
+    written = wrote;
+    split =
+        sym (take-append-drop n (h ++ piece));
+  },
   sym is,
 )
 
--- a text behind another
-pub pushed_more : (t u all h0 h1 h2 : List ℕ) (w0 w1 w2 : Option (List ℕ)) → IsPushed t h0 h1 w0 w1 → IsPushed u h1 h2 w1 w2
+-- a text after another
+pub pushed_more : (t u all h0 h1 h2 : List ℕ) (w0 w1 w2 : Option (List ℕ)) → IsPushed t h0 h1 w0 w1
+    → IsPushed u h1 h2 w1 w2
     → t ++ u ≡ all → IsPushed all h0 h2 w0 w2
 pushed_more t u all h0 h1 h2 w0 w1 w2 (b, e) (d, f) is = (
   record {
     done = b.done ++ d.done;
     rest = d.rest;
     written = d.written ∙ ap (λ o. appended o d.done) b.written ∙ appended_twice w0 b.done d.done;
-    split = ap (λ l. h0 ++ l) (sym is) ∙ sym (append_assoc h0 t u) ∙ ap (λ l. l ++ u) b.split ∙ append_assoc b.done b.rest u
-        ∙ ap (λ l. b.done ++ l) (ap (λ l. l ++ u) e ∙ d.split) ∙ sym (append_assoc b.done d.done d.rest);
+    split = ap (λ l. h0 ++ l) (sym is) ∙ sym (append_assoc h0 t u) ∙ ap (λ l. l ++ u) b.split
+        ∙ append_assoc b.done b.rest u
+        ∙ ap (λ l. b.done ++ l) (ap (λ l. l ++ u) e ∙ d.split)
+        ∙ sym (append_assoc b.done d.done d.rest);
   },
   f,
 )
 
--- a text behind another that was cut off
-pub pushed_begun : (t u more all h0 h1 : List ℕ) (w0 w1 w2 : Option (List ℕ)) → IsPushed t h0 h1 w0 w1 → IsBegun (h1 ++ u) w1 w2
+-- a text after another that was cut off
+pub pushed_begun : (t u more all h0 h1 : List ℕ) (w0 w1 w2 : Option (List ℕ))
+    → IsPushed t h0 h1 w0 w1 → IsBegun (h1 ++ u) w1 w2
     → t ++ (u ++ more) ≡ all → IsBegun (h0 ++ all) w0 w2
 pushed_begun t u more all h0 h1 w0 w1 w2 (b, e) d is = record {
   done = b.done ++ d.done;
   rest = d.rest ++ more;
   written = d.written ∙ ap (λ o. appended o d.done) b.written ∙ appended_twice w0 b.done d.done;
-  split = ap (λ l. h0 ++ l) (sym is) ∙ sym (append_assoc h0 t (u ++ more)) ∙ ap (λ l. l ++ (u ++ more)) b.split ∙ append_assoc b.done b.rest (u ++ more)
-      ∙ ap (λ l. b.done ++ l) (ap (λ l. l ++ (u ++ more)) e ∙ sym (append_assoc h1 u more) ∙ ap (λ l. l ++ more) d.split ∙ append_assoc d.done d.rest more)
+  split = ap (λ l. h0 ++ l) (sym is) ∙ sym (append_assoc h0 t (u ++ more))
+      ∙ ap (λ l. l ++ (u ++ more)) b.split ∙ append_assoc b.done b.rest (u ++ more)
+      ∙ ap (λ l. b.done ++ l)
+      (ap (λ l. l ++ (u ++ more)) e ∙ sym (append_assoc h1 u more) ∙ ap (λ l. l ++ more) d.split
+      ∙ append_assoc d.done d.rest more)
       ∙ sym (append_assoc b.done d.done (d.rest ++ more));
 }
 
--- three texts, one behind the other, or the last of them cut off
-pub pushed_three : (t u v all h0 h1 h2 h3 : List ℕ) (w0 w1 w2 w3 : Option (List ℕ)) → t ++ (u ++ v) ≡ all → IsPushed t h0 h1 w0 w1
+-- three texts, one after the other, or the last of them cut off
+pub pushed_three : (t u v all h0 h1 h2 h3 : List ℕ) (w0 w1 w2 w3 : Option (List ℕ))
+    → t ++ (u ++ v) ≡ all → IsPushed t h0 h1 w0 w1
     → IsPushed u h1 h2 w1 w2 → IsPushed v h2 h3 w2 w3 → IsPushed all h0 h3 w0 w3
 pushed_three t u v all h0 h1 h2 h3 w0 w1 w2 w3 is p q r =
-    pushed_more (t ++ u) v all h0 h2 h3 w0 w2 w3 (pushed_more t u (t ++ u) h0 h1 h2 w0 w1 w2 p q refl) r (append_assoc t u v ∙ is)
+    pushed_more (t ++ u) v all h0 h2 h3 w0 w2 w3
+    (pushed_more t u (t ++ u) h0 h1 h2 w0 w1 w2 p q refl) r (append_assoc t u v ∙ is)
 
-pub third_begun : (t u v all h0 h1 h2 : List ℕ) (w0 w1 w2 w3 : Option (List ℕ)) → t ++ (u ++ v) ≡ all → IsPushed t h0 h1 w0 w1
+pub third_begun : (t u v all h0 h1 h2 : List ℕ) (w0 w1 w2 w3 : Option (List ℕ))
+    → t ++ (u ++ v) ≡ all → IsPushed t h0 h1 w0 w1
     → IsPushed u h1 h2 w1 w2 → IsBegun (h2 ++ v) w2 w3 → IsBegun (h0 ++ all) w0 w3
 third_begun t u v all h0 h1 h2 w0 w1 w2 w3 is p q r =
-    pushed_begun (t ++ u) v [] all h0 h2 w0 w2 w3 (pushed_more t u (t ++ u) h0 h1 h2 w0 w1 w2 p q refl) r
+    pushed_begun (t ++ u) v [] all h0 h2 w0 w2 w3
+    (pushed_more t u (t ++ u) h0 h1 h2 w0 w1 w2 p q refl) r
     (ap (λ l. (t ++ u) ++ l) (append-nil v) ∙ append_assoc t u v ∙ is)
 
--- a text that was cut off, with more behind it
-pub begun_more : (t more all h : List ℕ) (w w' : Option (List ℕ)) → IsBegun (h ++ t) w w' → t ++ more ≡ all → IsBegun (h ++ all) w w'
+-- a text that was cut off, with more after it
+pub begun_more : (t more all h : List ℕ) (w w' : Option (List ℕ)) → IsBegun (h ++ t) w w'
+    → t ++ more ≡ all → IsBegun (h ++ all) w w'
 begun_more t more all h w w' d is = record {
   done = d.done;
   rest = d.rest ++ more;
   written = d.written;
-  split = ap (λ l. h ++ l) (sym is) ∙ sym (append_assoc h t more) ∙ ap (λ l. l ++ more) d.split ∙ append_assoc d.done d.rest more;
+  split = ap (λ l. h ++ l) (sym is) ∙ sym (append_assoc h t more) ∙ ap (λ l. l ++ more) d.split
+      ∙ append_assoc d.done d.rest more;
 }
 
 -- all that was pushed to a gather that held nothing, written
-pub pushed_whole : (t h0 h1 : List ℕ) (w0 w1 w2 : Option (List ℕ)) → IsPushed t h0 h1 w0 w1 → h0 ≡ [] → w2 ≡ appended w1 h1
+pub pushed_whole : (t h0 h1 : List ℕ) (w0 w1 w2 : Option (List ℕ)) → IsPushed t h0 h1 w0 w1
+    → h0 ≡ [] → w2 ≡ appended w1 h1
     → w2 ≡ appended w0 t
 pushed_whole t h0 h1 w0 w1 w2 (b, e) none wrote =
     wrote ∙ ap (λ o. appended o h1) b.written ∙ appended_twice w0 b.done h1
     ∙ ap (appended w0) (ap (λ l. b.done ++ l) (sym e) ∙ sym b.split ∙ ap (λ l. l ++ t) none)
 
 -- or a part of it
-pub pushed_cut : (t h0 h1 : List ℕ) (n : ℕ) (w0 w1 w2 : Option (List ℕ)) → IsPushed t h0 h1 w0 w1 → h0 ≡ [] → w2 ≡ appended w1 (take n h1)
+pub pushed_cut : (t h0 h1 : List ℕ) (n : ℕ) (w0 w1 w2 : Option (List ℕ)) → IsPushed t h0 h1 w0 w1
+    → h0 ≡ [] → w2 ≡ appended w1 (take n h1)
     → IsBegun t w0 w2
 pushed_cut t h0 h1 n w0 w1 w2 (b, e) none wrote = record {
   done = b.done ++ take n h1;
   rest = drop n h1;
-  written = wrote ∙ ap (λ o. appended o (take n h1)) b.written ∙ appended_twice w0 b.done (take n h1);
-  split = sym (ap (λ l. l ++ t) none) ∙ b.split ∙ ap (λ l. b.done ++ l) (e ∙ sym (take-append-drop n h1))
+  written = wrote ∙ ap (λ o. appended o (take n h1)) b.written
+      ∙ appended_twice w0 b.done (take n h1);
+  split = sym (ap (λ l. l ++ t) none) ∙ b.split
+      ∙ ap (λ l. b.done ++ l) (e ∙ sym (take-append-drop n h1))
       ∙ sym (append_assoc b.done (take n h1) (drop n h1));
 }
 
 -- what was begun of a gather that held nothing
-pub begun_of_none : (t h : List ℕ) (w w' : Option (List ℕ)) → h ≡ [] → IsBegun (h ++ t) w w' → IsBegun t w w'
-begun_of_none t h w w' none = subst (λ l. IsBegun (l ++ t) w w' → IsBegun t w w') (sym none) (λ b. b)
+pub begun_of_none : (t h : List ℕ) (w w' : Option (List ℕ)) → h ≡ [] → IsBegun (h ++ t) w w'
+    → IsBegun t w w'
+begun_of_none t h w w' none = subst (λ l. IsBegun (l ++ t) w w' → IsBegun t w w') (sym none)
+    (λ b. b)
 
 -- ---- what holds of a result
 
@@ -105,13 +138,16 @@ pub on_ok_follows : {T E : Type 0} {P Q : Type 0} (r : Result T E) → (P → Q)
 on_ok_follows (Ok x) f p = f p
 on_ok_follows (Err e) f p = tt
 
-pub on_err_follows : {T E : Type 0} {P Q : Type 0} (r : Result T E) → (P → Q) → OnErr r P → OnErr r Q
+pub on_err_follows : {T E : Type 0} {P Q : Type 0} (r : Result T E) → (P → Q) → OnErr r P
+    → OnErr r Q
 on_err_follows (Ok x) f p = tt
 on_err_follows (Err e) f p = f p
 
-pub if_ok_follows : {T E : Type 0} {P Q : T → Type 0} (r : Result T E) → ((x : T) → P x → Q x) → IfOk r P → IfOk r Q
+pub if_ok_follows : {T E : Type 0} {P Q : T → Type 0} (r : Result T E) → ((x : T) → P x → Q x)
+    → IfOk r P → IfOk r Q
 if_ok_follows (Ok x) f p = f x p
 if_ok_follows (Err e) f p = tt
 
-pub begun_as : (t u h : List ℕ) (w w' : Option (List ℕ)) → IsBegun (h ++ t) w w' → t ≡ u → IsBegun (h ++ u) w w'
+pub begun_as : (t u h : List ℕ) (w w' : Option (List ℕ)) → IsBegun (h ++ t) w w' → t ≡ u
+    → IsBegun (h ++ u) w w'
 begun_as t u h w w' d same = subst (λ l. IsBegun (h ++ l) w w') same d

@@ -1,5 +1,6 @@
 -- The rows of a picture, run by run.
-use Rattle.std.proofs.Common.{◌≡◌, ℕ, zero, suc, ◌+◌, ◌-◌, ◌*◌, ◌<◌, ◌≤◌, List, [], ◌∷◌, ◌++◌, Option, length, refl, sym, ◌∙◌, ap, arith, append-nil, length-append}
+use Rattle.std.proofs.Common.{◌≡◌, ℕ, zero, suc, ◌+◌, ◌-◌, ◌*◌, ◌<◌, ◌≤◌, List, [], ◌∷◌, ◌++◌}
+use Rattle.std.proofs.Common.{Option, length, refl, sym, ◌∙◌, ap, arith, append-nil, length-append}
 use Rattle.std.specs.Prelude.{codes, map, replicate}
 use Rattle.std.specs.Fmt.{decimal}
 use Rattle.std.specs.List.{flat_map}
@@ -21,7 +22,7 @@ unfolding numbers_from
 numbers_length z zero = refl
 numbers_length z (suc n) = ap suc (numbers_length (z + 1) n)
 
--- the first so many bytes of a row
+-- the first n bytes of a row
 unfoldable pub row_front : Classes → Voxel → Voxel → ℕ → ℕ → List ℕ
 row_front c lo hi y n = map (λ x. grey_of (band_class c lo.z hi.z x y)) (numbers_from lo.x n)
 
@@ -29,15 +30,18 @@ pub row_none : (c : Classes) (lo hi : Voxel) (y n : ℕ) → n ≡ 0 → row_fro
 unfolding row_front numbers_from
 row_none c lo hi y n is = ap (row_front c lo hi y) is
 
-same_bytes : (f : ℕ → ℕ) (z n g : ℕ) → ((m : ℕ) → z ≤ m → m < z + n → f m ≡ g) → map f (numbers_from z n) ≡ replicate n g
+same_bytes : (f : ℕ → ℕ) (z n g : ℕ) → ((m : ℕ) → z ≤ m → m < z + n → f m ≡ g)
+    → map f (numbers_from z n) ≡ replicate n g
 unfolding numbers_from
 same_bytes f z zero g h = refl
 same_bytes f z (suc n) g h =
     ap (λ x. x ∷ map f (numbers_from (z + 1) n)) (h z (omega arith) (omega arith))
-    ∙ ap (λ l. g ∷ l) (same_bytes f (z + 1) n g (λ m low high. h m (omega (arith, low)) (omega (arith, high))))
+    ∙ ap (λ l. g ∷ l)
+    (same_bytes f (z + 1) n g (λ m low high. h m (omega (arith, low)) (omega (arith, high))))
 
--- columns that show the same, behind these
-pub row_more : (c : Classes) (lo hi : Voxel) (y x next g : ℕ) (k : Class) → lo.x ≤ x → x < next → g ≡ grey_of k
+-- columns that show the same, after these
+pub row_more : (c : Classes) (lo hi : Voxel) (y x next g : ℕ) (k : Class) → lo.x ≤ x → x < next
+    → g ≡ grey_of k
     → ((m : ℕ) → x ≤ m → m < next → band_class c lo.z hi.z m y ≡ k)
     → row_front c lo hi y (x - lo.x) ++ replicate (next - x) g ≡ row_front c lo hi y (next - lo.x)
 unfolding row_front
@@ -45,32 +49,41 @@ row_more c lo hi y x next g k low up grey same =
     let parts : next - lo.x ≡ (x - lo.x) + (next - x) = omega (arith, low, up) in
     let from : lo.x + (x - lo.x) ≡ x = omega (arith, low) in
     sym (ap (row_front c lo hi y) parts
-    ∙ ap (map (λ x. grey_of (band_class c lo.z hi.z x y))) (numbers_append lo.x (x - lo.x) (next - x))
-    ∙ map-append (λ x. grey_of (band_class c lo.z hi.z x y)) (numbers_from lo.x (x - lo.x)) (numbers_from (lo.x + (x - lo.x)) (next - x))
+    ∙ ap (map (λ x. grey_of (band_class c lo.z hi.z x y)))
+    (numbers_append lo.x (x - lo.x) (next - x))
+    ∙ map-append (λ x. grey_of (band_class c lo.z hi.z x y)) (numbers_from lo.x (x - lo.x))
+    (numbers_from (lo.x + (x - lo.x)) (next - x))
     ∙ ap (λ (l : List ℕ). row_front c lo hi y (x - lo.x) ++ l)
-    (ap (λ (n : ℕ). map (λ x. grey_of (band_class c lo.z hi.z x y)) (numbers_from n (next - x))) from
+    (ap (λ (n : ℕ). map (λ x. grey_of (band_class c lo.z hi.z x y)) (numbers_from n (next - x)))
+    from
     ∙ same_bytes (λ x. grey_of (band_class c lo.z hi.z x y)) x (next - x) g
     (λ m l h. ap grey_of (same m l (omega (arith, h, up))) ∙ sym grey)))
 
 -- the whole row
-pub row_whole : (c : Classes) (lo hi : Voxel) (y n : ℕ) → n ≡ hi.x + 1 - lo.x → row_front c lo hi y n ≡ row_of c lo hi y
+pub row_whole : (c : Classes) (lo hi : Voxel) (y n : ℕ) → n ≡ hi.x + 1 - lo.x
+    → row_front c lo hi y n ≡ row_of c lo hi y
 unfolding row_front row_of
 row_whole c lo hi y n is = ap (row_front c lo hi y) is
 
 -- what is left of it
-pub row_rest : (c : Classes) (lo hi : Voxel) (y n : ℕ) → n ≤ hi.x + 1 - lo.x → (rest : List ℕ) × (row_front c lo hi y n ++ rest ≡ row_of c lo hi y)
+pub row_rest : (c : Classes) (lo hi : Voxel) (y n : ℕ) → n ≤ hi.x + 1 - lo.x
+    → (rest : List ℕ) × (row_front c lo hi y n ++ rest ≡ row_of c lo hi y)
 unfolding row_front
 row_rest c lo hi y n few = (
   map (λ x. grey_of (band_class c lo.z hi.z x y)) (numbers_from (lo.x + n) (hi.x + 1 - lo.x - n)),
-  sym (map-append (λ x. grey_of (band_class c lo.z hi.z x y)) (numbers_from lo.x n) (numbers_from (lo.x + n) (hi.x + 1 - lo.x - n)))
-      ∙ ap (map (λ x. grey_of (band_class c lo.z hi.z x y))) (sym (numbers_append lo.x n (hi.x + 1 - lo.x - n)))
+  sym (map-append (λ x. grey_of (band_class c lo.z hi.z x y)) (numbers_from lo.x n)
+      (numbers_from (lo.x + n) (hi.x + 1 - lo.x - n)))
+      ∙ ap (map (λ x. grey_of (band_class c lo.z hi.z x y)))
+      (sym (numbers_append lo.x n (hi.x + 1 - lo.x - n)))
       ∙ row_whole c lo hi y (n + (hi.x + 1 - lo.x - n)) (omega (arith, few)),
 )
 
 -- a row that ends early in a run
-pub row_cut : (c : Classes) (lo hi : Voxel) (y x next g : ℕ) (k : Class) → lo.x ≤ x → x < next → next ≤ hi.x + 1 → g ≡ grey_of k
+pub row_cut : (c : Classes) (lo hi : Voxel) (y x next g : ℕ) (k : Class) → lo.x ≤ x → x < next
+    → next ≤ hi.x + 1 → g ≡ grey_of k
     → ((m : ℕ) → x ≤ m → m < next → band_class c lo.z hi.z m y ≡ k)
-    → (rest : List ℕ) × (row_front c lo hi y (x - lo.x) ++ (replicate (next - x) g ++ rest) ≡ row_of c lo hi y)
+    → (rest : List ℕ)
+    × (row_front c lo hi y (x - lo.x) ++ (replicate (next - x) g ++ rest) ≡ row_of c lo hi y)
 row_cut c lo hi y x next g k low up most grey same =
     let (rest, is) = row_rest c lo hi y (next - lo.x) (omega (arith, low, up, most)) in (
       rest,
@@ -82,12 +95,17 @@ row_cut c lo hi y x next g k low up most grey same =
     append_parts [] b d = refl
     append_parts (x ∷ a) b d = ap (λ l. x ∷ l) (append_parts a b d)
 
-pub row_begun : (c : Classes) (lo hi : Voxel) (y x next g : ℕ) (k : Class) (h0 h1 : List ℕ) (w0 w1 w2 : Option (List ℕ))
-    → IsPushed (row_front c lo hi y (x - lo.x)) h0 h1 w0 w1 → IsBegun (h1 ++ replicate (next - x) g) w1 w2 → g ≡ grey_of k
-    → lo.x ≤ x → x < next → next ≤ hi.x + 1 → ((m : ℕ) → x ≤ m → m < next → band_class c lo.z hi.z m y ≡ k) → IsBegun (h0 ++ row_of c lo hi y) w0 w2
+pub row_begun : (c : Classes) (lo hi : Voxel) (y x next g : ℕ) (k : Class) (h0 h1 : List ℕ)
+    (w0 w1 w2 : Option (List ℕ))
+    → IsPushed (row_front c lo hi y (x - lo.x)) h0 h1 w0 w1
+    → IsBegun (h1 ++ replicate (next - x) g) w1 w2 → g ≡ grey_of k
+    → lo.x ≤ x → x < next → next ≤ hi.x + 1
+    → ((m : ℕ) → x ≤ m → m < next → band_class c lo.z hi.z m y ≡ k)
+    → IsBegun (h0 ++ row_of c lo hi y) w0 w2
 row_begun c lo hi y x next g k h0 h1 w0 w1 w2 pushed begun grey low up most same =
     let (rest, is) = row_cut c lo hi y x next g k low up most grey same in
-    pushed_begun (row_front c lo hi y (x - lo.x)) (replicate (next - x) g) rest (row_of c lo hi y) h0 h1 w0 w1 w2 pushed begun is
+    pushed_begun (row_front c lo hi y (x - lo.x))
+    (replicate (next - x) g) rest (row_of c lo hi y) h0 h1 w0 w1 w2 pushed begun is
 
 -- ---- rows
 
@@ -97,29 +115,36 @@ rows_none c lo hi = refl
 
 -- these rows and more
 pub rows_append : (c : Classes) (lo hi : Voxel) (n m : ℕ)
-    → rows_of c lo hi (n + m) ≡ rows_of c lo hi n ++ flat_map (λ k. row_of c lo hi (hi.y - k)) (numbers_from n m)
+    → rows_of c lo hi (n + m) ≡ rows_of c lo hi n ++ flat_map (λ k. row_of c lo hi (hi.y - k))
+    (numbers_from n m)
 unfolding rows_of
 rows_append c lo hi n m =
     ap (flat_map (λ k. row_of c lo hi (hi.y - k))) (numbers_append 0 n m)
     ∙ flat_map-append (λ k. row_of c lo hi (hi.y - k)) (numbers_from 0 n) (numbers_from (0 + n) m)
-    ∙ ap (λ (z : ℕ). rows_of c lo hi n ++ flat_map (λ k. row_of c lo hi (hi.y - k)) (numbers_from z m)) first
+    ∙ ap (λ (z : ℕ). rows_of c lo hi n ++ flat_map (λ k. row_of c lo hi (hi.y - k))
+    (numbers_from z m)) first
   where
     first : 0 + n ≡ n
     first = omega arith
 
 one_more : (c : Classes) (lo hi : Voxel) (n m : ℕ)
     → flat_map (λ k. row_of c lo hi (hi.y - k)) (numbers_from n (suc m))
-    ≡ row_of c lo hi (hi.y - n) ++ flat_map (λ k. row_of c lo hi (hi.y - k)) (numbers_from (n + 1) m)
+    ≡ row_of c lo hi (hi.y - n) ++ flat_map (λ k. row_of c lo hi (hi.y - k))
+    (numbers_from (n + 1) m)
 unfolding numbers_from
 one_more c lo hi n m = refl
 
-pub rows_next : (c : Classes) (lo hi : Voxel) (n : ℕ) → rows_of c lo hi n ++ row_of c lo hi (hi.y - n) ≡ rows_of c lo hi (n + 1)
+pub rows_next : (c : Classes) (lo hi : Voxel) (n : ℕ)
+    → rows_of c lo hi n ++ row_of c lo hi (hi.y - n) ≡ rows_of c lo hi (n + 1)
 unfolding numbers_from
-rows_next c lo hi n = sym (rows_append c lo hi n 1 ∙ ap (λ (l : List ℕ). rows_of c lo hi n ++ l) (append-nil (row_of c lo hi (hi.y - n))))
+rows_next c lo hi n =
+    sym (rows_append c lo hi n 1 ∙ ap (λ (l : List ℕ). rows_of c lo hi n ++ l)
+    (append-nil (row_of c lo hi (hi.y - n))))
 
--- what comes behind a row
+-- what comes after a row
 pub rows_cut : (c : Classes) (lo hi : Voxel) (n all : ℕ) → n < all
-    → (rest : List ℕ) × (rows_of c lo hi n ++ (row_of c lo hi (hi.y - n) ++ rest) ≡ rows_of c lo hi all)
+    → (rest : List ℕ)
+    × (rows_of c lo hi n ++ (row_of c lo hi (hi.y - n) ++ rest) ≡ rows_of c lo hi all)
 rows_cut c lo hi n all few =
     let parts : n + suc (all - n - 1) ≡ all = omega (arith, few) in (
       flat_map (λ k. row_of c lo hi (hi.y - k)) (numbers_from (n + 1) (all - n - 1)),
@@ -132,42 +157,59 @@ rows_cut c lo hi n all few =
 row_length : (c : Classes) (lo hi : Voxel) (y : ℕ) → length (row_of c lo hi y) ≡ hi.x + 1 - lo.x
 unfolding row_of
 row_length c lo hi y =
-    length-map (numbers_to lo.x hi.x) (λ x. grey_of (band_class c lo.z hi.z x y)) ∙ numbers_length lo.x (hi.x + 1 - lo.x)
+    length-map (numbers_to lo.x hi.x) (λ x. grey_of (band_class c lo.z hi.z x y))
+    ∙ numbers_length lo.x (hi.x + 1 - lo.x)
 
-pub rows_length : (c : Classes) (lo hi : Voxel) (n : ℕ) → length (rows_of c lo hi n) ≡ (hi.x + 1 - lo.x) * n
+pub rows_length : (c : Classes) (lo hi : Voxel) (n : ℕ) → length (rows_of c lo hi n)
+    ≡ (hi.x + 1 - lo.x) * n
 rows_length c lo hi zero = ap length (rows_none c lo hi) ∙ omega arith
 rows_length c lo hi (suc n) =
     let before = rows_length c lo hi n in
     let one = row_length c lo hi (hi.y - n) in
     let next : suc n ≡ n + 1 = omega arith in
-    let all : length (rows_of c lo hi (suc n)) ≡ length (rows_of c lo hi n) + length (row_of c lo hi (hi.y - n))
-    = ap (λ (m : ℕ). length (rows_of c lo hi m)) next ∙ ap length (sym (rows_next c lo hi n)) ∙ length-append (rows_of c lo hi n) (row_of c lo hi (hi.y - n)) in
+    let all : length (rows_of c lo hi (suc n))
+    ≡ length (rows_of c lo hi n) + length (row_of c lo hi (hi.y - n))
+    = ap (λ (m : ℕ). length (rows_of c lo hi m)) next ∙ ap length (sym (rows_next c lo hi n))
+    ∙ length-append (rows_of c lo hi n) (row_of c lo hi (hi.y - n)) in
     omega (arith, before, one, all)
 
-pub pgm_parts : (c : Classes) (lo hi : Voxel) (head : List ℕ) (w h : ℕ) → head ≡ grid_head w h → w ≡ hi.x + 1 - lo.x → h ≡ hi.y + 1 - lo.y
+pub pgm_parts : (c : Classes) (lo hi : Voxel) (head : List ℕ) (w h : ℕ) → head ≡ grid_head w h
+    → w ≡ hi.x + 1 - lo.x → h ≡ hi.y + 1 - lo.y
     → head ++ rows_of c lo hi (hi.y + 1 - lo.y) ≡ pgm_text c lo hi
 unfolding pgm_text
 pgm_parts c lo hi head w h is wide high =
-    ap (λ (l : List ℕ). l ++ rows_of c lo hi (hi.y + 1 - lo.y)) (is ∙ ap (λ (n : ℕ). grid_head n h) wide ∙ ap (grid_head (hi.x + 1 - lo.x)) high)
+    ap (λ (l : List ℕ). l ++ rows_of c lo hi (hi.y + 1 - lo.y))
+    (is ∙ ap (λ (n : ℕ). grid_head n h) wide ∙ ap (grid_head (hi.x + 1 - lo.x)) high)
 
-pub pgm_length : (c : Classes) (lo hi : Voxel) (head : List ℕ) (w h : ℕ) → head ≡ grid_head w h → w ≡ hi.x + 1 - lo.x → h ≡ hi.y + 1 - lo.y
+pub pgm_length : (c : Classes) (lo hi : Voxel) (head : List ℕ) (w h : ℕ) → head ≡ grid_head w h
+    → w ≡ hi.x + 1 - lo.x → h ≡ hi.y + 1 - lo.y
     → length head + w * h ≡ length (pgm_text c lo hi)
 pgm_length c lo hi head w h is wide high =
     let all : length (pgm_text c lo hi) ≡ length head + length (rows_of c lo hi (hi.y + 1 - lo.y))
-    = ap length (sym (pgm_parts c lo hi head w h is wide high)) ∙ length-append head (rows_of c lo hi (hi.y + 1 - lo.y)) in
-    let rows : length (rows_of c lo hi (hi.y + 1 - lo.y)) ≡ w * h = rows_length c lo hi (hi.y + 1 - lo.y) ∙ ap (λ (n : ℕ). n * (hi.y + 1 - lo.y)) (sym wide) ∙ ap (λ (n : ℕ). w * n) (sym high) in
+    = ap length (sym (pgm_parts c lo hi head w h is wide high))
+    ∙ length-append head (rows_of c lo hi (hi.y + 1 - lo.y)) in
+    let rows : length (rows_of c lo hi (hi.y + 1 - lo.y)) ≡ w * h =
+    rows_length c lo hi (hi.y + 1 - lo.y) ∙ ap (λ (n : ℕ). n * (hi.y + 1 - lo.y)) (sym wide)
+    ∙ ap (λ (n : ℕ). w * n) (sym high) in
     omega (arith, all, rows)
 
 -- the lines before the rows, piece by piece
-pub head_built : (t0 t1 t2 t3 t4 last a b e wide high : List ℕ) (w h : ℕ) → t0 ≡ [] → t1 ≡ t0 ++ a → t2 ≡ t1 ++ wide → t3 ≡ t2 ++ b
-    → t4 ≡ t3 ++ high → last ≡ t4 ++ e → (((a ++ wide) ++ b) ++ high) ++ e ≡ grid_head w h → last ≡ grid_head w h
+pub head_built : (t0 t1 t2 t3 t4 last a b e wide high : List ℕ) (w h : ℕ) → t0 ≡ [] → t1 ≡ t0 ++ a
+    → t2 ≡ t1 ++ wide → t3 ≡ t2 ++ b
+    → t4 ≡ t3 ++ high → last ≡ t4 ++ e → (((a ++ wide) ++ b) ++ high) ++ e ≡ grid_head w h
+    → last ≡ grid_head w h
 head_built t0 t1 t2 t3 t4 last a b e wide high w h p0 p1 p2 p3 p4 end is =
-    end ∙ ap (λ t. t ++ e) (p4 ∙ ap (λ t. t ++ high) (p3 ∙ ap (λ t. t ++ b) (p2 ∙ ap (λ t. t ++ wide) (p1 ∙ ap (λ t. t ++ a) p0)))) ∙ is
+    end ∙ ap (λ t. t ++ e)
+    (p4 ∙ ap (λ t. t ++ high)
+    (p3 ∙ ap (λ t. t ++ b) (p2 ∙ ap (λ t. t ++ wide) (p1 ∙ ap (λ t. t ++ a) p0)))) ∙ is
 
-pub head_pieces : (a b e wide high : List ℕ) (w h : ℕ) → a ≡ codes "P5\n" → b ≡ codes " " → e ≡ codes "\n255\n" → wide ≡ decimal w → high ≡ decimal h
+pub head_pieces : (a b e wide high : List ℕ) (w h : ℕ) → a ≡ codes "P5\n" → b ≡ codes " "
+    → e ≡ codes "\n255\n" → wide ≡ decimal w → high ≡ decimal h
     → (((a ++ wide) ++ b) ++ high) ++ e ≡ grid_head w h
 unfolding grid_head
 head_pieces a b e wide high w h is_a is_b is_e is_w is_h = rw (is_a, is_b, is_e, is_w, is_h) refl
 
-pub head_as : (head : List ℕ) (w h wide high : ℕ) → head ≡ grid_head w h → wide ≡ w → high ≡ h → head ≡ grid_head wide high
-head_as head w h wide high is e f = is ∙ ap (λ (n : ℕ). grid_head n h) (sym e) ∙ ap (grid_head wide) (sym f)
+pub head_as : (head : List ℕ) (w h wide high : ℕ) → head ≡ grid_head w h → wide ≡ w → high ≡ h
+    → head ≡ grid_head wide high
+head_as head w h wide high is e f = is ∙ ap (λ (n : ℕ). grid_head n h) (sym e)
+    ∙ ap (grid_head wide) (sym f)

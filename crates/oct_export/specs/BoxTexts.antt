@@ -10,19 +10,19 @@ use Rattle.oct_key.specs.Block.{Cube, side}
 use Rattle.oct_values.specs.Classes.{Classes}
 use Rattle.oct_export.specs.Boxes.{boxes_of}
 
--- a length in ten-billionths of a metre, in metres: a point and the digits behind it only where
+-- a length in ten-billionths of a metre, in metres: a point and the digits after it only where
 -- there are some, up to the last one that isn't 0
 unfoldable pub fine_text : ℕ → List ℕ
 fine_text n = decimal (n / 10 ^ 10) ++ fraction_text (leading_digits 10 (n % 10 ^ 10))
 
--- twice the middle of a block of this depth and number on an axis, in voxels from the lowest face of
--- the map on: where its voxels begin, and where they end
+-- twice the middle of a block of this depth and number on an axis, in voxels from the lowest face
+-- of the map on: where its voxels begin, and where they end
 abbrev pub twice_middle : ℕ → ℕ → ℕ
 twice_middle depth n = n * side depth + (n + 1) * side depth
 
 -- the middle of a block on an axis, in metres from the origin, which lies 32,768 voxels from that
--- face: half of so many edges of this many nanometres, of which each half is five ten-billionths of
--- a metre, with a minus below the origin
+-- face: half of this many edges of this many nanometres, of which each half is five ten-billionths
+-- of a metre, with a minus below the origin
 unfoldable pub middle_text : ℕ → ℕ → ℕ → List ℕ
 middle_text edge depth n =
     sign_text (nat_lt (twice_middle depth n) 65536)

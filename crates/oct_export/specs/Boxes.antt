@@ -1,5 +1,6 @@
 -- The greatest blocks that are occupied throughout.
-use Rattle.std.specs.Prelude.{ℕ, zero, suc, ◌+◌, ◌-◌, Bool, ◌&&◌, ◌||◌, not, nat_eq, List, [], ◌∷◌, ◌++◌, if◌then◌else◌}
+use Rattle.std.specs.Prelude.{ℕ, zero, suc, ◌+◌, ◌-◌, Bool, ◌&&◌, ◌||◌, not, nat_eq, List, [], ◌∷◌}
+use Rattle.std.specs.Prelude.{◌++◌, if◌then◌else◌}
 use Rattle.std.specs.List.{filter, flat_map, list_all}
 use Rattle.oct_key.specs.Block.{Cube, child_of, number_of_child, parent_of, root_block}
 use Rattle.oct_odds.specs.declared.event.Class.TheVariants.{Occupied}
@@ -24,8 +25,8 @@ all_blocks = blocks_below 17 root_block
 unfoldable pub boxes_of : Classes → List Cube
 boxes_of classes = filter (is_box_of classes) all_blocks
 
--- the boxes in a block that stands so many depths above the voxels, by its own voxels alone: itself
--- where all are occupied, else those in its children
+-- the boxes in a block that stands this many depths above the voxels, by its own voxels alone:
+-- itself where all are occupied, else those in its children
 unfoldable pub boxes_below : Classes → ℕ → Cube → List Cube
 boxes_below classes zero b = if is_full classes b then b ∷ [] else []
 boxes_below classes (suc depths) b =
@@ -41,15 +42,16 @@ unfoldable pub children_before : Cube → ℕ → List Cube
 children_before b zero = []
 children_before b (suc i) = children_before b i ++ child_of b i ∷ []
 
--- the blocks before a block in the one so many levels above it: the children before its own way
+-- the blocks before a block in the one this many levels above it: the children before its own way
 -- down to it
 unfoldable pub blocks_before : ℕ → Cube → List Cube
 blocks_before zero b = []
 blocks_before (suc levels) b =
     blocks_before levels (parent_of b) ++ children_before (parent_of b) (number_of_child b)
 
--- what a walk through a block finds out, where all voxels before it in the block so many levels
--- above it are occupied: nothing as long as its own are too, else which boxes these are, and its own
+-- what a walk through a block finds out, where all voxels before it in the block this many levels
+-- above it are occupied: nothing as long as its own are too, else which boxes these are, and its
+-- own
 unfoldable pub boxes_found : Classes → ℕ → Cube → List Cube
 boxes_found classes waiting b =
     if is_full classes b then [] else blocks_before waiting b ++ boxes_in classes b

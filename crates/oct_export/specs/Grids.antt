@@ -20,7 +20,7 @@ unfoldable pub row_of : Classes → Voxel → Voxel → ℕ → List ℕ
 row_of classes lo hi y =
     map (λ x. grey_of (band_class classes lo.z hi.z x y)) (numbers_to lo.x hi.x)
 
--- so many rows, the highest y first
+-- this many rows, the highest y first
 unfoldable pub rows_of : Classes → Voxel → Voxel → ℕ → List ℕ
 rows_of classes lo hi count = flat_map (λ n. row_of classes lo hi (hi.y - n)) (numbers_from 0 count)
 

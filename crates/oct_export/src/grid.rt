@@ -1,8 +1,9 @@
 //! A height band as a grey picture.
-ghost use Rattle.std.specs.Prelude.{◌≡◌, ◌+◌, ◌-◌, ◌≤◌, ◌++◌, OnOk, OnErr, IfOk, IsErrOf, length, replicate};
+ghost use Rattle.std.specs.Prelude.{◌≡◌, ◌+◌, ◌-◌, ◌≤◌, ◌++◌, OnOk, OnErr, IfOk, length, replicate};
 ghost use Rattle.oct_key.specs.Boxes.{IsBox};
+ghost use Rattle.oct_io.specs.Counts.{IsWriteCounted};
 ghost use Rattle.oct_io.specs.Taken.{IsBegun};
-ghost use Rattle.oct_io.specs.Told.{Rose, appended};
+ghost use Rattle.oct_io.specs.Told.{appended};
 ghost use Rattle.oct_export.specs.Seen.{classes_in};
 ghost use Rattle.oct_export.specs.Grids.{grey_of, grid_head, row_of, rows_of, pgm_text};
 ghost use Rattle.oct_export.specs.Pushed.{IsPushed};
@@ -29,7 +30,7 @@ fn grey_of(class: Class) -> u8
     }
 }
 
-/// Pushes so many bytes of one value.
+/// Pushes this many bytes of one value.
 fn push_run<K: Sink>(
     byte: u8,
     count: u32,
@@ -40,12 +41,8 @@ fn push_run<K: Sink>(
         (K.written sink.old) (K.written sink.new)) }
     ensures begun { OnErr result (IsBegun (gather.old ++ replicate count byte)
         (K.written sink.old) (K.written sink.new)) }
-    ensures stays { OnOk result
-        ((K.faults sink.new ≡ K.faults sink.old) × (K.shortages sink.new ≡ K.shortages sink.old)) }
-    ensures failed { IsErrOf result SinkFault.Failed → Rose (K.faults sink.old) (K.faults sink.new)
-        × (K.shortages sink.new ≡ K.shortages sink.old) }
-    ensures memory { IsErrOf result SinkFault.Memory → (K.faults sink.new ≡ K.faults sink.old)
-        × Rose (K.shortages sink.old) (K.shortages sink.new) }
+    ensures counts { IsWriteCounted result (K.faults sink.old) (K.faults sink.new)
+        (K.shortages sink.old) (K.shortages sink.new) }
 {
     let bytes = [byte; PIECE as usize];
     let mut left = count;
@@ -72,12 +69,8 @@ fn push_row<K: Sink>(
         gather.old gather.new (K.written sink.old) (K.written sink.new)) }
     ensures begun { OnErr result (IsBegun (gather.old ++ row_of (classes_in tree.now) lo hi y)
         (K.written sink.old) (K.written sink.new)) }
-    ensures stays { OnOk result
-        ((K.faults sink.new ≡ K.faults sink.old) × (K.shortages sink.new ≡ K.shortages sink.old)) }
-    ensures failed { IsErrOf result SinkFault.Failed → Rose (K.faults sink.old) (K.faults sink.new)
-        × (K.shortages sink.new ≡ K.shortages sink.old) }
-    ensures memory { IsErrOf result SinkFault.Memory → (K.faults sink.new ≡ K.faults sink.old)
-        × Rose (K.shortages sink.old) (K.shortages sink.new) }
+    ensures counts { IsWriteCounted result (K.faults sink.old) (K.faults sink.new)
+        (K.shortages sink.old) (K.shortages sink.new) }
 {
     let mut x = u32::from(lo.x);
     while x <= u32::from(hi.x) {
@@ -104,12 +97,8 @@ fn push_rows<K: Sink>(
     ensures begun { OnErr result
         (IsBegun (gather.old ++ rows_of (classes_in tree.now) lo hi (hi.y + 1 - lo.y))
         (K.written sink.old) (K.written sink.new)) }
-    ensures stays { OnOk result
-        ((K.faults sink.new ≡ K.faults sink.old) × (K.shortages sink.new ≡ K.shortages sink.old)) }
-    ensures failed { IsErrOf result SinkFault.Failed → Rose (K.faults sink.old) (K.faults sink.new)
-        × (K.shortages sink.new ≡ K.shortages sink.old) }
-    ensures memory { IsErrOf result SinkFault.Memory → (K.faults sink.new ≡ K.faults sink.old)
-        × Rose (K.shortages sink.old) (K.shortages sink.new) }
+    ensures counts { IsWriteCounted result (K.faults sink.old) (K.faults sink.new)
+        (K.shortages sink.old) (K.shortages sink.new) }
 {
     let height = u32::from(hi.y - lo.y) + 1;
     for n in 0..height {
@@ -134,12 +123,12 @@ fn head_of(width: u32, height: u32) -> ArrayString<32>
 
 /// Writes the columns of the box of two corners, both included, as a PGM file, and answers its
 /// length. A column shows its voxels between the corners' numbers on z as [`band`](crate::band)
-/// does: black where it is occupied, 254 where it is free, 205 where it is unknown. Rows go from the
-/// highest number on y to the lowest, and in a row the number on x ascends.
+/// does: black where it is occupied, 254 where it is free, 205 where it is unknown. Rows go from
+/// the highest number on y to the lowest, and in a row the number on x ascends.
 ///
-/// Takes no memory, and hands the sink pieces of 4,096 bytes. Blocks of one class are looked at once
-/// for all columns of a row over them. After an error a prefix of the text was written, and exactly
-/// one write of the sink gave up, for that reason.
+/// Takes no memory, and hands the sink pieces of 4,096 bytes. Blocks of one class are looked at
+/// once for all columns of a row over them. After an error a prefix of the text was written, and
+/// exactly one write of the sink gave up, for that reason.
 pub fn pgm<K: Sink>(tree: &OccTree, lo: Key, hi: Key, sink: &mut K) -> Result<u64, SinkFault>
     requires order { IsBox lo hi }
     ensures length { IfOk result
@@ -148,12 +137,8 @@ pub fn pgm<K: Sink>(tree: &OccTree, lo: Key, hi: Key, sink: &mut K) -> Result<u6
         ≡ appended (K.written sink.old) (pgm_text (classes_in tree.now) lo hi)) }
     ensures begun { OnErr result (IsBegun (pgm_text (classes_in tree.now) lo hi)
         (K.written sink.old) (K.written sink.new)) }
-    ensures stays { OnOk result
-        ((K.faults sink.new ≡ K.faults sink.old) × (K.shortages sink.new ≡ K.shortages sink.old)) }
-    ensures failed { IsErrOf result SinkFault.Failed → Rose (K.faults sink.old) (K.faults sink.new)
-        × (K.shortages sink.new ≡ K.shortages sink.old) }
-    ensures memory { IsErrOf result SinkFault.Memory → (K.faults sink.new ≡ K.faults sink.old)
-        × Rose (K.shortages sink.old) (K.shortages sink.new) }
+    ensures counts { IsWriteCounted result (K.faults sink.old) (K.faults sink.new)
+        (K.shortages sink.old) (K.shortages sink.new) }
 {
     let width = u32::from(hi.x - lo.x) + 1;
     let height = u32::from(hi.y - lo.y) + 1;

@@ -3,15 +3,13 @@ ghost use Rattle.std.specs.Prelude.{◌≡◌, ◌+◌, ◌^◌, ◌<◌, ◌≤
 ghost use Rattle.arrayvec.specs.ArrayString.{array_string_len};
 ghost use Rattle.oct_key.specs.CubeOf.{cube_of};
 ghost use Rattle.oct_key.specs.Voxel.{IsResolution};
-ghost use Rattle.oct_num.specs.Form.{fraction_text};
-ghost use Rattle.oct_num.specs.MetresText.{leading_digits};
 ghost use Rattle.oct_num.specs.Sign.{sign_text};
 ghost use Rattle.oct_export.specs.BoxTexts.{box_line, fine_text, middle_text, size_text};
 
 use arrayvec::ArrayString;
 use itoa::Buffer;
 use oct_key::{Block, Res};
-use oct_num::metres_text;
+use oct_num::{fraction_text, metres_text};
 
 /// How many ten-billionths a metre has.
 const PER_METRE: u64 = 10_000_000_000;
@@ -19,39 +17,13 @@ const PER_METRE: u64 = 10_000_000_000;
 /// Twice the number of voxels from the lowest face of the map to the origin.
 const ORIGIN: u64 = 65_536;
 
-/// Appends the digits of a number of this many digits, up to the last one that isn't 0.
-fn push_digits(text: &mut ArrayString<32>, places: u32, n: u64)
-    requires most { places ≤ 10 }
-    requires few { n < 10 ^ places }
-    requires room { array_string_len text.old + places ≤ 32 }
-    ensures appended { text.new.bytes ≡ text.old.bytes ++ leading_digits places n }
-{
-    if n > 0 {
-        let unit = 10u64.pow(places - 1);
-        text.push(char::from(b'0' + (n / unit) as u8));
-        push_digits(text, places - 1, n % unit);
-    }
-}
-
-/// Appends a point and the digits of these ten-billionths, or nothing for none.
-fn push_fraction(text: &mut ArrayString<32>, n: u64)
-    requires few { n < 10 ^ 10 }
-    requires room { array_string_len text.old ≤ 21 }
-    ensures appended { text.new.bytes ≡ text.old.bytes ++ fraction_text (leading_digits 10 n) }
-{
-    if n > 0 {
-        text.push('.');
-        push_digits(text, 10, n);
-    }
-}
-
 /// Appends a length in ten-billionths of a metre, in metres.
 fn push_fine(text: &mut ArrayString<32>, n: u64)
     requires { array_string_len text.old ≤ 1 }
     ensures { text.new.bytes ≡ text.old.bytes ++ fine_text n }
 {
     text.push_str(Buffer::new().format(n / PER_METRE));
-    push_fraction(text, n % PER_METRE);
+    text.push_str(fraction_text(10, n % PER_METRE).as_str());
 }
 
 /// A minus, or nothing.

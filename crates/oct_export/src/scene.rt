@@ -1,9 +1,11 @@
 //! Occupied space as a scene of boxes.
-ghost use Rattle.std.specs.Prelude.{◌≡◌, ◌%◌, ◌^◌, ◌≤◌, ◌++◌, Some, [], OnOk, OnErr, IfOk, IsErrOf, length, if◌then◌else◌};
+ghost use Rattle.std.specs.Prelude.{◌≡◌, ◌%◌, ◌^◌, ◌≤◌, ◌++◌, Some, [], OnOk, OnErr, IfOk, length};
+ghost use Rattle.std.specs.Prelude.{if◌then◌else◌};
 ghost use Rattle.oct_key.specs.Block.{number_of_child, root_block};
 ghost use Rattle.oct_key.specs.CubeOf.{cube_of};
+ghost use Rattle.oct_io.specs.Counts.{IsWriteCounted};
 ghost use Rattle.oct_io.specs.Taken.{IsBegun};
-ghost use Rattle.oct_io.specs.Told.{Rose, appended};
+ghost use Rattle.oct_io.specs.Told.{appended};
 ghost use Rattle.oct_tree.specs.Tree.{IsLinked, IsPlace, block_in};
 ghost use Rattle.oct_export.specs.Seen.{classes_in};
 ghost use Rattle.oct_export.specs.Boxes.{is_full, is_due, waited, blocks_before, boxes_found};
@@ -40,12 +42,8 @@ fn push_box<K: Sink>(
         (K.written sink.old) (K.written sink.new)) }
     ensures begun { OnErr result (IsBegun (gather.old ++ box_line res (cube_of block))
         (K.written sink.old) (K.written sink.new)) }
-    ensures stays { OnOk result
-        ((K.faults sink.new ≡ K.faults sink.old) × (K.shortages sink.new ≡ K.shortages sink.old)) }
-    ensures failed { IsErrOf result SinkFault.Failed → Rose (K.faults sink.old) (K.faults sink.new)
-        × (K.shortages sink.new ≡ K.shortages sink.old) }
-    ensures memory { IsErrOf result SinkFault.Memory → (K.faults sink.new ≡ K.faults sink.old)
-        × Rose (K.shortages sink.old) (K.shortages sink.new) }
+    ensures counts { IsWriteCounted result (K.faults sink.old) (K.faults sink.new)
+        (K.shortages sink.old) (K.shortages sink.new) }
 {
     let line = line_of(res, block);
     gather.push(sink, line.as_bytes())?;
@@ -63,7 +61,7 @@ fn number_of(block: Block) -> u8
     (x + 2 * y + 4 * z) as u8
 }
 
-/// Pushes the boxes before a block in the one so many levels above it, all whose voxels before it
+/// Pushes the boxes before a block in the one this many levels above it, all whose voxels before it
 /// are occupied. Answers how many bytes that are, modulo 2^64.
 fn push_before<K: Sink>(
     res: Res,
@@ -80,12 +78,8 @@ fn push_before<K: Sink>(
     ensures begun { OnErr result
         (IsBegun (gather.old ++ box_lines res (blocks_before levels (cube_of block)))
         (K.written sink.old) (K.written sink.new)) }
-    ensures stays { OnOk result
-        ((K.faults sink.new ≡ K.faults sink.old) × (K.shortages sink.new ≡ K.shortages sink.old)) }
-    ensures failed { IsErrOf result SinkFault.Failed → Rose (K.faults sink.old) (K.faults sink.new)
-        × (K.shortages sink.new ≡ K.shortages sink.old) }
-    ensures memory { IsErrOf result SinkFault.Memory → (K.faults sink.new ≡ K.faults sink.old)
-        × Rose (K.shortages sink.old) (K.shortages sink.new) }
+    ensures counts { IsWriteCounted result (K.faults sink.old) (K.faults sink.new)
+        (K.shortages sink.old) (K.shortages sink.new) }
 {
     if levels == 0 {
         return Ok(0);
@@ -100,7 +94,7 @@ fn push_before<K: Sink>(
 }
 
 /// Pushes what is found out where a block of one class is come to, and all voxels before it in the
-/// block so many levels above it are occupied: if it is too, nothing, else the boxes before it.
+/// block this many levels above it are occupied: if it is too, nothing, else the boxes before it.
 fn push_leaf<K: Sink>(
     res: Res,
     block: Block,
@@ -119,12 +113,8 @@ fn push_leaf<K: Sink>(
     ensures begun { OnErr result (IsBegun (gather.old
         ++ box_lines res (if full then [] else blocks_before levels (cube_of block)))
         (K.written sink.old) (K.written sink.new)) }
-    ensures stays { OnOk result
-        ((K.faults sink.new ≡ K.faults sink.old) × (K.shortages sink.new ≡ K.shortages sink.old)) }
-    ensures failed { IsErrOf result SinkFault.Failed → Rose (K.faults sink.old) (K.faults sink.new)
-        × (K.shortages sink.new ≡ K.shortages sink.old) }
-    ensures memory { IsErrOf result SinkFault.Memory → (K.faults sink.new ≡ K.faults sink.old)
-        × Rose (K.shortages sink.old) (K.shortages sink.new) }
+    ensures counts { IsWriteCounted result (K.faults sink.old) (K.faults sink.new)
+        (K.shortages sink.old) (K.shortages sink.new) }
 {
     if full {
         return Ok(Walked { full, bytes: 0 });
@@ -149,12 +139,8 @@ fn push_due<K: Sink>(
     ensures begun { OnErr result
         (IsBegun (gather.old ++ (if is_box then box_line res (cube_of block) else []))
         (K.written sink.old) (K.written sink.new)) }
-    ensures stays { OnOk result
-        ((K.faults sink.new ≡ K.faults sink.old) × (K.shortages sink.new ≡ K.shortages sink.old)) }
-    ensures failed { IsErrOf result SinkFault.Failed → Rose (K.faults sink.old) (K.faults sink.new)
-        × (K.shortages sink.new ≡ K.shortages sink.old) }
-    ensures memory { IsErrOf result SinkFault.Memory → (K.faults sink.new ≡ K.faults sink.old)
-        × Rose (K.shortages sink.old) (K.shortages sink.new) }
+    ensures counts { IsWriteCounted result (K.faults sink.old) (K.faults sink.new)
+        (K.shortages sink.old) (K.shortages sink.new) }
 {
     if is_box {
         push_box(res, block, gather, sink)
@@ -178,8 +164,8 @@ fn is_due(full: bool, all_before: bool) -> bool
     full && !all_before
 }
 
-/// Walks through the place's block, where all voxels before it in the block so many levels above it
-/// are occupied, and pushes the boxes that are known by then.
+/// Walks through the place's block, where all voxels before it in the block this many levels above
+/// it are occupied, and pushes the boxes that are known by then.
 fn push_boxes<K: Sink>(
     tree: &OccTree,
     p: Place,
@@ -195,18 +181,14 @@ fn push_boxes<K: Sink>(
         (λ walked. walked.full ≡ is_full (classes_in tree.now) (cube_of block)) }
     ensures bytes { IfOk result (λ walked. walked.bytes ≡ length (box_lines tree.now.res
         (boxes_found (classes_in tree.now) levels (cube_of block))) % 2 ^ 64) }
-    ensures pushed { OnOk result
-        (IsPushed (box_lines tree.now.res (boxes_found (classes_in tree.now) levels (cube_of block)))
+    ensures pushed { OnOk result (IsPushed
+        (box_lines tree.now.res (boxes_found (classes_in tree.now) levels (cube_of block)))
         gather.old gather.new (K.written sink.old) (K.written sink.new)) }
     ensures begun { OnErr result (IsBegun (gather.old
         ++ box_lines tree.now.res (boxes_found (classes_in tree.now) levels (cube_of block)))
         (K.written sink.old) (K.written sink.new)) }
-    ensures stays { OnOk result
-        ((K.faults sink.new ≡ K.faults sink.old) × (K.shortages sink.new ≡ K.shortages sink.old)) }
-    ensures failed { IsErrOf result SinkFault.Failed → Rose (K.faults sink.old) (K.faults sink.new)
-        × (K.shortages sink.new ≡ K.shortages sink.old) }
-    ensures memory { IsErrOf result SinkFault.Memory → (K.faults sink.new ≡ K.faults sink.old)
-        × Rose (K.shortages sink.old) (K.shortages sink.new) }
+    ensures counts { IsWriteCounted result (K.faults sink.old) (K.faults sink.new)
+        (K.shortages sink.old) (K.shortages sink.new) }
     ensures linked { IsLinked tree.now }
 {
     let node = tree.node(p);
@@ -254,12 +236,8 @@ pub fn vrml<K: Sink>(tree: &OccTree, sink: &mut K) -> Result<u64, SinkFault>
         ≡ appended (K.written sink.old) (vrml_text tree.now.res (classes_in tree.now))) }
     ensures begun { OnErr result (IsBegun (vrml_text tree.now.res (classes_in tree.now))
         (K.written sink.old) (K.written sink.new)) }
-    ensures stays { OnOk result
-        ((K.faults sink.new ≡ K.faults sink.old) × (K.shortages sink.new ≡ K.shortages sink.old)) }
-    ensures failed { IsErrOf result SinkFault.Failed → Rose (K.faults sink.old) (K.faults sink.new)
-        × (K.shortages sink.new ≡ K.shortages sink.old) }
-    ensures memory { IsErrOf result SinkFault.Memory → (K.faults sink.new ≡ K.faults sink.old)
-        × Rose (K.shortages sink.old) (K.shortages sink.new) }
+    ensures counts { IsWriteCounted result (K.faults sink.old) (K.faults sink.new)
+        (K.shortages sink.old) (K.shortages sink.new) }
 {
     let head = FIRST_LINE.as_bytes();
     let mut gather = Gather::new();

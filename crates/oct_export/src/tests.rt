@@ -126,7 +126,7 @@ fn a_grid_shows_a_band_for_each_column(rt: HostRuntime) -> Result<(), Fail> {
     Ok(())
 }
 
-/// The scene of a tree, written in pieces of 100 bytes, is this text of so many boxes.
+/// The scene of a tree, written in pieces of 100 bytes, is this text of this many boxes.
 fn has_scene(alloc: Global, tree: &OccTree, boxes: u64, text: &str) -> bool {
     let mut sink = MemSink::new(alloc, 100, KeptList::new(alloc));
     let length = vrml(tree, &mut sink);

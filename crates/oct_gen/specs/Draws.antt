@@ -6,7 +6,7 @@ use Rattle.std.specs.Fn.{iterate}
 unfoldable pub stepped : ℕ → ℕ
 stepped state = (state * 6364136223846793005 + 1442695040888963407) % 2 ^ 64
 
--- the state that a seed comes to in so many steps
+-- the state that a seed comes to in this many steps
 abbrev pub state_after : ℕ → ℕ → ℕ
 state_after seed steps = iterate stepped steps seed
 

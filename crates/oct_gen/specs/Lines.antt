@@ -6,11 +6,11 @@ use Rattle.oct_gen.specs.declared.lines.Stage.{Stage}
 use Rattle.oct_gen.specs.declared.lines.Stage.TheVariants.{Header, Scans, Points, Over}
 use Rattle.oct_gen.specs.declared.lines.ScriptLines.{ScriptLines}
 
--- so many scans, drawn from this state on, and the last line
+-- this many scans, drawn from this state on, and the last line
 unfoldable pub scans_to_quit : ℕ → ℕ → ℕ → List ℕ
 scans_to_quit state scans points = scans_text state scans points ++ codes "quit\n"
 
--- what a stage leaves to come, with so many scans that haven't begun, drawn from this state on
+-- what a stage leaves to come, with this many scans that haven't begun, drawn from this state on
 unfoldable pub text_from : Stage → ℕ → ℕ → ℕ → List ℕ
 text_from Header state scans points = script_of state scans points
 text_from Scans state scans points = scans_to_quit state scans points

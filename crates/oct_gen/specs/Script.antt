@@ -5,7 +5,7 @@ use Rattle.std.specs.Fmt.{decimal, signed_decimal}
 use Rattle.oct_num.specs.MetresText.{metres_text}
 use Rattle.oct_gen.specs.Draws.{drawn_within}
 
--- a draw as a length of at most so many millimetres to either side, in metres
+-- a draw as a length of at most this many millimetres to either side, in metres
 unfoldable pub length_text : ℕ → ℕ → ℕ → List ℕ
 length_text reach seed index = metres_text (pos 1000000 *ℤ drawn_within reach seed index)
 
@@ -25,17 +25,17 @@ scan_line seed index =
 unfoldable pub point_line : ℕ → ℕ → List ℕ
 point_line seed index = codes "p " ++ point_text 5000 seed index ++ codes "\n"
 
--- the lines of so many points
+-- the lines of this many points
 unfoldable pub points_text : ℕ → ℕ → ℕ → List ℕ
 points_text seed index points =
     flat_map (λ k. point_line seed (index + 3 * k)) (range_with_len 0 points)
 
--- a scan of so many points
+-- a scan of this many points
 unfoldable pub scan_text : ℕ → ℕ → ℕ → List ℕ
 scan_text seed index points =
     scan_line seed index ++ points_text seed (index + 4) points ++ codes "end\n"
 
--- so many scans, one behind the other
+-- this many scans, one after the other
 unfoldable pub scans_text : ℕ → ℕ → ℕ → List ℕ
 scans_text seed scans points =
     flat_map (λ k. scan_text seed ((4 + 3 * points) * k) points) (range_with_len 0 scans)

@@ -29,7 +29,7 @@ impl Model for Generator {
 }
 
 impl Generator {
-    /// The script of this seed, of so many scans of so many points each.
+    /// The script of this seed, of this many scans of this many points each.
     pub fn new(seed: u64, scans: u32, points: u32) -> Self
         ensures { result ≡ script_of seed scans points }
     {
@@ -88,6 +88,9 @@ impl Source for Generator {
     ghost left = { λ g. Some g };
 
     ghost faults = { λ _. 0 };
+
+    // It counts none.
+    ghost ends = { λ _. 0 };
 
     /// No read fails, and each fills the buffer, but for the last one.
     fn read(&mut self, buffer: &mut [u8]) -> Result<usize, Failed>

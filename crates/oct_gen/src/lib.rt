@@ -1,7 +1,7 @@
 //! Scripts of any size, made from a number.
 //!
 //! A session can be tried on a large input without a data set: [`gen_script`] writes a script of so
-//! many scans of so many points each, and a seed says which.
+//! many scans of this many points each, and a seed says which.
 //!
 //! ```text
 //! gen_script(&mut out, 1, 1, 2)?;
@@ -25,7 +25,7 @@
 //! - A script has at most 62 bytes, and for each scan 59, and 41 for each of its points
 //!   ([`scripts_are_short`]).
 //!
-//! `specs/Draws.antt` names each draw by its index: the state after so many steps from the seed,
+//! `specs/Draws.antt` names each draw by its index: the state after this many steps from the seed,
 //! without its lowest 33 bits. In `specs/Script.antt` each line is a function of the index of its
 //! first draw, so that the script is told with no word of a state that goes from line to line.
 //!

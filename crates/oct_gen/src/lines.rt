@@ -13,7 +13,7 @@ pub(crate) enum Stage {
     Header,
     /// The first one of a scan, or the last one of the script.
     Scans,
-    /// That of a point, of which so many are left, or the end of the scan.
+    /// That of a point, of which this many are left, or the end of the scan.
     Points { left: u32 },
     /// None.
     Over,
@@ -80,7 +80,7 @@ impl ScriptLines {
         scan_line(&mut self.draws)
     }
 
-    /// The line of the next of so many points, or the end of the scan where none is left.
+    /// The line of the next of this many points, or the end of the scan where none is left.
     fn point_or_end(&mut self, left: u32) -> Line
         ensures next { text_from (Stage.Points left) self.old.draws.state self.old.scans_left
             self.old.points ≡ result.bytes ++ to_come self.new }

@@ -1,7 +1,7 @@
 //! A script that is written whole.
-ghost use Rattle.std.specs.Prelude.{◌≡◌, ◌<◌, ◌++◌, ℕ, length, take, OnOk, OnErr, IsErrOf};
-ghost use Rattle.oct_io.specs.Told.{appended, Rose};
-ghost use Rattle.oct_gen.specs.Lines.{to_come};
+ghost use Rattle.std.specs.Prelude.{◌≡◌, ◌<◌, ◌++◌, ℕ, length, take, OnOk, OnErr};
+ghost use Rattle.oct_io.specs.Counts.{IsWriteCounted};
+ghost use Rattle.oct_io.specs.Told.{appended};
 ghost use Rattle.oct_gen.specs.Script.{script_of};
 
 use crate::generator::Generator;
@@ -9,7 +9,7 @@ use crate::lines::ScriptLines;
 use oct_io::{Sink, SinkFault, write_all};
 use oct_num::Memory;
 
-/// Appends the script of this seed, of so many scans of so many points each. After `Memory` a
+/// Appends the script of this seed, of this many scans of this many points each. After `Memory` a
 /// prefix of it was appended.
 pub fn gen_script(out: &mut Vec<u8>, seed: u64, scans: u32, points: u32) -> Result<(), Memory>
     ensures ok { OnOk result (out.new.items ≡ out.old.items ++ script_of seed scans points) }
@@ -23,7 +23,7 @@ pub fn gen_script(out: &mut Vec<u8>, seed: u64, scans: u32, points: u32) -> Resu
     Ok(())
 }
 
-/// Writes the script of this seed, of so many scans of so many points each, in pieces of 4,096
+/// Writes the script of this seed, of this many scans of this many points each, in pieces of 4,096
 /// bytes, which is all that it holds at a time. After an error a prefix of it was written.
 pub fn generate<K: Sink>(seed: u64, scans: u32, points: u32, sink: &mut K) -> Result<(), SinkFault>
     ensures ok { OnOk result (K.written sink.new
@@ -33,12 +33,8 @@ pub fn generate<K: Sink>(seed: u64, scans: u32, points: u32, sink: &mut K) -> Re
         ≡ appended (K.written sink.old) (take n (script_of seed scans points)))) }
 
     // Where it gives up, exactly one write of the sink did, for the same reason.
-    ensures stays { OnOk result
-        ((K.faults sink.new ≡ K.faults sink.old) × (K.shortages sink.new ≡ K.shortages sink.old)) }
-    ensures failed { IsErrOf result SinkFault.Failed → Rose (K.faults sink.old) (K.faults sink.new)
-        × (K.shortages sink.new ≡ K.shortages sink.old) }
-    ensures memory { IsErrOf result SinkFault.Memory → (K.faults sink.new ≡ K.faults sink.old)
-        × Rose (K.shortages sink.old) (K.shortages sink.new) }
+    ensures counts { IsWriteCounted result (K.faults sink.old) (K.faults sink.new)
+        (K.shortages sink.old) (K.shortages sink.new) }
 {
     let mut script = Generator::new(seed, scans, points);
     let mut buffer = [0u8; 4096];

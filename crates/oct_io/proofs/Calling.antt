@@ -7,21 +7,25 @@ use Rattle.oct_io.specs.Told.{Rose}
 one_more : (n : ℕ) → n + 1 ≡ suc n
 one_more n = omega arith
 
-one_call : (fails : List ℕ) (count : ℕ) → failed_within fails (count + 1) ≡ failed_within fails count + cond (is_to_fail fails (count + 1)) 1 0
+one_call : (fails : List ℕ) (count : ℕ) → failed_within fails (count + 1)
+    ≡ failed_within fails count + cond (is_to_fail fails (count + 1)) 1 0
 unfolding failed_within
 one_call fails count = rw (one_more count) refl
 
 -- one call more failed
-pub call_rose : (fails : List ℕ) (count : ℕ) (b : Bool) → b ≡ is_to_fail fails (count + 1) → IsTrue b
+pub call_rose : (fails : List ℕ) (count : ℕ) (b : Bool) → b ≡ is_to_fail fails (count + 1)
+    → IsTrue b
     → Rose (failed_within fails count) (failed_within fails (count + 1))
 call_rose fails count false same t = absurd (no t)
   where
     no : IsTrue false → ⊥
     no e = cc
-call_rose fails count true same t = inl (one_call fails count ∙ ap (λ b. failed_within fails count + cond b 1 0) (sym same))
+call_rose fails count true same t =
+    inl (one_call fails count ∙ ap (λ b. failed_within fails count + cond b 1 0) (sym same))
 
 -- one call more, and none failed
-pub call_stays : (fails : List ℕ) (count : ℕ) (b : Bool) → b ≡ is_to_fail fails (count + 1) → b ≡ false
+pub call_stays : (fails : List ℕ) (count : ℕ) (b : Bool) → b ≡ is_to_fail fails (count + 1)
+    → b ≡ false
     → failed_within fails (count + 1) ≡ failed_within fails count
 call_stays fails count b same none =
     let is : is_to_fail fails (count + 1) ≡ false = sym same ∙ none in

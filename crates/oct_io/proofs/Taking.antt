@@ -1,5 +1,7 @@
 -- What is taken of an input, piece by piece.
-use Rattle.std.proofs.Common.{◌≡◌, ℕ, List, [], ◌++◌, length, take, drop, Option, Some, None, IfSome, refl, sym, ◌∙◌, ap, arith, append_assoc, append-nil, length-append}
+use Rattle.std.proofs.Common.{◌≡◌, ℕ, List, [], ◌++◌, length, take, drop, Option, Some, None}
+use Rattle.std.proofs.Common.{IfSome, refl, sym, ◌∙◌, ap, arith, append_assoc, append-nil}
+use Rattle.std.proofs.Common.{length-append}
 use Rattle.std.proofs.lemmas.List.{take-append-drop}
 use Rattle.std.proofs.lemmas.List.Prefix.{front_rest}
 use Rattle.oct_io.specs.Told.{dropped}
@@ -17,8 +19,9 @@ before_piece None new piece n moved same = rw moved refl
 before_piece (Some left) new piece n moved same =
     rw moved (ap Some (sym (take-append-drop n left) ∙ ap (λ x. x ++ drop n left) (sym same)))
 
--- two pieces, one behind the other, are one longer piece
-pub before_twice : (xs ys : List ℕ) (left : Option (List ℕ)) → before xs (before ys left) ≡ before (xs ++ ys) left
+-- two pieces, one after the other, are one longer piece
+pub before_twice : (xs ys : List ℕ) (left : Option (List ℕ)) → before xs (before ys left)
+    ≡ before (xs ++ ys) left
 before_twice xs ys None = refl
 before_twice xs ys (Some left) = ap Some (sym (append_assoc xs ys left))
 

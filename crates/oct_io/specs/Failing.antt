@@ -1,5 +1,6 @@
 -- Calls that fail by their numbers.
-use Rattle.std.specs.Prelude.{ℕ, zero, suc, ◌+◌, ◌-◌, ◌^◌, nat_eq, nat_lt, Bool, false, List, cond, if◌then◌else◌}
+use Rattle.std.specs.Prelude.{ℕ, zero, suc, ◌+◌, ◌-◌, ◌^◌, nat_eq, nat_lt, Bool, false, List, cond}
+use Rattle.std.specs.Prelude.{if◌then◌else◌}
 use Rattle.std.specs.List.{list_any}
 use Rattle.oct_io.specs.declared.calls.Calls.{Calls}
 
@@ -13,7 +14,8 @@ has_number count = nat_lt count (2 ^ 64 - 1)
 
 -- whether the next call fails
 abbrev pub fails_next : Calls → Bool
-fails_next calls = if has_number calls.count then is_to_fail calls.fails (calls.count + 1) else false
+fails_next calls =
+    if has_number calls.count then is_to_fail calls.fails (calls.count + 1) else false
 
 -- the calls, with one more
 abbrev pub with_call : Calls → Calls
@@ -22,10 +24,11 @@ with_call calls = record {
   count = if has_number calls.count then calls.count + 1 else calls.count;
 }
 
--- how many of the first so many calls fail
+-- how many of the first n calls fail
 unfoldable pub failed_within : List ℕ → ℕ → ℕ
 failed_within fails zero = 0
-failed_within fails (suc count) = failed_within fails count + cond (is_to_fail fails (suc count)) 1 0
+failed_within fails (suc count) =
+    failed_within fails count + cond (is_to_fail fails (suc count)) 1 0
 
 -- how many calls have failed
 abbrev pub failed_of : Calls → ℕ

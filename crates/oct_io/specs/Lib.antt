@@ -6,3 +6,4 @@ pub mod CalmFiles
 pub mod Taken
 pub mod Gathered
 pub mod Failing
+pub mod Counts

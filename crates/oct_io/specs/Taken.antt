@@ -30,12 +30,12 @@ pub record IsGathered (text : List ℕ) (old new : Option (List ℕ)) (held : Li
   pub written : new ≡ appended old front
   pub split : text ≡ front ++ held
 
--- a piece was taken: whatever text was written and held before, it now is with the piece behind it
+-- a piece was taken: whatever text was written and held before, it now is with the piece after it
 abbrev pub IsTaken : List ℕ → Option (List ℕ) → List ℕ → Option (List ℕ) → List ℕ → Type 0
 IsTaken piece old held new held' = (text : List ℕ) (start : Option (List ℕ))
     → IsGathered text start old held → IsGathered (text ++ piece) start new held'
 
--- a piece wasn't: of the text with the piece behind it a part was written, and not all of it
+-- a piece wasn't: of the text with the piece after it a part was written, and not all of it
 abbrev pub IsRefused : List ℕ → Option (List ℕ) → List ℕ → Option (List ℕ) → Type 0
 IsRefused piece old held new = (text : List ℕ) (start : Option (List ℕ))
     → IsGathered text start old held → IsCutOff start new (text ++ piece)

@@ -1,6 +1,6 @@
 ghost use Rattle.std.specs.Prelude.{◌≡◌, ◌<◌, ◌≤◌, ◌++◌, [], Some, length, min, take, IfOk};
-ghost use Rattle.std.specs.Prelude.{IsErrOf, IsOkUnless, OnErr, OnOk};
-ghost use Rattle.oct_io.specs.Told.{Rose};
+ghost use Rattle.std.specs.Prelude.{IsOkUnless, OnErr};
+ghost use Rattle.oct_io.specs.Counts.{IsWriteCounted};
 
 use crate::file_bytes::FileBytes;
 use crate::sink::{Sink, SinkFault};
@@ -66,9 +66,7 @@ impl Sink for CalmSink {
             (λ n. self.new.written ≡ self.old.written ++ take n piece.now) }
         ensures err { OnErr result (self.new.written ≡ self.old.written) }
         ensures calm { IsOkUnless result SinkFault.Memory }
-        ensures stays { OnOk result (self.new.shortages ≡ self.old.shortages) }
-        ensures memory { IsErrOf result SinkFault.Memory
-            → Rose self.old.shortages self.new.shortages }
+        ensures counts { IsWriteCounted result 0 0 self.old.shortages self.new.shortages }
     {
         let count = self.most.min(piece.len());
         let (taken, _) = piece.split_at(count);

@@ -39,6 +39,9 @@ impl Source for CalmSource {
 
     ghost faults = { λ _. 0 };
 
+    // It counts none.
+    ghost ends = { λ _. 0 };
+
     /// A read that finds bytes moves as many as it may: `most`, the length of the buffer, or what
     /// is left, whichever is least.
     fn read(&mut self, buffer: &mut [u8]) -> Result<usize, Failed>

@@ -46,6 +46,9 @@ impl Store for CalmStore {
 
     ghost faults = { λ _. 0 };
 
+    // It counts none.
+    ghost calls = { λ _. 0 };
+
     fn load(&mut self, alloc: Global, name: &str) -> Result<Loaded, StoreFault>
         ensures same { files_of self.new ≡ files_of self.old }
         ensures found { IfOk result (λ loaded. loaded ≡ loaded_of (files_of self.old name.now)) }

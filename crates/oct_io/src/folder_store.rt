@@ -1,5 +1,6 @@
-ghost use Rattle.std.specs.Prelude.{◌≡◌, ◌↔◌, Some, None, Ok, Err, IfOk, IsErrOf, OnOk};
+ghost use Rattle.std.specs.Prelude.{◌≡◌, ◌↔◌, Some, None, Ok, Err, IfOk};
 ghost use Rattle.std.specs.IoError.{error_kind};
+ghost use Rattle.oct_io.specs.Counts.{IsAskCounted};
 ghost use Rattle.oct_io.specs.Loaded.{loaded_of, IsWithinLimit};
 ghost use Rattle.oct_io.specs.Told.{Rose};
 
@@ -64,9 +65,7 @@ impl<R: Files + Drop> FolderStore<R> {
         ensures memory { (result ≡ Err StoreFault.Memory)
             ↔ (error_kind error.now ≡ ErrorKind.OutOfMemory) }
         ensures only { IfOk result (λ loaded. loaded ≡ Loaded.Missing) }
-        ensures stays { OnOk result (self.new.faults ≡ self.old.faults) }
-        ensures short { IsErrOf result StoreFault.Memory → self.new.faults ≡ self.old.faults }
-        ensures cause { IsErrOf result StoreFault.Failed → Rose self.old.faults self.new.faults }
+        ensures counts { IsAskCounted result self.old.faults self.new.faults }
     {
         if error.kind() == ErrorKind::NotFound {
             return Ok(Loaded::Missing);
@@ -109,11 +108,12 @@ impl<R: Files + Drop> Store for FolderStore<R> {
 
     ghost faults = { λ s. s.faults };
 
+    // It counts none.
+    ghost calls = { λ _. 0 };
+
     fn load(&mut self, alloc: Global, name: &str) -> Result<Loaded, StoreFault>
         ensures limit { IfOk result IsWithinLimit }
-        ensures stays { OnOk result (self.new.faults ≡ self.old.faults) }
-        ensures memory { IsErrOf result StoreFault.Memory → self.new.faults ≡ self.old.faults }
-        ensures cause { IsErrOf result StoreFault.Failed → Rose self.old.faults self.new.faults }
+        ensures counts { IsAskCounted result self.old.faults self.new.faults }
     {
         match fs::open(&self.rt, name) {
             Ok(file) => match read_file::<R>(file, alloc) {
@@ -125,9 +125,7 @@ impl<R: Files + Drop> Store for FolderStore<R> {
     }
 
     fn save(&mut self, name: &str, bytes: &[u8]) -> Result<(), StoreFault>
-        ensures stays { OnOk result (self.new.faults ≡ self.old.faults) }
-        ensures memory { IsErrOf result StoreFault.Memory → self.new.faults ≡ self.old.faults }
-        ensures cause { IsErrOf result StoreFault.Failed → Rose self.old.faults self.new.faults }
+        ensures counts { IsAskCounted result self.old.faults self.new.faults }
     {
         match replace(&self.rt, name, bytes) {
             Ok(()) => Ok(()),

@@ -1,8 +1,10 @@
 //! Bytes on their way to a sink.
-ghost use Rattle.std.specs.Prelude.{◌≡◌, ◌<◌, ◌≤◌, ◌+◌, ◌++◌, ℕ, [], length, take, drop, OnErr, OnOk, IsErrOf, IsTrue};
+ghost use Rattle.std.specs.Prelude.{◌≡◌, ◌<◌, ◌≤◌, ◌+◌, ◌++◌, ℕ, [], length, take, drop, OnErr};
+ghost use Rattle.std.specs.Prelude.{OnOk, IsTrue};
+ghost use Rattle.oct_io.specs.Counts.{IsWriteCounted};
 ghost use Rattle.oct_io.specs.Gathered.{handed_on};
 ghost use Rattle.oct_io.specs.Taken.{IsCutOff, IsRefused, IsTaken};
-ghost use Rattle.oct_io.specs.Told.{appended, Rose};
+ghost use Rattle.oct_io.specs.Told.{appended};
 
 use crate::sink::{Sink, SinkFault, write_all};
 use arrayvec::ArrayVec;
@@ -44,8 +46,8 @@ impl Gather {
         }
     }
 
-    /// Takes a piece. The sink is written to only where the piece doesn't fit, and then in pieces of
-    /// 4,096 bytes. After an error no byte is held.
+    /// Takes a piece. The sink is written to only where the piece doesn't fit, and then in pieces
+    /// of 4,096 bytes. After an error no byte is held.
     pub fn push<K: Sink>(&mut self, sink: &mut K, piece: &[u8]) -> Result<(), SinkFault>
         ensures ok { OnOk result (appended (K.written sink.new) self.new
             ≡ appended (appended (K.written sink.old) self.old) piece.now) }
@@ -66,13 +68,8 @@ impl Gather {
             (IsRefused piece.now (K.written sink.old) self.old (K.written sink.new)) }
 
         // Where it gives up, exactly one write of the sink did, for the same reason.
-        ensures stays { OnOk result ((K.faults sink.new ≡ K.faults sink.old)
-            × (K.shortages sink.new ≡ K.shortages sink.old)) }
-        ensures failed { IsErrOf result SinkFault.Failed
-            → Rose (K.faults sink.old) (K.faults sink.new)
-            × (K.shortages sink.new ≡ K.shortages sink.old) }
-        ensures memory { IsErrOf result SinkFault.Memory → (K.faults sink.new ≡ K.faults sink.old)
-            × Rose (K.shortages sink.old) (K.shortages sink.new) }
+        ensures counts { IsWriteCounted result (K.faults sink.old) (K.faults sink.new)
+            (K.shortages sink.old) (K.shortages sink.new) }
     {
         let mut rest = piece;
         while rest.len() > self.room() {
@@ -95,13 +92,8 @@ impl Gather {
             × (K.written sink.new ≡ appended (K.written sink.old) (take n self.old))) }
 
         // Where it gives up, exactly one write of the sink did, for the same reason.
-        ensures stays { OnOk result ((K.faults sink.new ≡ K.faults sink.old)
-            × (K.shortages sink.new ≡ K.shortages sink.old)) }
-        ensures failed { IsErrOf result SinkFault.Failed
-            → Rose (K.faults sink.old) (K.faults sink.new)
-            × (K.shortages sink.new ≡ K.shortages sink.old) }
-        ensures memory { IsErrOf result SinkFault.Memory → (K.faults sink.new ≡ K.faults sink.old)
-            × Rose (K.shortages sink.old) (K.shortages sink.new) }
+        ensures counts { IsWriteCounted result (K.faults sink.old) (K.faults sink.new)
+            (K.shortages sink.old) (K.shortages sink.new) }
     {
         if self.bytes.is_empty() {
             return Ok(());

@@ -12,27 +12,31 @@
 //! - [`Sink::write`] takes bytes from the front of a piece, at least one where there is one.
 //!   [`write_all`] writes the whole piece, and after an error a prefix of it was written.
 //! - [`Gather`] holds up to 4,096 bytes on their way to a sink, and hands it whole pieces.
-//! - [`read_piece`] reads once of an input that may have so many bytes more.
+//! - [`read_piece`] reads once of an input that may have this many bytes more.
 //! - [`Store::save`] sets the bytes of one name and touches no other. [`Store::load`] gives them
 //!   back, or says that there is no such file, or that it has more than `2^30` bytes.
 //! - `Failed` raises the count of faults by one, or leaves it at `2^64 - 1`, where it stays; no
 //!   other answer changes it. So who calls again after a fault is found out by the count. A write
 //!   that runs out of memory raises the sink's count of shortages in the same way.
+//! - A source may count how often its end was met, and a store how often it was asked, so that a
+//!   caller can be held to meeting the end once, and to asking for a file once. The counts of a
+//!   caller are stated as records of `specs/Counts.antt`.
+//! - A save that runs out of memory leaves all files as they were.
 //!
-//! There are three forms of each. [`CalmSource`], [`CalmSink`] and [`CalmStore`] live in memory, tell
-//! all that they hold and never fault; the tests and the proofs about whole programs run on them.
-//! [`MemSource`], [`MemSink`] and [`MemStore`] are the same, but that the calls of some numbers,
-//! counted from 1 on, fail: a test that lets call 1, 2, 3 and so on fail sees what each fault leaves.
-//! [`StdSource`], [`StdSink`] and [`FolderStore`] are the edge to the system: a few lines each over
-//! a reader, a writer and the files of the current folder. What the system does is told by no
-//! contract, so of these it is proved that they are safe, count their faults, pass on what a reader
-//! or writer of std tells, and take an error of opening a file for a missing file exactly where it
-//! says so.
+//! There are three forms of each. [`CalmSource`], [`CalmSink`] and [`CalmStore`] live in memory,
+//! tell all that they hold and never fault; the tests and the proofs about whole programs run on
+//! them. [`MemSource`], [`MemSink`] and [`MemStore`] are the same, but that the calls of some
+//! numbers, counted from 1 on, fail: a test that lets call 1, 2, 3 and so on fail sees what each
+//! fault leaves. [`StdSource`], [`StdSink`] and [`FolderStore`] are the edge to the system: a few
+//! lines each over a reader, a writer and the files of the current folder. What the system does is
+//! told by no contract, so of these it is proved that they are safe, count their faults, pass on
+//! what a reader or writer of std tells, and take an error of opening a file for a missing file
+//! exactly where it says so.
 //!
 //! [`FileBytes`] is a list of bytes, and [`KeptList`] one of whole numbers. The definitions that
 //! contracts cite are in `specs/`: `Told` for the bytes and the counts, `Files` for files by name,
 //! `Loaded` for the answers of a load, `Failing` for calls that fail by their numbers. Laws of
-//! appending and of saving are in `proofs/Appending.antt` and `proofs/Filing.antt`.
+//! appending are in `proofs/Appending.antt`.
 //! Sessions and the program stand on this crate.
 
 #![tactic(auto)]

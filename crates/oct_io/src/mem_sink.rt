@@ -1,7 +1,7 @@
 ghost use Rattle.std.specs.Prelude.{◌≡◌, ◌<◌, ◌≤◌, ◌++◌, [], Some, Err, length, min, take};
-ghost use Rattle.std.specs.Prelude.{IfOk, OnErr, OnOk, IsErrOf, true};
+ghost use Rattle.std.specs.Prelude.{IfOk, OnErr, IsErrOf, true};
+ghost use Rattle.oct_io.specs.Counts.{IsWriteCounted};
 ghost use Rattle.oct_io.specs.Failing.{fails_next, with_call, failed_of};
-ghost use Rattle.oct_io.specs.Told.{Rose};
 
 use crate::calls::Calls;
 use crate::calm_sink::CalmSink;
@@ -59,14 +59,9 @@ impl Sink for MemSink {
         ensures appended { IfOk result
             (λ n. self.new.receipt.written ≡ self.old.receipt.written ++ take n piece.now) }
         ensures err { OnErr result (self.new.receipt.written ≡ self.old.receipt.written) }
-        ensures stays { OnOk result ((failed_of self.new.calls ≡ failed_of self.old.calls)
-            × (self.new.receipt.shortages ≡ self.old.receipt.shortages)) }
-        ensures failed { IsErrOf result SinkFault.Failed
-            → Rose (failed_of self.old.calls) (failed_of self.new.calls)
-            × (self.new.receipt.shortages ≡ self.old.receipt.shortages) }
-        ensures memory { IsErrOf result SinkFault.Memory
-            → (failed_of self.new.calls ≡ failed_of self.old.calls)
-            × Rose self.old.receipt.shortages self.new.receipt.shortages }
+        ensures counts { IsWriteCounted result
+            (failed_of self.old.calls) (failed_of self.new.calls)
+            self.old.receipt.shortages self.new.receipt.shortages }
     {
         if self.calls.next_fails() {
             return Err(SinkFault::Failed);

@@ -1,7 +1,7 @@
 ghost use Rattle.std.specs.Prelude.{◌≡◌, ◌<◌, ◌≤◌, [], Some, drop, length, min, take};
-ghost use Rattle.std.specs.Prelude.{IfOk, OnErr, OnOk, is_err};
+ghost use Rattle.std.specs.Prelude.{IfOk, OnErr, is_err};
+ghost use Rattle.oct_io.specs.Counts.{IsReadCounted};
 ghost use Rattle.oct_io.specs.Failing.{fails_next, with_call, failed_of};
-ghost use Rattle.oct_io.specs.Told.{Rose};
 
 use crate::calls::Calls;
 use crate::calm_source::CalmSource;
@@ -38,6 +38,9 @@ impl Source for MemSource {
 
     ghost faults = { λ s. failed_of s.calls };
 
+    // It counts none.
+    ghost ends = { λ _. 0 };
+
     /// A read that doesn't fail moves as many as it may: `most`, the length of the buffer, or what
     /// is left, whichever is least.
     fn read(&mut self, buffer: &mut [u8]) -> Result<usize, Failed>
@@ -53,9 +56,8 @@ impl Source for MemSource {
         ensures end { IfOk result
             (λ n. n ≡ 0 → 0 < length buffer.old → self.old.supply.left ≡ []) }
         ensures err { OnErr result (self.new.supply.left ≡ self.old.supply.left) }
-        ensures stays { OnOk result (failed_of self.new.calls ≡ failed_of self.old.calls) }
-        ensures cause { OnErr result
-            (Rose (failed_of self.old.calls) (failed_of self.new.calls)) }
+        ensures counts { IsReadCounted result
+            (failed_of self.old.calls) (failed_of self.new.calls) }
     {
         if self.calls.next_fails() {
             return Err(Failed);

@@ -1,6 +1,7 @@
-ghost use Rattle.std.specs.Prelude.{◌≡◌, Some, Err, IfOk, IsErrOf, OnErr, OnOk, option_copied, true};
+ghost use Rattle.std.specs.Prelude.{◌≡◌, Some, Err, IfOk, IsErrOf, OnErr, OnOk, option_copied};
+ghost use Rattle.std.specs.Prelude.{true};
+ghost use Rattle.oct_io.specs.Counts.{IsAskCounted};
 ghost use Rattle.oct_io.specs.Failing.{fails_next, with_call, failed_of};
-ghost use Rattle.oct_io.specs.Told.{Rose};
 
 use crate::calls::Calls;
 use crate::calm_store::CalmStore;
@@ -48,6 +49,8 @@ impl Store for MemStore {
 
     ghost faults = { λ s. failed_of s.calls };
 
+    ghost calls = { λ s. s.calls.count };
+
     fn load(&mut self, alloc: Global, name: &str) -> Result<Loaded, StoreFault>
         ensures fails { IsErrOf result StoreFault.Failed → fails_next self.old.calls ≡ true }
         ensures fails_so { fails_next self.old.calls ≡ true → result ≡ Err StoreFault.Failed }
@@ -56,11 +59,8 @@ impl Store for MemStore {
         ensures found { IfOk result
             (λ loaded. loaded ≡ loaded_of (files_of self.old.shelf name.now)) }
         ensures limit { IfOk result IsWithinLimit }
-        ensures stays { OnOk result (failed_of self.new.calls ≡ failed_of self.old.calls) }
-        ensures memory { IsErrOf result StoreFault.Memory
-            → failed_of self.new.calls ≡ failed_of self.old.calls }
-        ensures cause { IsErrOf result StoreFault.Failed
-            → Rose (failed_of self.old.calls) (failed_of self.new.calls) }
+        ensures counts { IsAskCounted result
+            (failed_of self.old.calls) (failed_of self.new.calls) }
     {
         if self.calls.next_fails() {
             return Err(StoreFault::Failed);
@@ -78,11 +78,8 @@ impl Store for MemStore {
             (files_of self.new.shelf ≡ with_file (files_of self.old.shelf) name.now bytes.now) }
         ensures others { OnErr result (KeepsOthers (Some (files_of self.old.shelf))
             (Some (files_of self.new.shelf)) name.now) }
-        ensures stays { OnOk result (failed_of self.new.calls ≡ failed_of self.old.calls) }
-        ensures memory { IsErrOf result StoreFault.Memory
-            → failed_of self.new.calls ≡ failed_of self.old.calls }
-        ensures cause { IsErrOf result StoreFault.Failed
-            → Rose (failed_of self.old.calls) (failed_of self.new.calls) }
+        ensures counts { IsAskCounted result
+            (failed_of self.old.calls) (failed_of self.new.calls) }
     {
         if self.calls.next_fails() {
             return Err(StoreFault::Failed);

@@ -1,6 +1,7 @@
-//! A piece of an input that may have so many bytes.
-ghost use Rattle.std.specs.Prelude.{◌≡◌, ◌<◌, ◌≤◌, ◌+◌, [], length, take, IfOk, IfSome, OnErr, OnOk};
-ghost use Rattle.oct_io.specs.Told.{dropped, Rose};
+//! A piece of an input that may have this many bytes.
+ghost use Rattle.std.specs.Prelude.{◌≡◌, ◌<◌, ◌≤◌, ◌+◌, [], length, take, IfOk, IfSome, OnErr};
+ghost use Rattle.oct_io.specs.Counts.{IsEndCounted, IsReadCounted};
+ghost use Rattle.oct_io.specs.Told.{dropped};
 
 use crate::source::{Failed, Source};
 
@@ -18,8 +19,8 @@ pub fn read_piece<S: Source>(source: &mut S, buffer: &mut [u8], room: u64) -> Re
     ensures enough { IfOk result (λ n. IfSome (S.left source.old) (λ left. n ≤ length left)) }
     ensures end { IfOk result (λ n. n ≡ 0 → IfSome (S.left source.old) (λ left. left ≡ [])) }
     ensures err { OnErr result (S.left source.new ≡ S.left source.old) }
-    ensures stays { OnOk result (S.faults source.new ≡ S.faults source.old) }
-    ensures cause { OnErr result (Rose (S.faults source.old) (S.faults source.new)) }
+    ensures counts { IsReadCounted result (S.faults source.old) (S.faults source.new) }
+    ensures ends { IsEndCounted result (S.ends source.old) (S.ends source.new) }
 {
     let most = wanted(room, buffer.len());
     source.read(&mut buffer[..most])

@@ -1,7 +1,8 @@
 ghost use Rattle.std.specs.Prelude.{◌≡◌, ◌<◌, ◌≤◌, List, ℕ, Option, length, take, IfOk, OnErr};
-ghost use Rattle.std.specs.Prelude.{OnOk, IsErrOf};
+ghost use Rattle.std.specs.Prelude.{OnOk};
 ghost use Rattle.oct_io.specs.declared.sink.SinkFault.TheVariants.{Memory};
-ghost use Rattle.oct_io.specs.Told.{appended, Rose};
+ghost use Rattle.oct_io.specs.Counts.{IsWriteCounted};
+ghost use Rattle.oct_io.specs.Told.{appended};
 
 use oct_num::Memory;
 use std::alloc::{AllocError, AllocFailed};
@@ -64,13 +65,8 @@ pub trait Sink {
         ensures err { OnErr result (written self.new ≡ written self.old) }
 
         // Each error is counted once, and nothing else is counted.
-        ensures stays { OnOk result
-            ((faults self.new ≡ faults self.old) × (shortages self.new ≡ shortages self.old)) }
-        ensures failed { IsErrOf result SinkFault.Failed
-            → Rose (faults self.old) (faults self.new) × (shortages self.new ≡ shortages self.old) }
-        ensures memory { IsErrOf result SinkFault.Memory
-            → (faults self.new ≡ faults self.old)
-            × Rose (shortages self.old) (shortages self.new) };
+        ensures counts { IsWriteCounted result (faults self.old) (faults self.new)
+            (shortages self.old) (shortages self.new) };
 }
 
 /// Writes the whole piece. After an error a prefix of it was written.
@@ -80,12 +76,8 @@ pub fn write_all<K: Sink>(sink: &mut K, piece: &[u8]) -> Result<(), SinkFault>
         × (K.written sink.new ≡ appended (K.written sink.old) (take n piece.now))) }
 
     // Where it gives up, exactly one write of the sink did, for the same reason.
-    ensures stays { OnOk result
-        ((K.faults sink.new ≡ K.faults sink.old) × (K.shortages sink.new ≡ K.shortages sink.old)) }
-    ensures failed { IsErrOf result SinkFault.Failed → Rose (K.faults sink.old) (K.faults sink.new)
-        × (K.shortages sink.new ≡ K.shortages sink.old) }
-    ensures memory { IsErrOf result SinkFault.Memory → (K.faults sink.new ≡ K.faults sink.old)
-        × Rose (K.shortages sink.old) (K.shortages sink.new) }
+    ensures counts { IsWriteCounted result (K.faults sink.old) (K.faults sink.new)
+        (K.shortages sink.old) (K.shortages sink.new) }
 {
     let mut done = 0usize;
     while done < piece.len() {

@@ -1,6 +1,7 @@
 ghost use Rattle.std.specs.Prelude.{◌≡◌, ◌<◌, ◌≤◌, List, [], ℕ, Option, length, take, IfOk, IfSome};
-ghost use Rattle.std.specs.Prelude.{OnErr, OnOk};
-ghost use Rattle.oct_io.specs.Told.{dropped, Rose};
+ghost use Rattle.std.specs.Prelude.{OnErr};
+ghost use Rattle.oct_io.specs.Counts.{IsEndCounted, IsReadCounted};
+ghost use Rattle.oct_io.specs.Told.{dropped};
 
 use thiserror::Error;
 
@@ -17,6 +18,9 @@ pub trait Source {
     /// How many reads have failed so far. The count stays at `2^64 - 1`.
     ghost faults: { Self → ℕ };
 
+    /// How many reads have met the end of the input so far, where the source counts them.
+    ghost ends: { Self → ℕ };
+
     /// Moves the next bytes to the front of the buffer, and answers how many they are.
     ///
     /// For a buffer that isn't empty, 0 comes exactly at the end of the input, and the source
@@ -30,6 +34,6 @@ pub trait Source {
         ensures end { IfOk result (λ n. n ≡ 0 → 0 < length buffer.old
             → IfSome (left self.old) (λ left. left ≡ [])) }
         ensures err { OnErr result (left self.new ≡ left self.old) }
-        ensures stays { OnOk result (faults self.new ≡ faults self.old) }
-        ensures cause { OnErr result (Rose (faults self.old) (faults self.new)) };
+        ensures counts { IsReadCounted result (faults self.old) (faults self.new) }
+        ensures ends { IsEndCounted result (ends self.old) (ends self.new) };
 }

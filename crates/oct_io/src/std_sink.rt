@@ -1,7 +1,7 @@
-ghost use Rattle.std.specs.Prelude.{◌≡◌, ◌<◌, ◌≤◌, ◌↔◌, None, length, IfOk, IsErrOf, OnOk};
+ghost use Rattle.std.specs.Prelude.{◌≡◌, ◌<◌, ◌≤◌, ◌↔◌, None, length, IfOk};
 ghost use Rattle.std.specs.IoError.{error_kind};
 ghost use Rattle.std.specs.Io.KnownBytes.{WriteAppends};
-ghost use Rattle.oct_io.specs.Told.{Rose};
+ghost use Rattle.oct_io.specs.Counts.{IsWriteCounted};
 
 use crate::sink::{Sink, SinkFault};
 use std::io;
@@ -65,12 +65,8 @@ impl<W: Write + Drop> Sink for StdSink<W> {
         ensures passes { WriteAppends self.old.told self.new.told result piece.now }
         ensures within { IfOk result (λ n. n ≤ length piece.now) }
         ensures some { IfOk result (λ n. 0 < length piece.now → 0 < n) }
-        ensures stays { OnOk result ((self.new.faults ≡ self.old.faults)
-            × (self.new.shortages ≡ self.old.shortages)) }
-        ensures failed { IsErrOf result SinkFault.Failed → Rose self.old.faults self.new.faults
-            × (self.new.shortages ≡ self.old.shortages) }
-        ensures memory { IsErrOf result SinkFault.Memory → (self.new.faults ≡ self.old.faults)
-            × Rose self.old.shortages self.new.shortages }
+        ensures counts { IsWriteCounted result self.old.faults self.new.faults
+            self.old.shortages self.new.shortages }
     {
         let fault = match self.writer.write(piece) {
             Ok(count) if count > 0 || piece.is_empty() => return Ok(count),

@@ -1,6 +1,6 @@
-ghost use Rattle.std.specs.Prelude.{◌≡◌, ◌≤◌, None, length, IfOk, OnErr, OnOk};
+ghost use Rattle.std.specs.Prelude.{◌≡◌, ◌≤◌, None, length, IfOk};
 ghost use Rattle.std.specs.Io.KnownBytes.{ReadConsumes};
-ghost use Rattle.oct_io.specs.Told.{Rose};
+ghost use Rattle.oct_io.specs.Counts.{IsReadCounted};
 
 use crate::source::{Failed, Source};
 use std::io::Read;
@@ -36,11 +36,13 @@ impl<R: Read + Drop> Source for StdSource<R> {
 
     ghost faults = { λ s. s.faults };
 
+    // It counts none.
+    ghost ends = { λ _. 0 };
+
     fn read(&mut self, buffer: &mut [u8]) -> Result<usize, Failed>
         ensures passes { ReadConsumes self.old.told self.new.told result buffer.new }
         ensures within { IfOk result (λ n. n ≤ length buffer.old) }
-        ensures stays { OnOk result (self.new.faults ≡ self.old.faults) }
-        ensures cause { OnErr result (Rose self.old.faults self.new.faults) }
+        ensures counts { IsReadCounted result self.old.faults self.new.faults }
     {
         match self.reader.read(buffer) {
             Ok(count) => Ok(count),

@@ -1,6 +1,6 @@
-ghost use Rattle.std.specs.Prelude.{◌≡◌, ℕ, Option, IfOk, IfSome, IsErrOf, OnErr, OnOk};
+ghost use Rattle.std.specs.Prelude.{◌≡◌, ◌≤◌, ◌+◌, ℕ, Option, IfOk, IfSome, IsErrOf, OnErr, OnOk};
 ghost use Rattle.oct_io.specs.declared.store.StoreFault.TheVariants.{Memory};
-ghost use Rattle.oct_io.specs.Told.{Rose};
+ghost use Rattle.oct_io.specs.Counts.{IsAskCounted};
 
 use crate::file_bytes::FileBytes;
 use oct_num::Memory;
@@ -70,26 +70,26 @@ pub trait Store {
     /// How many loads and saves have failed so far. The count stays at `2^64 - 1`.
     ghost faults: { Self → ℕ };
 
+    /// How many loads and saves there were so far, where the store counts them.
+    ghost calls: { Self → ℕ };
+
     /// The bytes of the file of this name. A load changes no file.
     fn load(&mut self, alloc: Global, name: &str) -> Result<Loaded, StoreFault>
         ensures same { files self.new ≡ files self.old }
         ensures found { IfOk result (λ loaded. IfSome (files self.old)
             (λ files. loaded ≡ loaded_of (files name.now))) }
         ensures limit { IfOk result IsWithinLimit }
-        ensures stays { OnOk result (faults self.new ≡ faults self.old) }
-        ensures memory { IsErrOf result StoreFault.Memory → faults self.new ≡ faults self.old }
-        ensures cause { IsErrOf result StoreFault.Failed
-            → Rose (faults self.old) (faults self.new) };
+        ensures counts { IsAskCounted result (faults self.old) (faults self.new) }
+        ensures called { calls self.new ≤ calls self.old + 1 };
 
-    /// Puts these bytes under the name, in place of a file that stands there. After an error the
-    /// file of this name may be any, and all others are as before.
+    /// Puts these bytes under the name, in place of a file that stands there. After a failure the
+    /// file of this name may be any, and all others are as before. Where memory runs out all are.
     fn save(&mut self, name: &str, bytes: &[u8]) -> Result<(), StoreFault>
         ensures saved { OnOk result (files self.new ≡ saved (files self.old) name.now bytes.now) }
         ensures others { OnErr result (KeepsOthers (files self.old) (files self.new) name.now) }
-        ensures stays { OnOk result (faults self.new ≡ faults self.old) }
-        ensures memory { IsErrOf result StoreFault.Memory → faults self.new ≡ faults self.old }
-        ensures cause { IsErrOf result StoreFault.Failed
-            → Rose (faults self.old) (faults self.new) };
+        ensures unsaved { IsErrOf result StoreFault.Memory → files self.new ≡ files self.old }
+        ensures counts { IsAskCounted result (faults self.old) (faults self.new) }
+        ensures called { calls self.new ≤ calls self.old + 1 };
 }
 
 #[cfg(test)]

@@ -19,7 +19,8 @@ pub record IsAbove (d : ℕ) (b : Cube) : Type 0 where
   pub child : (i : ℕ) → (child_of b i).depth + (16 - (d + 1)) ≡ 16
 
 pub above : (t : Tree) (p : Place) (d : ℕ) (id : GroupId) (b : Cube) → IsLinked t → IsPlace t p
-    → ((b : Cube) → block_in t p ≡ Some b → b.depth ≡ d) → link_of (node_in t p) ≡ Some id.number → block_in t p ≡ Some b → IsAbove d b
+    → ((b : Cube) → block_in t p ≡ Some b → b.depth ≡ d) → link_of (node_in t p) ≡ Some id.number
+    → block_in t p ≡ Some b → IsAbove d b
 above t p d id b l place deep link at =
     let ok = place_in_map t l p b place at in
     let low = (l.homes id.number b (linked_block t l p id.number b link at)).1 in
@@ -34,15 +35,18 @@ above t p d id b l place deep link at =
 
 -- what a call for a child asks
 pub child_asked : (t : Tree) (p : Place) (d i : ℕ) (id : GroupId) → IsLinked t → IsPlace t p
-    → ((b : Cube) → block_in t p ≡ Some b → b.depth ≡ d) → link_of (node_in t p) ≡ Some id.number → i < 8
-    → IsPlace t (Slot id i) × ((b : Cube) → block_in t (Slot id i) ≡ Some b → b.depth ≡ d + 1) × (d + 1 ≤ 16)
+    → ((b : Cube) → block_in t p ≡ Some b → b.depth ≡ d) → link_of (node_in t p) ≡ Some id.number
+    → i < 8
+    → IsPlace t (Slot id i) × ((b : Cube) → block_in t (Slot id i) ≡ Some b → b.depth ≡ d + 1)
+    × (d + 1 ≤ 16)
 child_asked t p d i id l place deep link li =
     let (a, at) = place_block t p place in
     let over = above t p d id a l place deep link at in
     let same = over.depth in
     let low = over.low in (
       slot_place t l p place id i link li,
-      λ b there. (let child : child_of a i ≡ b = some_injective (sym (slot_block t l p id i a link at) ∙ there) in
+      λ b there. (let child : child_of a i ≡ b =
+          some_injective (sym (slot_block t l p id i a link at) ∙ there) in
           let down = ap (λ (c : Cube). c.depth) child in
           let next = depth_child_of a i in
           omega (arith, down, next, same)),

@@ -4,7 +4,8 @@ use Rattle.std.specs.Prelude.{Bool, true, false, ◌&&◌}
 use Rattle.oct_odds.specs.Odds.{Odds}
 use Rattle.oct_odds.specs.Update.{Value}
 use Rattle.oct_values.specs.Counts.{is_same_value}
-use Rattle.oct_snap.specs.Nodes.{Nodes, End, Whole, Parted, joined, whole_text, text_of, are_all, AreNodes, group_total}
+use Rattle.oct_snap.specs.Nodes.{Nodes, End, Whole, Parted, joined, whole_text, text_of, are_all}
+use Rattle.oct_snap.specs.Nodes.{AreNodes, group_total}
 
 pub joined_end : (a : Nodes) → joined a End ≡ a
 unfolding joined
@@ -21,8 +22,10 @@ joined_assoc (Parted i a) b c = ap (Parted i) (joined_assoc a b c)
 pub text_joined : (a b : Nodes) → text_of (joined a b) ≡ text_of a ++ text_of b
 unfolding joined text_of
 text_joined End b = refl
-text_joined (Whole v a) b = rw (text_joined a b, append_assoc (whole_text v) (text_of a) (text_of b)) refl
-text_joined (Parted i a) b = rw (text_joined a b, append_assoc (text_of i) (text_of a) (text_of b)) refl
+text_joined (Whole v a) b =
+    rw (text_joined a b, append_assoc (whole_text v) (text_of a) (text_of b)) refl
+text_joined (Parted i a) b =
+    rw (text_joined a b, append_assoc (text_of i) (text_of a) (text_of b)) refl
 
 pub total_joined : (a b : Nodes) → group_total (joined a b) ≡ group_total a + group_total b
 unfolding joined group_total
@@ -31,7 +34,8 @@ total_joined (Whole v a) b = total_joined a b
 total_joined (Parted i a) b = (let h = total_joined a b in omega (arith, h))
 
 -- a node before others
-pub one_joined : (o : Odds) (h n : ℕ) (a b : Nodes) → AreNodes o h 1 a → AreNodes o h n b → AreNodes o h (suc n) (joined a b)
+pub one_joined : (o : Odds) (h n : ℕ) (a b : Nodes) → AreNodes o h 1 a → AreNodes o h n b
+    → AreNodes o h (suc n) (joined a b)
 unfolding joined
 one_joined o h n End b x y = absurd x
 one_joined o h n (Whole v End) b (within, x) y = (within, y)
@@ -50,5 +54,6 @@ and_assoc false b c = refl
 pub all_joined : (v : Value) (a b : Nodes) → are_all v (joined a b) ≡ (are_all v a && are_all v b)
 unfolding joined are_all
 all_joined v End b = refl
-all_joined v (Whole w a) b = ap (λ x. is_same_value v w && x) (all_joined v a b) ∙ and_assoc (is_same_value v w) (are_all v a) (are_all v b)
+all_joined v (Whole w a) b = ap (λ x. is_same_value v w && x) (all_joined v a b)
+    ∙ and_assoc (is_same_value v w) (are_all v a) (are_all v b)
 all_joined v (Parted i a) b = refl

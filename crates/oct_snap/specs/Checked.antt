@@ -15,7 +15,7 @@ abbrev pub IsOneNode : Shared → Nodes → Type 0
 IsOneNode (OfValue value) nodes = nodes ≡ Whole value End
 IsOneNode Several nodes = (inner : Nodes) × (nodes ≡ Parted inner End)
 
--- a node was read: the place behind it, its groups, and what its voxels have in common
+-- a node was read: the place after it, its groups, and what its voxels have in common
 pub record IsRead (bytes : List ℕ) (at : ℕ) (f : Found) (r : NodeRead) : Type 0 where
   pub next : f.at ≡ r.next
   pub rest : f.rest ≡ drop r.next bytes

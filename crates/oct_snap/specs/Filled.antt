@@ -11,7 +11,7 @@ use Rattle.oct_snap.specs.Nodes.{value_in, group_total}
 use Rattle.oct_snap.specs.Reading.{Found}
 
 -- The second tree is the first one with these values in a block, in which it is tidy, and took
--- exactly so many groups for it.
+-- exactly this many groups for it.
 pub record IsFilled (t u : Tree) (b : Cube) (values : Values) (groups : ℕ) : Type 0 where
   pub whole : IsFilledWith t u b values
   pub room : spare t.groups ≡ spare u.groups + groups
@@ -23,7 +23,7 @@ pub record IsFilling (t u : Tree) (p : Place) (id : GroupId) (b : Cube) (n : ℕ
   pub room : spare t.groups ≡ spare u.groups + groups
 
 -- The node that was found in a file is that of a block of this depth in the tree, and the code
--- stands behind it.
+-- stands after it.
 pub record IsNodeFilled (t u : Tree) (b : Cube) (depth : ℕ) (bytes : List ℕ) (f : Found)
     (after : ℕ) : Type 0 where
   pub filled : IsFilled t u b (λ k. value_in depth f.nodes 0 k) (group_total f.nodes)

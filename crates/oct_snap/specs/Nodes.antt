@@ -1,5 +1,6 @@
 -- The nodes of a snapshot: of a block of one value, or of the eight nodes of its children.
-use Rattle.std.specs.Prelude.{◌≡◌, ℕ, zero, suc, ◌+◌, ℤ, Bool, true, false, ◌&&◌, List, [], ◌∷◌, ◌++◌, Some, None, ⊤}
+use Rattle.std.specs.Prelude.{◌≡◌, ℕ, zero, suc, ◌+◌, ℤ, Bool, true, false, ◌&&◌, List, [], ◌∷◌}
+use Rattle.std.specs.Prelude.{◌++◌, Some, None, ⊤}
 use Rattle.std.specs.Int.{w32, cast_unsigned, to_be_bytes}
 use Rattle.oct_key.specs.Voxel.{Voxel}
 use Rattle.oct_key.specs.Block.{child_index_of}
@@ -47,7 +48,7 @@ are_alike End = true
 are_alike (Whole value later) = are_all value later
 are_alike (Parted inner later) = false
 
--- So many nodes of blocks that stand this number of depths above the voxels: known values lie
+-- This many nodes of blocks that stand this number of depths above the voxels: known values lie
 -- within the bounds, and a node with nodes of its own is of no voxel, and has eight that aren't all
 -- of one value.
 abbrev pub AreNodes : Odds → ℕ → ℕ → Nodes → Type 0

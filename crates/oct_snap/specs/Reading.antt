@@ -1,5 +1,7 @@
 -- What a snapshot is read as: its fields and its nodes, or the first fault that its bytes complete.
-use Rattle.std.specs.Prelude.{codes, ℕ, zero, suc, ◌+◌, ℤ, Bool, true, false, ◌&&◌, nat_eq, nat_le, nat_lt, int_le, List, [], ◌∷◌, length, drop, slice_index, Option, Some, None, Result, Ok, Err, if◌then◌else◌}
+use Rattle.std.specs.Prelude.{codes, ℕ, zero, suc, ◌+◌, ℤ, Bool, true, false, ◌&&◌, nat_eq, nat_le}
+use Rattle.std.specs.Prelude.{nat_lt, int_le, List, [], ◌∷◌, length, drop, slice_index, Option}
+use Rattle.std.specs.Prelude.{Some, None, Result, Ok, Err, if◌then◌else◌}
 use Rattle.std.specs.Int.{w16, w32, w64, cast_signed, from_be_bytes}
 use Rattle.std.specs.List.{starts_with}
 use Rattle.oct_key.specs.Voxel.{Voxel}
@@ -9,17 +11,19 @@ use Rattle.oct_odds.specs.Odds.{Odds, odds, first_bad_field}
 use Rattle.oct_odds.specs.declared.model.OddsField.{OddsField}
 use Rattle.oct_odds.specs.declared.model.OddsField.TheVariants.{Hit, Miss, Min, Max, Thr}
 use Rattle.oct_snap.specs.declared.fault.SnapFault.{SnapFault}
-use Rattle.oct_snap.specs.declared.fault.SnapFault.TheVariants.{BadMagic, Truncated, TrailingBytes, BadSnapshot}
+use Rattle.oct_snap.specs.declared.fault.SnapFault.TheVariants.{BadMagic, Truncated, TrailingBytes}
+use Rattle.oct_snap.specs.declared.fault.SnapFault.TheVariants.{BadSnapshot}
 use Rattle.oct_snap.specs.Nodes.{Nodes, End, Whole, Parted, joined, are_alike, value_in}
 
 -- ---- nodes
 
--- nodes that were read, the place behind them in the file, and the bytes from there on
+-- nodes that were read, the place after them in the file, and the bytes from there on
 pub record Found : Type 0 where
   pub nodes : Nodes
   pub at : ℕ
   pub rest : List ℕ
 
+-- these three as one
 abbrev pub found : Nodes → ℕ → List ℕ → Found
 found nodes at rest = record { nodes = nodes; at = at; rest = rest }
 
@@ -35,7 +39,7 @@ number_of bytes = cast_signed w32 (from_be_bytes w32 bytes)
 abbrev pub is_within : Odds → ℤ → Bool
 is_within o n = int_le o.min n && int_le n o.max
 
--- the node of a value that begins at this place, by the bytes behind its first one: the file may
+-- the node of a value that begins at this place, by the bytes after its first one: the file may
 -- end before the four bytes, and the value may lie outside the bounds
 abbrev pub value_node : Odds → Reader
 value_node o at (a ∷ b ∷ c ∷ d ∷ rest) =
@@ -52,8 +56,10 @@ parted_node at (Ok inner) =
     if are_alike inner.nodes then Err (BadSnapshot at)
     else Ok (found (Parted inner.nodes End) inner.at inner.rest)
 
--- a node, by its first byte, where a block of several values has the nodes that the first argument
--- reads; a voxel has none
+-- The node that begins at this place, by its first byte: 0 for unknown, 1 for a value, and 2 for a
+-- block of several values, whose eight nodes stand after the byte. How these eight are read is the
+-- first argument, which `read_node` fills in with the reader of the depth below. A voxel has no
+-- such nodes, and a 2 is a fault there.
 abbrev pub next_node : Option Reader → Odds → Reader
 next_node inner o at [] = Err (Truncated at)
 next_node inner o at (zero ∷ rest) = Ok (found (Whole None End) (at + 1) rest)
@@ -68,14 +74,14 @@ abbrev pub after_node : (Found → Result Found SnapFault) → Result Found Snap
 after_node go (Err fault) = Err fault
 after_node go (Ok f) = go f
 
--- so many nodes more, one behind the other
+-- this many nodes more, one after the other
 unfoldable pub read_row : Reader → ℕ → Found → Result Found SnapFault
 read_row next zero s = Ok s
 read_row next (suc n) s =
     after_node (λ f. read_row next n (found (joined s.nodes f.nodes) f.at f.rest))
     (next s.at s.rest)
 
--- the node of a block that stands so many depths above the voxels
+-- the node of a block that stands this many depths above the voxels
 unfoldable pub read_node : Odds → ℕ → Reader
 read_node o zero at rest = next_node None o at rest
 read_node o (suc depths) at rest =
@@ -84,7 +90,7 @@ read_node o (suc depths) at rest =
 -- ---- the fields before the nodes
 
 -- the fields of a snapshot: its resolution, its version, its log-odds and its box, and the place
--- behind them
+-- after them
 pub record Fields : Type 0 where
   pub res : ℕ
   pub version : ℕ
@@ -92,6 +98,7 @@ pub record Fields : Type 0 where
   pub window : Option Corners
   pub start : ℕ
 
+-- these five as one
 abbrev pub fields : ℕ → ℕ → Odds → Option Corners → ℕ → Fields
 fields res version o window start =
     record { res = res; version = version; odds = o; window = window; start = start }
@@ -144,7 +151,7 @@ read_odds file res None =
     if nat_lt (length file) 37 then Err (Truncated (length file))
     else read_window file res (odds_at file) (slice_index file 36)
 
--- what stands behind the resolution: nothing in the older version
+-- what stands after the resolution: nothing in the older version
 abbrev pub read_version : Odds → List ℕ → ℕ → Bool → Result Fields SnapFault
 read_version o file res true = Ok (fields res 1 o None 16)
 read_version o file res false =
@@ -161,7 +168,7 @@ res_at file = from_be_bytes w64 (slice_index file 8 ∷ slice_index file 9 ∷ s
 abbrev pub is_resolution : ℕ → Bool
 is_resolution edge = nat_le 100000 edge && nat_le edge 100000000000
 
--- the resolution, and what stands behind it
+-- the resolution, and what stands after it
 abbrev pub read_res : Odds → List ℕ → Bool → Result Fields SnapFault
 read_res o file old =
     if nat_lt (length file) 16 then Err (Truncated (length file))
@@ -182,15 +189,17 @@ pub record Snapshot : Type 0 where
   pub head : Fields
   pub nodes : Nodes
 
--- what stands behind the node of the map: nothing
+-- what stands after the node of the map: nothing
 abbrev pub ended_by : Fields → Nodes → ℕ → List ℕ → Result Snapshot SnapFault
 ended_by head nodes at [] = Ok (record { head = head; nodes = nodes })
 ended_by head nodes at (byte ∷ bytes) = Err (TrailingBytes at)
 
+-- the snapshot of these fields, by what was read as the node of the map
 abbrev pub with_nodes : Fields → Result Found SnapFault → Result Snapshot SnapFault
 with_nodes head (Err fault) = Err fault
 with_nodes head (Ok f) = ended_by head f.nodes f.at f.rest
 
+-- the snapshot of a file, by what was read as its fields
 abbrev pub with_fields : List ℕ → Result Fields SnapFault → Result Snapshot SnapFault
 with_fields file (Err fault) = Err fault
 with_fields file (Ok head) =

@@ -23,8 +23,8 @@ abbrev pub text_with : Option Value → List ℕ → List ℕ
 text_with (Some value) inner = whole_text value
 text_with None inner = 2 ∷ inner
 
--- the node of a block that stands so many depths above the voxels: its value where it has one, else
--- the nodes of its children
+-- the node of a block that stands this many depths above the voxels: its value where it has one,
+-- else the nodes of its children
 unfoldable pub node_text : ℕ → Values → Cube → List ℕ
 node_text zero values b = whole_text (values (lowest_voxel b))
 node_text (suc depths) values b = text_with (common_value values b)

@@ -1,5 +1,6 @@
 //! The reading of the nodes of a snapshot.
-ghost use Rattle.std.specs.Prelude.{◌≡◌, ◌+◌, ◌-◌, ◌<◌, ◌≤◌, ◌↔◌, None, IsTrue, length, drop, slice_index};
+ghost use Rattle.std.specs.Prelude.{◌≡◌, ◌+◌, ◌-◌, ◌<◌, ◌≤◌, ◌↔◌, None, IsTrue, length, drop};
+ghost use Rattle.std.specs.Prelude.{slice_index};
 ghost use Rattle.oct_odds.specs.Odds.{odds_of};
 ghost use Rattle.oct_snap.specs.Reading.{value_node, next_node, read_node};
 ghost use Rattle.oct_snap.specs.Reading as reading;
@@ -13,7 +14,7 @@ use oct_odds::OddsModel;
 /// A node that was read.
 #[derive(Clone, Copy)]
 pub(crate) struct NodeRead {
-    /// The place behind it.
+    /// The place after it.
     pub(crate) next: usize,
     /// How many nodes with nodes of their own it has, itself among them.
     pub(crate) groups: u64,

@@ -1,7 +1,6 @@
 //! What the voxels of a block have in common.
-ghost use Rattle.std.specs.Prelude.{◌≡◌, ◌-◌, ◌+◌, ◌≤◌, ◌<◌, ◌↔◌, Some, None, IsTrue};
-ghost use Rattle.oct_key.specs.Block.{Cube, child_of};
-ghost use Rattle.oct_arena.specs.Nodes.{link_of, value_of};
+ghost use Rattle.std.specs.Prelude.{◌≡◌, ◌-◌, ◌+◌, ◌≤◌, ◌<◌, ◌↔◌, Some, IsTrue};
+ghost use Rattle.oct_key.specs.Block.{Cube};
 ghost use Rattle.oct_tree.specs.Tree.{IsLinked, IsPlace, block_in, value_at};
 ghost use Rattle.oct_snap.specs.Texts.{common_value};
 ghost use Rattle.oct_snap.specs.Common.{value_of_common};
@@ -26,7 +25,7 @@ pub(crate) fn is_same(a: Common, b: Common) -> bool
 }
 
 /// What the voxels of the place's block have in common. The block has this depth. Looks at no node
-/// behind the first voxel of another value.
+/// after the first voxel of another value.
 pub(crate) fn common_at(tree: &OccTree, p: Place, depth: u8) -> Common
     requires place { IsPlace tree.now p }
     requires block { (b : Cube) → block_in tree.now p ≡ Some b → b.depth ≡ depth }

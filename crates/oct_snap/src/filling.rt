@@ -2,7 +2,6 @@
 ghost use Rattle.std.specs.Prelude.{◌≡◌, ◌+◌, ◌-◌, ◌≤◌, Some, Ok, length, drop};
 ghost use Rattle.oct_key.specs.Values.{SameValues};
 ghost use Rattle.oct_key.specs.Block.{Cube};
-ghost use Rattle.oct_values.specs.Counts.{group_count};
 ghost use Rattle.oct_arena.specs.Entries.{live, spare};
 ghost use Rattle.oct_tree.specs.Tree.{IsLinked, IsPlace, block_in, node_in, value_at};
 ghost use Rattle.oct_tree.specs.Shape.{IsFresh, IsPruned};
@@ -44,7 +43,7 @@ pub fn fill(bytes: &[u8], tree: &mut OccTree)
 }
 
 /// Makes the node of a snapshot that begins at this place of its bytes that of an absent place,
-/// whose block has this depth. Answers the place behind it.
+/// whose block has this depth. Answers the place after it.
 fn fill_node(tree: &mut OccTree, p: Place, depth: u8, bytes: &[u8], at: usize) -> usize
     requires place { IsPlace tree.old p }
     requires block { (b : Cube) → block_in tree.old p ≡ Some b → b.depth ≡ depth }

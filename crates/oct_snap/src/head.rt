@@ -1,5 +1,6 @@
 //! The fields of a snapshot before its nodes, as they are read.
-ghost use Rattle.std.specs.Prelude.{◌≡◌, ◌+◌, ◌≤◌, length, slice_index, if◌then◌else◌, pos, Some, None, IfOk, IfErr, IsSome, IfSome, IfNone, nat_lt, true, false};
+ghost use Rattle.std.specs.Prelude.{◌≡◌, ◌+◌, ◌≤◌, length, slice_index, Some};
+ghost use Rattle.std.specs.Prelude.{None, IfOk, IfErr, IfSome, IfNone, true, false};
 ghost use Rattle.oct_odds.specs.Odds.{Odds, odds_of, first_bad_field};
 ghost use Rattle.oct_snap.specs.Reading as reading;
 ghost use Rattle.oct_snap.specs.Checked.{AreFieldsRead};
@@ -9,7 +10,7 @@ use crate::fault::SnapFault;
 use oct_key::{Key, Res, Window};
 use oct_odds::{BadModel, OddsField, OddsModel};
 
-/// The fields of a snapshot, and the place behind them.
+/// The fields of a snapshot, and the place after them.
 #[derive(Drop)]
 pub(crate) struct FieldsRead {
     pub(crate) res: Res,

@@ -1,4 +1,5 @@
-ghost use Rattle.std.specs.Prelude.{◌≡◌, ◌+◌, ◌<◌, ◌++◌, ◌↔◌, ℕ, ◌⊎◌, List, Option, None, IfSome, length, Ok};
+ghost use Rattle.std.specs.Prelude.{◌≡◌, ◌+◌, ◌<◌, ◌++◌, ◌↔◌, ℕ, ◌⊎◌, List, Option, None, IfSome};
+ghost use Rattle.std.specs.Prelude.{length, Ok};
 ghost use Rattle.std.specs.List.{All};
 ghost use Rattle.oct_odds.specs.Odds.{Odds, IsSound};
 ghost use Rattle.oct_odds.specs.Update.{IsWithin};
@@ -8,9 +9,10 @@ ghost use Rattle.oct_key.specs.Values.{Values, SameValues};
 ghost use Rattle.oct_snap.specs.Nodes.{Nodes, AreNodes, text_of, value_in, group_total};
 ghost use Rattle.oct_snap.specs.Texts.{map_text, snap_text, old_text};
 ghost use Rattle.oct_values.specs.Counts.{group_count};
-ghost use Rattle.oct_snap.specs.Reading.{Found, Snapshot, found, read_node, read_snapshot, values_of};
+ghost use Rattle.oct_snap.specs.Reading.{Found, Snapshot, found, read_node, read_snapshot};
+ghost use Rattle.oct_snap.specs.Reading.{values_of};
 
-/// What is read as a node is exactly the text of one, with what stands behind it.
+/// What is read as a node is exactly the text of one, with what stands after it.
 pub fn nodes_are_read_exactly()
     ensures { (o : Odds) (depths at : ℕ) (nodes : Nodes) (bytes rest : List ℕ) → IsSound o
         → All (λ b. b < 256) bytes

@@ -21,8 +21,8 @@
 //!   deep, and takes no memory.
 //! - The text of every map of values within the bounds is accepted, and says what it is the text of
 //!   ([`texts_are_accepted`]). What is accepted is the text of the values that it gives, so that
-//!   these have no other one of its version ([`texts_are_the_only_ones`]), and its groups are as many
-//!   as the values need ([`groups_are_needed`]).
+//!   these have no other one of its version ([`texts_are_the_only_ones`]), and its groups are as
+//!   many as the values need ([`groups_are_needed`]).
 //!
 //! The definitions are in the format's own words and know nothing of trees: whole nodes in a row
 //! and their text (`Nodes`), the text of a value for each voxel (`Texts`), and what a file is read

@@ -1,8 +1,10 @@
 //! The writing of a tree's values, node by node.
-ghost use Rattle.std.specs.Prelude.{◌*◌, ◌^◌, ◌≡◌, ◌+◌, ◌-◌, ◌<◌, ◌≤◌, Some, None, OnOk, OnErr, IfOk, IsErrOf, length};
+ghost use Rattle.std.specs.Prelude.{◌*◌, ◌^◌, ◌≡◌, ◌+◌, ◌-◌, ◌<◌, ◌≤◌, Some, OnOk, OnErr};
+ghost use Rattle.std.specs.Prelude.{IfOk, length};
 ghost use Rattle.oct_key.specs.Block.{Cube};
+ghost use Rattle.oct_io.specs.Counts.{IsWriteCounted};
 ghost use Rattle.oct_io.specs.Taken.{IsCutOff, IsRefused, IsTaken};
-ghost use Rattle.oct_io.specs.Told.{Rose, appended};
+ghost use Rattle.oct_io.specs.Told.{appended};
 ghost use Rattle.oct_tree.specs.Tree.{IsLinked, IsPlace, block_in, value_at};
 ghost use Rattle.oct_snap.specs.Nodes.{whole_text};
 ghost use Rattle.oct_snap.specs.Texts.{node_text, snap_text};
@@ -26,12 +28,8 @@ fn write_whole<K: Sink>(
         (K.written sink.old) gather.old (K.written sink.new) gather.new) }
     ensures cut { OnErr result
         (IsRefused (whole_text value) (K.written sink.old) gather.old (K.written sink.new)) }
-    ensures stays { OnOk result
-        ((K.faults sink.new ≡ K.faults sink.old) × (K.shortages sink.new ≡ K.shortages sink.old)) }
-    ensures failed { IsErrOf result SinkFault.Failed → Rose (K.faults sink.old) (K.faults sink.new)
-        × (K.shortages sink.new ≡ K.shortages sink.old) }
-    ensures memory { IsErrOf result SinkFault.Memory → (K.faults sink.new ≡ K.faults sink.old)
-        × Rose (K.shortages sink.old) (K.shortages sink.new) }
+    ensures counts { IsWriteCounted result (K.faults sink.old) (K.faults sink.new)
+        (K.shortages sink.old) (K.shortages sink.new) }
 {
     let Some(value) = value else {
         gather.push(sink, &[UNKNOWN])?;
@@ -62,12 +60,8 @@ fn write_node<K: Sink>(
     ensures cut { OnErr result ((b : Cube) → block_in tree.now p ≡ Some b
         → IsRefused (node_text (16 - depth) (value_at tree.now) b)
         (K.written sink.old) gather.old (K.written sink.new)) }
-    ensures stays { OnOk result
-        ((K.faults sink.new ≡ K.faults sink.old) × (K.shortages sink.new ≡ K.shortages sink.old)) }
-    ensures failed { IsErrOf result SinkFault.Failed → Rose (K.faults sink.old) (K.faults sink.new)
-        × (K.shortages sink.new ≡ K.shortages sink.old) }
-    ensures memory { IsErrOf result SinkFault.Memory → (K.faults sink.new ≡ K.faults sink.old)
-        × Rose (K.shortages sink.old) (K.shortages sink.new) }
+    ensures counts { IsWriteCounted result (K.faults sink.old) (K.faults sink.new)
+        (K.shortages sink.old) (K.shortages sink.new) }
     ensures linked { IsLinked tree.now }
 {
     if let Common::Value(value) = common_at(tree, p, depth) {
@@ -101,12 +95,8 @@ pub fn write<K: Sink>(
         (snap_text tree.now.res tree.now.odds window (value_at tree.now))) }
     ensures cut { OnErr result (IsCutOff (K.written sink.old) (K.written sink.new)
         (snap_text tree.now.res tree.now.odds window (value_at tree.now))) }
-    ensures stays { OnOk result
-        ((K.faults sink.new ≡ K.faults sink.old) × (K.shortages sink.new ≡ K.shortages sink.old)) }
-    ensures failed { IsErrOf result SinkFault.Failed → Rose (K.faults sink.old) (K.faults sink.new)
-        × (K.shortages sink.new ≡ K.shortages sink.old) }
-    ensures memory { IsErrOf result SinkFault.Memory → (K.faults sink.new ≡ K.faults sink.old)
-        × Rose (K.shortages sink.old) (K.shortages sink.new) }
+    ensures counts { IsWriteCounted result (K.faults sink.old) (K.faults sink.new)
+        (K.shortages sink.old) (K.shortages sink.new) }
 {
     let head = head_of(tree.res(), tree.odds(), window);
     let mut gather = Gather::new();

@@ -4,13 +4,17 @@ use Rattle.oct_bt.proofs.Plains.{test_of_few, test_of_root, test_of_none}
 use Rattle.oct_bt.proofs.bt_file.passes.Goals as goal
 
 pub returns-then-codes-lt2 : goal.returns-then-codes-lt2
-returns-then-codes-lt2 c = test_of_few c.args.codes.now c.is_empty.result (search rules) c.is_empty.ensures
+returns-then-codes-lt2 c =
+    test_of_few c.args.codes.now c.is_empty.result (search rules) c.is_empty.ensures
 
 pub returns-then-root-ne0 : goal.returns-then-root-ne0
-returns-then-root-ne0 c = test_of_root c.args.codes.now c.split_at.result.1.now c.from.result c.from-2.result c.has_plain.result (omega arith)
+returns-then-root-ne0 c =
+    test_of_root c.args.codes.now c.split_at.result.1.now c.from.result c.from-2.result
+    c.has_plain.result (omega arith)
     c.from.ensures c.from-2.ensures c.split_at.ensures.back c.has_plain.ensures c.if-root-ne0.true
 
 pub returns-else-root-ne0 : goal.returns-else-root-ne0
 returns-else-root-ne0 c =
     ap (λ (n : ℕ). not (nat_eq n 0)) c.if-root-ne0.false
-    ∙ test_of_none c.args.codes.now c.from.result c.from-2.result (omega arith) c.from.ensures c.from-2.ensures c.if-root-ne0.false
+    ∙ test_of_none c.args.codes.now c.from.result c.from-2.result (omega arith) c.from.ensures
+    c.from-2.ensures c.if-root-ne0.false

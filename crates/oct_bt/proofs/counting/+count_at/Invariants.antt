@@ -11,4 +11,5 @@ decreases-count_at l = 16 - l.depth
 
 abbrev pub invariant-loop-done : goal.invariant-loop-done
 invariant-loop-done l = (b : Cube) → block_in l.tree l.fn.p ≡ Some b
-    → IsKindFrom (classes_in l.tree) b (8 - l.done) l.kind × AreTallied (classes_in l.tree) l.depth b l.done l.known l.records
+    → IsKindFrom (classes_in l.tree) b (8 - l.done) l.kind
+    × AreTallied (classes_in l.tree) l.depth b l.done l.known l.records

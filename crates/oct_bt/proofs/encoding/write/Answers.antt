@@ -7,25 +7,33 @@ use Rattle.oct_bt.proofs.encoding.write.Goals as goal
 
 pub returns-in_err-push-clause-cut : goal.returns-in_err-push-clause-cut
 returns-in_err-push-clause-cut g c = on_any_err c.from_residual.result _
-    (cut_header c.args.tree.now.res (classes_in c.args.tree.now) _ _ _ c.as_bytes.result.now c.new-gather.ensures
-    (c.as_bytes.ensures.value ∙ c.deref.ensures.0 ∙ c.plan_file-plan.ensures.header) c.in_err-push.ensures.refused)
+    (cut_header c.args.tree.now.res (classes_in c.args.tree.now) _ _ _ c.as_bytes.result.now
+    c.new-gather.ensures
+    (c.as_bytes.ensures.value ∙ c.deref.ensures.0 ∙ c.plan_file-plan.ensures.header)
+    c.in_err-push.ensures.refused)
 
 pub returns-in_err-write_data-clause-cut : goal.returns-in_err-write_data-clause-cut
 returns-in_err-write_data-clause-cut g c = on_any_err c.from_residual-in_err-write_data.result _
-    (cut_data c.args.tree.now.res (classes_in c.args.tree.now) _ _ _ _ _ c.as_bytes.result.now c.new-gather.ensures
-    (c.as_bytes.ensures.value ∙ c.deref.ensures.0 ∙ c.plan_file-plan.ensures.header) c.in_ok-push.ensures.taken
+    (cut_data c.args.tree.now.res (classes_in c.args.tree.now) _ _ _ _ _ c.as_bytes.result.now
+    c.new-gather.ensures
+    (c.as_bytes.ensures.value ∙ c.deref.ensures.0 ∙ c.plan_file-plan.ensures.header)
+    c.in_ok-push.ensures.taken
     c.in_err-write_data.ensures.cut)
 
 pub returns-in_err-flush-clause-cut : goal.returns-in_err-flush-clause-cut
 returns-in_err-flush-clause-cut g c = on_any_err c.from_residual-in_err-flush.result _
     (gathered_cut _ _ _ _ _
-    (sent_file c.args.tree.now.res (classes_in c.args.tree.now) _ _ _ _ _ _ c.as_bytes.result.now c.new-gather.ensures
-    (c.as_bytes.ensures.value ∙ c.deref.ensures.0 ∙ c.plan_file-plan.ensures.header) c.in_ok-push.ensures.taken
+    (sent_file c.args.tree.now.res (classes_in c.args.tree.now) _ _ _ _ _ _ c.as_bytes.result.now
+    c.new-gather.ensures
+    (c.as_bytes.ensures.value ∙ c.deref.ensures.0 ∙ c.plan_file-plan.ensures.header)
+    c.in_ok-push.ensures.taken
     c.in_ok-write_data.ensures.written) c.in_err-flush.ensures.err)
 
 pub returns-clause-written : goal.returns-clause-written
 returns-clause-written g c =
     gathered_whole _ _ _ _ _
-    (sent_file c.args.tree.now.res (classes_in c.args.tree.now) _ _ _ _ _ _ c.as_bytes.result.now c.new-gather.ensures
-    (c.as_bytes.ensures.value ∙ c.deref.ensures.0 ∙ c.plan_file-plan.ensures.header) c.in_ok-push.ensures.taken
+    (sent_file c.args.tree.now.res (classes_in c.args.tree.now) _ _ _ _ _ _ c.as_bytes.result.now
+    c.new-gather.ensures
+    (c.as_bytes.ensures.value ∙ c.deref.ensures.0 ∙ c.plan_file-plan.ensures.header)
+    c.in_ok-push.ensures.taken
     c.in_ok-write_data.ensures.written) c.in_ok-flush.ensures.ok

@@ -1,4 +1,4 @@
-use Rattle.std.proofs.Common.{rules, ◌<◌, ◌+◌, ◌/◌, ℕ, length, refl, sym, ap, ◌∙◌, arith, subst}
+use Rattle.std.proofs.Common.{rules, ◌<◌, ◌+◌, ◌/◌, ℕ, length, sym, ap, ◌∙◌, arith, subst}
 use Rattle.std.specs.Prelude.{is_some}
 use Rattle.oct_key.specs.Block.{child_of}
 use Rattle.oct_tree.specs.Tree.{IsLinked}
@@ -7,19 +7,24 @@ use Rattle.oct_tree.proofs.Within.{place_by_block}
 use Rattle.oct_bt.specs.Records.{class_by, record_count}
 use Rattle.oct_tree.proofs.Fillings.{slot_asked}
 use Rattle.oct_bt.proofs.Fillings.{filling_all}
-use Rattle.oct_bt.proofs.Fills.{IsUnderWay, plain_filled, under_first, under_leaf, under_record, under_all, record_ahead, ahead_within, ahead_fits}
+use Rattle.oct_bt.proofs.Fills.{IsUnderWay, plain_filled, under_first, under_leaf, under_record}
+use Rattle.oct_bt.proofs.Fills.{under_all, record_ahead, ahead_within, ahead_fits}
 use Rattle.oct_bt.proofs.filling.+fill_block.Goals as goal
 use Rattle.oct_bt.proofs.filling.+fill_block.Goals.{then-rest-eq3, else-rest-eq3}
 
 pub returns-then-is_plain-clause-filled : goal.returns-then-is_plain-clause-filled
 returns-then-is_plain-clause-filled t c = λ r tail b is text at.
-    plain_filled c.args.tree.now c.fill_leaf.new.tree b c.args.depth c.args.codes.now r tail c.from.result c.from-2.result is text
-    c.from.ensures c.from-2.ensures (sym c.is_plain.ensures ∙ c.if-is_plain.true) (λ x code. c.fill_leaf.ensures.filled b x at code)
+    plain_filled c.args.tree.now c.fill_leaf.new.tree b c.args.depth c.args.codes.now r tail
+    c.from.result c.from-2.result is text
+    c.from.ensures c.from-2.ensures (sym c.is_plain.ensures ∙ c.if-is_plain.true)
+    (λ x code. c.fill_leaf.ensures.filled b x at code)
 
 pub loop-i-init : goal.loop-i-init
 loop-i-init t c = record {
-  under = λ r tail b is text at. under_first c.args.tree.now c.split-id.new.self c.args.p c.split-id.result _ b c.args.depth
-      c.args.codes.now r tail c.from.result c.from-2.result c.split-id.ensures.linked c.split-id.ensures.split c.requires.absent at is
+  under = λ r tail b is text at. under_first c.args.tree.now c.split-id.new.self c.args.p
+      c.split-id.result _ b c.args.depth
+      c.args.codes.now r tail c.from.result c.from-2.result c.split-id.ensures.linked
+      c.split-id.ensures.split c.requires.absent at is
       text c.from.ensures c.from-2.ensures;
   linked = c.split-id.ensures.linked;
 }
@@ -37,7 +42,8 @@ fill_block-next-requires t c =
     let (r, tail, is, text, room) = c.requires.record_there in
     let (b, at) = place_block c.args.tree.now c.args.p c.requires.place in
     let s = c.loop-i.invariant.under r tail b is text at in
-    let a = slot_asked c.args.tree.now c.loop-i.tree c.args.p c.split-id.result b c.args.depth c.loop-i.i _ (c.requires.block b at)
+    let a = slot_asked c.args.tree.now c.loop-i.tree c.args.p c.split-id.result b c.args.depth
+    c.loop-i.i _ (c.requires.block b at)
     c.loop-i-test.true c.requires.place s.filling.part in
     let f = record_ahead _ _ _ _ _ _ _ _ _ _ _ _ room c.loop-i-test.true c.if-rest-eq3.true s in
     let low = f.low in (
@@ -65,13 +71,16 @@ overflow_add-next t c =
     let (r, tail, is, text, room) = c.requires.record_there in
     let (b, at) = place_block c.args.tree.now c.args.p c.requires.place in
     let s = c.loop-i.invariant.under r tail b is text at in
-    let a = slot_asked c.args.tree.now c.loop-i.tree c.args.p c.split-id.result b c.args.depth c.loop-i.i _ (c.requires.block b at)
+    let a = slot_asked c.args.tree.now c.loop-i.tree c.args.p c.split-id.result b c.args.depth
+    c.loop-i.i _ (c.requires.block b at)
     c.loop-i-test.true c.requires.place s.filling.part in
     let f = record_ahead _ _ _ _ _ _ _ _ _ _ _ _ room c.loop-i-test.true c.if-rest-eq3.true s in
     let fits = ahead_fits c.args.depth c.args.codes.now c.loop-i.next _ f in
-    let took = (c.fill_block-next.ensures.filled f.r f.tail (child_of b c.loop-i.i) f.is (c.split_at.ensures.back ∙ f.text) a.block).1 in
+    let took = (c.fill_block-next.ensures.filled f.r f.tail (child_of b c.loop-i.i) f.is
+    (c.split_at.ensures.back ∙ f.text) a.block).1 in
     let most : length c.args.codes.now < 18446744073709551616 = search rules in
-    let sum : c.loop-i.next + c.fill_block-next.result < 18446744073709551616 = omega (arith, fits, took, most) in
+    let sum : c.loop-i.next + c.fill_block-next.result < 18446744073709551616 =
+    omega (arith, fits, took, most) in
     search rules
 
 pub fill_leaf-requires-else-rest-eq3-clause-place :
@@ -80,7 +89,8 @@ fill_leaf-requires-else-rest-eq3-clause-place t c =
     let (r, tail, is, text, room) = c.requires.record_there in
     let (b, at) = place_block c.args.tree.now c.args.p c.requires.place in
     let s = c.loop-i.invariant.under r tail b is text at in
-    let a = slot_asked c.args.tree.now c.loop-i.tree c.args.p c.split-id.result b c.args.depth c.loop-i.i _ (c.requires.block b at)
+    let a = slot_asked c.args.tree.now c.loop-i.tree c.args.p c.split-id.result b c.args.depth
+    c.loop-i.i _ (c.requires.block b at)
     c.loop-i-test.true c.requires.place s.filling.part in
     a.place
 
@@ -90,7 +100,8 @@ fill_leaf-requires-else-rest-eq3-clause-absent t c =
     let (r, tail, is, text, room) = c.requires.record_there in
     let (b, at) = place_block c.args.tree.now c.args.p c.requires.place in
     let s = c.loop-i.invariant.under r tail b is text at in
-    let a = slot_asked c.args.tree.now c.loop-i.tree c.args.p c.split-id.result b c.args.depth c.loop-i.i _ (c.requires.block b at)
+    let a = slot_asked c.args.tree.now c.loop-i.tree c.args.p c.split-id.result b c.args.depth
+    c.loop-i.i _ (c.requires.block b at)
     c.loop-i-test.true c.requires.place s.filling.part in
     a.absent
 
@@ -98,28 +109,41 @@ pub loop-i-preserved : goal.loop-i-preserved
 loop-i-preserved t c = record {
   under = λ r tail b is text at.
       (let s = c.loop-i.invariant.under r tail b is text at in
-      let a = slot_asked c.args.tree.now c.loop-i.tree c.args.p c.split-id.result b c.args.depth c.loop-i.i _ (c.requires.block b at)
+      let a = slot_asked c.args.tree.now c.loop-i.tree c.args.p c.split-id.result b c.args.depth
+      c.loop-i.i _ (c.requires.block b at)
       c.loop-i-test.true c.requires.place s.filling.part in
       elim c.if-rest-eq3.branch [
         | then-rest-eq3 w ↦
-            subst (λ u. IsUnderWay c.args.tree.now u c.args.p c.split-id.result b c.args.depth c.args.codes.now c.if-rest-eq3.next
+            subst (λ u. IsUnderWay c.args.tree.now u c.args.p c.split-id.result b c.args.depth
+            c.args.codes.now c.if-rest-eq3.next
             (c.loop-i.rest / 4) (c.loop-i.i + 1) r tail) (sym w.tree-is)
-            (subst (λ (n : ℕ). IsUnderWay c.args.tree.now w.fill_block-next.new.tree c.args.p c.split-id.result b c.args.depth
+            (subst (λ (n : ℕ). IsUnderWay c.args.tree.now w.fill_block-next.new.tree c.args.p
+            c.split-id.result b c.args.depth
             c.args.codes.now n (c.loop-i.rest / 4) (c.loop-i.i + 1) r tail) (sym w.next-is)
-            (under_record c.args.tree.now c.loop-i.tree w.fill_block-next.new.tree c.args.p c.split-id.result b c.args.depth
-            c.args.codes.now c.loop-i.next c.loop-i.rest c.loop-i.i w.fill_block-next.result r tail (c.requires.block b at)
-            c.requires.levels c.loop-i-test.true c.requires.linked w.fill_block-next.ensures.linked w.if-rest-eq3.true s
-            (λ q later is_q front. w.fill_block-next.ensures.filled q later (child_of b c.loop-i.i) is_q
+            (under_record c.args.tree.now c.loop-i.tree w.fill_block-next.new.tree c.args.p
+            c.split-id.result b c.args.depth
+            c.args.codes.now c.loop-i.next c.loop-i.rest c.loop-i.i w.fill_block-next.result r tail
+            (c.requires.block b at)
+            c.requires.levels c.loop-i-test.true c.requires.linked w.fill_block-next.ensures.linked
+            w.if-rest-eq3.true s
+            (λ q later is_q front. w.fill_block-next.ensures.filled q later (child_of b c.loop-i.i)
+            is_q
             (w.split_at.ensures.back ∙ front) a.block)))
         | else-rest-eq3 w ↦
-            subst (λ u. IsUnderWay c.args.tree.now u c.args.p c.split-id.result b c.args.depth c.args.codes.now c.if-rest-eq3.next
+            subst (λ u. IsUnderWay c.args.tree.now u c.args.p c.split-id.result b c.args.depth
+            c.args.codes.now c.if-rest-eq3.next
             (c.loop-i.rest / 4) (c.loop-i.i + 1) r tail) (sym w.tree-is)
-            (subst (λ (n : ℕ). IsUnderWay c.args.tree.now w.fill_leaf-else-rest-eq3.new.tree c.args.p c.split-id.result b c.args.depth
+            (subst (λ (n : ℕ). IsUnderWay c.args.tree.now w.fill_leaf-else-rest-eq3.new.tree
+            c.args.p c.split-id.result b c.args.depth
             c.args.codes.now n (c.loop-i.rest / 4) (c.loop-i.i + 1) r tail) (sym w.next-is)
-            (under_leaf c.args.tree.now c.loop-i.tree w.fill_leaf-else-rest-eq3.new.tree c.args.p c.split-id.result b c.args.depth
-            c.args.codes.now c.loop-i.next c.loop-i.rest c.loop-i.i r tail (c.requires.block b at) c.requires.levels
-            c.loop-i-test.true c.requires.linked w.fill_leaf-else-rest-eq3.ensures.linked w.if-rest-eq3.false s
-            (λ k code. w.fill_leaf-else-rest-eq3.ensures.filled (child_of b c.loop-i.i) k a.block code)))
+            (under_leaf c.args.tree.now c.loop-i.tree w.fill_leaf-else-rest-eq3.new.tree c.args.p
+            c.split-id.result b c.args.depth
+            c.args.codes.now c.loop-i.next c.loop-i.rest c.loop-i.i r tail (c.requires.block b at)
+            c.requires.levels
+            c.loop-i-test.true c.requires.linked w.fill_leaf-else-rest-eq3.ensures.linked
+            w.if-rest-eq3.false s
+            (λ k code. w.fill_leaf-else-rest-eq3.ensures.filled (child_of b c.loop-i.i) k a.block
+            code)))
       ]);
   linked = elim c.if-rest-eq3.branch [
     | then-rest-eq3 w ↦ subst IsLinked (sym w.tree-is) w.fill_block-next.ensures.linked
@@ -146,11 +170,15 @@ returns-clause-filled t c = λ r tail b is text at.
     (let s = c.loop-i.invariant.under r tail b is text at in
     let deep = c.requires.block b at in
     let low = c.requires.levels in
-    let all = under_all c.args.tree.now c.loop-i.tree c.args.p c.split-id.result b c.args.depth c.args.codes.now c.loop-i.next
+    let all = under_all c.args.tree.now c.loop-i.tree c.args.p c.split-id.result b c.args.depth
+    c.args.codes.now c.loop-i.next
     c.loop-i.rest c.loop-i.i r tail (omega arith) s in (
-      filling_all c.args.tree.now c.loop-i.tree c.settle.new.self c.args.p c.split-id.result b (1 + record_count r)
-          (class_by c.args.depth r) c.settle.result (omega (arith, deep, low)) c.requires.linked c.requires.place all.filling
-          c.settle.ensures.linked c.settle.ensures.values c.settle.ensures.outside c.settle.ensures.when c.settle.ensures.collapsed
+      filling_all c.args.tree.now c.loop-i.tree c.settle.new.self c.args.p c.split-id.result b
+          (1 + record_count r)
+          (class_by c.args.depth r) c.settle.result (omega (arith, deep, low)) c.requires.linked
+          c.requires.place all.filling
+          c.settle.ensures.linked c.settle.ensures.values c.settle.ensures.outside
+          c.settle.ensures.when c.settle.ensures.collapsed
           c.settle.ensures.renewed,
       all.length,
     ))

@@ -10,7 +10,8 @@ decreases-fill_block l = 16 - l.depth
 
 abbrev pub invariant-loop-i : goal.invariant-loop-i
 invariant-loop-i l = record {
-  under : (r : Entries) (tail : List ℕ) (b : Cube) → IsRecord l.depth r → l.codes ≡ flat r ++ tail → block_in l.fn.tree l.fn.p ≡ Some b
+  under : (r : Entries) (tail : List ℕ) (b : Cube) → IsRecord l.depth r → l.codes ≡ flat r ++ tail
+      → block_in l.fn.tree l.fn.p ≡ Some b
       → IsUnderWay l.fn.tree l.tree l.fn.p l.id b l.depth l.codes l.next l.rest l.i r tail;
   linked : IsLinked l.tree;
 }

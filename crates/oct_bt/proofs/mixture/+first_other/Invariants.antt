@@ -9,4 +9,5 @@ abbrev pub decreases-first_other : goal.decreases-first_other
 decreases-first_other l = 16 - l.depth
 
 abbrev pub invariant-loop-i : goal.invariant-loop-i
-invariant-loop-i l = (b : Cube) → block_in l.tree l.fn.p ≡ Some b → ArePure (classes_in l.tree) b l.class l.i
+invariant-loop-i l = (b : Cube) → block_in l.tree l.fn.p ≡ Some b
+    → ArePure (classes_in l.tree) b l.class l.i

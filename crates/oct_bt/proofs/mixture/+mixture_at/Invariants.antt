@@ -9,4 +9,5 @@ abbrev pub decreases-mixture_at : goal.decreases-mixture_at
 decreases-mixture_at l = 16 - l.depth
 
 abbrev pub invariant-loop-i : goal.invariant-loop-i
-invariant-loop-i l = (b : Cube) → block_in l.tree l.fn.p ≡ Some b → ArePure (classes_in l.tree) b l.first l.i
+invariant-loop-i l = (b : Cube) → block_in l.tree l.fn.p ≡ Some b
+    → ArePure (classes_in l.tree) b l.first l.i

@@ -9,5 +9,7 @@ loop-path-preserved c =
     let some : 0 < length c.loop-path.path.items = search rules in
     let none : get_or c.loop-path.path.items (length c.loop-path.path.items - 1) 0 ≡ 0 =
     ap (λ t. get_or t (length c.loop-path.path.items - 1) 0) (sym c.deref.ensures.0)
-    ∙ ap (λ (n : ℕ). get_or c.deref.result.now (n - 1) 0) (sym c.len.ensures.value) ∙ c.if-deref-len-eq0.true in
-    ap (pending_at 0) c.pop.ensures.rest ∙ end_dropped c.loop-path.path.items some none ∙ c.loop-path.invariant
+    ∙ ap (λ (n : ℕ). get_or c.deref.result.now (n - 1) 0) (sym c.len.ensures.value)
+    ∙ c.if-deref-len-eq0.true in
+    ap (pending_at 0) c.pop.ensures.rest ∙ end_dropped c.loop-path.path.items some none
+    ∙ c.loop-path.invariant

@@ -3,30 +3,41 @@ use Rattle.oct_bt.specs.File.{file_text}
 use Rattle.oct_io.specs.Taken.{IsGathered}
 use Rattle.oct_io.proofs.Gathering.{gathered_whole, gathered_cut, cut_begun}
 use Rattle.oct_bt.proofs.Writes.{on_any_err}
-use Rattle.oct_bt.proofs.Rewrites.{on_ok_follows, on_err_follows, text_parts, two_pushed, two_refused}
+use Rattle.oct_bt.proofs.Rewrites.{on_ok_follows, on_err_follows, text_parts, two_pushed}
+use Rattle.oct_bt.proofs.Rewrites.{two_refused}
 use Rattle.oct_bt.proofs.rewriting.rewrite.Goals as goal
 
 pub returns-clause-written : goal.returns-clause-written
-returns-clause-written g c = on_ok_follows c.flush.result (λ wrote. gathered_whole _ _ _ _ _ all wrote) c.flush.ensures.ok
+returns-clause-written g c =
+    on_ok_follows c.flush.result (λ wrote. gathered_whole _ _ _ _ _ all wrote) c.flush.ensures.ok
   where
-    all : IsGathered (file_text c.args.file.now) (g.K.Sink.written c.args.sink.now) (g.K.Sink.written c.push-2.new.sink) c.push-2.new.self
+    all : IsGathered (file_text c.args.file.now) (g.K.Sink.written c.args.sink.now)
+        (g.K.Sink.written c.push-2.new.sink) c.push-2.new.self
     all = two_pushed _ c.as_bytes.result.now c.as_slice.result.now _ _ _ _ _ _ _ _
-        (text_parts c.args.file.now _ _ c.nodes.result c.res.result (c.as_bytes.ensures.value ∙ c.deref.ensures.0 ∙ c.header_of-header.ensures)
+        (text_parts c.args.file.now _ _ c.nodes.result c.res.result (c.as_bytes.ensures.value
+        ∙ c.deref.ensures.0 ∙ c.header_of-header.ensures)
         c.nodes.ensures c.res.ensures (c.as_slice.ensures ∙ c.codes.ensures.codes))
-        c.new-gather.ensures c.in_ok-push.ensures.handed c.in_ok-push.ensures.held c.in_ok-push-2.ensures.handed c.in_ok-push-2.ensures.held
+        c.new-gather.ensures c.in_ok-push.ensures.handed c.in_ok-push.ensures.held
+        c.in_ok-push-2.ensures.handed c.in_ok-push-2.ensures.held
 
 pub returns-clause-begun : goal.returns-clause-begun
-returns-clause-begun g c = on_err_follows c.flush.result (λ cut. cut_begun _ _ _ (gathered_cut _ _ _ _ _ all cut)) c.flush.ensures.err
+returns-clause-begun g c =
+    on_err_follows c.flush.result (λ cut. cut_begun _ _ _ (gathered_cut _ _ _ _ _ all cut))
+    c.flush.ensures.err
   where
-    all : IsGathered (file_text c.args.file.now) (g.K.Sink.written c.args.sink.now) (g.K.Sink.written c.push-2.new.sink) c.push-2.new.self
+    all : IsGathered (file_text c.args.file.now) (g.K.Sink.written c.args.sink.now)
+        (g.K.Sink.written c.push-2.new.sink) c.push-2.new.self
     all = two_pushed _ c.as_bytes.result.now c.as_slice.result.now _ _ _ _ _ _ _ _
-        (text_parts c.args.file.now _ _ c.nodes.result c.res.result (c.as_bytes.ensures.value ∙ c.deref.ensures.0 ∙ c.header_of-header.ensures)
+        (text_parts c.args.file.now _ _ c.nodes.result c.res.result (c.as_bytes.ensures.value
+        ∙ c.deref.ensures.0 ∙ c.header_of-header.ensures)
         c.nodes.ensures c.res.ensures (c.as_slice.ensures ∙ c.codes.ensures.codes))
-        c.new-gather.ensures c.in_ok-push.ensures.handed c.in_ok-push.ensures.held c.in_ok-push-2.ensures.handed c.in_ok-push-2.ensures.held
+        c.new-gather.ensures c.in_ok-push.ensures.handed c.in_ok-push.ensures.held
+        c.in_ok-push-2.ensures.handed c.in_ok-push-2.ensures.held
 
 pub returns-in_err-push-2-clause-begun : goal.returns-in_err-push-2-clause-begun
 returns-in_err-push-2-clause-begun g c = on_any_err c.from_residual-in_err-push-2.result _
     (two_refused _ c.as_bytes.result.now c.as_slice.result.now _ _ _ _ _
-    (text_parts c.args.file.now _ _ c.nodes.result c.res.result (c.as_bytes.ensures.value ∙ c.deref.ensures.0 ∙ c.header_of-header.ensures)
+    (text_parts c.args.file.now _ _ c.nodes.result c.res.result (c.as_bytes.ensures.value
+    ∙ c.deref.ensures.0 ∙ c.header_of-header.ensures)
     c.nodes.ensures c.res.ensures (c.as_slice.ensures ∙ c.codes.ensures.codes))
     c.new-gather.ensures c.in_ok-push.ensures.taken c.in_err-push-2.ensures.refused)

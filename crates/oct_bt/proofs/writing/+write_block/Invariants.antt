@@ -13,7 +13,8 @@ decreases-loop-part g l = length l.parts.items
 
 abbrev pub invariant-loop-part : goal.invariant-loop-part
 invariant-loop-part g l = record {
-  written : (b : Cube) → block_in l.tree l.fn.p ≡ Some b → IsSent (classes_in l.tree) l.depth b l.parts.items
+  written : (b : Cube) → block_in l.tree l.fn.p ≡ Some b
+      → IsSent (classes_in l.tree) l.depth b l.parts.items
       (g.K.Sink.written l.fn.sink) l.fn.gather (g.K.Sink.written l.sink) l.gather;
   faults : g.K.Sink.faults l.sink ≡ g.K.Sink.faults l.fn.sink;
   shortages : g.K.Sink.shortages l.sink ≡ g.K.Sink.shortages l.fn.sink;

@@ -9,5 +9,6 @@ abbrev pub invariant-loop-done : goal.invariant-loop-done
 invariant-loop-done l = record {
   few : l.codes < 4 ^ l.done;
   count : length l.parts.items ≤ l.done;
-  parts : (b : Cube) → block_in l.tree l.p ≡ Some b → IsRecordFrom (classes_in l.tree) l.depth b l.done l.codes l.parts.items;
+  parts : (b : Cube) → block_in l.tree l.p ≡ Some b
+      → IsRecordFrom (classes_in l.tree) l.depth b l.done l.codes l.parts.items;
 }

@@ -7,6 +7,7 @@ invariant-reading g l = record {
   few : l.taken ≤ l.max_bytes;
   fed : HasFed l.reader l.taken (g.S.Source.left l.fn.source) (g.S.Source.left l.source);
   read : g.S.Source.faults l.source ≡ g.S.Source.faults l.fn.source;
+  ends : g.S.Source.ends l.source ≡ g.S.Source.ends l.fn.source;
 }
 
 abbrev pub decreases-reading : goal.decreases-reading

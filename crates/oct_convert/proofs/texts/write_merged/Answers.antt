@@ -9,13 +9,17 @@ pub returns-in_err-write-clause-sends : goal.returns-in_err-write-clause-sends
 returns-in_err-write-clause-sends g c =
     sends_part _ _ _ c.in_err-write.ensures.cut.0 _ _ c.from_residual-in_err-write.ensures.0
     (filled_text c.new-tree.result c.reserve.new.self c.fill.new.tree c.args.file.now
-    (ap (λ (t : Tree). t.res) c.new-tree.ensures.exact ∙ c.res.ensures) (ap (λ (t : Tree). t.odds) c.new-tree.ensures.exact ∙ c.default.ensures)
-    c.reserve.ensures.kept c.requires.accepted c.fill.ensures.values c.fill.ensures.res c.fill.ensures.odds)
+    (ap (λ (t : Tree). t.res) c.new-tree.ensures.exact ∙ c.res.ensures)
+    (ap (λ (t : Tree). t.odds) c.new-tree.ensures.exact ∙ c.default.ensures)
+    c.reserve.ensures.kept c.requires.accepted c.fill.ensures.values c.fill.ensures.res
+    c.fill.ensures.odds)
     c.in_err-write.ensures.cut.2
 
 pub returns-clause-sends : goal.returns-clause-sends
 returns-clause-sends g c =
     c.in_ok-write.ensures.written ∙ ap (appended _)
     (filled_text c.new-tree.result c.reserve.new.self c.fill.new.tree c.args.file.now
-    (ap (λ (t : Tree). t.res) c.new-tree.ensures.exact ∙ c.res.ensures) (ap (λ (t : Tree). t.odds) c.new-tree.ensures.exact ∙ c.default.ensures)
-    c.reserve.ensures.kept c.requires.accepted c.fill.ensures.values c.fill.ensures.res c.fill.ensures.odds)
+    (ap (λ (t : Tree). t.res) c.new-tree.ensures.exact ∙ c.res.ensures)
+    (ap (λ (t : Tree). t.odds) c.new-tree.ensures.exact ∙ c.default.ensures)
+    c.reserve.ensures.kept c.requires.accepted c.fill.ensures.values c.fill.ensures.res
+    c.fill.ensures.odds)

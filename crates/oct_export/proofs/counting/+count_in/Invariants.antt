@@ -10,6 +10,8 @@ decreases-count_in l = 16 - l.depth
 
 abbrev pub invariant-loop-i : goal.invariant-loop-i
 invariant-loop-i l = record {
-  full : (b : Cube) → block_in l.tree l.fn.p ≡ Some b → l.full ≡ first_full (classes_in l.tree) b l.i;
-  boxes : (b : Cube) → block_in l.tree l.fn.p ≡ Some b → l.boxes ≡ length (first_boxes (classes_in l.tree) (16 - (b.depth + 1)) b l.i);
+  full : (b : Cube) → block_in l.tree l.fn.p ≡ Some b
+      → l.full ≡ first_full (classes_in l.tree) b l.i;
+  boxes : (b : Cube) → block_in l.tree l.fn.p ≡ Some b
+      → l.boxes ≡ length (first_boxes (classes_in l.tree) (16 - (b.depth + 1)) b l.i);
 }

@@ -2,7 +2,8 @@ use Rattle.std.proofs.Common.{◌+◌, ◌-◌, ◌*◌, ◌++◌, [], ℕ, ap, 
 use Rattle.oct_io.proofs.Gathering.{cut_begun}
 use Rattle.oct_export.specs.Seen.{classes_in}
 use Rattle.oct_export.specs.Grids.{rows_of}
-use Rattle.oct_export.proofs.Pushes.{pushed_piece, pushed_more, pushed_begun, begun_more, begun_of_none, pushed_whole, pushed_cut, on_any_err}
+use Rattle.oct_export.proofs.Pushes.{pushed_piece, pushed_more, pushed_begun, begun_more}
+use Rattle.oct_export.proofs.Pushes.{begun_of_none, pushed_whole, pushed_cut, on_any_err}
 use Rattle.oct_export.proofs.Rows.{pgm_parts, pgm_length, head_as}
 use Rattle.oct_export.proofs.grid.pgm.Goals as goal
 
@@ -10,18 +11,27 @@ pub returns-in_err-push-clause-begun : goal.returns-in_err-push-clause-begun
 returns-in_err-push-clause-begun g c =
     let ox = c.requires.order.x in let oy = c.requires.order.y in
     on_any_err c.from_residual.result _ (begun_of_none _ _ _ _ c.new-gather.ensures
-    (begun_more c.as_bytes.result.now (rows_of (classes_in c.args.tree.now) c.args.lo c.args.hi (c.args.hi.y + 1 - c.args.lo.y)) _ _ _ _ (cut_begun _ _ _ c.in_err-push.ensures.cut)
-    (pgm_parts (classes_in c.args.tree.now) c.args.lo c.args.hi c.as_bytes.result.now _ _ (c.as_bytes.ensures.value ∙ c.deref.ensures.0 ∙ c.head_of-head.ensures)
+    (begun_more c.as_bytes.result.now
+    (rows_of (classes_in c.args.tree.now) c.args.lo c.args.hi (c.args.hi.y + 1 - c.args.lo.y)) _
+    _ _ _ (cut_begun _ _ _ c.in_err-push.ensures.cut)
+    (pgm_parts (classes_in c.args.tree.now) c.args.lo c.args.hi c.as_bytes.result.now _ _
+    (c.as_bytes.ensures.value ∙ c.deref.ensures.0 ∙ c.head_of-head.ensures)
     (omega (arith, ox)) (omega (arith, oy)))))
 
 pub returns-in_err-push_rows-clause-begun : goal.returns-in_err-push_rows-clause-begun
 returns-in_err-push_rows-clause-begun g c =
     let ox = c.requires.order.x in let oy = c.requires.order.y in
     on_any_err c.from_residual-in_err-push_rows.result _ (begun_of_none _ _ _ _ c.new-gather.ensures
-    (pushed_begun c.as_bytes.result.now (rows_of (classes_in c.args.tree.now) c.args.lo c.args.hi (c.args.hi.y + 1 - c.args.lo.y)) [] _ _ _ _ _ _
-    (pushed_piece c.as_bytes.result.now c.new-gather.result _ _ _ _ c.in_ok-push.ensures.handed c.in_ok-push.ensures.held) c.in_err-push_rows.ensures.begun
-    (ap (λ l. c.as_bytes.result.now ++ l) (append-nil (rows_of (classes_in c.args.tree.now) c.args.lo c.args.hi (c.args.hi.y + 1 - c.args.lo.y)))
-    ∙ pgm_parts (classes_in c.args.tree.now) c.args.lo c.args.hi c.as_bytes.result.now _ _ (c.as_bytes.ensures.value ∙ c.deref.ensures.0 ∙ c.head_of-head.ensures)
+    (pushed_begun c.as_bytes.result.now
+    (rows_of (classes_in c.args.tree.now) c.args.lo c.args.hi (c.args.hi.y + 1 - c.args.lo.y))
+    [] _ _ _ _ _ _
+    (pushed_piece c.as_bytes.result.now c.new-gather.result _ _ _ _ c.in_ok-push.ensures.handed
+    c.in_ok-push.ensures.held) c.in_err-push_rows.ensures.begun
+    (ap (λ l. c.as_bytes.result.now ++ l)
+    (append-nil (rows_of (classes_in c.args.tree.now) c.args.lo c.args.hi
+    (c.args.hi.y + 1 - c.args.lo.y)))
+    ∙ pgm_parts (classes_in c.args.tree.now) c.args.lo c.args.hi c.as_bytes.result.now _ _
+    (c.as_bytes.ensures.value ∙ c.deref.ensures.0 ∙ c.head_of-head.ensures)
     (omega (arith, ox)) (omega (arith, oy)))))
 
 pub returns-in_err-flush-clause-begun : goal.returns-in_err-flush-clause-begun
@@ -29,24 +39,34 @@ returns-in_err-flush-clause-begun g c =
     let ox = c.requires.order.x in let oy = c.requires.order.y in
     let (n, few, wrote) = c.in_err-flush.ensures.err in
     on_any_err c.from_residual-in_err-flush.result _ (pushed_cut _ _ _ n _ _ _
-    (pushed_more c.as_bytes.result.now (rows_of (classes_in c.args.tree.now) c.args.lo c.args.hi (c.args.hi.y + 1 - c.args.lo.y)) _ _ _ _ _ _ _
-    (pushed_piece c.as_bytes.result.now c.new-gather.result _ _ _ _ c.in_ok-push.ensures.handed c.in_ok-push.ensures.held) c.in_ok-push_rows.ensures.pushed
-    (pgm_parts (classes_in c.args.tree.now) c.args.lo c.args.hi c.as_bytes.result.now _ _ (c.as_bytes.ensures.value ∙ c.deref.ensures.0 ∙ c.head_of-head.ensures)
+    (pushed_more c.as_bytes.result.now
+    (rows_of (classes_in c.args.tree.now) c.args.lo c.args.hi (c.args.hi.y + 1 - c.args.lo.y)) _
+    _ _ _ _ _ _
+    (pushed_piece c.as_bytes.result.now c.new-gather.result _ _ _ _ c.in_ok-push.ensures.handed
+    c.in_ok-push.ensures.held) c.in_ok-push_rows.ensures.pushed
+    (pgm_parts (classes_in c.args.tree.now) c.args.lo c.args.hi c.as_bytes.result.now _ _
+    (c.as_bytes.ensures.value ∙ c.deref.ensures.0 ∙ c.head_of-head.ensures)
     (omega (arith, ox)) (omega (arith, oy)))) c.new-gather.ensures wrote)
 
 pub returns-clause-written : goal.returns-clause-written
 returns-clause-written g c =
     let ox = c.requires.order.x in let oy = c.requires.order.y in
     pushed_whole _ _ _ _ _ _
-    (pushed_more c.as_bytes.result.now (rows_of (classes_in c.args.tree.now) c.args.lo c.args.hi (c.args.hi.y + 1 - c.args.lo.y)) _ _ _ _ _ _ _
-    (pushed_piece c.as_bytes.result.now c.new-gather.result _ _ _ _ c.in_ok-push.ensures.handed c.in_ok-push.ensures.held) c.in_ok-push_rows.ensures.pushed
-    (pgm_parts (classes_in c.args.tree.now) c.args.lo c.args.hi c.as_bytes.result.now _ _ (c.as_bytes.ensures.value ∙ c.deref.ensures.0 ∙ c.head_of-head.ensures)
+    (pushed_more c.as_bytes.result.now
+    (rows_of (classes_in c.args.tree.now) c.args.lo c.args.hi (c.args.hi.y + 1 - c.args.lo.y)) _
+    _ _ _ _ _ _
+    (pushed_piece c.as_bytes.result.now c.new-gather.result _ _ _ _ c.in_ok-push.ensures.handed
+    c.in_ok-push.ensures.held) c.in_ok-push_rows.ensures.pushed
+    (pgm_parts (classes_in c.args.tree.now) c.args.lo c.args.hi c.as_bytes.result.now _ _
+    (c.as_bytes.ensures.value ∙ c.deref.ensures.0 ∙ c.head_of-head.ensures)
     (omega (arith, ox)) (omega (arith, oy)))) c.new-gather.ensures c.in_ok-flush.ensures.ok
 
 pub returns-clause-length : goal.returns-clause-length
 returns-clause-length g c =
     let ox = c.requires.order.x in let oy = c.requires.order.y in
     ap (λ (n : ℕ). n + c.from.result * c.from-2.result) c.len.ensures.value
-    ∙ pgm_length (classes_in c.args.tree.now) c.args.lo c.args.hi c.head_of-head.result.bytes c.from.result c.from-2.result
-    (head_as c.head_of-head.result.bytes _ _ c.from.result c.from-2.result c.head_of-head.ensures c.from.ensures c.from-2.ensures)
+    ∙ pgm_length (classes_in c.args.tree.now) c.args.lo c.args.hi c.head_of-head.result.bytes
+    c.from.result c.from-2.result
+    (head_as c.head_of-head.result.bytes _ _ c.from.result c.from-2.result c.head_of-head.ensures
+    c.from.ensures c.from-2.ensures)
     (omega (arith, ox)) (omega (arith, oy))

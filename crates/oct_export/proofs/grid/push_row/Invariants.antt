@@ -8,7 +8,8 @@ abbrev pub invariant-loop-x : goal.invariant-loop-x
 invariant-loop-x g l = record {
   low : l.lo.x ≤ l.x;
   high : l.x ≤ l.hi.x + 1;
-  pushed : IsPushed (row_front (classes_in l.tree) l.lo l.hi l.y (l.x - l.lo.x)) l.fn.gather l.gather (g.K.Sink.written l.fn.sink) (g.K.Sink.written l.sink);
+  pushed : IsPushed (row_front (classes_in l.tree) l.lo l.hi l.y (l.x - l.lo.x)) l.fn.gather
+      l.gather (g.K.Sink.written l.fn.sink) (g.K.Sink.written l.sink);
   faults : g.K.Sink.faults l.sink ≡ g.K.Sink.faults l.fn.sink;
   shortages : g.K.Sink.shortages l.sink ≡ g.K.Sink.shortages l.fn.sink;
 }

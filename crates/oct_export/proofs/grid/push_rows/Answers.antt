@@ -14,20 +14,25 @@ loop-n-init g c = record {
 
 pub returns-in_err-push_row-clause-begun : goal.returns-in_err-push_row-clause-begun
 returns-in_err-push_row-clause-begun g c =
-    let (rest, is) = rows_cut (classes_in c.args.tree.now) c.args.lo c.args.hi c.loop-n.n (c.args.hi.y + 1 - c.args.lo.y) (omega arith) in
+    let (rest, is) =
+    rows_cut (classes_in c.args.tree.now) c.args.lo c.args.hi c.loop-n.n
+    (c.args.hi.y + 1 - c.args.lo.y) (omega arith) in
     on_any_err c.from_residual.result _
-    (pushed_begun (rows_of (classes_in c.args.tree.now) c.args.lo c.args.hi c.loop-n.n) _ rest _ _ _ _ _ _
+    (pushed_begun (rows_of (classes_in c.args.tree.now) c.args.lo c.args.hi c.loop-n.n) _ rest _ _ _
+    _ _ _
     c.loop-n.invariant.pushed c.in_err-push_row.ensures.begun is)
 
 pub loop-n-preserved : goal.loop-n-preserved
 loop-n-preserved g c = record {
-  pushed = pushed_more (rows_of (classes_in c.args.tree.now) c.args.lo c.args.hi c.loop-n.n) _ _ _ _ _ _ _ _ c.loop-n.invariant.pushed
+  pushed = pushed_more (rows_of (classes_in c.args.tree.now) c.args.lo c.args.hi c.loop-n.n) _ _ _ _
+      _ _ _ _ c.loop-n.invariant.pushed
       c.in_ok-push_row.ensures.pushed
       (rows_next (classes_in c.args.tree.now) c.args.lo c.args.hi c.loop-n.n);
-  faults = c.in_ok-push_row.ensures.stays.0 ∙ c.loop-n.invariant.faults;
-  shortages = c.in_ok-push_row.ensures.stays.1 ∙ c.loop-n.invariant.shortages;
+  faults = c.in_ok-push_row.ensures.counts.stays.0 ∙ c.loop-n.invariant.faults;
+  shortages = c.in_ok-push_row.ensures.counts.stays.1 ∙ c.loop-n.invariant.shortages;
 }
 
 pub returns-clause-pushed : goal.returns-clause-pushed
 returns-clause-pushed g c = pushed_as _ _ _ _ _ _ c.loop-n.invariant.pushed
-    (let all : c.loop-n.n ≡ c.args.hi.y + 1 - c.args.lo.y = omega arith in ap (rows_of (classes_in c.args.tree.now) c.args.lo c.args.hi) all)
+    (let all : c.loop-n.n ≡ c.args.hi.y + 1 - c.args.lo.y = omega arith in
+    ap (rows_of (classes_in c.args.tree.now) c.args.lo c.args.hi) all)

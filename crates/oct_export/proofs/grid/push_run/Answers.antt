@@ -1,7 +1,8 @@
 use Rattle.std.proofs.Common.{rules, ◌-◌, ◌∙◌, refl, arith}
 use Rattle.std.specs.Prelude.{replicate}
 use Rattle.oct_io.proofs.Gathering.{cut_begun}
-use Rattle.oct_export.proofs.Pushes.{pushed_start, pushed_piece, pushed_more, pushed_begun, pushed_as, on_any_err}
+use Rattle.oct_export.proofs.Pushes.{pushed_start, pushed_piece, pushed_more, pushed_begun}
+use Rattle.oct_export.proofs.Pushes.{pushed_as, on_any_err}
 use Rattle.oct_export.proofs.Runs.{run_piece, run_none, run_more, run_cut, run_whole}
 use Rattle.oct_export.proofs.grid.push_run.Goals as goal
 
@@ -15,21 +16,29 @@ loop-left-init g c = record {
 
 pub returns-in_err-push-clause-begun : goal.returns-in_err-push-clause-begun
 returns-in_err-push-clause-begun g c = on_any_err c.from_residual.result _
-    (pushed_begun (replicate (c.args.count - c.loop-left.left) c.args.byte) _ (replicate (c.loop-left.left - c.min-size.result) c.args.byte) (replicate c.args.count c.args.byte)
+    (pushed_begun (replicate (c.args.count - c.loop-left.left) c.args.byte) _
+    (replicate (c.loop-left.left - c.min-size.result) c.args.byte)
+    (replicate c.args.count c.args.byte)
     _ _ _ _ _ c.loop-left.invariant.pushed (cut_begun _ _ _ c.in_err-push.ensures.cut)
-    (run_cut c.args.count c.loop-left.left c.min-size.result c.args.byte _ (search rules) c.loop-left.invariant.left
+    (run_cut c.args.count c.loop-left.left c.min-size.result c.args.byte _ (search rules)
+    c.loop-left.invariant.left
     (run_piece c.min-size.result c.args.byte _ _ refl c.split_at.ensures.front (search rules))))
 
 pub loop-left-preserved : goal.loop-left-preserved
 loop-left-preserved g c = record {
   left = search rules;
-  pushed = pushed_more (replicate (c.args.count - c.loop-left.left) c.args.byte) _ _ _ _ _ _ _ _ c.loop-left.invariant.pushed
-      (pushed_piece c.split_at.result.0.now c.loop-left.gather _ _ _ _ c.in_ok-push.ensures.handed c.in_ok-push.ensures.held)
-      (run_more c.args.count c.loop-left.left c.min-size.result c.args.byte _ (search rules) c.loop-left.invariant.left
+  pushed = pushed_more (replicate (c.args.count - c.loop-left.left) c.args.byte) _ _ _ _ _ _ _ _
+      c.loop-left.invariant.pushed
+      (pushed_piece c.split_at.result.0.now c.loop-left.gather _ _ _ _ c.in_ok-push.ensures.handed
+      c.in_ok-push.ensures.held)
+      (run_more c.args.count c.loop-left.left c.min-size.result c.args.byte _ (search rules)
+      c.loop-left.invariant.left
       (run_piece c.min-size.result c.args.byte _ _ refl c.split_at.ensures.front (search rules)));
-  faults = c.in_ok-push.ensures.stays.0 ∙ c.loop-left.invariant.faults;
-  shortages = c.in_ok-push.ensures.stays.1 ∙ c.loop-left.invariant.shortages;
+  faults = c.in_ok-push.ensures.counts.stays.0 ∙ c.loop-left.invariant.faults;
+  shortages = c.in_ok-push.ensures.counts.stays.1 ∙ c.loop-left.invariant.shortages;
 }
 
 pub returns-clause-pushed : goal.returns-clause-pushed
-returns-clause-pushed g c = pushed_as _ _ _ _ _ _ c.loop-left.invariant.pushed (run_whole c.args.count c.loop-left.left c.args.byte (omega arith))
+returns-clause-pushed g c =
+    pushed_as _ _ _ _ _ _ c.loop-left.invariant.pushed
+    (run_whole c.args.count c.loop-left.left c.args.byte (omega arith))

@@ -13,8 +13,12 @@ decreases-push_boxes g l = 16 - l.block.depth
 abbrev pub invariant-loop-i : goal.invariant-loop-i
 invariant-loop-i g l = record {
   full : l.full ≡ first_full (classes_in l.tree) (cube_of l.block) l.i;
-  bytes : l.bytes ≡ length (box_lines l.tree.res (found_before (classes_in l.tree) (16 - (l.block.depth + 1)) l.levels (cube_of l.block) l.i)) % 2 ^ 64;
-  pushed : IsPushed (box_lines l.tree.res (found_before (classes_in l.tree) (16 - (l.block.depth + 1)) l.levels (cube_of l.block) l.i))
+  bytes : l.bytes
+      ≡ length (box_lines l.tree.res (found_before (classes_in l.tree)
+      (16 - (l.block.depth + 1)) l.levels (cube_of l.block) l.i)) % 2 ^ 64;
+  pushed : IsPushed
+      (box_lines l.tree.res (found_before (classes_in l.tree)
+      (16 - (l.block.depth + 1)) l.levels (cube_of l.block) l.i))
       l.fn.gather l.gather (g.K.Sink.written l.fn.sink) (g.K.Sink.written l.sink);
   faults : g.K.Sink.faults l.sink ≡ g.K.Sink.faults l.fn.sink;
   shortages : g.K.Sink.shortages l.sink ≡ g.K.Sink.shortages l.fn.sink;

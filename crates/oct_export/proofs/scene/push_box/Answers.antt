@@ -6,9 +6,14 @@ use Rattle.oct_export.proofs.scene.push_box.Goals as goal
 
 pub returns-in_err-push-clause-begun : goal.returns-in_err-push-clause-begun
 returns-in_err-push-clause-begun g c = on_any_err c.from_residual.result _
-    (subst (λ (t : List _). IsBegun (c.args.gather.now ++ t) (g.K.Sink.written c.args.sink.now) (g.K.Sink.written c.push.new.sink))
-    (c.as_bytes.ensures.value ∙ c.deref.ensures.0 ∙ c.line_of-line.ensures) (cut_begun _ _ _ c.in_err-push.ensures.cut))
+    (subst (λ (t : List _). IsBegun (c.args.gather.now ++ t) (g.K.Sink.written c.args.sink.now)
+    (g.K.Sink.written c.push.new.sink))
+    (c.as_bytes.ensures.value ∙ c.deref.ensures.0 ∙ c.line_of-line.ensures)
+    (cut_begun _ _ _ c.in_err-push.ensures.cut))
 
 pub returns-clause-pushed : goal.returns-clause-pushed
-returns-clause-pushed g c = pushed_as _ _ _ _ _ _ (pushed_piece c.as_bytes.result.now c.args.gather.now _ _ _ _ c.in_ok-push.ensures.handed c.in_ok-push.ensures.held)
+returns-clause-pushed g c =
+    pushed_as _ _ _ _ _ _
+    (pushed_piece c.as_bytes.result.now c.args.gather.now _ _ _ _ c.in_ok-push.ensures.handed
+    c.in_ok-push.ensures.held)
     (c.as_bytes.ensures.value ∙ c.deref.ensures.0 ∙ c.line_of-line.ensures)

@@ -1,21 +1,33 @@
 use Rattle.std.proofs.Common.{refl, ◌∙◌}
-use Rattle.oct_export.proofs.Pushes.{pushed_start, pushed_as, begun_as, on_ok_follows, on_err_follows, if_ok_follows}
+use Rattle.oct_export.proofs.Pushes.{pushed_start, pushed_as, begun_as, on_ok_follows}
+use Rattle.oct_export.proofs.Pushes.{on_err_follows, if_ok_follows}
 use Rattle.oct_key.specs.CubeOf.{cube_of}
 use Rattle.oct_export.specs.BoxTexts.{box_line}
 use Rattle.oct_export.proofs.Walks.{due_is, due_none}
 use Rattle.oct_export.proofs.scene.push_due.Goals as goal
 
 pub returns-then-is_box-clause-bytes : goal.returns-then-is_box-clause-bytes
-returns-then-is_box-clause-bytes g c = if_ok_follows c.push_box.result (λ x p. p ∙ rw c.if-is_box.true refl) c.push_box.ensures.bytes
+returns-then-is_box-clause-bytes g c =
+    if_ok_follows c.push_box.result (λ x p. p ∙ rw c.if-is_box.true refl) c.push_box.ensures.bytes
 
 pub returns-then-is_box-clause-pushed : goal.returns-then-is_box-clause-pushed
-returns-then-is_box-clause-pushed g c = on_ok_follows c.push_box.result (λ p. pushed_as _ _ _ _ _ _ p (due_is c.args.is_box (box_line c.args.res (cube_of c.args.block)) c.if-is_box.true)) c.push_box.ensures.pushed
+returns-then-is_box-clause-pushed g c =
+    on_ok_follows c.push_box.result
+    (λ p. pushed_as _ _ _ _ _ _ p
+    (due_is c.args.is_box (box_line c.args.res (cube_of c.args.block)) c.if-is_box.true))
+    c.push_box.ensures.pushed
 
 pub returns-then-is_box-clause-begun : goal.returns-then-is_box-clause-begun
-returns-then-is_box-clause-begun g c = on_err_follows c.push_box.result (λ p. begun_as _ _ _ _ _ p (due_is c.args.is_box (box_line c.args.res (cube_of c.args.block)) c.if-is_box.true)) c.push_box.ensures.begun
+returns-then-is_box-clause-begun g c =
+    on_err_follows c.push_box.result
+    (λ p. begun_as _ _ _ _ _ p
+    (due_is c.args.is_box (box_line c.args.res (cube_of c.args.block)) c.if-is_box.true))
+    c.push_box.ensures.begun
 
 pub returns-else-is_box-clause-bytes : goal.returns-else-is_box-clause-bytes
 returns-else-is_box-clause-bytes g c = rw c.if-is_box.false refl
 
 pub returns-else-is_box-clause-pushed : goal.returns-else-is_box-clause-pushed
-returns-else-is_box-clause-pushed g c = pushed_start _ _ _ (due_none c.args.is_box (box_line c.args.res (cube_of c.args.block)) c.if-is_box.false)
+returns-else-is_box-clause-pushed g c =
+    pushed_start _ _ _
+    (due_none c.args.is_box (box_line c.args.res (cube_of c.args.block)) c.if-is_box.false)

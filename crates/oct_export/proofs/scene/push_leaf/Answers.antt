@@ -9,13 +9,23 @@ pub returns-then-full-clause-bytes : goal.returns-then-full-clause-bytes
 returns-then-full-clause-bytes g c = rw c.if-full.true refl
 
 pub returns-then-full-clause-pushed : goal.returns-then-full-clause-pushed
-returns-then-full-clause-pushed g c = pushed_start _ _ _ (leaf_waits c.args.res c.args.full (blocks_before c.args.levels (cube_of c.args.block)) c.if-full.true)
+returns-then-full-clause-pushed g c =
+    pushed_start _ _ _
+    (leaf_waits c.args.res c.args.full (blocks_before c.args.levels (cube_of c.args.block))
+    c.if-full.true)
 
 pub returns-in_err-bytes-clause-begun : goal.returns-in_err-bytes-clause-begun
-returns-in_err-bytes-clause-begun g c = on_any_err c.from_residual.result _ (begun_as _ _ _ _ _ c.in_err-bytes.ensures.begun (leaf_tells c.args.res c.args.full (blocks_before c.args.levels (cube_of c.args.block)) c.if-full.false))
+returns-in_err-bytes-clause-begun g c =
+    on_any_err c.from_residual.result _
+    (begun_as _ _ _ _ _ c.in_err-bytes.ensures.begun
+    (leaf_tells c.args.res c.args.full (blocks_before c.args.levels (cube_of c.args.block))
+    c.if-full.false))
 
 pub returns-clause-bytes : goal.returns-clause-bytes
 returns-clause-bytes g c = c.in_ok-bytes.ensures.bytes ∙ rw c.if-full.false refl
 
 pub returns-clause-pushed : goal.returns-clause-pushed
-returns-clause-pushed g c = pushed_as _ _ _ _ _ _ c.in_ok-bytes.ensures.pushed (leaf_tells c.args.res c.args.full (blocks_before c.args.levels (cube_of c.args.block)) c.if-full.false)
+returns-clause-pushed g c =
+    pushed_as _ _ _ _ _ _ c.in_ok-bytes.ensures.pushed
+    (leaf_tells c.args.res c.args.full (blocks_before c.args.levels (cube_of c.args.block))
+    c.if-full.false)

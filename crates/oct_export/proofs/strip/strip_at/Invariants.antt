@@ -9,7 +9,8 @@ invariant-loop-z l = record {
   low : l.lo ≤ l.z;
   high : l.z ≤ l.hi + 1;
   reach : l.x ≤ l.last;
-  class : (n : ℕ) → l.x ≤ n → n ≤ l.last → shown (classes_in l.tree) n l.y (numbers_from l.lo (l.z - l.lo)) ≡ l.class;
+  class : (n : ℕ) → l.x ≤ n → n ≤ l.last
+      → shown (classes_in l.tree) n l.y (numbers_from l.lo (l.z - l.lo)) ≡ l.class;
 }
 
 abbrev pub decreases-loop-z : goal.decreases-loop-z

@@ -8,30 +8,39 @@ use Rattle.oct_snap.specs.declared.head.FieldsRead.{FieldsRead}
 use Rattle.oct_snap.specs.Nodes.{Nodes, group_total}
 use Rattle.oct_snap.specs.Reading.{Snapshot, read_fields, read_snapshot}
 use Rattle.oct_snap.specs.Checked.{IsFieldsRead, AreFieldsRead}
-use Rattle.oct_snap.proofs.WholeFills.{HasFilled, same_snapshot, whole_read, fields_are, fields_there, node_there, has_filled}
+use Rattle.oct_snap.proofs.WholeFills.{HasFilled, same_snapshot, whole_read, fields_are}
+use Rattle.oct_snap.proofs.WholeFills.{fields_there, node_there, has_filled}
 use Rattle.oct_snap.proofs.filling.fill.Goals as goal
 
 pub unreachable-requires : goal.unreachable-requires
 unreachable-requires c =
     let (s, is, same, room) = c.requires.accepted in
-    fields_there c.args.tree.now.odds (odds_of c.odds.result) c.args.bytes.now s c.in_default.field-0 is c.odds.ensures
-    (subst (λ (r : Result FieldsRead SnapFault). AreFieldsRead c.args.bytes.now (read_fields (odds_of c.odds.result) c.args.bytes.now) r)
+    fields_there c.args.tree.now.odds (odds_of c.odds.result) c.args.bytes.now s
+    c.in_default.field-0 is c.odds.ensures
+    (subst (λ (r : Result FieldsRead SnapFault). AreFieldsRead c.args.bytes.now
+    (read_fields (odds_of c.odds.result) c.args.bytes.now) r)
     c.in_default.is c.read_fields.ensures)
 
-fields : (c : goal.After-fill_node) (s : Snapshot) → read_snapshot c.args.tree.now.odds c.args.bytes.now ≡ Ok s
+fields : (c : goal.After-fill_node) (s : Snapshot)
+    → read_snapshot c.args.tree.now.odds c.args.bytes.now ≡ Ok s
     → IsFieldsRead c.args.bytes.now s.head c.in-Ok.fields
-fields c s is = fields_are c.args.tree.now.odds (odds_of c.odds.result) c.args.bytes.now s c.in-Ok.fields is c.odds.ensures c.in-Ok.ensures
+fields c s is =
+    fields_are c.args.tree.now.odds (odds_of c.odds.result) c.args.bytes.now s c.in-Ok.fields is
+    c.odds.ensures c.in-Ok.ensures
 
-after : (c : goal.After-fill_node) (s : Snapshot) → read_snapshot c.args.tree.now.odds c.args.bytes.now ≡ Ok s
+after : (c : goal.After-fill_node) (s : Snapshot)
+    → read_snapshot c.args.tree.now.odds c.args.bytes.now ≡ Ok s
     → HasFilled c.args.tree.now c.fill_node.new.tree s
 after c s is =
     let (q, it, same, room) = c.requires.accepted in
     let e : q ≡ s = same_snapshot q s (sym it ∙ is) in
     let w = whole_read c.args.tree.now.odds c.args.bytes.now s is in
-    has_filled c.args.tree.now c.fill_node.new.tree c.args.bytes.now s w.one c.fill_node.result c.shape.ensures.shaped c.shape.ensures.linked
+    has_filled c.args.tree.now c.fill_node.new.tree c.args.bytes.now s w.one c.fill_node.result
+    c.shape.ensures.shaped c.shape.ensures.linked
     c.fill_node.ensures.linked c.requires.unknown w.nodes
     (c.fill_node.ensures.filled w.one root_block
-    (node_there c.args.tree.now.odds c.args.bytes.now s c.in-Ok.fields.start w (subst (λ (s : Snapshot). s.head.odds ≡ c.args.tree.now.odds) e same) (fields c s is).start)
+    (node_there c.args.tree.now.odds c.args.bytes.now s c.in-Ok.fields.start w
+    (subst (λ (s : Snapshot). s.head.odds ≡ c.args.tree.now.odds) e same) (fields c s is).start)
     refl)
 
 any : (c : goal.After-fill_node) → (s : Snapshot) × HasFilled c.args.tree.now c.fill_node.new.tree s
@@ -40,13 +49,15 @@ any c = (let (s, is, same, room) = c.requires.accepted in (s, after c s is))
 pub fill_node-requires-clause-inside : goal.fill_node-requires-clause-inside
 fill_node-requires-clause-inside c =
     let (s, is, same, room) = c.requires.accepted in
-    (fields_are c.args.tree.now.odds (odds_of c.odds.result) c.args.bytes.now s c.in-Ok.fields is c.odds.ensures c.in-Ok.ensures).within
+    (fields_are c.args.tree.now.odds (odds_of c.odds.result) c.args.bytes.now s c.in-Ok.fields is
+    c.odds.ensures c.in-Ok.ensures).within
 
 pub fill_node-requires-clause-node_there : goal.fill_node-requires-clause-node_there
 fill_node-requires-clause-node_there c =
     let (s, is, same, room) = c.requires.accepted in
     let w = whole_read c.args.tree.now.odds c.args.bytes.now s is in
-    let f = fields_are c.args.tree.now.odds (odds_of c.odds.result) c.args.bytes.now s c.in-Ok.fields is c.odds.ensures c.in-Ok.ensures in (
+    let f = fields_are c.args.tree.now.odds (odds_of c.odds.result) c.args.bytes.now s
+    c.in-Ok.fields is c.odds.ensures c.in-Ok.ensures in (
       w.one,
       node_there c.args.tree.now.odds c.args.bytes.now s c.in-Ok.fields.start w same f.start,
       subst (λ (n : Nodes). group_total n ≤ spare c.args.tree.now.groups) (sym w.nodes) room,

@@ -13,9 +13,12 @@ returns-clause-ok c =
     let max : SFits w32 c.number_at-4.result = search rules in
     let thr : SFits w32 c.number_at-5.result = search rules in
     odds_ok c.new.result _ _ (odds_are _ _ _ _ _ c.args.bytes.now
-    (to_z-of_z w32 c.number_at.result hit ∙ c.number_at.ensures) (to_z-of_z w32 c.number_at-2.result miss ∙ c.number_at-2.ensures)
-    (to_z-of_z w32 c.number_at-3.result min ∙ c.number_at-3.ensures) (to_z-of_z w32 c.number_at-4.result max ∙ c.number_at-4.ensures)
-    (to_z-of_z w32 c.number_at-5.result thr ∙ c.number_at-5.ensures)) c.new.ensures.ok c.new.ensures.none_bad
+    (to_z-of_z w32 c.number_at.result hit ∙ c.number_at.ensures)
+    (to_z-of_z w32 c.number_at-2.result miss ∙ c.number_at-2.ensures)
+    (to_z-of_z w32 c.number_at-3.result min ∙ c.number_at-3.ensures)
+    (to_z-of_z w32 c.number_at-4.result max ∙ c.number_at-4.ensures)
+    (to_z-of_z w32 c.number_at-5.result thr ∙ c.number_at-5.ensures)) c.new.ensures.ok
+    c.new.ensures.none_bad
 
 pub returns-clause-bad : goal.returns-clause-bad
 returns-clause-bad c =
@@ -25,6 +28,8 @@ returns-clause-bad c =
     let max : SFits w32 c.number_at-4.result = search rules in
     let thr : SFits w32 c.number_at-5.result = search rules in
     odds_bad c.new.result _ _ (odds_are _ _ _ _ _ c.args.bytes.now
-    (to_z-of_z w32 c.number_at.result hit ∙ c.number_at.ensures) (to_z-of_z w32 c.number_at-2.result miss ∙ c.number_at-2.ensures)
-    (to_z-of_z w32 c.number_at-3.result min ∙ c.number_at-3.ensures) (to_z-of_z w32 c.number_at-4.result max ∙ c.number_at-4.ensures)
+    (to_z-of_z w32 c.number_at.result hit ∙ c.number_at.ensures)
+    (to_z-of_z w32 c.number_at-2.result miss ∙ c.number_at-2.ensures)
+    (to_z-of_z w32 c.number_at-3.result min ∙ c.number_at-3.ensures)
+    (to_z-of_z w32 c.number_at-4.result max ∙ c.number_at-4.ensures)
     (to_z-of_z w32 c.number_at-5.result thr ∙ c.number_at-5.ensures)) c.new.ensures.first_bad

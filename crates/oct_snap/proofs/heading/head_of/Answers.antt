@@ -12,6 +12,8 @@ use Rattle.oct_snap.proofs.heading.head_of.Goals as goal
 pub returns : goal.returns
 returns c =
     let fits : SFits w64 c.nm.result = search rules in
-    head_put _ _ _ _ _ _ _ (res_bytes c.args.res) (odds_bytes (odds_of c.args.odds)) (window_bytes c.args.window) c.new-head.ensures
+    head_put _ _ _ _ _ _ _ (res_bytes c.args.res) (odds_bytes (odds_of c.args.odds))
+    (window_bytes c.args.window) c.new-head.ensures
     c.put.ensures c.put-2.ensures c.put_odds.ensures c.put_window.ensures
-    (c.to_be_bytes.ensures ∙ ap (λ (n : ℤ). to_be_bytes w64 (cast_unsigned w64 n)) (to_z-of_z w64 c.nm.result fits ∙ c.nm.ensures.value))
+    (c.to_be_bytes.ensures ∙ ap (λ (n : ℤ). to_be_bytes w64 (cast_unsigned w64 n))
+    (to_z-of_z w64 c.nm.result fits ∙ c.nm.ensures.value))

@@ -14,8 +14,11 @@ returns c =
     let min : SFits w32 c.args.odds.min = search rules in
     let max : SFits w32 c.args.odds.max = search rules in
     let thr : SFits w32 c.args.odds.thr = search rules in
-    five_put c.args.head.now.items _ _ _ _ _ _ _ _ _ _ (number_bytes c.args.odds.hit) (number_bytes c.args.odds.miss) (number_bytes c.args.odds.min)
-    (number_bytes c.args.odds.max) (number_bytes c.args.odds.thr) c.put.ensures c.put-2.ensures c.put-3.ensures c.put-4.ensures c.put-5.ensures
+    five_put c.args.head.now.items _ _ _ _ _ _ _ _ _ _ (number_bytes c.args.odds.hit)
+    (number_bytes c.args.odds.miss) (number_bytes c.args.odds.min)
+    (number_bytes c.args.odds.max)
+    (number_bytes c.args.odds.thr) c.put.ensures c.put-2.ensures c.put-3.ensures c.put-4.ensures
+    c.put-5.ensures
     (c.to_be_bytes.ensures ∙ ap (λ (n : ℤ). number_bytes n) (to_z-of_z w32 c.args.odds.hit hit))
     (c.to_be_bytes-2.ensures ∙ ap (λ (n : ℤ). number_bytes n) (to_z-of_z w32 c.args.odds.miss miss))
     (c.to_be_bytes-3.ensures ∙ ap (λ (n : ℤ). number_bytes n) (to_z-of_z w32 c.args.odds.min min))

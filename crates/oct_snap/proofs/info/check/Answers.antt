@@ -11,14 +11,20 @@ returns-in_err-fields c =
 
 pub returns-in_err-node : goal.returns-in_err-node
 returns-in_err-node c =
-    let p = err_from_is_err_and c.from_residual-in_err-node.result c.from_residual-in_err-node.ensures.1 in
-    rw (p.1, p.2) (checked_fault (odds_of c.args.odds) c.args.bytes.now c.in_ok-fields.fields _ c.in_ok-fields.ensures c.in_err-node.ensures)
+    let p = err_from_is_err_and c.from_residual-in_err-node.result
+    c.from_residual-in_err-node.ensures.1 in
+    rw (p.1, p.2)
+    (checked_fault (odds_of c.args.odds) c.args.bytes.now c.in_ok-fields.fields _
+    c.in_ok-fields.ensures c.in_err-node.ensures)
 
 pub returns-then-node-bytes : goal.returns-then-node-bytes
-returns-then-node-bytes c = checked_trailing (odds_of c.args.odds) c.args.bytes.now c.in_ok-fields.fields c.in_ok-node.node
+returns-then-node-bytes c =
+    checked_trailing (odds_of c.args.odds) c.args.bytes.now c.in_ok-fields.fields c.in_ok-node.node
     c.in_ok-fields.ensures c.in_ok-node.ensures c.if-node-bytes.true
 
 pub returns : goal.returns
 returns c =
-    let all : length c.args.bytes.now ≤ c.in_ok-node.node.next = (let end = c.if-node-bytes.false in omega (arith, end)) in
-    checked_whole (odds_of c.args.odds) c.args.bytes.now c.in_ok-fields.fields c.in_ok-node.node c.in_ok-fields.ensures c.in_ok-node.ensures all
+    let all : length c.args.bytes.now ≤ c.in_ok-node.node.next =
+    (let end = c.if-node-bytes.false in omega (arith, end)) in
+    checked_whole (odds_of c.args.odds) c.args.bytes.now c.in_ok-fields.fields c.in_ok-node.node
+    c.in_ok-fields.ensures c.in_ok-node.ensures all

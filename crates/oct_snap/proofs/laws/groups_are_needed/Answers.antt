@@ -10,5 +10,6 @@ pub returns : goal.returns
 returns c = λ o bytes s is.
     (let w = whole_read o bytes s is in
     groups_are s.head.odds (values_of s) s.nodes
-    (subst (λ (n : Nodes). AreNodes s.head.odds 16 1 n) w.nodes (node_one s.head.odds 16 s.head.start (drop s.head.start bytes) w.one w.node))
+    (subst (λ (n : Nodes). AreNodes s.head.odds 16 1 n) w.nodes
+    (node_one s.head.odds 16 s.head.start (drop s.head.start bytes) w.one w.node))
     (λ k ok. refl))

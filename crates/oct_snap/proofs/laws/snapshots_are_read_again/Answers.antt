@@ -6,4 +6,9 @@ pub returns-clause-same : goal.returns-clause-same
 returns-clause-same c = λ o bytes s is. read_again o bytes s is
 
 pub returns-clause-versions : goal.returns-clause-versions
-returns-clause-versions c = λ o bytes s is. elim (read_as o bytes s is) [ inl old ↦ inl (old.fields.version, old.fields.odds, old.fields.window) | inr new ↦ inr new.fields.version ]
+returns-clause-versions c =
+    λ o bytes s is. elim (read_as o bytes s is) [
+      | inl old ↦ inl (old.fields.version, old.fields.odds, old.fields.window)
+      | inr new ↦ inr
+          new.fields.version
+    ]

@@ -4,7 +4,8 @@ use Rattle.oct_bt.proofs.Plains.{canonical_data_exactly}
 use Rattle.oct_bt.proofs.bt_file.BtFile.is_canonical.Goals as goal
 
 pub returns-clause-test : goal.returns-clause-test
-returns-clause-test c = c.passes.ensures ∙ ap is_canonical_data (c.as_slice.ensures ∙ c.codes.ensures.codes)
+returns-clause-test c = c.passes.ensures
+    ∙ ap is_canonical_data (c.as_slice.ensures ∙ c.codes.ensures.codes)
 
 pub returns-clause-exact : goal.returns-clause-exact
 returns-clause-exact c = λ a is.

@@ -1,4 +1,5 @@
-use Rattle.std.proofs.Common.{rules, ◌≡◌, ◌++◌, ◌<◌, take, length, get_or, ap, ◌∙◌, append_assoc, sym, [], ◌∷◌}
+use Rattle.std.proofs.Common.{rules, ◌≡◌, ◌++◌, ◌<◌, take, length, get_or, ap, ◌∙◌, append_assoc}
+use Rattle.std.proofs.Common.{sym, [], ◌∷◌}
 use Rattle.std.proofs.lemmas.List.{take_more}
 use Rattle.oct_bt.specs.Reading.{file_progress, after_file_byte}
 use Rattle.oct_bt.proofs.HeadSteps.{file_step}
@@ -6,9 +7,14 @@ use Rattle.oct_bt.proofs.reader.Reader.feed.Goals as goal
 
 pub loop-byte-preserved : goal.loop-byte-preserved
 loop-byte-preserved c = λ text stands.
-    let taken : c.take.new.self ≡ after_file_byte c.loop-byte.self (get_or c.args.piece.now c.loop-byte.byte-index 0) = search rules in
+    let taken : c.take.new.self
+    ≡ after_file_byte c.loop-byte.self (get_or c.args.piece.now c.loop-byte.byte-index 0) =
+    search rules in
     let within : c.loop-byte.byte-index < length c.args.piece.now = search rules in
-    taken ∙ ap (λ p. after_file_byte p (get_or c.args.piece.now c.loop-byte.byte-index 0)) (c.loop-byte.invariant text stands)
-    ∙ file_step (text ++ take c.loop-byte.byte-index c.args.piece.now) (get_or c.args.piece.now c.loop-byte.byte-index 0)
-    ∙ ap file_progress (append_assoc text (take c.loop-byte.byte-index c.args.piece.now) (get_or c.args.piece.now c.loop-byte.byte-index 0 ∷ [])
+    taken ∙ ap (λ p. after_file_byte p (get_or c.args.piece.now c.loop-byte.byte-index 0))
+    (c.loop-byte.invariant text stands)
+    ∙ file_step (text ++ take c.loop-byte.byte-index c.args.piece.now)
+    (get_or c.args.piece.now c.loop-byte.byte-index 0)
+    ∙ ap file_progress (append_assoc text (take c.loop-byte.byte-index c.args.piece.now)
+    (get_or c.args.piece.now c.loop-byte.byte-index 0 ∷ [])
     ∙ ap (λ t. text ++ t) (sym (take_more c.args.piece.now c.loop-byte.byte-index 0 within)))

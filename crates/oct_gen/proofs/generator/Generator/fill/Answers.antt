@@ -7,9 +7,16 @@ start c = omega (arith, c.loop-filled.invariant.within, c.loop-filled.auto.buffe
 
 pub loop-filled-preserved : goal.loop-filled-preserved
 loop-filled-preserved c = record {
-  within = omega (arith, part_fits _ _ _ c.give-count.ensures.within (start c), c.loop-filled.auto.buffer);
-  enough = text_lasts _ _ _ _ c.give-count.ensures.enough c.loop-filled.invariant.moved c.loop-filled.invariant.enough;
-  bytes = filled_more _ _ _ _ c.loop-filled.buffer _ _ c.loop-filled.invariant.bytes c.loop-filled.invariant.moved (start c)
-      (omega (arith, c.give-count.ensures.within, c.give-count.ensures.len)) c.give-count.ensures.bytes;
+  within = omega (
+    arith,
+    part_fits _ _ _ c.give-count.ensures.within (start c),
+    c.loop-filled.auto.buffer,
+  );
+  enough = text_lasts _ _ _ _ c.give-count.ensures.enough c.loop-filled.invariant.moved
+      c.loop-filled.invariant.enough;
+  bytes = filled_more _ _ _ _ c.loop-filled.buffer _ _ c.loop-filled.invariant.bytes
+      c.loop-filled.invariant.moved (start c)
+      (omega (arith, c.give-count.ensures.within, c.give-count.ensures.len))
+      c.give-count.ensures.bytes;
   moved = c.give-count.ensures.moved ∙ moved_more _ _ _ _ c.loop-filled.invariant.moved;
 }

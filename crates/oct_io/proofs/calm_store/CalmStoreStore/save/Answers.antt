@@ -6,6 +6,9 @@ use Rattle.oct_io.proofs.calm_store.CalmStoreStore.save.Goals as goal
 -- the key is the name and the value is a copy of the bytes
 pub returns-clause-saved : goal.returns-clause-saved
 returns-clause-saved c =
-    let named = IfOk-at_ok (λ key. string_bytes key ≡ c.args.name.now) c.in_ok-key.was c.from_str.ensures.ok in
-    let copied = IfOk-at_ok (λ copy. copy ≡ c.args.bytes.now) c.in_ok-value.was c.from_slice.ensures in
-    files_insert c.args.self.now.files c.insert.new.self c.in_ok-key.key _ _ named (rw copied at c.in_ok-insert.ensures.updates)
+    let named = IfOk-at_ok (λ key. string_bytes key ≡ c.args.name.now) c.in_ok-key.was
+    c.from_str.ensures.ok in
+    let copied = IfOk-at_ok (λ copy. copy ≡ c.args.bytes.now) c.in_ok-value.was c.from_slice.ensures
+    in
+    files_insert c.args.self.now.files c.insert.new.self c.in_ok-key.key _ _ named
+    (rw copied at c.in_ok-insert.ensures.updates)
