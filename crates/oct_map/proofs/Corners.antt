@@ -1,31 +1,20 @@
 -- What an edit of a box answers, and its events, where its corners are voxels.
-use Rattle.std.proofs.Common.{◌≡◌, ℕ, Bool, true, false, Option, Some, None, refl, sym, ap, subst, ◌∙◌}
-use Rattle.std.specs.Prelude.{Result, Ok, IsOk, ⊤, nat_lt, ◌||◌, ◌&&◌}
+use Rattle.std.proofs.Common.{◌≡◌, ℕ, Bool, true, false, Option, Some, None, refl, sym, ◌∙◌}
+use Rattle.std.specs.Prelude.{Result, IsOk, ⊤, nat_lt, ◌||◌, ◌&&◌}
 use Rattle.oct_key.specs.Voxel.{Voxel}
 use Rattle.oct_key.specs.Values.{Values}
 use Rattle.oct_odds.specs.declared.event.Event.{Event}
 use Rattle.oct_key.specs.Boxes.{is_box}
 use Rattle.oct_values.specs.Boxes.{box_events, box_need, box_volume}
 use Rattle.oct_map.specs.declared.fault.MapFault.{MapFault}
-use Rattle.oct_map.specs.declared.fault.MapFault.TheVariants.{WideWhileTracked}
 use Rattle.oct_map.specs.Answers.{room_answer, box_fault, most_noted, box_answer_by, IsAnswerOrMemory}
 use Rattle.oct_map.specs.Outcome.{corner_events, corner_need, corner_volume}
 use Rattle.oct_map.proofs.Edits.{SameEvents}
-use Rattle.oct_map.proofs.Marks.{room_ok}
 
 -- corners of a box have no fault, and need what the box does
 pub corners_right : (has_mark : Bool) (a b : Option Voxel) (low high : Voxel) → a ≡ Some low → b ≡ Some high → is_box low high ≡ true
     → (has_mark && nat_lt most_noted (box_volume low high)) ≡ false → box_fault has_mark a b ≡ None
 corners_right has_mark a b low high ea eb order narrow = rw (ea, eb) (rw (order, narrow) refl)
-
--- a box that is too wide while a mark stands has that fault
-pub corners_wide : (has_mark : Bool) (a b : Option Voxel) (low high : Voxel) (count : ℕ) → a ≡ Some low → b ≡ Some high → is_box low high ≡ true
-    → count ≡ box_volume low high → (has_mark && nat_lt most_noted count) ≡ true
-    → box_fault has_mark a b ≡ Some (WideWhileTracked count)
-corners_wide has_mark a b low high count ea eb order counted wide =
-    let test : (has_mark && nat_lt most_noted (box_volume low high)) ≡ true = subst (λ n. (has_mark && nat_lt most_noted n) ≡ true) counted wide in
-    let fault : box_fault has_mark a b ≡ Some (WideWhileTracked (box_volume low high)) = rw (ea, eb) (rw (order, test) refl) in
-    fault ∙ ap (λ n. Some (WideWhileTracked n)) (sym counted)
 
 pub corners_need : (a b : Option Voxel) (low high : Voxel) → a ≡ Some low → b ≡ Some high → corner_need a b ≡ box_need low high
 corners_need a b low high ea eb = rw (ea, eb) refl
@@ -46,15 +35,14 @@ pub corners_answer : (has_mark : Bool) (most need : ℕ) (values : Values) (a b 
 corners_answer has_mark most need values a b low high result ea eb order narrow counted answer =
     rw (corners_right has_mark a b low high ea eb order narrow, corners_need a b low high ea eb ∙ sym counted) answer
 
--- and one where there is room is an answer
+-- and where there is room it is no fault
 pub corners_ok : (has_mark : Bool) (most need : ℕ) (values : Values) (a b : Option Voxel) (low high : Voxel)
     → a ≡ Some low → b ≡ Some high → is_box low high ≡ true
     → (has_mark && nat_lt most_noted (box_volume low high)) ≡ false → need ≡ box_need low high
-    → IsAnswerOrMemory (room_answer most values need) (Ok tt)
+    → IsOk (room_answer most values need)
     → IsOk (box_answer_by (box_fault has_mark a b) (room_answer most values (corner_need a b)))
-corners_ok has_mark most need values a b low high ea eb order narrow counted answer =
-    rw (corners_right has_mark a b low high ea eb order narrow, corners_need a b low high ea eb ∙ sym counted)
-    (room_ok (room_answer most values need) answer)
+corners_ok has_mark most need values a b low high ea eb order narrow counted room =
+    rw (corners_right has_mark a b low high ea eb order narrow, corners_need a b low high ea eb ∙ sym counted) room
 
 -- what isn't lazy leaves the stale flag as it was
 pub still_stale : (P : Bool → Type 0) (stale : Bool) → P (stale || false) → P stale

@@ -1,8 +1,8 @@
 -- What keeps the mark of a map, and what is noted.
-use Rattle.std.proofs.Common.{◌≡◌, ℕ, ◌+◌, ◌≤◌, List, [], ◌∷◌, ◌++◌, length, Bool, true, false, Option, Some, None, Ok, Err, inl, inr, refl, sym, ap, subst, ◌∙◌, append-nil, arith}
+use Rattle.std.proofs.Common.{◌≡◌, ℕ, ◌+◌, ◌<◌, ◌≤◌, List, [], ◌∷◌, ◌++◌, length, Bool, true, false, Option, Some, None, Ok, Err, inl, inr, refl, sym, ap, subst, ◌∙◌, append-nil, arith}
 use Rattle.std.specs.Prelude.{◌⊎◌, ⊤, max, is_some, IsSome, IsOk, Result, All, Contains}
 use Rattle.std.specs.Option.{option_or, unwrap_or}
-use Rattle.std.proofs.lemmas.Bool.{false≢true}
+use Rattle.std.proofs.lemmas.Bool.{false≢true, cases_lt}
 use Rattle.std.proofs.lemmas.List.Elements.{All-contains_itself}
 use Rattle.std.proofs.Math.Nat.{le-max_left}
 use Rattle.oct_brick.proofs.Lists.{contains_none, contains_cases}
@@ -37,7 +37,8 @@ use Rattle.oct_map.specs.Ground.{Ground}
 use Rattle.oct_map.specs.Map.{Map, values_of}
 use Rattle.oct_map.specs.Notes.{notes_of, note_room, marked_by_notes, IsNoted, IsSameNoted, HasMarked, HasRoomForNotes, LacksNotes, NotesFew, ReservesFewNotes}
 use Rattle.oct_map.specs.Marks.{classes_in, marked_of, SameMark, KeepsMark}
-use Rattle.oct_map.proofs.Edits.{IsReadied, SameEvents, edited_to}
+use Rattle.oct_map.specs.Edits.{IsReadied}
+use Rattle.oct_map.proofs.Edits.{SameEvents, edited_to}
 
 -- the same values have the same classes
 pub same_classes : (m n : Map) → SameValues (values_of m) (values_of n) → n.tree.odds ≡ m.tree.odds
@@ -139,7 +140,7 @@ marked_few now P n None b h = rw h (omega arith, refl)
 marked_few now P n (Some old) b (held, is, h, used, kept) =
     rw is (omega (arith, used, kept), kept)
 
--- the notes that there were stay, with more behind them
+-- the notes that there were stay, with more after them
 marked_added : (now : Classes) (P : Voxel → Type 0) (n : ℕ) (a b : Option Held)
     → HasMarked now P n a b → (added : List Note) × (notes_of b ≡ notes_of a ++ added)
 marked_added now P n None b h = ([], ap notes_of h)
@@ -183,18 +184,18 @@ same_few n a b events e =
     (λ _. e)
 
 -- room was made in a map
-pub readied_mark : (m u : Map) (need : ℕ) → IsReadied m u need → u.mark ≡ m.mark → KeepsMark m u
-readied_mark m u need ready same =
-    kept_mark m u (same_noted m.mark u.mark same) ready.values (ap (λ (g : Ground). g.odds) ready.setup)
+pub readied_mark : (m u : Map) (need : ℕ) → IsReadied m u need → KeepsMark m u
+readied_mark m u need ready =
+    kept_mark m u (same_noted m.mark u.mark ready.notes) ready.values (ap (λ (g : Ground). g.odds) ready.setup)
 
 -- room was made in a map, its voxels were noted, and its tree was edited
 pub marked_edit : (m u : Map) (w : Tree) (b c : Option Held) (d : Events) (P : Voxel → Type 0)
-    (n need : ℕ) (lazy : Bool) → IsReadied m u need → u.mark ≡ m.mark → IsSameNoted u.mark b
+    (n need : ℕ) (lazy : Bool) → IsReadied m u need → IsSameNoted u.mark b
     → HasMarked (classes_in u) P n b c → IsEdited u.tree w d
     → ((k : Voxel) → IsInMap k → IsSome (d k) → P k) → KeepsMark m (edited_to u w lazy c)
-marked_edit m u w b c d P n need lazy ready same noted marked edited asked =
+marked_edit m u w b c d P n need lazy ready noted marked edited asked =
     same_mark_trans (marked_of m) (marked_of u) (marked_of (edited_to u w lazy c))
-    (readied_mark m u need ready same)
+    (readied_mark m u need ready)
     (same_mark_trans (marked_of u) (marked_by_notes b (classes_in u)) (marked_of (edited_to u w lazy c))
     (marked_kept u.mark b (classes_in u) (classes_in u) noted (λ k v. refl))
     (marked_more P n b c (classes_in u) (classes_in (edited_to u w lazy c)) marked cover))
@@ -208,11 +209,11 @@ marked_edit m u w b c d P n need lazy ready same noted marked edited asked =
     ]
 
 -- notes were made room for alone
-pub marked_room : (m u : Map) (b : Option Held) (need : ℕ) → IsReadied m u need → u.mark ≡ m.mark
+pub marked_room : (m u : Map) (b : Option Held) (need : ℕ) → IsReadied m u need
     → IsSameNoted u.mark b → KeepsMark m (record u { mark = b })
-marked_room m u b need ready same noted =
+marked_room m u b need ready noted =
     same_mark_trans (marked_of m) (marked_of u) (marked_of (record u { mark = b }))
-    (readied_mark m u need ready same)
+    (readied_mark m u need ready)
     (marked_kept u.mark b (classes_in u) (classes_in u) noted (λ k v. refl))
 
 -- an equal mark in words of the first one
@@ -278,22 +279,19 @@ asked_scan u e k same v asked = subst IsSome (same k v) (some_event u k (elim as
   | inr freed ↦ inr (listed u.frees k freed)
 ]))
 
--- a map that stays keeps its mark, and nothing is noted
-pub same_mark : (a : Option Classes) → SameMark a a
-same_mark None = tt
-same_mark (Some c) = λ k v. refl
-
-pub keeps_itself : (m n : Map) → n ≡ m → KeepsMark m n
-keeps_itself m n e = subst (KeepsMark m) (sym e) (same_mark (marked_of m))
-
-pub notes_none : (n : ℕ) (a b : Map) (events : Events) → b ≡ a → NotesFew a.mark b.mark events n
-notes_none n a b events e = same_few n a.mark b.mark events (ap (λ (m : Map). m.mark) e)
-
 -- memory for notes wants only where there isn't room for them
 pub lacks_notes : {e : Memory} (a m : Option Held) (n : ℕ) (r : Result ⊤ Memory) → m ≡ a → r ≡ Err e
     → (HasRoomForNotes m n → IsOk r) → LacksNotes a n
 lacks_notes a m n r same err enough room =
     false≢true (subst IsOk err (enough (subst (λ x. HasRoomForNotes x n) (sym same) room)))
+
+-- for no notes there is room
+pub lacks_some : (mark : Option Held) (n : ℕ) → LacksNotes mark n → 0 < n
+lacks_some None n lacks = absurd (lacks tt)
+lacks_some (Some held) n lacks = elim (cases_lt 0 n) [
+  | inl some ↦ some
+  | inr none ↦ absurd (lacks (omega (arith, none)))
+]
 
 -- room that was made is an answer
 pub room_ok : (r : Result ⊤ MapFault) → IsAnswerOrMemory r (Ok tt) → IsOk r

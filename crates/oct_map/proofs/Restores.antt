@@ -1,6 +1,6 @@
 -- What a restore answers, and what it leaves of a map.
-use Rattle.std.proofs.Common.{◌≡◌, ℕ, ◌+◌, ◌<◌, ◌≤◌, List, [], length, true, false, None, Ok, Err, IsOk, refl, sym, ◌∙◌, ap, subst, arith, cond}
-use Rattle.std.specs.Prelude.{ℤ, Bool, not, Option, Result, max, pos, nat_eq, nat_lt}
+use Rattle.std.proofs.Common.{◌≡◌, ℕ, ◌+◌, ◌<◌, ◌≤◌, List, [], length, true, false, None, Ok, Err, refl, sym, ◌∙◌, ap, subst, arith, cond}
+use Rattle.std.specs.Prelude.{Bool, not, Option, Result, max, pos, nat_eq, nat_lt}
 use Rattle.std.proofs.Math.Nat.{max-eq_right}
 use Rattle.std.proofs.lemmas.Bool.{false≢true, eq-eqb, le-ltb, lt-ltb}
 use Rattle.oct_key.specs.Boxes.{Corners}
@@ -21,20 +21,14 @@ use Rattle.oct_snap.proofs.Again.{read_again}
 use Rattle.oct_snap.proofs.WholeFills.{same_snapshot}
 use Rattle.oct_map.specs.declared.fault.MapFault.{MapFault}
 use Rattle.oct_map.specs.declared.fault.MapFault.TheVariants.{OtherResolution, Full}
-use Rattle.oct_map.specs.Faults.{snap_fault}
 use Rattle.oct_map.specs.Ground.{Ground}
-use Rattle.oct_map.specs.Map.{Map, ground_of}
-use Rattle.oct_map.specs.Restores.{restored_room, restore_answer, box_after, ground_after, IsMapRestored}
+use Rattle.oct_map.specs.Map.{Map}
+use Rattle.oct_map.specs.Restores.{restored_room, restore_answer, box_after, IsMapRestored}
 
 -- ---- the answer
 
 abbrev Answer : Type 0
 Answer = Result ℕ MapFault
-
-pub fault_answered : (g : Ground) (r : Result Snapshot SnapFault) (fault : SnapFault) → IsChecked r (Err fault)
-    → restore_answer g r ≡ Err (snap_fault fault)
-fault_answered g (Ok s) fault is = absurd is
-fault_answered g (Err e) fault is = ap (λ e. Err (snap_fault e)) is
 
 -- the snapshot that was checked
 pub info_of : (r : Result Snapshot SnapFault) (info : SnapInfo) → IsChecked r (Ok info) → (s : Snapshot) × (r ≡ Ok s) × IsInfo s info

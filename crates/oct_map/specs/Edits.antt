@@ -3,8 +3,9 @@ use Rattle.std.specs.Prelude.{◌≡◌, ℕ, ◌+◌, ◌≤◌, ◌||◌, ◌�
 use Rattle.oct_key.specs.Values.{SameValues}
 use Rattle.oct_values.specs.Events.{Events, updated}
 use Rattle.oct_arena.specs.Entries.{live, spare}
+use Rattle.oct_tree.specs.Tree.{Tree, value_at}
 use Rattle.oct_tree.specs.Changes.{IsGrown}
-use Rattle.oct_tree.specs.Shape.{IsPruned}
+use Rattle.oct_tree.specs.Shape.{IsFresh, IsPruned}
 use Rattle.oct_edit.specs.Edits.{IsEdited, IsEagerEdit, IsLazyEdit}
 use Rattle.oct_inner.specs.Changes.{IsShrunk}
 use Rattle.oct_scan.specs.Beam.{Sighting}
@@ -21,27 +22,39 @@ outcome_in m scan = outcome_of (ground_of m) scan
 abbrev pub scan_need : Map → Sighting → ℕ
 scan_need m scan = need_of (ground_of m) scan
 
--- What a call that is done leaves, which has these events and may need so many groups: each voxel
--- has the value after its event, and the map is stale where it was, or where the call is lazy. With
--- room for the groups that it may need nothing is pruned beside what the events reach, and inner
--- values stay where the call is lazy.
+-- The tree of a map, fitted to this many groups more: where there is room for them, it is as it
+-- was. Else groups may be gone that the values don't need, and nothing else is changed.
+pub record IsFitted (m : Map) (need : ℕ) (t : Tree) : Type 0 where
+  pub own : HasRoomFor m need → t ≡ m.tree
+  pub shrunk : IsShrunk m.tree t
+  pub values : SameValues (values_of m) (value_at t)
+
+-- the tree of a map, fitted to this many groups more, with vacant entries besides
+abbrev pub IsRoomy : Map → ℕ → Tree → Type 0
+IsRoomy m need u = (t : Tree) × IsFitted m need t × IsGrown t u
+
+-- What a call that is done leaves, which has these events and may need this many groups: each voxel
+-- has the value after its event, and the map is stale where it was, or where the call is lazy. The
+-- tree is fitted, and then edited by the events alone: nothing else is pruned, and inner values
+-- stay where the call is lazy.
 pub record IsMapEdited (m n : Map) (events : Events) (need : ℕ) (lazy : Bool) : Type 0 where
   pub values : SameValues (updated m.tree.odds events (values_of m)) (values_of n)
   pub stale : n.is_stale ≡ (m.is_stale || lazy)
   pub eager : (IsTrue lazy → ⊥) → IsEagerEdit m.tree n.tree events
-  pub edited : HasRoomFor m need → IsEdited m.tree n.tree events
-  pub lazily : HasRoomFor m need → IsTrue lazy → IsLazyEdit m.tree n.tree events
+  pub fitted : Tree
+  pub fits : IsFitted m need fitted
+  pub edited : IsEdited fitted n.tree events
+  pub lazily : IsTrue lazy → IsLazyEdit fitted n.tree events
 
--- What a call that is refused for this fault leaves, which may have needed so many groups: each
--- value and the stale flag as they were, and no group more. With room for the groups the tree is as
--- it was, but for vacant entries, and one refused as full leaves it pruned, and no more than
--- pruned.
+-- What a call that is refused for this fault leaves, which may have needed this many groups: each
+-- value and the stale flag as they were, and no group more. The tree is fitted at most, but for
+-- vacant entries, and one refused as full leaves it pruned, and no more than pruned.
 pub record IsMapRefused (m n : Map) (fault : MapFault) (need : ℕ) : Type 0 where
   pub values : SameValues (values_of m) (values_of n)
   pub stale : n.is_stale ≡ m.is_stale
   pub pruned : IsPruned m.tree → IsPruned n.tree
   pub live : live n.tree.groups ≤ live m.tree.groups
-  pub grown : HasRoomFor m need → IsGrown m.tree n.tree
+  pub roomy : IsRoomy m need n.tree
   pub full : (groups more : ℕ) → fault ≡ Full groups more
       → IsPruned n.tree × IsShrunk m.tree n.tree
 
@@ -49,11 +62,23 @@ pub record IsMapRefused (m n : Map) (fault : MapFault) (need : ℕ) : Type 0 whe
 abbrev pub entries_of : Map → ℕ
 entries_of m = live m.tree.groups + spare m.tree.groups
 
--- A call that may need so many groups takes memory for no more than these and 1,023 entries, beyond
--- the groups that the map had and beyond those that it may have, and for none where it can make
--- them already. It gives no entry away.
+-- A call that may need this many groups takes memory for no more than these and 1,023 entries,
+-- beyond the groups that the map had and beyond those that it may have, and for none where it can
+-- make them already. It gives no entry away.
 pub record ReservesFew (m n : Map) (need : ℕ) : Type 0 where
   pub kept : entries_of m ≤ entries_of n
   pub enough : need ≤ spare m.tree.groups → entries_of n ≡ entries_of m
   pub few : (entries_of n ≡ entries_of m)
       ⊎ ((entries_of n ≤ live m.tree.groups + need + 1023) × (entries_of n ≤ m.max_groups + 1023))
+
+-- working word: what making room for this many groups leaves of a map
+pub record IsReadied (m u : Map) (need : ℕ) : Type 0 where
+  pub setup : ground_of u ≡ ground_of m
+  pub values : SameValues (values_of m) (values_of u)
+  pub stale : u.is_stale ≡ m.is_stale
+  pub notes : u.mark ≡ m.mark
+  pub fresh : IsFresh m.tree → IsFresh u.tree
+  pub pruned : IsPruned m.tree → IsPruned u.tree
+  pub live : live u.tree.groups ≤ live m.tree.groups
+  pub roomy : IsRoomy m need u.tree
+  pub reserved : ReservesFew m u need

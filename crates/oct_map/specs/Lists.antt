@@ -1,5 +1,6 @@
 -- What a map answers to a list of blocks, from the value of each voxel alone.
-use Rattle.std.specs.Prelude.{ℕ, nat_lt, Bool, ◌&&◌, List, length, Option, Some, None, Result, Ok, Err, if◌then◌else◌}
+use Rattle.std.specs.Prelude.{ℕ, nat_lt, Bool, ◌&&◌, List, length, Option, Some, None, Result, Ok}
+use Rattle.std.specs.Prelude.{Err, if◌then◌else◌}
 use Rattle.oct_key.specs.declared.point.Point.{Point}
 use Rattle.oct_key.specs.Voxel.{Voxel, key_at}
 use Rattle.oct_key.specs.Values.{Values}
@@ -7,7 +8,8 @@ use Rattle.oct_key.specs.Boxes.{is_box}
 use Rattle.oct_query.specs.Shown.{Shown}
 use Rattle.oct_query.specs.Listed.{met_blocks, listed_blocks}
 use Rattle.oct_map.specs.declared.fault.MapFault.{MapFault}
-use Rattle.oct_map.specs.declared.fault.MapFault.TheVariants.{Outside, BadDepth, BadBox, Stale, TooManyBlocks}
+use Rattle.oct_map.specs.declared.fault.MapFault.TheVariants.{Outside, BadDepth, BadBox, Stale}
+use Rattle.oct_map.specs.declared.fault.MapFault.TheVariants.{TooManyBlocks}
 use Rattle.oct_map.specs.Ground.{Ground}
 
 -- the most blocks, unknown ones among them, that a list may have

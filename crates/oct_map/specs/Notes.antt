@@ -1,6 +1,7 @@
 -- The notes of a map's mark, where one stands: which voxels are noted, and for how many there is
 -- room.
-use Rattle.std.specs.Prelude.{◌≡◌, ℕ, ◌+◌, ◌≤◌, ◌++◌, max, List, [], length, ◌⊎◌, Option, Some, None, IsSome, IfSome, is_some, option_map}
+use Rattle.std.specs.Prelude.{◌≡◌, ℕ, ◌+◌, ◌≤◌, ◌++◌, max, List, [], length, ◌⊎◌, Option, Some}
+use Rattle.std.specs.Prelude.{None, IsSome, IfSome, is_some, option_map}
 use Rattle.oct_key.specs.Voxel.{Voxel, IsInMap}
 use Rattle.oct_values.specs.Classes.{Classes}
 use Rattle.oct_values.specs.Events.{Events}
@@ -22,15 +23,16 @@ note_room (Some held) = room_of held
 abbrev pub IsNoted : Option Held → Voxel → Type 0
 IsNoted mark k = IsSome (first_noted (notes_of mark) k)
 
--- there is room for so many notes more, where a mark stands
+-- there is room for this many notes more, where a mark stands
 abbrev pub HasRoomForNotes : Option Held → ℕ → Type 0
 HasRoomForNotes mark n = IfSome mark (λ (held : Held). n ≤ held.spare)
 
--- a mark stands, and there isn't room for so many notes more
+-- a mark stands, and there isn't room for this many notes more
 abbrev pub LacksNotes : Option Held → ℕ → Type 0
 LacksNotes mark n = HasRoomForNotes mark n → ⊥
 
--- the class that each voxel had at the mark, where one stands, by the first notes and the classes now
+-- the class that each voxel had at the mark, where one stands, by the first notes and the classes
+-- now
 abbrev pub marked_by_notes : Option Held → Classes → Option Classes
 marked_by_notes mark now = option_map (λ (held : Held). marked_by held.notes now) mark
 
@@ -40,21 +42,21 @@ pub record IsSameNoted (a b : Option Held) : Type 0 where
   pub first : (k : Voxel) → first_noted (notes_of b) k ≡ first_noted (notes_of a) k
   pub few : length (notes_of b) ≤ length (notes_of a)
 
--- room is made for no more than so many notes beside those that there are, or for as many again
+-- room is made for no more than this many notes beside those that there are, or for as many again
 abbrev pub ReservesFewNotes : Option Held → Option Held → ℕ → Type 0
 ReservesFewNotes a b n =
     note_room b ≤ max (note_room a) (length (notes_of a) + max n (length (notes_of a)))
 
--- where a mark stands, these voxels were noted with their classes now, by so many notes
+-- where a mark stands, these voxels were noted with their classes now, by this many notes
 abbrev pub HasMarked : Classes → (Voxel → Type 0) → ℕ → Option Held → Option Held → Type 0
 HasMarked now asked n None new = new ≡ None
 HasMarked now asked n (Some old) new =
     (held : Held) × (new ≡ Some held) × HasNoted now asked old.notes held.notes
     × (old.spare ≡ held.spare + n) × (room_of held ≡ room_of old)
 
--- What a call does to the notes of a mark, which has these events, for so many voxels: it notes no
--- voxel without an event, by no more notes than these, and makes room for no more than these, or for
--- as many as there are. Where there is room already, none is made, and the notes that there are
+-- What a call does to the notes of a mark, which has these events, for this many voxels: it notes
+-- no voxel without an event, by no more notes than these, and makes room for no more than these, or
+-- for as many as there are. Where there is room already, none is made, and the notes that there are
 -- stay as they are.
 pub record NotesFew (a b : Option Held) (events : Events) (n : ℕ) : Type 0 where
   pub only : (k : Voxel) → IsInMap k → IsNoted b k → IsNoted a k ⊎ IsSome (events k)

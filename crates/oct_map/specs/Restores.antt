@@ -1,5 +1,6 @@
 -- What a map answers to a snapshot that is to take its place, and what the snapshot leaves.
-use Rattle.std.specs.Prelude.{◌≡◌, ℕ, ◌+◌, ◌≤◌, nat_lt, nat_eq, pos, false, Option, None, Result, Ok, Err, if◌then◌else◌}
+use Rattle.std.specs.Prelude.{◌≡◌, ℕ, ◌+◌, ◌≤◌, nat_lt, nat_eq, pos, false, Option, None, Result}
+use Rattle.std.specs.Prelude.{Ok, Err, if◌then◌else◌}
 use Rattle.oct_key.specs.Boxes.{Corners}
 use Rattle.oct_key.specs.Values.{SameValues}
 use Rattle.oct_arena.specs.Entries.{live}
@@ -15,9 +16,10 @@ use Rattle.oct_map.specs.Ground.{Ground}
 use Rattle.oct_map.specs.Map.{Map, values_of, ground_of}
 use Rattle.oct_map.specs.Edits.{entries_of}
 
--- a new map of so many groups, where these are within the limit
+-- a new map of this many groups, where these are within the limit
 abbrev pub restored_room : ℕ → ℕ → Result ℕ MapFault
-restored_room max_groups groups = if nat_lt max_groups groups then Err (Full 0 groups) else Ok groups
+restored_room max_groups groups =
+    if nat_lt max_groups groups then Err (Full 0 groups) else Ok groups
 
 -- the answer to a snapshot, by what it is read as: how many groups its values need
 abbrev pub restore_answer : Ground → Result Snapshot SnapFault → Result ℕ MapFault
@@ -33,7 +35,10 @@ box_after standing version own = if nat_eq version 1 then standing else own
 
 -- what answers read beside the values after a snapshot
 abbrev pub ground_after : Ground → Fields → Ground
-ground_after g head = record g { odds = head.odds; update_box = box_after g.update_box head.version head.window }
+ground_after g head = record g {
+  odds = head.odds;
+  update_box = box_after g.update_box head.version head.window;
+}
 
 -- What an accepted snapshot leaves: its values in a pruned map that isn't stale and has no mark, by
 -- its log-odds and with its update box, with exactly its groups, and memory for no more than these

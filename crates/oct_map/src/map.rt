@@ -1,4 +1,6 @@
-ghost use Rattle.std.specs.Prelude.{◌≡◌, ℕ, ◌+◌, ◌^◌, ◌<◌, ◌≤◌, ◌⊎◌, ◌&&◌, nat_lt, pos, ◌≤ℤ◌, ◌<ℤ◌, false, is_some, IsTrue, [], All, IfSome, IfErr, IsSome, IsOk, OnOk, OnErr, Some, None, Err};
+ghost use Rattle.std.specs.Prelude.{◌≡◌, ℕ, ◌+◌, ◌^◌, ◌<◌, ◌≤◌, ◌⊎◌, ◌&&◌, nat_lt, pos, ◌≤ℤ◌, ◌<ℤ◌};
+ghost use Rattle.std.specs.Prelude.{false, IsTrue, [], All, Some, None, is_some, IsSome, IfSome};
+ghost use Rattle.std.specs.Prelude.{Err, IsOk, OnOk, OnErr, IfErr};
 ghost use Rattle.oct_key.specs.Voxel.{Voxel, IsInMap, key_at};
 ghost use Rattle.oct_key.specs.Values.{SameValues};
 ghost use Rattle.oct_odds.specs.Odds.{odds_of};
@@ -12,21 +14,24 @@ ghost use Rattle.oct_values.specs.Counts.{group_count, node_count};
 ghost use Rattle.oct_arena.specs.declared.node.Node.{Node};
 ghost use Rattle.oct_arena.specs.Entries.{live, spare};
 ghost use Rattle.oct_tree.specs.Shape.{IsFresh, IsPruned};
-ghost use Rattle.oct_tree.specs.Changes.{IsGrown};
 ghost use Rattle.oct_edit.specs.Saturated.{IsSaturated};
 ghost use Rattle.oct_edit.specs.Edits.{IsTidyAlong};
 ghost use Rattle.oct_inner.specs.Changes.{IsSameButInner, IsShrunk};
 ghost use Rattle.oct_pose.specs.Reach.{IsInReach};
 ghost use Rattle.oct_scan.specs.Beam.{IsTrust, sighting_of};
-ghost use Rattle.oct_scan.specs.Outcome.{scan_fault};
+ghost use Rattle.oct_scan.specs.Answer.{TakesMemory};
+ghost use Rattle.oct_scan.specs.Outcome.{scan_fault, hit_count, free_count};
 ghost use Rattle.oct_map.specs.declared.fault.MapFault.{MapFault};
-ghost use Rattle.oct_map.specs.Answers.{room_answer, edit_answer, box_answer, corner_fault, box_fault, most_noted, edit_need, scan_answer, limit_answer, get_answer, IsAnswerOrMemory};
-ghost use Rattle.oct_map.specs.Outcome.{corner_events, corner_need, corner_box, corner_volume, hit_event, miss_event};
-ghost use Rattle.oct_scan.specs.Outcome.{hit_count, free_count};
+ghost use Rattle.oct_map.specs.Answers.{room_answer, edit_answer, edit_need, box_answer, box_fault};
+ghost use Rattle.oct_map.specs.Answers.{most_noted, limit_answer, scan_answer, get_answer};
+ghost use Rattle.oct_map.specs.Answers.{IsAnswerOrMemory};
+ghost use Rattle.oct_map.specs.Outcome.{corner_events, corner_need, corner_box, corner_volume};
+ghost use Rattle.oct_map.specs.Outcome.{hit_event, miss_event};
 ghost use Rattle.oct_map.specs.Notes.{LacksNotes, NotesFew};
 ghost use Rattle.oct_map.specs.Marks.{KeepsMark};
 ghost use Rattle.oct_map.specs.Lists.{list_answer};
-ghost use Rattle.oct_map.specs.Edits.{outcome_in, scan_need, IsMapEdited, IsMapRefused, ReservesFew, entries_of};
+ghost use Rattle.oct_map.specs.Edits.{outcome_in, scan_need, IsMapEdited, IsMapRefused, IsRoomy};
+ghost use Rattle.oct_map.specs.Edits.{IsReadied, ReservesFew, entries_of};
 
 mod loading;
 mod marking;
@@ -154,9 +159,8 @@ impl OccMap {
         ensures reserved { ReservesFew self.old self.new edit_need }
         ensures outside { key_at self.old.tree.res p ≡ None → self.new ≡ self.old }
         ensures saturated { (k : Voxel) → key_at self.old.tree.res p ≡ Some k
-            → HasRoomFor self.old edit_need
             → IsSaturated self.old.tree.odds event (values_of self.old k)
-            → OnOk result (IsGrown self.old.tree self.new.tree) }
+            → OnOk result (IsRoomy self.old edit_need self.new.tree) }
         ensures mark { KeepsMark self.old self.new }
         ensures noted { NotesFew self.old.mark self.new.mark
             (event_at (key_at self.old.tree.res p) event) 1 }
@@ -288,14 +292,17 @@ impl OccMap {
         requires odds { IfSome scan.now.odds IsTrust }
         ensures answer { IsAnswerOrMemory (scan_answer (ground_of self.old) (values_of self.old)
             (sighting_of scan.now)) result }
+        ensures memory { result ≡ Err MapFault.Memory
+            → TakesMemory self.old.tree.res (sighting_of scan.now) }
         ensures edited { OnOk result (IsMapEdited self.old self.new
             (outcome_in self.old (sighting_of scan.now))
             (scan_need self.old (sighting_of scan.now)) lazy) }
         ensures refused { IfErr result (λ fault. IsMapRefused self.old self.new fault
             (scan_need self.old (sighting_of scan.now))) }
-        ensures reserved { ReservesFew self.old self.new (scan_need self.old (sighting_of scan.now)) }
-        ensures faulty { IsSome (scan_fault self.old.tree.res (sighting_of scan.now) self.old.max_cells)
-            → self.new ≡ self.old }
+        ensures reserved { ReservesFew self.old self.new
+            (scan_need self.old (sighting_of scan.now)) }
+        ensures faulty { IsSome (scan_fault self.old.tree.res (sighting_of scan.now)
+            self.old.max_cells) → self.new ≡ self.old }
         ensures path { (IsTrue lazy → ⊥) → (k : Voxel) → IsInMap k
             → IsSome (outcome_in self.old (sighting_of scan.now) k)
             → OnOk result (IsTidyAlong self.new.tree k) }
@@ -462,7 +469,8 @@ impl OccMap {
         self.is_stale = false;
     }
 
-    /// Makes the map that of the unknown world again, without a mark, and gives back all its memory.
+    /// Makes the map that of the unknown world again, without a mark, and gives back all its
+    /// memory.
     pub fn clear(&mut self)
         ensures exact { self.new ≡ record {
           tree = record {
@@ -488,14 +496,14 @@ impl OccMap {
         self.mark.unset();
     }
 
-    /// Whether a mark stands, and a box of so many voxels has too many to be noted.
+    /// Whether a mark stands, and a box of this many voxels has too many to be noted.
     fn is_too_wide(&self, count: u64) -> bool
         ensures { result ≡ (is_some self.now.mark && nat_lt most_noted count) }
     {
         self.mark.is_set() && count > MOST_NOTED
     }
 
-    /// Makes room for so many groups, or refuses. Prunes the map only where there isn't room
+    /// Makes room for this many groups, or refuses. Prunes the map only where there isn't room
     /// otherwise.
     fn make_room(&mut self, need: u128) -> Result<(), MapFault>
         requires { need < 2 ^ 127 }
@@ -506,17 +514,9 @@ impl OccMap {
             × (spare self.old.tree.groups < need) }
         ensures room { OnOk result (need ≤ spare self.new.tree.groups) }
         ensures few { OnOk result (live self.new.tree.groups + need ≤ self.new.max_groups) }
-        ensures kept { HasRoomFor self.old need → IsGrown self.old.tree self.new.tree }
         ensures full { (groups more : ℕ) → result ≡ Err (MapFault.Full groups more)
             → IsPruned self.new.tree × IsShrunk self.old.tree self.new.tree }
-        ensures live { live self.new.tree.groups ≤ live self.old.tree.groups }
-        ensures reserved { ReservesFew self.old self.new need }
-        ensures notes { self.new.mark ≡ self.old.mark }
-        ensures values { SameValues (values_of self.old) (values_of self.new) }
-        ensures stale { self.new.is_stale ≡ self.old.is_stale }
-        ensures pruned { IsPruned self.old.tree → IsPruned self.new.tree }
-        ensures fresh { IsFresh self.old.tree → IsFresh self.new.tree }
-        ensures setup { ground_of self.new ≡ ground_of self.old }
+        ensures readied { IsReadied self.old self.new need }
         ensures map { IsMap self.new }
     {
         self.prune_to_fit(need)?;
@@ -524,7 +524,7 @@ impl OccMap {
         Ok(())
     }
 
-    /// Prunes the map where so many groups more are more than it may have, and refuses where they
+    /// Prunes the map where this many groups more are more than it may have, and refuses where they
     /// still are then.
     fn prune_to_fit(&mut self, need: u128) -> Result<(), MapFault>
         requires { need < 2 ^ 127 }

@@ -1,5 +1,6 @@
 //! The mark of a map.
-ghost use Rattle.std.specs.Prelude.{◌≡◌, ◌+◌, ◌≤◌, ◌⊎◌, length, max, [], None, Some, is_some, IfSome, IsOk, OnOk, OnErr, IfOk, option_map};
+ghost use Rattle.std.specs.Prelude.{◌≡◌, ◌+◌, ◌≤◌, ◌⊎◌, length, max, [], None, Some, is_some};
+ghost use Rattle.std.specs.Prelude.{IfSome, IsOk, OnOk, OnErr, IfOk, option_map};
 ghost use Rattle.std.specs.Prelude.{All, Contains};
 ghost use Rattle.oct_brick.specs.Bricks.{IsBrick};
 ghost use Rattle.oct_brick.specs.Voxels.{hit_voxels, freed_voxels};
@@ -11,7 +12,8 @@ ghost use Rattle.oct_values.specs.Classes.{classes_of};
 ghost use Rattle.oct_change.specs.Changes.{changes_between};
 ghost use Rattle.oct_change.specs.Held.{room_of};
 ghost use Rattle.oct_change.specs.Notes.{first_noted};
-ghost use Rattle.oct_map.specs.Notes.{HasRoomForNotes, IsSameNoted, ReservesFewNotes, HasMarked, marked_by_notes};
+ghost use Rattle.oct_map.specs.Notes.{HasRoomForNotes, IsSameNoted, ReservesFewNotes, HasMarked};
+ghost use Rattle.oct_map.specs.Notes.{marked_by_notes};
 
 use oct_brick::Brick;
 use oct_change::{ChangeList, Changes};
@@ -133,8 +135,8 @@ impl Mark {
     }
 }
 
-/// Makes room for n notes. Where there isn't any, only the first note of each voxel stays, and there
-/// is room for as many notes again, so that the next time is far.
+/// Makes room for n notes. Where there isn't any, only the first note of each voxel stays, and
+/// there is room for as many notes again, so that the next time is far.
 fn make_room(changes: &mut Changes, n: u64) -> Result<(), Memory>
     ensures room { OnOk result (n ≤ changes.new.spare) }
     ensures enough { n ≤ changes.old.spare → IsOk result × (changes.new ≡ changes.old) }

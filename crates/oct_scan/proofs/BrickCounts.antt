@@ -77,7 +77,7 @@ first_octet last o b c cs rest f other h =
 octet_codes : (o mask : ℕ) → AreInOctet o (mask_codes 8 (8 * o) mask)
 octet_codes o mask = all_contained (λ c. c / 8 ≡ o) (mask_codes 8 (8 * o) mask) (λ c h. let r = mask_within 8 (8 * o) mask c h in omega (arith, r.1, r.2))
 
--- an octet's codes and those of the octets behind it
+-- an octet's codes and those of the octets after it
 octets_parted : (n o mask : ℕ) (rest : List ℕ) → mask_codes (8 * suc n) (8 * o) mask ++ rest ≡ mask_codes 8 (8 * o) mask ++ (mask_codes (8 * n) (8 * (o + 1)) (mask / 256) ++ rest)
 octets_parted n o mask rest =
     let size : 8 * suc n ≡ 8 + 8 * n = omega arith in
@@ -89,7 +89,7 @@ octets_parted n o mask rest =
 octet_empty : (n o mask : ℕ) (rest : List ℕ) → mask % 256 ≡ 0 → mask_codes (8 * suc n) (8 * o) mask ++ rest ≡ mask_codes (8 * n) (8 * (o + 1)) (mask / 256) ++ rest
 octet_empty n o mask rest e = octets_parted n o mask rest ∙ ap (λ (l : List ℕ). l ++ (mask_codes (8 * n) (8 * (o + 1)) (mask / 256) ++ rest)) (low_none 8 (8 * o) mask e)
 
--- the octets behind the code before, in its brick
+-- the octets after the code before, in its brick
 inner_octets : (n o b p mask : ℕ) (rest : List ℕ) → o + n ≡ 8 * b + 8 → 8 * b ≤ o → p / 64 ≡ b → p / 8 < o → (q : ℕ) × (q / 64 ≡ b) × (blocks_after (Some p) (mask_codes (8 * n) (8 * o) mask ++ rest) ≡ octet_count n mask + blocks_after (Some q) rest)
 inner_octets zero o b p mask rest size low brick below =
     (p, brick, ap (λ (l : List ℕ). blocks_after (Some p) (l ++ rest)) (codes_none (8 * o) mask) ∙ omega (arith, octets_none mask))

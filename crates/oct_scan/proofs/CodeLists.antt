@@ -42,7 +42,7 @@ above_head x xs c up h = All-contains (λ n. x < n) xs c (pairs_head (λ m n. m 
 pub rises_tail : (x : ℕ) (xs : List ℕ) → Rises (x ∷ xs) → Rises xs
 rises_tail x xs up = pairs_tail (λ m n. m < n) x xs up
 
--- what a list has that is greater than its first number stands behind that
+-- what a list has that is greater than its first number stands after that
 pub past_head : (x c : ℕ) (xs : List ℕ) → Contains (x ∷ xs) c → x < c → Contains xs c
 past_head x c xs h l = elim (contains_cases x c xs h) [ inl e ↦ absurd (omega arith) | inr k ↦ k ]
 
@@ -58,7 +58,7 @@ nothing_left ys c h = contains_none c h
 abbrev pub IsPart : List ℕ → List ℕ → Type 0
 IsPart ys xs = (c : ℕ) → Contains ys c → Contains xs c
 
--- behind an equal first number
+-- after an equal first number
 part_same : (x y : ℕ) (xs ys : List ℕ) → Rises (y ∷ ys) → IsPart (y ∷ ys) (x ∷ xs) → y ≡ x → IsPart ys xs
 part_same x y xs ys up part e = λ c h. past_head x c xs (part c (contains_later y c ys h)) (omega (arith, above_head y ys c up h))
 

@@ -171,7 +171,7 @@ gathered_more edge window o bs b met s s' h h' g a =
       ];
     }
 
--- one beam more meets so many voxels more
+-- one beam more meets this many voxels more
 pub met_more : (edge : ℕ) (o : Point) (bs : List Beam) (b : Beam) (total met : ℕ) → MeetInAll edge o bs total → MeetsSoMany edge o b.end met → MeetInAll edge o (bs ++ b ∷ []) (total + met)
 met_more edge o [] b total met h m = (met, 0, m, refl, omega (arith, h))
 met_more edge o (c ∷ bs) b total met h m = (h.0, h.1 + met, h.2, met_more edge o bs b h.1 met h.3 m, omega (arith, h.4))

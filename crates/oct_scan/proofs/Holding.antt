@@ -69,7 +69,7 @@ end_scanned bs bs' around b end t whole e none both = end_by (λ b. b.scanned) b
 pub end_hits : (bs bs' : List Brick) (around b : Brick) (end : ℕ) (t : Bool) → t ≡ false → bs' ≡ bs ++ b ∷ [] → around.hits ≡ 0 → ((c : ℕ) → HasCode b.code b.hits c ↔ (HasCode around.code around.hits c ⊎ (end ≡ c))) → (c : ℕ) → Contains (hit_codes bs') c ↔ (Contains (hit_codes bs) c ⊎ Contains (cond t [] (end ∷ [])) c)
 end_hits bs bs' around b end t whole e none both = end_by (λ b. b.hits) bs bs' around b end t whole e none both
 
--- so many codes of a walk are still to come, without that of the end
+-- this many codes of a walk are still to come, without that of the end
 abbrev pub ToCome : ℕ → List Voxel → ℕ → Type 0
 ToCome end ks c = Contains (map morton_of ks) c × (end ≢ c)
 

@@ -84,7 +84,7 @@ levels_by_bit (suc n) a b (suc (suc (suc r))) low high few =
     let rest : levels_apart n (a / 8) (b / 8) ≡ r / 3 = levels_by_bit n (a / 8) (b / 8) r (omega (arith, e, top)) (omega (arith, e, top)) (omega arith) in
     one_level n a b (omega (arith, e)) ∙ omega (arith, rest)
 
--- two codes differ on at most so many levels
+-- two codes differ on at most this many levels
 pub levels_few : (n a b : ℕ) → levels_apart n a b ≤ n
 levels_few zero a b = omega (arith, levels_none a b)
 levels_few (suc n) a b = elim (top_tells a b) [

@@ -16,3 +16,4 @@ pub mod Tests
 pub mod Faults
 pub mod Totals
 pub mod Ends
+pub mod Taking

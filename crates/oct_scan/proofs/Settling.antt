@@ -1,9 +1,10 @@
 -- What is made of merged bricks is what is made of the codes that were gathered.
-use Rattle.std.proofs.Common.{◌≡◌, ℕ, ◌+◌, ◌-◌, ◌*◌, ◌%◌, ◌^◌, ◌<◌, ◌≤◌, ◌↔◌, List, [], ◌∷◌, ◌++◌, map, length, take, get_or, sym, ◌∙◌, ap, arith, append_assoc, bit_and}
+use Rattle.std.proofs.Common.{◌≡◌, ℕ, ◌+◌, ◌-◌, ◌*◌, ◌%◌, ◌^◌, ◌<◌, ◌≤◌, ◌↔◌, List, [], ◌∷◌, ◌++◌, map, length, take, get_or, refl, sym, ◌∙◌, ap, arith, append_assoc, bit_and}
 use Rattle.std.specs.List.{All, Contains}
 use Rattle.std.specs.Int.{w64, trailing_zeros}
 use Rattle.std.proofs.lemmas.Nat.Bits.{bit_at-trailing_zeros}
 use Rattle.std.proofs.lemmas.List.{append-nil, map-append, take_more, take_all, length-map}
+use Rattle.std.proofs.lemmas.List.Elements.{All-nil}
 use Rattle.std.proofs.lemmas.List.Concat.{flat_map-cons}
 use Rattle.std.proofs.lemmas.Grind.{flat_map-append}
 use Rattle.oct_key.specs.Voxel.{Voxel}
@@ -14,8 +15,9 @@ use Rattle.oct_brick.proofs.MaskCodes.{lowest_first, no_codes}
 use Rattle.oct_brick.proofs.BrickCodes.{codes_by, by_rises}
 use Rattle.oct_brick.proofs.Merging.{freed_has}
 use Rattle.oct_brick.proofs.Rising.{same_rising}
+use Rattle.oct_brick.proofs.Lists.{pairs_nil}
 use Rattle.oct_brick.specs.Voxels.{coded_voxel}
-use Rattle.oct_scan.specs.Codes.{difference, brick_count}
+use Rattle.oct_scan.specs.Codes.{difference, brick_count, bricks_after}
 use Rattle.oct_scan.specs.Gathered.{HoldCodes}
 use Rattle.oct_scan.specs.Update.{Update, IsSettled}
 use Rattle.oct_scan.proofs.CodeLists.{Rises, IsPart, difference_from, difference_listed, difference_rises, increasing_from}
@@ -48,6 +50,12 @@ settled bricks merged s h u held part scanned hits all apart hits_are frees_are 
       frees_are = frees_are ∙ ap (map coded_voxel) (freed_is merged apart all (λ c k. (same_codes c).0 (part c ((same_hits c).1 k))));
       need_is = need_is ∙ brick_count_is merged all apart;
     }
+
+-- and where there are no bricks, nothing is to be merged
+pub settled_none : (bricks : List Brick) (s h : List ℕ) → length bricks ≡ 0 → HoldCodes bricks s h → IsPart h s → IsSettled s h (record { hits = map coded_voxel (hit_codes bricks); frees = map coded_voxel (freed_codes bricks); need = 0 })
+unfolding bricks_after
+settled_none [] s h none held part = settled [] [] s h _ held part (λ c. (λ k. k, λ k. k)) (λ c. (λ k. k, λ k. k)) (All-nil IsBrick) (pairs_nil (λ a b. a.code < b.code)) refl refl refl
+settled_none (b ∷ bs) s h none held part = absurd (omega (arith, none))
 
 -- the lowest bit of a mask gives the next voxel
 pub key_taken : (keys keys' start : List Voxel) (code left mask : ℕ) (k : Voxel) → 0 < left → left < 2 ^ 64 → keys' ≡ keys ++ k ∷ [] → k ≡ coded_voxel (64 * code + trailing_zeros w64 left) → keys ++ map coded_voxel (codes_of code left) ≡ start ++ map coded_voxel (codes_of code mask) → keys' ++ map coded_voxel (codes_of code (bit_and left (left - 1))) ≡ start ++ map coded_voxel (codes_of code mask)

@@ -10,7 +10,7 @@ difference [] ys = []
 difference (x ∷ xs) [] = x ∷ difference xs []
 difference (x ∷ xs) (y ∷ ys) = if y == x then difference xs ys else x ∷ difference xs (y ∷ ys)
 
--- how often two codes can lose their last three bits, at most so many times, and still differ
+-- how often two codes can lose their last three bits, at most this many times, and still differ
 unfoldable pub levels_apart : ℕ → ℕ → ℕ → ℕ
 levels_apart zero a b = 0
 levels_apart (suc most) a b = if a / 8 == b / 8 then 0 else 1 + levels_apart most (a / 8) (b / 8)

@@ -63,8 +63,8 @@ kept None ks = ks
 kept (Some box) ks = filter (is_in_box box.lo box.hi) ks
 
 -- The voxels of a walk that lie in the box, where one stands, have come to those of bricks, but not
--- that of its end, and no voxel is hit by them. So many does the walk meet. Where there is no room
--- for them, what came to the bricks isn't said.
+-- that of its end, and no voxel is hit by them. This many does the walk meet. Where there is no
+-- room for them, what came to the bricks isn't said.
 pub record IsWayAdded (window : Option Corners) (end : ℕ) (walk : List Voxel) (room : ℕ)
     (old new : List Brick) (met : ℕ) : Type 0 where
   pub counted : met ≡ length walk
@@ -84,8 +84,8 @@ is_mute window b end = b.is_cut || not (is_in_window window end)
 abbrev pub end_codes : Option Corners → Beam → Voxel → List ℕ
 end_codes window b end = if is_mute window b end then [] else morton_of end ∷ []
 
--- the codes of the voxels in the box that a beam meets, of so many in all, have come to those that
--- are there
+-- the codes of the voxels in the box that a beam meets, of this many in all, have come to those
+-- that are there
 pub record IsBeamAdded (edge : ℕ) (window : Option Corners) (o : Point) (b : Beam) (met : ℕ)
     (scanned scanned' hits hits' : List ℕ) : Type 0 where
   pub front : List Voxel
@@ -102,7 +102,8 @@ pub record HoldCodes (bricks : List Brick) (scanned hits : List ℕ) : Type 0 wh
   pub same_scanned : (code : ℕ) → Contains scanned code ↔ Contains (scanned_codes bricks) code
   pub same_hits : (code : ℕ) → Contains hits code ↔ Contains (hit_codes bricks) code
 
--- bricks change and hit the voxels that the beams mark and hit, of which there are at most so many
+-- bricks change and hit the voxels that the beams mark and hit, of which there are at most this
+-- many
 pub record HoldGathered (edge : ℕ) (window : Option Corners) (o : Point) (bs : List Beam)
     (bricks : List Brick) (most : ℕ) : Type 0 where
   pub scanned : List ℕ
@@ -111,7 +112,7 @@ pub record HoldGathered (edge : ℕ) (window : Option Corners) (o : Point) (bs :
   pub few : length scanned ≤ most
   pub held : HoldCodes bricks scanned hits
 
--- the voxels in the box that a beam meets, of so many in all, have come to those of bricks
+-- the voxels in the box that a beam meets, of this many in all, have come to those of bricks
 pub record IsBeamHeld (edge : ℕ) (window : Option Corners) (o : Point) (b : Beam) (met : ℕ)
     (bricks bricks' : List Brick) : Type 0 where
   pub front : List Voxel

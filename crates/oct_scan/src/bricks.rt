@@ -1,5 +1,6 @@
-ghost use Rattle.std.specs.Prelude.{◌≡◌, ◌≢◌, ℕ, ◌+◌, ◌^◌, ◌≤◌, pos, ◌≤ℤ◌, ◌<ℤ◌, ◌↔◌, length, Some};
-ghost use Rattle.std.specs.Prelude.{None, List, All, Contains, IfOk, IfErr, IfSome};
+ghost use Rattle.std.specs.Prelude.{◌≡◌, ◌≢◌, ℕ, ◌+◌, ◌^◌, ◌<◌, ◌≤◌, pos, ◌≤ℤ◌, ◌<ℤ◌, ◌↔◌};
+ghost use Rattle.std.specs.Prelude.{Some, None, Err, List, length, All, Contains};
+ghost use Rattle.std.specs.Prelude.{IfOk, IfErr, IfSome, OnErr};
 ghost use Rattle.oct_key.specs.Voxel.{Voxel, IsInMap};
 ghost use Rattle.oct_key.specs.Boxes.{IsInWindow};
 ghost use Rattle.oct_odds.specs.declared.event.Event.{Event};
@@ -8,7 +9,7 @@ ghost use Rattle.oct_values.specs.Needs.{event_need};
 ghost use Rattle.oct_pose.specs.Reach.{IsInReach};
 ghost use Rattle.oct_scan.specs.Beam.{origin_of, beams_of, sighting_of};
 ghost use Rattle.oct_scan.specs.Scanned.{IsHit, IsFreed, IsNeed};
-ghost use Rattle.oct_scan.specs.Answer.{IsInside, MeetAtMost, IsRefusedFor};
+ghost use Rattle.oct_scan.specs.Answer.{IsInside, MeetAtMost, IsRefusedFor, TakesMemory};
 ghost use Rattle.oct_scan.specs.Outcome.{scan_outcome, hit_count, free_count, scan_fault};
 ghost use Rattle.oct_brick.specs.Bricks.{IsBrick, AreAscending};
 ghost use Rattle.oct_brick.specs.Voxels.{hit_voxels, freed_voxels};
@@ -80,12 +81,13 @@ impl UpdateBricks {
 }
 
 /// What a scan does to each voxel of a map of this resolution that lies in the box, where one
-/// stands, as bricks, where its beams meet no more voxels than `max_cells`. The clauses speak of the lists that
-/// [`update_set`](crate::update_set) makes; none is made here.
+/// stands, as bricks, where its beams meet no more voxels than `max_cells`. The clauses speak of
+/// the lists that [`update_set`](crate::update_set) makes; none is made here.
 ///
 /// A scan is refused first where its origin lies outside the map, then for the first beam that ends
 /// outside, and then for the first beam with which the beams meet too many voxels, where a voxel
-/// counts once for each beam that meets it. None of the three looks at the box.
+/// counts once for each beam that meets it. None of the three looks at the box. Memory is taken
+/// only where the origin lies in the map, and the first beam ends there.
 pub fn update_bricks(
     alloc: Global,
     scan: &Scan,
@@ -101,10 +103,10 @@ pub fn update_bricks(
     ensures ascend { IfOk result (λ set. AreAscending set.bricks) }
     ensures hits_counted { IfOk result (λ set. set.hit_count ≡ length (hit_voxels set.bricks)) }
     ensures frees_counted { IfOk result (λ set. set.free_count ≡ length (freed_voxels set.bricks)) }
-    ensures hits { IfOk result (λ set. (k : Voxel) →
-        Contains (hit_voxels set.bricks) k ↔ (IsInWindow window k × IsHit res (sighting_of scan.now) k)) }
-    ensures frees { IfOk result (λ set. (k : Voxel) →
-        Contains (freed_voxels set.bricks) k ↔ (IsInWindow window k × IsFreed res (sighting_of scan.now) k)) }
+    ensures hits { IfOk result (λ set. (k : Voxel) → Contains (hit_voxels set.bricks) k ↔
+        (IsInWindow window k × IsHit res (sighting_of scan.now) k)) }
+    ensures frees { IfOk result (λ set. (k : Voxel) → Contains (freed_voxels set.bricks) k ↔
+        (IsInWindow window k × IsFreed res (sighting_of scan.now) k)) }
     ensures hits_ascend { IfOk result (λ set. IsAscending (hit_voxels set.bricks)) }
     ensures frees_ascend { IfOk result (λ set. IsAscending (freed_voxels set.bricks)) }
     ensures need { IfOk result (λ set. IsNeed res window (sighting_of scan.now) set.need) }
@@ -113,11 +115,13 @@ pub fn update_bricks(
     ensures within { IfOk result (λ _. MeetAtMost res (origin_of (sighting_of scan.now))
         (beams_of (sighting_of scan.now)) max_cells) }
     ensures refused { IfErr result (IsRefusedFor res (sighting_of scan.now) max_cells) }
+    ensures memory { result ≡ Err ScanFault.Memory → TakesMemory res (sighting_of scan.now) }
 
     ensures events { IfOk result (λ set. (hit miss : Event) (k : Voxel) → IsInMap k →
         scan_events (hit_voxels set.bricks) hit (freed_voxels set.bricks) miss k ≡
         scan_outcome res window hit miss (sighting_of scan.now) k) }
-    ensures hit_count { IfOk result (λ set. set.hit_count ≡ hit_count res window (sighting_of scan.now)) }
+    ensures hit_count { IfOk result (λ set.
+        set.hit_count ≡ hit_count res window (sighting_of scan.now)) }
     ensures free_count { IfOk result (λ set.
         set.free_count ≡ free_count res window (sighting_of scan.now)) }
     ensures few { IfOk result (λ set. set.hit_count + set.free_count ≤ max_cells) }
@@ -138,7 +142,7 @@ pub fn update_bricks(
     Ok(set)
 }
 
-/// The update that these bricks make.
+/// The update that these bricks make. Where there are none, it takes no memory.
 fn merge_update(alloc: Global, bricks: Vec<Brick>) -> Result<UpdateBricks, Memory>
     requires { All IsBrick bricks.items }
     ensures settled { IfOk result (λ set. (scanned hits : List ℕ) →
@@ -149,7 +153,16 @@ fn merge_update(alloc: Global, bricks: Vec<Brick>) -> Result<UpdateBricks, Memor
     ensures ascend { IfOk result (λ set. AreAscending set.bricks) }
     ensures hits_counted { IfOk result (λ set. set.hit_count ≡ length (hit_voxels set.bricks)) }
     ensures frees_counted { IfOk result (λ set. set.free_count ≡ length (freed_voxels set.bricks)) }
+    ensures some { OnErr result (0 < length bricks.items) }
 {
+    if bricks.is_empty() {
+        return Ok(UpdateBricks {
+            bricks,
+            hit_count: 0,
+            free_count: 0,
+            need: 0,
+        });
+    }
     let bricks = merge_bricks(alloc, bricks)?;
     let need = count_blocks(&bricks);
     let (hit_count, free_count) = count_voxels(&bricks);

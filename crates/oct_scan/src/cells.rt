@@ -1,6 +1,6 @@
 ghost use Rattle.std.specs.Prelude.{◌≡◌, ◌≢◌, ℕ, ◌+◌, ◌*◌, ◌/◌, ◌^◌, ◌<◌, ◌≤◌, ◌↔◌, ◌⊎◌, List, []};
 ghost use Rattle.std.specs.Prelude.{◌∷◌, length, map, if◌then◌else◌, All, Contains, IfOk, IfErr};
-ghost use Rattle.std.specs.Prelude.{OnOk, IsSome, IsTrue, Option, Some};
+ghost use Rattle.std.specs.Prelude.{OnOk, OnErr, IsSome, IsTrue, Option, Some};
 ghost use Rattle.oct_key.specs.Boxes.{IsInBox};
 ghost use Rattle.oct_key.specs.Voxel.{Voxel, IsInMap, key_at};
 ghost use Rattle.oct_key.specs.Morton.{morton_of};
@@ -32,10 +32,12 @@ pub fn gather(
     requires origin { IsSome (key_at res origin) }
     requires ends { All (λ b. IsSome (key_at res b.end)) beams.now }
     requires most { most ≤ 2 ^ 27 }
-    ensures gathered { IfOk result (λ bricks. HoldGathered res window.now origin beams.now bricks.items most) }
+    ensures gathered { IfOk result (λ bricks.
+        HoldGathered res window.now origin beams.now bricks.items most) }
     ensures bricks { IfOk result (λ bricks. All IsBrick bricks.items) }
     ensures within { IfOk result (λ _. MeetAtMost res origin beams.now most) }
     ensures err { IfErr result (IsExcessFault res origin beams.now most) }
+    ensures some { OnErr result (0 < length beams.now) }
 {
     let mut bricks: Vec<Brick> = Vec::new(alloc);
     let mut total = 0;
@@ -142,7 +144,8 @@ fn push_part(
 /// Whether two voxels lie beyond a box on one side of it, so that no voxel of the box that they
 /// span lies in it.
 fn is_passed_by(window: &Window, a: Key, b: Key) -> bool
-    ensures { IsTrue result → (k : Voxel) → IsSpanned a b k → IsInBox window.now.lo window.now.hi k → ⊥ }
+    ensures { IsTrue result → (k : Voxel) → IsSpanned a b k
+        → IsInBox window.now.lo window.now.hi k → ⊥ }
 {
     let (lo, hi) = (window.lo(), window.hi());
     let below = a.x.max(b.x) < lo.x || a.y.max(b.y) < lo.y || a.z.max(b.z) < lo.z;

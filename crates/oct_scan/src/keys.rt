@@ -1,4 +1,4 @@
-ghost use Rattle.std.specs.Prelude.{◌≡◌, ◌++◌, ◌^◌, ◌<◌, map, All, IfOk, OnOk};
+ghost use Rattle.std.specs.Prelude.{◌≡◌, ◌++◌, ◌^◌, ◌<◌, length, map, All, IfOk, OnOk, OnErr};
 ghost use Rattle.oct_brick.specs.Masks.{codes_of};
 ghost use Rattle.oct_brick.specs.Bricks.{IsBrick};
 ghost use Rattle.oct_brick.specs.Voxels.{coded_voxel, hit_voxels, freed_voxels};
@@ -13,6 +13,7 @@ pub fn keys_of(alloc: Global, bricks: &[Brick]) -> Result<(KeyList, KeyList), Me
     requires { All IsBrick bricks.now }
     ensures hits { IfOk result (λ lists. lists.0 ≡ hit_voxels bricks.now) }
     ensures frees { IfOk result (λ lists. lists.1 ≡ freed_voxels bricks.now) }
+    ensures some { OnErr result (0 < length bricks.now) }
 {
     let mut hits = KeyList::new(alloc);
     let mut frees = KeyList::new(alloc);

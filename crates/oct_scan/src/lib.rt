@@ -11,9 +11,9 @@
 //!
 //! - [`update_bricks`] answers exactly the voxels that are hit and exactly those that are freed, by
 //!   definitions that ask about one voxel and all beams (`IsHit`, `IsFreed`), as far as they lie in
-//!   the box, where one is handed in (`IsInWindow`), and how many of each there are. The voxels come
-//!   as bricks of `oct_brick`; [`update_set`] gives them as two lists that ascend by Morton code,
-//!   without repeats, and promises the same of these.
+//!   the box, where one is handed in (`IsInWindow`), and how many of each there are. The voxels
+//!   come as bricks of `oct_brick`; [`update_set`] gives them as two lists that ascend by Morton
+//!   code, without repeats, and promises the same of these.
 //! - [`UpdateBricks::need`] is the number of blocks of depth 0 to 15 that hold such a voxel
 //!   (`IsNeed`): at most that many groups of a tree have to be made for them.
 //! - What a scan does is a function of its numbers as well, for whoever defines the answers of a
@@ -24,9 +24,10 @@
 //! - Where a beam is cut is computed by `cut_end`, and [`cut_ends_are_exact`] says that this is the
 //!   one point of the rule (`IsCutEnd` of `oct_ray`).
 //! - A scan is refused for its origin, for the first beam that ends outside the map, or for the
-//!   first beam with which the voxels met exceed the limit, in this order and exactly then; out of
-//!   memory alone may come at any time. No refusal looks at the box, and a voxel that is met counts
-//!   where it lies outside too.
+//!   first beam with which the voxels met exceed the limit, in this order and exactly then. No
+//!   refusal looks at the box, and a voxel that is met counts where it lies outside too. Memory
+//!   runs out only where some is taken: the origin lies in the map, and so does the end of the
+//!   first beam (`TakesMemory`).
 //!
 //! The beams are made first, so that all ends are judged before a voxel is counted. Then each beam
 //! is walked once. Its voxels go into the brick where the beam is, which is appended to a list when
@@ -34,10 +35,9 @@
 //! counted to its end and not kept, so that there are never more bricks than the limit allows. How
 //! a beam is walked is chosen by its ends: where both lie in the box, or no box stands, no voxel is
 //! tested; where both lie beyond it on one side, the voxels are only counted; else each is tested
-//! before it is kept. The
-//! bricks are sorted by their codes, and those of one code joined. Of the sorted bricks each adds
-//! the blocks that don't hold the one before it, which the highest different bit of the two codes
-//! tells, and its own octets.
+//! before it is kept. The bricks are sorted by their codes, and those of one code joined. Of the
+//! sorted bricks each adds the blocks that don't hold the one before it, which the highest
+//! different bit of the two codes tells, and its own octets.
 //!
 //! Both calls allocate, and touch nothing but their arguments. The scans of a map stand on this
 //! crate, and cite `IsHit`, `IsFreed`, `IsNeed` and `IsRefusedFor`, or `scan_outcome`, `hit_count`,

@@ -1,5 +1,6 @@
-ghost use Rattle.std.specs.Prelude.{◌≡◌, ◌≢◌, ◌+◌, ◌^◌, ◌≤◌, pos, ◌≤ℤ◌, ◌<ℤ◌, ◌↔◌, length, Some};
-ghost use Rattle.std.specs.Prelude.{None, All, Contains, IfOk, IfErr, IfSome};
+ghost use Rattle.std.specs.Prelude.{◌≡◌, ◌≢◌, ◌+◌, ◌^◌, ◌<◌, ◌≤◌, pos, ◌≤ℤ◌, ◌<ℤ◌, ◌↔◌};
+ghost use Rattle.std.specs.Prelude.{Some, None, Err, length, All, Contains};
+ghost use Rattle.std.specs.Prelude.{IfOk, IfErr, IfSome, OnErr};
 ghost use Rattle.oct_key.specs.Voxel.{Voxel, IsInMap};
 ghost use Rattle.oct_key.specs.Boxes.{IsInWindow};
 ghost use Rattle.oct_odds.specs.declared.event.Event.{Event};
@@ -8,7 +9,7 @@ ghost use Rattle.oct_values.specs.Needs.{event_need};
 ghost use Rattle.oct_pose.specs.Reach.{IsInReach};
 ghost use Rattle.oct_scan.specs.Beam.{origin_of, beams_of, sighting_of};
 ghost use Rattle.oct_scan.specs.Scanned.{IsHit, IsFreed, IsNeed};
-ghost use Rattle.oct_scan.specs.Answer.{IsInside, MeetAtMost, IsRefusedFor};
+ghost use Rattle.oct_scan.specs.Answer.{IsInside, MeetAtMost, IsRefusedFor, TakesMemory};
 ghost use Rattle.oct_scan.specs.Outcome.{scan_outcome, hit_count, free_count, scan_fault};
 ghost use Rattle.oct_brick.specs.Bricks.{IsBrick};
 ghost use Rattle.oct_brick.specs.Voxels.{hit_voxels, freed_voxels};
@@ -67,7 +68,8 @@ impl UpdateSet {
 ///
 /// A scan is refused first where its origin lies outside the map, then for the first beam that ends
 /// outside, and then for the first beam with which the beams meet too many voxels, where a voxel
-/// counts once for each beam that meets it. None of the three looks at the box.
+/// counts once for each beam that meets it. None of the three looks at the box. Memory is taken
+/// only where the origin lies in the map, and the first beam ends there.
 pub fn update_set(
     alloc: Global,
     scan: &Scan,
@@ -91,6 +93,7 @@ pub fn update_set(
     ensures within { IfOk result (λ _. MeetAtMost res (origin_of (sighting_of scan.now))
         (beams_of (sighting_of scan.now)) max_cells) }
     ensures refused { IfErr result (IsRefusedFor res (sighting_of scan.now) max_cells) }
+    ensures memory { result ≡ Err ScanFault.Memory → TakesMemory res (sighting_of scan.now) }
 
     ensures events { IfOk result (λ set. (hit miss : Event) (k : Voxel) → IsInMap k →
         scan_events set.hits hit set.frees miss k ≡
@@ -118,6 +121,7 @@ fn list_voxels(alloc: Global, update: &UpdateBricks) -> Result<UpdateSet, Memory
     ensures hits { IfOk result (λ set. set.hits ≡ hit_voxels update.now.bricks) }
     ensures frees { IfOk result (λ set. set.frees ≡ freed_voxels update.now.bricks) }
     ensures need { IfOk result (λ set. set.need ≡ update.now.need) }
+    ensures some { OnErr result (0 < length update.now.bricks) }
 {
     let (hits, frees) = keys_of(alloc, update.bricks())?;
     Ok(UpdateSet {

@@ -19,7 +19,7 @@ impl OccMap {
     ///
     /// A file of another resolution is refused, and then one that has more records than the map may
     /// have groups. The old map goes only when the new one is there, so that one that is refused,
-    /// also for want of memory, leaves the map as it was.
+    /// also because memory ran out, leaves the map as it was.
     pub fn load(&mut self, file: &BtFile) -> Result<(), MapFault>
         ensures answer { IsAnswerOrMemory (load_answer (ground_of self.old) file.now.res
             (record_total file.now.codes)) result }

@@ -16,13 +16,14 @@ impl OccMap {
     ghost use Rattle.oct_map.specs.Map.{IsMap, ground_of};
 
     /// Makes the map that of a snapshot, and answers how many groups its values need. A snapshot of
-    /// version 2 sets the log-odds, and sets the update box or takes it away; one of version 1 leaves
-    /// both, and goes by the log-odds that stand. Nothing else of the old map stays but its resolution
-    /// and limits: the map isn't stale and has no mark.
+    /// version 2 sets the log-odds, and sets the update box or takes it away; one of version 1
+    /// leaves both, and goes by the log-odds that stand. Nothing else of the old map stays but its
+    /// resolution and limits: the map isn't stale and has no mark.
     ///
-    /// It is refused for the first fault of the snapshot, then for another resolution, and then where
-    /// the values need more groups than the map may have. The old map goes only when the new one is
-    /// there, so that a snapshot that is refused, also for want of memory, leaves the map as it was.
+    /// It is refused for the first fault of the snapshot, then for another resolution, and then
+    /// where the values need more groups than the map may have. The old map goes only when the new
+    /// one is there, so that a snapshot that is refused, also because memory ran out, leaves the
+    /// map as it was.
     pub fn restore(&mut self, bytes: &[u8]) -> Result<u64, MapFault>
         ensures answer { IsAnswerOrMemory (restore_answer (ground_of self.old)
             (read_snapshot self.old.tree.odds bytes.now)) result }

@@ -17,7 +17,7 @@ const FIVE_VOXELS: &[u8] = &[
     0x06, 0x00, 0x03, 0x00, 0x02, 0x00,
 ];
 
-/// The header of a file of one voxel, of so many metres.
+/// The header of a file of one voxel, of this many metres.
 const ONE_HEADER: &str = "# Octomap OcTree binary file\nid OcTree\nsize 17\nres 0.1\ndata\n";
 
 const COARSE_HEADER: &str = "# Octomap OcTree binary file\nid OcTree\nsize 17\nres 0.2\ndata\n";
@@ -120,7 +120,7 @@ const BOXLESS: &[u8] = &[
     0x00, 0x00, 0x00, 0x01, 0x00, 0x01, 0x00, 0x00, 0x00, 0x46,
 ];
 
-/// The snapshot of version 1 of a hit in the lowest voxel of each of the last so many children of
+/// The snapshot of version 1 of a hit in the lowest voxel of each of the last n children of
 /// the map.
 fn hits(alloc: Global, children: u8) -> Result<Vec<u8>, Fail>
     requires { children ≤ 8 }

@@ -1,20 +1,20 @@
-use Rattle.std.proofs.Common.{◌≡◌, ℕ, ◌+◌, ◌≤◌, Some, Err, IfErr, false, inr, sym, ◌∙◌, ap, subst, rules}
+use Rattle.std.proofs.Common.{◌≡◌, ℕ, ◌+◌, ◌<◌, ◌≤◌, Some, Err, IfErr, false, inl, inr, sym, ◌∙◌, ap, subst, rules}
 use Rattle.std.specs.Prelude.{is_some}
 use Rattle.std.proofs.lemmas.Bool.{false≢true}
 use Rattle.oct_key.specs.Voxel.{key_at}
 use Rattle.oct_key.specs.Boxes.{IsInBox}
 use Rattle.oct_values.specs.Boxes.{box_events}
-use Rattle.oct_arena.specs.Entries.{live}
+use Rattle.oct_arena.specs.Entries.{live, spare}
 use Rattle.oct_map.specs.Map.{Map, IsMap, values_of}
 use Rattle.oct_map.specs.Answers.{room_answer, IsAnswerOrMemory}
 use Rattle.oct_map.specs.Outcome.{corner_events, corner_need, corner_volume}
-use Rattle.oct_map.specs.Edits.{IsMapRefused, IsMapEdited, ReservesFew}
+use Rattle.oct_map.specs.Edits.{IsMapRefused, IsMapEdited, ReservesFew, IsReadied}
 use Rattle.oct_map.proofs.Views.{map_of}
 use Rattle.oct_map.proofs.Corners.{corners_need, corners_volume, corners_events, corners_answer, corners_ok, still_stale}
 use Rattle.oct_map.specs.Marks.{classes_in, KeepsMark}
 use Rattle.oct_map.specs.Notes.{HasRoomForNotes, HasMarked, LacksNotes, NotesFew}
-use Rattle.oct_map.proofs.Edits.{IsReadied, edited_map, map_edited, edited_reserved, if_err, refused_room, refused_notes, remarked}
-use Rattle.oct_map.proofs.Marks.{marked_edit, marked_room, readied_mark, noted_few, kept_few, same_few, few_after, box_asked, asked_box, lacks_notes, reserved_remarked}
+use Rattle.oct_map.proofs.Edits.{handed_on, edited_map, map_edited, edited_reserved, if_err, refused_room, refused_notes, remarked}
+use Rattle.oct_map.proofs.Marks.{marked_edit, marked_room, readied_mark, noted_few, kept_few, same_few, few_after, box_asked, asked_box, lacks_notes, reserved_remarked, room_ok}
 use Rattle.oct_map.proofs.Scans.{event_back}
 use Rattle.oct_map.proofs.map.OccMap.edit_box.Goals as goal
 
@@ -47,15 +47,7 @@ returns-clause-edited c =
     let counted : corner_need (key_at c.args.self.now.tree.res c.args.lo) (key_at c.args.self.now.tree.res c.args.hi) ≡ c.box_need.result =
     corners_need _ _ c.in-Some.low c.in-Some-key_of.high low high ∙ sym c.box_need.ensures.exact in
     let map : Map = map_of c.self-2.inside.tree c.self-2.inside.is_stale c.self-2.inside.window c.self-2.inside.limits c.self-2.inside.mark in
-    let ready : IsReadied c.args.self.now map c.box_need.result = subst (λ (m : Map). IsReadied c.args.self.now m c.box_need.result) (sym c.self-2.view_is) (record {
-      setup = c.make_room.ensures.setup;
-      values = c.make_room.ensures.values;
-      stale = c.make_room.ensures.stale;
-      fresh = c.make_room.ensures.fresh;
-      pruned = c.make_room.ensures.pruned;
-      grown = c.make_room.ensures.kept;
-      reserved = c.make_room.ensures.reserved;
-    }) in
+    let ready : IsReadied c.args.self.now map c.box_need.result = subst (λ (m : Map). IsReadied c.args.self.now m c.box_need.result) (sym c.self-2.view_is) c.make_room.ensures.readied in
     subst (λ n. IsMapEdited c.args.self.now (map_of c.touch_box.new.tree c.self-2.inside.is_stale c.self-2.inside.window c.self-2.inside.limits c.note_box.new.self) (corner_events (key_at c.args.self.now.tree.res c.args.lo) (key_at c.args.self.now.tree.res c.args.hi) c.args.event) n false) (sym counted)
     (still_stale (λ stale. IsMapEdited c.args.self.now (map_of c.touch_box.new.tree stale c.self-2.inside.window c.self-2.inside.limits c.note_box.new.self) (corner_events (key_at c.args.self.now.tree.res c.args.lo) (key_at c.args.self.now.tree.res c.args.hi) c.args.event) c.box_need.result false) c.self-2.inside.is_stale
     (map_edited c.args.self.now map c.touch_box.new.tree (box_events c.in-Some.low c.in-Some-key_of.high c.args.event)
@@ -69,15 +61,7 @@ returns-clause-reserved c =
     let counted : corner_need (key_at c.args.self.now.tree.res c.args.lo) (key_at c.args.self.now.tree.res c.args.hi) ≡ c.box_need.result =
     corners_need _ _ c.in-Some.low c.in-Some-key_of.high low high ∙ sym c.box_need.ensures.exact in
     let map : Map = map_of c.self-2.inside.tree c.self-2.inside.is_stale c.self-2.inside.window c.self-2.inside.limits c.self-2.inside.mark in
-    let ready : IsReadied c.args.self.now map c.box_need.result = subst (λ (m : Map). IsReadied c.args.self.now m c.box_need.result) (sym c.self-2.view_is) (record {
-      setup = c.make_room.ensures.setup;
-      values = c.make_room.ensures.values;
-      stale = c.make_room.ensures.stale;
-      fresh = c.make_room.ensures.fresh;
-      pruned = c.make_room.ensures.pruned;
-      grown = c.make_room.ensures.kept;
-      reserved = c.make_room.ensures.reserved;
-    }) in
+    let ready : IsReadied c.args.self.now map c.box_need.result = subst (λ (m : Map). IsReadied c.args.self.now m c.box_need.result) (sym c.self-2.view_is) c.make_room.ensures.readied in
     subst (ReservesFew c.args.self.now (map_of c.touch_box.new.tree c.self-2.inside.is_stale c.self-2.inside.window c.self-2.inside.limits c.note_box.new.self)) (sym counted)
     (still_stale (λ stale. ReservesFew c.args.self.now (map_of c.touch_box.new.tree stale c.self-2.inside.window c.self-2.inside.limits c.note_box.new.self) c.box_need.result) c.self-2.inside.is_stale
     (edited_reserved c.args.self.now map c.touch_box.new.tree c.box_need.result false c.note_box.new.self c.touch_box.ensures.room ready.reserved))
@@ -91,21 +75,13 @@ returns-in_err-make_room-clause-refused c =
     subst (λ n. IfErr c.from_residual.result (λ fault. IsMapRefused c.args.self.now c.make_room.new.self fault n)) (sym counted)
     (if_err c.from_residual.result (λ fault. IsMapRefused c.args.self.now c.make_room.new.self fault c.box_need.result) (λ fault e.
     (let is : c.make_room.result ≡ Err fault = search (rules, e) in
-    refused_room c.args.self.now c.make_room.new.self fault c.box_need.result c.make_room.result is (record {
-      setup = c.make_room.ensures.setup;
-      values = c.make_room.ensures.values;
-      stale = c.make_room.ensures.stale;
-      fresh = c.make_room.ensures.fresh;
-      pruned = c.make_room.ensures.pruned;
-      grown = c.make_room.ensures.kept;
-      reserved = c.make_room.ensures.reserved;
-    }) c.make_room.ensures.live c.make_room.ensures.full)))
+    refused_room c.args.self.now c.make_room.new.self fault c.box_need.result c.make_room.result is c.make_room.ensures.readied c.make_room.ensures.full)))
 
 pub returns-in_err-make_room-clause-answer : goal.returns-in_err-make_room-clause-answer
 returns-in_err-make_room-clause-answer c =
     let low : key_at c.args.self.now.tree.res c.args.lo ≡ Some c.in-Some.low = sym (sym c.in-Some.is ∙ c.key_of.ensures.exact ∙ ap (λ (r : ℕ). key_at r c.args.lo) (c.res.ensures ∙ ap (λ (m : Map). m.tree.res) c.self.view_is)) in
     let high : key_at c.args.self.now.tree.res c.args.hi ≡ Some c.in-Some-key_of.high = sym (sym c.in-Some-key_of.is ∙ c.key_of-2.ensures.exact ∙ ap (λ (r : ℕ). key_at r c.args.hi) (c.res-2.ensures ∙ ap (λ (m : Map). m.tree.res) c.self.view_is)) in
-    let same : c.make_room.result ≡ c.from_residual.result = search rules in
+    let same : c.make_room.result ≡ c.from_residual.result = handed_on _ _ _ c.in_err-make_room.was c.from_residual.ensures.1 in
     corners_answer (is_some c.args.self.now.mark) c.args.self.now.max_groups c.box_need.result (values_of c.args.self.now) _ _ c.in-Some.low c.in-Some-key_of.high _ low high
     (sym c.is_box.ensures.exact ∙ c.if-not-is_box.false) (search rules) c.box_need.ensures.exact (subst (IsAnswerOrMemory (room_answer c.args.self.now.max_groups (values_of c.args.self.now) c.box_need.result)) same c.make_room.ensures.answer)
 
@@ -124,19 +100,10 @@ note_box-requires-clause-room c =
 pub returns-clause-mark : goal.returns-clause-mark
 returns-clause-mark c =
     let map : Map = map_of c.self-2.inside.tree c.self-2.inside.is_stale c.self-2.inside.window c.self-2.inside.limits c.self-2.inside.mark in
-    let ready : IsReadied c.args.self.now map c.box_need.result = subst (λ (m : Map). IsReadied c.args.self.now m c.box_need.result) (sym c.self-2.view_is) (record {
-      setup = c.make_room.ensures.setup;
-      values = c.make_room.ensures.values;
-      stale = c.make_room.ensures.stale;
-      fresh = c.make_room.ensures.fresh;
-      pruned = c.make_room.ensures.pruned;
-      grown = c.make_room.ensures.kept;
-      reserved = c.make_room.ensures.reserved;
-    }) in
-    let same : map.mark ≡ c.args.self.now.mark = ap (λ (m : Map). m.mark) c.self-2.view_is ∙ c.make_room.ensures.notes in
+    let ready : IsReadied c.args.self.now map c.box_need.result = subst (λ (m : Map). IsReadied c.args.self.now m c.box_need.result) (sym c.self-2.view_is) c.make_room.ensures.readied in
     still_stale (λ stale. KeepsMark c.args.self.now (map_of c.touch_box.new.tree stale c.self-2.inside.window c.self-2.inside.limits c.note_box.new.self)) c.self-2.inside.is_stale
     (marked_edit c.args.self.now map c.touch_box.new.tree c.reserve.new.self c.note_box.new.self (box_events c.in-Some.low c.in-Some-key_of.high c.args.event) (IsInBox c.in-Some.low c.in-Some-key_of.high) _ c.box_need.result false
-    ready same c.reserve.ensures.kept c.note_box.ensures c.touch_box.ensures.edited (λ q v some. box_asked c.in-Some.low c.in-Some-key_of.high c.args.event q some))
+    ready c.reserve.ensures.kept c.note_box.ensures c.touch_box.ensures.edited (λ q v some. box_asked c.in-Some.low c.in-Some-key_of.high c.args.event q some))
 
 pub returns-clause-noted : goal.returns-clause-noted
 returns-clause-noted c =
@@ -145,18 +112,9 @@ returns-clause-noted c =
     let many : c.volume-count.result ≡ corner_volume (key_at c.args.self.now.tree.res c.args.lo) (key_at c.args.self.now.tree.res c.args.hi) =
     c.volume-count.ensures ∙ sym (corners_volume _ _ c.in-Some.low c.in-Some-key_of.high low high) in
     let map : Map = map_of c.self-2.inside.tree c.self-2.inside.is_stale c.self-2.inside.window c.self-2.inside.limits c.self-2.inside.mark in
-    let ready : IsReadied c.args.self.now map c.box_need.result = subst (λ (m : Map). IsReadied c.args.self.now m c.box_need.result) (sym c.self-2.view_is) (record {
-      setup = c.make_room.ensures.setup;
-      values = c.make_room.ensures.values;
-      stale = c.make_room.ensures.stale;
-      fresh = c.make_room.ensures.fresh;
-      pruned = c.make_room.ensures.pruned;
-      grown = c.make_room.ensures.kept;
-      reserved = c.make_room.ensures.reserved;
-    }) in
-    let same : map.mark ≡ c.args.self.now.mark = ap (λ (m : Map). m.mark) c.self-2.view_is ∙ c.make_room.ensures.notes in
+    let ready : IsReadied c.args.self.now map c.box_need.result = subst (λ (m : Map). IsReadied c.args.self.now m c.box_need.result) (sym c.self-2.view_is) c.make_room.ensures.readied in
     subst (NotesFew c.args.self.now.mark c.note_box.new.self (corner_events (key_at c.args.self.now.tree.res c.args.lo) (key_at c.args.self.now.tree.res c.args.hi) c.args.event)) many
-    (few_after c.volume-count.result c.args.self.now.mark map.mark c.note_box.new.self (corner_events (key_at c.args.self.now.tree.res c.args.lo) (key_at c.args.self.now.tree.res c.args.hi) c.args.event) same
+    (few_after c.volume-count.result c.args.self.now.mark map.mark c.note_box.new.self (corner_events (key_at c.args.self.now.tree.res c.args.lo) (key_at c.args.self.now.tree.res c.args.hi) c.args.event) ready.notes
     (noted_few (classes_in map) (IsInBox c.in-Some.low c.in-Some-key_of.high) c.volume-count.result map.mark c.reserve.new.self c.note_box.new.self (corner_events (key_at c.args.self.now.tree.res c.args.lo) (key_at c.args.self.now.tree.res c.args.hi) c.args.event)
     c.reserve.ensures.kept c.reserve.ensures.few (λ there. (c.reserve.ensures.enough there).1)
     (subst (λ n. HasMarked (classes_in map) (IsInBox c.in-Some.low c.in-Some-key_of.high) n c.reserve.new.self c.note_box.new.self) (sym c.volume-count.ensures) c.note_box.ensures)
@@ -165,17 +123,8 @@ returns-clause-noted c =
 pub returns-in_err-reserve-clause-mark : goal.returns-in_err-reserve-clause-mark
 returns-in_err-reserve-clause-mark c =
     let map : Map = map_of c.self-2.inside.tree c.self-2.inside.is_stale c.self-2.inside.window c.self-2.inside.limits c.self-2.inside.mark in
-    let ready : IsReadied c.args.self.now map c.box_need.result = subst (λ (m : Map). IsReadied c.args.self.now m c.box_need.result) (sym c.self-2.view_is) (record {
-      setup = c.make_room.ensures.setup;
-      values = c.make_room.ensures.values;
-      stale = c.make_room.ensures.stale;
-      fresh = c.make_room.ensures.fresh;
-      pruned = c.make_room.ensures.pruned;
-      grown = c.make_room.ensures.kept;
-      reserved = c.make_room.ensures.reserved;
-    }) in
-    let same : map.mark ≡ c.args.self.now.mark = ap (λ (m : Map). m.mark) c.self-2.view_is ∙ c.make_room.ensures.notes in
-    marked_room c.args.self.now map c.reserve.new.self c.box_need.result ready same c.reserve.ensures.kept
+    let ready : IsReadied c.args.self.now map c.box_need.result = subst (λ (m : Map). IsReadied c.args.self.now m c.box_need.result) (sym c.self-2.view_is) c.make_room.ensures.readied in
+    marked_room c.args.self.now map c.reserve.new.self c.box_need.result ready c.reserve.ensures.kept
 
 pub returns-in_err-reserve-clause-noted : goal.returns-in_err-reserve-clause-noted
 returns-in_err-reserve-clause-noted c =
@@ -184,18 +133,9 @@ returns-in_err-reserve-clause-noted c =
     let many : c.volume-count.result ≡ corner_volume (key_at c.args.self.now.tree.res c.args.lo) (key_at c.args.self.now.tree.res c.args.hi) =
     c.volume-count.ensures ∙ sym (corners_volume _ _ c.in-Some.low c.in-Some-key_of.high low high) in
     let map : Map = map_of c.self-2.inside.tree c.self-2.inside.is_stale c.self-2.inside.window c.self-2.inside.limits c.self-2.inside.mark in
-    let ready : IsReadied c.args.self.now map c.box_need.result = subst (λ (m : Map). IsReadied c.args.self.now m c.box_need.result) (sym c.self-2.view_is) (record {
-      setup = c.make_room.ensures.setup;
-      values = c.make_room.ensures.values;
-      stale = c.make_room.ensures.stale;
-      fresh = c.make_room.ensures.fresh;
-      pruned = c.make_room.ensures.pruned;
-      grown = c.make_room.ensures.kept;
-      reserved = c.make_room.ensures.reserved;
-    }) in
-    let same : map.mark ≡ c.args.self.now.mark = ap (λ (m : Map). m.mark) c.self-2.view_is ∙ c.make_room.ensures.notes in
+    let ready : IsReadied c.args.self.now map c.box_need.result = subst (λ (m : Map). IsReadied c.args.self.now m c.box_need.result) (sym c.self-2.view_is) c.make_room.ensures.readied in
     subst (NotesFew c.args.self.now.mark c.reserve.new.self (corner_events (key_at c.args.self.now.tree.res c.args.lo) (key_at c.args.self.now.tree.res c.args.hi) c.args.event)) many
-    (few_after c.volume-count.result c.args.self.now.mark map.mark c.reserve.new.self (corner_events (key_at c.args.self.now.tree.res c.args.lo) (key_at c.args.self.now.tree.res c.args.hi) c.args.event) same
+    (few_after c.volume-count.result c.args.self.now.mark map.mark c.reserve.new.self (corner_events (key_at c.args.self.now.tree.res c.args.lo) (key_at c.args.self.now.tree.res c.args.hi) c.args.event) ready.notes
     (kept_few c.volume-count.result map.mark c.reserve.new.self (corner_events (key_at c.args.self.now.tree.res c.args.lo) (key_at c.args.self.now.tree.res c.args.hi) c.args.event) c.reserve.ensures.kept c.reserve.ensures.few (λ there. (c.reserve.ensures.enough there).1)))
 
 pub returns-in_err-reserve-clause-refused : goal.returns-in_err-reserve-clause-refused
@@ -205,20 +145,10 @@ returns-in_err-reserve-clause-refused c =
     let counted : corner_need (key_at c.args.self.now.tree.res c.args.lo) (key_at c.args.self.now.tree.res c.args.hi) ≡ c.box_need.result =
     corners_need _ _ c.in-Some.low c.in-Some-key_of.high low high ∙ sym c.box_need.ensures.exact in
     let map : Map = map_of c.self-2.inside.tree c.self-2.inside.is_stale c.self-2.inside.window c.self-2.inside.limits c.self-2.inside.mark in
-    let ready : IsReadied c.args.self.now map c.box_need.result = subst (λ (m : Map). IsReadied c.args.self.now m c.box_need.result) (sym c.self-2.view_is) (record {
-      setup = c.make_room.ensures.setup;
-      values = c.make_room.ensures.values;
-      stale = c.make_room.ensures.stale;
-      fresh = c.make_room.ensures.fresh;
-      pruned = c.make_room.ensures.pruned;
-      grown = c.make_room.ensures.kept;
-      reserved = c.make_room.ensures.reserved;
-    }) in
-    let same : map.mark ≡ c.args.self.now.mark = ap (λ (m : Map). m.mark) c.self-2.view_is ∙ c.make_room.ensures.notes in
-    let lives : live map.tree.groups ≤ live c.args.self.now.tree.groups = subst (λ (m : Map). live m.tree.groups ≤ live c.args.self.now.tree.groups) (sym c.self-2.view_is) c.make_room.ensures.live in
+    let ready : IsReadied c.args.self.now map c.box_need.result = subst (λ (m : Map). IsReadied c.args.self.now m c.box_need.result) (sym c.self-2.view_is) c.make_room.ensures.readied in
     if_err c.from_residual-in_err-reserve.result (λ fault. IsMapRefused c.args.self.now (map_of c.self-2.inside.tree c.self-2.inside.is_stale c.self-2.inside.window c.self-2.inside.limits c.reserve.new.self) fault (corner_need (key_at c.args.self.now.tree.res c.args.lo) (key_at c.args.self.now.tree.res c.args.hi)))
     (λ fault e. subst (IsMapRefused c.args.self.now (map_of c.self-2.inside.tree c.self-2.inside.is_stale c.self-2.inside.window c.self-2.inside.limits c.reserve.new.self) fault) (sym counted)
-    (refused_notes c.args.self.now map c.reserve.new.self fault c.box_need.result (search (rules, e)) ready lives))
+    (refused_notes c.args.self.now map c.reserve.new.self fault c.box_need.result (search (rules, e)) ready))
 
 pub returns-in_err-reserve-clause-memory : goal.returns-in_err-reserve-clause-memory
 returns-in_err-reserve-clause-memory c e =
@@ -227,19 +157,10 @@ returns-in_err-reserve-clause-memory c e =
     let many : c.volume-count.result ≡ corner_volume (key_at c.args.self.now.tree.res c.args.lo) (key_at c.args.self.now.tree.res c.args.hi) =
     c.volume-count.ensures ∙ sym (corners_volume _ _ c.in-Some.low c.in-Some-key_of.high low high) in
     let map : Map = map_of c.self-2.inside.tree c.self-2.inside.is_stale c.self-2.inside.window c.self-2.inside.limits c.self-2.inside.mark in
-    let ready : IsReadied c.args.self.now map c.box_need.result = subst (λ (m : Map). IsReadied c.args.self.now m c.box_need.result) (sym c.self-2.view_is) (record {
-      setup = c.make_room.ensures.setup;
-      values = c.make_room.ensures.values;
-      stale = c.make_room.ensures.stale;
-      fresh = c.make_room.ensures.fresh;
-      pruned = c.make_room.ensures.pruned;
-      grown = c.make_room.ensures.kept;
-      reserved = c.make_room.ensures.reserved;
-    }) in
-    let same : map.mark ≡ c.args.self.now.mark = ap (λ (m : Map). m.mark) c.self-2.view_is ∙ c.make_room.ensures.notes in (
+    let ready : IsReadied c.args.self.now map c.box_need.result = subst (λ (m : Map). IsReadied c.args.self.now m c.box_need.result) (sym c.self-2.view_is) c.make_room.ensures.readied in (
       corners_ok (is_some c.args.self.now.mark) c.args.self.now.max_groups c.box_need.result (values_of c.args.self.now) _ _ c.in-Some.low c.in-Some-key_of.high low high
-          (sym c.is_box.ensures.exact ∙ c.if-not-is_box.false) (search rules) c.box_need.ensures.exact c.in_ok-make_room.ensures.answer,
-      inr (subst (LacksNotes c.args.self.now.mark) many (lacks_notes c.args.self.now.mark map.mark c.volume-count.result c.reserve.result same c.in_err-reserve.was (λ room. (c.reserve.ensures.enough room).0))),
+          (sym c.is_box.ensures.exact ∙ c.if-not-is_box.false) (search rules) c.box_need.ensures.exact (room_ok _ c.in_ok-make_room.ensures.answer),
+      inr (subst (LacksNotes c.args.self.now.mark) many (lacks_notes c.args.self.now.mark map.mark c.volume-count.result c.reserve.result ready.notes c.in_err-reserve.was (λ room. (c.reserve.ensures.enough room).0))),
     )
 
 pub returns-in_err-reserve-clause-reserved : goal.returns-in_err-reserve-clause-reserved
@@ -249,16 +170,7 @@ returns-in_err-reserve-clause-reserved c =
     let counted : corner_need (key_at c.args.self.now.tree.res c.args.lo) (key_at c.args.self.now.tree.res c.args.hi) ≡ c.box_need.result =
     corners_need _ _ c.in-Some.low c.in-Some-key_of.high low high ∙ sym c.box_need.ensures.exact in
     let map : Map = map_of c.self-2.inside.tree c.self-2.inside.is_stale c.self-2.inside.window c.self-2.inside.limits c.self-2.inside.mark in
-    let ready : IsReadied c.args.self.now map c.box_need.result = subst (λ (m : Map). IsReadied c.args.self.now m c.box_need.result) (sym c.self-2.view_is) (record {
-      setup = c.make_room.ensures.setup;
-      values = c.make_room.ensures.values;
-      stale = c.make_room.ensures.stale;
-      fresh = c.make_room.ensures.fresh;
-      pruned = c.make_room.ensures.pruned;
-      grown = c.make_room.ensures.kept;
-      reserved = c.make_room.ensures.reserved;
-    }) in
-    let same : map.mark ≡ c.args.self.now.mark = ap (λ (m : Map). m.mark) c.self-2.view_is ∙ c.make_room.ensures.notes in
+    let ready : IsReadied c.args.self.now map c.box_need.result = subst (λ (m : Map). IsReadied c.args.self.now m c.box_need.result) (sym c.self-2.view_is) c.make_room.ensures.readied in
     subst (ReservesFew c.args.self.now (map_of c.self-2.inside.tree c.self-2.inside.is_stale c.self-2.inside.window c.self-2.inside.limits c.reserve.new.self)) (sym counted)
     (reserved_remarked c.args.self.now map c.reserve.new.self c.box_need.result ready.reserved)
 
@@ -272,16 +184,20 @@ returns-in_err-reserve-clause-map c =
 
 pub returns-in_err-make_room-clause-mark : goal.returns-in_err-make_room-clause-mark
 returns-in_err-make_room-clause-mark c =
-    readied_mark c.args.self.now c.make_room.new.self c.box_need.result (record {
-      setup = c.make_room.ensures.setup;
-      values = c.make_room.ensures.values;
-      stale = c.make_room.ensures.stale;
-      fresh = c.make_room.ensures.fresh;
-      pruned = c.make_room.ensures.pruned;
-      grown = c.make_room.ensures.kept;
-      reserved = c.make_room.ensures.reserved;
-    }) c.make_room.ensures.notes
+    readied_mark c.args.self.now c.make_room.new.self c.box_need.result c.make_room.ensures.readied
 
 pub returns-in_err-make_room-clause-noted : goal.returns-in_err-make_room-clause-noted
 returns-in_err-make_room-clause-noted c =
-    same_few _ c.args.self.now.mark c.make_room.new.self.mark (corner_events (key_at c.args.self.now.tree.res c.args.lo) (key_at c.args.self.now.tree.res c.args.hi) c.args.event) c.make_room.ensures.notes
+    same_few _ c.args.self.now.mark c.make_room.new.self.mark (corner_events (key_at c.args.self.now.tree.res c.args.lo) (key_at c.args.self.now.tree.res c.args.hi) c.args.event) c.make_room.ensures.readied.notes
+
+pub returns-in_err-make_room-clause-memory : goal.returns-in_err-make_room-clause-memory
+returns-in_err-make_room-clause-memory c e =
+    let low : key_at c.args.self.now.tree.res c.args.lo ≡ Some c.in-Some.low = sym (sym c.in-Some.is ∙ c.key_of.ensures.exact ∙ ap (λ (r : ℕ). key_at r c.args.lo) (c.res.ensures ∙ ap (λ (m : Map). m.tree.res) c.self.view_is)) in
+    let high : key_at c.args.self.now.tree.res c.args.hi ≡ Some c.in-Some-key_of.high = sym (sym c.in-Some-key_of.is ∙ c.key_of-2.ensures.exact ∙ ap (λ (r : ℕ). key_at r c.args.hi) (c.res-2.ensures ∙ ap (λ (m : Map). m.tree.res) c.self.view_is)) in
+    let counted : corner_need (key_at c.args.self.now.tree.res c.args.lo) (key_at c.args.self.now.tree.res c.args.hi) ≡ c.box_need.result =
+    corners_need _ _ c.in-Some.low c.in-Some-key_of.high low high ∙ sym c.box_need.ensures.exact in
+    let (room, few) = c.make_room.ensures.memory (handed_on _ _ _ c.in_err-make_room.was c.from_residual.ensures.1 ∙ e) in (
+      corners_ok (is_some c.args.self.now.mark) c.args.self.now.max_groups c.box_need.result (values_of c.args.self.now) _ _ c.in-Some.low c.in-Some-key_of.high low high
+          (sym c.is_box.ensures.exact ∙ c.if-not-is_box.false) (search rules) c.box_need.ensures.exact room,
+      inl (subst (λ n. spare c.args.self.now.tree.groups < n) (sym counted) few),
+    )

@@ -1,18 +1,16 @@
-use Rattle.std.proofs.Common.{rules, to_z, of_z, ◌≡◌, ◌+◌, ◌<◌, ◌≤◌, ℕ, IsOk, Ok, Err, None, true, false, inl, inr, sym, ◌∙◌, ap, subst, arith, refl}
-use Rattle.std.specs.Prelude.{max, pos, not, nat_eq}
+use Rattle.std.proofs.Common.{rules, to_z, of_z, ◌≡◌, ◌<◌, ◌≤◌, ℕ, IsOk, Ok, Err, inl, sym, ◌∙◌, ap, subst, arith, refl}
+use Rattle.std.specs.Prelude.{pos}
 use Rattle.std.proofs.lemmas.Int.{to_z-of_z}
 use mir.Val.{SFits}
 use mir.Syntax.{w64}
 use Rattle.oct_odds.specs.Odds.{Odds, odds_of}
 use Rattle.oct_arena.specs.Entries.{live, spare}
 use Rattle.oct_tree.specs.Tree.{Tree}
-use Rattle.oct_snap.specs.Nodes.{group_total}
-use Rattle.oct_snap.specs.Reading.{Snapshot, read_snapshot}
-use Rattle.oct_snap.specs.Checked.{IsInfo, IsChecked}
+use Rattle.oct_snap.specs.Reading.{read_snapshot}
+use Rattle.oct_snap.specs.Checked.{IsChecked}
 use Rattle.oct_map.specs.declared.fault.MapFault.TheVariants.{OtherResolution, Full}
-use Rattle.oct_map.specs.Map.{Map, IsMap, ground_of}
-use Rattle.oct_map.specs.Restores.{restore_answer, box_after, IsMapRestored}
-use Rattle.oct_map.proofs.Views.{map_of}
+use Rattle.oct_map.specs.Map.{Map, ground_of}
+use Rattle.oct_map.specs.Restores.{box_after}
 use Rattle.oct_map.proofs.Rooms.{no_memory}
 use Rattle.oct_map.proofs.Restores.{info_of, other_answered, full_answered, groups_answered, not_none, fillable, info_is, restored_right, are_other}
 use Rattle.oct_map.proofs.map.OccMap.restore.Goals as goal

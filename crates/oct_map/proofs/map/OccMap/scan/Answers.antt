@@ -1,5 +1,4 @@
-use Rattle.std.proofs.Common.{◌≡◌, ◌+◌, ◌||◌, ◌≤◌, length, Err, to_z, of_z, w32, sym, subst, ap, ◌∙◌, arith, rules}
-use Rattle.oct_odds.specs.declared.event.Event.TheVariants.{Add}
+use Rattle.std.proofs.Common.{◌≡◌, ◌+◌, ◌||◌, ◌≤◌, length, Err, refl, sym, subst, ap, ◌∙◌, arith, rules}
 use Rattle.oct_values.specs.Events.{Events}
 use Rattle.oct_arena.specs.Entries.{live, spare}
 use Rattle.std.specs.Prelude.{◌⊎◌, Contains}
@@ -10,15 +9,17 @@ use Rattle.oct_edit.specs.Listed.{ListedUpdate, update_of}
 use Rattle.oct_scan.specs.Update.{listed}
 use Rattle.oct_edit.specs.Scan.{events_of}
 use Rattle.oct_scan.specs.Beam.{sighting_of}
+use Rattle.oct_scan.specs.Answer.{TakesMemory}
+use Rattle.oct_scan.proofs.Taking.{need_point, takes_inside}
 use Rattle.oct_map.specs.Map.{Map, IsMap}
-use Rattle.oct_map.specs.Edits.{outcome_in, scan_need, IsMapRefused, ReservesFew}
+use Rattle.oct_map.specs.Edits.{outcome_in, scan_need, IsMapRefused, ReservesFew, IsReadied}
 use Rattle.oct_map.proofs.Views.{map_of}
 use Rattle.oct_scan.specs.Outcome.{hit_count, free_count}
 use Rattle.oct_map.specs.Notes.{HasRoomForNotes, NotesFew, ReservesFewNotes}
 use Rattle.oct_map.specs.Marks.{classes_in}
-use Rattle.oct_map.proofs.Edits.{IsReadied, map_edited, edited_map, edited_reserved, if_err, refused_room, refused_notes, remarked}
-use Rattle.oct_map.proofs.Marks.{marked_edit, marked_room, readied_mark, noted_few, kept_few, same_few, few_after, scan_asked, asked_scan, reserved_remarked}
-use Rattle.oct_map.proofs.Scans.{IsPrepared, prepared, room_for, made_few, event_back, same_need_in}
+use Rattle.oct_map.proofs.Edits.{handed_as, map_edited, edited_map, edited_reserved, if_err, refused_room, refused_notes, remarked}
+use Rattle.oct_map.proofs.Marks.{marked_edit, marked_room, readied_mark, noted_few, kept_few, same_few, few_after, scan_asked, asked_scan, reserved_remarked, lacks_notes, lacks_some}
+use Rattle.oct_map.proofs.Scans.{IsPrepared, prepared, room_for, made_few, event_back, same_need_in, listed_point}
 use Rattle.oct_map.proofs.map.OccMap.scan.Goals as goal
 
 -- the update, and its events
@@ -39,15 +40,7 @@ abbrev roomy : goal.After-drop-set-inside-2 → Map
 roomy c = map_of c.self-2.inside.tree c.self-2.inside.is_stale c.self-2.inside.window c.self-2.inside.limits c.self-2.inside.mark
 
 made_ready : (c : goal.After-drop-set-inside-2) → IsReadied c.args.self.now (roomy c) (scan_need c.args.self.now (sighting_of c.args.scan.now))
-made_ready c = subst (IsReadied c.args.self.now (roomy c)) (ready c).counted (subst (λ (m : Map). IsReadied c.args.self.now m c.from.result) (sym c.self-2.view_is) (record {
-  setup = c.make_room.ensures.setup;
-  values = c.make_room.ensures.values;
-  stale = c.make_room.ensures.stale;
-  fresh = c.make_room.ensures.fresh;
-  pruned = c.make_room.ensures.pruned;
-  grown = c.make_room.ensures.kept;
-  reserved = c.make_room.ensures.reserved;
-}))
+made_ready c = subst (IsReadied c.args.self.now (roomy c)) (ready c).counted (subst (λ (m : Map). IsReadied c.args.self.now m c.from.result) (sym c.self-2.view_is) c.make_room.ensures.readied)
 
 -- the map that the update leaves
 scanned : (c : goal.After-drop-set-inside-2) → IsMap (record { tree = c.touch_all.new.tree; is_stale = c.self-2.inside.is_stale || c.args.lazy; update_box = c.self-2.inside.window; max_groups = c.self-2.inside.limits.max_groups; max_cells = c.self-2.inside.limits.max_cells; mark = c.note_bricks.new.self })
@@ -65,18 +58,10 @@ counted c = (let need : c.from.result ≡ c.in_ok-set.set.need = search rules in
 pub returns-in_err-make_room-clause-refused : goal.returns-in_err-make_room-clause-refused
 returns-in_err-make_room-clause-refused c = if_err c.from_residual-in_err-make_room.result (λ fault. IsMapRefused c.args.self.now c.make_room.new.self fault (scan_need c.args.self.now (sighting_of c.args.scan.now))) (λ fault e.
     let is : c.make_room.result ≡ Err fault = search (rules, e) in
-    subst (IsMapRefused c.args.self.now c.make_room.new.self fault) (counted c) (refused_room c.args.self.now c.make_room.new.self fault c.from.result c.make_room.result is (record {
-      setup = c.make_room.ensures.setup;
-      values = c.make_room.ensures.values;
-      stale = c.make_room.ensures.stale;
-      fresh = c.make_room.ensures.fresh;
-      pruned = c.make_room.ensures.pruned;
-      grown = c.make_room.ensures.kept;
-      reserved = c.make_room.ensures.reserved;
-    }) c.make_room.ensures.live c.make_room.ensures.full))
+    subst (IsMapRefused c.args.self.now c.make_room.new.self fault) (counted c) (refused_room c.args.self.now c.make_room.new.self fault c.from.result c.make_room.result is c.make_room.ensures.readied c.make_room.ensures.full))
 
 pub returns-in_err-make_room-clause-reserved : goal.returns-in_err-make_room-clause-reserved
-returns-in_err-make_room-clause-reserved c = subst (ReservesFew c.args.self.now c.make_room.new.self) (counted c) c.make_room.ensures.reserved
+returns-in_err-make_room-clause-reserved c = subst (ReservesFew c.args.self.now c.make_room.new.self) (counted c) c.make_room.ensures.readied.reserved
 
 pub touch_all-requires-clause-bricks : goal.touch_all-requires-clause-bricks
 touch_all-requires-clause-bricks c = subst (All IsBrick) (sym c.bricks-bricks.ensures) c.in_ok-set.ensures.bricks
@@ -113,13 +98,12 @@ returns-clause-path c eager k v event =
 
 pub returns-clause-mark : goal.returns-clause-mark
 returns-clause-mark c =
-    let same : c.self-2.inside.mark ≡ c.args.self.now.mark = ap (λ (m : Map). m.mark) c.self-2.view_is ∙ c.make_room.ensures.notes in
     marked_edit c.args.self.now (roomy c) c.touch_all.new.tree c.reserve.new.self c.note_bricks.new.self (update c) (λ q. Contains (hit_voxels c.bricks-bricks.result.now) q ⊎ Contains (freed_voxels c.bricks-bricks.result.now) q) (length (hit_voxels c.bricks-bricks.result.now) + length (freed_voxels c.bricks-bricks.result.now)) (scan_need c.args.self.now (sighting_of c.args.scan.now)) c.args.lazy
-    (made_ready c) same c.reserve.ensures.kept c.note_bricks.ensures c.touch_all.ensures.edited (λ q v some. scan_asked (given c) q some)
+    (made_ready c) c.reserve.ensures.kept c.note_bricks.ensures c.touch_all.ensures.edited (λ q v some. scan_asked (given c) q some)
 
 pub returns-clause-noted : goal.returns-clause-noted
 returns-clause-noted c =
-    let same : c.self-2.inside.mark ≡ c.args.self.now.mark = ap (λ (m : Map). m.mark) c.self-2.view_is ∙ c.make_room.ensures.notes in
+    let h = made_ready c in
     let edge : c.res.result ≡ c.args.self.now.tree.res = c.res.ensures ∙ ap (λ (m : Map). m.tree.res) c.self.view_is in
     let box : c.window-window.result ≡ c.args.self.now.update_box = search rules in
     let hits : c.hit_count.result ≡ length (hit_voxels c.bricks-bricks.result.now) = c.hit_count.ensures ∙ c.in_ok-set.ensures.hits_counted ∙ ap (λ b. length (hit_voxels b)) (sym c.bricks-bricks.ensures) in
@@ -129,7 +113,7 @@ returns-clause-noted c =
     let many : (length (hit_voxels c.bricks-bricks.result.now) + length (freed_voxels c.bricks-bricks.result.now)) ≡ (hit_count c.args.self.now.tree.res c.args.self.now.update_box (sighting_of c.args.scan.now) + free_count c.args.self.now.tree.res c.args.self.now.update_box (sighting_of c.args.scan.now)) = omega (arith, hits, frees, hit, free) in
     let counts : c.hit_count.result + c.free_count.result ≡ (length (hit_voxels c.bricks-bricks.result.now) + length (freed_voxels c.bricks-bricks.result.now)) = omega (arith, hits, frees) in
     subst (NotesFew c.args.self.now.mark c.note_bricks.new.self (outcome_in c.args.self.now (sighting_of c.args.scan.now))) many
-    (few_after (length (hit_voxels c.bricks-bricks.result.now) + length (freed_voxels c.bricks-bricks.result.now)) c.args.self.now.mark c.self-2.inside.mark c.note_bricks.new.self (outcome_in c.args.self.now (sighting_of c.args.scan.now)) same
+    (few_after (length (hit_voxels c.bricks-bricks.result.now) + length (freed_voxels c.bricks-bricks.result.now)) c.args.self.now.mark c.self-2.inside.mark c.note_bricks.new.self (outcome_in c.args.self.now (sighting_of c.args.scan.now)) h.notes
     (noted_few (classes_in (roomy c)) (λ q. Contains (hit_voxels c.bricks-bricks.result.now) q ⊎ Contains (freed_voxels c.bricks-bricks.result.now) q) (length (hit_voxels c.bricks-bricks.result.now) + length (freed_voxels c.bricks-bricks.result.now)) c.self-2.inside.mark c.reserve.new.self c.note_bricks.new.self (outcome_in c.args.self.now (sighting_of c.args.scan.now))
     c.reserve.ensures.kept (subst (ReservesFewNotes c.self-2.inside.mark c.reserve.new.self) counts c.reserve.ensures.few)
     (subst (λ n. HasRoomForNotes c.self-2.inside.mark n → c.reserve.new.self ≡ c.self-2.inside.mark) counts (λ there. (c.reserve.ensures.enough there).1)) c.note_bricks.ensures
@@ -138,28 +122,18 @@ returns-clause-noted c =
 pub returns-in_err-reserve-clause-mark : goal.returns-in_err-reserve-clause-mark
 returns-in_err-reserve-clause-mark c =
     let map : Map = map_of c.self-2.inside.tree c.self-2.inside.is_stale c.self-2.inside.window c.self-2.inside.limits c.self-2.inside.mark in
-    let ready : IsReadied c.args.self.now map c.from.result = subst (λ (m : Map). IsReadied c.args.self.now m c.from.result) (sym c.self-2.view_is) (record {
-      setup = c.make_room.ensures.setup;
-      values = c.make_room.ensures.values;
-      stale = c.make_room.ensures.stale;
-      fresh = c.make_room.ensures.fresh;
-      pruned = c.make_room.ensures.pruned;
-      grown = c.make_room.ensures.kept;
-      reserved = c.make_room.ensures.reserved;
-    }) in
-    let same : c.self-2.inside.mark ≡ c.args.self.now.mark = ap (λ (m : Map). m.mark) c.self-2.view_is ∙ c.make_room.ensures.notes in
-    marked_room c.args.self.now map c.reserve.new.self c.from.result ready same c.reserve.ensures.kept
+    let ready : IsReadied c.args.self.now map c.from.result = subst (λ (m : Map). IsReadied c.args.self.now m c.from.result) (sym c.self-2.view_is) c.make_room.ensures.readied in
+    marked_room c.args.self.now map c.reserve.new.self c.from.result ready c.reserve.ensures.kept
 
 pub returns-in_err-reserve-clause-noted : goal.returns-in_err-reserve-clause-noted
 returns-in_err-reserve-clause-noted c =
-    let same : c.self-2.inside.mark ≡ c.args.self.now.mark = ap (λ (m : Map). m.mark) c.self-2.view_is ∙ c.make_room.ensures.notes in
     let edge : c.res.result ≡ c.args.self.now.tree.res = c.res.ensures ∙ ap (λ (m : Map). m.tree.res) c.self.view_is in
     let box : c.window-window.result ≡ c.args.self.now.update_box = search rules in
     let hit : c.hit_count.result ≡ hit_count c.args.self.now.tree.res c.args.self.now.update_box (sighting_of c.args.scan.now) = c.hit_count.ensures ∙ c.in_ok-set.ensures.hit_count ∙ ap (λ r. hit_count r c.window-window.result (sighting_of c.args.scan.now)) edge ∙ ap (λ w. hit_count c.args.self.now.tree.res w (sighting_of c.args.scan.now)) box in
     let free : c.free_count.result ≡ free_count c.args.self.now.tree.res c.args.self.now.update_box (sighting_of c.args.scan.now) = c.free_count.ensures ∙ c.in_ok-set.ensures.free_count ∙ ap (λ r. free_count r c.window-window.result (sighting_of c.args.scan.now)) edge ∙ ap (λ w. free_count c.args.self.now.tree.res w (sighting_of c.args.scan.now)) box in
     let counts : c.hit_count.result + c.free_count.result ≡ (hit_count c.args.self.now.tree.res c.args.self.now.update_box (sighting_of c.args.scan.now) + free_count c.args.self.now.tree.res c.args.self.now.update_box (sighting_of c.args.scan.now)) = omega (arith, hit, free) in
     subst (NotesFew c.args.self.now.mark c.reserve.new.self (outcome_in c.args.self.now (sighting_of c.args.scan.now))) counts
-    (few_after (c.hit_count.result + c.free_count.result) c.args.self.now.mark c.self-2.inside.mark c.reserve.new.self (outcome_in c.args.self.now (sighting_of c.args.scan.now)) same
+    (few_after (c.hit_count.result + c.free_count.result) c.args.self.now.mark c.self-2.inside.mark c.reserve.new.self (outcome_in c.args.self.now (sighting_of c.args.scan.now)) (ap (λ (m : Map). m.mark) c.self-2.view_is ∙ c.make_room.ensures.readied.notes)
     (kept_few (c.hit_count.result + c.free_count.result) c.self-2.inside.mark c.reserve.new.self (outcome_in c.args.self.now (sighting_of c.args.scan.now)) c.reserve.ensures.kept c.reserve.ensures.few (λ there. (c.reserve.ensures.enough there).1)))
 
 pub returns-in_err-reserve-clause-refused : goal.returns-in_err-reserve-clause-refused
@@ -167,34 +141,17 @@ returns-in_err-reserve-clause-refused c =
     let need : c.from.result ≡ c.in_ok-set.set.need = search rules in
     let counted : c.from.result ≡ scan_need c.args.self.now (sighting_of c.args.scan.now) = need ∙ same_need_in c.args.self.now (sighting_of c.args.scan.now) c.in_ok-set.set.need c.res.result c.window-window.result (c.res.ensures ∙ ap (λ (m : Map). m.tree.res) c.self.view_is) (search rules) c.in_ok-set.ensures.needed in
     let map : Map = map_of c.self-2.inside.tree c.self-2.inside.is_stale c.self-2.inside.window c.self-2.inside.limits c.self-2.inside.mark in
-    let ready : IsReadied c.args.self.now map c.from.result = subst (λ (m : Map). IsReadied c.args.self.now m c.from.result) (sym c.self-2.view_is) (record {
-      setup = c.make_room.ensures.setup;
-      values = c.make_room.ensures.values;
-      stale = c.make_room.ensures.stale;
-      fresh = c.make_room.ensures.fresh;
-      pruned = c.make_room.ensures.pruned;
-      grown = c.make_room.ensures.kept;
-      reserved = c.make_room.ensures.reserved;
-    }) in
-    let lives : live map.tree.groups ≤ live c.args.self.now.tree.groups = subst (λ (m : Map). live m.tree.groups ≤ live c.args.self.now.tree.groups) (sym c.self-2.view_is) c.make_room.ensures.live in
+    let ready : IsReadied c.args.self.now map c.from.result = subst (λ (m : Map). IsReadied c.args.self.now m c.from.result) (sym c.self-2.view_is) c.make_room.ensures.readied in
     if_err c.from_residual-in_err-reserve.result (λ fault. IsMapRefused c.args.self.now (map_of c.self-2.inside.tree c.self-2.inside.is_stale c.self-2.inside.window c.self-2.inside.limits c.reserve.new.self) fault (scan_need c.args.self.now (sighting_of c.args.scan.now)))
     (λ fault e. subst (IsMapRefused c.args.self.now (map_of c.self-2.inside.tree c.self-2.inside.is_stale c.self-2.inside.window c.self-2.inside.limits c.reserve.new.self) fault) counted
-    (refused_notes c.args.self.now map c.reserve.new.self fault c.from.result (search (rules, e)) ready lives))
+    (refused_notes c.args.self.now map c.reserve.new.self fault c.from.result (search (rules, e)) ready))
 
 pub returns-in_err-reserve-clause-reserved : goal.returns-in_err-reserve-clause-reserved
 returns-in_err-reserve-clause-reserved c =
     let need : c.from.result ≡ c.in_ok-set.set.need = search rules in
     let counted : c.from.result ≡ scan_need c.args.self.now (sighting_of c.args.scan.now) = need ∙ same_need_in c.args.self.now (sighting_of c.args.scan.now) c.in_ok-set.set.need c.res.result c.window-window.result (c.res.ensures ∙ ap (λ (m : Map). m.tree.res) c.self.view_is) (search rules) c.in_ok-set.ensures.needed in
     let map : Map = map_of c.self-2.inside.tree c.self-2.inside.is_stale c.self-2.inside.window c.self-2.inside.limits c.self-2.inside.mark in
-    let ready : IsReadied c.args.self.now map c.from.result = subst (λ (m : Map). IsReadied c.args.self.now m c.from.result) (sym c.self-2.view_is) (record {
-      setup = c.make_room.ensures.setup;
-      values = c.make_room.ensures.values;
-      stale = c.make_room.ensures.stale;
-      fresh = c.make_room.ensures.fresh;
-      pruned = c.make_room.ensures.pruned;
-      grown = c.make_room.ensures.kept;
-      reserved = c.make_room.ensures.reserved;
-    }) in
+    let ready : IsReadied c.args.self.now map c.from.result = subst (λ (m : Map). IsReadied c.args.self.now m c.from.result) (sym c.self-2.view_is) c.make_room.ensures.readied in
     subst (ReservesFew c.args.self.now (map_of c.self-2.inside.tree c.self-2.inside.is_stale c.self-2.inside.window c.self-2.inside.limits c.reserve.new.self)) counted
     (reserved_remarked c.args.self.now map c.reserve.new.self c.from.result ready.reserved)
 
@@ -208,19 +165,11 @@ returns-in_err-reserve-clause-map c =
 
 pub returns-in_err-make_room-clause-mark : goal.returns-in_err-make_room-clause-mark
 returns-in_err-make_room-clause-mark c =
-    readied_mark c.args.self.now c.make_room.new.self c.from.result (record {
-      setup = c.make_room.ensures.setup;
-      values = c.make_room.ensures.values;
-      stale = c.make_room.ensures.stale;
-      fresh = c.make_room.ensures.fresh;
-      pruned = c.make_room.ensures.pruned;
-      grown = c.make_room.ensures.kept;
-      reserved = c.make_room.ensures.reserved;
-    }) c.make_room.ensures.notes
+    readied_mark c.args.self.now c.make_room.new.self c.from.result c.make_room.ensures.readied
 
 pub returns-in_err-make_room-clause-noted : goal.returns-in_err-make_room-clause-noted
 returns-in_err-make_room-clause-noted c =
-    same_few _ c.args.self.now.mark c.make_room.new.self.mark (outcome_in c.args.self.now (sighting_of c.args.scan.now)) c.make_room.ensures.notes
+    same_few _ c.args.self.now.mark c.make_room.new.self.mark (outcome_in c.args.self.now (sighting_of c.args.scan.now)) c.make_room.ensures.readied.notes
 
 pub note_bricks-requires-clause-bricks : goal.note_bricks-requires-clause-bricks
 note_bricks-requires-clause-bricks c = subst (All IsBrick) (sym c.bricks-bricks.ensures) c.in_ok-set.ensures.bricks
@@ -231,3 +180,20 @@ note_bricks-requires-clause-room c =
     let frees : c.free_count.result ≡ length (freed_voxels c.bricks-bricks.result.now) = c.free_count.ensures ∙ c.in_ok-set.ensures.frees_counted ∙ ap (λ b. length (freed_voxels b)) (sym c.bricks-bricks.ensures) in
     let counts : c.hit_count.result + c.free_count.result ≡ (length (hit_voxels c.bricks-bricks.result.now) + length (freed_voxels c.bricks-bricks.result.now)) = omega (arith, hits, frees) in
     subst (HasRoomForNotes c.reserve.new.self) counts c.in_ok-reserve.ensures.room
+
+pub returns-in_err-make_room-clause-memory : goal.returns-in_err-make_room-clause-memory
+returns-in_err-make_room-clause-memory c e =
+    let need : c.from.result ≡ c.in_ok-set.set.need = search rules in
+    let (room, few) = c.make_room.ensures.memory (handed_as _ _ _ _ c.in_err-make_room.was c.from_residual-in_err-make_room.ensures.1 e) in
+    let point = need_point c.res.result c.window-window.result (sighting_of c.args.scan.now) c.in_ok-set.set.need c.in_ok-set.ensures.need (omega (arith, need, few)) in
+    subst (λ n. TakesMemory n (sighting_of c.args.scan.now)) (c.res.ensures ∙ ap (λ (m : Map). m.tree.res) c.self.view_is)
+    (takes_inside c.res.result (sighting_of c.args.scan.now) c.in_ok-set.ensures.inside point)
+
+pub returns-in_err-reserve-clause-memory : goal.returns-in_err-reserve-clause-memory
+returns-in_err-reserve-clause-memory c _ =
+    let some = lacks_some c.self-2.inside.mark (c.hit_count.result + c.free_count.result) (lacks_notes c.self-2.inside.mark c.self-2.inside.mark (c.hit_count.result + c.free_count.result) c.reserve.result refl c.in_err-reserve.was (λ room. (c.reserve.ensures.enough room).0)) in
+    let hits : c.hit_count.result ≡ length (hit_voxels c.in_ok-set.set.bricks) = c.hit_count.ensures ∙ c.in_ok-set.ensures.hits_counted in
+    let frees : c.free_count.result ≡ length (freed_voxels c.in_ok-set.set.bricks) = c.free_count.ensures ∙ c.in_ok-set.ensures.frees_counted in
+    let point = listed_point c.res.result c.window-window.result (sighting_of c.args.scan.now) (hit_voxels c.in_ok-set.set.bricks) (freed_voxels c.in_ok-set.set.bricks) c.in_ok-set.ensures.hits c.in_ok-set.ensures.frees (omega (arith, some, hits, frees)) in
+    subst (λ n. TakesMemory n (sighting_of c.args.scan.now)) (c.res.ensures ∙ ap (λ (m : Map). m.tree.res) c.self.view_is)
+    (takes_inside c.res.result (sighting_of c.args.scan.now) c.in_ok-set.ensures.inside point)
