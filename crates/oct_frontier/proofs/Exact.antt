@@ -1,5 +1,5 @@
 -- What is found in the whole map, in order, is the frontier.
-use Rattle.std.proofs.Common.{◌≡◌, ℕ, ◌≤◌, true, Bool, Result, Ok, Err, IfOk, List, [], ◌∷◌, ◌++◌, length, cond, refl, sym, ap, subst, ◌∙◌, arith}
+use Rattle.std.proofs.Common.{◌≡◌, ℕ, ◌≤◌, true, Bool, Result, Ok, Err, List, [], ◌∷◌, ◌++◌, length, cond, refl, sym, ap, subst, ◌∙◌, arith}
 use Rattle.std.specs.Prelude.{◌&&◌, IfErr, filter}
 use Rattle.std.specs.List.{AllByRecursion, Contains}
 use Rattle.std.specs.List.Sorted.{IsSorted, IsPermutation, IsStrictlySortedBy}
@@ -118,20 +118,16 @@ listed_is t lo hi b start items sorted shown eb es ei moved up is =
     let all : items ≡ found_in t lo hi root_block = ei ∙ ap (λ l. l ++ found_in t lo hi b) es ∙ ap (found_in t lo hi) eb in
     is ∙ found_sorted t lo hi sorted (subst (λ l. IsPermutation l sorted) all moved) up
 
--- so many there are
+-- this many there are
 pub count_is : (t : Tree) (lo hi : Voxel) (b : Cube) → b ≡ root_block
     → length (found_in t lo hi b) ≡ length (frontier_between (classes_in t) lo hi)
 count_is t lo hi b e = ap (λ c. length (found_in t lo hi c)) e ∙ found_count t lo hi
-
-pub as_listed : {E : Type 0} (r : Result (List Voxel) E) (ks zs : List Voxel) → IfOk r (λ l. l ≡ ks) → ks ≡ zs
-    → IfOk r (λ l. l ≡ zs)
-as_listed r ks zs h e = subst (λ q. IfOk r (λ l. l ≡ q)) e h
 
 pub right_of : (classes : Classes) (lo hi : Voxel) (list : List Voxel) → list ≡ frontier_between classes lo hi
     → IsFrontierBetween classes lo hi list
 right_of classes lo hi list e = subst (IsFrontierBetween classes lo hi) (sym e) (frontier_right classes lo hi)
 
--- want of memory comes only where there are few enough
+-- out of memory comes only where there are few enough
 pub refused_by_memory : {A : Type 0} (r : Result A FrontierFault) (count most : ℕ) → IfErr r (λ fault. fault ≡ Memory)
     → count ≤ most → IfErr r (λ fault. IsRefused fault count most)
 refused_by_memory (Ok x) count most h few = tt

@@ -29,7 +29,6 @@ use Rattle.oct_values.proofs.Held.{all_held}
 use Rattle.oct_values.proofs.Sums.{first_of_all, rest_of_all, All-follows}
 use Rattle.oct_frontier.specs.Frontier.{IsNextTo, AreNeighbours, IsFrontier, is_next_to, are_neighbours, is_frontier}
 use Rattle.oct_frontier.specs.Found.{classes_in, found_in, found_first}
-use Rattle.oct_frontier.proofs.Faces.{HasKnownAround}
 use Rattle.oct_frontier.proofs.Neighbours.{HasUnknownAround}
 
 -- the tests
@@ -112,28 +111,14 @@ pub pass_beyond : (t : Tree) (lo hi : Voxel) (b : Cube) → IsBlock b → (Meets
     → found_in t lo hi b ≡ []
 pass_beyond t lo hi b ok beyond = found_none t lo hi b ok (λ k held inside _. beyond (k, held, inside))
 
--- an unknown or occupied block
-pub pass_class : (t : Tree) (lo hi : Voxel) (b : Cube) (value : Value) → IsBlock b
-    → ((k : Voxel) → HoldsVoxel b k → value_at t k ≡ value) → (class_of t.odds value ≡ Free → ⊥)
-    → found_in t lo hi b ≡ []
-pass_class t lo hi b value ok all other =
-    found_none t lo hi b ok (λ k held _ h. other (ap (class_of t.odds) (sym (all k held)) ∙ h.0))
-
 -- an unknown class says that there is no value
-unknown_none : (odds : Odds) (value : Value) → class_of odds value ≡ Unknown → value ≡ None
+pub unknown_none : (odds : Odds) (value : Value) → class_of odds value ≡ Unknown → value ≡ None
 unknown_none odds None e = refl
 unknown_none odds (Some v) e = by_test (int_lt v odds.thr) e
   where
     by_test : (test : Bool) → cond test Free Occupied ≡ Unknown → Some v ≡ None
     by_test true e = cc
     by_test false e = cc
-
--- a block with nothing unknown beside its voxels
-pub pass_enclosed : (t : Tree) (lo hi : Voxel) (b : Cube) → IsBlock b
-    → ((k : Voxel) → HoldsVoxel b k → HasKnownAround t k) → found_in t lo hi b ≡ []
-pass_enclosed t lo hi b ok known =
-    found_none t lo hi b ok (λ k held _ h. (let (j, v, near, is) = h.1 in
-    known k held j v near (unknown_none t.odds (value_at t j) is)))
 
 -- a free voxel between the corners with an unknown neighbour
 pub take_voxel : (t : Tree) (lo hi : Voxel) (b : Cube) → b.depth ≡ 16

@@ -1,5 +1,6 @@
 -- The frontier: the free voxels beside unknown space.
-use Rattle.std.specs.Prelude.{◌≡◌, ◌+◌, ℕ, ◌<◌, ◌≤◌, ◌⊎◌, ◌↔◌, All, Contains, Bool, ◌&&◌, ◌||◌, nat_eq, List, filter}
+use Rattle.std.specs.Prelude.{◌≡◌, ◌+◌, ℕ, ◌<◌, ◌≤◌, ◌⊎◌, ◌↔◌, All, Contains, Bool, ◌&&◌, ◌||◌}
+use Rattle.std.specs.Prelude.{nat_eq, List, filter}
 use Rattle.std.specs.List.{list_any}
 use Rattle.std.specs.List.Sorted.{IsStrictlySortedBy}
 use Rattle.oct_key.specs.Voxel.{Voxel, IsInMap}
@@ -53,7 +54,7 @@ pub record IsFrontierBetween (classes : Classes) (lo hi : Voxel) (list : List Vo
   pub exact : (k : Voxel) → IsInMap k → Contains list k ↔ (IsInBox lo hi k × IsFrontier classes k)
 
 -- why a frontier is refused: it has more voxels than are allowed, or it hasn't and memory was
--- wanting
+-- ran out
 abbrev pub IsRefused : FrontierFault → ℕ → ℕ → Type 0
 IsRefused TooManyFrontiers count most = most < count
 IsRefused Memory count most = count ≤ most

@@ -11,7 +11,7 @@ pub enum FrontierFault {
     #[error("the frontier has more voxels than are allowed")]
     TooManyFrontiers,
 
-    /// Memory is wanting.
+    /// Memory ran out.
     #[error("out of memory")]
     Memory,
 }

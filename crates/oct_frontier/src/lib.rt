@@ -10,16 +10,18 @@
 //! voxels of the map in their order those that lie between the corners and at the frontier, and
 //! that it has exactly these (`IsFrontierBetween`). A neighbour counts where it lies beyond the
 //! corners, and not where it would lie beyond the map. More voxels than are allowed are refused,
-//! exactly where there are more, and then none is listed. It takes no memory but for the voxels
-//! that it answers.
+//! exactly where there are more, and then none is listed. Memory is taken once, for exactly the
+//! voxels of the answer, and none where it is refused as too many.
 //!
 //! It goes down the tree by blocks, and takes along the nodes over the six blocks beside the one
 //! where it is (`Patch`), so that those of a child are one step further each, and nothing is looked
-//! up from the root. A block that is unknown or occupied is passed over, and so is a free one
-//! beside which nothing is unknown (`look_at`). So of a free block only what lies at a face to
-//! something unknown, or to something smaller, is entered. A first walk counts the voxels and ends
-//! at the first one too many, and a second one lists them into room for exactly that many; they
-//! are put in order by std's sort.
+//! up from the root. Each child of a block is looked at by its own node first (`look_at`): one that
+//! is unknown or occupied is passed over. Of a free one the nodes beside it are read too, up to the
+//! first axis that settles it, and where nothing there is unknown it is passed over. So of a free
+//! block only what lies at a face to something unknown, or to something smaller, is entered, and
+//! all nodes around a block are gathered only where it is. A first walk counts the voxels and ends
+//! at the first one too many, and a second one lists them into room for exactly that many, which
+//! std sorts in place and the list takes over.
 //!
 //! It stands on `oct_tree`, and on `oct_values` for what classes are; `oct_edit` makes the maps of
 //! its tests.

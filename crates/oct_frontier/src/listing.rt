@@ -18,7 +18,8 @@ use std::alloc::Global;
 /// the map beside them on an axis. They come by ascending x, then y, then z.
 ///
 /// A neighbour counts where it lies beyond the corners too. Where there are more than `most`, the
-/// answer is `TooManyFrontiers`, and none is listed.
+/// answer is `TooManyFrontiers`, and none is listed. Memory is taken once, for exactly the voxels
+/// of the answer.
 pub fn frontier(
     alloc: Global,
     tree: &OccTree,
@@ -59,16 +60,5 @@ fn list_all(
     let mut keys = Vec::with_capacity(alloc, count as usize)?;
     list_under(tree, whole, lo, hi, &mut keys);
     keys.sort_unstable();
-    key_list(alloc, &keys)
-}
-
-/// The keys as a list.
-fn key_list(alloc: Global, keys: &[Key]) -> Result<KeyList, Memory>
-    ensures { IfOk result (λ list. list ≡ keys.now) }
-{
-    let mut list = KeyList::new(alloc);
-    for &key in keys {
-        list.push(key)?;
-    }
-    Ok(list)
+    Ok(KeyList::from(keys))
 }

@@ -1,15 +1,14 @@
-//! What a block of a tree has of the frontier, at one look.
-ghost use Rattle.std.specs.Prelude.{◌≡◌, ◌≤◌, ◌∷◌, [], None, IsTrue, ◌↔◌, ◌&&◌};
-ghost use Rattle.oct_key.specs.Block.{lowest_voxel};
+//! What a child of a block has of the frontier, at one look.
+ghost use Rattle.std.specs.Prelude.{◌≡◌, ◌≤◌, IsTrue, ◌↔◌, ◌&&◌};
+ghost use Rattle.oct_key.specs.Block.{child_of, lowest_voxel};
 ghost use Rattle.oct_key.specs.Boxes.{IsBetween, IsBox};
 ghost use Rattle.oct_key.specs.CubeOf.{cube_of};
 ghost use Rattle.oct_odds.specs.Update.{class_of};
 ghost use Rattle.oct_odds.specs.declared.event.Class.TheVariants.{Free};
-ghost use Rattle.oct_arena.specs.Nodes.{link_of, value_of};
+ghost use Rattle.oct_arena.specs.Nodes.{value_of};
 ghost use Rattle.oct_values.specs.Boxes.{MeetsBox};
-ghost use Rattle.oct_frontier.specs.Found.{found_in};
-ghost use Rattle.oct_frontier.specs.Patches.{IsPatchOf};
-ghost use Rattle.oct_frontier.specs.declared.look.Look.TheVariants as look;
+ghost use Rattle.oct_frontier.specs.Found.{IsLookAt};
+ghost use Rattle.oct_frontier.specs.Patches.{IsOpen, IsPatchOf};
 
 use crate::patch::Patch;
 use oct_arena::Node;
@@ -22,51 +21,48 @@ use oct_tree::OccTree;
 pub(crate) enum Look {
     /// Nothing: no voxel of it is asked for.
     Pass,
-    /// It is a voxel, and asked for.
-    Take,
+    /// It is this voxel, and asked for.
+    Take(Key),
     /// Its children are to be looked at.
     Enter,
 }
 
-/// What is to be done with the block where the frontier between two corners is asked for.
+/// What is to be done with child i of the patch's block where the frontier between two corners is
+/// asked for.
 ///
-/// A block that is unknown or occupied is passed over, and so is a free one with nothing unknown
-/// beside it. So of a free block those children are entered that lie at such a face.
-pub(crate) fn look_at(tree: &OccTree, patch: &Patch, lo: Key, hi: Key) -> Look
+/// A child that is unknown or occupied is passed over at a look at its own node, and so is a free
+/// one with nothing unknown beside it. So of a free block those children are entered that lie at
+/// such a face.
+#[inline(always)]
+pub(crate) fn look_at(tree: &OccTree, patch: &Patch, i: u8, lo: Key, hi: Key) -> Look
     requires patch { IsPatchOf tree.now patch.now }
+    requires depth { patch.now.block.depth ≤ 15 }
+    requires index { i ≤ 7 }
     requires order { IsBox lo hi }
-    ensures pass { result ≡ look.Pass → found_in tree.now lo hi (cube_of patch.now.block) ≡ [] }
-    ensures take { result ≡ look.Take → found_in tree.now lo hi (cube_of patch.now.block)
-        ≡ lowest_voxel (cube_of patch.now.block) ∷ [] }
-    ensures voxel { result ≡ look.Take → patch.now.block.depth ≡ 16 }
-    ensures enter { result ≡ look.Enter → patch.now.block.depth ≤ 15 }
+    ensures { IsLookAt tree.now lo hi (child_of (cube_of patch.now.block) i) result }
 {
-    if !meets(patch.block, lo, hi) {
+    let block = patch.block.child(i);
+    if !meets(block, lo, hi) || !is_open(tree, patch, i) {
         return Look::Pass;
     }
-    if !is_plain(patch.here) {
-        return Look::Enter;
-    }
-    if !is_free(tree, patch.here) {
-        return Look::Pass;
-    }
-    if patch.is_enclosed() {
-        return Look::Pass;
-    }
-    if patch.block.depth == 16 {
-        Look::Take
+    if block.depth == 16 {
+        Look::Take(voxel_of(block))
     } else {
         Look::Enter
     }
 }
 
-/// Whether the node links no group.
-fn is_plain(node: Node) -> bool
-    ensures { IsTrue result ↔ (link_of node ≡ None) }
+/// Whether child i may have voxels at the frontier, by the nodes over it and beside it: it has
+/// children of its own, or it's free and not all nodes beside it are leaves.
+fn is_open(tree: &OccTree, patch: &Patch, i: u8) -> bool
+    requires patch { IsPatchOf tree.now patch.now }
+    requires index { i ≤ 7 }
+    ensures { IsTrue result ↔ IsOpen tree.now patch.now i }
 {
+    let node = patch.child_node(tree, i);
     match node {
-        Node::Inner(_, _) => false,
-        _ => true,
+        Node::Inner(_, _) => true,
+        _ => is_free(tree, node) && !patch.encloses(tree, i),
     }
 }
 
@@ -75,6 +71,18 @@ fn is_free(tree: &OccTree, node: Node) -> bool
     ensures { IsTrue result ↔ (class_of tree.now.odds (value_of node) ≡ Free) }
 {
     tree.odds().class(node.value()) == Class::Free
+}
+
+/// The voxel that a block of depth 16 is.
+fn voxel_of(block: Block) -> Key
+    requires { block.depth ≡ 16 }
+    ensures { result ≡ lowest_voxel (cube_of block) }
+{
+    Key {
+        x: block.x,
+        y: block.y,
+        z: block.z,
+    }
 }
 
 /// Whether some voxel of the block lies between the corners.

@@ -5,7 +5,8 @@ ghost use Rattle.oct_key.specs.CubeOf.{cube_of};
 ghost use Rattle.oct_arena.specs.Entries.{IsLive};
 ghost use Rattle.oct_arena.specs.Nodes.{link_of};
 ghost use Rattle.oct_tree.specs.Tree.{step};
-ghost use Rattle.oct_frontier.specs.Patches.{IsLeaf, IsPatchOf, AreLeaves, sides_of_child};
+ghost use Rattle.oct_frontier.specs.Patches.{IsLeaf, IsPatchOf, AreLeavesBeside, sides_of_child};
+ghost use Rattle.oct_frontier.specs.Patches.{child_node, child_x, child_y, child_z};
 
 use oct_arena::Node;
 use oct_key::Block;
@@ -66,18 +67,63 @@ impl Patch {
     {
         Patch {
             block: self.block.child(i),
-            here: below(tree, self.here, i),
-            x: sides_of_child(tree, self.here, self.x, i, 1, i % 2),
-            y: sides_of_child(tree, self.here, self.y, i, 2, i / 2 % 2),
-            z: sides_of_child(tree, self.here, self.z, i, 4, i / 4 % 2),
+            here: self.child_node(tree, i),
+            x: self.on_x(tree, i),
+            y: self.on_y(tree, i),
+            z: self.on_z(tree, i),
         }
     }
 
-    /// Whether all nodes beside the block are leaves, so that nothing beside it is unknown.
-    pub(crate) fn is_enclosed(&self) -> bool
-        ensures { IsTrue result ↔ AreLeaves self.now.x self.now.y self.now.z }
+    /// The node over child i. Reads it alone.
+    #[inline(always)]
+    pub(crate) fn child_node(&self, tree: &OccTree, i: u8) -> Node
+        requires patch { IsPatchOf tree.now self.now }
+        requires index { i ≤ 7 }
+        ensures { result ≡ child_node tree.now self.now i }
     {
-        has_leaves(self.x) && has_leaves(self.y) && has_leaves(self.z)
+        below(tree, self.here, i)
+    }
+
+    /// Whether all nodes beside child i are leaves, so that nothing beside it is unknown. Reads no
+    /// further than up to the first axis where one isn't.
+    pub(crate) fn encloses(&self, tree: &OccTree, i: u8) -> bool
+        requires patch { IsPatchOf tree.now self.now }
+        requires index { i ≤ 7 }
+        ensures { IsTrue result ↔ AreLeavesBeside tree.now self.now i }
+    {
+        has_leaves(self.on_x(tree, i))
+            && has_leaves(self.on_y(tree, i))
+            && has_leaves(self.on_z(tree, i))
+    }
+
+    /// The nodes beside child i on the x axis.
+    #[inline(always)]
+    fn on_x(&self, tree: &OccTree, i: u8) -> Sides
+        requires patch { IsPatchOf tree.now self.now }
+        requires index { i ≤ 7 }
+        ensures { result ≡ child_x tree.now self.now i }
+    {
+        sides_of_child(tree, self.here, self.x, i, 1, i % 2)
+    }
+
+    /// The nodes beside child i on the y axis.
+    #[inline(always)]
+    fn on_y(&self, tree: &OccTree, i: u8) -> Sides
+        requires patch { IsPatchOf tree.now self.now }
+        requires index { i ≤ 7 }
+        ensures { result ≡ child_y tree.now self.now i }
+    {
+        sides_of_child(tree, self.here, self.y, i, 2, i / 2 % 2)
+    }
+
+    /// The nodes beside child i on the z axis.
+    #[inline(always)]
+    fn on_z(&self, tree: &OccTree, i: u8) -> Sides
+        requires patch { IsPatchOf tree.now self.now }
+        requires index { i ≤ 7 }
+        ensures { result ≡ child_z tree.now self.now i }
+    {
+        sides_of_child(tree, self.here, self.z, i, 4, i / 4 % 2)
     }
 }
 

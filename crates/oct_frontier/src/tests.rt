@@ -191,8 +191,8 @@ fn is_border(tree: &OccTree, k: Key) -> bool {
             || is_unknown(tree, x, y, k.z.checked_add(1)))
 }
 
-/// The voxels of a cube of edge 4 that are free and have an unknown one beside them, looked at one by
-/// one.
+/// The voxels of a cube of edge 4 that are free and have an unknown one beside them, looked at one
+/// by one.
 fn borders(alloc: Global, tree: &OccTree, low: u16) -> Result<Vec<Key>, Fail>
     requires { low ≤ 65532 }
 {

@@ -89,6 +89,14 @@ impl KeyList {
     }
 }
 
+impl From<Vec<Key>> for KeyList {
+    ghost from_gives = { λ v list. list ≡ v.items };
+
+    fn from(keys: Vec<Key>) -> Self {
+        KeyList { keys }
+    }
+}
+
 #[cfg(test)]
 mod tests {
     use super::*;
@@ -117,6 +125,8 @@ mod tests {
             keys.push(key)?;
         }
         assert_eq!(rt; keys.as_slice(), [far, near, far].as_slice());
+        let taken_over = KeyList::from(vec![in rt.alloc(); near, far]?);
+        assert_eq!(rt; taken_over.as_slice(), [near, far].as_slice());
         Ok(())
     }
 }

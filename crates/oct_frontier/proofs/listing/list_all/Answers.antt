@@ -1,11 +1,10 @@
 use Rattle.oct_key.specs.CubeOf.{cube_of}
-use Rattle.oct_frontier.proofs.Exact.{listed_is, as_listed}
+use Rattle.oct_frontier.proofs.Exact.{listed_is}
 use Rattle.oct_frontier.proofs.listing.list_all.Goals as goal
 
 pub returns : goal.returns
 returns c = record {
-  exact = as_listed _ _ _ c.key_list.ensures
-      (listed_is c.args.tree.now c.args.lo c.args.hi (cube_of c.args.whole.now.block) c.in_ok-keys.keys.items
+  exact = listed_is c.args.tree.now c.args.lo c.args.hi (cube_of c.args.whole.now.block) c.in_ok-keys.keys.items
       c.list_under.new.keys.items c.sort_unstable.new.self.items _ c.requires.block c.in_ok-keys.ensures.items
-      c.list_under.ensures.listed c.sort_unstable.ensures.permutation c.sort_unstable.ensures.sorted c.deref.ensures.value);
+      c.list_under.ensures.listed c.sort_unstable.ensures.permutation c.sort_unstable.ensures.sorted c.from.ensures;
 }
