@@ -22,7 +22,7 @@ record StaysOn (a : Axis) : Type 0 where
   here : a.key < 65536
   rising : a.rises ≡ true → a.key + a.crossings < 65536
 
--- the key behind a crossing, by the axis's way
+-- the key after a crossing, by the axis's way
 next_key : (rises : Bool) (key left : ℕ) → 0 < left → key < 65536 → (rises ≡ true → key + left < 65536)
     → (cond rises (key + 1) (key - 1) < 65536) × (rises ≡ true → cond rises (key + 1) (key - 1) + (left - 1) < 65536)
 next_key true key left some here rising = let up = rising refl in (omega (arith, up, some), λ is. omega (arith, up, some))
@@ -83,7 +83,7 @@ met_on_map edge o e key_o key_e =
     (axis_stays edge o.y e.y (λ some. (on_o some).y) (λ some. (on_e some).y))
     (axis_stays edge o.z e.z (λ some. (on_o some).z) (λ some. (on_e some).z))
 
--- the answer at the first voxel, or behind it
+-- the answer at the first voxel, or after it
 first_answer : (ignore : Bool) (classes : Classes) (k : Voxel) (rest : Option Voxel) →
     answer_for classes (cond (stops ignore (classes k)) (Some k) rest) ≡ cond (stops ignore (classes k)) (stopped_at (classes k) k) (answer_for classes rest)
 first_answer ignore classes k rest = elim (stops ignore (classes k)) as (λ b. answer_for classes (cond b (Some k) rest) ≡ cond b (stopped_at (classes k) k) (answer_for classes rest)) [ true ↦ refl | false ↦ refl ]

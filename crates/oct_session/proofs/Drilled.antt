@@ -17,7 +17,7 @@ use Rattle.oct_values.specs.Counts.{group_count, node_count}
 use Rattle.oct_values.proofs.Uniform.{same_group_count, same_node_count}
 use Rattle.oct_session.specs.Drill.{drill, drill_setup, drilled, drilled_state, line_of_two, summary, summary_of, EndsUnread}
 use Rattle.oct_session.specs.History.{State}
-use Rattle.oct_session.specs.Leaving.{StandsFor, Desk, desk, IsKnown}
+use Rattle.oct_session.specs.Leaving.{StandsFor, Shelf, Desk, desk, IsKnown}
 use Rattle.oct_session.specs.Session.{Answer, last_progress, status_at_end}
 use Rattle.oct_session.specs.Setup.{Setup}
 use Rattle.oct_session.specs.Standing.{HasServed, IsThrough, HasEndedAs}
@@ -27,7 +27,7 @@ use Rattle.oct_session.specs.declared.options.Stop.{Stop}
 use Rattle.oct_session.specs.declared.options.Stop.TheVariants.{TooLong, ReadFault, WriteFault, Memory, StoreFault}
 use Rattle.oct_session.specs.declared.session.Session.{Session}
 use Rattle.oct_session.specs.declared.tally.Tally.{Tally}
-use Rattle.oct_session.proofs.Endings.{IsNew, serving_start, known_told}
+use Rattle.oct_session.proofs.Endings.{IsFirst, IsNew, serving_start, known_told}
 use Rattle.oct_session.proofs.Loading.{same_file}
 
 -- the script isn't too long
@@ -38,10 +38,10 @@ script_fits seed scans points a b c =
     omega (arith, short, most)
 
 -- a session that begins on the script
-begun : (o : Setup) (told : Files) (script : List ℕ) (left : Option (List ℕ)) (m : Map) (kept : Type 0) (s : Session) → o ≡ drill_setup → left ≡ Some script → kept → IsNew drill_setup m s → HasServed o (Some told) script left None None (desk m (Some told) kept) s 0
-begun o told script left m kept s is reads home new =
-    subst (λ x. HasServed o (Some told) script x None None (desk m (Some told) kept) s 0) (sym reads)
-    (serving_start o (Some told) script None m kept s home (subst (λ x. IsNew x m s) (sym is) new))
+begun : (o : Setup) (told : Files) (script : List ℕ) (left : Option (List ℕ)) (m : Map) (k : Shelf) (s : Session) → o ≡ drill_setup → left ≡ Some script → IsFirst (Some told) k → IsNew drill_setup m s → HasServed o (Some told) script left None None (desk m k) s 0
+begun o told script left m k s is reads first new =
+    subst (λ x. HasServed o (Some told) script x None None (desk m k) s 0) (sym reads)
+    (serving_start o (Some told) script None m k s first (subst (λ x. IsNew x m s) (sym is) new))
 
 known : (o : Setup) (told : Files) (script : List ℕ) → IsKnown (last_progress o (Some told) script)
 known o told script = known_told o (Some told) script (inl refl)
@@ -60,32 +60,32 @@ through_drilled o told seed scans points after d t is none through =
     subst (λ x. IsThrough drill_setup (Some x) script after None None d t) none (subst (λ x. IsThrough x (Some told) script after None None d t) is through) in
     record { tally = at.reached.between.step.tally; stands = at.reached.between.like.stands }
 
-pub work_done : {H : Type 0} (o : Setup) (told : Files) (seed scans points : ℕ) (left after : Option (List ℕ)) (m : Map) (kept : H → Type 0) (e : H → Desk) (home : H) (s t : Session) →
-    o ≡ drill_setup → told ≡ no_files → left ≡ Some (script_of seed scans points) → kept home → IsNew drill_setup m s →
-    ((home : H) (files : Option Files) (bytes : List ℕ) (w : Option (List ℕ)) → HasServed o files bytes left w None (desk m (Some told) (kept home)) s 0 → IsKnown (last_progress o files bytes) → IsThrough o files bytes after w None (e home) t) →
+pub work_done : {H : Type 0} (o : Setup) (told : Files) (seed scans points : ℕ) (left after : Option (List ℕ)) (m : Map) (k : H → Shelf) (e : H → Desk) (home : H) (s t : Session) →
+    o ≡ drill_setup → told ≡ no_files → left ≡ Some (script_of seed scans points) → IsFirst (Some told) (k home) → IsNew drill_setup m s →
+    ((home : H) (files : Option Files) (bytes : List ℕ) (w : Option (List ℕ)) → HasServed o files bytes left w None (desk m (k home)) s 0 → IsKnown (last_progress o files bytes) → IsThrough o files bytes after w None (e home) t) →
     HasDrilled seed scans points (e home).map t
-work_done o told seed scans points left after m kept e home s t is none reads at new does =
+work_done o told seed scans points left after m k e home s t is none reads at new does =
     through_drilled o told seed scans points after (e home) t is none
-    (does home (Some told) (script_of seed scans points) None (begun o told (script_of seed scans points) left m (kept home) s is reads at new) (known o told (script_of seed scans points)))
+    (does home (Some told) (script_of seed scans points) None (begun o told (script_of seed scans points) left m (k home) s is reads at new) (known o told (script_of seed scans points)))
 
 -- the session stops only where memory runs out
-pub only_memory : {H : Type 0} (r : Result (Unit {0}) Stop) (o : Setup) (told : Files) (seed scans points : ℕ) (left after : Option (List ℕ)) (m : Map) (kept : H → Type 0) (e : H → Desk) (home : H) (s : Session) →
-    o ≡ drill_setup → left ≡ Some (script_of seed scans points) → kept home → IsNew drill_setup m s → seed < 2 ^ 64 → scans ≤ 1000 → points ≤ 100000 →
-    IfErr r (λ stop. (home : H) (files : Option Files) (bytes : List ℕ) (w : Option (List ℕ)) → HasServed o files bytes left w None (desk m (Some told) (kept home)) s 0 → IsKnown (last_progress o files bytes) →
+pub only_memory : {H : Type 0} (r : Result (Unit {0}) Stop) (o : Setup) (told : Files) (seed scans points : ℕ) (left after : Option (List ℕ)) (m : Map) (k : H → Shelf) (e : H → Desk) (home : H) (s : Session) →
+    o ≡ drill_setup → left ≡ Some (script_of seed scans points) → IsFirst (Some told) (k home) → IsNew drill_setup m s → seed < 2 ^ 64 → scans ≤ 1000 → points ≤ 100000 →
+    IfErr r (λ stop. (home : H) (files : Option Files) (bytes : List ℕ) (w : Option (List ℕ)) → HasServed o files bytes left w None (desk m (k home)) s 0 → IsKnown (last_progress o files bytes) →
     HasEndedAs o files bytes after w None (e home) (status_of stop)) →
     (IsErrOf r ReadFault → ⊥) → (IsErrOf r WriteFault → ⊥) → (IsErrOf r StoreFault → ⊥) → IfErr r (λ stop. stop ≡ Memory)
-only_memory (Ok done) o told seed scans points left after m kept e home s is reads at new a b c stops unread unwritten unstored = tt
-only_memory (Err TooLong) o told seed scans points left after m kept e home s is reads at new a b c stops unread unwritten unstored =
+only_memory (Ok done) o told seed scans points left after m k e home s is reads at new a b c stops unread unwritten unstored = tt
+only_memory (Err TooLong) o told seed scans points left after m k e home s is reads at new a b c stops unread unwritten unstored =
     let script = script_of seed scans points in
-    let ended = stops home (Some told) script None (begun o told script left m (kept home) s is reads at new) (known o told script) in
+    let ended = stops home (Some told) script None (begun o told script left m (k home) s is reads at new) (known o told script) in
     let most : o.max_bytes ≡ 2 ^ 40 = ap (λ (x : Setup). x.max_bytes) is in
     let few = script_fits seed scans points a b c in
     let long : o.max_bytes + 1 ≤ length script = ended.answer.1.within in
     absurd (omega (arith, most, few, long))
-only_memory (Err ReadFault) o told seed scans points left after m kept e home s is reads at new a b c stops unread unwritten unstored = absurd (unread refl)
-only_memory (Err WriteFault) o told seed scans points left after m kept e home s is reads at new a b c stops unread unwritten unstored = absurd (unwritten refl)
-only_memory (Err Memory) o told seed scans points left after m kept e home s is reads at new a b c stops unread unwritten unstored = refl
-only_memory (Err StoreFault) o told seed scans points left after m kept e home s is reads at new a b c stops unread unwritten unstored = absurd (unstored refl)
+only_memory (Err ReadFault) o told seed scans points left after m k e home s is reads at new a b c stops unread unwritten unstored = absurd (unread refl)
+only_memory (Err WriteFault) o told seed scans points left after m k e home s is reads at new a b c stops unread unwritten unstored = absurd (unwritten refl)
+only_memory (Err Memory) o told seed scans points left after m k e home s is reads at new a b c stops unread unwritten unstored = refl
+only_memory (Err StoreFault) o told seed scans points left after m k e home s is reads at new a b c stops unread unwritten unstored = absurd (unstored refl)
 
 -- the lines aren't empty
 summary_some : (scans : ℕ) (tally : Tally) (groups nodes bytes : ℕ) → 0 < length (summary scans tally groups nodes bytes)
@@ -115,7 +115,7 @@ text_ends (Ok done) whole false text v u status is written cut = record { writte
 text_ends (Err sink.Failed) whole refused text v u status is written cut = subst (IsCutOff v u) is cut
 text_ends (Err sink.Memory) whole refused text v u status is written cut = subst (IsCutOff v u) is cut
 
--- three lines, and one of one word behind them
+-- three lines, and one of one word after them
 pub lines_joined : (z a b c d e k l m n o : List ℕ) (p : List ℕ) → z ≡ [] → a ≡ z ++ k → b ≡ a ++ l → c ≡ b ++ m → d ≡ c ++ n ++ o → e ≡ d ++ p → e ≡ k ++ l ++ m ++ (n ++ o ++ p)
 lines_joined z a b c d e k l m n o p ez ea eb ec ed ee =
     rw (ee, ed, ec, eb, ea, ez) (ap (λ t. t ++ p) (append_assoc (k ++ l ++ m) n o) ∙ append_assoc (k ++ l ++ m) (n ++ o) p)

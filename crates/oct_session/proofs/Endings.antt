@@ -16,15 +16,18 @@ use Rattle.oct_session.specs.declared.options.Stop.TheVariants.{TooLong, ReadFau
 use Rattle.oct_session.specs.declared.service.TheConstants.{MOST_READ}
 use Rattle.oct_session.specs.declared.session.Session.{Session}
 use Rattle.oct_session.specs.Ending.{HasTaken, HasStopped, IsReadToEnd, MayEnd, IsWhole, IsBegun, replies_within, has_quit_within}
-use Rattle.oct_session.specs.Leaving.{StandsFor, Desk, desk, IsLikeAfter, IsKnown, IsHalted, HasHalted, Leaves}
+use Rattle.oct_session.specs.Counts.{IsAsked}
+use Rattle.oct_session.specs.Leaving.{StandsFor, Shelf, shelf, Desk, desk, HasAsked, IsLikeAfter, HasLeft, IsKnown, IsHalted, HasHalted, Leaves}
 use Rattle.oct_session.specs.History.{start_state}
-use Rattle.oct_session.specs.Session.{Progress, Answer, start, progress, lines_of, last_progress, session, finished, cut_short, closed, is_too_long, status_at_end, ReadsTold}
+use Rattle.oct_session.specs.Commands.{file_saved}
+use Rattle.oct_session.specs.Session.{Progress, Answer, start, next_command, after_line, progress, lines_of, last_progress, session, finished, cut_short, closed, is_too_long, status_at_end, ReadsTold}
 use Rattle.oct_session.specs.Setup.{Setup}
 use Rattle.oct_session.specs.Tally.{no_replies}
 use Rattle.oct_session.specs.Standing.{Takes, IsHaltedBehind, StopsAtEnd, HasReached, IsAt, HasServed, IsThrough, HasEndedAs, StopsIn}
 use Rattle.oct_session.specs.Stops.{status_of, IsHalt}
-use Rattle.oct_session.proofs.Progresses.{progress_grows, progress_behind_quit, no_quit_before, replied_first, known_before, known_bytes, unnamed_before, told_fold}
-use Rattle.oct_session.proofs.Halting.{halted_more, halted_begun, halted_kept, between_begun, closed_quit, closed_files, closed_unnamed, closed_grows, unclosed}
+use Rattle.oct_session.proofs.Progresses.{progress_grows, progress_behind_quit, no_quit_before, replied_first, known_before, known_bytes, asks_before, told_fold}
+use Rattle.oct_session.proofs.Effects.{asked_most}
+use Rattle.oct_session.proofs.Halting.{halted_more, halted_begun, halted_asked, between_begun, closed_quit, closed_files, closed_asks, closed_grows, unclosed}
 use Rattle.oct_session.proofs.Prefixes.{begun_more, begun_whole}
 
 -- the lines of a script that isn't too long
@@ -127,11 +130,10 @@ pub known_within : (o : Setup) (files : Option Files) (bytes front back : List �
 known_within o files bytes front back parts few known =
     let s = lines_within o bytes front back parts few in known_before o files (ended_lines front) s.0 (subst (λ x. IsKnown (progress o files x)) s.1 known)
 
--- and where no line of the whole session names a file, none of a front does
-unnamed_within : (o : Setup) (files : Option Files) (bytes front back : List ℕ) → bytes ≡ front ++ back → length front ≤ o.max_bytes → (last_progress o files bytes).names_file ≡ false →
-    (progress o files (ended_lines front)).names_file ≡ false
-unnamed_within o files bytes front back parts few none =
-    let s = lines_within o bytes front back parts few in unnamed_before o files (ended_lines front) s.0 (subst (λ x. (progress o files x).names_file ≡ false) s.1 none)
+-- and a front names no more files
+asks_within : (o : Setup) (files : Option Files) (bytes front back : List ℕ) → bytes ≡ front ++ back → length front ≤ o.max_bytes → (progress o files (ended_lines front)).asks ≤ (last_progress o files bytes).asks
+asks_within o files bytes front back parts few =
+    let s = lines_within o bytes front back parts few in subst (λ x. (progress o files (ended_lines front)).asks ≤ (progress o files x).asks) (sym s.1) (asks_before o files (ended_lines front) s.0)
 
 -- a session whose files are told, or that names none, is known
 pub known_told : (o : Setup) (files : Option Files) (bytes : List ℕ) → ReadsTold o files bytes → IsKnown (last_progress o files bytes)
@@ -145,12 +147,12 @@ halted_session o files bytes front back old new d status parts few halted =
     let s = lines_within o bytes front back parts few in inl (subst (λ x. IsHalted o files x old new d status) (sym s.1) (halted_more o files (ended_lines front) s.0 old new d status halted))
 
 halted_as : (o : Setup) (files : Option Files) (bytes : List ℕ) (left w u : Option (List ℕ)) (d : Desk) (stop : Stop) → IsHalt stop → HasHalted o files bytes w u d (status_of stop) →
-    IsBegun (session o files bytes).text w u → HasStopped o files bytes left w u → ((last_progress o files bytes).names_file ≡ false → d.kept) → HasEndedAs o files bytes left w u d (status_of stop)
-halted_as o files bytes left w u d WriteFault only halted begun input kept = record { answer = (begun, input); leaves = halted; kept = kept }
-halted_as o files bytes left w u d Memory only halted begun input kept = record { answer = (begun, input); leaves = halted; kept = kept }
-halted_as o files bytes left w u d StoreStop only halted begun input kept = record { answer = (begun, input); leaves = halted; kept = kept }
-halted_as o files bytes left w u d TooLong only halted begun input kept = absurd only
-halted_as o files bytes left w u d ReadFault only halted begun input kept = absurd only
+    IsBegun (session o files bytes).text w u → HasStopped o files bytes left w u → HasAsked d (last_progress o files bytes).asks → HasEndedAs o files bytes left w u d (status_of stop)
+halted_as o files bytes left w u d WriteFault only halted begun input asked = record { answer = (begun, input); leaves = halted; asked = asked }
+halted_as o files bytes left w u d Memory only halted begun input asked = record { answer = (begun, input); leaves = halted; asked = asked }
+halted_as o files bytes left w u d StoreStop only halted begun input asked = record { answer = (begun, input); leaves = halted; asked = asked }
+halted_as o files bytes left w u d TooLong only halted begun input asked = absurd only
+halted_as o files bytes left w u d ReadFault only halted begun input asked = absurd only
 
 -- what a session that was halted has written is a prefix of the whole answer
 halted_text : (o : Setup) (files : Option Files) (bytes : List ℕ) (w u : Option (List ℕ)) (d : Desk) (status : Status) → HasHalted o files bytes w u d status → IsBegun (session o files bytes).text w u
@@ -159,16 +161,16 @@ halted_text o files bytes w u d status (inr end) =
     subst (λ x. IsBegun x w u) (sym (ap (λ (a : Answer). a.text) (session_whole o files bytes end.0)))
     (between_begun (last_progress o files bytes) (closed (last_progress o files bytes)) w u end.1.cut)
 
--- the store is as it was at first where no line names a file
-halted_keeps : (o : Setup) (files : Option Files) (bytes : List ℕ) (w u : Option (List ℕ)) (d : Desk) (status : Status) → HasHalted o files bytes w u d status → (last_progress o files bytes).names_file ≡ false → d.kept
-halted_keeps o files bytes w u d status (inl halted) none = halted_kept o files (lines_of o bytes) w u d status halted none
-halted_keeps o files bytes w u d status (inr end) none = end.1.kept (closed_unnamed (last_progress o files bytes) ∙ none)
+-- the store was asked once at most for each line that names a file
+halted_asks : (o : Setup) (files : Option Files) (bytes : List ℕ) (w u : Option (List ℕ)) (d : Desk) (status : Status) → HasHalted o files bytes w u d status → HasAsked d (last_progress o files bytes).asks
+halted_asks o files bytes w u d status (inl halted) = halted_asked o files (lines_of o bytes) w u d status halted
+halted_asks o files bytes w u d status (inr end) = subst (HasAsked d) (closed_asks (last_progress o files bytes)) end.1.asked
 
 -- how a session ends that was halted by its sink or its store, or because memory ran out
 halted_ends : (o : Setup) (files : Option Files) (bytes : List ℕ) (left w u : Option (List ℕ)) (d : Desk) (stop : Stop) → IsHalt stop → HasHalted o files bytes w u d (status_of stop) →
     HasStopped o files bytes left w u → HasEndedAs o files bytes left w u d (status_of stop)
 halted_ends o files bytes left w u d stop only halted input =
-    halted_as o files bytes left w u d stop only halted (halted_text o files bytes w u d (status_of stop) halted) input (halted_keeps o files bytes w u d (status_of stop) halted)
+    halted_as o files bytes left w u d stop only halted (halted_text o files bytes w u d (status_of stop) halted) input (halted_asks o files bytes w u d (status_of stop) halted)
 
 -- map and session as they begin
 pub record IsNew (o : Setup) (m : Map) (s : Session) : Type 0 where
@@ -185,15 +187,23 @@ pub begins : {o : Setup} {m : Map} {s : Session} → StandsFor m (start_state o)
 begins stands line counted block refused running tally =
     record { stands = stands; line = line; counted = counted; block = block; refused = refused; running = running; tally = tally }
 
+-- a store of these files, of which nothing was asked yet
+pub record IsFirst (files : Option Files) (k : Shelf) : Type 0 where
+  pub told : k.files ≡ files
+  pub asked : IsAsked k.same k.first_calls k.calls 0
+
+pub first : {F : Type 0} (files : F → Option Files) (calls : F → ℕ) (home : F) → IsFirst (files home) (shelf files calls home home)
+first files calls home = record { told = refl; asked = record { unasked = λ none. refl; few = omega arith } }
+
 -- before the first read
-pub serving_start : (o : Setup) (files : Option Files) (bytes : List ℕ) (w : Option (List ℕ)) (m : Map) (kept : Type 0) (s : Session) → kept → IsNew o m s → HasServed o files bytes (Some bytes) w w (desk m files kept) s 0
-serving_start o files bytes w m kept s is new = record {
+pub serving_start : (o : Setup) (files : Option Files) (bytes : List ℕ) (w : Option (List ℕ)) (m : Map) (k : Shelf) (s : Session) → IsFirst files k → IsNew o m s → HasServed o files bytes (Some bytes) w w (desk m k) s 0
+serving_start o files bytes w m k s first new = record {
   input = record { within = omega arith; rest = refl };
   at = record {
     reached = λ known. record {
       between = record {
-        like = record { stands = new.stands; told = refl };
-        kept = λ none. is;
+        like = record { stands = new.stands; told = first.told };
+        asked = first.asked;
         step = record { counted = new.counted; block = new.block; refused = new.refused; has_quit = new.running; tally = new.tally };
       };
       written = appended_nil w;
@@ -260,7 +270,7 @@ ends_read_fault o files bytes left after w v d s taken same few running at known
         },
       );
       leaves = record { taken = taken; input = input; like = reached.between.like };
-      kept = λ none. reached.between.kept (unnamed_within o files bytes (take taken bytes) (drop taken bytes) parts size none);
+      asked = asked_most d _ _ (asks_within o files bytes (take taken bytes) (drop taken bytes) parts size) reached.between.asked;
     }
 
 -- a script within a read: what was taken before, what of the piece may be taken, and what is after it
@@ -353,7 +363,7 @@ stops_long o files bytes buffer piece left after w u d t taken n room read more 
         subst (λ x. HasTaken x bytes after) all k,
       );
       leaves = reached.between.like;
-      kept = reached.between.kept;
+      asked = reached.between.asked;
     }
 
 -- a stop within what a read gave
@@ -418,11 +428,11 @@ ends_last o files bytes left w v u d e s taken stop few none only halts at known
 
 ended_as : (o : Setup) (files : Option Files) (bytes : List ℕ) (left w v : Option (List ℕ)) (d : Desk) (refused : Bool) (status : Status) → status ≡ status_at_end refused →
     (session o files bytes).status ≡ status_at_end refused → v ≡ appended w (session o files bytes).text → IsReadToEnd o files bytes left → IsLikeAfter o (last_progress o files bytes) d →
-    ((last_progress o files bytes).names_file ≡ false → d.kept) → HasEndedAs o files bytes left w v d status
-ended_as o files bytes left w v d true status is same written end like kept =
-    subst (HasEndedAs o files bytes left w v d) (sym is) (record { answer = (record { written = written; same_status = same }, end); leaves = like; kept = kept })
-ended_as o files bytes left w v d false status is same written end like kept =
-    subst (HasEndedAs o files bytes left w v d) (sym is) (record { answer = (record { written = written; same_status = same }, end); leaves = like; kept = kept })
+    HasAsked d (last_progress o files bytes).asks → HasEndedAs o files bytes left w v d status
+ended_as o files bytes left w v d true status is same written end like asked =
+    subst (HasEndedAs o files bytes left w v d) (sym is) (record { answer = (record { written = written; same_status = same }, end); leaves = like; asked = asked })
+ended_as o files bytes left w v d false status is same written end like asked =
+    subst (HasEndedAs o files bytes left w v d) (sym is) (record { answer = (record { written = written; same_status = same }, end); leaves = like; asked = asked })
 
 -- the whole script was answered
 ends_through : (o : Setup) (files : Option Files) (bytes : List ℕ) (left w v : Option (List ℕ)) (d : Desk) (s : Session) (status : Status) → status ≡ status_at_end s.refused →
@@ -430,7 +440,7 @@ ends_through : (o : Setup) (files : Option Files) (bytes : List ℕ) (left w v :
 ends_through o files bytes left w v d s status is through =
     ended_as o files bytes left w v d s.refused status is (ap (λ (a : Answer). a.status) through.whole ∙ ap status_at_end (sym through.reached.between.step.refused))
     (through.reached.written ∙ ap (λ (a : Answer). appended w a.text) (sym through.whole)) through.end
-    (unclosed o d (last_progress o files bytes) through.reached.between.like) (λ none. through.reached.between.kept (closed_unnamed (last_progress o files bytes) ∙ none))
+    (unclosed o d (last_progress o files bytes) through.reached.between.like) (subst (HasAsked d) (closed_asks (last_progress o files bytes)) through.reached.between.asked)
 
 -- how a call ends that was made with a desk at some home
 abbrev Ends : {H : Type 0} → Setup → Option (List ℕ) → Option (List ℕ) → Option (List ℕ) → Option (List ℕ) → (H → Desk) → (H → Desk) → Session → ℕ → Status → Type 0
@@ -503,18 +513,18 @@ abbrev EndsOver : Setup → Option Files → Option (List ℕ) → Option (List 
 EndsOver o files left after v u d status = IfSome left (λ bytes. IsKnown (last_progress o files bytes) → HasEndedAs o files bytes after v u d status)
 
 -- a session that has read its script
-pub serve_read : {H : Type 0} (o : Setup) (files : Option Files) (left after v u : Option (List ℕ)) (m : Map) (kept : H → Type 0) (e : H → Desk) (home : H) (s t : Session) (status : Status) → kept home → IsNew o m s → status ≡ status_at_end t.refused →
-    Finishes o left after v u (λ home. desk m files (kept home)) e s t 0 → EndsOver o files left after v u (e home) status
-serve_read o files None after v u m kept e home s t status is new same reads = tt
-serve_read o files (Some bytes) after v u m kept e home s t status is new same reads = λ known.
-    ends_through o files bytes after v u (e home) t status same (reads home files bytes v (serving_start o files bytes v m (kept home) s is new) known)
+pub serve_read : {H : Type 0} (o : Setup) (files : Option Files) (left after v u : Option (List ℕ)) (m : Map) (k : H → Shelf) (e : H → Desk) (home : H) (s t : Session) (status : Status) → IsFirst files (k home) → IsNew o m s → status ≡ status_at_end t.refused →
+    Finishes o left after v u (λ home. desk m (k home)) e s t 0 → EndsOver o files left after v u (e home) status
+serve_read o files None after v u m k e home s t status is new same reads = tt
+serve_read o files (Some bytes) after v u m k e home s t status is new same reads = λ known.
+    ends_through o files bytes after v u (e home) t status same (reads home files bytes v (serving_start o files bytes v m (k home) s is new) known)
 
 -- a session that has stopped
-pub serve_stop : {H : Type 0} (o : Setup) (files : Option Files) (left after v u : Option (List ℕ)) (m : Map) (kept : H → Type 0) (e : H → Desk) (home : H) (s : Session) (stop : Stop) (status : Status) → kept home → IsNew o m s → status ≡ status_of stop →
-    Ends o left after v u (λ home. desk m files (kept home)) e s 0 (status_of stop) → EndsOver o files left after v u (e home) status
-serve_stop o files None after v u m kept e home s stop status is new same stops = tt
-serve_stop o files (Some bytes) after v u m kept e home s stop status is new same stops = λ known.
-    subst (λ x. HasEndedAs o files bytes after v u (e home) x) (sym same) (stops home files bytes v (serving_start o files bytes v m (kept home) s is new) known)
+pub serve_stop : {H : Type 0} (o : Setup) (files : Option Files) (left after v u : Option (List ℕ)) (m : Map) (k : H → Shelf) (e : H → Desk) (home : H) (s : Session) (stop : Stop) (status : Status) → IsFirst files (k home) → IsNew o m s → status ≡ status_of stop →
+    Ends o left after v u (λ home. desk m (k home)) e s 0 (status_of stop) → EndsOver o files left after v u (e home) status
+serve_stop o files None after v u m k e home s stop status is new same stops = tt
+serve_stop o files (Some bytes) after v u m k e home s stop status is new same stops = λ known.
+    subst (λ x. HasEndedAs o files bytes after v u (e home) x) (sym same) (stops home files bytes v (serving_start o files bytes v m (k home) s is new) known)
 
 -- what was written, and what is left of the input
 pub told_answer : (o : Setup) (files : Option Files) (left after v u : Option (List ℕ)) (d : Desk) (status : Status) → EndsOver o files left after v u d status →
@@ -528,11 +538,11 @@ pub told_desk : (o : Setup) (files : Option Files) (left after v u : Option (Lis
 told_desk o files None after v u d status ended = tt
 told_desk o files (Some bytes) after v u d status ended = λ told. (ended (known_told o files bytes told)).leaves
 
--- where no line names a file, the store is as it was
-pub told_kept : (o : Setup) (files : Option Files) (left after v u : Option (List ℕ)) (d : Desk) (status : Status) → EndsOver o files left after v u d status →
-    IfSome left (λ bytes. (last_progress o files bytes).names_file ≡ false → d.kept)
-told_kept o files None after v u d status ended = tt
-told_kept o files (Some bytes) after v u d status ended = λ none. (ended (inr none)).kept none
+-- the store was asked once at most for each line that names a file
+pub told_asked : (o : Setup) (files : Option Files) (left after v u : Option (List ℕ)) (d : Desk) (status : Status) → EndsOver o files left after v u d status →
+    IfSome left (λ bytes. ReadsTold o files bytes → HasAsked d (last_progress o files bytes).asks)
+told_asked o files None after v u d status ended = tt
+told_asked o files (Some bytes) after v u d status ended = λ told. (ended (known_told o files bytes told)).asked
 
 -- the files of the answer are those after the last line
 session_files : (o : Setup) (files : Option Files) (bytes : List ℕ) → (session o files bytes).files ≡ (last_progress o files bytes).files
@@ -541,12 +551,20 @@ session_files o files bytes = elim (cases_lt o.max_bytes (length bytes)) [
   | inr few ↦ ap (λ (a : Answer). a.files) (session_short o files bytes few) ∙ closed_files (last_progress o files bytes)
 ]
 
-files_whole : (o : Setup) (files : Option Files) (bytes : List ℕ) (left old new : Option (List ℕ)) (d : Desk) (s : Status) → Leaves o files bytes left old new d s → IsWhole s → d.files ≡ (session o files bytes).files
+-- with other statuses no session is halted
+never_halted : (o : Setup) (files : Option Files) (bytes : List ℕ) (old new : Option (List ℕ)) (d : Desk) (s : Status) → ((saved : Option (List ℕ)) (p q : Progress) (told : List ℕ) → HasLeft o saved p q told d s → ⊥) →
+    HasHalted o files bytes old new d s → ⊥
+never_halted o files bytes old new d s never (inl halted) =
+    let p : Progress = progress o files halted.before in never (file_saved (next_command p halted.line)) p (after_line o p halted.line) halted.at.cut.told halted.at.has_left
+never_halted o files bytes old new d s never (inr end) =
+    let p : Progress = progress o files (lines_of o bytes) in never None p (closed p) end.1.cut.told end.1.has_left
+
+files_whole : (o : Setup) (files : Option Files) (bytes : List ℕ) (left old new : Option (List ℕ)) (d : Desk) (s : Status) → Leaves o files bytes left old new d s → IsWhole s → d.store.files ≡ (session o files bytes).files
 files_whole o files bytes left old new d status.Done leaves whole = leaves.told ∙ sym (session_files o files bytes)
 files_whole o files bytes left old new d status.Refused leaves whole = leaves.told ∙ sym (session_files o files bytes)
 files_whole o files bytes left old new d status.TooLong leaves whole = leaves.told ∙ sym (session_files o files bytes)
-files_whole o files bytes left old new d status.Usage leaves whole = absurd leaves
-files_whole o files bytes left old new d status.BadFile leaves whole = absurd leaves
+files_whole o files bytes left old new d status.Usage leaves whole = absurd (never_halted o files bytes old new d status.Usage (λ saved p q told no. no) leaves)
+files_whole o files bytes left old new d status.BadFile leaves whole = absurd (never_halted o files bytes old new d status.BadFile (λ saved p q told no. no) leaves)
 files_whole o files bytes left old new d status.ReadFault leaves whole = absurd whole
 files_whole o files bytes left old new d status.WriteFault leaves whole = absurd whole
 files_whole o files bytes left old new d status.Memory leaves whole = absurd whole
@@ -554,6 +572,6 @@ files_whole o files bytes left old new d status.StoreFault leaves whole = absurd
 
 -- the files are those of the answer
 pub told_files : (o : Setup) (files : Option Files) (left after v u : Option (List ℕ)) (d : Desk) (status : Status) → EndsOver o files left after v u d status →
-    IfSome left (λ bytes. ReadsTold o files bytes → IsWhole status → d.files ≡ (session o files bytes).files)
+    IfSome left (λ bytes. ReadsTold o files bytes → IsWhole status → d.store.files ≡ (session o files bytes).files)
 told_files o files None after v u d status ended = tt
 told_files o files (Some bytes) after v u d status ended = λ told whole. files_whole o files bytes after v u d status (ended (known_told o files bytes told)).leaves whole

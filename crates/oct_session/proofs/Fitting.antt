@@ -96,7 +96,7 @@ clear_fits s =
 likely_fits : (s : State) → Fits s → Fits (after s Likened)
 likely_fits s fits = let grows = groups_after_all s.base.odds (Some event.Likely) s.values in omega (arith, grows, fits)
 
--- room for so many groups more, or a refusal
+-- room for this many groups more, or a refusal
 room_cases : (most : ℕ) (values : Values) (need : ℕ) → ((room_answer most values need ≡ Ok tt) × (group_count values + need ≤ most)) ⊎ (room_answer most values need ≡ Err (fault.Full (group_count values) need))
 room_cases most values need = elim (cases_lt most (group_count values + need)) [
   | inl over ↦ (let test : is_full most values need ≡ true = lt-ltb most (group_count values + need) over in inr (rw test refl))

@@ -15,21 +15,20 @@ use Rattle.oct_script.specs.Replies.{text_of, is_refusal}
 use Rattle.oct_script.proofs.Cuts.{ended_lines-append}
 use Rattle.oct_session.specs.declared.options.Status.{Status}
 use Rattle.oct_session.specs.declared.options.Stop.{Stop}
-use Rattle.oct_session.specs.declared.options.Stop.TheVariants as stop_as
 use Rattle.oct_session.specs.declared.session.Session.{Session}
-use Rattle.oct_session.specs.Commands.{file_named}
+use Rattle.oct_session.specs.Commands.{file_saved}
 use Rattle.oct_session.specs.Ending.{IsBegun, replies_within, HasReplied}
-use Rattle.oct_session.specs.Leaving.{Desk, IsLikeAfter, HasLeft, IsKnown, IsCutBetween, IsHaltedBetween, IsHaltedBy, IsHalted}
+use Rattle.oct_session.specs.Leaving.{Desk, HasAsked, IsLikeAfter, HasLeft, IsKnown, IsCutBetween, IsHaltedBetween, IsHaltedBy, IsHalted}
 use Rattle.oct_session.specs.Session.{Progress, effect_of, next_command, after_line, progress, ended, closed}
 use Rattle.oct_session.specs.ScanBlock.{end_reply}
 use Rattle.oct_session.specs.Setup.{Setup}
 use Rattle.oct_session.specs.Tally.{counted as count_reply}
 use Rattle.oct_session.specs.Standing.{IsHeard, StandsBeside, HasStoppedAt, IsInStep, IsBetween, HasReached}
-use Rattle.oct_session.specs.Stops.{stop_of_sink, stop_of_store, status_of, IsSinkStop}
-use Rattle.oct_session.proofs.Effects.{files_stay}
+use Rattle.oct_session.specs.Stops.{stop_of_sink, stop_of_store, status_of}
+use Rattle.oct_session.proofs.Effects.{asked_most}
 use Rattle.oct_session.proofs.Prefixes.{begun_more}
 use Rattle.oct_session.proofs.NonemptyReplies.{text_some}
-use Rattle.oct_session.proofs.Progresses.{progress_push, progress_grows, after_answered, unnamed_before}
+use Rattle.oct_session.proofs.Progresses.{progress_push, progress_grows, after_answered, asks_before}
 
 -- what was to be written on the way was written in part
 cut_part : (w v u : Option (List ℕ)) (s : Session) (p q : Progress) (text : List ℕ) (k : ℕ) → s.has_quit ≡ false → IsInStep s p → v ≡ appended w p.text →
@@ -56,14 +55,14 @@ cut_untold w v s p q text running at before is heard = record {
 }
 
 -- what is left where all was done
-left_all : (o : Setup) (named : Option (List ℕ)) (d : Desk) (p q : Progress) (told : List ℕ) (fault : SinkFault) → IsLikeAfter o q d → HasLeft o named p q told d (status_of (stop_of_sink fault))
-left_all o named d p q told sink_fault.Failed all = all
-left_all o named d p q told sink_fault.Memory all = inl all
+left_all : (o : Setup) (saved : Option (List ℕ)) (d : Desk) (p q : Progress) (told : List ℕ) (fault : SinkFault) → IsLikeAfter o q d → HasLeft o saved p q told d (status_of (stop_of_sink fault))
+left_all o saved d p q told sink_fault.Failed all = all
+left_all o saved d p q told sink_fault.Memory all = inl all
 
 -- what a line leaves of which nothing was told
 left_beside : (o : Setup) (d : Desk) (p : Progress) (line : Line) (fault : StoreFault) → StandsBeside o d p line fault →
-    HasLeft o (file_named (next_command p line)) p (after_line o p line) [] d (status_of (stop_of_store fault))
-left_beside o d p line store_fault.Failed torn = (refl, torn)
+    HasLeft o (file_saved (next_command p line)) p (after_line o p line) [] d (status_of (stop_of_store fault))
+left_beside o d p line store_fault.Failed torn = (refl, torn.0, torn.1)
 left_beside o d p line store_fault.Memory (inl all) = inl all
 left_beside o d p line store_fault.Memory (inr less) = inr (refl, less)
 
@@ -88,8 +87,7 @@ untold_err (Err x) fault o v d e s is running beside = λ home w p known at.
       cut = cut_untold w v s p (after_line o p s.line.line) (text_of (effect_of o p s.line.line).reply) running at.between.step at.written (text_line o s p running at.between.step)
           (heard_line o p s.line.line (sym at.between.step.has_quit ∙ running) b.heard);
       has_left = left_beside o (e home) p s.line.line fault b.beside;
-      unsaved = b.unsaved;
-      kept = b.kept;
+      asked = b.asked;
     })
 
 -- a call that gives up when a part of the reply is written
@@ -104,9 +102,8 @@ part_err (Err x) fault o v u d e s t text k is running between same less written
     subst (λ y. IsHaltedBy o p s.line.line w u (e home) (status_of y)) (sym is) (record {
       cut = cut_part w v u s p (after_line o p s.line.line) text k running at.between.step at.written
           (text_line o s p running at.between.step ∙ ap (λ x. p.text ++ x) (sym (same home p known at.between))) less written;
-      has_left = left_all o (file_named (next_command p s.line.line)) (e home) p (after_line o p s.line.line) (take k text) fault b.like;
-      unsaved = λ none. b.like.told ∙ files_stay o p s.line.line (sym at.between.step.has_quit ∙ running) none;
-      kept = b.kept;
+      has_left = left_all o (file_saved (next_command p s.line.line)) (e home) p (after_line o p s.line.line) (take k text) fault b.like;
+      asked = b.asked;
     })
 
 -- the end of a script whose session goes on
@@ -124,8 +121,8 @@ unclosed o d p = elim p.has_quit as (λ v. IsLikeAfter o (cond v p (ended p)) d 
 pub closed_files : (p : Progress) → (closed p).files ≡ p.files
 closed_files p = elim p.has_quit as (λ v. (cond v p (ended p)).files ≡ p.files) [ true ↦ refl | false ↦ refl ]
 
-pub closed_unnamed : (p : Progress) → (closed p).names_file ≡ p.names_file
-closed_unnamed p = elim p.has_quit as (λ v. (cond v p (ended p)).names_file ≡ p.names_file) [ true ↦ refl | false ↦ refl ]
+pub closed_asks : (p : Progress) → (closed p).asks ≡ p.asks
+closed_asks p = elim p.has_quit as (λ v. (cond v p (ended p)).asks ≡ p.asks) [ true ↦ refl | false ↦ refl ]
 
 -- it may write more after the replies
 pub closed_grows : (p : Progress) → (more : List ℕ) × ((closed p).text ≡ p.text ++ more)
@@ -158,7 +155,7 @@ told_end w v u s t p r text running at before is told written answered block ref
 -- a session that has closed its script, with the desk that stands by
 pub reached_closed : (o : Setup) (w v u : Option (List ℕ)) (d : Desk) (s t : Session) (p : Progress) → HasReached o w v d s p → IsInStep t (closed p) × (u ≡ appended w (closed p).text) → HasReached o w u d t (closed p)
 reached_closed o w v u d s t p at told = record {
-  between = record { like = like_closed o d p at.between.like; kept = λ none. at.between.kept (sym (closed_unnamed p) ∙ none); step = told.0 };
+  between = record { like = like_closed o d p at.between.like; asked = subst (HasAsked d) (sym (closed_asks p)) at.between.asked; step = told.0 };
   written = told.1;
 }
 
@@ -187,21 +184,13 @@ pub end_part : (v u : Option (List ℕ)) (s : Session) (r : Option Reply) (text 
 end_part v u s r text k running is told less written w p at before =
     cut_part w v u s p (closed p) text k running at before (text_end s p r running at is ∙ ap (λ y. p.text ++ y) (sym told)) less written
 
-left_closed : (o : Setup) (d : Desk) (p : Progress) (told : List ℕ) (stop : Stop) → IsSinkStop stop → IsLikeAfter o (closed p) d → HasLeft o None p (closed p) told d (status_of stop)
-left_closed o d p told stop_as.WriteFault sink like = like
-left_closed o d p told stop_as.Memory sink like = inl like
-left_closed o d p told stop_as.TooLong sink like = absurd sink
-left_closed o d p told stop_as.ReadFault sink like = absurd sink
-left_closed o d p told stop_as.StoreFault sink like = absurd sink
-
 -- a halt at the end of the script, with the desk that stands by
-pub halted_closed : (o : Setup) (w v u : Option (List ℕ)) (d : Desk) (s : Session) (p : Progress) (stop : Stop) → IsSinkStop stop → HasReached o w v d s p → IsCutBetween p (closed p) w u →
-    IsHaltedBetween o None None p (closed p) w u d (status_of stop)
-halted_closed o w v u d s p stop sink at cut = record {
+pub halted_closed : (o : Setup) (w v u : Option (List ℕ)) (d : Desk) (s : Session) (p : Progress) (fault : SinkFault) → HasReached o w v d s p → IsCutBetween p (closed p) w u →
+    IsHaltedBetween o None p (closed p) w u d (status_of (stop_of_sink fault))
+halted_closed o w v u d s p fault at cut = record {
   cut = cut;
-  has_left = left_closed o d p cut.told stop sink (like_closed o d p at.between.like);
-  unsaved = λ none. at.between.like.told;
-  kept = λ none. at.between.kept (sym (closed_unnamed p) ∙ none);
+  has_left = left_all o None d p (closed p) cut.told fault (like_closed o d p at.between.like);
+  asked = subst (HasAsked d) (sym (closed_asks p)) at.between.asked;
 }
 
 -- the last of some lines
@@ -229,7 +218,7 @@ halted_bytes o files bytes more w v d status h =
 pub between_begun : (p q : Progress) (w v : Option (List ℕ)) → IsCutBetween p q w v → IsBegun q.text w v
 between_begun p q w v h = record { done = p.text ++ h.told; rest = h.untold; written = h.written; split = h.reply ∙ sym (append_assoc p.text h.told h.untold) }
 
--- the lines up to the one at which a session was halted, and those behind it
+-- the lines up to the one at which a session was halted, and those after it
 split_at : (o : Setup) (files : Option Files) (lines before behind : List Line) (line : Line) → lines ≡ before ++ line ∷ behind → lines ≡ (before ++ line ∷ []) ++ behind
 split_at o files lines before behind line split = split ∙ sym (append_assoc before (line ∷ []) behind)
 
@@ -242,11 +231,12 @@ halted_begun o files lines w v d status h =
     subst (λ (x : Progress). IsBegun x.text w v) (sym (progress_push o files h.before h.line)) (between_begun p (after_line o p h.line) w v h.at.cut) in
     begun_more _ _ s.0 w v (ap (λ x. (progress o files x).text) (split_at o files lines h.before h.behind h.line h.split) ∙ s.1) begun
 
--- and the store is as it was at first where none of them names a file
-pub halted_kept : (o : Setup) (files : Option Files) (lines : List Line) (w v : Option (List ℕ)) (d : Desk) (status : Status) → IsHalted o files lines w v d status → (progress o files lines).names_file ≡ false → d.kept
-halted_kept o files lines w v d status h none =
-    h.at.kept (ap (λ (x : Progress). x.names_file) (sym (progress_push o files h.before h.line))
-    ∙ unnamed_before o files (h.before ++ h.line ∷ []) h.behind (subst (λ x. (progress o files x).names_file ≡ false) (split_at o files lines h.before h.behind h.line h.split) none))
+-- and the store was asked once at most for each of them that names a file
+pub halted_asked : (o : Setup) (files : Option Files) (lines : List Line) (w v : Option (List ℕ)) (d : Desk) (status : Status) → IsHalted o files lines w v d status → HasAsked d (progress o files lines).asks
+halted_asked o files lines w v d status h =
+    subst (λ x. HasAsked d (progress o files x).asks) (sym (split_at o files lines h.before h.behind h.line h.split))
+    (asked_most d _ _ (asks_before o files (h.before ++ h.line ∷ []) h.behind)
+    (subst (λ (x : Progress). HasAsked d x.asks) (sym (progress_push o files h.before h.line)) h.at.asked))
 
 -- a halt between two states leaves the replies up to the first of them
 pub replied_between : (o : Setup) (files : Option Files) (bytes : List ℕ) (p q : Progress) (w u : Option (List ℕ)) → (text : List ℕ) × (p.text ≡ replies_within o files bytes ++ text) →

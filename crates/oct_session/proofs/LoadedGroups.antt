@@ -23,7 +23,7 @@ use Rattle.oct_values.proofs.Eights.{none_of_eight}
 use Rattle.oct_values.proofs.Listed.{sum_of_blocks, sum_of_no_blocks}
 use Rattle.oct_values.proofs.Uniform.{uniform_of}
 
--- how many blocks aren't uniform among a block and those in it, of so many depths from its own on
+-- how many blocks aren't uniform among a block and those in it, of this many depths from its own on
 abbrev pub varied : Values → ℕ → Cube → ℕ
 varied values h b = count_by (λ c. not (is_uniform values c)) (blocks_below h b)
 

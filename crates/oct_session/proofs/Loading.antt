@@ -22,13 +22,14 @@ use Rattle.oct_map.specs.Map.{Map, IsMap, ground_of, values_of}
 use Rattle.oct_map.specs.declared.fault.MapFault.{MapFault}
 use Rattle.oct_map.specs.declared.fault.MapFault.TheVariants as fault
 use Rattle.oct_odds.specs.Update.{class_of}
+use Rattle.oct_script.specs.declared.command.Command.{Command}
 use Rattle.oct_script.specs.declared.reply.Refusal.{Refusal}
 use Rattle.oct_script.specs.declared.reply.Reply.{Reply}
 use Rattle.oct_script.specs.declared.reply.Reply.TheVariants as reply_of
-use Rattle.oct_session.specs.Commands.{accepted, accepted_saving}
+use Rattle.oct_session.specs.Commands.{accepted, accepted_saving, file_named, file_saved}
 use Rattle.oct_session.specs.FileCommands.{found_in, nodes_reply, reading_reply, reading_action, load_reply, classes_file, save_reply}
 use Rattle.oct_session.specs.History.{History, State, after_all}
-use Rattle.oct_session.specs.Leaving.{StandsFor, IsTornAt}
+use Rattle.oct_session.specs.Leaving.{StandsFor, IsLike, KeepsUnsaved}
 use Rattle.oct_session.specs.Refusals.{file_refusal, fault_reply}
 use Rattle.oct_session.specs.Session.{Effect, replied}
 use Rattle.oct_session.specs.Standing.{HasAnswered, HasDone, HasEffect, HasFailed, FindsTold, TakesEffect}
@@ -111,14 +112,27 @@ bytes_unread (Err x) m bytes err = λ s at. (reading_some s.base bytes, at)
 
 -- ---- map and store
 
--- a store that failed leaves all files but one
-torn_failed : (named : Option (List ℕ)) (files : Option Files) (s : State) (m : Map) (held : Option Files) (x : StoreFault) → IsTornAt named files s m held → HasFailed named files s m held x
-torn_failed named files s m held store_fault.Failed torn = torn
-torn_failed named files s m held store_fault.Memory torn = inr torn
+-- a command that names this file
+abbrev pub Names : Result Command Refusal → List ℕ → Type 0
+Names c name = file_named c ≡ Some name
 
-keeps_same : (files : Option Files) (name : List ℕ) → KeepsOthers files files name
-keeps_same None name = tt
-keeps_same (Some files) name = λ other differs. refl
+-- the file that it names is told
+finds_named : (c : Result Command Refusal) (name : List ℕ) (files : Option Files) → Names c name → FindsTold (file_named c) files → FindsTold (Some name) files
+finds_named c name files named finds = subst (λ x. FindsTold x files) named finds
+
+names_some : (c : Result Command Refusal) (name : List ℕ) → Names c name → IsSome (file_named c)
+names_some c name named = subst (λ x. IsSome x) (sym named) refl
+
+-- a store that failed at a load leaves all files as they were
+same_failed : (c : Result Command Refusal) (name : List ℕ) (files : Option Files) (s : State) (m : Map) (held : Option Files) (x : StoreFault) → Names c name → file_saved c ≡ None → IsLike files s m held → HasFailed c files s m held x
+same_failed c name files s m held store_fault.Failed named none at = (names_some c name named, record { stands = at.stands; others = subst (λ saved. KeepsUnsaved saved files held) (sym none) at.told })
+same_failed c name files s m held store_fault.Memory named none at = at
+
+-- a store that failed at a save leaves all files but one, and all where memory ran out
+torn_failed : (c : Result Command Refusal) (name : List ℕ) (files : Option Files) (s : State) (m : Map) (held : Option Files) (x : StoreFault) → Names c name → file_saved c ≡ Some name → StandsFor m s → KeepsOthers files held name →
+    (x ≡ store_fault.Memory → held ≡ files) → HasFailed c files s m held x
+torn_failed c name files s m held store_fault.Failed named saves at others same = (names_some c name named, record { stands = at; others = subst (λ saved. KeepsUnsaved saved files held) (sym saves) others })
+torn_failed c name files s m held store_fault.Memory named saves at others same = record { stands = at; told = same refl }
 
 -- the file is told
 found_is : (f files : Option Files) (name : List ℕ) (found : Loaded) → f ≡ files → IfSome f (λ files. found ≡ loaded_of (files name)) → FindsTold (Some name) files → Some found ≡ found_in files name
@@ -140,11 +154,11 @@ finds_some reply some g None name (inr told) = cc
 finds_some reply some g (Some files) name finds = some g (loaded_of (files name))
 
 -- a file that was taken in, or refused
-pub load_done : (reply : Ground → Option Loaded → Option Reply) (actions : Ground → Option Loaded → History) (m n : Map) (f g : Option Files) (key name : List ℕ) (found : Loaded) (a : Option Reply) → key ≡ name → g ≡ f →
+pub load_done : (c : Result Command Refusal) (reply : Ground → Option Loaded → Option Reply) (actions : Ground → Option Loaded → History) (m n : Map) (f g : Option Files) (key name : List ℕ) (found : Loaded) (a : Option Reply) → Names c name → key ≡ name → g ≡ f →
     IfSome f (λ files. found ≡ loaded_of (files key)) →
-    HasAnswered (λ s. reply s.base (Some found)) (λ s. actions s.base (Some found)) m n a → TakesEffect (λ files s. loading_effect reply actions name files s) (Some name) m f n g None a
-load_done reply actions m n f g key name found a spelt same has done = λ files s finds at.
-    let is = found_is f files name found at.told (subst (λ k. IfSome f (λ files. found ≡ loaded_of (files k))) spelt has) finds in
+    HasAnswered (λ s. reply s.base (Some found)) (λ s. actions s.base (Some found)) m n a → TakesEffect (λ files s. loading_effect reply actions name files s) c m f n g None a
+load_done c reply actions m n f g key name found a named spelt same has done = λ files s finds at.
+    let is = found_is f files name found at.told (subst (λ k. IfSome f (λ files. found ≡ loaded_of (files k))) spelt has) (finds_named c name files named finds) in
     let took = done s at.stands in (
       took.0 ∙ ap (reply s.base) is,
       refl,
@@ -155,22 +169,22 @@ load_done reply actions m n f g key name found a spelt same has done = λ files 
     )
 
 -- one that the store failed at
-pub load_failed : (reply : Ground → Option Loaded → Option Reply) (actions : Ground → Option Loaded → History) → AnswersAll reply → (r : Result (Option Reply) StoreFault) (m : Map) (f g : Option Files) (name : List ℕ) → IsErr r → g ≡ f →
-    HasEffect (λ files s. loading_effect reply actions name files s) (Some name) m f m g None r
-load_failed reply actions some (Ok x) m f g name err same = cc
-load_failed reply actions some (Err x) m f g name err same = λ files s finds at. (
-  inl (finds_some reply some s.base files name finds),
-  torn_failed (Some name) files s m g x (name, refl, record { stands = at.stands; others = subst (λ held. KeepsOthers files held name) (sym (same ∙ at.told)) (keeps_same files name) }),
+pub load_failed : (c : Result Command Refusal) (reply : Ground → Option Loaded → Option Reply) (actions : Ground → Option Loaded → History) → AnswersAll reply → (r : Result (Option Reply) StoreFault) (m : Map) (f g : Option Files) (name : List ℕ) → Names c name → file_saved c ≡ None → IsErr r → g ≡ f →
+    HasEffect (λ files s. loading_effect reply actions name files s) c m f m g None r
+load_failed c reply actions some (Ok x) m f g name named none err same = cc
+load_failed c reply actions some (Err x) m f g name named none err same = λ files s finds at. (
+  inl (finds_some reply some s.base files name (finds_named c name files named finds)),
+  same_failed c name files s m g x named none (record { stands = at.stands; told = same ∙ at.told }),
 )
 
 -- one that memory ran out for
-pub load_unfinished : (reply : Ground → Option Loaded → Option Reply) (actions : Ground → Option Loaded → History) → AnswersAll reply → (r : Result (Option Reply) StoreFault) (m n : Map) (f g : Option Files) (name : List ℕ) (found : Loaded) →
+pub load_unfinished : (c : Result Command Refusal) (reply : Ground → Option Loaded → Option Reply) (actions : Ground → Option Loaded → History) → AnswersAll reply → (r : Result (Option Reply) StoreFault) (m n : Map) (f g : Option Files) (name : List ℕ) (found : Loaded) → Names c name →
     IsErrAnd r (λ x. x ≡ store_fault.Memory) → g ≡ f →
-    ((s : State) → StandsFor m s → IsSome (reply s.base (Some found)) × StandsFor n s) → HasEffect (λ files s. loading_effect reply actions name files s) (Some name) m f n g None r
-load_unfinished reply actions some (Ok x) m n f g name found memory same kept = absurd memory
-load_unfinished reply actions some (Err x) m n f g name found memory same kept = λ files s finds at. (
-  inl (finds_some reply some s.base files name finds),
-  subst (λ y. HasFailed (Some name) files s n g y) (sym memory) (inl (record { stands = (kept s at.stands).1; told = same ∙ at.told })),
+    ((s : State) → StandsFor m s → IsSome (reply s.base (Some found)) × StandsFor n s) → HasEffect (λ files s. loading_effect reply actions name files s) c m f n g None r
+load_unfinished c reply actions some (Ok x) m n f g name found named memory same kept = absurd memory
+load_unfinished c reply actions some (Err x) m n f g name found named memory same kept = λ files s finds at. (
+  inl (finds_some reply some s.base files name (finds_named c name files named finds)),
+  subst (λ y. HasFailed c files s n g y) (sym memory) (record { stands = (kept s at.stands).1; told = same ∙ at.told }),
 )
 
 -- the canonical file depends on the classes of the map's voxels alone
@@ -196,9 +210,9 @@ abbrev pub saving_effect : (State → List ℕ) → List ℕ → State → Effec
 saving_effect file name s = replied (save_reply (file s)) [] (Some (record { name = name; bytes = file s }))
 
 -- a file that the store took
-pub save_done : (m : Map) (f g : Option Files) (key name bytes : List ℕ) (n : ℕ) (file : State → List ℕ) → key ≡ name → IsFileOf m file bytes → n ≡ length bytes → g ≡ saved f key bytes →
-    TakesEffect (λ files s. saving_effect file name s) (Some name) m f m g None (Some (reply_of.Saved n))
-save_done m f g key name bytes n file spelt is long told = λ files s finds at.
+pub save_done : (c : Result Command Refusal) (m : Map) (f g : Option Files) (key name bytes : List ℕ) (n : ℕ) (file : State → List ℕ) → key ≡ name → IsFileOf m file bytes → n ≡ length bytes → g ≡ saved f key bytes →
+    TakesEffect (λ files s. saving_effect file name s) c m f m g None (Some (reply_of.Saved n))
+save_done c m f g key name bytes n file spelt is long told = λ files s finds at.
     let same = is s at.stands in (
       ap (λ x. Some (reply_of.Saved x)) long ∙ ap save_reply same,
       refl,
@@ -206,17 +220,17 @@ save_done m f g key name bytes n file spelt is long told = λ files s finds at.
     )
 
 -- one that the store failed at
-pub save_failed : (r : Result (Option Reply) StoreFault) (m : Map) (f g : Option Files) (key name : List ℕ) (file : State → List ℕ) → key ≡ name → IsErr r → KeepsOthers f g key →
-    HasEffect (λ files s. saving_effect file name s) (Some name) m f m g None r
-save_failed (Ok x) m f g key name file spelt err others = cc
-save_failed (Err x) m f g key name file spelt err others = λ files s finds at. (
+pub save_failed : {A : Type 0} (c : Result Command Refusal) (r : Result (Option Reply) StoreFault) (fault : StoreFault) (m : Map) (f g : Option Files) (key name : List ℕ) (file : State → List ℕ) → Names c name → file_saved c ≡ Some name → key ≡ name → IsErrAnd r (λ x. x ≡ fault) → KeepsOthers f g key → (◌≡◌ {A = Result A StoreFault} (Err fault) (Err store_fault.Memory) → g ≡ f) →
+    HasEffect (λ files s. saving_effect file name s) c m f m g None r
+save_failed c (Ok x) fault m f g key name file named saves spelt is others same = absurd is
+save_failed c (Err x) fault m f g key name file named saves spelt is others same = λ files s finds at. (
   inl refl,
-  torn_failed (Some name) files s m g x (name, refl, record { stands = at.stands; others = subst (λ told. KeepsOthers told g name) at.told (subst (KeepsOthers f g) spelt others) }),
+  torn_failed c name files s m g x named saves at.stands (subst (λ told. KeepsOthers told g name) at.told (subst (KeepsOthers f g) spelt others)) (λ memory. same (ap Err (sym is ∙ memory)) ∙ at.told),
 )
 
 -- one that memory ran out for
-pub save_unwritten : (r : Result (Option Reply) StoreFault) (m : Map) (f : Option Files) (name : List ℕ) (file : State → List ℕ) → IsErrAnd r (λ x. x ≡ store_fault.Memory) →
-    HasEffect (λ files s. saving_effect file name s) (Some name) m f m f None r
-save_unwritten (Ok x) m f name file memory = absurd memory
-save_unwritten (Err x) m f name file memory = λ files s finds at.
-    (inl refl, subst (λ y. HasFailed (Some name) files s m f y) (sym memory) (inl (record { stands = at.stands; told = at.told })))
+pub save_unwritten : (c : Result Command Refusal) (r : Result (Option Reply) StoreFault) (m : Map) (f : Option Files) (name : List ℕ) (file : State → List ℕ) → IsErrAnd r (λ x. x ≡ store_fault.Memory) →
+    HasEffect (λ files s. saving_effect file name s) c m f m f None r
+save_unwritten c (Ok x) m f name file memory = absurd memory
+save_unwritten c (Err x) m f name file memory = λ files s finds at.
+    (inl refl, subst (λ y. HasFailed c files s m f y) (sym memory) (record { stands = at.stands; told = at.told }))

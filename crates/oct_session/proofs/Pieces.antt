@@ -1,9 +1,10 @@
 -- A piece of a script, line by line.
-use Rattle.std.proofs.Common.{◌≡◌, ℕ, ◌+◌, ◌≤◌, List, [], ◌∷◌, ◌++◌, length, take, drop, Option, Result, Ok, Err, OnOk, OnErr, IfErr, IsErrAnd, Bool, true, false, cond, inl, inr, refl, sym, ap, subst, ◌∙◌, append_assoc, append-nil}
+use Rattle.std.proofs.Common.{◌≡◌, ℕ, ◌+◌, ◌≤◌, List, [], ◌∷◌, ◌++◌, length, take, drop, Option, None, Result, Ok, Err, OnOk, IfErr, IsErrAnd, Bool, true, false, cond, inl, inr, refl, sym, ap, subst, ◌∙◌, append_assoc, append-nil}
 use Rattle.std.proofs.Math.Seq.{take-add}
 use Rattle.std.proofs.lemmas.List.{take_all, take-append-drop}
 use Rattle.oct_io.specs.Files.{Files}
 use Rattle.oct_io.specs.Told.{appended}
+use Rattle.oct_io.specs.declared.sink.SinkFault.{SinkFault}
 use Rattle.oct_script.specs.Lines.{Line, LineSoFar, unread, ended_lines, rest_of, all_lines, last_line, line_of, IsReading, HasEnded}
 use Rattle.oct_session.specs.declared.options.Stop.{Stop}
 use Rattle.oct_session.specs.declared.options.Stop.TheVariants as stop_as
@@ -11,9 +12,9 @@ use Rattle.oct_session.specs.declared.session.Session.{Session}
 use Rattle.oct_session.specs.Session.{Progress, after_line, progress, closed}
 use Rattle.oct_session.specs.Setup.{Setup}
 use Rattle.oct_session.specs.Ending.{HasReplied}
-use Rattle.oct_session.specs.Leaving.{Desk, IsKnown, IsCutBetween, IsHaltedBy, IsHalted}
+use Rattle.oct_session.specs.Leaving.{Desk, IsKnown, IsCutBetween, IsHaltedBetween, IsHaltedBy, IsHalted}
 use Rattle.oct_session.specs.Standing.{Takes, Halts, IsInStep, HasReached, IsAt, IsHaltedBehind, StopsAtEnd, StopsIn}
-use Rattle.oct_session.specs.Stops.{status_of, IsHalt, IsSinkStop}
+use Rattle.oct_session.specs.Stops.{stop_of_sink, status_of, IsHalt}
 use Rattle.oct_session.proofs.Halting.{halted_last, halted_bytes, halted_closed, reached_closed, replied_between}
 use Rattle.oct_session.proofs.Progresses.{progress_push, progress_grows, bytes_behind_quit, known_line, known_bytes, replied_before}
 
@@ -39,7 +40,7 @@ moved : (o : Setup) (w v : Option (List ℕ)) (d : Desk) (s f : Session) (p : Pr
 moved o w v d s f p beside at = record {
   between = record {
     like = at.between.like;
-    kept = at.between.kept;
+    asked = at.between.asked;
     step = record {
       counted = beside.counted ∙ at.between.step.counted;
       block = beside.block ∙ at.between.step.block;
@@ -214,26 +215,25 @@ abbrev IsLast : {H : Type 0} → Setup → Option (List ℕ) → Option (List �
 IsLast {H} o a v c d s t = (home : H) (files : Option Files) (w : Option (List ℕ)) (bytes : List ℕ) → IsAt o files w a (c home) s bytes → IsKnown (progress o files (all_lines bytes)) → HasReached o w v (d home) t (progress o files (all_lines bytes))
 
 -- the end of the script, after its last line
-pub end_closed : {T E H : Type 0} (r : Result T E) (o : Setup) (a v u : Option (List ℕ)) (c d : H → Desk) (s t e : Session) → IsLast o a v c d s t →
-    OnOk r ((w : Option (List ℕ)) (p : Progress) → IsInStep t p → v ≡ appended w p.text → IsInStep e (closed p) × (u ≡ appended w (closed p).text)) →
-    OnOk r ((home : H) (files : Option Files) (w : Option (List ℕ)) (bytes : List ℕ) → IsAt o files w a (c home) s bytes → IsKnown (progress o files (all_lines bytes)) → HasReached o w u (d home) e (closed (progress o files (all_lines bytes))))
-end_closed (Ok x) o a v u c d s t e goes closes = λ home files w bytes at known.
+pub end_closed : {H : Type 0} (o : Setup) (a v u : Option (List ℕ)) (c d : H → Desk) (s t e : Session) → IsLast o a v c d s t →
+    ((w : Option (List ℕ)) (p : Progress) → IsInStep t p → v ≡ appended w p.text → IsInStep e (closed p) × (u ≡ appended w (closed p).text)) →
+    ((home : H) (files : Option Files) (w : Option (List ℕ)) (bytes : List ℕ) → IsAt o files w a (c home) s bytes → IsKnown (progress o files (all_lines bytes)) → HasReached o w u (d home) e (closed (progress o files (all_lines bytes))))
+end_closed o a v u c d s t e goes closes = λ home files w bytes at known.
     let p : Progress = progress o files (all_lines bytes) in
     let reached = goes home files w bytes at known in
     reached_closed o w v u (d home) t e p reached (closes w p reached.between.step reached.written)
-end_closed (Err x) o a v u c d s t e goes closes = tt
 
 -- a halt there
-pub end_stopped : {T H : Type 0} (r : Result T Stop) (o : Setup) (a v u : Option (List ℕ)) (c d : H → Desk) (s t : Session) → IsLast o a v c d s t → IfErr r IsSinkStop →
-    OnErr r ((w : Option (List ℕ)) (p : Progress) → IsInStep t p → v ≡ appended w p.text → IsCutBetween p (closed p) w u) →
+pub end_stopped : {T H : Type 0} (r : Result T Stop) (fault : SinkFault) (o : Setup) (a v u : Option (List ℕ)) (c d : H → Desk) (s t : Session) → IsErrAnd r (λ x. x ≡ stop_of_sink fault) → IsLast o a v c d s t →
+    ((w : Option (List ℕ)) (p : Progress) → IsInStep t p → v ≡ appended w p.text → IsCutBetween p (closed p) w u) →
     IfErr r (λ stop. (home : H) (files : Option Files) (w : Option (List ℕ)) (bytes : List ℕ) → IsAt o files w a (c home) s bytes → IsKnown (progress o files (all_lines bytes)) →
     StopsAtEnd o files bytes (all_lines bytes) w u (d home) (status_of stop))
-end_stopped (Ok x) o a v u c d s t goes sink cuts = tt
-end_stopped (Err x) o a v u c d s t goes sink cuts = λ home files w bytes at known.
+end_stopped (Ok x) fault o a v u c d s t is goes cuts = tt
+end_stopped (Err x) fault o a v u c d s t is goes cuts = λ home files w bytes at known.
     let p : Progress = progress o files (all_lines bytes) in
     let reached = goes home files w bytes at known in
     let cut = cuts w p reached.between.step reached.written in (
-      inr (halted_closed o w v u (d home) t p x sink reached cut),
+      inr (subst (λ y. IsHaltedBetween o None p (closed p) w u (d home) (status_of y)) (sym is) (halted_closed o w v u (d home) t p fault reached cut)),
       replied_between o files bytes p (closed p) w u (progress_grows o files (ended_lines bytes) (last_line (rest_of bytes))) cut,
     )
 

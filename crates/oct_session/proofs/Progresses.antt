@@ -1,5 +1,5 @@
 -- A session over more lines.
-use Rattle.std.proofs.Common.{◌≡◌, ℕ, ◌≤◌, List, [], ◌∷◌, ◌++◌, take, drop, Bool, true, false, cond, ◌||◌, Option, Some, None, is_some, IsSome, inl, inr, refl, sym, ap, subst, ◌∙◌, append_assoc, append-nil}
+use Rattle.std.proofs.Common.{◌≡◌, ℕ, ◌+◌, ◌<◌, ◌≤◌, List, [], ◌∷◌, ◌++◌, take, drop, Bool, true, false, cond, Option, Some, None, IsSome, inl, inr, refl, sym, ap, subst, ◌∙◌, arith, append_assoc, append-nil}
 use Rattle.std.specs.List.{fold}
 use Rattle.std.proofs.lemmas.List.{take-take, take-append-drop}
 use Rattle.std.proofs.lemmas.List.Sums.{fold-append, fold_push}
@@ -11,7 +11,7 @@ use Rattle.oct_script.specs.Replies.{text_of}
 use Rattle.oct_script.proofs.Cuts.{ended_lines-append}
 use Rattle.oct_session.specs.declared.session.Session.{Session}
 use Rattle.oct_session.specs.Ending.{replies_within, has_quit_within, HasReplied}
-use Rattle.oct_session.specs.Commands.{Saving, file_named, stored}
+use Rattle.oct_session.specs.Commands.{Saving, file_named, asks_for, stored}
 use Rattle.oct_session.specs.Leaving.{Desk, IsKnown}
 use Rattle.oct_session.specs.Session.{Progress, start, effect_of, next_command, answered, after_line, progress}
 use Rattle.oct_session.specs.Setup.{Setup}
@@ -97,11 +97,6 @@ replied_first o files bytes k taken w u few at =
     sym (take-append-drop k (take taken bytes)) ∙ ap (λ x. x ++ drop k (take taken bytes)) (take-take k taken bytes few) in
     replied_before o files (take k bytes) (drop k (take taken bytes)) w u (subst (λ x. HasReplied o files x w u) parts at)
 
--- both of two truth values are false where their disjunction is
-both_false : (a b : Bool) → (a || b) ≡ false → (a ≡ false) × (b ≡ false)
-both_false true b is = cc
-both_false false b is = (refl, is)
-
 -- files that are told after a saving were told before it, and stay told
 told_before : (files : Option Files) (saving : Option Saving) → IsSome (stored files saving) → IsSome files
 told_before files None some = some
@@ -113,24 +108,24 @@ told_after files None some = some
 told_after None (Some saving) some = cc
 told_after (Some files) (Some saving) some = refl
 
-answered_unnamed : (o : Setup) (p : Progress) (line : Line) → (answered o p line).names_file ≡ false → p.names_file ≡ false
-answered_unnamed o p line none = (both_false p.names_file (is_some (file_named (next_command p line))) none).0
+-- one line more asks no less of the store
+line_asks : (o : Setup) (p : Progress) (line : Line) → p.asks ≤ (after_line o p line).asks
+line_asks o p line = elim p.has_quit as (λ v. p.asks ≤ (cond v p (answered o p line)).asks) [ true ↦ omega arith | false ↦ omega arith ]
 
--- where no line named a file after one line more, none had before
-unnamed_line : (o : Setup) (p : Progress) (line : Line) → (after_line o p line).names_file ≡ false → p.names_file ≡ false
-unnamed_line o p line = elim p.has_quit as (λ v. (cond v p (answered o p line)).names_file ≡ false → p.names_file ≡ false) [ true ↦ (λ none. none) | false ↦ answered_unnamed o p line ]
+fold_asks : (o : Setup) (p : Progress) (lines : List Line) → p.asks ≤ (fold (after_line o) p lines).asks
+fold_asks o p [] = omega arith
+fold_asks o p (line ∷ lines) = omega (arith, line_asks o p line, fold_asks o (after_line o p line) lines)
 
-unnamed_fold : (o : Setup) (p : Progress) (lines : List Line) → (fold (after_line o) p lines).names_file ≡ false → p.names_file ≡ false
-unnamed_fold o p [] none = none
-unnamed_fold o p (line ∷ lines) none = unnamed_line o p line (unnamed_fold o (after_line o p line) lines none)
+pub asks_before : (o : Setup) (files : Option Files) (lines more : List Line) → (progress o files lines).asks ≤ (progress o files (lines ++ more)).asks
+asks_before o files lines more =
+    subst (λ (p : Progress). (progress o files lines).asks ≤ p.asks) (sym (fold-append (after_line o) (start files) lines more)) (fold_asks o (progress o files lines) more)
 
-pub unnamed_before : (o : Setup) (files : Option Files) (lines more : List Line) → (progress o files (lines ++ more)).names_file ≡ false → (progress o files lines).names_file ≡ false
-unnamed_before o files lines more none =
-    unnamed_fold o (progress o files lines) more (ap (λ (p : Progress). p.names_file) (sym (fold-append (after_line o) (start files) lines more)) ∙ none)
+answered_unnamed : (o : Setup) (p : Progress) (line : Line) → (answered o p line).asks ≡ 0 → (p.asks ≡ 0) × (asks_for (file_named (next_command p line)) ≡ 0)
+answered_unnamed o p line none = (omega (arith, none), omega (arith, none))
 
 answered_known : (o : Setup) (p : Progress) (line : Line) → IsKnown (answered o p line) → IsKnown p
 answered_known o p line (inl some) = inl (told_before p.files (effect_of o p line).saving some)
-answered_known o p line (inr none) = inr (answered_unnamed o p line none)
+answered_known o p line (inr none) = inr (answered_unnamed o p line none).0
 
 -- what is known after one line more was known before
 pub known_line : (o : Setup) (p : Progress) (line : Line) → IsKnown (after_line o p line) → IsKnown p
@@ -156,23 +151,29 @@ pub told_fold : (o : Setup) (p : Progress) (lines : List Line) → IsSome p.file
 told_fold o p [] some = some
 told_fold o p (line ∷ lines) some = told_fold o (after_line o p line) lines (line_told o p line some)
 
-named_none : (named : Option (List ℕ)) → is_some named ≡ false → named ≡ None
+named_none : (named : Option (List ℕ)) → asks_for named ≡ 0 → named ≡ None
 named_none None none = refl
 named_none (Some name) none = cc
 
 finds_told : (o : Setup) (p : Progress) (line : Line) → IsKnown (answered o p line) → FindsTold (file_named (next_command p line)) p.files
 finds_told o p line (inl some) = inr (told_before p.files (effect_of o p line).saving some)
-finds_told o p line (inr none) = inl (named_none (file_named (next_command p line)) (both_false p.names_file (is_some (file_named (next_command p line))) none).1)
+finds_told o p line (inr none) = inl (named_none (file_named (next_command p line)) (answered_unnamed o p line none).1)
 
 -- a line that is known names no file, or finds it told
 pub line_finds_told : (o : Setup) (p : Progress) (line : Line) → p.has_quit ≡ false → IsKnown (after_line o p line) → FindsTold (file_named (next_command p line)) p.files
 line_finds_told o p line running known = finds_told o p line (subst IsKnown (after_answered o p line running) known)
 
--- whether a line named a file, of a session that goes on
-pub unnamed_next : (o : Setup) (p : Progress) (line : Line) → p.has_quit ≡ false → (after_line o p line).names_file ≡ false → (p.names_file ≡ false) × (file_named (next_command p line) ≡ None)
-unnamed_next o p line running none =
-    let both = both_false p.names_file (is_some (file_named (next_command p line))) (ap (λ (x : Progress). x.names_file) (sym (after_answered o p line running)) ∙ none) in
-    (both.0, named_none (file_named (next_command p line)) both.1)
+-- how often the store is asked after a line, of a session that goes on
+pub asks_next : (o : Setup) (p : Progress) (line : Line) → p.has_quit ≡ false → (after_line o p line).asks ≡ p.asks + asks_for (file_named (next_command p line))
+asks_next o p line running = ap (λ (x : Progress). x.asks) (after_answered o p line running)
+
+-- a line that names a file asks it once more
+pub asks_more : (o : Setup) (p : Progress) (line : Line) → p.has_quit ≡ false → IsSome (file_named (next_command p line)) → p.asks < (after_line o p line).asks
+asks_more o p line running some = omega (arith, asks_next o p line running, some_asks (file_named (next_command p line)) some)
+  where
+    some_asks : (named : Option (List ℕ)) → IsSome named → asks_for named ≡ 1
+    some_asks None some = cc
+    some_asks (Some name) some = refl
 
 -- a line that is answered whole
 pub reached_line : (o : Setup) (w v u : Option (List ℕ)) (d e : Desk) (s t : Session) (p : Progress) (line : Line) (text : List ℕ) → s.has_quit ≡ false →

@@ -12,7 +12,9 @@ use Rattle.oct_session.specs.Leaving.{Desk, IsLikeAfter}
 use Rattle.oct_session.specs.Session.{Answer, last_progress, session}
 use Rattle.oct_session.specs.Setup.{Setup}
 use Rattle.oct_session.specs.declared.options.Status.{Status}
-use Rattle.oct_session.specs.declared.options.Status.TheVariants.{Done, Refused, Usage, BadFile, TooLong, ReadFault, WriteFault, Memory, StoreFault}
+use Rattle.oct_session.specs.declared.options.Status.TheVariants.{Done, Refused}
+use Rattle.oct_session.specs.declared.options.Status.TheVariants.{TooLong, WriteFault}
+use Rattle.oct_session.specs.declared.options.Status.TheVariants.{Memory}
 
 -- the state after the last line of a script
 abbrev pub last_state : Setup → Option Files → List ℕ → State
@@ -38,8 +40,8 @@ has_ended Done = true
 has_ended Refused = true
 has_ended _ = false
 
--- how the writing of a text may end behind a script that ended with a status: with that status where
--- all of it was written
+-- how the writing of a text may end after a script that ended with a status: with that status
+-- where all of it was written
 abbrev pub EndsWriting : List ℕ → Option (List ℕ) → Option (List ℕ) → Status → Status → Type 0
 EndsWriting text old new ended WriteFault = IsCutOff old new text
 EndsWriting text old new ended Memory = IsCutOff old new text
@@ -51,8 +53,8 @@ pub record IsHaltedBehind (o : Setup) (files : Option Files) (bytes : List ℕ)
   pub begun : IsCutOff old new (build o files bytes).text
   pub end : IsReadToEnd o files bytes left
 
--- the script hasn't ended: nothing was written, and it was stopped as a session is that tells no one
--- what it replies
+-- the script hasn't ended: nothing was written, and it was stopped as a session is that tells no
+-- one what it replies
 pub record IsStopped (o : Setup) (files : Option Files) (bytes : List ℕ)
     (left old new : Option (List ℕ)) (status : Status) : Type 0 where
   pub unwritten : new ≡ old
@@ -66,26 +68,17 @@ MayEnd o files bytes left old new Done =
     IsAnswered (build o files bytes) old new Done × IsReadToEnd o files bytes left
 MayEnd o files bytes left old new Refused =
     IsAnswered (build o files bytes) old new Refused × IsReadToEnd o files bytes left
-MayEnd o files bytes left old new Usage = ⊥
-MayEnd o files bytes left old new BadFile = ⊥
 MayEnd o files bytes left old new TooLong =
     IsAnswered (build o files bytes) old new TooLong × IsStopped o files bytes left old new TooLong
-MayEnd o files bytes left old new ReadFault = IsStopped o files bytes left old new ReadFault
 MayEnd o files bytes left old new WriteFault = IsHaltedBehind o files bytes left old new
 MayEnd o files bytes left old new Memory =
     IsStopped o files bytes left old new Memory ⊎ IsHaltedBehind o files bytes left old new
-MayEnd o files bytes left old new StoreFault = IsStopped o files bytes left old new StoreFault
+MayEnd o files bytes left old new status = IsStopped o files bytes left old new status
 
 -- what a build over these bytes and files leaves of map and files: the same as the session, and all
--- of it where the script has ended
+-- of it where the script had ended before the fault
 abbrev pub Leaves : Setup → Option Files → List ℕ → Option (List ℕ) → Desk → Status → Type 0
-Leaves o files bytes left d Done = IsLikeAfter o (last_progress o files bytes) d
-Leaves o files bytes left d Refused = IsLikeAfter o (last_progress o files bytes) d
-Leaves o files bytes left d Usage = ⊥
-Leaves o files bytes left d BadFile = ⊥
-Leaves o files bytes left d TooLong = lent.Leaves o files bytes left None None d TooLong
-Leaves o files bytes left d ReadFault = lent.Leaves o files bytes left None None d ReadFault
 Leaves o files bytes left d WriteFault = IsLikeAfter o (last_progress o files bytes) d
 Leaves o files bytes left d Memory = lent.Leaves o files bytes left None None d Memory
     ⊎ IsLikeAfter o (last_progress o files bytes) d
-Leaves o files bytes left d StoreFault = lent.Leaves o files bytes left None None d StoreFault
+Leaves o files bytes left d status = lent.Leaves o files bytes left None None d status

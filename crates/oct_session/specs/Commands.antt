@@ -1,5 +1,6 @@
 -- The command of a line, and the reply to it outside the block of a scan.
-use Rattle.std.specs.Prelude.{ℕ, ℤ, List, [], ◌∷◌, ⊤, Option, Some, None, is_some, Result, Ok, Err, Bool, true, false, if◌then◌else◌}
+use Rattle.std.specs.Prelude.{ℕ, ℤ, List, [], ◌∷◌, ⊤, Option, Some, None, is_some, Result, Ok, Err}
+use Rattle.std.specs.Prelude.{Bool, true, false, if◌then◌else◌}
 use Rattle.oct_io.specs.Files.{Files, saved}
 use Rattle.oct_key.specs.Values.{Values}
 use Rattle.oct_odds.specs.Odds.{Odds}
@@ -15,7 +16,11 @@ use Rattle.oct_map.specs.declared.fault.MapFault.{MapFault}
 use Rattle.oct_query.specs.Shown.{Shown}
 use Rattle.oct_script.specs.declared.command.Command.{Command}
 use Rattle.oct_script.specs.declared.command.Command.TheVariants as command
-use Rattle.oct_script.specs.declared.command.Command.TheVariants.{Blank, Edit, Get, Cast, Counts, Refresh, Prune, Clear, Quit, MaxLikelihood, Scan, Beam, End, Box, Save, Load, Snapshot, Restore}
+use Rattle.oct_script.specs.declared.command.Command.TheVariants.{Blank, Edit, Get, Cast, Counts}
+use Rattle.oct_script.specs.declared.command.Command.TheVariants.{Refresh, Prune, Clear, Quit}
+use Rattle.oct_script.specs.declared.command.Command.TheVariants.{MaxLikelihood, Scan, Beam, End}
+use Rattle.oct_script.specs.declared.command.Command.TheVariants.{Box, Save, Load, Snapshot}
+use Rattle.oct_script.specs.declared.command.Command.TheVariants.{Restore}
 use Rattle.oct_script.specs.declared.command.Syntax.{Syntax}
 use Rattle.oct_script.specs.declared.reply.Refusal.{Refusal}
 use Rattle.oct_script.specs.declared.reply.Refusal.TheVariants as refusal
@@ -26,8 +31,10 @@ use Rattle.oct_script.specs.declared.reply.Reply.TheVariants.{Blocks, Changed}
 use Rattle.oct_script.specs.Commands.{command_of}
 use Rattle.oct_script.specs.Lines.{Line, Text, Long}
 use Rattle.oct_script.specs.Replies.{is_refusal}
-use Rattle.oct_session.specs.FileCommands.{found_in, load_reply, load_action, classes_file, save_reply, restore_reply, restore_action, snapshot_file}
-use Rattle.oct_session.specs.History.{History, State, Edited, Refreshed, Pruned, Cleared, Likened, Boxed}
+use Rattle.oct_session.specs.FileCommands.{found_in, load_reply, load_action, classes_file}
+use Rattle.oct_session.specs.FileCommands.{save_reply, restore_reply, restore_action, snapshot_file}
+use Rattle.oct_session.specs.History.{History, State, Edited, Refreshed, Pruned, Cleared, Likened}
+use Rattle.oct_session.specs.History.{Boxed}
 use Rattle.oct_session.specs.Refusals.{fault_reply}
 use Rattle.oct_session.specs.History.{Tracked, Untracked, Limited, Unlimited}
 use Rattle.oct_values.specs.Classes.{classes_of}
@@ -158,6 +165,11 @@ file_named (Ok (Load name)) = Some name
 file_named (Ok (Snapshot name)) = Some name
 file_named (Ok (Restore name)) = Some name
 file_named _ = None
+
+-- how often a line asks the store that names this file, or none
+abbrev pub asks_for : Option (List ℕ) → ℕ
+asks_for None = 0
+asks_for (Some name) = 1
 
 -- the file that a command may change, if it may change one: a load and a restore change none
 abbrev pub file_saved : Result Command Refusal → Option (List ℕ)

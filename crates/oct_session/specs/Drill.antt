@@ -11,7 +11,9 @@ use Rattle.oct_session.specs.History.{State, state_after}
 use Rattle.oct_session.specs.Session.{Answer, Progress, closed, last_progress, status_at_end}
 use Rattle.oct_session.specs.Setup.{Setup}
 use Rattle.oct_session.specs.declared.options.Status.{Status}
-use Rattle.oct_session.specs.declared.options.Status.TheVariants.{Done, Refused, Usage, BadFile, TooLong, ReadFault, WriteFault, Memory, StoreFault}
+use Rattle.oct_session.specs.declared.options.Status.TheVariants.{Done, Refused}
+use Rattle.oct_session.specs.declared.options.Status.TheVariants.{WriteFault}
+use Rattle.oct_session.specs.declared.options.Status.TheVariants.{Memory}
 use Rattle.oct_session.specs.declared.tally.Tally.{Tally}
 
 -- what a drill is set up with: voxels of 0.05 m, and the default of each option
@@ -59,15 +61,11 @@ drill files seed scans points = record {
   status = status_at_end (nat_lt 0 (drilled seed scans points).tally.refused);
 }
 
--- how a task that reads nothing may end, by what it writes: the whole text, or a part of it where the
--- sink fails or memory runs out
+-- how a task that reads nothing may end, by what it writes: the whole text, or a part of it where
+-- the sink fails or memory runs out
 abbrev pub EndsUnread : Answer → Option (List ℕ) → Option (List ℕ) → Status → Type 0
 EndsUnread whole old new Done = IsAnswered whole old new Done
 EndsUnread whole old new Refused = IsAnswered whole old new Refused
-EndsUnread whole old new Usage = ⊥
-EndsUnread whole old new BadFile = ⊥
-EndsUnread whole old new TooLong = ⊥
-EndsUnread whole old new ReadFault = ⊥
 EndsUnread whole old new WriteFault = IsCutOff old new whole.text
 EndsUnread whole old new Memory = IsCutOff old new whole.text
-EndsUnread whole old new StoreFault = ⊥
+EndsUnread whole old new _ = ⊥

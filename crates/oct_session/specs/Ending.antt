@@ -1,5 +1,6 @@
 -- What a session writes, and how it may end.
-use Rattle.std.specs.Prelude.{◌≡◌, ◌⊎◌, ℕ, ◌+◌, ◌-◌, ◌≤◌, List, [], ◌++◌, length, take, drop, Bool, true, false, Option, Some}
+use Rattle.std.specs.Prelude.{◌≡◌, ◌⊎◌, ℕ, ◌+◌, ◌-◌, ◌≤◌, List, [], ◌++◌, length, take, drop, Bool}
+use Rattle.std.specs.Prelude.{true, false, Option, Some}
 use Rattle.oct_io.specs.Files.{Files}
 use Rattle.oct_io.specs.Told.{appended}
 use Rattle.oct_script.specs.Lines.{ended_lines}
@@ -7,7 +8,9 @@ use Rattle.oct_session.specs.declared.service.TheConstants.{MOST_READ}
 use Rattle.oct_session.specs.Session.{Answer, progress, session}
 use Rattle.oct_session.specs.Setup.{Setup}
 use Rattle.oct_session.specs.declared.options.Status.{Status}
-use Rattle.oct_session.specs.declared.options.Status.TheVariants.{Done, Refused, Usage, BadFile, TooLong, ReadFault, WriteFault, Memory, StoreFault}
+use Rattle.oct_session.specs.declared.options.Status.TheVariants.{Done, Refused, Usage, BadFile}
+use Rattle.oct_session.specs.declared.options.Status.TheVariants.{TooLong, ReadFault, WriteFault}
+use Rattle.oct_session.specs.declared.options.Status.TheVariants.{Memory, StoreFault}
 
 -- the replies to the lines that end within these bytes
 abbrev pub replies_within : Setup → Option Files → List ℕ → List ℕ
@@ -65,9 +68,9 @@ pub record IsCutOff (o : Setup) (files : Option Files) (bytes : List ℕ)
   pub no_quit : has_quit_within o files (take taken bytes) ≡ false
   pub written : new ≡ appended old (replies_within o files (take taken bytes))
 
--- writing failed, a file couldn't be read or written, or memory ran out: at most one byte more than the limit was taken, and the lines
--- that end within all but the last 16,384 of the bytes taken, as many as one read asks for, were
--- answered
+-- writing failed, a file couldn't be read or written, or memory ran out: at most one byte more than
+-- the limit was taken, and the lines that end within all but the last 16,384 of the bytes taken, as
+-- many as one read asks for, were answered
 pub record HasStopped (o : Setup) (files : Option Files) (bytes : List ℕ)
     (left old new : Option (List ℕ)) : Type 0 where
   pub taken : ℕ
@@ -77,8 +80,8 @@ pub record HasStopped (o : Setup) (files : Option Files) (bytes : List ℕ)
 
 -- how a session over these bytes may end, status by status: what is left of the input, and what was
 -- written
-abbrev pub MayEnd : Setup → Option Files → List ℕ → Option (List ℕ) → Option (List ℕ) → Option (List ℕ)
-    → Status → Type 0
+abbrev pub MayEnd : Setup → Option Files → List ℕ → Option (List ℕ) → Option (List ℕ)
+    → Option (List ℕ) → Status → Type 0
 MayEnd o files bytes left old new Done =
     IsAnswered (session o files bytes) old new Done × IsReadToEnd o files bytes left
 MayEnd o files bytes left old new Refused =
@@ -89,21 +92,13 @@ MayEnd o files bytes left old new TooLong =
     IsAnswered (session o files bytes) old new TooLong × HasTaken (o.max_bytes + 1) bytes left
 MayEnd o files bytes left old new ReadFault =
     IsBegun (session o files bytes).text old new × IsCutOff o files bytes left old new
-MayEnd o files bytes left old new WriteFault =
-    IsBegun (session o files bytes).text old new × HasStopped o files bytes left old new
-MayEnd o files bytes left old new Memory =
-    IsBegun (session o files bytes).text old new × HasStopped o files bytes left old new
-MayEnd o files bytes left old new StoreFault =
+MayEnd o files bytes left old new _ =
     IsBegun (session o files bytes).text old new × HasStopped o files bytes left old new
 
 -- a status that comes with the whole answer
 abbrev pub IsWhole : Status → Type 0
-IsWhole Done = Unit {0}
-IsWhole Refused = Unit {0}
-IsWhole Usage = Unit {0}
-IsWhole BadFile = Unit {0}
-IsWhole TooLong = Unit {0}
 IsWhole ReadFault = ⊥
 IsWhole WriteFault = ⊥
 IsWhole Memory = ⊥
 IsWhole StoreFault = ⊥
+IsWhole _ = Unit {0}

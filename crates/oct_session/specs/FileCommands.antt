@@ -1,6 +1,7 @@
--- What a load or a restore answers and does, by the file that it finds, and what a save or a snapshot
--- puts there.
-use Rattle.std.specs.Prelude.{ℕ, List, [], ◌∷◌, length, ⊤, Option, Some, None, option_map, Result, Ok, Err}
+-- What a load or a restore answers and does, by the file that it finds, and what a save or a
+-- snapshot puts there.
+use Rattle.std.specs.Prelude.{ℕ, List, [], ◌∷◌, length, ⊤, Option, Some, None, option_map, Result}
+use Rattle.std.specs.Prelude.{Ok, Err}
 use Rattle.oct_bt.specs.declared.fault.BtFault.{BtFault}
 use Rattle.oct_bt.specs.DataClasses.{data_classes}
 use Rattle.oct_bt.specs.File.{FileRead, bt_text, reading}
@@ -29,7 +30,7 @@ abbrev pub found_in : Option Files → List ℕ → Option Loaded
 found_in None name = None
 found_in (Some files) name = Some (loaded_of (files name))
 
--- the reply to the load of a file of so many nodes, by the map's answer
+-- the reply to the load of a file of this many nodes, by the map's answer
 abbrev pub nodes_reply : ℕ → Result ⊤ MapFault → Option Reply
 nodes_reply nodes (Ok done) = Some (reply_of.Loaded nodes)
 nodes_reply nodes (Err fault) = fault_reply fault

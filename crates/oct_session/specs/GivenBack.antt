@@ -1,5 +1,6 @@
 -- What a snapshot keeps, and a restore of its name gives back, within one session.
-use Rattle.std.specs.Prelude.{◌≡◌, ◌≢◌, ◌≤◌, ◌<◌, ◌^◌, ℕ, List, [], ◌∷◌, ◌++◌, length, false, ⊤, Option, Some, None, option_map, IfSome, Ok}
+use Rattle.std.specs.Prelude.{◌≡◌, ◌≢◌, ◌≤◌, ◌<◌, ◌^◌, ℕ, List, [], ◌∷◌, ◌++◌, length, false, ⊤}
+use Rattle.std.specs.Prelude.{Option, Some, None, option_map, IfSome, Ok}
 use Rattle.std.specs.List.{All}
 use Rattle.oct_io.specs.Files.{Files}
 use Rattle.oct_key.specs.Boxes.{Corners, IsBox}
@@ -60,7 +61,7 @@ NoneWrites o name p [] = ⊤
 NoneWrites o name p (line ∷ lines) =
     (name_written o p line ≢ Some name) × NoneWrites o name (after_line o p line) lines
 
--- After some lines one is a snapshot of this name, and behind more lines, whatever they do, one is
+-- After some lines one is a snapshot of this name, and after more lines, whatever they do, one is
 -- a restore of it. Between them no line writes the file of that name, by a snapshot or a save, and
 -- the snapshot has no more bytes than a file may have that is loaded.
 pub record AreSnapshotAndRestore (o : Setup) (files : Files) (name : List ℕ) (before : List Line)
@@ -72,15 +73,15 @@ pub record AreSnapshotAndRestore (o : Setup) (files : Files) (name : List ℕ) (
       length (snapshot_file (state_after o (progress o (Some files) before).history)) ≤ 2 ^ 30
 
 -- A restore isn't refused, and replies with the groups that the values need which were there when
--- the snapshot was written; after it each voxel has the value that it had then, and the log-odds and
--- the box to which scans are restricted are those of then.
+-- the snapshot was written; after it each voxel has the value that it had then, and the log-odds
+-- and the box to which scans are restricted are those of then.
 pub record IsGivenBack (old : State) (reply : Option Reply) (new : State) : Type 0 where
   pub answer : reply ≡ Some (Restored (group_count old.values))
   pub values : SameValues new.values old.values
   pub odds : new.base.odds ≡ old.base.odds
   pub update_box : new.base.update_box ≡ old.base.update_box
 
--- what the restore behind these lines gives back
+-- what the restore after these lines gives back
 abbrev pub GivesBack : Setup → Files → List Line → Line → List Line → Line → Type 0
 GivesBack o files before snapshot between restore = IsGivenBack
     (state_after o (progress o (Some files) before).history)

@@ -24,8 +24,8 @@ use Rattle.oct_session.specs.Setup.{Setup, ground_in}
 -- what an accepted command did, with all that it read: an edit of the voxel that holds a point,
 -- lazy or not, an edit of each voxel of the box whose corners hold two points, a scan, lazy or not,
 -- a refresh, a prune, a clear, maximum likelihood, the load of a file of these classes, the restore
--- of a snapshot, a mark set or taken away, a limit of scans to the box whose corners hold two points,
--- or its end
+-- of a snapshot, a mark set or taken away, a limit of scans to the box whose corners hold two
+-- points, or its end
 pub data Action : Type 0 where
   Edited : Point → Edit → Bool → Action
   Boxed : Point → Point → Edit → Action
@@ -82,8 +82,8 @@ command_event g (Limited low high) = λ k. None
 command_event g Unlimited = λ k. None
 
 -- what the map's answers read beside the values after a command: a limit sets the box to which
--- scans are restricted, its end takes the box away, a restore takes log-odds and box from a snapshot
--- that has them, and no command changes anything else of it
+-- scans are restricted, its end takes the box away, a restore takes log-odds and box from a
+-- snapshot that has them, and no command changes anything else of it
 abbrev pub base_by : Ground → Action → Ground
 base_by g (Limited low high) =
     record g { update_box = corner_box (key_at g.res low) (key_at g.res high) }
@@ -148,7 +148,13 @@ pub record State : Type 0 where
 -- before the first command: each voxel is unknown
 abbrev pub start_state : Setup → State
 start_state o =
-    record { base = ground_in o; values = λ k. None; marked = None; is_stale = false; is_pruned = true }
+    record {
+      base = ground_in o;
+      values = λ k. None;
+      marked = None;
+      is_stale = false;
+      is_pruned = true;
+    }
 
 -- after a command: each voxel has the value after its own event, by the log-odds that are in force
 -- from then on

@@ -1,5 +1,7 @@
 -- What a session leaves of the map and the files that it was lent.
-use Rattle.std.specs.Prelude.{◌≡◌, ◌⊎◌, ℕ, ◌<◌, length, List, [], ◌∷◌, ◌++◌, take, true, false, Option, Some, None, IsSome}
+use Rattle.std.specs.Prelude.{◌≡◌, ◌⊎◌, ℕ, ◌<◌, length, List, [], ◌∷◌, ◌++◌, take, true, false}
+use Rattle.std.specs.Prelude.{Option}
+use Rattle.std.specs.Prelude.{Some, None, IsSome}
 use Rattle.oct_io.specs.Files.{Files, KeepsOthers}
 use Rattle.oct_io.specs.Told.{appended}
 use Rattle.oct_map.specs.Map.{Map, ground_of, values_of}
@@ -7,17 +9,20 @@ use Rattle.oct_map.specs.Marks.{SameMark, marked_of}
 use Rattle.oct_script.specs.Lines.{Line, ended_lines}
 use Rattle.oct_key.specs.Values.{SameValues}
 use Rattle.oct_tree.specs.Shape.{IsPruned}
-use Rattle.oct_session.specs.Commands.{file_named, file_saved}
+use Rattle.oct_session.specs.Commands.{file_saved}
+use Rattle.oct_session.specs.Counts.{IsAsked}
 use Rattle.oct_session.specs.Ending.{HasTaken}
 use Rattle.oct_session.specs.History.{History, State, state_after}
-use Rattle.oct_session.specs.Session.{Progress, next_command, after_line, progress, closed, is_too_long, lines_of, last_progress}
+use Rattle.oct_session.specs.Session.{Progress, next_command, after_line, progress, closed}
+use Rattle.oct_session.specs.Session.{is_too_long, lines_of, last_progress}
 use Rattle.oct_session.specs.Setup.{Setup}
 use Rattle.oct_session.specs.declared.options.Status.{Status}
-use Rattle.oct_session.specs.declared.options.Status.TheVariants.{Done, Refused, Usage, BadFile, TooLong, ReadFault, WriteFault, Memory, StoreFault}
+use Rattle.oct_session.specs.declared.options.Status.TheVariants.{Done, Refused, TooLong, ReadFault}
+use Rattle.oct_session.specs.declared.options.Status.TheVariants.{WriteFault, Memory, StoreFault}
 
--- the map stands for a state: each voxel has its value there, the map's answers read the same beside
--- the values, it has the same mark, inner values may be out of date exactly where they may be there,
--- and it is pruned where it is there
+-- the map stands for a state: each voxel has its value there, the map's answers read the same
+-- beside the values, it has the same mark, inner values may be out of date exactly where they may
+-- be there, and it is pruned where it is there
 pub record StandsFor (map : Map) (s : State) : Type 0 where
   pub values : SameValues s.values (values_of map)
   pub base : ground_of map ≡ s.base
@@ -29,15 +34,35 @@ pub record StandsFor (map : Map) (s : State) : Type 0 where
 abbrev pub StandsForSome : Setup → Map → Type 0
 StandsForSome o map = (history : History) × StandsFor map (state_after o history)
 
--- what a session works on: a map, the files of a store, where it tells them, and that the store is
--- as it was at first
+-- a store, as a session uses it: its files, where it tells them, that it is as it was at first, and
+-- how often it had been asked at first and has been now, where it counts that
+pub record Shelf : Type 1 where
+  pub files : Option Files
+  pub same : Type 0
+  pub first_calls : ℕ
+  pub calls : ℕ
+
+-- the shelf that a store is now, which was that of `home` at first
+abbrev pub shelf : {F : Type 0} → (F → Option Files) → (F → ℕ) → F → F → Shelf
+shelf files calls home store = record {
+  files = files store;
+  same = store ≡ home;
+  first_calls = calls home;
+  calls = calls store;
+}
+
+-- what a session works on: a map, and a store
 pub record Desk : Type 1 where
   pub map : Map
-  pub files : Option Files
-  pub kept : Type 0
+  pub store : Shelf
 
-abbrev pub desk : Map → Option Files → Type 0 → Desk
-desk map files kept = record { map = map; files = files; kept = kept }
+-- the desk of this map and this store
+abbrev pub desk : Map → Shelf → Desk
+desk map store = record { map = map; store = store }
+
+-- since it was as at first, the store was asked at most this many times
+abbrev pub HasAsked : Desk → ℕ → Type 0
+HasAsked d asks = IsAsked d.store.same d.store.first_calls d.store.calls asks
 
 -- the map stands for this state, and the files that are told are these
 pub record IsLike (files : Option Files) (s : State) (map : Map) (held : Option Files)
@@ -45,42 +70,37 @@ pub record IsLike (files : Option Files) (s : State) (map : Map) (held : Option 
   pub stands : StandsFor map s
   pub told : held ≡ files
 
--- the map stands for this state, and the files that are told are these, but for that of one name,
--- which may be any
-pub record IsTorn (files : Option Files) (s : State) (name : List ℕ) (map : Map)
+-- the files that are told are these, but for the one that was to be saved, if one was, which may be
+-- any
+abbrev pub KeepsUnsaved : Option (List ℕ) → Option Files → Option Files → Type 0
+KeepsUnsaved None files held = held ≡ files
+KeepsUnsaved (Some name) files held = KeepsOthers files held name
+
+-- the map stands for this state, and all files but that one are these
+pub record IsTorn (saved : Option (List ℕ)) (files : Option Files) (s : State) (map : Map)
     (held : Option Files) : Type 0 where
   pub stands : StandsFor map s
-  pub others : KeepsOthers files held name
-
--- the same, of the file that a line names, if it names one
-abbrev pub IsTornAt : Option (List ℕ) → Option Files → State → Map → Option Files → Type 0
-IsTornAt named files s map held =
-    (name : List ℕ) × (named ≡ Some name) × IsTorn files s name map held
+  pub others : KeepsUnsaved saved files held
 
 -- map and files are as they are after these lines
 abbrev pub IsLikeAfter : Setup → Progress → Desk → Type 0
-IsLikeAfter o p d = IsLike p.files (state_after o p.history) d.map d.files
+IsLikeAfter o p d = IsLike p.files (state_after o p.history) d.map d.store.files
 
--- they are so but for the file that a line names, if it names one
+-- they are so but for the file that was to be saved, if one was
 abbrev pub IsTornAfter : Setup → Option (List ℕ) → Progress → Desk → Type 0
-IsTornAfter o named p d = IsTornAt named p.files (state_after o p.history) d.map d.files
+IsTornAfter o saved p d = IsTorn saved p.files (state_after o p.history) d.map d.store.files
 
 -- what a session leaves that is halted on its way from one state to the next, by the status: on a
--- write fault all is done; on a store fault nothing is, but for the one file that the line names;
--- where memory runs out either may be, or nothing is done at all; where it isn't all done, nothing
--- of the reply was told
+-- write fault all is done; on a store fault, which takes a line that names a file, nothing is, but
+-- for the file that the line saves, if it saves one; where memory runs out all is done or nothing;
+-- where it isn't done, nothing of the reply was told
 abbrev pub HasLeft : Setup → Option (List ℕ) → Progress → Progress → List ℕ → Desk → Status
     → Type 0
-HasLeft o named p q told d Done = ⊥
-HasLeft o named p q told d Refused = ⊥
-HasLeft o named p q told d Usage = ⊥
-HasLeft o named p q told d BadFile = ⊥
-HasLeft o named p q told d TooLong = ⊥
-HasLeft o named p q told d ReadFault = ⊥
-HasLeft o named p q told d WriteFault = IsLikeAfter o q d
-HasLeft o named p q told d Memory =
-    IsLikeAfter o q d ⊎ ((told ≡ []) × (IsLikeAfter o p d ⊎ IsTornAfter o named p d))
-HasLeft o named p q told d StoreFault = (told ≡ []) × IsTornAfter o named p d
+HasLeft o saved p q told d WriteFault = IsLikeAfter o q d
+HasLeft o saved p q told d Memory = IsLikeAfter o q d ⊎ ((told ≡ []) × IsLikeAfter o p d)
+HasLeft o saved p q told d StoreFault =
+    (told ≡ []) × (p.asks < q.asks) × IsTornAfter o saved p d
+HasLeft o saved p q told d _ = ⊥
 
 -- What was to be written on the way from one state to the next was not written whole, unless the
 -- way ends inside a block, whose lines have no reply.
@@ -92,26 +112,23 @@ pub record IsCutBetween (p q : Progress) (old new : Option (List ℕ)) : Type 0 
   pub written : new ≡ appended old (p.text ++ told)
   pub more : (0 < length untold) ⊎ IsSome q.block
 
--- the session was halted on its way from one state to the next, by a line that may name a file and
--- may save one; the files are as they were where it saves none, and the store is as it was at first
--- where no line named a file
-pub record IsHaltedBetween (o : Setup) (named saved : Option (List ℕ)) (p q : Progress)
+-- the session was halted on its way from one state to the next, by a line that may save a file; the
+-- store was asked once at most for each line that named a file
+pub record IsHaltedBetween (o : Setup) (saved : Option (List ℕ)) (p q : Progress)
     (old new : Option (List ℕ)) (d : Desk) (status : Status) : Type 0 where
   pub cut : IsCutBetween p q old new
-  pub has_left : HasLeft o named p q cut.told d status
-  pub unsaved : saved ≡ None → d.files ≡ p.files
-  pub kept : q.names_file ≡ false → d.kept
+  pub has_left : HasLeft o saved p q cut.told d status
+  pub asked : HasAsked d q.asks
 
 -- the session was halted at this line
 abbrev pub IsHaltedBy : Setup → Progress → Line → Option (List ℕ) → Option (List ℕ) → Desk
     → Status → Type 0
 IsHaltedBy o p line old new d status =
-    IsHaltedBetween o (file_named (next_command p line)) (file_saved (next_command p line)) p
-    (after_line o p line) old new d status
+    IsHaltedBetween o (file_saved (next_command p line)) p (after_line o p line) old new d status
 
 -- what was answered so far is known: the files are told, or no line named one
 abbrev pub IsKnown : Progress → Type 0
-IsKnown p = IsSome p.files ⊎ (p.names_file ≡ false)
+IsKnown p = IsSome p.files ⊎ (p.asks ≡ 0)
 
 -- the session was halted at one of these lines, and all lines before it were answered
 pub record IsHalted (o : Setup) (files : Option Files) (lines : List Line)
@@ -127,7 +144,7 @@ pub record IsHalted (o : Setup) (files : Option Files) (lines : List Line)
 abbrev pub IsHaltedAtEnd : Setup → Option Files → List Line → Option (List ℕ)
     → Option (List ℕ) → Desk → Status → Type 0
 IsHaltedAtEnd o files lines old new d status =
-    IsHaltedBetween o None None (progress o files lines) (closed (progress o files lines)) old new d
+    IsHaltedBetween o None (progress o files lines) (closed (progress o files lines)) old new d
     status
 
 -- the session was halted at one of its lines, or at the end of its script, which has one where it
@@ -145,17 +162,14 @@ pub record IsLikeTaken (o : Setup) (files : Option Files) (bytes : List ℕ)
   pub input : HasTaken taken bytes left
   pub like : IsLikeAfter o (progress o files (ended_lines (take taken bytes))) d
 
--- what a session over these bytes and files leaves, status by status: map and files are as after all
--- lines that were to be answered, as after those that end within the bytes taken, or as after those
--- that were answered and at most one more, but for the one file that a store fault leaves open
+-- what a session over these bytes and files leaves, status by status: map and files are as after
+-- all lines that were to be answered, as after those that end within the bytes taken, or, where it
+-- was halted, as after those that were answered and at most one more, but for the one file that a
+-- store fault leaves open
 abbrev pub Leaves : Setup → Option Files → List ℕ → Option (List ℕ) → Option (List ℕ)
     → Option (List ℕ) → Desk → Status → Type 0
 Leaves o files bytes left old new d Done = IsLikeAfter o (last_progress o files bytes) d
 Leaves o files bytes left old new d Refused = IsLikeAfter o (last_progress o files bytes) d
-Leaves o files bytes left old new d Usage = ⊥
-Leaves o files bytes left old new d BadFile = ⊥
 Leaves o files bytes left old new d TooLong = IsLikeAfter o (last_progress o files bytes) d
 Leaves o files bytes left old new d ReadFault = IsLikeTaken o files bytes left d
-Leaves o files bytes left old new d WriteFault = HasHalted o files bytes old new d WriteFault
-Leaves o files bytes left old new d Memory = HasHalted o files bytes old new d Memory
-Leaves o files bytes left old new d StoreFault = HasHalted o files bytes old new d StoreFault
+Leaves o files bytes left old new d status = HasHalted o files bytes old new d status

@@ -19,7 +19,7 @@ pub record IsLimited (o : Setup) : Type 0 where
   pub some : 16 ≤ o.max_groups
   pub few : o.max_groups ≤ 2 ^ 26
 
--- After some lines one is a save under this name, and behind more lines, whatever they do, one is a
+-- After some lines one is a save under this name, and after more lines, whatever they do, one is a
 -- load of it. Between them no line writes the file of that name, by a save or a snapshot.
 pub record AreSaveAndLoad (o : Setup) (files : Files) (name : List ℕ) (before : List Line)
     (save : Line) (between : List Line) (load : Line) : Type 0 where
@@ -40,7 +40,7 @@ pub record IsLoadedBack (old : State) (reply : Option Reply) (new : State) : Typ
   pub values : (k : Voxel) → IsInMap k
       → new.values k ≡ value_for new.base.odds (classes_in old k)
 
--- what the load behind these lines gives back
+-- what the load after these lines gives back
 abbrev pub LoadsBack : Setup → Files → List Line → Line → List Line → Line → Type 0
 LoadsBack o files before save between load = IsLoadedBack
     (state_after o (progress o (Some files) before).history)

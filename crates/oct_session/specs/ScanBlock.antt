@@ -1,5 +1,6 @@
 -- The block of a scan: its head, the lines inside it, and its one reply.
-use Rattle.std.specs.Prelude.{ℕ, pos, [], ◌∷◌, ◌++◌, length, nat_le, if◌then◌else◌, Bool, true, false, ◌&&◌, Option, Some, None, Result, Ok, Err}
+use Rattle.std.specs.Prelude.{ℕ, pos, [], ◌∷◌, ◌++◌, length, nat_le, if◌then◌else◌, Bool, true}
+use Rattle.std.specs.Prelude.{false, ◌&&◌, Option, Some, None, Result, Ok, Err}
 use Rattle.std.specs.Ordering.{int_eq}
 use Rattle.oct_map.specs.Answers.{scan_answer}
 use Rattle.oct_map.specs.declared.fault.MapFault.{MapFault}

@@ -1,14 +1,19 @@
 -- A session: the replies to a script.
-use Rattle.std.specs.Prelude.{◌≡◌, ◌⊎◌, IsSome, ℕ, ◌+◌, List, [], ◌++◌, length, take, fold, nat_lt, Option, Some, None, is_some, Result, if◌then◌else◌, Bool, false, ◌||◌}
+use Rattle.std.specs.Prelude.{◌≡◌, ◌⊎◌, IsSome, ℕ, ◌+◌, List, [], ◌++◌, length, take, fold, nat_lt}
+use Rattle.std.specs.Prelude.{Option, Some, None}
+use Rattle.std.specs.Prelude.{is_some, Result, if◌then◌else◌, Bool, false, ◌||◌}
 use Rattle.oct_io.specs.Files.{Files}
 use Rattle.oct_script.specs.declared.command.Command.{Command}
 use Rattle.oct_script.specs.declared.reply.Refusal.{Refusal}
 use Rattle.oct_script.specs.declared.reply.Reply.{Reply}
 use Rattle.oct_script.specs.Lines.{Line, ended_lines, all_lines}
 use Rattle.oct_script.specs.Replies.{text_of, is_refusal}
-use Rattle.oct_session.specs.Commands.{command_on, is_quit, reply, action_of, accepted, Saving, saving_of, file_named, accepted_saving, stored}
+use Rattle.oct_session.specs.Commands.{command_on, is_quit, reply, action_of, accepted, Saving}
+use Rattle.oct_session.specs.Commands.{saving_of}
+use Rattle.oct_session.specs.Commands.{file_named, asks_for, accepted_saving, stored}
 use Rattle.oct_session.specs.History.{History, State, state_after}
-use Rattle.oct_session.specs.ScanBlock.{opened, with_line, is_end, block_reply, block_action, end_reply}
+use Rattle.oct_session.specs.ScanBlock.{opened, with_line, is_end, block_reply, block_action}
+use Rattle.oct_session.specs.ScanBlock.{end_reply}
 use Rattle.oct_session.specs.Setup.{Setup}
 use Rattle.oct_session.specs.Tally.{counted, no_replies}
 use Rattle.oct_session.specs.declared.block.Block.{Block}
@@ -16,8 +21,8 @@ use Rattle.oct_session.specs.declared.options.Status.{Status}
 use Rattle.oct_session.specs.declared.tally.Tally.{Tally}
 use Rattle.oct_session.specs.declared.options.Status.TheVariants as status
 
--- what a line does: its reply, what it adds to the history, what it saves, and the block that is open
--- after it
+-- what a line does: its reply, what it adds to the history, what it saves, and the block that is
+-- open after it
 pub record Effect : Type 0 where
   pub reply : Option Reply
   pub added : History
@@ -61,13 +66,13 @@ effect files s number line command None =
     effect_opened files s command (opened number line command)
 effect files s number line command (Some block) = effect_inside s number command block
 
--- between two lines: the history, the files, where they are told, whether a line named one, how many
--- lines there were, the block that is open, whether a reply was a refusal and a line was `quit`, what
--- the replies come to, and the replies
+-- between two lines: the history, the files, where they are told, how many lines named one, how
+-- many lines there were, the block that is open, whether a reply was a refusal and a line was
+-- `quit`, what the replies come to, and the replies
 pub record Progress : Type 0 where
   pub history : History
   pub files : Option Files
-  pub names_file : Bool
+  pub asks : ℕ
   pub line_count : ℕ
   pub block : Option Block
   pub refused : Bool
@@ -80,7 +85,7 @@ abbrev pub start : Option Files → Progress
 start files = record {
   history = [];
   files = files;
-  names_file = false;
+  asks = 0;
   line_count = 0;
   block = None;
   refused = false;
@@ -103,7 +108,7 @@ abbrev pub answered : Setup → Progress → Line → Progress
 answered o p line = record {
   history = p.history ++ (effect_of o p line).added;
   files = stored p.files (effect_of o p line).saving;
-  names_file = p.names_file || is_some (file_named (next_command p line));
+  asks = p.asks + asks_for (file_named (next_command p line));
   line_count = p.line_count + 1;
   block = (effect_of o p line).block;
   refused = p.refused || is_refusal (effect_of o p line).reply;
@@ -125,7 +130,7 @@ abbrev pub ended : Progress → Progress
 ended p = record {
   history = p.history;
   files = p.files;
-  names_file = p.names_file;
+  asks = p.asks;
   line_count = p.line_count;
   block = None;
   refused = p.refused || is_refusal (end_reply p.block);
@@ -181,4 +186,4 @@ session o files bytes =
 -- all files that the session reads are told: the store tells its files, or no line names one
 abbrev pub ReadsTold : Setup → Option Files → List ℕ → Type 0
 ReadsTold o files bytes =
-    IsSome files ⊎ ((last_progress o files bytes).names_file ≡ false)
+    IsSome files ⊎ ((last_progress o files bytes).asks ≡ 0)

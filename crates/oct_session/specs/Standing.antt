@@ -1,5 +1,7 @@
 -- The desk and the session at work: what they hold for the bytes that were taken.
-use Rattle.std.specs.Prelude.{◌≡◌, ℕ, ◌<◌, ◌⊎◌, List, ◌++◌, length, take, Option, None, IsSome, Result, Ok, Err, false}
+use Rattle.std.specs.Prelude.{◌≡◌, ℕ, ◌<◌, ◌⊎◌, List, ◌++◌, length, take, Option, None, IsSome}
+use Rattle.std.specs.Prelude.{Result}
+use Rattle.std.specs.Prelude.{Ok, Err, false}
 use Rattle.oct_io.specs.Files.{Files}
 use Rattle.oct_io.specs.Told.{appended}
 use Rattle.oct_io.specs.declared.store.StoreFault.{StoreFault}
@@ -11,12 +13,16 @@ use Rattle.oct_script.specs.declared.reply.Reply.{Reply}
 use Rattle.oct_script.specs.Lines.{Line, ended_lines, IsReading}
 use Rattle.oct_session.specs.declared.options.Status.{Status}
 use Rattle.oct_session.specs.declared.options.Stop.{Stop}
-use Rattle.oct_session.specs.declared.options.Stop.TheVariants.{TooLong, ReadFault, WriteFault, Memory, StoreFault as StoreStop}
+use Rattle.oct_session.specs.declared.options.Stop.TheVariants.{TooLong, ReadFault}
 use Rattle.oct_session.specs.declared.session.Session.{Session}
 use Rattle.oct_session.specs.Ending.{HasTaken, HasReplied, IsReadToEnd, MayEnd}
-use Rattle.oct_session.specs.Leaving.{StandsFor, StandsForSome, Desk, IsLike, IsTornAt, IsLikeAfter, IsTornAfter, IsKnown, IsHalted, IsHaltedAtEnd, Leaves}
+use Rattle.oct_session.specs.Leaving.{StandsFor, StandsForSome, Desk, HasAsked, IsLike, IsTorn}
+use Rattle.oct_session.specs.Leaving.{IsLikeAfter, IsTornAfter}
+use Rattle.oct_session.specs.Leaving.{IsKnown, IsHalted, IsHaltedAtEnd, Leaves}
 use Rattle.oct_session.specs.History.{History, State, after_all}
-use Rattle.oct_session.specs.Session.{Progress, Effect, effect_of, next_command, after_line, progress, closed, session, finished, last_progress}
+use Rattle.oct_session.specs.Session.{Progress, Effect, effect_of, next_command, after_line}
+use Rattle.oct_session.specs.Session.{progress, closed}
+use Rattle.oct_session.specs.Session.{session, finished, last_progress}
 use Rattle.oct_session.specs.Commands.{reply, action_of, accepted, stored, file_named, file_saved}
 use Rattle.oct_session.specs.ScanBlock.{block_reply, block_action}
 use Rattle.oct_session.specs.Setup.{Setup}
@@ -75,46 +81,48 @@ HasWorked effect old new block (Err fault) =
 abbrev pub FindsTold : Option (List ℕ) → Option Files → Type 0
 FindsTold named files = (named ≡ None) ⊎ IsSome files
 
--- a line that may name a file had its effect on a map and files that were as some state and some
--- files are: this is the reply, and this the block that is open after it
-abbrev pub TakesEffect : (Option Files → State → Effect) → Option (List ℕ) → Map → Option Files
-    → Map → Option Files → Option Block → Option Reply → Type 0
-TakesEffect effect named old told new untold block answer =
-    (files : Option Files) (s : State) → FindsTold named files → IsLike files s old told
+-- a line with this command had its effect on a map and files that were as some state and some files
+-- are: this is the reply, and this the block that is open after it
+abbrev pub TakesEffect : (Option Files → State → Effect) → Result Command Refusal → Map
+    → Option Files → Map → Option Files → Option Block → Option Reply → Type 0
+TakesEffect effect command old told new untold block answer =
+    (files : Option Files) (s : State) → FindsTold (file_named command) files
+    → IsLike files s old told
     → (answer ≡ (effect files s).reply) × (block ≡ (effect files s).block)
     × IsLike (stored files (effect files s).saving) (after_all s (effect files s).added) new untold
 
--- nothing of a line was done, but for the file that it names where the store failed
-abbrev pub HasFailed : Option (List ℕ) → Option Files → State → Map → Option Files → StoreFault
-    → Type 0
-HasFailed named files s map told store_fault.Failed = IsTornAt named files s map told
-HasFailed named files s map told store_fault.Memory =
-    IsLike files s map told ⊎ IsTornAt named files s map told
+-- nothing of a line was done, but for the file that it saves where the store failed, which takes a
+-- line that names one
+abbrev pub HasFailed : Result Command Refusal → Option Files → State → Map → Option Files
+    → StoreFault → Type 0
+HasFailed command files s map told store_fault.Failed =
+    IsSome (file_named command) × IsTorn (file_saved command) files s map told
+HasFailed command files s map told store_fault.Memory = IsLike files s map told
 
 -- a line had its effect, or it failed, and is heard
-abbrev pub HasEffect : (Option Files → State → Effect) → Option (List ℕ) → Map → Option Files
-    → Map → Option Files → Option Block → Result (Option Reply) StoreFault → Type 0
-HasEffect effect named old told new untold block (Ok answer) =
-    TakesEffect effect named old told new untold block answer
-HasEffect effect named old told new untold block (Err fault) =
-    (files : Option Files) (s : State) → FindsTold named files → IsLike files s old told
-    → IsHeard (effect files s) × HasFailed named files s new untold fault
+abbrev pub HasEffect : (Option Files → State → Effect) → Result Command Refusal → Map
+    → Option Files → Map → Option Files → Option Block → Result (Option Reply) StoreFault → Type 0
+HasEffect effect command old told new untold block (Ok answer) =
+    TakesEffect effect command old told new untold block answer
+HasEffect effect command old told new untold block (Err fault) =
+    (files : Option Files) (s : State) → FindsTold (file_named command) files
+    → IsLike files s old told
+    → IsHeard (effect files s) × HasFailed command files s new untold fault
 
 -- the next line failed, or all of it was done and memory ran out for its reply
 abbrev pub StandsBeside : Setup → Desk → Progress → Line → StoreFault → Type 0
-StandsBeside o d p line store_fault.Failed =
-    IsTornAfter o (file_named (next_command p line)) p d
-StandsBeside o d p line store_fault.Memory = IsLikeAfter o (after_line o p line) d
-    ⊎ (IsLikeAfter o p d ⊎ IsTornAfter o (file_named (next_command p line)) p d)
+StandsBeside o d p line store_fault.Failed = (p.asks < (after_line o p line).asks)
+    × IsTornAfter o (file_saved (next_command p line)) p d
+StandsBeside o d p line store_fault.Memory =
+    IsLikeAfter o (after_line o p line) d ⊎ IsLikeAfter o p d
 
--- the same, of a line that is heard; the files are as they were where it saves none, and the store is
--- as it was at first where no line named a file
+-- the same, of a line that is heard; the store was asked once at most for each line that named a
+-- file
 pub record HasStoppedAt (o : Setup) (d : Desk) (p : Progress) (line : Line) (fault : StoreFault)
     : Type 0 where
   pub heard : IsHeard (effect_of o p line)
   pub beside : StandsBeside o d p line fault
-  pub unsaved : file_saved (next_command p line) ≡ None → d.files ≡ p.files
-  pub kept : (after_line o p line).names_file ≡ false → d.kept
+  pub asked : HasAsked d (after_line o p line).asks
 
 -- the session stands between two lines, where that was done so far
 pub record IsInStep (session : Session) (p : Progress) : Type 0 where
@@ -127,7 +135,7 @@ pub record IsInStep (session : Session) (p : Progress) : Type 0 where
 -- desk and session stand there
 pub record IsBetween (o : Setup) (d : Desk) (session : Session) (p : Progress) : Type 0 where
   pub like : IsLikeAfter o p d
-  pub kept : p.names_file ≡ false → d.kept
+  pub asked : HasAsked d p.asks
   pub step : IsInStep session p
 
 -- they stand there, and since `old` the replies so far were written
@@ -185,13 +193,13 @@ StopsAtEnd o files bytes lines old new d status =
     (IsHalted o files lines old new d status ⊎ IsHaltedAtEnd o files lines old new d status)
     × HasReplied o files bytes old new
 
--- how a session over these bytes may end, and what it then leaves of map and files; the store is as
--- it was at first where no line named a file
+-- how a session over these bytes may end, and what it then leaves of map and files; the store was
+-- asked once at most for each line that names a file
 pub record HasEndedAs (o : Setup) (files : Option Files) (bytes : List ℕ)
     (left old new : Option (List ℕ)) (d : Desk) (status : Status) : Type 0 where
   pub answer : MayEnd o files bytes left old new status
   pub leaves : Leaves o files bytes left old new d status
-  pub kept : (last_progress o files bytes).names_file ≡ false → d.kept
+  pub asked : HasAsked d (last_progress o files bytes).asks
 
 -- how a session that was given these bytes may stop in a piece, of which `room` bytes may be taken
 abbrev pub StopsIn : Setup → Option Files → Option (List ℕ) → Option (List ℕ) → Desk → Session
@@ -199,16 +207,8 @@ abbrev pub StopsIn : Setup → Option Files → Option (List ℕ) → Option (Li
 StopsIn o files old new d session bytes piece room TooLong =
     (room < length piece) × (session.has_quit ≡ false)
     × IsAt o files old new d session (bytes ++ take room piece)
-StopsIn o files old new d session bytes piece room WriteFault =
-    IsKnown (progress o files (ended_lines (bytes ++ take room piece)))
-    → IsHaltedBehind o files bytes (ended_lines (bytes ++ take room piece)) old new d
-    (status_of WriteFault)
-StopsIn o files old new d session bytes piece room Memory =
-    IsKnown (progress o files (ended_lines (bytes ++ take room piece)))
-    → IsHaltedBehind o files bytes (ended_lines (bytes ++ take room piece)) old new d
-    (status_of Memory)
-StopsIn o files old new d session bytes piece room StoreStop =
-    IsKnown (progress o files (ended_lines (bytes ++ take room piece)))
-    → IsHaltedBehind o files bytes (ended_lines (bytes ++ take room piece)) old new d
-    (status_of StoreStop)
 StopsIn o files old new d session bytes piece room ReadFault = ⊥
+StopsIn o files old new d session bytes piece room stop =
+    IsKnown (progress o files (ended_lines (bytes ++ take room piece)))
+    → IsHaltedBehind o files bytes (ended_lines (bytes ++ take room piece)) old new d
+    (status_of stop)

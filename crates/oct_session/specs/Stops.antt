@@ -37,14 +37,4 @@ status_written whole (Err sink_fault.Memory) = status.Memory
 abbrev pub IsHalt : Stop → Type 0
 IsHalt stop.TooLong = ⊥
 IsHalt stop.ReadFault = ⊥
-IsHalt stop.WriteFault = Unit {0}
-IsHalt stop.Memory = Unit {0}
-IsHalt stop.StoreFault = Unit {0}
-
--- a stop that writing may lead to
-abbrev pub IsSinkStop : Stop → Type 0
-IsSinkStop stop.TooLong = ⊥
-IsSinkStop stop.ReadFault = ⊥
-IsSinkStop stop.WriteFault = Unit {0}
-IsSinkStop stop.Memory = Unit {0}
-IsSinkStop stop.StoreFault = ⊥
+IsHalt _ = Unit {0}

@@ -12,8 +12,8 @@ capped_sum a b = min (a + b) (2 ^ 64 - 1)
 abbrev pub no_replies : Tally
 no_replies = record { refused = 0; hits = 0; frees = 0 }
 
--- with one reply more, if there is one: refusals are counted, and the hits and frees of the scans that
--- were done are summed up
+-- with one reply more, if there is one: refusals are counted, and the hits and frees of the scans
+-- that were done are summed up
 abbrev pub counted : Tally → Option Reply → Tally
 counted t (Some (Refused refusal)) =
     record { refused = capped_sum t.refused 1; hits = t.hits; frees = t.frees }

@@ -1,10 +1,12 @@
 //! The block of a scan that is being read.
-ghost use Rattle.std.specs.Prelude.{◌≡◌, ℕ, option_map, All, IfOk, IfSome, Some, Ok, Err, is_err, pos, ◌≤ℤ◌, ◌<ℤ◌, ◌^◌};
+ghost use Rattle.std.specs.Prelude.{◌≡◌, ℕ, option_map, All, IfOk, IfSome, Some, Ok, Err, is_err};
+ghost use Rattle.std.specs.Prelude.{pos, ◌≤ℤ◌, ◌<ℤ◌, ◌^◌};
 ghost use Rattle.oct_pose.specs.Reach.{IsInReach};
 ghost use Rattle.oct_scan.specs.Beam.{IsTrust, sighting_of};
 ghost use Rattle.oct_script.specs.Commands.{IsOwnOdds, IsRange, IsSmallCommand};
 ghost use Rattle.oct_session.specs.ScanSoFar.{begun, sighting_so_far, trust_of};
-ghost use Rattle.oct_session.specs.ScanBlock.{opens_block, with_point, with_line, spoilt_by, is_zero, end_refusal};
+ghost use Rattle.oct_session.specs.ScanBlock.{opens_block, with_point, with_line, spoilt_by};
+ghost use Rattle.oct_session.specs.ScanBlock.{is_zero, end_refusal};
 
 use oct_key::{Point, PointList};
 use oct_num::Memory;

@@ -3,11 +3,12 @@ ghost use Rattle.std.specs.Prelude.{◌≡◌, ◌≢◌, ◌⊎◌, IfSome, Non
 ghost use Rattle.oct_io.specs.Told.{Rose};
 ghost use Rattle.oct_bt.specs.File.{bt_text};
 ghost use Rattle.oct_bt.specs.Mixtures.{classes_in};
-ghost use Rattle.oct_session.specs.Counts.{IsSourceCounted, IsSinkCounted, IsStoreCounted};
-ghost use Rattle.oct_session.specs.Building.{build as whole_build, has_ended, EndsWriting, MayEnd, Leaves};
+ghost use Rattle.oct_session.specs.Counts.{IsSourceCounted, IsSinkCounted, IsStoreCounted, IsAsked};
+ghost use Rattle.oct_session.specs.Building.{build as whole_build, has_ended, EndsWriting, MayEnd};
+ghost use Rattle.oct_session.specs.Building.{Leaves};
 ghost use Rattle.oct_session.specs.Ending.{IsWhole};
 ghost use Rattle.oct_session.specs.History.{start_state};
-ghost use Rattle.oct_session.specs.Leaving.{StandsFor, StandsForSome, desk};
+ghost use Rattle.oct_session.specs.Leaving.{StandsFor, StandsForSome, desk, shelf};
 ghost use Rattle.oct_session.specs.Session.{last_progress, ReadsTold};
 
 use crate::options::{Options, Status};
@@ -83,7 +84,7 @@ pub fn build<S: Source, K: Sink, F: Store>(
     ensures leaves { IfSome (S.left source.old) (λ bytes.
         ReadsTold options.now (F.files store.old) bytes
         → Leaves options.now (F.files store.old) bytes (S.left source.new)
-        (desk map.new (F.files store.new) (store.new ≡ store.old)) result) }
+        (desk map.new (shelf F.files F.calls store.old store.new)) result) }
     ensures files { IfSome (S.left source.old) (λ bytes.
         ReadsTold options.now (F.files store.old) bytes → IsWhole result
         → F.files store.new ≡ (whole_build options.now (F.files store.old) bytes).files) }
@@ -91,18 +92,20 @@ pub fn build<S: Source, K: Sink, F: Store>(
     ensures usage { result ≢ Status.Usage }
     ensures bad_file { result ≢ Status.BadFile }
 
-    // Where no line names a file, nothing is asked of the store, and nothing of the sink before the
-    // script has ended.
-    ensures unnamed { IfSome (S.left source.old) (λ bytes.
-        (last_progress options.now (F.files store.old) bytes).names_file ≡ false
-        → store.new ≡ store.old) }
+    // The store is asked once at most for each line that names a file, and isn't touched where none
+    // does; nothing is asked of the sink before the script has ended.
+    ensures asked { IfSome (S.left source.old) (λ bytes.
+        ReadsTold options.now (F.files store.old) bytes
+        → IsAsked (store.new ≡ store.old) (F.calls store.old) (F.calls store.new)
+        (last_progress options.now (F.files store.old) bytes).asks) }
     ensures too_long { result ≡ Status.TooLong → sink.new ≡ sink.old }
     ensures unread { result ≡ Status.ReadFault → sink.new ≡ sink.old }
     ensures unstored { result ≡ Status.StoreFault → sink.new ≡ sink.old }
 
     // A fault is met once and ends the build: its count rises by one exactly where the status names
     // it, and no other count changes.
-    ensures source_counts { IsSourceCounted result (S.faults source.old) (S.faults source.new) }
+    ensures source_counts { IsSourceCounted result (S.faults source.old) (S.faults source.new)
+        (S.ends source.old) (S.ends source.new) }
     ensures sink_counts { IsSinkCounted result (K.faults sink.old) (K.faults sink.new)
         (K.shortages sink.old) (K.shortages sink.new) }
     ensures store_counts { IsStoreCounted result (F.faults store.old) (F.faults store.new) }

@@ -1,13 +1,16 @@
 //! Drills: a session over a script that a number makes, and four lines about it.
-ghost use Rattle.std.specs.Prelude.{◌≡◌, ◌≤◌, ◌++◌, decimal, length, None, OnOk, OnErr, IfOk, IfErr};
+ghost use Rattle.std.specs.Prelude.{◌≡◌, ◌≤◌, ◌++◌, decimal, length, None, OnOk, OnErr, IfOk};
+ghost use Rattle.std.specs.Prelude.{IfErr};
 ghost use Rattle.oct_bt.specs.File.{bt_text};
+ghost use Rattle.oct_io.specs.Counts.{IsMakingCounted};
 ghost use Rattle.oct_io.specs.Taken.{IsCutOff};
 ghost use Rattle.oct_bt.specs.Mixtures.{classes_in};
 ghost use Rattle.oct_io.specs.Told.{appended};
 ghost use Rattle.oct_map.specs.Map.{values_of};
 ghost use Rattle.oct_values.specs.Counts.{group_count, node_count};
-ghost use Rattle.oct_session.specs.Counts.{IsSinkCounted, IsWriteCounted};
-ghost use Rattle.oct_session.specs.Drill.{drill as whole_drill, drill_setup, drilled, drilled_state, line_of_two, summary, EndsUnread};
+ghost use Rattle.oct_session.specs.Counts.{IsSinkCounted};
+ghost use Rattle.oct_session.specs.Drill.{drill as whole_drill, drill_setup, drilled};
+ghost use Rattle.oct_session.specs.Drill.{drilled_state, line_of_two, summary, EndsUnread};
 ghost use Rattle.oct_session.specs.History.{start_state};
 ghost use Rattle.oct_session.specs.Leaving.{StandsFor};
 ghost use Rattle.oct_session.specs.Session.{status_at_end};
@@ -112,7 +115,7 @@ fn write_summary<K: Sink>(
     ensures err { OnErr result (IsCutOff (K.written sink.old) (K.written sink.new)
         (summary scans tally.now (group_count (values_of map.old)) (node_count (values_of map.old))
         (length (bt_text map.old.tree.res (classes_in map.old.tree))))) }
-    ensures sink_counts { IsWriteCounted result (K.faults sink.old) (K.faults sink.new)
+    ensures sink_counts { IsMakingCounted result (K.faults sink.old) (K.faults sink.new)
         (K.shortages sink.old) (K.shortages sink.new) }
 {
     let bytes = encoded_len(map.tree());
@@ -152,8 +155,8 @@ fn work_through(
     Ok(session.tally)
 }
 
-/// Does the script of this seed, of so many scans of so many points each, as a session at 0.05 m
-/// with the default of each option, and writes four lines about it in place of the replies.
+/// Does the script of this seed, of this many scans of this many points each, as a session at 0.05
+/// m with the default of each option, and writes four lines about it in place of the replies.
 ///
 /// The script is made as it is read. After an error a part of the lines was written.
 pub fn drill<K: Sink>(alloc: Global, seed: u64, scans: u32, points: u32, sink: &mut K) -> Status

@@ -1,17 +1,18 @@
 //! What a command does that names a file: a save or a snapshot to the store, or a load or a restore
 //! from it.
-ghost use Rattle.std.specs.Prelude.{◌≡◌, ◌⊎◌, IfOk, None, Ok, OnErr, Option, Some, Err};
+ghost use Rattle.std.specs.Prelude.{◌≡◌, ◌⊎◌, ◌≤◌, ◌+◌, IfOk, None, Ok, OnErr, Option, Some, Err};
 ghost use Rattle.oct_bt.specs.declared.fault.BtFault.{BtFault};
 ghost use Rattle.oct_bt.specs.File.{bt_text, reading};
 ghost use Rattle.oct_bt.specs.Mixtures.{classes_in};
+ghost use Rattle.oct_io.specs.Counts.{IsAskCounted};
 ghost use Rattle.oct_map.specs.Map.{values_of};
 ghost use Rattle.oct_snap.specs.Reading.{read_snapshot};
 ghost use Rattle.oct_snap.specs.Texts.{snap_text};
 ghost use Rattle.oct_script.specs.declared.command.Command.{Command};
-ghost use Rattle.oct_session.specs.Counts.{IsAskCounted};
-ghost use Rattle.oct_session.specs.Commands.{file_named};
-ghost use Rattle.oct_session.specs.FileCommands.{load_action, load_reply, reading_action, reading_reply};
-ghost use Rattle.oct_session.specs.FileCommands.{restore_action, restore_reply, snapshot_action, snapshot_reply};
+ghost use Rattle.oct_session.specs.FileCommands.{load_action, load_reply, reading_action};
+ghost use Rattle.oct_session.specs.FileCommands.{reading_reply};
+ghost use Rattle.oct_session.specs.FileCommands.{restore_action, restore_reply, snapshot_action};
+ghost use Rattle.oct_session.specs.FileCommands.{snapshot_reply};
 ghost use Rattle.oct_session.specs.Refusals.{file_refusal, word_of};
 ghost use Rattle.oct_session.specs.Session.{effect_of_command};
 ghost use Rattle.oct_session.specs.Standing.{with_reply, HasDone, HasEffect, KeepsStanding};
@@ -49,9 +50,10 @@ pub fn save<F: Store>(
     reply: &mut Option<Reply>,
 ) -> Result<(), StoreFault>
     ensures effect { HasEffect (λ files s. effect_of_command files s (Ok (Command.Save name.now)))
-        (file_named (Ok (Command.Save name.now))) map.now (F.files store.old) map.now
+        (Ok (Command.Save name.now)) map.now (F.files store.old) map.now
         (F.files store.new) None (with_reply result reply.new) }
     ensures store_counts { IsAskCounted result (F.faults store.old) (F.faults store.new) }
+    ensures called { F.calls store.new ≤ F.calls store.old + 1 }
 {
     let file = write_classes(alloc, map)?;
     let bytes = file.written();
@@ -97,7 +99,7 @@ fn file_refusal(fault: BtFault) -> Result<Refusal, Memory>
 }
 
 /// The file of classes that these bytes are, or what is wrong with them.
-fn read(alloc: Global, bytes: &[u8]) -> Result<BtFile, BtFault>
+pub fn read_classes(alloc: Global, bytes: &[u8]) -> Result<BtFile, BtFault>
     ensures { (result ≡ reading bytes.now) ⊎ (result ≡ Err BtFault.Memory) }
 {
     let mut reader = Reader::new(alloc);
@@ -129,7 +131,7 @@ fn load_bytes(
     ensures { HasDone (λ s. reading_reply s.base (reading bytes.now))
         (λ s. reading_action (reading bytes.now)) map.old map.new (with_reply result reply.new) }
 {
-    match read(alloc, bytes) {
+    match read_classes(alloc, bytes) {
         Ok(file) => replace(map, &file, reply),
         Err(fault) => {
             let refusal = file_refusal(fault)?;
@@ -171,11 +173,11 @@ pub fn load<F: Store>(
     reply: &mut Option<Reply>,
 ) -> Result<(), StoreFault>
     ensures effect { HasEffect (λ files s. effect_of_command files s (Ok (Command.Load name.now)))
-        (file_named (Ok (Command.Load name.now))) map.old (F.files store.old) map.new
+        (Ok (Command.Load name.now)) map.old (F.files store.old) map.new
         (F.files store.new) None (with_reply result reply.new) }
     ensures stands { KeepsStanding map.old map.new }
-    ensures unsaved { F.files store.new ≡ F.files store.old }
     ensures store_counts { IsAskCounted result (F.faults store.old) (F.faults store.new) }
+    ensures called { F.calls store.new ≤ F.calls store.old + 1 }
 {
     let loaded = store.load(alloc, name.as_str())?;
     take_in(alloc, map, loaded, reply)?;
@@ -204,9 +206,10 @@ pub fn snapshot<F: Store>(
 ) -> Result<(), StoreFault>
     ensures effect { HasEffect
         (λ files s. effect_of_command files s (Ok (Command.Snapshot name.now)))
-        (file_named (Ok (Command.Snapshot name.now))) map.now (F.files store.old) map.now
+        (Ok (Command.Snapshot name.now)) map.now (F.files store.old) map.now
         (F.files store.new) None (with_reply result reply.new) }
     ensures store_counts { IsAskCounted result (F.faults store.old) (F.faults store.new) }
+    ensures called { F.calls store.new ≤ F.calls store.old + 1 }
 {
     let file = write_snapshot(alloc, map)?;
     let text = file.written();
@@ -258,11 +261,11 @@ pub fn restore<F: Store>(
 ) -> Result<(), StoreFault>
     ensures effect { HasEffect
         (λ files s. effect_of_command files s (Ok (Command.Restore name.now)))
-        (file_named (Ok (Command.Restore name.now))) map.old (F.files store.old) map.new
+        (Ok (Command.Restore name.now)) map.old (F.files store.old) map.new
         (F.files store.new) None (with_reply result reply.new) }
     ensures stands { KeepsStanding map.old map.new }
-    ensures unsaved { F.files store.new ≡ F.files store.old }
     ensures store_counts { IsAskCounted result (F.faults store.old) (F.faults store.new) }
+    ensures called { F.calls store.new ≤ F.calls store.old + 1 }
 {
     let loaded = store.load(alloc, name.as_str())?;
     take_back(map, loaded, reply)?;

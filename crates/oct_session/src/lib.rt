@@ -82,6 +82,7 @@ mod tally;
 
 pub use building::build;
 pub use drilling::drill;
+pub use files::read_classes;
 pub use laws::{
     groups_stay_within, saves_are_loaded, snapshots_are_restored, states_stay_sound,
     values_are_folds,

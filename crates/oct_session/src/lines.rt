@@ -1,11 +1,13 @@
 //! What a line does: its reply, and the block that is open after it.
 ghost use Rattle.std.specs.Prelude.{◌≡◌, ℕ, IfOk, None, Ok, Some, is_some};
+ghost use Rattle.oct_io.specs.Counts.{IsAskCounted};
 ghost use Rattle.oct_script.specs.Commands.{IsSmallCommand};
 ghost use Rattle.oct_script.specs.Lines.{Line};
-ghost use Rattle.oct_session.specs.Counts.{IsAskCounted};
-ghost use Rattle.oct_session.specs.Commands.{command_on, file_named, file_saved, is_quit};
+ghost use Rattle.oct_session.specs.Counts.{IsAsked};
+ghost use Rattle.oct_session.specs.Commands.{asks_for, command_on, file_named, is_quit};
 ghost use Rattle.oct_session.specs.ScanBlock.{is_end, opened, spoilt_by, spoilt_reply};
-ghost use Rattle.oct_session.specs.Session.{effect_of_command, effect_opened, effect_inside, effect};
+ghost use Rattle.oct_session.specs.Session.{effect_of_command, effect_opened, effect_inside};
+ghost use Rattle.oct_session.specs.Session.{effect};
 ghost use Rattle.oct_session.specs.Standing.{with_reply, HasEffect, HasWorked, KeepsStanding};
 
 use crate::block::{Block, open_scan, spoil};
@@ -41,12 +43,11 @@ fn perform<F: Store>(
 ) -> Result<(), StoreFault>
     requires { IsSmallCommand command.now }
     ensures effect { HasEffect (λ files s. effect_of_command files s (Ok command.now))
-        (file_named (Ok command.now)) map.old (F.files store.old) map.new (F.files store.new)
+        (Ok command.now) map.old (F.files store.old) map.new (F.files store.new)
         None (with_reply result reply.new) }
     ensures stands { KeepsStanding map.old map.new }
-    ensures unnamed { file_named (Ok command.now) ≡ None → store.new ≡ store.old }
-    ensures unsaved { file_saved (Ok command.now) ≡ None
-        → F.files store.new ≡ F.files store.old }
+    ensures asked { IsAsked (store.new ≡ store.old) (F.calls store.old) (F.calls store.new)
+        (asks_for (file_named (Ok command.now))) }
     ensures store_counts { IsAskCounted result (F.faults store.old) (F.faults store.new) }
 {
     match command {
@@ -75,12 +76,11 @@ fn outside<F: Store>(
     requires closed { block.old ≡ None }
     ensures effect { (line : Line) → HasEffect
         (λ files s. effect_opened files s (Ok command.now) (opened number line (Ok command.now)))
-        (file_named (Ok command.now)) map.old (F.files store.old) map.new (F.files store.new)
+        (Ok command.now) map.old (F.files store.old) map.new (F.files store.new)
         block.new (with_reply result reply.new) }
     ensures stands { KeepsStanding map.old map.new }
-    ensures unnamed { file_named (Ok command.now) ≡ None → store.new ≡ store.old }
-    ensures unsaved { file_saved (Ok command.now) ≡ None
-        → F.files store.new ≡ F.files store.old }
+    ensures asked { IsAsked (store.new ≡ store.old) (F.calls store.old) (F.calls store.new)
+        (asks_for (file_named (Ok command.now))) }
     ensures store_counts { IsAskCounted result (F.faults store.old) (F.faults store.new) }
 {
     match command {
@@ -130,12 +130,11 @@ fn take_command<F: Store>(
     requires { IsSmallCommand command.now }
     ensures effect { (line : Line) → HasEffect
         (λ files s. effect files s number line (Ok command.now) block.old)
-        (file_named (Ok command.now)) map.old (F.files store.old) map.new (F.files store.new)
+        (Ok command.now) map.old (F.files store.old) map.new (F.files store.new)
         block.new (with_reply result reply.new) }
     ensures stands { KeepsStanding map.old map.new }
-    ensures unnamed { file_named (Ok command.now) ≡ None → store.new ≡ store.old }
-    ensures unsaved { file_saved (Ok command.now) ≡ None
-        → F.files store.new ≡ F.files store.old }
+    ensures asked { IsAsked (store.new ≡ store.old) (F.calls store.old) (F.calls store.new)
+        (asks_for (file_named (Ok command.now))) }
     ensures store_counts { IsAskCounted result (F.faults store.old) (F.faults store.new) }
 {
     if block.is_some() {
@@ -199,15 +198,13 @@ pub fn take_line<F: Store>(
 ) -> Result<bool, StoreFault>
     ensures effect { let command = command_on (is_some block.old) number line.now.line in
         HasEffect (λ files s. effect files s number line.now.line command block.old)
-        (file_named command) map.old (F.files store.old) map.new (F.files store.new)
+        command map.old (F.files store.old) map.new (F.files store.new)
         block.new (with_reply result reply.new) }
     ensures quits { IfOk result (λ quits. quits
         ≡ is_quit (command_on (is_some block.old) number line.now.line)) }
     ensures stands { KeepsStanding map.old map.new }
-    ensures unnamed { file_named (command_on (is_some block.old) number line.now.line) ≡ None
-        → store.new ≡ store.old }
-    ensures unsaved { file_saved (command_on (is_some block.old) number line.now.line) ≡ None
-        → F.files store.new ≡ F.files store.old }
+    ensures asked { IsAsked (store.new ≡ store.old) (F.calls store.old) (F.calls store.new)
+        (asks_for (file_named (command_on (is_some block.old) number line.now.line))) }
     ensures store_counts { IsAskCounted result (F.faults store.old) (F.faults store.new) }
 {
     if line.is_long() {

@@ -1,52 +1,28 @@
 //! The loop of a session: from the bytes of a source to the replies in a sink.
-ghost use Rattle.std.specs.Prelude.{◌≡◌, ◌≢◌, ◌⊎◌, ℕ, ◌+◌, ◌-◌, ◌^◌, ◌<◌, ◌≤◌, List, [], length, min, take, OnOk, OnErr, IfOk, IfErr, IfSome, IsErrOf, Option, Err, true, false};
+ghost use Rattle.std.specs.Prelude.{◌≡◌, ◌≢◌, ℕ, ◌+◌, ◌^◌, ◌<◌, ◌≤◌, List, [], length, take, OnOk};
+ghost use Rattle.std.specs.Prelude.{IfOk, IfErr, IfSome, Option, Err, true, false};
 ghost use Rattle.oct_io.specs.Files.{Files};
-ghost use Rattle.oct_io.specs.Told.{dropped, Rose};
-ghost use Rattle.oct_session.specs.Counts.{IsSourceCounted, IsSinkCounted, IsStoreCounted, IsStopCounted};
+ghost use Rattle.oct_io.specs.Told.{Rose};
+ghost use Rattle.oct_session.specs.Counts.{IsSourceCounted, IsSinkCounted, IsStoreCounted};
+ghost use Rattle.oct_session.specs.Counts.{IsStopCounted};
+ghost use Rattle.oct_session.specs.Counts.{IsScriptCounted, IsAsked};
 ghost use Rattle.oct_session.specs.History.{start_state};
-ghost use Rattle.oct_session.specs.Session.{session as whole_session, status_at_end, last_progress, ReadsTold};
+ghost use Rattle.oct_session.specs.Session.{session as whole_session, status_at_end, last_progress};
+ghost use Rattle.oct_session.specs.Session.{ReadsTold};
 ghost use Rattle.oct_session.specs.Ending.{MayEnd, IsWhole};
-ghost use Rattle.oct_session.specs.Leaving.{StandsFor, StandsForSome, desk, IsKnown, Leaves};
-ghost use Rattle.oct_session.specs.Standing.{KeepsStanding, IsAt, Takes, HasServed, IsThrough, HasEndedAs, StopsIn};
+ghost use Rattle.oct_session.specs.Leaving.{StandsFor, StandsForSome, desk, shelf, IsKnown, Leaves};
+ghost use Rattle.oct_session.specs.Standing.{KeepsStanding, IsAt, Takes, HasServed, IsThrough};
+ghost use Rattle.oct_session.specs.Standing.{HasEndedAs, StopsIn};
 ghost use Rattle.oct_session.specs.Stops.{status_of};
 
 use crate::options::{Options, Status, Stop};
 use crate::session::Session;
-use oct_io::{Failed, Sink, Source, Store};
+use oct_io::{Sink, Source, Store, read_piece};
 use oct_map::OccMap;
 use std::alloc::Global;
 
 /// The most bytes that one read asks for.
 const MOST_READ: usize = 16 * 1024;
-
-/// Reads at most `most` bytes to the front of a buffer.
-fn read_front<S: Source>(source: &mut S, buffer: &mut [u8], most: usize) -> Result<usize, Failed>
-    requires some { 0 < most }
-    requires room { most ≤ length buffer.old }
-    ensures within { IfOk result (λ n. n ≤ most) }
-    ensures moved { IfOk result (λ n. S.left source.new ≡ dropped n (S.left source.old)) }
-    ensures bytes { IfOk result
-        (λ n. IfSome (S.left source.old) (λ left. take n buffer.new ≡ take n left)) }
-    ensures enough { IfOk result (λ n. IfSome (S.left source.old) (λ left. n ≤ length left)) }
-    ensures end { IfOk result (λ n. n ≡ 0 → IfSome (S.left source.old) (λ left. left ≡ [])) }
-    ensures err { OnErr result (S.left source.new ≡ S.left source.old) }
-    ensures stays { OnOk result (S.faults source.new ≡ S.faults source.old) }
-    ensures cause { OnErr result (Rose (S.faults source.old) (S.faults source.new)) }
-{
-    source.read(&mut buffer[..most])
-}
-
-/// How many bytes to ask for, where `room` more may be taken: one more tells that the script is too
-/// long.
-fn wanted(room: u64) -> usize
-    ensures { result ≡ min (room + 1) MOST_READ }
-{
-    if room < MOST_READ as u64 {
-        room as usize + 1
-    } else {
-        MOST_READ
-    }
-}
 
 /// Takes what a read gave, of which the last byte may be one more than the script may have.
 fn take_piece<K: Sink, F: Store>(
@@ -62,15 +38,15 @@ fn take_piece<K: Sink, F: Store>(
     requires unended { session.old.line.has_ended ≡ false }
     ensures ok { OnOk result ((home : F)
         → Takes options.now (K.written sink.old) (K.written sink.new)
-        (desk map.old (F.files store.old) (store.old ≡ home))
-        (desk map.new (F.files store.new) (store.new ≡ home))
+        (desk map.old (shelf F.files F.calls home store.old))
+        (desk map.new (shelf F.files F.calls home store.new))
         session.old session.new (take room piece.now)) }
     ensures fits { OnOk result (session.new.has_quit ≡ false → length piece.now ≤ room) }
     ensures stops { IfErr result (λ stop. (home : F) (files : Option Files) (w : Option (List ℕ))
         (bytes : List ℕ) → IsAt options.now files w (K.written sink.old)
-        (desk map.old (F.files store.old) (store.old ≡ home)) session.old bytes
+        (desk map.old (shelf F.files F.calls home store.old)) session.old bytes
         → StopsIn options.now files w (K.written sink.new)
-        (desk map.new (F.files store.new) (store.new ≡ home))
+        (desk map.new (shelf F.files F.calls home store.new))
         session.new bytes piece.now room stop) }
     ensures stands { KeepsStanding map.old map.new }
     ensures unended { OnOk result (session.new.line.has_ended ≡ false) }
@@ -79,9 +55,6 @@ fn take_piece<K: Sink, F: Store>(
     ensures counts { IsStopCounted result (K.faults sink.old) (K.faults sink.new)
         (K.shortages sink.old) (K.shortages sink.new)
         (F.faults store.old) (F.faults store.new) }
-    ensures long { IsErrOf result Stop.TooLong → (K.faults sink.new ≡ K.faults sink.old)
-        × (K.shortages sink.new ≡ K.shortages sink.old)
-        × (F.faults store.new ≡ F.faults store.old) }
     ensures only { result ≢ Err Stop.ReadFault }
 {
     if piece.len() as u64 <= room {
@@ -112,63 +85,43 @@ fn turn<S: Source, K: Sink, F: Store>(
     requires unended { session.old.line.has_ended ≡ false }
     requires small { session.old.line_count ≤ taken }
     requires few { taken ≤ options.now.max_bytes }
-    requires wide { MOST_READ ≤ length buffer.old }
+    requires whole { length buffer.old ≡ MOST_READ }
     ensures goes { IfOk result (λ n. session.new.has_quit ≡ false → (home : F)
         (files : Option Files) (bytes : List ℕ) (w : Option (List ℕ))
         → HasServed options.now files bytes (S.left source.old) w (K.written sink.old)
-        (desk map.old (F.files store.old) (store.old ≡ home)) session.old taken
+        (desk map.old (shelf F.files F.calls home store.old)) session.old taken
         → HasServed options.now files bytes (S.left source.new) w (K.written sink.new)
-        (desk map.new (F.files store.new) (store.new ≡ home)) session.new (taken + n)) }
+        (desk map.new (shelf F.files F.calls home store.new)) session.new (taken + n)) }
     ensures quits { OnOk result (session.new.has_quit ≡ true → (home : F)
         (files : Option Files) (bytes : List ℕ) (w : Option (List ℕ))
         → HasServed options.now files bytes (S.left source.old) w (K.written sink.old)
-        (desk map.old (F.files store.old) (store.old ≡ home)) session.old taken
+        (desk map.old (shelf F.files F.calls home store.old)) session.old taken
         → IsKnown (last_progress options.now files bytes)
         → IsThrough options.now files bytes (S.left source.new) w (K.written sink.new)
-        (desk map.new (F.files store.new) (store.new ≡ home)) session.new) }
+        (desk map.new (shelf F.files F.calls home store.new)) session.new) }
     ensures end { IfOk result (λ n. n ≡ 0 → IfSome (S.left source.new) (λ left. left ≡ [])) }
     ensures stops { IfErr result (λ stop. (home : F)
         (files : Option Files) (bytes : List ℕ) (w : Option (List ℕ))
         → HasServed options.now files bytes (S.left source.old) w (K.written sink.old)
-        (desk map.old (F.files store.old) (store.old ≡ home)) session.old taken
+        (desk map.old (shelf F.files F.calls home store.old)) session.old taken
         → IsKnown (last_progress options.now files bytes)
         → HasEndedAs options.now files bytes (S.left source.new) w (K.written sink.new)
-        (desk map.new (F.files store.new) (store.new ≡ home)) (status_of stop)) }
+        (desk map.new (shelf F.files F.calls home store.new)) (status_of stop)) }
     ensures stands { KeepsStanding map.old map.new }
     ensures fits { IfOk result
         (λ n. session.new.has_quit ≡ false → taken + n ≤ options.now.max_bytes) }
     ensures unended { OnOk result (session.new.line.has_ended ≡ false) }
     ensures counted { IfOk result (λ n. session.new.line_count ≤ taken + n) }
     ensures small { IfOk result (λ n. taken + n ≤ 2 ^ 41) }
-    ensures read { OnOk result (S.faults source.new ≡ S.faults source.old) }
-    ensures unread { IsErrOf result Stop.ReadFault
-        → Rose (S.faults source.old) (S.faults source.new)
-        × (K.faults sink.new ≡ K.faults sink.old) × (K.shortages sink.new ≡ K.shortages sink.old)
-        × (F.faults store.new ≡ F.faults store.old) }
-    ensures stays { OnOk result ((K.faults sink.new ≡ K.faults sink.old)
-        × (K.shortages sink.new ≡ K.shortages sink.old)
-        × (F.faults store.new ≡ F.faults store.old)) }
-    ensures failed { IsErrOf result Stop.WriteFault → (S.faults source.new ≡ S.faults source.old)
-        × Rose (K.faults sink.old) (K.faults sink.new)
-        × (K.shortages sink.new ≡ K.shortages sink.old)
-        × (F.faults store.new ≡ F.faults store.old) }
-    ensures memory { IsErrOf result Stop.Memory → (S.faults source.new ≡ S.faults source.old)
-        × (K.faults sink.new ≡ K.faults sink.old)
-        × ((K.shortages sink.new ≡ K.shortages sink.old)
-        ⊎ Rose (K.shortages sink.old) (K.shortages sink.new))
-        × (F.faults store.new ≡ F.faults store.old) }
-    ensures store_failed { IsErrOf result Stop.StoreFault
-        → (S.faults source.new ≡ S.faults source.old)
-        × (K.faults sink.new ≡ K.faults sink.old)
-        × (K.shortages sink.new ≡ K.shortages sink.old)
-        × Rose (F.faults store.old) (F.faults store.new) }
-    ensures long { IsErrOf result Stop.TooLong → (S.faults source.new ≡ S.faults source.old)
-        × (K.faults sink.new ≡ K.faults sink.old)
-        × (K.shortages sink.new ≡ K.shortages sink.old)
-        × (F.faults store.new ≡ F.faults store.old) }
+    ensures before { IfOk result (λ n. 0 < n → S.ends source.new ≡ S.ends source.old) }
+    ensures source_counts { IsScriptCounted result (S.faults source.old) (S.faults source.new)
+        (S.ends source.old) (S.ends source.new) }
+    ensures counts { IsStopCounted result (K.faults sink.old) (K.faults sink.new)
+        (K.shortages sink.old) (K.shortages sink.new)
+        (F.faults store.old) (F.faults store.new) }
 {
     let room = options.max_bytes() - taken;
-    let count = read_front(source, buffer, wanted(room))?;
+    let count = read_piece(source, buffer, room)?;
     let (piece, _) = buffer.split_at(count);
     take_piece(options, map, store, session, piece, room, sink)?;
     Ok(count)
@@ -189,44 +142,23 @@ pub(crate) fn read_all<S: Source, K: Sink, F: Store>(
     ensures done { OnOk result ((home : F) (files : Option Files) (bytes : List ℕ)
         (w : Option (List ℕ))
         → HasServed options.now files bytes (S.left source.old) w (K.written sink.old)
-        (desk map.old (F.files store.old) (store.old ≡ home)) session.old 0
+        (desk map.old (shelf F.files F.calls home store.old)) session.old 0
         → IsKnown (last_progress options.now files bytes)
         → IsThrough options.now files bytes (S.left source.new) w (K.written sink.new)
-        (desk map.new (F.files store.new) (store.new ≡ home)) session.new) }
+        (desk map.new (shelf F.files F.calls home store.new)) session.new) }
     ensures stops { IfErr result (λ stop. (home : F) (files : Option Files) (bytes : List ℕ)
         (w : Option (List ℕ))
         → HasServed options.now files bytes (S.left source.old) w (K.written sink.old)
-        (desk map.old (F.files store.old) (store.old ≡ home)) session.old 0
+        (desk map.old (shelf F.files F.calls home store.old)) session.old 0
         → IsKnown (last_progress options.now files bytes)
         → HasEndedAs options.now files bytes (S.left source.new) w (K.written sink.new)
-        (desk map.new (F.files store.new) (store.new ≡ home)) (status_of stop)) }
+        (desk map.new (shelf F.files F.calls home store.new)) (status_of stop)) }
     ensures stands { KeepsStanding map.old map.new }
-    ensures read { OnOk result (S.faults source.new ≡ S.faults source.old) }
-    ensures unread { IsErrOf result Stop.ReadFault
-        → Rose (S.faults source.old) (S.faults source.new)
-        × (K.faults sink.new ≡ K.faults sink.old) × (K.shortages sink.new ≡ K.shortages sink.old)
-        × (F.faults store.new ≡ F.faults store.old) }
-    ensures stays { OnOk result ((K.faults sink.new ≡ K.faults sink.old)
-        × (K.shortages sink.new ≡ K.shortages sink.old)
-        × (F.faults store.new ≡ F.faults store.old)) }
-    ensures failed { IsErrOf result Stop.WriteFault → (S.faults source.new ≡ S.faults source.old)
-        × Rose (K.faults sink.old) (K.faults sink.new)
-        × (K.shortages sink.new ≡ K.shortages sink.old)
-        × (F.faults store.new ≡ F.faults store.old) }
-    ensures memory { IsErrOf result Stop.Memory → (S.faults source.new ≡ S.faults source.old)
-        × (K.faults sink.new ≡ K.faults sink.old)
-        × ((K.shortages sink.new ≡ K.shortages sink.old)
-        ⊎ Rose (K.shortages sink.old) (K.shortages sink.new))
-        × (F.faults store.new ≡ F.faults store.old) }
-    ensures store_failed { IsErrOf result Stop.StoreFault
-        → (S.faults source.new ≡ S.faults source.old)
-        × (K.faults sink.new ≡ K.faults sink.old)
-        × (K.shortages sink.new ≡ K.shortages sink.old)
-        × Rose (F.faults store.old) (F.faults store.new) }
-    ensures long { IsErrOf result Stop.TooLong → (S.faults source.new ≡ S.faults source.old)
-        × (K.faults sink.new ≡ K.faults sink.old)
-        × (K.shortages sink.new ≡ K.shortages sink.old)
-        × (F.faults store.new ≡ F.faults store.old) }
+    ensures source_counts { IsScriptCounted result (S.faults source.old) (S.faults source.new)
+        (S.ends source.old) (S.ends source.new) }
+    ensures counts { IsStopCounted result (K.faults sink.old) (K.faults sink.new)
+        (K.shortages sink.old) (K.shortages sink.new)
+        (F.faults store.old) (F.faults store.new) }
 {
     let mut buffer = [0u8; MOST_READ];
     let mut taken = 0u64;
@@ -278,7 +210,7 @@ pub fn serve<S: Source, K: Sink, F: Store>(
     ensures leaves { IfSome (S.left source.old) (λ bytes.
         ReadsTold options.now (F.files store.old) bytes
         → Leaves options.now (F.files store.old) bytes (S.left source.new) (K.written sink.old)
-        (K.written sink.new) (desk map.new (F.files store.new) (store.new ≡ store.old)) result) }
+        (K.written sink.new) (desk map.new (shelf F.files F.calls store.old store.new)) result) }
     ensures files { IfSome (S.left source.old) (λ bytes.
         ReadsTold options.now (F.files store.old) bytes → IsWhole result
         → F.files store.new ≡ (whole_session options.now (F.files store.old) bytes).files) }
@@ -286,14 +218,17 @@ pub fn serve<S: Source, K: Sink, F: Store>(
     ensures usage { result ≢ Status.Usage }
     ensures bad_file { result ≢ Status.BadFile }
 
-    // Where no line names a file, nothing is asked of the store.
-    ensures unnamed { IfSome (S.left source.old) (λ bytes.
-        (last_progress options.now (F.files store.old) bytes).names_file ≡ false
-        → store.new ≡ store.old) }
+    // The store is asked once at most for each line that names a file, and isn't touched where none
+    // does.
+    ensures asked { IfSome (S.left source.old) (λ bytes.
+        ReadsTold options.now (F.files store.old) bytes
+        → IsAsked (store.new ≡ store.old) (F.calls store.old) (F.calls store.new)
+        (last_progress options.now (F.files store.old) bytes).asks) }
 
     // A fault is met once and ends the session: its count rises by one exactly where the status
-    // names it, and no other count changes.
-    ensures source_counts { IsSourceCounted result (S.faults source.old) (S.faults source.new) }
+    // names it, and no other count changes. The end of the input is met once at most.
+    ensures source_counts { IsSourceCounted result (S.faults source.old) (S.faults source.new)
+        (S.ends source.old) (S.ends source.new) }
     ensures sink_counts { IsSinkCounted result (K.faults sink.old) (K.faults sink.new)
         (K.shortages sink.old) (K.shortages sink.new) }
     ensures store_counts { IsStoreCounted result (F.faults store.old) (F.faults store.new) }

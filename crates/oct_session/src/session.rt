@@ -1,23 +1,27 @@
 //! A session between two bytes of its script, and what its lines do to it.
-ghost use Rattle.std.specs.Prelude.{◌≡◌, ◌⊎◌, ℕ, ◌+◌, ◌^◌, ◌<◌, ◌≤◌, List, ◌++◌, length, take, OnOk, OnErr, IfOk, IfErr, IsErrOf, Option, None, IsSome, false};
+ghost use Rattle.std.specs.Prelude.{◌≡◌, ℕ, ◌+◌, ◌^◌, ◌<◌, ◌≤◌, List, ◌++◌, length, take, OnOk};
+ghost use Rattle.std.specs.Prelude.{OnErr, IfOk, IfErr, Option, None, IsSome, false};
+ghost use Rattle.oct_io.specs.Counts.{IsAskCounted, IsMakingCounted};
 ghost use Rattle.oct_io.specs.Files.{Files};
-ghost use Rattle.oct_io.specs.Told.{Rose, appended};
+ghost use Rattle.oct_io.specs.Told.{appended};
 ghost use Rattle.oct_script.specs.Lines.{ended_lines, all_lines, unread};
 ghost use Rattle.oct_script.specs.Replies.{is_refusal, text_of};
-ghost use Rattle.oct_session.specs.Counts.{IsAskCounted, IsStopCounted};
+ghost use Rattle.oct_session.specs.Counts.{IsStopCounted};
 ghost use Rattle.oct_session.specs.Setup.{Setup};
 ghost use Rattle.oct_session.specs.ScanBlock.{end_reply};
 ghost use Rattle.oct_session.specs.Session.{Progress, effect_of, after_line, progress, closed};
 ghost use Rattle.oct_session.specs.Tally.{no_replies};
-ghost use Rattle.oct_session.specs.Leaving.{desk, IsKnown, IsCutBetween, IsHaltedBy, IsHalted};
-ghost use Rattle.oct_session.specs.Stops.{IsHalt, IsSinkStop, status_of};
-ghost use Rattle.oct_session.specs.Standing.{KeepsStanding, HasStoppedAt, IsInStep, IsBetween, HasReached, IsAt, Takes, Halts, StopsAtEnd};
+ghost use Rattle.oct_session.specs.Leaving.{desk, shelf, IsKnown, IsCutBetween, IsHaltedBy};
+ghost use Rattle.oct_session.specs.Leaving.{IsHalted};
+ghost use Rattle.oct_session.specs.Stops.{IsHalt, status_of};
+ghost use Rattle.oct_session.specs.Standing.{KeepsStanding, HasStoppedAt, IsInStep, IsBetween};
+ghost use Rattle.oct_session.specs.Standing.{HasReached, IsAt, Takes, Halts, StopsAtEnd};
 
 use crate::block::Block;
 use crate::lines::take_line;
 use crate::options::{Options, Stop};
 use crate::tally::Tally;
-use oct_io::{Sink, Store, StoreFault, write_all};
+use oct_io::{Sink, SinkFault, Store, StoreFault, write_all};
 use oct_map::OccMap;
 use oct_num::Memory;
 use oct_script::{Lines, Reply, push_reply};
@@ -107,17 +111,17 @@ impl Session {
         requires running { self.old.has_quit ≡ false }
         ensures text { OnOk result ((home : F) (p : Progress)
             → IsKnown (after_line options.now p self.old.line.line)
-            → IsBetween options.now (desk map.old (F.files store.old) (store.old ≡ home)) self.old p
+            → IsBetween options.now (desk map.old (shelf F.files F.calls home store.old)) self.old p
             → self.new.text.items ≡ text_of (effect_of options.now p self.old.line.line).reply) }
         ensures between { OnOk result ((home : F) (p : Progress)
             → IsKnown (after_line options.now p self.old.line.line)
-            → IsBetween options.now (desk map.old (F.files store.old) (store.old ≡ home)) self.old p
-            → IsBetween options.now (desk map.new (F.files store.new) (store.new ≡ home)) self.new
+            → IsBetween options.now (desk map.old (shelf F.files F.calls home store.old)) self.old p
+            → IsBetween options.now (desk map.new (shelf F.files F.calls home store.new)) self.new
             (after_line options.now p self.old.line.line)) }
         ensures err { IfErr result (λ fault. (home : F) (p : Progress)
             → IsKnown (after_line options.now p self.old.line.line)
-            → IsBetween options.now (desk map.old (F.files store.old) (store.old ≡ home)) self.old p
-            → HasStoppedAt options.now (desk map.new (F.files store.new) (store.new ≡ home)) p
+            → IsBetween options.now (desk map.old (shelf F.files F.calls home store.old)) self.old p
+            → HasStoppedAt options.now (desk map.new (shelf F.files F.calls home store.new)) p
             self.old.line.line fault) }
         ensures stands { KeepsStanding map.old map.new }
         ensures line { OnOk result (self.new.line ≡ unread) }
@@ -152,16 +156,16 @@ impl Session {
         ensures ok { OnOk result ((home : F) (w : Option (List ℕ)) (p : Progress)
             → IsKnown (after_line options.now p self.old.line.line)
             → HasReached options.now w (K.written sink.old)
-            (desk map.old (F.files store.old) (store.old ≡ home)) self.old p
+            (desk map.old (shelf F.files F.calls home store.old)) self.old p
             → HasReached options.now w (K.written sink.new)
-            (desk map.new (F.files store.new) (store.new ≡ home)) self.new
+            (desk map.new (shelf F.files F.calls home store.new)) self.new
             (after_line options.now p self.old.line.line)) }
         ensures err { IfErr result (λ stop. (home : F) (w : Option (List ℕ)) (p : Progress)
             → IsKnown (after_line options.now p self.old.line.line)
             → HasReached options.now w (K.written sink.old)
-            (desk map.old (F.files store.old) (store.old ≡ home)) self.old p
+            (desk map.old (shelf F.files F.calls home store.old)) self.old p
             → IsHaltedBy options.now p self.old.line.line w (K.written sink.new)
-            (desk map.new (F.files store.new) (store.new ≡ home)) (status_of stop)) }
+            (desk map.new (shelf F.files F.calls home store.new)) (status_of stop)) }
         ensures stands { KeepsStanding map.old map.new }
         ensures line { OnOk result (self.new.line ≡ unread) }
         ensures counted { OnOk result (self.new.line_count ≡ self.old.line_count + 1) }
@@ -191,13 +195,13 @@ impl Session {
         requires some { 0 < length piece.now }
         ensures ok { IfOk result (λ n. (home : F)
             → Takes options.now (K.written sink.old) (K.written sink.new)
-            (desk map.old (F.files store.old) (store.old ≡ home))
-            (desk map.new (F.files store.new) (store.new ≡ home))
+            (desk map.old (shelf F.files F.calls home store.old))
+            (desk map.new (shelf F.files F.calls home store.new))
             self.old self.new (take n piece.now)) }
         ensures err { IfErr result (λ stop. (home : F)
             → Halts options.now (K.written sink.old) (K.written sink.new)
-            (desk map.old (F.files store.old) (store.old ≡ home))
-            (desk map.new (F.files store.new) (store.new ≡ home))
+            (desk map.old (shelf F.files F.calls home store.old))
+            (desk map.new (shelf F.files F.calls home store.new))
             self.old (λ bytes. ended_lines (bytes ++ piece.now)) (status_of stop)) }
         ensures stands { KeepsStanding map.old map.new }
         ensures unended { OnOk result (self.new.line.has_ended ≡ false) }
@@ -230,13 +234,13 @@ impl Session {
         requires unended { self.old.line.has_ended ≡ false }
         ensures ok { OnOk result ((home : F)
             → Takes options.now (K.written sink.old) (K.written sink.new)
-            (desk map.old (F.files store.old) (store.old ≡ home))
-            (desk map.new (F.files store.new) (store.new ≡ home))
+            (desk map.old (shelf F.files F.calls home store.old))
+            (desk map.new (shelf F.files F.calls home store.new))
             self.old self.new piece.now) }
         ensures err { IfErr result (λ stop. (home : F)
             → Halts options.now (K.written sink.old) (K.written sink.new)
-            (desk map.old (F.files store.old) (store.old ≡ home))
-            (desk map.new (F.files store.new) (store.new ≡ home))
+            (desk map.old (shelf F.files F.calls home store.old))
+            (desk map.new (shelf F.files F.calls home store.new))
             self.old (λ bytes. ended_lines (bytes ++ piece.now)) (status_of stop)) }
         ensures stands { KeepsStanding map.old map.new }
         ensures unended { OnOk result (self.new.line.has_ended ≡ false) }
@@ -267,15 +271,15 @@ impl Session {
         requires running { self.old.has_quit ≡ false }
         ensures ok { OnOk result ((home : F) (files : Option Files) (w : Option (List ℕ))
             (bytes : List ℕ) → IsAt options.now files w (K.written sink.old)
-            (desk map.old (F.files store.old) (store.old ≡ home)) self.old bytes
+            (desk map.old (shelf F.files F.calls home store.old)) self.old bytes
             → IsKnown (progress options.now files (all_lines bytes))
             → HasReached options.now w (K.written sink.new)
-            (desk map.new (F.files store.new) (store.new ≡ home)) self.new
+            (desk map.new (shelf F.files F.calls home store.new)) self.new
             (progress options.now files (all_lines bytes))) }
         ensures err { IfErr result (λ stop. (home : F)
             → Halts options.now (K.written sink.old) (K.written sink.new)
-            (desk map.old (F.files store.old) (store.old ≡ home))
-            (desk map.new (F.files store.new) (store.new ≡ home))
+            (desk map.old (shelf F.files F.calls home store.old))
+            (desk map.new (shelf F.files F.calls home store.new))
             self.old all_lines (status_of stop)) }
         ensures stands { KeepsStanding map.old map.new }
         ensures only { IfErr result IsHalt }
@@ -290,7 +294,7 @@ impl Session {
     }
 
     /// Closes the block that is open where the script has ended, if one is, and answers it.
-    fn close<K: Sink>(&mut self, sink: &mut K) -> Result<(), Stop>
+    fn close<K: Sink>(&mut self, sink: &mut K) -> Result<(), SinkFault>
         requires running { self.old.has_quit ≡ false }
         ensures ok { OnOk result ((w : Option (List ℕ)) (p : Progress) → IsInStep self.old p
             → K.written sink.old ≡ appended w p.text → IsInStep self.new (closed p)
@@ -298,15 +302,8 @@ impl Session {
         ensures err { OnErr result ((w : Option (List ℕ)) (p : Progress) → IsInStep self.old p
             → K.written sink.old ≡ appended w p.text
             → IsCutBetween p (closed p) w (K.written sink.new)) }
-        ensures only { IfErr result IsSinkStop }
-        ensures stays { OnOk result ((K.faults sink.new ≡ K.faults sink.old)
-            × (K.shortages sink.new ≡ K.shortages sink.old)) }
-        ensures failed { IsErrOf result Stop.WriteFault
-            → Rose (K.faults sink.old) (K.faults sink.new)
-            × (K.shortages sink.new ≡ K.shortages sink.old) }
-        ensures memory { IsErrOf result Stop.Memory → (K.faults sink.new ≡ K.faults sink.old)
-            × ((K.shortages sink.new ≡ K.shortages sink.old)
-            ⊎ Rose (K.shortages sink.old) (K.shortages sink.new)) }
+        ensures counts { IsMakingCounted result (K.faults sink.old) (K.faults sink.new)
+            (K.shortages sink.old) (K.shortages sink.new) }
     {
         let reply = end_reply(self.block.take());
         tell(&mut self.text, &reply)?;
@@ -329,18 +326,18 @@ impl Session {
         requires running { self.old.has_quit ≡ false }
         ensures ok { OnOk result ((home : F) (files : Option Files) (w : Option (List ℕ))
             (bytes : List ℕ) → IsAt options.now files w (K.written sink.old)
-            (desk map.old (F.files store.old) (store.old ≡ home)) self.old bytes
+            (desk map.old (shelf F.files F.calls home store.old)) self.old bytes
             → IsKnown (progress options.now files (all_lines bytes))
             → HasReached options.now w (K.written sink.new)
-            (desk map.new (F.files store.new) (store.new ≡ home)) self.new
+            (desk map.new (shelf F.files F.calls home store.new)) self.new
             (closed (progress options.now files (all_lines bytes)))) }
         ensures err { IfErr result (λ stop. (home : F) (files : Option Files)
             (w : Option (List ℕ)) (bytes : List ℕ)
             → IsAt options.now files w (K.written sink.old)
-            (desk map.old (F.files store.old) (store.old ≡ home)) self.old bytes
+            (desk map.old (shelf F.files F.calls home store.old)) self.old bytes
             → IsKnown (progress options.now files (all_lines bytes))
             → StopsAtEnd options.now files bytes (all_lines bytes) w (K.written sink.new)
-            (desk map.new (F.files store.new) (store.new ≡ home)) (status_of stop)) }
+            (desk map.new (shelf F.files F.calls home store.new)) (status_of stop)) }
         ensures stands { KeepsStanding map.old map.new }
         ensures only { IfErr result IsHalt }
         ensures counts { IsStopCounted result (K.faults sink.old) (K.faults sink.new)
@@ -351,6 +348,7 @@ impl Session {
         if self.has_quit {
             return Ok(());
         }
-        self.close(sink)
+        self.close(sink)?;
+        Ok(())
     }
 }

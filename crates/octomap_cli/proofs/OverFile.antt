@@ -63,7 +63,7 @@ text_sent (Err sink.Failed) text other end whole most bytes left old new same is
 text_sent (Err sink.Memory) text other end whole most bytes left old new same is ends ok err to_end =
     halted_by sink.Memory end whole most bytes left old new ends (subst (λ t. IsBegun t old new) (same ∙ sym (ap (λ (r : Reply). r.text) is)) err) to_end
 
--- a reply of which nothing was written for want of memory
+-- a reply of which nothing was written because memory ran out
 pub none_sent : (whole : Reply) (most : ℕ) (bytes : List ℕ) (left old : Option (List ℕ)) → IsReadToEnd most bytes left → EndsOverFile whole most bytes left old old Memory
 none_sent whole most bytes left old to_end = inr (record { begun = begun_none whole.text old old refl; input = to_end })
 

@@ -55,7 +55,7 @@ pub whole_written : {T : Type 0} (r : Result T SinkFault) (text piece : List ℕ
 whole_written (Ok t) text piece old new is done = done ∙ ap (appended old) is
 whole_written (Err fault) text piece old new is done = tt
 
--- an error behind a part of a text
+-- an error after a part of a text
 pub cut_written : {T : Type 0} (r : Result T SinkFault) (text piece : List ℕ) (old new : Option (List ℕ)) → piece ≡ text → IsErr r
     → IsCutOff old new piece → OnErr r (IsCutOff old new text)
 cut_written (Ok t) text piece old new is err cut = tt

@@ -1,5 +1,6 @@
 -- A task in the words of the definitions.
-use Rattle.octomap_cli.specs.Task.{Session, Build, Convert, Inspect, OverFile, OverStore, Generate, Drill}
+use Rattle.octomap_cli.specs.Task.{Session, Build, Convert, Inspect, OverFile, OverStore, Generate}
+use Rattle.octomap_cli.specs.Task.{Drill}
 use Rattle.octomap_cli.specs.Task as meant
 use Rattle.octomap_cli.specs.declared.task.Task.{Task}
 use Rattle.octomap_cli.specs.declared.task.Task.TheVariants as code

@@ -31,7 +31,8 @@ project_reply lo hi file =
 -- the reply that shows occupied space as a scene, where it makes no more than 1,000,000 boxes
 unfoldable pub scene_reply : ℕ → Classes → Reply
 scene_reply edge classes =
-    if nat_lt 1000000 (length (boxes_of classes)) then refused (TooManyBoxes (length (boxes_of classes)))
+    if nat_lt 1000000 (length (boxes_of classes))
+    then refused (TooManyBoxes (length (boxes_of classes)))
     else record { text = vrml_text edge classes; status = Done }
 
 -- the reply to a file, of its resolution and its classes

@@ -7,7 +7,9 @@ use Rattle.oct_io.specs.Told.{appended}
 use Rattle.oct_convert.specs.Ending.{IsStopped}
 use Rattle.oct_convert.specs.Input.{IsReadToEnd}
 use Rattle.oct_session.specs.declared.options.Status.{Status}
-use Rattle.oct_session.specs.declared.options.Status.TheVariants.{Done, Refused, Usage, BadFile, TooLong, ReadFault, WriteFault, Memory, StoreFault}
+use Rattle.oct_session.specs.declared.options.Status.TheVariants.{Done, Refused, Usage, BadFile}
+use Rattle.oct_session.specs.declared.options.Status.TheVariants.{TooLong, ReadFault, WriteFault}
+use Rattle.oct_session.specs.declared.options.Status.TheVariants.{Memory, StoreFault}
 
 -- what a task writes, and its status
 pub record Reply : Type 0 where
@@ -24,14 +26,14 @@ status_sent (Ok length) = Done
 status_sent (Err sink.Failed) = WriteFault
 status_sent (Err sink.Memory) = Memory
 
--- a status of a call that only writes: all was done or something refused, the sink failed, or memory
--- ran out
+-- a status of a call that only writes: all was done or something refused, the sink failed, or
+-- memory ran out
 pub record IsOfReply (status : Status) : Type 0 where
-  pub words : status ≢ Usage
-  pub input : status ≢ BadFile
-  pub length : status ≢ TooLong
-  pub source : status ≢ ReadFault
-  pub store : status ≢ StoreFault
+  pub not_usage : status ≢ Usage
+  pub not_bad_file : status ≢ BadFile
+  pub not_too_long : status ≢ TooLong
+  pub not_read_fault : status ≢ ReadFault
+  pub not_store_fault : status ≢ StoreFault
 
 -- the whole reply was written, the status is its own, and the input was read to its end
 pub record IsReplied (whole : Reply) (max_bytes : ℕ) (bytes : List ℕ)
@@ -46,7 +48,7 @@ pub record IsHalted (whole : Reply) (max_bytes : ℕ) (bytes : List ℕ)
   pub begun : IsBegun whole.text old new
   pub input : IsReadToEnd max_bytes bytes left
 
--- how a task with this reply to an input of at most so many bytes may end: what is left of the
+-- how a task with this reply to an input of at most this many bytes may end: what is left of the
 -- input, and what was written
 abbrev pub EndsOverFile : Reply → ℕ → List ℕ → Option (List ℕ) → Option (List ℕ)
     → Option (List ℕ) → Status → Type 0
@@ -54,7 +56,6 @@ EndsOverFile whole max_bytes bytes left old new Done =
     IsReplied whole max_bytes bytes left old new Done
 EndsOverFile whole max_bytes bytes left old new Refused =
     IsReplied whole max_bytes bytes left old new Refused
-EndsOverFile whole max_bytes bytes left old new Usage = ⊥
 EndsOverFile whole max_bytes bytes left old new BadFile =
     IsReplied whole max_bytes bytes left old new BadFile
 EndsOverFile whole max_bytes bytes left old new TooLong =
@@ -65,4 +66,4 @@ EndsOverFile whole max_bytes bytes left old new WriteFault =
     IsHalted whole max_bytes bytes left old new
 EndsOverFile whole max_bytes bytes left old new Memory =
     IsStopped max_bytes bytes left old new ⊎ IsHalted whole max_bytes bytes left old new
-EndsOverFile whole max_bytes bytes left old new StoreFault = ⊥
+EndsOverFile whole max_bytes bytes left old new _ = ⊥

@@ -1,5 +1,6 @@
 -- What the tasks over two files of the store write, and how they may end.
-use Rattle.std.specs.Prelude.{◌≡◌, ℕ, ◌+◌, ◌++◌, List, [], ◌∷◌, codes, decimal, pos, slice_index_or, Option, Some, None, Result, Ok, Err, ⊤, if◌then◌else◌}
+use Rattle.std.specs.Prelude.{◌≡◌, ℕ, ◌+◌, ◌++◌, List, [], ◌∷◌, codes, decimal, pos, slice_index_or}
+use Rattle.std.specs.Prelude.{Option, Some, None, Result, Ok, Err, ⊤, if◌then◌else◌}
 use Rattle.std.specs.List.{flat_map}
 use Rattle.oct_bt.specs.Classes.{value_for}
 use Rattle.oct_bt.specs.DataClasses.{data_classes}
@@ -24,7 +25,9 @@ use Rattle.oct_script.specs.declared.reply.Refusal.{Refusal}
 use Rattle.oct_script.specs.declared.reply.Refusal.TheVariants as refusal
 use Rattle.oct_script.specs.declared.reply.Reply.TheVariants as script
 use Rattle.oct_session.specs.declared.options.Status.{Status}
-use Rattle.oct_session.specs.declared.options.Status.TheVariants.{Done, Refused, Usage, BadFile, TooLong, ReadFault, WriteFault, Memory, StoreFault}
+use Rattle.oct_session.specs.declared.options.Status.TheVariants.{Done, Refused, Usage, BadFile}
+use Rattle.oct_session.specs.declared.options.Status.TheVariants.{TooLong, ReadFault, WriteFault}
+use Rattle.oct_session.specs.declared.options.Status.TheVariants.{Memory, StoreFault}
 use Rattle.oct_values.specs.Classes.{classes_of}
 use Rattle.octomap_cli.specs.OverFile.{Reply}
 use Rattle.octomap_cli.specs.Refusals.{box_between, refused}
@@ -143,13 +146,10 @@ pub record IsReplied (whole : Reply) (old new : Option (List ℕ)) (status : Sta
 abbrev pub EndsByReply : Reply → Option (List ℕ) → Option (List ℕ) → Status → Type 0
 EndsByReply whole old new Done = IsReplied whole old new Done
 EndsByReply whole old new Refused = IsReplied whole old new Refused
-EndsByReply whole old new Usage = ⊥
-EndsByReply whole old new BadFile = ⊥
-EndsByReply whole old new TooLong = ⊥
-EndsByReply whole old new ReadFault = ⊥
 EndsByReply whole old new WriteFault = IsCutOff old new whole.text
 EndsByReply whole old new Memory = IsCutOff old new whole.text
 EndsByReply whole old new StoreFault = new ≡ old
+EndsByReply whole old new _ = ⊥
 
 -- how a task over two files of the store may end
 abbrev pub EndsOverStore : StoreTask → Option Files → Option (List ℕ) → Option (List ℕ) → Status

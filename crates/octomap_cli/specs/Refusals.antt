@@ -1,12 +1,15 @@
 -- Why what is asked of a file is refused.
-use Rattle.std.specs.Prelude.{ℕ, ◌++◌, codes, decimal, List, Option, Some, None, Result, Ok, Err, if◌then◌else◌}
+use Rattle.std.specs.Prelude.{ℕ, ◌++◌, codes, decimal, List, Option, Some, None, Result, Ok, Err}
+use Rattle.std.specs.Prelude.{if◌then◌else◌}
 use Rattle.oct_key.specs.declared.point.Point.{Point}
 use Rattle.oct_key.specs.Boxes.{Corners, is_box}
 use Rattle.oct_key.specs.Voxel.{Voxel, key_at}
 use Rattle.oct_session.specs.declared.options.Status.TheVariants.{Refused}
 use Rattle.octomap_cli.specs.OverFile.{Reply}
 use Rattle.octomap_cli.specs.declared.refusal.Refusal.{Refusal}
-use Rattle.octomap_cli.specs.declared.refusal.Refusal.TheVariants.{Outside, BadBox, TooManyFrontiers, WideGrid, TooManyBoxes}
+use Rattle.octomap_cli.specs.declared.refusal.Refusal.TheVariants.{Outside, BadBox}
+use Rattle.octomap_cli.specs.declared.refusal.Refusal.TheVariants.{TooManyFrontiers, WideGrid}
+use Rattle.octomap_cli.specs.declared.refusal.Refusal.TheVariants.{TooManyBoxes}
 
 -- a refusal by its number, its name and its fields
 abbrev pub refusal_text : Refusal → List ℕ
@@ -29,8 +32,8 @@ box_from None hi = Err (Outside 1)
 box_from (Some lo) None = Err (Outside 2)
 box_from (Some lo) (Some hi) = if is_box lo hi then Ok (record { lo = lo; hi = hi }) else Err BadBox
 
--- the box between two points, at a resolution in nanometres: that of their voxels, where both lie in
--- the map and are corners
+-- the box between two points, at a resolution in nanometres: that of their voxels, where both lie
+-- in the map and are corners
 unfoldable pub box_between : ℕ → Point → Point → Result Corners Refusal
 box_between edge lo hi = box_from (key_at edge lo) (key_at edge hi)
 

@@ -1,5 +1,6 @@
 -- What the words of the command line ask for.
-use Rattle.std.specs.Prelude.{ℕ, ℤ, pos, negsuc, ◌^◌, ◌≤◌, List, [], ◌∷◌, Option, Some, None, bytes_eq, codes, nat_lt, ◌||◌, if◌then◌else◌, option_map, ⊤}
+use Rattle.std.specs.Prelude.{ℕ, ℤ, pos, negsuc, ◌^◌, ◌≤◌, List, [], ◌∷◌, Option, Some, None}
+use Rattle.std.specs.Prelude.{bytes_eq, codes, nat_lt, ◌||◌, if◌then◌else◌, option_map, ⊤}
 use Rattle.std.specs.Result.{result_ok}
 use Rattle.oct_num.specs.Metres.{metres_of}
 use Rattle.oct_num.specs.Sign.{has_minus}
@@ -23,7 +24,7 @@ use Rattle.octomap_cli.specs.declared.task.Workload.{Workload}
 use Rattle.octomap_cli.specs.Words.{value_of, are_options}
 
 -- a task of the program: a session, the building of a map's file by a script, one over a file of at
--- most so many bytes, one over two files of the store, or the writing of a script that a number
+-- most this many bytes, one over two files of the store, or the writing of a script that a number
 -- makes, or of four lines about its session
 pub data Task : Type 0 where
   Session : Setup → Task
@@ -202,8 +203,8 @@ workload_from (Some seed) (Some scans) (Some points) =
     Some (record { seed = seed; scans = scans; points = points })
 workload_from _ _ _ = None
 
--- the script that three words ask for: a seed of one to eighteen digits, at most 1,000 scans, and at
--- most 100,000 points in each
+-- the script that three words ask for: a seed of one to eighteen digits, at most 1,000 scans, and
+-- at most 100,000 points in each
 abbrev pub workload_of : List Word → Option Workload
 workload_of (seed ∷ scans ∷ points ∷ []) =
     workload_from (count_of 0 (10 ^ 18) seed) (count_of 0 1000 scans) (count_of 0 100000 points)
@@ -216,7 +217,8 @@ task_by command words =
     else if bytes_eq command (codes "build") then option_map Build (options_asked words)
     else if bytes_eq command (codes "convert") then option_map Convert (file_bytes words)
     else if bytes_eq command (codes "inspect") then option_map Inspect (file_bytes words)
-    else if bytes_eq command (codes "frontier") then option_map (task_in Frontier) (stretch_of words)
+    else if bytes_eq command (codes "frontier")
+    then option_map (task_in Frontier) (stretch_of words)
     else if bytes_eq command (codes "project") then option_map (task_in Project) (stretch_of words)
     else if bytes_eq command (codes "vrml") then option_map (OverFile Vrml) (file_bytes words)
     else if bytes_eq command (codes "merge") then option_map OverStore (merge_asked words)
@@ -230,8 +232,8 @@ unfoldable pub task_of : List Word → Option Task
 task_of [] = None
 task_of (command ∷ words) = task_by command words
 
--- the numbers of a task are in their ranges: at most 2^32 bytes of a file, and at most 1,000 scans of
--- at most 100,000 points each
+-- the numbers of a task are in their ranges: at most 2^32 bytes of a file, and at most 1,000 scans
+-- of at most 100,000 points each
 abbrev pub IsInRange : Task → Type 0
 IsInRange (Session o) = ⊤
 IsInRange (Build o) = ⊤

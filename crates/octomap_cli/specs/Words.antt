@@ -1,5 +1,7 @@
 -- The words of the command line, and the options among them.
-use Rattle.std.specs.Prelude.{List, [], ◌∷◌, map, String, string_bytes, bytes_eq, codes, Option, Some, None, Bool, true, false, is_some, not, ◌&&◌, ◌||◌, if◌then◌else◌}
+use Rattle.std.specs.Prelude.{List, [], ◌∷◌, map, String, string_bytes, bytes_eq, codes, Option}
+use Rattle.std.specs.Prelude.{Some, None, Bool, true, false, is_some, not, ◌&&◌, ◌||◌}
+use Rattle.std.specs.Prelude.{if◌then◌else◌}
 use Rattle.std.specs.declared.alloc.Global.{Global}
 use Rattle.oct_script.specs.Words.{Word}
 

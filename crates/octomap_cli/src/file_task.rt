@@ -44,7 +44,8 @@ pub fn answer_over_file<S: Source, K: Sink>(
     ensures answer { IfSome (S.left source.old) (λ bytes.
         EndsOverFile (over_file_answer task max_bytes bytes) max_bytes bytes (S.left source.new)
         (K.written sink.old) (K.written sink.new) result) }
-    ensures source_counts { IsSourceCounted result (S.faults source.old) (S.faults source.new) }
+    ensures source_counts { IsSourceCounted result (S.faults source.old) (S.faults source.new)
+        (S.ends source.old) (S.ends source.new) }
     ensures sink_counts { IsSinkCounted result (K.faults sink.old) (K.faults sink.new)
         (K.shortages sink.old) (K.shortages sink.new) }
     ensures too_long { result ≡ Status.TooLong → sink.new ≡ sink.old }
@@ -61,8 +62,8 @@ pub fn answer_over_file<S: Source, K: Sink>(
 fn answer_file<K: Sink>(alloc: Global, task: FileTask, file: &BtFile, sink: &mut K) -> Status
     requires accepted { IsAccepted file.now.nodes file.now.codes }
     requires few { length file.now.codes ≤ 2 ^ 32 }
-    ensures ends { (most : ℕ) (bytes : List ℕ) (left : Option (List ℕ)) → IsReadToEnd most bytes left
-        → EndsOverFile (file_reply task file.now) most bytes left
+    ensures ends { (most : ℕ) (bytes : List ℕ) (left : Option (List ℕ))
+        → IsReadToEnd most bytes left → EndsOverFile (file_reply task file.now) most bytes left
         (K.written sink.old) (K.written sink.new) result }
     ensures sink_counts { IsSinkCounted result (K.faults sink.old) (K.faults sink.new)
         (K.shortages sink.old) (K.shortages sink.new) }

@@ -35,8 +35,8 @@ pub fn list_frontier<K: Sink>(
 ) -> Status
     requires accepted { IsAccepted file.now.nodes file.now.codes }
     requires few { length file.now.codes ≤ 2 ^ 32 }
-    ensures ends { (most : ℕ) (bytes : List ℕ) (left : Option (List ℕ)) → IsReadToEnd most bytes left
-        → EndsOverFile (frontier_reply lo hi file.now) most bytes left
+    ensures ends { (most : ℕ) (bytes : List ℕ) (left : Option (List ℕ))
+        → IsReadToEnd most bytes left → EndsOverFile (frontier_reply lo hi file.now) most bytes left
         (K.written sink.old) (K.written sink.new) result }
     ensures sink_counts { IsSinkCounted result (K.faults sink.old) (K.faults sink.new)
         (K.shortages sink.old) (K.shortages sink.new) }
@@ -53,7 +53,8 @@ fn list_between<K: Sink>(alloc: Global, file: &BtFile, low: Key, high: Key, sink
     requires accepted { IsAccepted file.now.nodes file.now.codes }
     requires few { length file.now.codes ≤ 2 ^ 32 }
     requires order { IsBox low high }
-    ensures ends { (most : ℕ) (bytes : List ℕ) (left : Option (List ℕ)) → IsReadToEnd most bytes left
+    ensures ends { (most : ℕ) (bytes : List ℕ) (left : Option (List ℕ))
+        → IsReadToEnd most bytes left
         → EndsOverFile (list_reply (frontier_between (data_classes file.now.codes) low high))
         most bytes left (K.written sink.old) (K.written sink.new) result }
     ensures sink_counts { IsSinkCounted result (K.faults sink.old) (K.faults sink.new)

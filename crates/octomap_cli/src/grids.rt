@@ -6,7 +6,8 @@ ghost use Rattle.oct_bt.specs.DataClasses.{data_classes};
 ghost use Rattle.oct_bt.specs.NodeData.{IsAccepted};
 ghost use Rattle.oct_convert.specs.Input.{IsReadToEnd};
 ghost use Rattle.oct_session.specs.Counts.{IsSinkCounted};
-ghost use Rattle.octomap_cli.specs.Grids.{column_count, grid_reply, project_reply, scene_reply, vrml_reply};
+ghost use Rattle.octomap_cli.specs.Grids.{column_count, grid_reply, project_reply, scene_reply};
+ghost use Rattle.octomap_cli.specs.Grids.{vrml_reply};
 ghost use Rattle.octomap_cli.specs.OverFile.{EndsOverFile, status_sent, IsOfReply};
 
 use crate::file_tree::tree_of;
@@ -30,8 +31,8 @@ const MOST_BOXES: u64 = 1_000_000;
 pub fn project<K: Sink>(alloc: Global, file: &BtFile, lo: Point, hi: Point, sink: &mut K) -> Status
     requires accepted { IsAccepted file.now.nodes file.now.codes }
     requires few { length file.now.codes ≤ 2 ^ 32 }
-    ensures ends { (most : ℕ) (bytes : List ℕ) (left : Option (List ℕ)) → IsReadToEnd most bytes left
-        → EndsOverFile (project_reply lo hi file.now) most bytes left
+    ensures ends { (most : ℕ) (bytes : List ℕ) (left : Option (List ℕ))
+        → IsReadToEnd most bytes left → EndsOverFile (project_reply lo hi file.now) most bytes left
         (K.written sink.old) (K.written sink.new) result }
     ensures sink_counts { IsSinkCounted result (K.faults sink.old) (K.faults sink.new)
         (K.shortages sink.old) (K.shortages sink.new) }
@@ -64,8 +65,8 @@ fn project_between<K: Sink>(
     requires accepted { IsAccepted file.now.nodes file.now.codes }
     requires few { length file.now.codes ≤ 2 ^ 32 }
     requires order { IsBox low high }
-    ensures ends { (most : ℕ) (bytes : List ℕ) (left : Option (List ℕ)) → IsReadToEnd most bytes left
-        → EndsOverFile
+    ensures ends { (most : ℕ) (bytes : List ℕ) (left : Option (List ℕ))
+        → IsReadToEnd most bytes left → EndsOverFile
         (grid_reply (data_classes file.now.codes) (record { lo = low; hi = high }))
         most bytes left (K.written sink.old) (K.written sink.new) result }
     ensures sink_counts { IsSinkCounted result (K.faults sink.old) (K.faults sink.new)
@@ -86,8 +87,8 @@ fn project_between<K: Sink>(
 pub fn draw_boxes<K: Sink>(alloc: Global, file: &BtFile, sink: &mut K) -> Status
     requires accepted { IsAccepted file.now.nodes file.now.codes }
     requires few { length file.now.codes ≤ 2 ^ 32 }
-    ensures ends { (most : ℕ) (bytes : List ℕ) (left : Option (List ℕ)) → IsReadToEnd most bytes left
-        → EndsOverFile (vrml_reply file.now) most bytes left
+    ensures ends { (most : ℕ) (bytes : List ℕ) (left : Option (List ℕ))
+        → IsReadToEnd most bytes left → EndsOverFile (vrml_reply file.now) most bytes left
         (K.written sink.old) (K.written sink.new) result }
     ensures sink_counts { IsSinkCounted result (K.faults sink.old) (K.faults sink.new)
         (K.shortages sink.old) (K.shortages sink.new) }

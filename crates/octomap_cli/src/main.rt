@@ -14,9 +14,9 @@
 //! ones beside them, `octomap project` writes the height band between two points as a grey picture,
 //! and `octomap vrml` the occupied space as a scene of boxes. `octomap merge` and `octomap table`
 //! read two such files from the current folder: the one writes the file of the map that they give
-//! together, the other how many voxels between two points have which classes in them. `octomap build`
-//! writes the file of the map that a script leaves. `octomap gen` writes a script that a number
-//! makes, and `octomap drill` does that script and writes four lines about it.
+//! together, the other how many voxels between two points have which classes in them.
+//! `octomap build` writes the file of the map that a script leaves. `octomap gen` writes a script
+//! that a number makes, and `octomap drill` does that script and writes four lines about it.
 //!
 //! # What it promises
 //!
@@ -25,18 +25,18 @@
 //! Stopped by a fault or out of memory, what was written is a prefix of that; on a read fault it is
 //! exactly the replies to the lines that lie whole in the bytes taken. What a task over a file
 //! writes is a function of the file, and what one over two files writes a function of both.
-//! `specs/Ending.antt` says this over the tasks that the words of the command line ask for (`Words`,
-//! `Task`), over the session of `oct_session`, and over the endings of `oct_convert`.
+//! `specs/Ending.antt` says this over the tasks that the words of the command line ask for
+//! (`Words`, `Task`), over the session of `oct_session`, and over the endings of `oct_convert`.
 //!
 //! # How it works
 //!
 //! `words` finds the options among the words of the command line, and `task` reads the task that
 //! they ask for. For a session `program` makes the map of the unknown world, which may grow as far
-//! as the options say, and lends it to the loop of `oct_session`. `file_task` reads a file and hands
-//! it to what is asked of it: `frontiers` and `grids` fill a tree with its classes (`file_tree`), and
-//! `sending` writes their replies, a `refusal` among them. `merging` goes by two files, which
-//! `two_files` loads. `main` joins all this to the standard input and output and to the current
-//! folder.
+//! as the options say, and lends it to the loop of `oct_session`. `file_task` reads a file and
+//! hands it to what is asked of it: `frontiers` and `grids` fill a tree with its classes
+//! (`file_tree`), and `sending` writes their replies, a `refusal` among them. `merging` goes by two
+//! files, which `two_files` loads. `main` joins all this to the standard input and output and to
+//! the current folder.
 //!
 //! # Who stands on it
 //!

@@ -1,14 +1,17 @@
 //! The tasks `merge` and `table`: two files of the store in, and one map, or a table, out.
-ghost use Rattle.std.specs.Prelude.{◌≡◌, ◌≢◌, IfOk, OnErr, OnOk};
+ghost use Rattle.std.specs.Prelude.{◌≡◌, ◌≢◌, ◌≤◌, ◌+◌, IfOk, OnErr, OnOk};
+ghost use Rattle.oct_io.specs.Counts.{IsMakingCounted};
 ghost use Rattle.oct_io.specs.Taken.{IsCutOff};
 ghost use Rattle.oct_io.specs.Told.{appended};
 ghost use Rattle.oct_key.specs.Boxes.{IsBox};
 ghost use Rattle.oct_key.specs.Voxel.{Voxel, IsInMap};
 ghost use Rattle.oct_odds.specs.Odds.{default_odds};
 ghost use Rattle.oct_tree.specs.Tree.{value_at};
-ghost use Rattle.oct_session.specs.Counts.{IsSinkCounted, IsStoreCounted, IsWriteCounted};
+ghost use Rattle.oct_session.specs.Counts.{IsSinkCounted, IsStoreCounted};
 ghost use Rattle.octomap_cli.specs.OverFile.{IsOfReply};
-ghost use Rattle.octomap_cli.specs.OverStore.{merged_values, merged_text, table_text, pair_line, table_reply, pair_reply, found_reply, EndsByReply, EndsOverStore};
+ghost use Rattle.octomap_cli.specs.OverStore.{merged_values, merged_text, table_text, pair_line};
+ghost use Rattle.octomap_cli.specs.OverStore.{table_reply, pair_reply, found_reply, EndsByReply};
+ghost use Rattle.octomap_cli.specs.OverStore.{EndsOverStore};
 ghost use Rattle.octomap_cli.specs.Refusals.{box_between, refused};
 ghost use Rattle.octomap_cli.specs.TwoFiles.{AreFit};
 
@@ -30,8 +33,8 @@ use std::alloc::Global;
 /// map, or a table of nine lines that says how many voxels between two points have which classes.
 ///
 /// The first file is judged before the second is loaded, then their resolutions, and then the
-/// points of a table. What is refused is written as a line, after the word `first` or `second` where
-/// one file is at fault. Nothing is written where the store fails.
+/// points of a table. What is refused is written as a line, after the word `first` or `second`
+/// where one file is at fault. Nothing is written where the store fails.
 pub fn do_over_store<K: Sink, F: Store>(
     alloc: Global,
     task: &StoreTask,
@@ -41,6 +44,7 @@ pub fn do_over_store<K: Sink, F: Store>(
     ensures ends { EndsOverStore task.now (F.files store.old) (K.written sink.old)
         (K.written sink.new) result }
     ensures files { F.files store.new ≡ F.files store.old }
+    ensures called { F.calls store.new ≤ F.calls store.old + 2 }
     ensures unwritten { result ≡ Status.StoreFault → sink.new ≡ sink.old }
     ensures store_counts { IsStoreCounted result (F.faults store.old) (F.faults store.new) }
     ensures sink_counts { IsSinkCounted result (K.faults sink.old) (K.faults sink.new)
@@ -134,7 +138,7 @@ fn write_merged<K: Sink>(
         (K.written sink.new ≡ appended (K.written sink.old) (merged_text rule pair.now)) }
     ensures cut { OnErr result
         (IsCutOff (K.written sink.old) (K.written sink.new) (merged_text rule pair.now)) }
-    ensures sink_counts { IsWriteCounted result (K.faults sink.old) (K.faults sink.new)
+    ensures sink_counts { IsMakingCounted result (K.faults sink.old) (K.faults sink.new)
         (K.shortages sink.old) (K.shortages sink.new) }
 {
     let tree = merged_tree(alloc, rule, pair)?;
@@ -167,7 +171,7 @@ fn write_table<K: Sink>(
         (K.written sink.new ≡ appended (K.written sink.old) (table_text pair.now zone)) }
     ensures cut { OnErr result
         (IsCutOff (K.written sink.old) (K.written sink.new) (table_text pair.now zone)) }
-    ensures sink_counts { IsWriteCounted result (K.faults sink.old) (K.faults sink.new)
+    ensures sink_counts { IsMakingCounted result (K.faults sink.old) (K.faults sink.new)
         (K.shortages sink.old) (K.shortages sink.new) }
 {
     let text = table_of(alloc, pair, zone)?;
@@ -180,7 +184,7 @@ fn write_refusal<K: Sink>(alloc: Global, why: Refusal, sink: &mut K) -> Result<(
         (K.written sink.new ≡ appended (K.written sink.old) (refused why).text) }
     ensures cut { OnErr result
         (IsCutOff (K.written sink.old) (K.written sink.new) (refused why).text) }
-    ensures sink_counts { IsWriteCounted result (K.faults sink.old) (K.faults sink.new)
+    ensures sink_counts { IsMakingCounted result (K.faults sink.old) (K.faults sink.new)
         (K.shortages sink.old) (K.shortages sink.new) }
 {
     let text = line_of(alloc, why)?;
@@ -193,7 +197,7 @@ fn write_no_pair<K: Sink>(alloc: Global, reason: NoPair, sink: &mut K) -> Result
         (K.written sink.new ≡ appended (K.written sink.old) (pair_line reason)) }
     ensures cut { OnErr result
         (IsCutOff (K.written sink.old) (K.written sink.new) (pair_line reason)) }
-    ensures sink_counts { IsWriteCounted result (K.faults sink.old) (K.faults sink.new)
+    ensures sink_counts { IsMakingCounted result (K.faults sink.old) (K.faults sink.new)
         (K.shortages sink.old) (K.shortages sink.new) }
 {
     let text = no_pair_text(alloc, reason)?;

@@ -2,7 +2,8 @@
 ghost use Rattle.std.specs.Prelude.{◌≡◌, ◌+◌, ◌++◌, ◌≤◌, IfOk, OnOk};
 ghost use Rattle.oct_convert.specs.Answers.{refusal_line};
 ghost use Rattle.oct_script.specs.Replies.{class_name};
-ghost use Rattle.octomap_cli.specs.OverStore.{line_of, map_line, pair_line, table_line, table_row, table_rows};
+ghost use Rattle.octomap_cli.specs.OverStore.{line_of, map_line, pair_line, table_line, table_row};
+ghost use Rattle.octomap_cli.specs.OverStore.{table_rows};
 
 use crate::two_files::{NoMap, NoPair};
 use itoa::Buffer;

@@ -1,14 +1,16 @@
 //! The top call of the program.
 ghost use Rattle.std.specs.Prelude.{◌≡◌, ◌≢◌, IfSome, Some, None, false};
 ghost use Rattle.oct_io.specs.Told.{Rose};
-ghost use Rattle.oct_session.specs.Counts.{IsSourceCounted, IsSinkCounted, IsStoreCounted};
+ghost use Rattle.oct_session.specs.Counts.{IsSourceCounted, IsSinkCounted, IsStoreCounted, IsAsked};
 ghost use Rattle.oct_session.specs.Ending.{IsWhole};
 ghost use Rattle.oct_session.specs.History.{start_state};
-ghost use Rattle.oct_session.specs.Leaving.{StandsFor};
+ghost use Rattle.oct_session.specs.Leaving.{StandsFor, shelf};
 ghost use Rattle.octomap_cli.specs.Words.{bytes_of};
 ghost use Rattle.octomap_cli.specs.Asked.{asked};
 ghost use Rattle.octomap_cli.specs.Task.{IsInRange, task_of};
-ghost use Rattle.octomap_cli.specs.Ending.{MayEnd, EndsAlone, Leaves, ReadsTold, NamesNone, has_script, names_files, has_input, takes_memory, answer, status_of};
+ghost use Rattle.octomap_cli.specs.Ending.{MayEnd, EndsAlone, Leaves, ReadsTold, asks_of};
+ghost use Rattle.octomap_cli.specs.Ending.{has_script, names_files, has_input, takes_memory};
+ghost use Rattle.octomap_cli.specs.Ending.{answer, status_of};
 
 use crate::file_task::answer_over_file;
 use crate::merging::do_over_store;
@@ -26,9 +28,9 @@ use std::alloc::Global;
 /// says, status by status, what is written, what is left of the input, and that both are those of
 /// the answer to the task on these bytes and the files of the store; the clause `leaves` says which
 /// files then stand there. They speak wherever source and sink tell their bytes, as those in memory
-/// do, and the store its files, or no line names one. Of a task that reads nothing `made` says what is
-/// written, whatever the source tells. A fault comes only where the count of that
-/// object rose in this call.
+/// do, and the store its files, or no line names one. Of a task that reads nothing `made` says what
+/// is written, whatever the source tells. A fault comes only where the count of that object rose in
+/// this call.
 pub fn run<S: Source, K: Sink, F: Store>(
     alloc: Global,
     words: &[String],
@@ -43,15 +45,19 @@ pub fn run<S: Source, K: Sink, F: Store>(
     ensures leaves { IfSome (S.left source.old) (λ bytes.
         ReadsTold (task_of (bytes_of words.now)) (F.files store.old) bytes
         → Leaves (task_of (bytes_of words.now)) (F.files store.old) bytes (S.left source.new)
-        (K.written sink.old) (K.written sink.new) (F.files store.new) (store.new ≡ store.old)
+        (K.written sink.old) (K.written sink.new) (shelf F.files F.calls store.old store.new)
         result) }
     ensures files { IfSome (S.left source.old) (λ bytes.
         ReadsTold (task_of (bytes_of words.now)) (F.files store.old) bytes → IsWhole result
-        → F.files store.new ≡ (answer (task_of (bytes_of words.now)) (F.files store.old) bytes).files) }
+        → F.files store.new
+        ≡ (answer (task_of (bytes_of words.now)) (F.files store.old) bytes).files) }
 
-    // Where neither a word nor a line names a file, nothing is asked of the store.
-    ensures unnamed { IfSome (S.left source.old) (λ bytes.
-        NamesNone (task_of (bytes_of words.now)) (F.files store.old) bytes → store.new ≡ store.old) }
+    // The store is asked once at most for each line that names a file, and for each file that a
+    // word names. Where there is none it isn't touched.
+    ensures asked { IfSome (S.left source.old) (λ bytes.
+        ReadsTold (task_of (bytes_of words.now)) (F.files store.old) bytes
+        → IsAsked (store.new ≡ store.old) (F.calls store.old) (F.calls store.new)
+        (asks_of (task_of (bytes_of words.now)) (F.files store.old) bytes)) }
     ensures unused { names_files (task_of (bytes_of words.now)) ≡ false → store.new ≡ store.old }
 
     // Words without a task read and write nothing, and to make a script nothing is read.
@@ -65,8 +71,9 @@ pub fn run<S: Source, K: Sink, F: Store>(
         (K.written sink.old) (K.written sink.new) result }
 
     // A fault is met once and ends the run: its count rises by one exactly where the status names
-    // it, and no other count changes.
-    ensures source_counts { IsSourceCounted result (S.faults source.old) (S.faults source.new) }
+    // it, and no other count changes. The end of the input is met once at most.
+    ensures source_counts { IsSourceCounted result (S.faults source.old) (S.faults source.new)
+        (S.ends source.old) (S.ends source.new) }
     ensures sink_counts { IsSinkCounted result (K.faults sink.old) (K.faults sink.new)
         (K.shortages sink.old) (K.shortages sink.new) }
     ensures store_counts { IsStoreCounted result (F.faults store.old) (F.faults store.new) }
@@ -99,13 +106,15 @@ fn perform<S: Source, K: Sink, F: Store>(
     ensures leaves { IfSome (S.left source.old) (λ bytes.
         ReadsTold (Some (asked task.now)) (F.files store.old) bytes
         → Leaves (Some (asked task.now)) (F.files store.old) bytes (S.left source.new)
-        (K.written sink.old) (K.written sink.new) (F.files store.new) (store.new ≡ store.old)
+        (K.written sink.old) (K.written sink.new) (shelf F.files F.calls store.old store.new)
         result) }
     ensures files { IfSome (S.left source.old) (λ bytes.
         ReadsTold (Some (asked task.now)) (F.files store.old) bytes → IsWhole result
         → F.files store.new ≡ (answer (Some (asked task.now)) (F.files store.old) bytes).files) }
-    ensures unnamed { IfSome (S.left source.old) (λ bytes.
-        NamesNone (Some (asked task.now)) (F.files store.old) bytes → store.new ≡ store.old) }
+    ensures asked { IfSome (S.left source.old) (λ bytes.
+        ReadsTold (Some (asked task.now)) (F.files store.old) bytes
+        → IsAsked (store.new ≡ store.old) (F.calls store.old) (F.calls store.new)
+        (asks_of (Some (asked task.now)) (F.files store.old) bytes)) }
     ensures unused { names_files (Some (asked task.now)) ≡ false → store.new ≡ store.old }
     ensures usage { result ≢ Status.Usage }
     ensures unloaded { has_script (Some (asked task.now)) ≡ false
@@ -113,7 +122,8 @@ fn perform<S: Source, K: Sink, F: Store>(
     ensures unread { has_input (Some (asked task.now)) ≡ false → source.new ≡ source.old }
     ensures made { EndsAlone (Some (asked task.now)) (F.files store.old)
         (K.written sink.old) (K.written sink.new) result }
-    ensures source_counts { IsSourceCounted result (S.faults source.old) (S.faults source.new) }
+    ensures source_counts { IsSourceCounted result (S.faults source.old) (S.faults source.new)
+        (S.ends source.old) (S.ends source.new) }
     ensures sink_counts { IsSinkCounted result (K.faults sink.old) (K.faults sink.new)
         (K.shortages sink.old) (K.shortages sink.new) }
     ensures store_counts { IsStoreCounted result (F.faults store.old) (F.faults store.new) }

@@ -28,8 +28,8 @@ pub fn send<K: Sink>(text: &[u8], status: Status, sink: &mut K) -> Status
 
 /// Writes the line of a refusal, and answers its status, or that of the fault that ended it.
 pub fn send_refusal<K: Sink>(alloc: Global, refusal: Refusal, sink: &mut K) -> Status
-    ensures ends { (most : ℕ) (bytes : List ℕ) (left : Option (List ℕ)) → IsReadToEnd most bytes left
-        → EndsOverFile (refused refusal) most bytes left
+    ensures ends { (most : ℕ) (bytes : List ℕ) (left : Option (List ℕ))
+        → IsReadToEnd most bytes left → EndsOverFile (refused refusal) most bytes left
         (K.written sink.old) (K.written sink.new) result }
     ensures sink_counts { IsSinkCounted result (K.faults sink.old) (K.faults sink.new)
         (K.shortages sink.old) (K.shortages sink.new) }

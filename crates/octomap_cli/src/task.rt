@@ -3,7 +3,12 @@ ghost use Rattle.std.specs.Prelude.{◌≡◌, ◌≤◌, ◌^◌, option_map, O
 ghost use Rattle.std.specs.Result.{result_ok};
 ghost use Rattle.oct_odds.specs.Odds.{odds_of, IsSmall};
 ghost use Rattle.octomap_cli.specs.Words.{bytes_of};
-ghost use Rattle.octomap_cli.specs.Task.{IsInRange, file_bytes, file_number, point_of, stretch_of, merge_asked, table_asked, table_between, store_task_of, rule_of, workload_of, options_asked, task_by, resolution_of, count_of, chosen_number, chosen_count, chosen_model, chosen_groups, chosen_cells, chosen_bytes, setup_asked, task_of};
+ghost use Rattle.octomap_cli.specs.Task.{IsInRange, file_bytes, file_number, point_of, stretch_of};
+ghost use Rattle.octomap_cli.specs.Task.{merge_asked, table_asked, table_between, store_task_of};
+ghost use Rattle.octomap_cli.specs.Task.{rule_of, workload_of, options_asked, task_by};
+ghost use Rattle.octomap_cli.specs.Task.{resolution_of, count_of, chosen_number, chosen_count};
+ghost use Rattle.octomap_cli.specs.Task.{chosen_model, chosen_groups, chosen_cells, chosen_bytes};
+ghost use Rattle.octomap_cli.specs.Task.{setup_asked, task_of};
 ghost use Rattle.octomap_cli.specs.Asked.{asked};
 ghost use Rattle.octomap_cli.specs.declared.store_task.PairTask.TheVariants.{Merge};
 
@@ -273,7 +278,7 @@ fn read_point(x: &[u8], y: &[u8], z: &[u8]) -> Option<Point>
     })
 }
 
-/// Reads the words after `frontier` or `project`: two points, and behind them what stands after
+/// Reads the words after `frontier` or `project`: two points, and after them what stands after
 /// `convert`.
 fn read_stretch(words: &[String]) -> Option<Stretch>
     ensures exact { result ≡ stretch_of (bytes_of words.now) }

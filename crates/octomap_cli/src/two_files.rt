@@ -1,16 +1,17 @@
 //! Two maps from the store.
-ghost use Rattle.std.specs.Prelude.{◌≡◌, ◌⊎◌, ◌≤◌, ◌^◌, length, IfOk, IfSome, Err};
+ghost use Rattle.std.specs.Prelude.{◌≡◌, ◌≤◌, ◌+◌, ◌^◌, length, IfOk, IfSome};
+ghost use Rattle.oct_io.specs.Counts.{IsAskCounted};
 ghost use Rattle.oct_io.specs.Loaded.{loaded_of, IsWithinLimit};
 ghost use Rattle.oct_bt.specs.File.{reading};
-ghost use Rattle.oct_bt.specs.declared.fault.BtFault.{BtFault};
-ghost use Rattle.oct_session.specs.Counts.{IsAskCounted};
-ghost use Rattle.octomap_cli.specs.TwoFiles.{judged, map_in, of_one_size, pair_in, second_in, IsFit, AreFit};
+ghost use Rattle.octomap_cli.specs.TwoFiles.{judged, map_in, of_one_size, pair_in, second_in};
+ghost use Rattle.octomap_cli.specs.TwoFiles.{IsFit, AreFit};
 
-use oct_bt::{BtFault, BtFile, Reader};
+use oct_bt::{BtFault, BtFile};
 use oct_io::{Loaded, Store, StoreFault};
 use oct_key::Res;
 use oct_num::Memory;
 use oct_script::Name;
+use oct_session::read_classes;
 use std::alloc::Global;
 use thiserror::Error;
 
@@ -49,22 +50,13 @@ pub(crate) struct Pair {
     pub(crate) second: BtFile,
 }
 
-/// The file of classes that these bytes are, or what is wrong with them.
-fn read(alloc: Global, bytes: &[u8]) -> Result<BtFile, BtFault>
-    ensures { (result ≡ reading bytes.now) ⊎ (result ≡ Err BtFault.Memory) }
-{
-    let mut reader = Reader::new(alloc);
-    reader.feed(bytes)?;
-    reader.finish()
-}
-
 /// The map that these bytes are, or why they are none.
 fn judge(alloc: Global, bytes: &[u8]) -> Result<Result<BtFile, NoMap>, Memory>
     requires few { length bytes.now ≤ 2 ^ 30 }
     ensures exact { IfOk result (λ found. found ≡ judged (reading bytes.now)) }
     ensures fit { IfOk result (λ found. IfOk found IsFit) }
 {
-    match read(alloc, bytes) {
+    match read_classes(alloc, bytes) {
         Ok(file) => {
             file.codes();
             Ok(Ok(file))
@@ -98,6 +90,7 @@ fn load<F: Store>(
     ensures fit { IfOk result (λ found. IfOk found IsFit) }
     ensures same { F.files store.new ≡ F.files store.old }
     ensures store_counts { IsAskCounted result (F.faults store.old) (F.faults store.new) }
+    ensures called { F.calls store.new ≤ F.calls store.old + 1 }
 {
     let loaded = store.load(alloc, name.as_str())?;
     let found = map_from(alloc, loaded)?;
@@ -120,7 +113,7 @@ fn pair_up(first: BtFile, second: BtFile) -> Result<Pair, NoPair>
     Ok(Pair { first, second })
 }
 
-/// Loads the second file, behind a first one that is a map.
+/// Loads the second file, after a first one that is a map.
 fn load_second<F: Store>(
     alloc: Global,
     first: BtFile,
@@ -133,6 +126,7 @@ fn load_second<F: Store>(
     ensures fit { IfOk result (λ found. IfOk found AreFit) }
     ensures same { F.files store.new ≡ F.files store.old }
     ensures store_counts { IsAskCounted result (F.faults store.old) (F.faults store.new) }
+    ensures called { F.calls store.new ≤ F.calls store.old + 1 }
 {
     match load(alloc, name, store)? {
         Ok(second) => Ok(pair_up(first, second)),
@@ -153,6 +147,7 @@ pub(crate) fn load_pair<F: Store>(
     ensures fit { IfOk result (λ found. IfOk found AreFit) }
     ensures same { F.files store.new ≡ F.files store.old }
     ensures store_counts { IsAskCounted result (F.faults store.old) (F.faults store.new) }
+    ensures called { F.calls store.new ≤ F.calls store.old + 2 }
 {
     match load(alloc, first, store)? {
         Ok(file) => load_second(alloc, file, second, store),

@@ -66,7 +66,7 @@ fn ended<S: Source, K: Sink, F: Store>(
     (status, map)
 }
 
-/// A source of a script in reads of so many bytes.
+/// A source of a script in reads of this many bytes.
 fn script(alloc: Global, text: &str, most: usize) -> Result<CalmSource, Memory>
     requires { 0 < most }
 {
@@ -86,8 +86,8 @@ fn expect_map(
     assert_eq!(rt; map.is_stale(), is_stale);
 }
 
-/// Expects that a script of at most so many bytes ends so, and that the map has then these values
-/// and so many nodes, and is stale or isn't.
+/// Expects that a script of at most this many bytes ends so, and that the map has then these values
+/// and this many nodes, and is stale or isn't.
 fn expect_end(
     rt: &impl Abort,
     alloc: Global,

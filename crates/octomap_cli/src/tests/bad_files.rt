@@ -7,10 +7,13 @@ use std::process::Abort;
 use std::test::Fail;
 
 /// The file of eight occupied voxels; its header has 137 bytes.
-const CUBE: &[u8] =
-    b"# Octomap OcTree binary file\n# (feel free to add / change comments, but leave the first line as it is!)\n#\nid OcTree\nsize 16\nres 0.1\ndata\n\x00\xC0\x03\x00\x03\x00\x03\x00\x03\x00\x03\x00\x03\x00\x03\x00\x03\x00\x03\x00\x03\x00\x03\x00\x03\x00\x03\x00\x02\x00";
+const CUBE: &[u8] = b"# Octomap OcTree binary file\n\
+      # (feel free to add / change comments, but leave the first line as it is!)\n#\nid OcTree\n\
+      size 16\nres 0.1\ndata\n\
+      \x00\xC0\x03\x00\x03\x00\x03\x00\x03\x00\x03\x00\x03\x00\x03\x00\x03\x00\x03\x00\x03\x00\x03\
+      \x00\x03\x00\x03\x00\x02\x00";
 
-/// What is answered to so many bytes of its front.
+/// What is answered to this many bytes of its front.
 fn refusal(alloc: Global, taken: usize) -> Result<String, Fail> {
     let text = if taken < 28 {
         String::from_str(alloc, "refused 10 NotOctomap\n")?
@@ -48,7 +51,7 @@ const DOWN: &[u8] = &[
 ];
 
 /// The lines of a header up to the resolution, how many of the bytes down to a block follow it and
-/// what stands behind them, what is answered, and the status.
+/// what stands after them, what is answered, and the status.
 type Case = (&'static str, usize, &'static [u8], &'static str, Status);
 
 const CASES: [Case; 11] = [
@@ -101,7 +104,7 @@ const CASES: [Case; 11] = [
         "res 0.1\nsize 17\nrecords 16\nfree 0\noccupied 1\ncanonical yes\n",
         Status::Done,
     ),
-    // A longer file may say nothing, and an empty one has no bytes behind its header.
+    // A longer file may say nothing, and an empty one has no bytes after its header.
     (
         "# Octomap OcTree binary file\nid OcTree\nsize 1\nres 0.1\n",
         0,
@@ -174,7 +177,7 @@ fn a_file_is_made_canonical(rt: HostRuntime) -> Result<(), Fail> {
     check_task(&rt, rt.alloc(), "inspect", &file, said, Status::Done)
 }
 
-/// A file of the first line and a comment without an end, with so many bytes in all, is refused.
+/// A file of the first line and a comment without an end, with this many bytes in all, is refused.
 fn check_endless(rt: &impl Abort, alloc: Global, length: usize, said: &[u8]) -> Result<(), Fail> {
     let mut file = Vec::from_slice(alloc, b"# Octomap OcTree binary file\n")?;
     for _ in 29..length {

@@ -4,8 +4,9 @@ use oct_session::Status;
 use std::test::Fail;
 
 /// The lines of a header around the number of nodes, at a resolution of 0.1 m.
-const HEAD: &str =
-    "# Octomap OcTree binary file\n# (feel free to add / change comments, but leave the first line as it is!)\n#\nid OcTree\nsize ";
+const HEAD: &str = "# Octomap OcTree binary file\n\
+      # (feel free to add / change comments, but leave the first line as it is!)\n#\nid OcTree\n\
+      size ";
 
 const TAIL: &str = "\nres 0.1\ndata\n";
 
@@ -23,7 +24,8 @@ const BUILDS: [(&[&str], &str, &str, &[u8], Status); 5] = [
         &["build", "0.1"],
         "hit 0 0 0 lazy\nget 0 0 0 0\nquit\nclear\n",
         "17",
-        b"\x00\xC0\x03\x00\x03\x00\x03\x00\x03\x00\x03\x00\x03\x00\x03\x00\x03\x00\x03\x00\x03\x00\x03\x00\x03\x00\x03\x00\x03\x00\x02\x00",
+        b"\x00\xC0\x03\x00\x03\x00\x03\x00\x03\x00\x03\x00\x03\x00\x03\x00\x03\x00\x03\x00\x03\x00\
+          \x03\x00\x03\x00\x03\x00\x03\x00\x02\x00",
         Status::Refused,
     ),
     (

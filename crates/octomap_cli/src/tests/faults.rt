@@ -33,7 +33,7 @@ fn only(alloc: Global, number: u64) -> Result<KeptList, Fail> {
     Ok(list)
 }
 
-/// The status of the program on its words and an input that is read by so many bytes, and what it
+/// The status of the program on its words and an input that is read by this many bytes, and what it
 /// leaves in sink and store. Each write takes one byte.
 fn torn(
     alloc: Global,
@@ -53,7 +53,7 @@ fn torn(
     Ok((status, sink, store))
 }
 
-/// Expects that the program ends so on an input that is read by so many bytes, and that it has
+/// Expects that the program ends so on an input that is read by this many bytes, and that it has
 /// written this then. Returns its store.
 fn check_torn(
     rt: &impl Abort,
@@ -72,7 +72,7 @@ fn check_torn(
     Ok(store)
 }
 
-/// The first so many bytes, or all where there are no more.
+/// The first n bytes, or all where there are no more.
 fn front(bytes: &[u8], length: usize) -> &[u8] {
     bytes.get(..length).unwrap_or(bytes)
 }
@@ -94,13 +94,16 @@ const REPLIES: &[u8] =
 const REPLIED: [(usize, usize); 6] = [(10, 3), (45, 21), (52, 31), (59, 41), (70, 51), (80, 70)];
 
 /// The file `m` that it saves: the one voxel is occupied.
-const SAVED: &[u8] =
-    b"# Octomap OcTree binary file\n# (feel free to add / change comments, but leave the first line as it is!)\n#\nid OcTree\nsize 17\nres 0.1\ndata\n\x00\xC0\x03\x00\x03\x00\x03\x00\x03\x00\x03\x00\x03\x00\x03\x00\x03\x00\x03\x00\x03\x00\x03\x00\x03\x00\x03\x00\x03\x00\x02\x00";
+const SAVED: &[u8] = b"# Octomap OcTree binary file\n\
+      # (feel free to add / change comments, but leave the first line as it is!)\n#\nid OcTree\n\
+      size 17\nres 0.1\ndata\n\
+      \x00\xC0\x03\x00\x03\x00\x03\x00\x03\x00\x03\x00\x03\x00\x03\x00\x03\x00\x03\x00\x03\x00\x03\
+      \x00\x03\x00\x03\x00\x03\x00\x02\x00";
 
 /// What `inspect` says of it.
 const INSPECTED: &[u8] = b"res 0.1\nsize 17\nrecords 16\nfree 0\noccupied 1\ncanonical yes\n";
 
-/// How many bytes of replies there are once so many bytes of the script were read.
+/// How many bytes of replies there are once this many bytes of the script were read.
 fn replied(taken: usize) -> usize {
     let mut length = 0;
     for (script, replies) in REPLIED {
@@ -111,7 +114,7 @@ fn replied(taken: usize) -> usize {
     length
 }
 
-/// The file `s` of the snapshot behind the load: the one voxel has the largest value.
+/// The file `s` of the snapshot after the load: the one voxel has the largest value.
 fn kept(alloc: Global) -> Result<FileBytes, Fail> {
     let mut bytes = FileBytes::from_slice(alloc, b"OCTSNAP2\0\0\0\0\x05\xf5\xe1\0")?;
     bytes.extend_from_slice(b"\0\0\x03\x52\xff\xff\xfe\x70\xff\xff\xf8\x30\0\0\x0d\xac\0\0\0\0\0")?;
@@ -279,7 +282,7 @@ fn a_write_that_fails_ends_a_task_without_input(rt: HostRuntime) -> Result<(), F
     Ok(())
 }
 
-/// A session of at most 100 bytes over an input that is read by so many bytes: its status and its
+/// A session of at most 100 bytes over an input that is read by this many bytes: its status and its
 /// replies.
 fn check_session(
     rt: &impl Abort,

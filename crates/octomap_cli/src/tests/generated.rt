@@ -12,7 +12,8 @@ const SCRIPTS: [(&[&str], &str); 5] = [
     ),
     (
         &["gen", "1", "1", "2"],
-        "# octomap gen 1 1 2\nscan 1.623 0.736 -0.802 1 0 0 -2 8\np -4.77 -2.678 3.186\np -2.145 2.778 -0.864\nend\nquit\n",
+        "# octomap gen 1 1 2\nscan 1.623 0.736 -0.802 1 0 0 -2 8\np -4.77 -2.678 3.186\n\
+          p -2.145 2.778 -0.864\nend\nquit\n",
     ),
     (
         &["gen", "000000000000000007", "000", "100000"],
@@ -67,8 +68,8 @@ fn a_drill_writes_four_lines_and_reads_nothing(rt: HostRuntime) -> Result<(), Fa
 }
 
 /// What the session over the script of the last drill replies, and the counts after it.
-const REPLIES: &str =
-    "ok hits 50 frees 7349\nok hits 50 frees 6503\nok hits 50 frees 6796\ngroups 17469 nodes 38133\n";
+const REPLIES: &str = "ok hits 50 frees 7349\nok hits 50 frees 6503\nok hits 50 frees 6796\n\
+      groups 17469 nodes 38133\n";
 
 #[test]
 fn a_drill_sums_up_the_session_over_its_script(rt: HostRuntime) -> Result<(), Fail> {

@@ -7,20 +7,22 @@ use std::test::Fail;
 
 /// The eight voxels of keys 32768 and 32769 on each axis are occupied.
 const EIGHT: &[u8] = b"# Octomap OcTree binary file\nid OcTree\nsize 16\nres 0.1\ndata\n\
-    \x00\xC0\x03\x00\x03\x00\x03\x00\x03\x00\x03\x00\x03\x00\x03\x00\x03\x00\x03\x00\x03\x00\x03\x00\x03\x00\x03\x00\x02\x00";
+    \x00\xC0\x03\x00\x03\x00\x03\x00\x03\x00\x03\x00\x03\x00\x03\x00\x03\x00\x03\x00\x03\x00\x03\
+    \x00\x03\x00\x03\x00\x02\x00";
 
 /// The whole map is occupied.
 const WHOLE: &[u8] = b"# Octomap OcTree binary file\nid OcTree\nsize 9\nres 0.1\ndata\n\xAA\xAA";
 
 /// The voxel of key 32768 on each axis is occupied, and has an edge of an odd number of nanometres.
 const FINE: &[u8] = b"# Octomap OcTree binary file\nid OcTree\nsize 17\nres 0.000100001\ndata\n\
-    \x00\xC0\x03\x00\x03\x00\x03\x00\x03\x00\x03\x00\x03\x00\x03\x00\x03\x00\x03\x00\x03\x00\x03\x00\x03\x00\x03\x00\x03\x00\x02\x00";
+    \x00\xC0\x03\x00\x03\x00\x03\x00\x03\x00\x03\x00\x03\x00\x03\x00\x03\x00\x03\x00\x03\x00\x03\
+    \x00\x03\x00\x03\x00\x03\x00\x02\x00";
 
 /// No voxel is known.
 const EMPTY: &[u8] = b"# Octomap OcTree binary file\nid OcTree\nsize 0\nres 0.1\ndata\n";
 
-/// Of the map's eight blocks the first is occupied, but for an eighth of it that is free and the one
-/// beside that, which is unknown; the second is free, and the last one occupied.
+/// Of the map's eight blocks the first is occupied, but for an eighth of it that is free and the
+/// one beside that, which is unknown; the second is free, and the last one occupied.
 const PARTS: &[u8] = b"# Octomap OcTree binary file\nid OcTree\nsize 11\nres 0.1\ndata\n\
     \x07\x80\xA1\xAA";
 

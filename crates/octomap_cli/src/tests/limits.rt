@@ -23,7 +23,8 @@ const GROUPS: [LimitCase; 3] = [
     (
         "--max-groups",
         "32",
-        "hit 0 0 0 lazy\nhit 0.1 0 0 lazy\nhit 0 0.1 0 lazy\nhit 0.1 0.1 0 lazy\nhit 0 0 0.1 lazy\nhit 0.1 0 0.1 lazy\nhit 0 0.1 0.1 lazy\nhit 0.1 0.1 0.1 lazy\ncounts\nhit 1 0 0\n",
+        "hit 0 0 0 lazy\nhit 0.1 0 0 lazy\nhit 0 0.1 0 lazy\nhit 0.1 0.1 0 lazy\nhit 0 0 0.1 lazy\n\
+          hit 0.1 0 0.1 lazy\nhit 0 0.1 0.1 lazy\nhit 0.1 0.1 0.1 lazy\ncounts\nhit 1 0 0\n",
         "ok\nok\nok\nok\nok\nok\nok\nok\ngroups 15 nodes 16\nok\n",
         Status::Done,
     ),

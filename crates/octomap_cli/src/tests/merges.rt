@@ -12,24 +12,34 @@ use std::process::Abort;
 use std::test::Fail;
 
 /// The eight voxels from that of key 32768 on each axis are occupied.
-const EIGHT: &[u8] =
-    b"# Octomap OcTree binary file\n# (feel free to add / change comments, but leave the first line as it is!)\n#\nid OcTree\nsize 16\nres 0.1\ndata\n\x00\xC0\x03\x00\x03\x00\x03\x00\x03\x00\x03\x00\x03\x00\x03\x00\x03\x00\x03\x00\x03\x00\x03\x00\x03\x00\x03\x00\x02\x00";
+const EIGHT: &[u8] = b"# Octomap OcTree binary file\n\
+      # (feel free to add / change comments, but leave the first line as it is!)\n#\nid OcTree\n\
+      size 16\nres 0.1\ndata\n\
+      \x00\xC0\x03\x00\x03\x00\x03\x00\x03\x00\x03\x00\x03\x00\x03\x00\x03\x00\x03\x00\x03\x00\x03\
+      \x00\x03\x00\x03\x00\x02\x00";
 
 /// The voxel of key 32768 on each axis is free.
-const ONE: &[u8] =
-    b"# Octomap OcTree binary file\n# (feel free to add / change comments, but leave the first line as it is!)\n#\nid OcTree\nsize 17\nres 0.1\ndata\n\x00\xC0\x03\x00\x03\x00\x03\x00\x03\x00\x03\x00\x03\x00\x03\x00\x03\x00\x03\x00\x03\x00\x03\x00\x03\x00\x03\x00\x03\x00\x01\x00";
+const ONE: &[u8] = b"# Octomap OcTree binary file\n\
+      # (feel free to add / change comments, but leave the first line as it is!)\n#\nid OcTree\n\
+      size 17\nres 0.1\ndata\n\
+      \x00\xC0\x03\x00\x03\x00\x03\x00\x03\x00\x03\x00\x03\x00\x03\x00\x03\x00\x03\x00\x03\x00\x03\
+      \x00\x03\x00\x03\x00\x03\x00\x01\x00";
 
 /// That voxel is free, and the other seven are occupied.
-const BOTH: &[u8] =
-    b"# Octomap OcTree binary file\n# (feel free to add / change comments, but leave the first line as it is!)\n#\nid OcTree\nsize 24\nres 0.1\ndata\n\x00\xC0\x03\x00\x03\x00\x03\x00\x03\x00\x03\x00\x03\x00\x03\x00\x03\x00\x03\x00\x03\x00\x03\x00\x03\x00\x03\x00\x03\x00\xA9\xAA";
+const BOTH: &[u8] = b"# Octomap OcTree binary file\n\
+      # (feel free to add / change comments, but leave the first line as it is!)\n#\nid OcTree\n\
+      size 24\nres 0.1\ndata\n\
+      \x00\xC0\x03\x00\x03\x00\x03\x00\x03\x00\x03\x00\x03\x00\x03\x00\x03\x00\x03\x00\x03\x00\x03\
+      \x00\x03\x00\x03\x00\x03\x00\xA9\xAA";
 
 /// All is occupied, at voxels of half the edge; its node data isn't the shortest.
 const FINE: &[u8] =
     b"# Octomap OcTree binary file\nid OcTree\nsize 17\nres 0.05\ndata\n\xAB\xAA\xAA\xAA";
 
 /// The same in its shortest form.
-const FINE_AGAIN: &[u8] =
-    b"# Octomap OcTree binary file\n# (feel free to add / change comments, but leave the first line as it is!)\n#\nid OcTree\nsize 9\nres 0.05\ndata\n\xAA\xAA";
+const FINE_AGAIN: &[u8] = b"# Octomap OcTree binary file\n\
+      # (feel free to add / change comments, but leave the first line as it is!)\n#\nid OcTree\n\
+      size 9\nres 0.05\ndata\n\xAA\xAA";
 
 /// A file without its last byte.
 const SHORT: &[u8] = b"# Octomap OcTree binary file\nid OcTree\nsize 9\nres 0.1\ndata\n\xAA";
@@ -266,12 +276,12 @@ fn only(alloc: Global, number: u64) -> Result<KeptList, Fail> {
     Ok(list)
 }
 
-/// The number of the first load of a store, behind the saves that fill it.
+/// The number of the first load of a store, after the saves that fill it.
 const FIRST_LOAD: u8 = 7;
 
 /// The status of the program on its words, and what it wrote, where the write of one number fails,
-/// from 1 on, and the call of the store of another; with 0 none does. Each write takes one byte, and
-/// the first read of the input would fail.
+/// from 1 on, and the call of the store of another; with 0 none does. Each write takes one byte,
+/// and the first read of the input would fail.
 fn torn(alloc: Global, words: &[&str], write: u8, call: u8) -> Result<(Status, Vec<u8>), Fail> {
     let texts = owned(alloc, words)?;
     let mut source = MemSource::new(FileBytes::new(alloc), 1, only(alloc, 1)?);

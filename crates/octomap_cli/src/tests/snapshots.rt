@@ -19,7 +19,8 @@ fn over(
     Ok((status, Vec::from_slice(alloc, sink.written())?))
 }
 
-/// What stands between a snapshot and its restore doesn't matter, and a refused restore does nothing.
+/// What stands between a snapshot and its restore doesn't matter, and a refused restore does
+/// nothing.
 const ROUNDS: [Case; 5] = [
     (
         "hit 0 0 0\nsnapshot a\nclear\nget 0 0 0 16\nrestore a\nget 0 0 0 16\n",
@@ -33,8 +34,10 @@ const ROUNDS: [Case; 5] = [
     ),
     // The box that stood is back, and the mark and staleness are gone.
     (
-        "limit 0.1 0 0 0.1 0 0\nsnapshot a\nnolimit\ntrack\nhit 0 0 0 lazy\nrestore a\nget 0 0 0 0\nchanges\nscan 0.05 0.05 0.05 1 0 0 0 all\np 0.2 0 0\nend\n",
-        "ok\nsaved 50\nok\nok\nok\nrestored groups 0\nunknown\nrefused 28 NotTracked\nok hits 0 frees 1\n",
+        "limit 0.1 0 0 0.1 0 0\nsnapshot a\nnolimit\ntrack\nhit 0 0 0 lazy\nrestore a\n\
+          get 0 0 0 0\nchanges\nscan 0.05 0.05 0.05 1 0 0 0 all\np 0.2 0 0\nend\n",
+        "ok\nsaved 50\nok\nok\nok\nrestored groups 0\nunknown\nrefused 28 NotTracked\n\
+          ok hits 0 frees 1\n",
         Status::Refused,
     ),
     (
@@ -44,8 +47,10 @@ const ROUNDS: [Case; 5] = [
     ),
     // Values are kept that no file of classes has, of stale maps too.
     (
-        "set 0 0 0 -7\nset 0.1 0 0 3 lazy\nsnapshot a\nmaxlik\nrestore a\nget 0 0 0 16\nget 0 0 0 15\nmaxlik\nget 0 0 0 15\n",
-        "ok\nok\nsaved 174\nok\nrestored groups 16\nknown -7 free\nknown 3 occupied\nok\nknown 3500 occupied\n",
+        "set 0 0 0 -7\nset 0.1 0 0 3 lazy\nsnapshot a\nmaxlik\nrestore a\nget 0 0 0 16\n\
+          get 0 0 0 15\nmaxlik\nget 0 0 0 15\n",
+        "ok\nok\nsaved 174\nok\nrestored groups 16\nknown -7 free\nknown 3 occupied\nok\n\
+          known 3500 occupied\n",
         Status::Done,
     ),
 ];
@@ -110,10 +115,13 @@ fn a_snapshot_brings_its_log_odds(rt: HostRuntime) -> Result<(), Fail> {
         "session", "0.1", "--hit", "500", "--max", "1000", "--thr", "900",
     ];
     let script =
-        b"hit 1 0 0\nget 1 0 0 16\nrestore a\nhit 0 0 0\nget 0 0 0 16\nget 1 0 0 16\nclear\nhit 0 0 0\nget 0 0 0 16\n";
+        b"hit 1 0 0\nget 1 0 0 16\nrestore a\nhit 0 0 0\nget 0 0 0 16\nget 1 0 0 16\nclear\n\
+          hit 0 0 0\nget 0 0 0 16\n";
     let (status, text) = over(rt.alloc(), &others, &mut store, script)?;
     let replies =
-        b"ok\nknown 500 free\nrestored groups 16\nok\nknown 1700 occupied\nunknown\nok\nok\nknown 850 occupied\n".as_slice();
+        b"ok\nknown 500 free\nrestored groups 16\nok\nknown 1700 occupied\nunknown\nok\nok\n\
+          known 850 occupied\n"
+            .as_slice();
     assert_eq!(rt; status, Status::Done);
     assert_eq!(rt; text.as_slice(), replies);
     Ok(())

@@ -1,6 +1,7 @@
-use Rattle.std.proofs.Common.{Ok, Err, is_some, sym, ap, ◌∙◌}
+use Rattle.std.proofs.Common.{◌≡◌, Ok, Err, is_some, sym, ap, subst, ◌∙◌}
 use Rattle.oct_script.specs.declared.reply.Refusal.TheVariants as refusal
-use Rattle.oct_session.specs.Commands.{file_named, file_saved, is_quit}
+use Rattle.oct_session.specs.Commands.{asks_for, file_named, is_quit}
+use Rattle.oct_session.specs.Counts.{IsAsked}
 use Rattle.oct_session.specs.Session.{effect}
 use Rattle.oct_session.specs.Standing.{with_reply}
 use Rattle.oct_session.proofs.Effects.{fault_taken, long_in, misspelt_in, read_in, still_failed, taken_as}
@@ -31,15 +32,12 @@ returns-in_err-take_command-in-Ok-clause-effect g c =
     (read_in (is_some c.args.block.now) c.is_some.result c.args.number c.args.line.now.line c.text.result.now c.parse_into.new.command c.is_some.ensures c.text.ensures.text c.in-Ok.ensures.exact)
     (still_failed c.from_residual.result c.take_command.new.reply
     (λ files s. effect files s c.args.number c.args.line.now.line (Ok c.parse_into.new.command) c.args.block.now)
-    (file_named (Ok c.parse_into.new.command)) _ c.args.map.now c.take_command.new.map _ _ c.take_command.new.block c.from_residual.ensures.1 (c.in_err-take_command-in-Ok.ensures.effect c.args.line.now.line))
+    (Ok c.parse_into.new.command) _ c.args.map.now c.take_command.new.map _ _ c.take_command.new.block c.from_residual.ensures.1 (c.in_err-take_command-in-Ok.ensures.effect c.args.line.now.line))
 
-pub returns-in_err-take_command-in-Ok-clause-unnamed : goal.returns-in_err-take_command-in-Ok-clause-unnamed
-returns-in_err-take_command-in-Ok-clause-unnamed g c = λ none.
-    c.take_command.ensures.unnamed (sym (ap file_named (read_in (is_some c.args.block.now) c.is_some.result c.args.number c.args.line.now.line c.text.result.now c.parse_into.new.command c.is_some.ensures c.text.ensures.text c.in-Ok.ensures.exact)) ∙ none)
-
-pub returns-in_err-take_command-in-Ok-clause-unsaved : goal.returns-in_err-take_command-in-Ok-clause-unsaved
-returns-in_err-take_command-in-Ok-clause-unsaved g c = λ none.
-    c.take_command.ensures.unsaved (sym (ap file_saved (read_in (is_some c.args.block.now) c.is_some.result c.args.number c.args.line.now.line c.text.result.now c.parse_into.new.command c.is_some.ensures c.text.ensures.text c.in-Ok.ensures.exact)) ∙ none)
+pub returns-in_err-take_command-in-Ok-clause-asked : goal.returns-in_err-take_command-in-Ok-clause-asked
+returns-in_err-take_command-in-Ok-clause-asked g c =
+    subst (λ n. IsAsked (c.take_command.new.store ≡ c.args.store.now) (g.F.Store.calls c.args.store.now) (g.F.Store.calls c.take_command.new.store) n) (ap (λ x. asks_for (file_named x)) (sym (read_in (is_some c.args.block.now) c.is_some.result c.args.number c.args.line.now.line c.text.result.now c.parse_into.new.command c.is_some.ensures c.text.ensures.text c.in-Ok.ensures.exact)))
+    c.take_command.ensures.asked
 
 pub returns-in_ok-take_command-in-Ok-clause-effect : goal.returns-in_ok-take_command-in-Ok-clause-effect
 returns-in_ok-take_command-in-Ok-clause-effect g c =
@@ -51,10 +49,7 @@ pub returns-in_ok-take_command-in-Ok-clause-quits : goal.returns-in_ok-take_comm
 returns-in_ok-take_command-in-Ok-clause-quits g c =
     c.is_quit.ensures ∙ sym (ap is_quit (read_in (is_some c.args.block.now) c.is_some.result c.args.number c.args.line.now.line c.text.result.now c.parse_into.new.command c.is_some.ensures c.text.ensures.text c.in-Ok.ensures.exact))
 
-pub returns-in_ok-take_command-in-Ok-clause-unnamed : goal.returns-in_ok-take_command-in-Ok-clause-unnamed
-returns-in_ok-take_command-in-Ok-clause-unnamed g c = λ none.
-    c.take_command.ensures.unnamed (sym (ap file_named (read_in (is_some c.args.block.now) c.is_some.result c.args.number c.args.line.now.line c.text.result.now c.parse_into.new.command c.is_some.ensures c.text.ensures.text c.in-Ok.ensures.exact)) ∙ none)
-
-pub returns-in_ok-take_command-in-Ok-clause-unsaved : goal.returns-in_ok-take_command-in-Ok-clause-unsaved
-returns-in_ok-take_command-in-Ok-clause-unsaved g c = λ none.
-    c.take_command.ensures.unsaved (sym (ap file_saved (read_in (is_some c.args.block.now) c.is_some.result c.args.number c.args.line.now.line c.text.result.now c.parse_into.new.command c.is_some.ensures c.text.ensures.text c.in-Ok.ensures.exact)) ∙ none)
+pub returns-in_ok-take_command-in-Ok-clause-asked : goal.returns-in_ok-take_command-in-Ok-clause-asked
+returns-in_ok-take_command-in-Ok-clause-asked g c =
+    subst (λ n. IsAsked (c.take_command.new.store ≡ c.args.store.now) (g.F.Store.calls c.args.store.now) (g.F.Store.calls c.take_command.new.store) n) (ap (λ x. asks_for (file_named x)) (sym (read_in (is_some c.args.block.now) c.is_some.result c.args.number c.args.line.now.line c.text.result.now c.parse_into.new.command c.is_some.ensures c.text.ensures.text c.in-Ok.ensures.exact)))
+    c.take_command.ensures.asked

@@ -1,4 +1,4 @@
-use Rattle.std.proofs.Common.{◌∙◌}
+use Rattle.std.proofs.Common.{arith, ◌∙◌}
 use Rattle.oct_session.proofs.Endings.{after_stop, last_read, last_stop}
 use Rattle.oct_session.proofs.service.read_all.Goals as goal
 
@@ -35,8 +35,9 @@ reading-preserved g c = record {
   counted = c.in_ok-count.ensures.counted;
   at = λ home files bytes w at. c.in_ok-count.ensures.goes c.if-session.false home files bytes w (c.reading.invariant.at home files bytes w at);
   stands = λ o some. c.turn.ensures.stands o (c.reading.invariant.stands o some);
-  read = c.in_ok-count.ensures.read ∙ c.reading.invariant.read;
-  faults = c.in_ok-count.ensures.stays.0 ∙ c.reading.invariant.faults;
-  shortages = c.in_ok-count.ensures.stays.1 ∙ c.reading.invariant.shortages;
-  store_faults = c.in_ok-count.ensures.stays.2 ∙ c.reading.invariant.store_faults;
+  ends = c.in_ok-count.ensures.before (omega (arith, c.if-count-eq0.false)) ∙ c.reading.invariant.ends;
+  read = c.in_ok-count.ensures.source_counts.no_read_fault (λ e. cc) ∙ c.reading.invariant.read;
+  faults = c.in_ok-count.ensures.counts.stays.0 ∙ c.reading.invariant.faults;
+  shortages = c.in_ok-count.ensures.counts.stays.1 ∙ c.reading.invariant.shortages;
+  store_faults = c.in_ok-count.ensures.counts.stays.2 ∙ c.reading.invariant.store_faults;
 }

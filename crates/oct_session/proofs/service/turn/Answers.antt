@@ -12,8 +12,8 @@ returns-in_err-take_piece-clause-stops g c =
     (record {
       few = c.requires.few;
       size = ap (λ most. most - c.args.taken) c.max_bytes.ensures.exact;
-      most = omega (arith, c.in_ok-count.ensures.within, c.wanted.ensures);
-      at_once = omega (arith, c.in_ok-count.ensures.within, c.wanted.ensures);
+      most = c.in_ok-count.ensures.few;
+      at_once = omega (arith, c.in_ok-count.ensures.within, c.requires.whole);
       moved = c.in_ok-count.ensures.moved;
       same = c.in_ok-count.ensures.bytes;
       enough = c.in_ok-count.ensures.enough;
@@ -28,8 +28,8 @@ returns-clause-goes g c =
     (record {
       few = c.requires.few;
       size = ap (λ most. most - c.args.taken) c.max_bytes.ensures.exact;
-      most = omega (arith, c.in_ok-count.ensures.within, c.wanted.ensures);
-      at_once = omega (arith, c.in_ok-count.ensures.within, c.wanted.ensures);
+      most = c.in_ok-count.ensures.few;
+      at_once = omega (arith, c.in_ok-count.ensures.within, c.requires.whole);
       moved = c.in_ok-count.ensures.moved;
       same = c.in_ok-count.ensures.bytes;
       enough = c.in_ok-count.ensures.enough;
@@ -44,8 +44,8 @@ returns-clause-quits g c =
     (record {
       few = c.requires.few;
       size = ap (λ most. most - c.args.taken) c.max_bytes.ensures.exact;
-      most = omega (arith, c.in_ok-count.ensures.within, c.wanted.ensures);
-      at_once = omega (arith, c.in_ok-count.ensures.within, c.wanted.ensures);
+      most = c.in_ok-count.ensures.few;
+      at_once = omega (arith, c.in_ok-count.ensures.within, c.requires.whole);
       moved = c.in_ok-count.ensures.moved;
       same = c.in_ok-count.ensures.bytes;
       enough = c.in_ok-count.ensures.enough;

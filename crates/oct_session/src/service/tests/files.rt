@@ -2,8 +2,9 @@
 use super::*;
 
 /// A file's header before the number of its nodes.
-const FRONT: &[u8] =
-    b"# Octomap OcTree binary file\n# (feel free to add / change comments, but leave the first line as it is!)\n#\nid OcTree\nsize ";
+const FRONT: &[u8] = b"# Octomap OcTree binary file\n\
+      # (feel free to add / change comments, but leave the first line as it is!)\n#\nid OcTree\n\
+      size ";
 
 /// The node data of the eight voxels around the corner of voxel 1.
 const CUBE: &[u8] = &[
@@ -16,7 +17,7 @@ const VOXEL: &[u8] = &[
     2, 0,
 ];
 
-/// The file at 0.1 m of so many nodes and this node data.
+/// The file at 0.1 m of this many nodes and this node data.
 fn file(alloc: Global, nodes: &[u8], data: &[u8]) -> Result<FileBytes, Memory> {
     let mut bytes = FileBytes::from_slice(alloc, FRONT)?;
     bytes.extend_from_slice(nodes)?;
@@ -130,7 +131,7 @@ const OTHERS: [[i32; 5]; 5] = [
     [850, -400, -2000, 3500, 100],
 ];
 
-/// Sessions of these log-odds at a resolution of so many nanometres.
+/// Sessions of these log-odds at a resolution of this many nanometres.
 fn trusting(res: i64, odds: OddsModel) -> Result<Options, Fail> {
     Ok(Options {
         res: Res::new(res)?,

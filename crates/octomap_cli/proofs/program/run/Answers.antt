@@ -1,5 +1,6 @@
 use Rattle.std.proofs.Common.{◌≡◌}
-use Rattle.octomap_cli.proofs.Runs.{run_task, task_leaves, task_files, task_unnamed, task_made}
+use Rattle.oct_session.specs.Leaving.{shelf}
+use Rattle.octomap_cli.proofs.Runs.{run_task, task_leaves, task_files, task_asked, task_made}
 use Rattle.octomap_cli.proofs.program.run.Goals as goal
 
 pub returns-in-Ok-clause-answer : goal.returns-in-Ok-clause-answer
@@ -7,14 +8,14 @@ returns-in-Ok-clause-answer g c = run_task _ _ (g.F.Store.files c.args.store.now
 
 pub returns-in-Ok-clause-leaves : goal.returns-in-Ok-clause-leaves
 returns-in-Ok-clause-leaves g c =
-    task_leaves _ _ (g.F.Store.files c.args.store.now) (g.F.Store.files c.perform.new.store) _ _ _ _ (c.perform.new.store ≡ c.args.store.now) _
+    task_leaves _ _ (g.F.Store.files c.args.store.now) _ _ _ _ (shelf g.F.Store.files g.F.Store.calls c.args.store.now c.perform.new.store) _
     c.in-Ok.ensures.exact c.perform.ensures.leaves
 
 pub returns-in-Ok-clause-files : goal.returns-in-Ok-clause-files
 returns-in-Ok-clause-files g c = task_files _ _ (g.F.Store.files c.args.store.now) _ _ _ c.in-Ok.ensures.exact c.perform.ensures.files
 
-pub returns-in-Ok-clause-unnamed : goal.returns-in-Ok-clause-unnamed
-returns-in-Ok-clause-unnamed g c = task_unnamed _ _ (g.F.Store.files c.args.store.now) _ (c.perform.new.store ≡ c.args.store.now) c.in-Ok.ensures.exact c.perform.ensures.unnamed
+pub returns-in-Ok-clause-asked : goal.returns-in-Ok-clause-asked
+returns-in-Ok-clause-asked g c = task_asked _ _ (g.F.Store.files c.args.store.now) _ (shelf g.F.Store.files g.F.Store.calls c.args.store.now c.perform.new.store) c.in-Ok.ensures.exact c.perform.ensures.asked
 
 pub returns-in-Ok-clause-made : goal.returns-in-Ok-clause-made
 returns-in-Ok-clause-made g c = task_made _ _ (g.F.Store.files c.args.store.now) _ _ _ c.in-Ok.ensures.exact c.perform.ensures.made

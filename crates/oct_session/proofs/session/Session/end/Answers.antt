@@ -11,13 +11,13 @@ returns-then-self-clause-ok g c = λ home files w bytes at known.
 
 pub returns-clause-ok : goal.returns-clause-ok
 returns-clause-ok g c =
-    end_closed c.close.result c.args.options.now _ _ _ _ _ c.args.self.now c.respond_last.new.self c.close.new.self
-    c.in_ok-respond_last.ensures.ok c.close.ensures.ok
+    end_closed c.args.options.now _ _ _ _ _ c.args.self.now c.respond_last.new.self c.close.new.self
+    c.in_ok-respond_last.ensures.ok c.in_ok-close.ensures.ok
 
-pub returns-clause-err : goal.returns-clause-err
-returns-clause-err g c =
-    end_stopped c.close.result c.args.options.now _ _ _ _ _ c.args.self.now c.respond_last.new.self
-    c.in_ok-respond_last.ensures.ok c.close.ensures.only c.close.ensures.err
+pub returns-in_err-close-clause-err : goal.returns-in_err-close-clause-err
+returns-in_err-close-clause-err g c =
+    end_stopped _ _ c.args.options.now _ _ _ _ _ c.args.self.now c.respond_last.new.self c.from_residual-in_err-close.ensures.1
+    c.in_ok-respond_last.ensures.ok c.in_err-close.ensures.err
 
 pub returns-in_err-respond_last-clause-err : goal.returns-in_err-respond_last-clause-err
 returns-in_err-respond_last-clause-err g c =

@@ -1,5 +1,5 @@
 use Rattle.std.proofs.Common.{◌≡◌, ◌+◌, ◌-◌, ◌≤◌, length, take, false}
-use Rattle.oct_session.specs.Leaving.{desk}
+use Rattle.oct_session.specs.Leaving.{desk, shelf}
 use Rattle.oct_session.specs.Standing.{KeepsStanding, Takes}
 use Rattle.oct_session.proofs.session.Session.take.Given as goal
 
@@ -7,7 +7,7 @@ abbrev pub invariant-loop-taken : goal.invariant-loop-taken
 invariant-loop-taken g l = record {
   within : l.taken ≤ length l.piece;
   at : (home : _) → Takes l.options (g.K.Sink.written l.fn.sink) (g.K.Sink.written l.sink)
-      (desk l.fn.map (g.F.Store.files l.fn.store) (l.fn.store ≡ home)) (desk l.map (g.F.Store.files l.store) (l.store ≡ home))
+      (desk l.fn.map (shelf g.F.Store.files g.F.Store.calls home l.fn.store)) (desk l.map (shelf g.F.Store.files g.F.Store.calls home l.store))
       l.fn.self l.self (take l.taken l.piece);
   stands : KeepsStanding l.fn.map l.map;
   unended : l.self.line.has_ended ≡ false;
