@@ -1,6 +1,8 @@
 -- An arena as its callers see it: a list of groups and vacant entries, where a group's id is the
 -- number of its entry.
-use Rattle.std.specs.Prelude.{◌≡◌, ℕ, ◌+◌, ◌^◌, ◌≤◌, Bool, IsTrue, List, length, replicate, Option, Some, None, is_none, is_some, option_map, count_by, slice_index_or, slice_set}
+use Rattle.std.specs.Prelude.{◌≡◌, ℕ, ◌+◌, ◌^◌, ◌≤◌, Bool, IsTrue, List, length, replicate, Option}
+use Rattle.std.specs.Prelude.{Some, None, is_none, is_some, option_map, count_by, slice_index_or}
+use Rattle.std.specs.Prelude.{slice_set}
 use Rattle.oct_key.specs.Block.{Cube, child_of}
 use Rattle.oct_arena.specs.declared.node.Node.{Node}
 use Rattle.oct_arena.specs.declared.node.Node.TheVariants.{Absent}
@@ -58,7 +60,7 @@ spare gs = count_by is_none gs
 abbrev pub live : Groups → ℕ
 live gs = count_by is_some gs
 
--- so many vacant entries
+-- this many vacant entries
 abbrev pub vacant : ℕ → Groups
 vacant count = replicate count None
 

@@ -18,7 +18,7 @@ linked_number (Inner value id) = id.number
 abbrev pub next : Groups → ℕ → ℕ
 next memory i = linked_number (node_at memory i 0)
 
--- so many entries from head on, where each links the one after it
+-- this many entries from head on, where each links the one after it
 abbrev pub chain : ℕ → ℕ → Groups → List ℕ
 chain zero head memory = []
 chain (suc count) head memory = head ∷ chain count (next memory head) memory

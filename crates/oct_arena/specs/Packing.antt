@@ -1,5 +1,6 @@
 -- A node in eight bytes, the number bits: the value in the lower four, the link in the upper four.
-use Rattle.std.specs.Prelude.{◌≡◌, ℕ, ◌<◌, ◌≤◌, ◌+◌, ◌*◌, ◌/◌, ◌%◌, ◌^◌, ℤ, ◌==◌, if◌then◌else◌, ◌⊎◌}
+use Rattle.std.specs.Prelude.{◌≡◌, ℕ, ◌<◌, ◌≤◌, ◌+◌, ◌*◌, ◌/◌, ◌%◌, ◌^◌, ℤ, ◌==◌, if◌then◌else◌}
+use Rattle.std.specs.Prelude.{◌⊎◌}
 use Rattle.std.specs.Int.{cast_signed, cast_unsigned}
 use Rattle.std.proofs.Common.{arith, ap, ◌∙◌, inl, inr, refl, w32}
 use Rattle.std.proofs.lemmas.Bool.{cases_lt}
@@ -8,10 +9,11 @@ use Rattle.oct_arena.specs.declared.node.Node.{Node}
 use Rattle.oct_arena.specs.declared.node.Node.TheVariants.{Absent, Leaf, Inner}
 use Rattle.oct_arena.specs.declared.node.PackedNode.TheInside.{Inside}
 
--- the links that stand for a leaf and for an absent node
+-- the link that stands for a leaf
 abbrev pub leaf_link : ℕ
 leaf_link = 4294967294
 
+-- the link that stands for an absent node
 abbrev pub absent_link : ℕ
 absent_link = 4294967295
 

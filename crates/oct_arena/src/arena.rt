@@ -1,9 +1,11 @@
-ghost use Rattle.std.specs.Prelude.{◌≡◌, ◌+◌, ◌-◌, ◌<◌, ◌≤◌, ◌^◌, [], ◌++◌, length, slice_set, Some, None, OnOk, OnErr, IsOk, max, pos};
+ghost use Rattle.std.specs.Prelude.{◌≡◌, ◌+◌, ◌-◌, ◌<◌, ◌≤◌, ◌^◌, [], ◌++◌, length, slice_set};
+ghost use Rattle.std.specs.Prelude.{Some, None, OnOk, OnErr, IsOk, max, pos};
 ghost use Rattle.oct_arena.specs.declared.node.Node.TheVariants.{Inner};
 ghost use Rattle.oct_key.specs.Block.{Cube};
 ghost use Rattle.oct_key.specs.CubeOf.{cube_of};
 ghost use Rattle.oct_arena.specs.Nodes.{inner_over};
-ghost use Rattle.oct_arena.specs.Entries.{IsArena, IsLive, entry, node_at, home_at, with_node, copies_under, spare, live, vacant};
+ghost use Rattle.oct_arena.specs.Entries.{IsArena, IsLive, entry, node_at, home_at, with_node};
+ghost use Rattle.oct_arena.specs.Entries.{copies_under, spare, live, vacant};
 
 use crate::chunk::CHUNK;
 use crate::home::PackedBlock;

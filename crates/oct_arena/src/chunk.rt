@@ -1,4 +1,5 @@
-ghost use Rattle.std.specs.Prelude.{◌≡◌, ◌+◌, ◌<◌, ◌≤◌, ◌^◌, length, replicate, slice_set, Some, None, IfOk};
+ghost use Rattle.std.specs.Prelude.{◌≡◌, ◌+◌, ◌<◌, ◌≤◌, ◌^◌, length, replicate, slice_set, Some};
+ghost use Rattle.std.specs.Prelude.{None, IfOk};
 ghost use Rattle.oct_arena.specs.Entries.{entry, with_node};
 ghost use Rattle.oct_arena.specs.Chunks.{IsFresh};
 

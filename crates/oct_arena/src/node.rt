@@ -45,7 +45,7 @@ pub enum Node {
 }
 
 impl Node {
-    ghost use Rattle.std.specs.Prelude.{ℤ, Option, Some, None};
+    ghost use Rattle.std.specs.Prelude.{Some, None};
     ghost use Rattle.oct_arena.specs.Nodes.{value_of, stored_in};
 
     /// The value that the node gives each voxel of its block, or `None` where it gives none.

@@ -1,5 +1,6 @@
 -- Bricks that stay bricks of the map while voxels are added.
-use Rattle.std.proofs.Common.{◌≡◌, ℕ, ◌/◌, ◌%◌, ◌^◌, ◌<◌, inl, inr, sym, subst, ◌∙◌, ◌≤◌, arith, bit_or}
+use Rattle.std.proofs.Common.{◌≡◌, ℕ, ◌/◌, ◌%◌, ◌^◌, ◌<◌, inl, inr, sym, subst, ◌∙◌, ◌≤◌, arith}
+use Rattle.std.proofs.Common.{bit_or}
 use Rattle.std.proofs.lemmas.Nat.{or_lt, le_or_l}
 use Rattle.std.proofs.Math.Nat.{pow-le-pow_right}
 use Rattle.oct_brick.specs.Masks.{HasCode}
@@ -14,7 +15,9 @@ bit_fits code bit e =
     omega (arith, e, le)
 
 -- with a voxel that changes
-pub scanned_brick : (b : Brick) (code bit : ℕ) → bit ≡ 2 ^ (code % 64) → b.code < 2 ^ 42 → b.scanned < 2 ^ 64 → b.hits < 2 ^ 64 → HitsAreScanned b → IsBrick (record b { scanned = bit_or b.scanned bit })
+pub scanned_brick : (b : Brick) (code bit : ℕ) → bit ≡ 2 ^ (code % 64) → b.code < 2 ^ 42
+    → b.scanned < 2 ^ 64 → b.hits < 2 ^ 64 → HitsAreScanned b
+    → IsBrick (record b { scanned = bit_or b.scanned bit })
 scanned_brick b code bit e below scanned hits part = record {
   code = below;
   fits = or_lt 64 b.scanned bit scanned (bit_fits code bit e);
@@ -24,7 +27,9 @@ scanned_brick b code bit e below scanned hits part = record {
 }
 
 -- with a voxel that is hit
-pub hit_brick : (b : Brick) (code bit bit' : ℕ) → bit ≡ 2 ^ (code % 64) → bit' ≡ 2 ^ (code % 64) → code / 64 ≡ b.code → b.code < 2 ^ 42 → b.scanned < 2 ^ 64 → b.hits < 2 ^ 64 → HitsAreScanned b → IsBrick (record b { scanned = bit_or b.scanned bit; hits = bit_or b.hits bit' })
+pub hit_brick : (b : Brick) (code bit bit' : ℕ) → bit ≡ 2 ^ (code % 64) → bit' ≡ 2 ^ (code % 64)
+    → code / 64 ≡ b.code → b.code < 2 ^ 42 → b.scanned < 2 ^ 64 → b.hits < 2 ^ 64 → HitsAreScanned b
+    → IsBrick (record b { scanned = bit_or b.scanned bit; hits = bit_or b.hits bit' })
 hit_brick b code bit bit' e e' inside below scanned hits part = record {
   code = below;
   fits = or_lt 64 b.scanned bit scanned (bit_fits code bit e);
@@ -37,14 +42,17 @@ hit_brick b code bit bit' e e' inside below scanned hits part = record {
 }
 
 -- and with the voxels of another brick of its code
-pub joined_brick : (a b : Brick) → a.code ≡ b.code → IsBrick a → IsBrick b → IsBrick (record a { scanned = bit_or a.scanned b.scanned; hits = bit_or a.hits b.hits })
+pub joined_brick : (a b : Brick) → a.code ≡ b.code → IsBrick a → IsBrick b
+    → IsBrick (record a { scanned = bit_or a.scanned b.scanned; hits = bit_or a.hits b.hits })
 joined_brick a b same one other = record {
   code = one.code;
   fits = or_lt 64 a.scanned b.scanned one.fits other.fits;
   hits_fit = or_lt 64 a.hits b.hits one.hits_fit other.hits_fit;
   some = (let s = one.some in let l = le_or_l a.scanned b.scanned in omega (arith, s, l));
-  part = λ c h. (or_both a.code a.scanned b.scanned c).1 (elim ((or_both a.code a.hits b.hits c).0 h) [
-    | inl k ↦ inl (one.part c k)
-    | inr k ↦ inr (subst (λ n. HasCode n b.scanned c) (sym same) (other.part c (subst (λ n. HasCode n b.hits c) same k)))
-  ]);
+  part =
+      λ c h. (or_both a.code a.scanned b.scanned c).1 (elim ((or_both a.code a.hits b.hits c).0 h) [
+        | inl k ↦ inl (one.part c k)
+        | inr k ↦ inr (subst (λ n. HasCode n b.scanned c) (sym same)
+            (other.part c (subst (λ n. HasCode n b.hits c) same k)))
+      ]);
 }

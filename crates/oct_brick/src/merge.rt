@@ -1,4 +1,4 @@
-ghost use Rattle.std.specs.Prelude.{◌≡◌, ℕ, ◌≤◌, ◌↔◌, All, Contains, IfOk, vec_len};
+ghost use Rattle.std.specs.Prelude.{ℕ, ◌≤◌, ◌↔◌, All, Contains, IfOk, vec_len};
 ghost use Rattle.oct_brick.specs.Bricks.{scanned_codes, hit_codes, IsBrick, AreAscending};
 
 use crate::brick::Brick;

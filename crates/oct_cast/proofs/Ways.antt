@@ -1,6 +1,6 @@
 -- How a way is shortened and gone on with, from one voxel to the next.
-use Rattle.std.proofs.Common.{◌≡◌, ◌≢◌, ℕ, zero, suc, ◌+◌, ◌-◌, ◌*◌, ◌/◌, ◌%◌, ◌^◌, ◌<◌, ◌≤◌, List}
-use Rattle.std.proofs.Common.{length, set, get_or, Some, None, refl, sym, ap, subst, ◌∙◌, arith}
+use Rattle.std.proofs.Common.{◌≡◌, ◌≢◌, ℕ, ◌+◌, ◌-◌, ◌*◌, ◌/◌, ◌%◌, ◌^◌, ◌<◌, ◌≤◌, List}
+use Rattle.std.proofs.Common.{length, set, get_or, Some, None, sym, ap, subst, ◌∙◌, arith}
 use Rattle.std.proofs.Common.{inl, inr, ◌⊎◌}
 use Rattle.std.proofs.Math.Nat.{div-div-eq-div-mul}
 use Rattle.std.proofs.lemmas.Nat.{pow-add}
@@ -15,12 +15,11 @@ use Rattle.oct_key.proofs.Interleavings.{morton_below, morton_injective, digit_o
 use Rattle.oct_key.proofs.Interleavings.{same_prefix}
 use Rattle.oct_arena.specs.declared.node.GroupId.{GroupId}
 use Rattle.oct_arena.specs.declared.node.Node.{Node}
-use Rattle.oct_arena.specs.declared.node.Node.TheVariants.{Inner}
 use Rattle.oct_arena.specs.Entries.{Groups, IsLive, node_at}
 use Rattle.oct_arena.specs.Nodes.{link_of, value_of}
 use Rattle.oct_tree.specs.Tree.{Tree, IsLinked, reach, value_at}
 use Rattle.oct_tree.proofs.Paths.{reach_zero, reach_suc, reach_home, reach_live, step_linked}
-use Rattle.oct_tree.proofs.Paths.{not_inner, value_at_last}
+use Rattle.oct_tree.proofs.Paths.{value_at_last}
 use Rattle.oct_tree.proofs.Over.{same_reach}
 use Rattle.oct_cast.specs.declared.way.Way.{Way}
 use Rattle.oct_cast.specs.Way.{IsCodeOf, AreLinked, LeadsTo}

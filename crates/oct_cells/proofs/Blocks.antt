@@ -18,7 +18,8 @@ use Rattle.oct_cells.proofs.Memory.{bytes}
 -- a size that a word can't hold plays no part where the whole block's fits
 pub whole_size : (n size : ℕ) → n * size < 2 ^ 64 → n * capped size ≡ n * size
 whole_size zero size h = zero-mul (capped size) ∙ sym (zero-mul size)
-whole_size (suc n) size h = let more = suc-mul n size in ap (λ (k : ℕ). suc n * k) (capped_is size (omega arith))
+whole_size (suc n) size h =
+    let more = suc-mul n size in ap (λ (k : ℕ). suc n * k) (capped_is size (omega arith))
 
 module _ (E : El) where
   -- what a block of n cells is allocated as

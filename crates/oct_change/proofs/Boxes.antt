@@ -1,40 +1,31 @@
 -- The voxels of a box, row by row and plane by plane.
-use Rattle.std.proofs.Common.{◌≡◌, ℕ, ◌+◌, ◌-◌, ◌*◌, ◌<◌, ◌≤◌, List, inl, inr, sym, ap, subst, ◌∙◌}
+use Rattle.std.proofs.Common.{◌≡◌, ℕ, ◌+◌, ◌-◌, ◌*◌, ◌<◌, ◌≤◌, List, inl, inr, ap}
 use Rattle.std.proofs.Common.{arith}
 use Rattle.std.proofs.lemmas.Bool.{cases_eq}
 use Rattle.oct_key.specs.Voxel.{Voxel}
 use Rattle.oct_key.proofs.SameVoxels.{same_voxel}
-use Rattle.oct_key.specs.Boxes.{IsBox, IsInBox}
+use Rattle.oct_key.specs.Boxes.{IsInBox}
 use Rattle.oct_values.specs.Classes.{Classes}
 use Rattle.oct_change.specs.declared.changes.Note.{Note}
 use Rattle.oct_change.specs.Notes.{HasNoted}
 use Rattle.oct_change.specs.Rows.{IsInRow, IsInPlane}
-use Rattle.oct_change.proofs.Noting.{noted_join, noted_none, noted_same}
+use Rattle.oct_change.proofs.Noting.{noted_join, noted_none}
 
--- Of some parts in a row those below a number are noted, each with so many voxels.
-pub record IsBelow (now : Classes) (P : Voxel
-    → Type 0) (from to size : ℕ) (old new : List Note) (before after : ℕ) : Type 0 where
+-- Of some parts in a row those below a number are noted, each with this many voxels.
+pub record IsBelow (now : Classes) (P : Voxel → Type 0) (from to size : ℕ) (old new : List Note)
+    (before after : ℕ) : Type 0 where
   pub noted : HasNoted now P old new
   pub low : from ≤ to
   pub room : before ≡ after + (to - from) * size
 
-pub below_start : (now : Classes) (P : Voxel
-    → Type 0) (from to size : ℕ) (old : List Note) (spare : ℕ) → to ≡ from → ((k : Voxel) → P k → ⊥)
+pub below_start : (now : Classes) (P : Voxel → Type 0) (from to size : ℕ) (old : List Note)
+    (spare : ℕ) → to ≡ from → ((k : Voxel) → P k → ⊥)
     → IsBelow now P from to size old old spare spare
 below_start now P from to size old spare same none = record {
   noted = noted_none now P old none;
   low = omega arith;
   room = (let nothing : to - from ≡ 0 = omega arith in rw nothing (omega arith));
 }
-
--- there is room for one part more
-pub below_room : (from to end size before after : ℕ) → from ≤ to → to < end
-    → before ≡ after + (to - from) * size → (end - from) * size ≤ before → size ≤ after
-below_room from to end size before after low below total room =
-    let parts : end - from ≡ (to - from) + 1 + (end - to - 1) = omega arith in
-    let whole : (end - from) * size ≡ (to - from) * size + size + (end - to - 1) * size = rw parts
-    (omega arith) in
-    omega (arith, whole, total, room)
 
 pub one_more : (from to size before between after : ℕ) → from ≤ to
     → before ≡ between + (to - from) * size → between ≡ after + size
@@ -70,19 +61,6 @@ row_step now x y low z old mid new before between after f g room = record {
   room = one_more low z 1 before between after f.low f.room room;
 }
 
-pub row_end : (now : Classes) (x y low high z : ℕ) (old new : List Note) (before after : ℕ)
-    → high + 1 ≤ z → z ≤ high + 1
-    → IsBelow now (IsInRowBelow x y low z) low z 1 old new before after
-    → HasNoted now (IsInRow x y low high) old new × (before ≡ after + (high + 1 - low))
-row_end now x y low high z old new before after above below f =
-    let all : z ≡ high + 1 = omega arith in
-    let total = f.room in (
-      noted_same now (IsInRowBelow x y low z) (IsInRow x y low high) old new f.noted
-          (λ k (ex, ey, (from, to)). (ex, ey, from, omega arith))
-          (λ k (ex, ey, from, to). (ex, ey, (from, omega arith))),
-      omega (arith, all, total),
-    )
-
 -- of a plane the rows below one
 abbrev pub IsInPlaneBelow : ℕ → Voxel → Voxel → ℕ → Voxel → Type 0
 IsInPlaneBelow x lo hi y k = (k.x ≡ x) × (lo.y ≤ k.y) × (k.y < y) × (lo.z ≤ k.z) × (k.z ≤ hi.z)
@@ -106,18 +84,6 @@ plane_step now x y size lo hi old mid new before between after f g room = record
   room = one_more lo.y y size before between after f.low f.room room;
 }
 
-pub plane_end : (now : Classes) (x y size : ℕ) (lo hi : Voxel) (old new : List Note)
-    (before after : ℕ) → hi.y + 1 ≤ y → y ≤ hi.y + 1
-    → IsBelow now (IsInPlaneBelow x lo hi y) lo.y y size old new before after
-    → HasNoted now (IsInPlane x lo hi) old new × (before ≡ after + (hi.y + 1 - lo.y) * size)
-plane_end now x y size lo hi old new before after above below f =
-    let all : y ≡ hi.y + 1 = omega arith in (
-      noted_same now (IsInPlaneBelow x lo hi y) (IsInPlane x lo hi) old new f.noted
-          (λ k (ex, (from, to), (low, high)). (ex, from, omega arith, low, high))
-          (λ k (ex, from, to, low, high). (ex, (from, omega arith), (low, high))),
-      f.room ∙ ap (λ n. after + (n - lo.y) * size) all,
-    )
-
 -- of a box the planes below one
 abbrev pub IsInBoxBelow : Voxel → Voxel → ℕ → Voxel → Type 0
 IsInBoxBelow lo hi x k = IsInBox lo hi k × (k.x < x)
@@ -137,21 +103,8 @@ box_step now x size lo hi old mid new before between after most f g room = recor
       (λ k (inside, to). (inside, omega arith))
       (λ k (ex, y, z). (let start = f.low in (
         record { x = (omega (arith, start, ex), omega (arith, most, ex)); y = y; z = z },
-        omega
-            (arith, ex),
+        omega (arith, ex),
       )));
   low = (let start = f.low in omega arith);
   room = one_more lo.x x size before between after f.low f.room room;
 }
-
-pub box_end : (now : Classes) (x size : ℕ) (lo hi : Voxel) (old new : List Note)
-    (before after : ℕ) → hi.x + 1 ≤ x → x ≤ hi.x + 1
-    → IsBelow now (IsInBoxBelow lo hi x) lo.x x size old new before after
-    → HasNoted now (IsInBox lo hi) old new × (before ≡ after + (hi.x + 1 - lo.x) * size)
-box_end now x size lo hi old new before after above below f =
-    let all : x ≡ hi.x + 1 = omega arith in (
-      noted_same now (IsInBoxBelow lo hi x) (IsInBox lo hi) old new f.noted
-          (λ k inside. (let last = inside.x.1 in (inside, omega (arith, last))))
-          (λ k (inside, to). inside),
-      f.room ∙ ap (λ n. after + (n - lo.x) * size) all,
-    )

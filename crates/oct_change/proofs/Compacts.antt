@@ -1,6 +1,7 @@
 -- What notes become that an ordered map of the first ones is made of.
-use Rattle.std.proofs.Common.{◌≡◌, ℕ, ◌+◌, ◌≤◌, List, [], ◌∷◌, ◌++◌, length, map, Bool, true, false, Option, Some, None, refl, sym, ap, subst, ◌∙◌, arith, append_assoc}
-use Rattle.std.specs.Prelude.{cond, All}
+use Rattle.std.proofs.Common.{◌≡◌, List, [], ◌∷◌, ◌++◌, map, Bool, true, false}
+use Rattle.std.proofs.Common.{Some, refl, sym, ap, subst, ◌∙◌, append_assoc}
+use Rattle.std.specs.Prelude.{cond}
 use Rattle.std.specs.BTreeMap.{BTreeMap, is_at, get, IsOrdered}
 use Rattle.std.specs.Map.{lookup}
 use Rattle.std.specs.List.Sorted.{IsStrictlySortedBy}
@@ -16,12 +17,18 @@ use Rattle.oct_change.specs.Notes.{AreInMap, first_noted, note_of}
 
 -- the test for one voxel is that of the other
 same_test : (a b : Voxel) (x : Bool) → is_same_voxel a b ≡ x → is_same_voxel b a ≡ x
-same_test a b true e = subst (λ c. is_same_voxel b c ≡ true) (sym (is_same_voxel_exact a b e)) (is_same_voxel_refl b)
+same_test a b true e =
+    subst (λ c. is_same_voxel b c ≡ true) (sym (is_same_voxel_exact a b e)) (is_same_voxel_refl b)
 same_test a b false e = by_test (is_same_voxel b a) refl
   where
     by_test : (y : Bool) → is_same_voxel b a ≡ y → is_same_voxel b a ≡ false
     by_test false f = f
-    by_test true f = (let same : is_same_voxel a b ≡ true = subst (λ c. is_same_voxel a c ≡ true) (sym (is_same_voxel_exact b a f)) (is_same_voxel_refl a) in cc)
+    by_test true f =
+        (let same : is_same_voxel a b
+        ≡ true =
+        subst (λ c. is_same_voxel a c ≡ true) (sym (is_same_voxel_exact b a f))
+        (is_same_voxel_refl a) in
+        cc)
 
 -- the first note of a voxel among notes of entries is what is found there
 pub noted_by_entries : (es : List (Voxel × Class)) (k : Voxel)
@@ -37,8 +44,10 @@ noted_by_entries (e ∷ es) k = by_test (noted_by_entries es k) (is_same_voxel e
         let here : first_noted (map note_of (e ∷ es)) k ≡ Some e.1 = rw h refl in
         here ∙ sym (ap (λ test. cond test (Some e.1) (lookup (is_at (key_cmp k)) es)) there))
     by_test later false h =
-        (let there : is_at (key_cmp k) e.0 ≡ false = is_at-key_cmp k e.0 ∙ same_test e.0 k false h in
-        let here : first_noted (map note_of (e ∷ es)) k ≡ first_noted (map note_of es) k = rw h refl in
+        (let there : is_at (key_cmp k) e.0 ≡ false = is_at-key_cmp k e.0
+        ∙ same_test e.0 k false h in
+        let here : first_noted (map note_of (e ∷ es)) k ≡ first_noted (map note_of es) k =
+        rw h refl in
         here ∙ later
         ∙ sym (ap (λ test. cond test (Some e.1) (lookup (is_at (key_cmp k)) es)) there))
 
@@ -50,7 +59,8 @@ compact_first old new first is made k =
     ap (λ l. first_noted l k) made ∙ noted_by_entries first.entries k ∙ is k
 
 -- the voxels of these notes are the keys
-keys_noted : (es : List (Voxel × Class)) → map (λ (note : Note). note.key) (map note_of es) ≡ map (λ e. e.0) es
+keys_noted : (es : List (Voxel × Class))
+    → map (λ (note : Note). note.key) (map note_of es) ≡ map (λ e. e.0) es
 keys_noted [] = refl
 keys_noted (e ∷ es) = ap (λ l. e.0 ∷ l) (keys_noted es)
 

@@ -1,6 +1,8 @@
 -- The first note of each voxel, gathered in an ordered map, and the changes that it shows.
-use Rattle.std.proofs.Common.{◌≡◌, ℕ, ◌+◌, ◌<◌, ◌≤◌, List, [], ◌∷◌, length, take, get_or, Bool, true}
-use Rattle.std.proofs.Common.{false, Option, Some, None, refl, sym, ap, ◌∙◌, arith, add-one, take-suc}
+use Rattle.std.proofs.Common.{◌≡◌, ℕ, ◌+◌, ◌<◌, ◌≤◌, List, [], ◌∷◌, length, take, get_or, Bool}
+use Rattle.std.proofs.Common.{true}
+use Rattle.std.proofs.Common.{false, Option, Some, None, refl, sym, ap, ◌∙◌, arith, add-one}
+use Rattle.std.proofs.Common.{take-suc}
 use Rattle.std.specs.Prelude.{is_some, cond}
 use Rattle.std.specs.BTreeMap.{BTreeMap, Updates, get, btree_map_len}
 use Rattle.std.specs.Option.{option_or}
@@ -85,8 +87,10 @@ first_kept notes i d m l so_far there k = so_far k
 pub few_put : (o : Option Class) (i : ℕ) (m n r : BTreeMap Voxel Class) → r ≡ n
     → btree_map_len n ≡ btree_map_len m + cond (is_some o) 0 1 → length m.entries ≤ i
     → length r.entries ≤ i + 1
-few_put None i m n r is more few = (let same = ap btree_map_len is in omega (arith, same, more, few))
-few_put (Some c) i m n r is more few = (let same = ap btree_map_len is in omega (arith, same, more, few))
+few_put None i m n r is more few =
+    (let same = ap btree_map_len is in omega (arith, same, more, few))
+few_put (Some c) i m n r is more few =
+    (let same = ap btree_map_len is in omega (arith, same, more, few))
 
 pub few_kept : (i : ℕ) (m r : BTreeMap Voxel Class) → r ≡ m → length m.entries ≤ i
     → length r.entries ≤ i + 1

@@ -1,7 +1,7 @@
--- The classes at the mark stay, whatever is noted behind.
+-- The classes at the mark stay, whatever is noted after.
 use Rattle.std.proofs.Common.{◌≡◌, List, [], ◌∷◌, ◌++◌, Bool, true, false, Option, Some, None, inl}
 use Rattle.std.proofs.Common.{inr, refl, sym, ap, ◌∙◌}
-use Rattle.std.specs.Prelude.{◌⊎◌, IsSome, is_some, option_map}
+use Rattle.std.specs.Prelude.{◌⊎◌, is_some, option_map}
 use Rattle.std.specs.Option.{option_or, unwrap_or}
 use Rattle.std.specs.List.{All, find}
 use Rattle.std.proofs.lemmas.Bool.{false≢true}

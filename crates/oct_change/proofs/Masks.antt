@@ -1,7 +1,7 @@
 -- The voxels of masks and of bricks, one after another.
 use Rattle.std.proofs.Common.{◌≡◌, ℕ, ◌+◌, ◌-◌, ◌*◌, ◌%◌, ◌^◌, ◌<◌, ◌≤◌, List, [], ◌∷◌, ◌++◌, map}
-use Rattle.std.proofs.Common.{length, take, drop, get_or, inl, inr, refl, sym, ◌∙◌, ap, subst}
-use Rattle.std.proofs.Common.{arith, append_assoc, bit_and}
+use Rattle.std.proofs.Common.{length, take, drop, get_or, inl, inr, sym, ◌∙◌, ap, subst}
+use Rattle.std.proofs.Common.{arith, bit_and}
 use Rattle.std.specs.Prelude.{◌⊎◌, Contains}
 use Rattle.std.specs.Int.{w64, trailing_zeros}
 use Rattle.std.proofs.lemmas.Nat.Bits.{bit_at-trailing_zeros}
@@ -15,7 +15,7 @@ use Rattle.oct_key.specs.Voxel.{Voxel, IsInMap}
 use Rattle.oct_key.specs.Morton.{morton_of}
 use Rattle.oct_brick.specs.declared.brick.Brick.{Brick}
 use Rattle.oct_brick.specs.Masks.{codes_of}
-use Rattle.oct_brick.specs.Bricks.{hit_codes, freed_codes, frees_of}
+use Rattle.oct_brick.specs.Bricks.{frees_of}
 use Rattle.oct_brick.specs.Voxels.{coded_voxel, hit_voxels, freed_voxels}
 use Rattle.oct_brick.proofs.MaskCodes.{lowest_first, no_codes}
 use Rattle.oct_brick.proofs.Lists.{contains_none}
@@ -136,10 +136,12 @@ first_step now bricks i d old mid far new before between further after frees l i
           g
           (λ k h. elim h [
             | inl a ↦ elim (Contains-append_cases (hit_voxels (take i bricks))
-                (map coded_voxel (codes_of b.code b.hits)) k (subst (λ l. Contains l k) hits_more a))
+                (map coded_voxel (codes_of b.code b.hits)) k
+                (subst (λ l. Contains l k) hits_more a))
                 [ inl p ↦ inl (inl (inl p)) | inr q ↦ inl (inr q) ]
             | inr a ↦ elim (Contains-append_cases (freed_voxels (take i bricks))
-                (map coded_voxel (codes_of b.code frees)) k (subst (λ l. Contains l k) frees_more a))
+                (map coded_voxel (codes_of b.code frees)) k
+                (subst (λ l. Contains l k) frees_more a))
                 [ inl p ↦ inl (inl (inr p)) | inr q ↦ inr q ]
           ])
           (λ k h. elim h [
@@ -196,8 +198,7 @@ pub first_end : (now : Classes) (bricks : List Brick) (i : ℕ) (old new : List 
 first_end now bricks i old new before after l u =
     let all = take_all i bricks l in (
       subst (λ bs. HasNoted now (IsOf bs) old new) all u.noted,
-      u.room
-          ∙ ap (λ bs. after + voxel_count bs) all,
+      u.room ∙ ap (λ bs. after + voxel_count bs) all,
     )
 
 pub hits_room : (bs : List Brick) (i : ℕ) (d : Brick) (before between : ℕ) → i < length bs

@@ -1,5 +1,5 @@
 -- Notes of several voxels, one after another.
-use Rattle.std.proofs.Common.{◌≡◌, ℕ, ◌+◌, ◌<◌, ◌≤◌, List, [], ◌∷◌, ◌++◌, length, Bool, true, false}
+use Rattle.std.proofs.Common.{◌≡◌, ℕ, ◌+◌, ◌≤◌, List, [], ◌∷◌, ◌++◌, length}
 use Rattle.std.proofs.Common.{Option, Some, None, inl, inr, refl, sym, ap, subst, ◌∙◌, arith}
 use Rattle.std.proofs.Common.{append_assoc, append-nil}
 use Rattle.std.specs.Prelude.{◌⊎◌, IsSome, All, Contains}
@@ -9,8 +9,7 @@ use Rattle.std.proofs.lemmas.List.Elements.{All-append, All-cons, All-nil, Conta
 use Rattle.std.proofs.lemmas.List.Elements.{Contains-append_right, Contains-append_cases}
 use Rattle.std.proofs.lemmas.List.{length-append}
 use Rattle.oct_brick.proofs.Lists.{contains_none, contains_here, contains_cases}
-use Rattle.oct_key.specs.Voxel.{Voxel, IsInMap}
-use Rattle.oct_key.specs.Values.{is_same_voxel}
+use Rattle.oct_key.specs.Voxel.{Voxel}
 use Rattle.oct_key.proofs.SameVoxels.{is_same_voxel_refl}
 use Rattle.oct_odds.specs.declared.event.Class.{Class}
 use Rattle.oct_values.specs.Classes.{Classes}
@@ -76,19 +75,6 @@ noted_join now P Q R old mid new f g cover first second = record {
   whole = λ k v asked. subst IsSome (sym (first_noted-append f.added g.added k))
       (some_or (first_noted f.added k) (first_noted g.added k)
       (elim (cover k asked) [ inl p ↦ inl (f.whole k v p) | inr q ↦ inr (g.whole k v q) ]));
-}
-
--- the same voxels in other words
-pub noted_same : (now : Classes) (P Q : Voxel → Type 0) (old new : List Note)
-    → HasNoted now P old new
-    → ((k : Voxel) → Q k → P k) → ((k : Voxel) → P k → Q k) → HasNoted now Q old new
-noted_same now P Q old new f to from = record {
-  added = f.added;
-  split = f.split;
-  right = f.right;
-  only = All-follows (λ (note : Note). P note.key) (λ (note : Note). Q note.key) f.added
-      (λ note. from note.key) f.only;
-  whole = λ k v asked. f.whole k v (to k asked);
 }
 
 -- Of a list of voxels the first ones are noted, and these are left.

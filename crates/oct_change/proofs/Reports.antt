@@ -134,8 +134,7 @@ change_is now k q before kind h = go (kind_between before (now q)) refl h
     go None e h = cc
     go (Some other) e h = (let same : made q other ≡ made k kind = some_is _ _ h in (
       ap (λ (change : Change). change.key) same,
-      e
-          ∙ ap (λ (change : Change). Some change.kind) same,
+      e ∙ ap (λ (change : Change). Some change.kind) same,
     ))
 
 pub reported : (notes : List Note) (now : Classes) (m : BTreeMap Voxel Class)

@@ -1,5 +1,5 @@
 -- Notes of the classes that voxels had, and what they say of the classes at the mark.
-use Rattle.std.specs.Prelude.{◌≡◌, ℕ, ◌≤◌, List, ◌++◌, All, Option, Some, None, IsSome, option_map}
+use Rattle.std.specs.Prelude.{◌≡◌, List, ◌++◌, All, Option, IsSome, option_map}
 use Rattle.std.specs.Option.{unwrap_or}
 use Rattle.std.specs.List.{find}
 use Rattle.oct_key.specs.Voxel.{Voxel, IsInMap}

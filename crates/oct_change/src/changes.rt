@@ -8,7 +8,7 @@ ghost use Rattle.oct_key.specs.Order.{key_cmp};
 ghost use Rattle.oct_values.specs.Classes.{classes_of};
 ghost use Rattle.oct_tree.specs.Tree.{value_at};
 ghost use Rattle.oct_change.specs.declared.changes.Note.{Note};
-ghost use Rattle.oct_change.specs.Notes.{AreInMap, HasNoted, first_noted, marked_by, note_of};
+ghost use Rattle.oct_change.specs.Notes.{AreInMap, first_noted, marked_by, note_of};
 ghost use Rattle.oct_change.specs.Changes.{AreChanges, change_of, changes_between};
 
 use crate::kind::{Change, kind_of_change};
@@ -115,8 +115,8 @@ impl Changes {
         Ok(())
     }
 
-    /// Drops each note whose voxel was noted before it. The others come by ascending x, y and z, and
-    /// the room of all stays.
+    /// Drops each note whose voxel was noted before it. The others come by ascending x, y and z,
+    /// and the room of all stays.
     ///
     /// Where memory runs out for this, all notes stay.
     pub fn compact(&mut self) -> Result<(), Memory>

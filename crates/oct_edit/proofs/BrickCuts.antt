@@ -1,5 +1,7 @@
 -- Bricks on their way down: what is left of a list of bricks when the part of a child is cut off.
-use Rattle.std.proofs.Common.{◌≡◌, ℕ, ◌+◌, ◌-◌, ◌*◌, ◌/◌, ◌%◌, ◌^◌, ◌<◌, ◌≤◌, List, [], ◌∷◌, ◌++◌, map, length, take, drop, get_or, inl, inr, refl, sym, subst, ◌∙◌, ap, arith, Some}
+use Rattle.std.proofs.Common.{◌≡◌, ℕ, ◌+◌, ◌-◌, ◌*◌, ◌/◌, ◌%◌, ◌^◌, ◌<◌, ◌≤◌, List, [], ◌∷◌, ◌++◌}
+use Rattle.std.proofs.Common.{map, length, take, drop, get_or, inl, inr, refl, sym, subst, ◌∙◌, ap}
+use Rattle.std.proofs.Common.{arith, Some}
 use Rattle.std.specs.Prelude.{slice_get, IsSome}
 use Rattle.std.specs.List.{All, Contains}
 use Rattle.std.specs.Int.{w64, trailing_zeros}
@@ -7,7 +9,8 @@ use Rattle.std.specs.List.Sorted.{IsNonDecreasingBy, IsStrictlyIncreasing}
 use Rattle.std.proofs.Math.Nat.{div-div-eq-div-mul}
 use Rattle.std.proofs.lemmas.Nat.{pow-add, pow_pos}
 use Rattle.std.proofs.lemmas.Bool.{cases_eq, cases_lt}
-use Rattle.std.proofs.lemmas.List.{take-append-drop, length-append, length-take, length-drop, get_or-take, get_or-drop}
+use Rattle.std.proofs.lemmas.List.{take-append-drop, length-append, length-take, length-drop}
+use Rattle.std.proofs.lemmas.List.{get_or-take, get_or-drop}
 use Rattle.std.proofs.lemmas.List.Elements.{All-contains, All-head, All-tail, All-take, All-drop}
 use Rattle.oct_key.specs.Voxel.{Voxel, IsInMap}
 use Rattle.oct_key.specs.Block.{root_block}
@@ -32,32 +35,47 @@ use Rattle.oct_edit.proofs.Shares.{some_event, reaches_of}
 use Rattle.oct_edit.proofs.BrickParts.{code_is_listed, from_codes, hit_or_free}
 
 -- the first brick's child is the first one with a brick
-pub first_brick : (depth : ℕ) (bs : List Brick) (b : Brick) → slice_get bs 0 ≡ Some b → IsNonDecreasingBy (λ b. brick_child depth b.code) bs → IsFirstBrick depth bs (brick_child depth b.code)
+pub first_brick : (depth : ℕ) (bs : List Brick) (b : Brick) → slice_get bs 0 ≡ Some b
+    → IsNonDecreasingBy (λ b. brick_child depth b.code) bs
+    → IsFirstBrick depth bs (brick_child depth b.code)
 first_brick depth [] b first up = cc
 first_brick depth (x ∷ bs) b first up =
     let same : x ≡ b = cc in
     record {
-      least = λ n d l. subst (λ (y : Brick). brick_child depth y.code ≤ brick_child depth (get_or (x ∷ bs) n d).code) same (up 0 n d (omega arith) l);
+      least =
+          λ n d l. subst (λ (y : Brick). brick_child depth y.code ≤ brick_child depth
+          (get_or (x ∷ bs) n d).code)
+          same (up 0 n d (omega arith) l);
       brick = x;
       there = contains_here x bs;
       child = ap (λ (y : Brick). brick_child depth y.code) same;
     }
 
 -- the beginning of a brick's code, one child longer
-child_step : (depth c : ℕ) → depth ≤ 13 → c / 2 ^ (3 * (13 - depth)) / 8 ≡ c / 2 ^ (3 * (14 - depth))
+child_step : (depth c : ℕ) → depth ≤ 13
+    → c / 2 ^ (3 * (13 - depth)) / 8 ≡ c / 2 ^ (3 * (14 - depth))
 child_step depth c low =
     let more : 3 * (14 - depth) ≡ 3 * (13 - depth) + 3 = omega (arith, low) in
-    div-div-eq-div-mul c (2 ^ (3 * (13 - depth))) 8 ∙ ap (λ (n : ℕ). c / n) (sym (ap (λ (n : ℕ). 2 ^ n) more ∙ pow-add 2 (3 * (13 - depth)) 3))
+    div-div-eq-div-mul c (2 ^ (3 * (13 - depth))) 8
+    ∙ ap (λ (n : ℕ). c / n) (sym (ap (λ (n : ℕ). 2 ^ n) more ∙ pow-add 2 (3 * (13 - depth)) 3))
 
 -- bricks in order that begin alike have children in order
-pub order_of : (depth : ℕ) (bs : List Brick) → depth ≤ 13 → AreAscending bs → AreAlike depth bs → IsNonDecreasingBy (λ b. brick_child depth b.code) bs
+pub order_of : (depth : ℕ) (bs : List Brick) → depth ≤ 13 → AreAscending bs → AreAlike depth bs
+    → IsNonDecreasingBy (λ b. brick_child depth b.code) bs
 order_of depth bs low ascend alike i j d l m = elim (cases_eq i j) [
-  | inl e ↦ (let same : brick_child depth (get_or bs i d).code ≡ brick_child depth (get_or bs j d).code = ap (λ (n : ℕ). brick_child depth (get_or bs n d).code) e in omega (arith, same))
+  | inl e ↦ (let same : brick_child depth (get_or bs i d).code
+      ≡ brick_child depth (get_or bs j d).code =
+      ap (λ (n : ℕ). brick_child depth (get_or bs n d).code) e in
+      omega (arith, same))
   | inr ne ↦
       let a : ℕ = (get_or bs i d).code in
       let c : ℕ = (get_or bs j d).code in
       let less = ascend i j d (omega (arith, l, ne)) m in
-      digits (a / 2 ^ (3 * (13 - depth))) (c / 2 ^ (3 * (13 - depth))) (child_step depth a low ∙ alike.1 i d (omega (arith, l, m)) ∙ sym (alike.1 j d m) ∙ sym (child_step depth c low)) (quotient_rises a c (2 ^ (3 * (13 - depth))) (pow_pos (3 * (13 - depth))) (omega (arith, less)))
+      digits (a / 2 ^ (3 * (13 - depth))) (c / 2 ^ (3 * (13 - depth)))
+      (child_step depth a low ∙ alike.1 i d (omega (arith, l, m)) ∙ sym (alike.1 j d m)
+      ∙ sym (child_step depth c low))
+      (quotient_rises a c (2 ^ (3 * (13 - depth))) (pow_pos (3 * (13 - depth)))
+      (omega (arith, less)))
 ]
   where
     digits : (m n : ℕ) → m / 8 ≡ n / 8 → m ≤ n → m % 8 ≤ n % 8
@@ -65,61 +83,97 @@ order_of depth bs low ascend alike i j d l m = elim (cases_eq i j) [
 
 -- the part and the rest of a list
 pub whole_of : (depth i : ℕ) (bs xs ys : List Brick) → AreCut depth i bs xs ys → bs ≡ xs ++ ys
-whole_of depth i bs xs ys cut = sym (take-append-drop cut.count bs) ∙ sym (ap (λ l. l ++ ys) cut.first ∙ ap (λ l. take cut.count bs ++ l) cut.last)
+whole_of depth i bs xs ys cut =
+    sym (take-append-drop cut.count bs)
+    ∙ sym (ap (λ l. l ++ ys) cut.first ∙ ap (λ l. take cut.count bs ++ l) cut.last)
 
-pub part_bricks : (depth i : ℕ) (bs xs ys : List Brick) → AreCut depth i bs xs ys → All IsBrick bs → All IsBrick xs
-part_bricks depth i bs xs ys cut h = subst (All IsBrick) (sym cut.first) (All-take IsBrick cut.count bs h)
+pub part_bricks : (depth i : ℕ) (bs xs ys : List Brick) → AreCut depth i bs xs ys → All IsBrick bs
+    → All IsBrick xs
+part_bricks depth i bs xs ys cut h =
+    subst (All IsBrick) (sym cut.first) (All-take IsBrick cut.count bs h)
 
-pub later_bricks : (depth i : ℕ) (bs xs ys : List Brick) → AreCut depth i bs xs ys → All IsBrick bs → All IsBrick ys
-later_bricks depth i bs xs ys cut h = subst (All IsBrick) (sym cut.last) (All-drop IsBrick cut.count bs h)
+pub later_bricks : (depth i : ℕ) (bs xs ys : List Brick) → AreCut depth i bs xs ys → All IsBrick bs
+    → All IsBrick ys
+later_bricks depth i bs xs ys cut h =
+    subst (All IsBrick) (sym cut.last) (All-drop IsBrick cut.count bs h)
 
-pub part_apart : (depth i : ℕ) (bs xs ys : List Brick) → AreCut depth i bs xs ys → AreAscending bs → AreAscending xs
+pub part_apart : (depth i : ℕ) (bs xs ys : List Brick) → AreCut depth i bs xs ys → AreAscending bs
+    → AreAscending xs
 part_apart depth i bs xs ys cut h = subst AreAscending (sym cut.first) (λ m n d l e.
     let size = length-take cut.count bs in
     let there : n < cut.count = omega (arith, size, e) in
     let before : m < cut.count = omega (arith, there, l) in
     let r = h m n d l (omega (arith, size, e)) in
-    subst (λ (x : Brick). x.code < (get_or (take cut.count bs) n d).code) (sym (get_or-take cut.count bs m d before)) (subst (λ (x : Brick). (get_or bs m d).code < x.code) (sym (get_or-take cut.count bs n d there)) r))
+    subst (λ (x : Brick). x.code < (get_or (take cut.count bs) n d).code)
+    (sym (get_or-take cut.count bs m d before))
+    (subst (λ (x : Brick). (get_or bs m d).code < x.code)
+    (sym (get_or-take cut.count bs n d there)) r))
 
-pub later_apart : (depth i : ℕ) (bs xs ys : List Brick) → AreCut depth i bs xs ys → AreAscending bs → AreAscending ys
+pub later_apart : (depth i : ℕ) (bs xs ys : List Brick) → AreCut depth i bs xs ys → AreAscending bs
+    → AreAscending ys
 later_apart depth i bs xs ys cut h = subst AreAscending (sym cut.last) (λ m n d l e.
     let size = length-drop cut.count bs in
     let r = h (cut.count + m) (cut.count + n) d (omega (arith, l)) (omega (arith, size, e)) in
-    subst (λ (x : Brick). x.code < (get_or (drop cut.count bs) n d).code) (sym (get_or-drop cut.count bs m d)) (subst (λ (x : Brick). (get_or bs (cut.count + m) d).code < x.code) (sym (get_or-drop cut.count bs n d)) r))
+    subst (λ (x : Brick). x.code < (get_or (drop cut.count bs) n d).code)
+    (sym (get_or-drop cut.count bs m d))
+    (subst (λ (x : Brick). (get_or bs (cut.count + m) d).code < x.code)
+    (sym (get_or-drop cut.count bs n d)) r))
 
-pub later_alike : (depth i : ℕ) (bs xs ys : List Brick) → AreCut depth i bs xs ys → AreAlike depth bs → AreAlike depth ys
-later_alike depth i bs xs ys cut h = (h.0, subst (All (λ b. b.code / 2 ^ (3 * (14 - depth)) ≡ h.0)) (sym cut.last) (All-drop (λ b. b.code / 2 ^ (3 * (14 - depth)) ≡ h.0) cut.count bs h.1))
+pub later_alike : (depth i : ℕ) (bs xs ys : List Brick) → AreCut depth i bs xs ys
+    → AreAlike depth bs → AreAlike depth ys
+later_alike depth i bs xs ys cut h = (
+  h.0,
+  subst (All (λ b. b.code / 2 ^ (3 * (14 - depth)) ≡ h.0)) (sym cut.last)
+      (All-drop (λ b. b.code / 2 ^ (3 * (14 - depth)) ≡ h.0) cut.count bs h.1),
+)
 
 -- the part is that of one child, where the child is the first one with a brick
-pub part_alike : (depth i : ℕ) (bs xs ys : List Brick) → depth ≤ 13 → AreCut depth i bs xs ys → IsFirstBrick depth bs i → AreAlike depth bs → AreAlike (depth + 1) xs
+pub part_alike : (depth i : ℕ) (bs xs ys : List Brick) → depth ≤ 13 → AreCut depth i bs xs ys
+    → IsFirstBrick depth bs i → AreAlike depth bs → AreAlike (depth + 1) xs
 part_alike depth i bs xs ys low cut first h =
-    let least : All (λ b. i ≤ brick_child depth b.code) xs = subst (All (λ b. i ≤ brick_child depth b.code)) (sym cut.first) (All-take (λ b. i ≤ brick_child depth b.code) cut.count bs first.least) in
-    let alike : All (λ b. b.code / 2 ^ (3 * (14 - depth)) ≡ h.0) xs = subst (All (λ b. b.code / 2 ^ (3 * (14 - depth)) ≡ h.0)) (sym cut.first) (All-take (λ b. b.code / 2 ^ (3 * (14 - depth)) ≡ h.0) cut.count bs h.1) in
+    let least : All (λ b. i ≤ brick_child depth b.code) xs =
+    subst (All (λ b. i ≤ brick_child depth b.code)) (sym cut.first)
+    (All-take (λ b. i ≤ brick_child depth b.code) cut.count bs first.least) in
+    let alike : All (λ b. b.code / 2 ^ (3 * (14 - depth)) ≡ h.0) xs =
+    subst (All (λ b. b.code / 2 ^ (3 * (14 - depth)) ≡ h.0)) (sym cut.first)
+    (All-take (λ b. b.code / 2 ^ (3 * (14 - depth)) ≡ h.0) cut.count bs h.1) in
     let level : 14 - (depth + 1) ≡ 13 - depth = omega arith in (
       8 * h.0 + i,
       λ n d l.
           let c : ℕ = (get_or xs n d).code in
-          ap (λ (m : ℕ). c / 2 ^ (3 * m)) level ∙ digits (c / 2 ^ (3 * (13 - depth))) h.0 i (child_step depth c low ∙ alike n d l) (least n d l) (cut.here n d l),
+          ap (λ (m : ℕ). c / 2 ^ (3 * m)) level
+          ∙ digits (c / 2 ^ (3 * (13 - depth))) h.0 i (child_step depth c low ∙ alike n d l)
+          (least n d l) (cut.here n d l),
     )
   where
     digits : (m n i : ℕ) → m / 8 ≡ n → i ≤ m % 8 → m % 8 ≤ i → m ≡ 8 * n + i
     digits m n i e l k = omega (arith, e, l, k)
 
 -- so the rest is shorter
-pub cut_shorter : (depth i : ℕ) (bs xs ys : List Brick) → AreCut depth i bs xs ys → IsFirstBrick depth bs i → length ys < length bs
+pub cut_shorter : (depth i : ℕ) (bs xs ys : List Brick) → AreCut depth i bs xs ys
+    → IsFirstBrick depth bs i → length ys < length bs
 cut_shorter depth i bs xs ys cut first =
     let whole = whole_of depth i bs xs ys cut in
-    some xs (λ e. out (subst (λ (l : List Brick). Contains l first.brick) (whole ∙ ap (λ (l : List Brick). l ++ ys) e) first.there)) (ap length whole ∙ length-append xs ys)
+    some xs
+    (λ e. out
+    (subst (λ (l : List Brick). Contains l first.brick)
+    (whole ∙ ap (λ (l : List Brick). l ++ ys) e) first.there))
+    (ap length whole ∙ length-append xs ys)
   where
     out : Contains ys first.brick → ⊥
-    out h = (let l = All-contains (λ b. i + 1 ≤ brick_child depth b.code) ys first.brick cut.after h in let e = first.child in omega (arith, l, e))
+    out h =
+        (let l = All-contains (λ b. i + 1 ≤ brick_child depth b.code) ys first.brick cut.after h in
+        let e = first.child in
+        omega (arith, l, e))
 
-    some : (xs : List Brick) → (xs ≡ [] → ⊥) → length bs ≡ length xs + length ys → length ys < length bs
+    some : (xs : List Brick) → (xs ≡ [] → ⊥) → length bs ≡ length xs + length ys
+        → length ys < length bs
     some [] h e = absurd (h refl)
     some (x ∷ xs) h e = omega (arith, e)
 
 -- at the depth of bricks there is one alone
-pub one_brick : (bs : List Brick) (b : Brick) → slice_get bs 0 ≡ Some b → AreAscending bs → AreAlike 14 bs → bs ≡ b ∷ []
+pub one_brick : (bs : List Brick) (b : Brick) → slice_get bs 0 ≡ Some b → AreAscending bs
+    → AreAlike 14 bs → bs ≡ b ∷ []
 one_brick [] b first ascend alike = absurd (let h : ⊥ = cc in h)
 one_brick (x ∷ []) b first ascend alike = (let same : x ≡ b = cc in ap (λ (y : Brick). y ∷ []) same)
 one_brick (x ∷ y ∷ bs) b first ascend alike =
@@ -139,18 +193,29 @@ all_alike bs h = (0, λ n d l. (let k = (h n d l).code in nothing (get_or bs n d
     nothing c l = omega (arith, l)
 
 small_bricks : (bs : List Brick) → All IsBrick bs → All (λ b. b.code < 2 ^ 42) bs
-small_bricks bs h = all_contained (λ b. b.code < 2 ^ 42) bs (λ b m. (All-contains IsBrick bs b h m).code)
+small_bricks bs h =
+    all_contained (λ b. b.code < 2 ^ 42) bs (λ b m. (All-contains IsBrick bs b h m).code)
 
 codes_back : (cs : List ℕ) → All (λ c. c < 2 ^ 48) cs → map morton_of (map coded_voxel cs) ≡ cs
 codes_back [] below = refl
-codes_back (c ∷ cs) below = rw (morton_of-coded_voxel c (All-head (λ c. c < 2 ^ 48) c cs below), codes_back cs (All-tail (λ c. c < 2 ^ 48) c cs below)) refl
+codes_back (c ∷ cs) below =
+    rw (
+      morton_of-coded_voxel c (All-head (λ c. c < 2 ^ 48) c cs below),
+      codes_back cs (All-tail (λ c. c < 2 ^ 48) c cs below),
+    )
+    refl
 
 -- the voxels of bricks ascend
-pub ascend_by : (f : Brick → ℕ) (bs : List Brick) → All IsBrick bs → AreAscending bs → IsAscending (map coded_voxel (codes_by f bs))
-ascend_by f bs bricks ascend = subst IsStrictlyIncreasing (sym (codes_back (codes_by f bs) (by_below f bs (small_bricks bs bricks)))) (λ k l. by_rises f bs ascend k (k + 1) 0 (omega arith) l)
+pub ascend_by : (f : Brick → ℕ) (bs : List Brick) → All IsBrick bs → AreAscending bs
+    → IsAscending (map coded_voxel (codes_by f bs))
+ascend_by f bs bricks ascend =
+    subst IsStrictlyIncreasing
+    (sym (codes_back (codes_by f bs) (by_below f bs (small_bricks bs bricks))))
+    (λ k l. by_rises f bs ascend k (k + 1) 0 (omega arith) l)
 
 -- some voxel of bricks has an event
-pub some_voxel : (bs : List Brick) (hit miss : Event) → All IsBrick bs → 0 < length bs → (k : Voxel) × IsInMap k × IsSome (events_of (update_of bs hit miss) k)
+pub some_voxel : (bs : List Brick) (hit miss : Event) → All IsBrick bs → 0 < length bs
+    → (k : Voxel) × IsInMap k × IsSome (events_of (update_of bs hit miss) k)
 some_voxel [] hit miss bricks l = absurd (omega (arith, l))
 some_voxel (b ∷ bs) hit miss bricks l =
     let brick = All-head IsBrick b bs bricks in
@@ -158,10 +223,13 @@ some_voxel (b ∷ bs) hit miss bricks l =
     let here = contains_here b bs in (
       coded_voxel c,
       coded_voxel-IsInMap c,
-      some_event (update_of (b ∷ bs) hit miss) (coded_voxel c) (elim (hit_or_free b c brick (some_code b.code b.scanned brick.some brick.fits)) [
-        | inl h ↦ inl (code_is_listed (hit_codes (b ∷ bs)) c (by_listed (λ b. b.hits) (b ∷ bs) c b here h))
-        | inr h ↦ inr (code_is_listed (freed_codes (b ∷ bs)) c (by_listed frees_of (b ∷ bs) c b here h))
-      ]),
+      some_event (update_of (b ∷ bs) hit miss) (coded_voxel c)
+          (elim (hit_or_free b c brick (some_code b.code b.scanned brick.some brick.fits)) [
+            | inl h ↦ inl (code_is_listed (hit_codes (b ∷ bs)) c
+                (by_listed (λ b. b.hits) (b ∷ bs) c b here h))
+            | inr h ↦ inr (code_is_listed (freed_codes (b ∷ bs)) c
+                (by_listed frees_of (b ∷ bs) c b here h))
+          ]),
     )
 
 -- bricks in order are told apart by their codes
@@ -208,9 +276,15 @@ bricks_disjoint bs bricks ascend k hit freed =
     ((and_not f.0.code f.0.scanned f.0.hits (morton_of k) brick.hits_fit).0 f.2).1 is_hit
 
 -- the update of bricks lies in the whole map
-pub whole_bricks : (bs : List Brick) (hit miss : Event) → All IsBrick bs → AreAscending bs → 0 < length bs → IsUpdateIn root_block (update_of bs hit miss)
+pub whole_bricks : (bs : List Brick) (hit miss : Event) → All IsBrick bs → AreAscending bs
+    → 0 < length bs → IsUpdateIn root_block (update_of bs hit miss)
 whole_bricks bs hit miss bricks ascend l =
     let in_hits = all_in_root (hit_voxels bs) (ascend_by (λ b. b.hits) bs bricks ascend) in
     let in_frees = all_in_root (freed_voxels bs) (ascend_by frees_of bs bricks ascend) in
     let r = some_voxel bs hit miss bricks l in
-    record { hits = in_hits; frees = in_frees; apart = bricks_disjoint bs bricks ascend; some = reaches_of root_block (update_of bs hit miss) r.0 in_hits in_frees r.1 r.2 }
+    record {
+      hits = in_hits;
+      frees = in_frees;
+      apart = bricks_disjoint bs bricks ascend;
+      some = reaches_of root_block (update_of bs hit miss) r.0 in_hits in_frees r.1 r.2;
+    }

@@ -1,5 +1,6 @@
 -- Whether a value takes something from the events of a brick.
-use Rattle.std.proofs.Common.{◌≡◌, ℕ, ◌^◌, ◌<◌, ◌↔◌, Bool, true, false, [], ◌∷◌, map, inl, inr, refl, sym, subst, ◌∙◌, ap}
+use Rattle.std.proofs.Common.{◌≡◌, ℕ, ◌^◌, ◌<◌, ◌↔◌, Bool, true, false, [], ◌∷◌, map, inl, inr}
+use Rattle.std.proofs.Common.{refl, sym, subst, ◌∙◌, ap}
 use Rattle.std.specs.Prelude.{IsTrue, IsSome, is_some, nat_eq}
 use Rattle.std.specs.Bool.{OnFalse}
 use Rattle.std.proofs.lemmas.Bool.{false≢true}
@@ -18,18 +19,34 @@ use Rattle.oct_edit.specs.Saturated.{IsSaturated}
 use Rattle.oct_edit.specs.Scan.{events_of, AreDisjoint}
 use Rattle.oct_edit.proofs.BrickParts.{none_by, some_by}
 use Rattle.oct_edit.proofs.Expansions.{on_false, TakesSome}
-use Rattle.oct_edit.proofs.Shares.{case_of, is_hit, is_freed, is_left, none_not_some, hit_event, miss_event}
+use Rattle.oct_edit.proofs.Shares.{case_of, is_hit, is_freed, is_left, none_not_some, hit_event}
+use Rattle.oct_edit.proofs.Shares.{miss_event}
 use Rattle.oct_edit.proofs.UpdateEnds.{saturated_known}
 
-pub rests_none : (f : Brick → ℕ) (b : Brick) (n : ℕ) → n ≡ f b → IsTrue (nat_eq n 0) → map coded_voxel (codes_by f (b ∷ [])) ≡ []
+pub rests_none : (f : Brick → ℕ) (b : Brick) (n : ℕ) → n ≡ f b → IsTrue (nat_eq n 0)
+    → map coded_voxel (codes_by f (b ∷ [])) ≡ []
 rests_none f b n is h = elim (eqb_tells n 0) [
-  | inl p ↦ ap (map coded_voxel) (none_by f (b ∷ []) (all_contained (λ b. f b ≡ 0) (b ∷ []) (λ a k. elim (contains_cases b a [] k) [ inl e ↦ subst (λ x. f x ≡ 0) e (sym is ∙ p.1) | inr m ↦ absurd (contains_none a m) ])))
+  | inl p ↦ ap (map coded_voxel)
+      (none_by f (b ∷ [])
+      (all_contained (λ b. f b ≡ 0) (b ∷ [])
+      (λ a k. elim (contains_cases b a [] k) [
+        | inl e ↦ subst (λ x. f x ≡ 0) e (sym is ∙ p.1)
+        | inr m ↦
+            absurd (contains_none a m)
+      ])))
   | inr p ↦ absurd (false≢true (sym p.0 ∙ h))
 ]
 
-pub moved_some : (f : Brick → ℕ) (b : Brick) (n : ℕ) (o : Odds) (event : Event) (value : Value) {test : Bool} → n ≡ f b → n < 2 ^ 64 → IsTrue test ↔ IsSaturated o event value → test ≡ false → OnFalse (nat_eq n 0) ((k : Voxel) × IsInMap k × (is_listed (map coded_voxel (codes_by f (b ∷ []))) k ≡ true) × (IsSaturated o event value → ⊥))
+pub moved_some : (f : Brick → ℕ) (b : Brick) (n : ℕ) (o : Odds) (event : Event) (value : Value)
+    {test : Bool}
+    → n ≡ f b → n < 2 ^ 64 → IsTrue test ↔ IsSaturated o event value → test ≡ false
+    → OnFalse (nat_eq n 0)
+    ((k : Voxel) × IsInMap k × (is_listed (map coded_voxel (codes_by f (b ∷ []))) k ≡ true)
+    × (IsSaturated o event value → ⊥))
 moved_some f b n o event value is fits tells fails = on_false (nat_eq n 0) (λ e.
-    let r = some_by f (b ∷ []) b (contains_here b []) (λ z. differs n e (is ∙ z)) (subst (λ m. m < 2 ^ 64) is fits) in
+    let r =
+    some_by f (b ∷ []) b (contains_here b []) (λ z. differs n e (is ∙ z))
+    (subst (λ m. m < 2 ^ 64) is fits) in
     (r.0, r.1, r.2, λ s. false≢true (sym fails ∙ tells.1 s)))
   where
     differs : (n : ℕ) → nat_eq n 0 ≡ false → n ≡ 0 → ⊥

@@ -35,6 +35,6 @@ taken_in t p b u l ok e m plain inside (k, v, takes) =
     inside.frees.held some v in (
       k,
       held,
-      takes_alike t.odds t.odds (events_of u) (events_of u) (λ _. value_of (node_in t p)) (value_at t) k
-          refl refl (sym (covered t p b l ok e m plain k v held)) takes,
+      takes_alike t.odds t.odds (events_of u) (events_of u) (λ _. value_of (node_in t p))
+          (value_at t) k refl refl (sym (covered t p b l ok e m plain k v held)) takes,
     )

@@ -1,5 +1,7 @@
 -- An event on one voxel needs sixteen groups at most, so that a scan of few bricks needs few.
-use Rattle.std.proofs.Common.{◌≡◌, ◌≢◌, ℕ, zero, suc, ◌+◌, ◌*◌, ◌/◌, ◌%◌, ◌^◌, ◌<◌, ◌≤◌, ◌∙◌, Bool, true, false, cond, List, [], ◌∷◌, map, length, bit_and, inl, inr, refl, sym, subst, ap, arith, Some, None}
+use Rattle.std.proofs.Common.{◌≡◌, ◌≢◌, ℕ, zero, suc, ◌+◌, ◌*◌, ◌/◌, ◌%◌, ◌^◌, ◌<◌, ◌≤◌, ◌∙◌, Bool}
+use Rattle.std.proofs.Common.{true, false, cond, List, [], ◌∷◌, map, length, bit_and, inl, inr}
+use Rattle.std.proofs.Common.{refl, sym, subst, ap, arith, Some, None}
 use Rattle.std.specs.Prelude.{◌⊎◌, ◌||◌, IsSome, is_some, sum_by}
 use Rattle.std.proofs.lemmas.Bool.{false≢true, cases_eq}
 use Rattle.oct_key.specs.Voxel.{Voxel, IsInMap}
@@ -46,43 +48,68 @@ tested_few true = omega arith
 tested_few false = omega arith
 
 -- events outside a block reach none of the blocks in it
-away : (h : ℕ) (b : Cube) (events : Events) → IsBlock b → b.depth + h ≡ 16 → ((q : Voxel) → HoldsVoxel b q → IsSome (events q) → ⊥) → sum_by (counted events) (blocks_below h b) ≡ 0
+away : (h : ℕ) (b : Cube) (events : Events) → IsBlock b → b.depth + h ≡ 16
+    → ((q : Voxel) → HoldsVoxel b q → IsSome (events q) → ⊥)
+    → sum_by (counted events) (blocks_below h b) ≡ 0
 away zero b events ok d out = sum_of_no_blocks (counted events) b
 away (suc h) b events ok d out =
     let all = sum_of_blocks (counted events) h b in
-    let here = tested_none (is_reached events b) (λ e. (let (q, held, some) = (reached_exactly events b ok).0 e in out q held some)) in
+    let here =
+    tested_none (is_reached events b)
+    (λ e. (let (q, held, some) = (reached_exactly events b ok).0 e in
+    out q held some)) in
     let rest = none_of_eight (λ i. sum_by (counted events) (blocks_below h (child_of b i)))
-    (λ i li. away h (child_of b i) events (child_in_map b i ok (omega arith)) (child_depths b h i d) (λ q there some. out q (held_by_parent b i q (omega arith) li there) some)) in
+    (λ i li. away h (child_of b i) events (child_in_map b i ok (omega arith)) (child_depths b h i d)
+    (λ q there some. out q (held_by_parent b i q (omega arith) li there) some)) in
     omega (arith, all, here, rest)
 
 -- a sum below a number of which one alone may be more than none
-alone_none : (f : ℕ → ℕ) (i m : ℕ) → m ≤ i → m ≤ 8 → ((j : ℕ) → j < 8 → j ≢ i → f j ≡ 0) → sum_below f m ≡ 0
+alone_none : (f : ℕ → ℕ) (i m : ℕ) → m ≤ i → m ≤ 8 → ((j : ℕ) → j < 8 → j ≢ i → f j ≡ 0)
+    → sum_below f m ≡ 0
 unfolding sum_below
 alone_none f i zero low few none = refl
 alone_none f i (suc m) low few none =
     let before = alone_none f i m (omega arith) (omega arith) none in
-    let here = none m (omega arith) (λ e. (let l : suc m ≤ m = omega (arith, e, low) in absurd (omega (arith, l)))) in
+    let here =
+    none m (omega arith) (λ e. (let l : suc m ≤ m = omega (arith, e, low) in
+    absurd (omega (arith, l)))) in
     omega (arith, before, here)
 
-alone : (f : ℕ → ℕ) (i n m : ℕ) → m ≤ 8 → f i ≤ n → ((j : ℕ) → j < 8 → j ≢ i → f j ≡ 0) → sum_below f m ≤ n
+alone : (f : ℕ → ℕ) (i n m : ℕ) → m ≤ 8 → f i ≤ n → ((j : ℕ) → j < 8 → j ≢ i → f j ≡ 0)
+    → sum_below f m ≤ n
 unfolding sum_below
 alone f i n zero few most none = omega arith
 alone f i n (suc m) few most none = elim (cases_eq m i) [
-  | inl same ↦ (let before = alone_none f i m (omega (arith, same)) (omega arith) none in let here : f m ≡ f i = ap f same in omega (arith, before, here, most))
-  | inr other ↦ (let before = alone f i n m (omega arith) most none in let here = none m (omega arith) other in omega (arith, before, here))
+  | inl same ↦ (let before = alone_none f i m (omega (arith, same)) (omega arith) none in
+      let here : f m ≡ f i = ap f same in
+      omega (arith, before, here, most))
+  | inr other ↦ (let before = alone f i n m (omega arith) most none in
+      let here = none m (omega arith) other in
+      omega (arith, before, here))
 ]
 
 -- an event on one voxel reaches one block of each depth
-one_each : (h : ℕ) (b : Cube) (k : Voxel) (event : Event) → IsBlock b → b.depth + h ≡ 16 → sum_by (counted (event_at (Some k) event)) (blocks_below h b) ≤ h
-one_each zero b k event ok d = (let none = sum_of_no_blocks (counted (event_at (Some k) event)) b in omega (arith, none))
+one_each : (h : ℕ) (b : Cube) (k : Voxel) (event : Event) → IsBlock b → b.depth + h ≡ 16
+    → sum_by (counted (event_at (Some k) event)) (blocks_below h b) ≤ h
+one_each zero b k event ok d =
+    (let none = sum_of_no_blocks (counted (event_at (Some k) event)) b in omega (arith, none))
 one_each (suc h) b k event ok d =
     let all = sum_of_blocks (counted (event_at (Some k) event)) h b in
     let here = tested_few (is_reached (event_at (Some k) event) b) in
-    let eight = sum_below_eight (λ i. sum_by (counted (event_at (Some k) event)) (blocks_below h (child_of b i))) in
-    let rest = alone (λ i. sum_by (counted (event_at (Some k) event)) (blocks_below h (child_of b i))) (child_index_of b.depth k) h 8 (omega arith)
-    (one_each h (child_of b (child_index_of b.depth k)) k event (child_in_map b (child_index_of b.depth k) ok (omega arith)) (child_depths b h (child_index_of b.depth k) d))
-    (λ j lj other. away h (child_of b j) (event_at (Some k) event) (child_in_map b j ok (omega arith)) (child_depths b h j d)
-    (λ q there some. (let is : q ≡ k = event_only k q event some in other (sym ((child_holds b j k (omega arith) lj).0 (subst (HoldsVoxel (child_of b j)) is there)).1)))) in
+    let eight =
+    sum_below_eight
+    (λ i. sum_by (counted (event_at (Some k) event)) (blocks_below h (child_of b i))) in
+    let rest =
+    alone (λ i. sum_by (counted (event_at (Some k) event)) (blocks_below h (child_of b i)))
+    (child_index_of b.depth k) h 8 (omega arith)
+    (one_each h (child_of b (child_index_of b.depth k)) k event
+    (child_in_map b (child_index_of b.depth k) ok (omega arith))
+    (child_depths b h (child_index_of b.depth k) d))
+    (λ j lj other. away h (child_of b j) (event_at (Some k) event)
+    (child_in_map b j ok (omega arith)) (child_depths b h j d)
+    (λ q there some. (let is : q ≡ k = event_only k q event some in
+    other (sym ((child_holds b j k (omega arith) lj).0
+    (subst (HoldsVoxel (child_of b j)) is there)).1)))) in
     omega (arith, all, here, eight, rest)
 
 one_need : (k : Voxel) (event : Event) → event_need (event_at (Some k) event) ≤ 16
@@ -90,22 +117,31 @@ unfolding event_need
 one_need k event = one_each 16 root_block k event root_in_map refl
 
 -- events that are all among two others need no more than both
-tested_either : (p q r : Bool) → (p ≡ true → (q ≡ true) ⊎ (r ≡ true)) → cond {A = ℕ} p 1 0 ≤ cond {A = ℕ} q 1 0 + cond {A = ℕ} r 1 0
+tested_either : (p q r : Bool) → (p ≡ true → (q ≡ true) ⊎ (r ≡ true))
+    → cond {A = ℕ} p 1 0 ≤ cond {A = ℕ} q 1 0 + cond {A = ℕ} r 1 0
 tested_either false q r f = omega arith
 tested_either true q r f = elim (f refl) [
-  | inl e ↦ (let one : cond {A = ℕ} q 1 0 ≡ 1 = ap (λ test. cond {A = ℕ} test 1 0) e in omega (arith, one))
-  | inr e ↦ (let one : cond {A = ℕ} r 1 0 ≡ 1 = ap (λ test. cond {A = ℕ} test 1 0) e in omega (arith, one))
+  | inl e ↦ (let one : cond {A = ℕ} q 1 0 ≡ 1 = ap (λ test. cond {A = ℕ} test 1 0) e in
+      omega (arith, one))
+  | inr e ↦ (let one : cond {A = ℕ} r 1 0 ≡ 1 = ap (λ test. cond {A = ℕ} test 1 0) e in
+      omega (arith, one))
 ]
 
-either_need : (all some others : Events) → ((q : Voxel) → IsInMap q → IsSome (all q) → IsSome (some q) ⊎ IsSome (others q)) → event_need all ≤ event_need some + event_need others
+either_need : (all some others : Events)
+    → ((q : Voxel) → IsInMap q → IsSome (all q) → IsSome (some q) ⊎ IsSome (others q))
+    → event_need all ≤ event_need some + event_need others
 unfolding event_need
 either_need all some others f =
     let both = sum_by-plus (counted some) (counted others) blocks_above_voxels in
-    let each = sum_by-each_le (counted all) (λ c. counted some c + counted others c) blocks_above_voxels
-    (All-follows (λ c. IsBlock c × (c.depth ≤ 15)) (λ c. counted all c ≤ counted some c + counted others c) blocks_above_voxels (λ c at. tested_either _ _ _ (reached c at.0)) all_above_voxels) in
+    let each =
+    sum_by-each_le (counted all) (λ c. counted some c + counted others c) blocks_above_voxels
+    (All-follows (λ c. IsBlock c × (c.depth ≤ 15)) (λ c. counted all c ≤ counted some c + counted
+    others c) blocks_above_voxels (λ c at. tested_either _ _ _ (reached c at.0))
+    all_above_voxels) in
     omega (arith, both, each)
   where
-    reached : (c : Cube) → IsBlock c → is_reached all c ≡ true → (is_reached some c ≡ true) ⊎ (is_reached others c ≡ true)
+    reached : (c : Cube) → IsBlock c → is_reached all c ≡ true
+        → (is_reached some c ≡ true) ⊎ (is_reached others c ≡ true)
     reached c ok h =
         let (q, held, event) = (reached_exactly all c ok).0 h in
         elim (f q (held_in_map c q ok held) event) [
@@ -114,35 +150,55 @@ either_need all some others f =
         ]
 
 -- one voxel more
-more_hits : (k : Voxel) (hits frees : List Voxel) (hit miss : Event) (q : Voxel) → IsSome (scan_events (k ∷ hits) hit frees miss q) → IsSome (event_at (Some k) hit q) ⊎ IsSome (scan_events hits hit frees miss q)
+more_hits : (k : Voxel) (hits frees : List Voxel) (hit miss : Event) (q : Voxel)
+    → IsSome (scan_events (k ∷ hits) hit frees miss q)
+    → IsSome (event_at (Some k) hit q) ⊎ IsSome (scan_events hits hit frees miss q)
 more_hits k hits frees hit miss q some = go (is_same_voxel q k) refl
   where
-    go : (same : Bool) → is_same_voxel q k ≡ same → IsSome (event_at (Some k) hit q) ⊎ IsSome (scan_events hits hit frees miss q)
-    go true e = inl (subst (λ a. IsSome (event_at (Some k) hit a)) (sym (is_same_voxel_exact q k e)) (ap is_some (event_here k hit)))
-    go false e = inr (subst (λ same. IsSome (cond (same || is_listed hits q) (Some hit) (cond (is_listed frees q) (Some miss) None))) e some)
+    go : (same : Bool) → is_same_voxel q k ≡ same
+        → IsSome (event_at (Some k) hit q) ⊎ IsSome (scan_events hits hit frees miss q)
+    go true e =
+        inl (subst (λ a. IsSome (event_at (Some k) hit a)) (sym (is_same_voxel_exact q k e))
+        (ap is_some (event_here k hit)))
+    go false e =
+        inr (subst (λ same. IsSome (cond (same || is_listed hits q) (Some hit)
+        (cond (is_listed frees q) (Some miss) None))) e some)
 
-more_frees : (k : Voxel) (frees : List Voxel) (hit miss : Event) (q : Voxel) → IsSome (scan_events [] hit (k ∷ frees) miss q) → IsSome (event_at (Some k) miss q) ⊎ IsSome (scan_events [] hit frees miss q)
+more_frees : (k : Voxel) (frees : List Voxel) (hit miss : Event) (q : Voxel)
+    → IsSome (scan_events [] hit (k ∷ frees) miss q)
+    → IsSome (event_at (Some k) miss q) ⊎ IsSome (scan_events [] hit frees miss q)
 more_frees k frees hit miss q some = go (is_same_voxel q k) refl
   where
-    go : (same : Bool) → is_same_voxel q k ≡ same → IsSome (event_at (Some k) miss q) ⊎ IsSome (scan_events [] hit frees miss q)
-    go true e = inl (subst (λ a. IsSome (event_at (Some k) miss a)) (sym (is_same_voxel_exact q k e)) (ap is_some (event_here k miss)))
-    go false e = inr (subst (λ same. IsSome (cond (same || is_listed frees q) (Some miss) None)) e some)
+    go : (same : Bool) → is_same_voxel q k ≡ same
+        → IsSome (event_at (Some k) miss q) ⊎ IsSome (scan_events [] hit frees miss q)
+    go true e =
+        inl (subst (λ a. IsSome (event_at (Some k) miss a)) (sym (is_same_voxel_exact q k e))
+        (ap is_some (event_here k miss)))
+    go false e =
+        inr (subst (λ same. IsSome (cond (same || is_listed frees q) (Some miss) None)) e some)
 
 no_need : (hit miss : Event) → event_need (scan_events [] hit [] miss) ≡ 0
 unfolding event_need
-no_need hit miss = away 16 root_block (scan_events [] hit [] miss) root_in_map refl (λ q held some. false≢true some)
+no_need hit miss =
+    away 16 root_block (scan_events [] hit [] miss) root_in_map refl
+    (λ q held some. false≢true some)
 
-pub few_need : (hits frees : List Voxel) (hit miss : Event) → event_need (scan_events hits hit frees miss) ≤ 16 * (length hits + length frees)
+pub few_need : (hits frees : List Voxel) (hit miss : Event)
+    → event_need (scan_events hits hit frees miss) ≤ 16 * (length hits + length frees)
 few_need [] [] hit miss = (let none = no_need hit miss in omega (arith, none))
 few_need [] (k ∷ frees) hit miss =
     let one = one_need k miss in
     let rest = few_need [] frees hit miss in
-    let both = either_need (scan_events [] hit (k ∷ frees) miss) (event_at (Some k) miss) (scan_events [] hit frees miss) (λ q v some. more_frees k frees hit miss q some) in
+    let both =
+    either_need (scan_events [] hit (k ∷ frees) miss) (event_at (Some k) miss)
+    (scan_events [] hit frees miss) (λ q v some. more_frees k frees hit miss q some) in
     omega (arith, one, rest, both)
 few_need (k ∷ hits) frees hit miss =
     let one = one_need k hit in
     let rest = few_need hits frees hit miss in
-    let both = either_need (scan_events (k ∷ hits) hit frees miss) (event_at (Some k) hit) (scan_events hits hit frees miss) (λ q v some. more_hits k hits frees hit miss q some) in
+    let both =
+    either_need (scan_events (k ∷ hits) hit frees miss) (event_at (Some k) hit)
+    (scan_events hits hit frees miss) (λ q v some. more_hits k hits frees hit miss q some) in
     omega (arith, one, rest, both)
 
 -- a mask has as many voxels as places at most

@@ -24,13 +24,22 @@ use Rattle.oct_edit.proofs.UpdateEnds.{covered, vacant_under}
 pub leaf_touched : (t u : Tree) (p : Place) (b : Cube) (n : Node) (events : Events) (event : Event)
     → IsLinked t → IsPlace t p → block_in t p ≡ Some b → IsBlock b → link_of (node_in t p) ≡ None
     → IsLinked u → link_of n ≡ None → IsWritten t u p n
-    → SetsBlock (value_at t) (value_at u) b (value_of n) → IsSameOutside t u b → value_of n ≡ applied t.odds event (value_of (node_in t p)) → ((k : Voxel) → IsInMap k → HoldsVoxel b k → events k ≡ Some event) → IsTouched t u b events false
+    → SetsBlock (value_at t) (value_at u) b (value_of n) → IsSameOutside t u b
+    → value_of n ≡ applied t.odds event (value_of (node_in t p))
+    → ((k : Voxel) → IsInMap k → HoldsVoxel b k → events k ≡ Some event)
+    → IsTouched t u b events false
 leaf_touched t u p b n events event l ok e in_map plain lu none w s out is all = record {
   linked = lu;
-  inside = λ q m h. s.inside q m h ∙ is ∙ ap (applied t.odds event) (sym (covered t p b l ok e in_map.depth plain q m h)) ∙ ap (λ o. after_event t.odds o (value_at t q)) (sym (all q m h));
+  inside =
+      λ q m h. s.inside q m h ∙ is
+      ∙ ap (applied t.odds event) (sym (covered t p b l ok e in_map.depth plain q m h))
+      ∙ ap (λ o. after_event t.odds o (value_at t q)) (sym (all q m h));
   elsewhere = s.outside;
   apart = local_apart t u b events some (written_local t u p n b l ok e w (inl none) out);
-  closed = λ c low lies r. closed_vacant u c false (λ x home. vacant_under u p b lu placed.0 placed.1 in_map.depth (ap link_of w.there ∙ none) c x r.voxel r.in_map r.here r.there lies home);
+  closed =
+      λ c low lies r. closed_vacant u c false
+      (λ x home. vacant_under u p b lu placed.0 placed.1 in_map.depth
+      (ap link_of w.there ∙ none) c x r.voxel r.in_map r.here r.there lies home);
   expanded = λ x c home. inl (x, sym (w.homes x) ∙ home);
   nodes = λ lazy. absurd (false≢true lazy);
   opened = λ lazy. absurd (false≢true lazy);
@@ -38,7 +47,13 @@ leaf_touched t u p b n events event l ok e in_map plain lu none w s out is all =
   where
     some : Reaches events b b
     some = (let v = lowest_in_map b in_map in
-        record { voxel = lowest_voxel b; in_map = v; here = lowest_held b; there = lowest_held b; event = ap is_some (all (lowest_voxel b) v (lowest_held b)) })
+        record {
+          voxel = lowest_voxel b;
+          in_map = v;
+          here = lowest_held b;
+          there = lowest_held b;
+          event = ap is_some (all (lowest_voxel b) v (lowest_held b));
+        })
 
     placed : IsPlace u p × (block_in u p ≡ Some b)
     placed = place_after t u p b b l ok e out (lies_in_self b)

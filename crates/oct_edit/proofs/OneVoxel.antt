@@ -35,7 +35,8 @@ takes_here t k event more = (event, event_here k event, more)
 none_takes : (t : Tree) (k q : Voxel) (event : Event) → IsSaturated t.odds event (value_at t k)
     → TakesFrom t.odds (event_at (Some k) event) (value_at t) q → ⊥
 none_takes t k q event full (taken, is, more) =
-    let same : q ≡ k = event_only k q event (takes_event t.odds (event_at (Some k) event) (value_at t) q
+    let same : q ≡ k =
+    event_only k q event (takes_event t.odds (event_at (Some k) event) (value_at t) q
     (taken, is, more)) in
     let taken_is : event ≡ taken = some_injective (sym (event_here k event) ∙ subst
     (λ a. event_at (Some k) event a ≡ Some taken) same is) in
@@ -44,7 +45,8 @@ none_takes t k q event full (taken, is, more) =
 
 -- and the tree as it is was edited
 pub saturated_edited : (t : Tree) (k : Voxel) (event : Event) → t.odds.min ≤ℤ t.odds.max
-    → IsSaturated t.odds event (value_at t k) → IsWellFormed t → IsEdited t t (event_at (Some k) event)
+    → IsSaturated t.odds event (value_at t k) → IsWellFormed t
+    → IsEdited t t (event_at (Some k) event)
 saturated_edited t k event bounds full formed = record {
   values = λ q v. sym (saturated_values t.odds (value_at t) k q event bounds full);
   well_formed = formed;
@@ -71,7 +73,7 @@ saturated_lazy t k event full = record {
   expanded = λ d q _ v takes. absurd (none_takes t k q event full takes);
 }
 
--- so many groups more at most
+-- this many groups more at most
 pub sixteen_more : (t u : Tree) (k : Voxel) (event : Event) (lazy : Bool)
     → IsTouched t u root_block (event_at (Some k) event) lazy
     → spare t.groups ≤ spare u.groups + 16 → live u.groups ≤ live t.groups + 16

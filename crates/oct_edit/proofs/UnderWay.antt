@@ -28,23 +28,29 @@ pub record AreLeft (b : Cube) (i : ℕ) (keys rest : List Voxel) : Type 0 where
   pub listed : (k : Voxel) → i ≤ child_index_of b.depth k → is_listed rest k ≡ is_listed keys k
 
 -- of the block under a place, the events within the children below one were done
-pub record IsTouchedBelow (s w : Tree) (p : Place) (b : Cube) (i : ℕ) (events : Events) (lazy : Bool) : Type 0 where
+pub record IsTouchedBelow (s w : Tree) (p : Place) (b : Cube) (i : ℕ) (events : Events)
+    (lazy : Bool) : Type 0 where
   pub linked : IsLinked w
   pub place : IsPlace w p
   pub block : block_in w p ≡ Some b
   pub node : node_in w p ≡ node_in s p
-  pub inside : (k : Voxel) → IsInMap k → HoldsVoxel b k → child_index_of b.depth k < i → value_at w k ≡ after_event s.odds (events k) (value_at s k)
-  pub paths : (k : Voxel) → IsInMap k → (HoldsVoxel b k × (child_index_of b.depth k < i) → ⊥) → (depth : ℕ) → depth ≤ 16 → reach w depth k ≡ reach s depth k
+  pub inside : (k : Voxel) → IsInMap k → HoldsVoxel b k → child_index_of b.depth k < i
+      → value_at w k ≡ after_event s.odds (events k) (value_at s k)
+  pub paths : (k : Voxel) → IsInMap k → (HoldsVoxel b k × (child_index_of b.depth k < i) → ⊥)
+      → (depth : ℕ) → depth ≤ 16 → reach w depth k ≡ reach s depth k
   pub apart : IsSameApart s w b events
-  pub closed : (c : Cube) (j : ℕ) → j < i → c.depth ≤ 16 → LiesIn c (child_of b j) → Reaches events b c → IsClosedAt lazy w c
+  pub closed : (c : Cube) (j : ℕ) → j < i → c.depth ≤ 16 → LiesIn c (child_of b j)
+      → Reaches events b c → IsClosedAt lazy w c
   pub expanded : ExpandsTakers s w events
   pub nodes : lazy ≡ true → BecomesLazily s w
   pub opened : lazy ≡ true → (depth : ℕ) (k : Voxel) → b.depth < depth → depth < 16 → IsInMap k
       → HoldsVoxel b k → child_index_of b.depth k < i → TakesFrom s.odds events (value_at s) k
       → value_of (reach w depth k) ≡ None
 
--- the update of a block is under way: it was done within the children below the next one, and so much of it is left
-pub record IsUnderWay (s w : Tree) (p : Place) (b : Cube) (update rest : ListedUpdate) (lazy : Bool) : Type 0 where
+-- the update of a block is under way: it was done within the children below the next
+-- one, and so much of it is left
+pub record IsUnderWay (s w : Tree) (p : Place) (b : Cube) (update rest : ListedUpdate)
+    (lazy : Bool) : Type 0 where
   pub next : ℕ
   pub few : next ≤ 8
   pub hits : AreLeft b next update.hits rest.hits
@@ -52,4 +58,5 @@ pub record IsUnderWay (s w : Tree) (p : Place) (b : Cube) (update rest : ListedU
   pub hit : rest.hit ≡ update.hit
   pub miss : rest.miss ≡ update.miss
   pub done : IsTouchedBelow s w p b next (events_of update) lazy
-  pub room : spare s.groups ≤ spare w.groups + sum_below (λ i. need_in (events_of update) (child_of b i)) next
+  pub room : spare s.groups
+      ≤ spare w.groups + sum_below (λ i. need_in (events_of update) (child_of b i)) next

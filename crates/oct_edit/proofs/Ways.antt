@@ -1,5 +1,6 @@
 -- The way to a voxel, down the tree and up again.
-use Rattle.std.proofs.Common.{◌≡◌, ◌≢◌, ℕ, zero, suc, ◌+◌, ◌<◌, ◌≤◌, sym, subst, ◌∙◌, ap, arith, inl, inr, refl, List, length, get_or, ◌-◌, Some, None, Bool}
+use Rattle.std.proofs.Common.{◌≡◌, ◌≢◌, ℕ, zero, suc, ◌+◌, ◌<◌, ◌≤◌, sym, subst, ◌∙◌, ap, arith}
+use Rattle.std.proofs.Common.{inl, inr, refl, List, length, get_or, ◌-◌, Some, None, Bool}
 use Rattle.std.specs.Prelude.{ℤ, IsSome, is_some, slice_set}
 use Rattle.std.proofs.lemmas.Bool.{cases_eq}
 use Rattle.std.proofs.lemmas.List.{get_or-set_same, get_or-set_other, get_or_default, length-set}
@@ -36,7 +37,8 @@ way_begun t k places v long root = record {
   few = omega arith;
   long = long;
   at = λ d low. (let first : d ≡ 0 = omega arith in
-      subst (λ n. IsPlace t (place_on places n) × (block_in t (place_on places n) ≡ Some (block_of n k)))
+      subst (λ n. IsPlace t (place_on places n)
+      × (block_in t (place_on places n) ≡ Some (block_of n k)))
       (sym first)
       (subst (λ p. IsPlace t p × (block_in t p ≡ Some (block_of 0 k))) (sym root)
       (tt, ap Some (sym (block_of_root k v)))));
@@ -52,14 +54,18 @@ way_more t k places depth i v id l low is index w = record {
   few = omega arith;
   long = length-set places (depth + 1) (Slot id i) ∙ w.long;
   at = λ d lt. elim (cases_eq d (depth + 1)) [
-    | inl last ↦ subst (λ n. IsPlace t (place_on new n) × (block_in t (place_on new n) ≡ Some (block_of n k)))
-        (sym last) (subst (λ p. IsPlace t p × (block_in t p ≡ Some (block_of (depth + 1) k))) (sym here) (
-          slot_place t l (place_on places depth) (w.at depth (omega arith)).0 id i (ap link_of is) few,
-          slot_block t l (place_on places depth) id i (block_of depth k) (ap link_of is) (w.at depth (omega arith)).1
+    | inl last ↦ subst (λ n. IsPlace t (place_on new n)
+        × (block_in t (place_on new n) ≡ Some (block_of n k)))
+        (sym last)
+        (subst (λ p. IsPlace t p × (block_in t p ≡ Some (block_of (depth + 1) k))) (sym here) (
+          slot_place t l (place_on places depth) (w.at depth (omega arith)).0 id i
+              (ap link_of is) few,
+          slot_block t l (place_on places depth) id i (block_of depth k) (ap link_of is)
+              (w.at depth (omega arith)).1
               ∙ ap Some (ap (child_of (block_of depth k)) index ∙ sym (block_step depth k low)),
         ))
-    | inr other ↦ subst (λ p. IsPlace t p × (block_in t p ≡ Some (block_of d k))) (sym (there d other))
-        (w.at d (omega arith))
+    | inr other ↦ subst (λ p. IsPlace t p × (block_in t p ≡ Some (block_of d k)))
+        (sym (there d other)) (w.at d (omega arith))
   ];
   linked = λ d lt. elim (cases_eq d depth) [
     | inl last ↦ subst (λ n. (a : ℤ) × (x : GroupId) × (node_in t (place_on new n) ≡ Inner a x)
@@ -83,7 +89,8 @@ way_more t k places depth i v id l low is index w = record {
     there d ne = get_or-set_other places (depth + 1) d (Slot id i) Root ne
 
 -- an Inner place is entered as it is
-pub entered_inner : (t : Tree) (p : Place) (b : Cube) (id : GroupId) (v : ℤ) → IsLinked t → IsPlace t p
+pub entered_inner : (t : Tree) (p : Place) (b : Cube) (id : GroupId) (v : ℤ) → IsLinked t
+    → IsPlace t p
     → block_in t p ≡ Some b → node_in t p ≡ Inner v id → IsEntered t t p b id
 entered_inner t p b id v l ok e is = record {
   linked = l;
@@ -115,7 +122,8 @@ pub record IsBack (t w : Tree) (k : Voxel) (p : Place) (d : ℕ) : Type 0 where
   pub node : node_in w p ≡ node_in t p
   pub inner : IsSome (link_of (node_in w p))
 
-pub back : (t w : Tree) (k : Voxel) (places : List Place) (depth d : ℕ) (event : Event) (lazy : Bool)
+pub back : (t w : Tree) (k : Voxel) (places : List Place) (depth d : ℕ) (event : Event)
+    (lazy : Bool)
     → IsLinked t → IsWayTo t k places depth → d < depth
     → IsTouched t w (block_of (d + 1) k) (event_at (Some k) event) lazy
     → IsBack t w k (place_on places d) d
@@ -132,7 +140,8 @@ back t w k places depth d event lazy l way low r =
     }
 
 -- one place up the way, where its group is closed
-pub climbed : (t w z : Tree) (k : Voxel) (places : List Place) (depth d : ℕ) (event : Event) (lazy : Bool)
+pub climbed : (t w z : Tree) (k : Voxel) (places : List Place) (depth d : ℕ) (event : Event)
+    (lazy : Bool)
     → IsLinked t → IsInMap k → IsWayTo t k places depth → d < depth
     → TakesFrom t.odds (event_at (Some k) event) (value_at t) k
     → IsTouched t w (block_of (d + 1) k) (event_at (Some k) event) lazy
@@ -153,7 +162,8 @@ collapsible_alike : (gs hs : Groups) (x : ℕ) → ((i : ℕ) → i < 8 → node
 collapsible_alike gs hs x same (inl none) = inl (λ i few. sym (same i few) ∙ none i few)
 collapsible_alike gs hs x same (inr (v, leaf)) = inr (v, λ i few. sym (same i few) ∙ leaf i few)
 
-greatest_alike : (gs hs : Groups) (x : ℕ) (m : ℤ) → ((i : ℕ) → i < 8 → node_at hs x i ≡ node_at gs x i)
+greatest_alike : (gs hs : Groups) (x : ℕ) (m : ℤ)
+    → ((i : ℕ) → i < 8 → node_at hs x i ≡ node_at gs x i)
     → IsGreatest gs x m → IsGreatest hs x m
 greatest_alike gs hs x m same h = record {
   there = (let (i, few, is) = h.there in (i, few, ap stored (same i few) ∙ is));
@@ -165,8 +175,10 @@ greatest_alike gs hs x m same h = record {
 
 -- Where the node of a child stays as it was, the group of its block is closed as it is, if the tree
 -- was fresh and pruned.
-pub closed_by_itself : (t w : Tree) (k : Voxel) (p : Place) (d : ℕ) (id : GroupId) (v : ℤ) (event : Event) (lazy : Bool)
-    → IsFresh t → IsPruned t → d < 16 → IsPlace t p → block_in t p ≡ Some (block_of d k) → node_in t p ≡ Inner v id
+pub closed_by_itself : (t w : Tree) (k : Voxel) (p : Place) (d : ℕ) (id : GroupId) (v : ℤ)
+    (event : Event) (lazy : Bool)
+    → IsFresh t → IsPruned t → d < 16 → IsPlace t p → block_in t p ≡ Some (block_of d k)
+    → node_in t p ≡ Inner v id
     → IsBack t w k p d → IsTouched t w (block_of (d + 1) k) (event_at (Some k) event) lazy
     → node_in w (Slot id (child_index_of d k)) ≡ node_in t (Slot id (child_index_of d k))
     → IsClosed w w (block_of d k) lazy
@@ -175,12 +187,20 @@ closed_by_itself t w k p d id v event lazy fresh pruned low ok e is b r kept = r
   values = λ q m. refl;
   local = same_local w (block_of d k);
   closed = record {
-    known = λ x home. subst (IsKnown w.groups) (sym (own x home)) (known_alike t.groups w.groups id.number same (fresh.formed.known id.number live));
-    lean = λ _ x home can. pruned id.number live (collapsible_alike t.groups w.groups id.number same (subst (IsCollapsible w.groups) (own x home) can));
+    known =
+        λ x home. subst (IsKnown w.groups) (sym (own x home))
+        (known_alike t.groups w.groups id.number same (fresh.formed.known id.number live));
+    lean =
+        λ _ x home can. pruned id.number live
+        (collapsible_alike t.groups w.groups id.number same
+        (subst (IsCollapsible w.groups) (own x home) can));
     greatest = λ _ q y a link home. (let f : y.number ≡ id.number = own y.number home in
-        let place : q ≡ p = only_link w r.linked q p id.number (ap link_of link ∙ ap Some f) (ap link_of here) in
+        let place : q ≡ p =
+        only_link w r.linked q p id.number (ap link_of link ∙ ap Some f) (ap link_of here) in
         let value : v ≡ a = same_value v a id y (sym here ∙ ap (node_in w) (sym place) ∙ link) in
-        subst (λ n. IsGreatest w.groups n a) (sym f) (subst (IsGreatest w.groups id.number) value (greatest_alike t.groups w.groups id.number v same (fresh.greatest p id v is))));
+        subst (λ n. IsGreatest w.groups n a) (sym f)
+        (subst (IsGreatest w.groups id.number) value
+        (greatest_alike t.groups w.groups id.number v same (fresh.greatest p id v is))));
   };
   homes = λ x c h. h;
   spare = omega arith;
@@ -197,19 +217,25 @@ closed_by_itself t w k p d id v event lazy fresh pruned low ok e is b r kept = r
     here = b.node ∙ is
 
     own : (x : ℕ) → home_at w.groups x ≡ Some (block_of d k) → x ≡ id.number
-    own x home = same_home w r.linked x id.number (block_of d k) home (r.linked.links p id.number (ap link_of here) ∙ b.block)
+    own x home =
+        same_home w r.linked x id.number (block_of d k) home
+        (r.linked.links p id.number (ap link_of here) ∙ b.block)
 
     same : (i : ℕ) → i < 8 → node_at w.groups id.number i ≡ node_at t.groups id.number i
     same i few = elim (cases_eq i (child_index_of d k)) [
-      | inl on ↦ ap (node_at w.groups id.number) on ∙ kept ∙ ap (node_at t.groups id.number) (sym on)
+      | inl on ↦ ap (node_at w.groups id.number) on ∙ kept
+          ∙ ap (node_at t.groups id.number) (sym on)
       | inr off ↦ r.apart.outside.nodes (Slot id i) (child_of (block_of d k) i)
-          (λ f. nested.apart (block_of d k) (child_of (block_of d k) i) i (child_index_of d k) (let deep = depth_block_of d k in omega arith) few (child_index_below d k) off
-          (lies_in_self (child_of (block_of d k) i)) (subst (λ c. LiesIn (child_of (block_of d k) i) c) (block_step d k low) f))
+          (λ f. nested.apart (block_of d k) (child_of (block_of d k) i) i (child_index_of d k)
+          (let deep = depth_block_of d k in omega arith) few (child_index_below d k) off
+          (lies_in_self (child_of (block_of d k) i))
+          (subst (λ c. LiesIn (child_of (block_of d k) i) c) (block_step d k low) f))
           (slot_block t l p id i (block_of d k) (ap link_of is) e)
     ]
 
 -- So nothing is left to do above a place whose node stays as it was.
-pub kept_above : (t w : Tree) (k : Voxel) (places : List Place) (depth d : ℕ) (event : Event) (lazy : Bool)
+pub kept_above : (t w : Tree) (k : Voxel) (places : List Place) (depth d : ℕ) (event : Event)
+    (lazy : Bool)
     → IsFresh t → IsPruned t → IsInMap k → IsWayTo t k places depth → d ≤ depth
     → TakesFrom t.odds (event_at (Some k) event) (value_at t) k
     → IsTouched t w (block_of d k) (event_at (Some k) event) lazy
@@ -225,11 +251,15 @@ kept_above t w k places depth (suc d) event lazy fresh pruned v way low takes r 
     let few : d < 16 = (let most = way.few in omega arith) in
     let b = back t w k places depth d event lazy l way lower below in
     let (a, id, link, next) = way.linked d lower in
-    let slot : place_on places (suc d) ≡ Slot id (child_index_of d k) = ap (place_on places) (sym more) ∙ next in
-    let still : node_in w (Slot id (child_index_of d k)) ≡ node_in t (Slot id (child_index_of d k)) =
+    let slot : place_on places (suc d) ≡ Slot id (child_index_of d k) =
+    ap (place_on places) (sym more) ∙ next in
+    let still : node_in w (Slot id (child_index_of d k))
+    ≡ node_in t (Slot id (child_index_of d k)) =
     ap (node_in w) (sym slot) ∙ kept ∙ ap (node_in t) slot in
     let (ok, e) = way.at d (omega arith) in
-    let c = closed_by_itself t w k (place_on places d) d id a event lazy fresh pruned few ok e link b below still in
+    let c =
+    closed_by_itself t w k (place_on places d) d id a event lazy fresh pruned few ok e link b
+    below still in
     kept_above t w k places depth d event lazy fresh pruned v way (omega arith) takes
     (climbed t w w k places depth d event lazy l v way lower takes below c) b.node
 
@@ -249,7 +279,8 @@ read_on t k places depth d p w low =
     get_or_default places d p Root (let few = w.few in let long = w.long in omega arith)
 
 -- the same one place above the one that was reached on the way up
-pub back_above : (t w : Tree) (k : Voxel) (places : List Place) (depth n : ℕ) (event : Event) (lazy : Bool) (p : Place)
+pub back_above : (t w : Tree) (k : Voxel) (places : List Place) (depth n : ℕ) (event : Event)
+    (lazy : Bool) (p : Place)
     → IsLinked t → IsWayTo t k places depth → 0 < n → n ≤ depth
     → IsTouched t w (block_of n k) (event_at (Some k) event) lazy
     → IsBack t w k (get_or places (n - 1) p) (n - 1)
@@ -259,7 +290,8 @@ back_above t w k places depth n event lazy p l way some low r =
     (back t w k places depth (n - 1) event lazy l way (omega arith)
     (subst (λ m. IsTouched t w (block_of m k) (event_at (Some k) event) lazy) (sym more) r))
 
-pub climbed_above : (t w z : Tree) (k : Voxel) (places : List Place) (depth n : ℕ) (event : Event) (lazy : Bool)
+pub climbed_above : (t w z : Tree) (k : Voxel) (places : List Place) (depth n : ℕ) (event : Event)
+    (lazy : Bool)
     → IsLinked t → IsInMap k → IsWayTo t k places depth → 0 < n → n ≤ depth
     → TakesFrom t.odds (event_at (Some k) event) (value_at t) k
     → IsTouched t w (block_of n k) (event_at (Some k) event) lazy

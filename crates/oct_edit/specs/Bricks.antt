@@ -1,6 +1,7 @@
 -- How bricks go down the tree: the working words of their proof, and what an update of bricks
 -- stands for.
-use Rattle.std.specs.Prelude.{◌≡◌, ℕ, ◌+◌, ◌-◌, ◌*◌, ◌/◌, ◌%◌, ◌^◌, ◌≤◌, ◌==◌, if◌then◌else◌, bit_and, Bool, List, [], ◌∷◌, take, drop, Some}
+use Rattle.std.specs.Prelude.{◌≡◌, ℕ, ◌+◌, ◌-◌, ◌*◌, ◌/◌, ◌%◌, ◌^◌, ◌≤◌, ◌==◌, if◌then◌else◌}
+use Rattle.std.specs.Prelude.{bit_and, Bool, List, [], ◌∷◌, take, drop, Some}
 use Rattle.std.specs.List.{All, Contains}
 use Rattle.oct_key.specs.Block.{Cube}
 use Rattle.oct_odds.specs.declared.event.Event.{Event}

@@ -1,11 +1,13 @@
-ghost use Rattle.std.specs.Prelude.{◌≡◌, ◌+◌, ◌^◌, ◌≤◌, ◌≤ℤ◌, ◌↔◌, IsTrue, IsSome, None, Some, false, ◌&&◌};
+ghost use Rattle.std.specs.Prelude.{◌≡◌, ◌+◌, ◌^◌, ◌≤◌, ◌≤ℤ◌, ◌↔◌, IsTrue, IsSome, None, Some};
+ghost use Rattle.std.specs.Prelude.{false, ◌&&◌};
 ghost use Rattle.oct_key.specs.Voxel.{Voxel, IsInMap};
 ghost use Rattle.oct_key.specs.Block.{root_block};
 ghost use Rattle.oct_key.specs.CubeOf.{cube_of};
 ghost use Rattle.oct_odds.specs.Update.{IsSmallEvent};
 ghost use Rattle.oct_values.specs.Boxes as boxes;
 ghost use Rattle.oct_key.specs.Boxes.{IsBox};
-ghost use Rattle.oct_values.specs.Boxes.{MeetsBox, LiesInBox, MeetsSpan, LiesInSpan, box_events, met_on, within_on, cut_at};
+ghost use Rattle.oct_values.specs.Boxes.{MeetsBox, LiesInBox, MeetsSpan, LiesInSpan, box_events};
+ghost use Rattle.oct_values.specs.Boxes.{met_on, within_on, cut_at};
 ghost use Rattle.oct_arena.specs.Entries.{live, spare};
 ghost use Rattle.oct_arena.specs.Nodes.{link_of, value_of};
 ghost use Rattle.oct_tree.specs.Tree.{IsLinked, IsPlace, node_in, block_in};
@@ -22,8 +24,8 @@ use oct_odds::Event;
 use oct_tree::{OccTree, Place};
 
 /// The number of blocks of depth 0 to 15 that meet the box of the two corners and don't lie in it:
-/// so many groups at most have to be made for an edit of it. Both corners lie in the box, and `lo`
-/// exceeds `hi` on no axis.
+/// this many groups at most have to be made for an edit of it. Both corners lie in the box, and
+/// `lo` exceeds `hi` on no axis.
 pub fn box_need(lo: Key, hi: Key) -> u128
     requires { IsBox lo hi }
     ensures exact { result ≡ boxes.box_need lo hi }

@@ -1,4 +1,6 @@
-ghost use Rattle.std.specs.Prelude.{◌≡◌, ◌≢◌, ℕ, ◌+◌, ◌-◌, ◌*◌, ◌/◌, ◌%◌, ◌^◌, ◌==◌, if◌then◌else◌, true, bit_and, ◌≤◌, ◌≤ℤ◌, ◌<◌, ◌↔◌, ◌⊎◌, [], ◌∷◌, All, Bool, IsTrue, IsSome, IfSome, IfNone, OnSome, Some, slice_get};
+ghost use Rattle.std.specs.Prelude.{◌≡◌, ◌+◌, ◌-◌, ◌*◌, ◌/◌, ◌%◌, ◌^◌, ◌==◌, true, bit_and, ◌≤◌};
+ghost use Rattle.std.specs.Prelude.{◌≤ℤ◌, ◌<◌, ◌⊎◌, [], All, Bool, IsTrue, IsSome, IfSome, IfNone};
+ghost use Rattle.std.specs.Prelude.{Some};
 ghost use Rattle.std.specs.Bool.{OnTrue, OnFalse};
 ghost use Rattle.std.specs.List.Sorted.{IsNonDecreasingBy};
 ghost use Rattle.oct_key.specs.Voxel.{Voxel, IsInMap};
@@ -18,8 +20,8 @@ ghost use Rattle.oct_edit.specs.Edits.{IsEdited, IsEagerEdit, IsLazyEdit, IsTidy
 ghost use Rattle.oct_edit.specs.Steps.{IsTouched};
 ghost use Rattle.oct_edit.specs.Parts.{IsUpdateIn, IsAtRest, IsFirstChild, need_in};
 ghost use Rattle.oct_edit.specs.Scan.{events_of, AreDisjoint};
-ghost use Rattle.oct_edit.specs.Bricks.{listed, listed_one, brick_child, event_of_bit, CanApply, IsApplied};
-ghost use Rattle.oct_edit.specs.Bricks.{AreAlike, AreCut, IsFirstBrick};
+ghost use Rattle.oct_edit.specs.Bricks.{listed, listed_one, brick_child, event_of_bit, CanApply};
+ghost use Rattle.oct_edit.specs.Bricks.{IsApplied, AreAlike, AreCut, IsFirstBrick};
 
 use crate::voxel::{apply_at, close, enter, note_eager, stays};
 use oct_brick::Brick;

@@ -2,8 +2,7 @@
 //! group. Above it no group has to be made, and in a tree that is known to be fresh and pruned none
 //! has to be closed above a node that stays as it was.
 
-ghost use Rattle.std.specs.Prelude.{◌≡◌, ◌+◌, ◌<◌, ◌≤◌, ◌≤ℤ◌, ◌↔◌, IsTrue, IsSome, Some};
-ghost use Rattle.oct_key.specs.Voxel.{IsInMap};
+ghost use Rattle.std.specs.Prelude.{◌≡◌, ◌+◌, ◌≤◌, ◌≤ℤ◌, ◌↔◌, IsTrue, IsSome, Some};
 ghost use Rattle.oct_key.specs.Block.{Cube, block_of};
 ghost use Rattle.oct_odds.specs.Update.{IsSmallEvent};
 ghost use Rattle.oct_values.specs.Events.{event_at};
@@ -13,7 +12,7 @@ ghost use Rattle.oct_tree.specs.Tree.{IsLinked, IsPlace, node_in, block_in, valu
 ghost use Rattle.oct_tree.specs.Shape.{IsFresh, IsPruned, IsWellFormed};
 ghost use Rattle.oct_edit.specs.Saturated.{IsSaturated, TakesFrom};
 ghost use Rattle.oct_edit.specs.Steps.{HasRoom, IsTouched, IsClosed};
-ghost use Rattle.oct_edit.specs.Way.{place_on, IsWholeWay};
+ghost use Rattle.oct_edit.specs.Way.{IsWholeWay};
 
 use crate::voxel::{VOXELS, close, note_eager, stays, touch_under};
 use oct_arena::Node;

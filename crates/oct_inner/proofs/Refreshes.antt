@@ -17,7 +17,8 @@ use Rattle.oct_tree.specs.Tree.{Tree, IsLinked, IsPlace, node_in, block_in, valu
 use Rattle.oct_tree.specs.Shape.{IsWellFormed, IsFresh, IsPruned}
 use Rattle.oct_tree.specs.Changes.{IsSameOutside, IsWritten, IsRenewed}
 use Rattle.oct_key.specs.Values.{SameValues}
-use Rattle.oct_tree.proofs.Paths.{some_injective, some_not_none, live_home, homed_entry, linked_home, linked_index, slot_block, linked_block}
+use Rattle.oct_tree.proofs.Paths.{some_injective, some_not_none, live_home, homed_entry}
+use Rattle.oct_tree.proofs.Paths.{linked_home, linked_index, slot_block, linked_block}
 use Rattle.oct_tree.proofs.Links.{same_place}
 use Rattle.oct_tree.proofs.Entries.{not_own, block_kept}
 use Rattle.oct_tree.proofs.Frames.{id_of, same_written}
@@ -82,7 +83,9 @@ refreshing_trans t u w s r = record {
   values = λ k v. s.values k v ∙ r.values k v;
   nodes = record {
     homes = λ x. r.nodes.homes x ∙ s.nodes.homes x;
-    nodes = λ p. same_value_trans (node_in t p) (node_in u p) (node_in w p) (s.nodes.nodes p) (r.nodes.nodes p);
+    nodes =
+        λ p. same_value_trans (node_in t p) (node_in u p) (node_in w p) (s.nodes.nodes p)
+        (r.nodes.nodes p);
     length = r.nodes.length ∙ s.nodes.length;
     live = r.nodes.live ∙ s.nodes.live;
     spare = r.nodes.spare ∙ s.nodes.spare;
@@ -93,39 +96,53 @@ refreshing_trans t u w s r = record {
 }
 
 -- where homes stay, groups do
-live_kept : (t u : Tree) → ((x : ℕ) → home_at u.groups x ≡ home_at t.groups x) → (x : ℕ) → IsLive u.groups x → IsLive t.groups x
-live_kept t u homes x h = (let (b, e) = live_home (entry u.groups x) h in homed_entry _ b (sym (homes x) ∙ e))
+live_kept : (t u : Tree) → ((x : ℕ) → home_at u.groups x ≡ home_at t.groups x) → (x : ℕ)
+    → IsLive u.groups x → IsLive t.groups x
+live_kept t u homes x h =
+    (let (b, e) = live_home (entry u.groups x) h in homed_entry _ b (sym (homes x) ∙ e))
 
 -- a write of another value
-written_same : (t u : Tree) (p : Place) (id : GroupId) (v m : ℤ) → node_in t p ≡ Inner v id → IsWritten t u p (Inner m id)
+written_same : (t u : Tree) (p : Place) (id : GroupId) (v m : ℤ) → node_in t p ≡ Inner v id
+    → IsWritten t u p (Inner m id)
     → IsSameButInner t u
 written_same t u p id v m link w = record {
   homes = w.homes;
   nodes = λ q. elim (same_place q p) [
-    | inl e ↦ subst (λ n. IsSameButValue n (node_in u q)) (sym (ap (node_in t) e ∙ link)) (m, ap (node_in u) e ∙ w.there)
-    | inr ne ↦ subst (λ n. IsSameButValue (node_in t q) n) (sym (w.others q ne)) (same_value_refl (node_in t q))
+    | inl e ↦ subst (λ n. IsSameButValue n (node_in u q)) (sym (ap (node_in t) e ∙ link))
+        (m, ap (node_in u) e ∙ w.there)
+    | inr ne ↦ subst (λ n. IsSameButValue (node_in t q) n) (sym (w.others q ne))
+        (same_value_refl (node_in t q))
   ];
   length = w.length;
-  live = (let a = live_spare t.groups in let b = live_spare u.groups in let c = w.spare in let d = w.length in omega arith);
+  live =
+      (let a = live_spare t.groups in
+      let b = live_spare u.groups in
+      let c = w.spare in
+      let d = w.length in
+      omega arith);
   spare = w.spare;
   res = w.res;
   odds = w.odds;
 }
 
 -- the nodes of a group that are not absent are not so after either
-known_kept : (t u : Tree) → IsWellFormed t → IsSameButInner t u → (x : ℕ) → IsLive u.groups x → IsKnown u.groups x
+known_kept : (t u : Tree) → IsWellFormed t → IsSameButInner t u → (x : ℕ) → IsLive u.groups x
+    → IsKnown u.groups x
 known_kept t u f s x h =
     let l = live_kept t u s.homes x h in
     let (id, is) = id_of t f.linked x l in
     let (i, li, ne) = f.known x l in (
       i,
       li,
-      λ e. ne (ap (λ n. node_at t.groups n i) (sym is) ∙ absent_before (node_at t.groups id.number i) (node_at u.groups id.number i)
+      λ e. ne
+          (ap (λ n. node_at t.groups n i) (sym is)
+          ∙ absent_before (node_at t.groups id.number i) (node_at u.groups id.number i)
           (s.nodes (Slot id i)) (ap (λ n. node_at u.groups n i) is ∙ e)),
     )
 
 -- the nodes of a group that is collapsible after were the same
-collapsible_before : (t u : Tree) → IsLinked t → IsSameButInner t u → (x : ℕ) → IsLive t.groups x → IsCollapsible u.groups x
+collapsible_before : (t u : Tree) → IsLinked t → IsSameButInner t u → (x : ℕ) → IsLive t.groups x
+    → IsCollapsible u.groups x
     → IsCollapsible t.groups x
 collapsible_before t u l s x h c = by c
   where
@@ -133,14 +150,18 @@ collapsible_before t u l s x h c = by c
     id = id_of t l x h
 
     same : (i : ℕ) → IsSameButValue (node_at t.groups x i) (node_at u.groups x i)
-    same i = subst (λ n. IsSameButValue (node_at t.groups n i) (node_at u.groups n i)) id.1 (s.nodes (Slot id.0 i))
+    same i =
+        subst (λ n. IsSameButValue (node_at t.groups n i) (node_at u.groups n i)) id.1
+        (s.nodes (Slot id.0 i))
 
     by : IsCollapsible u.groups x → IsCollapsible t.groups x
     by (inl all) = inl (λ i li. absent_before _ _ (same i) (all i li))
     by (inr all) = inr (all.0, λ i li. leaf_before _ _ all.0 (same i) (all.1 i li))
 
 pub pruned_kept : (t u : Tree) → IsLinked t → IsSameButInner t u → IsPruned t → IsPruned u
-pruned_kept t u l s h x live c = (let before = live_kept t u s.homes x live in h x before (collapsible_before t u l s x before c))
+pruned_kept t u l s h x live c =
+    (let before = live_kept t u s.homes x live in
+    h x before (collapsible_before t u l s x before c))
 
 -- a group has one greatest value
 one_greatest : (gs : Groups) (x : ℕ) (m n : ℤ) → IsGreatest gs x m → IsGreatest gs x n → m ≡ n
@@ -152,25 +173,34 @@ one_greatest gs x m n g h =
     omega (arith, ints, low, high)
 
 -- the place is renewed
-pub renew_closed : (t u : Tree) (p : Place) (b : Cube) (id : GroupId) (v : ℤ) → IsWellFormed t → IsPlace t p → block_in t p ≡ Some b
+pub renew_closed : (t u : Tree) (p : Place) (b : Cube) (id : GroupId) (v : ℤ) → IsWellFormed t
+    → IsPlace t p → block_in t p ≡ Some b
     → node_in t p ≡ Inner v id
-    → IsRenewed t u p → SameValues (value_at t) (value_at u) → IsSameOutside t u b → IsLinked u → IsClosed IsFreshAt IsRefreshing t u p b
+    → IsRenewed t u p → SameValues (value_at t) (value_at u) → IsSameOutside t u b → IsLinked u
+    → IsClosed IsFreshAt IsRefreshing t u p b
 renew_closed t u p b id v f ok e link renewed values outside linked = by (renewed id v link)
   where
-    unchanged : (m : ℤ) → IsGreatest t.groups id.number m → IsWritten t u p (Inner m id) → IsGreatest t.groups id.number v → u ≡ t
+    unchanged : (m : ℤ) → IsGreatest t.groups id.number m → IsWritten t u p (Inner m id)
+        → IsGreatest t.groups id.number v → u ≡ t
     unchanged m best w there =
         let value : m ≡ v = one_greatest t.groups id.number m v best there in
         same_written t u p (Inner m id) f.linked linked w (ap (λ n. Inner n id) value ∙ sym link)
 
-    by : ((m : ℤ) × IsGreatest t.groups id.number m × IsWritten t u p (Inner m id)) → IsClosed IsFreshAt IsRefreshing t u p b
+    by : ((m : ℤ) × IsGreatest t.groups id.number m × IsWritten t u p (Inner m id))
+        → IsClosed IsFreshAt IsRefreshing t u p b
     by (m, best, w) = record {
       formed = record { linked = linked; known = known_kept t u f same };
-      kept = record { values = values; nodes = same; fresh = λ h. unchanged m best w (h.greatest p id v link) };
+      kept = record {
+        values = values;
+        nodes = same;
+        fresh = λ h. unchanged m best w (h.greatest p id v link);
+      };
       outside = outside;
       place = place_by_block t u p b ok block;
       block = block;
       here = λ a y h. (let parts = inner_parts m y id a (sym w.there ∙ h) in
-          subst (λ (a : GroupId). IsGreatest u.groups a.number y) parts.1 (subst (IsGreatest u.groups id.number) parts.0 (record {
+          subst (λ (a : GroupId). IsGreatest u.groups a.number y) parts.1
+          (subst (IsGreatest u.groups id.number) parts.0 (record {
             there = (let (i, li, g) = best.there in (i, li, ap stored_in (own i) ∙ g));
             most = λ i z li g. best.most i z li (sym (ap stored_in (own i)) ∙ g);
           })));
@@ -179,8 +209,12 @@ renew_closed t u p b id v f ok e link renewed values outside linked = by (renewe
         record {
           node = w.others q ne;
           below = λ a y to i li. (let down = slot_block t f.linked q a i c (ap link_of to) before in
-              let low = (f.linked.homes a.number c (linked_block t f.linked q a.number c (ap link_of to) before)).1 in
-              w.others (Slot a i) (λ g. none (child_of c i) (child_lies_in c i low) (some_injective (sym down ∙ ap (block_in t) g ∙ e))));
+              let low =
+              (f.linked.homes a.number c (linked_block t f.linked q a.number c (ap link_of to)
+              before)).1 in
+              w.others (Slot a i)
+              (λ g. none (child_of c i) (child_lies_in c i low)
+              (some_injective (sym down ∙ ap (block_in t) g ∙ e))));
         },
       ));
     }
@@ -192,14 +226,17 @@ renew_closed t u p b id v f ok e link renewed values outside linked = by (renewe
         block = block_kept t u p w.homes ∙ e
 
         own : (i : ℕ) → node_at u.groups id.number i ≡ node_at t.groups id.number i
-        own i = w.others (Slot id i) (λ g. not_own t f.linked p id.number (ap link_of link) (ap group_of (sym g)))
+        own i =
+            w.others (Slot id i)
+            (λ g. not_own t f.linked p id.number (ap link_of link) (ap group_of (sym g)))
 
 -- a place that is not Inner is fresh
 pub leaf_fresh : (t : Tree) (p : Place) → link_of (node_in t p) ≡ None → IsFreshAt t p
 leaf_fresh t p none id v e = absurd (some_not_none (ap link_of e) none)
 
 -- an Inner node stands at a place
-pub inner_place : (t : Tree) → IsLinked t → (p : Place) (x : ℕ) → link_of (node_in t p) ≡ Some x → IsPlace t p
+pub inner_place : (t : Tree) → IsLinked t → (p : Place) (x : ℕ) → link_of (node_in t p) ≡ Some x
+    → IsPlace t p
 inner_place t l Root x h = tt
 inner_place t l (Slot y i) x h = (let (b, e) = linked_home (entry t.groups y.number) i x h
     in (homed_entry _ b e, linked_index t l y.number i x h))
@@ -208,15 +245,20 @@ inner_place t l (Slot y i) x h = (let (b, e) = linked_home (entry t.groups y.num
 pub refreshed_fresh : (t u : Tree) → IsPassed IsFreshAt IsRefreshing t u root_block → IsFresh u
 refreshed_fresh t u r = record {
   formed = r.formed;
-  greatest = λ p id v e. within_root IsFreshAt IsRefreshing t u r p (inner_place u r.formed.linked p id.number (ap link_of e)) id v e;
+  greatest =
+      λ p id v e. within_root IsFreshAt IsRefreshing t u r p
+      (inner_place u r.formed.linked p id.number (ap link_of e)) id v e;
 }
 
 -- all children of a place are refreshed, and then it is renewed
-pub refreshed_place : (t u w : Tree) (p : Place) (id : GroupId) (v : ℤ) (n : ℕ) (b : Cube) → IsLinked t → n ≡ 8 → node_in t p ≡ Inner v id
+pub refreshed_place : (t u w : Tree) (p : Place) (id : GroupId) (v : ℤ) (n : ℕ) (b : Cube)
+    → IsLinked t → n ≡ 8 → node_in t p ≡ Inner v id
     → IsPassing IsFreshAt IsRefreshing t u p b n
-    → IsRenewed u w p → SameValues (value_at u) (value_at w) → ((c : Cube) → block_in u p ≡ Some c → IsSameOutside u w c) → IsLinked w
+    → IsRenewed u w p → SameValues (value_at u) (value_at w)
+    → ((c : Cube) → block_in u p ≡ Some c → IsSameOutside u w c) → IsLinked w
     → IsPassed IsFreshAt IsRefreshing t w b
 refreshed_place t u w p id v n b l all link s renewed values outside linked =
-    passed_closed IsFreshAt IsRefreshing fresh_local refreshing_trans t u w p id.number b l (ap link_of link)
-    (subst (IsPassing IsFreshAt IsRefreshing t u p b) all s)
-    (renew_closed u w p b id v s.formed s.place s.block (s.here ∙ link) renewed values (outside b s.block) linked)
+    passed_closed IsFreshAt IsRefreshing fresh_local refreshing_trans t u w p id.number b l
+    (ap link_of link) (subst (IsPassing IsFreshAt IsRefreshing t u p b) all s)
+    (renew_closed u w p b id v s.formed s.place s.block (s.here ∙ link) renewed values
+    (outside b s.block) linked)

@@ -16,19 +16,21 @@
 //!   voxel keeps its value, no group and no Inner node is made or changes (`IsShrunk`), and the
 //!   tree stays well-formed, and fresh where it was. A tree that is pruned is left as it is.
 //!
-//! - After [`maximum_likelihood`] each voxel has the value after the event `Likely`: the upper bound
-//!   where it was occupied, the lower one where it was free, and none where it was unknown. The
-//!   tree is fresh and pruned, whatever it was before, and has no more groups. It is the edit of a
-//!   box that has every voxel of the map (`touch_box` of `oct_edit`), so each group is closed once.
+//! - After [`maximum_likelihood`] each voxel has the value after the event `Likely`: the upper
+//!   bound where it was occupied, the lower one where it was free, and none where it was unknown.
+//!   The tree is fresh and pruned, whatever it was before, and has no more groups. It is the edit
+//!   of a box that has every voxel of the map (`touch_box` of `oct_edit`), so each group is closed
+//!   once.
 //!
 //! All go from the root down to the leaves and close each group on the way up, after all groups
 //! below it, so that each group is visited once. None takes memory, and none can fail. How deep
 //! they call themselves is bounded by the depth of the tree.
 //!
-//! The proof of the first two is one: `AllWithin` says of a block that something is so at each place within
-//! it, and the pass of a block is done (`IsPassed`) once its eight children are and its own node is
-//! closed. `Within` of `proofs/` has this for anything that is said of a node and its group alone,
-//! and for whatever the pass keeps. The map with all its commands stands on this crate.
+//! The proof of the first two is one: `AllWithin` says of a block that something is so at each
+//! place within it, and the pass of a block is done (`IsPassed`) once its eight children are and
+//! its own node is closed. `Within` of `proofs/` has this for anything that is said of a node and
+//! its group alone, and for whatever the pass keeps. The map with all its commands stands on this
+//! crate.
 #![tactic(auto)]
 
 mod likelihood;

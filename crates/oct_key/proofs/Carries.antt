@@ -1,5 +1,6 @@
 -- A number whose bits stand at every third place is counted up and down as it stands.
-use Rattle.std.proofs.Common.{◌≡◌, ℕ, zero, suc, ◌+◌, ◌-◌, ◌*◌, ◌/◌, ◌%◌, ◌^◌, ◌<◌, ◌≤◌, inl, inr, refl, sym, ◌∙◌, ap, arith, bit_and}
+use Rattle.std.proofs.Common.{◌≡◌, ℕ, zero, suc, ◌+◌, ◌-◌, ◌*◌, ◌/◌, ◌%◌, ◌^◌, ◌<◌, ◌≤◌, inl, inr}
+use Rattle.std.proofs.Common.{refl, sym, ◌∙◌, ap, arith, bit_and}
 use Rattle.std.proofs.Math.Nat.{pow-suc}
 use Rattle.std.proofs.lemmas.Nat.{and_block, and_le_r}
 use Rattle.std.proofs.lemmas.Bool.{cases_eq}
@@ -8,9 +9,10 @@ use Rattle.oct_key.specs.Voxel.{IsInMap}
 use Rattle.oct_key.specs.Morton.{interleaved, gathered, morton_of}
 use Rattle.oct_key.specs.Dilated.{dilated, IsDilated}
 use Rattle.oct_key.proofs.Spreads.{mask}
-use Rattle.oct_key.proofs.Interleavings.{interleaved_gathered, interleaved_injective, gathered_below, morton_of_sum}
+use Rattle.oct_key.proofs.Interleavings.{interleaved_gathered, interleaved_injective}
+use Rattle.oct_key.proofs.Interleavings.{gathered_below, morton_of_sum}
 
--- so many bits of a number, each at three times its place
+-- this many bits of a number, each at three times its place
 abbrev bits_of : ℕ → ℕ → ℕ
 bits_of n v = interleaved n v 0 0
 
@@ -19,14 +21,13 @@ unfoldable pub filler : ℕ → ℕ
 filler zero = 0
 filler (suc n) = 8 * filler n + 6
 
--- with the places of the bits they are all
-pub filled : (n : ℕ) → mask 2 n + filler n + 1 ≡ 8 ^ n
-unfolding mask filler
-filled zero = refl
-filled (suc n) = omega (arith, filled n, pow-suc 8 n)
-
-and_eight : (a b r s : ℕ) → r < 8 → s < 8 → bit_and (8 * a + r) (8 * b + s) ≡ 8 * bit_and a b + bit_and r s
-and_eight a b r s lr ls = (let e = and_block 3 a b r s lr ls in let f : 8 * a ≡ a * 8 = omega arith in let g : 8 * b ≡ b * 8 = omega arith in rw (f, g) (e ∙ omega arith))
+and_eight : (a b r s : ℕ) → r < 8 → s < 8
+    → bit_and (8 * a + r) (8 * b + s) ≡ 8 * bit_and a b + bit_and r s
+and_eight a b r s lr ls =
+    (let e = and_block 3 a b r s lr ls in
+    let f : 8 * a ≡ a * 8 = omega arith in
+    let g : 8 * b ≡ b * 8 = omega arith in
+    rw (f, g) (e ∙ omega arith))
 
 dilated_step : (n v : ℕ) → bits_of (suc n) v ≡ 8 * bits_of n (v / 2) + v % 2
 unfolding interleaved
@@ -54,24 +55,28 @@ digit_one (suc (suc (suc (suc (suc (suc (suc (suc d)))))))) l = absurd (omega (a
 
 carry_none : (v c : ℕ) → bit_and (bits_of 0 v + filler 0 + c) (mask 2 0) ≡ bits_of 0 (v + c)
 unfolding interleaved mask filler
-carry_none v c = (let e : 0 + 0 + c ≡ c = omega arith in ap (λ (a : ℕ). bit_and a 0) e ∙ and_zero_r c)
+carry_none v c =
+    (let e : 0 + 0 + c ≡ c = omega arith in ap (λ (a : ℕ). bit_and a 0) e ∙ and_zero_r c)
 
 masked_none : (v : ℕ) → bit_and (bits_of 0 v) (mask 2 0) ≡ bits_of 0 v
 unfolding interleaved mask
 masked_none v = and_zero_r 0
 
 -- an addition of one goes through the ones between
-pub carry_up : (n v c : ℕ) → c ≤ 1 → bit_and (bits_of n v + filler n + c) (mask 2 n) ≡ bits_of n (v + c)
+pub carry_up : (n v c : ℕ) → c ≤ 1
+    → bit_and (bits_of n v + filler n + c) (mask 2 n) ≡ bits_of n (v + c)
 carry_up zero v c l = carry_none v c
 carry_up (suc n) v c l =
     let d : ℕ = (6 + v % 2 + c) % 8 in
     let k : ℕ = (6 + v % 2 + c) / 8 in
-    let sum : bits_of (suc n) v + filler (suc n) + c ≡ 8 * (bits_of n (v / 2) + filler n + k) + d = omega (arith, dilated_step n v, filler_step n) in
+    let sum : bits_of (suc n) v + filler (suc n) + c ≡ 8 * (bits_of n (v / 2) + filler n + k) + d =
+    omega (arith, dilated_step n v, filler_step n) in
     let carried : (v + c) / 2 ≡ v / 2 + k = omega (arith, l) in
     let odd : d % 2 ≡ (v + c) % 2 = omega (arith, l) in
     let rest = carry_up n (v / 2) k (omega (arith, l)) in
     let small : d < 8 = omega arith in
-    ap (λ (a : ℕ). bit_and a (mask 2 (suc n))) sum ∙ ap (bit_and (8 * (bits_of n (v / 2) + filler n + k) + d)) (mask_step n)
+    ap (λ (a : ℕ). bit_and a (mask 2 (suc n))) sum
+    ∙ ap (bit_and (8 * (bits_of n (v / 2) + filler n + k) + d)) (mask_step n)
     ∙ and_eight (bits_of n (v / 2) + filler n + k) (mask 2 n) d 1 small (omega arith)
     ∙ omega (arith, rest, digit_one d small, odd, dilated_step n (v + c), ap (bits_of n) carried)
 
@@ -80,7 +85,8 @@ pub dilated_masked : (n v : ℕ) → bit_and (bits_of n v) (mask 2 n) ≡ bits_o
 dilated_masked zero v = masked_none v
 dilated_masked (suc n) v =
     let small : v % 2 < 8 = omega arith in
-    ap (λ (a : ℕ). bit_and a (mask 2 (suc n))) (dilated_step n v) ∙ ap (bit_and (8 * bits_of n (v / 2) + v % 2)) (mask_step n)
+    ap (λ (a : ℕ). bit_and a (mask 2 (suc n))) (dilated_step n v)
+    ∙ ap (bit_and (8 * bits_of n (v / 2) + v % 2)) (mask_step n)
     ∙ and_eight (bits_of n (v / 2)) (mask 2 n) (v % 2) 1 small (omega arith)
     ∙ omega (arith, dilated_masked n (v / 2), digit_one (v % 2) small, dilated_step n v)
 
@@ -88,31 +94,54 @@ dilated_masked (suc n) v =
 pub dilated_some : (n v : ℕ) → 0 < v → v < 2 ^ n → 0 < bits_of n v
 dilated_some zero v some l = absurd (omega (arith, some, l))
 dilated_some (suc n) v some l = elim (cases_eq (v % 2) 0) [
-  | inl even ↦ omega (arith, dilated_step n v, dilated_some n (v / 2) (omega (arith, some, even)) (omega (arith, l, pow-suc 2 n)))
+  | inl even ↦ omega (
+    arith,
+    dilated_step n v,
+    dilated_some n (v / 2) (omega (arith, some, even)) (omega (arith, l, pow-suc 2 n)),
+  )
   | inr odd ↦ omega (arith, dilated_step n v, odd)
 ]
 
 -- a subtraction of one goes through the zeros between
-pub borrow_down : (n v : ℕ) → 0 < v → v < 2 ^ n → bit_and (bits_of n v - 1) (mask 2 n) ≡ bits_of n (v - 1)
+pub borrow_down : (n v : ℕ) → 0 < v → v < 2 ^ n
+    → bit_and (bits_of n v - 1) (mask 2 n) ≡ bits_of n (v - 1)
 borrow_down zero v some l = absurd (omega (arith, some, l))
 borrow_down (suc n) v some l = elim (cases_eq (v % 2) 0) [
   | inl even ↦
       let more : 0 < v / 2 = omega (arith, some, even) in
       let less : v / 2 < 2 ^ n = omega (arith, l, pow-suc 2 n) in
       let bits = dilated_some n (v / 2) more less in
-      let sum : bits_of (suc n) v - 1 ≡ 8 * (bits_of n (v / 2) - 1) + 7 = omega (arith, dilated_step n v, even, bits) in
+      let sum : bits_of (suc n) v - 1 ≡ 8 * (bits_of n (v / 2) - 1) + 7 =
+      omega (arith, dilated_step n v, even, bits) in
       let half : (v - 1) / 2 ≡ v / 2 - 1 = omega (arith, some, even) in
       let odd : (v - 1) % 2 ≡ 1 = omega (arith, some, even) in
-      ap (λ (a : ℕ). bit_and a (mask 2 (suc n))) sum ∙ ap (bit_and (8 * (bits_of n (v / 2) - 1) + 7)) (mask_step n)
+      ap (λ (a : ℕ). bit_and a (mask 2 (suc n))) sum
+      ∙ ap (bit_and (8 * (bits_of n (v / 2) - 1) + 7)) (mask_step n)
       ∙ and_eight (bits_of n (v / 2) - 1) (mask 2 n) 7 1 (omega arith) (omega arith)
-      ∙ omega (arith, borrow_down n (v / 2) more less, digit_one 7 (omega arith), dilated_step n (v - 1), ap (bits_of n) half, odd)
+      ∙ omega (
+        arith,
+        borrow_down n (v / 2) more less,
+        digit_one 7 (omega arith),
+        dilated_step n (v - 1),
+        ap (bits_of n) half,
+        odd,
+      )
   | inr odd ↦
-      let sum : bits_of (suc n) v - 1 ≡ 8 * bits_of n (v / 2) + 0 = omega (arith, dilated_step n v, odd) in
+      let sum : bits_of (suc n) v - 1 ≡ 8 * bits_of n (v / 2) + 0 =
+      omega (arith, dilated_step n v, odd) in
       let half : (v - 1) / 2 ≡ v / 2 = omega (arith, odd) in
       let even : (v - 1) % 2 ≡ 0 = omega (arith, odd) in
-      ap (λ (a : ℕ). bit_and a (mask 2 (suc n))) sum ∙ ap (bit_and (8 * bits_of n (v / 2) + 0)) (mask_step n)
+      ap (λ (a : ℕ). bit_and a (mask 2 (suc n))) sum
+      ∙ ap (bit_and (8 * bits_of n (v / 2) + 0)) (mask_step n)
       ∙ and_eight (bits_of n (v / 2)) (mask 2 n) 0 1 (omega arith) (omega arith)
-      ∙ omega (arith, dilated_masked n (v / 2), digit_one 0 (omega arith), dilated_step n (v - 1), ap (bits_of n) half, even)
+      ∙ omega (
+        arith,
+        dilated_masked n (v / 2),
+        digit_one 0 (omega arith),
+        dilated_step n (v - 1),
+        ap (bits_of n) half,
+        even,
+      )
 ]
 
 -- the places of 16 bits, and ones between them with one more
@@ -126,7 +155,11 @@ filler_is = refl
 
 -- bits at every third place are no more than those places
 pub dilated_below : (v : ℕ) → dilated v < 2 ^ 46
-dilated_below v = (let e = dilated_masked 16 v in let l = and_le_r (dilated v) (mask 2 16) in let m = places_are in omega (arith, e, l, m))
+dilated_below v =
+    (let e = dilated_masked 16 v in
+    let l = and_le_r (dilated v) (mask 2 16) in
+    let m = places_are in
+    omega (arith, e, l, m))
 
 -- the bits are those of the number
 pub gathered_dilated : (v : ℕ) → v < 65536 → gathered 16 (dilated v) ≡ v
@@ -134,7 +167,8 @@ gathered_dilated v l =
     let m : ℕ = dilated v in
     let whole = interleaved_gathered 16 m (let b = dilated_below v in omega (arith, b)) in
     (interleaved_injective 16 (gathered 16 m) (gathered 16 (m / 2)) (gathered 16 (m / 4)) v 0 0
-    (gathered_below 16 m) (gathered_below 16 (m / 2)) (gathered_below 16 (m / 4)) l (omega arith) (omega arith) whole).0
+    (gathered_below 16 m) (gathered_below 16 (m / 2)) (gathered_below 16 (m / 4)) l (omega arith)
+    (omega arith) whole).0
 
 pub dilated_is : (bits v : ℕ) → bits ≡ dilated v → v < 65536 → gathered 16 bits ≡ v
 dilated_is bits v e l = ap (gathered 16) e ∙ gathered_dilated v l
@@ -146,25 +180,46 @@ pub dilated_fits : (bits : ℕ) → IsDilated bits → bits < 2 ^ 46
 dilated_fits bits h = (let l = dilated_below (gathered 16 bits) in omega (arith, h, l))
 
 -- the bits of the next number
-pub bits_after_is : (bits : ℕ) → IsDilated bits → bit_and (bits + 241264265751991) 40210710958665 ≡ dilated (gathered 16 bits + 1)
+pub bits_after_is : (bits : ℕ) → IsDilated bits
+    → bit_and (bits + 241264265751991) 40210710958665 ≡ dilated (gathered 16 bits + 1)
 bits_after_is bits h =
     let v : ℕ = gathered 16 bits in
     let sum : bits + 241264265751991 ≡ dilated v + filler 16 + 1 = omega (arith, h, filler_is) in
-    ap (λ (n : ℕ). bit_and n 40210710958665) sum ∙ ap (bit_and (dilated v + filler 16 + 1)) (sym places_are) ∙ carry_up 16 v 1 (omega arith)
+    ap (λ (n : ℕ). bit_and n 40210710958665) sum
+    ∙ ap (bit_and (dilated v + filler 16 + 1)) (sym places_are) ∙ carry_up 16 v 1 (omega arith)
 
 -- the number isn't 0 where it has a bit
 pub dilated_some_bit : (bits : ℕ) → IsDilated bits → 0 < gathered 16 bits → 0 < bits
-dilated_some_bit bits h some = (let l = dilated_some 16 (gathered 16 bits) some (gathered_below 16 bits) in omega (arith, h, l))
+dilated_some_bit bits h some =
+    (let l = dilated_some 16 (gathered 16 bits) some (gathered_below 16 bits) in
+    omega (arith, h, l))
 
 -- the bits of the number before
-pub bits_before_is : (bits : ℕ) → IsDilated bits → 0 < gathered 16 bits → bit_and (bits - 1) 40210710958665 ≡ dilated (gathered 16 bits - 1)
+pub bits_before_is : (bits : ℕ) → IsDilated bits → 0 < gathered 16 bits
+    → bit_and (bits - 1) 40210710958665 ≡ dilated (gathered 16 bits - 1)
 bits_before_is bits h some =
     let v : ℕ = gathered 16 bits in
-    ap (λ (n : ℕ). bit_and (n - 1) 40210710958665) h ∙ ap (bit_and (dilated v - 1)) (sym places_are) ∙ borrow_down 16 v some (gathered_below 16 bits)
+    ap (λ (n : ℕ). bit_and (n - 1) 40210710958665) h ∙ ap (bit_and (dilated v - 1)) (sym places_are)
+    ∙ borrow_down 16 v some (gathered_below 16 bits)
 
 -- three such numbers side by side are a code
-pub code_of_bits : (x y z : ℕ) → IsDilated x → IsDilated y → IsDilated z → x + y * 2 % 2 ^ 64 + z * 4 % 2 ^ 64 ≡ morton_of (record { x = gathered 16 x; y = gathered 16 y; z = gathered 16 z })
-code_of_bits x y z hx hy hz = morton_of_sum (record { x = gathered 16 x; y = gathered 16 y; z = gathered 16 z }) x y z hx hy hz (dilated_fits x hx) (dilated_fits y hy) (dilated_fits z hz)
+pub code_of_bits : (x y z : ℕ) → IsDilated x → IsDilated y → IsDilated z
+    → x + y * 2 % 2 ^ 64 + z * 4 % 2 ^ 64 ≡ morton_of (record {
+      x = gathered 16 x;
+      y = gathered 16 y;
+      z = gathered 16 z;
+    })
+code_of_bits x y z hx hy hz =
+    morton_of_sum (record { x = gathered 16 x; y = gathered 16 y; z = gathered 16 z }) x y z hx hy
+    hz (dilated_fits x hx) (dilated_fits y hy) (dilated_fits z hz)
 
-pub gathered_on_map : (x y z : ℕ) → IsInMap (record { x = gathered 16 x; y = gathered 16 y; z = gathered 16 z })
-gathered_on_map x y z = record { x = gathered_below 16 x; y = gathered_below 16 y; z = gathered_below 16 z }
+pub gathered_on_map : (x y z : ℕ) → IsInMap (record {
+  x = gathered 16 x;
+  y = gathered 16 y;
+  z = gathered 16 z;
+})
+gathered_on_map x y z = record {
+  x = gathered_below 16 x;
+  y = gathered_below 16 y;
+  z = gathered_below 16 z;
+}

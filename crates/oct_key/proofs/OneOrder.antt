@@ -1,5 +1,6 @@
 -- A list that rises is told by its members.
-use Rattle.std.proofs.Common.{◌≡◌, zero, suc, List, [], ◌∷◌, inl, inr, refl, sym, ap, subst, ◌∙◌, arith}
+use Rattle.std.proofs.Common.{◌≡◌, zero, suc, List, [], ◌∷◌, inl, inr, refl, sym, ap, subst, ◌∙◌}
+use Rattle.std.proofs.Common.{arith}
 use Rattle.std.specs.Prelude.{◌⊎◌}
 use Rattle.std.specs.List.{AllByRecursion, Contains}
 use Rattle.std.proofs.lemmas.List.Elements.{All-contains, All-from_recursion}
@@ -44,19 +45,25 @@ one_order {X = X} Below Rises one_way step (x ∷ xs) (y ∷ ys) hx hy f g =
 
     to : x ≡ y → (z : X) → Contains xs z → Contains ys z
     to e z there = elim (split y ys z (f z (on_rest x xs z there))) [
-      | inl is ↦ absurd (not_self x (subst (Below x) (sym (e ∙ is)) (above x xs z (step x xs hx).0 there)))
+      | inl is ↦
+          absurd (not_self x (subst (Below x) (sym (e ∙ is)) (above x xs z (step x xs hx).0 there)))
       | inr h ↦ h
     ]
 
     from : x ≡ y → (z : X) → Contains ys z → Contains xs z
     from e z there = elim (split x xs z (g z (on_rest y ys z there))) [
-      | inl is ↦ absurd (not_self y (subst (Below y) (sym (sym e ∙ is)) (above y ys z (step y ys hy).0 there)))
+      | inl is ↦
+          absurd (not_self y (subst (Below y) (sym (sym e ∙ is))
+          (above y ys z (step y ys hy).0 there)))
       | inr h ↦ h
     ]
 
-    heads : (((z : X) → Contains xs z → Contains ys z) → ((z : X) → Contains ys z → Contains xs z) → xs ≡ ys)
+    heads :
+        (((z : X) → Contains xs z → Contains ys z) → ((z : X) → Contains ys z → Contains xs z)
+        → xs ≡ ys)
         → (y ≡ x) ⊎ Contains ys x → (x ≡ y) ⊎ Contains xs y → x ∷ xs ≡ y ∷ ys
     heads again (inl e) other = same (sym e) xs ys (again (to (sym e)) (from (sym e)))
     heads again (inr here) (inl e) = same e xs ys (again (to e) (from e))
     heads again (inr here) (inr there) =
-        absurd (one_way x y (above x xs y (step x xs hx).0 there) (above y ys x (step y ys hy).0 here))
+        absurd (one_way x y (above x xs y (step x xs hx).0 there)
+        (above y ys x (step y ys hy).0 here))

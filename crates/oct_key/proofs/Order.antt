@@ -34,7 +34,8 @@ less_reversed Greater h = refl
 
 -- of two voxels at most one is below the other
 pub one_way : (a b : Voxel) → key_cmp a b ≡ Less → key_cmp b a ≡ Less → ⊥
-one_way a b f g = clash (sym (less_reversed (key_cmp b a) (sym (key_cmp_total.antisymm a b) ∙ f)) ∙ g)
+one_way a b f g =
+    clash (sym (less_reversed (key_cmp b a) (sym (key_cmp_total.antisymm a b) ∙ f)) ∙ g)
   where
     clash : Greater ≡ Less → ⊥
     clash e = cc

@@ -1,5 +1,6 @@
 -- Triples of numbers stand in their order, each that there is, and no other.
-use Rattle.std.proofs.Common.{◌≡◌, ℕ, zero, suc, ◌+◌, ◌<◌, ◌≤◌, List, [], ◌∷◌, ◌++◌, map, inl, inr, refl, subst, arith}
+use Rattle.std.proofs.Common.{◌≡◌, ℕ, zero, suc, ◌+◌, ◌<◌, ◌≤◌, List, [], ◌∷◌, ◌++◌, map, inl, inr}
+use Rattle.std.proofs.Common.{refl, subst, arith}
 use Rattle.std.specs.List.{AllByRecursion, Contains, flat_map}
 use Rattle.std.specs.List.Sorted.{IsStrictlySortedBy}
 use Rattle.std.specs.declared.cmp.Ordering.{Ordering}
@@ -12,7 +13,8 @@ use Rattle.oct_key.proofs.OneOrder.{on_first, on_rest}
 use Rattle.oct_key.proofs.Order.{below_by_x, below_by_y, below_by_z}
 
 -- what holds of two lists holds of both joined
-all_joined : {X : Type 0} (P : X → Type 0) (xs ys : List X) → AllByRecursion P xs → AllByRecursion P ys
+all_joined : {X : Type 0} (P : X → Type 0) (xs ys : List X) → AllByRecursion P xs
+    → AllByRecursion P ys
     → AllByRecursion P (xs ++ ys)
 all_joined P [] ys h g = g
 all_joined P (x ∷ xs) ys h g = (h.0, all_joined P xs ys h.1 g)
@@ -24,15 +26,19 @@ all_of_each : {X : Type 0} (P : X → Type 0) (f : ℕ → List X) (first count 
 unfolding numbers_from
 all_of_each P f first zero h = tt
 all_of_each P f first (suc count) h =
-    all_joined P (f first) (flat_map f (numbers_from (first + 1) count)) (h first (omega arith) (omega arith))
+    all_joined P (f first) (flat_map f (numbers_from (first + 1) count))
+    (h first (omega arith) (omega arith))
     (all_of_each P f (first + 1) count (λ n l m. h n (omega arith) (omega arith)))
 
 all_of_row : {X : Type 0} (P : X → Type 0) (f : ℕ → X) (first count : ℕ)
-    → ((n : ℕ) → first ≤ n → n < first + count → P (f n)) → AllByRecursion P (map f (numbers_from first count))
+    → ((n : ℕ) → first ≤ n → n < first + count → P (f n))
+    → AllByRecursion P (map f (numbers_from first count))
 unfolding numbers_from
 all_of_row P f first zero h = tt
-all_of_row P f first (suc count) h =
-    (h first (omega arith) (omega arith), all_of_row P f (first + 1) count (λ n l m. h n (omega arith) (omega arith)))
+all_of_row P f first (suc count) h = (
+  h first (omega arith) (omega arith),
+  all_of_row P f (first + 1) count (λ n l m. h n (omega arith) (omega arith)),
+)
 
 -- what they give is in order, where each gives a list in order, below what later ones give
 sorted_joined : {X : Type 0} (cmp : X → X → Ordering) (xs ys : List X) → IsStrictlySortedBy cmp xs
@@ -44,11 +50,13 @@ sorted_joined cmp (x ∷ xs) ys h g cross =
     (all_joined (λ y. cmp x y ≡ Less) xs ys h.0 cross.0, sorted_joined cmp xs ys h.1 g cross.1)
 
 turned : {X Y : Type 0} (R : X → Y → Type 0) (xs : List X) (ys : List Y)
-    → AllByRecursion (λ y. AllByRecursion (λ x. R x y) xs) ys → AllByRecursion (λ x. AllByRecursion (R x) ys) xs
+    → AllByRecursion (λ y. AllByRecursion (λ x. R x y) xs) ys
+    → AllByRecursion (λ x. AllByRecursion (R x) ys) xs
 turned R [] ys h = tt
 turned {Y = Y} R (x ∷ xs) ys h = (firsts ys h, turned R xs ys (rests ys h))
   where
-    firsts : (ys : List Y) → AllByRecursion (λ y. R x y × AllByRecursion (λ x. R x y) xs) ys → AllByRecursion (R x) ys
+    firsts : (ys : List Y) → AllByRecursion (λ y. R x y × AllByRecursion (λ x. R x y) xs) ys
+        → AllByRecursion (R x) ys
     firsts [] h = tt
     firsts (y ∷ ys) h = (h.0.0, firsts ys h.1)
 
@@ -67,10 +75,12 @@ sorted_each cmp f first (suc count) each cross =
     sorted_joined cmp (f first) (flat_map f (numbers_from (first + 1) count)) (each first)
     (sorted_each cmp f (first + 1) count each cross)
     (turned (λ x y. cmp x y ≡ Less) (f first) (flat_map f (numbers_from (first + 1) count))
-    (all_of_each (λ y. AllByRecursion (λ x. cmp x y ≡ Less) (f first)) f (first + 1) count (λ n l m. cross first n (omega arith))))
+    (all_of_each (λ y. AllByRecursion (λ x. cmp x y ≡ Less) (f first)) f (first + 1) count
+    (λ n l m. cross first n (omega arith))))
 
 sorted_row : {X : Type 0} (cmp : X → X → Ordering) (f : ℕ → X) (first count : ℕ)
-    → ((m n : ℕ) → m < n → cmp (f m) (f n) ≡ Less) → IsStrictlySortedBy cmp (map f (numbers_from first count))
+    → ((m n : ℕ) → m < n → cmp (f m) (f n) ≡ Less)
+    → IsStrictlySortedBy cmp (map f (numbers_from first count))
 unfolding numbers_from IsStrictlySortedBy
 sorted_row cmp f first zero h = tt
 sorted_row cmp f first (suc count) h = (
@@ -104,10 +114,11 @@ in_row f first (suc count) n l m = elim (cases_eq first n) [
       (in_row f (first + 1) count n (omega arith) (omega arith))
 ]
 
--- the triples of numbers from these three on, so many of each
+-- the triples of numbers from these three on, this many of each
 abbrev pub triples_from : Voxel → Voxel → List Voxel
 triples_from first count =
-    triples_of (numbers_from first.x count.x) (numbers_from first.y count.y) (numbers_from first.z count.z)
+    triples_of (numbers_from first.x count.x) (numbers_from first.y count.y)
+    (numbers_from first.z count.z)
 
 -- a triple is one of them
 pub record IsAmong (first count n : Voxel) : Type 0 where
@@ -141,16 +152,22 @@ triples_sorted first count =
     (λ x. sorted_each key_cmp (row first count x) first.y count.y
     (λ y. sorted_row key_cmp (voxel x y) first.z count.z
     (λ m n l. below_by_z (voxel x y m) (voxel x y n) refl refl l))
-    (λ m n l. all_of_row (λ v. AllByRecursion (λ u. key_cmp u v ≡ Less) (row first count x m)) (voxel x n) first.z count.z
+    (λ m n l. all_of_row (λ v. AllByRecursion (λ u. key_cmp u v ≡ Less) (row first count x m))
+    (voxel x n) first.z count.z
     (λ b j k. all_of_row (λ u. key_cmp u (voxel x n b) ≡ Less) (voxel x m) first.z count.z
     (λ a j' k'. below_by_y (voxel x m a) (voxel x n b) refl l))))
-    (λ m n l. all_of_each (λ v. AllByRecursion (λ u. key_cmp u v ≡ Less) (plane first count m)) (row first count n) first.y count.y
-    (λ c j k. all_of_row (λ v. AllByRecursion (λ u. key_cmp u v ≡ Less) (plane first count m)) (voxel n c) first.z count.z
-    (λ d j' k'. all_of_each (λ u. key_cmp u (voxel n c d) ≡ Less) (row first count m) first.y count.y
-    (λ a i o. all_of_row (λ u. key_cmp u (voxel n c d) ≡ Less) (voxel m a) first.z count.z
+    (λ m n l. all_of_each (λ v. AllByRecursion (λ u. key_cmp u v ≡ Less) (plane first count m))
+    (row first count n) first.y count.y
+    (λ c j k. all_of_row (λ v. AllByRecursion (λ u. key_cmp u v ≡ Less) (plane first count m))
+    (voxel n c) first.z count.z
+    (λ d j' k'. all_of_each (λ u. key_cmp u (voxel n c d) ≡ Less) (row first count m)
+    first.y count.y
+    (λ a i o. all_of_row (λ u. key_cmp u (voxel n c d) ≡ Less) (voxel m a) first.z
+    count.z
     (λ b i' o'. below_by_x (voxel m a b) (voxel n c d) l)))))
 
-pub in_triples : (first count n : Voxel) → IsAmong first count n → Contains (triples_from first count) n
+pub in_triples : (first count n : Voxel) → IsAmong first count n
+    → Contains (triples_from first count) n
 unfolding triples_of
 in_triples first count n h =
     in_each (plane first count) first.x count.x n.x n h.x.0 h.x.1

@@ -14,7 +14,7 @@ interleaved (suc bits) x y z = x % 2 + 2 * (y % 2) + 4 * (z % 2)
 unfoldable pub morton_of : Voxel → ℕ
 morton_of k = interleaved 16 k.x k.y k.z
 
--- the leading bits of a code, three for each of so many levels: what the codes of the voxels of a
+-- the leading bits of a code, three for each of this many levels: what the codes of the voxels of a
 -- block of this depth have in common
 abbrev pub code_prefix : ℕ → ℕ → ℕ
 code_prefix depth code = code / 2 ^ (3 * (16 - depth))

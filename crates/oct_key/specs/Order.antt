@@ -10,7 +10,7 @@ use Rattle.oct_key.specs.Block.{Cube}
 abbrev pub key_cmp : Voxel → Voxel → Ordering
 key_cmp a b = ordering_then (nat_cmp a.x b.x) (ordering_then (nat_cmp a.y b.y) (nat_cmp a.z b.z))
 
--- so many numbers, one after another from the first on
+-- this many numbers, one after another from the first on
 unfoldable pub numbers_from : ℕ → ℕ → List ℕ
 numbers_from first zero = []
 numbers_from first (suc count) = first ∷ numbers_from (first + 1) count
@@ -32,10 +32,11 @@ voxels_in_order = triples_below 65536
 abbrev pub block_numbered : ℕ → Voxel → Cube
 block_numbered depth n = record { depth = depth; x = n.x; y = n.y; z = n.z }
 
--- the numbers of a block on the axes, and the order of blocks: by x, then by y, then by z
+-- the numbers of a block on the axes
 abbrev pub numbers_of : Cube → Voxel
 numbers_of b = record { x = b.x; y = b.y; z = b.z }
 
+-- the order of blocks: by x, then by y, then by z
 abbrev pub block_cmp : Cube → Cube → Ordering
 block_cmp b c = key_cmp (numbers_of b) (numbers_of c)
 

@@ -67,7 +67,7 @@ pub fn morton_of_axes(x: &Dilated, y: &Dilated, z: &Dilated) -> u64
     x.bits + (y.bits << 1) + (z.bits << 2)
 }
 
-/// The bits of the next number; behind the last one those of 0.
+/// The bits of the next number; after the last one those of 0.
 fn bits_after(bits: u64) -> u64
     requires { IsDilated bits }
     ensures { result ≡ dilated (gathered 16 bits + 1) }

@@ -1,10 +1,11 @@
 -- The groups that a merge may take, counted at their homes.
-use Rattle.std.proofs.Common.{◌≡◌, ℕ, zero, suc, ◌<◌, ◌≤◌, Bool, true, false, cond, [], ◌∷◌, Some, None, refl, sym, ◌∙◌, ap, arith}
+use Rattle.std.proofs.Common.{◌≡◌, ℕ, zero, suc, ◌<◌, ◌≤◌, Bool, true, false, cond, [], ◌∷◌, Some}
+use Rattle.std.proofs.Common.{None, refl, sym, ◌∙◌, ap, arith}
 use Rattle.std.specs.Prelude.{Option, ◌&&◌, not, is_some, length}
 use Rattle.std.proofs.lemmas.List.Elements.{All-from_get_or}
 use Rattle.std.proofs.lemmas.List.Folds.{list_any_at, list_any_none}
-use Rattle.oct_key.specs.Block.{Cube, IsBlock, lowest_voxel, root_block, is_same_block}
-use Rattle.oct_key.proofs.Blocks.{lowest_held, lowest_in_map, block_of_held, is_same_block_exact, is_same_block_refl}
+use Rattle.oct_key.specs.Block.{Cube, IsBlock, lowest_voxel, root_block}
+use Rattle.oct_key.proofs.Blocks.{lowest_held, lowest_in_map, block_of_held}
 use Rattle.oct_values.specs.Blocks.{blocks_above_voxels}
 use Rattle.oct_values.proofs.Listed.{all_above_voxels}
 use Rattle.oct_values.proofs.Sums.{All-follows, sum_by-same, sum_by-each_le}
@@ -13,23 +14,9 @@ use Rattle.oct_arena.specs.Entries.{Groups, entry, home_of, home_at, live}
 use Rattle.oct_arena.specs.Nodes.{link_of}
 use Rattle.oct_tree.specs.Tree.{Tree, IsLinked, reach}
 use Rattle.oct_tree.proofs.Paths.{some_injective, some_not_none, reach_home, same_home}
-use Rattle.oct_query.proofs.Homes.{at_home, no_home, one_home, by_homes}
+use Rattle.oct_query.proofs.Homes.{home_passes, home_fails, at_home, no_home, one_home, by_homes}
 use Rattle.oct_merge.specs.Need.{has_home, is_home, is_missing, merge_need}
 use Rattle.oct_merge.specs.Walk.{is_split, is_needed, need_in}
-
--- a home is told by the test
-home_passes : (b : Cube) (e : Option Group) → home_of e ≡ Some b → has_home b e ≡ true
-home_passes b None h = cc
-home_passes b (Some g) h =
-    let is : g.home ≡ b = some_injective h in ap (is_same_block g.home) (sym is) ∙ is_same_block_refl g.home
-
-home_fails : (b : Cube) (e : Option Group) → (home_of e ≡ Some b → ⊥) → has_home b e ≡ false
-home_fails b None h = refl
-home_fails b (Some g) h = by_test (is_same_block g.home b) refl
-  where
-    by_test : (same : Bool) → is_same_block g.home b ≡ same → is_same_block g.home b ≡ false
-    by_test true e = absurd (h (ap Some (is_same_block_exact g.home b e)))
-    by_test false e = e
 
 -- a group stands within the list
 in_range : (gs : Groups) (x : ℕ) (b : Cube) → home_at gs x ≡ Some b → x < length gs
@@ -39,11 +26,16 @@ in_range (e ∷ gs) (suc x) b h = (let rest = in_range gs x b h in omega (arith,
 
 home_there : (gs : Groups) (x : ℕ) (b : Cube) → home_at gs x ≡ Some b → is_home gs b ≡ true
 unfolding is_home
-home_there gs x b h = list_any_at (has_home b) gs x None (in_range gs x b h) (home_passes b (entry gs x) h)
+home_there gs x b h =
+    list_any_at (has_home b) gs x None (in_range gs x b h) (home_passes b (entry gs x) h)
 
-home_nowhere : (gs : Groups) (b : Cube) → ((x : ℕ) → home_at gs x ≡ Some b → ⊥) → is_home gs b ≡ false
+home_nowhere : (gs : Groups) (b : Cube) → ((x : ℕ) → home_at gs x ≡ Some b → ⊥)
+    → is_home gs b ≡ false
 unfolding is_home
-home_nowhere gs b h = list_any_none (has_home b) gs (All-from_get_or (λ e. has_home b e ≡ false) gs None (λ x l. home_fails b (entry gs x) (h x)))
+home_nowhere gs b h =
+    list_any_none (has_home b) gs
+    (All-from_get_or (λ e. has_home b e ≡ false) gs None
+    (λ x l. home_fails b (entry gs x) (h x)))
 
 -- the node over a block links a group, or it links none and the block is no home
 data AtBlock (t : Tree) (b : Cube) : Type 0 where
@@ -54,9 +46,13 @@ at_block : (t : Tree) (b : Cube) → IsLinked t → IsBlock b → AtBlock t b
 at_block t b l ok = go (link_of (reach t b.depth (lowest_voxel b))) refl
   where
     go : (o : Option ℕ) → link_of (reach t b.depth (lowest_voxel b)) ≡ o → AtBlock t b
-    go None e = plain_at (ap is_some e) (λ x home. some_not_none (l.reached x b home (lowest_voxel b) (lowest_in_map b ok) (lowest_held b)) e)
+    go None e =
+        plain_at (ap is_some e)
+        (λ x home. some_not_none
+        (l.reached x b home (lowest_voxel b) (lowest_in_map b ok) (lowest_held b)) e)
     go (Some x) e = split_at x (ap is_some e)
-        (reach_home t (lowest_voxel b) l (lowest_in_map b ok) b.depth x e ok.depth ∙ ap Some (block_of_held b (lowest_voxel b) (lowest_held b)))
+        (reach_home t (lowest_voxel b) l (lowest_in_map b ok) b.depth x e ok.depth
+        ∙ ap Some (block_of_held b (lowest_voxel b) (lowest_held b)))
 
 -- the two tests are one
 home_is_split : (t : Tree) (b : Cube) → IsLinked t → IsBlock b → is_home t.groups b ≡ is_split t b
@@ -69,27 +65,37 @@ home_is_split t b l ok = elim (at_block t b l ok) [
 abbrev counts_at : Tree → Option Group → ℕ
 counts_at t e = cond (is_missing t.groups e) 1 0
 
-missing_at : (t : Tree) (e : Option Group) (b : Cube) → home_of e ≡ Some b → is_missing t.groups e ≡ not (is_home t.groups b)
+missing_at : (t : Tree) (e : Option Group) (b : Cube) → home_of e ≡ Some b
+    → is_missing t.groups e ≡ not (is_home t.groups b)
 missing_at t None b h = cc
 missing_at t (Some g) b h = ap (λ c. not (is_home t.groups c)) (some_injective h)
 
-needed_at : (t o : Tree) (b : Cube) → IsLinked t → IsLinked o → IsBlock b → at_home (counts_at t) o.groups b ≡ cond {A = ℕ} (is_needed t o b) 1 0
+needed_at : (t o : Tree) (b : Cube) → IsLinked t → IsLinked o → IsBlock b
+    → at_home (counts_at t) o.groups b ≡ cond {A = ℕ} (is_needed t o b) 1 0
 needed_at t o b l lo ok = elim (at_block o b lo ok) [
-  | split_at x test home ↦ one_home (counts_at t) b o.groups x home (λ y there. same_home o lo y x b there home)
-      ∙ ap (λ a. cond {A = ℕ} a 1 0) (missing_at t (entry o.groups x) b home ∙ ap not (home_is_split t b l ok) ∙ ap (λ a. a && not (is_split t b)) (sym test))
-  | plain_at test none ↦ no_home (counts_at t) b o.groups none ∙ ap (λ a. cond {A = ℕ} (a && not (is_split t b)) 1 0) (sym test)
+  | split_at x test home ↦ one_home (counts_at t) b o.groups x home
+      (λ y there. same_home o lo y x b there home)
+      ∙ ap (λ a. cond {A = ℕ} a 1 0)
+      (missing_at t (entry o.groups x) b home ∙ ap not (home_is_split t b l ok)
+      ∙ ap (λ a. a && not (is_split t b)) (sym test))
+  | plain_at test none ↦ no_home (counts_at t) b o.groups none
+      ∙ ap (λ a. cond {A = ℕ} (a && not (is_split t b)) 1 0) (sym test)
 ]
 
 -- block by block, the groups that are missing are those that are needed
-pub need_by_blocks : (t o : Tree) → IsLinked t → IsLinked o → merge_need t o ≡ need_in t o root_block
+pub need_by_blocks : (t o : Tree) → IsLinked t → IsLinked o
+    → merge_need t o ≡ need_in t o root_block
 unfolding merge_need
 need_by_blocks t o l lo =
     sym (by_homes (counts_at t) refl o.groups lo.homes)
-    ∙ sum_by-same (at_home (counts_at t) o.groups) (λ b. cond {A = ℕ} (is_needed t o b) 1 0) blocks_above_voxels
-    (All-follows (λ b. IsBlock b × (b.depth ≤ 15)) (λ b. at_home (counts_at t) o.groups b ≡ cond {A = ℕ} (is_needed t o b) 1 0) blocks_above_voxels
+    ∙ sum_by-same (at_home (counts_at t) o.groups) (λ b. cond {A = ℕ} (is_needed t o b) 1 0)
+    blocks_above_voxels
+    (All-follows (λ b. IsBlock b × (b.depth ≤ 15))
+    (λ b. at_home (counts_at t) o.groups b ≡ cond {A = ℕ} (is_needed t o b) 1 0) blocks_above_voxels
     (λ b at. needed_at t o b l lo at.0) all_above_voxels)
 
-missing_live : (gs : Groups) (e : Option Group) → cond {A = ℕ} (is_missing gs e) 1 0 ≤ cond {A = ℕ} (is_some e) 1 0
+missing_live : (gs : Groups) (e : Option Group)
+    → cond {A = ℕ} (is_missing gs e) 1 0 ≤ cond {A = ℕ} (is_some e) 1 0
 missing_live gs None = omega arith
 missing_live gs (Some g) = by_test (is_home gs g.home)
   where
@@ -100,5 +106,8 @@ missing_live gs (Some g) = by_test (is_home gs g.home)
 -- they are groups of the second tree
 pub need_few : (t o : Tree) → merge_need t o ≤ live o.groups
 unfolding merge_need
-need_few t o = sum_by-each_le (λ e. cond {A = ℕ} (is_missing t.groups e) 1 0) (λ e. cond {A = ℕ} (is_some e) 1 0) o.groups
-    (All-from_get_or (λ e. cond {A = ℕ} (is_missing t.groups e) 1 0 ≤ cond {A = ℕ} (is_some e) 1 0) o.groups None (λ x l. missing_live t.groups (entry o.groups x)))
+need_few t o =
+    sum_by-each_le (λ e. cond {A = ℕ} (is_missing t.groups e) 1 0)
+    (λ e. cond {A = ℕ} (is_some e) 1 0) o.groups
+    (All-from_get_or (λ e. cond {A = ℕ} (is_missing t.groups e) 1 0 ≤ cond {A = ℕ} (is_some e) 1 0)
+    o.groups None (λ x l. missing_live t.groups (entry o.groups x)))

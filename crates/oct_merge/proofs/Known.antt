@@ -1,5 +1,6 @@
 -- The node over a block, and what it says of the block's voxels.
-use Rattle.std.proofs.Common.{◌≡◌, ℕ, zero, suc, ◌+◌, ◌-◌, ◌<◌, ◌≤◌, Some, refl, sym, ◌∙◌, ap, subst, arith}
+use Rattle.std.proofs.Common.{◌≡◌, ℕ, zero, suc, ◌+◌, ◌-◌, ◌<◌, ◌≤◌, Some, refl, sym, ◌∙◌, ap}
+use Rattle.std.proofs.Common.{subst, arith}
 use Rattle.std.specs.Prelude.{is_some}
 use Rattle.oct_key.specs.Block.{Cube, IsBlock, child_of, child_index_of, lowest_voxel, root_block}
 use Rattle.oct_key.proofs.Blocks.{depth_child_of, child_in_map, child_holds, lowest_held}
@@ -18,47 +19,65 @@ use Rattle.oct_tree.proofs.Over.{over_child, over_value, over_home}
 use Rattle.oct_merge.specs.Walk.{IsOver}
 
 -- from a block to its children
-pub over_step : (t : Tree) (b : Cube) (n : Node) (i : ℕ) → b.depth < 16 → i < 8 → IsOver t b n → IsOver t (child_of b i) (step t.groups n i)
+pub over_step : (t : Tree) (b : Cube) (n : Node) (i : ℕ) → b.depth < 16 → i < 8 → IsOver t b n
+    → IsOver t (child_of b i) (step t.groups n i)
 over_step t b n i low li over k held =
     ap (λ d. reach t d k) (depth_child_of b i) ∙ reach_suc t b.depth k
-    ∙ ap (λ m. step t.groups m (child_index_of b.depth k)) (over k (held_by_parent b i k low li held))
+    ∙ ap (λ m. step t.groups m (child_index_of b.depth k))
+    (over k (held_by_parent b i k low li held))
     ∙ ap (step t.groups n) ((child_holds b i k low li).0 held).1
 
 -- the same, for a block and a node that are known to be these
-pub over_next : (t : Tree) (b c : Cube) (n m : Node) (i : ℕ) → b.depth ≤ 15 → i < 8 → c ≡ child_of b i → m ≡ step t.groups n i → IsOver t b n → IsOver t c m
+pub over_next : (t : Tree) (b c : Cube) (n m : Node) (i : ℕ) → b.depth ≤ 15 → i < 8
+    → c ≡ child_of b i → m ≡ step t.groups n i → IsOver t b n → IsOver t c m
 over_next t b c n m i low li block node over =
-    subst (IsOver t c) (sym node) (subst (λ a. IsOver t a (step t.groups n i)) (sym block) (over_step t b n i (omega (arith, low)) li over))
+    subst (IsOver t c) (sym node)
+    (subst (λ a. IsOver t a (step t.groups n i)) (sym block)
+    (over_step t b n i (omega (arith, low)) li over))
 
 -- at the root
 pub over_root : (t : Tree) → IsOver t root_block t.root
 over_root t k held = reach_zero t k
 
 -- at a place
-pub over_place : (t : Tree) (p : Place) (b : Cube) → IsLinked t → IsPlace t p → block_in t p ≡ Some b → IsBlock b → IsOver t b (node_in t p)
-over_place t p b l ok e in_map k held = place_reached t l p ok b e k (held_in_map b k in_map held) held
+pub over_place : (t : Tree) (p : Place) (b : Cube) → IsLinked t → IsPlace t p
+    → block_in t p ≡ Some b → IsBlock b → IsOver t b (node_in t p)
+over_place t p b l ok e in_map k held =
+    place_reached t l p ok b e k (held_in_map b k in_map held) held
 
 -- the group that it links is live
-pub over_live : (t : Tree) (b : Cube) (n : Node) → IsLinked t → IsBlock b → IsOver t b n → (x : ℕ) → link_of n ≡ Some x → IsLive t.groups x
-over_live t b n l ok over x link = homed_entry (entry t.groups x) b (over_home t b n x l ok over link)
+pub over_live : (t : Tree) (b : Cube) (n : Node) → IsLinked t → IsBlock b → IsOver t b n → (x : ℕ)
+    → link_of n ≡ Some x → IsLive t.groups x
+over_live t b n l ok over x link =
+    homed_entry (entry t.groups x) b (over_home t b n x l ok over link)
 
 -- and no voxel's
-pub over_low : (t : Tree) (b : Cube) (n : Node) (x : ℕ) → IsLinked t → IsBlock b → IsOver t b n → link_of n ≡ Some x → b.depth ≤ 15
+pub over_low : (t : Tree) (b : Cube) (n : Node) (x : ℕ) → IsLinked t → IsBlock b → IsOver t b n
+    → link_of n ≡ Some x → b.depth ≤ 15
 over_low t b n x l ok over link = (l.homes x b (over_home t b n x l ok over link)).1
 
 -- where it isn't absent, a well-formed tree knows a voxel of the block
-known_at : (t : Tree) → IsWellFormed t → (h : ℕ) (b : Cube) (n : Node) → b.depth + h ≡ 16 → IsBlock b → IsOver t b n → (n ≡ Absent → ⊥) → IsKnownIn (value_at t) b
+known_at : (t : Tree) → IsWellFormed t → (h : ℕ) (b : Cube) (n : Node) → b.depth + h ≡ 16
+    → IsBlock b → IsOver t b n → (n ≡ Absent → ⊥) → IsKnownIn (value_at t) b
 known_at t w h b Absent d ok over there = absurd (there refl)
-known_at t w h b (Leaf v) d ok over there =
-    (lowest_voxel b, lowest_held b, ap is_some (over_value t b (Leaf v) ok.depth over refl (lowest_voxel b) (lowest_held b)))
+known_at t w h b (Leaf v) d ok over there = (
+  lowest_voxel b,
+  lowest_held b,
+  ap is_some (over_value t b (Leaf v) ok.depth over refl (lowest_voxel b) (lowest_held b)),
+)
 known_at t w zero b (Inner v id) d ok over there =
-    (let low = over_low t b (Inner v id) id.number w.linked ok over refl in absurd (omega (arith, low, d)))
+    (let low = over_low t b (Inner v id) id.number w.linked ok over refl in
+    absurd (omega (arith, low, d)))
 known_at t w (suc h) b (Inner v id) d ok over there =
     let home = over_home t b (Inner v id) id.number w.linked ok over refl in
     let low = (w.linked.homes id.number b home).1 in
     let (i, li, some) = w.known id.number (homed_entry _ b home) in
     known_above (value_at t) b i low li
-    (known_at t w h (child_of b i) (node_at t.groups id.number i) (child_depths b h i d) (child_in_map b i ok (omega (arith, low)))
+    (known_at t w h (child_of b i) (node_at t.groups id.number i) (child_depths b h i d)
+    (child_in_map b i ok (omega (arith, low)))
     (over_child t b (Inner v id) id.number i low li over refl) some)
 
-pub over_known : (t : Tree) → IsWellFormed t → (b : Cube) (n : Node) → IsBlock b → IsOver t b n → (n ≡ Absent → ⊥) → IsKnownIn (value_at t) b
-over_known t w b n ok over there = (let top = ok.depth in known_at t w (16 - b.depth) b n (omega (arith, top)) ok over there)
+pub over_known : (t : Tree) → IsWellFormed t → (b : Cube) (n : Node) → IsBlock b → IsOver t b n
+    → (n ≡ Absent → ⊥) → IsKnownIn (value_at t) b
+over_known t w b n ok over there =
+    (let top = ok.depth in known_at t w (16 - b.depth) b n (omega (arith, top)) ok over there)

@@ -1,10 +1,12 @@
 -- How many groups a merge may take in a block: itself, and in its children.
-use Rattle.std.proofs.Common.{◌≡◌, ℕ, zero, suc, ◌+◌, ◌-◌, ◌*◌, ◌<◌, ◌≤◌, Bool, true, false, cond, inl, inr, Some, None, refl, sym, ◌∙◌, ap, subst, arith}
+use Rattle.std.proofs.Common.{◌≡◌, ℕ, zero, suc, ◌+◌, ◌-◌, ◌*◌, ◌<◌, ◌≤◌, Bool, true, false, cond}
+use Rattle.std.proofs.Common.{inl, inr, Some, None, refl, sym, ◌∙◌, ap, subst, arith}
 use Rattle.std.specs.Prelude.{Option, ◌&&◌, ◌↔◌, IsTrue, not, is_some, sum_by, count_by}
 use Rattle.std.proofs.lemmas.Bool.{false≢true}
 use Rattle.oct_key.specs.Voxel.{Voxel, IsInMap}
 use Rattle.oct_key.specs.Block.{Cube, IsBlock, HoldsVoxel, block_of, child_of, lowest_voxel}
-use Rattle.oct_key.proofs.Blocks.{depth_block_of, depth_child_of, child_in_map, lowest_held, lowest_in_map, block_of_holds}
+use Rattle.oct_key.proofs.Blocks.{depth_block_of, depth_child_of, child_in_map, lowest_held}
+use Rattle.oct_key.proofs.Blocks.{lowest_in_map, block_of_holds}
 use Rattle.oct_key.proofs.Held.{held_by_parent, child_depths}
 use Rattle.oct_values.specs.Blocks.{blocks_below}
 use Rattle.oct_values.proofs.Axes.{sum_below, sum_below_none, sum_below_next}
@@ -26,16 +28,25 @@ pub needed_by_nodes : (t o : Tree) (b : Cube) (m n : Node) → IsOver t b m → 
     → is_needed t o b ≡ (is_some (link_of n) && not (is_some (link_of m)))
 needed_by_nodes t o b m n here there =
     ap (λ x. is_some (link_of x) && not (is_split t b)) (there (lowest_voxel b) (lowest_held b))
-    ∙ ap (λ x. is_some (link_of n) && not (is_some (link_of x))) (here (lowest_voxel b) (lowest_held b))
+    ∙ ap (λ x. is_some (link_of n) && not (is_some (link_of x)))
+    (here (lowest_voxel b) (lowest_held b))
 
 -- a block counts itself and what its children count
 pub need_of_children : (t o : Tree) (b : Cube) → b.depth ≤ 15
     → need_in t o b ≡ cond (is_needed t o b) 1 0 + sum_below (λ i. need_in t o (child_of b i)) 8
 need_of_children t o b low =
     let level : 16 - b.depth ≡ suc (15 - b.depth) = omega arith in
-    let whole : need_in t o b ≡ sum_by (λ q. cond {A = ℕ} (is_needed t o q) 1 0) (blocks_below (suc (15 - b.depth)) b) = ap (λ n. count_by (is_needed t o) (blocks_below n b)) level in
+    let whole : need_in t o b
+    ≡ sum_by (λ q. cond {A = ℕ} (is_needed t o q) 1 0) (blocks_below (suc (15 - b.depth)) b) =
+    ap (λ n. count_by (is_needed t o) (blocks_below n b)) level in
     let split = sum_of_blocks (λ q. cond {A = ℕ} (is_needed t o q) 1 0) (15 - b.depth) b in
-    let each = same_eight (λ i. sum_by (λ q. cond {A = ℕ} (is_needed t o q) 1 0) (blocks_below (15 - b.depth) (child_of b i))) (λ i. need_in t o (child_of b i)) (λ i li. ap (λ n. count_by (is_needed t o) (blocks_below n (child_of b i))) (child_level i)) in
+    let each =
+    same_eight
+    (λ i. sum_by (λ q. cond {A = ℕ} (is_needed t o q) 1 0)
+    (blocks_below (15 - b.depth) (child_of b i)))
+    (λ i. need_in t o (child_of b i))
+    (λ i li. ap (λ n. count_by (is_needed t o) (blocks_below n (child_of b i)))
+    (child_level i)) in
     let eight = sum_below_eight (λ i. need_in t o (child_of b i)) in
     omega (arith, whole, split, each, eight)
   where
@@ -43,50 +54,70 @@ need_of_children t o b low =
     child_level i = (let deep = depth_child_of b i in omega (arith, deep))
 
 -- nothing is needed where the second tree has no groups
-none_below : (t o : Tree) (h : ℕ) (b : Cube) (n : Node) → b.depth + h ≡ 16 → IsOver o b n → link_of n ≡ None
+none_below : (t o : Tree) (h : ℕ) (b : Cube) (n : Node) → b.depth + h ≡ 16 → IsOver o b n
+    → link_of n ≡ None
     → count_by (is_needed t o) (blocks_below h b) ≡ 0
 none_below t o zero b n d over plain = sum_of_no_blocks (λ q. cond {A = ℕ} (is_needed t o q) 1 0) b
 none_below t o (suc h) b n d over plain =
     let all = sum_of_blocks (λ q. cond {A = ℕ} (is_needed t o q) 1 0) h b in
-    let test : is_split o b ≡ false = ap (λ m. is_some (link_of m)) (over (lowest_voxel b) (lowest_held b)) ∙ ap is_some plain in
-    let here : cond {A = ℕ} (is_needed t o b) 1 0 ≡ 0 = ap (λ a. cond {A = ℕ} (a && not (is_split t b)) 1 0) test in
+    let test : is_split o b ≡ false =
+    ap (λ m. is_some (link_of m)) (over (lowest_voxel b) (lowest_held b)) ∙ ap is_some plain in
+    let here : cond {A = ℕ} (is_needed t o b) 1 0 ≡ 0 =
+    ap (λ a. cond {A = ℕ} (a && not (is_split t b)) 1 0) test in
     let rest = none_of_eight (λ i. count_by (is_needed t o) (blocks_below h (child_of b i)))
     (λ i li. none_below t o h (child_of b i) n (child_depths b h i d)
-    (subst (IsOver o (child_of b i)) (unlinked_step o.groups n i plain) (over_step o b n i (omega (arith, d)) li over)) plain) in
+    (subst (IsOver o (child_of b i)) (unlinked_step o.groups n i plain)
+    (over_step o b n i (omega (arith, d)) li over)) plain) in
     omega (arith, all, here, rest)
 
-pub need_none : (t o : Tree) (b : Cube) (n : Node) → b.depth ≤ 16 → IsOver o b n → link_of n ≡ None → need_in t o b ≡ 0
+pub need_none : (t o : Tree) (b : Cube) (n : Node) → b.depth ≤ 16 → IsOver o b n → link_of n ≡ None
+    → need_in t o b ≡ 0
 need_none t o b n m over plain = none_below t o (16 - b.depth) b n (omega (arith, m)) over plain
 
 -- what is needed depends on where the first tree has groups
 alike_below : (t w o : Tree) (h : ℕ) (b : Cube) → IsBlock b → b.depth + h ≡ 16
-    → ((d : ℕ) (k : Voxel) → b.depth ≤ d → d ≤ 16 → IsInMap k → HoldsVoxel b k → is_some (link_of (reach w d k)) ≡ is_some (link_of (reach t d k)))
+    → ((d : ℕ) (k : Voxel) → b.depth ≤ d → d ≤ 16 → IsInMap k → HoldsVoxel b k
+    → is_some (link_of (reach w d k)) ≡ is_some (link_of (reach t d k)))
     → count_by (is_needed w o) (blocks_below h b) ≡ count_by (is_needed t o) (blocks_below h b)
-alike_below t w o zero b ok d same = sum_of_no_blocks (λ q. cond {A = ℕ} (is_needed w o q) 1 0) b ∙ sym (sum_of_no_blocks (λ q. cond {A = ℕ} (is_needed t o q) 1 0) b)
+alike_below t w o zero b ok d same =
+    sum_of_no_blocks (λ q. cond {A = ℕ} (is_needed w o q) 1 0) b
+    ∙ sym (sum_of_no_blocks (λ q. cond {A = ℕ} (is_needed t o q) 1 0) b)
 alike_below t w o (suc h) b ok d same =
     let one = sum_of_blocks (λ q. cond {A = ℕ} (is_needed w o q) 1 0) h b in
     let other = sum_of_blocks (λ q. cond {A = ℕ} (is_needed t o q) 1 0) h b in
-    let here : cond {A = ℕ} (is_needed w o b) 1 0 ≡ cond {A = ℕ} (is_needed t o b) 1 0 = ap (λ test. cond {A = ℕ} (is_split o b && not test) 1 0) (same b.depth (lowest_voxel b) (omega arith) ok.depth (lowest_in_map b ok) (lowest_held b)) in
-    let each = same_eight (λ i. count_by (is_needed w o) (blocks_below h (child_of b i))) (λ i. count_by (is_needed t o) (blocks_below h (child_of b i)))
-    (λ i li. alike_below t w o h (child_of b i) (child_in_map b i ok (omega (arith, d))) (child_depths b h i d)
-    (λ e k low high v held. same e k (let deep = depth_child_of b i in omega (arith, deep, low)) high v (held_by_parent b i k (omega (arith, d)) li held))) in
+    let here : cond {A = ℕ} (is_needed w o b) 1 0 ≡ cond {A = ℕ} (is_needed t o b) 1 0 =
+    ap (λ test. cond {A = ℕ} (is_split o b && not test) 1 0)
+    (same b.depth (lowest_voxel b) (omega arith) ok.depth (lowest_in_map b ok)
+    (lowest_held b)) in
+    let each =
+    same_eight (λ i. count_by (is_needed w o) (blocks_below h (child_of b i)))
+    (λ i. count_by (is_needed t o) (blocks_below h (child_of b i)))
+    (λ i li. alike_below t w o h (child_of b i) (child_in_map b i ok (omega (arith, d)))
+    (child_depths b h i d)
+    (λ e k low high v held. same e k (let deep = depth_child_of b i in omega (arith, deep, low))
+    high v (held_by_parent b i k (omega (arith, d)) li held))) in
     omega (arith, one, other, here, each)
 
 pub need_alike : (t w o : Tree) (b : Cube) → IsBlock b
-    → ((d : ℕ) (k : Voxel) → b.depth ≤ d → d ≤ 16 → IsInMap k → HoldsVoxel b k → is_some (link_of (reach w d k)) ≡ is_some (link_of (reach t d k)))
+    → ((d : ℕ) (k : Voxel) → b.depth ≤ d → d ≤ 16 → IsInMap k → HoldsVoxel b k
+    → is_some (link_of (reach w d k)) ≡ is_some (link_of (reach t d k)))
     → need_in w o b ≡ need_in t o b
-need_alike t w o b ok same = (let top = ok.depth in alike_below t w o (16 - b.depth) b ok (omega (arith, top)) same)
+need_alike t w o b ok same =
+    (let top = ok.depth in alike_below t w o (16 - b.depth) b ok (omega (arith, top)) same)
 
 -- below a block that is entered, groups are where they were
-pub entered_alike : (t s : Tree) (p : Place) (b : Cube) (id : GroupId) → IsLinked t → IsEntered t s p b id
-    → (d : ℕ) (k : Voxel) → b.depth < d → d ≤ 16 → IsInMap k → is_some (link_of (reach s d k)) ≡ is_some (link_of (reach t d k))
+pub entered_alike : (t s : Tree) (p : Place) (b : Cube) (id : GroupId) → IsLinked t
+    → IsEntered t s p b id
+    → (d : ℕ) (k : Voxel) → b.depth < d → d ≤ 16 → IsInMap k
+    → is_some (link_of (reach s d k)) ≡ is_some (link_of (reach t d k))
 entered_alike t s p b id l e d k below m v = elim (e.opened d k m v) [
   | inl same ↦ ap (λ n. is_some (link_of n)) same
   | inr (none, new) ↦ (let (x, is) = new in
       let home = reach_home s k e.linked v d x.number (ap link_of is) m in
       elim (e.homes x.number (block_of d k) home) [
         | inl old ↦ (let link = l.reached x.number (block_of d k) old k v (block_of_holds d k) in
-            let there : link_of (reach t d k) ≡ Some x.number = subst (λ n. link_of (reach t n k) ≡ Some x.number) (depth_block_of d k) link in
+            let there : link_of (reach t d k) ≡ Some x.number =
+            subst (λ n. link_of (reach t n k) ≡ Some x.number) (depth_block_of d k) link in
             absurd (some_not_none there none))
         | inr (itself, _) ↦ (let deep = depth_block_of d k in
             let level : (block_of d k).depth ≡ b.depth = ap (λ (c : Cube). c.depth) itself in
@@ -95,11 +126,15 @@ entered_alike t s p b id l e d k below m v = elim (e.opened d k m v) [
 ]
 
 -- a block whose node in the second tree links a group counts, unless that in the first one does too
-pub counted_here : (t o : Tree) (b : Cube) (m n : Node) (theirs mine : Bool) → IsOver t b m → IsOver o b n → theirs ≡ false
-    → IsTrue theirs ↔ (link_of n ≡ None) → IsTrue mine ↔ (link_of m ≡ None) → cond {A = ℕ} (is_needed t o b) 1 0 ≡ cond {A = ℕ} mine 1 0
-counted_here t o b m n theirs mine here there fails is_theirs is_mine = go (link_of m) (link_of n) mine refl refl refl
+pub counted_here : (t o : Tree) (b : Cube) (m n : Node) (theirs mine : Bool) → IsOver t b m
+    → IsOver o b n → theirs ≡ false
+    → IsTrue theirs ↔ (link_of n ≡ None) → IsTrue mine ↔ (link_of m ≡ None)
+    → cond {A = ℕ} (is_needed t o b) 1 0 ≡ cond {A = ℕ} mine 1 0
+counted_here t o b m n theirs mine here there fails is_theirs is_mine =
+    go (link_of m) (link_of n) mine refl refl refl
   where
-    go : (x y : Option ℕ) (a : Bool) → link_of m ≡ x → link_of n ≡ y → mine ≡ a → cond {A = ℕ} (is_needed t o b) 1 0 ≡ cond {A = ℕ} mine 1 0
+    go : (x y : Option ℕ) (a : Bool) → link_of m ≡ x → link_of n ≡ y → mine ≡ a
+        → cond {A = ℕ} (is_needed t o b) 1 0 ≡ cond {A = ℕ} mine 1 0
     go x None a ex ey ea = absurd (false≢true (sym fails ∙ is_theirs.1 ey))
     go None (Some y) a ex ey ea =
         ap (λ test. cond {A = ℕ} test 1 0) (needed_by_nodes t o b m n here there)
@@ -110,7 +145,8 @@ counted_here t o b m n theirs mine here there fails is_theirs is_mine = go (link
         ∙ rw (ex, ey, ea) refl
 
 -- no voxel's
-pub linked_low : (o : Tree) (b : Cube) (n : Node) (theirs : Bool) → IsLinked o → IsBlock b → IsOver o b n → theirs ≡ false
+pub linked_low : (o : Tree) (b : Cube) (n : Node) (theirs : Bool) → IsLinked o → IsBlock b
+    → IsOver o b n → theirs ≡ false
     → IsTrue theirs ↔ (link_of n ≡ None) → b.depth ≤ 15
 linked_low o b n theirs l ok over fails is = go (link_of n) refl
   where
@@ -119,13 +155,15 @@ linked_low o b n theirs l ok over fails is = go (link_of n) refl
     go (Some y) e = over_low o b n y l ok over e
 
 -- the sum on its way
-pub sum_next : (f : ℕ → ℕ) (first need more i : ℕ) → need ≡ first + sum_below f i → more ≡ f i → need + more ≡ first + sum_below f (i + 1)
+pub sum_next : (f : ℕ → ℕ) (first need more i : ℕ) → need ≡ first + sum_below f i → more ≡ f i
+    → need + more ≡ first + sum_below f (i + 1)
 sum_next f first need more i sum is = let next = sum_below_next f i in omega (arith, sum, is, next)
 
 pub sum_first : (f : ℕ → ℕ) (first need : ℕ) → need ≡ first → need ≡ first + sum_below f 0
 sum_first f first need is = let none = sum_below_none f in omega (arith, is, none)
 
-pub sum_last : (f : ℕ → ℕ) (first need i all : ℕ) → i ≡ 8 → need ≡ first + sum_below f i → all ≡ first + sum_below f 8 → need ≡ all
+pub sum_last : (f : ℕ → ℕ) (first need i all : ℕ) → i ≡ 8 → need ≡ first + sum_below f i
+    → all ≡ first + sum_below f 8 → need ≡ all
 sum_last f first need i all end sum whole = sum ∙ ap (λ n. first + sum_below f n) end ∙ sym whole
 
 pub one_few : (test : Bool) (n m : ℕ) → n ≡ cond test 1 0 → n ≤ 1 + 0 * m

@@ -4,7 +4,7 @@ use Rattle.oct_key.specs.Voxel.{Voxel}
 use Rattle.oct_key.specs.Block.{Cube, side}
 
 -- on an axis, how many numbers from one on and below another lie in the part with this number, of
--- the parts of so many numbers each
+-- the parts of this many numbers each
 abbrev pub shared : ℕ → ℕ → ℕ → ℕ → ℕ
 shared from to size n = min (n * size + size) to - max (n * size) from
 

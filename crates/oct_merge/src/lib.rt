@@ -16,7 +16,7 @@
 //!   one fresh, and a pruned one pruned; what the other tree doesn't know stays as it is, group by
 //!   group; and the path to each voxel that it knows is tidy.
 //! - [`merge_need`] is the number of live groups of the other tree whose home is the home of no
-//!   live group of the first. With room for so many a merge can't fail, and it takes no more.
+//!   live group of the first. With room for this many a merge can't fail, and it takes no more.
 //! - [`class_table`] has for each two classes the number of voxels of a box that have the one in
 //!   the first map and the other in the second (`pair_counts`). The nine numbers add up to the
 //!   voxels of the box.

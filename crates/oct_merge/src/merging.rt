@@ -1,4 +1,4 @@
-ghost use Rattle.std.specs.Prelude.{◌≡◌, ℕ, ◌+◌, ◌≤◌, ◌↔◌, IsTrue, IsSome, Some, None, false};
+ghost use Rattle.std.specs.Prelude.{◌≡◌, ◌+◌, ◌≤◌, ◌↔◌, IsTrue, IsSome, Some, None, false};
 ghost use Rattle.oct_key.specs.Voxel.{Voxel, IsInMap};
 ghost use Rattle.oct_key.specs.Block.{Cube, IsBlock, HoldsVoxel};
 ghost use Rattle.oct_key.specs.CubeOf.{cube_of};
@@ -9,7 +9,6 @@ ghost use Rattle.oct_arena.specs.Entries.{live, spare};
 ghost use Rattle.oct_arena.specs.Nodes.{link_of, value_of};
 ghost use Rattle.oct_tree.specs.Tree.{IsLinked, IsPlace, node_in, block_in, value_at};
 ghost use Rattle.oct_tree.specs.Shape.{IsWellFormed};
-ghost use Rattle.oct_tree.specs.Tidiness.{IsTrueOf};
 ghost use Rattle.oct_edit.specs.Edits.{IsEdited, IsEagerEdit, IsTidyAlong};
 ghost use Rattle.oct_edit.specs.Steps.{IsEntered, IsTouched, IsClosed};
 ghost use Rattle.oct_merge.specs.declared.rule.Rule.{Rule};

@@ -11,8 +11,8 @@ use oct_arena::Node;
 use oct_key::Block;
 use oct_tree::OccTree;
 
-/// How many live groups of `other` have a home that is the home of no live group of `into`: so many
-/// groups at most are taken by a merge of `other` into `into`. Takes no memory.
+/// How many live groups of `other` have a home that is the home of no live group of `into`: this
+/// many groups at most are taken by a merge of `other` into `into`. Takes no memory.
 pub fn merge_need(into: &OccTree, other: &OccTree) -> u32
     requires into { IsWellFormed into.now }
     requires other { IsWellFormed other.now }

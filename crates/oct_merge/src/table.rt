@@ -1,4 +1,5 @@
-ghost use Rattle.std.specs.Prelude.{◌≡◌, ℕ, ◌+◌, ◌-◌, ◌*◌, ◌^◌, ◌<◌, ◌≤◌, min, max, length, slice_index_or, if◌then◌else◌, nat_eq, ◌↔◌, IsTrue, None};
+ghost use Rattle.std.specs.Prelude.{◌≡◌, ℕ, ◌+◌, ◌-◌, ◌*◌, ◌^◌, ◌<◌, ◌≤◌, min, max, length};
+ghost use Rattle.std.specs.Prelude.{slice_index_or, if◌then◌else◌, nat_eq, ◌↔◌, IsTrue, None};
 ghost use Rattle.std.specs.List.{sum};
 ghost use Rattle.oct_key.specs.Block.{side};
 ghost use Rattle.oct_key.specs.Boxes.{IsBox};
@@ -49,7 +50,7 @@ struct Zone {
 }
 
 impl ClassTable {
-    /// Counts so many voxels at a place.
+    /// Counts this many voxels at a place.
     fn add(&mut self, place: usize, voxels: u64)
         requires place { place < 9 }
         requires room { slice_index_or self.old.counts place 0 + voxels < 2 ^ 64 }

@@ -1,7 +1,5 @@
 ghost use Rattle.std.specs.Prelude.{◌≡◌, IfOk};
 ghost use Rattle.oct_odds.specs.Update.{IsSmallEvent};
-ghost use Rattle.oct_key.specs.Boxes.{IsBox};
-ghost use Rattle.oct_tree.specs.Tree.{Tree};
 ghost use Rattle.oct_tree.specs.Shape.{IsWellFormed};
 
 use super::*;

@@ -1,7 +1,6 @@
 -- The reading of a metres text: its nanometres, or its fault.
-use Rattle.std.specs.Prelude.{ℕ, ◌+◌, ℤ, nat_lt, nat_eq, Bool, ◌||◌, not, if◌then◌else◌}
-use Rattle.std.specs.Prelude.{List, [], ◌∷◌, length, drop, take_while}
-use Rattle.std.specs.Prelude.{Option, Some, None, Result, Ok, Err}
+use Rattle.std.specs.Prelude.{ℕ, ◌+◌, ℤ, nat_lt, nat_eq, Bool, ◌||◌, not, if◌then◌else◌, List, []}
+use Rattle.std.specs.Prelude.{◌∷◌, length, drop, take_while, Option, Some, None, Result, Ok, Err}
 use Rattle.std.specs.List.{prefix_len}
 use Rattle.oct_num.specs.Decimal.{is_digit}
 use Rattle.oct_num.specs.Form.{nanometres, fraction_text}

@@ -1,4 +1,4 @@
-ghost use Rattle.std.specs.Prelude.{◌≡◌, ◌↔◌, IsTrue, ◌+◌, ◌^◌, ◌<◌, ◌≤◌, length, drop, take_while};
+ghost use Rattle.std.specs.Prelude.{◌≡◌, ◌+◌, ◌^◌, ◌<◌, ◌≤◌, length, drop, take_while};
 ghost use Rattle.std.specs.List.{AllPass, prefix_len};
 ghost use Rattle.oct_num.specs.Decimal.{is_digit, decimal_value};
 
@@ -29,7 +29,7 @@ pub(crate) struct NumberFront<'a> {
     pub(crate) value: u64,
     /// How many digits there are.
     pub(crate) count: usize,
-    /// What stands behind them.
+    /// What stands after them.
     pub(crate) rest: &'a [u8],
 }
 

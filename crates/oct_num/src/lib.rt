@@ -11,6 +11,8 @@
 //!   digits, and `read_natural` that of exactly the texts of one to eighteen digits.
 //! - `metres_text` writes nanometres as the shortest text that is read as them; `push_metres`
 //!   appends it, or leaves the bytes as they were.
+//! - `fraction_text` writes a fraction of this many places: the point and its digits without zeros
+//!   at the end.
 //! - `push_whole` appends the decimal text of a number, or leaves the bytes as they were.
 //! - `floor_div` rounds down for negative numbers too.
 //! - `round_half_up` answers the nearest whole number to a fraction, and the upper one at a tie.
@@ -23,7 +25,7 @@
 //! says nothing of how the text is read. Rounding too is stated twice: as the floor of `(2n + d) /
 //! (2d)` (`half_up`), and as the number that no other one is nearer than (`IsNearest`).
 //!
-//! `Memory` is the error of every call that fails only for want of memory.
+//! `Memory` is the error of every call that fails only because memory ran out.
 //!
 //! It's the lowest crate: keys, poses, beams, the words of a command line, the script and the
 //! replies stand on it.
@@ -42,7 +44,7 @@ mod whole;
 pub use division::floor_div;
 pub use memory::Memory;
 pub use metres::{NumFault, read_metres, split_metres};
-pub use metres_writing::{metres_text, push_metres};
+pub use metres_writing::{fraction_text, metres_text, push_metres};
 pub use root::ceil_sqrt;
 pub use rounding::round_half_up;
 pub use sign::split_sign;

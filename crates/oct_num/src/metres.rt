@@ -1,12 +1,11 @@
-ghost use Rattle.std.specs.Prelude.{◌≡◌, ◌↔◌, ℕ, ◌+◌, ◌-◌, ◌*◌, ◌^◌, ◌<◌, ◌≤◌, ℤ, unsigned_abs, length};
-ghost use Rattle.std.specs.Prelude.{◌++◌, drop, MatchResult, Ok, Err, IfOk, MatchOption, Some};
-ghost use Rattle.std.specs.Prelude.{None, IfSome};
+ghost use Rattle.std.specs.Prelude.{◌≡◌, ◌↔◌, ℕ, ◌+◌, ◌-◌, ◌*◌, ◌^◌, ◌<◌, ◌≤◌, ℤ, unsigned_abs};
+ghost use Rattle.std.specs.Prelude.{length, MatchResult, Ok, Err, IfOk, MatchOption, Some, None};
+ghost use Rattle.std.specs.Prelude.{IfSome};
 ghost use Rattle.std.specs.List.{AllPass};
 ghost use Rattle.oct_num.specs.Decimal.{is_digit, decimal_value};
 ghost use Rattle.oct_num.specs.Metres.{fraction_of, limited_nanometres, magnitude_of, metres_of};
 ghost use Rattle.oct_num.specs.Metres.{fraction_front, fraction_rest, metres_front};
-ghost use Rattle.oct_num.specs.Form.{nanometres, fraction_text, IsMetres, HasExcess, BreaksAt};
-ghost use Rattle.oct_num.specs.Form.{BeginsWith};
+ghost use Rattle.oct_num.specs.Form.{nanometres, IsMetres, HasExcess, BreaksAt, BeginsWith};
 
 use crate::decimal::{NumberFront, digits_value, split_digits, split_number};
 use crate::sign::{split_sign, with_sign};
@@ -173,7 +172,7 @@ fn nanometres(whole: &[u8], fraction: &[u8]) -> u64
     sum_of(digits_value(whole), digits_value(fraction), fraction.len())
 }
 
-/// The nanometres of whole metres and of a fraction that has so many digits.
+/// The nanometres of whole metres and of a fraction that has this many digits.
 fn sum_of(whole: u64, fraction: u64, digits: usize) -> u64
     requires before { whole < 10 ^ 7 }
     requires behind { digits ≤ 9 }

@@ -26,7 +26,7 @@ pub fn metres_text(nm: i64) -> ArrayString<24>
     let magnitude = nm.unsigned_abs();
     let mut text = sign_text(nm);
     text.push_str(Buffer::new().format(magnitude / NANOMETRES_PER_METRE));
-    push_fraction(&mut text, magnitude % NANOMETRES_PER_METRE);
+    text.push_str(fraction_text(9, magnitude % NANOMETRES_PER_METRE).as_str());
     text
 }
 
@@ -41,23 +41,27 @@ fn sign_text(nm: i64) -> ArrayString<24>
     text
 }
 
-/// Appends a point and the digits of these nanometres, or nothing for none.
-fn push_fraction(text: &mut ArrayString<24>, nm: u64)
-    requires few { nm < 10 ^ 9 }
-    requires room { array_string_len text.old ≤ 12 }
-    ensures appended { text.new.bytes ≡ text.old.bytes ++ fraction_text (leading_digits 9 nm) }
+/// The text of a fraction of this many places after the point: the point and its digits without
+/// zeros at the end, or nothing for 0. So 50,000,000 in nine places is `.05`.
+pub fn fraction_text(places: u32, n: u64) -> ArrayString<20>
+    requires most { places ≤ 19 }
+    requires few { n < 10 ^ places }
+    ensures exact { result.bytes ≡ fraction_text (leading_digits places n) }
+    ensures short { length result.bytes ≤ places + 1 }
 {
-    if nm > 0 {
+    let mut text = ArrayString::new();
+    if n > 0 {
         text.push('.');
-        push_digits(text, 9, nm);
+        push_digits(&mut text, places, n);
     }
+    text
 }
 
 /// Appends the digits of a number of this many digits, up to the last one that isn't 0.
-fn push_digits(text: &mut ArrayString<24>, places: u32, n: u64)
-    requires most { places ≤ 9 }
+fn push_digits(text: &mut ArrayString<20>, places: u32, n: u64)
+    requires most { places ≤ 19 }
     requires few { n < 10 ^ places }
-    requires room { array_string_len text.old + places ≤ 24 }
+    requires room { array_string_len text.old + places ≤ 20 }
     ensures appended { text.new.bytes ≡ text.old.bytes ++ leading_digits places n }
 {
     if n > 0 {
@@ -109,6 +113,13 @@ mod tests {
             assert_eq!(rt; out.len(), 4 + want.len(), "at {nm}");
         }
         Ok(())
+    }
+
+    #[test]
+    fn writes_fractions_without_zeros_at_the_end(rt: HostRuntime) {
+        assert_eq!(rt; fraction_text(9, 0).as_str(), "");
+        assert_eq!(rt; fraction_text(9, 50_000_000).as_str(), ".05");
+        assert_eq!(rt; fraction_text(10, 500_005).as_str(), ".0000500005");
     }
 
     #[test]

@@ -1,4 +1,4 @@
-ghost use Rattle.std.specs.Prelude.{◌≡◌, ℕ, ◌*◌, ◌^◌, ◌≤◌};
+ghost use Rattle.std.specs.Prelude.{ℕ, ◌*◌, ◌^◌, ◌≤◌};
 
 /// The square root of `n`, rounded up: the least whole number whose square is at least `n`. So
 /// `ceil_sqrt(4)` is 2, and `ceil_sqrt(5)` is 3.

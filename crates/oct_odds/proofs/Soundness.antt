@@ -1,5 +1,6 @@
 -- The first bad field is none exactly where all conditions hold.
-use Rattle.std.proofs.Common.{◌≡◌, ℤ, ◌≤ℤ◌, ◌<ℤ◌, Bool, true, false, not, cond, Option, Some, None, arith, refl, sym, ◌∙◌}
+use Rattle.std.proofs.Common.{◌≡◌, ℤ, ◌≤ℤ◌, ◌<ℤ◌, Bool, true, false, not, cond, Option, Some, None}
+use Rattle.std.proofs.Common.{arith, refl, sym, ◌∙◌}
 use Rattle.std.specs.Prelude.{int_lt, int_le}
 use Rattle.std.proofs.lemmas.Int.{ints}
 use Rattle.std.proofs.lemmas.Bool.{and_from, and_parts}
@@ -29,35 +30,47 @@ test_at_most : (a b : ℤ) → a ≤ℤ b → int_le a b ≡ true
 test_at_most a b h = grind (arith, ints)
 
 -- a good field is passed over
-passed : (good : Bool) (field : OddsField) (rest found : Option OddsField) → good ≡ true → rest ≡ found → cond (not good) (Some field) rest ≡ found
+passed : (good : Bool) (field : OddsField) (rest found : Option OddsField) → good ≡ true
+    → rest ≡ found → cond (not good) (Some field) rest ≡ found
 passed true field rest found g r = r
 passed false field rest found g r = cc
 
 -- a bad field is found
-found : (good : Bool) (field : OddsField) (rest : Option OddsField) → good ≡ false → cond (not good) (Some field) rest ≡ Some field
+found : (good : Bool) (field : OddsField) (rest : Option OddsField) → good ≡ false
+    → cond (not good) (Some field) rest ≡ Some field
 found true field rest b = cc
 found false field rest b = refl
 
 -- the maximum is the first bad field
-pub max_found : (o : Odds) → is_good o Hit ≡ true → is_good o Miss ≡ true → is_good o Min ≡ true → is_good o Max ≡ false → Some Max ≡ first_bad_field o
+pub max_found : (o : Odds) → is_good o Hit ≡ true → is_good o Miss ≡ true → is_good o Min ≡ true
+    → is_good o Max ≡ false → Some Max ≡ first_bad_field o
 max_found o hit miss min max =
-    let e : first_bad_field o ≡ Some Max = passed _ _ _ _ hit (passed _ _ _ _ miss (passed _ _ _ _ min (found _ _ _ max))) in
+    let e : first_bad_field o ≡ Some Max =
+    passed _ _ _ _ hit (passed _ _ _ _ miss (passed _ _ _ _ min (found _ _ _ max))) in
     sym e
 
 -- the threshold is the first bad field
-pub thr_found : (o : Odds) → is_good o Hit ≡ true → is_good o Miss ≡ true → is_good o Min ≡ true → is_good o Max ≡ true → is_good o Thr ≡ false → Some Thr ≡ first_bad_field o
+pub thr_found : (o : Odds) → is_good o Hit ≡ true → is_good o Miss ≡ true → is_good o Min ≡ true
+    → is_good o Max ≡ true → is_good o Thr ≡ false → Some Thr ≡ first_bad_field o
 thr_found o hit miss min max thr =
-    let e : first_bad_field o ≡ Some Thr = passed _ _ _ _ hit (passed _ _ _ _ miss (passed _ _ _ _ min (passed _ _ _ _ max (found _ _ _ thr)))) in
+    let e : first_bad_field o ≡ Some Thr =
+    passed _ _ _ _ hit
+    (passed _ _ _ _ miss (passed _ _ _ _ min (passed _ _ _ _ max (found _ _ _ thr)))) in
     sym e
 
 -- no field is bad
-pub none_found : (o : Odds) → is_good o Hit ≡ true → is_good o Miss ≡ true → is_good o Min ≡ true → is_good o Max ≡ true → is_good o Thr ≡ true → None ≡ first_bad_field o
+pub none_found : (o : Odds) → is_good o Hit ≡ true → is_good o Miss ≡ true → is_good o Min ≡ true
+    → is_good o Max ≡ true → is_good o Thr ≡ true → None ≡ first_bad_field o
 none_found o hit miss min max thr =
-    let e : first_bad_field o ≡ None = passed _ _ _ _ hit (passed _ _ _ _ miss (passed _ _ _ _ min (passed _ _ _ _ max (passed _ _ _ _ thr refl)))) in
+    let e : first_bad_field o ≡ None =
+    passed _ _ _ _ hit
+    (passed _ _ _ _ miss
+    (passed _ _ _ _ min (passed _ _ _ _ max (passed _ _ _ _ thr refl)))) in
     sym e
 
--- where none is found, a field and those behind it are good
-none_here : (good : Bool) (field : OddsField) (rest : Option OddsField) → cond (not good) (Some field) rest ≡ None → (good ≡ true) × (rest ≡ None)
+-- where none is found, a field and those after it are good
+none_here : (good : Bool) (field : OddsField) (rest : Option OddsField)
+    → cond (not good) (Some field) rest ≡ None → (good ≡ true) × (rest ≡ None)
 none_here true field rest h = (refl, h)
 none_here false field rest h = cc
 
@@ -80,7 +93,13 @@ sound_from_none o h =
       miss_negative = below _ _ good_miss.1;
       zero_within = (at_most _ _ good_min.1, at_most _ _ good_max.1);
       thr_within = (below _ _ within.1, at_most _ _ good_thr.1);
-      small = (small _ good_hit.0, small _ good_miss.0, small _ good_min.0, small _ good_max.0, small _ within.0);
+      small = (
+        small _ good_hit.0,
+        small _ good_miss.0,
+        small _ good_min.0,
+        small _ good_max.0,
+        small _ within.0,
+      );
     }
 
 -- where the conditions hold, no field is bad
@@ -90,7 +109,10 @@ none_from_sound o s =
     (passed _ _ _ _ (and_from _ _ (test_small _ s.small.1) (test_below _ _ s.miss_negative))
     (passed _ _ _ _ (and_from _ _ (test_small _ s.small.2) (test_at_most _ _ s.zero_within.0))
     (passed _ _ _ _ (and_from _ _ (test_small _ s.small.3) (test_at_most _ _ s.zero_within.1))
-    (passed _ _ _ _ (and_from _ _ (and_from _ _ (test_small _ s.small.4) (test_below _ _ s.thr_within.0)) (test_at_most _ _ s.thr_within.1)) refl))))
+    (passed _ _ _ _
+    (and_from _ _ (and_from _ _ (test_small _ s.small.4) (test_below _ _ s.thr_within.0))
+    (test_at_most _ _ s.thr_within.1))
+    refl))))
 
 -- where a field is bad, the conditions don't all hold
 pub some_unsound : (o : Odds) (field : OddsField) → first_bad_field o ≡ Some field → IsSound o → ⊥

@@ -27,15 +27,25 @@ turned_by_rows q p =
     let px = minus (plus (plus (times w a) (times x o)) (times y c)) (times z b) in
     let py = plus (plus (minus (times w b) (times x c)) (times y o)) (times z a) in
     let pz = plus (minus (plus (times w c) (times x b)) (times y a)) (times z o) in
-    let left_x = minus (plus (plus (times pw (negated x)) (times px w)) (times py (negated z))) (times pz (negated y)) in
-    let left_y = plus (plus (minus (times pw (negated y)) (times px (negated z))) (times py w)) (times pz (negated x)) in
-    let left_z = plus (minus (plus (times pw (negated z)) (times px (negated y))) (times py (negated x))) (times pz w) in
-    let right_x = plus (plus (times (minus (minus (plus (times w w) (times x x)) (times y y)) (times z z)) a)
-    (times (times two (minus (times x y) (times w z))) b)) (times (times two (plus (times x z) (times w y))) c) in
+    let left_x =
+    minus (plus (plus (times pw (negated x)) (times px w)) (times py (negated z)))
+    (times pz (negated y)) in
+    let left_y =
+    plus (plus (minus (times pw (negated y)) (times px (negated z))) (times py w))
+    (times pz (negated x)) in
+    let left_z =
+    plus (minus (plus (times pw (negated z)) (times px (negated y))) (times py (negated x)))
+    (times pz w) in
+    let right_x =
+    plus (plus (times (minus (minus (plus (times w w) (times x x)) (times y y)) (times z z)) a)
+    (times (times two (minus (times x y) (times w z))) b))
+    (times (times two (plus (times x z) (times w y))) c) in
     let right_y = plus (plus (times (times two (plus (times x y) (times w z))) a)
-    (times (minus (plus (minus (times w w) (times x x)) (times y y)) (times z z)) b)) (times (times two (minus (times y z) (times w x))) c) in
+    (times (minus (plus (minus (times w w) (times x x)) (times y y)) (times z z)) b))
+    (times (times two (minus (times y z) (times w x))) c) in
     let right_z = plus (plus (times (times two (minus (times x z) (times w y))) a)
-    (times (times two (plus (times y z) (times w x))) b)) (times (plus (minus (minus (times w w) (times x x)) (times y y)) (times z z)) c) in
+    (times (times two (plus (times y z) (times w x))) b))
+    (times (plus (minus (minus (times w w) (times x x)) (times y y)) (times z z)) c) in
     record {
       x = equal left_x right_x (omega arith);
       y = equal left_y right_y (omega arith);

@@ -20,7 +20,13 @@ IsNearestTo-posed pose p =
     let positive = norm_positive q pose.turns in
     let rows = turned_by_rows q p in
     record {
-      x = rw (rows.x, back pose.t.x (half_up (weighted (x_row q) p) (norm q))) (IsNearest-half_up _ _ positive);
-      y = rw (rows.y, back pose.t.y (half_up (weighted (y_row q) p) (norm q))) (IsNearest-half_up _ _ positive);
-      z = rw (rows.z, back pose.t.z (half_up (weighted (z_row q) p) (norm q))) (IsNearest-half_up _ _ positive);
+      x =
+          rw (rows.x, back pose.t.x (half_up (weighted (x_row q) p) (norm q)))
+          (IsNearest-half_up _ _ positive);
+      y =
+          rw (rows.y, back pose.t.y (half_up (weighted (y_row q) p) (norm q)))
+          (IsNearest-half_up _ _ positive);
+      z =
+          rw (rows.z, back pose.t.z (half_up (weighted (z_row q) p) (norm q)))
+          (IsNearest-half_up _ _ positive);
     }

@@ -24,7 +24,7 @@ unfoldable pub listed_blocks : Values → Voxel → Voxel → ℕ → List Shown
 listed_blocks values lo hi depth = filter_map (shown values) (met_blocks lo hi depth)
 
 -- why a list is refused: more blocks than are allowed meet the box, or they aren't and memory was
--- wanting
+-- ran out
 abbrev pub IsRefused : ListFault → ℕ → ℕ → Type 0
 IsRefused (TooManyBlocks count) met most = (count ≡ met) × (most < met)
 IsRefused Memory met most = met ≤ most

@@ -1,5 +1,6 @@
 -- How many nodes of a tree aren't absent, and which blocks have groups.
-use Rattle.std.specs.Prelude.{◌≡◌, ℕ, ◌+◌, Bool, true, false, Option, Some, sum_by, count_by, if◌then◌else◌}
+use Rattle.std.specs.Prelude.{◌≡◌, ℕ, ◌+◌, Bool, true, false, Option, Some, sum_by, count_by}
+use Rattle.std.specs.Prelude.{if◌then◌else◌}
 use Rattle.oct_key.specs.Block.{Cube}
 use Rattle.oct_values.specs.Blocks.{child_numbers}
 use Rattle.oct_arena.specs.declared.node.Group.{Group}

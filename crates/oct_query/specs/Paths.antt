@@ -10,4 +10,5 @@ pub record IsPathOf (t : Tree) (path : Path) : Type 0 where
   pub linked : IsLinked t
   pub few : path.depth ≤ 16
   pub in_map : IsInMap path.key
-  pub nodes : (j : ℕ) (d : Node) → j ≤ path.depth → slice_index_or path.nodes j d ≡ reach t j path.key
+  pub nodes : (j : ℕ) (d : Node) → j ≤ path.depth
+      → slice_index_or path.nodes j d ≡ reach t j path.key

@@ -5,7 +5,7 @@ use Rattle.oct_key.specs.Voxel.{Voxel}
 use Rattle.oct_key.specs.Block.{Cube}
 use Rattle.oct_key.specs.Order.{numbers_from, triples_of, block_numbered}
 
--- the numbers of a row: so many on z, from one on
+-- the numbers of a row: this many on z, from one on
 abbrev pub row_numbers : ℕ → ℕ → ℕ → ℕ → List Voxel
 row_numbers x y first count = map (λ z. record { x = x; y = y; z = z }) (numbers_from first count)
 
@@ -13,13 +13,13 @@ row_numbers x y first count = map (λ z. record { x = x; y = y; z = z }) (number
 abbrev pub row_blocks : ℕ → ℕ → ℕ → ℕ → ℕ → List Cube
 row_blocks depth x y first count = map (block_numbered depth) (row_numbers x y first count)
 
--- the blocks of a plane: of so many rows, from one on
+-- the blocks of a plane: of this many rows, from one on
 abbrev pub plane_blocks : ℕ → ℕ → ℕ → ℕ → ℕ → ℕ → List Cube
 plane_blocks depth x first_y count_y first count =
     map (block_numbered depth)
     (flat_map (λ y. row_numbers x y first count) (numbers_from first_y count_y))
 
--- the blocks of so many planes, from one on
+-- the blocks of this many planes, from one on
 abbrev pub box_blocks : ℕ → Voxel → Voxel → List Cube
 box_blocks depth first count =
     map (block_numbered depth)

@@ -7,12 +7,12 @@ use thiserror::Error;
 /// Why a list of blocks was refused.
 #[derive(Clone, Copy, Debug, PartialEq, Eq, Error)]
 pub enum ListFault {
-    /// So many blocks of the depth meet the box, unknown ones among them, and that is more than are
-    /// allowed.
+    /// This many blocks of the depth meet the box, unknown ones among them, and that is more than
+    /// are allowed.
     #[error("{count} blocks meet the box, more than are allowed")]
     TooManyBlocks { count: u64 },
 
-    /// Memory is wanting.
+    /// Memory ran out.
     #[error("out of memory")]
     Memory,
 }

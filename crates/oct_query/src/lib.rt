@@ -13,16 +13,16 @@
 //! then a well-formed one has no more nodes than `node_count` says. [`groups_are_needed`] and
 //! [`pruned_is_least`] say why, and what follows for two trees of the same values.
 //!
-//! [`list`] answers for all blocks of a depth that meet a box of voxels and aren't unknown, each with
-//! what `query` answers for it, by ascending x, then y, then z. The promise is that the list is a
-//! function of the voxels' values (`listed_blocks`): the blocks of the depth in their order, of these
-//! those that meet the box, and of these those that have an answer. It goes through the blocks in
-//! that order and keeps the way to the last one (`Path`), so that it goes up only as far as the ways
-//! part, and not to the root. A list of more blocks than are allowed is refused before one is looked
-//! at.
+//! [`list`] answers for all blocks of a depth that meet a box of voxels and aren't unknown, each
+//! with what `query` answers for it, by ascending x, then y, then z. The promise is that the list
+//! is a function of the voxels' values (`listed_blocks`): the blocks of the depth in their order,
+//! of these those that meet the box, and of these those that have an answer. It goes through the
+//! blocks in that order and keeps the way to the last one (`Path`), so that it goes up only as far
+//! as the ways part, and not to the root. A list of more blocks than are allowed is refused before
+//! one is looked at.
 //!
-//! The first two take no memory. The map stands on this crate, and the replies of a script print its
-//! [`Counts`].
+//! The first two take no memory. The map stands on this crate, and the replies of a script print
+//! its [`Counts`].
 #![tactic(auto)]
 
 mod block_list;

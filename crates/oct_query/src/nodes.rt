@@ -1,4 +1,4 @@
-ghost use Rattle.std.specs.Prelude.{◌≡◌, ℕ, ◌+◌, ◌-◌, ◌^◌, ◌≤◌, ◌↔◌, Some};
+ghost use Rattle.std.specs.Prelude.{◌≡◌, ◌+◌, ◌-◌, ◌^◌, ◌≤◌, ◌↔◌, Some};
 ghost use Rattle.oct_key.specs.Block.{Cube};
 ghost use Rattle.oct_values.specs.Counts.{group_count, node_count};
 ghost use Rattle.oct_arena.specs.Entries.{live};

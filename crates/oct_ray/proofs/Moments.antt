@@ -13,24 +13,32 @@ fraction_trans x a y b z c pb h k =
     le_of_mul-le-mul_right w pb
 
 -- where the ends are equal, so are the steps
-pub fraction_squeeze : (x a y b z c : ℕ) → 0 < a → 0 < c → x * b ≤ y * a → y * c ≤ z * b → z * a ≤ x * c → (x * b ≡ y * a) × (y * c ≡ z * b)
+pub fraction_squeeze : (x a y b z c : ℕ) → 0 < a → 0 < c → x * b ≤ y * a → y * c ≤ z * b
+    → z * a ≤ x * c → (x * b ≡ y * a) × (y * c ≡ z * b)
 fraction_squeeze x a y b z c pa pc h k r =
     let s : y * a ≤ x * b = fraction_trans y b z c x a pc k r in
     let t : z * b ≤ y * c = fraction_trans z c x a y b pa r h in
     (omega arith, omega arith)
 
-pub moment_trans : (a b c : Moment) → IsMoment a → IsMoment b → IsMoment c → NotAfter a b → NotAfter b c → NotAfter a c
+pub moment_trans : (a b c : Moment) → IsMoment a → IsMoment b → IsMoment c → NotAfter a b
+    → NotAfter b c → NotAfter a c
 moment_trans a b c ia ib ic h k =
     let h0 : a.num * b.den ≤ b.num * a.den = omega arith in
     let k0 : b.num * c.den ≤ c.num * b.den = omega arith in
-    let u : a.num * c.den ≤ c.num * a.den = fraction_trans a.num a.den b.num b.den c.num c.den ib.0 h0 k0 in
+    let u : a.num * c.den ≤ c.num * a.den =
+    fraction_trans a.num a.den b.num b.den c.num c.den ib.0 h0 k0 in
     elim (cases_lt (a.num * c.den) (c.num * a.den)) [
       | inl l ↦ omega arith
-      | inr l ↦ let e = fraction_squeeze a.num a.den b.num b.den c.num c.den ia.0 ic.0 h0 k0 l in omega arith
+      | inr l ↦ let e = fraction_squeeze a.num a.den b.num b.den c.num c.den ia.0 ic.0 h0 k0 l in
+          omega arith
     ]
 
 pub moment_total : (a b : Moment) → NotAfter a b ⊎ Before b a
-moment_total a b = elim (cases_lt (2 * (b.num * a.den) + b.late) (2 * (a.num * b.den) + a.late)) [ inl l ↦ inr l | inr l ↦ inl l ]
+moment_total a b =
+    elim (cases_lt (2 * (b.num * a.den) + b.late) (2 * (a.num * b.den) + a.late)) [
+      | inl l ↦ inr l
+      | inr l ↦ inl l
+    ]
 
 -- the mediant: a place between two moments
 abbrev pub between : Moment → Moment → Moment
@@ -42,13 +50,15 @@ between_from a b ia ib h = omega arith
 pub between_to : (a b : Moment) → IsMoment a → IsMoment b → Before a b → Before (between a b) b
 between_to a b ia ib h = omega arith
 
-pub moment_le_lt : (a b c : Moment) → IsMoment a → IsMoment b → IsMoment c → NotAfter a b → Before b c → Before a c
+pub moment_le_lt : (a b c : Moment) → IsMoment a → IsMoment b → IsMoment c → NotAfter a b
+    → Before b c → Before a c
 moment_le_lt a b c ia ib ic h k = elim (moment_total c a) [
   | inl n ↦ let r = moment_trans c a b ic ia ib n h in absurd (omega arith)
   | inr l ↦ l
 ]
 
-pub moment_lt_le : (a b c : Moment) → IsMoment a → IsMoment b → IsMoment c → Before a b → NotAfter b c → Before a c
+pub moment_lt_le : (a b c : Moment) → IsMoment a → IsMoment b → IsMoment c → Before a b
+    → NotAfter b c → Before a c
 moment_lt_le a b c ia ib ic h k = elim (moment_total c a) [
   | inl n ↦ let r = moment_trans b c a ib ic ia k n in absurd (omega arith)
   | inr l ↦ l

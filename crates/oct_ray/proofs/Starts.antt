@@ -1,5 +1,7 @@
 -- What the code makes of a segment is its three axes, so that the walk begins with the whole list.
-use Rattle.std.proofs.Common.{◌≡◌, ℕ, ◌+◌, ◌-◌, ◌*◌, ◌/◌, ◌%◌, ◌<◌, ◌≤◌, true, refl, arith, inl, inr, sym, ◌∙◌, ap, subst, length, slice_get, IsSome, ℤ, List, pos, ◌-ℤ◌}
+use Rattle.std.proofs.Common.{◌≡◌, ℕ, ◌+◌, ◌-◌, ◌*◌, ◌/◌, ◌%◌, ◌<◌, ◌≤◌, true, refl, arith, inl}
+use Rattle.std.proofs.Common.{inr, sym, ◌∙◌, ap, subst, length, slice_get, IsSome, ℤ, List, pos}
+use Rattle.std.proofs.Common.{◌-ℤ◌}
 use Rattle.std.proofs.lemmas.Bool.{cases_lt}
 use Rattle.std.proofs.lemmas.Int.{ints}
 use Rattle.oct_ray.specs.Axis.{IsAxisBetween, IsAxisOf}
@@ -20,21 +22,25 @@ use Rattle.oct_ray.proofs.Tracks.{make_walk, keys_are}
 use Rattle.oct_ray.proofs.Segments.{IsSet, keys_walk}
 
 -- what a height says of a coordinate
-height_diff : (edge a : ℕ) (c : ℤ) → c ≡ (pos a -ℤ pos (32768 * edge)) → IsDifference c a (32768 * edge)
+height_diff : (edge a : ℕ) (c : ℤ) → c ≡ (pos a -ℤ pos (32768 * edge))
+    → IsDifference c a (32768 * edge)
 height_diff edge a c h = record { same = omega (arith, ints) }
 
 -- how far the end lies from the origin, where it lies no lower, and where it lies lower
-move_up : (o e : ℤ) (a b u : ℕ) → IsDifference o a u → IsDifference e b u → a ≤ b → IsDifference (e -ℤ o) (b - a) 0
+move_up : (o e : ℤ) (a b u : ℕ) → IsDifference o a u → IsDifference e b u → a ≤ b
+    → IsDifference (e -ℤ o) (b - a) 0
 move_up o e a b u h k l = record { same = omega (arith, ints, h.same, k.same) }
 
-move_down : (o e : ℤ) (a b u : ℕ) → IsDifference o a u → IsDifference e b u → b < a → IsDifference (e -ℤ o) 0 (a - b)
+move_down : (o e : ℤ) (a b u : ℕ) → IsDifference o a u → IsDifference e b u → b < a
+    → IsDifference (e -ℤ o) 0 (a - b)
 move_down o e a b u h k l = record { same = omega (arith, ints, h.same, k.same) }
 
 pub split : (a edge : ℕ) → 0 < edge → ((a / edge) * edge + a % edge ≡ a) × (a % edge < edge)
 split a edge h = omega arith
 
 -- an axis that the code makes is laid as it says, where it rises, and where it falls
-laid_up : (edge a b : ℕ) (x : Axis) → HasRoom x → IsAxisBetween edge a b x → a ≤ b → IsLaidUp x (a % edge) (b - a)
+laid_up : (edge a b : ℕ) (x : Axis) → HasRoom x → IsAxisBetween edge a b x → a ≤ b
+    → IsLaidUp x (a % edge) (b - a)
 laid_up edge a b x ix l h =
     let u = l.up h in
     let pe : 0 < edge = omega (arith, ix.edges, l.edges) in
@@ -44,7 +50,8 @@ laid_up edge a b x ix l h =
     let e1 : (x.key + x.crossings) * edge ≡ (b / edge) * edge = ap (λ (n : ℕ). n * edge) u.last in
     let lt : 0 < x.crossings → a < b = λ p. elim (cases_lt a b) [
       | inl k ↦ k
-      | inr ge ↦ let q : a ≡ b = omega arith in let d = ap (λ (n : ℕ). n / edge) q in absurd (omega (arith, l.key))
+      | inr ge ↦ let q : a
+          ≡ b = omega arith in let d = ap (λ (n : ℕ). n / edge) q in absurd (omega (arith, l.key))
     ] in
     let e2 : x.crossings * x.edge ≡ x.crossings * edge = ap (λ (n : ℕ). x.crossings * n) l.edges in
     record {
@@ -56,7 +63,8 @@ laid_up edge a b x ix l h =
       high = omega (arith, l.edges);
     }
 
-laid_down : (edge a b : ℕ) (x : Axis) → HasRoom x → IsAxisBetween edge a b x → b < a → IsLaidDown x (a % edge) (a - b)
+laid_down : (edge a b : ℕ) (x : Axis) → HasRoom x → IsAxisBetween edge a b x → b < a
+    → IsLaidDown x (a % edge) (a - b)
 laid_down edge a b x ix l h =
     let u = l.down h in
     let pe : 0 < edge = omega (arith, ix.edges, l.edges) in
@@ -74,7 +82,8 @@ laid_down edge a b x ix l h =
       high = omega (arith, l.edges);
     }
 
-laid_from : (edge : ℕ) (o e : ℤ) (a b : ℕ) (x : Axis) → o ≡ (pos a -ℤ pos (32768 * edge)) → e ≡ (pos b -ℤ pos (32768 * edge)) → HasRoom x → IsAxisBetween edge a b x → IsLaid edge o e x
+laid_from : (edge : ℕ) (o e : ℤ) (a b : ℕ) (x : Axis) → o ≡ (pos a -ℤ pos (32768 * edge))
+    → e ≡ (pos b -ℤ pos (32768 * edge)) → HasRoom x → IsAxisBetween edge a b x → IsLaid edge o e x
 laid_from edge o e a b x ho he ix l =
     let pe : 0 < edge = omega (arith, ix.edges, l.edges) in
     let sa = split a edge pe in
@@ -82,10 +91,23 @@ laid_from edge o e a b x ho he ix l =
     let de = height_diff edge b e he in
     let e0 : x.key * edge ≡ (a / edge) * edge = ap (λ (n : ℕ). n * edge) l.key in
     let e2 : x.key * x.edge ≡ x.key * edge = ap (λ (n : ℕ). x.key * n) l.edges in
-    let from : IsDifference o (x.key * x.edge + a % edge) (32768 * x.edge) = record { same = omega (arith, da.same, l.edges) } in
+    let from : IsDifference o (x.key * x.edge + a % edge) (32768 * x.edge) =
+    record { same = omega (arith, da.same, l.edges) } in
     elim (cases_lt b a) [
-      | inl lt ↦ record { edge_is = sym l.edges; r = a % edge; D = a - b; at = from; way = inr (move_down o e a b (32768 * edge) da de lt, laid_down edge a b x ix l lt) }
-      | inr ge ↦ record { edge_is = sym l.edges; r = a % edge; D = b - a; at = from; way = inl (move_up o e a b (32768 * edge) da de ge, laid_up edge a b x ix l ge) }
+      | inl lt ↦ record {
+        edge_is = sym l.edges;
+        r = a % edge;
+        D = a - b;
+        at = from;
+        way = inr (move_down o e a b (32768 * edge) da de lt, laid_down edge a b x ix l lt);
+      }
+      | inr ge ↦ record {
+        edge_is = sym l.edges;
+        r = a % edge;
+        D = b - a;
+        at = from;
+        way = inl (move_up o e a b (32768 * edge) da de ge, laid_up edge a b x ix l ge);
+      }
     ]
 
 pub laid_of : (edge : ℕ) (o e : ℤ) (x : Axis) → HasRoom x → IsAxisOf edge o e x → IsLaid edge o e x
@@ -94,9 +116,17 @@ laid_of edge o e x ix l = laid_from edge o e l.a l.b x l.o_is l.e_is ix l.laid
 -- its crossings end with the segment
 pub axis_ending : (edge : ℕ) (o e : ℤ) (x : Axis) → HasRoom x → IsAxisOf edge o e x → IsEnding x
 axis_ending edge o e x ix l = elim (cases_lt l.b l.a) [
-  | inl lt ↦ let d = laid_down edge l.a l.b x ix l.laid lt in let n1 = down_late x d.rises in record { ends = λ i h. let s = d.span (omega arith) in let m = row_below i x.crossings x.edge h in omega (arith, d.high, d.off); beyond = omega (arith, d.low, d.off, (l.laid.down lt).span) }
+  | inl lt ↦ let d = laid_down edge l.a l.b x ix l.laid lt in let n1 = down_late x d.rises in
+      record {
+        ends =
+            λ i h. let s = d.span (omega arith) in let m = row_below i x.crossings x.edge h in
+            omega (arith, d.high, d.off);
+        beyond = omega (arith, d.low, d.off, (l.laid.down lt).span);
+      }
   | inr ge ↦ let d = laid_up edge l.a l.b x ix l.laid ge in let n0 = up_late x d.rises in record {
-    ends = λ i h. let s = d.span (omega arith) in let o = d.off (omega arith) in let m = row_below i x.crossings x.edge h in omega (arith, d.low);
+    ends =
+        λ i h. let s = d.span (omega arith) in let o = d.off (omega arith) in let m = row_below i
+        x.crossings x.edge h in omega (arith, d.low);
     beyond =
         let u = l.laid.up ge in
         elim (cases_lt l.a l.b) [
@@ -115,7 +145,8 @@ pub record IsMade (edge : ℕ) (o e : Point) (a b c : Axis) : Type 0 where
   pub of_b : IsAxisOf edge o.y e.y b
   pub of_c : IsAxisOf edge o.z e.z c
 
-pub made_set : (edge : ℕ) (o e : Point) (a b c : Axis) → IsMade edge o e a b c → IsSet edge o e a b c
+pub made_set : (edge : ℕ) (o e : Point) (a b c : Axis) → IsMade edge o e a b c
+    → IsSet edge o e a b c
 made_set edge o e a b c m = record {
   is_x = m.is_a;
   is_y = m.is_b;
@@ -125,7 +156,9 @@ made_set edge o e a b c m = record {
   laid_z = laid_of edge o.z e.z c m.is_c m.of_c;
 }
 
-abbrev pub made_tracks : (edge : ℕ) (o e : Point) (a b c : Axis) (x y z : Track) → IsMade edge o e a b c → IsTrackOf x a b c → IsTrackOf y b c a → IsTrackOf z c a b → AreTracks x y z
+abbrev pub made_tracks : (edge : ℕ) (o e : Point) (a b c : Axis) (x y z : Track)
+    → IsMade edge o e a b c → IsTrackOf x a b c → IsTrackOf y b c a → IsTrackOf z c a b
+    → AreTracks x y z
 made_tracks edge o e a b c x y z m tx ty tz = record {
   a = a;
   b = b;
@@ -150,24 +183,36 @@ pub record IsNewWalk (edge : ℕ) (o e : Point) (ks : List Voxel) : Type 0 where
   pub last : slice_get ks (length ks - 1) ≡ key_at edge e
 
 -- the voxels from where the axes of a segment begin
-new_walk : (edge : ℕ) (o e : Point) (x y z : Axis) → 1 ≤ edge → IsSome (key_at edge o) → IsSome (key_at edge e) → IsSet edge o e x y z → IsNewWalk edge o e (axis_keys (crossings_left x y z) x y z)
+new_walk : (edge : ℕ) (o e : Point) (x y z : Axis) → 1 ≤ edge → IsSome (key_at edge o)
+    → IsSome (key_at edge e) → IsSet edge o e x y z
+    → IsNewWalk edge o e (axis_keys (crossings_left x y z) x y z)
 new_walk edge o e x y z positive ko ke s = record {
   walk = keys_walk edge o e x y z s;
   first = first_is_origin edge o e x y z (key_at edge o) (crossings_left x y z) positive s refl ko;
-  last = last_is_end edge o e x y z (key_at edge e) (crossings_left x y z) positive (omega arith) s refl ke;
+  last =
+      last_is_end edge o e x y z (key_at edge e) (crossings_left x y z) positive (omega arith) s
+      refl ke;
 }
 
-walk_equal : (edge : ℕ) (o e : Point) (ks ls : List Voxel) → ks ≡ ls → IsNewWalk edge o e ks → IsNewWalk edge o e ls
+walk_equal : (edge : ℕ) (o e : Point) (ks ls : List Voxel) → ks ≡ ls → IsNewWalk edge o e ks
+    → IsNewWalk edge o e ls
 walk_equal edge o e ks ls h w = subst (λ (v : List Voxel). IsNewWalk edge o e v) h w
 
 -- and those that the tracks of these axes give
-made_walk : (edge : ℕ) (o e : Point) (a b c : Axis) (x y z : Track) → 1 ≤ edge → IsSome (key_at edge o) → IsSome (key_at edge e) → IsMade edge o e a b c →
-    IsTrackOf x a b c → IsTrackOf y b c a → IsTrackOf z c a b → IsNewWalk edge o e (keys_to_come (make_walk x y z true))
+made_walk : (edge : ℕ) (o e : Point) (a b c : Axis) (x y z : Track) → 1 ≤ edge
+    → IsSome (key_at edge o) → IsSome (key_at edge e) → IsMade edge o e a b c →
+    IsTrackOf x a b c → IsTrackOf y b c a → IsTrackOf z c a b
+    → IsNewWalk edge o e (keys_to_come (make_walk x y z true))
 made_walk edge o e a b c x y z positive ko ke m tx ty tz =
     let r = made_tracks edge o e a b c x y z m tx ty tz in
-    walk_equal edge o e _ _ (sym (keys_are (make_walk x y z true) r refl)) (new_walk edge o e a b c positive ko ke (made_set edge o e a b c m))
+    walk_equal edge o e _ _ (sym (keys_are (make_walk x y z true) r refl))
+    (new_walk edge o e a b c positive ko ke (made_set edge o e a b c m))
 
 -- for the edge as a number
-pub made_at : (res edge : ℕ) (o e : Point) (a b c : Axis) (x y z : Track) → edge ≡ res → IsResolution edge → IsSome (key_at res o) → IsSome (key_at res e) → IsMade edge o e a b c →
-    IsTrackOf x a b c → IsTrackOf y b c a → IsTrackOf z c a b → IsNewWalk res o e (keys_to_come (make_walk x y z true))
-made_at res edge o e a b c x y z h range ko ke m tx ty tz = made_walk res o e a b c x y z (omega arith) ko ke (subst (λ (n : ℕ). IsMade n o e a b c) h m) tx ty tz
+pub made_at : (res edge : ℕ) (o e : Point) (a b c : Axis) (x y z : Track) → edge ≡ res
+    → IsResolution edge → IsSome (key_at res o) → IsSome (key_at res e) → IsMade edge o e a b c →
+    IsTrackOf x a b c → IsTrackOf y b c a → IsTrackOf z c a b
+    → IsNewWalk res o e (keys_to_come (make_walk x y z true))
+made_at res edge o e a b c x y z h range ko ke m tx ty tz =
+    made_walk res o e a b c x y z (omega arith) ko ke (subst (λ (n : ℕ). IsMade n o e a b c) h m) tx
+    ty tz

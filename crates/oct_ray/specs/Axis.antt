@@ -22,7 +22,7 @@ pub record HasRoom (a : Axis) : Type 0 where
   pub falling : a.rises ≡ false → a.crossings ≤ a.key
 
 -- a rising axis, from a to b above the map's lower face: its first crossing is the upper face of
--- its origin's voxels, or lies behind its end if it spans nothing
+-- its origin's voxels, or lies beyond its end if it spans nothing
 pub record IsRisingAxis (edge a b : ℕ) (axis : Axis) : Type 0 where
   pub rises : axis.rises ≡ true
   pub first : a < b → axis.distance + a % edge ≡ edge
@@ -53,15 +53,15 @@ pub record IsAxisOf (edge : ℕ) (o e : ℤ) (axis : Axis) : Type 0 where
   pub e_is : e ≡ (pos b -ℤ pos (32768 * edge))
   pub laid : IsAxisBetween edge a b axis
 
--- 1 where an axis falls: a voxel has its lower face, so that one is left only just behind the face
+-- 1 where an axis falls: a voxel has its lower face, so that one is left only just beyond the face
 abbrev pub lateness : Axis → ℕ
 lateness a = if a.rises then 0 else 1
 
--- the moment of the crossing that comes behind i others
+-- the moment of the crossing that comes after i others
 abbrev pub crossing : Axis → ℕ → Moment
 crossing a i = record { num = a.distance + i * a.edge; den = a.span; late = lateness a }
 
--- an axis behind its next crossing
+-- an axis after its next crossing
 abbrev pub after_crossing : Axis → Axis
 after_crossing a = record {
   key = if a.rises then a.key + 1 else a.key - 1;
@@ -72,7 +72,7 @@ after_crossing a = record {
   edge = a.edge;
 }
 
--- an axis behind its next crossing, where that comes now
+-- an axis after its next crossing, where that comes now
 abbrev pub axis_after : Bool → Axis → Axis
 axis_after true a = after_crossing a
 axis_after false a = a

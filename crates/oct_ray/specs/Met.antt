@@ -10,7 +10,8 @@ use Rattle.oct_ray.specs.Axis.{axis_keys}
 abbrev pub height_of : ℕ → ℤ → ℕ
 height_of edge c = unsigned_abs (c +ℤ pos (32768 * edge))
 
--- the axis that rises from a to b above the map's lower face
+-- the axis that rises from a to b above the map's lower face; where both are one number it crosses
+-- nothing, and its crossing gets the place 2 / 1, past the end of the segment at 1
 abbrev pub rising_axis : ℕ → ℕ → ℕ → Axis
 rising_axis edge a b = record {
   key = a / edge;

@@ -1,13 +1,13 @@
 -- Moments on the way along a segment, and their order.
 use Rattle.std.specs.Prelude.{ℕ, ◌+◌, ◌*◌, ◌<◌, ◌≤◌}
 
--- a moment on the way along a segment: at the place num/den, or, where late is 1, just behind it
+-- a moment on the way along a segment: at the place num/den, or, where late is 1, just after it
 pub record Moment : Type 0 where
   pub num : ℕ
   pub den : ℕ
   pub late : ℕ
 
--- a has a divisor, and is at a place or just behind it
+-- a has a divisor, and is at a place or just after it
 abbrev pub IsMoment : Moment → Type 0
 IsMoment a = (0 < a.den) × (a.late ≤ 1)
 

@@ -7,7 +7,7 @@ use Rattle.oct_ray.specs.declared.track.Track.{Track}
 use Rattle.oct_ray.specs.declared.walk.Walk.TheInside.{Inside}
 use Rattle.oct_ray.specs.Axis.{HasRoom, lateness}
 
--- a track behind its next crossing, where that comes now; p and q are the paces of the next axis
+-- a track after its next crossing, where that comes now; p and q are the paces of the next axis
 -- and of the third
 abbrev pub track_after : Bool → Track → ℕ → ℕ → Track
 track_after true a p q = record {
@@ -51,7 +51,7 @@ keys_to_come w = elim w.more [
   | false ↦ []
 ]
 
--- the crossings to come lie on the segment, and one more would lie behind its end
+-- the crossings to come lie on the segment, and one more would lie beyond its end
 pub record IsEnding (a : Axis) : Type 0 where
   pub ends : (i : ℕ) → i < a.crossings → 2 * (a.distance + i * a.edge) + lateness a ≤ 2 * a.span
   pub beyond : 2 * a.span < 2 * (a.distance + a.crossings * a.edge) + lateness a

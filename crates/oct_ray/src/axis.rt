@@ -1,12 +1,12 @@
 //! One axis of a segment, and the faces of voxels that it crosses.
-ghost use Rattle.std.specs.Prelude.{◌≡◌, ℕ, ◌*◌, ◌<◌, pos, ◌-ℤ◌};
+ghost use Rattle.std.specs.Prelude.{◌≡◌, ◌*◌, ◌<◌, pos, ◌-ℤ◌};
 ghost use Rattle.oct_key.specs.Voxel.{IsResolution};
 ghost use Rattle.oct_ray.specs.Axis.{HasRoom, IsAxisBetween, IsAxisOf, IsOnMap};
 
 /// One axis of a segment: where the origin stands, and which faces of voxels lie between it and the
 /// end.
 ///
-/// A segment that spans 0 on the axis crosses none. It gets a crossing behind its end, at the place
+/// A segment that spans 0 on the axis crosses none. It gets a crossing beyond its end, at the place
 /// 2/1, so that each axis has a next one.
 #[derive(Clone, Copy)]
 pub struct Axis {

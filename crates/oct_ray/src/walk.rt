@@ -62,10 +62,10 @@ impl Walk {
         }
     }
 
-    /// The Morton code of the next voxel, or `None` where the last one was given. It is made from
-    /// the numbers of the three axes as the walk keeps them, so that no bits are moved.
     // A step is short, and is made in the loops of scans and casts, which keep the walk in
     // registers.
+    /// The Morton code of the next voxel, or `None` where the last one was given. It is made from
+    /// the numbers of the three axes as the walk keeps them, so that no bits are moved.
     #[inline(always)]
     pub fn next_code(&mut self) -> Option<u64>
         ensures next { IfSome result (HasGiven self.old self.new) }

@@ -1,7 +1,7 @@
 -- The command of a line.
-use Rattle.std.specs.Prelude.{◌≡◌, ℕ, ◌+◌, ◌^◌, ◌<◌, ℤ, pos, neg_ℤ, ◌≤ℤ◌, ◌<ℤ◌, List, [], ◌∷◌, length}
-use Rattle.std.specs.Prelude.{nat_eq, slice_index, if◌then◌else◌, Bool, Option, Some, None, Result}
-use Rattle.std.specs.Prelude.{Ok, Err, IfSome, ⊤, codes, bytes_eq}
+use Rattle.std.specs.Prelude.{◌≡◌, ℕ, ◌+◌, ◌^◌, ◌<◌, ℤ, pos, neg_ℤ, ◌≤ℤ◌, ◌<ℤ◌, List, [], ◌∷◌}
+use Rattle.std.specs.Prelude.{length, nat_eq, slice_index, if◌then◌else◌, Bool, Option, Some, None}
+use Rattle.std.specs.Prelude.{Result, Ok, Err, IfSome, ⊤, codes, bytes_eq}
 use Rattle.std.specs.List.{filter_map}
 use Rattle.std.specs.Option.{ok_or}
 use Rattle.oct_odds.specs.Odds.{IsSmall}
@@ -14,11 +14,7 @@ use Rattle.oct_script.specs.declared.command.Edit.{Edit}
 use Rattle.oct_script.specs.declared.command.Edit.TheVariants.{Hit, Miss, Add, Set, Forget}
 use Rattle.oct_script.specs.declared.command.Command.{Command}
 use Rattle.oct_script.specs.declared.command.Command.TheVariants as command
-use Rattle.oct_script.specs.declared.command.Command.TheVariants.{Blank, Get, Counts, Refresh}
-use Rattle.oct_script.specs.declared.command.Command.TheVariants.{Prune, Clear, Quit, Scan, Beam, End}
-use Rattle.oct_script.specs.declared.command.Command.TheVariants.{Cast, MaxLikelihood}
-use Rattle.oct_script.specs.declared.command.Command.TheVariants.{Track, Untrack, Changes, NoLimit}
-use Rattle.oct_script.specs.declared.command.Command.TheVariants.{Save, Load, Snapshot, Restore}
+use Rattle.oct_script.specs.declared.command.Command.TheVariants.{Blank, Get, Scan, Beam}
 
 -- the fault at a column
 abbrev pub fault : ℕ → Syntax
@@ -103,28 +99,10 @@ pub record IsOwnOdds (odds : ScanOdds) : Type 0 where
 -- has at most seven digits, the points of a scan and its range stay below ten thousand kilometres,
 -- and its own log-odds are such as it may have
 abbrev pub IsSmallCommand : Command → Type 0
-IsSmallCommand Blank = ⊤
 IsSmallCommand (command.Edit p e lazy) = IsSmallEdit e
 IsSmallCommand (command.Box low high e) = IsSmallEdit e
 IsSmallCommand (Get p depth) = depth < 10000000
 IsSmallCommand (command.List low high depth) = depth < 10000000
-IsSmallCommand (Cast origin end ignore) = ⊤
-IsSmallCommand Counts = ⊤
-IsSmallCommand Refresh = ⊤
-IsSmallCommand Prune = ⊤
-IsSmallCommand Clear = ⊤
-IsSmallCommand MaxLikelihood = ⊤
-IsSmallCommand Track = ⊤
-IsSmallCommand Untrack = ⊤
-IsSmallCommand Changes = ⊤
-IsSmallCommand (command.Limit low high) = ⊤
-IsSmallCommand NoLimit = ⊤
-IsSmallCommand (Save name) = ⊤
-IsSmallCommand (Load name) = ⊤
-IsSmallCommand (Snapshot name) = ⊤
-IsSmallCommand (Restore name) = ⊤
-IsSmallCommand Quit = ⊤
-IsSmallCommand (Scan head) =
-    IsInReach head.t × IsRange head.range × IfSome head.odds IsOwnOdds
+IsSmallCommand (Scan head) = IsInReach head.t × IsRange head.range × IfSome head.odds IsOwnOdds
 IsSmallCommand (Beam p) = IsInReach p
-IsSmallCommand End = ⊤
+IsSmallCommand _ = ⊤

@@ -1,8 +1,7 @@
 -- The grammar of scripts: the forms that a line may have.
-use Rattle.std.specs.Prelude.{ℕ, ℤ, pos, neg_ℤ, int_le, int_lt, unsigned_abs, nat_lt, nat_le}
-use Rattle.std.specs.Prelude.{Bool, ◌&&◌, true, false, if◌then◌else◌}
-use Rattle.std.specs.Prelude.{List, [], ◌∷◌, ◌++◌, length, map, codes, bytes_eq}
-use Rattle.std.specs.Prelude.{Option, Some, None, option_map, option_and_then}
+use Rattle.std.specs.Prelude.{ℕ, ℤ, pos, neg_ℤ, int_le, int_lt, unsigned_abs, nat_lt, nat_le, Bool}
+use Rattle.std.specs.Prelude.{◌&&◌, true, false, if◌then◌else◌, List, [], ◌∷◌, ◌++◌, length, map}
+use Rattle.std.specs.Prelude.{codes, bytes_eq, Option, Some, None, option_map, option_and_then}
 use Rattle.std.specs.Result.{result_ok}
 use Rattle.oct_num.specs.Metres.{metres_of}
 use Rattle.oct_num.specs.Sign.{without_minus}
@@ -216,6 +215,7 @@ pub record Row : Type 0 where
   pub word : Word
   pub forms : List Form
 
+-- a row of the grammar
 abbrev pub row : Word → List Form → Row
 row word forms = record { word = word; forms = forms }
 

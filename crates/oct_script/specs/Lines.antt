@@ -36,7 +36,8 @@ has_bytes (Text []) = false
 has_bytes (Text (b ∷ text)) = true
 has_bytes Long = true
 
--- a text without the carriage return at its end, if there is one
+-- a text without the carriage return at its end, if there is one: an empty text, whose last byte
+-- `slice_index` says is 0, stays as it is
 abbrev pub trimmed : List ℕ → List ℕ
 trimmed text =
     let last = length text - 1 in

@@ -27,7 +27,7 @@ name_of word = if is_name word then Some word else None
 abbrev pub is_kept : ℕ → Bool
 is_kept b = nat_lt 0 b
 
--- a word with zeros behind it, 64 bytes in all
+-- a word with zeros after it, 64 bytes in all
 abbrev pub padded : List ℕ → List ℕ
 padded word = word ++ replicate (64 - length word) 0
 

@@ -1,13 +1,12 @@
 -- How the parser reads the words of a line, one after another. No public clause rests on this.
-use Rattle.std.specs.Prelude.{ℕ, ℤ, Bool, true, false, not, if◌then◌else◌, List, [], ◌∷◌}
+use Rattle.std.specs.Prelude.{ℕ, ℤ, Bool, true, false, if◌then◌else◌, List, [], ◌∷◌}
 use Rattle.std.specs.Prelude.{Option, Some, None, Result, Ok, Err, codes, bytes_eq}
 use Rattle.std.specs.List.{find}
 use Rattle.oct_key.specs.declared.point.Point.{Point}
 use Rattle.oct_script.specs.Commands.{fault, if_any, command_by, is_comment}
-use Rattle.oct_script.specs.Grammar.{length_of, number_of, depth_of, component_of, range_of}
-use Rattle.oct_script.specs.Grammar.{hit_of, miss_of}
-use Rattle.oct_script.specs.Grammar.{Form, Row, alone, edit, number_edit, query, cast, scan, beam, box, file, listing, limit}
-use Rattle.oct_script.specs.Grammar.{rows_of}
+use Rattle.oct_script.specs.Grammar.{length_of, number_of, depth_of, component_of, range_of, hit_of}
+use Rattle.oct_script.specs.Grammar.{miss_of, Form, Row, alone, edit, number_edit, query, cast}
+use Rattle.oct_script.specs.Grammar.{scan, beam, box, file, listing, limit, rows_of}
 use Rattle.oct_script.specs.Names.{name_of}
 use Rattle.oct_script.specs.Words.{Word, PlacedWord}
 use Rattle.oct_script.specs.declared.command.Syntax.{Syntax}
@@ -18,7 +17,9 @@ use Rattle.oct_script.specs.declared.command.Command.{Command}
 use Rattle.oct_script.specs.declared.command.Command.TheVariants as command
 use Rattle.oct_script.specs.declared.verbs.Verb.{Verb}
 use Rattle.oct_script.specs.declared.verbs.Verb.TheVariants as verb
-use Rattle.oct_script.specs.declared.verbs.Verb.TheVariants.{Hit, Miss, Add, Set, Forget, Get, Scan, Beam, Cast, Alone, Box, Limit, Save, Load, Snapshot, Restore}
+use Rattle.oct_script.specs.declared.verbs.Verb.TheVariants.{Hit, Miss, Add, Set, Forget, Get, Scan}
+use Rattle.oct_script.specs.declared.verbs.Verb.TheVariants.{Beam, Cast, Alone, Box, Limit, Save}
+use Rattle.oct_script.specs.declared.verbs.Verb.TheVariants.{Load, Snapshot, Restore}
 use Rattle.oct_script.specs.declared.verbs.Single.{Single}
 use Rattle.oct_script.specs.declared.verbs.Single.TheVariants as single
 use Rattle.oct_script.specs.declared.verbs.FirstWord.{FirstWord}

@@ -16,14 +16,13 @@ use Rattle.oct_query.specs.declared.totals.Counts.{Counts}
 use Rattle.oct_script.specs.declared.reply.Refusal.{Refusal}
 use Rattle.oct_script.specs.declared.reply.Refusal.TheVariants.{ZeroQuaternion, OriginOutside}
 use Rattle.oct_script.specs.declared.reply.Refusal.TheVariants.{PointOutside, TooManyCells, Stale}
-use Rattle.oct_script.specs.declared.reply.Refusal.TheVariants.{TooManyBlocks, BadBox}
-use Rattle.oct_script.specs.declared.reply.Refusal.TheVariants.{Full, Outside, BadDepth, Syntax}
-use Rattle.oct_script.specs.declared.reply.Refusal.TheVariants.{LongLine, OpenScan, TooManyPoints}
-use Rattle.oct_script.specs.declared.reply.Refusal.TheVariants.{NotOctomap, FloatTree, WrongId}
-use Rattle.oct_script.specs.declared.reply.Refusal.TheVariants.{MissingField, BadField}
-use Rattle.oct_script.specs.declared.reply.Refusal.TheVariants.{HeaderTooLong, TooDeep, Truncated}
-use Rattle.oct_script.specs.declared.reply.Refusal.TheVariants.{TrailingBytes, SizeMismatch}
-use Rattle.oct_script.specs.declared.reply.Refusal.TheVariants.{BadMagic, BadSnapshot}
+use Rattle.oct_script.specs.declared.reply.Refusal.TheVariants.{TooManyBlocks, BadBox, Full}
+use Rattle.oct_script.specs.declared.reply.Refusal.TheVariants.{Outside, BadDepth, Syntax, LongLine}
+use Rattle.oct_script.specs.declared.reply.Refusal.TheVariants.{OpenScan, TooManyPoints, NotOctomap}
+use Rattle.oct_script.specs.declared.reply.Refusal.TheVariants.{FloatTree, WrongId, MissingField}
+use Rattle.oct_script.specs.declared.reply.Refusal.TheVariants.{BadField, HeaderTooLong, TooDeep}
+use Rattle.oct_script.specs.declared.reply.Refusal.TheVariants.{Truncated, TrailingBytes}
+use Rattle.oct_script.specs.declared.reply.Refusal.TheVariants.{SizeMismatch, BadMagic, BadSnapshot}
 use Rattle.oct_script.specs.declared.reply.Refusal.TheVariants.{WideWhileTracked, NotTracked}
 use Rattle.oct_script.specs.declared.reply.Refusal.TheVariants.{NoFile, FileTooLarge}
 use Rattle.oct_script.specs.declared.reply.Refusal.TheVariants.{OtherResolution}
@@ -32,8 +31,8 @@ use Rattle.oct_script.specs.declared.reply.HeaderWord.TheVariants.{Id, Res, Size
 use Rattle.oct_script.specs.declared.reply.ScanDone.{ScanDone}
 use Rattle.oct_script.specs.declared.reply.Reply.{Reply}
 use Rattle.oct_script.specs.declared.reply.Reply.TheVariants.{Ok, Known, Unknown, Scanned, Counted}
-use Rattle.oct_script.specs.declared.reply.Reply.TheVariants.{Casted, Saved, Loaded, Restored, Refused}
-use Rattle.oct_script.specs.declared.reply.Reply.TheVariants.{Blocks, Changed}
+use Rattle.oct_script.specs.declared.reply.Reply.TheVariants.{Casted, Saved, Loaded, Restored}
+use Rattle.oct_script.specs.declared.reply.Reply.TheVariants.{Refused, Blocks, Changed}
 
 -- the name of a class
 abbrev pub class_name : Class → List ℕ
@@ -134,7 +133,7 @@ abbrev pub change_text : Change → List ℕ
 change_text change =
     kind_name change.kind ++ (codes " " ++ voxel_text change.key) ++ codes "\n"
 
--- the line after a list of so many lines
+-- the line after a list of this many lines
 abbrev pub end_text : ℕ → List ℕ
 end_text count = (codes "end " ++ decimal count) ++ codes "\n"
 

@@ -2,8 +2,8 @@
 //!
 //! A script is bytes. [`Lines`] takes them in pieces, as they come, and holds the line that is
 //! being read; [`parse`] reads a line as a [`Command`], and [`parse_into`] puts it in a place;
-//! [`push_reply`] appends the text of a [`Reply`]. What a command does isn't known here, nor whether
-//! a scan is open: the caller says so.
+//! [`push_reply`] appends the text of a [`Reply`]. What a command does isn't known here, nor
+//! whether a scan is open: the caller says so.
 //!
 //! What the contracts promise:
 //!

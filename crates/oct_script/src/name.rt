@@ -13,7 +13,7 @@ const LONGEST_NAME: usize = 64;
 /// neither `.` nor `-`. Contracts see it as the list of its bytes.
 #[derive(Clone, Copy, Debug, PartialEq, Eq)]
 pub struct Name {
-    /// The bytes, and zeros behind them.
+    /// The bytes, and zeros after them.
     bytes: [u8; LONGEST_NAME],
 }
 
@@ -58,7 +58,7 @@ fn is_name(word: &[u8]) -> bool
     }
 }
 
-/// A word of at most 64 bytes, and zeros behind it.
+/// A word of at most 64 bytes, and zeros after it.
 fn padded(word: &[u8]) -> [u8; LONGEST_NAME]
     requires { length word.now ≤ LONGEST_NAME }
     ensures { result ≡ padded word.now }

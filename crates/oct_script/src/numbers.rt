@@ -1,5 +1,5 @@
 //! What single words spell: lengths, numbers of log-odds and of quaternions, depths and ranges.
-ghost use Rattle.std.specs.Prelude.{◌≡◌, ◌^◌, ◌<◌, ℤ, unsigned_abs, IfSome};
+ghost use Rattle.std.specs.Prelude.{◌≡◌, ◌^◌, ◌<◌, unsigned_abs, IfSome};
 ghost use Rattle.oct_odds.specs.Odds.{IsSmall};
 ghost use Rattle.oct_script.specs.Grammar.{length_of, short_whole, number_of, depth_of};
 ghost use Rattle.oct_script.specs.Grammar.{component_of, range_of, hit_of, miss_of};

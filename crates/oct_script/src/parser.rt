@@ -1,5 +1,5 @@
 //! How a line is read as a command.
-ghost use Rattle.std.specs.Prelude.{◌≡◌, ◌+◌, ◌<◌, ◌≤◌, length, not, MatchResult, IfOk, OnOk, IfErr};
+ghost use Rattle.std.specs.Prelude.{◌≡◌, ◌+◌, ◌<◌, ◌≤◌, length, MatchResult, IfOk, OnOk, IfErr};
 ghost use Rattle.std.specs.Prelude.{IfSome, Some, None, Ok, Err};
 ghost use Rattle.oct_odds.specs.Odds.{IsSmall};
 ghost use Rattle.oct_pose.specs.Reach.{IsInReach};
@@ -11,9 +11,12 @@ ghost use Rattle.oct_script.specs.Faults.{IsMeant, LeavesAt};
 ghost use Rattle.oct_script.specs.Commands.{command_of, IsRead, opens_scan, IsSmallEdit, IsRange};
 ghost use Rattle.oct_script.specs.Commands.{IsHitOdds, IsMissOdds, IsOwnOdds, IsSmallCommand};
 ghost use Rattle.oct_script.specs.declared.verbs.Verb.TheVariants.{Save, Load, Snapshot, Restore};
-ghost use Rattle.oct_script.specs.Reading.{single_command};
-ghost use Rattle.oct_script.specs.Reading.{number_in, point_in, point_number_in, rotation_in};
-ghost use Rattle.oct_script.specs.Reading.{excess, end_in, flag_in, edit_end_in, edit_in, points_in, number_edit_in, query_in, cast_in, scan_in, beam_in, file_in, behind_verb, behind_first, line_in, edit_number_in, edit_word_in, box_in, listing_in, limit_in, miss_in, head_end_in};
+ghost use Rattle.oct_script.specs.Reading.{single_command, number_in, point_in, point_number_in};
+ghost use Rattle.oct_script.specs.Reading.{rotation_in, excess, end_in, flag_in, edit_end_in};
+ghost use Rattle.oct_script.specs.Reading.{edit_in, points_in, number_edit_in, query_in, cast_in};
+ghost use Rattle.oct_script.specs.Reading.{scan_in, beam_in, file_in, behind_verb, behind_first};
+ghost use Rattle.oct_script.specs.Reading.{line_in, edit_number_in, edit_word_in, box_in};
+ghost use Rattle.oct_script.specs.Reading.{listing_in, limit_in, miss_in, head_end_in};
 
 use crate::command::{Command, Edit, ScanHead, ScanOdds, Syntax};
 use crate::lines::LONGEST_LINE;
@@ -551,9 +554,9 @@ fn read_words(inside: bool, words: &mut Words<'_>, command: &mut Command) -> Res
 /// open scan, or outside.
 ///
 /// A line that needs no reply is [`Command::Blank`]: an empty line, one of blanks, and a comment. A
-/// line that isn't in the grammar is a [`Syntax`], with the column of the first word that can't stand
-/// there, or one more than the line's length where a word is missing. Inside a block only `p X Y Z`
-/// and `end` are in the grammar, and outside they aren't.
+/// line that isn't in the grammar is a [`Syntax`], with the column of the first word that can't
+/// stand there, or one more than the line's length where a word is missing. Inside a block only
+/// `p X Y Z` and `end` are in the grammar, and outside they aren't.
 pub fn parse(line: &[u8], inside: bool) -> Result<Command, Syntax>
     requires { length line.now ≤ LONGEST_LINE }
     ensures exact { result ≡ command_of inside line.now }

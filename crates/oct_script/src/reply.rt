@@ -1,11 +1,10 @@
 //! Replies, and their texts.
-ghost use Rattle.std.specs.Prelude.{◌≡◌, ◌++◌, OnOk, OnErr, Option, Some, None, decimal, take};
-ghost use Rattle.std.specs.Prelude.{vec_len, map};
+ghost use Rattle.std.specs.Prelude.{◌≡◌, ◌++◌, OnOk, OnErr, take, vec_len, map};
 ghost use Rattle.std.specs.List.{flat_map};
-ghost use Rattle.oct_script.specs.Replies.{class_name, refusal_text, voxel_text, cast_text, word_text};
-ghost use Rattle.oct_script.specs.Replies.{class_shown, value_text, block_text, kind_name};
-ghost use Rattle.oct_script.specs.Replies.{change_text, end_text, blocks_text, changes_text};
-ghost use Rattle.oct_script.specs.Replies.{reply_text};
+ghost use Rattle.oct_script.specs.Replies.{class_name, refusal_text, voxel_text, cast_text};
+ghost use Rattle.oct_script.specs.Replies.{word_text, class_shown, value_text, block_text};
+ghost use Rattle.oct_script.specs.Replies.{kind_name, change_text, end_text, blocks_text};
+ghost use Rattle.oct_script.specs.Replies.{changes_text, reply_text};
 ghost use Rattle.oct_query.specs.Shown.{shown_as};
 ghost use Rattle.std.specs.Fmt.{signed_decimal};
 
@@ -46,7 +45,7 @@ pub enum Refusal {
     /// With the beam to the point of this index, from 0 on, the beams meet more voxels than the map
     /// allows: `cells`.
     TooManyCells { index: u64, cells: u64 },
-    /// So many blocks meet the box, and that is more than a list may have.
+    /// This many blocks meet the box, and that is more than a list may have.
     TooManyBlocks { count: u64 },
     /// The file doesn't begin as a file of classes.
     NotOctomap,
@@ -64,7 +63,7 @@ pub enum Refusal {
     TooDeep { at: u64 },
     /// The file ends at this byte, where it isn't whole.
     Truncated { at: u64 },
-    /// The first byte behind what the file has to have stands here.
+    /// The first byte after what the file has to have stands here.
     TrailingBytes { at: u64 },
     /// The header says another number of nodes than are found.
     SizeMismatch { said: u64, found: u64 },
@@ -82,7 +81,7 @@ pub enum Refusal {
     BadDepth,
     /// On some axis the first corner of the box lies beyond the second.
     BadBox,
-    /// It's noted how voxels change, and the box has so many voxels, which is more than may be
+    /// It's noted how voxels change, and the box has this many voxels, which is more than may be
     /// noted at once.
     WideWhileTracked { count: u64 },
     /// It isn't noted how voxels change.
@@ -122,11 +121,11 @@ pub enum Reply {
     Counted(Counts),
     /// What a cast finds.
     Casted(Cast),
-    /// The file was written, and has so many bytes.
+    /// The file was written, and has this many bytes.
     Saved(u64),
-    /// The file of classes was read, and has so many nodes.
+    /// The file of classes was read, and has this many nodes.
     Loaded(u64),
-    /// The snapshot was read, and has so many groups.
+    /// The snapshot was read, and has this many groups.
     Restored(u64),
     /// Nothing was done.
     Refused(Refusal),
@@ -350,7 +349,7 @@ fn append_change(out: &mut Vec<u8>, change: Change) -> Result<(), Memory>
     Ok(())
 }
 
-/// Appends the line after a list of so many lines.
+/// Appends the line after a list of this many lines.
 fn append_end(out: &mut Vec<u8>, count: usize) -> Result<(), Memory>
     ensures ok { OnOk result (out.new.items ≡ out.old.items ++ end_text count) }
     ensures err { OnErr result (take (vec_len out.old) out.new.items ≡ out.old.items) }

@@ -29,7 +29,7 @@ fn expect_text(rt: &impl Abort, lines: &Lines, want: &[u8]) {
     assert_eq!(rt; text_of(lines), Some(want));
 }
 
-/// Feeds a piece to a line that hasn't ended, and expects that so many bytes of it are taken, and
+/// Feeds a piece to a line that hasn't ended, and expects that this many bytes of it are taken, and
 /// that the line ends there or doesn't.
 fn expect_fed(rt: &impl Abort, lines: &mut Lines, piece: &[u8], taken: usize, ended: bool)
     requires { lines.old.has_ended ≡ false }

@@ -16,7 +16,8 @@ pub root_above : (b : Cube) → ◌≡◌ {A = Option Cube} (Some root_block) (S
 root_above b e = subst (λ (c : Cube). c.depth ≤ 15) (some_injective e) (omega arith)
 
 -- the group under a root that was split is live
-pub live_under_root : (t u : Tree) (id : GroupId) (v : ℤ) → IsSplit t u Root id v → IsLive u.groups id.number
+pub live_under_root : (t u : Tree) (id : GroupId) (v : ℤ) → IsSplit t u Root id v
+    → IsLive u.groups id.number
 live_under_root t u id v s = homed_entry _ root_block s.home
 
 -- a write to a slot leaves the others as they were made, where the root was split

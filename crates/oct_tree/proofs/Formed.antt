@@ -18,13 +18,16 @@ use Rattle.oct_tree.proofs.Frames.{id_of}
 
 -- facts of a group are facts of its entry
 pub known_of : (gs hs : Groups) (x : ℕ) → entry hs x ≡ entry gs x → IsKnown gs x → IsKnown hs x
-known_of gs hs x e h = (let (i, l, some) = h in (i, l, λ f. some (ap (λ r. node_of r i) (sym e) ∙ f)))
+known_of gs hs x e h =
+    (let (i, l, some) = h in (i, l, λ f. some (ap (λ r. node_of r i) (sym e) ∙ f)))
 
-pub collapsible_of : (gs hs : Groups) (x : ℕ) → entry hs x ≡ entry gs x → IsCollapsible hs x → IsCollapsible gs x
+pub collapsible_of : (gs hs : Groups) (x : ℕ) → entry hs x ≡ entry gs x → IsCollapsible hs x
+    → IsCollapsible gs x
 collapsible_of gs hs x e (inl none) = inl (λ i l. ap (λ r. node_of r i) (sym e) ∙ none i l)
 collapsible_of gs hs x e (inr (v, leaf)) = inr (v, λ i l. ap (λ r. node_of r i) (sym e) ∙ leaf i l)
 
-pub greatest_of : (gs hs : Groups) (x : ℕ) (m : ℤ) → entry hs x ≡ entry gs x → IsGreatest gs x m → IsGreatest hs x m
+pub greatest_of : (gs hs : Groups) (x : ℕ) (m : ℤ) → entry hs x ≡ entry gs x → IsGreatest gs x m
+    → IsGreatest hs x m
 greatest_of gs hs x m e h = record {
   there = (let (i, l, is) = h.there in (i, l, ap (λ r. stored_in (node_of r i)) e ∙ is));
   most = λ i v l is. h.most i v l (ap (λ r. stored_in (node_of r i)) (sym e) ∙ is);
@@ -34,7 +37,8 @@ leaf_known : (v : ℤ) → Leaf v ≡ Absent → ⊥
 leaf_known v h = cc
 
 -- a leaf that is put at a place keeps the tree well-formed
-pub leaf_formed : (t u : Tree) (p : Place) (v : ℤ) → IsWellFormed t → IsWritten t u p (Leaf v) → IsLinked u → IsWellFormed u
+pub leaf_formed : (t u : Tree) (p : Place) (v : ℤ) → IsWellFormed t → IsWritten t u p (Leaf v)
+    → IsLinked u → IsWellFormed u
 leaf_formed t u p v f w l = record { linked = l; known = known }
   where
     known : (x : ℕ) → IsLive u.groups x → IsKnown u.groups x
@@ -46,14 +50,19 @@ leaf_formed t u p v f w l = record { linked = l; known = known }
           i,
           li,
           λ a. elim (same_place (Slot id i) p) [
-            | inl g ↦ leaf_known v (sym w.there ∙ ap (node_in u) (sym g) ∙ ap (λ n. node_at u.groups n i) is ∙ a)
-            | inr g ↦ ne (ap (λ n. node_at t.groups n i) (sym is) ∙ sym (w.others (Slot id i) g) ∙ ap (λ n. node_at u.groups n i) is ∙ a)
+            | inl g ↦ leaf_known v
+                (sym w.there ∙ ap (node_in u) (sym g) ∙ ap (λ n. node_at u.groups n i) is ∙ a)
+            | inr g ↦ ne
+                (ap (λ n. node_at t.groups n i) (sym is) ∙ sym (w.others (Slot id i) g)
+                ∙ ap (λ n. node_at u.groups n i) is ∙ a)
           ],
         )
 
 -- the block of a slot is one deeper than its group's home
-pub child_depth : (t : Tree) (id i depth : ℕ) (b : Cube) → home_at t.groups id ≡ Some b → b.depth ≡ depth → (c : Cube)
+pub child_depth : (t : Tree) (id i depth : ℕ) (b : Cube) → home_at t.groups id ≡ Some b
+    → b.depth ≡ depth → (c : Cube)
     → option_map (λ b. child_of b i) (home_at t.groups id) ≡ Some c → c.depth ≡ depth + 1
 child_depth t id i depth b home deep c e =
-    let is : child_of b i ≡ c = some_injective (sym (ap (option_map (λ b. child_of b i)) home) ∙ e) in
+    let is : child_of b i ≡ c =
+    some_injective (sym (ap (option_map (λ b. child_of b i)) home) ∙ e) in
     ap (λ (d : Cube). d.depth) (sym is) ∙ depth_child_of b i ∙ ap (λ n. n + 1) deep

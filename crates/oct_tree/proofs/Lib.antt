@@ -1,3 +1,4 @@
+pub mod Parts
 pub mod Paths
 pub mod Links
 pub mod Frames

@@ -1,5 +1,6 @@
 -- What a pass over a group's eight nodes finds.
-use Rattle.std.proofs.Common.{◌≡◌, ℕ, zero, suc, ◌+◌, ◌<◌, sym, refl, ◌∙◌, ap, subst, arith, inl, inr, Some, None}
+use Rattle.std.proofs.Common.{◌≡◌, ℕ, zero, suc, ◌+◌, ◌<◌, sym, refl, ◌∙◌, ap, subst, arith, inl}
+use Rattle.std.proofs.Common.{inr, Some, None}
 use Rattle.std.specs.Prelude.{◌^◌, ◌≢◌, Option, ℤ, pos, neg_ℤ, ◌≤ℤ◌, ◌⊎◌}
 use Rattle.std.proofs.lemmas.Bool.{cases_lt}
 use Rattle.std.proofs.lemmas.Int.{ints}
@@ -9,10 +10,6 @@ use Rattle.oct_arena.specs.declared.node.Node.TheVariants.{Absent, Leaf, Inner}
 use Rattle.oct_arena.specs.Entries.{Groups, node_at}
 use Rattle.oct_tree.specs.Nodes.{IsAll, IsCollapsible, IsKnown, IsGreatest}
 use Rattle.oct_arena.specs.Nodes.{link_of, stored_in, IsRankOf}
-
--- the first n nodes are like this one, which is not Inner
-abbrev pub AreAlike : Groups → ℕ → ℕ → Node → Type 0
-AreAlike gs id n first = (i : ℕ) → i < n → (link_of first ≡ None) × (first ≡ node_at gs id i)
 
 same_some : {A : Type 0} {x y : A} {o : Option A} → o ≡ Some x → o ≡ Some y → x ≡ y
 same_some p q = cc
@@ -32,13 +29,6 @@ pub record IsGreatestRank (gs : Groups) (id n : ℕ) (m : ℤ) : Type 0 where
   pub there : (m ≡ least) ⊎ ((i : ℕ) × (i < n) × (stored_in (node_at gs id i) ≡ Some m))
   pub most : (i : ℕ) (v : ℤ) → i < n → stored_in (node_at gs id i) ≡ Some v → v ≤ℤ m
   pub fits : (i : ℕ) (v : ℤ) → i < n → stored_in (node_at gs id i) ≡ Some v → least ≤ℤ v
-
-pub rank_first : (gs : Groups) (id : ℕ) → IsGreatestRank gs id 0 least
-rank_first gs id = record {
-  there = inl refl;
-  most = λ i v l f. absurd (omega arith);
-  fits = λ i v l f. absurd (omega arith);
-}
 
 stored_of : (gs : Groups) (id i n : ℕ) (o : Value) → i ≡ n → stored_in (node_at gs id n) ≡ o
     → stored_in (node_at gs id i) ≡ o
@@ -115,7 +105,8 @@ absent_or (Leaf v) = inr (λ e. cc)
 absent_or (Inner v id) = inr (λ e. cc)
 
 known_or : (gs : Groups) (id n : ℕ)
-    → ((i : ℕ) × (i < n) × (node_at gs id i ≢ Absent)) ⊎ ((i : ℕ) → i < n → node_at gs id i ≡ Absent)
+    → ((i : ℕ) × (i < n) × (node_at gs id i ≢ Absent))
+    ⊎ ((i : ℕ) → i < n → node_at gs id i ≡ Absent)
 known_or gs id zero = inr (λ i l. absurd (omega arith))
 known_or gs id (suc n) = elim (known_or gs id n) [
   | inl (i, l, some) ↦ inl (i, omega arith, some)
@@ -136,10 +127,8 @@ uncollapsible_known gs id not = elim (known_or gs id 8) [
 ]
 
 -- a group whose nodes are all one node that is not Inner is collapsible
-pub all_collapsible : (gs : Groups) (id : ℕ) (n : Node) → link_of n ≡ None → IsAll gs id n → IsCollapsible gs id
+pub all_collapsible : (gs : Groups) (id : ℕ) (n : Node) → link_of n ≡ None → IsAll gs id n
+    → IsCollapsible gs id
 all_collapsible gs id Absent h all = inl all
 all_collapsible gs id (Leaf v) h all = inr (v, all)
 all_collapsible gs id (Inner v y) h all = cc
-
-pub alike_more : (gs : Groups) (id n : ℕ) (first : Node) → AreAlike gs id n first → (link_of first ≡ None) × (first ≡ node_at gs id n) → AreAlike gs id (n + 1) first
-alike_more gs id n first h more i l = elim (below i n l) [ inl m ↦ h i m | inr m ↦ (more.0, more.1 ∙ ap (node_at gs id) (sym m)) ]

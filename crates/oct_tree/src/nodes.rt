@@ -1,10 +1,10 @@
 //! What a group's eight nodes come to, read from the arena.
 
-ghost use Rattle.std.specs.Prelude.{◌≡◌, ◌≤◌, ◌<◌, ◌↔◌, ◌≤ℤ◌, ◌⊎◌, IsTrue, IsSome, IfSome, IfNone, Some, None, Option, ℤ};
-ghost use Rattle.oct_arena.specs.Entries.{IsLive, node_at};
+ghost use Rattle.std.specs.Prelude.{◌≡◌, ◌≤◌, ◌<◌, ◌↔◌, ◌≤ℤ◌, ◌⊎◌, IsTrue, IfSome, IfNone, Some};
+ghost use Rattle.std.specs.Prelude.{None};
+ghost use Rattle.oct_arena.specs.Entries.{IsLive};
 ghost use Rattle.oct_tree.specs.Nodes.{inherited, IsAll, IsCollapsible, IsKnown, IsGreatest};
-ghost use Rattle.oct_arena.specs.Nodes.{link_of, IsRankOf};
-ghost use Rattle.oct_odds.specs.Update.{Value};
+ghost use Rattle.oct_arena.specs.Nodes.{link_of};
 ghost use Rattle.oct_tree.specs.Survey.{IsSurvey};
 
 use oct_arena::{GroupId, Node, NodeArena};

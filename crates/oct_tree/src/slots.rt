@@ -1,12 +1,13 @@
 //! Reading and writing the node of a place, in the arena or at the root.
 
-ghost use Rattle.std.specs.Prelude.{◌≡◌, ◌+◌, ◌<◌, ◌≤◌, ◌≢◌, Some, None, length, replicate, slice_set};
+ghost use Rattle.std.specs.Prelude.{◌≡◌, ◌+◌, ◌<◌, ◌≤◌, Some, None, length, replicate, slice_set};
 ghost use Rattle.oct_key.specs.Block.{Cube, root_block};
 ghost use Rattle.oct_key.specs.CubeOf.{cube_of};
 ghost use Rattle.oct_arena.specs.declared.node.Node.TheVariants.{Inner};
 ghost use Rattle.oct_arena.specs.Entries.{IsLive, entry, spare};
 ghost use Rattle.oct_tree.specs.Nodes.{inherited};
-ghost use Rattle.oct_tree.specs.Places.{IsPlaceOf, IsAboveVoxels, node_at_place, block_at_place, groups_with, root_with};
+ghost use Rattle.oct_tree.specs.Places.{IsPlaceOf, IsAboveVoxels, node_at_place, block_at_place};
+ghost use Rattle.oct_tree.specs.Places.{groups_with, root_with};
 
 use crate::nodes::inner_over;
 use crate::place::Place;

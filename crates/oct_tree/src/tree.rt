@@ -1,4 +1,5 @@
-ghost use Rattle.std.specs.Prelude.{◌≡◌, ℕ, ℤ, ◌+◌, ◌-◌, ◌<◌, ◌≤◌, ◌^◌, ◌↔◌, ◌++◌, [], length, max, Some, None, Option, IsSome, IsTrue, IsOk, OnOk};
+ghost use Rattle.std.specs.Prelude.{◌≡◌, ℕ, ◌+◌, ◌-◌, ◌<◌, ◌≤◌, ◌^◌, ◌↔◌, ◌++◌, [], length, max};
+ghost use Rattle.std.specs.Prelude.{Some, None, IsSome, IsTrue, IsOk, OnOk};
 ghost use Rattle.std.specs.Bool.{OnTrue, OnFalse};
 ghost use Rattle.oct_key.specs.Voxel.{Voxel, IsInMap};
 ghost use Rattle.oct_key.specs.Block.{Cube, HoldsVoxel, block_of};
@@ -6,7 +7,7 @@ ghost use Rattle.oct_odds.specs.Odds.{odds_of};
 ghost use Rattle.oct_odds.specs.Update.{IsWithin};
 ghost use Rattle.oct_arena.specs.declared.node.Node.{Node};
 ghost use Rattle.oct_arena.specs.declared.node.GroupId.{GroupId};
-ghost use Rattle.oct_arena.specs.Entries.{IsArena, home_at, spare, live, vacant};
+ghost use Rattle.oct_arena.specs.Entries.{home_at, spare, live, vacant};
 ghost use Rattle.oct_tree.specs.Nodes.{inherited, IsKnown};
 ghost use Rattle.oct_arena.specs.Nodes.{link_of, value_of};
 
@@ -54,9 +55,11 @@ impl Model for OccTree {
 }
 
 impl OccTree {
-    ghost use Rattle.oct_tree.specs.Tree.{Tree, IsLinked, IsPlace, StandsOver, node_in, block_in, reach, value_at};
+    ghost use Rattle.oct_tree.specs.Tree.{Tree, IsLinked, IsPlace, StandsOver, node_in, block_in};
+    ghost use Rattle.oct_tree.specs.Tree.{reach, value_at};
     ghost use Rattle.oct_tree.specs.Shape.{IsShaped};
-    ghost use Rattle.oct_tree.specs.Changes.{SetsBlock, IsWritten, IsSplit, CanCollapse, CanDrop, IsCollapsed, IsRenewed, IsGrown, IsSameOutside};
+    ghost use Rattle.oct_tree.specs.Changes.{SetsBlock, IsWritten, IsSplit, CanCollapse, CanDrop};
+    ghost use Rattle.oct_tree.specs.Changes.{IsCollapsed, IsRenewed, IsGrown, IsSameOutside};
     ghost use Rattle.oct_tree.specs.Tidiness.{IsTrueOf};
     ghost use Rattle.oct_key.specs.Values.{SameValues};
 

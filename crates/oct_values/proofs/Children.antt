@@ -8,12 +8,16 @@ use Rattle.oct_key.proofs.Held.{held_by_parent}
 use Rattle.oct_values.proofs.Uniform.{uniform_of, value_of_uniform}
 
 -- a child of a uniform block is uniform
-pub uniform_child : (values : Values) (b : Cube) (i : ℕ) → IsBlock b → b.depth ≤ 15 → i < 8 → is_uniform values b ≡ true
+pub uniform_child : (values : Values) (b : Cube) (i : ℕ) → IsBlock b → b.depth ≤ 15 → i < 8
+    → is_uniform values b ≡ true
     → is_uniform values (child_of b i) ≡ true
 uniform_child values b i ok low li uniform =
     uniform_of values (child_of b i) (values (lowest_voxel b)) (child_in_map b i ok (omega arith))
     (λ k held. value_of_uniform values b k ok uniform (held_by_parent b i k (omega arith) li held))
 
--- what is known of a child is known of the block, and what is known of the block is known of a child
-pub known_above : (values : Values) (b : Cube) (i : ℕ) → b.depth ≤ 15 → i < 8 → IsKnownIn values (child_of b i) → IsKnownIn values b
-known_above values b i low li (k, held, some) = (k, held_by_parent b i k (omega arith) li held, some)
+-- what is known of a child is known of the block, and what is known
+-- of the block is known of a child
+pub known_above : (values : Values) (b : Cube) (i : ℕ) → b.depth ≤ 15 → i < 8
+    → IsKnownIn values (child_of b i) → IsKnownIn values b
+known_above values b i low li (k, held, some) =
+    (k, held_by_parent b i k (omega arith) li held, some)

@@ -1,5 +1,6 @@
 -- Lists and sums that go over the eight children.
-use Rattle.std.proofs.Common.{◌≡◌, ◌≢◌, ℕ, zero, suc, ◌+◌, ◌<◌, Bool, true, false, cond, List, [], ◌∷◌, refl, sym, subst, ◌∙◌, ap, arith}
+use Rattle.std.proofs.Common.{◌≡◌, ◌≢◌, ℕ, zero, suc, ◌+◌, ◌<◌, Bool, true, false, cond, List, []}
+use Rattle.std.proofs.Common.{◌∷◌, refl, sym, subst, ◌∙◌, ap, arith}
 use Rattle.std.specs.Prelude.{◌==◌, sum_by}
 use Rattle.std.proofs.lemmas.Bool.{false≢true, eqb-true, eq-eqb}
 use Rattle.std.specs.List.{All, Contains, flat_map}
@@ -8,7 +9,8 @@ use Rattle.std.proofs.lemmas.List.Sums.{sum_by-cons, sum_by-append}
 use Rattle.oct_values.specs.Blocks.{child_numbers}
 
 -- a sum over joined lists is the sum of their sums
-pub sum_by-flat_map : {X : Type 0} (f : X → ℕ) (g : ℕ → List X) (xs : List ℕ) → sum_by f (flat_map g xs) ≡ sum_by (λ i. sum_by f (g i)) xs
+pub sum_by-flat_map : {X : Type 0} (f : X → ℕ) (g : ℕ → List X) (xs : List ℕ)
+    → sum_by f (flat_map g xs) ≡ sum_by (λ i. sum_by f (g i)) xs
 sum_by-flat_map f g [] = refl
 sum_by-flat_map f g (x ∷ xs) =
     let here = sum_by-append f (g x) (flat_map g xs) in
@@ -17,11 +19,13 @@ sum_by-flat_map f g (x ∷ xs) =
     omega (arith, here, rest, all)
 
 -- what each of the numbers below 8 gives
-pub sum_of_eight : (f : ℕ → ℕ) → sum_by f child_numbers ≡ f 0 + f 1 + f 2 + f 3 + f 4 + f 5 + f 6 + f 7
+pub sum_of_eight : (f : ℕ → ℕ)
+    → sum_by f child_numbers ≡ f 0 + f 1 + f 2 + f 3 + f 4 + f 5 + f 6 + f 7
 sum_of_eight f = omega arith
 
 -- sums of the same numbers
-pub same_eight : (f g : ℕ → ℕ) → ((i : ℕ) → i < 8 → f i ≡ g i) → sum_by f child_numbers ≡ sum_by g child_numbers
+pub same_eight : (f g : ℕ → ℕ) → ((i : ℕ) → i < 8 → f i ≡ g i)
+    → sum_by f child_numbers ≡ sum_by g child_numbers
 same_eight f g h =
     let h0 = h 0 (omega arith) in
     let h1 = h 1 (omega arith) in
@@ -74,22 +78,30 @@ one_at (suc (suc (suc (suc (suc (suc (suc zero))))))) l = refl
 one_at (suc (suc (suc (suc (suc (suc (suc (suc i)))))))) l = absurd (omega arith)
 
 -- a sum in which one of the eight counts one, and the others nothing
-pub one_of_eight : (f : ℕ → ℕ) (i : ℕ) → i < 8 → f i ≡ 1 → ((j : ℕ) → j < 8 → j ≢ i → f j ≡ 0) → sum_by f child_numbers ≡ 1
-one_of_eight f i l one none = same_eight f (λ j. cond (j == i) 1 0) (λ j lj. at_number j lj (j == i) refl) ∙ one_at i l
+pub one_of_eight : (f : ℕ → ℕ) (i : ℕ) → i < 8 → f i ≡ 1 → ((j : ℕ) → j < 8 → j ≢ i → f j ≡ 0)
+    → sum_by f child_numbers ≡ 1
+one_of_eight f i l one none =
+    same_eight f (λ j. cond (j == i) 1 0) (λ j lj. at_number j lj (j == i) refl) ∙ one_at i l
   where
     at_number : (j : ℕ) → j < 8 → (same : Bool) → (j == i) ≡ same → f j ≡ cond (j == i) 1 0
     at_number j lj true e = (let s : j ≡ i = eqb-true j i e in rw e (ap f s ∙ one))
     at_number j lj false e = rw e (none j lj (λ s. false≢true (sym e ∙ eq-eqb j i s)))
 
 -- what holds of each element of each list holds of each of the joined ones
-pub All-flat_map : {X : Type 0} (P : X → Type 0) (g : ℕ → List X) (xs : List ℕ) → All (λ i. All P (g i)) xs → All P (flat_map g xs)
+pub All-flat_map : {X : Type 0} (P : X → Type 0) (g : ℕ → List X) (xs : List ℕ)
+    → All (λ i. All P (g i)) xs → All P (flat_map g xs)
 All-flat_map P g [] h = λ k d l. absurd (omega arith)
-All-flat_map P g (x ∷ xs) h = All-append P (g x) (flat_map g xs) (h 0 x (omega arith)) (All-flat_map P g xs (λ k d l. h (suc k) d (omega arith)))
+All-flat_map P g (x ∷ xs) h =
+    All-append P (g x) (flat_map g xs) (h 0 x (omega arith))
+    (All-flat_map P g xs (λ k d l. h (suc k) d (omega arith)))
 
 -- an element of one of the lists is one of the joined ones
-pub Contains-flat_map : {X : Type 0} (g : ℕ → List X) (xs : List ℕ) (i : ℕ) (x : X) → Contains xs i → Contains (g i) x
+pub Contains-flat_map : {X : Type 0} (g : ℕ → List X) (xs : List ℕ) (i : ℕ) (x : X) → Contains xs i
+    → Contains (g i) x
     → Contains (flat_map g xs) x
 Contains-flat_map g [] i x (k, l, is) h = absurd (omega arith)
-Contains-flat_map g (y ∷ ys) i x (zero, l, is) h = Contains-append_left (g y) (flat_map g ys) x (subst (λ j. Contains (g j) x) (sym is) h)
+Contains-flat_map g (y ∷ ys) i x (zero, l, is) h =
+    Contains-append_left (g y) (flat_map g ys) x (subst (λ j. Contains (g j) x) (sym is) h)
 Contains-flat_map g (y ∷ ys) i x (suc k, l, is) h =
-    Contains-append_right (g y) (flat_map g ys) x (Contains-flat_map g ys i x (k, omega arith, is) h)
+    Contains-append_right (g y) (flat_map g ys) x
+    (Contains-flat_map g ys i x (k, omega arith, is) h)

@@ -1,4 +1,5 @@
--- Blocks that events reach, in words of voxels, and what events that agree in the map have in common.
+-- Blocks that events reach, in words of voxels, and what events that
+-- agree in the map have in common.
 use Rattle.std.proofs.Common.{◌≡◌, ◌≤◌, ◌↔◌, ap}
 use Rattle.std.specs.Prelude.{IsTrue, is_some}
 use Rattle.oct_key.specs.Voxel.{Voxel, IsInMap}
@@ -12,16 +13,19 @@ use Rattle.oct_values.proofs.Listed.{all_above_voxels}
 use Rattle.oct_values.proofs.Sums.{All-follows, list_any-same, count_by-same}
 
 -- the test tells the blocks with an event
-pub reached_exactly : (events : Events) (b : Cube) → IsBlock b → IsTrue (is_reached events b) ↔ IsReached events b
+pub reached_exactly : (events : Events) (b : Cube) → IsBlock b
+    → IsTrue (is_reached events b) ↔ IsReached events b
 unfolding is_reached
 reached_exactly events b ok =
-    let to : IsTrue (is_reached events b) → IsReached events b = λ h. one_passes (λ k. is_some (events k)) b ok h in
+    let to : IsTrue (is_reached events b) → IsReached events b =
+    λ h. one_passes (λ k. is_some (events k)) b ok h in
     let from : IsReached events b → IsTrue (is_reached events b) =
     λ (k, held, event). some_passes (λ k. is_some (events k)) b k ok held event in
     (to, from)
 
 -- events that agree in the map reach the same blocks
-pub same_reached : (d e : Events) (b : Cube) → IsBlock b → ((k : Voxel) → IsInMap k → d k ≡ e k) → is_reached d b ≡ is_reached e b
+pub same_reached : (d e : Events) (b : Cube) → IsBlock b → ((k : Voxel) → IsInMap k → d k ≡ e k)
+    → is_reached d b ≡ is_reached e b
 unfolding is_reached
 same_reached d e b ok same = list_any-same (λ k. is_some (d k)) (λ k. is_some (e k)) (voxels_of b)
     (All-follows (HoldsVoxel b) (λ k. is_some (d k) ≡ is_some (e k)) (voxels_of b)
@@ -31,5 +35,6 @@ same_reached d e b ok same = list_any-same (λ k. is_some (d k)) (λ k. is_some 
 pub same_need : (d e : Events) → ((k : Voxel) → IsInMap k → d k ≡ e k) → event_need d ≡ event_need e
 unfolding event_need
 same_need d e same = count_by-same (is_reached d) (is_reached e) blocks_above_voxels
-    (All-follows (λ b. IsBlock b × (b.depth ≤ 15)) (λ b. is_reached d b ≡ is_reached e b) blocks_above_voxels
+    (All-follows (λ b. IsBlock b × (b.depth ≤ 15)) (λ b. is_reached d b ≡ is_reached e b)
+    blocks_above_voxels
     (λ b at. same_reached d e b at.0 same) all_above_voxels)

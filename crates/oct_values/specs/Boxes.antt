@@ -1,5 +1,6 @@
 -- Boxes of voxels: an event on each voxel of one, and how many groups may have to be made for it.
-use Rattle.std.specs.Prelude.{ℕ, ◌≤◌, ◌<◌, ◌+◌, ◌-◌, ◌*◌, ◌/◌, Bool, ◌&&◌, not, nat_le, Some, None, count_by, if◌then◌else◌}
+use Rattle.std.specs.Prelude.{ℕ, ◌≤◌, ◌<◌, ◌+◌, ◌-◌, ◌*◌, ◌/◌, Bool, ◌&&◌, not, Some, None}
+use Rattle.std.specs.Prelude.{count_by, if◌then◌else◌}
 use Rattle.std.specs.List.{list_all, list_any}
 use Rattle.oct_key.specs.Voxel.{Voxel}
 use Rattle.oct_key.specs.Block.{Cube, HoldsVoxel, side}
@@ -28,8 +29,8 @@ is_met_by lo hi b = list_any (is_in_box lo hi) (voxels_of b)
 unfoldable pub is_cut_by : Voxel → Voxel → Cube → Bool
 is_cut_by lo hi b = is_met_by lo hi b && not (list_all (is_in_box lo hi) (voxels_of b))
 
--- the number of blocks of depth 0 to 15 that meet a box and don't lie in it: so many groups at most
--- have to be made for it
+-- the number of blocks of depth 0 to 15 that meet a box and don't lie in it: this many groups at
+-- most have to be made for it
 unfoldable pub box_need : Voxel → Voxel → ℕ
 box_need lo hi = count_by (is_cut_by lo hi) blocks_above_voxels
 

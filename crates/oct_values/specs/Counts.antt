@@ -1,5 +1,6 @@
 -- Which blocks have one value, and how many groups and nodes a tree of these values needs at least.
-use Rattle.std.specs.Prelude.{ℕ, ◌+◌, Bool, true, false, not, IsSome, is_some, Some, None, sum_by, count_by, if◌then◌else◌}
+use Rattle.std.specs.Prelude.{ℕ, ◌+◌, Bool, true, false, not, IsSome, is_some, Some, None, sum_by}
+use Rattle.std.specs.Prelude.{count_by, if◌then◌else◌}
 use Rattle.std.specs.List.{list_any}
 use Rattle.std.specs.Ordering.{int_eq}
 use Rattle.oct_key.specs.Voxel.{Voxel}
@@ -45,4 +46,5 @@ needed_nodes values b = if is_uniform values b then 0 else known_children values
 -- 15 needs for its children
 unfoldable pub node_count : Values → ℕ
 node_count values =
-    if is_known_in values root_block then 1 + sum_by (needed_nodes values) blocks_above_voxels else 0
+    if is_known_in values root_block then 1 + sum_by (needed_nodes values) blocks_above_voxels
+    else 0

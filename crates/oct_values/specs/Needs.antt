@@ -14,7 +14,7 @@ IsReached events b = (k : Voxel) × HoldsVoxel b k × IsSome (events k)
 unfoldable pub is_reached : Events → Cube → Bool
 is_reached events b = list_any (λ k. is_some (events k)) (voxels_of b)
 
--- the number of blocks of depth 0 to 15 that hold a voxel with an event: so many groups at most
+-- the number of blocks of depth 0 to 15 that hold a voxel with an event: this many groups at most
 -- have to be made for them
 unfoldable pub event_need : Events → ℕ
 event_need events = count_by (is_reached events) blocks_above_voxels

@@ -9,11 +9,13 @@ ghost use Rattle.oct_odds.specs.declared.event.Event.{Event};
 ghost use Rattle.oct_values.specs.Blocks.{voxels_of, blocks_above_voxels};
 ghost use Rattle.oct_values.specs.Depths.{IsLargestIn, depth_value};
 ghost use Rattle.oct_key.specs.Boxes.{IsInBox, is_in_box};
-ghost use Rattle.oct_values.specs.Boxes.{MeetsBox, LiesInBox, is_met_by, is_cut_by, box_events, box_need};
+ghost use Rattle.oct_values.specs.Boxes.{MeetsBox, LiesInBox, is_met_by, is_cut_by, box_events};
+ghost use Rattle.oct_values.specs.Boxes.{box_need};
 ghost use Rattle.oct_values.specs.Events.{Events, event_at, updated};
 ghost use Rattle.oct_values.specs.Needs.{IsReached, is_reached, event_need};
 ghost use Rattle.oct_values.specs.Uniform.{IsUniform};
-ghost use Rattle.oct_values.specs.Counts.{IsKnownIn, is_uniform, is_known_in, group_count, node_count};
+ghost use Rattle.oct_values.specs.Counts.{IsKnownIn, is_uniform, is_known_in, group_count};
+ghost use Rattle.oct_values.specs.Counts.{node_count};
 
 /// The list of a block's voxels has each voxel that the block holds, once, and no other.
 pub fn voxels_are_listed_once()

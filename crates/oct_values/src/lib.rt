@@ -19,10 +19,10 @@
 //!   `node_count` is 0 where all voxels are unknown, else one more than the children of these
 //!   blocks that hold a known voxel.
 //! - `Needs`: `IsReached` says that some voxel of a block has an event. `event_need` is the number
-//!   of such blocks of depth 0 to 15: so many groups at most have to be made for the events.
-//! - `Boxes`: `IsInBox` says that a voxel lies between two corners, and `box_events` is one event on
-//!   each of these. `box_need` is the number of blocks of depth 0 to 15 that meet the box and don't
-//!   lie in it: a block in the box takes one event as a whole.
+//!   of such blocks of depth 0 to 15: this many groups at most have to be made for the events.
+//! - `Boxes`: `IsInBox` says that a voxel lies between two corners, and `box_events` is one event
+//!   on each of these. `box_need` is the number of blocks of depth 0 to 15 that meet the box and
+//!   don't lie in it: a block in the box takes one event as a whole.
 //!
 //! Its functions do nothing and promise much: each is a law, so that nobody has to trust a list, a
 //! test or a fold. Each block and each voxel is listed once, the tests say what they say in words

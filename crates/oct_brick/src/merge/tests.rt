@@ -1,4 +1,4 @@
-ghost use Rattle.std.specs.Prelude.{◌^◌, ◌<◌, All, IfOk};
+ghost use Rattle.std.specs.Prelude.{◌<◌, All, IfOk};
 ghost use Rattle.oct_brick.specs.Bricks.{IsBrick};
 
 use super::*;

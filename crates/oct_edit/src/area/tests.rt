@@ -47,7 +47,7 @@ fn apply(rt: &impl Abort, tree: &mut OccTree, lo: Key, hi: Key, event: Event)
     touch_box(tree, lo, hi, event);
 }
 
-/// Expects so many groups, and these values of the voxels 32,767 and 32,766.
+/// Expects this many groups, and these values of the voxels 32,767 and 32,766.
 fn expect_state(
     rt: &impl Abort,
     tree: &OccTree,

@@ -81,7 +81,7 @@ fn state(tree: &OccTree) -> ([Option<i32>; 5], Option<i32>, u32) {
     )
 }
 
-/// Expects these values of the first five voxels on the x axis, this one at the root, and so many
+/// Expects these values of the first five voxels on the x axis, this one at the root, and this many
 /// groups.
 fn expect_state(
     rt: &impl Abort,
@@ -93,7 +93,7 @@ fn expect_state(
     assert_eq!(rt; state(tree), (values, root, groups));
 }
 
-/// A tree of voxels of a tenth of a metre, with room for so many groups.
+/// A tree of voxels of a tenth of a metre, with room for this many groups.
 fn world(alloc: Global, room: u32) -> Result<OccTree, Fail>
     requires { room ≤ 5000 }
     ensures { IfOk result (λ tree. IsWellFormed tree) }

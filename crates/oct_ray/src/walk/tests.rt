@@ -17,7 +17,7 @@ fn walk(rt: &impl Abort, res: Res, o: Point, e: Point) -> Walk {
     Walk::new(res, o, e)
 }
 
-/// The point at so many hundredths of a metre.
+/// The point at this many hundredths of a metre.
 fn hundredths(x: i16, y: i16, z: i16) -> Point {
     Point {
         x: i64::from(x) * 10_000_000,
@@ -26,7 +26,7 @@ fn hundredths(x: i16, y: i16, z: i16) -> Point {
     }
 }
 
-/// The key so many voxels from the middle.
+/// The key this many voxels from the middle.
 fn key(x: i16, y: i16, z: i16) -> Key {
     Key {
         x: MIDDLE.wrapping_add_signed(x),
@@ -241,7 +241,8 @@ fn offsets(alloc: Global, numbers: &[u8]) -> Result<Vec<Offset>, AllocError> {
     Ok(offsets)
 }
 
-/// The coordinate so many half edges above the lower corner of the block, in hundredths of a metre.
+/// The coordinate this many half edges above the lower corner of the block, in hundredths of a
+/// metre.
 fn coordinate(half_edges: u8) -> i16 {
     5 * i16::from(half_edges) - 10
 }

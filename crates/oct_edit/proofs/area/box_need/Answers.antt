@@ -25,6 +25,8 @@ returns c =
     let last : c.loop-depth.depth ≡ 16 = omega arith in
     let bound = c.loop-depth.invariant.1 in
     record {
-      exact = c.loop-depth.invariant.0 ∙ ap (sum_below (cut_at c.args.lo c.args.hi)) last ∙ sym (need_by_depths c.args.lo c.args.hi c.requires v);
+      exact =
+          c.loop-depth.invariant.0 ∙ ap (sum_below (cut_at c.args.lo c.args.hi)) last
+          ∙ sym (need_by_depths c.args.lo c.args.hi c.requires v);
       few = omega (arith, last, bound);
     }

@@ -13,27 +13,44 @@ use Rattle.oct_edit.proofs.area.touch_box.Goals as goal
 pub touch_part-requires-clause-meets : goal.touch_part-requires-clause-meets
 touch_part-requires-clause-meets c =
     let v : IsInMap c.args.lo = search rules in
-    subst (MeetsBox c.args.lo c.args.hi) (sym c.root.ensures) (root_meets c.args.lo c.args.hi v c.requires.order)
+    subst (MeetsBox c.args.lo c.args.hi) (sym c.root.ensures)
+    (root_meets c.args.lo c.args.hi v c.requires.order)
 
 pub touch_part-requires-clause-room : goal.touch_part-requires-clause-room
-touch_part-requires-clause-room c = subst (λ b. cut_in c.args.lo c.args.hi b ≤ spare c.args.tree.now.groups) (sym c.root.ensures) (area_need c.args.lo c.args.hi (spare c.args.tree.now.groups) c.requires.room)
+touch_part-requires-clause-room c =
+    subst (λ b. cut_in c.args.lo c.args.hi b ≤ spare c.args.tree.now.groups) (sym c.root.ensures)
+    (area_need c.args.lo c.args.hi (spare c.args.tree.now.groups) c.requires.room)
 
-touched : (c : goal.After-touch_part) → IsTouched c.args.tree.now c.touch_part.new.tree root_block (box_events c.args.lo c.args.hi c.args.event) false
-touched c = subst (λ b. IsTouched c.args.tree.now c.touch_part.new.tree b (box_events c.args.lo c.args.hi c.args.event) false) c.root.ensures c.touch_part.ensures.touched
+touched : (c : goal.After-touch_part)
+    → IsTouched c.args.tree.now c.touch_part.new.tree root_block
+    (box_events c.args.lo c.args.hi c.args.event) false
+touched c =
+    subst (λ b. IsTouched c.args.tree.now c.touch_part.new.tree b
+    (box_events c.args.lo c.args.hi c.args.event) false)
+    c.root.ensures c.touch_part.ensures.touched
 
 pub returns-clause-edited : goal.returns-clause-edited
-returns-clause-edited c = whole_edited c.args.tree.now c.touch_part.new.tree (box_events c.args.lo c.args.hi c.args.event) false (touched c) c.requires.well_formed
+returns-clause-edited c =
+    whole_edited c.args.tree.now c.touch_part.new.tree (box_events c.args.lo c.args.hi c.args.event)
+    false (touched c) c.requires.well_formed
 
 pub returns-clause-eager : goal.returns-clause-eager
-returns-clause-eager c = whole_eager c.args.tree.now c.touch_part.new.tree (box_events c.args.lo c.args.hi c.args.event) false (touched c) (λ h. false≢true h)
+returns-clause-eager c =
+    whole_eager c.args.tree.now c.touch_part.new.tree (box_events c.args.lo c.args.hi c.args.event)
+    false (touched c) (λ h. false≢true h)
 
 pub returns-clause-path : goal.returns-clause-path
-returns-clause-path c = whole_paths c.args.tree.now c.touch_part.new.tree (box_events c.args.lo c.args.hi c.args.event) false (touched c) (λ h. false≢true h)
+returns-clause-path c =
+    whole_paths c.args.tree.now c.touch_part.new.tree (box_events c.args.lo c.args.hi c.args.event)
+    false (touched c) (λ h. false≢true h)
 
 pub returns-clause-room : goal.returns-clause-room
-returns-clause-room c = same_total c.args.tree.now.groups c.touch_part.new.tree.groups (touched c).apart.outside.length
+returns-clause-room c =
+    same_total c.args.tree.now.groups c.touch_part.new.tree.groups (touched c).apart.outside.length
 
 pub returns-clause-groups : goal.returns-clause-groups
 returns-clause-groups c =
     area_groups c.args.tree.now c.touch_part.new.tree c.args.lo c.args.hi c.args.event (touched c)
-    (subst (λ b. spare c.args.tree.now.groups ≤ spare c.touch_part.new.tree.groups + cut_in c.args.lo c.args.hi b) c.root.ensures c.touch_part.ensures.room)
+    (subst (λ b. spare c.args.tree.now.groups ≤ spare c.touch_part.new.tree.groups + cut_in
+    c.args.lo c.args.hi b)
+    c.root.ensures c.touch_part.ensures.room)

@@ -16,8 +16,10 @@ use Rattle.oct_edit.specs.Bricks.{listed, AreAlike, AreCut}
 use Rattle.oct_edit.proofs.Needs.{place_in_map}
 use Rattle.oct_edit.proofs.UpdateEnds.{rest_touched}
 use Rattle.oct_edit.proofs.BrickParts.{cut_parted}
-use Rattle.oct_edit.proofs.BrickCuts.{order_of, part_bricks, later_bricks, part_apart, later_apart, part_alike, later_alike, cut_shorter, one_brick}
-use Rattle.oct_edit.proofs.Updates.{way_start, way_place, way_part, way_room, way_step, way_back, way_end, way_spared, at_block, need_some}
+use Rattle.oct_edit.proofs.BrickCuts.{order_of, part_bricks, later_bricks, part_apart, later_apart}
+use Rattle.oct_edit.proofs.BrickCuts.{part_alike, later_alike, cut_shorter, one_brick}
+use Rattle.oct_edit.proofs.Updates.{way_start, way_place, way_part, way_room, way_step, way_back}
+use Rattle.oct_edit.proofs.Updates.{way_end, way_spared, at_block, need_some}
 use Rattle.oct_edit.proofs.scan.+touch_within.Goals as goal
 
 pub touch_brick-requires : goal.touch_brick-requires
@@ -25,18 +27,52 @@ touch_brick-requires t c = record {
   linked = c.requires.linked;
   place = c.requires.place;
   depth = λ b e. c.requires.depth b e ∙ c.if-depth-eq-BRICKS.true;
-  brick = All-head IsBrick c.in-Some.brick [] (subst (All IsBrick) (one_brick c.args.update.bricks.now c.in-Some.brick (sym c.first.ensures.value ∙ sym c.copied.ensures ∙ c.in-Some.is) c.requires.ascend (subst (λ d. AreAlike d c.args.update.bricks.now) c.if-depth-eq-BRICKS.true c.requires.alike)) c.requires.bricks);
-  inside = λ b e. subst (λ l. IsUpdateIn b (update_of l c.args.update.hit c.args.update.miss)) (one_brick c.args.update.bricks.now c.in-Some.brick (sym c.first.ensures.value ∙ sym c.copied.ensures ∙ c.in-Some.is) c.requires.ascend (subst (λ d. AreAlike d c.args.update.bricks.now) c.if-depth-eq-BRICKS.true c.requires.alike)) (c.requires.inside b e);
-  room = λ b e. subst (λ l. need_in (events_of (update_of l c.args.update.hit c.args.update.miss)) b ≤ spare c.args.tree.now.groups) (one_brick c.args.update.bricks.now c.in-Some.brick (sym c.first.ensures.value ∙ sym c.copied.ensures ∙ c.in-Some.is) c.requires.ascend (subst (λ d. AreAlike d c.args.update.bricks.now) c.if-depth-eq-BRICKS.true c.requires.alike)) (c.requires.room b e);
+  brick =
+      All-head IsBrick c.in-Some.brick []
+      (subst (All IsBrick)
+      (one_brick c.args.update.bricks.now c.in-Some.brick
+      (sym c.first.ensures.value ∙ sym c.copied.ensures ∙ c.in-Some.is) c.requires.ascend
+      (subst (λ d. AreAlike d c.args.update.bricks.now) c.if-depth-eq-BRICKS.true
+      c.requires.alike))
+      c.requires.bricks);
+  inside =
+      λ b e. subst (λ l. IsUpdateIn b (update_of l c.args.update.hit c.args.update.miss))
+      (one_brick c.args.update.bricks.now c.in-Some.brick
+      (sym c.first.ensures.value ∙ sym c.copied.ensures ∙ c.in-Some.is) c.requires.ascend
+      (subst (λ d. AreAlike d c.args.update.bricks.now) c.if-depth-eq-BRICKS.true
+      c.requires.alike))
+      (c.requires.inside b e);
+  room =
+      λ b e. subst (λ l. need_in (events_of (update_of l c.args.update.hit c.args.update.miss)) b
+      ≤ spare c.args.tree.now.groups)
+      (one_brick c.args.update.bricks.now c.in-Some.brick
+      (sym c.first.ensures.value ∙ sym c.copied.ensures ∙ c.in-Some.is) c.requires.ascend
+      (subst (λ d. AreAlike d c.args.update.bricks.now) c.if-depth-eq-BRICKS.true
+      c.requires.alike))
+      (c.requires.room b e);
   hit = c.requires.hit;
   miss = c.requires.miss;
 }
 
 pub returns-in-Some-clause-touched : goal.returns-in-Some-clause-touched
-returns-in-Some-clause-touched t c b e = subst (λ l. IsTouched c.args.tree.now c.touch_brick.new.tree b (events_of (update_of l c.args.update.hit c.args.update.miss)) c.args.lazy) (sym (one_brick c.args.update.bricks.now c.in-Some.brick (sym c.first.ensures.value ∙ sym c.copied.ensures ∙ c.in-Some.is) c.requires.ascend (subst (λ d. AreAlike d c.args.update.bricks.now) c.if-depth-eq-BRICKS.true c.requires.alike))) (c.touch_brick.ensures.touched b e)
+returns-in-Some-clause-touched t c b e =
+    subst (λ l. IsTouched c.args.tree.now c.touch_brick.new.tree b
+    (events_of (update_of l c.args.update.hit c.args.update.miss)) c.args.lazy)
+    (sym (one_brick c.args.update.bricks.now c.in-Some.brick (sym c.first.ensures.value
+    ∙ sym c.copied.ensures ∙ c.in-Some.is) c.requires.ascend
+    (subst (λ d. AreAlike d c.args.update.bricks.now) c.if-depth-eq-BRICKS.true
+    c.requires.alike)))
+    (c.touch_brick.ensures.touched b e)
 
 pub returns-in-Some-clause-room : goal.returns-in-Some-clause-room
-returns-in-Some-clause-room t c b e = subst (λ l. spare c.args.tree.now.groups ≤ spare c.touch_brick.new.tree.groups + need_in (events_of (update_of l c.args.update.hit c.args.update.miss)) b) (sym (one_brick c.args.update.bricks.now c.in-Some.brick (sym c.first.ensures.value ∙ sym c.copied.ensures ∙ c.in-Some.is) c.requires.ascend (subst (λ d. AreAlike d c.args.update.bricks.now) c.if-depth-eq-BRICKS.true c.requires.alike))) (c.touch_brick.ensures.room b e)
+returns-in-Some-clause-room t c b e =
+    subst (λ l. spare c.args.tree.now.groups ≤ spare c.touch_brick.new.tree.groups + need_in
+    (events_of (update_of l c.args.update.hit c.args.update.miss)) b)
+    (sym (one_brick c.args.update.bricks.now c.in-Some.brick (sym c.first.ensures.value
+    ∙ sym c.copied.ensures ∙ c.in-Some.is) c.requires.ascend
+    (subst (λ d. AreAlike d c.args.update.bricks.now) c.if-depth-eq-BRICKS.true
+    c.requires.alike)))
+    (c.touch_brick.ensures.room b e)
 
 pub is_at_rest-requires-clause-some : goal.is_at_rest-requires-clause-some
 is_at_rest-requires-clause-some t c =
@@ -47,27 +83,39 @@ is_at_rest-requires-clause-some t c =
 pub returns-then-is_at_rest-clause-touched : goal.returns-then-is_at_rest-clause-touched
 returns-then-is_at_rest-clause-touched t c b e =
     let deep = c.requires.depth b e in
-    rest_touched c.args.tree.now c.args.p b (listed c.args.update) c.args.lazy c.requires.linked c.requires.place e (omega (arith, deep, c.requires.deep)) (c.requires.inside b e) c.if-is_at_rest.ensures.bounds (c.if-is_at_rest.ensures.rests refl)
+    rest_touched c.args.tree.now c.args.p b (listed c.args.update) c.args.lazy c.requires.linked
+    c.requires.place e (omega (arith, deep, c.requires.deep)) (c.requires.inside b e)
+    c.if-is_at_rest.ensures.bounds (c.if-is_at_rest.ensures.rests refl)
 
 pub enter-id-requires-clause-room : goal.enter-id-requires-clause-room
 enter-id-requires-clause-room t c none =
     let (b, e) = place_block c.args.tree.now c.args.p c.requires.place in
     let deep = c.requires.depth b e in
-    need_some c.args.tree.now c.args.p b (listed c.args.update) c.requires.linked e (omega (arith, deep, c.requires.deep, c.if-depth-eq-BRICKS.false)) (c.requires.inside b e) (c.requires.room b e)
+    need_some c.args.tree.now c.args.p b (listed c.args.update) c.requires.linked e
+    (omega (arith, deep, c.requires.deep, c.if-depth-eq-BRICKS.false)) (c.requires.inside b e)
+    (c.requires.room b e)
 
 pub loop-i-init : goal.loop-i-init
 loop-i-init t c = record {
-  way = λ b e. way_start c.args.tree.now c.enter-id.new.tree c.args.p b c.enter-id.result (listed c.args.update) c.args.lazy (c.enter-id.ensures b e) (c.requires.inside b e);
+  way =
+      λ b e. way_start c.args.tree.now c.enter-id.new.tree c.args.p b c.enter-id.result
+      (listed c.args.update) c.args.lazy (c.enter-id.ensures b e) (c.requires.inside b e);
   bricks = c.requires.bricks;
   ascend = c.requires.ascend;
   alike = c.requires.alike;
 }
 
 pub first_child-requires-clause-order : goal.first_child-requires-clause-order
-first_child-requires-clause-order t c = order_of c.args.depth c.loop-i.rest.bricks.now (omega (arith, c.requires.deep, c.if-depth-eq-BRICKS.false)) c.loop-i.invariant.ascend c.loop-i.invariant.alike
+first_child-requires-clause-order t c =
+    order_of c.args.depth c.loop-i.rest.bricks.now
+    (omega (arith, c.requires.deep, c.if-depth-eq-BRICKS.false)) c.loop-i.invariant.ascend
+    c.loop-i.invariant.alike
 
 pub split-requires-clause-order : goal.split-requires-clause-order
-split-requires-clause-order t c = order_of c.args.depth c.loop-i.rest.bricks.now (omega (arith, c.requires.deep, c.if-depth-eq-BRICKS.false)) c.loop-i.invariant.ascend c.loop-i.invariant.alike
+split-requires-clause-order t c =
+    order_of c.args.depth c.loop-i.rest.bricks.now
+    (omega (arith, c.requires.deep, c.if-depth-eq-BRICKS.false)) c.loop-i.invariant.ascend
+    c.loop-i.invariant.alike
 
 pub touch_within-requires : goal.touch_within-requires
 touch_within-requires t c =
@@ -75,27 +123,79 @@ touch_within-requires t c =
     let deep : b.depth ≡ c.args.depth = c.requires.depth b e in
     let low : b.depth ≤ 15 = omega (arith, deep, c.requires.deep) in
     let deeper : b.depth ≤ 13 = omega (arith, deep, c.requires.deep, c.if-depth-eq-BRICKS.false) in
-    let cut : AreCut b.depth c.in-Some-first_child.i c.loop-i.rest.bricks.now c.split.result.0.bricks.now c.split.result.1.bricks.now = subst (λ d. AreCut d c.in-Some-first_child.i c.loop-i.rest.bricks.now c.split.result.0.bricks.now c.split.result.1.bricks.now) (sym deep) c.split.ensures.cut in
+    let cut : AreCut b.depth c.in-Some-first_child.i c.loop-i.rest.bricks.now
+    c.split.result.0.bricks.now c.split.result.1.bricks.now =
+    subst (λ d. AreCut d c.in-Some-first_child.i c.loop-i.rest.bricks.now
+    c.split.result.0.bricks.now c.split.result.1.bricks.now)
+    (sym deep) c.split.ensures.cut in
     let entered = c.enter-id.ensures b e in
     let way = c.loop-i.invariant.way b e in
-    let first : IsFirstChild b.depth (hit_voxels c.loop-i.rest.bricks.now) (freed_voxels c.loop-i.rest.bricks.now) c.in-Some-first_child.i = subst (λ d. IsFirstChild d (hit_voxels c.loop-i.rest.bricks.now) (freed_voxels c.loop-i.rest.bricks.now) c.in-Some-first_child.i) (sym deep) c.in-Some-first_child.ensures.some in
-    let hits = cut_parted (λ b. b.hits) b c.in-Some-first_child.i c.loop-i.rest.bricks.now c.split.result.0.bricks.now c.split.result.1.bricks.now deeper c.loop-i.invariant.bricks c.loop-i.invariant.ascend (part_apart c.args.depth c.in-Some-first_child.i c.loop-i.rest.bricks.now c.split.result.0.bricks.now c.split.result.1.bricks.now c.split.ensures.cut c.loop-i.invariant.ascend) (later_apart c.args.depth c.in-Some-first_child.i c.loop-i.rest.bricks.now c.split.result.0.bricks.now c.split.result.1.bricks.now c.split.ensures.cut c.loop-i.invariant.ascend) way.hits.inside cut in
-    let frees = cut_parted frees_of b c.in-Some-first_child.i c.loop-i.rest.bricks.now c.split.result.0.bricks.now c.split.result.1.bricks.now deeper c.loop-i.invariant.bricks c.loop-i.invariant.ascend (part_apart c.args.depth c.in-Some-first_child.i c.loop-i.rest.bricks.now c.split.result.0.bricks.now c.split.result.1.bricks.now c.split.ensures.cut c.loop-i.invariant.ascend) (later_apart c.args.depth c.in-Some-first_child.i c.loop-i.rest.bricks.now c.split.result.0.bricks.now c.split.result.1.bricks.now c.split.ensures.cut c.loop-i.invariant.ascend) way.frees.inside cut in
+    let first : IsFirstChild b.depth (hit_voxels c.loop-i.rest.bricks.now)
+    (freed_voxels c.loop-i.rest.bricks.now) c.in-Some-first_child.i =
+    subst (λ d. IsFirstChild d (hit_voxels c.loop-i.rest.bricks.now)
+    (freed_voxels c.loop-i.rest.bricks.now) c.in-Some-first_child.i)
+    (sym deep) c.in-Some-first_child.ensures.some in
+    let hits =
+    cut_parted (λ b. b.hits) b c.in-Some-first_child.i c.loop-i.rest.bricks.now
+    c.split.result.0.bricks.now c.split.result.1.bricks.now deeper c.loop-i.invariant.bricks
+    c.loop-i.invariant.ascend
+    (part_apart c.args.depth c.in-Some-first_child.i c.loop-i.rest.bricks.now
+    c.split.result.0.bricks.now c.split.result.1.bricks.now c.split.ensures.cut
+    c.loop-i.invariant.ascend)
+    (later_apart c.args.depth c.in-Some-first_child.i c.loop-i.rest.bricks.now
+    c.split.result.0.bricks.now c.split.result.1.bricks.now c.split.ensures.cut
+    c.loop-i.invariant.ascend)
+    way.hits.inside cut in
+    let frees =
+    cut_parted frees_of b c.in-Some-first_child.i c.loop-i.rest.bricks.now
+    c.split.result.0.bricks.now c.split.result.1.bricks.now deeper c.loop-i.invariant.bricks
+    c.loop-i.invariant.ascend
+    (part_apart c.args.depth c.in-Some-first_child.i c.loop-i.rest.bricks.now
+    c.split.result.0.bricks.now c.split.result.1.bricks.now c.split.ensures.cut
+    c.loop-i.invariant.ascend)
+    (later_apart c.args.depth c.in-Some-first_child.i c.loop-i.rest.bricks.now
+    c.split.result.0.bricks.now c.split.result.1.bricks.now c.split.ensures.cut
+    c.loop-i.invariant.ascend)
+    way.frees.inside cut in
     let few : c.in-Some-first_child.i < 8 = (let l = first.few in omega (arith, l)) in
-    let place = way_place c.args.tree.now c.enter-id.new.tree c.loop-i.tree c.args.p b c.enter-id.result c.in-Some-first_child.i (listed c.args.update) (listed c.loop-i.rest) c.args.lazy few entered way in
-    let part = way_part c.enter-id.new.tree c.loop-i.tree c.args.p b c.in-Some-first_child.i (listed c.args.update) (listed c.loop-i.rest) (listed c.split.result.0) (listed c.split.result.1) c.args.lazy low (c.requires.inside b e).apart way first hits frees in
-    let room = way_room c.args.tree.now c.enter-id.new.tree c.loop-i.tree c.args.p b c.enter-id.result c.in-Some-first_child.i (listed c.args.update) (listed c.loop-i.rest) (listed c.split.result.0) (listed c.split.result.1) c.args.lazy (place_in_map c.args.tree.now c.args.p b c.requires.linked e) low (c.requires.inside b e) (c.requires.room b e) entered way first hits frees c.split.ensures.hit.0 c.split.ensures.miss.0 in
-    let level : (child_of b c.in-Some-first_child.i).depth ≡ c.args.depth + 1 = (let next = depth_child_of b c.in-Some-first_child.i in omega (arith, next, deep)) in
-    let part_all = part_bricks c.args.depth c.in-Some-first_child.i c.loop-i.rest.bricks.now c.split.result.0.bricks.now c.split.result.1.bricks.now c.split.ensures.cut c.loop-i.invariant.bricks in
-    let part_rise = part_apart c.args.depth c.in-Some-first_child.i c.loop-i.rest.bricks.now c.split.result.0.bricks.now c.split.result.1.bricks.now c.split.ensures.cut c.loop-i.invariant.ascend in
-    let part_same = part_alike c.args.depth c.in-Some-first_child.i c.loop-i.rest.bricks.now c.split.result.0.bricks.now c.split.result.1.bricks.now (omega (arith, deep, deeper)) c.split.ensures.cut c.in-Some-first_child.ensures.brick c.loop-i.invariant.alike in (
+    let place =
+    way_place c.args.tree.now c.enter-id.new.tree c.loop-i.tree c.args.p b c.enter-id.result
+    c.in-Some-first_child.i (listed c.args.update) (listed c.loop-i.rest) c.args.lazy few
+    entered way in
+    let part =
+    way_part c.enter-id.new.tree c.loop-i.tree c.args.p b c.in-Some-first_child.i
+    (listed c.args.update) (listed c.loop-i.rest) (listed c.split.result.0)
+    (listed c.split.result.1) c.args.lazy low (c.requires.inside b e).apart way first hits frees in
+    let room =
+    way_room c.args.tree.now c.enter-id.new.tree c.loop-i.tree c.args.p b c.enter-id.result
+    c.in-Some-first_child.i (listed c.args.update) (listed c.loop-i.rest)
+    (listed c.split.result.0) (listed c.split.result.1) c.args.lazy
+    (place_in_map c.args.tree.now c.args.p b c.requires.linked e) low
+    (c.requires.inside b e) (c.requires.room b e) entered way first hits frees
+    c.split.ensures.hit.0 c.split.ensures.miss.0 in
+    let level : (child_of b c.in-Some-first_child.i).depth ≡ c.args.depth + 1 =
+    (let next = depth_child_of b c.in-Some-first_child.i in omega (arith, next, deep)) in
+    let part_all =
+    part_bricks c.args.depth c.in-Some-first_child.i c.loop-i.rest.bricks.now
+    c.split.result.0.bricks.now c.split.result.1.bricks.now c.split.ensures.cut
+    c.loop-i.invariant.bricks in
+    let part_rise =
+    part_apart c.args.depth c.in-Some-first_child.i c.loop-i.rest.bricks.now
+    c.split.result.0.bricks.now c.split.result.1.bricks.now c.split.ensures.cut
+    c.loop-i.invariant.ascend in
+    let part_same =
+    part_alike c.args.depth c.in-Some-first_child.i c.loop-i.rest.bricks.now
+    c.split.result.0.bricks.now c.split.result.1.bricks.now (omega (arith, deep, deeper))
+    c.split.ensures.cut c.in-Some-first_child.ensures.brick c.loop-i.invariant.alike in (
       search rules,
       (
         way.done.linked,
         (
           place.0,
           (
-            at_block (λ a. a.depth ≡ c.args.depth + 1) c.loop-i.tree (Slot c.enter-id.result c.in-Some-first_child.i) (child_of b c.in-Some-first_child.i) place.1 level,
+            at_block (λ a. a.depth ≡ c.args.depth + 1) c.loop-i.tree
+                (Slot c.enter-id.result c.in-Some-first_child.i)
+                (child_of b c.in-Some-first_child.i) place.1 level,
             (
               omega (arith, deeper, deep),
               (
@@ -105,9 +205,15 @@ touch_within-requires t c =
                   (
                     part_same,
                     (
-                      at_block (λ a. IsUpdateIn a (listed c.split.result.0)) c.loop-i.tree (Slot c.enter-id.result c.in-Some-first_child.i) (child_of b c.in-Some-first_child.i) place.1 part,
+                      at_block (λ a. IsUpdateIn a (listed c.split.result.0)) c.loop-i.tree
+                          (Slot c.enter-id.result c.in-Some-first_child.i)
+                          (child_of b c.in-Some-first_child.i) place.1 part,
                       (
-                        at_block (λ a. need_in (events_of (listed c.split.result.0)) a ≤ spare c.loop-i.tree.groups) c.loop-i.tree (Slot c.enter-id.result c.in-Some-first_child.i) (child_of b c.in-Some-first_child.i) place.1 room,
+                        at_block
+                            (λ a. need_in (events_of (listed c.split.result.0)) a
+                            ≤ spare c.loop-i.tree.groups)
+                            c.loop-i.tree (Slot c.enter-id.result c.in-Some-first_child.i)
+                            (child_of b c.in-Some-first_child.i) place.1 room,
                         (search rules, search rules),
                       ),
                     ),
@@ -121,51 +227,118 @@ touch_within-requires t c =
     )
 
 pub loop-i-smaller : goal.loop-i-smaller
-loop-i-smaller t c = cut_shorter c.args.depth c.in-Some-first_child.i c.loop-i.rest.bricks.now c.split.result.0.bricks.now c.split.result.1.bricks.now c.split.ensures.cut c.in-Some-first_child.ensures.brick
+loop-i-smaller t c =
+    cut_shorter c.args.depth c.in-Some-first_child.i c.loop-i.rest.bricks.now
+    c.split.result.0.bricks.now c.split.result.1.bricks.now c.split.ensures.cut
+    c.in-Some-first_child.ensures.brick
 
 pub loop-i-preserved : goal.loop-i-preserved
 loop-i-preserved t c = record {
   way = λ b e.
       let deep : b.depth ≡ c.args.depth = c.requires.depth b e in
       let low : b.depth ≤ 15 = omega (arith, deep, c.requires.deep) in
-      let deeper : b.depth ≤ 13 = omega (arith, deep, c.requires.deep, c.if-depth-eq-BRICKS.false) in
-      let cut : AreCut b.depth c.in-Some-first_child.i c.loop-i.rest.bricks.now c.split.result.0.bricks.now c.split.result.1.bricks.now = subst (λ d. AreCut d c.in-Some-first_child.i c.loop-i.rest.bricks.now c.split.result.0.bricks.now c.split.result.1.bricks.now) (sym deep) c.split.ensures.cut in
+      let deeper : b.depth ≤ 13 =
+      omega (arith, deep, c.requires.deep, c.if-depth-eq-BRICKS.false) in
+      let cut : AreCut b.depth c.in-Some-first_child.i c.loop-i.rest.bricks.now
+      c.split.result.0.bricks.now c.split.result.1.bricks.now =
+      subst (λ d. AreCut d c.in-Some-first_child.i c.loop-i.rest.bricks.now
+      c.split.result.0.bricks.now c.split.result.1.bricks.now)
+      (sym deep) c.split.ensures.cut in
       let entered = c.enter-id.ensures b e in
       let way = c.loop-i.invariant.way b e in
-      let first : IsFirstChild b.depth (hit_voxels c.loop-i.rest.bricks.now) (freed_voxels c.loop-i.rest.bricks.now) c.in-Some-first_child.i = subst (λ d. IsFirstChild d (hit_voxels c.loop-i.rest.bricks.now) (freed_voxels c.loop-i.rest.bricks.now) c.in-Some-first_child.i) (sym deep) c.in-Some-first_child.ensures.some in
-      let hits = cut_parted (λ b. b.hits) b c.in-Some-first_child.i c.loop-i.rest.bricks.now c.split.result.0.bricks.now c.split.result.1.bricks.now deeper c.loop-i.invariant.bricks c.loop-i.invariant.ascend (part_apart c.args.depth c.in-Some-first_child.i c.loop-i.rest.bricks.now c.split.result.0.bricks.now c.split.result.1.bricks.now c.split.ensures.cut c.loop-i.invariant.ascend) (later_apart c.args.depth c.in-Some-first_child.i c.loop-i.rest.bricks.now c.split.result.0.bricks.now c.split.result.1.bricks.now c.split.ensures.cut c.loop-i.invariant.ascend) way.hits.inside cut in
-      let frees = cut_parted frees_of b c.in-Some-first_child.i c.loop-i.rest.bricks.now c.split.result.0.bricks.now c.split.result.1.bricks.now deeper c.loop-i.invariant.bricks c.loop-i.invariant.ascend (part_apart c.args.depth c.in-Some-first_child.i c.loop-i.rest.bricks.now c.split.result.0.bricks.now c.split.result.1.bricks.now c.split.ensures.cut c.loop-i.invariant.ascend) (later_apart c.args.depth c.in-Some-first_child.i c.loop-i.rest.bricks.now c.split.result.0.bricks.now c.split.result.1.bricks.now c.split.ensures.cut c.loop-i.invariant.ascend) way.frees.inside cut in
+      let first : IsFirstChild b.depth (hit_voxels c.loop-i.rest.bricks.now)
+      (freed_voxels c.loop-i.rest.bricks.now) c.in-Some-first_child.i =
+      subst (λ d. IsFirstChild d (hit_voxels c.loop-i.rest.bricks.now)
+      (freed_voxels c.loop-i.rest.bricks.now) c.in-Some-first_child.i)
+      (sym deep) c.in-Some-first_child.ensures.some in
+      let hits =
+      cut_parted (λ b. b.hits) b c.in-Some-first_child.i c.loop-i.rest.bricks.now
+      c.split.result.0.bricks.now c.split.result.1.bricks.now deeper
+      c.loop-i.invariant.bricks c.loop-i.invariant.ascend
+      (part_apart c.args.depth c.in-Some-first_child.i c.loop-i.rest.bricks.now
+      c.split.result.0.bricks.now c.split.result.1.bricks.now c.split.ensures.cut
+      c.loop-i.invariant.ascend)
+      (later_apart c.args.depth c.in-Some-first_child.i c.loop-i.rest.bricks.now
+      c.split.result.0.bricks.now c.split.result.1.bricks.now c.split.ensures.cut
+      c.loop-i.invariant.ascend)
+      way.hits.inside cut in
+      let frees =
+      cut_parted frees_of b c.in-Some-first_child.i c.loop-i.rest.bricks.now
+      c.split.result.0.bricks.now c.split.result.1.bricks.now deeper
+      c.loop-i.invariant.bricks c.loop-i.invariant.ascend
+      (part_apart c.args.depth c.in-Some-first_child.i c.loop-i.rest.bricks.now
+      c.split.result.0.bricks.now c.split.result.1.bricks.now c.split.ensures.cut
+      c.loop-i.invariant.ascend)
+      (later_apart c.args.depth c.in-Some-first_child.i c.loop-i.rest.bricks.now
+      c.split.result.0.bricks.now c.split.result.1.bricks.now c.split.ensures.cut
+      c.loop-i.invariant.ascend)
+      way.frees.inside cut in
       let few : c.in-Some-first_child.i < 8 = (let l = first.few in omega (arith, l)) in
-      let place = way_place c.args.tree.now c.enter-id.new.tree c.loop-i.tree c.args.p b c.enter-id.result c.in-Some-first_child.i (listed c.args.update) (listed c.loop-i.rest) c.args.lazy few entered way in
-      way_step c.enter-id.new.tree c.loop-i.tree c.touch_within.new.tree c.args.p b c.in-Some-first_child.i (listed c.args.update) (listed c.loop-i.rest) (listed c.split.result.0) (listed c.split.result.1) c.args.lazy entered.linked (place_in_map c.args.tree.now c.args.p b c.requires.linked e) low (c.requires.inside b e) way first hits frees c.split.ensures.hit.0 c.split.ensures.miss.0 c.split.ensures.hit.1 c.split.ensures.miss.1
-      (c.touch_within.ensures.touched (child_of b c.in-Some-first_child.i) place.1) (c.touch_within.ensures.room (child_of b c.in-Some-first_child.i) place.1);
-  bricks = later_bricks c.args.depth c.in-Some-first_child.i c.loop-i.rest.bricks.now c.split.result.0.bricks.now c.split.result.1.bricks.now c.split.ensures.cut c.loop-i.invariant.bricks;
-  ascend = later_apart c.args.depth c.in-Some-first_child.i c.loop-i.rest.bricks.now c.split.result.0.bricks.now c.split.result.1.bricks.now c.split.ensures.cut c.loop-i.invariant.ascend;
-  alike = later_alike c.args.depth c.in-Some-first_child.i c.loop-i.rest.bricks.now c.split.result.0.bricks.now c.split.result.1.bricks.now c.split.ensures.cut c.loop-i.invariant.alike;
+      let place =
+      way_place c.args.tree.now c.enter-id.new.tree c.loop-i.tree c.args.p b c.enter-id.result
+      c.in-Some-first_child.i (listed c.args.update) (listed c.loop-i.rest) c.args.lazy few
+      entered way in
+      way_step c.enter-id.new.tree c.loop-i.tree c.touch_within.new.tree c.args.p b
+      c.in-Some-first_child.i (listed c.args.update) (listed c.loop-i.rest)
+      (listed c.split.result.0) (listed c.split.result.1) c.args.lazy entered.linked
+      (place_in_map c.args.tree.now c.args.p b c.requires.linked e) low (c.requires.inside b e)
+      way first hits frees c.split.ensures.hit.0 c.split.ensures.miss.0 c.split.ensures.hit.1
+      c.split.ensures.miss.1
+      (c.touch_within.ensures.touched (child_of b c.in-Some-first_child.i) place.1)
+      (c.touch_within.ensures.room (child_of b c.in-Some-first_child.i) place.1);
+  bricks =
+      later_bricks c.args.depth c.in-Some-first_child.i c.loop-i.rest.bricks.now
+      c.split.result.0.bricks.now c.split.result.1.bricks.now c.split.ensures.cut
+      c.loop-i.invariant.bricks;
+  ascend =
+      later_apart c.args.depth c.in-Some-first_child.i c.loop-i.rest.bricks.now
+      c.split.result.0.bricks.now c.split.result.1.bricks.now c.split.ensures.cut
+      c.loop-i.invariant.ascend;
+  alike =
+      later_alike c.args.depth c.in-Some-first_child.i c.loop-i.rest.bricks.now
+      c.split.result.0.bricks.now c.split.result.1.bricks.now c.split.ensures.cut
+      c.loop-i.invariant.alike;
 }
 
 pub close-requires-clause-linked : goal.close-requires-clause-linked
-close-requires-clause-linked t c = (let (b, e) = place_block c.args.tree.now c.args.p c.requires.place in let way = c.loop-i.invariant.way b e in way.done.linked)
+close-requires-clause-linked t c =
+    (let (b, e) = place_block c.args.tree.now c.args.p c.requires.place in
+    let way = c.loop-i.invariant.way b e in
+    way.done.linked)
 
 pub close-requires-clause-place : goal.close-requires-clause-place
-close-requires-clause-place t c = (let (b, e) = place_block c.args.tree.now c.args.p c.requires.place in let way = c.loop-i.invariant.way b e in way.done.place)
+close-requires-clause-place t c =
+    (let (b, e) = place_block c.args.tree.now c.args.p c.requires.place in
+    let way = c.loop-i.invariant.way b e in
+    way.done.place)
 
 pub close-requires-clause-inner : goal.close-requires-clause-inner
 close-requires-clause-inner t c =
     let (b, e) = place_block c.args.tree.now c.args.p c.requires.place in
-    (way_back c.args.tree.now c.enter-id.new.tree c.loop-i.tree c.args.p b c.enter-id.result (listed c.args.update) (listed c.loop-i.rest) c.args.lazy (c.enter-id.ensures b e) (c.loop-i.invariant.way b e)).2
+    (way_back c.args.tree.now c.enter-id.new.tree c.loop-i.tree c.args.p b c.enter-id.result
+    (listed c.args.update) (listed c.loop-i.rest) c.args.lazy (c.enter-id.ensures b e)
+    (c.loop-i.invariant.way b e)).2
 
 pub returns-clause-touched : goal.returns-clause-touched
 returns-clause-touched t c b e =
     let deep : b.depth ≡ c.args.depth = c.requires.depth b e in
     let way = c.loop-i.invariant.way b e in
-    way_end c.args.tree.now c.enter-id.new.tree c.loop-i.tree c.close.new.tree c.args.p b c.enter-id.result (listed c.args.update) (listed c.loop-i.rest) c.args.lazy c.requires.linked c.requires.place e (omega (arith, deep, c.requires.deep, c.if-depth-eq-BRICKS.false)) (c.requires.inside b e) c.if-is_at_rest.ensures.takes (c.enter-id.ensures b e) way (ap hit_voxels c.in_default-first_child.ensures.none) (ap freed_voxels c.in_default-first_child.ensures.none) (c.close.ensures b way.done.block)
+    way_end c.args.tree.now c.enter-id.new.tree c.loop-i.tree c.close.new.tree c.args.p b
+    c.enter-id.result (listed c.args.update) (listed c.loop-i.rest) c.args.lazy c.requires.linked
+    c.requires.place e (omega (arith, deep, c.requires.deep, c.if-depth-eq-BRICKS.false))
+    (c.requires.inside b e) c.if-is_at_rest.ensures.takes (c.enter-id.ensures b e) way
+    (ap hit_voxels c.in_default-first_child.ensures.none)
+    (ap freed_voxels c.in_default-first_child.ensures.none) (c.close.ensures b way.done.block)
 
 pub returns-clause-room : goal.returns-clause-room
 returns-clause-room t c b e =
     let deep : b.depth ≡ c.args.depth = c.requires.depth b e in
     let way = c.loop-i.invariant.way b e in
-    way_spared c.args.tree.now c.enter-id.new.tree c.loop-i.tree c.close.new.tree c.args.p b c.enter-id.result (listed c.args.update) (listed c.loop-i.rest) c.args.lazy (place_in_map c.args.tree.now c.args.p b c.requires.linked e) (omega (arith, deep, c.requires.deep, c.if-depth-eq-BRICKS.false)) (c.requires.inside b e) (c.enter-id.ensures b e) way (c.close.ensures b way.done.block)
+    way_spared c.args.tree.now c.enter-id.new.tree c.loop-i.tree c.close.new.tree c.args.p b
+    c.enter-id.result (listed c.args.update) (listed c.loop-i.rest) c.args.lazy
+    (place_in_map c.args.tree.now c.args.p b c.requires.linked e)
+    (omega (arith, deep, c.requires.deep, c.if-depth-eq-BRICKS.false)) (c.requires.inside b e)
+    (c.enter-id.ensures b e) way (c.close.ensures b way.done.block)
 
 pub is_at_rest-requires-clause-apart : goal.is_at_rest-requires-clause-apart
 is_at_rest-requires-clause-apart t c =

@@ -11,7 +11,8 @@ decreases-touch_within l = 16 - l.depth
 
 abbrev pub invariant-loop-i : goal.invariant-loop-i
 invariant-loop-i l = record {
-  way : (b : Cube) → block_in l.fn.tree l.fn.p ≡ Some b → IsUnderWay l.initial.tree l.tree l.fn.p b (listed l.fn.update) (listed l.rest) l.fn.lazy;
+  way : (b : Cube) → block_in l.fn.tree l.fn.p ≡ Some b
+      → IsUnderWay l.initial.tree l.tree l.fn.p b (listed l.fn.update) (listed l.rest) l.fn.lazy;
   bricks : All IsBrick l.rest.bricks.now;
   ascend : AreAscending l.rest.bricks.now;
   alike : AreAlike l.depth l.rest.bricks.now;

@@ -11,16 +11,21 @@ use Rattle.oct_edit.specs.Parts.{IsUpdateIn, need_in}
 use Rattle.oct_edit.specs.Scan.{events_of}
 use Rattle.oct_edit.proofs.Needs.{place_in_map}
 use Rattle.oct_edit.proofs.UpdateEnds.{rest_touched}
-use Rattle.oct_edit.proofs.BrickRounds.{rest_of_brick, rest_within, rest_less, none_left, part_brick}
-use Rattle.oct_edit.proofs.BrickWays.{octet_index, octet_at, octet_few, octet_masked, octet_inside, octet_room, octet_step}
-use Rattle.oct_edit.proofs.Updates.{way_start, way_place, way_back, way_end, way_spared, need_some, at_block}
+use Rattle.oct_edit.proofs.BrickRounds.{rest_of_brick, rest_within, rest_less, none_left}
+use Rattle.oct_edit.proofs.BrickRounds.{part_brick}
+use Rattle.oct_edit.proofs.BrickWays.{octet_index, octet_at, octet_few, octet_masked, octet_inside}
+use Rattle.oct_edit.proofs.BrickWays.{octet_room, octet_step}
+use Rattle.oct_edit.proofs.Updates.{way_start, way_place, way_back, way_end, way_spared, need_some}
+use Rattle.oct_edit.proofs.Updates.{at_block}
 use Rattle.oct_edit.proofs.scan.touch_brick.Goals as goal
 
 pub returns-then-is_at_rest : goal.returns-then-is_at_rest
 returns-then-is_at_rest c = record {
   touched = λ b e.
       let deep = c.requires.depth b e in
-      rest_touched c.args.tree.now c.args.p b (listed_one c.args.update) c.args.lazy c.requires.linked c.requires.place e (omega (arith, deep)) (c.requires.inside b e) c.if-is_at_rest.ensures.bounds (c.if-is_at_rest.ensures.rests refl);
+      rest_touched c.args.tree.now c.args.p b (listed_one c.args.update) c.args.lazy
+      c.requires.linked c.requires.place e (omega (arith, deep)) (c.requires.inside b e)
+      c.if-is_at_rest.ensures.bounds (c.if-is_at_rest.ensures.rests refl);
   room = λ b e. omega arith;
 }
 
@@ -28,46 +33,128 @@ pub enter-id-requires-clause-room : goal.enter-id-requires-clause-room
 enter-id-requires-clause-room c none =
     let (b, e) = place_block c.args.tree.now c.args.p c.requires.place in
     let deep = c.requires.depth b e in
-    need_some c.args.tree.now c.args.p b (listed_one c.args.update) c.requires.linked e (omega (arith, deep)) (c.requires.inside b e) (c.requires.room b e)
+    need_some c.args.tree.now c.args.p b (listed_one c.args.update) c.requires.linked e
+    (omega (arith, deep)) (c.requires.inside b e) (c.requires.room b e)
 
 pub loop-rest-init : goal.loop-rest-init
 loop-rest-init c = record {
-  way = λ b e. way_start c.args.tree.now c.enter-id.new.tree c.args.p b c.enter-id.result _ c.args.lazy (c.enter-id.ensures b e) (c.requires.inside b e);
+  way =
+      λ b e. way_start c.args.tree.now c.enter-id.new.tree c.args.p b c.enter-id.result _
+      c.args.lazy (c.enter-id.ensures b e) (c.requires.inside b e);
   rest = rest_of_brick c.args.update.brick c.requires.brick;
 }
 
 pub octet_bits-octet-requires : goal.octet_bits-octet-requires
-octet_bits-octet-requires c = octet_few c.loop-rest.rest.brick c.args.update.brick c.loop-rest.invariant.rest c.loop-rest-test.true
+octet_bits-octet-requires c =
+    octet_few c.loop-rest.rest.brick c.args.update.brick c.loop-rest.invariant.rest
+    c.loop-rest-test.true
 
 pub touch_octet-requires : goal.touch_octet-requires
 touch_octet-requires c = record {
   linked =
-      (let (b, e) = place_block c.args.tree.now c.args.p c.requires.place in let way = c.loop-rest.invariant.way b e in way.done.linked);
+      (let (b, e) = place_block c.args.tree.now c.args.p c.requires.place in
+      let way = c.loop-rest.invariant.way b e in
+      way.done.linked);
   place =
       let (b, e) = place_block c.args.tree.now c.args.p c.requires.place in
-      (way_place c.args.tree.now c.enter-id.new.tree c.loop-rest.tree c.args.p b c.enter-id.result (octet_index c.loop-rest.rest.brick) (listed_one c.args.update) (listed_one c.loop-rest.rest) c.args.lazy (octet_few c.loop-rest.rest.brick c.args.update.brick c.loop-rest.invariant.rest c.loop-rest-test.true) (c.enter-id.ensures b e) (c.loop-rest.invariant.way b e)).0;
+      (way_place c.args.tree.now c.enter-id.new.tree c.loop-rest.tree c.args.p b c.enter-id.result
+      (octet_index c.loop-rest.rest.brick) (listed_one c.args.update)
+      (listed_one c.loop-rest.rest) c.args.lazy
+      (octet_few c.loop-rest.rest.brick c.args.update.brick c.loop-rest.invariant.rest
+      c.loop-rest-test.true)
+      (c.enter-id.ensures b e) (c.loop-rest.invariant.way b e)).0;
   depth =
       let (b, e) = place_block c.args.tree.now c.args.p c.requires.place in
-      let place = way_place c.args.tree.now c.enter-id.new.tree c.loop-rest.tree c.args.p b c.enter-id.result (octet_index c.loop-rest.rest.brick) (listed_one c.args.update) (listed_one c.loop-rest.rest) c.args.lazy (octet_few c.loop-rest.rest.brick c.args.update.brick c.loop-rest.invariant.rest c.loop-rest-test.true) (c.enter-id.ensures b e) (c.loop-rest.invariant.way b e) in
-      at_block (λ a. a.depth ≡ 15) c.loop-rest.tree (Slot c.enter-id.result (octet_index c.loop-rest.rest.brick)) (child_of b (octet_index c.loop-rest.rest.brick)) place.1 (depth_child_of b (octet_index c.loop-rest.rest.brick) ∙ ap (λ (d : ℕ). d + 1) (c.requires.depth b e));
+      let place =
+      way_place c.args.tree.now c.enter-id.new.tree c.loop-rest.tree c.args.p b
+      c.enter-id.result (octet_index c.loop-rest.rest.brick) (listed_one c.args.update)
+      (listed_one c.loop-rest.rest) c.args.lazy
+      (octet_few c.loop-rest.rest.brick c.args.update.brick c.loop-rest.invariant.rest
+      c.loop-rest-test.true)
+      (c.enter-id.ensures b e) (c.loop-rest.invariant.way b e) in
+      at_block (λ a. a.depth ≡ 15) c.loop-rest.tree
+      (Slot c.enter-id.result (octet_index c.loop-rest.rest.brick))
+      (child_of b (octet_index c.loop-rest.rest.brick)) place.1
+      (depth_child_of b (octet_index c.loop-rest.rest.brick)
+      ∙ ap (λ (d : ℕ). d + 1) (c.requires.depth b e));
   brick =
       let (b, e) = place_block c.args.tree.now c.args.p c.requires.place in
-      let at = octet_at c.enter-id.new.tree c.loop-rest.tree c.args.p b (listed_one c.args.update) c.args.update.brick c.loop-rest.rest.brick c.loop-rest.rest.hit c.loop-rest.rest.miss c.octet_bits-octet.result c.args.lazy (c.requires.depth b e) c.requires.brick c.loop-rest.invariant.rest c.loop-rest-test.true (c.loop-rest.invariant.way b e) (c.requires.inside b e) c.octet_bits-octet.ensures (search rules) in
-      part_brick b (octet_index c.loop-rest.rest.brick) c.loop-rest.rest.brick c.within.result.brick c.args.update.brick c.octet_bits-octet.result c.requires.brick.code c.loop-rest.invariant.rest at.some
-      (octet_masked c.enter-id.new.tree c.loop-rest.tree c.args.p b (listed_one c.args.update) c.args.update.brick c.loop-rest.rest.brick c.loop-rest.rest.hit c.loop-rest.rest.miss c.octet_bits-octet.result c.args.lazy at) (record { code = c.within.ensures.code; scanned = c.within.ensures.scanned; hits = c.within.ensures.hits });
+      let at =
+      octet_at c.enter-id.new.tree c.loop-rest.tree c.args.p b (listed_one c.args.update)
+      c.args.update.brick c.loop-rest.rest.brick c.loop-rest.rest.hit c.loop-rest.rest.miss
+      c.octet_bits-octet.result c.args.lazy (c.requires.depth b e) c.requires.brick
+      c.loop-rest.invariant.rest c.loop-rest-test.true (c.loop-rest.invariant.way b e)
+      (c.requires.inside b e) c.octet_bits-octet.ensures (search rules) in
+      part_brick b (octet_index c.loop-rest.rest.brick) c.loop-rest.rest.brick c.within.result.brick
+      c.args.update.brick c.octet_bits-octet.result c.requires.brick.code
+      c.loop-rest.invariant.rest at.some
+      (octet_masked c.enter-id.new.tree c.loop-rest.tree c.args.p b (listed_one c.args.update)
+      c.args.update.brick c.loop-rest.rest.brick c.loop-rest.rest.hit c.loop-rest.rest.miss
+      c.octet_bits-octet.result c.args.lazy at)
+      (record {
+        code = c.within.ensures.code;
+        scanned = c.within.ensures.scanned;
+        hits = c.within.ensures.hits;
+      });
   inside =
       let (b, e) = place_block c.args.tree.now c.args.p c.requires.place in
-      let at = octet_at c.enter-id.new.tree c.loop-rest.tree c.args.p b (listed_one c.args.update) c.args.update.brick c.loop-rest.rest.brick c.loop-rest.rest.hit c.loop-rest.rest.miss c.octet_bits-octet.result c.args.lazy (c.requires.depth b e) c.requires.brick c.loop-rest.invariant.rest c.loop-rest-test.true (c.loop-rest.invariant.way b e) (c.requires.inside b e) c.octet_bits-octet.ensures (search rules) in
-      let place = way_place c.args.tree.now c.enter-id.new.tree c.loop-rest.tree c.args.p b c.enter-id.result (octet_index c.loop-rest.rest.brick) (listed_one c.args.update) (listed_one c.loop-rest.rest) c.args.lazy (octet_few c.loop-rest.rest.brick c.args.update.brick c.loop-rest.invariant.rest c.loop-rest-test.true) (c.enter-id.ensures b e) (c.loop-rest.invariant.way b e) in
-      at_block (λ a. IsUpdateIn a (listed_one c.within.result)) c.loop-rest.tree (Slot c.enter-id.result (octet_index c.loop-rest.rest.brick)) (child_of b (octet_index c.loop-rest.rest.brick)) place.1
-      (octet_inside c.enter-id.new.tree c.loop-rest.tree c.args.p b (listed_one c.args.update) c.args.update.brick c.loop-rest.rest.brick c.within.result.brick c.loop-rest.rest.hit c.loop-rest.rest.miss c.within.result.hit c.within.result.miss c.octet_bits-octet.result c.args.lazy at (record { code = c.within.ensures.code; scanned = c.within.ensures.scanned; hits = c.within.ensures.hits }));
+      let at =
+      octet_at c.enter-id.new.tree c.loop-rest.tree c.args.p b (listed_one c.args.update)
+      c.args.update.brick c.loop-rest.rest.brick c.loop-rest.rest.hit c.loop-rest.rest.miss
+      c.octet_bits-octet.result c.args.lazy (c.requires.depth b e) c.requires.brick
+      c.loop-rest.invariant.rest c.loop-rest-test.true (c.loop-rest.invariant.way b e)
+      (c.requires.inside b e) c.octet_bits-octet.ensures (search rules) in
+      let place =
+      way_place c.args.tree.now c.enter-id.new.tree c.loop-rest.tree c.args.p b
+      c.enter-id.result (octet_index c.loop-rest.rest.brick) (listed_one c.args.update)
+      (listed_one c.loop-rest.rest) c.args.lazy
+      (octet_few c.loop-rest.rest.brick c.args.update.brick c.loop-rest.invariant.rest
+      c.loop-rest-test.true)
+      (c.enter-id.ensures b e) (c.loop-rest.invariant.way b e) in
+      at_block (λ a. IsUpdateIn a (listed_one c.within.result)) c.loop-rest.tree
+      (Slot c.enter-id.result (octet_index c.loop-rest.rest.brick))
+      (child_of b (octet_index c.loop-rest.rest.brick)) place.1
+      (octet_inside c.enter-id.new.tree c.loop-rest.tree c.args.p b (listed_one c.args.update)
+      c.args.update.brick c.loop-rest.rest.brick c.within.result.brick c.loop-rest.rest.hit
+      c.loop-rest.rest.miss c.within.result.hit c.within.result.miss c.octet_bits-octet.result
+      c.args.lazy at
+      (record {
+        code = c.within.ensures.code;
+        scanned = c.within.ensures.scanned;
+        hits =
+            c.within.ensures.hits;
+      }));
   room =
       let (b, e) = place_block c.args.tree.now c.args.p c.requires.place in
-      let at = octet_at c.enter-id.new.tree c.loop-rest.tree c.args.p b (listed_one c.args.update) c.args.update.brick c.loop-rest.rest.brick c.loop-rest.rest.hit c.loop-rest.rest.miss c.octet_bits-octet.result c.args.lazy (c.requires.depth b e) c.requires.brick c.loop-rest.invariant.rest c.loop-rest-test.true (c.loop-rest.invariant.way b e) (c.requires.inside b e) c.octet_bits-octet.ensures (search rules) in
-      let place = way_place c.args.tree.now c.enter-id.new.tree c.loop-rest.tree c.args.p b c.enter-id.result (octet_index c.loop-rest.rest.brick) (listed_one c.args.update) (listed_one c.loop-rest.rest) c.args.lazy (octet_few c.loop-rest.rest.brick c.args.update.brick c.loop-rest.invariant.rest c.loop-rest-test.true) (c.enter-id.ensures b e) (c.loop-rest.invariant.way b e) in
-      at_block (λ a. need_in (events_of (listed_one c.within.result)) a ≤ spare c.loop-rest.tree.groups) c.loop-rest.tree (Slot c.enter-id.result (octet_index c.loop-rest.rest.brick)) (child_of b (octet_index c.loop-rest.rest.brick)) place.1
-      (octet_room c.args.tree.now c.enter-id.new.tree c.loop-rest.tree c.args.p b c.enter-id.result (listed_one c.args.update) c.args.update.brick c.loop-rest.rest.brick c.within.result.brick c.loop-rest.rest.hit c.loop-rest.rest.miss c.within.result.hit c.within.result.miss c.octet_bits-octet.result c.args.lazy
-      (place_in_map c.args.tree.now c.args.p b c.requires.linked e) (c.requires.inside b e) (c.requires.room b e) (c.enter-id.ensures b e) at (record { code = c.within.ensures.code; scanned = c.within.ensures.scanned; hits = c.within.ensures.hits }) c.within.ensures.hit c.within.ensures.miss);
+      let at =
+      octet_at c.enter-id.new.tree c.loop-rest.tree c.args.p b (listed_one c.args.update)
+      c.args.update.brick c.loop-rest.rest.brick c.loop-rest.rest.hit c.loop-rest.rest.miss
+      c.octet_bits-octet.result c.args.lazy (c.requires.depth b e) c.requires.brick
+      c.loop-rest.invariant.rest c.loop-rest-test.true (c.loop-rest.invariant.way b e)
+      (c.requires.inside b e) c.octet_bits-octet.ensures (search rules) in
+      let place =
+      way_place c.args.tree.now c.enter-id.new.tree c.loop-rest.tree c.args.p b
+      c.enter-id.result (octet_index c.loop-rest.rest.brick) (listed_one c.args.update)
+      (listed_one c.loop-rest.rest) c.args.lazy
+      (octet_few c.loop-rest.rest.brick c.args.update.brick c.loop-rest.invariant.rest
+      c.loop-rest-test.true)
+      (c.enter-id.ensures b e) (c.loop-rest.invariant.way b e) in
+      at_block
+      (λ a. need_in (events_of (listed_one c.within.result)) a ≤ spare c.loop-rest.tree.groups)
+      c.loop-rest.tree (Slot c.enter-id.result (octet_index c.loop-rest.rest.brick))
+      (child_of b (octet_index c.loop-rest.rest.brick)) place.1
+      (octet_room c.args.tree.now c.enter-id.new.tree c.loop-rest.tree c.args.p b c.enter-id.result
+      (listed_one c.args.update) c.args.update.brick c.loop-rest.rest.brick
+      c.within.result.brick c.loop-rest.rest.hit c.loop-rest.rest.miss c.within.result.hit
+      c.within.result.miss c.octet_bits-octet.result c.args.lazy
+      (place_in_map c.args.tree.now c.args.p b c.requires.linked e) (c.requires.inside b e)
+      (c.requires.room b e) (c.enter-id.ensures b e) at
+      (record {
+        code = c.within.ensures.code;
+        scanned = c.within.ensures.scanned;
+        hits = c.within.ensures.hits;
+      })
+      c.within.ensures.hit c.within.ensures.miss);
   hit =
       let (b, e) = place_block c.args.tree.now c.args.p c.requires.place in
       let way = c.loop-rest.invariant.way b e in
@@ -81,44 +168,111 @@ touch_octet-requires c = record {
 pub loop-rest-smaller : goal.loop-rest-smaller
 loop-rest-smaller c =
     let (b, e) = place_block c.args.tree.now c.args.p c.requires.place in
-    let at = octet_at c.enter-id.new.tree c.loop-rest.tree c.args.p b (listed_one c.args.update) c.args.update.brick c.loop-rest.rest.brick c.loop-rest.rest.hit c.loop-rest.rest.miss c.octet_bits-octet.result c.args.lazy (c.requires.depth b e) c.requires.brick c.loop-rest.invariant.rest c.loop-rest-test.true (c.loop-rest.invariant.way b e) (c.requires.inside b e) c.octet_bits-octet.ensures (search rules) in
-    rest_less b (octet_index c.loop-rest.rest.brick) c.loop-rest.rest.brick c.within-rest.result.brick c.args.update.brick c.octet_bits-octet.result (bit_not w64 c.octet_bits-octet.result) c.loop-rest.invariant.rest at.some
-    (octet_masked c.enter-id.new.tree c.loop-rest.tree c.args.p b (listed_one c.args.update) c.args.update.brick c.loop-rest.rest.brick c.loop-rest.rest.hit c.loop-rest.rest.miss c.octet_bits-octet.result c.args.lazy at) refl (record { code = c.within-rest.ensures.code; scanned = c.within-rest.ensures.scanned; hits = c.within-rest.ensures.hits })
+    let at =
+    octet_at c.enter-id.new.tree c.loop-rest.tree c.args.p b (listed_one c.args.update)
+    c.args.update.brick c.loop-rest.rest.brick c.loop-rest.rest.hit c.loop-rest.rest.miss
+    c.octet_bits-octet.result c.args.lazy (c.requires.depth b e) c.requires.brick
+    c.loop-rest.invariant.rest c.loop-rest-test.true (c.loop-rest.invariant.way b e)
+    (c.requires.inside b e) c.octet_bits-octet.ensures (search rules) in
+    rest_less b (octet_index c.loop-rest.rest.brick) c.loop-rest.rest.brick
+    c.within-rest.result.brick c.args.update.brick c.octet_bits-octet.result
+    (bit_not w64 c.octet_bits-octet.result) c.loop-rest.invariant.rest at.some
+    (octet_masked c.enter-id.new.tree c.loop-rest.tree c.args.p b (listed_one c.args.update)
+    c.args.update.brick c.loop-rest.rest.brick c.loop-rest.rest.hit c.loop-rest.rest.miss
+    c.octet_bits-octet.result c.args.lazy at)
+    refl
+    (record {
+      code = c.within-rest.ensures.code;
+      scanned = c.within-rest.ensures.scanned;
+      hits = c.within-rest.ensures.hits;
+    })
 
 pub loop-rest-preserved : goal.loop-rest-preserved
 loop-rest-preserved c = record {
   way = λ b e.
-      let at = octet_at c.enter-id.new.tree c.loop-rest.tree c.args.p b (listed_one c.args.update) c.args.update.brick c.loop-rest.rest.brick c.loop-rest.rest.hit c.loop-rest.rest.miss c.octet_bits-octet.result c.args.lazy (c.requires.depth b e) c.requires.brick c.loop-rest.invariant.rest c.loop-rest-test.true (c.loop-rest.invariant.way b e) (c.requires.inside b e) c.octet_bits-octet.ensures (search rules) in
-      let place = way_place c.args.tree.now c.enter-id.new.tree c.loop-rest.tree c.args.p b c.enter-id.result (octet_index c.loop-rest.rest.brick) (listed_one c.args.update) (listed_one c.loop-rest.rest) c.args.lazy (octet_few c.loop-rest.rest.brick c.args.update.brick c.loop-rest.invariant.rest c.loop-rest-test.true) (c.enter-id.ensures b e) (c.loop-rest.invariant.way b e) in
+      let at =
+      octet_at c.enter-id.new.tree c.loop-rest.tree c.args.p b (listed_one c.args.update)
+      c.args.update.brick c.loop-rest.rest.brick c.loop-rest.rest.hit c.loop-rest.rest.miss
+      c.octet_bits-octet.result c.args.lazy (c.requires.depth b e) c.requires.brick
+      c.loop-rest.invariant.rest c.loop-rest-test.true (c.loop-rest.invariant.way b e)
+      (c.requires.inside b e) c.octet_bits-octet.ensures (search rules) in
+      let place =
+      way_place c.args.tree.now c.enter-id.new.tree c.loop-rest.tree c.args.p b
+      c.enter-id.result (octet_index c.loop-rest.rest.brick) (listed_one c.args.update)
+      (listed_one c.loop-rest.rest) c.args.lazy
+      (octet_few c.loop-rest.rest.brick c.args.update.brick c.loop-rest.invariant.rest
+      c.loop-rest-test.true)
+      (c.enter-id.ensures b e) (c.loop-rest.invariant.way b e) in
       let entered = c.enter-id.ensures b e in
-      octet_step c.enter-id.new.tree c.loop-rest.tree c.touch_octet.new.tree c.args.p b (listed_one c.args.update) c.args.update.brick c.loop-rest.rest.brick c.within.result.brick c.within-rest.result.brick c.loop-rest.rest.hit c.loop-rest.rest.miss c.within.result.hit c.within.result.miss c.within-rest.result.hit c.within-rest.result.miss c.octet_bits-octet.result c.args.lazy
-      entered.linked (place_in_map c.args.tree.now c.args.p b c.requires.linked e) at (record { code = c.within.ensures.code; scanned = c.within.ensures.scanned; hits = c.within.ensures.hits }) (record { code = c.within-rest.ensures.code; scanned = c.within-rest.ensures.scanned; hits = c.within-rest.ensures.hits }) c.within.ensures.hit c.within.ensures.miss c.within-rest.ensures.hit c.within-rest.ensures.miss
-      (c.touch_octet.ensures.touched (child_of b (octet_index c.loop-rest.rest.brick)) place.1) (c.touch_octet.ensures.room (child_of b (octet_index c.loop-rest.rest.brick)) place.1);
-  rest = rest_within c.loop-rest.rest.brick c.within-rest.result.brick c.args.update.brick (bit_not w64 c.octet_bits-octet.result) c.loop-rest.invariant.rest (record { code = c.within-rest.ensures.code; scanned = c.within-rest.ensures.scanned; hits = c.within-rest.ensures.hits });
+      octet_step c.enter-id.new.tree c.loop-rest.tree c.touch_octet.new.tree c.args.p b
+      (listed_one c.args.update) c.args.update.brick c.loop-rest.rest.brick
+      c.within.result.brick c.within-rest.result.brick c.loop-rest.rest.hit
+      c.loop-rest.rest.miss c.within.result.hit c.within.result.miss c.within-rest.result.hit
+      c.within-rest.result.miss c.octet_bits-octet.result c.args.lazy
+      entered.linked (place_in_map c.args.tree.now c.args.p b c.requires.linked e) at
+      (record {
+        code = c.within.ensures.code;
+        scanned = c.within.ensures.scanned;
+        hits = c.within.ensures.hits;
+      })
+      (record {
+        code = c.within-rest.ensures.code;
+        scanned = c.within-rest.ensures.scanned;
+        hits = c.within-rest.ensures.hits;
+      })
+      c.within.ensures.hit c.within.ensures.miss c.within-rest.ensures.hit
+      c.within-rest.ensures.miss
+      (c.touch_octet.ensures.touched (child_of b (octet_index c.loop-rest.rest.brick)) place.1)
+      (c.touch_octet.ensures.room (child_of b (octet_index c.loop-rest.rest.brick)) place.1);
+  rest =
+      rest_within c.loop-rest.rest.brick c.within-rest.result.brick c.args.update.brick
+      (bit_not w64 c.octet_bits-octet.result) c.loop-rest.invariant.rest
+      (record {
+        code = c.within-rest.ensures.code;
+        scanned = c.within-rest.ensures.scanned;
+        hits = c.within-rest.ensures.hits;
+      });
 }
 
 pub close-requires-clause-linked : goal.close-requires-clause-linked
-close-requires-clause-linked c = (let (b, e) = place_block c.args.tree.now c.args.p c.requires.place in let way = c.loop-rest.invariant.way b e in way.done.linked)
+close-requires-clause-linked c =
+    (let (b, e) = place_block c.args.tree.now c.args.p c.requires.place in
+    let way = c.loop-rest.invariant.way b e in
+    way.done.linked)
 
 pub close-requires-clause-place : goal.close-requires-clause-place
-close-requires-clause-place c = (let (b, e) = place_block c.args.tree.now c.args.p c.requires.place in let way = c.loop-rest.invariant.way b e in way.done.place)
+close-requires-clause-place c =
+    (let (b, e) = place_block c.args.tree.now c.args.p c.requires.place in
+    let way = c.loop-rest.invariant.way b e in
+    way.done.place)
 
 pub close-requires-clause-inner : goal.close-requires-clause-inner
 close-requires-clause-inner c =
     let (b, e) = place_block c.args.tree.now c.args.p c.requires.place in
-    (way_back c.args.tree.now c.enter-id.new.tree c.loop-rest.tree c.args.p b c.enter-id.result (listed_one c.args.update) (listed_one c.loop-rest.rest) c.args.lazy (c.enter-id.ensures b e) (c.loop-rest.invariant.way b e)).2
+    (way_back c.args.tree.now c.enter-id.new.tree c.loop-rest.tree c.args.p b c.enter-id.result
+    (listed_one c.args.update) (listed_one c.loop-rest.rest) c.args.lazy
+    (c.enter-id.ensures b e) (c.loop-rest.invariant.way b e)).2
 
 pub returns : goal.returns
 returns c = record {
   touched = λ b e.
       let deep : b.depth ≡ 14 = c.requires.depth b e in
       let way = c.loop-rest.invariant.way b e in
-      let none = none_left c.args.update.brick c.loop-rest.rest.brick c.loop-rest.rest.hit c.loop-rest.rest.miss c.loop-rest.invariant.rest c.loop-rest-test.false in
-      way_end c.args.tree.now c.enter-id.new.tree c.loop-rest.tree c.close.new.tree c.args.p b c.enter-id.result (listed_one c.args.update) (listed_one c.loop-rest.rest) c.args.lazy c.requires.linked c.requires.place e (omega (arith, deep)) (c.requires.inside b e) c.if-is_at_rest.ensures.takes (c.enter-id.ensures b e) way none.0 none.1 (c.close.ensures b way.done.block);
+      let none =
+      none_left c.args.update.brick c.loop-rest.rest.brick c.loop-rest.rest.hit
+      c.loop-rest.rest.miss c.loop-rest.invariant.rest c.loop-rest-test.false in
+      way_end c.args.tree.now c.enter-id.new.tree c.loop-rest.tree c.close.new.tree c.args.p b
+      c.enter-id.result (listed_one c.args.update) (listed_one c.loop-rest.rest) c.args.lazy
+      c.requires.linked c.requires.place e (omega (arith, deep)) (c.requires.inside b e)
+      c.if-is_at_rest.ensures.takes (c.enter-id.ensures b e) way none.0 none.1
+      (c.close.ensures b way.done.block);
   room = λ b e.
       let deep : b.depth ≡ 14 = c.requires.depth b e in
       let way = c.loop-rest.invariant.way b e in
-      way_spared c.args.tree.now c.enter-id.new.tree c.loop-rest.tree c.close.new.tree c.args.p b c.enter-id.result (listed_one c.args.update) (listed_one c.loop-rest.rest) c.args.lazy (place_in_map c.args.tree.now c.args.p b c.requires.linked e) (omega (arith, deep)) (c.requires.inside b e) (c.enter-id.ensures b e) way (c.close.ensures b way.done.block);
+      way_spared c.args.tree.now c.enter-id.new.tree c.loop-rest.tree c.close.new.tree c.args.p b
+      c.enter-id.result (listed_one c.args.update) (listed_one c.loop-rest.rest) c.args.lazy
+      (place_in_map c.args.tree.now c.args.p b c.requires.linked e) (omega (arith, deep))
+      (c.requires.inside b e) (c.enter-id.ensures b e) way (c.close.ensures b way.done.block);
 }
 
 pub is_at_rest-requires-clause-apart : goal.is_at_rest-requires-clause-apart

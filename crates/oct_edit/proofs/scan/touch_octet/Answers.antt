@@ -1,4 +1,5 @@
-use Rattle.std.proofs.Common.{◌≡◌, ℕ, ◌+◌, ◌*◌, ◌^◌, ◌%◌, ◌<◌, [], ◌∷◌, refl, sym, subst, ◌∙◌, ap, arith}
+use Rattle.std.proofs.Common.{◌≡◌, ℕ, ◌+◌, ◌*◌, ◌^◌, ◌%◌, ◌<◌, [], ◌∷◌, refl, sym, subst, ◌∙◌, ap}
+use Rattle.std.proofs.Common.{arith}
 use Rattle.std.specs.Int.{bit_not, w64, trailing_zeros}
 use Rattle.oct_key.specs.Block.{child_of}
 use Rattle.oct_key.proofs.Blocks.{depth_child_of}
@@ -11,7 +12,8 @@ use Rattle.oct_edit.proofs.Needs.{place_in_map}
 use Rattle.oct_edit.proofs.UpdateEnds.{one_plain, rest_touched}
 use Rattle.oct_edit.proofs.BrickParts.{IsWithin}
 use Rattle.oct_edit.proofs.BrickRounds.{rest_of_brick, rest_within, rest_less, none_left}
-use Rattle.oct_edit.proofs.BrickWays.{part_of, voxel_index, voxel_at, voxel_masked, voxel_inside, voxel_step}
+use Rattle.oct_edit.proofs.BrickWays.{part_of, voxel_index, voxel_at, voxel_masked, voxel_inside}
+use Rattle.oct_edit.proofs.BrickWays.{voxel_step}
 use Rattle.oct_edit.proofs.Updates.{way_start, way_place, way_back, way_end, way_spared, need_some}
 use Rattle.oct_edit.proofs.scan.touch_octet.Goals as goal
 
@@ -19,7 +21,9 @@ pub returns-then-is_at_rest : goal.returns-then-is_at_rest
 returns-then-is_at_rest c = record {
   touched = λ b e.
       let deep = c.requires.depth b e in
-      rest_touched c.args.tree.now c.args.p b (listed_one c.args.update) c.args.lazy c.requires.linked c.requires.place e (omega (arith, deep)) (c.requires.inside b e) c.if-is_at_rest.ensures.bounds (c.if-is_at_rest.ensures.rests refl);
+      rest_touched c.args.tree.now c.args.p b (listed_one c.args.update) c.args.lazy
+      c.requires.linked c.requires.place e (omega (arith, deep)) (c.requires.inside b e)
+      c.if-is_at_rest.ensures.bounds (c.if-is_at_rest.ensures.rests refl);
   room = λ b e. omega arith;
 }
 
@@ -27,35 +31,53 @@ pub enter-id-requires-clause-room : goal.enter-id-requires-clause-room
 enter-id-requires-clause-room c none =
     let (b, e) = place_block c.args.tree.now c.args.p c.requires.place in
     let deep = c.requires.depth b e in
-    need_some c.args.tree.now c.args.p b (listed_one c.args.update) c.requires.linked e (omega (arith, deep)) (c.requires.inside b e) (c.requires.room b e)
+    need_some c.args.tree.now c.args.p b (listed_one c.args.update) c.requires.linked e
+    (omega (arith, deep)) (c.requires.inside b e) (c.requires.room b e)
 
 pub loop-rest-init : goal.loop-rest-init
 loop-rest-init c = record {
-  way = λ b e. way_start c.args.tree.now c.enter-id.new.tree c.args.p b c.enter-id.result _ c.args.lazy (c.enter-id.ensures b e) (c.requires.inside b e);
+  way =
+      λ b e. way_start c.args.tree.now c.enter-id.new.tree c.args.p b c.enter-id.result _
+      c.args.lazy (c.enter-id.ensures b e) (c.requires.inside b e);
   rest = rest_of_brick c.args.update.brick c.requires.brick;
 }
 
 pub apply_bit-requires-clause-linked : goal.apply_bit-requires-clause-linked
-apply_bit-requires-clause-linked c = (let (b, e) = place_block c.args.tree.now c.args.p c.requires.place in let way = c.loop-rest.invariant.way b e in way.done.linked)
+apply_bit-requires-clause-linked c =
+    (let (b, e) = place_block c.args.tree.now c.args.p c.requires.place in
+    let way = c.loop-rest.invariant.way b e in
+    way.done.linked)
 
 pub apply_bit-requires-clause-place : goal.apply_bit-requires-clause-place
 apply_bit-requires-clause-place c =
     let (b, e) = place_block c.args.tree.now c.args.p c.requires.place in
     let t = trailing_zeros w64 c.loop-rest.rest.brick.scanned in
     let few : t % 8 < 8 = omega arith in
-    (way_place c.args.tree.now c.enter-id.new.tree c.loop-rest.tree c.args.p b c.enter-id.result (t % 8) (listed_one c.args.update) (listed_one c.loop-rest.rest) c.args.lazy few (c.enter-id.ensures b e) (c.loop-rest.invariant.way b e)).0
+    (way_place c.args.tree.now c.enter-id.new.tree c.loop-rest.tree c.args.p b c.enter-id.result
+    (t % 8) (listed_one c.args.update) (listed_one c.loop-rest.rest) c.args.lazy few
+    (c.enter-id.ensures b e) (c.loop-rest.invariant.way b e)).0
 
 pub apply_bit-requires-clause-plain : goal.apply_bit-requires-clause-plain
 apply_bit-requires-clause-plain c =
     let (b, e) = place_block c.args.tree.now c.args.p c.requires.place in
     let r = c.loop-rest.rest.brick in
-    let h = voxel_at c.enter-id.new.tree c.loop-rest.tree c.args.p b (listed_one c.args.update) c.args.update.brick c.loop-rest.rest.brick c.loop-rest.rest.hit c.loop-rest.rest.miss c.args.lazy (c.requires.depth b e) c.requires.brick c.loop-rest.invariant.rest c.loop-rest-test.true (c.loop-rest.invariant.way b e) (c.requires.inside b e) in
+    let h =
+    voxel_at c.enter-id.new.tree c.loop-rest.tree c.args.p b (listed_one c.args.update)
+    c.args.update.brick c.loop-rest.rest.brick c.loop-rest.rest.hit c.loop-rest.rest.miss
+    c.args.lazy (c.requires.depth b e) c.requires.brick c.loop-rest.invariant.rest
+    c.loop-rest-test.true (c.loop-rest.invariant.way b e) (c.requires.inside b e) in
     let x : ℕ = 1 * 2 ^ trailing_zeros w64 r.scanned % 2 ^ 64 in
     let deep = c.requires.depth b e in
     let few : voxel_index r < 8 = omega arith in
-    let place = way_place c.args.tree.now c.enter-id.new.tree c.loop-rest.tree c.args.p b c.enter-id.result (voxel_index r) (listed_one c.args.update) (listed_one c.loop-rest.rest) c.args.lazy few (c.enter-id.ensures b e) h.way in
-    one_plain c.loop-rest.tree (Slot c.enter-id.result (voxel_index r)) (child_of b (voxel_index r)) (update_of (part_of r x ∷ []) c.loop-rest.rest.hit c.loop-rest.rest.miss) h.way.done.linked place.1 (depth_child_of b (voxel_index r) ∙ ap (λ (d : ℕ). d + 1) deep)
-    (voxel_inside c.enter-id.new.tree c.loop-rest.tree c.args.p b (listed_one c.args.update) c.args.update.brick r c.loop-rest.rest.hit c.loop-rest.rest.miss x c.args.lazy h)
+    let place =
+    way_place c.args.tree.now c.enter-id.new.tree c.loop-rest.tree c.args.p b c.enter-id.result
+    (voxel_index r) (listed_one c.args.update) (listed_one c.loop-rest.rest) c.args.lazy few
+    (c.enter-id.ensures b e) h.way in
+    one_plain c.loop-rest.tree (Slot c.enter-id.result (voxel_index r)) (child_of b (voxel_index r))
+    (update_of (part_of r x ∷ []) c.loop-rest.rest.hit c.loop-rest.rest.miss) h.way.done.linked
+    place.1 (depth_child_of b (voxel_index r) ∙ ap (λ (d : ℕ). d + 1) deep)
+    (voxel_inside c.enter-id.new.tree c.loop-rest.tree c.args.p b (listed_one c.args.update)
+    c.args.update.brick r c.loop-rest.rest.hit c.loop-rest.rest.miss x c.args.lazy h)
 
 pub apply_bit-requires-clause-hit : goal.apply_bit-requires-clause-hit
 apply_bit-requires-clause-hit c =
@@ -68,17 +90,31 @@ apply_bit-requires-clause-miss c =
     let way = c.loop-rest.invariant.way b e in subst IsSmallEvent (sym way.miss) c.requires.miss
 
 -- what is left of it
-left_over : (c : goal.After-within-rest) → IsWithin c.loop-rest.rest.brick (bit_not w64 (1 * 2 ^ trailing_zeros w64 c.loop-rest.rest.brick.scanned % 2 ^ 64)) c.within-rest.result.brick
-left_over c = record { code = c.within-rest.ensures.code; scanned = c.within-rest.ensures.scanned; hits = c.within-rest.ensures.hits }
+left_over : (c : goal.After-within-rest)
+    → IsWithin c.loop-rest.rest.brick
+    (bit_not w64 (1 * 2 ^ trailing_zeros w64 c.loop-rest.rest.brick.scanned % 2 ^ 64))
+    c.within-rest.result.brick
+left_over c = record {
+  code = c.within-rest.ensures.code;
+  scanned = c.within-rest.ensures.scanned;
+  hits = c.within-rest.ensures.hits;
+}
 
 pub loop-rest-smaller : goal.loop-rest-smaller
 loop-rest-smaller c =
     let (b, e) = place_block c.args.tree.now c.args.p c.requires.place in
     let r = c.loop-rest.rest.brick in
     let x : ℕ = 1 * 2 ^ trailing_zeros w64 r.scanned % 2 ^ 64 in
-    let h = voxel_at c.enter-id.new.tree c.loop-rest.tree c.args.p b (listed_one c.args.update) c.args.update.brick c.loop-rest.rest.brick c.loop-rest.rest.hit c.loop-rest.rest.miss c.args.lazy (c.requires.depth b e) c.requires.brick c.loop-rest.invariant.rest c.loop-rest-test.true (c.loop-rest.invariant.way b e) (c.requires.inside b e) in
-    rest_less b (voxel_index r) r c.within-rest.result.brick c.args.update.brick x (bit_not w64 x) c.loop-rest.invariant.rest h.some
-    (voxel_masked c.enter-id.new.tree c.loop-rest.tree c.args.p b (listed_one c.args.update) c.args.update.brick r c.loop-rest.rest.hit c.loop-rest.rest.miss x c.args.lazy h) refl (left_over c)
+    let h =
+    voxel_at c.enter-id.new.tree c.loop-rest.tree c.args.p b (listed_one c.args.update)
+    c.args.update.brick c.loop-rest.rest.brick c.loop-rest.rest.hit c.loop-rest.rest.miss
+    c.args.lazy (c.requires.depth b e) c.requires.brick c.loop-rest.invariant.rest
+    c.loop-rest-test.true (c.loop-rest.invariant.way b e) (c.requires.inside b e) in
+    rest_less b (voxel_index r) r c.within-rest.result.brick c.args.update.brick x (bit_not w64 x)
+    c.loop-rest.invariant.rest h.some
+    (voxel_masked c.enter-id.new.tree c.loop-rest.tree c.args.p b (listed_one c.args.update)
+    c.args.update.brick r c.loop-rest.rest.hit c.loop-rest.rest.miss x c.args.lazy h)
+    refl (left_over c)
 
 pub loop-rest-preserved : goal.loop-rest-preserved
 loop-rest-preserved c = record {
@@ -86,33 +122,62 @@ loop-rest-preserved c = record {
       let r = c.loop-rest.rest.brick in
       let x : ℕ = 1 * 2 ^ trailing_zeros w64 r.scanned % 2 ^ 64 in
       let entered = c.enter-id.ensures b e in
-      voxel_step c.args.tree.now c.enter-id.new.tree c.loop-rest.tree c.apply_bit.new.tree c.args.p b c.enter-id.result (listed_one c.args.update) c.args.update.brick r c.within-rest.result.brick c.loop-rest.rest.hit c.loop-rest.rest.miss c.within-rest.result.hit c.within-rest.result.miss (event_of_bit c.loop-rest.rest x) x c.args.lazy
-      entered.linked (place_in_map c.args.tree.now c.args.p b c.requires.linked e) entered (voxel_at c.enter-id.new.tree c.loop-rest.tree c.args.p b (listed_one c.args.update) c.args.update.brick c.loop-rest.rest.brick c.loop-rest.rest.hit c.loop-rest.rest.miss c.args.lazy (c.requires.depth b e) c.requires.brick c.loop-rest.invariant.rest c.loop-rest-test.true (c.loop-rest.invariant.way b e) (c.requires.inside b e)) (left_over c) c.within-rest.ensures.hit c.within-rest.ensures.miss refl c.apply_bit.ensures.spare c.apply_bit.ensures.touched;
-  rest = rest_within c.loop-rest.rest.brick c.within-rest.result.brick c.args.update.brick (bit_not w64 (1 * 2 ^ trailing_zeros w64 c.loop-rest.rest.brick.scanned % 2 ^ 64)) c.loop-rest.invariant.rest (left_over c);
+      voxel_step c.args.tree.now c.enter-id.new.tree c.loop-rest.tree c.apply_bit.new.tree c.args.p
+      b c.enter-id.result (listed_one c.args.update) c.args.update.brick r
+      c.within-rest.result.brick c.loop-rest.rest.hit c.loop-rest.rest.miss c.within-rest.result.hit
+      c.within-rest.result.miss (event_of_bit c.loop-rest.rest x) x c.args.lazy entered.linked
+      (place_in_map c.args.tree.now c.args.p b c.requires.linked e) entered
+      (voxel_at c.enter-id.new.tree c.loop-rest.tree c.args.p b (listed_one c.args.update)
+      c.args.update.brick c.loop-rest.rest.brick c.loop-rest.rest.hit c.loop-rest.rest.miss
+      c.args.lazy (c.requires.depth b e) c.requires.brick c.loop-rest.invariant.rest
+      c.loop-rest-test.true (c.loop-rest.invariant.way b e) (c.requires.inside b e))
+      (left_over c) c.within-rest.ensures.hit c.within-rest.ensures.miss refl
+      c.apply_bit.ensures.spare c.apply_bit.ensures.touched;
+  rest =
+      rest_within c.loop-rest.rest.brick c.within-rest.result.brick c.args.update.brick
+      (bit_not w64 (1 * 2 ^ trailing_zeros w64 c.loop-rest.rest.brick.scanned % 2 ^ 64))
+      c.loop-rest.invariant.rest (left_over c);
 }
 
 pub close-requires-clause-linked : goal.close-requires-clause-linked
-close-requires-clause-linked c = (let (b, e) = place_block c.args.tree.now c.args.p c.requires.place in let way = c.loop-rest.invariant.way b e in way.done.linked)
+close-requires-clause-linked c =
+    (let (b, e) = place_block c.args.tree.now c.args.p c.requires.place in
+    let way = c.loop-rest.invariant.way b e in
+    way.done.linked)
 
 pub close-requires-clause-place : goal.close-requires-clause-place
-close-requires-clause-place c = (let (b, e) = place_block c.args.tree.now c.args.p c.requires.place in let way = c.loop-rest.invariant.way b e in way.done.place)
+close-requires-clause-place c =
+    (let (b, e) = place_block c.args.tree.now c.args.p c.requires.place in
+    let way = c.loop-rest.invariant.way b e in
+    way.done.place)
 
 pub close-requires-clause-inner : goal.close-requires-clause-inner
 close-requires-clause-inner c =
     let (b, e) = place_block c.args.tree.now c.args.p c.requires.place in
-    (way_back c.args.tree.now c.enter-id.new.tree c.loop-rest.tree c.args.p b c.enter-id.result (listed_one c.args.update) (listed_one c.loop-rest.rest) c.args.lazy (c.enter-id.ensures b e) (c.loop-rest.invariant.way b e)).2
+    (way_back c.args.tree.now c.enter-id.new.tree c.loop-rest.tree c.args.p b c.enter-id.result
+    (listed_one c.args.update) (listed_one c.loop-rest.rest) c.args.lazy
+    (c.enter-id.ensures b e) (c.loop-rest.invariant.way b e)).2
 
 pub returns : goal.returns
 returns c = record {
   touched = λ b e.
       let deep : b.depth ≡ 15 = c.requires.depth b e in
       let way = c.loop-rest.invariant.way b e in
-      let none = none_left c.args.update.brick c.loop-rest.rest.brick c.loop-rest.rest.hit c.loop-rest.rest.miss c.loop-rest.invariant.rest c.loop-rest-test.false in
-      way_end c.args.tree.now c.enter-id.new.tree c.loop-rest.tree c.close.new.tree c.args.p b c.enter-id.result (listed_one c.args.update) (listed_one c.loop-rest.rest) c.args.lazy c.requires.linked c.requires.place e (omega (arith, deep)) (c.requires.inside b e) c.if-is_at_rest.ensures.takes (c.enter-id.ensures b e) way none.0 none.1 (c.close.ensures b way.done.block);
+      let none =
+      none_left c.args.update.brick c.loop-rest.rest.brick c.loop-rest.rest.hit
+      c.loop-rest.rest.miss c.loop-rest.invariant.rest c.loop-rest-test.false in
+      way_end c.args.tree.now c.enter-id.new.tree c.loop-rest.tree c.close.new.tree c.args.p b
+      c.enter-id.result (listed_one c.args.update) (listed_one c.loop-rest.rest) c.args.lazy
+      c.requires.linked c.requires.place e (omega (arith, deep)) (c.requires.inside b e)
+      c.if-is_at_rest.ensures.takes (c.enter-id.ensures b e) way none.0 none.1
+      (c.close.ensures b way.done.block);
   room = λ b e.
       let deep : b.depth ≡ 15 = c.requires.depth b e in
       let way = c.loop-rest.invariant.way b e in
-      way_spared c.args.tree.now c.enter-id.new.tree c.loop-rest.tree c.close.new.tree c.args.p b c.enter-id.result (listed_one c.args.update) (listed_one c.loop-rest.rest) c.args.lazy (place_in_map c.args.tree.now c.args.p b c.requires.linked e) (omega (arith, deep)) (c.requires.inside b e) (c.enter-id.ensures b e) way (c.close.ensures b way.done.block);
+      way_spared c.args.tree.now c.enter-id.new.tree c.loop-rest.tree c.close.new.tree c.args.p b
+      c.enter-id.result (listed_one c.args.update) (listed_one c.loop-rest.rest) c.args.lazy
+      (place_in_map c.args.tree.now c.args.p b c.requires.linked e) (omega (arith, deep))
+      (c.requires.inside b e) (c.enter-id.ensures b e) way (c.close.ensures b way.done.block);
 }
 
 pub is_at_rest-requires-clause-apart : goal.is_at_rest-requires-clause-apart

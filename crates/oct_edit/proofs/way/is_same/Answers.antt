@@ -18,6 +18,9 @@ returns-then-v-w c same =
     let i = c.in-Inner-Inner in
     let fits : SFits w32 c.in-Inner-Inner.v = search rules in
     let fits_too : SFits w32 c.in-Inner-Inner.w = search rules in
-    let value : c.in-Inner-Inner.v ≡ c.in-Inner-Inner.w = sym (to_z-of_z w32 c.in-Inner-Inner.v fits) ∙ ap (to_z w32) c.if-v-w.true ∙ to_z-of_z w32 c.in-Inner-Inner.w fits_too in
-    let link : c.in-Inner-Inner.x ≡ c.in-Inner-Inner.y = same_ids c.in-Inner-Inner.x c.in-Inner-Inner.y (eqb-true _ _ (sym c.eq.ensures ∙ same)) in
+    let value : c.in-Inner-Inner.v ≡ c.in-Inner-Inner.w =
+    sym (to_z-of_z w32 c.in-Inner-Inner.v fits) ∙ ap (to_z w32) c.if-v-w.true
+    ∙ to_z-of_z w32 c.in-Inner-Inner.w fits_too in
+    let link : c.in-Inner-Inner.x ≡ c.in-Inner-Inner.y =
+    same_ids c.in-Inner-Inner.x c.in-Inner-Inner.y (eqb-true _ _ (sym c.eq.ensures ∙ same)) in
     i.is-0 ∙ same_inner _ _ _ _ value link ∙ sym i.is-1

@@ -13,13 +13,17 @@ pub touch_box-requires-clause-room : goal.touch_box-requires-clause-room
 touch_box-requires-clause-room c = (let none = whole_need in omega (arith, none))
 
 pub returns-clause-values : goal.returns-clause-values
-returns-clause-values c = whole_values c.args.tree.now c.touch_box.new.tree Likely c.touch_box.ensures.edited
+returns-clause-values c =
+    whole_values c.args.tree.now c.touch_box.new.tree Likely c.touch_box.ensures.edited
 
 pub returns-clause-fresh : goal.returns-clause-fresh
-returns-clause-fresh c = tidy_fresh c.touch_box.new.tree c.touch_box.ensures.edited.well_formed (tidy c)
+returns-clause-fresh c =
+    tidy_fresh c.touch_box.new.tree c.touch_box.ensures.edited.well_formed (tidy c)
 
 pub returns-clause-pruned : goal.returns-clause-pruned
-returns-clause-pruned c = tidy_pruned c.touch_box.new.tree c.touch_box.ensures.edited.well_formed (tidy c)
+returns-clause-pruned c =
+    tidy_pruned c.touch_box.new.tree c.touch_box.ensures.edited.well_formed (tidy c)
 
 pub returns-clause-groups : goal.returns-clause-groups
-returns-clause-groups c = (let none = whole_need in let grows = c.touch_box.ensures.groups in omega (arith, none, grows))
+returns-clause-groups c =
+    (let none = whole_need in let grows = c.touch_box.ensures.groups in omega (arith, none, grows))

@@ -9,4 +9,6 @@ abbrev pub decreases-prune_place : goal.decreases-prune_place
 decreases-prune_place l = height (block_in l.tree.now l.p)
 
 abbrev pub invariant-loop-i : goal.invariant-loop-i
-invariant-loop-i l = (b : Cube) → block_in l.fn.tree l.p ≡ Some b → IsPassing IsPrunedAt IsPruning l.fn.tree l.tree l.p b l.i
+invariant-loop-i l =
+    (b : Cube) → block_in l.fn.tree l.p ≡ Some b
+    → IsPassing IsPrunedAt IsPruning l.fn.tree l.tree l.p b l.i

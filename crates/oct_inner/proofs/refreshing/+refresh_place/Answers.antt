@@ -5,46 +5,52 @@ use Rattle.oct_tree.specs.Tree.{node_in}
 use Rattle.oct_tree.proofs.Paths.{not_inner, place_block, linked_live}
 use Rattle.oct_inner.specs.Passes.{IsFreshAt, IsRefreshing}
 use Rattle.oct_tree.proofs.Within.{passed_leaf, child_place, child_lower, passing_child}
-use Rattle.oct_inner.proofs.Refreshes.{fresh_local, leaf_fresh, refreshing_refl, refreshing_trans, refreshed_place}
+use Rattle.oct_inner.proofs.Refreshes.{fresh_local, leaf_fresh, refreshing_refl, refreshing_trans}
+use Rattle.oct_inner.proofs.Refreshes.{refreshed_place}
 use Rattle.oct_inner.proofs.refreshing.+refresh_place.Goals as goal
 
 pub returns-in_default : goal.returns-in_default
 returns-in_default t c b e =
     let none : link_of (node_in c.args.tree.now c.args.p) ≡ None = not_inner _
     (λ v id h. c.in_default.not-Inner v id (c.node.ensures.exact ∙ h)) in
-    passed_leaf IsFreshAt IsRefreshing c.args.tree.now c.args.p b (refreshing_refl c.args.tree.now) c.requires.formed c.requires.place e
-    none (leaf_fresh c.args.tree.now c.args.p none)
+    passed_leaf IsFreshAt IsRefreshing c.args.tree.now c.args.p b (refreshing_refl c.args.tree.now)
+    c.requires.formed c.requires.place e none (leaf_fresh c.args.tree.now c.args.p none)
 
 pub refresh_place-requires : goal.refresh_place-requires
 refresh_place-requires t c =
     let (b, e) = place_block c.args.tree.now c.args.p c.requires.place in
     let s = c.loop-i.invariant b e in
-    let link : node_in c.args.tree.now c.args.p ≡ Inner c.in-Inner.field-0 c.in-Inner.id = sym c.node.ensures.exact ∙ c.in-Inner.is in
+    let link : node_in c.args.tree.now c.args.p ≡ Inner c.in-Inner.field-0 c.in-Inner.id =
+    sym c.node.ensures.exact ∙ c.in-Inner.is in
     let below : c.loop-i.i < 8 = omega arith in
-    let lower = child_lower IsFreshAt IsRefreshing c.args.tree.now c.loop-i.tree c.args.p c.in-Inner.id c.in-Inner.field-0 c.loop-i.i
-    c.loop-i.i b e link s in
+    let lower =
+    child_lower IsFreshAt IsRefreshing c.args.tree.now c.loop-i.tree c.args.p c.in-Inner.id
+    c.in-Inner.field-0 c.loop-i.i c.loop-i.i b e link s in
     let d = c.decreases in (
       search rules,
       (
         s.formed,
-        child_place IsFreshAt IsRefreshing c.args.tree.now c.loop-i.tree c.args.p c.in-Inner.id c.in-Inner.field-0
-            c.loop-i.i c.loop-i.i b link below s,
+        child_place IsFreshAt IsRefreshing c.args.tree.now c.loop-i.tree c.args.p c.in-Inner.id
+            c.in-Inner.field-0 c.loop-i.i c.loop-i.i b link below s,
       ),
     )
 
 pub loop-i-preserved : goal.loop-i-preserved
 loop-i-preserved t c b e =
-    let link : node_in c.args.tree.now c.args.p ≡ Inner c.in-Inner.field-0 c.in-Inner.id = sym c.node.ensures.exact ∙ c.in-Inner.is in
-    passing_child IsFreshAt IsRefreshing fresh_local refreshing_trans c.args.tree.now c.loop-i.tree c.refresh_place.new.tree c.args.p
-    c.in-Inner.id c.in-Inner.field-0 c.loop-i.i b c.requires.formed.linked (omega arith) link
-    (c.loop-i.invariant b e) c.refresh_place.ensures
+    let link : node_in c.args.tree.now c.args.p ≡ Inner c.in-Inner.field-0 c.in-Inner.id =
+    sym c.node.ensures.exact ∙ c.in-Inner.is in
+    passing_child IsFreshAt IsRefreshing fresh_local refreshing_trans c.args.tree.now c.loop-i.tree
+    c.refresh_place.new.tree c.args.p c.in-Inner.id c.in-Inner.field-0 c.loop-i.i b
+    c.requires.formed.linked (omega arith) link (c.loop-i.invariant b e) c.refresh_place.ensures
 
 pub returns : goal.returns
 returns t c b e =
-    let link : node_in c.args.tree.now c.args.p ≡ Inner c.in-Inner.field-0 c.in-Inner.id = sym c.node.ensures.exact ∙ c.in-Inner.is in
-    refreshed_place c.args.tree.now c.loop-i.tree c.renew.new.self c.args.p c.in-Inner.id c.in-Inner.field-0 c.loop-i.i b
-    c.requires.formed.linked (omega arith) link
-    (c.loop-i.invariant b e) c.renew.ensures.renewed c.renew.ensures.values c.renew.ensures.outside c.renew.ensures.linked
+    let link : node_in c.args.tree.now c.args.p ≡ Inner c.in-Inner.field-0 c.in-Inner.id =
+    sym c.node.ensures.exact ∙ c.in-Inner.is in
+    refreshed_place c.args.tree.now c.loop-i.tree c.renew.new.self c.args.p c.in-Inner.id
+    c.in-Inner.field-0 c.loop-i.i b c.requires.formed.linked (omega arith) link
+    (c.loop-i.invariant b e) c.renew.ensures.renewed c.renew.ensures.values c.renew.ensures.outside
+    c.renew.ensures.linked
 
 pub renew-requires-clause-known : goal.renew-requires-clause-known
 renew-requires-clause-known t c id link =

@@ -32,7 +32,8 @@ pub returns-clause-nodes : goal.returns-clause-nodes
 returns-clause-nodes c = (passed c).kept.nodes
 
 pub returns-clause-pruned : goal.returns-clause-pruned
-returns-clause-pruned c = pruned_kept c.args.tree.now c.note.new.self c.requires.linked (passed c).kept.nodes
+returns-clause-pruned c =
+    pruned_kept c.args.tree.now c.note.new.self c.requires.linked (passed c).kept.nodes
 
 pub returns-clause-same : goal.returns-clause-same
 returns-clause-same c = (passed c).kept.fresh

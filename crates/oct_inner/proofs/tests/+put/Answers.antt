@@ -7,14 +7,19 @@ use Rattle.oct_inner.proofs.tests.+put.Goals as goal
 pub put-requires : goal.put-requires
 put-requires t c =
     let (b, e) = place_block c.args.tree.now c.args.p c.requires.place in
-    let home : home_at c.enter.new.tree.groups c.in-Some-enter.id.number ≡ Some b = c.in-Some-enter.ensures.home b e in
+    let home : home_at c.enter.new.tree.groups c.in-Some-enter.id.number ≡ Some b =
+    c.in-Some-enter.ensures.home b e in
     let depth = c.requires.depth b e in (
       search rules,
       (
         c.enter.ensures.formed,
         (
           (homed_entry _ b home, omega arith),
-          (child_depth c.enter.new.tree c.in-Some-enter.id.number c.in-Some.i.now c.args.depth b home depth, search rules),
+          (
+            child_depth c.enter.new.tree c.in-Some-enter.id.number c.in-Some.i.now c.args.depth b
+                home depth,
+            search rules,
+          ),
         ),
       ),
     )

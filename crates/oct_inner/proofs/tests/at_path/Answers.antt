@@ -5,7 +5,7 @@ use Rattle.oct_inner.proofs.tests.at_path.Goals as goal
 
 pub loop-i-preserved : goal.loop-i-preserved
 loop-i-preserved c = (
-  linked_live c.args.tree.now c.node.ensures.linked c.loop-i.p c.loop-i.invariant c.in-Inner.id.number
-      (ap link_of (sym c.node.ensures.exact ∙ c.in-Inner.is)),
+  linked_live c.args.tree.now c.node.ensures.linked c.loop-i.p c.loop-i.invariant
+      c.in-Inner.id.number (ap link_of (sym c.node.ensures.exact ∙ c.in-Inner.is)),
   omega arith,
 )

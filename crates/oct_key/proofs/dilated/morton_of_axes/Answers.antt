@@ -17,10 +17,15 @@ overflow_add-result-2 c =
     omega (arith, x, y, z)
 
 pub returns-clause-exact : goal.returns-clause-exact
-returns-clause-exact c = rw (← c.x.view_is, ← c.y.view_is, ← c.z.view_is) (code_of_bits c.x.inside.bits c.y.inside.bits c.z.inside.bits c.x.invariant c.y.invariant c.z.invariant)
+returns-clause-exact c =
+    rw (← c.x.view_is, ← c.y.view_is, ← c.z.view_is)
+    (code_of_bits c.x.inside.bits c.y.inside.bits c.z.inside.bits c.x.invariant c.y.invariant
+    c.z.invariant)
 
 pub returns-clause-in_map : goal.returns-clause-in_map
-returns-clause-in_map c = rw (← c.x.view_is, ← c.y.view_is, ← c.z.view_is) (gathered_on_map c.x.inside.bits c.y.inside.bits c.z.inside.bits)
+returns-clause-in_map c =
+    rw (← c.x.view_is, ← c.y.view_is, ← c.z.view_is)
+    (gathered_on_map c.x.inside.bits c.y.inside.bits c.z.inside.bits)
 
 pub returns-clause-below : goal.returns-clause-below
 returns-clause-below c = subst (λ n. n < 2 ^ 48) (sym (returns-clause-exact c)) (morton_below _)

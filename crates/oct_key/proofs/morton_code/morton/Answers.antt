@@ -4,7 +4,10 @@ use Rattle.oct_key.proofs.Interleavings.{morton_of_sum, morton_below, digit_of_m
 use Rattle.oct_key.proofs.morton_code.morton.Goals as goal
 
 pub returns-clause-exact : goal.returns-clause-exact
-returns-clause-exact c = morton_of_sum c.args.k _ _ _ c.spread_bits.ensures.exact c.spread_bits-2.ensures.exact c.spread_bits-3.ensures.exact c.spread_bits.ensures.below c.spread_bits-2.ensures.below c.spread_bits-3.ensures.below
+returns-clause-exact c =
+    morton_of_sum c.args.k _ _ _ c.spread_bits.ensures.exact c.spread_bits-2.ensures.exact
+    c.spread_bits-3.ensures.exact c.spread_bits.ensures.below c.spread_bits-2.ensures.below
+    c.spread_bits-3.ensures.below
 
 pub returns-clause-below : goal.returns-clause-below
 returns-clause-below c = rw (returns-clause-exact c) (morton_below c.args.k)

@@ -16,38 +16,78 @@ use Rattle.oct_merge.proofs.Parts.{events_of}
 use Rattle.oct_merge.proofs.merging.merge.Goals as goal
 
 pub merge_part-requires-clause-over : goal.merge_part-requires-clause-over
-merge_part-requires-clause-over c k held = over_root c.args.other.now k held ∙ sym c.root.ensures.exact
+merge_part-requires-clause-over c k held =
+    over_root c.args.other.now k held ∙ sym c.root.ensures.exact
 
 pub merge_part-requires-clause-room : goal.merge_part-requires-clause-room
-merge_part-requires-clause-room c = subst (λ n. n ≤ spare c.args.into.now.groups) (need_by_blocks c.args.into.now c.args.other.now c.requires.into.linked c.requires.other.linked) c.requires.room
+merge_part-requires-clause-room c =
+    subst (λ n. n ≤ spare c.args.into.now.groups)
+    (need_by_blocks c.args.into.now c.args.other.now c.requires.into.linked
+    c.requires.other.linked)
+    c.requires.room
 
 pub note-requires : goal.note-requires
-note-requires c = whole_known c.args.into.now c.merge_part.new.tree (events_of c.args.rule c.args.into.now c.args.other.now) false c.tidiness-known.result c.merge_part.ensures.touched (λ h. false≢true h) c.tidiness-known.ensures.so
+note-requires c =
+    whole_known c.args.into.now c.merge_part.new.tree
+    (events_of c.args.rule c.args.into.now c.args.other.now) false c.tidiness-known.result
+    c.merge_part.ensures.touched (λ h. false≢true h) c.tidiness-known.ensures.so
 
 pub returns-clause-values : goal.returns-clause-values
 returns-clause-values c k v =
-    let edited = whole_edited c.args.into.now c.merge_part.new.tree (events_of c.args.rule c.args.into.now c.args.other.now) false c.merge_part.ensures.touched c.requires.into in
-    let within = subst (λ (o : Odds). IsWithin o (value_at c.args.other.now k)) (sym c.requires.odds) (value_within c.args.other.now k c.requires.other.linked) in
+    let edited =
+    whole_edited c.args.into.now c.merge_part.new.tree
+    (events_of c.args.rule c.args.into.now c.args.other.now) false
+    c.merge_part.ensures.touched c.requires.into in
+    let within =
+    subst (λ (o : Odds). IsWithin o (value_at c.args.other.now k)) (sym c.requires.odds)
+    (value_within c.args.other.now k c.requires.other.linked) in
     ap (λ (u : Tree). value_at u k) c.note.ensures.same ∙ sym (edited.values k v)
-    ∙ merge_after c.args.into.now.odds c.args.rule (value_at c.args.into.now k) (value_at c.args.other.now k) (value_within c.args.into.now k c.requires.into.linked) within
+    ∙ merge_after c.args.into.now.odds c.args.rule (value_at c.args.into.now k)
+    (value_at c.args.other.now k) (value_within c.args.into.now k c.requires.into.linked) within
 
 pub returns-clause-edited : goal.returns-clause-edited
-returns-clause-edited c = subst (λ u. IsEdited c.args.into.now u (events_of c.args.rule c.args.into.now c.args.other.now)) (sym c.note.ensures.same) (whole_edited c.args.into.now c.merge_part.new.tree (events_of c.args.rule c.args.into.now c.args.other.now) false c.merge_part.ensures.touched c.requires.into)
+returns-clause-edited c =
+    subst (λ u. IsEdited c.args.into.now u (events_of c.args.rule c.args.into.now c.args.other.now))
+    (sym c.note.ensures.same)
+    (whole_edited c.args.into.now c.merge_part.new.tree
+    (events_of c.args.rule c.args.into.now c.args.other.now) false
+    c.merge_part.ensures.touched c.requires.into)
 
 pub returns-clause-eager : goal.returns-clause-eager
-returns-clause-eager c = subst (λ u. IsEagerEdit c.args.into.now u (events_of c.args.rule c.args.into.now c.args.other.now)) (sym c.note.ensures.same) (whole_eager c.args.into.now c.merge_part.new.tree (events_of c.args.rule c.args.into.now c.args.other.now) false c.merge_part.ensures.touched (λ h. false≢true h))
+returns-clause-eager c =
+    subst (λ u. IsEagerEdit c.args.into.now u
+    (events_of c.args.rule c.args.into.now c.args.other.now))
+    (sym c.note.ensures.same)
+    (whole_eager c.args.into.now c.merge_part.new.tree
+    (events_of c.args.rule c.args.into.now c.args.other.now) false
+    c.merge_part.ensures.touched (λ h. false≢true h))
 
 pub returns-clause-path : goal.returns-clause-path
 returns-clause-path c k v known =
-    let (m, is, _) = merge_sets c.args.rule (value_at c.args.into.now k) (value_at c.args.other.now k) known in
-    subst (λ u. IsTidyAlong u k) (sym c.note.ensures.same) (whole_paths c.args.into.now c.merge_part.new.tree (events_of c.args.rule c.args.into.now c.args.other.now) false c.merge_part.ensures.touched (λ h. false≢true h) k v (ap is_some is))
+    let (m, is, _) =
+    merge_sets c.args.rule (value_at c.args.into.now k) (value_at c.args.other.now k) known in
+    subst (λ u. IsTidyAlong u k) (sym c.note.ensures.same)
+    (whole_paths c.args.into.now c.merge_part.new.tree
+    (events_of c.args.rule c.args.into.now c.args.other.now) false
+    c.merge_part.ensures.touched (λ h. false≢true h) k v (ap is_some is))
 
 pub returns-clause-room : goal.returns-clause-room
-returns-clause-room c = subst (λ (u : Tree). live u.groups + spare u.groups ≡ live c.args.into.now.groups + spare c.args.into.now.groups) (sym c.note.ensures.same) (same_total c.args.into.now.groups c.merge_part.new.tree.groups c.merge_part.ensures.touched.apart.outside.length)
+returns-clause-room c =
+    subst (λ (u : Tree). live u.groups + spare u.groups ≡ live c.args.into.now.groups + spare
+    c.args.into.now.groups)
+    (sym c.note.ensures.same)
+    (same_total c.args.into.now.groups c.merge_part.new.tree.groups
+    c.merge_part.ensures.touched.apart.outside.length)
 
 pub returns-clause-groups : goal.returns-clause-groups
 returns-clause-groups c =
-    let total = same_total c.args.into.now.groups c.merge_part.new.tree.groups c.merge_part.ensures.touched.apart.outside.length in
+    let total =
+    same_total c.args.into.now.groups c.merge_part.new.tree.groups
+    c.merge_part.ensures.touched.apart.outside.length in
     let room = c.merge_part.ensures.room in
-    let need = need_by_blocks c.args.into.now c.args.other.now c.requires.into.linked c.requires.other.linked in
-    subst (λ (u : Tree). live u.groups ≤ live c.args.into.now.groups + merge_need c.args.into.now c.args.other.now) (sym c.note.ensures.same) (omega (arith, total, room, need))
+    let need =
+    need_by_blocks c.args.into.now c.args.other.now c.requires.into.linked
+    c.requires.other.linked in
+    subst (λ (u : Tree). live u.groups ≤ live c.args.into.now.groups + merge_need c.args.into.now
+    c.args.other.now)
+    (sym c.note.ensures.same) (omega (arith, total, room, need))

@@ -10,6 +10,8 @@ decreases-need_under l = 16 - l.block.depth
 
 abbrev pub invariant-loop-i : goal.invariant-loop-i
 invariant-loop-i l = record {
-  counted : l.need ≡ cond (is_needed l.into l.other (cube_of l.block)) 1 0 + sum_below (λ j. need_in l.into l.other (child_of (cube_of l.block) j)) l.i;
+  counted : l.need
+      ≡ cond (is_needed l.into l.other (cube_of l.block)) 1 0
+      + sum_below (λ j. need_in l.into l.other (child_of (cube_of l.block) j)) l.i;
   few : l.need ≤ 1 + l.i * 9 ^ (15 - l.block.depth);
 }

@@ -7,14 +7,19 @@ use Rattle.oct_merge.proofs.Known.{over_root}
 use Rattle.oct_merge.proofs.need.merge_need.Goals as goal
 
 pub need_under-requires-clause-node : goal.need_under-requires-clause-node
-need_under-requires-clause-node c k held = over_root c.args.into.now k held ∙ sym c.root.ensures.exact
+need_under-requires-clause-node c k held =
+    over_root c.args.into.now k held ∙ sym c.root.ensures.exact
 
 pub need_under-requires-clause-theirs : goal.need_under-requires-clause-theirs
-need_under-requires-clause-theirs c k held = over_root c.args.other.now k held ∙ sym c.root-2.ensures.exact
+need_under-requires-clause-theirs c k held =
+    over_root c.args.other.now k held ∙ sym c.root-2.ensures.exact
 
 pub overflow_cast-result : goal.overflow_cast-result
 overflow_cast-result c =
-    let need : c.need_under.result ≡ merge_need c.args.into.now c.args.other.now = c.need_under.ensures.exact ∙ sym (need_by_blocks c.args.into.now c.args.other.now c.requires.into.linked c.requires.other.linked) in
+    let need : c.need_under.result ≡ merge_need c.args.into.now c.args.other.now =
+    c.need_under.ensures.exact
+    ∙ sym (need_by_blocks c.args.into.now c.args.other.now c.requires.into.linked
+    c.requires.other.linked) in
     let few = need_few c.args.into.now c.args.other.now in
     let all = live_spare c.args.other.now.groups in
     let most = c.requires.other.linked.arena.few in
@@ -23,10 +28,17 @@ overflow_cast-result c =
 
 pub returns-clause-exact : goal.returns-clause-exact
 returns-clause-exact c =
-    let need : c.need_under.result ≡ merge_need c.args.into.now c.args.other.now = c.need_under.ensures.exact ∙ sym (need_by_blocks c.args.into.now c.args.other.now c.requires.into.linked c.requires.other.linked) in
+    let need : c.need_under.result ≡ merge_need c.args.into.now c.args.other.now =
+    c.need_under.ensures.exact
+    ∙ sym (need_by_blocks c.args.into.now c.args.other.now c.requires.into.linked
+    c.requires.other.linked) in
     need
 
 pub returns-clause-few : goal.returns-clause-few
 returns-clause-few c =
-    let need : c.need_under.result ≡ merge_need c.args.into.now c.args.other.now = c.need_under.ensures.exact ∙ sym (need_by_blocks c.args.into.now c.args.other.now c.requires.into.linked c.requires.other.linked) in
-    subst (λ n. n ≤ live c.args.other.now.groups) (sym need) (need_few c.args.into.now c.args.other.now)
+    let need : c.need_under.result ≡ merge_need c.args.into.now c.args.other.now =
+    c.need_under.ensures.exact
+    ∙ sym (need_by_blocks c.args.into.now c.args.other.now c.requires.into.linked
+    c.requires.other.linked) in
+    subst (λ n. n ≤ live c.args.other.now.groups) (sym need)
+    (need_few c.args.into.now c.args.other.now)

@@ -10,19 +10,25 @@ pub count_part-requires-clause-first : goal.count_part-requires-clause-first
 count_part-requires-clause-first c k held = over_root c.args.a.now k held ∙ sym c.root.ensures.exact
 
 pub count_part-requires-clause-second : goal.count_part-requires-clause-second
-count_part-requires-clause-second c k held = over_root c.args.b.now k held ∙ sym c.root-2.ensures.exact
+count_part-requires-clause-second c k held =
+    over_root c.args.b.now k held ∙ sym c.root-2.ensures.exact
 
 pub count_part-requires-clause-room : goal.count_part-requires-clause-room
 count_part-requires-clause-room c n l =
     let v : IsInMap c.args.hi = search rules in
-    empty_room c.args.lo c.args.hi (classes_of c.args.a.now.odds (value_at c.args.a.now)) (classes_of c.args.b.now.odds (value_at c.args.b.now)) n v l
+    empty_room c.args.lo c.args.hi (classes_of c.args.a.now.odds (value_at c.args.a.now))
+    (classes_of c.args.b.now.odds (value_at c.args.b.now)) n v l
 
 pub returns-clause-exact : goal.returns-clause-exact
 returns-clause-exact c =
-    whole_table c.args.lo c.args.hi (classes_of c.args.a.now.odds (value_at c.args.a.now)) (classes_of c.args.b.now.odds (value_at c.args.b.now)) c.count_part.new.table.counts (c.count_part.ensures.long ∙ refl)
+    whole_table c.args.lo c.args.hi (classes_of c.args.a.now.odds (value_at c.args.a.now))
+    (classes_of c.args.b.now.odds (value_at c.args.b.now)) c.count_part.new.table.counts
+    (c.count_part.ensures.long ∙ refl)
     (λ n l. from_none _ _ _ (c.count_part.ensures.counted n l) (zeros n l))
 
 pub returns-clause-all : goal.returns-clause-all
 returns-clause-all c =
     let v : IsInMap c.args.hi = search rules in
-    table_total c.args.lo c.args.hi (classes_of c.args.a.now.odds (value_at c.args.a.now)) (classes_of c.args.b.now.odds (value_at c.args.b.now)) c.count_part.new.table.counts v (returns-clause-exact c)
+    table_total c.args.lo c.args.hi (classes_of c.args.a.now.odds (value_at c.args.a.now))
+    (classes_of c.args.b.now.odds (value_at c.args.b.now)) c.count_part.new.table.counts v
+    (returns-clause-exact c)

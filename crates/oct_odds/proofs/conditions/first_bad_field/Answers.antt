@@ -18,7 +18,9 @@ returns-then-thr-max c =
     let miss : (is_small c.args.miss && int_lt c.args.miss (pos 0)) ≡ true = search rules in
     let min : (is_small c.args.min && int_le c.args.min (pos 0)) ≡ true = search rules in
     let max : (is_small c.args.max && int_le (pos 0) c.args.max) ≡ true = search rules in
-    let thr : (is_small c.args.thr && int_lt c.args.min c.args.thr && int_le c.args.thr c.args.max) ≡ false = search rules in
+    let thr : (is_small c.args.thr && int_lt c.args.min c.args.thr && int_le c.args.thr c.args.max)
+    ≡ false =
+    search rules in
     thr_found (odds c.args.hit c.args.miss c.args.min c.args.max c.args.thr) hit miss min max thr
 
 pub returns-else-thr-max : goal.returns-else-thr-max
@@ -27,5 +29,7 @@ returns-else-thr-max c =
     let miss : (is_small c.args.miss && int_lt c.args.miss (pos 0)) ≡ true = search rules in
     let min : (is_small c.args.min && int_le c.args.min (pos 0)) ≡ true = search rules in
     let max : (is_small c.args.max && int_le (pos 0) c.args.max) ≡ true = search rules in
-    let thr : (is_small c.args.thr && int_lt c.args.min c.args.thr && int_le c.args.thr c.args.max) ≡ true = search rules in
+    let thr : (is_small c.args.thr && int_lt c.args.min c.args.thr && int_le c.args.thr c.args.max)
+    ≡ true =
+    search rules in
     none_found (odds c.args.hit c.args.miss c.args.min c.args.max c.args.thr) hit miss min max thr

@@ -8,5 +8,7 @@ returns-clause-value c = search rules
 
 pub returns-clause-reach : goal.returns-clause-reach
 returns-clause-reach c =
-    let within : unsigned_abs (c.args.factor *ℤ c.args.coordinate) ≤ 2 ^ 32 * 10 ^ 16 = product_within c.args.factor c.args.coordinate (2 ^ 32) (10 ^ 16) c.requires.factor (omega (arith, c.requires.coordinate)) in
+    let within : unsigned_abs (c.args.factor *ℤ c.args.coordinate) ≤ 2 ^ 32 * 10 ^ 16 =
+    product_within c.args.factor c.args.coordinate (2 ^ 32) (10 ^ 16) c.requires.factor
+    (omega (arith, c.requires.coordinate)) in
     rw (returns-clause-value c) (omega (arith, within))

@@ -10,4 +10,5 @@ abbrev pub invariant-loop-x : goal.invariant-loop-x
 invariant-loop-x l =
     IsPathOf l.tree l.path
     × (l.found ≡ [] ++ filter_map (shown (value_at l.tree))
-    (planes l.depth l.initial.x (l.x - l.initial.x) l.ys.from (l.ys.to - l.ys.from) l.zs.from (l.zs.to - l.zs.from)))
+    (planes l.depth l.initial.x (l.x - l.initial.x) l.ys.from (l.ys.to - l.ys.from) l.zs.from
+    (l.zs.to - l.zs.from)))

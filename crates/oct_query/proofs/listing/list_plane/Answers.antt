@@ -10,7 +10,8 @@ pub loop-y-init : goal.loop-y-init
 loop-y-init c = (
   c.requires.path,
   found_none (shown (value_at c.args.tree.now)) c.args.found.now _
-      (plane_none c.args.depth c.args.x c.args.ys.from c.args.zs.from (c.args.zs.to - c.args.zs.from)),
+      (plane_none c.args.depth c.args.x c.args.ys.from c.args.zs.from
+      (c.args.zs.to - c.args.zs.from)),
 )
 
 pub list_row-requires-clause-path : goal.list_row-requires-clause-path
@@ -20,15 +21,22 @@ pub loop-y-preserved : goal.loop-y-preserved
 loop-y-preserved c =
     let from : c.args.ys.from ≤ c.loop-y.y = search rules in (
       c.in_ok-list_row.ensures.0,
-      found_more (shown (value_at c.args.tree.now)) c.args.found.now c.loop-y.found c.list_row.new.found _
-          (row_blocks c.args.depth c.args.x c.loop-y.y c.args.zs.from (c.args.zs.to - c.args.zs.from)) _
-          c.loop-y.invariant.1 c.in_ok-list_row.ensures.1
-          (plane_more c.args.depth c.args.x c.args.ys.from c.loop-y.y c.args.zs.from (c.args.zs.to - c.args.zs.from) from),
+      found_more (shown (value_at c.args.tree.now)) c.args.found.now c.loop-y.found
+          c.list_row.new.found _
+          (row_blocks c.args.depth c.args.x c.loop-y.y c.args.zs.from
+          (c.args.zs.to - c.args.zs.from))
+          _ c.loop-y.invariant.1 c.in_ok-list_row.ensures.1
+          (plane_more c.args.depth c.args.x c.args.ys.from c.loop-y.y c.args.zs.from
+          (c.args.zs.to - c.args.zs.from) from),
     )
 
 pub returns : goal.returns
 returns c =
     let last : c.loop-y.y ≡ c.args.ys.to = search rules in (
       c.loop-y.invariant.0,
-      c.loop-y.invariant.1 ∙ ap (λ n. c.args.found.now ++ filter_map (shown (value_at c.args.tree.now)) (plane_blocks c.args.depth c.args.x c.args.ys.from (n - c.args.ys.from) c.args.zs.from (c.args.zs.to - c.args.zs.from))) last,
+      c.loop-y.invariant.1
+          ∙ ap (λ n. c.args.found.now ++ filter_map (shown (value_at c.args.tree.now))
+          (plane_blocks c.args.depth c.args.x c.args.ys.from (n - c.args.ys.from)
+          c.args.zs.from (c.args.zs.to - c.args.zs.from)))
+          last,
     )

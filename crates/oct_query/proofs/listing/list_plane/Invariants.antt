@@ -10,4 +10,5 @@ abbrev pub invariant-loop-y : goal.invariant-loop-y
 invariant-loop-y l =
     IsPathOf l.tree l.path
     × (l.found ≡ l.initial.found ++ filter_map (shown (value_at l.tree))
-    (plane_blocks l.depth l.x l.fn.ys.from (l.y - l.fn.ys.from) l.fn.zs.from (l.fn.zs.to - l.fn.zs.from)))
+    (plane_blocks l.depth l.x l.fn.ys.from (l.y - l.fn.ys.from) l.fn.zs.from
+    (l.fn.zs.to - l.fn.zs.from)))

@@ -10,7 +10,8 @@ use Rattle.oct_query.proofs.listing.list_row.Goals as goal
 pub loop-z-init : goal.loop-z-init
 loop-z-init c = (
   c.requires.path,
-  found_none (shown (value_at c.args.tree.now)) c.args.found.now _ (row_none c.args.depth c.args.x c.args.y c.args.zs.from),
+  found_none (shown (value_at c.args.tree.now)) c.args.found.now _
+      (row_none c.args.depth c.args.x c.args.y c.args.zs.from),
 )
 
 pub list_block-requires-clause-path : goal.list_block-requires-clause-path
@@ -20,9 +21,13 @@ pub loop-z-preserved : goal.loop-z-preserved
 loop-z-preserved c =
     let from : c.args.zs.from ≤ c.loop-z.z = search rules in (
       c.in_ok-list_block.ensures.0,
-      found_more (shown (value_at c.args.tree.now)) c.args.found.now c.loop-z.found c.list_block.new.found _ (block_numbered c.args.depth (record { x = c.args.x; y = c.args.y; z = c.loop-z.z }) ∷ []) _
-          c.loop-z.invariant.1
-          (c.in_ok-list_block.ensures.1 ∙ ap (λ b. c.loop-z.found ++ filter_map (shown (value_at c.args.tree.now)) (b ∷ [])) c.block_at.ensures)
+      found_more (shown (value_at c.args.tree.now)) c.args.found.now c.loop-z.found
+          c.list_block.new.found _
+          (block_numbered c.args.depth (record { x = c.args.x; y = c.args.y; z = c.loop-z.z }) ∷ [])
+          _ c.loop-z.invariant.1
+          (c.in_ok-list_block.ensures.1
+          ∙ ap (λ b. c.loop-z.found ++ filter_map (shown (value_at c.args.tree.now)) (b ∷ []))
+          c.block_at.ensures)
           (row_more c.args.depth c.args.x c.args.y c.args.zs.from c.loop-z.z from),
     )
 
@@ -30,5 +35,8 @@ pub returns : goal.returns
 returns c =
     let last : c.loop-z.z ≡ c.args.zs.to = search rules in (
       c.loop-z.invariant.0,
-      c.loop-z.invariant.1 ∙ ap (λ n. c.args.found.now ++ filter_map (shown (value_at c.args.tree.now)) (row_blocks c.args.depth c.args.x c.args.y c.args.zs.from (n - c.args.zs.from))) last,
+      c.loop-z.invariant.1
+          ∙ ap (λ n. c.args.found.now ++ filter_map (shown (value_at c.args.tree.now))
+          (row_blocks c.args.depth c.args.x c.args.y c.args.zs.from (n - c.args.zs.from)))
+          last,
     )

@@ -9,4 +9,5 @@ use Rattle.oct_query.proofs.listing.list_row.Given as goal
 abbrev pub invariant-loop-z : goal.invariant-loop-z
 invariant-loop-z l =
     IsPathOf l.tree l.path
-    × (l.found ≡ l.initial.found ++ filter_map (shown (value_at l.tree)) (row_blocks l.depth l.x l.y l.fn.zs.from (l.z - l.fn.zs.from)))
+    × (l.found ≡ l.initial.found ++ filter_map (shown (value_at l.tree))
+    (row_blocks l.depth l.x l.y l.fn.zs.from (l.z - l.fn.zs.from)))

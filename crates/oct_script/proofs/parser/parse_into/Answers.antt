@@ -8,8 +8,11 @@ pub returns-clause-exact : goal.returns-clause-exact
 unfolding command_of
 returns-clause-exact c =
     same_read c.read_words.result c.read_words.new.command _ _
-    (line_is c.args.inside c.new.result.end c.new.result.words ∙ ap (λ end. command_in c.args.inside end c.new.result.words) c.new.ensures.end
-    ∙ ap (λ words. command_in c.args.inside (length c.args.line.now + 1) words) c.new.ensures.words) c.read_words.ensures.exact
+    (line_is c.args.inside c.new.result.end c.new.result.words
+    ∙ ap (λ end. command_in c.args.inside end c.new.result.words) c.new.ensures.end
+    ∙ ap (λ words. command_in c.args.inside (length c.args.line.now + 1) words)
+    c.new.ensures.words)
+    c.read_words.ensures.exact
 
 pub returns-clause-means : goal.returns-clause-means
 unfolding command_of

@@ -6,4 +6,6 @@ use Rattle.oct_script.proofs.reply.append_found.Given as goal
 
 abbrev pub invariant-loop-found : goal.invariant-loop-found
 invariant-loop-found l =
-    l.out.items ≡ l.initial.out.items ++ flat_map (block_text l.threshold) (map shown_as (take l.found-index l.blocks))
+    l.out.items
+    ≡ l.initial.out.items
+    ++ flat_map (block_text l.threshold) (map shown_as (take l.found-index l.blocks))

@@ -6,5 +6,5 @@ use Rattle.oct_script.proofs.table.find_row.Goals as goal
 
 pub returns : goal.returns
 returns c =
-    find_from_yields_List (λ (row : FirstWord). bytes_eq c.args.word.now row.word.now) _ _ _ c.find.ensures.ran
-    (YieldsList-from_slice c.args.rows.now cc) (λ x b q k. search (rules, tests))
+    find_from_yields_List (λ (row : FirstWord). bytes_eq c.args.word.now row.word.now) _ _ _
+    c.find.ensures.ran (YieldsList-from_slice c.args.rows.now cc) (λ x b q k. search (rules, tests))

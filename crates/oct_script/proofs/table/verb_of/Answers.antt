@@ -4,8 +4,10 @@ use Rattle.oct_script.proofs.table.verb_of.Goals as goal
 
 pub returns-in_err-row : goal.returns-in_err-row
 returns-in_err-row c =
-    found _ _ _ _ _ c.first_words.ensures c.find_row.ensures (rw (c.in_err-row.was, c.from_residual.ensures) refl)
+    found _ _ _ _ _ c.first_words.ensures c.find_row.ensures
+    (rw (c.in_err-row.was, c.from_residual.ensures) refl)
 
 pub returns : goal.returns
 returns c =
-    found _ _ _ _ (Some c.in_ok-row.row.now.verb) c.first_words.ensures c.find_row.ensures (rw c.in_ok-row.was refl)
+    found _ _ _ _ (Some c.in_ok-row.row.now.verb) c.first_words.ensures c.find_row.ensures
+    (rw c.in_ok-row.was refl)

@@ -12,7 +12,8 @@ loop-i-preserved c =
     let fits : SFits w32 c.rank.result = search rules in
     let most_fits : SFits w32 c.greater-most.result = search rules in
     let (a, b, which) = c.greater-most.ensures in
-    subst (IsGreatestRank c.args.arena.now c.args.id.number (c.loop-i.i + 1)) (sym (to_z-of_z w32 c.greater-most.result most_fits)) (
+    subst (IsGreatestRank c.args.arena.now c.args.id.number (c.loop-i.i + 1))
+    (sym (to_z-of_z w32 c.greater-most.result most_fits)) (
     rank_more c.args.arena.now c.args.id.number c.loop-i.i _ _ _ _ c.loop-i.invariant
     (ap (λ e. stored_in (node_of e c.loop-i.i)) c.group-group.ensures.exact)
     (subst (IsRankOf _) (sym (to_z-of_z w32 c.rank.result fits)) c.rank.ensures) a b which)

@@ -6,13 +6,18 @@ use Rattle.oct_arena.proofs.arena.NodeArena.group.Goals as goal
 pub get-requires : goal.get-requires
 get-requires c =
     let a = c.self.inside in
-    subst (λ n. n < length a.rows) (sym c.number.ensures.same) (within a.rows a.head.number a.tail.number a.spare c.args.self.now c.self.invariant c.self.view_is c.args.id.number c.requires)
+    subst (λ n. n < length a.rows) (sym c.number.ensures.same)
+    (within a.rows a.head.number a.tail.number a.spare c.args.self.now c.self.invariant
+    c.self.view_is c.args.id.number c.requires)
 
 pub returns-clause-exact : goal.returns-clause-exact
 returns-clause-exact c =
     let a = c.self.inside in
-    in_memory a.rows a.head.number a.tail.number a.spare c.args.self.now c.self.invariant c.self.view_is c.args.id.number c.requires
+    in_memory a.rows a.head.number a.tail.number a.spare c.args.self.now c.self.invariant
+    c.self.view_is c.args.id.number c.requires
     ∙ ap (entry a.rows) (sym c.number.ensures.same) ∙ c.get.ensures
 
 pub returns-clause-arena : goal.returns-clause-arena
-returns-clause-arena c = let a = c.self.inside in arena a.rows a.head.number a.tail.number a.spare c.args.self.now c.self.invariant c.self.view_is
+returns-clause-arena c =
+    let a = c.self.inside in
+    arena a.rows a.head.number a.tail.number a.spare c.args.self.now c.self.invariant c.self.view_is

@@ -8,12 +8,24 @@ pub grow-init : goal.grow-init
 grow-init c = reserving c.args.n c.args.self.now
 
 pub grow-requires : goal.grow-requires
-grow-requires c = omega (arith, live_spare c.grow.self, c.grow.invariant.live, c.requires, c.spare.ensures.exact, c.grow-test.true)
+grow-requires c =
+    omega (
+      arith,
+      live_spare c.grow.self,
+      c.grow.invariant.live,
+      c.requires,
+      c.spare.ensures.exact,
+      c.grow-test.true,
+    )
 
-after : (c : goal.In_ok-grow) → IsReserving c.args.n c.args.self.now c.grow-in-grow.new.self × (c.args.n - spare c.grow-in-grow.new.self < c.args.n - spare c.grow.self)
+after : (c : goal.In_ok-grow)
+    → IsReserving c.args.n c.args.self.now c.grow-in-grow.new.self
+    × (c.args.n - spare c.grow-in-grow.new.self < c.args.n - spare c.grow.self)
 after c =
-    let few : spare c.grow.self < c.args.n = omega (arith, c.spare.ensures.exact, c.grow-test.true) in
-    reserving_more c.args.n c.args.self.now c.grow.self c.grow-in-grow.new.self c.grow.invariant few c.in_ok-grow.ensures.ok
+    let few : spare c.grow.self < c.args.n =
+    omega (arith, c.spare.ensures.exact, c.grow-test.true) in
+    reserving_more c.args.n c.args.self.now c.grow.self c.grow-in-grow.new.self c.grow.invariant few
+    c.in_ok-grow.ensures.ok
 
 pub grow-smaller : goal.grow-smaller
 grow-smaller c = (after c).1
@@ -31,7 +43,9 @@ pub returns-in_err-grow-clause-live : goal.returns-in_err-grow-clause-live
 returns-in_err-grow-clause-live c = rw (c.in_err-grow.ensures.err) c.grow.invariant.live
 
 pub returns-in_err-grow-clause-enough : goal.returns-in_err-grow-clause-enough
-returns-in_err-grow-clause-enough c = λ enough. absurd (let same = ap spare (c.grow.invariant.enough enough) in omega (arith, same, enough, c.spare.ensures.exact, c.grow-test.true))
+returns-in_err-grow-clause-enough c =
+    λ enough. absurd (let same = ap spare (c.grow.invariant.enough enough) in
+    omega (arith, same, enough, c.spare.ensures.exact, c.grow-test.true))
 
 pub returns-clause-room : goal.returns-clause-room
 returns-clause-room c = omega (arith, c.spare.ensures.exact, c.grow-test.false)

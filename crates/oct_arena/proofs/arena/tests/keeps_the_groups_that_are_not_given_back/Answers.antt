@@ -4,7 +4,11 @@ use Rattle.oct_arena.proofs.arena.tests.keeps_the_groups_that_are_not_given_back
 
 pub home-requires-2 : goal.home-requires-2
 home-requires-2 g c =
-    let second : IsLive c.take-second.new.self c.take-second.result.number = live_taken _ _ _ _ c.take-second.ensures.filled c.take-second.ensures.within in
-    let third : IsLive c.take-third.new.self c.take-third.result.number = live_taken _ _ _ _ c.take-third.ensures.filled c.take-third.ensures.within in
-    let kept : IsLive c.give.new.self c.take-third.result.number = live_past_give _ _ _ _ c.give.ensures.vacated (taken_apart _ _ _ second c.take-third.ensures.vacant) third in
+    let second : IsLive c.take-second.new.self c.take-second.result.number =
+    live_taken _ _ _ _ c.take-second.ensures.filled c.take-second.ensures.within in
+    let third : IsLive c.take-third.new.self c.take-third.result.number =
+    live_taken _ _ _ _ c.take-third.ensures.filled c.take-third.ensures.within in
+    let kept : IsLive c.give.new.self c.take-third.result.number =
+    live_past_give _ _ _ _ c.give.ensures.vacated
+    (taken_apart _ _ _ second c.take-third.ensures.vacant) third in
     live_past_take _ _ _ _ _ c.take-fourth.ensures.filled c.take-fourth.ensures.vacant kept

@@ -1,4 +1,5 @@
-use Rattle.std.proofs.Common.{rules, ◌≡◌, ◌+◌, ◌*◌, ◌≤◌, ◌^◌, ◌++◌, List, [], ◌∷◌, ◌∙◌, sym, subst, ap, arith, length, length-append}
+use Rattle.std.proofs.Common.{rules, ◌≡◌, ◌+◌, ◌*◌, ◌≤◌, ◌^◌, ◌++◌, List, [], ◌∷◌, ◌∙◌, sym, subst}
+use Rattle.std.proofs.Common.{ap, arith, length, length-append}
 use Rattle.oct_arena.specs.Entries.{Groups}
 use Rattle.oct_arena.specs.Chunks.{joined, AllFull, IsFresh}
 use Rattle.oct_arena.proofs.Chunks.{length_joined, full_more, joined_more}
@@ -17,12 +18,17 @@ invariant_of-self-2 c =
     let all : length (joined cs) ≡ 1024 * length cs = length_joined cs c.self.invariant.0 in
     let view : length (joined cs) ≡ length c.args.self.now = ap length c.self.view_is in
     let more : length (cs ++ k ∷ []) ≡ length cs + 1 = length-append cs (k ∷ []) in (
-      subst AllFull (sym c.in_ok-push.ensures.items) (full_more cs k c.self.invariant.0 c.in_ok-chunk.ensures.many),
-      subst (λ (xs : List Groups). length xs ≤ 2 ^ 21) (sym c.in_ok-push.ensures.items) (omega arith),
+      subst AllFull (sym c.in_ok-push.ensures.items)
+          (full_more cs k c.self.invariant.0 c.in_ok-chunk.ensures.many),
+      subst (λ (xs : List Groups). length xs ≤ 2 ^ 21) (sym c.in_ok-push.ensures.items)
+          (omega arith),
     )
 
 pub returns-clause-ok : goal.returns-clause-ok
 returns-clause-ok c =
     let cs = c.self.inside.chunks.items in let k = c.in_ok-chunk.chunk in
-    let first : c.len.result ≡ length c.args.self.now = search rules in
-    (k, ap joined c.in_ok-push.ensures.items ∙ joined_more cs k ∙ ap (λ xs. xs ++ k) c.self.view_is, subst (λ n. IsFresh n k) first c.in_ok-chunk.ensures)
+    let first : c.len.result ≡ length c.args.self.now = search rules in (
+      k,
+      ap joined c.in_ok-push.ensures.items ∙ joined_more cs k ∙ ap (λ xs. xs ++ k) c.self.view_is,
+      subst (λ n. IsFresh n k) first c.in_ok-chunk.ensures,
+    )

@@ -6,16 +6,25 @@ use Rattle.oct_arena.proofs.rows.Rows.fill.Goals as goal
 pub index_mut-chunk-requires : goal.index_mut-chunk-requires
 index_mut-chunk-requires c =
     let len : vec_len c.self.inside.chunks ≡ length c.self.inside.chunks.items = search rules in
-    rw len (chunk_within c.self.inside.chunks.items c.args.self.now c.args.i c.self.invariant.0 c.self.view_is c.requires)
+    rw len
+    (chunk_within c.self.inside.chunks.items c.args.self.now c.args.i c.self.invariant.0
+    c.self.view_is c.requires)
 
 pub fill-requires : goal.fill-requires
-fill-requires c = place_within c.self.inside.chunks.items c.args.self.now c.args.i c.self.invariant.0 c.self.view_is c.requires c.index_mut-chunk.result.now c.index_mut-chunk.ensures.value
+fill-requires c =
+    place_within c.self.inside.chunks.items c.args.self.now c.args.i c.self.invariant.0
+    c.self.view_is c.requires c.index_mut-chunk.result.now c.index_mut-chunk.ensures.value
 
 pub invariant_of-self : goal.invariant_of-self
 invariant_of-self c = (
-  written_full c.self.inside.chunks.items c.args.self.now c.args.i c.self.invariant.0 c.self.view_is c.requires c.index_mut-chunk.result.now c.index_mut-chunk.ensures.value c.fill.new.self _ c.fill.ensures,
+  written_full c.self.inside.chunks.items c.args.self.now c.args.i c.self.invariant.0 c.self.view_is
+      c.requires c.index_mut-chunk.result.now c.index_mut-chunk.ensures.value c.fill.new.self _
+      c.fill.ensures,
   rw length-set c.self.invariant.1,
 )
 
 pub returns : goal.returns
-returns c = written c.self.inside.chunks.items c.args.self.now c.args.i c.self.invariant.0 c.self.view_is c.requires c.index_mut-chunk.result.now c.index_mut-chunk.ensures.value c.fill.new.self _ c.fill.ensures
+returns c =
+    written c.self.inside.chunks.items c.args.self.now c.args.i c.self.invariant.0 c.self.view_is
+    c.requires c.index_mut-chunk.result.now c.index_mut-chunk.ensures.value c.fill.new.self _
+    c.fill.ensures

@@ -5,12 +5,17 @@ use Rattle.oct_arena.proofs.rows.Rows.get.Goals as goal
 pub index-chunk-requires : goal.index-chunk-requires
 index-chunk-requires c =
     let len : vec_len c.self.inside.chunks ≡ length c.self.inside.chunks.items = search rules in
-    rw len (chunk_within c.self.inside.chunks.items c.args.self.now c.args.i c.self.invariant.0 c.self.view_is c.requires)
+    rw len
+    (chunk_within c.self.inside.chunks.items c.args.self.now c.args.i c.self.invariant.0
+    c.self.view_is c.requires)
 
 pub get-requires : goal.get-requires
-get-requires c = place_within c.self.inside.chunks.items c.args.self.now c.args.i c.self.invariant.0 c.self.view_is c.requires c.index-chunk.result.now c.index-chunk.ensures
+get-requires c =
+    place_within c.self.inside.chunks.items c.args.self.now c.args.i c.self.invariant.0
+    c.self.view_is c.requires c.index-chunk.result.now c.index-chunk.ensures
 
 pub returns : goal.returns
 returns c =
-    sym (read_place c.self.inside.chunks.items c.args.self.now c.args.i c.self.invariant.0 c.self.view_is c.requires c.index-chunk.result.now c.index-chunk.ensures)
+    sym (read_place c.self.inside.chunks.items c.args.self.now c.args.i c.self.invariant.0
+    c.self.view_is c.requires c.index-chunk.result.now c.index-chunk.ensures)
     ∙ c.get.ensures

@@ -8,21 +8,29 @@ use Rattle.oct_arena.proofs.rows.Rows.set_node.Goals as goal
 pub index_mut-chunk-requires : goal.index_mut-chunk-requires
 index_mut-chunk-requires c =
     let len : vec_len c.self.inside.chunks ≡ length c.self.inside.chunks.items = search rules in
-    rw len (chunk_within c.self.inside.chunks.items c.args.self.now c.args.i c.self.invariant.0 c.self.view_is c.requires.within)
+    rw len
+    (chunk_within c.self.inside.chunks.items c.args.self.now c.args.i c.self.invariant.0
+    c.self.view_is c.requires.within)
 
 pub set_node-requires-clause-within : goal.set_node-requires-clause-within
 set_node-requires-clause-within c =
-    place_within c.self.inside.chunks.items c.args.self.now c.args.i c.self.invariant.0 c.self.view_is c.requires.within c.index_mut-chunk.result.now c.index_mut-chunk.ensures.value
+    place_within c.self.inside.chunks.items c.args.self.now c.args.i c.self.invariant.0
+    c.self.view_is c.requires.within c.index_mut-chunk.result.now
+    c.index_mut-chunk.ensures.value
 
 pub invariant_of-self : goal.invariant_of-self
 invariant_of-self c = (
-  written_full c.self.inside.chunks.items c.args.self.now c.args.i c.self.invariant.0 c.self.view_is c.requires.within c.index_mut-chunk.result.now c.index_mut-chunk.ensures.value c.set_node.new.self _ c.set_node.ensures,
+  written_full c.self.inside.chunks.items c.args.self.now c.args.i c.self.invariant.0 c.self.view_is
+      c.requires.within c.index_mut-chunk.result.now c.index_mut-chunk.ensures.value
+      c.set_node.new.self _ c.set_node.ensures,
   rw length-set c.self.invariant.1,
 )
 
 pub returns : goal.returns
 returns c =
     let k = c.index_mut-chunk.result.now in
-    written c.self.inside.chunks.items c.args.self.now c.args.i c.self.invariant.0 c.self.view_is c.requires.within k c.index_mut-chunk.ensures.value c.set_node.new.self _ c.set_node.ensures
+    written c.self.inside.chunks.items c.args.self.now c.args.i c.self.invariant.0 c.self.view_is
+    c.requires.within k c.index_mut-chunk.ensures.value c.set_node.new.self _ c.set_node.ensures
     ∙ ap (λ e. slice_set c.args.self.now c.args.i (with_node e c.args.j c.args.node))
-    (read_place c.self.inside.chunks.items c.args.self.now c.args.i c.self.invariant.0 c.self.view_is c.requires.within k c.index_mut-chunk.ensures.value)
+    (read_place c.self.inside.chunks.items c.args.self.now c.args.i c.self.invariant.0
+    c.self.view_is c.requires.within k c.index_mut-chunk.ensures.value)

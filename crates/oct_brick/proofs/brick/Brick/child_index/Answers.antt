@@ -5,4 +5,5 @@ use Rattle.oct_brick.proofs.brick.Brick.child_index.Goals as goal
 
 pub returns-clause-child : goal.returns-clause-child
 returns-clause-child c = λ k e.
-    and_mask (c.args.self.now.code / 2 ^ (3 * (13 - c.args.depth))) 3 ∙ brick_child c.args.depth c.args.self.now.code k c.requires e
+    and_mask (c.args.self.now.code / 2 ^ (3 * (13 - c.args.depth))) 3
+    ∙ brick_child c.args.depth c.args.self.now.code k c.requires e

@@ -4,13 +4,16 @@ use Rattle.oct_brick.proofs.Makers.{hit_brick}
 use Rattle.oct_brick.proofs.brick.Brick.with_hit.Goals as goal
 
 pub returns-clause-scanned : goal.returns-clause-scanned
-returns-clause-scanned c = λ k. rw c.bit_of.ensures (or_one c.args.self.code c.args.self.scanned c.args.code k c.requires)
+returns-clause-scanned c =
+    λ k. rw c.bit_of.ensures (or_one c.args.self.code c.args.self.scanned c.args.code k c.requires)
 
 pub returns-clause-hits : goal.returns-clause-hits
-returns-clause-hits c = λ k. rw c.bit_of-2.ensures (or_one c.args.self.code c.args.self.hits c.args.code k c.requires)
+returns-clause-hits c =
+    λ k. rw c.bit_of-2.ensures (or_one c.args.self.code c.args.self.hits c.args.code k c.requires)
 
 pub returns-clause-brick : goal.returns-clause-brick
 returns-clause-brick c = λ below part.
     let scanned : c.args.self.scanned < 2 ^ 64 = search rules in
     let hits : c.args.self.hits < 2 ^ 64 = search rules in
-    hit_brick c.args.self c.args.code c.bit_of.result c.bit_of-2.result c.bit_of.ensures c.bit_of-2.ensures c.requires below scanned hits part
+    hit_brick c.args.self c.args.code c.bit_of.result c.bit_of-2.result c.bit_of.ensures
+    c.bit_of-2.ensures c.requires below scanned hits part

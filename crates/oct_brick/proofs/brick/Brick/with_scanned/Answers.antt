@@ -4,7 +4,8 @@ use Rattle.oct_brick.proofs.Makers.{scanned_brick}
 use Rattle.oct_brick.proofs.brick.Brick.with_scanned.Goals as goal
 
 pub returns-clause-scanned : goal.returns-clause-scanned
-returns-clause-scanned c = λ k. rw c.bit_of.ensures (or_one c.args.self.code c.args.self.scanned c.args.code k c.requires)
+returns-clause-scanned c =
+    λ k. rw c.bit_of.ensures (or_one c.args.self.code c.args.self.scanned c.args.code k c.requires)
 
 pub returns-clause-brick : goal.returns-clause-brick
 returns-clause-brick c = λ below part.

@@ -1,4 +1,4 @@
-use Rattle.std.proofs.Common.{rules, ◌≡◌, ◌+◌, ◌≤◌, ap, refl, ◌∙◌, length, Some, None, arith}
+use Rattle.std.proofs.Common.{rules, ◌≡◌, ◌+◌, ap, refl, ◌∙◌, None, arith}
 use Rattle.std.proofs.lemmas.List.{length-set}
 use Rattle.oct_arena.specs.Nodes.{link_of}
 use Rattle.oct_tree.proofs.Paths.{not_inner}

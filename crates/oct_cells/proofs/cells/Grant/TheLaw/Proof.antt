@@ -11,9 +11,12 @@ use Rattle.std.specs.contracts.marker.PhantomData as mark
 use Rattle.oct_cells.specs.contracts.cells.Grant as grant
 use Rattle.oct_cells.proofs.cells.Grant.TheLaw.Statement.{statement}
 
-pub shares : (R A : RattleType) (g : Ghosts A.Denot) (laws : Laws R) (alloc_laws : Laws A) → statement R A g laws alloc_laws
+pub shares : (R A : RattleType) (g : Ghosts A.Denot) (laws : Laws R) (alloc_laws : Laws A)
+    → statement R A g laws alloc_laws
 shares R A g laws alloc_laws =
-    of_Lends (grant.struct R A g) (grant.the_codes R.Denot A.Denot R.coded A.coded (mark.the_row RawPtr).coded) (grant.the_heap R A g) (grant.the_lent R A g)
+    of_Lends (grant.struct R A g)
+    (grant.the_codes R.Denot A.Denot R.coded A.coded (mark.the_row RawPtr).coded)
+    (grant.the_heap R A g) (grant.the_lent R A g)
     (λ d p. nothing_shr_laws)
     (copy_shared (mark.the_field RawPtr) (field_copy (mark.the_type RawPtr) tt), tt)
     (λ M 𝓤 𝓛 d p. Lends-nothing 𝓛 (grant.the_heap R A g d) (grant.the_row R A g).lives)

@@ -13,7 +13,8 @@ loop-note-preserved c = elim c.if-not-contains_key.branch [
         ∙ first_put c.deref-note-items.result.now c.loop-note.note-index _ c.loop-note.first
         w.insert.new.self c.loop-note-test.true c.loop-note.invariant.0 (sym c.contains_key.ensures
         ∙ w.if-not-contains_key.true) w.in_ok-insert.ensures.updates k,
-    few_put _ _ c.loop-note.first w.insert.new.self c.if-not-contains_key.first w.first-is w.in_ok-insert.ensures.len c.loop-note.invariant.1,
+    few_put _ _ c.loop-note.first w.insert.new.self c.if-not-contains_key.first w.first-is
+        w.in_ok-insert.ensures.len c.loop-note.invariant.1,
   )
   | else-not-contains_key w ↦ (
     λ k. ap (λ m. get key_cmp m k) w.first-is

@@ -1,5 +1,5 @@
 use Rattle.std.proofs.Common.{refl, ◌∙◌, arith}
-use Rattle.oct_change.proofs.Boxes.{below_start, below_room, box_step, box_end}
+use Rattle.oct_change.proofs.Boxes.{below_start, box_step}
 use Rattle.oct_change.proofs.changes.Changes.note_box.Goals as goal
 
 pub loop-x-init : goal.loop-x-init

@@ -18,10 +18,12 @@ loop-brick-preserved c = (
 )
 
 pub returns-clause-noted : goal.returns-clause-noted
-returns-clause-noted c = (first_end _ _ _ _ _ _ _ c.loop-brick-test.false c.loop-brick.invariant.0).0
+returns-clause-noted c =
+    (first_end _ _ _ _ _ _ _ c.loop-brick-test.false c.loop-brick.invariant.0).0
 
 pub returns-clause-spare : goal.returns-clause-spare
-returns-clause-spare c = (first_end _ _ _ _ _ _ _ c.loop-brick-test.false c.loop-brick.invariant.0).1
+returns-clause-spare c =
+    (first_end _ _ _ _ _ _ _ c.loop-brick-test.false c.loop-brick.invariant.0).1
 
 pub note_mask-requires-clause-room : goal.note_mask-requires-clause-room
 note_mask-requires-clause-room c =

@@ -1,5 +1,5 @@
 use Rattle.std.proofs.Common.{refl, ◌∙◌, arith}
-use Rattle.oct_change.proofs.Boxes.{below_start, below_room, plane_step, plane_end}
+use Rattle.oct_change.proofs.Boxes.{below_start, plane_step}
 use Rattle.oct_change.proofs.changes.Changes.note_plane.Goals as goal
 
 pub loop-y-init : goal.loop-y-init

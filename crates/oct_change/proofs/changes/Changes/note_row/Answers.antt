@@ -1,5 +1,5 @@
 use Rattle.std.proofs.Common.{refl, ◌∙◌, arith}
-use Rattle.oct_change.proofs.Boxes.{below_start, below_room, row_step, row_end}
+use Rattle.oct_change.proofs.Boxes.{below_start, row_step}
 use Rattle.oct_change.proofs.changes.Changes.note_row.Goals as goal
 
 pub loop-z-init : goal.loop-z-init

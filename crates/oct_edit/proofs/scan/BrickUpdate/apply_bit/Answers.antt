@@ -18,12 +18,14 @@ clear_bit n miss hit none = rw none refl
 
 pub returns-then-self-bit-ne0-clause-touched : goal.returns-then-self-bit-ne0-clause-touched
 returns-then-self-bit-ne0-clause-touched c k lazy v e =
-    subst (λ event. IsTouched c.args.tree.now c.apply_at.new.tree (block_of 16 k) (event_at (Some k) event) lazy)
+    subst (λ event. IsTouched c.args.tree.now c.apply_at.new.tree (block_of 16 k)
+    (event_at (Some k) event) lazy)
     (sym (set_bit _ c.args.self.now.miss c.args.self.now.hit c.if-self-bit-ne0.true))
     (c.apply_at.ensures.touched k lazy v e)
 
 pub returns-else-self-bit-ne0-clause-touched : goal.returns-else-self-bit-ne0-clause-touched
 returns-else-self-bit-ne0-clause-touched c k lazy v e =
-    subst (λ event. IsTouched c.args.tree.now c.apply_at-else-self-bit-ne0.new.tree (block_of 16 k) (event_at (Some k) event) lazy)
+    subst (λ event. IsTouched c.args.tree.now c.apply_at-else-self-bit-ne0.new.tree (block_of 16 k)
+    (event_at (Some k) event) lazy)
     (sym (clear_bit _ c.args.self.now.miss c.args.self.now.hit c.if-self-bit-ne0.false))
     (c.apply_at-else-self-bit-ne0.ensures.touched k lazy v e)

@@ -6,5 +6,6 @@ use Rattle.oct_edit.proofs.scan.tests.apply.Goals as goal
 pub touch-requires-clause-room : goal.touch-requires-clause-room
 touch-requires-clause-room g c =
     let few = missing_few c.args.tree.now.groups c.voxel.result in
-    let there : c.spare.result ≡ spare c.args.tree.now.groups = c.spare.ensures.exact ∙ ap spare c.arena.ensures.exact in
+    let there : c.spare.result ≡ spare c.args.tree.now.groups =
+    c.spare.ensures.exact ∙ ap spare c.arena.ensures.exact in
     omega (arith, few, there)

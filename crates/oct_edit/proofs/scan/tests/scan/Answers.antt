@@ -26,8 +26,11 @@ fits n room few there = omega (arith, few, there)
 
 pub touch_all-requires-clause-room : goal.touch_all-requires-clause-room
 touch_all-requires-clause-room g c =
-    let there : c.spare.result ≡ spare c.args.tree.now.groups = c.spare.ensures.exact ∙ ap spare c.arena.ensures.exact in
+    let there : c.spare.result ≡ spare c.args.tree.now.groups =
+    c.spare.ensures.exact ∙ ap spare c.arena.ensures.exact in
     fits _ _ (two_need
-    (masked 3848290697216 (slice_index_or c.args.masks 0 (0, 0)).0 (slice_index_or c.args.masks 0 (0, 0)).1)
-    (masked 3848290697217 (slice_index_or c.args.masks 1 (0, 0)).0 (slice_index_or c.args.masks 1 (0, 0)).1)
+    (masked 3848290697216 (slice_index_or c.args.masks 0 (0, 0)).0
+    (slice_index_or c.args.masks 0 (0, 0)).1)
+    (masked 3848290697217 (slice_index_or c.args.masks 1 (0, 0)).0
+    (slice_index_or c.args.masks 1 (0, 0)).1)
     (Add (pos 850)) (Add (negsuc 399))) (omega (arith, there))

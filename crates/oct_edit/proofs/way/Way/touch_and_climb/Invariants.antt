@@ -11,9 +11,12 @@ use Rattle.oct_edit.proofs.way.Way.touch_and_climb.Given as goal
 abbrev pub invariant-loop-depth : goal.invariant-loop-depth
 invariant-loop-depth l = record {
   low : l.depth ≤ l.self.depth;
-  touched : IsTouched l.fn.tree l.tree (block_of l.depth l.fn.k) (event_at (Some l.fn.k) l.fn.event) l.lazy;
+  touched : IsTouched l.fn.tree l.tree (block_of l.depth l.fn.k) (event_at (Some l.fn.k) l.fn.event)
+      l.lazy;
   tidy : IsTrue l.kept → IsTrue l.tidy;
-  kept : IsTrue l.kept → node_in l.tree (place_on l.self.places l.depth) ≡ node_in l.fn.tree (place_on l.self.places l.depth);
+  kept : IsTrue l.kept
+      → node_in l.tree (place_on l.self.places l.depth)
+      ≡ node_in l.fn.tree (place_on l.self.places l.depth);
   spare : spare l.fn.tree.groups ≤ spare l.tree.groups + 16;
 }
 

@@ -10,4 +10,5 @@ returns-clause-holds c =
     let z : c.from-3.result ≡ bit_and (c.args.i / 4) 1 = search rules in
     let depth : c.args.self.now.depth < 16 = omega (arith, c.requires.depth) in
     let index : c.args.i < 8 = omega (arith, c.requires.index) in
-    λ k in_map. holds_as_child (cube_of c.args.self.now) _ c.args.i k depth index (child_of_bits (cube_of c.args.self.now) c.args.i _ _ _ x y z)
+    λ k in_map. holds_as_child (cube_of c.args.self.now) _ c.args.i k depth index
+    (child_of_bits (cube_of c.args.self.now) c.args.i _ _ _ x y z)

@@ -24,5 +24,12 @@ invariant_of-result-clause-on_z c =
 pub returns-clause-only : goal.returns-clause-only
 unfolding block_of
 returns-clause-only c =
-    let is : ◌≡◌ {A = Cube} (block_of c.args.depth c.args.k) (record { depth = c.args.depth; x = c.from.result / 2 ^ (16 - c.args.depth); y = c.from-2.result / 2 ^ (16 - c.args.depth); z = c.from-3.result / 2 ^ (16 - c.args.depth) }) = search rules in
+    let is : ◌≡◌ {A = Cube} (block_of c.args.depth c.args.k)
+    (record {
+      depth = c.args.depth;
+      x = c.from.result / 2 ^ (16 - c.args.depth);
+      y = c.from-2.result / 2 ^ (16 - c.args.depth);
+      z = c.from-3.result / 2 ^ (16 - c.args.depth);
+    }) =
+    search rules in
     λ b d h. only_block c.args.depth c.args.k b d h ∙ is

@@ -5,4 +5,5 @@ use Rattle.oct_odds.proofs.model.OddsModel.apply.Goals as goal
 
 pub returns-in-Add-clause-exact : goal.returns-in-Add-clause-exact
 returns-in-Add-clause-exact c =
-    sum_clamped (odds_of c.args.self.now) _ _ _ _ _ c.in-Add.is c.unwrap_or.ensures (search rules) (search rules) (search rules) c.clamped.ensures.exact (search rules)
+    sum_clamped (odds_of c.args.self.now) _ _ _ _ _ c.in-Add.is c.unwrap_or.ensures (search rules)
+    (search rules) (search rules) c.clamped.ensures.exact (search rules)

@@ -14,7 +14,8 @@ invariant_of-result c =
     let max : SFits w32 c.args.max = c.ranges.max in
     let thr : SFits w32 c.args.thr = c.ranges.thr in
     let none = simp to_z-of_z at c.in-None.ensures in
-    let sound = sound_from_none (odds c.args.hit c.args.miss c.args.min c.args.max c.args.thr) (sym none) in
+    let sound =
+    sound_from_none (odds c.args.hit c.args.miss c.args.min c.args.max c.args.thr) (sym none) in
     simp to_z-of_z (record {
       hit_positive = sound.hit_positive;
       hit_small = sound.small.0.1;
@@ -45,5 +46,8 @@ returns-in-None-clause-sound c =
     let min : SFits w32 c.args.min = c.ranges.min in
     let max : SFits w32 c.args.max = c.ranges.max in
     let thr : SFits w32 c.args.thr = c.ranges.thr in
-    let none = simp to_z-of_z at c.in-None.ensures in
-    (λ _. sound_from_none (odds c.args.hit c.args.miss c.args.min c.args.max c.args.thr) (sym none), λ _. refl)
+    let none = simp to_z-of_z at c.in-None.ensures in (
+      λ _. sound_from_none (odds c.args.hit c.args.miss c.args.min c.args.max c.args.thr)
+          (sym none),
+      λ _. refl,
+    )

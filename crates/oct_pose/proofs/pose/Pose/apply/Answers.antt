@@ -1,4 +1,5 @@
-use Rattle.std.proofs.Common.{◌≡◌, ◌<◌, ◌≤◌, ◌*◌, ◌^◌, ℤ, ◌+ℤ◌, SFits, w64, to_z-of_z, arith, refl, ap, ◌∙◌}
+use Rattle.std.proofs.Common.{◌≡◌, ◌<◌, ◌≤◌, ◌*◌, ◌^◌, ℤ, ◌+ℤ◌, SFits, w64, to_z-of_z, arith, refl}
+use Rattle.std.proofs.Common.{ap, ◌∙◌}
 use Rattle.std.proofs.lemmas.Int.{ints}
 use Rattle.std.specs.Prelude.{unsigned_abs}
 use Rattle.oct_pose.specs.Posed.{quaternion_of}
@@ -7,7 +8,8 @@ use Rattle.oct_pose.proofs.Nearness.{IsNearestTo-posed}
 use Rattle.oct_pose.proofs.pose.Pose.apply.Goals as goal
 
 -- a coordinate in reach and that of a turned point fit, and so does their sum
-fits : (a b : ℤ) → unsigned_abs a < 10 ^ 16 → unsigned_abs b ≤ 3 * 10 ^ 16 → SFits w64 a × SFits w64 b × SFits w64 (a +ℤ b)
+fits : (a b : ℤ) → unsigned_abs a < 10 ^ 16 → unsigned_abs b ≤ 3 * 10 ^ 16
+    → SFits w64 a × SFits w64 b × SFits w64 (a +ℤ b)
 fits a b h k = (omega (arith, ints), omega (arith, ints), omega (arith, ints))
 
 pub returns-clause-exact : goal.returns-clause-exact
@@ -26,7 +28,8 @@ returns-clause-exact c =
     let sx : SFits w64 (t.x +ℤ turned.x) = x.2 in
     let sy : SFits w64 (t.y +ℤ turned.y) = y.2 in
     let sz : SFits w64 (t.z +ℤ turned.z) = z.2 in
-    let is : c.rotate-turned.result ≡ rotated (quaternion_of c.args.self.now) c.args.p = c.rotate-turned.ensures.exact ∙ ap (λ q. rotated q c.args.p) c.quaternion.ensures in
+    let is : c.rotate-turned.result ≡ rotated (quaternion_of c.args.self.now) c.args.p =
+    c.rotate-turned.ensures.exact ∙ ap (λ q. rotated q c.args.p) c.quaternion.ensures in
     simp to_z-of_z (rw is refl)
 
 pub returns-clause-nearest : goal.returns-clause-nearest

@@ -1,4 +1,5 @@
-use Rattle.std.proofs.Common.{rules, ◌≡◌, ◌≤◌, ◌*◌, ◌^◌, ◌+ℤ◌, ◌*ℤ◌, SFits, w64, to_z-of_z, arith, refl, ◌∙◌}
+use Rattle.std.proofs.Common.{rules, ◌≡◌, ◌≤◌, ◌*◌, ◌^◌, ◌+ℤ◌, ◌*ℤ◌, SFits, w64, to_z-of_z, arith}
+use Rattle.std.proofs.Common.{refl, ◌∙◌}
 use Rattle.std.proofs.lemmas.Int.{ints}
 use Rattle.std.specs.Prelude.{unsigned_abs}
 use mir.Syntax.{w128}
@@ -7,7 +8,8 @@ use Rattle.oct_pose.specs.Rotation.{weighted}
 use Rattle.oct_pose.proofs.Turns.{coordinate_within}
 use Rattle.oct_pose.proofs.rotation.Row.coordinate.Goals as goal
 
-rounded : (c : goal.After-round_half_up) → c.round_half_up.result ≡ half_up (weighted c.args.self c.args.p) c.args.norm
+rounded : (c : goal.After-round_half_up)
+    → c.round_half_up.result ≡ half_up (weighted c.args.self c.args.p) c.args.norm
 rounded c =
     let norm_fits : SFits w64 c.args.norm = c.ranges.norm in
     let x_fits : SFits w64 c.args.self.x = search rules in
@@ -21,16 +23,25 @@ rounded c =
     let third_fits : SFits w128 c.wide_product-3.result = search rules in
     let sum_fits : SFits w128 c.sum-sum.result = search rules in
     let divisor_fits : SFits w128 c.from.result = search rules in
-    let first : c.wide_product.result ≡ (c.args.self.x *ℤ c.args.p.x) = simp to_z-of_z at c.wide_product.ensures.value in
-    let second : c.wide_product-2.result ≡ (c.args.self.y *ℤ c.args.p.y) = simp to_z-of_z at c.wide_product-2.ensures.value in
-    let third : c.wide_product-3.result ≡ (c.args.self.z *ℤ c.args.p.z) = simp to_z-of_z at c.wide_product-3.ensures.value in
-    let sum : c.sum-sum.result ≡ (c.wide_product.result +ℤ c.wide_product-2.result +ℤ c.wide_product-3.result) = simp to_z-of_z at c.sum-sum.ensures.value in
+    let first : c.wide_product.result ≡ (c.args.self.x *ℤ c.args.p.x) =
+    simp to_z-of_z at c.wide_product.ensures.value in
+    let second : c.wide_product-2.result ≡ (c.args.self.y *ℤ c.args.p.y) =
+    simp to_z-of_z at c.wide_product-2.ensures.value in
+    let third : c.wide_product-3.result ≡ (c.args.self.z *ℤ c.args.p.z) =
+    simp to_z-of_z at c.wide_product-3.ensures.value in
+    let sum : c.sum-sum.result
+    ≡ (c.wide_product.result +ℤ c.wide_product-2.result +ℤ c.wide_product-3.result) =
+    simp to_z-of_z at c.sum-sum.ensures.value in
     let divisor : c.from.result ≡ c.args.norm = simp to_z-of_z at c.from.ensures in
-    let quotient : c.round_half_up.result ≡ half_up c.sum-sum.result c.from.result = simp to_z-of_z at c.round_half_up.ensures.exact in
+    let quotient : c.round_half_up.result ≡ half_up c.sum-sum.result c.from.result =
+    simp to_z-of_z at c.round_half_up.ensures.exact in
     quotient ∙ rw (divisor, sum, first, second, third) refl
 
 near : (c : goal.After-round_half_up) → unsigned_abs c.round_half_up.result ≤ 3 * 10 ^ 16
-near c = rw (rounded c) (coordinate_within c.args.norm c.args.self c.args.p c.requires.positive c.requires.bounded c.requires.reach)
+near c =
+    rw (rounded c)
+    (coordinate_within c.args.norm c.args.self c.args.p c.requires.positive c.requires.bounded
+    c.requires.reach)
 
 pub overflow_cast-result : goal.overflow_cast-result
 overflow_cast-result c =

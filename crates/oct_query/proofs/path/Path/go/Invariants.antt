@@ -6,4 +6,5 @@ use Rattle.oct_query.proofs.path.Path.go.Given as goal
 
 abbrev pub invariant-loop-level : goal.invariant-loop-level
 invariant-loop-level l =
-    (length l.self.nodes ≡ 17) × ((j : ℕ) (d : Node) → j ≤ l.level → slice_index_or l.self.nodes j d ≡ reach l.tree j l.k)
+    (length l.self.nodes ≡ 17)
+    × ((j : ℕ) (d : Node) → j ≤ l.level → slice_index_or l.self.nodes j d ≡ reach l.tree j l.k)

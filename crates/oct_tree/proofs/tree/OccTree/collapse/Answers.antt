@@ -1,27 +1,39 @@
 use Rattle.std.proofs.Common.{◌∙◌, sym, refl}
-use Rattle.oct_odds.specs.Odds.{odds_of}
-use Rattle.oct_tree.specs.Tree.{Tree}
+use Rattle.oct_tree.proofs.Parts.{tree_of}
 use Rattle.oct_tree.proofs.Steps.{IsCollapseStep, collapse_call, live_call, can_collapse}
 use Rattle.oct_tree.proofs.Tidied.{none_known}
 use Rattle.oct_tree.proofs.tree.OccTree.collapse.Goals as goal
 
 pub common_node-requires : goal.common_node-requires
-common_node-requires c = live_call (record { groups = c.self.inside.arena; root = c.self.inside.root; res = c.self.inside.res; odds = odds_of c.self.inside.odds }) c.args.self.now c.args.p c.in-Inner.id c.in-Inner.field-0 c.self.view_is c.self.invariant.linked c.requires (sym c.read.ensures ∙ c.in-Inner.is)
+common_node-requires c =
+    live_call _ _ c.args.p c.in-Inner.id c.in-Inner.field-0 c.self.view_is
+    c.self.invariant.linked c.requires (sym c.read.ensures ∙ c.in-Inner.is)
 
 pub give_back-requires-clause-live : goal.give_back-requires-clause-live
-give_back-requires-clause-live c = live_call (record { groups = c.self.inside.arena; root = c.self.inside.root; res = c.self.inside.res; odds = odds_of c.self.inside.odds }) c.args.self.now c.args.p c.in-Inner.id c.in-Inner.field-0 c.self.view_is c.self.invariant.linked c.requires (sym c.read.ensures ∙ c.in-Inner.is)
+give_back-requires-clause-live c =
+    live_call _ _ c.args.p c.in-Inner.id c.in-Inner.field-0 c.self.view_is
+    c.self.invariant.linked c.requires (sym c.read.ensures ∙ c.in-Inner.is)
 
-right : (c : goal.After-give_back) → IsCollapseStep c.args.self.now (record { groups = c.give_back.new.arena; root = c.give_back.new.root; res = c.self.inside.res; odds = odds_of c.self.inside.odds }) c.args.p
+right : (c : goal.After-give_back)
+    → IsCollapseStep c.args.self.now
+    (tree_of c.give_back.new.arena c.give_back.new.root c.self.inside.res c.self.inside.odds)
+    c.args.p
 right c =
-    let t : Tree = record { groups = c.self.inside.arena; root = c.self.inside.root; res = c.self.inside.res; odds = odds_of c.self.inside.odds } in
-    collapse_call t c.args.self.now c.args.p c.in-Inner.id c.in-Inner.field-0 c.in-Some.node c.give_back.new.arena c.give_back.new.root
-    c.self.view_is c.self.invariant.linked c.requires (sym c.read.ensures ∙ c.in-Inner.is) c.in-Some.ensures.some.0 c.in-Some.ensures.some.1 c.give_back.ensures.groups c.give_back.ensures.root
+    collapse_call _ _ c.args.p c.in-Inner.id c.in-Inner.field-0 c.in-Some.node c.give_back.new.arena
+    c.give_back.new.root c.self.view_is c.self.invariant.linked c.requires
+    (sym c.read.ensures ∙ c.in-Inner.is) c.in-Some.ensures.some.0 c.in-Some.ensures.some.1
+    c.give_back.ensures.groups c.give_back.ensures.root
 
 pub invariant_of-self : goal.invariant_of-self
 invariant_of-self c = record { linked = (right c).linked; so = none_known _ }
 
 pub returns-clause-when : goal.returns-clause-when
-returns-clause-when c = (λ _. can_collapse (record { groups = c.self.inside.arena; root = c.self.inside.root; res = c.self.inside.res; odds = odds_of c.self.inside.odds }) c.args.self.now c.args.p c.in-Inner.id c.in-Inner.field-0 c.in-Some.node c.self.view_is (sym c.read.ensures ∙ c.in-Inner.is) c.in-Some.ensures.some.0 c.in-Some.ensures.some.1, λ _. refl)
+returns-clause-when c = (
+  λ _. can_collapse _ _ c.args.p c.in-Inner.id c.in-Inner.field-0 c.in-Some.node c.self.view_is
+      (sym c.read.ensures ∙ c.in-Inner.is) c.in-Some.ensures.some.0 c.in-Some.ensures.some.1,
+  λ _.
+      refl,
+)
 
 pub returns-clause-collapsed : goal.returns-clause-collapsed
 returns-clause-collapsed c = (right c).collapsed

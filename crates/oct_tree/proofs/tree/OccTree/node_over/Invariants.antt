@@ -4,4 +4,13 @@ use Rattle.oct_tree.specs.Tree.{reach}
 use Rattle.oct_tree.proofs.tree.OccTree.node_over.Given as goal
 
 abbrev pub invariant-loop-level : goal.invariant-loop-level
-invariant-loop-level l = l.node ≡ reach (record { groups = l.self-inside.arena; root = l.self-inside.root; res = l.self-inside.res; odds = odds_of l.self-inside.odds }) l.level l.k
+invariant-loop-level l =
+    l.node
+    ≡ reach
+    (record {
+      groups = l.self-inside.arena;
+      root = l.self-inside.root;
+      res = l.self-inside.res;
+      odds = odds_of l.self-inside.odds;
+    })
+    l.level l.k

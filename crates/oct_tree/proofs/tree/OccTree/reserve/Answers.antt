@@ -1,16 +1,25 @@
 use Rattle.std.proofs.Common.{◌∙◌, ap}
-use Rattle.oct_odds.specs.Odds.{odds_of}
-use Rattle.oct_tree.specs.Tree.{Tree, IsLinked, value_at}
+use Rattle.oct_tree.specs.Tree.{IsLinked, value_at}
 use Rattle.oct_tree.specs.Changes.{IsGrown}
+use Rattle.oct_tree.proofs.Parts.{tree_of}
 use Rattle.oct_tree.proofs.Grown.{is_grown, grown_linked, grown_values}
 use Rattle.oct_tree.proofs.Tidied.{grown_known}
 use Rattle.oct_tree.proofs.tree.OccTree.reserve.Goals as goal
 
-grown : (c : goal.After-reserve) → IsGrown (record { groups = c.self.inside.arena; root = c.self.inside.root; res = c.self.inside.res; odds = odds_of c.self.inside.odds }) (record { groups = c.reserve.new.self; root = c.self.inside.root; res = c.self.inside.res; odds = odds_of c.self.inside.odds })
-grown c = is_grown (record { groups = c.self.inside.arena; root = c.self.inside.root; res = c.self.inside.res; odds = odds_of c.self.inside.odds }) c.reserve.new.self _ c.reserve.ensures.kept
+grown : (c : goal.After-reserve)
+    → IsGrown
+    (tree_of c.self.inside.arena c.self.inside.root c.self.inside.res c.self.inside.odds)
+    (tree_of c.reserve.new.self c.self.inside.root c.self.inside.res c.self.inside.odds)
+grown c =
+    is_grown (tree_of c.self.inside.arena c.self.inside.root c.self.inside.res c.self.inside.odds)
+    c.reserve.new.self _ c.reserve.ensures.kept
 
-linked : (c : goal.After-reserve) → IsLinked (record { groups = c.reserve.new.self; root = c.self.inside.root; res = c.self.inside.res; odds = odds_of c.self.inside.odds })
-linked c = grown_linked (record { groups = c.self.inside.arena; root = c.self.inside.root; res = c.self.inside.res; odds = odds_of c.self.inside.odds }) _ c.self.invariant.linked (grown c) c.reserve.ensures.arena
+linked : (c : goal.After-reserve)
+    → IsLinked (tree_of c.reserve.new.self c.self.inside.root c.self.inside.res c.self.inside.odds)
+linked c =
+    grown_linked
+    (tree_of c.self.inside.arena c.self.inside.root c.self.inside.res c.self.inside.odds)
+    _ c.self.invariant.linked (grown c) c.reserve.ensures.arena
 
 pub invariant_of-self : goal.invariant_of-self
 invariant_of-self c = record {
@@ -20,7 +29,8 @@ invariant_of-self c = record {
 
 pub returns-clause-values : goal.returns-clause-values
 returns-clause-values c k =
-    let t : Tree = record { groups = c.self.inside.arena; root = c.self.inside.root; res = c.self.inside.res; odds = odds_of c.self.inside.odds } in
+    let t =
+    tree_of c.self.inside.arena c.self.inside.root c.self.inside.res c.self.inside.odds in
     grown_values t _ (grown c) k ∙ ap (λ x. value_at x k) c.self.view_is
 
 pub returns-clause-linked : goal.returns-clause-linked

@@ -1,13 +1,16 @@
-use Rattle.oct_odds.specs.Odds.{odds_of}
-use Rattle.oct_tree.specs.Tree.{Tree}
+use Rattle.oct_tree.proofs.Parts.{tree_of}
 use Rattle.oct_tree.proofs.Steps.{IsSetStep, set_call}
 use Rattle.oct_tree.proofs.Tidied.{none_known}
 use Rattle.oct_tree.proofs.tree.OccTree.set_place.Goals as goal
 
-right : (c : goal.After-write) → IsSetStep c.args.self.now (record { groups = c.write.new.arena; root = c.write.new.root; res = c.self.inside.res; odds = odds_of c.self.inside.odds }) c.args.p c.args.n
+right : (c : goal.After-write)
+    → IsSetStep c.args.self.now
+    (tree_of c.write.new.arena c.write.new.root c.self.inside.res c.self.inside.odds)
+    c.args.p c.args.n
 right c =
-    let t : Tree = record { groups = c.self.inside.arena; root = c.self.inside.root; res = c.self.inside.res; odds = odds_of c.self.inside.odds } in
-    set_call t c.args.self.now c.args.p c.args.n c.write.new.arena c.write.new.root c.self.view_is c.self.invariant.linked c.requires.place c.requires.before c.requires.node c.requires.within c.write.ensures.groups c.write.ensures.root
+    set_call _ _ c.args.p c.args.n c.write.new.arena c.write.new.root c.self.view_is
+    c.self.invariant.linked c.requires.place c.requires.before c.requires.node c.requires.within
+    c.write.ensures.groups c.write.ensures.root
 
 pub invariant_of-self : goal.invariant_of-self
 invariant_of-self c = record { linked = (right c).linked; so = none_known _ }

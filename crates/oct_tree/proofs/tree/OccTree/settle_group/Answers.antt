@@ -3,31 +3,46 @@ use Rattle.std.proofs.lemmas.Bool.{false≢true}
 use Rattle.std.proofs.lemmas.Int.{to_z-of_z}
 use mir.Val.{SFits}
 use mir.Syntax.{w32}
-use Rattle.oct_odds.specs.Odds.{odds_of}
 use Rattle.oct_tree.specs.Nodes.{IsGreatest}
-use Rattle.oct_tree.specs.Tree.{Tree}
-use Rattle.oct_tree.proofs.Steps.{IsCollapseStep, IsRenewStep, collapse_call, renew_call, live_call, linked_at, can_collapse, cannot_collapse}
+use Rattle.oct_tree.proofs.Parts.{tree_of}
+use Rattle.oct_tree.proofs.Steps.{IsCollapseStep, IsRenewStep, collapse_call, renew_call, live_call}
+use Rattle.oct_tree.proofs.Steps.{linked_at, can_collapse, cannot_collapse}
 use Rattle.oct_tree.proofs.Tidied.{none_known}
 use Rattle.oct_tree.proofs.tree.OccTree.settle_group.Goals as goal
 
 pub read_group-requires : goal.read_group-requires
-read_group-requires c = live_call (record { groups = c.self.inside.arena; root = c.self.inside.root; res = c.self.inside.res; odds = odds_of c.self.inside.odds }) c.args.self.now c.args.p c.args.id (linked_at (record { groups = c.self.inside.arena; root = c.self.inside.root; res = c.self.inside.res; odds = odds_of c.self.inside.odds }) c.args.self.now c.args.p c.args.id c.self.view_is c.requires.inner).0 c.self.view_is c.self.invariant.linked c.requires.place (linked_at (record { groups = c.self.inside.arena; root = c.self.inside.root; res = c.self.inside.res; odds = odds_of c.self.inside.odds }) c.args.self.now c.args.p c.args.id c.self.view_is c.requires.inner).1
+read_group-requires c =
+    let at = linked_at _ _ c.args.p c.args.id c.self.view_is c.requires.inner in
+    live_call _ _ c.args.p c.args.id at.0 c.self.view_is c.self.invariant.linked c.requires.place
+    at.1
 
 pub give_back-requires-clause-live : goal.give_back-requires-clause-live
-give_back-requires-clause-live c = live_call (record { groups = c.self.inside.arena; root = c.self.inside.root; res = c.self.inside.res; odds = odds_of c.self.inside.odds }) c.args.self.now c.args.p c.args.id (linked_at (record { groups = c.self.inside.arena; root = c.self.inside.root; res = c.self.inside.res; odds = odds_of c.self.inside.odds }) c.args.self.now c.args.p c.args.id c.self.view_is c.requires.inner).0 c.self.view_is c.self.invariant.linked c.requires.place (linked_at (record { groups = c.self.inside.arena; root = c.self.inside.root; res = c.self.inside.res; odds = odds_of c.self.inside.odds }) c.args.self.now c.args.p c.args.id c.self.view_is c.requires.inner).1
+give_back-requires-clause-live c =
+    let at = linked_at _ _ c.args.p c.args.id c.self.view_is c.requires.inner in
+    live_call _ _ c.args.p c.args.id at.0 c.self.view_is c.self.invariant.linked c.requires.place
+    at.1
 
-collapsed : (c : goal.After-give_back) → IsCollapseStep c.args.self.now (record { groups = c.give_back.new.arena; root = c.give_back.new.root; res = c.self.inside.res; odds = odds_of c.self.inside.odds }) c.args.p
+collapsed : (c : goal.After-give_back)
+    → IsCollapseStep c.args.self.now
+    (tree_of c.give_back.new.arena c.give_back.new.root c.self.inside.res c.self.inside.odds)
+    c.args.p
 collapsed c =
-    let t : Tree = record { groups = c.self.inside.arena; root = c.self.inside.root; res = c.self.inside.res; odds = odds_of c.self.inside.odds } in
-    collapse_call t c.args.self.now c.args.p c.args.id (linked_at t c.args.self.now c.args.p c.args.id c.self.view_is c.requires.inner).0 c.in-Alike.node c.give_back.new.arena c.give_back.new.root
-    c.self.view_is c.self.invariant.linked c.requires.place (linked_at t c.args.self.now c.args.p c.args.id c.self.view_is c.requires.inner).1 c.in-Alike.ensures.0 c.in-Alike.ensures.1 c.give_back.ensures.groups c.give_back.ensures.root
+    let at = linked_at _ _ c.args.p c.args.id c.self.view_is c.requires.inner in
+    collapse_call _ _ c.args.p c.args.id at.0 c.in-Alike.node c.give_back.new.arena
+    c.give_back.new.root c.self.view_is c.self.invariant.linked c.requires.place at.1
+    c.in-Alike.ensures.0 c.in-Alike.ensures.1 c.give_back.ensures.groups c.give_back.ensures.root
 
-renewed : (c : goal.After-write) → IsRenewStep c.args.self.now (record { groups = c.write.new.arena; root = c.write.new.root; res = c.self.inside.res; odds = odds_of c.self.inside.odds }) c.args.p
+renewed : (c : goal.After-write)
+    → IsRenewStep c.args.self.now
+    (tree_of c.write.new.arena c.write.new.root c.self.inside.res c.self.inside.odds) c.args.p
 renewed c =
-    let t : Tree = record { groups = c.self.inside.arena; root = c.self.inside.root; res = c.self.inside.res; odds = odds_of c.self.inside.odds } in
+    let at = linked_at _ _ c.args.p c.args.id c.self.view_is c.requires.inner in
     let fits : SFits w32 c.in-Varied.value = search rules in
-    renew_call t c.args.self.now c.args.p c.args.id (linked_at t c.args.self.now c.args.p c.args.id c.self.view_is c.requires.inner).0 _ c.write.new.arena c.write.new.root
-    c.self.view_is c.self.invariant.linked c.requires.place (linked_at t c.args.self.now c.args.p c.args.id c.self.view_is c.requires.inner).1 (subst (IsGreatest c.self.inside.arena c.args.id.number) (sym (to_z-of_z w32 c.in-Varied.value fits)) c.in-Varied.ensures.1) c.write.ensures.groups c.write.ensures.root
+    renew_call _ _ c.args.p c.args.id at.0 _ c.write.new.arena c.write.new.root c.self.view_is
+    c.self.invariant.linked c.requires.place at.1
+    (subst (IsGreatest c.self.inside.arena c.args.id.number)
+    (sym (to_z-of_z w32 c.in-Varied.value fits)) c.in-Varied.ensures.1)
+    c.write.ensures.groups c.write.ensures.root
 
 pub invariant_of-self : goal.invariant_of-self
 invariant_of-self c = record { linked = (collapsed c).linked; so = none_known _ }
@@ -36,7 +51,12 @@ pub invariant_of-self-in-Varied : goal.invariant_of-self-in-Varied
 invariant_of-self-in-Varied c = record { linked = (renewed c).linked; so = none_known _ }
 
 pub returns-in-Alike-clause-when : goal.returns-in-Alike-clause-when
-returns-in-Alike-clause-when c = (λ _. can_collapse (record { groups = c.self.inside.arena; root = c.self.inside.root; res = c.self.inside.res; odds = odds_of c.self.inside.odds }) c.args.self.now c.args.p c.args.id (linked_at (record { groups = c.self.inside.arena; root = c.self.inside.root; res = c.self.inside.res; odds = odds_of c.self.inside.odds }) c.args.self.now c.args.p c.args.id c.self.view_is c.requires.inner).0 c.in-Alike.node c.self.view_is (linked_at (record { groups = c.self.inside.arena; root = c.self.inside.root; res = c.self.inside.res; odds = odds_of c.self.inside.odds }) c.args.self.now c.args.p c.args.id c.self.view_is c.requires.inner).1 c.in-Alike.ensures.0 c.in-Alike.ensures.1, λ _. refl)
+returns-in-Alike-clause-when c =
+    let at = linked_at _ _ c.args.p c.args.id c.self.view_is c.requires.inner in (
+      λ _. can_collapse _ _ c.args.p c.args.id at.0 c.in-Alike.node c.self.view_is at.1
+          c.in-Alike.ensures.0 c.in-Alike.ensures.1,
+      λ _. refl,
+    )
 
 pub returns-in-Alike-clause-collapsed : goal.returns-in-Alike-clause-collapsed
 returns-in-Alike-clause-collapsed c = (collapsed c).collapsed
@@ -51,7 +71,12 @@ pub returns-in-Alike-clause-linked : goal.returns-in-Alike-clause-linked
 returns-in-Alike-clause-linked c = (collapsed c).linked
 
 pub returns-in-Varied-clause-when : goal.returns-in-Varied-clause-when
-returns-in-Varied-clause-when c = (λ t. absurd (false≢true t), λ can. absurd (cannot_collapse (record { groups = c.self.inside.arena; root = c.self.inside.root; res = c.self.inside.res; odds = odds_of c.self.inside.odds }) c.args.self.now c.args.p c.args.id (linked_at (record { groups = c.self.inside.arena; root = c.self.inside.root; res = c.self.inside.res; odds = odds_of c.self.inside.odds }) c.args.self.now c.args.p c.args.id c.self.view_is c.requires.inner).0 c.self.view_is (linked_at (record { groups = c.self.inside.arena; root = c.self.inside.root; res = c.self.inside.res; odds = odds_of c.self.inside.odds }) c.args.self.now c.args.p c.args.id c.self.view_is c.requires.inner).1 c.in-Varied.ensures.0 can))
+returns-in-Varied-clause-when c =
+    let at = linked_at _ _ c.args.p c.args.id c.self.view_is c.requires.inner in (
+      λ t. absurd (false≢true t),
+      λ can. absurd (cannot_collapse _ _ c.args.p c.args.id at.0 c.self.view_is at.1
+          c.in-Varied.ensures.0 can),
+    )
 
 pub returns-in-Varied-clause-renewed : goal.returns-in-Varied-clause-renewed
 returns-in-Varied-clause-renewed c = (renewed c).renewed

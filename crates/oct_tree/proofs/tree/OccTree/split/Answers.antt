@@ -1,5 +1,4 @@
-use Rattle.oct_odds.specs.Odds.{odds_of}
-use Rattle.oct_tree.specs.Tree.{Tree}
+use Rattle.oct_tree.proofs.Parts.{tree_of}
 use Rattle.oct_tree.proofs.Paths.{above_voxels}
 use Rattle.oct_tree.proofs.Steps.{IsSplitStep, split_call}
 use Rattle.oct_tree.proofs.Tidied.{none_known}
@@ -7,13 +6,18 @@ use Rattle.oct_tree.proofs.tree.OccTree.split.Goals as goal
 
 pub split-requires-clause-home : goal.split-requires-clause-home
 split-requires-clause-home c =
-    above_voxels (record { groups = c.self.inside.arena; root = c.self.inside.root; res = c.self.inside.res; odds = odds_of c.self.inside.odds }) c.args.p c.self.invariant.linked
+    above_voxels
+    (tree_of c.self.inside.arena c.self.inside.root c.self.inside.res c.self.inside.odds)
+    c.args.p c.self.invariant.linked
 
-right : (c : goal.After-split) → IsSplitStep c.args.self.now (record { groups = c.split.new.arena; root = c.split.new.root; res = c.self.inside.res; odds = odds_of c.self.inside.odds }) c.args.p c.split.result
+right : (c : goal.After-split)
+    → IsSplitStep c.args.self.now
+    (tree_of c.split.new.arena c.split.new.root c.self.inside.res c.self.inside.odds)
+    c.args.p c.split.result
 right c =
-    let t : Tree = record { groups = c.self.inside.arena; root = c.self.inside.root; res = c.self.inside.res; odds = odds_of c.self.inside.odds } in
-    split_call t c.args.self.now c.args.p c.split.result c.split.new.arena c.split.new.root
-    c.self.view_is c.self.invariant.linked c.requires.place c.requires.node c.requires.depth c.split.ensures.vacant c.split.ensures.within c.split.ensures.groups c.split.ensures.root
+    split_call _ _ c.args.p c.split.result c.split.new.arena c.split.new.root
+    c.self.view_is c.self.invariant.linked c.requires.place c.requires.node c.requires.depth
+    c.split.ensures.vacant c.split.ensures.within c.split.ensures.groups c.split.ensures.root
 
 pub invariant_of-self : goal.invariant_of-self
 invariant_of-self c = record { linked = (right c).linked; so = none_known _ }
