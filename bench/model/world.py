@@ -57,10 +57,10 @@ def block(voxel, depth):
 
 def children(voxels, depth):
     """The voxels of each child of a block of this depth, by the child's index."""
-    parts = [{} for _ in range(8)]
+    parts, low = [{} for _ in range(8)], 15 - depth
     for voxel, thing in voxels.items():
-        x, y, z = (it >> (15 - depth) & 1 for it in voxel)
-        parts[x + 2 * y + 4 * z][voxel] = thing
+        x, y, z = voxel
+        parts[(x >> low & 1) + 2 * (y >> low & 1) + 4 * (z >> low & 1)][voxel] = thing
     return parts
 
 
@@ -80,11 +80,9 @@ def least_tree(voxels, depth=0):
     """How many blocks aren't uniform, and how many of their children hold something."""
     if depth == 16 or uniform(voxels, depth) is not Mixed:
         return 0, 0
-    groups, nodes = 1, 0
-    for part in children(voxels, depth):
-        more = least_tree(part, depth + 1)
-        groups, nodes = groups + more[0], nodes + more[1] + bool(part)
-    return groups, nodes
+    parts = [part for part in children(voxels, depth) if part]
+    below = [least_tree(part, depth + 1) for part in parts]
+    return 1 + sum(groups for groups, _ in below), len(parts) + sum(nodes for _, nodes in below)
 
 
 def corners_fault(low, high):
@@ -118,7 +116,10 @@ class World:
         return low, high
 
     def make_room(self, need, groups=None):
-        groups = least_tree(self.values)[0] if groups is None else groups
+        if groups is None:
+            if 16 * len(self.values) + need <= self.limits.groups:
+                return  # a known voxel lies in 16 blocks, so no more groups than these are needed
+            groups = least_tree(self.values)[0]
         if groups + need > self.limits.groups:
             raise Refused(f"23 Full groups {groups} need {need}")
 
