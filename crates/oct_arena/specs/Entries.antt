@@ -2,8 +2,9 @@
 -- number of its entry.
 use Rattle.std.specs.Prelude.{◌≡◌, ℕ, ◌+◌, ◌^◌, ◌≤◌, Bool, IsTrue, List, length, replicate, Option}
 use Rattle.std.specs.Prelude.{Some, None, is_none, is_some, option_map, count_by, slice_index_or}
-use Rattle.std.specs.Prelude.{slice_set}
-use Rattle.oct_key.specs.Block.{Cube, child_of}
+use Rattle.std.specs.Prelude.{slice_set, false}
+use Rattle.std.specs.List.{list_any}
+use Rattle.oct_key.specs.Block.{Cube, child_of, is_same_block}
 use Rattle.oct_arena.specs.declared.node.Node.{Node}
 use Rattle.oct_arena.specs.declared.node.Node.TheVariants.{Absent}
 use Rattle.oct_arena.specs.declared.node.Group.{Group}
@@ -40,6 +41,15 @@ home_of e = option_map (λ g. g.home) e
 -- the home of the group under an id, or none where there is no group
 abbrev pub home_at : Groups → ℕ → Option Cube
 home_at gs id = home_of (entry gs id)
+
+-- whether a home, if any, is this block
+abbrev pub is_that_home : Cube → Option Cube → Bool
+is_that_home b None = false
+is_that_home b (Some home) = is_same_block home b
+
+-- whether some group has this block as its home
+abbrev pub has_home : Groups → Cube → Bool
+has_home gs b = list_any (λ e. is_that_home b (home_of e)) gs
 
 -- an entry with another node i, and with the same home and other nodes
 abbrev pub with_node : Option Group → ℕ → Node → Option Group

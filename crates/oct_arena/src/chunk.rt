@@ -4,7 +4,7 @@ ghost use Rattle.oct_arena.specs.Entries.{entry, with_node};
 ghost use Rattle.oct_arena.specs.Chunks.{IsFresh};
 
 use crate::home::PackedBlock;
-use crate::node::{Group, GroupId, Node, PackedNode};
+use crate::node::{Group, GroupId, PackedNode};
 use oct_cells::{Address, Cells, Grant, allocate, deallocate};
 use std::alloc::{AllocError, Global};
 use std::marker::Model;

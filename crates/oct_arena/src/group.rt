@@ -15,12 +15,7 @@ impl Group {
         ensures eight { length result.nodes ≡ 8 }
     {
         Group {
-            home: PackedBlock::new(Block {
-                depth: 0,
-                x: 0,
-                y: 0,
-                z: 0,
-            }),
+            home: PackedBlock::new(Block::whole_map()),
             nodes: [PackedNode::new(Node::Inner(0, next)); 8],
         }
     }

@@ -1,9 +1,9 @@
 //! The head of a file, line by line.
-ghost use Rattle.std.specs.Prelude.{◌≡◌, ◌∷◌, [], ◌<◌, ◌≤◌, Bool, not, nat_lt, ◌&&◌, if◌then◌else◌};
+ghost use Rattle.std.specs.Prelude.{◌≡◌, [], ◌<◌, ◌≤◌, not, nat_lt, ◌&&◌};
 ghost use Rattle.std.specs.Prelude.{true, false, OnOk, OnErr, IfOk, IfSome};
 ghost use Rattle.oct_num.specs.Metres.{metres_of};
 ghost use Rattle.oct_bt.specs.Header.{resolution_of, mark_fault, is_data_line, line_of};
-ghost use Rattle.oct_bt.specs.Header.{judged_fields, no_data_line};
+ghost use Rattle.oct_bt.specs.Header.{judged_fields};
 ghost use Rattle.oct_bt.specs.Reading.{Head, heading_of, longer_line, ended_line, closed_head};
 ghost use Rattle.oct_bt.specs.Reading.{head_fault, with_line, after_head_byte, after_take};
 

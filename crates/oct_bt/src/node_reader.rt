@@ -1,7 +1,7 @@
 //! The reading of node data in pieces.
 ghost use Rattle.std.specs.Prelude.{◌≡◌, ◌++◌, ◌≤◌, ◌<◌, ◌^◌, List, ℕ, OnOk, OnErr, IfOk, Result};
-ghost use Rattle.std.specs.Prelude.{Ok, Err, [], ◌∷◌, length};
-ghost use Rattle.oct_bt.specs.NodeData.{HasRead, after_byte, at_first, judged, read_nodes};
+ghost use Rattle.std.specs.Prelude.{Ok, Err, [], ◌∷◌};
+ghost use Rattle.oct_bt.specs.NodeData.{HasRead, after_byte, read_nodes};
 ghost use Rattle.oct_bt.specs.NodeData.{IsAccepted};
 ghost use Rattle.oct_bt.specs.Canonical.{node_total};
 

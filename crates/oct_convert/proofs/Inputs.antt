@@ -106,17 +106,6 @@ ended reader taken n most bytes old left few end fed =
       },
     )
 
--- at which the reader answered a file
-pub read_ok : (reader : FileProgress) (taken n most : ℕ) (first old left : Option (List ℕ))
-    (file : FileRead) → taken ≤ most
-    → HasEnded n old left → HasFed reader taken first old
-    → ((text : List ℕ) → StandsFor reader text → Ok file ≡ reading text)
-    → IfSome first (λ bytes. (reading bytes ≡ Ok file) × IsReadToEnd most bytes left)
-read_ok reader taken n most None old left file few end fed answer = tt
-read_ok reader taken n most (Some bytes) old left file few end fed answer =
-    let (stands, at_end) = ended reader taken n most bytes old left few end fed in
-    (sym (answer bytes stands), at_end)
-
 -- which has no more records than the input has bytes
 pub read_short : (reader : FileProgress) (taken most : ℕ) (first left : Option (List ℕ))
     (file : FileRead) → taken ≤ most

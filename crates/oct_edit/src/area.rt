@@ -1,7 +1,6 @@
 ghost use Rattle.std.specs.Prelude.{◌≡◌, ◌+◌, ◌^◌, ◌≤◌, ◌≤ℤ◌, ◌↔◌, IsTrue, IsSome, None, Some};
 ghost use Rattle.std.specs.Prelude.{false, ◌&&◌};
 ghost use Rattle.oct_key.specs.Voxel.{Voxel, IsInMap};
-ghost use Rattle.oct_key.specs.Block.{root_block};
 ghost use Rattle.oct_key.specs.CubeOf.{cube_of};
 ghost use Rattle.oct_odds.specs.Update.{IsSmallEvent};
 ghost use Rattle.oct_values.specs.Boxes as boxes;
@@ -94,19 +93,7 @@ pub fn touch_box(tree: &mut OccTree, lo: Key, hi: Key, event: Event)
     ensures room { live tree.new.groups + spare tree.new.groups
         ≡ live tree.old.groups + spare tree.old.groups }
 {
-    touch_part(tree, Place::Root, root(), lo, hi, event);
-}
-
-/// The block of the whole map.
-fn root() -> Block
-    ensures { cube_of result ≡ root_block }
-{
-    Block {
-        depth: 0,
-        x: 0,
-        y: 0,
-        z: 0,
-    }
+    touch_part(tree, Place::Root, Block::whole_map(), lo, hi, event);
 }
 
 /// Applies the event to the voxels of the box in the block of the place, which holds some, and

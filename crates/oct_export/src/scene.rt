@@ -1,7 +1,7 @@
 //! Occupied space as a scene of boxes.
 ghost use Rattle.std.specs.Prelude.{◌≡◌, ◌%◌, ◌^◌, ◌≤◌, ◌++◌, Some, [], OnOk, OnErr, IfOk, length};
 ghost use Rattle.std.specs.Prelude.{if◌then◌else◌};
-ghost use Rattle.oct_key.specs.Block.{number_of_child, root_block};
+ghost use Rattle.oct_key.specs.Block.{number_of_child};
 ghost use Rattle.oct_key.specs.CubeOf.{cube_of};
 ghost use Rattle.oct_io.specs.Counts.{IsWriteCounted};
 ghost use Rattle.oct_io.specs.Taken.{IsBegun};
@@ -209,18 +209,6 @@ fn push_boxes<K: Sink>(
     Ok(Walked { full, bytes })
 }
 
-/// The block of the whole map.
-fn root() -> Block
-    ensures { cube_of result ≡ root_block }
-{
-    Block {
-        depth: 0,
-        x: 0,
-        y: 0,
-        z: 0,
-    }
-}
-
 /// Writes the occupied space of the tree as a scene of VRML97, and answers its length: a line for
 /// each of the greatest blocks all of whose voxels are occupied, by the Morton code of its lowest
 /// voxel, with its middle and its edge in metres. How the tree is split into leaves makes no
@@ -242,8 +230,14 @@ pub fn vrml<K: Sink>(tree: &OccTree, sink: &mut K) -> Result<u64, SinkFault>
     let head = FIRST_LINE.as_bytes();
     let mut gather = Gather::new();
     gather.push(sink, head)?;
-    let found = push_boxes(tree, Place::Root, root(), 0, &mut gather, sink)?;
-    let line = push_due(tree.res(), root(), found.full, &mut gather, sink)?;
+    let found = push_boxes(tree, Place::Root, Block::whole_map(), 0, &mut gather, sink)?;
+    let line = push_due(
+        tree.res(),
+        Block::whole_map(),
+        found.full,
+        &mut gather,
+        sink,
+    )?;
     gather.flush(sink)?;
     let length = (head.len() as u64)
         .wrapping_add(found.bytes)

@@ -1,5 +1,6 @@
 -- A block with leaves beside it has nothing unknown beside its voxels.
-use Rattle.std.proofs.Common.{◌≡◌, ℕ, zero, suc, ◌+◌, ◌-◌, ◌*◌, ◌/◌, ◌%◌, ◌^◌, ◌<◌, ◌≤◌, inl, inr, None, refl, ap, subst, ◌∙◌, arith}
+use Rattle.std.proofs.Common.{◌≡◌, ℕ, zero, suc, ◌+◌, ◌-◌, ◌*◌, ◌/◌, ◌%◌, ◌^◌, ◌<◌, ◌≤◌, inl, inr}
+use Rattle.std.proofs.Common.{None, refl, ap, subst, ◌∙◌, arith}
 use Rattle.std.specs.Prelude.{nat_eq, Bool, true, false, cond}
 use Rattle.oct_key.specs.Voxel.{Voxel, IsInMap}
 use Rattle.oct_key.specs.Block.{Cube, IsBlock, HoldsVoxel, child_of, child_index_of}
@@ -13,7 +14,8 @@ use Rattle.oct_tree.proofs.Paths.{some_not_none}
 use Rattle.oct_tree.proofs.Over.{over_value}
 use Rattle.oct_frontier.specs.declared.patch.Sides.{Sides}
 use Rattle.oct_frontier.specs.Frontier.{AreNeighbours}
-use Rattle.oct_frontier.specs.Patches.{IsOver, IsLeaf, AreBeside, AreAround, AreLeaves, sides_of_child}
+use Rattle.oct_frontier.specs.Patches.{IsOver, IsLeaf, AreBeside, AreAround, AreLeaves}
+use Rattle.oct_frontier.specs.Patches.{sides_of_child}
 use Rattle.oct_frontier.proofs.Steps.{leaf_step, around_child}
 
 -- no neighbour of the voxel in the map is unknown
@@ -55,33 +57,46 @@ enclosed_voxel : (t : Tree) (k : Voxel) (node : Node) (x y z : Sides)
     → HasKnownAround t k
 enclosed_voxel t k node x y z around leaves j v near none = elim near [
   | inl (next, ey, ez) ↦ elim next [
-    | inl e ↦ below_known t (λ q. record { depth = 16; x = q; y = k.y; z = k.z }) k.x j.x x j around.x (λ q. omega arith) leaves.west e
+    | inl e ↦ below_known t (λ q. record { depth = 16; x = q; y = k.y; z = k.z }) k.x j.x x j
+        around.x (λ q. omega arith) leaves.west e
         (voxel_held j.x k.y k.z j refl ey ez) none
-    | inr e ↦ above_known t (λ q. record { depth = 16; x = q; y = k.y; z = k.z }) k.x j.x x j around.x (λ q. omega arith) leaves.east e v.x
+    | inr e ↦ above_known t (λ q. record { depth = 16; x = q; y = k.y; z = k.z }) k.x j.x x j
+        around.x (λ q. omega arith) leaves.east e v.x
         (voxel_held j.x k.y k.z j refl ey ez) none
   ]
   | inr (inl (ex, next, ez)) ↦ elim next [
-    | inl e ↦ below_known t (λ q. record { depth = 16; x = k.x; y = q; z = k.z }) k.y j.y y j around.y (λ q. omega arith) leaves.south e
+    | inl e ↦ below_known t (λ q. record { depth = 16; x = k.x; y = q; z = k.z }) k.y j.y y j
+        around.y (λ q. omega arith) leaves.south e
         (voxel_held k.x j.y k.z j ex refl ez) none
-    | inr e ↦ above_known t (λ q. record { depth = 16; x = k.x; y = q; z = k.z }) k.y j.y y j around.y (λ q. omega arith) leaves.north e v.y
+    | inr e ↦ above_known t (λ q. record { depth = 16; x = k.x; y = q; z = k.z }) k.y j.y y j
+        around.y (λ q. omega arith) leaves.north e v.y
         (voxel_held k.x j.y k.z j ex refl ez) none
   ]
   | inr (inr (ex, ey, next)) ↦ elim next [
-    | inl e ↦ below_known t (λ q. record { depth = 16; x = k.x; y = k.y; z = q }) k.z j.z z j around.z (λ q. omega arith) leaves.below e
+    | inl e ↦ below_known t (λ q. record { depth = 16; x = k.x; y = k.y; z = q }) k.z j.z z j
+        around.z (λ q. omega arith) leaves.below e
         (voxel_held k.x k.y j.z j ex ey refl) none
-    | inr e ↦ above_known t (λ q. record { depth = 16; x = k.x; y = k.y; z = q }) k.z j.z z j around.z (λ q. omega arith) leaves.above e v.z
+    | inr e ↦ above_known t (λ q. record { depth = 16; x = k.x; y = k.y; z = q }) k.z j.z z j
+        around.z (λ q. omega arith) leaves.above e v.z
         (voxel_held k.x k.y j.z j ex ey refl) none
   ]
 ]
 
 -- beside a child of a leaf with leaves beside it stand leaves
-leaves_low : (gs : Groups) (node : Node) (sides : Sides) (i bit half : ℕ) → IsLeaf node → IsLeaf sides.low
-    → IsLeaf sides.high → IsLeaf (sides_of_child gs node sides i bit half).low × IsLeaf (sides_of_child gs node sides i bit half).high
+leaves_low : (gs : Groups) (node : Node) (sides : Sides) (i bit half : ℕ) → IsLeaf node
+    → IsLeaf sides.low
+    → IsLeaf sides.high → IsLeaf (sides_of_child gs node sides i bit half).low
+    × IsLeaf (sides_of_child gs node sides i bit half).high
 unfolding sides_of_child
 leaves_low gs node sides i bit half here low high = by_test (nat_eq half 1)
   where
-    by_test : (test : Bool) → IsLeaf (cond {A = Sides} test (record { low = step gs node (i - bit); high = step gs sides.high (i - bit) }) (record { low = step gs sides.low (i + bit); high = step gs node (i + bit) })).low
-        × IsLeaf (cond {A = Sides} test (record { low = step gs node (i - bit); high = step gs sides.high (i - bit) }) (record { low = step gs sides.low (i + bit); high = step gs node (i + bit) })).high
+    by_test : (test : Bool) → IsLeaf
+        (cond {A = Sides} test (record
+        { low = step gs node (i - bit); high = step gs sides.high (i - bit) })
+        (record { low = step gs sides.low (i + bit); high = step gs node (i + bit) })).low
+        × IsLeaf (cond {A = Sides} test
+        (record { low = step gs node (i - bit); high = step gs sides.high (i - bit) })
+        (record { low = step gs sides.low (i + bit); high = step gs node (i + bit) })).high
     by_test true = (leaf_step gs node (i - bit) here, leaf_step gs sides.high (i - bit) high)
     by_test false = (leaf_step gs sides.low (i + bit) low, leaf_step gs node (i + bit) here)
 
@@ -110,9 +125,18 @@ enclosed_held t (suc h) b node x y z ok d around here leaves k held =
     let on_x = leaves_low t.groups node x i 1 (i % 2) here leaves.west leaves.east in
     let on_y = leaves_low t.groups node y i 2 (i / 2 % 2) here leaves.south leaves.north in
     let on_z = leaves_low t.groups node z i 4 (i / 4 % 2) here leaves.below leaves.above in
-    enclosed_held t h (child_of b i) (step t.groups node i) (sides_of_child t.groups node x i 1 (i % 2))
-    (sides_of_child t.groups node y i 2 (i / 2 % 2)) (sides_of_child t.groups node z i 4 (i / 4 % 2))
+    enclosed_held t h (child_of b i) (step t.groups node i)
+    (sides_of_child t.groups node x i 1 (i % 2))
+    (sides_of_child t.groups node y i 2 (i / 2 % 2))
+    (sides_of_child t.groups node z i 4 (i / 4 % 2))
     (child_in_map b i ok (omega arith)) (child_depths b h i d)
     (around_child t b i node x y z ok (omega arith) li around) (leaf_step t.groups node i here)
-    (record { west = on_x.0; east = on_x.1; south = on_y.0; north = on_y.1; below = on_z.0; above = on_z.1 })
+    (record {
+      west = on_x.0;
+      east = on_x.1;
+      south = on_y.0;
+      north = on_y.1;
+      below = on_z.0;
+      above = on_z.1;
+    })
     k (held_by_child b k (omega arith) held)

@@ -1,5 +1,6 @@
 -- The nodes around a child, from those around its block.
-use Rattle.std.proofs.Common.{◌≡◌, ℕ, suc, ◌+◌, ◌-◌, ◌*◌, ◌/◌, ◌%◌, ◌^◌, ◌<◌, ◌≤◌, inl, inr, Some, None, refl, sym, ap, subst, ◌∙◌, arith}
+use Rattle.std.proofs.Common.{◌≡◌, ℕ, suc, ◌+◌, ◌-◌, ◌*◌, ◌/◌, ◌%◌, ◌^◌, ◌<◌, ◌≤◌, inl, inr, Some}
+use Rattle.std.proofs.Common.{None, refl, sym, ap, subst, ◌∙◌, arith}
 use Rattle.std.specs.Prelude.{◌⊎◌}
 use Rattle.std.proofs.Math.Nat.{pow-suc}
 use Rattle.std.proofs.lemmas.Bool.{cases_eq}
@@ -12,7 +13,8 @@ use Rattle.oct_tree.specs.Tree.{Tree, IsLinked, reach, step}
 use Rattle.oct_tree.proofs.Paths.{reach_zero, reach_suc, homed_entry}
 use Rattle.oct_tree.proofs.Over.{over_home}
 use Rattle.oct_frontier.specs.declared.patch.Sides.{Sides}
-use Rattle.oct_frontier.specs.Patches.{IsOver, IsLeaf, AreBeside, AreAround, AreLeaves, row_x, row_y, row_z, sides_of_child}
+use Rattle.oct_frontier.specs.Patches.{IsOver, IsLeaf, AreBeside, AreAround, AreLeaves, row_x}
+use Rattle.oct_frontier.specs.Patches.{row_y, row_z, sides_of_child}
 
 -- a child of the node over a block is the node over the block's child
 pub over_step : (t : Tree) (b : Cube) (n : Node) (i : ℕ) → b.depth ≤ 15 → i < 8 → IsOver t b n
@@ -111,17 +113,21 @@ child_x : (t : Tree) (b : Cube) (i : ℕ) (node : Node) (sides : Sides) → IsBl
     (sides_of_child t.groups node sides i 1 (i % 2))
 unfolding child_of
 child_x t b i node sides ok low li over beside = elim (clear_or_set i) [
-  | inl e ↦ beside_as t (row_x (child_of b i)) (2 * 2 ^ b.depth) (2 ^ (b.depth + 1)) (2 * b.x) (2 * b.x + i % 2)
+  | inl e ↦ beside_as t (row_x (child_of b i)) (2 * 2 ^ b.depth) (2 ^ (b.depth + 1)) (2 * b.x)
+      (2 * b.x + i % 2)
       (record { low = step t.groups sides.low (i + 1); high = step t.groups node (i + 1) })
       (sides_of_child t.groups node sides i 1 (i % 2))
       (beside_lower t (row_x b) (row_x (child_of b i)) (2 ^ b.depth) b.x (i + 1) node sides
-      (λ m. same_cube _ _ refl (omega arith) (omega arith) (omega arith)) (λ m. low) (omega arith) ok.x over beside)
+      (λ m. same_cube _ _ refl (omega arith) (omega arith) (omega arith)) (λ m. low) (omega arith)
+      ok.x over beside)
       (double b.depth) (omega arith) (sides_lower t.groups node sides i 1 (i % 2) e)
-  | inr e ↦ beside_as t (row_x (child_of b i)) (2 * 2 ^ b.depth) (2 ^ (b.depth + 1)) (2 * b.x + 1) (2 * b.x + i % 2)
+  | inr e ↦ beside_as t (row_x (child_of b i)) (2 * 2 ^ b.depth) (2 ^ (b.depth + 1)) (2 * b.x + 1)
+      (2 * b.x + i % 2)
       (record { low = step t.groups node (i - 1); high = step t.groups sides.high (i - 1) })
       (sides_of_child t.groups node sides i 1 (i % 2))
       (beside_upper t (row_x b) (row_x (child_of b i)) (2 ^ b.depth) b.x (i - 1) node sides
-      (λ m. same_cube _ _ refl (omega arith) (omega arith) (omega arith)) (λ m. low) (omega arith) ok.x over beside)
+      (λ m. same_cube _ _ refl (omega arith) (omega arith) (omega arith)) (λ m. low) (omega arith)
+      ok.x over beside)
       (double b.depth) (omega arith) (sides_upper t.groups node sides i 1 (i % 2) e)
 ]
 
@@ -131,17 +137,21 @@ child_y : (t : Tree) (b : Cube) (i : ℕ) (node : Node) (sides : Sides) → IsBl
     (sides_of_child t.groups node sides i 2 (i / 2 % 2))
 unfolding child_of
 child_y t b i node sides ok low li over beside = elim (clear_or_set (i / 2)) [
-  | inl e ↦ beside_as t (row_y (child_of b i)) (2 * 2 ^ b.depth) (2 ^ (b.depth + 1)) (2 * b.y) (2 * b.y + i / 2 % 2)
+  | inl e ↦ beside_as t (row_y (child_of b i)) (2 * 2 ^ b.depth) (2 ^ (b.depth + 1)) (2 * b.y)
+      (2 * b.y + i / 2 % 2)
       (record { low = step t.groups sides.low (i + 2); high = step t.groups node (i + 2) })
       (sides_of_child t.groups node sides i 2 (i / 2 % 2))
       (beside_lower t (row_y b) (row_y (child_of b i)) (2 ^ b.depth) b.y (i + 2) node sides
-      (λ m. same_cube _ _ refl (omega arith) (omega arith) (omega arith)) (λ m. low) (omega arith) ok.y over beside)
+      (λ m. same_cube _ _ refl (omega arith) (omega arith) (omega arith)) (λ m. low) (omega arith)
+      ok.y over beside)
       (double b.depth) (omega arith) (sides_lower t.groups node sides i 2 (i / 2 % 2) e)
-  | inr e ↦ beside_as t (row_y (child_of b i)) (2 * 2 ^ b.depth) (2 ^ (b.depth + 1)) (2 * b.y + 1) (2 * b.y + i / 2 % 2)
+  | inr e ↦ beside_as t (row_y (child_of b i)) (2 * 2 ^ b.depth) (2 ^ (b.depth + 1)) (2 * b.y + 1)
+      (2 * b.y + i / 2 % 2)
       (record { low = step t.groups node (i - 2); high = step t.groups sides.high (i - 2) })
       (sides_of_child t.groups node sides i 2 (i / 2 % 2))
       (beside_upper t (row_y b) (row_y (child_of b i)) (2 ^ b.depth) b.y (i - 2) node sides
-      (λ m. same_cube _ _ refl (omega arith) (omega arith) (omega arith)) (λ m. low) (omega arith) ok.y over beside)
+      (λ m. same_cube _ _ refl (omega arith) (omega arith) (omega arith)) (λ m. low) (omega arith)
+      ok.y over beside)
       (double b.depth) (omega arith) (sides_upper t.groups node sides i 2 (i / 2 % 2) e)
 ]
 
@@ -151,17 +161,21 @@ child_z : (t : Tree) (b : Cube) (i : ℕ) (node : Node) (sides : Sides) → IsBl
     (sides_of_child t.groups node sides i 4 (i / 4 % 2))
 unfolding child_of
 child_z t b i node sides ok low li over beside = elim (clear_or_set (i / 4)) [
-  | inl e ↦ beside_as t (row_z (child_of b i)) (2 * 2 ^ b.depth) (2 ^ (b.depth + 1)) (2 * b.z) (2 * b.z + i / 4 % 2)
+  | inl e ↦ beside_as t (row_z (child_of b i)) (2 * 2 ^ b.depth) (2 ^ (b.depth + 1)) (2 * b.z)
+      (2 * b.z + i / 4 % 2)
       (record { low = step t.groups sides.low (i + 4); high = step t.groups node (i + 4) })
       (sides_of_child t.groups node sides i 4 (i / 4 % 2))
       (beside_lower t (row_z b) (row_z (child_of b i)) (2 ^ b.depth) b.z (i + 4) node sides
-      (λ m. same_cube _ _ refl (omega arith) (omega arith) (omega arith)) (λ m. low) (omega arith) ok.z over beside)
+      (λ m. same_cube _ _ refl (omega arith) (omega arith) (omega arith)) (λ m. low) (omega arith)
+      ok.z over beside)
       (double b.depth) (omega arith) (sides_lower t.groups node sides i 4 (i / 4 % 2) e)
-  | inr e ↦ beside_as t (row_z (child_of b i)) (2 * 2 ^ b.depth) (2 ^ (b.depth + 1)) (2 * b.z + 1) (2 * b.z + i / 4 % 2)
+  | inr e ↦ beside_as t (row_z (child_of b i)) (2 * 2 ^ b.depth) (2 ^ (b.depth + 1)) (2 * b.z + 1)
+      (2 * b.z + i / 4 % 2)
       (record { low = step t.groups node (i - 4); high = step t.groups sides.high (i - 4) })
       (sides_of_child t.groups node sides i 4 (i / 4 % 2))
       (beside_upper t (row_z b) (row_z (child_of b i)) (2 ^ b.depth) b.z (i - 4) node sides
-      (λ m. same_cube _ _ refl (omega arith) (omega arith) (omega arith)) (λ m. low) (omega arith) ok.z over beside)
+      (λ m. same_cube _ _ refl (omega arith) (omega arith) (omega arith)) (λ m. low) (omega arith)
+      ok.z over beside)
       (double b.depth) (omega arith) (sides_upper t.groups node sides i 4 (i / 4 % 2) e)
 ]
 
@@ -169,7 +183,8 @@ child_z t b i node sides ok low li over beside = elim (clear_or_set (i / 4)) [
 pub around_child : (t : Tree) (b : Cube) (i : ℕ) (node : Node) (x y z : Sides) → IsBlock b
     → b.depth ≤ 15 → i < 8 → AreAround t b node x y z
     → AreAround t (child_of b i) (step t.groups node i) (sides_of_child t.groups node x i 1 (i % 2))
-    (sides_of_child t.groups node y i 2 (i / 2 % 2)) (sides_of_child t.groups node z i 4 (i / 4 % 2))
+    (sides_of_child t.groups node y i 2 (i / 2 % 2))
+    (sides_of_child t.groups node z i 4 (i / 4 % 2))
 around_child t b i node x y z ok low li around = record {
   linked = around.linked;
   here = over_step t b node i low li around.here;
@@ -264,7 +279,8 @@ live_z t b node x y z ok around = record {
     blocks m l = record { depth = ok.depth; x = ok.x; y = ok.y; z = l }
 
 -- the same in other words
-pub around_as : (t : Tree) (b c : Cube) (n m : Node) (x y z x' y' z' : Sides) → AreAround t b n x y z
+pub around_as : (t : Tree) (b c : Cube) (n m : Node) (x y z x' y' z' : Sides)
+    → AreAround t b n x y z
     → c ≡ b → m ≡ n → x' ≡ x → y' ≡ y → z' ≡ z → AreAround t c m x' y' z'
 around_as t b c n m x y z x' y' z' h eb en ex ey ez =
     subst (λ q. AreAround t q m x' y' z') (sym eb)

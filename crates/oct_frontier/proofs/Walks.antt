@@ -1,5 +1,6 @@
 -- The steps of the walks: child by child.
-use Rattle.std.proofs.Common.{◌≡◌, ℕ, zero, suc, ◌+◌, ◌-◌, ◌<◌, ◌≤◌, List, [], ◌++◌, length, refl, sym, ap, ◌∙◌, arith, append_assoc, append-nil, add-one, length-append}
+use Rattle.std.proofs.Common.{◌≡◌, ℕ, zero, suc, ◌+◌, ◌-◌, ◌<◌, ◌≤◌, List, [], ◌++◌, length, refl}
+use Rattle.std.proofs.Common.{sym, ap, ◌∙◌, arith, append_assoc, append-nil, add-one, length-append}
 use Rattle.oct_key.specs.Voxel.{Voxel}
 use Rattle.oct_key.specs.Block.{Cube, child_of}
 use Rattle.oct_tree.specs.Tree.{Tree}
@@ -66,7 +67,8 @@ count_over t lo hi b c n room left low l so_far is more =
 pub count_end : (t : Tree) (lo hi : Voxel) (b : Cube) (n room left : ℕ) → b.depth ≤ 15 → n ≡ 8
     → length (found_first t lo hi b n) + left ≡ room → length (found_in t lo hi b) + left ≡ room
 count_end t lo hi b n room left low end so_far =
-    ap (λ (l : List Voxel). length l + left) (found_children t lo hi b low ∙ ap (found_first t lo hi b) (sym end)) ∙ so_far
+    ap (λ (l : List Voxel). length l + left)
+    (found_children t lo hi b low ∙ ap (found_first t lo hi b) (sym end)) ∙ so_far
 
 -- listing
 pub list_start : (t : Tree) (lo hi : Voxel) (b : Cube) (old : List Voxel)
@@ -77,7 +79,8 @@ pub list_step : (t : Tree) (lo hi : Voxel) (b c : Cube) (n : ℕ) (old mid new :
     → mid ≡ old ++ found_first t lo hi b n → c ≡ child_of b n → new ≡ mid ++ found_in t lo hi c
     → new ≡ old ++ found_first t lo hi b (n + 1)
 list_step t lo hi b c n old mid new so_far is here =
-    here ∙ ap (λ l. l ++ found_in t lo hi c) so_far ∙ ap (λ q. (old ++ found_first t lo hi b n) ++ found_in t lo hi q) is
+    here ∙ ap (λ l. l ++ found_in t lo hi c) so_far
+    ∙ ap (λ q. (old ++ found_first t lo hi b n) ++ found_in t lo hi q) is
     ∙ append_assoc old (found_first t lo hi b n) (found_in t lo hi (child_of b n))
     ∙ ap (λ l. old ++ l) (sym (first_next t lo hi b n))
 
@@ -96,4 +99,5 @@ list_room t lo hi b c n old mid before now room low l so_far is eb en enough =
 pub list_end : (t : Tree) (lo hi : Voxel) (b : Cube) (n : ℕ) (old new : List Voxel) → b.depth ≤ 15
     → n ≡ 8 → new ≡ old ++ found_first t lo hi b n → new ≡ old ++ found_in t lo hi b
 list_end t lo hi b n old new low end so_far =
-    so_far ∙ ap (λ q. old ++ found_first t lo hi b q) end ∙ ap (λ l. old ++ l) (sym (found_children t lo hi b low))
+    so_far ∙ ap (λ q. old ++ found_first t lo hi b q) end
+    ∙ ap (λ l. old ++ l) (sym (found_children t lo hi b low))

@@ -1,6 +1,6 @@
 -- A text that is written piece by piece.
 use Rattle.std.proofs.Common.{◌≡◌, ℕ, ◌+◌, ◌<◌, Option, Some, List, [], ◌++◌, length, take, drop}
-use Rattle.std.proofs.Common.{sym, ap, ◌∙◌, arith, append_assoc, append-nil, length-append}
+use Rattle.std.proofs.Common.{sym, ap, ◌∙◌, arith, append_assoc, length-append}
 use Rattle.std.proofs.lemmas.List.{take-append-drop, take-append-le}
 use Rattle.std.proofs.Math.Seq.{take-append-add}
 use Rattle.std.specs.Prelude.{Result, Ok, Err, OnErr}
@@ -17,10 +17,6 @@ pub record IsUnderWay (text : List ℕ) (old now : Option (List ℕ)) (left : Li
 abbrev pub IsCutOff : List ℕ → Option (List ℕ) → Option (List ℕ) → Type 0
 IsCutOff text old new = (n : ℕ) × (n < length text) × (new ≡ appended old (take n text))
 
-pub begun : (text left : List ℕ) (old : Option (List ℕ)) → left ≡ text
-    → IsUnderWay text old old left
-begun text left old is = record { done = []; written = appended_nil old; split = sym is }
-
 -- a piece more
 pub went_on : (text : List ℕ) (old now new : Option (List ℕ)) (left piece rest : List ℕ)
     → IsUnderWay text old now left → left ≡ piece ++ rest
@@ -30,12 +26,6 @@ went_on text old now new left piece rest way parts is = record {
   written = is ∙ ap (λ o. appended o piece) way.written ∙ appended_twice old way.done piece;
   split = way.split ∙ ap (λ t. way.done ++ t) parts ∙ sym (append_assoc way.done piece rest);
 }
-
-pub ended : (text : List ℕ) (old now : Option (List ℕ)) (left : List ℕ)
-    → IsUnderWay text old now left → left ≡ [] → now ≡ appended old text
-ended text old now left way none =
-    way.written ∙ ap (appended old)
-    (sym (way.split ∙ ap (λ t. way.done ++ t) none ∙ append-nil way.done))
 
 -- a part of a piece more, and then no more
 pub cut_off : (text : List ℕ) (old now new : Option (List ℕ)) (left piece rest : List ℕ)

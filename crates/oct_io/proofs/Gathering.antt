@@ -248,11 +248,3 @@ pub refused_second : (first second : List ℕ) (old new next : Option (List ℕ)
 refused_second first second old new next held held' one cut text start g =
     subst (IsCutOff start next) (append_assoc text first second)
     (cut (text ++ first) start (one text start g))
-
--- what was written and what is held, under other names
-pub taken_as : (piece : List ℕ) (old : Option (List ℕ)) (held : List ℕ) (new new' : Option (List ℕ))
-    (left left' : List ℕ) → new' ≡ new → left' ≡ left
-    → IsTaken piece old held new left → IsTaken piece old held new' left'
-taken_as piece old held new new' left left' same alike taken =
-    subst (λ (n : Option (List ℕ)). IsTaken piece old held n left') (sym same)
-    (subst (λ (l : List ℕ). IsTaken piece old held new l) (sym alike) taken)

@@ -7,11 +7,6 @@ use Rattle.std.proofs.lemmas.List.Prefix.{front_rest}
 use Rattle.oct_io.specs.Told.{dropped}
 use Rattle.oct_io.specs.Taken.{HasTaken, before}
 
--- nothing was taken at first
-pub before_none : (left : Option (List ℕ)) → left ≡ before [] left
-before_none None = refl
-before_none (Some left) = refl
-
 -- what was left is what a read took and what is left after it
 pub before_piece : (old new : Option (List ℕ)) (piece : List ℕ) (n : ℕ) → new ≡ dropped n old
     → IfSome old (λ left. piece ≡ take n left) → old ≡ before piece new

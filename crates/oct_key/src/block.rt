@@ -19,8 +19,20 @@ pub struct Block {
 }
 
 impl Block {
-    ghost use Rattle.oct_key.specs.Block.{Cube, HoldsVoxel, parent_of, number_of_child};
+    ghost use Rattle.oct_key.specs.Block.{Cube, HoldsVoxel, parent_of, number_of_child, root_block};
     ghost use Rattle.oct_key.specs.CubeOf.{cube_of};
+
+    /// The block of the whole map.
+    pub fn whole_map() -> Block
+        ensures { cube_of result ≡ root_block }
+    {
+        Block {
+            depth: 0,
+            x: 0,
+            y: 0,
+            z: 0,
+        }
+    }
 
     /// The block of that depth that holds the voxel.
     #[tactic(auto, unfolding(crate::specs::Block::block_of))]

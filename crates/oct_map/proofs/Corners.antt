@@ -7,42 +7,58 @@ use Rattle.oct_odds.specs.declared.event.Event.{Event}
 use Rattle.oct_key.specs.Boxes.{is_box}
 use Rattle.oct_values.specs.Boxes.{box_events, box_need, box_volume}
 use Rattle.oct_map.specs.declared.fault.MapFault.{MapFault}
-use Rattle.oct_map.specs.Answers.{room_answer, box_fault, most_noted, box_answer_by, IsAnswerOrMemory}
+use Rattle.oct_map.specs.Answers.{room_answer, box_fault, most_noted, box_answer_by}
+use Rattle.oct_map.specs.Answers.{IsAnswerOrMemory}
 use Rattle.oct_map.specs.Outcome.{corner_events, corner_need, corner_volume}
 use Rattle.oct_map.proofs.Edits.{SameEvents}
 
 -- corners of a box have no fault, and need what the box does
-pub corners_right : (has_mark : Bool) (a b : Option Voxel) (low high : Voxel) → a ≡ Some low → b ≡ Some high → is_box low high ≡ true
+pub corners_right : (has_mark : Bool) (a b : Option Voxel) (low high : Voxel) → a ≡ Some low
+    → b ≡ Some high → is_box low high ≡ true
     → (has_mark && nat_lt most_noted (box_volume low high)) ≡ false → box_fault has_mark a b ≡ None
 corners_right has_mark a b low high ea eb order narrow = rw (ea, eb) (rw (order, narrow) refl)
 
-pub corners_need : (a b : Option Voxel) (low high : Voxel) → a ≡ Some low → b ≡ Some high → corner_need a b ≡ box_need low high
+pub corners_need : (a b : Option Voxel) (low high : Voxel) → a ≡ Some low → b ≡ Some high
+    → corner_need a b ≡ box_need low high
 corners_need a b low high ea eb = rw (ea, eb) refl
 
-pub corners_events : (a b : Option Voxel) (low high : Voxel) (event : Event) → a ≡ Some low → b ≡ Some high
+pub corners_events : (a b : Option Voxel) (low high : Voxel) (event : Event) → a ≡ Some low
+    → b ≡ Some high
     → SameEvents (box_events low high event) (corner_events a b event)
 corners_events a b low high event ea eb k v = rw (ea, eb) refl
 
 -- then the answer is that of the room
-pub corners_volume : (a b : Option Voxel) (low high : Voxel) → a ≡ Some low → b ≡ Some high → corner_volume a b ≡ box_volume low high
+pub corners_volume : (a b : Option Voxel) (low high : Voxel) → a ≡ Some low → b ≡ Some high
+    → corner_volume a b ≡ box_volume low high
 corners_volume a b low high ea eb = rw (ea, eb) refl
 
-pub corners_answer : (has_mark : Bool) (most need : ℕ) (values : Values) (a b : Option Voxel) (low high : Voxel) (result : Result ⊤ MapFault)
+pub corners_answer : (has_mark : Bool) (most need : ℕ) (values : Values) (a b : Option Voxel)
+    (low high : Voxel) (result : Result ⊤ MapFault)
     → a ≡ Some low → b ≡ Some high → is_box low high ≡ true
     → (has_mark && nat_lt most_noted (box_volume low high)) ≡ false → need ≡ box_need low high
     → IsAnswerOrMemory (room_answer most values need) result
-    → IsAnswerOrMemory (box_answer_by (box_fault has_mark a b) (room_answer most values (corner_need a b))) result
+    → IsAnswerOrMemory (box_answer_by (box_fault has_mark a b)
+    (room_answer most values (corner_need a b))) result
 corners_answer has_mark most need values a b low high result ea eb order narrow counted answer =
-    rw (corners_right has_mark a b low high ea eb order narrow, corners_need a b low high ea eb ∙ sym counted) answer
+    rw (
+      corners_right has_mark a b low high ea eb order narrow,
+      corners_need a b low high ea eb
+          ∙ sym counted,
+    ) answer
 
 -- and where there is room it is no fault
-pub corners_ok : (has_mark : Bool) (most need : ℕ) (values : Values) (a b : Option Voxel) (low high : Voxel)
+pub corners_ok : (has_mark : Bool) (most need : ℕ) (values : Values) (a b : Option Voxel)
+    (low high : Voxel)
     → a ≡ Some low → b ≡ Some high → is_box low high ≡ true
     → (has_mark && nat_lt most_noted (box_volume low high)) ≡ false → need ≡ box_need low high
     → IsOk (room_answer most values need)
     → IsOk (box_answer_by (box_fault has_mark a b) (room_answer most values (corner_need a b)))
 corners_ok has_mark most need values a b low high ea eb order narrow counted room =
-    rw (corners_right has_mark a b low high ea eb order narrow, corners_need a b low high ea eb ∙ sym counted) room
+    rw (
+      corners_right has_mark a b low high ea eb order narrow,
+      corners_need a b low high ea eb
+          ∙ sym counted,
+    ) room
 
 -- what isn't lazy leaves the stale flag as it was
 pub still_stale : (P : Bool → Type 0) (stale : Bool) → P (stale || false) → P stale

@@ -1,5 +1,6 @@
 -- An event that makes values as sure as they can be changes no class.
-use Rattle.std.proofs.Common.{◌≡◌, ℤ, ◌≤ℤ◌, ◌<ℤ◌, Bool, true, false, Some, None, refl, sym, ap, subst, ◌∙◌, arith}
+use Rattle.std.proofs.Common.{◌≡◌, ℤ, ◌≤ℤ◌, ◌<ℤ◌, Bool, true, false, Some, None, refl, sym, ap}
+use Rattle.std.proofs.Common.{subst, ◌∙◌, arith}
 use Rattle.std.specs.Prelude.{int_lt}
 use Rattle.std.proofs.lemmas.Int.{ints}
 use Rattle.oct_key.specs.Voxel.{Voxel, IsInMap}
@@ -26,13 +27,16 @@ likely_class o (Some v) low high = by_test (int_lt v o.thr) refl
   where
     by_test : (test : Bool) → int_lt v o.thr ≡ test
         → class_of o (applied o Likely (Some v)) ≡ class_of o (Some v)
-    by_test true e = (let free : int_lt o.min o.thr ≡ true = below o.min o.thr low in rw e (rw free refl))
-    by_test false e = (let occupied : int_lt o.max o.thr ≡ false = not_below o.max o.thr high in rw e (rw occupied refl))
+    by_test true e = (let free : int_lt o.min o.thr ≡ true = below o.min o.thr low in
+        rw e (rw free refl))
+    by_test false e = (let occupied : int_lt o.max o.thr ≡ false = not_below o.max o.thr high in
+        rw e (rw occupied refl))
 
 -- so that the mark stays
 pub likely_mark : (m n : Map) (model : OddsModel) → odds_of model ≡ m.tree.odds → n.mark ≡ m.mark
     → n.tree.odds ≡ m.tree.odds
-    → SameValues (updated m.tree.odds (λ _. Some Likely) (values_of m)) (values_of n) → KeepsMark m n
+    → SameValues (updated m.tree.odds (λ _. Some Likely) (values_of m)) (values_of n)
+    → KeepsMark m n
 likely_mark m n model is mark odds values =
     marked_kept m.mark n.mark (classes_in m) (classes_in n) (same_noted m.mark n.mark mark) kept
   where

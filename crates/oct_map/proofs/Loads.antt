@@ -1,5 +1,6 @@
 -- What a load leaves of a map.
-use Rattle.std.proofs.Common.{◌≡◌, ℕ, ◌+◌, ◌≤◌, [], length, true, false, None, Ok, refl, sym, ◌∙◌, ap, arith}
+use Rattle.std.proofs.Common.{◌≡◌, ℕ, ◌+◌, ◌≤◌, [], length, true, false, None, Ok, refl, sym, ◌∙◌}
+use Rattle.std.proofs.Common.{ap, arith}
 use Rattle.std.specs.Prelude.{max, nat_eq, nat_lt}
 use Rattle.std.proofs.Math.Nat.{max-eq_right}
 use Rattle.std.proofs.lemmas.Bool.{eq-eqb, le-ltb}
@@ -32,13 +33,15 @@ pub loaded_right : (m : Map) (file : FileRead) (s t u : Tree) → s.groups ≡ [
     → live u.groups + spare u.groups ≡ spare t.groups
     → IsMapLoaded m (record m { tree = u; is_stale = false; mark = None }) file.codes
 loaded_right m file s t u empty odds grown few enough accepted values pruned groups room = record {
-  values = λ k v. sym (values (data_classes file.codes) (data_classed file.nodes file.codes accepted) k v
+  values = λ k v. sym (values (data_classes file.codes)
+      (data_classed file.nodes file.codes accepted) k v
       ∙ ap (λ (o : Odds). value_for o (data_classes file.codes k)) (grown.odds ∙ odds));
   stale = refl;
   mark = refl;
   pruned = pruned;
   groups = groups;
-  reserved = (let most : max (spare s.groups) (record_total file.codes + 1023) ≡ record_total file.codes + 1023 =
+  reserved = (let most : max (spare s.groups) (record_total file.codes + 1023)
+      ≡ record_total file.codes + 1023 =
       max-eq_right (omega (arith, none)) in omega (arith, few, most, room));
   unreserved = λ no_records. (let same : spare t.groups ≡ spare s.groups =
       ap (λ (t : Tree). spare t.groups) (enough (omega (arith, no_records))) in
@@ -46,7 +49,8 @@ loaded_right m file s t u empty odds grown few enough accepted values pruned gro
 }
   where
     none : spare s.groups ≡ 0
-    none = (let all = live_spare s.groups in let no_entries = ap length empty in omega (arith, all, no_entries))
+    none = (let all = live_spare s.groups in let no_entries = ap length empty in
+        omega (arith, all, no_entries))
 
 -- a file of the map's resolution with no more records than the map may have groups is accepted
 pub load_fits : (g : Ground) (res records : ℕ) → res ≡ g.res → records ≤ g.max_groups

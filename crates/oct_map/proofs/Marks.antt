@@ -1,5 +1,7 @@
 -- What keeps the mark of a map, and what is noted.
-use Rattle.std.proofs.Common.{◌≡◌, ℕ, ◌+◌, ◌<◌, ◌≤◌, List, [], ◌∷◌, ◌++◌, length, Bool, true, false, Option, Some, None, Ok, Err, inl, inr, refl, sym, ap, subst, ◌∙◌, append-nil, arith}
+use Rattle.std.proofs.Common.{◌≡◌, ℕ, ◌+◌, ◌<◌, ◌≤◌, List, [], ◌∷◌, ◌++◌, length, Bool, true, false}
+use Rattle.std.proofs.Common.{Option, Some, None, Ok, Err, inl, inr, refl, sym, ap, subst, ◌∙◌}
+use Rattle.std.proofs.Common.{append-nil, arith}
 use Rattle.std.specs.Prelude.{◌⊎◌, ⊤, max, is_some, IsSome, IsOk, Result, All, Contains}
 use Rattle.std.specs.Option.{option_or, unwrap_or}
 use Rattle.std.proofs.lemmas.Bool.{false≢true, cases_lt}
@@ -35,7 +37,8 @@ use Rattle.oct_map.specs.Answers.{IsAnswerOrMemory, room_answer, edit_need, edit
 use Rattle.oct_map.specs.Edits.{ReservesFew}
 use Rattle.oct_map.specs.Ground.{Ground}
 use Rattle.oct_map.specs.Map.{Map, values_of}
-use Rattle.oct_map.specs.Notes.{notes_of, note_room, marked_by_notes, IsNoted, IsSameNoted, HasMarked, HasRoomForNotes, LacksNotes, NotesFew, ReservesFewNotes}
+use Rattle.oct_map.specs.Notes.{notes_of, note_room, marked_by_notes, IsNoted, IsSameNoted}
+use Rattle.oct_map.specs.Notes.{HasMarked, HasRoomForNotes, LacksNotes, NotesFew, ReservesFewNotes}
 use Rattle.oct_map.specs.Marks.{classes_in, marked_of, SameMark, KeepsMark}
 use Rattle.oct_map.specs.Edits.{IsReadied}
 use Rattle.oct_map.proofs.Edits.{SameEvents, edited_to}
@@ -156,11 +159,13 @@ noted_few now P n a m b events same few enough h asked = record {
     | inl before ↦ inl (subst IsSome (same.first k) before)
     | inr later ↦ inr (asked k v later)
   ];
-  few = (let more = (marked_few now P n m b h).0 in let fewer = same.few in omega (arith, more, fewer));
+  few = (let more = (marked_few now P n m b h).0 in let fewer = same.few in
+      omega (arith, more, fewer));
   room = subst (λ r. r ≤ max (note_room a) (length (notes_of a) + max n (length (notes_of a))))
       (sym (marked_few now P n m b h).1) few;
   enough = λ there. (marked_few now P n m b h).1 ∙ ap note_room (enough there);
-  kept = λ there. subst (λ x. (added : List Note) × (notes_of b ≡ notes_of x ++ added)) (enough there)
+  kept = λ there. subst (λ x. (added : List Note) × (notes_of b ≡ notes_of x ++ added))
+      (enough there)
       (marked_added now P n m b h);
 }
 
@@ -186,7 +191,8 @@ same_few n a b events e =
 -- room was made in a map
 pub readied_mark : (m u : Map) (need : ℕ) → IsReadied m u need → KeepsMark m u
 readied_mark m u need ready =
-    kept_mark m u (same_noted m.mark u.mark ready.notes) ready.values (ap (λ (g : Ground). g.odds) ready.setup)
+    kept_mark m u (same_noted m.mark u.mark ready.notes) ready.values
+    (ap (λ (g : Ground). g.odds) ready.setup)
 
 -- room was made in a map, its voxels were noted, and its tree was edited
 pub marked_edit : (m u : Map) (w : Tree) (b c : Option Held) (d : Events) (P : Voxel → Type 0)
@@ -196,17 +202,19 @@ pub marked_edit : (m u : Map) (w : Tree) (b c : Option Held) (d : Events) (P : V
 marked_edit m u w b c d P n need lazy ready noted marked edited asked =
     same_mark_trans (marked_of m) (marked_of u) (marked_of (edited_to u w lazy c))
     (readied_mark m u need ready)
-    (same_mark_trans (marked_of u) (marked_by_notes b (classes_in u)) (marked_of (edited_to u w lazy c))
+    (same_mark_trans (marked_of u) (marked_by_notes b (classes_in u))
+    (marked_of (edited_to u w lazy c))
     (marked_kept u.mark b (classes_in u) (classes_in u) noted (λ k v. refl))
     (marked_more P n b c (classes_in u) (classes_in (edited_to u w lazy c)) marked cover))
   where
     cover : (k : Voxel) → IsInMap k
         → (classes_in (edited_to u w lazy c) k ≡ classes_in u k) ⊎ P k
-    cover k v = elim (events_cover u.tree.odds d (values_of u) (value_at w) P edited.values asked k v) [
-      | inl value ↦ inl (ap (λ (o : Odds). class_of o (value_at w k)) edited.odds
-          ∙ ap (class_of u.tree.odds) value)
-      | inr is ↦ inr is
-    ]
+    cover k v = elim (events_cover u.tree.odds d (values_of u) (value_at w) P edited.values asked k
+        v) [
+          | inl value ↦ inl (ap (λ (o : Odds). class_of o (value_at w k)) edited.odds
+              ∙ ap (class_of u.tree.odds) value)
+          | inr is ↦ inr is
+        ]
 
 -- notes were made room for alone
 pub marked_room : (m u : Map) (b : Option Held) (need : ℕ) → IsReadied m u need
@@ -253,7 +261,8 @@ pub scan_asked : (u : ListedUpdate) (k : Voxel) → IsSome (events_of u k)
     → Contains u.hits k ⊎ Contains u.frees k
 scan_asked u k some =
     event_has (λ q. Contains u.hits q ⊎ Contains u.frees q) u k
-    (All-follows (Contains u.hits) (λ q. Contains u.hits q ⊎ Contains u.frees q) u.hits (λ q h. inl h)
+    (All-follows (Contains u.hits) (λ q. Contains u.hits q ⊎ Contains u.frees q) u.hits
+    (λ q h. inl h)
     (All-contains_itself u.hits))
     (All-follows (Contains u.frees) (λ q. Contains u.hits q ⊎ Contains u.frees q) u.frees
     (λ q h. inr h) (All-contains_itself u.frees))
@@ -272,7 +281,8 @@ listed (x ∷ keys) k h = elim (contains_cases x k keys h) [
     by_test true e there = rw e refl
     by_test false e there = rw e there
 
-pub asked_scan : (u : ListedUpdate) (e : Events) (k : Voxel) → SameEvents (events_of u) e → IsInMap k
+pub asked_scan : (u : ListedUpdate) (e : Events) (k : Voxel) → SameEvents (events_of u) e
+    → IsInMap k
     → Contains u.hits k ⊎ Contains u.frees k → IsSome (e k)
 asked_scan u e k same v asked = subst IsSome (same k v) (some_event u k (elim asked [
   | inl hit ↦ inl (listed u.hits k hit)
@@ -299,8 +309,10 @@ room_ok r (inl e) = subst IsOk e refl
 room_ok r (inr e) = cc
 
 pub edit_ok : (most : ℕ) (values : Values) (target : Option Voxel) (key : Voxel) → target ≡ Some key
-    → IsAnswerOrMemory (room_answer most values edit_need) (Ok tt) → IsOk (edit_answer_at most values target)
-edit_ok most values target key is answer = rw is (room_ok (room_answer most values edit_need) answer)
+    → IsAnswerOrMemory (room_answer most values edit_need) (Ok tt)
+    → IsOk (edit_answer_at most values target)
+edit_ok most values target key is answer =
+    rw is (room_ok (room_answer most values edit_need) answer)
 
 -- entries are the same whatever the mark is
 pub reserved_remarked : (m n : Map) (mark : Option Held) (need : ℕ) → ReservesFew m n need

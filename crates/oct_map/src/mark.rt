@@ -1,6 +1,6 @@
 //! The mark of a map.
 ghost use Rattle.std.specs.Prelude.{◌≡◌, ◌+◌, ◌≤◌, ◌⊎◌, length, max, [], None, Some, is_some};
-ghost use Rattle.std.specs.Prelude.{IfSome, IsOk, OnOk, OnErr, IfOk, option_map};
+ghost use Rattle.std.specs.Prelude.{IsOk, OnOk, IfOk, option_map};
 ghost use Rattle.std.specs.Prelude.{All, Contains};
 ghost use Rattle.oct_brick.specs.Bricks.{IsBrick};
 ghost use Rattle.oct_brick.specs.Voxels.{hit_voxels, freed_voxels};

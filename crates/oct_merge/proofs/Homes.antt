@@ -10,12 +10,12 @@ use Rattle.oct_values.specs.Blocks.{blocks_above_voxels}
 use Rattle.oct_values.proofs.Listed.{all_above_voxels}
 use Rattle.oct_values.proofs.Sums.{All-follows, sum_by-same, sum_by-each_le}
 use Rattle.oct_arena.specs.declared.node.Group.{Group}
-use Rattle.oct_arena.specs.Entries.{Groups, entry, home_of, home_at, live}
+use Rattle.oct_arena.specs.Entries.{Groups, entry, home_of, home_at, is_that_home, has_home, live}
 use Rattle.oct_arena.specs.Nodes.{link_of}
 use Rattle.oct_tree.specs.Tree.{Tree, IsLinked, reach}
 use Rattle.oct_tree.proofs.Paths.{some_injective, some_not_none, reach_home, same_home}
 use Rattle.oct_query.proofs.Homes.{home_passes, home_fails, at_home, no_home, one_home, by_homes}
-use Rattle.oct_merge.specs.Need.{has_home, is_home, is_missing, merge_need}
+use Rattle.oct_merge.specs.Need.{is_missing, merge_need}
 use Rattle.oct_merge.specs.Walk.{is_split, is_needed, need_in}
 
 -- a group stands within the list
@@ -24,17 +24,16 @@ in_range [] x b h = absurd (some_not_none h refl)
 in_range (e ∷ gs) zero b h = omega arith
 in_range (e ∷ gs) (suc x) b h = (let rest = in_range gs x b h in omega (arith, rest))
 
-home_there : (gs : Groups) (x : ℕ) (b : Cube) → home_at gs x ≡ Some b → is_home gs b ≡ true
-unfolding is_home
+home_there : (gs : Groups) (x : ℕ) (b : Cube) → home_at gs x ≡ Some b → has_home gs b ≡ true
 home_there gs x b h =
-    list_any_at (has_home b) gs x None (in_range gs x b h) (home_passes b (entry gs x) h)
+    list_any_at (λ e. is_that_home b (home_of e)) gs x None (in_range gs x b h)
+    (home_passes b (entry gs x) h)
 
 home_nowhere : (gs : Groups) (b : Cube) → ((x : ℕ) → home_at gs x ≡ Some b → ⊥)
-    → is_home gs b ≡ false
-unfolding is_home
+    → has_home gs b ≡ false
 home_nowhere gs b h =
-    list_any_none (has_home b) gs
-    (All-from_get_or (λ e. has_home b e ≡ false) gs None
+    list_any_none (λ e. is_that_home b (home_of e)) gs
+    (All-from_get_or (λ e. is_that_home b (home_of e) ≡ false) gs None
     (λ x l. home_fails b (entry gs x) (h x)))
 
 -- the node over a block links a group, or it links none and the block is no home
@@ -55,7 +54,7 @@ at_block t b l ok = go (link_of (reach t b.depth (lowest_voxel b))) refl
         ∙ ap Some (block_of_held b (lowest_voxel b) (lowest_held b)))
 
 -- the two tests are one
-home_is_split : (t : Tree) (b : Cube) → IsLinked t → IsBlock b → is_home t.groups b ≡ is_split t b
+home_is_split : (t : Tree) (b : Cube) → IsLinked t → IsBlock b → has_home t.groups b ≡ is_split t b
 home_is_split t b l ok = elim (at_block t b l ok) [
   | split_at x test home ↦ home_there t.groups x b home ∙ sym test
   | plain_at test none ↦ home_nowhere t.groups b none ∙ sym test
@@ -66,9 +65,9 @@ abbrev counts_at : Tree → Option Group → ℕ
 counts_at t e = cond (is_missing t.groups e) 1 0
 
 missing_at : (t : Tree) (e : Option Group) (b : Cube) → home_of e ≡ Some b
-    → is_missing t.groups e ≡ not (is_home t.groups b)
+    → is_missing t.groups e ≡ not (has_home t.groups b)
 missing_at t None b h = cc
-missing_at t (Some g) b h = ap (λ c. not (is_home t.groups c)) (some_injective h)
+missing_at t (Some g) b h = ap (λ c. not (has_home t.groups c)) (some_injective h)
 
 needed_at : (t o : Tree) (b : Cube) → IsLinked t → IsLinked o → IsBlock b
     → at_home (counts_at t) o.groups b ≡ cond {A = ℕ} (is_needed t o b) 1 0
@@ -97,7 +96,7 @@ need_by_blocks t o l lo =
 missing_live : (gs : Groups) (e : Option Group)
     → cond {A = ℕ} (is_missing gs e) 1 0 ≤ cond {A = ℕ} (is_some e) 1 0
 missing_live gs None = omega arith
-missing_live gs (Some g) = by_test (is_home gs g.home)
+missing_live gs (Some g) = by_test (has_home gs g.home)
   where
     by_test : (test : Bool) → cond {A = ℕ} (not test) 1 0 ≤ 1
     by_test true = omega arith

@@ -7,7 +7,8 @@ use Rattle.oct_key.specs.Voxel.{Voxel, HoldsOnAxis, lower_face, key_at}
 use Rattle.oct_key.specs.Boxes.{IsBetween}
 use Rattle.oct_key.specs.declared.point.Point.{Point}
 use Rattle.oct_key.proofs.Faces.{Holds-key_at}
-use Rattle.oct_num.proofs.Differences.{IsDifference, parts, natural, of_naturals, scaled, scaled_left, plus, minus, le, lt}
+use Rattle.oct_num.proofs.Differences.{IsDifference, parts, natural, of_naturals, scaled}
+use Rattle.oct_num.proofs.Differences.{scaled_left, plus, minus, le, lt}
 use Rattle.oct_ray.specs.Segment.{IsBetweenFaces, Meets}
 use Rattle.oct_scan.specs.Gathered.{IsSpanned}
 
@@ -31,7 +32,8 @@ record IsPlaced (edge k p q a b c d : ℕ) : Type 0 where
   lower : k * edge * q + (b * q + p * (d + a)) ≤ a * q + p * (c + b) + 32768 * edge * q
   upper : a * q + p * (c + b) + 32768 * edge * q < (k * edge + edge) * q + (b * q + p * (d + a))
 
-placed_from : (edge k p q : ℕ) (o e : ℤ) → IsBetweenFaces edge o e k p q → IsPlaced edge k p q (up o) (down o) (up e) (down e)
+placed_from : (edge k p q : ℕ) (o e : ℤ) → IsBetweenFaces edge o e k p q
+    → IsPlaced edge k p q (up o) (down o) (up e) (down e)
 placed_from edge k p q o e h =
     let start : IsDifference o (up o) (down o) = parts o in
     let way : IsDifference (e -ℤ o) (up e + down o) (down e + up o) = minus (parts e) start in
@@ -41,51 +43,73 @@ placed_from edge k p q o e h =
     record { lower = omega (arith, low); upper = omega (arith, high) }
 
 -- where both ends lie below a face, so does the place
-below_top : (edge k p q s top a b c d : ℕ) → q ≡ p + s → 0 < q → IsPlaced edge k p q a b c d → a + 32768 * edge + 1 ≤ top * edge + b → c + 32768 * edge + 1 ≤ top * edge + d → k < top
+below_top : (edge k p q s top a b c d : ℕ) → q ≡ p + s → 0 < q → IsPlaced edge k p q a b c d
+    → a + 32768 * edge + 1 ≤ top * edge + b → c + 32768 * edge + 1 ≤ top * edge + d → k < top
 below_top edge k p q s top a b c d split some at first last =
     let one : (a + 32768 * edge + 1) * s ≤ (top * edge + b) * s = mul-le-mul_right s first in
     let two : (c + 32768 * edge + 1) * p ≤ (top * edge + d) * p = mul-le-mul_right p last in
     let low = at.lower in
-    let all : (k * edge) * q < (top * edge) * q = by_parts edge k p s top a b c d q split some low one two in
+    let all : (k * edge) * q < (top * edge) * q =
+    by_parts edge k p s top a b c d q split some low one two in
     let faces : k * edge < top * edge = lt_of_mul-lt-mul_right q all in
     lt_of_mul-lt-mul_right edge faces
   where
-    by_parts : (edge k p s top a b c d q : ℕ) → q ≡ p + s → 0 < q → k * edge * q + (b * q + p * (d + a)) ≤ a * q + p * (c + b) + 32768 * edge * q → (a + 32768 * edge + 1) * s ≤ (top * edge + b) * s → (c + 32768 * edge + 1) * p ≤ (top * edge + d) * p → (k * edge) * q < (top * edge) * q
-    by_parts edge k p s top a b c d q split some low one two = subst (λ q. 0 < q → k * edge * q + (b * q + p * (d + a)) ≤ a * q + p * (c + b) + 32768 * edge * q → (k * edge) * q < (top * edge) * q) (sym split) (λ some low. omega (arith, some, low, one, two)) some low
+    by_parts : (edge k p s top a b c d q : ℕ) → q ≡ p + s → 0 < q
+        → k * edge * q + (b * q + p * (d + a)) ≤ a * q + p * (c + b) + 32768 * edge * q
+        → (a + 32768 * edge + 1) * s ≤ (top * edge + b) * s
+        → (c + 32768 * edge + 1) * p ≤ (top * edge + d) * p → (k * edge) * q < (top * edge) * q
+    by_parts edge k p s top a b c d q split some low one two =
+        subst (λ q. 0 < q → k * edge * q + (b * q + p * (d + a))
+        ≤ a * q + p * (c + b) + 32768 * edge * q → (k * edge) * q < (top * edge) * q) (sym split)
+        (λ some low. omega (arith, some, low, one, two)) some low
 
 -- where both lie above one, so does the place
-above_bottom : (edge k p q s bottom a b c d : ℕ) → q ≡ p + s → 0 < q → IsPlaced edge k p q a b c d → bottom * edge + b ≤ a + 32768 * edge → bottom * edge + d ≤ c + 32768 * edge → bottom < k + 1
+above_bottom : (edge k p q s bottom a b c d : ℕ) → q ≡ p + s → 0 < q → IsPlaced edge k p q a b c d
+    → bottom * edge + b ≤ a + 32768 * edge → bottom * edge + d ≤ c + 32768 * edge → bottom < k + 1
 above_bottom edge k p q s bottom a b c d split some at first last =
     let one : (bottom * edge + b) * s ≤ (a + 32768 * edge) * s = mul-le-mul_right s first in
     let two : (bottom * edge + d) * p ≤ (c + 32768 * edge) * p = mul-le-mul_right p last in
     let high = at.upper in
-    let all : (bottom * edge) * q < ((k + 1) * edge) * q = by_parts edge k p s bottom a b c d q split high one two in
+    let all : (bottom * edge) * q < ((k + 1) * edge) * q =
+    by_parts edge k p s bottom a b c d q split high one two in
     let faces : bottom * edge < (k + 1) * edge = lt_of_mul-lt-mul_right q all in
     lt_of_mul-lt-mul_right edge faces
   where
-    by_parts : (edge k p s bottom a b c d q : ℕ) → q ≡ p + s → a * q + p * (c + b) + 32768 * edge * q < (k * edge + edge) * q + (b * q + p * (d + a)) → (bottom * edge + b) * s ≤ (a + 32768 * edge) * s → (bottom * edge + d) * p ≤ (c + 32768 * edge) * p → (bottom * edge) * q < ((k + 1) * edge) * q
-    by_parts edge k p s bottom a b c d q split high one two = subst (λ q. a * q + p * (c + b) + 32768 * edge * q < (k * edge + edge) * q + (b * q + p * (d + a)) → (bottom * edge) * q < ((k + 1) * edge) * q) (sym split) (λ high. omega (arith, high, one, two)) high
+    by_parts : (edge k p s bottom a b c d q : ℕ) → q ≡ p + s
+        → a * q + p * (c + b) + 32768 * edge * q < (k * edge + edge) * q + (b * q + p * (d + a))
+        → (bottom * edge + b) * s ≤ (a + 32768 * edge) * s
+        → (bottom * edge + d) * p ≤ (c + 32768 * edge) * p
+        → (bottom * edge) * q < ((k + 1) * edge) * q
+    by_parts edge k p s bottom a b c d q split high one two =
+        subst (λ q. a * q + p * (c + b) + 32768 * edge * q < (k * edge + edge) * q
+        + (b * q + p * (d + a)) → (bottom * edge) * q < ((k + 1) * edge) * q) (sym split)
+        (λ high. omega (arith, high, one, two)) high
 
 -- a row of faces from a lower number is lower
 rows : (m n edge : ℕ) → m ≤ n → m * edge ≤ n * edge
 rows m n edge h = mul-le-mul_right edge h
 
-on_axis : (edge k p q i j : ℕ) (o e : ℤ) → 0 < q → p ≤ q → HoldsOnAxis edge i o → HoldsOnAxis edge j e → IsBetweenFaces edge o e k p q → IsBetween (min i j) (max i j) k
+on_axis : (edge k p q i j : ℕ) (o e : ℤ) → 0 < q → p ≤ q → HoldsOnAxis edge i o
+    → HoldsOnAxis edge j e → IsBetweenFaces edge o e k p q → IsBetween (min i j) (max i j) k
 on_axis edge k p q i j o e some within start end at =
     let a = held_from edge i o start in
     let b = held_from edge j e end in
     let place = placed_from edge k p q o e at in
     let split : q ≡ p + (q - p) = omega (arith, within) in
-    let top = below_top edge k p q (q - p) (max i j + 1) (up o) (down o) (up e) (down e) split some place
+    let top = below_top edge k p q (q - p) (max i j + 1) (up o) (down o) (up e) (down e) split some
+    place
     (let h = a.high in let r = rows (i + 1) (max i j + 1) edge (omega arith) in omega (arith, h, r))
-    (let h = b.high in let r = rows (j + 1) (max i j + 1) edge (omega arith) in omega (arith, h, r)) in
-    let bottom = above_bottom edge k p q (q - p) (min i j) (up o) (down o) (up e) (down e) split some place
+    (let h = b.high in let r = rows (j + 1) (max i j + 1) edge (omega arith) in
+    omega (arith, h, r)) in
+    let bottom = above_bottom edge k p q (q - p) (min i j) (up o) (down o) (up e) (down e) split
+    some place
     (let h = a.low in let r = rows (min i j) i edge (omega arith) in omega (arith, h, r))
     (let h = b.low in let r = rows (min i j) j edge (omega arith) in omega (arith, h, r)) in
     (omega (arith, bottom), omega (arith, top))
 
 -- the voxels that the segment meets
-pub met_spanned : (edge : ℕ) (o e : Point) (a b k : Voxel) → 1 ≤ edge → key_at edge o ≡ Some a → key_at edge e ≡ Some b → Meets edge o e k → IsSpanned a b k
+pub met_spanned : (edge : ℕ) (o e : Point) (a b k : Voxel) → 1 ≤ edge → key_at edge o ≡ Some a
+    → key_at edge e ≡ Some b → Meets edge o e k → IsSpanned a b k
 met_spanned edge o e a b k positive first last m =
     let start = Holds-key_at edge o a positive first in
     let end = Holds-key_at edge e b positive last in

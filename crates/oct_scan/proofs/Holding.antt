@@ -1,8 +1,12 @@
 -- Bricks that are gathered beam by beam hold the codes that are.
-use Rattle.std.proofs.Common.{◌≡◌, ◌≢◌, ℕ, ◌+◌, ◌-◌, ◌/◌, ◌^◌, ◌<◌, ◌⊎◌, ◌↔◌, inl, inr, true, false, Bool, cond, List, [], ◌∷◌, ◌++◌, map, length, take, get_or, Option, Some, refl, sym, subst, ◌∙◌, ap, arith, append_assoc}
+use Rattle.std.proofs.Common.{◌≡◌, ◌≢◌, ℕ, ◌+◌, ◌-◌, ◌/◌, ◌^◌, ◌<◌, ◌⊎◌, ◌↔◌, inl, inr, true, false}
+use Rattle.std.proofs.Common.{Bool, cond, List, [], ◌∷◌, ◌++◌, map, length, take, get_or, Option}
+use Rattle.std.proofs.Common.{Some, refl, sym, subst, ◌∙◌, ap, arith, append_assoc}
 use Rattle.std.specs.Prelude.{slice_get}
 use Rattle.std.specs.List.{All, AllPairs, Contains}
-use Rattle.std.proofs.lemmas.List.Elements.{All-contains, Contains-push, Contains-push_cases, Contains-append_left, Contains-append_right, Contains-append_cases}
+use Rattle.std.proofs.lemmas.List.Elements.{All-contains, Contains-push, Contains-push_cases}
+use Rattle.std.proofs.lemmas.List.Elements.{Contains-append_left, Contains-append_right}
+use Rattle.std.proofs.lemmas.List.Elements.{Contains-append_cases}
 use Rattle.oct_key.specs.Voxel.{Voxel, IsInMap, key_at}
 use Rattle.oct_key.specs.Boxes.{Corners}
 use Rattle.oct_key.specs.Morton.{morton_of}
@@ -16,8 +20,10 @@ use Rattle.oct_brick.proofs.Bits.{none_set}
 use Rattle.oct_brick.proofs.BrickCodes.{codes_by}
 use Rattle.oct_brick.proofs.Merging.{pushed_has}
 use Rattle.oct_scan.specs.declared.beam.Beam.{Beam}
-use Rattle.oct_scan.specs.Gathered.{IsBeamAdded, HoldGathered, IsBeamHeld, IsHeld, IsCurrent, end_codes, is_mute, kept}
-use Rattle.oct_brick.proofs.Lists.{contains_none, contains_here, contains_later, contains_cases, contains_map, contains_from_map, all_contained}
+use Rattle.oct_scan.specs.Gathered.{IsBeamAdded, HoldGathered, IsBeamHeld, IsHeld, IsCurrent}
+use Rattle.oct_scan.specs.Gathered.{end_codes, is_mute, kept}
+use Rattle.oct_brick.proofs.Lists.{contains_none, contains_here, contains_later, contains_cases}
+use Rattle.oct_brick.proofs.Lists.{contains_map, contains_from_map, all_contained}
 use Rattle.oct_scan.proofs.Kept.{kept_from, kept_listed}
 use Rattle.oct_scan.proofs.Gathering.{ends_with, once_last, gathered_none, gathered_next, few_more}
 
@@ -26,10 +32,14 @@ none_of : (mask b c : ℕ) → mask ≡ 0 → HasCode b mask c → ⊥
 none_of mask b c e h = none_set b c (subst (λ m. HasCode b m c) e h)
 
 -- one brick more
-pub pushed_scanned : (bs bs' : List Brick) (b : Brick) → bs' ≡ bs ++ b ∷ [] → (c : ℕ) → Contains (scanned_codes bs') c ↔ IsHeld bs b c
-pushed_scanned bs bs' b e c = subst (λ (xs : List Brick). Contains (scanned_codes xs) c ↔ IsHeld bs b c) (sym e) (pushed_has (λ b. b.scanned) bs b c)
+pub pushed_scanned : (bs bs' : List Brick) (b : Brick) → bs' ≡ bs ++ b ∷ [] → (c : ℕ)
+    → Contains (scanned_codes bs') c ↔ IsHeld bs b c
+pushed_scanned bs bs' b e c =
+    subst (λ (xs : List Brick). Contains (scanned_codes xs) c ↔ IsHeld bs b c) (sym e)
+    (pushed_has (λ b. b.scanned) bs b c)
 
-pub pushed_unhit : (bs bs' : List Brick) (b : Brick) → bs' ≡ bs ++ b ∷ [] → b.hits ≡ 0 → (c : ℕ) → Contains (hit_codes bs') c ↔ Contains (hit_codes bs) c
+pub pushed_unhit : (bs bs' : List Brick) (b : Brick) → bs' ≡ bs ++ b ∷ [] → b.hits ≡ 0 → (c : ℕ)
+    → Contains (hit_codes bs') c ↔ Contains (hit_codes bs) c
 pushed_unhit bs bs' b e none c =
     let both = pushed_has (λ b. b.hits) bs b c in
     subst (λ (xs : List Brick). Contains (hit_codes xs) c ↔ Contains (hit_codes bs) c) (sym e) (
@@ -37,11 +47,18 @@ pushed_unhit bs bs' b e none c =
       λ h. both.1 (inl h),
     )
 
-pub kept_scanned : (bs : List Brick) (b : Brick) → b.scanned ≡ 0 → (c : ℕ) → Contains (scanned_codes bs) c ↔ IsHeld bs b c
-kept_scanned bs b none c = (λ h. inl h, λ h. elim h [ inl k ↦ k | inr k ↦ absurd (none_of b.scanned b.code c none k) ])
+pub kept_scanned : (bs : List Brick) (b : Brick) → b.scanned ≡ 0 → (c : ℕ)
+    → Contains (scanned_codes bs) c ↔ IsHeld bs b c
+kept_scanned bs b none c =
+    (λ h. inl h, λ h. elim h [ inl k ↦ k | inr k ↦ absurd (none_of b.scanned b.code c none k) ])
 
-pub pushed_bricks : (bs bs' : List Brick) (b : Brick) → bs' ≡ bs ++ b ∷ [] → All IsBrick bs → IsBrick b → All IsBrick bs'
-pushed_bricks bs bs' b e h p = subst (All IsBrick) (sym e) (all_contained IsBrick (bs ++ b ∷ []) (λ x k. elim (Contains-push_cases bs b x k) [ inl m ↦ All-contains IsBrick bs x h m | inr s ↦ subst IsBrick s p ]))
+pub pushed_bricks : (bs bs' : List Brick) (b : Brick) → bs' ≡ bs ++ b ∷ [] → All IsBrick bs
+    → IsBrick b → All IsBrick bs'
+pushed_bricks bs bs' b e h p =
+    subst (All IsBrick) (sym e)
+    (all_contained IsBrick (bs ++ b ∷ [])
+    (λ x k. elim (Contains-push_cases bs b x k)
+    [ inl m ↦ All-contains IsBrick bs x h m | inr s ↦ subst IsBrick s p ]))
 
 -- the end of a beam that isn't cut is a brick more, with one code
 end_code : (t : Bool) (end c : ℕ) → t ≡ false → (Contains (cond t [] (end ∷ [])) c) ↔ (end ≡ c)
@@ -51,23 +68,38 @@ end_code false end c e = (
   λ h. subst (Contains (end ∷ [])) h (contains_here end []),
 )
 
-end_by : (f : Brick → ℕ) (bs bs' : List Brick) (around b : Brick) (end : ℕ) (t : Bool) → t ≡ false → bs' ≡ bs ++ b ∷ [] → f around ≡ 0 → ((c : ℕ) → HasCode b.code (f b) c ↔ (HasCode around.code (f around) c ⊎ (end ≡ c))) → (c : ℕ) → Contains (codes_by f bs') c ↔ (Contains (codes_by f bs) c ⊎ Contains (cond t [] (end ∷ [])) c)
+end_by : (f : Brick → ℕ) (bs bs' : List Brick) (around b : Brick) (end : ℕ) (t : Bool) → t ≡ false
+    → bs' ≡ bs ++ b ∷ [] → f around ≡ 0
+    → ((c : ℕ) → HasCode b.code (f b) c ↔ (HasCode around.code (f around) c ⊎ (end ≡ c))) → (c : ℕ)
+    → Contains (codes_by f bs') c ↔ (Contains (codes_by f bs) c ⊎ Contains (cond t [] (end ∷ [])) c)
 end_by f bs bs' around b end t whole e none both c =
     let pushed = pushed_has f bs b c in
     let one = end_code t end c whole in
-    subst (λ (xs : List Brick). Contains (codes_by f xs) c ↔ (Contains (codes_by f bs) c ⊎ Contains (cond t [] (end ∷ [])) c)) (sym e) (
+    subst (λ (xs : List Brick). Contains (codes_by f xs) c
+    ↔ (Contains (codes_by f bs) c ⊎ Contains (cond t [] (end ∷ [])) c)) (sym e) (
       λ h. elim (pushed.0 h) [
         | inl k ↦ inl k
-        | inr k ↦ inr (elim ((both c).0 k) [ inl m ↦ absurd (none_of (f around) around.code c none m) | inr m ↦ one.1 m ])
+        | inr k ↦ inr (elim ((both c).0 k)
+            [ inl m ↦ absurd (none_of (f around) around.code c none m) | inr m ↦ one.1 m ])
       ],
       λ h. pushed.1 (elim h [ inl k ↦ inl k | inr k ↦ inr ((both c).1 (inr (one.0 k))) ]),
     )
 
-pub end_scanned : (bs bs' : List Brick) (around b : Brick) (end : ℕ) (t : Bool) → t ≡ false → bs' ≡ bs ++ b ∷ [] → around.scanned ≡ 0 → ((c : ℕ) → HasCode b.code b.scanned c ↔ (HasCode around.code around.scanned c ⊎ (end ≡ c))) → (c : ℕ) → Contains (scanned_codes bs') c ↔ (Contains (scanned_codes bs) c ⊎ Contains (cond t [] (end ∷ [])) c)
-end_scanned bs bs' around b end t whole e none both = end_by (λ b. b.scanned) bs bs' around b end t whole e none both
+pub end_scanned : (bs bs' : List Brick) (around b : Brick) (end : ℕ) (t : Bool) → t ≡ false
+    → bs' ≡ bs ++ b ∷ [] → around.scanned ≡ 0
+    → ((c : ℕ) → HasCode b.code b.scanned c ↔ (HasCode around.code around.scanned c ⊎ (end ≡ c)))
+    → (c : ℕ) → Contains (scanned_codes bs') c
+    ↔ (Contains (scanned_codes bs) c ⊎ Contains (cond t [] (end ∷ [])) c)
+end_scanned bs bs' around b end t whole e none both =
+    end_by (λ b. b.scanned) bs bs' around b end t whole e none both
 
-pub end_hits : (bs bs' : List Brick) (around b : Brick) (end : ℕ) (t : Bool) → t ≡ false → bs' ≡ bs ++ b ∷ [] → around.hits ≡ 0 → ((c : ℕ) → HasCode b.code b.hits c ↔ (HasCode around.code around.hits c ⊎ (end ≡ c))) → (c : ℕ) → Contains (hit_codes bs') c ↔ (Contains (hit_codes bs) c ⊎ Contains (cond t [] (end ∷ [])) c)
-end_hits bs bs' around b end t whole e none both = end_by (λ b. b.hits) bs bs' around b end t whole e none both
+pub end_hits : (bs bs' : List Brick) (around b : Brick) (end : ℕ) (t : Bool) → t ≡ false
+    → bs' ≡ bs ++ b ∷ [] → around.hits ≡ 0
+    → ((c : ℕ) → HasCode b.code b.hits c ↔ (HasCode around.code around.hits c ⊎ (end ≡ c)))
+    → (c : ℕ) → Contains (hit_codes bs') c
+    ↔ (Contains (hit_codes bs) c ⊎ Contains (cond t [] (end ∷ [])) c)
+end_hits bs bs' around b end t whole e none both =
+    end_by (λ b. b.hits) bs bs' around b end t whole e none both
 
 -- this many codes of a walk are still to come, without that of the end
 abbrev pub ToCome : ℕ → List Voxel → ℕ → Type 0
@@ -75,18 +107,26 @@ ToCome end ks c = Contains (map morton_of ks) c × (end ≢ c)
 
 -- the bricks, the current one and what is still to come are what there was and the walk
 abbrev pub IsOnWay : ℕ → List Brick → List Voxel → List Brick → Brick → List Voxel → Type 0
-IsOnWay end old walk bs b ks = (c : ℕ) → (IsHeld bs b c ⊎ ToCome end ks c) ↔ (Contains (scanned_codes old) c ⊎ ToCome end walk c)
+IsOnWay end old walk bs b ks = (c : ℕ)
+    → (IsHeld bs b c ⊎ ToCome end ks c) ↔ (Contains (scanned_codes old) c ⊎ ToCome end walk c)
 
-pub way_none : (end : ℕ) (old : List Brick) (walk : List Voxel) (b : Brick) → b.scanned ≡ 0 → IsOnWay end old walk old b walk
+pub way_none : (end : ℕ) (old : List Brick) (walk : List Voxel) (b : Brick) → b.scanned ≡ 0
+    → IsOnWay end old walk old b walk
 way_none end old walk b none c = (
   λ h. elim h [ inl k ↦ inl ((kept_scanned old b none c).1 k) | inr k ↦ inr k ],
   λ h. elim h [ inl k ↦ inl (inl k) | inr k ↦ inr k ],
 )
 
 -- the code of the end is passed over
-pub way_passed : (end : ℕ) (old : List Brick) (walk : List Voxel) (bs : List Brick) (b : Brick) (ks ks' : List Voxel) (k : Voxel) (code : ℕ) → ks ≡ k ∷ ks' → code ≡ morton_of k → code ≡ end → IsOnWay end old walk bs b ks → IsOnWay end old walk bs b ks'
+pub way_passed : (end : ℕ) (old : List Brick) (walk : List Voxel) (bs : List Brick) (b : Brick)
+    (ks ks' : List Voxel) (k : Voxel) (code : ℕ) → ks ≡ k ∷ ks' → code ≡ morton_of k → code ≡ end
+    → IsOnWay end old walk bs b ks → IsOnWay end old walk bs b ks'
 way_passed end old walk bs b ks ks' k code first is same h c = (
-  λ m. (h c).0 (elim m [ inl p ↦ inl p | inr p ↦ inr (subst (λ l. ToCome end l c) (sym first) (contains_later (morton_of k) c (map morton_of ks') p.0, p.1)) ]),
+  λ m. (h c).0 (elim m [
+    | inl p ↦ inl p
+    | inr p ↦ inr (subst (λ l. ToCome end l c) (sym first)
+        (contains_later (morton_of k) c (map morton_of ks') p.0, p.1))
+  ]),
   λ m. elim ((h c).1 m) [
     | inl p ↦ inl p
     | inr p ↦ (let q : ToCome end (k ∷ ks') c = subst (λ l. ToCome end l c) first p in
@@ -98,14 +138,22 @@ way_passed end old walk bs b ks ks' k code first is same h c = (
 )
 
 -- another code is marked
-pub way_marked : (end : ℕ) (old : List Brick) (walk : List Voxel) (bs bs' : List Brick) (b b' : Brick) (ks ks' : List Voxel) (k : Voxel) (code : ℕ) → ks ≡ k ∷ ks' → code ≡ morton_of k → code ≢ end → ((c : ℕ) → IsHeld bs' b' c ↔ (IsHeld bs b c ⊎ (code ≡ c))) → IsOnWay end old walk bs b ks → IsOnWay end old walk bs' b' ks'
+pub way_marked : (end : ℕ) (old : List Brick) (walk : List Voxel) (bs bs' : List Brick)
+    (b b' : Brick) (ks ks' : List Voxel) (k : Voxel) (code : ℕ) → ks ≡ k ∷ ks' → code ≡ morton_of k
+    → code ≢ end → ((c : ℕ) → IsHeld bs' b' c ↔ (IsHeld bs b c ⊎ (code ≡ c)))
+    → IsOnWay end old walk bs b ks → IsOnWay end old walk bs' b' ks'
 way_marked end old walk bs bs' b b' ks ks' k code first is other marked h c = (
   λ m. (h c).0 (elim m [
     | inl p ↦ elim ((marked c).0 p) [
       | inl q ↦ inl q
-      | inr q ↦ inr (subst (λ l. ToCome end l c) (sym first) (subst (λ d. Contains (map morton_of (k ∷ ks')) d) (sym is ∙ q) (contains_here (morton_of k) (map morton_of ks')), λ e. other (q ∙ sym e)))
+      | inr q ↦ inr (subst (λ l. ToCome end l c) (sym first) (
+        subst (λ d. Contains (map morton_of (k ∷ ks')) d) (sym is ∙ q)
+            (contains_here (morton_of k) (map morton_of ks')),
+        λ e. other (q ∙ sym e),
+      ))
     ]
-    | inr p ↦ inr (subst (λ l. ToCome end l c) (sym first) (contains_later (morton_of k) c (map morton_of ks') p.0, p.1))
+    | inr p ↦ inr (subst (λ l. ToCome end l c) (sym first)
+        (contains_later (morton_of k) c (map morton_of ks') p.0, p.1))
   ]),
   λ m. elim ((h c).1 m) [
     | inl p ↦ inl ((marked c).1 (inl p))
@@ -118,44 +166,79 @@ way_marked end old walk bs bs' b b' ks ks' k code first is other marked h c = (
 )
 
 -- at the end of the walk the current brick is added
-pub way_all : (end : ℕ) (old : List Brick) (walk : List Voxel) (bs bs' : List Brick) (b : Brick) (ks : List Voxel) → ks ≡ [] → ((c : ℕ) → Contains (scanned_codes bs') c ↔ IsHeld bs b c) → IsOnWay end old walk bs b ks → (c : ℕ) → Contains (scanned_codes bs') c ↔ (Contains (scanned_codes old) c ⊎ ToCome end walk c)
+pub way_all : (end : ℕ) (old : List Brick) (walk : List Voxel) (bs bs' : List Brick) (b : Brick)
+    (ks : List Voxel) → ks ≡ [] → ((c : ℕ) → Contains (scanned_codes bs') c ↔ IsHeld bs b c)
+    → IsOnWay end old walk bs b ks → (c : ℕ)
+    → Contains (scanned_codes bs') c ↔ (Contains (scanned_codes old) c ⊎ ToCome end walk c)
 way_all end old walk bs bs' b ks none pushed h c = (
   λ m. (h c).0 (inl ((pushed c).0 m)),
   λ m. elim ((h c).1 m) [
     | inl p ↦ (pushed c).1 p
-    | inr p ↦ absurd (contains_none c (subst (λ (l : List Voxel). Contains (map morton_of l) c) none p.0))
+    | inr p ↦ absurd (contains_none c
+        (subst (λ (l : List Voxel). Contains (map morton_of l) c) none p.0))
   ],
 )
 
 -- the codes that are kept of a walk but that of its last voxel are those kept of the voxels before
-front_codes : (window : Option Corners) (front : List Voxel) (k : Voxel) (c : ℕ) → AllPairs (λ a b. a ≢ b) (front ++ k ∷ []) → All IsInMap (front ++ k ∷ []) → ToCome (morton_of k) (kept window (front ++ k ∷ [])) c ↔ Contains (map morton_of (kept window front)) c
+front_codes : (window : Option Corners) (front : List Voxel) (k : Voxel) (c : ℕ)
+    → AllPairs (λ a b. a ≢ b) (front ++ k ∷ []) → All IsInMap (front ++ k ∷ [])
+    → ToCome (morton_of k) (kept window (front ++ k ∷ [])) c
+    ↔ Contains (map morton_of (kept window front)) c
 front_codes window front k c once on_map = (
   λ h. (let r = contains_from_map morton_of (kept window (front ++ k ∷ [])) c h.0 in
       let in_box = kept_from window (front ++ k ∷ []) r.0 r.1 in
       elim (Contains-push_cases front k r.0 in_box.0) [
-        | inl p ↦ subst (Contains (map morton_of (kept window front))) r.2 (contains_map morton_of (kept window front) r.0 (kept_listed window front r.0 p in_box.1))
+        | inl p ↦ subst (Contains (map morton_of (kept window front))) r.2
+            (contains_map morton_of (kept window front) r.0
+            (kept_listed window front r.0 p in_box.1))
         | inr e ↦ absurd (h.1 (ap morton_of e ∙ r.2))
       ]),
   λ h. (let r = contains_from_map morton_of (kept window front) c h in
       let in_box = kept_from window front r.0 r.1 in
-      let there : Contains (front ++ k ∷ []) r.0 = Contains-append_left front (k ∷ []) r.0 in_box.0 in (
-        subst (Contains (map morton_of (kept window (front ++ k ∷ [])))) r.2 (contains_map morton_of (kept window (front ++ k ∷ [])) r.0 (kept_listed window (front ++ k ∷ []) r.0 there in_box.1)),
-        λ e. once_last front k r.0 once in_box.0 (morton_injective r.0 k (All-contains IsInMap (front ++ k ∷ []) r.0 on_map there) (All-contains IsInMap (front ++ k ∷ []) k on_map (Contains-push front k)) (r.2 ∙ sym e)),
+      let there : Contains (front ++ k ∷ []) r.0 =
+      Contains-append_left front (k ∷ []) r.0 in_box.0 in (
+        subst (Contains (map morton_of (kept window (front ++ k ∷ [])))) r.2
+            (contains_map morton_of (kept window (front ++ k ∷ [])) r.0
+            (kept_listed window (front ++ k ∷ []) r.0 there in_box.1)),
+        λ e. once_last front k r.0 once in_box.0
+            (morton_injective r.0 k (All-contains IsInMap (front ++ k ∷ []) r.0 on_map there)
+            (All-contains IsInMap (front ++ k ∷ []) k on_map (Contains-push front k))
+            (r.2 ∙ sym e)),
       )),
 )
 
 -- a walk whose codes were marked, and whose end was added, is a beam held
-pub beam_held : (edge : ℕ) (window : Option Corners) (o : Point) (b : Beam) (met end : ℕ) (mute : Bool) (old mid new : List Brick) (walk : List Voxel) (k : Voxel) → IsWalkAlong edge o b.end walk → slice_get walk (length walk - 1) ≡ key_at edge b.end → key_at edge b.end ≡ Some k → All IsInMap walk → met ≡ length walk → end ≡ morton_of k → mute ≡ is_mute window b k →
-    ((c : ℕ) → Contains (scanned_codes mid) c ↔ (Contains (scanned_codes old) c ⊎ ToCome end (kept window walk) c)) → ((c : ℕ) → Contains (hit_codes mid) c ↔ Contains (hit_codes old) c) →
-    ((c : ℕ) → Contains (scanned_codes new) c ↔ (Contains (scanned_codes mid) c ⊎ Contains (cond mute [] (end ∷ [])) c)) → ((c : ℕ) → Contains (hit_codes new) c ↔ (Contains (hit_codes mid) c ⊎ Contains (cond mute [] (end ∷ [])) c)) → IsBeamHeld edge window o b met old new
-beam_held edge window o b met end mute old mid new walk k along last ended on_map counted is silent way unhit marked hit =
+pub beam_held : (edge : ℕ) (window : Option Corners) (o : Point) (b : Beam) (met end : ℕ)
+    (mute : Bool) (old mid new : List Brick) (walk : List Voxel) (k : Voxel)
+    → IsWalkAlong edge o b.end walk → slice_get walk (length walk - 1) ≡ key_at edge b.end
+    → key_at edge b.end ≡ Some k → All IsInMap walk → met ≡ length walk → end ≡ morton_of k
+    → mute ≡ is_mute window b k →
+    ((c : ℕ) → Contains (scanned_codes mid) c
+    ↔ (Contains (scanned_codes old) c ⊎ ToCome end (kept window walk) c))
+    → ((c : ℕ) → Contains (hit_codes mid) c ↔ Contains (hit_codes old) c) →
+    ((c : ℕ) → Contains (scanned_codes new) c
+    ↔ (Contains (scanned_codes mid) c ⊎ Contains (cond mute [] (end ∷ [])) c))
+    → ((c : ℕ) → Contains (hit_codes new) c
+    ↔ (Contains (hit_codes mid) c ⊎ Contains (cond mute [] (end ∷ [])) c))
+    → IsBeamHeld edge window o b met old new
+beam_held edge window o b met end mute old mid new walk k along last ended on_map counted is silent
+    way unhit marked hit =
     let parts = ends_with walk k (last ∙ ended) in
     let front : List Voxel = parts.0 in
     let along' = subst (IsWalkAlong edge o b.end) parts.1 along in
     let on_map' = subst (All IsInMap) parts.1 on_map in
-    let codes : (c : ℕ) → ToCome end (kept window walk) c ↔ Contains (map morton_of (kept window front)) c = λ c.
-    subst (λ (w : List Voxel). ToCome end (kept window w) c ↔ Contains (map morton_of (kept window front)) c) (sym parts.1) (subst (λ e. ToCome e (kept window (front ++ k ∷ [])) c ↔ Contains (map morton_of (kept window front)) c) (sym is) (front_codes window front k c along'.once on_map')) in
-    let judged : (c : ℕ) → Contains (cond mute [] (end ∷ [])) c ↔ Contains (end_codes window b k) c = λ c. subst (λ t. Contains (cond t [] (end ∷ [])) c ↔ Contains (end_codes window b k) c) (sym silent) (subst (λ e. Contains (cond (is_mute window b k) [] (e ∷ [])) c ↔ Contains (end_codes window b k) c) (sym is) (λ h. h, λ h. h)) in
+    let codes : (c : ℕ) → ToCome end (kept window walk) c
+    ↔ Contains (map morton_of (kept window front)) c = λ c.
+    subst (λ (w : List Voxel). ToCome end (kept window w) c
+    ↔ Contains (map morton_of (kept window front)) c) (sym parts.1)
+    (subst (λ e. ToCome e (kept window (front ++ k ∷ [])) c
+    ↔ Contains (map morton_of (kept window front)) c) (sym is)
+    (front_codes window front k c along'.once on_map')) in
+    let judged : (c : ℕ) → Contains (cond mute [] (end ∷ [])) c
+    ↔ Contains (end_codes window b k) c =
+    λ c. subst (λ t. Contains (cond t [] (end ∷ [])) c ↔ Contains (end_codes window b k) c)
+    (sym silent) (subst (λ e. Contains (cond (is_mute window b k) [] (e ∷ [])) c
+    ↔ Contains (end_codes window b k) c) (sym is) (λ h. h, λ h. h)) in
     record {
       front = front;
       end = k;
@@ -165,15 +248,23 @@ beam_held edge window o b met end mute old mid new walk k along last ended on_ma
       counted = sym (counted ∙ ap length parts.1);
       marks = λ c. (
         λ h. elim ((marked c).0 h) [
-          | inl m ↦ elim ((way c).0 m) [ inl p ↦ inl p | inr p ↦ inr (Contains-append_left (map morton_of (kept window front)) (end_codes window b k) c ((codes c).0 p)) ]
-          | inr m ↦ inr (Contains-append_right (map morton_of (kept window front)) (end_codes window b k) c ((judged c).0 m))
+          | inl m ↦ elim ((way c).0 m) [
+            | inl p ↦ inl p
+            | inr p ↦
+                inr (Contains-append_left (map morton_of (kept window front)) (end_codes window b k)
+                c
+                ((codes c).0 p))
+          ]
+          | inr m ↦ inr (Contains-append_right (map morton_of (kept window front))
+              (end_codes window b k) c ((judged c).0 m))
         ],
         λ h. (marked c).1 (elim h [
           | inl m ↦ inl ((way c).1 (inl m))
-          | inr m ↦ elim (Contains-append_cases (map morton_of (kept window front)) (end_codes window b k) c m) [
-            | inl p ↦ inl ((way c).1 (inr ((codes c).1 p)))
-            | inr p ↦ inr ((judged c).1 p)
-          ]
+          | inr m ↦ elim (Contains-append_cases (map morton_of (kept window front))
+              (end_codes window b k) c m) [
+                | inl p ↦ inl ((way c).1 (inr ((codes c).1 p)))
+                | inr p ↦ inr ((judged c).1 p)
+              ]
         ]),
       );
       ends = λ c. (
@@ -182,7 +273,8 @@ beam_held edge window o b met end mute old mid new walk k along last ended on_ma
       );
     }
 
-pub held_none : (edge : ℕ) (window : Option Corners) (o : Point) → HoldGathered edge window o [] [] 0
+pub held_none : (edge : ℕ) (window : Option Corners) (o : Point)
+    → HoldGathered edge window o [] [] 0
 held_none edge window o = record {
   scanned = [];
   hits = [];
@@ -192,19 +284,27 @@ held_none edge window o = record {
 }
 
 -- lists that grow alike have the same codes
-grown : (s t : List ℕ) (A B : ℕ → Type 0) → ((c : ℕ) → Contains s c ↔ A c) → ((c : ℕ) → B c ↔ (A c ⊎ Contains t c)) → (c : ℕ) → Contains (s ++ t) c ↔ B c
+grown : (s t : List ℕ) (A B : ℕ → Type 0) → ((c : ℕ) → Contains s c ↔ A c)
+    → ((c : ℕ) → B c ↔ (A c ⊎ Contains t c)) → (c : ℕ) → Contains (s ++ t) c ↔ B c
 grown s t A B same more c = (
-  λ h. (more c).1 (elim (Contains-append_cases s t c h) [ inl k ↦ inl ((same c).0 k) | inr k ↦ inr k ]),
-  λ h. elim ((more c).0 h) [ inl k ↦ Contains-append_left s t c ((same c).1 k) | inr k ↦ Contains-append_right s t c k ],
+  λ h. (more c).1 (elim (Contains-append_cases s t c h)
+      [ inl k ↦ inl ((same c).0 k) | inr k ↦ inr k ]),
+  λ h. elim ((more c).0 h)
+      [ inl k ↦ Contains-append_left s t c ((same c).1 k) | inr k ↦ Contains-append_right s t c k ],
 )
 
 -- after one beam more, bricks hold what is gathered along one beam more
-pub held_next : (edge : ℕ) (window : Option Corners) (o : Point) (bs : List Beam) (i : ℕ) (d : Beam) (met total : ℕ) (bricks bricks' : List Brick) → i < length bs → HoldGathered edge window o (take i bs) bricks total → IsBeamHeld edge window o (get_or bs i d) met bricks bricks' → HoldGathered edge window o (take (i + 1) bs) bricks' (total + met)
+pub held_next : (edge : ℕ) (window : Option Corners) (o : Point) (bs : List Beam) (i : ℕ) (d : Beam)
+    (met total : ℕ) (bricks bricks' : List Brick) → i < length bs
+    → HoldGathered edge window o (take i bs) bricks total
+    → IsBeamHeld edge window o (get_or bs i d) met bricks bricks'
+    → HoldGathered edge window o (take (i + 1) bs) bricks' (total + met)
 held_next edge window o bs i d met total bricks bricks' l h a =
     let b : Beam = get_or bs i d in
     let front : List ℕ = map morton_of (kept window a.front) in
     let end : List ℕ = end_codes window b a.end in
-    let added : IsBeamAdded edge window o b met h.scanned ((h.scanned ++ front) ++ end) h.hits (h.hits ++ end) = record {
+    let added : IsBeamAdded edge window o b met h.scanned ((h.scanned ++ front) ++ end) h.hits
+    (h.hits ++ end) = record {
       front = a.front;
       end = a.end;
       walk = a.walk;
@@ -217,11 +317,18 @@ held_next edge window o bs i d met total bricks bricks' l h a =
     record {
       scanned = (h.scanned ++ front) ++ end;
       hits = h.hits ++ end;
-      gathered = gathered_next edge window o bs i d met h.scanned ((h.scanned ++ front) ++ end) h.hits (h.hits ++ end) l h.gathered added;
-      few = (let n = few_more edge window o b met h.scanned ((h.scanned ++ front) ++ end) h.hits (h.hits ++ end) added in let f = h.few in omega (arith, n, f));
+      gathered = gathered_next edge window o bs i d met h.scanned ((h.scanned ++ front) ++ end)
+          h.hits (h.hits ++ end) l h.gathered added;
+      few = (let n = few_more edge window o b met h.scanned ((h.scanned ++ front) ++ end) h.hits
+          (h.hits ++ end) added in let f = h.few in omega (arith, n, f));
       held = record {
-        same_scanned = λ c. subst (λ (l : List ℕ). Contains l c ↔ Contains (scanned_codes bricks') c) (sym (append_assoc h.scanned front end)) (grown h.scanned (front ++ end) (λ c. Contains (scanned_codes bricks) c) (λ c. Contains (scanned_codes bricks') c) h.held.same_scanned a.marks c);
-        same_hits = grown h.hits end (λ c. Contains (hit_codes bricks) c) (λ c. Contains (hit_codes bricks') c) h.held.same_hits a.ends;
+        same_scanned = λ c. subst
+            (λ (l : List ℕ). Contains l c ↔ Contains (scanned_codes bricks') c)
+            (sym (append_assoc h.scanned front end))
+            (grown h.scanned (front ++ end) (λ c. Contains (scanned_codes bricks) c)
+            (λ c. Contains (scanned_codes bricks') c) h.held.same_scanned a.marks c);
+        same_hits = grown h.hits end (λ c. Contains (hit_codes bricks) c)
+            (λ c. Contains (hit_codes bricks') c) h.held.same_hits a.ends;
       };
     }
 

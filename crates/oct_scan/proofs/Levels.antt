@@ -1,5 +1,6 @@
 -- On which levels two Morton codes differ.
-use Rattle.std.proofs.Common.{◌≡◌, ◌≢◌, ℕ, zero, suc, ◌+◌, ◌*◌, ◌/◌, ◌%◌, ◌^◌, ◌<◌, ◌≤◌, ◌⊎◌, inl, inr, refl, sym, ◌∙◌, ap, arith, bit_xor}
+use Rattle.std.proofs.Common.{◌≡◌, ◌≢◌, ℕ, zero, suc, ◌+◌, ◌*◌, ◌/◌, ◌%◌, ◌^◌, ◌<◌, ◌≤◌, ◌⊎◌, inl}
+use Rattle.std.proofs.Common.{inr, refl, sym, ◌∙◌, ap, arith, bit_xor}
 use Rattle.std.proofs.Math.Nat.{div-div-eq-div-mul, pow-succ', pow-le-pow_right}
 use Rattle.std.proofs.lemmas.Nat.{xor_shr, pow_pos}
 use Rattle.std.proofs.lemmas.Bool.{cases_lt}
@@ -15,11 +16,14 @@ deeper n j = ap (λ (m : ℕ). n / m) (pow-succ' 8 j) ∙ sym (div-div-eq-div-mu
 
 pub levels_same_top : (n a b : ℕ) → a / 8 ≡ b / 8 → levels_apart (suc n) a b ≡ 0
 unfolding levels_apart
-levels_same_top n a b e = elim (eqb_tells (a / 8) (b / 8)) [ inl p ↦ rw p.0 refl | inr p ↦ absurd (p.1 e) ]
+levels_same_top n a b e =
+    elim (eqb_tells (a / 8) (b / 8)) [ inl p ↦ rw p.0 refl | inr p ↦ absurd (p.1 e) ]
 
-pub levels_other_top : (n a b : ℕ) → a / 8 ≢ b / 8 → levels_apart (suc n) a b ≡ 1 + levels_apart n (a / 8) (b / 8)
+pub levels_other_top : (n a b : ℕ) → a / 8 ≢ b / 8
+    → levels_apart (suc n) a b ≡ 1 + levels_apart n (a / 8) (b / 8)
 unfolding levels_apart
-levels_other_top n a b e = elim (eqb_tells (a / 8) (b / 8)) [ inl p ↦ absurd (e p.1) | inr p ↦ rw p.0 refl ]
+levels_other_top n a b e =
+    elim (eqb_tells (a / 8) (b / 8)) [ inl p ↦ absurd (e p.1) | inr p ↦ rw p.0 refl ]
 
 top_tells : (a b : ℕ) → (a / 8 ≡ b / 8) ⊎ (a / 8 ≢ b / 8)
 top_tells a b = elim (eqb_tells (a / 8) (b / 8)) [ inl p ↦ inl p.1 | inr p ↦ inr p.1 ]
@@ -32,7 +36,8 @@ same_above (suc n) a b (suc j) l h =
     rw (deeper a j, deeper b j)
     (elim (top_tells a b) [
       | inl e ↦ ap (λ (m : ℕ). m / 8 ^ j) e
-      | inr e ↦ same_above n (a / 8) (b / 8) j (omega (arith, levels_other_top n a b e)) (omega arith)
+      | inr e ↦ same_above n (a / 8) (b / 8) j (omega (arith, levels_other_top n a b e))
+          (omega arith)
     ])
 
 levels_none : (a b : ℕ) → levels_apart zero a b ≡ 0
@@ -46,13 +51,15 @@ apart_below zero a b (suc j) some l = absurd (omega (arith, levels_none a b))
 apart_below (suc n) a b (suc zero) some l = λ e. omega (arith, levels_same_top n a b e)
 apart_below (suc n) a b (suc (suc j)) some l = λ e. elim (top_tells a b) [
   | inl t ↦ absurd (omega (arith, levels_same_top n a b t))
-  | inr t ↦ apart_below n (a / 8) (b / 8) (suc j) (omega arith) (omega (arith, levels_other_top n a b t)) (sym (deeper a (suc j)) ∙ e ∙ deeper b (suc j))
+  | inr t ↦ apart_below n (a / 8) (b / 8) (suc j) (omega arith)
+      (omega (arith, levels_other_top n a b t)) (sym (deeper a (suc j)) ∙ e ∙ deeper b (suc j))
 ]
 
 -- numbers without a bit in which they differ are one
 xor_none : (a b : ℕ) → bit_xor a b ≡ 0 → a ≡ b
 xor_none a b e = same_from_bits a b (λ i.
-    let differ : (bit_at a i + bit_at b i) % 2 ≡ 0 = sym (bit_at_xor a b i) ∙ ap (λ (n : ℕ). bit_at n i) e ∙ bit_at-zero i in
+    let differ : (bit_at a i + bit_at b i) % 2 ≡ 0 = sym (bit_at_xor a b i)
+    ∙ ap (λ (n : ℕ). bit_at n i) e ∙ bit_at-zero i in
     omega (arith, bit_at-lt a i, bit_at-lt b i, differ))
 
 xor_top : (a b : ℕ) → bit_xor a b / 8 ≡ bit_xor (a / 8) (b / 8)
@@ -60,10 +67,12 @@ xor_top a b = xor_shr a b 3
 
 -- codes whose highest different bit is one of the last three differ on no level but the last
 no_level : (n a b : ℕ) → bit_xor a b < 8 → levels_apart (suc n) a b ≡ 0
-no_level n a b low = levels_same_top n a b (xor_none (a / 8) (b / 8) (sym (xor_top a b) ∙ omega arith))
+no_level n a b low = levels_same_top n a b
+    (xor_none (a / 8) (b / 8) (sym (xor_top a b) ∙ omega arith))
 
 -- other codes differ on a level more than those without the last three bits
-one_level : (n a b : ℕ) → 8 ≤ bit_xor a b → levels_apart (suc n) a b ≡ 1 + levels_apart n (a / 8) (b / 8)
+one_level : (n a b : ℕ) → 8 ≤ bit_xor a b
+    → levels_apart (suc n) a b ≡ 1 + levels_apart n (a / 8) (b / 8)
 one_level n a b high = levels_other_top n a b (λ e.
     let none : bit_xor (a / 8) (b / 8) ≡ 0 = ap (bit_xor (a / 8)) (sym e) ∙ xor_self (a / 8) in
     omega (arith, none, xor_top a b))
@@ -72,7 +81,8 @@ eight_times : (r : ℕ) → 2 ^ suc (suc (suc r)) ≡ 8 * 2 ^ r
 eight_times r = omega (arith, pow-succ' 2 (suc (suc r)), pow-succ' 2 (suc r), pow-succ' 2 r)
 
 -- the levels on which two codes differ, by the highest bit in which they differ
-pub levels_by_bit : (n a b r : ℕ) → 2 ^ r ≤ bit_xor a b → bit_xor a b < 2 * 2 ^ r → r < 3 * n + 3 → levels_apart n a b ≡ r / 3
+pub levels_by_bit : (n a b r : ℕ) → 2 ^ r ≤ bit_xor a b → bit_xor a b < 2 * 2 ^ r → r < 3 * n + 3
+    → levels_apart n a b ≡ r / 3
 levels_by_bit zero a b r low high few = omega (arith, levels_none a b)
 levels_by_bit (suc n) a b zero low high few = no_level n a b (omega arith)
 levels_by_bit (suc n) a b (suc zero) low high few = no_level n a b (omega arith)
@@ -81,7 +91,9 @@ levels_by_bit (suc n) a b (suc (suc (suc r))) low high few =
     let some : 0 < 2 ^ r = pow_pos r in
     let e = eight_times r in
     let top = xor_top a b in
-    let rest : levels_apart n (a / 8) (b / 8) ≡ r / 3 = levels_by_bit n (a / 8) (b / 8) r (omega (arith, e, top)) (omega (arith, e, top)) (omega arith) in
+    let rest : levels_apart n (a / 8) (b / 8) ≡ r / 3 =
+    levels_by_bit n (a / 8) (b / 8) r (omega (arith, e, top)) (omega (arith, e, top))
+    (omega arith) in
     one_level n a b (omega (arith, e)) ∙ omega (arith, rest)
 
 -- two codes differ on at most this many levels
@@ -96,5 +108,6 @@ levels_few (suc n) a b = elim (top_tells a b) [
 small_power : (r x : ℕ) → 2 ^ r ≤ x → x < 2 ^ 48 → r < 48
 small_power r x low high = elim (cases_lt r 48) [
   | inl l ↦ l
-  | inr l ↦ absurd (let grows : 2 ^ 48 ≤ 2 ^ r = pow-le-pow_right (omega arith) l in omega (arith, grows))
+  | inr l ↦ absurd (let grows : 2 ^ 48 ≤ 2 ^ r = pow-le-pow_right (omega arith) l in
+      omega (arith, grows))
 ]

@@ -1,5 +1,6 @@
 -- One voxel more of a walk of which only what lies in a box is kept.
-use Rattle.std.proofs.Common.{◌≡◌, ◌≢◌, ℕ, ◌⊎◌, ◌↔◌, inl, inr, Bool, true, false, Option, Some, List, [], ◌∷◌, map, sym, subst, ◌∙◌, ap, arith}
+use Rattle.std.proofs.Common.{◌≡◌, ◌≢◌, ℕ, ◌⊎◌, ◌↔◌, inl, inr, Bool, true, false, Option, Some}
+use Rattle.std.proofs.Common.{List, [], ◌∷◌, map, sym, subst, ◌∙◌, ap, arith}
 use Rattle.std.specs.Prelude.{min, max, Result, Ok, Err, IfOk}
 use Rattle.std.specs.List.{Contains}
 use Rattle.oct_key.specs.Voxel.{Voxel, IsInMap}
@@ -13,55 +14,93 @@ use Rattle.oct_scan.proofs.Kept.{kept_first, kept_without}
 use Rattle.oct_scan.proofs.Holding.{IsOnWay, way_passed, way_marked}
 
 -- the voxel of a code is tested where the voxel that was given is
-pub tested : (box : Corners) (code : ℕ) (k key : Voxel) (test : Bool) → IsInMap k → code ≡ morton_of k → ((l : Voxel) → IsInMap l → morton_of l ≡ code → l ≡ key) → test ≡ is_in_box box.lo box.hi key → is_in_box box.lo box.hi k ≡ test
-tested box code k key test on_map coded only is = ap (λ l. is_in_box box.lo box.hi l) (only k on_map (sym coded)) ∙ sym is
+pub tested : (box : Corners) (code : ℕ) (k key : Voxel) (test : Bool) → IsInMap k
+    → code ≡ morton_of k → ((l : Voxel) → IsInMap l → morton_of l ≡ code → l ≡ key)
+    → test ≡ is_in_box box.lo box.hi key → is_in_box box.lo box.hi k ≡ test
+tested box code k key test on_map coded only is =
+    ap (λ l. is_in_box box.lo box.hi l) (only k on_map (sym coded)) ∙ sym is
 
 -- what is left of a walk, with a voxel of the box before it, or with one outside
-left_with : (box : Corners) (k : Voxel) (ks ks' : List Voxel) → ks ≡ k ∷ ks' → is_in_box box.lo box.hi k ≡ true → kept (Some box) ks ≡ k ∷ kept (Some box) ks'
-left_with box k ks ks' first inside = ap (λ l. kept (Some box) l) first ∙ kept_first box k ks' inside
+left_with : (box : Corners) (k : Voxel) (ks ks' : List Voxel) → ks ≡ k ∷ ks'
+    → is_in_box box.lo box.hi k ≡ true → kept (Some box) ks ≡ k ∷ kept (Some box) ks'
+left_with box k ks ks' first inside = ap (λ l. kept (Some box) l) first
+    ∙ kept_first box k ks' inside
 
-pub way_outside : (end : ℕ) (old : List Brick) (walk : List Voxel) (bs : List Brick) (b : Brick) (box : Corners) (ks ks' : List Voxel) (k : Voxel) → ks ≡ k ∷ ks' → is_in_box box.lo box.hi k ≡ false → IsOnWay end old walk bs b (kept (Some box) ks) → IsOnWay end old walk bs b (kept (Some box) ks')
-way_outside end old walk bs b box ks ks' k first outside h = subst (λ l. IsOnWay end old walk bs b l) (ap (λ l. kept (Some box) l) first ∙ kept_without box k ks' outside) h
+pub way_outside : (end : ℕ) (old : List Brick) (walk : List Voxel) (bs : List Brick) (b : Brick)
+    (box : Corners) (ks ks' : List Voxel) (k : Voxel) → ks ≡ k ∷ ks'
+    → is_in_box box.lo box.hi k ≡ false → IsOnWay end old walk bs b (kept (Some box) ks)
+    → IsOnWay end old walk bs b (kept (Some box) ks')
+way_outside end old walk bs b box ks ks' k first outside h =
+    subst (λ l. IsOnWay end old walk bs b l)
+    (ap (λ l. kept (Some box) l) first ∙ kept_without box k ks' outside) h
 
-pub way_ended : (end : ℕ) (old : List Brick) (walk : List Voxel) (bs : List Brick) (b : Brick) (box : Corners) (ks ks' : List Voxel) (k : Voxel) (code : ℕ) → ks ≡ k ∷ ks' → is_in_box box.lo box.hi k ≡ true → code ≡ morton_of k → code ≡ end → IsOnWay end old walk bs b (kept (Some box) ks) → IsOnWay end old walk bs b (kept (Some box) ks')
-way_ended end old walk bs b box ks ks' k code first inside coded same h = way_passed end old walk bs b (kept (Some box) ks) (kept (Some box) ks') k code (left_with box k ks ks' first inside) coded same h
+pub way_ended : (end : ℕ) (old : List Brick) (walk : List Voxel) (bs : List Brick) (b : Brick)
+    (box : Corners) (ks ks' : List Voxel) (k : Voxel) (code : ℕ) → ks ≡ k ∷ ks'
+    → is_in_box box.lo box.hi k ≡ true → code ≡ morton_of k → code ≡ end
+    → IsOnWay end old walk bs b (kept (Some box) ks)
+    → IsOnWay end old walk bs b (kept (Some box) ks')
+way_ended end old walk bs b box ks ks' k code first inside coded same h =
+    way_passed end old walk bs b (kept (Some box) ks) (kept (Some box) ks') k code
+    (left_with box k ks ks' first inside) coded same h
 
-pub way_added : (end : ℕ) (old : List Brick) (walk : List Voxel) (bs bs' : List Brick) (b b' : Brick) (box : Corners) (ks ks' : List Voxel) (k : Voxel) (code : ℕ) → ks ≡ k ∷ ks' → is_in_box box.lo box.hi k ≡ true → code ≡ morton_of k → code ≢ end → ((c : ℕ) → IsHeld bs' b' c ↔ (IsHeld bs b c ⊎ (code ≡ c))) → IsOnWay end old walk bs b (kept (Some box) ks) → IsOnWay end old walk bs' b' (kept (Some box) ks')
-way_added end old walk bs bs' b b' box ks ks' k code first inside coded other marked h = way_marked end old walk bs bs' b b' (kept (Some box) ks) (kept (Some box) ks') k code (left_with box k ks ks' first inside) coded other marked h
+pub way_added : (end : ℕ) (old : List Brick) (walk : List Voxel) (bs bs' : List Brick)
+    (b b' : Brick) (box : Corners) (ks ks' : List Voxel) (k : Voxel) (code : ℕ) → ks ≡ k ∷ ks'
+    → is_in_box box.lo box.hi k ≡ true → code ≡ morton_of k → code ≢ end
+    → ((c : ℕ) → IsHeld bs' b' c ↔ (IsHeld bs b c ⊎ (code ≡ c)))
+    → IsOnWay end old walk bs b (kept (Some box) ks)
+    → IsOnWay end old walk bs' b' (kept (Some box) ks')
+way_added end old walk bs bs' b b' box ks ks' k code first inside coded other marked h =
+    way_marked end old walk bs bs' b b' (kept (Some box) ks) (kept (Some box) ks') k code
+    (left_with box k ks ks' first inside) coded other marked h
 
 -- what lies in the box that two voxels of a box span lies in that box
-pub spanned_inside : (box : Corners) (a b k : Voxel) → IsInBox box.lo box.hi a → IsInBox box.lo box.hi b → IsSpanned a b k → IsInBox box.lo box.hi k
+pub spanned_inside : (box : Corners) (a b k : Voxel) → IsInBox box.lo box.hi a
+    → IsInBox box.lo box.hi b → IsSpanned a b k → IsInBox box.lo box.hi k
 spanned_inside box a b k first last h = record {
   x = on_axis box.lo.x box.hi.x a.x b.x k.x first.x last.x h.x;
   y = on_axis box.lo.y box.hi.y a.y b.y k.y first.y last.y h.y;
   z = on_axis box.lo.z box.hi.z a.z b.z k.z first.z last.z h.z;
 }
   where
-    on_axis : (low high i j n : ℕ) → IsBetween low high i → IsBetween low high j → IsBetween (min i j) (max i j) n → IsBetween low high n
+    on_axis : (low high i j n : ℕ) → IsBetween low high i → IsBetween low high j
+        → IsBetween (min i j) (max i j) n → IsBetween low high n
     on_axis low high i j n (a, b) (c, d) (e, f) = (omega (arith, a, c, e), omega (arith, b, d, f))
 
 -- the codes of voxels, but not that of the end, have come to those of bricks
 abbrev pub AreAdded : List Brick → List Brick → List Voxel → ℕ → Type 0
-AreAdded old new ks end = (c : ℕ) → Contains (scanned_codes new) c ↔ (Contains (scanned_codes old) c ⊎ (Contains (map morton_of ks) c × (end ≢ c)))
+AreAdded old new ks end = (c : ℕ)
+    → Contains (scanned_codes new) c
+    ↔ (Contains (scanned_codes old) c ⊎ (Contains (map morton_of ks) c × (end ≢ c)))
 
 -- what is added in one box is what is added in another, where both keep the same
-added_so : (window window' : Option Corners) (end end' : ℕ) (walk : List Voxel) (room : ℕ) (old new : List Brick) (met : ℕ) → kept window' walk ≡ kept window walk → end ≡ end'
+added_so : (window window' : Option Corners) (end end' : ℕ) (walk : List Voxel) (room : ℕ)
+    (old new : List Brick) (met : ℕ) → kept window' walk ≡ kept window walk → end ≡ end'
     → IsWayAdded window end walk room old new met → IsWayAdded window' end' walk room old new met
 added_so window window' end end' walk room old new met same is h = record {
   counted = h.counted;
   on_map = h.on_map;
-  scanned = λ fits. subst (λ l. AreAdded old new l end') (sym same) (subst (λ e. AreAdded old new (kept window walk) e) is (h.scanned fits));
+  scanned = λ fits. subst (λ l. AreAdded old new l end') (sym same)
+      (subst (λ e. AreAdded old new (kept window walk) e) is (h.scanned fits));
   hits = h.hits;
   bricks = h.bricks;
 }
 
-pub added_as : {E : Type 0} (r : Result ℕ E) (window window' : Option Corners) (end end' : ℕ) (walk : List Voxel) (room : ℕ) (old new : List Brick) → kept window' walk ≡ kept window walk → end ≡ end'
-    → IfOk r (IsWayAdded window end walk room old new) → IfOk r (IsWayAdded window' end' walk room old new)
-added_as (Ok met) window window' end end' walk room old new same is h = added_so window window' end end' walk room old new met same is h
+pub added_as : {E : Type 0} (r : Result ℕ E) (window window' : Option Corners) (end end' : ℕ)
+    (walk : List Voxel) (room : ℕ) (old new : List Brick) → kept window' walk ≡ kept window walk
+    → end ≡ end'
+    → IfOk r (IsWayAdded window end walk room old new)
+    → IfOk r (IsWayAdded window' end' walk room old new)
+added_as (Ok met) window window' end end' walk room old new same is h =
+    added_so window window' end end' walk room old new met same is h
 added_as (Err e) window window' end end' walk room old new same is h = h
 
 pub none_added : (old : List Brick) (ks : List Voxel) (end : ℕ) → ks ≡ [] → AreAdded old old ks end
 none_added old ks end none c = (
   λ h. inl h,
-  λ h. elim h [ inl k ↦ k | inr k ↦ absurd (contains_none c (subst (λ (l : List Voxel). Contains (map morton_of l) c) none k.0)) ],
+  λ h. elim h [
+    | inl k ↦ k
+    | inr k ↦
+        absurd (contains_none c (subst (λ (l : List Voxel). Contains (map morton_of l) c) none
+        k.0))
+  ],
 )

@@ -1,5 +1,7 @@
 -- When a scan takes memory: its origin lies in the map, and its first beam ends there.
-use Rattle.std.proofs.Common.{◌≡◌, ◌≢◌, ℕ, suc, ◌+◌, ◌*◌, ◌<◌, ◌≤◌, ◌↔◌, inl, inr, Bool, true, false, not, List, [], ◌∷◌, ◌++◌, map, length, take, get_or, Option, Some, None, refl, sym, subst, ◌∙◌, ap, arith}
+use Rattle.std.proofs.Common.{◌≡◌, ◌≢◌, ℕ, suc, ◌+◌, ◌*◌, ◌<◌, ◌≤◌, ◌↔◌, inl, inr, Bool, true}
+use Rattle.std.proofs.Common.{false, not, List, [], ◌∷◌, ◌++◌, map, length, take, get_or, Option}
+use Rattle.std.proofs.Common.{Some, None, refl, sym, subst, ◌∙◌, ap, arith}
 use Rattle.std.specs.Prelude.{cond, nat_lt, is_none, IsSome, IsNone}
 use Rattle.std.specs.Int.{w64, trailing_zeros}
 use Rattle.std.specs.List.{All, Any, Contains, position, position_or_len}
@@ -24,10 +26,12 @@ use Rattle.oct_scan.specs.Scanned.{IsHit, IsFreed, IsScanned, IsNeed}
 use Rattle.oct_scan.proofs.OutsideEnds.{made_more, all_inside_more}
 
 -- a test that fails of the first element finds it nowhere at first
-not_first : {X : Type 0} (p : X → Bool) (x : X) (xs : List X) → p x ≡ false → position p (x ∷ xs) ≢ Some 0
+not_first : {X : Type 0} (p : X → Bool) (x : X) (xs : List X) → p x ≡ false
+    → position p (x ∷ xs) ≢ Some 0
 not_first p x xs fails e =
     let n : ℕ = position_or_len p xs in
-    let later : position p (x ∷ xs) ≡ cond (nat_lt (1 + n) (length (x ∷ xs))) (Some (1 + n)) None = rw fails refl in
+    let later : position p (x ∷ xs) ≡ cond (nat_lt (1 + n) (length (x ∷ xs))) (Some (1 + n)) None =
+    rw fails refl in
     not_zero (nat_lt (1 + n) (length (x ∷ xs))) (1 + n) (omega arith) (sym later ∙ e)
   where
     not_zero : (b : Bool) (n : ℕ) → 0 < n → ◌≡◌ {A = Option ℕ} (cond b (Some n) None) (Some 0) → ⊥
@@ -35,20 +39,36 @@ not_first p x xs fails e =
     not_zero false n some e = absurd (let h : ⊥ = cc in h)
 
 -- where the beams so far end inside, and one more, the first one does
-pub begins_inside : (edge : ℕ) (scan : Sighting) (points : List Point) (items : List Beam) (i : ℕ) (b : Beam) (d : Point) → points ≡ scan.points → i < length points → items ≡ map (beam_to scan) (take i points) → All (λ b. IsSome (key_at edge b.end)) items → b ≡ beam_to scan (get_or points i d) → IsSome (key_at edge b.end) → BeginsInside edge scan
+pub begins_inside : (edge : ℕ) (scan : Sighting) (points : List Point) (items : List Beam) (i : ℕ)
+    (b : Beam) (d : Point) → points ≡ scan.points → i < length points
+    → items ≡ map (beam_to scan) (take i points) → All (λ b. IsSome (key_at edge b.end)) items
+    → b ≡ beam_to scan (get_or points i d) → IsSome (key_at edge b.end) → BeginsInside edge scan
 begins_inside edge scan points items i b d same l made all is one =
-    subst (λ ps. (0 < length ps) × (position (λ b. is_none (key_at edge b.end)) (map (beam_to scan) ps) ≢ Some 0)) same
-    (first points l (subst (All (λ b. IsSome (key_at edge b.end))) (made_more scan points items (items ++ b ∷ []) i b d l made refl is) (all_inside_more edge items (items ++ b ∷ []) b refl all one)))
+    subst (λ ps. (0 < length ps)
+    × (position (λ b. is_none (key_at edge b.end)) (map (beam_to scan) ps) ≢ Some 0)) same
+    (first points l (subst (All (λ b. IsSome (key_at edge b.end)))
+    (made_more scan points items (items ++ b ∷ []) i b d l made refl is)
+    (all_inside_more edge items (items ++ b ∷ []) b refl all one)))
   where
-    first : (ps : List Point) → i < length ps → All (λ b. IsSome (key_at edge b.end)) (map (beam_to scan) (take (i + 1) ps)) → (0 < length ps) × (position (λ b. is_none (key_at edge b.end)) (map (beam_to scan) ps) ≢ Some 0)
+    first : (ps : List Point) → i < length ps
+        → All (λ b. IsSome (key_at edge b.end)) (map (beam_to scan) (take (i + 1) ps))
+        → (0 < length ps) × (position (λ b. is_none (key_at edge b.end)) (map (beam_to scan) ps) ≢
+        Some 0)
     first [] l all = absurd (omega (arith, l))
     first (p ∷ ps) l all =
         let next : i + 1 ≡ suc i = omega arith in
-        let inside : IsSome (key_at edge (beam_to scan p).end) = All-head (λ b. IsSome (key_at edge b.end)) (beam_to scan p) (map (beam_to scan) (take i ps)) (subst (λ n. All (λ b. IsSome (key_at edge b.end)) (map (beam_to scan) (take n (p ∷ ps)))) next all) in
-        (omega arith, not_first (λ b. is_none (key_at edge b.end)) (beam_to scan p) (map (beam_to scan) ps) (ap not inside))
+        let inside : IsSome (key_at edge (beam_to scan p).end) =
+        All-head (λ b. IsSome (key_at edge b.end)) (beam_to scan p) (map (beam_to scan) (take i ps))
+        (subst (λ n. All (λ b. IsSome (key_at edge b.end)) (map (beam_to scan) (take n (p ∷ ps))))
+        next all) in (
+          omega arith,
+          not_first (λ b. is_none (key_at edge b.end)) (beam_to scan p)
+              (map (beam_to scan) ps) (ap not inside),
+        )
 
 -- a scan that is inside takes memory where it has a point
-pub takes_inside : (edge : ℕ) (scan : Sighting) → IsInside edge scan → 0 < length scan.points → TakesMemory edge scan
+pub takes_inside : (edge : ℕ) (scan : Sighting) → IsInside edge scan → 0 < length scan.points
+    → TakesMemory edge scan
 takes_inside edge scan (origin, ends) some = (origin, (some, λ e. not_none (subst IsNone e ends)))
   where
     not_none : IsNone {T = ℕ} (Some 0) → ⊥
@@ -62,40 +82,63 @@ any_point : (scan : Sighting) (P : Beam → Type 0) → Any P (beams_of scan) �
 any_point scan P (k, b, l, is, holds) = points_of scan (omega (arith, l))
 
 -- so that a scan that changes a voxel has a point
-pub scanned_point : (edge : ℕ) (window : Option Corners) (scan : Sighting) (k : Voxel) → IsScanned edge window scan k → 0 < length scan.points
+pub scanned_point : (edge : ℕ) (window : Option Corners) (scan : Sighting) (k : Voxel)
+    → IsScanned edge window scan k → 0 < length scan.points
 scanned_point edge window scan k (within, inl hit) = any_point scan _ hit
 scanned_point edge window scan k (within, inr freed) = any_point scan _ freed.1
 
 -- and so has one that may need a group
-pub need_point : (edge : ℕ) (window : Option Corners) (scan : Sighting) (need : ℕ) → IsNeed edge window scan need → 0 < need → 0 < length scan.points
-need_point edge window scan need is some = block is.blocks (omega (arith, is.counted, some)) (λ b h. (is.listed b).0 h)
+pub need_point : (edge : ℕ) (window : Option Corners) (scan : Sighting) (need : ℕ)
+    → IsNeed edge window scan need → 0 < need → 0 < length scan.points
+need_point edge window scan need is some =
+    block is.blocks (omega (arith, is.counted, some)) (λ b h. (is.listed b).0 h)
   where
-    block : (bs : List Cube) → 0 < length bs → ((b : Cube) → Contains bs b → (b.depth ≤ 15) × ((k : Voxel) × IsScanned edge window scan k × HoldsVoxel b k)) → 0 < length scan.points
+    block : (bs : List Cube) → 0 < length bs
+        → ((b : Cube) → Contains bs b
+        → (b.depth ≤ 15) × ((k : Voxel) × IsScanned edge window scan k × HoldsVoxel b k))
+        → 0 < length scan.points
     block [] l each = absurd (omega (arith, l))
-    block (b ∷ bs) l each = (let (deep, (k, scanned, held)) = each b (contains_here b bs) in scanned_point edge window scan k scanned)
+    block (b ∷ bs) l each = (let (deep, (k, scanned, held)) = each b (contains_here b bs) in
+        scanned_point edge window scan k scanned)
 
 -- a brick has the code of a voxel that changes
 brick_code : (b : Brick) → IsBrick b → (code : ℕ) × HasCode b.code b.scanned code
-brick_code b is = (64 * b.code + trailing_zeros w64 b.scanned, some_code b.code b.scanned is.some is.fits)
+brick_code b is = (
+  64 * b.code + trailing_zeros w64 b.scanned,
+  some_code b.code b.scanned is.some is.fits,
+)
 
 -- bricks that were gathered are those of beams
-pub gathered_some : (edge : ℕ) (window : Option Corners) (o : Point) (beams : List Beam) (bricks : List Brick) (most : ℕ) → HoldGathered edge window o beams bricks most → All IsBrick bricks → 0 < length bricks → 0 < length beams
+pub gathered_some : (edge : ℕ) (window : Option Corners) (o : Point) (beams : List Beam)
+    (bricks : List Brick) (most : ℕ) → HoldGathered edge window o beams bricks most
+    → All IsBrick bricks → 0 < length bricks → 0 < length beams
 gathered_some edge window o beams [] most held all some = absurd (omega (arith, some))
 gathered_some edge window o beams (b ∷ bs) most held all some =
     let (code, has) = brick_code b (All-head IsBrick b bs all) in
-    let listed : Contains (scanned_codes (b ∷ bs)) code = by_listed (λ b. b.scanned) (b ∷ bs) code b (contains_here b bs) has in
-    let (beam, (n, l, there), marked) = (held.gathered.marks code).0 ((held.held.same_scanned code).1 listed) in
+    let listed : Contains (scanned_codes (b ∷ bs)) code =
+    by_listed (λ b. b.scanned) (b ∷ bs) code b (contains_here b bs) has in
+    let (beam, (n, l, there), marked) =
+    (held.gathered.marks code).0 ((held.held.same_scanned code).1 listed) in
     omega (arith, l)
 
 -- and bricks of the voxels that a scan changes are those of points
-pub bricks_point : (edge : ℕ) (window : Option Corners) (scan : Sighting) (bricks : List Brick) → All IsBrick bricks → ((k : Voxel) → Contains (hit_voxels bricks) k ↔ (IsInWindow window k × IsHit edge scan k)) → ((k : Voxel) → Contains (freed_voxels bricks) k ↔ (IsInWindow window k × IsFreed edge scan k)) → 0 < length bricks → 0 < length scan.points
+pub bricks_point : (edge : ℕ) (window : Option Corners) (scan : Sighting) (bricks : List Brick)
+    → All IsBrick bricks → ((k : Voxel)
+    → Contains (hit_voxels bricks) k ↔ (IsInWindow window k × IsHit edge scan k))
+    → ((k : Voxel) → Contains (freed_voxels bricks) k ↔ (IsInWindow window k × IsFreed edge scan k))
+    → 0 < length bricks → 0 < length scan.points
 bricks_point edge window scan [] all hits frees some = absurd (omega (arith, some))
 bricks_point edge window scan (b ∷ bs) all hits frees some =
     let is : IsBrick b = All-head IsBrick b bs all in
     let (code, has) = brick_code b is in
     elim (has_tells b.code b.hits code has.inside) [
-      | inl hit ↦ (let (within, is_hit) = (hits (coded_voxel code)).0 (contains_map coded_voxel (hit_codes (b ∷ bs)) code (by_listed (λ b. b.hits) (b ∷ bs) code b (contains_here b bs) hit)) in
+      | inl hit ↦ (let (within, is_hit) = (hits (coded_voxel code)).0
+          (contains_map coded_voxel (hit_codes (b ∷ bs)) code
+          (by_listed (λ b. b.hits) (b ∷ bs) code b (contains_here b bs) hit)) in
           scanned_point edge window scan (coded_voxel code) (within, inl is_hit))
-      | inr not ↦ (let (within, is_freed) = (frees (coded_voxel code)).0 (contains_map coded_voxel (freed_codes (b ∷ bs)) code (by_listed frees_of (b ∷ bs) code b (contains_here b bs) ((and_not b.code b.scanned b.hits code is.hits_fit).1 (has, not)))) in
+      | inr not ↦ (let (within, is_freed) = (frees (coded_voxel code)).0
+          (contains_map coded_voxel (freed_codes (b ∷ bs)) code
+          (by_listed frees_of (b ∷ bs) code b (contains_here b bs)
+          ((and_not b.code b.scanned b.hits code is.hits_fit).1 (has, not)))) in
           scanned_point edge window scan (coded_voxel code) (within, inr is_freed))
     ]

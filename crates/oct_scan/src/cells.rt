@@ -1,10 +1,9 @@
-ghost use Rattle.std.specs.Prelude.{◌≡◌, ◌≢◌, ℕ, ◌+◌, ◌*◌, ◌/◌, ◌^◌, ◌<◌, ◌≤◌, ◌↔◌, ◌⊎◌, List, []};
+ghost use Rattle.std.specs.Prelude.{◌≡◌, ℕ, ◌+◌, ◌*◌, ◌/◌, ◌^◌, ◌<◌, ◌≤◌, ◌↔◌, ◌⊎◌, []};
 ghost use Rattle.std.specs.Prelude.{◌∷◌, length, map, if◌then◌else◌, All, Contains, IfOk, IfErr};
 ghost use Rattle.std.specs.Prelude.{OnOk, OnErr, IsSome, IsTrue, Option, Some};
 ghost use Rattle.oct_key.specs.Boxes.{IsInBox};
 ghost use Rattle.oct_key.specs.Voxel.{Voxel, IsInMap, key_at};
 ghost use Rattle.oct_key.specs.Morton.{morton_of};
-ghost use Rattle.oct_brick.specs.Masks.{HasCode};
 ghost use Rattle.oct_brick.specs.Bricks.{scanned_codes, hit_codes, IsBrick};
 ghost use Rattle.oct_scan.specs.Answer.{MeetsSoMany, MeetAtMost, IsExcessFault};
 ghost use Rattle.oct_scan.specs.Gathered.{HoldGathered, IsBeamHeld, IsHeld, IsCurrent, IsSpanned};

@@ -1,5 +1,6 @@
 -- How a build ends.
-use Rattle.std.proofs.Common.{◌≡◌, ℕ, List, true, false, Option, Some, None, IfSome, inl, inr, refl, sym, ap, subst, ◌∙◌, arith}
+use Rattle.std.proofs.Common.{◌≡◌, ℕ, List, true, false, Option, Some, None, IfSome, inl, inr, refl}
+use Rattle.std.proofs.Common.{sym, ap, subst, ◌∙◌, arith}
 use Rattle.oct_bt.specs.File.{bt_text}
 use Rattle.oct_io.specs.Taken.{IsCutOff}
 use Rattle.oct_bt.specs.Mixtures.{classes_in}
@@ -7,7 +8,8 @@ use Rattle.oct_io.specs.Files.{Files}
 use Rattle.oct_io.specs.Told.{appended, Rose}
 use Rattle.oct_io.proofs.Appending.{appended_nil}
 use Rattle.oct_session.specs.Building as built
-use Rattle.oct_session.specs.Building.{last_state, text_built, build, has_ended, EndsWriting, IsHaltedBehind}
+use Rattle.oct_session.specs.Building.{last_state, text_built, build, has_ended, EndsWriting}
+use Rattle.oct_session.specs.Building.{IsHaltedBehind}
 use Rattle.oct_session.specs.Ending as script
 use Rattle.oct_session.specs.Ending.{IsAnswered, IsReadToEnd, IsWhole}
 use Rattle.oct_session.specs.FileCommands.{classes_file}
@@ -20,10 +22,14 @@ use Rattle.oct_session.specs.declared.options.Status.TheVariants as status
 use Rattle.oct_session.proofs.Loading.{same_file}
 
 -- the text of a build whose script has ended
-text_of_build : (o : Setup) (files : Option Files) (bytes : List ℕ) (ended : Status) → has_ended ended ≡ true → (session o files bytes).status ≡ ended → (build o files bytes).text ≡ classes_file (last_state o files bytes)
+text_of_build : (o : Setup) (files : Option Files) (bytes : List ℕ) (ended : Status)
+    → has_ended ended ≡ true → (session o files bytes).status ≡ ended
+    → (build o files bytes).text ≡ classes_file (last_state o files bytes)
 unfolding build
-text_of_build o files bytes status.Done over same = ap (text_built (classes_file (last_state o files bytes))) same
-text_of_build o files bytes status.Refused over same = ap (text_built (classes_file (last_state o files bytes))) same
+text_of_build o files bytes status.Done over same =
+    ap (text_built (classes_file (last_state o files bytes))) same
+text_of_build o files bytes status.Refused over same =
+    ap (text_built (classes_file (last_state o files bytes))) same
 text_of_build o files bytes status.Usage ended same = cc
 text_of_build o files bytes status.BadFile ended same = cc
 text_of_build o files bytes status.TooLong ended same = cc
@@ -32,23 +38,30 @@ text_of_build o files bytes status.WriteFault ended same = cc
 text_of_build o files bytes status.Memory ended same = cc
 text_of_build o files bytes status.StoreFault ended same = cc
 
-status_of_build : (o : Setup) (files : Option Files) (bytes : List ℕ) → (build o files bytes).status ≡ (session o files bytes).status
+status_of_build : (o : Setup) (files : Option Files) (bytes : List ℕ)
+    → (build o files bytes).status ≡ (session o files bytes).status
 unfolding build
 status_of_build o files bytes = refl
 
-files_of_build : (o : Setup) (files : Option Files) (bytes : List ℕ) → (build o files bytes).files ≡ (session o files bytes).files
+files_of_build : (o : Setup) (files : Option Files) (bytes : List ℕ)
+    → (build o files bytes).files ≡ (session o files bytes).files
 unfolding build
 files_of_build o files bytes = refl
 
 -- what a script that has ended leaves
-record HasDone (o : Setup) (files : Option Files) (bytes : List ℕ) (left : Option (List ℕ)) (d : Desk) (ended : Status) : Type 0 where
+record HasDone (o : Setup) (files : Option Files) (bytes : List ℕ) (left : Option (List ℕ))
+    (d : Desk) (ended : Status) : Type 0 where
   pub same : (session o files bytes).status ≡ ended
   pub end : IsReadToEnd o files bytes left
   pub like : IsLikeAfter o (last_progress o files bytes) d
 
-has_done : (o : Setup) (files : Option Files) (bytes : List ℕ) (left : Option (List ℕ)) (d : Desk) (ended : Status) → has_ended ended ≡ true → script.MayEnd o files bytes left None None ended → lent.Leaves o files bytes left None None d ended → HasDone o files bytes left d ended
-has_done o files bytes left d status.Done over ends leaves = record { same = ends.0.same_status; end = ends.1; like = leaves }
-has_done o files bytes left d status.Refused over ends leaves = record { same = ends.0.same_status; end = ends.1; like = leaves }
+has_done : (o : Setup) (files : Option Files) (bytes : List ℕ) (left : Option (List ℕ)) (d : Desk)
+    (ended : Status) → has_ended ended ≡ true → script.MayEnd o files bytes left None None ended
+    → lent.Leaves o files bytes left None None d ended → HasDone o files bytes left d ended
+has_done o files bytes left d status.Done over ends leaves =
+    record { same = ends.0.same_status; end = ends.1; like = leaves }
+has_done o files bytes left d status.Refused over ends leaves =
+    record { same = ends.0.same_status; end = ends.1; like = leaves }
 has_done o files bytes left d status.Usage over ends leaves = absurd ends
 has_done o files bytes left d status.BadFile over ends leaves = absurd ends
 has_done o files bytes left d status.TooLong over ends leaves = cc
@@ -58,75 +71,146 @@ has_done o files bytes left d status.Memory over ends leaves = cc
 has_done o files bytes left d status.StoreFault over ends leaves = cc
 
 -- a build that has written its file, or a part of it
-build_ends : (o : Setup) (files : Option Files) (bytes : List ℕ) (left v u : Option (List ℕ)) (d : Desk) (ended result : Status) (text : List ℕ) → has_ended ended ≡ true → HasDone o files bytes left d ended → text ≡ (build o files bytes).text →
-    EndsWriting text v u ended result → built.MayEnd o files bytes left v u result × built.Leaves o files bytes left d result
-build_ends o files bytes left v u d ended status.WriteFault text over done is writes = (record { begun = subst (IsCutOff v u) is writes; end = done.end }, done.like)
-build_ends o files bytes left v u d ended status.Memory text over done is writes = (inr (record { begun = subst (IsCutOff v u) is writes; end = done.end }), inr done.like)
-build_ends o files bytes left v u d ended status.Done text over done is writes =
-    ((record { written = writes.1 ∙ ap (appended v) is; same_status = status_of_build o files bytes ∙ done.same ∙ sym writes.0 }, done.end), done.like)
-build_ends o files bytes left v u d ended status.Refused text over done is writes =
-    ((record { written = writes.1 ∙ ap (appended v) is; same_status = status_of_build o files bytes ∙ done.same ∙ sym writes.0 }, done.end), done.like)
-build_ends o files bytes left v u d ended status.Usage text over done is writes = let wrong : has_ended status.Usage ≡ true = ap has_ended writes.0 ∙ over in cc
-build_ends o files bytes left v u d ended status.BadFile text over done is writes = let wrong : has_ended status.BadFile ≡ true = ap has_ended writes.0 ∙ over in cc
-build_ends o files bytes left v u d ended status.TooLong text over done is writes = let wrong : has_ended status.TooLong ≡ true = ap has_ended writes.0 ∙ over in cc
-build_ends o files bytes left v u d ended status.ReadFault text over done is writes = let wrong : has_ended status.ReadFault ≡ true = ap has_ended writes.0 ∙ over in cc
-build_ends o files bytes left v u d ended status.StoreFault text over done is writes = let wrong : has_ended status.StoreFault ≡ true = ap has_ended writes.0 ∙ over in cc
+build_ends : (o : Setup) (files : Option Files) (bytes : List ℕ) (left v u : Option (List ℕ))
+    (d : Desk) (ended result : Status) (text : List ℕ) → has_ended ended ≡ true
+    → HasDone o files bytes left d ended → text ≡ (build o files bytes).text →
+    EndsWriting text v u ended result
+    → built.MayEnd o files bytes left v u result × built.Leaves o files bytes left d result
+build_ends o files bytes left v u d ended status.WriteFault text over done is writes =
+    (record { begun = subst (IsCutOff v u) is writes; end = done.end }, done.like)
+build_ends o files bytes left v u d ended status.Memory text over done is writes =
+    (inr (record { begun = subst (IsCutOff v u) is writes; end = done.end }), inr done.like)
+build_ends o files bytes left v u d ended status.Done text over done is writes = (
+  (
+    record {
+      written = writes.1 ∙ ap (appended v) is;
+      same_status = status_of_build o files bytes
+          ∙ done.same ∙ sym writes.0;
+    },
+    done.end,
+  ),
+  done.like,
+)
+build_ends o files bytes left v u d ended status.Refused text over done is writes = (
+  (
+    record {
+      written = writes.1 ∙ ap (appended v) is;
+      same_status = status_of_build o files bytes
+          ∙ done.same ∙ sym writes.0;
+    },
+    done.end,
+  ),
+  done.like,
+)
+build_ends o files bytes left v u d ended status.Usage text over done is writes =
+    let wrong : has_ended status.Usage ≡ true = ap has_ended writes.0 ∙ over in cc
+build_ends o files bytes left v u d ended status.BadFile text over done is writes =
+    let wrong : has_ended status.BadFile ≡ true = ap has_ended writes.0 ∙ over in cc
+build_ends o files bytes left v u d ended status.TooLong text over done is writes =
+    let wrong : has_ended status.TooLong ≡ true = ap has_ended writes.0 ∙ over in cc
+build_ends o files bytes left v u d ended status.ReadFault text over done is writes =
+    let wrong : has_ended status.ReadFault ≡ true = ap has_ended writes.0 ∙ over in cc
+build_ends o files bytes left v u d ended status.StoreFault text over done is writes =
+    let wrong : has_ended status.StoreFault ≡ true = ap has_ended writes.0 ∙ over in cc
 
 -- how a session ended that tells no one what it replies, and what it left
-abbrev EndsSilent : Setup → Option Files → Option (List ℕ) → Option (List ℕ) → Desk → Status → Type 0
+abbrev EndsSilent : Setup → Option Files → Option (List ℕ) → Option (List ℕ) → Desk → Status
+    → Type 0
 EndsSilent o files left after d ended =
-    IfSome left (λ bytes. ReadsTold o files bytes → script.MayEnd o files bytes after None None ended)
-    × IfSome left (λ bytes. ReadsTold o files bytes → lent.Leaves o files bytes after None None d ended)
+    IfSome left (λ bytes. ReadsTold o files bytes
+    → script.MayEnd o files bytes after None None ended)
+    × IfSome left (λ bytes. ReadsTold o files bytes
+    → lent.Leaves o files bytes after None None d ended)
 
 -- a build whose script has ended: what was written, and what is left
-written_ends : (o : Setup) (files : Option Files) (bytes : List ℕ) (left v u : Option (List ℕ)) (d : Desk) (ended result : Status) → has_ended ended ≡ true → script.MayEnd o files bytes left None None ended → lent.Leaves o files bytes left None None d ended →
-    EndsWriting (bt_text d.map.tree.res (classes_in d.map.tree)) v u ended result → built.MayEnd o files bytes left v u result × built.Leaves o files bytes left d result
+written_ends : (o : Setup) (files : Option Files) (bytes : List ℕ) (left v u : Option (List ℕ))
+    (d : Desk) (ended result : Status) → has_ended ended ≡ true
+    → script.MayEnd o files bytes left None None ended
+    → lent.Leaves o files bytes left None None d ended →
+    EndsWriting (bt_text d.map.tree.res (classes_in d.map.tree)) v u ended result
+    → built.MayEnd o files bytes left v u result × built.Leaves o files bytes left d result
 written_ends o files bytes left v u d ended result over ends leaves writes =
     let done = has_done o files bytes left d ended over ends leaves in
-    build_ends o files bytes left v u d ended result (bt_text d.map.tree.res (classes_in d.map.tree)) over done
-    (same_file d.map (last_state o files bytes) done.like.stands ∙ sym (text_of_build o files bytes ended over done.same)) writes
+    build_ends o files bytes left v u d ended result
+    (bt_text d.map.tree.res (classes_in d.map.tree)) over done
+    (same_file d.map (last_state o files bytes) done.like.stands
+    ∙ sym (text_of_build o files bytes ended over done.same)) writes
 
-pub written_answer : (o : Setup) (files : Option Files) (left after v u : Option (List ℕ)) (d : Desk) (ended result : Status) → has_ended ended ≡ true → EndsSilent o files left after d ended →
-    EndsWriting (bt_text d.map.tree.res (classes_in d.map.tree)) v u ended result → IfSome left (λ bytes. ReadsTold o files bytes → built.MayEnd o files bytes after v u result)
+pub written_answer : (o : Setup) (files : Option Files) (left after v u : Option (List ℕ))
+    (d : Desk) (ended result : Status) → has_ended ended ≡ true
+    → EndsSilent o files left after d ended →
+    EndsWriting (bt_text d.map.tree.res (classes_in d.map.tree)) v u ended result
+    → IfSome left (λ bytes. ReadsTold o files bytes → built.MayEnd o files bytes after v u result)
 written_answer o files None after v u d ended result over served writes = tt
-written_answer o files (Some bytes) after v u d ended result over served writes = λ told. (written_ends o files bytes after v u d ended result over (served.0 told) (served.1 told) writes).0
+written_answer o files (Some bytes) after v u d ended result over served writes =
+    λ told. (written_ends o files bytes after v u d ended result over (served.0 told)
+    (served.1 told) writes).0
 
-pub written_leaves : (o : Setup) (files : Option Files) (left after v u : Option (List ℕ)) (d : Desk) (ended result : Status) → has_ended ended ≡ true → EndsSilent o files left after d ended →
-    EndsWriting (bt_text d.map.tree.res (classes_in d.map.tree)) v u ended result → IfSome left (λ bytes. ReadsTold o files bytes → built.Leaves o files bytes after d result)
+pub written_leaves : (o : Setup) (files : Option Files) (left after v u : Option (List ℕ))
+    (d : Desk) (ended result : Status) → has_ended ended ≡ true
+    → EndsSilent o files left after d ended →
+    EndsWriting (bt_text d.map.tree.res (classes_in d.map.tree)) v u ended result
+    → IfSome left (λ bytes. ReadsTold o files bytes → built.Leaves o files bytes after d result)
 written_leaves o files None after v u d ended result over served writes = tt
-written_leaves o files (Some bytes) after v u d ended result over served writes = λ told. (written_ends o files bytes after v u d ended result over (served.0 told) (served.1 told) writes).1
+written_leaves o files (Some bytes) after v u d ended result over served writes =
+    λ told. (written_ends o files bytes after v u d ended result over (served.0 told)
+    (served.1 told) writes).1
 
 -- nothing is written where the script is too long
-answered_long : (o : Setup) (files : Option Files) (bytes : List ℕ) (v u : Option (List ℕ)) → (session o files bytes).status ≡ status.TooLong → u ≡ v → IsAnswered (build o files bytes) v u status.TooLong
+answered_long : (o : Setup) (files : Option Files) (bytes : List ℕ) (v u : Option (List ℕ))
+    → (session o files bytes).status ≡ status.TooLong → u ≡ v
+    → IsAnswered (build o files bytes) v u status.TooLong
 unfolding build
 answered_long o files bytes v u same unwritten = record {
-  written = unwritten ∙ appended_nil v ∙ ap (λ s. appended v (text_built (classes_file (last_state o files bytes)) s)) (sym same);
+  written = unwritten ∙ appended_nil v
+      ∙ ap (λ s. appended v (text_built (classes_file (last_state o files bytes)) s)) (sym same);
   same_status = same;
 }
 
-stopped_ends : (o : Setup) (files : Option Files) (bytes : List ℕ) (left v u : Option (List ℕ)) (d : Desk) (ended : Status) → has_ended ended ≡ false → (ended ≡ status.WriteFault → ⊥) → u ≡ v →
-    script.MayEnd o files bytes left None None ended → lent.Leaves o files bytes left None None d ended → built.MayEnd o files bytes left v u ended × built.Leaves o files bytes left d ended
+stopped_ends : (o : Setup) (files : Option Files) (bytes : List ℕ) (left v u : Option (List ℕ))
+    (d : Desk) (ended : Status) → has_ended ended ≡ false → (ended ≡ status.WriteFault → ⊥)
+    → u ≡ v →
+    script.MayEnd o files bytes left None None ended
+    → lent.Leaves o files bytes left None None d ended
+    → built.MayEnd o files bytes left v u ended × built.Leaves o files bytes left d ended
 stopped_ends o files bytes left v u d status.Done going calm unwritten ends leaves = cc
 stopped_ends o files bytes left v u d status.Refused going calm unwritten ends leaves = cc
 stopped_ends o files bytes left v u d status.Usage going calm unwritten ends leaves = absurd ends
 stopped_ends o files bytes left v u d status.BadFile going calm unwritten ends leaves = absurd ends
-stopped_ends o files bytes left v u d status.TooLong going calm unwritten ends leaves =
-    ((answered_long o files bytes v u ends.0.same_status unwritten, record { unwritten = unwritten; stopped = ends }), leaves)
-stopped_ends o files bytes left v u d status.ReadFault going calm unwritten ends leaves = (record { unwritten = unwritten; stopped = ends }, leaves)
-stopped_ends o files bytes left v u d status.WriteFault going calm unwritten ends leaves = absurd (calm refl)
-stopped_ends o files bytes left v u d status.Memory going calm unwritten ends leaves = (inl (record { unwritten = unwritten; stopped = ends }), inl leaves)
-stopped_ends o files bytes left v u d status.StoreFault going calm unwritten ends leaves = (record { unwritten = unwritten; stopped = ends }, leaves)
+stopped_ends o files bytes left v u d status.TooLong going calm unwritten ends leaves = (
+  (
+    answered_long o files bytes v u ends.0.same_status unwritten,
+    record { unwritten = unwritten; stopped = ends },
+  ),
+  leaves,
+)
+stopped_ends o files bytes left v u d status.ReadFault going calm unwritten ends leaves =
+    (record { unwritten = unwritten; stopped = ends }, leaves)
+stopped_ends o files bytes left v u d status.WriteFault going calm unwritten ends leaves =
+    absurd (calm refl)
+stopped_ends o files bytes left v u d status.Memory going calm unwritten ends leaves =
+    (inl (record { unwritten = unwritten; stopped = ends }), inl leaves)
+stopped_ends o files bytes left v u d status.StoreFault going calm unwritten ends leaves =
+    (record { unwritten = unwritten; stopped = ends }, leaves)
 
 -- a build whose script hasn't ended
-pub stopped_answer : (o : Setup) (files : Option Files) (left after v u : Option (List ℕ)) (d : Desk) (ended : Status) → has_ended ended ≡ false → (ended ≡ status.WriteFault → ⊥) → u ≡ v → EndsSilent o files left after d ended →
+pub stopped_answer : (o : Setup) (files : Option Files) (left after v u : Option (List ℕ))
+    (d : Desk) (ended : Status) → has_ended ended ≡ false → (ended ≡ status.WriteFault → ⊥) → u ≡ v
+    → EndsSilent o files left after d ended →
     IfSome left (λ bytes. ReadsTold o files bytes → built.MayEnd o files bytes after v u ended)
 stopped_answer o files None after v u d ended going calm unwritten served = tt
-stopped_answer o files (Some bytes) after v u d ended going calm unwritten served = λ told. (stopped_ends o files bytes after v u d ended going calm unwritten (served.0 told) (served.1 told)).0
+stopped_answer o files (Some bytes) after v u d ended going calm unwritten served =
+    λ told. (stopped_ends o files bytes after v u d ended going calm unwritten (served.0 told)
+    (served.1 told)).0
 
-pub stopped_leaves : (o : Setup) (files : Option Files) (left after v u : Option (List ℕ)) (d : Desk) (ended : Status) → has_ended ended ≡ false → (ended ≡ status.WriteFault → ⊥) → u ≡ v → EndsSilent o files left after d ended →
+pub stopped_leaves : (o : Setup) (files : Option Files) (left after v u : Option (List ℕ))
+    (d : Desk) (ended : Status) → has_ended ended ≡ false → (ended ≡ status.WriteFault → ⊥) → u ≡ v
+    → EndsSilent o files left after d ended →
     IfSome left (λ bytes. ReadsTold o files bytes → built.Leaves o files bytes after d ended)
 stopped_leaves o files None after v u d ended going calm unwritten served = tt
-stopped_leaves o files (Some bytes) after v u d ended going calm unwritten served = λ told. (stopped_ends o files bytes after v u d ended going calm unwritten (served.0 told) (served.1 told)).1
+stopped_leaves o files (Some bytes) after v u d ended going calm unwritten served =
+    λ told. (stopped_ends o files bytes after v u d ended going calm unwritten (served.0 told)
+    (served.1 told)).1
 
 -- a count that stays at 0 doesn't rise
 pub zero_stays : Rose 0 0 → ⊥
@@ -146,7 +230,12 @@ whole_ended status.Memory over = cc
 whole_ended status.StoreFault over = cc
 
 -- the files of a build are those of its script
-pub files_built : (o : Setup) (files : Option Files) (left : Option (List ℕ)) (told : Option Files) (ended result : Status) → (IsWhole result → IsWhole ended) →
-    IfSome left (λ bytes. ReadsTold o files bytes → IsWhole ended → told ≡ (session o files bytes).files) → IfSome left (λ bytes. ReadsTold o files bytes → IsWhole result → told ≡ (build o files bytes).files)
+pub files_built : (o : Setup) (files : Option Files) (left : Option (List ℕ)) (told : Option Files)
+    (ended result : Status) → (IsWhole result → IsWhole ended) →
+    IfSome left (λ bytes. ReadsTold o files bytes → IsWhole ended
+    → told ≡ (session o files bytes).files)
+    → IfSome left (λ bytes. ReadsTold o files bytes → IsWhole result
+    → told ≡ (build o files bytes).files)
 files_built o files None told ended result whole is = tt
-files_built o files (Some bytes) told ended result whole is = λ reads done. is reads (whole done) ∙ sym (files_of_build o files bytes)
+files_built o files (Some bytes) told ended result whole is = λ reads done. is reads (whole done)
+    ∙ sym (files_of_build o files bytes)

@@ -1,5 +1,7 @@
 -- How a drill ends.
-use Rattle.std.proofs.Common.{◌≡◌, ℕ, ◌+◌, ◌*◌, ◌^◌, ◌<◌, ◌≤◌, ◌++◌, List, [], length, Bool, true, false, Option, Some, None, Result, Ok, Err, IfErr, IsErrAnd, OnOk, OnErr, nat_lt, inl, refl, sym, ap, subst, ◌∙◌, arith, append_assoc}
+use Rattle.std.proofs.Common.{◌≡◌, ℕ, ◌+◌, ◌*◌, ◌^◌, ◌<◌, ◌≤◌, ◌++◌, List, [], length, Bool, true}
+use Rattle.std.proofs.Common.{false, Option, Some, None, Result, Ok, Err, IfErr, IsErrAnd, OnOk}
+use Rattle.std.proofs.Common.{OnErr, nat_lt, inl, refl, sym, ap, subst, ◌∙◌, arith, append_assoc}
 use Rattle.std.specs.Prelude.{codes, decimal, IsErrOf}
 use Rattle.std.proofs.lemmas.Nat.{mul-le}
 use Rattle.oct_bt.specs.File.{bt_text}
@@ -15,7 +17,8 @@ use Rattle.oct_io.proofs.Appending.{appended_nil}
 use Rattle.oct_map.specs.Map.{Map, values_of}
 use Rattle.oct_values.specs.Counts.{group_count, node_count}
 use Rattle.oct_values.proofs.Uniform.{same_group_count, same_node_count}
-use Rattle.oct_session.specs.Drill.{drill, drill_setup, drilled, drilled_state, line_of_two, summary, summary_of, EndsUnread}
+use Rattle.oct_session.specs.Drill.{drill, drill_setup, drilled, drilled_state, line_of_two}
+use Rattle.oct_session.specs.Drill.{summary, summary_of, EndsUnread}
 use Rattle.oct_session.specs.History.{State}
 use Rattle.oct_session.specs.Leaving.{StandsFor, Shelf, Desk, desk, IsKnown}
 use Rattle.oct_session.specs.Session.{Answer, last_progress, status_at_end}
@@ -24,21 +27,25 @@ use Rattle.oct_session.specs.Standing.{HasServed, IsThrough, HasEndedAs}
 use Rattle.oct_session.specs.Stops.{status_of, status_written}
 use Rattle.oct_session.specs.declared.options.Status.{Status}
 use Rattle.oct_session.specs.declared.options.Stop.{Stop}
-use Rattle.oct_session.specs.declared.options.Stop.TheVariants.{TooLong, ReadFault, WriteFault, Memory, StoreFault}
+use Rattle.oct_session.specs.declared.options.Stop.TheVariants.{TooLong, ReadFault, WriteFault}
+use Rattle.oct_session.specs.declared.options.Stop.TheVariants.{Memory, StoreFault}
 use Rattle.oct_session.specs.declared.session.Session.{Session}
 use Rattle.oct_session.specs.declared.tally.Tally.{Tally}
 use Rattle.oct_session.proofs.Endings.{IsFirst, IsNew, serving_start, known_told}
 use Rattle.oct_session.proofs.Loading.{same_file}
 
 -- the script isn't too long
-script_fits : (seed scans points : ℕ) → seed < 2 ^ 64 → scans ≤ 1000 → points ≤ 100000 → length (script_of seed scans points) < 2 ^ 40
+script_fits : (seed scans points : ℕ) → seed < 2 ^ 64 → scans ≤ 1000 → points ≤ 100000
+    → length (script_of seed scans points) < 2 ^ 40
 script_fits seed scans points a b c =
     let short = script_short seed scans points a (omega (arith, b)) (omega (arith, c)) in
     let most = mul-le scans (59 + points * 41) 1000 4100059 b (omega (arith, c)) in
     omega (arith, short, most)
 
 -- a session that begins on the script
-begun : (o : Setup) (told : Files) (script : List ℕ) (left : Option (List ℕ)) (m : Map) (k : Shelf) (s : Session) → o ≡ drill_setup → left ≡ Some script → IsFirst (Some told) k → IsNew drill_setup m s → HasServed o (Some told) script left None None (desk m k) s 0
+begun : (o : Setup) (told : Files) (script : List ℕ) (left : Option (List ℕ)) (m : Map) (k : Shelf)
+    (s : Session) → o ≡ drill_setup → left ≡ Some script → IsFirst (Some told) k
+    → IsNew drill_setup m s → HasServed o (Some told) script left None None (desk m k) s 0
 begun o told script left m k s is reads first new =
     subst (λ x. HasServed o (Some told) script x None None (desk m k) s 0) (sym reads)
     (serving_start o (Some told) script None m k s first (subst (λ x. IsNew x m s) (sym is) new))
@@ -51,82 +58,127 @@ pub record HasDrilled (seed scans points : ℕ) (m : Map) (t : Session) : Type 0
   pub tally : t.tally ≡ (drilled seed scans points).tally
   pub stands : StandsFor m (drilled_state seed scans points)
 
-through_drilled : (o : Setup) (told : Files) (seed scans points : ℕ) (after : Option (List ℕ)) (d : Desk) (t : Session) → o ≡ drill_setup → told ≡ no_files → IsThrough o (Some told) (script_of seed scans points) after None None d t →
+through_drilled : (o : Setup) (told : Files) (seed scans points : ℕ) (after : Option (List ℕ))
+    (d : Desk) (t : Session) → o ≡ drill_setup → told ≡ no_files
+    → IsThrough o (Some told) (script_of seed scans points) after None None d t →
     HasDrilled seed scans points d.map t
 unfolding drilled
 through_drilled o told seed scans points after d t is none through =
     let script = script_of seed scans points in
     let at : IsThrough drill_setup (Some no_files) script after None None d t =
-    subst (λ x. IsThrough drill_setup (Some x) script after None None d t) none (subst (λ x. IsThrough x (Some told) script after None None d t) is through) in
+    subst (λ x. IsThrough drill_setup (Some x) script after None None d t) none
+    (subst (λ x. IsThrough x (Some told) script after None None d t) is through) in
     record { tally = at.reached.between.step.tally; stands = at.reached.between.like.stands }
 
-pub work_done : {H : Type 0} (o : Setup) (told : Files) (seed scans points : ℕ) (left after : Option (List ℕ)) (m : Map) (k : H → Shelf) (e : H → Desk) (home : H) (s t : Session) →
-    o ≡ drill_setup → told ≡ no_files → left ≡ Some (script_of seed scans points) → IsFirst (Some told) (k home) → IsNew drill_setup m s →
-    ((home : H) (files : Option Files) (bytes : List ℕ) (w : Option (List ℕ)) → HasServed o files bytes left w None (desk m (k home)) s 0 → IsKnown (last_progress o files bytes) → IsThrough o files bytes after w None (e home) t) →
+pub work_done : {H : Type 0} (o : Setup) (told : Files) (seed scans points : ℕ)
+    (left after : Option (List ℕ)) (m : Map) (k : H → Shelf) (e : H → Desk) (home : H)
+    (s t : Session) →
+    o ≡ drill_setup → told ≡ no_files → left ≡ Some (script_of seed scans points)
+    → IsFirst (Some told) (k home) → IsNew drill_setup m s →
+    ((home : H) (files : Option Files) (bytes : List ℕ) (w : Option (List ℕ))
+    → HasServed o files bytes left w None (desk m (k home)) s 0
+    → IsKnown (last_progress o files bytes) → IsThrough o files bytes after w None (e home) t) →
     HasDrilled seed scans points (e home).map t
 work_done o told seed scans points left after m k e home s t is none reads at new does =
     through_drilled o told seed scans points after (e home) t is none
-    (does home (Some told) (script_of seed scans points) None (begun o told (script_of seed scans points) left m (k home) s is reads at new) (known o told (script_of seed scans points)))
+    (does home (Some told) (script_of seed scans points) None
+    (begun o told (script_of seed scans points) left m (k home) s is reads at new)
+    (known o told (script_of seed scans points)))
 
 -- the session stops only where memory runs out
-pub only_memory : {H : Type 0} (r : Result (Unit {0}) Stop) (o : Setup) (told : Files) (seed scans points : ℕ) (left after : Option (List ℕ)) (m : Map) (k : H → Shelf) (e : H → Desk) (home : H) (s : Session) →
-    o ≡ drill_setup → left ≡ Some (script_of seed scans points) → IsFirst (Some told) (k home) → IsNew drill_setup m s → seed < 2 ^ 64 → scans ≤ 1000 → points ≤ 100000 →
-    IfErr r (λ stop. (home : H) (files : Option Files) (bytes : List ℕ) (w : Option (List ℕ)) → HasServed o files bytes left w None (desk m (k home)) s 0 → IsKnown (last_progress o files bytes) →
+pub only_memory : {H : Type 0} (r : Result (Unit {0}) Stop) (o : Setup) (told : Files)
+    (seed scans points : ℕ) (left after : Option (List ℕ)) (m : Map) (k : H → Shelf) (e : H → Desk)
+    (home : H) (s : Session) →
+    o ≡ drill_setup → left ≡ Some (script_of seed scans points) → IsFirst (Some told) (k home)
+    → IsNew drill_setup m s → seed < 2 ^ 64 → scans ≤ 1000 → points ≤ 100000 →
+    IfErr r (λ stop. (home : H) (files : Option Files) (bytes : List ℕ) (w : Option (List ℕ))
+    → HasServed o files bytes left w None (desk m (k home)) s 0
+    → IsKnown (last_progress o files bytes) →
     HasEndedAs o files bytes after w None (e home) (status_of stop)) →
-    (IsErrOf r ReadFault → ⊥) → (IsErrOf r WriteFault → ⊥) → (IsErrOf r StoreFault → ⊥) → IfErr r (λ stop. stop ≡ Memory)
-only_memory (Ok done) o told seed scans points left after m k e home s is reads at new a b c stops unread unwritten unstored = tt
-only_memory (Err TooLong) o told seed scans points left after m k e home s is reads at new a b c stops unread unwritten unstored =
+    (IsErrOf r ReadFault → ⊥) → (IsErrOf r WriteFault → ⊥) → (IsErrOf r StoreFault → ⊥)
+    → IfErr r (λ stop. stop ≡ Memory)
+only_memory (Ok done) o told seed scans points left after m k e home s is reads at new a b c stops
+    unread unwritten unstored = tt
+only_memory (Err TooLong) o told seed scans points left after m k e home s is reads at new a b c
+    stops unread unwritten unstored =
     let script = script_of seed scans points in
-    let ended = stops home (Some told) script None (begun o told script left m (k home) s is reads at new) (known o told script) in
+    let ended = stops home (Some told) script None
+    (begun o told script left m (k home) s is reads at new) (known o told script) in
     let most : o.max_bytes ≡ 2 ^ 40 = ap (λ (x : Setup). x.max_bytes) is in
     let few = script_fits seed scans points a b c in
     let long : o.max_bytes + 1 ≤ length script = ended.answer.1.within in
     absurd (omega (arith, most, few, long))
-only_memory (Err ReadFault) o told seed scans points left after m k e home s is reads at new a b c stops unread unwritten unstored = absurd (unread refl)
-only_memory (Err WriteFault) o told seed scans points left after m k e home s is reads at new a b c stops unread unwritten unstored = absurd (unwritten refl)
-only_memory (Err Memory) o told seed scans points left after m k e home s is reads at new a b c stops unread unwritten unstored = refl
-only_memory (Err StoreFault) o told seed scans points left after m k e home s is reads at new a b c stops unread unwritten unstored = absurd (unstored refl)
+only_memory (Err ReadFault) o told seed scans points left after m k e home s is reads at new a b c
+    stops unread unwritten unstored = absurd (unread refl)
+only_memory (Err WriteFault) o told seed scans points left after m k e home s is reads at new a b c
+    stops unread unwritten unstored = absurd (unwritten refl)
+only_memory (Err Memory) o told seed scans points left after m k e home s is reads at new a b c
+    stops unread unwritten unstored = refl
+only_memory (Err StoreFault) o told seed scans points left after m k e home s is reads at new a b c
+    stops unread unwritten unstored = absurd (unstored refl)
 
 -- the lines aren't empty
-summary_some : (scans : ℕ) (tally : Tally) (groups nodes bytes : ℕ) → 0 < length (summary scans tally groups nodes bytes)
+summary_some : (scans : ℕ) (tally : Tally) (groups nodes bytes : ℕ)
+    → 0 < length (summary scans tally groups nodes bytes)
 unfolding summary
 summary_some scans tally groups nodes bytes = omega arith
 
 -- nothing of them was written yet
-pub summary_unwritten : (scans : ℕ) (tally : Tally) (groups nodes bytes : ℕ) (v : Option (List ℕ)) → IsCutOff v v (summary scans tally groups nodes bytes)
-summary_unwritten scans tally groups nodes bytes v = (0, summary_some scans tally groups nodes bytes, appended_nil v)
+pub summary_unwritten : (scans : ℕ) (tally : Tally) (groups nodes bytes : ℕ) (v : Option (List ℕ))
+    → IsCutOff v v (summary scans tally groups nodes bytes)
+summary_unwritten scans tally groups nodes bytes v =
+    (0, summary_some scans tally groups nodes bytes, appended_nil v)
 
 -- lines with numbers that are equal
-pub summary_alike : (scans : ℕ) (tally : Tally) (groups nodes bytes g n b : ℕ) → groups ≡ g → nodes ≡ n → bytes ≡ b → summary scans tally groups nodes bytes ≡ summary scans tally g n b
+pub summary_alike : (scans : ℕ) (tally : Tally) (groups nodes bytes g n b : ℕ) → groups ≡ g
+    → nodes ≡ n → bytes ≡ b → summary scans tally groups nodes bytes ≡ summary scans tally g n b
 summary_alike scans tally groups nodes bytes g n b eg en eb = rw (eg, en, eb) refl
 
 -- the lines about a map that stands for a state
-pub summary_stands : (m : Map) (s : State) (scans : ℕ) (tally told : Tally) → tally ≡ told → StandsFor m s →
-    summary scans tally (group_count (values_of m)) (node_count (values_of m)) (length (bt_text m.tree.res (classes_in m.tree))) ≡ summary_of scans told s
+pub summary_stands : (m : Map) (s : State) (scans : ℕ) (tally told : Tally) → tally ≡ told
+    → StandsFor m s →
+    summary scans tally (group_count (values_of m)) (node_count (values_of m))
+    (length (bt_text m.tree.res (classes_in m.tree))) ≡ summary_of scans told s
 summary_stands m s scans tally told same at =
-    ap (λ t. summary scans t (group_count (values_of m)) (node_count (values_of m)) (length (bt_text m.tree.res (classes_in m.tree)))) same
-    ∙ summary_alike scans told _ _ _ _ _ _ (sym (same_group_count s.values (values_of m) at.values)) (sym (same_node_count s.values (values_of m) at.values)) (ap length (same_file m s at))
+    ap (λ t. summary scans t (group_count (values_of m)) (node_count (values_of m))
+    (length (bt_text m.tree.res (classes_in m.tree)))) same
+    ∙ summary_alike scans told _ _ _ _ _ _ (sym (same_group_count s.values (values_of m) at.values))
+    (sym (same_node_count s.values (values_of m) at.values)) (ap length (same_file m s at))
 
 -- a text that was written, or a part of it
-pub text_ends : (r : Result (Unit {0}) SinkFault) (whole : Answer) (refused : Bool) (text : List ℕ) (v u : Option (List ℕ)) → whole.status ≡ status_at_end refused → text ≡ whole.text → OnOk r (u ≡ appended v text) → OnErr r (IsCutOff v u text) →
+pub text_ends : (r : Result (Unit {0}) SinkFault) (whole : Answer) (refused : Bool) (text : List ℕ)
+    (v u : Option (List ℕ)) → whole.status ≡ status_at_end refused → text ≡ whole.text
+    → OnOk r (u ≡ appended v text) → OnErr r (IsCutOff v u text) →
     EndsUnread whole v u (status_written (status_at_end refused) r)
-text_ends (Ok done) whole true text v u status is written cut = record { written = written ∙ ap (appended v) is; same_status = status }
-text_ends (Ok done) whole false text v u status is written cut = record { written = written ∙ ap (appended v) is; same_status = status }
-text_ends (Err sink.Failed) whole refused text v u status is written cut = subst (IsCutOff v u) is cut
-text_ends (Err sink.Memory) whole refused text v u status is written cut = subst (IsCutOff v u) is cut
+text_ends (Ok done) whole true text v u status is written cut =
+    record { written = written ∙ ap (appended v) is; same_status = status }
+text_ends (Ok done) whole false text v u status is written cut =
+    record { written = written ∙ ap (appended v) is; same_status = status }
+text_ends (Err sink.Failed) whole refused text v u status is written cut =
+    subst (IsCutOff v u) is cut
+text_ends (Err sink.Memory) whole refused text v u status is written cut =
+    subst (IsCutOff v u) is cut
 
 -- three lines, and one of one word after them
-pub lines_joined : (z a b c d e k l m n o : List ℕ) (p : List ℕ) → z ≡ [] → a ≡ z ++ k → b ≡ a ++ l → c ≡ b ++ m → d ≡ c ++ n ++ o → e ≡ d ++ p → e ≡ k ++ l ++ m ++ (n ++ o ++ p)
+pub lines_joined : (z a b c d e k l m n o : List ℕ) (p : List ℕ) → z ≡ [] → a ≡ z ++ k → b ≡ a ++ l
+    → c ≡ b ++ m → d ≡ c ++ n ++ o → e ≡ d ++ p → e ≡ k ++ l ++ m ++ (n ++ o ++ p)
 lines_joined z a b c d e k l m n o p ez ea eb ec ed ee =
-    rw (ee, ed, ec, eb, ea, ez) (ap (λ t. t ++ p) (append_assoc (k ++ l ++ m) n o) ∙ append_assoc (k ++ l ++ m) (n ++ o) p)
+    rw (ee, ed, ec, eb, ea, ez)
+    (ap (λ t. t ++ p) (append_assoc (k ++ l ++ m) n o) ∙ append_assoc (k ++ l ++ m) (n ++ o) p)
 
 -- the four lines, as they are put together
-pub summary_built : (scans : ℕ) (tally : Tally) (groups nodes bytes : ℕ) (z a b c d e : List ℕ) → z ≡ [] → a ≡ z ++ line_of_two (codes "scans ") scans (codes " refused ") tally.refused → b ≡ a ++ line_of_two (codes "hits ") tally.hits (codes " frees ") tally.frees →
-    c ≡ b ++ line_of_two (codes "groups ") groups (codes " nodes ") nodes → d ≡ c ++ codes "bt " ++ decimal bytes → e ≡ d ++ codes "\n" → e ≡ summary scans tally groups nodes bytes
+pub summary_built : (scans : ℕ) (tally : Tally) (groups nodes bytes : ℕ) (z a b c d e : List ℕ)
+    → z ≡ [] → a ≡ z ++ line_of_two (codes "scans ") scans (codes " refused ") tally.refused
+    → b ≡ a ++ line_of_two (codes "hits ") tally.hits (codes " frees ") tally.frees →
+    c ≡ b ++ line_of_two (codes "groups ") groups (codes " nodes ") nodes
+    → d ≡ c ++ codes "bt " ++ decimal bytes → e ≡ d ++ codes "\n"
+    → e ≡ summary scans tally groups nodes bytes
 unfolding summary
 summary_built scans tally groups nodes bytes z a b c d e ez ea eb ec ed ee =
-    lines_joined z a b c d e (line_of_two (codes "scans ") scans (codes " refused ") tally.refused) (line_of_two (codes "hits ") tally.hits (codes " frees ") tally.frees)
-    (line_of_two (codes "groups ") groups (codes " nodes ") nodes) (codes "bt ") (decimal bytes) (codes "\n") ez ea eb ec ed ee
+    lines_joined z a b c d e (line_of_two (codes "scans ") scans (codes " refused ") tally.refused)
+    (line_of_two (codes "hits ") tally.hits (codes " frees ") tally.frees)
+    (line_of_two (codes "groups ") groups (codes " nodes ") nodes) (codes "bt ") (decimal bytes)
+    (codes "\n") ez ea eb ec ed ee
 
 -- nothing was written where memory ran out before
 pub on_any_err : {T E : Type 0} (r : Result T E) (A : Type 0) → A → OnErr r A
@@ -134,22 +186,35 @@ on_any_err (Ok done) A a = tt
 on_any_err (Err fault) A a = a
 
 -- a stop that is passed on
-pub passed_stop : {T : Type 0} (r : Result T Stop) (stop : Stop) → IsErrAnd r (λ x. x ≡ stop) → stop ≡ Memory → IfErr r (λ x. x ≡ Memory)
+pub passed_stop : {T : Type 0} (r : Result T Stop) (stop : Stop) → IsErrAnd r (λ x. x ≡ stop)
+    → stop ≡ Memory → IfErr r (λ x. x ≡ Memory)
 passed_stop (Ok done) stop same is = tt
 passed_stop (Err x) stop same is = same ∙ is
 
 -- a drill whose session is through
-pub drill_told : (r : Result (Unit {0}) SinkFault) (seed scans points : ℕ) (m : Map) (tally : Tally) (v u : Option (List ℕ)) (ended result : Status) (refused : Bool) → tally ≡ (drilled seed scans points).tally → StandsFor m (drilled_state seed scans points) →
-    refused ≡ nat_lt 0 tally.refused → ended ≡ status_at_end refused → result ≡ status_written ended r →
-    OnOk r (u ≡ appended v (summary scans tally (group_count (values_of m)) (node_count (values_of m)) (length (bt_text m.tree.res (classes_in m.tree))))) →
-    OnErr r (IsCutOff v u (summary scans tally (group_count (values_of m)) (node_count (values_of m)) (length (bt_text m.tree.res (classes_in m.tree))))) →
+pub drill_told : (r : Result (Unit {0}) SinkFault) (seed scans points : ℕ) (m : Map) (tally : Tally)
+    (v u : Option (List ℕ)) (ended result : Status) (refused : Bool)
+    → tally ≡ (drilled seed scans points).tally → StandsFor m (drilled_state seed scans points) →
+    refused ≡ nat_lt 0 tally.refused → ended ≡ status_at_end refused
+    → result ≡ status_written ended r →
+    OnOk r (u ≡ appended v (summary scans tally (group_count (values_of m))
+    (node_count (values_of m)) (length (bt_text m.tree.res (classes_in m.tree))))) →
+    OnErr r (IsCutOff v u (summary scans tally (group_count (values_of m))
+    (node_count (values_of m)) (length (bt_text m.tree.res (classes_in m.tree))))) →
     EndsUnread (drill None seed scans points) v u result
-drill_told r seed scans points m tally v u ended result refused same stands some is ends written cut =
-    subst (EndsUnread (drill None seed scans points) v u) (sym (ends ∙ ap (λ x. status_written x r) is))
-    (text_ends r (drill None seed scans points) refused _ v u (ap (λ (t : Tally). status_at_end (nat_lt 0 t.refused)) (sym same) ∙ ap status_at_end (sym some))
-    (summary_stands m (drilled_state seed scans points) scans tally (drilled seed scans points).tally same stands) written cut)
+drill_told r seed scans points m tally v u ended result refused same stands some is ends written
+    cut =
+    subst (EndsUnread (drill None seed scans points) v u)
+    (sym (ends ∙ ap (λ x. status_written x r) is))
+    (text_ends r (drill None seed scans points) refused _ v u
+    (ap (λ (t : Tally). status_at_end (nat_lt 0 t.refused)) (sym same)
+    ∙ ap status_at_end (sym some))
+    (summary_stands m (drilled_state seed scans points) scans tally
+    (drilled seed scans points).tally same stands) written cut)
 
 -- a drill whose session was stopped
-pub drill_stopped : (seed scans points : ℕ) (v : Option (List ℕ)) (stop : Stop) (result : Status) → stop ≡ Memory → result ≡ status_of stop → EndsUnread (drill None seed scans points) v v result
+pub drill_stopped : (seed scans points : ℕ) (v : Option (List ℕ)) (stop : Stop) (result : Status)
+    → stop ≡ Memory → result ≡ status_of stop → EndsUnread (drill None seed scans points) v v result
 drill_stopped seed scans points v stop result is ends =
-    subst (EndsUnread (drill None seed scans points) v v) (sym (ends ∙ ap status_of is)) (summary_unwritten scans (drilled seed scans points).tally _ _ _ v)
+    subst (EndsUnread (drill None seed scans points) v v) (sym (ends ∙ ap status_of is))
+    (summary_unwritten scans (drilled seed scans points).tally _ _ _ v)

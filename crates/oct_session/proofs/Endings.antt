@@ -1,5 +1,8 @@
 -- How a session ends.
-use Rattle.std.proofs.Common.{◌≡◌, ℕ, ◌+◌, ◌-◌, ◌<◌, ◌≤◌, List, [], ◌++◌, length, take, drop, Bool, true, false, cond, Option, Some, None, IfSome, Result, Ok, Err, OnOk, IfErr, IsErrAnd, inl, inr, refl, sym, ap, subst, ◌∙◌, arith, append_assoc, append-nil, length-append, length-drop}
+use Rattle.std.proofs.Common.{◌≡◌, ℕ, ◌+◌, ◌-◌, ◌<◌, ◌≤◌, List, [], ◌++◌, length, take, drop, Bool}
+use Rattle.std.proofs.Common.{true, false, cond, Option, Some, None, IfSome, inl, inr, refl, sym}
+use Rattle.std.proofs.Common.{ap, subst, ◌∙◌, arith, append_assoc, append-nil, length-append}
+use Rattle.std.proofs.Common.{length-drop}
 use Rattle.std.proofs.Math.Seq.{take-add, take-append-add}
 use Rattle.std.proofs.lemmas.List.{take-append-drop, take_all, drop-drop, length-take, take-take}
 use Rattle.std.proofs.lemmas.Bool.{lt-ltb, le-ltb, cases_lt}
@@ -7,59 +10,79 @@ use Rattle.oct_io.specs.Files.{Files}
 use Rattle.oct_io.specs.Told.{appended, dropped}
 use Rattle.oct_io.proofs.Appending.{appended_nil}
 use Rattle.oct_map.specs.Map.{Map}
-use Rattle.oct_script.specs.Lines.{Line, LineSoFar, unread, ended_lines, rest_of, last_line, all_lines}
+use Rattle.oct_script.specs.Lines.{Line, LineSoFar, unread, ended_lines, rest_of, last_line}
+use Rattle.oct_script.specs.Lines.{all_lines}
 use Rattle.oct_script.proofs.Cuts.{ended_lines-append}
 use Rattle.oct_session.specs.declared.options.Status.{Status}
 use Rattle.oct_session.specs.declared.options.Status.TheVariants as status
 use Rattle.oct_session.specs.declared.options.Stop.{Stop}
-use Rattle.oct_session.specs.declared.options.Stop.TheVariants.{TooLong, ReadFault, WriteFault, Memory, StoreFault as StoreStop}
+use Rattle.oct_session.specs.declared.options.Stop.TheVariants.{TooLong, ReadFault, WriteFault}
+use Rattle.oct_session.specs.declared.options.Stop.TheVariants.{Memory, StoreFault as StoreStop}
 use Rattle.oct_session.specs.declared.service.TheConstants.{MOST_READ}
 use Rattle.oct_session.specs.declared.session.Session.{Session}
-use Rattle.oct_session.specs.Ending.{HasTaken, HasStopped, IsReadToEnd, MayEnd, IsWhole, IsBegun, replies_within, has_quit_within}
+use Rattle.oct_session.specs.Ending.{HasTaken, HasStopped, IsReadToEnd, IsBegun, replies_within}
+use Rattle.oct_session.specs.Ending.{has_quit_within}
 use Rattle.oct_session.specs.Counts.{IsAsked}
-use Rattle.oct_session.specs.Leaving.{StandsFor, Shelf, shelf, Desk, desk, HasAsked, IsLikeAfter, HasLeft, IsKnown, IsHalted, HasHalted, Leaves}
+use Rattle.oct_session.specs.Leaving.{StandsFor, Shelf, shelf, Desk, desk, HasAsked, IsLikeAfter}
+use Rattle.oct_session.specs.Leaving.{IsKnown, IsHalted, HasHalted}
 use Rattle.oct_session.specs.History.{start_state}
-use Rattle.oct_session.specs.Commands.{file_saved}
-use Rattle.oct_session.specs.Session.{Progress, Answer, start, next_command, after_line, progress, lines_of, last_progress, session, finished, cut_short, closed, is_too_long, status_at_end, ReadsTold}
+use Rattle.oct_session.specs.Session.{Progress, Answer, start, progress, lines_of, last_progress}
+use Rattle.oct_session.specs.Session.{session, finished, cut_short, closed, is_too_long}
+use Rattle.oct_session.specs.Session.{status_at_end, ReadsTold}
 use Rattle.oct_session.specs.Setup.{Setup}
 use Rattle.oct_session.specs.Tally.{no_replies}
-use Rattle.oct_session.specs.Standing.{Takes, IsHaltedBehind, StopsAtEnd, HasReached, IsAt, HasServed, IsThrough, HasEndedAs, StopsIn}
+use Rattle.oct_session.specs.Standing.{Takes, IsHaltedBehind, StopsAtEnd, HasReached, IsAt}
+use Rattle.oct_session.specs.Standing.{HasServed, IsThrough, HasEndedAs, StopsIn}
 use Rattle.oct_session.specs.Stops.{status_of, IsHalt}
-use Rattle.oct_session.proofs.Progresses.{progress_grows, progress_behind_quit, no_quit_before, replied_first, known_before, known_bytes, asks_before, told_fold}
+use Rattle.oct_session.proofs.Progresses.{progress_grows, progress_behind_quit, no_quit_before}
+use Rattle.oct_session.proofs.Progresses.{replied_first, known_before, known_bytes, asks_before}
+use Rattle.oct_session.proofs.Progresses.{told_fold}
 use Rattle.oct_session.proofs.Effects.{asked_most}
-use Rattle.oct_session.proofs.Halting.{halted_more, halted_begun, halted_asked, between_begun, closed_quit, closed_files, closed_asks, closed_grows, unclosed}
+use Rattle.oct_session.proofs.Halting.{halted_more, halted_begun, halted_asked, between_begun}
+use Rattle.oct_session.proofs.Halting.{closed_quit, closed_asks, closed_grows, unclosed}
 use Rattle.oct_session.proofs.Prefixes.{begun_more, begun_whole}
 
 -- the lines of a script that isn't too long
-lines_short : (o : Setup) (bytes : List ℕ) → length bytes ≤ o.max_bytes → lines_of o bytes ≡ all_lines bytes
+lines_short : (o : Setup) (bytes : List ℕ) → length bytes ≤ o.max_bytes
+    → lines_of o bytes ≡ all_lines bytes
 unfolding lines_of
 lines_short o bytes few = rw (le-ltb o.max_bytes (length bytes) few) refl
 
 -- the lines of a script that is too long
-lines_long : (o : Setup) (bytes : List ℕ) → o.max_bytes < length bytes → lines_of o bytes ≡ ended_lines (take o.max_bytes bytes)
+lines_long : (o : Setup) (bytes : List ℕ) → o.max_bytes < length bytes
+    → lines_of o bytes ≡ ended_lines (take o.max_bytes bytes)
 unfolding lines_of
 lines_long o bytes more = rw (lt-ltb o.max_bytes (length bytes) more) refl
 
 -- the session of a script that isn't too long
-session_short : (o : Setup) (files : Option Files) (bytes : List ℕ) → length bytes ≤ o.max_bytes → session o files bytes ≡ finished (closed (last_progress o files bytes))
+pub session_short : (o : Setup) (files : Option Files) (bytes : List ℕ) → length bytes ≤ o.max_bytes
+    → session o files bytes ≡ finished (closed (last_progress o files bytes))
 unfolding session
 session_short o files bytes few = rw (le-ltb o.max_bytes (length bytes) few) refl
 
 -- the same, by the test
-session_whole : (o : Setup) (files : Option Files) (bytes : List ℕ) → is_too_long o bytes ≡ false → session o files bytes ≡ finished (closed (last_progress o files bytes))
+session_whole : (o : Setup) (files : Option Files) (bytes : List ℕ) → is_too_long o bytes ≡ false
+    → session o files bytes ≡ finished (closed (last_progress o files bytes))
 unfolding session
 session_whole o files bytes short = rw short refl
 
 -- the session of a script that is too long
-session_long : (o : Setup) (files : Option Files) (bytes : List ℕ) → o.max_bytes < length bytes → session o files bytes ≡ cut_short (last_progress o files bytes)
+pub session_long : (o : Setup) (files : Option Files) (bytes : List ℕ) → o.max_bytes < length bytes
+    → session o files bytes ≡ cut_short (last_progress o files bytes)
 unfolding session
 session_long o files bytes more = rw (lt-ltb o.max_bytes (length bytes) more) refl
 
 cut_text : (p : Progress) → (cut_short p).text ≡ p.text
-cut_text p = elim p.has_quit as (λ v. (cond v (finished p) (record { text = p.text; files = p.files; status = status.TooLong })).text ≡ p.text) [ true ↦ refl | false ↦ refl ]
+cut_text p = elim p.has_quit as
+    (λ v. (cond v (finished p)
+    (record { text = p.text; files = p.files; status = status.TooLong })).text ≡ p.text)
+    [ true ↦ refl | false ↦ refl ]
 
-cut_files : (p : Progress) → (cut_short p).files ≡ p.files
-cut_files p = elim p.has_quit as (λ v. (cond v (finished p) (record { text = p.text; files = p.files; status = status.TooLong })).files ≡ p.files) [ true ↦ refl | false ↦ refl ]
+pub cut_files : (p : Progress) → (cut_short p).files ≡ p.files
+cut_files p = elim p.has_quit as
+    (λ v. (cond v (finished p)
+    (record { text = p.text; files = p.files; status = status.TooLong })).files ≡ p.files)
+    [ true ↦ refl | false ↦ refl ]
 
 cut_quit : (p : Progress) → p.has_quit ≡ true → cut_short p ≡ finished p
 cut_quit p quit = rw quit refl
@@ -68,109 +91,169 @@ cut_status : (p : Progress) → p.has_quit ≡ false → (cut_short p).status �
 cut_status p running = rw running refl
 
 -- what the session of a script that is too long writes are the replies to its lines
-text_long : (o : Setup) (files : Option Files) (bytes : List ℕ) → o.max_bytes < length bytes → (session o files bytes).text ≡ (last_progress o files bytes).text
-text_long o files bytes more = ap (λ (a : Answer). a.text) (session_long o files bytes more) ∙ cut_text (last_progress o files bytes)
+text_long : (o : Setup) (files : Option Files) (bytes : List ℕ) → o.max_bytes < length bytes
+    → (session o files bytes).text ≡ (last_progress o files bytes).text
+text_long o files bytes more = ap (λ (a : Answer). a.text) (session_long o files bytes more)
+    ∙ cut_text (last_progress o files bytes)
 
 -- what a session writes begins with the replies to its lines
-session_text : (o : Setup) (files : Option Files) (bytes : List ℕ) → (text : List ℕ) × ((session o files bytes).text ≡ (last_progress o files bytes).text ++ text)
+session_text : (o : Setup) (files : Option Files) (bytes : List ℕ)
+    → (text : List ℕ) × ((session o files bytes).text ≡ (last_progress o files bytes).text ++ text)
 session_text o files bytes = elim (cases_lt o.max_bytes (length bytes)) [
-  | inl more ↦ ([], text_long o files bytes more ∙ sym (append-nil (last_progress o files bytes).text))
-  | inr few ↦ (let s = closed_grows (last_progress o files bytes) in (s.0, ap (λ (a : Answer). a.text) (session_short o files bytes few) ∙ s.1))
+  | inl more ↦ (
+    [],
+    text_long o files bytes more
+        ∙ sym (append-nil (last_progress o files bytes).text),
+  )
+  | inr few ↦ (let s = closed_grows (last_progress o files bytes) in
+      (s.0, ap (λ (a : Answer). a.text) (session_short o files bytes few) ∙ s.1))
 ]
 
 -- the first bytes that count, of a script that is too long
-front_long : (most : ℕ) (bytes front back : List ℕ) → bytes ≡ front ++ back → length front ≤ most → take most bytes ≡ front ++ take (most - length front) back
+front_long : (most : ℕ) (bytes front back : List ℕ) → bytes ≡ front ++ back → length front ≤ most
+    → take most bytes ≡ front ++ take (most - length front) back
 front_long most bytes front back parts few =
     let n : ℕ = most - length front in
     let size : most ≡ length front + n = omega arith in
-    ap (λ k. take k bytes) size ∙ ap (λ x. take (length front + n) x) parts ∙ take-append-add front back n
+    ap (λ k. take k bytes) size ∙ ap (λ x. take (length front + n) x) parts
+    ∙ take-append-add front back n
 
 -- the lines of a script begin with those that end in a front of it, within the limit
-lines_within : (o : Setup) (bytes front back : List ℕ) → bytes ≡ front ++ back → length front ≤ o.max_bytes → (more : List Line) × (lines_of o bytes ≡ ended_lines front ++ more)
+lines_within : (o : Setup) (bytes front back : List ℕ) → bytes ≡ front ++ back
+    → length front ≤ o.max_bytes
+    → (more : List Line) × (lines_of o bytes ≡ ended_lines front ++ more)
 lines_within o bytes front back parts few = elim (cases_lt o.max_bytes (length bytes)) [
   | inl more ↦ (
-      let s = ended_lines-append front (take (o.max_bytes - length front) back) in
-      (s.0, lines_long o bytes more ∙ ap ended_lines (front_long o.max_bytes bytes front back parts few) ∙ s.1))
+      let s = ended_lines-append front (take (o.max_bytes - length front) back) in (
+        s.0,
+        lines_long o bytes more
+            ∙ ap ended_lines (front_long o.max_bytes bytes front back parts few) ∙ s.1,
+      ))
   | inr small ↦ (
       let s = ended_lines-append front back in (
         s.0 ++ last_line (rest_of bytes),
-        lines_short o bytes small ∙ ap (λ x. x ++ last_line (rest_of bytes)) (ap ended_lines parts ∙ s.1) ∙ append_assoc (ended_lines front) s.0 (last_line (rest_of bytes)),
+        lines_short o bytes small
+            ∙ ap (λ x. x ++ last_line (rest_of bytes)) (ap ended_lines parts ∙ s.1)
+            ∙ append_assoc (ended_lines front) s.0 (last_line (rest_of bytes)),
       ))
 ]
 
--- the replies to the lines that end in a front of the script, within the limit, begin the whole answer
-pub within_session : (o : Setup) (files : Option Files) (bytes front back : List ℕ) → bytes ≡ front ++ back → length front ≤ o.max_bytes →
+-- the replies to the lines that end in a front of the script, within the limit, begin the whole
+-- answer
+pub within_session : (o : Setup) (files : Option Files) (bytes front back : List ℕ)
+    → bytes ≡ front ++ back → length front ≤ o.max_bytes →
     (text : List ℕ) × ((session o files bytes).text ≡ replies_within o files front ++ text)
 within_session o files bytes front back parts few =
     let s = lines_within o bytes front back parts few in
     let t = progress_grows o files (ended_lines front) s.0 in
-    let u = session_text o files bytes in
-    (t.0 ++ u.0, u.1 ∙ ap (λ x. (progress o files x).text ++ u.0) s.1 ∙ ap (λ x. x ++ u.0) t.1 ∙ append_assoc (replies_within o files front) t.0 u.0)
+    let u = session_text o files bytes in (
+      t.0 ++ u.0,
+      u.1 ∙ ap (λ x. (progress o files x).text ++ u.0) s.1 ∙ ap (λ x. x ++ u.0) t.1
+          ∙ append_assoc (replies_within o files front) t.0 u.0,
+    )
 
 -- a `quit` line that ends in a front of the script, within the limit, ends the session
-last_quit : (o : Setup) (files : Option Files) (bytes front back : List ℕ) → bytes ≡ front ++ back → length front ≤ o.max_bytes → has_quit_within o files front ≡ true →
+last_quit : (o : Setup) (files : Option Files) (bytes front back : List ℕ) → bytes ≡ front ++ back
+    → length front ≤ o.max_bytes → has_quit_within o files front ≡ true →
     last_progress o files bytes ≡ progress o files (ended_lines front)
 last_quit o files bytes front back parts few quit =
-    let s = lines_within o bytes front back parts few in ap (λ x. progress o files x) s.1 ∙ progress_behind_quit o files (ended_lines front) s.0 quit
+    let s = lines_within o bytes front back parts few in
+    ap (λ x. progress o files x) s.1 ∙ progress_behind_quit o files (ended_lines front) s.0 quit
 
 -- and finishes it
-session_quit : (o : Setup) (files : Option Files) (bytes : List ℕ) → (last_progress o files bytes).has_quit ≡ true → session o files bytes ≡ finished (closed (last_progress o files bytes))
+session_quit : (o : Setup) (files : Option Files) (bytes : List ℕ)
+    → (last_progress o files bytes).has_quit ≡ true
+    → session o files bytes ≡ finished (closed (last_progress o files bytes))
 session_quit o files bytes quit = elim (cases_lt o.max_bytes (length bytes)) [
-  | inl more ↦ session_long o files bytes more ∙ cut_quit (last_progress o files bytes) quit ∙ ap finished (sym (closed_quit (last_progress o files bytes) quit))
+  | inl more ↦ session_long o files bytes more ∙ cut_quit (last_progress o files bytes) quit
+      ∙ ap finished (sym (closed_quit (last_progress o files bytes) quit))
   | inr small ↦ session_short o files bytes small
 ]
 
 -- a prefix of those replies is a prefix of the whole answer
-begun_session : (o : Setup) (files : Option Files) (bytes front back : List ℕ) (old new : Option (List ℕ)) → bytes ≡ front ++ back → length front ≤ o.max_bytes →
+begun_session : (o : Setup) (files : Option Files) (bytes front back : List ℕ)
+    (old new : Option (List ℕ)) → bytes ≡ front ++ back → length front ≤ o.max_bytes →
     IsBegun (replies_within o files front) old new → IsBegun (session o files bytes).text old new
-begun_session o files bytes front back old new parts few begun = let s = within_session o files bytes front back parts few in begun_more _ _ s.0 old new s.1 begun
+begun_session o files bytes front back old new parts few begun = let s =
+    within_session o files bytes front back parts few in begun_more _ _ s.0 old new s.1 begun
 
 -- what is known of the whole session is known of a front of the script
-pub known_within : (o : Setup) (files : Option Files) (bytes front back : List ℕ) → bytes ≡ front ++ back → length front ≤ o.max_bytes → IsKnown (last_progress o files bytes) → IsKnown (progress o files (ended_lines front))
+pub known_within : (o : Setup) (files : Option Files) (bytes front back : List ℕ)
+    → bytes ≡ front ++ back → length front ≤ o.max_bytes → IsKnown (last_progress o files bytes)
+    → IsKnown (progress o files (ended_lines front))
 known_within o files bytes front back parts few known =
-    let s = lines_within o bytes front back parts few in known_before o files (ended_lines front) s.0 (subst (λ x. IsKnown (progress o files x)) s.1 known)
+    let s = lines_within o bytes front back parts few in
+    known_before o files (ended_lines front) s.0
+    (subst (λ x. IsKnown (progress o files x)) s.1 known)
 
 -- and a front names no more files
-asks_within : (o : Setup) (files : Option Files) (bytes front back : List ℕ) → bytes ≡ front ++ back → length front ≤ o.max_bytes → (progress o files (ended_lines front)).asks ≤ (last_progress o files bytes).asks
+asks_within : (o : Setup) (files : Option Files) (bytes front back : List ℕ) → bytes ≡ front ++ back
+    → length front ≤ o.max_bytes
+    → (progress o files (ended_lines front)).asks ≤ (last_progress o files bytes).asks
 asks_within o files bytes front back parts few =
-    let s = lines_within o bytes front back parts few in subst (λ x. (progress o files (ended_lines front)).asks ≤ (progress o files x).asks) (sym s.1) (asks_before o files (ended_lines front) s.0)
+    let s = lines_within o bytes front back parts few in
+    subst (λ x. (progress o files (ended_lines front)).asks ≤ (progress o files x).asks) (sym s.1)
+    (asks_before o files (ended_lines front) s.0)
 
 -- a session whose files are told, or that names none, is known
-pub known_told : (o : Setup) (files : Option Files) (bytes : List ℕ) → ReadsTold o files bytes → IsKnown (last_progress o files bytes)
+pub known_told : (o : Setup) (files : Option Files) (bytes : List ℕ) → ReadsTold o files bytes
+    → IsKnown (last_progress o files bytes)
 known_told o files bytes (inl some) = inl (told_fold o (start files) (lines_of o bytes) some)
 known_told o files bytes (inr none) = inr none
 
 -- a halt within a front of the script is a halt of the session
-halted_session : (o : Setup) (files : Option Files) (bytes front back : List ℕ) (old new : Option (List ℕ)) (d : Desk) (status : Status) → bytes ≡ front ++ back → length front ≤ o.max_bytes →
+halted_session : (o : Setup) (files : Option Files) (bytes front back : List ℕ)
+    (old new : Option (List ℕ)) (d : Desk) (status : Status) → bytes ≡ front ++ back
+    → length front ≤ o.max_bytes →
     IsHalted o files (ended_lines front) old new d status → HasHalted o files bytes old new d status
 halted_session o files bytes front back old new d status parts few halted =
-    let s = lines_within o bytes front back parts few in inl (subst (λ x. IsHalted o files x old new d status) (sym s.1) (halted_more o files (ended_lines front) s.0 old new d status halted))
+    let s = lines_within o bytes front back parts few in
+    inl (subst (λ x. IsHalted o files x old new d status) (sym s.1)
+    (halted_more o files (ended_lines front) s.0 old new d status halted))
 
-halted_as : (o : Setup) (files : Option Files) (bytes : List ℕ) (left w u : Option (List ℕ)) (d : Desk) (stop : Stop) → IsHalt stop → HasHalted o files bytes w u d (status_of stop) →
-    IsBegun (session o files bytes).text w u → HasStopped o files bytes left w u → HasAsked d (last_progress o files bytes).asks → HasEndedAs o files bytes left w u d (status_of stop)
-halted_as o files bytes left w u d WriteFault only halted begun input asked = record { answer = (begun, input); leaves = halted; asked = asked }
-halted_as o files bytes left w u d Memory only halted begun input asked = record { answer = (begun, input); leaves = halted; asked = asked }
-halted_as o files bytes left w u d StoreStop only halted begun input asked = record { answer = (begun, input); leaves = halted; asked = asked }
+halted_as : (o : Setup) (files : Option Files) (bytes : List ℕ) (left w u : Option (List ℕ))
+    (d : Desk) (stop : Stop) → IsHalt stop → HasHalted o files bytes w u d (status_of stop) →
+    IsBegun (session o files bytes).text w u → HasStopped o files bytes left w u
+    → HasAsked d (last_progress o files bytes).asks
+    → HasEndedAs o files bytes left w u d (status_of stop)
+halted_as o files bytes left w u d WriteFault only halted begun input asked =
+    record { answer = (begun, input); leaves = halted; asked = asked }
+halted_as o files bytes left w u d Memory only halted begun input asked =
+    record { answer = (begun, input); leaves = halted; asked = asked }
+halted_as o files bytes left w u d StoreStop only halted begun input asked =
+    record { answer = (begun, input); leaves = halted; asked = asked }
 halted_as o files bytes left w u d TooLong only halted begun input asked = absurd only
 halted_as o files bytes left w u d ReadFault only halted begun input asked = absurd only
 
 -- what a session that was halted has written is a prefix of the whole answer
-halted_text : (o : Setup) (files : Option Files) (bytes : List ℕ) (w u : Option (List ℕ)) (d : Desk) (status : Status) → HasHalted o files bytes w u d status → IsBegun (session o files bytes).text w u
-halted_text o files bytes w u d status (inl halted) = let s = session_text o files bytes in begun_more _ _ s.0 w u s.1 (halted_begun o files (lines_of o bytes) w u d status halted)
+halted_text : (o : Setup) (files : Option Files) (bytes : List ℕ) (w u : Option (List ℕ)) (d : Desk)
+    (status : Status) → HasHalted o files bytes w u d status
+    → IsBegun (session o files bytes).text w u
+halted_text o files bytes w u d status (inl halted) = let s = session_text o files bytes in
+    begun_more _ _ s.0 w u s.1 (halted_begun o files (lines_of o bytes) w u d status halted)
 halted_text o files bytes w u d status (inr end) =
-    subst (λ x. IsBegun x w u) (sym (ap (λ (a : Answer). a.text) (session_whole o files bytes end.0)))
-    (between_begun (last_progress o files bytes) (closed (last_progress o files bytes)) w u end.1.cut)
+    subst (λ x. IsBegun x w u)
+    (sym (ap (λ (a : Answer). a.text) (session_whole o files bytes end.0)))
+    (between_begun (last_progress o files bytes) (closed (last_progress o files bytes)) w u
+    end.1.cut)
 
 -- the store was asked once at most for each line that names a file
-halted_asks : (o : Setup) (files : Option Files) (bytes : List ℕ) (w u : Option (List ℕ)) (d : Desk) (status : Status) → HasHalted o files bytes w u d status → HasAsked d (last_progress o files bytes).asks
-halted_asks o files bytes w u d status (inl halted) = halted_asked o files (lines_of o bytes) w u d status halted
-halted_asks o files bytes w u d status (inr end) = subst (HasAsked d) (closed_asks (last_progress o files bytes)) end.1.asked
+halted_asks : (o : Setup) (files : Option Files) (bytes : List ℕ) (w u : Option (List ℕ)) (d : Desk)
+    (status : Status) → HasHalted o files bytes w u d status
+    → HasAsked d (last_progress o files bytes).asks
+halted_asks o files bytes w u d status (inl halted) =
+    halted_asked o files (lines_of o bytes) w u d status halted
+halted_asks o files bytes w u d status (inr end) =
+    subst (HasAsked d) (closed_asks (last_progress o files bytes)) end.1.asked
 
 -- how a session ends that was halted by its sink or its store, or because memory ran out
-halted_ends : (o : Setup) (files : Option Files) (bytes : List ℕ) (left w u : Option (List ℕ)) (d : Desk) (stop : Stop) → IsHalt stop → HasHalted o files bytes w u d (status_of stop) →
+halted_ends : (o : Setup) (files : Option Files) (bytes : List ℕ) (left w u : Option (List ℕ))
+    (d : Desk) (stop : Stop) → IsHalt stop → HasHalted o files bytes w u d (status_of stop) →
     HasStopped o files bytes left w u → HasEndedAs o files bytes left w u d (status_of stop)
 halted_ends o files bytes left w u d stop only halted input =
-    halted_as o files bytes left w u d stop only halted (halted_text o files bytes w u d (status_of stop) halted) input (halted_asks o files bytes w u d (status_of stop) halted)
+    halted_as o files bytes left w u d stop only halted
+    (halted_text o files bytes w u d (status_of stop) halted) input
+    (halted_asks o files bytes w u d (status_of stop) halted)
 
 -- map and session as they begin
 pub record IsNew (o : Setup) (m : Map) (s : Session) : Type 0 where
@@ -183,20 +266,34 @@ pub record IsNew (o : Setup) (m : Map) (s : Session) : Type 0 where
   pub tally : s.tally ≡ no_replies
 
 -- a new session with the map that it is lent
-pub begins : {o : Setup} {m : Map} {s : Session} → StandsFor m (start_state o) → s.line ≡ unread → s.line_count ≡ 0 → s.block ≡ None → s.refused ≡ false → s.has_quit ≡ false → s.tally ≡ no_replies → IsNew o m s
+pub begins : {o : Setup} {m : Map} {s : Session} → StandsFor m (start_state o) → s.line ≡ unread
+    → s.line_count ≡ 0 → s.block ≡ None → s.refused ≡ false → s.has_quit ≡ false
+    → s.tally ≡ no_replies → IsNew o m s
 begins stands line counted block refused running tally =
-    record { stands = stands; line = line; counted = counted; block = block; refused = refused; running = running; tally = tally }
+    record {
+      stands = stands;
+      line = line;
+      counted = counted;
+      block = block;
+      refused = refused;
+      running = running;
+      tally = tally;
+    }
 
 -- a store of these files, of which nothing was asked yet
 pub record IsFirst (files : Option Files) (k : Shelf) : Type 0 where
   pub told : k.files ≡ files
   pub asked : IsAsked k.same k.first_calls k.calls 0
 
-pub first : {F : Type 0} (files : F → Option Files) (calls : F → ℕ) (home : F) → IsFirst (files home) (shelf files calls home home)
-first files calls home = record { told = refl; asked = record { unasked = λ none. refl; few = omega arith } }
+pub first : {F : Type 0} (files : F → Option Files) (calls : F → ℕ) (home : F)
+    → IsFirst (files home) (shelf files calls home home)
+first files calls home =
+    record { told = refl; asked = record { unasked = λ none. refl; few = omega arith } }
 
 -- before the first read
-pub serving_start : (o : Setup) (files : Option Files) (bytes : List ℕ) (w : Option (List ℕ)) (m : Map) (k : Shelf) (s : Session) → IsFirst files k → IsNew o m s → HasServed o files bytes (Some bytes) w w (desk m k) s 0
+pub serving_start : (o : Setup) (files : Option Files) (bytes : List ℕ) (w : Option (List ℕ))
+    (m : Map) (k : Shelf) (s : Session) → IsFirst files k → IsNew o m s
+    → HasServed o files bytes (Some bytes) w w (desk m k) s 0
 serving_start o files bytes w m k s first new = record {
   input = record { within = omega arith; rest = refl };
   at = record {
@@ -204,30 +301,48 @@ serving_start o files bytes w m k s first new = record {
       between = record {
         like = record { stands = new.stands; told = first.told };
         asked = first.asked;
-        step = record { counted = new.counted; block = new.block; refused = new.refused; has_quit = new.running; tally = new.tally };
+        step = record {
+          counted = new.counted;
+          block = new.block;
+          refused = new.refused;
+          has_quit = new.running;
+          tally = new.tally;
+        };
       };
       written = appended_nil w;
     };
-    line = λ goes_on. record { line = ap (λ (x : LineSoFar). x.line) new.line; unended = ap (λ (x : LineSoFar). x.has_ended) new.line };
+    line = λ goes_on. record {
+      line = ap (λ (x : LineSoFar). x.line) new.line;
+      unended = ap
+          (λ (x : LineSoFar). x.has_ended) new.line;
+    };
   };
 }
 
 -- what a read moved to the front of the buffer
-piece_is : (bytes buffer piece : List ℕ) (left : Option (List ℕ)) (taken n : ℕ) → HasTaken taken bytes left → IfSome left (λ l. take n buffer ≡ take n l) → piece ≡ take n buffer →
+piece_is : (bytes buffer piece : List ℕ) (left : Option (List ℕ)) (taken n : ℕ)
+    → HasTaken taken bytes left → IfSome left (λ l. take n buffer ≡ take n l)
+    → piece ≡ take n buffer →
     piece ≡ take n (drop taken bytes)
-piece_is bytes buffer piece left taken n input moved is = is ∙ subst (λ (x : Option (List ℕ)). IfSome x (λ l. take n buffer ≡ take n l)) input.rest moved
+piece_is bytes buffer piece left taken n input moved is = is
+    ∙ subst (λ (x : Option (List ℕ)). IfSome x (λ l. take n buffer ≡ take n l)) input.rest moved
 
 -- what is taken after a read
-taken_more : (bytes : List ℕ) (left after : Option (List ℕ)) (taken n : ℕ) → HasTaken taken bytes left → after ≡ dropped n left → IfSome left (λ l. n ≤ length l) → HasTaken (taken + n) bytes after
+taken_more : (bytes : List ℕ) (left after : Option (List ℕ)) (taken n : ℕ)
+    → HasTaken taken bytes left → after ≡ dropped n left → IfSome left (λ l. n ≤ length l)
+    → HasTaken (taken + n) bytes after
 taken_more bytes left after taken n input moved enough =
-    let few : n ≤ length (drop taken bytes) = subst (λ (x : Option (List ℕ)). IfSome x (λ l. n ≤ length l)) input.rest enough in
+    let few : n ≤ length (drop taken bytes) =
+    subst (λ (x : Option (List ℕ)). IfSome x (λ l. n ≤ length l)) input.rest enough in
     record {
       within = omega (arith, few, length-drop taken bytes, input.within);
       rest = moved ∙ ap (dropped n) input.rest ∙ ap Some (drop-drop n taken bytes);
     }
 
--- what a read gave: the numbers of what was taken before, of what it gave, and of what of it may be taken, and the bytes
-pub record IsRead (o : Setup) (buffer piece : List ℕ) (left after : Option (List ℕ)) (taken n room : ℕ) : Type 0 where
+-- what a read gave: the numbers of what was taken before, of what it gave, and of what of it may be
+-- taken, and the bytes
+pub record IsRead (o : Setup) (buffer piece : List ℕ) (left after : Option (List ℕ))
+    (taken n room : ℕ) : Type 0 where
   pub few : taken ≤ o.max_bytes
   pub size : room ≡ o.max_bytes - taken
   pub most : n ≤ room + 1
@@ -239,28 +354,39 @@ pub record IsRead (o : Setup) (buffer piece : List ℕ) (left after : Option (Li
   pub len : length piece ≡ n
 
 -- a read whose bytes were all taken
-pub serving_more : (o : Setup) (files : Option Files) (bytes buffer piece : List ℕ) (left after w v u : Option (List ℕ)) (d e : Desk) (s t : Session) (taken n room : ℕ) → IsRead o buffer piece left after taken n room → length piece ≤ room →
+pub serving_more : (o : Setup) (files : Option Files) (bytes buffer piece : List ℕ)
+    (left after w v u : Option (List ℕ)) (d e : Desk) (s t : Session) (taken n room : ℕ)
+    → IsRead o buffer piece left after taken n room → length piece ≤ room →
     (Takes o v u d e s t (take room piece)) →
     HasServed o files bytes left w v d s taken → HasServed o files bytes after w u e t (taken + n)
 serving_more o files bytes buffer piece left after w v u d e s t taken n room read fits goes at =
-    let p : piece ≡ take n (drop taken bytes) = piece_is bytes buffer piece left taken n at.input read.same read.is in
+    let p : piece ≡ take n (drop taken bytes) =
+    piece_is bytes buffer piece left taken n at.input read.same read.is in
     let whole : take room piece ≡ take n (drop taken bytes) = take_all room piece fits ∙ p in
     record {
       input = taken_more bytes left after taken n at.input read.moved read.enough;
-      at = subst (λ x. IsAt o files w u e t x) (ap (λ x. take taken bytes ++ x) whole ∙ sym (take-add taken n bytes)) (goes files w (take taken bytes) at.at);
+      at = subst (λ x. IsAt o files w u e t x)
+          (ap (λ x. take taken bytes ++ x) whole ∙ sym (take-add taken n bytes))
+          (goes files w (take taken bytes) at.at);
     }
 
 -- the input failed
-ends_read_fault : (o : Setup) (files : Option Files) (bytes : List ℕ) (left after w v : Option (List ℕ)) (d : Desk) (s : Session) (taken : ℕ) → after ≡ left → taken ≤ o.max_bytes → s.has_quit ≡ false →
-    HasServed o files bytes left w v d s taken → IsKnown (last_progress o files bytes) → HasEndedAs o files bytes after w v d (status_of ReadFault)
+pub ends_read_fault : (o : Setup) (files : Option Files) (bytes : List ℕ)
+    (left after w v : Option (List ℕ)) (d : Desk) (s : Session) (taken : ℕ) → after ≡ left
+    → taken ≤ o.max_bytes → s.has_quit ≡ false →
+    HasServed o files bytes left w v d s taken → IsKnown (last_progress o files bytes)
+    → HasEndedAs o files bytes after w v d (status_of ReadFault)
 ends_read_fault o files bytes left after w v d s taken same few running at known =
     let size : length (take taken bytes) ≤ o.max_bytes = omega (arith, length-take taken bytes) in
-    let input : HasTaken taken bytes after = record { within = at.input.within; rest = same ∙ at.input.rest } in
+    let input : HasTaken taken bytes after =
+    record { within = at.input.within; rest = same ∙ at.input.rest } in
     let parts : bytes ≡ take taken bytes ++ drop taken bytes = sym (take-append-drop taken bytes) in
-    let reached = at.at.reached (known_within o files bytes (take taken bytes) (drop taken bytes) parts size known) in
+    let reached = at.at.reached
+    (known_within o files bytes (take taken bytes) (drop taken bytes) parts size known) in
     record {
       answer = (
-        begun_session o files bytes (take taken bytes) (drop taken bytes) w v parts size (begun_whole _ w v reached.written),
+        begun_session o files bytes (take taken bytes) (drop taken bytes) w v parts size
+            (begun_whole _ w v reached.written),
         record {
           taken = taken;
           few = few;
@@ -270,64 +396,103 @@ ends_read_fault o files bytes left after w v d s taken same few running at known
         },
       );
       leaves = record { taken = taken; input = input; like = reached.between.like };
-      asked = asked_most d _ _ (asks_within o files bytes (take taken bytes) (drop taken bytes) parts size) reached.between.asked;
+      asked = asked_most d _ _
+          (asks_within o files bytes (take taken bytes) (drop taken bytes) parts size)
+          reached.between.asked;
     }
 
--- a script within a read: what was taken before, what of the piece may be taken, and what is after it
-parts_within : (bytes piece : List ℕ) (taken n room : ℕ) → piece ≡ take n (drop taken bytes) → bytes ≡ (take taken bytes ++ take room piece) ++ (drop room piece ++ drop n (drop taken bytes))
+-- a script within a read: what was taken before, what of the piece may be taken, and what is after
+-- it
+parts_within : (bytes piece : List ℕ) (taken n room : ℕ) → piece ≡ take n (drop taken bytes)
+    → bytes ≡ (take taken bytes ++ take room piece)
+    ++ (drop room piece ++ drop n (drop taken bytes))
 parts_within bytes piece taken n room is =
     sym (take-append-drop taken bytes)
-    ∙ ap (λ x. take taken bytes ++ x) (sym (take-append-drop n (drop taken bytes)) ∙ ap (λ x. x ++ drop n (drop taken bytes)) (sym is ∙ sym (take-append-drop room piece))
+    ∙ ap (λ x. take taken bytes ++ x)
+    (sym (take-append-drop n (drop taken bytes))
+    ∙ ap (λ x. x ++ drop n (drop taken bytes)) (sym is ∙ sym (take-append-drop room piece))
     ∙ append_assoc (take room piece) (drop room piece) (drop n (drop taken bytes)))
-    ∙ sym (append_assoc (take taken bytes) (take room piece) (drop room piece ++ drop n (drop taken bytes)))
+    ∙ sym (append_assoc (take taken bytes) (take room piece)
+    (drop room piece ++ drop n (drop taken bytes)))
 
 -- what of it counts lies within the limit
-few_within : (bytes piece : List ℕ) (taken room most : ℕ) → taken ≤ most → room ≡ most - taken → length (take taken bytes ++ take room piece) ≤ most
-few_within bytes piece taken room most few size = omega (arith, length-append (take taken bytes) (take room piece), length-take taken bytes, length-take room piece)
+few_within : (bytes piece : List ℕ) (taken room most : ℕ) → taken ≤ most → room ≡ most - taken
+    → length (take taken bytes ++ take room piece) ≤ most
+few_within bytes piece taken room most few size =
+    omega (
+      arith,
+      length-append (take taken bytes) (take room piece),
+      length-take taken bytes,
+      length-take room piece,
+    )
 
 -- the first bytes that count, of what was taken
-counted : (bytes piece : List ℕ) (taken n room most : ℕ) → taken ≤ most → room ≡ most - taken → taken ≤ length bytes → piece ≡ take n (drop taken bytes) →
+counted : (bytes piece : List ℕ) (taken n room most : ℕ) → taken ≤ most → room ≡ most - taken
+    → taken ≤ length bytes → piece ≡ take n (drop taken bytes) →
     take most (take (taken + n) bytes) ≡ take taken bytes ++ take room piece
 counted bytes piece taken n room most few size within is =
-    let front : take (taken + n) bytes ≡ take taken bytes ++ piece = take-add taken n bytes ∙ ap (λ x. take taken bytes ++ x) (sym is) in
-    let most_is : most ≡ length (take taken bytes) + room = omega (arith, length-take taken bytes) in
-    ap (λ x. take most x) front ∙ ap (λ k. take k (take taken bytes ++ piece)) most_is ∙ take-append-add (take taken bytes) piece room
+    let front : take (taken + n) bytes ≡ take taken bytes ++ piece = take-add taken n bytes
+    ∙ ap (λ x. take taken bytes ++ x) (sym is) in
+    let most_is : most ≡ length (take taken bytes) + room =
+    omega (arith, length-take taken bytes) in
+    ap (λ x. take most x) front ∙ ap (λ k. take k (take taken bytes ++ piece)) most_is
+    ∙ take-append-add (take taken bytes) piece room
 
 -- a `quit` line in what a read gave
-pub serving_quit : (o : Setup) (files : Option Files) (bytes buffer piece : List ℕ) (left after w v u : Option (List ℕ)) (d e : Desk) (s t : Session) (taken n room : ℕ) → IsRead o buffer piece left after taken n room → s.has_quit ≡ false → t.has_quit ≡ true →
+pub serving_quit : (o : Setup) (files : Option Files) (bytes buffer piece : List ℕ)
+    (left after w v u : Option (List ℕ)) (d e : Desk) (s t : Session) (taken n room : ℕ)
+    → IsRead o buffer piece left after taken n room → s.has_quit ≡ false → t.has_quit ≡ true →
     (Takes o v u d e s t (take room piece)) →
-    HasServed o files bytes left w v d s taken → IsKnown (last_progress o files bytes) → IsThrough o files bytes after w u e t
-serving_quit o files bytes buffer piece left after w v u d e s t taken n room read running quit goes at known =
-    let p : piece ≡ take n (drop taken bytes) = piece_is bytes buffer piece left taken n at.input read.same read.is in
+    HasServed o files bytes left w v d s taken → IsKnown (last_progress o files bytes)
+    → IsThrough o files bytes after w u e t
+serving_quit o files bytes buffer piece left after w v u d e s t taken n room read running quit goes
+    at known =
+    let p : piece ≡ take n (drop taken bytes) =
+    piece_is bytes buffer piece left taken n at.input read.same read.is in
     let front : List ℕ = take taken bytes ++ take room piece in
     let back : List ℕ = drop room piece ++ drop n (drop taken bytes) in
     let parts = parts_within bytes piece taken n room p in
     let few = few_within bytes piece taken room o.max_bytes read.few read.size in
-    let known_front : IsKnown (progress o files (ended_lines front)) = known_within o files bytes front back parts few known in
+    let known_front : IsKnown (progress o files (ended_lines front)) =
+    known_within o files bytes front back parts few known in
     let reached = (goes files w (take taken bytes) at.at).reached known_front in
-    let before = at.at.reached (known_bytes o files (take taken bytes) (take room piece) known_front) in
+    let before = at.at.reached
+    (known_bytes o files (take taken bytes) (take room piece) known_front) in
     let ends : has_quit_within o files front ≡ true = sym reached.between.step.has_quit ∙ quit in
-    let last : last_progress o files bytes ≡ progress o files (ended_lines front) = last_quit o files bytes front back parts few ends in
+    let last : last_progress o files bytes ≡ progress o files (ended_lines front) =
+    last_quit o files bytes front back parts few ends in
     record {
-      reached = subst (λ x. HasReached o w u e t x) (sym (closed_quit (last_progress o files bytes) (ap (λ (x : Progress). x.has_quit) last ∙ ends) ∙ last)) reached;
+      reached = subst (λ x. HasReached o w u e t x)
+          (sym (closed_quit (last_progress o files bytes)
+          (ap (λ (x : Progress). x.has_quit) last ∙ ends) ∙ last)) reached;
       whole = session_quit o files bytes (ap (λ (x : Progress). x.has_quit) last ∙ ends);
       end = record {
         taken = taken + n;
         few = omega (arith, read.few, read.size, read.most);
         input = taken_more bytes left after taken n at.input read.moved read.enough;
         end = inr (record {
-          quits = ap (has_quit_within o files) (counted bytes piece taken n room o.max_bytes read.few read.size at.input.within p) ∙ ends;
-          at_once = no_quit_before o files bytes (taken + n - MOST_READ) taken (omega (arith, read.at_once)) (sym before.between.step.has_quit ∙ running);
+          quits = ap (has_quit_within o files)
+              (counted bytes piece taken n room o.max_bytes read.few read.size at.input.within p)
+              ∙ ends;
+          at_once = no_quit_before o files bytes (taken + n - MOST_READ) taken
+              (omega (arith, read.at_once)) (sym before.between.step.has_quit ∙ running);
         });
       };
     }
 
 -- a halt in what of the piece may be taken
-stops_halted : (o : Setup) (files : Option Files) (bytes buffer piece : List ℕ) (left after w u : Option (List ℕ)) (d : Desk) (taken n room : ℕ) (stop : Stop) → IsHalt stop → IsRead o buffer piece left after taken n room →
-    HasTaken taken bytes left → (IsKnown (progress o files (ended_lines (take taken bytes ++ take room piece))) → IsHaltedBehind o files (take taken bytes) (ended_lines (take taken bytes ++ take room piece)) w u d (status_of stop)) →
+stops_halted : (o : Setup) (files : Option Files) (bytes buffer piece : List ℕ)
+    (left after w u : Option (List ℕ)) (d : Desk) (taken n room : ℕ) (stop : Stop) → IsHalt stop
+    → IsRead o buffer piece left after taken n room →
+    HasTaken taken bytes left
+    → (IsKnown (progress o files (ended_lines (take taken bytes ++ take room piece)))
+    → IsHaltedBehind o files (take taken bytes) (ended_lines (take taken bytes ++ take room piece))
+    w u d (status_of stop)) →
     IsKnown (last_progress o files bytes) → HasEndedAs o files bytes after w u d (status_of stop)
-stops_halted o files bytes buffer piece left after w u d taken n room stop only read input halts known =
-    let p : piece ≡ take n (drop taken bytes) = piece_is bytes buffer piece left taken n input read.same read.is in
+stops_halted o files bytes buffer piece left after w u d taken n room stop only read input halts
+    known =
+    let p : piece ≡ take n (drop taken bytes) =
+    piece_is bytes buffer piece left taken n input read.same read.is in
     let front : List ℕ = take taken bytes ++ take room piece in
     let back : List ℕ = drop room piece ++ drop n (drop taken bytes) in
     let parts = parts_within bytes piece taken n room p in
@@ -339,26 +504,39 @@ stops_halted o files bytes buffer piece left after w u d taken n room stop only 
       taken = taken + n;
       few = omega (arith, read.few, read.size, read.most);
       input = taken_more bytes left after taken n input read.moved read.enough;
-      replied = replied_first o files bytes (taken + n - MOST_READ) taken w u (omega (arith, read.at_once)) halted.1;
+      replied = replied_first o files bytes (taken + n - MOST_READ) taken w u
+          (omega (arith, read.at_once)) halted.1;
     })
 
 -- more bytes than the script may have
-stops_long : (o : Setup) (files : Option Files) (bytes buffer piece : List ℕ) (left after w u : Option (List ℕ)) (d : Desk) (t : Session) (taken n room : ℕ) → IsRead o buffer piece left after taken n room → room < length piece → t.has_quit ≡ false →
-    HasTaken taken bytes left → IsAt o files w u d t (take taken bytes ++ take room piece) → IsKnown (last_progress o files bytes) → HasEndedAs o files bytes after w u d status.TooLong
-stops_long o files bytes buffer piece left after w u d t taken n room read more running input at known =
-    let p : piece ≡ take n (drop taken bytes) = piece_is bytes buffer piece left taken n input read.same read.is in
+stops_long : (o : Setup) (files : Option Files) (bytes buffer piece : List ℕ)
+    (left after w u : Option (List ℕ)) (d : Desk) (t : Session) (taken n room : ℕ)
+    → IsRead o buffer piece left after taken n room → room < length piece → t.has_quit ≡ false →
+    HasTaken taken bytes left → IsAt o files w u d t (take taken bytes ++ take room piece)
+    → IsKnown (last_progress o files bytes) → HasEndedAs o files bytes after w u d status.TooLong
+stops_long o files bytes buffer piece left after w u d t taken n room read more running input at
+    known =
+    let p : piece ≡ take n (drop taken bytes) =
+    piece_is bytes buffer piece left taken n input read.same read.is in
     let k = taken_more bytes left after taken n input read.moved read.enough in
-    let all : taken + n ≡ o.max_bytes + 1 = omega (arith, read.few, read.size, read.most, read.len) in
+    let all : taken + n ≡ o.max_bytes + 1 =
+    omega (arith, read.few, read.size, read.most, read.len) in
     let long : o.max_bytes < length bytes = omega (arith, k.within) in
     let front : take o.max_bytes bytes ≡ take taken bytes ++ take room piece =
-    sym (take-take o.max_bytes (taken + n) bytes (omega arith)) ∙ counted bytes piece taken n room o.max_bytes read.few read.size input.within p in
-    let last : last_progress o files bytes ≡ progress o files (ended_lines (take taken bytes ++ take room piece)) = ap (λ x. progress o files x) (lines_long o bytes long ∙ ap ended_lines front) in
-    let reached : HasReached o w u d t (last_progress o files bytes) = subst (λ x. HasReached o w u d t x) (sym last) (at.reached (subst IsKnown last known)) in
+    sym (take-take o.max_bytes (taken + n) bytes (omega arith))
+    ∙ counted bytes piece taken n room o.max_bytes read.few read.size input.within p in
+    let last : last_progress o files bytes
+    ≡ progress o files (ended_lines (take taken bytes ++ take room piece)) =
+    ap (λ x. progress o files x) (lines_long o bytes long ∙ ap ended_lines front) in
+    let reached : HasReached o w u d t (last_progress o files bytes) =
+    subst (λ x. HasReached o w u d t x) (sym last) (at.reached (subst IsKnown last known)) in
     record {
       answer = (
         record {
           written = reached.written ∙ ap (appended w) (sym (text_long o files bytes long));
-          same_status = ap (λ (a : Answer). a.status) (session_long o files bytes long) ∙ cut_status (last_progress o files bytes) (sym reached.between.step.has_quit ∙ running);
+          same_status = ap (λ (a : Answer). a.status) (session_long o files bytes long)
+              ∙ cut_status (last_progress o files bytes)
+              (sym reached.between.step.has_quit ∙ running);
         },
         subst (λ x. HasTaken x bytes after) all k,
       );
@@ -367,58 +545,100 @@ stops_long o files bytes buffer piece left after w u d t taken n room read more 
     }
 
 -- a stop within what a read gave
-ends_stop : (o : Setup) (files : Option Files) (bytes buffer piece : List ℕ) (left after w v u : Option (List ℕ)) (d e : Desk) (s t : Session) (taken n room : ℕ) (stop : Stop) → IsRead o buffer piece left after taken n room →
-    ((files : Option Files) (w : Option (List ℕ)) (bytes : List ℕ) → IsAt o files w v d s bytes → StopsIn o files w u e t bytes piece room stop) →
-    HasServed o files bytes left w v d s taken → IsKnown (last_progress o files bytes) → HasEndedAs o files bytes after w u e (status_of stop)
-ends_stop o files bytes buffer piece left after w v u d e s t taken n room TooLong read stops at known =
-    let p = stops files w (take taken bytes) at.at in stops_long o files bytes buffer piece left after w u e t taken n room read p.0 p.1 at.input p.2 known
-ends_stop o files bytes buffer piece left after w v u d e s t taken n room WriteFault read stops at known =
-    stops_halted o files bytes buffer piece left after w u e taken n room WriteFault tt read at.input (stops files w (take taken bytes) at.at) known
-ends_stop o files bytes buffer piece left after w v u d e s t taken n room Memory read stops at known =
-    stops_halted o files bytes buffer piece left after w u e taken n room Memory tt read at.input (stops files w (take taken bytes) at.at) known
-ends_stop o files bytes buffer piece left after w v u d e s t taken n room StoreStop read stops at known =
-    stops_halted o files bytes buffer piece left after w u e taken n room StoreStop tt read at.input (stops files w (take taken bytes) at.at) known
-ends_stop o files bytes buffer piece left after w v u d e s t taken n room ReadFault read stops at known = absurd (stops files w (take taken bytes) at.at)
+pub ends_stop : (o : Setup) (files : Option Files) (bytes buffer piece : List ℕ)
+    (left after w v u : Option (List ℕ)) (d e : Desk) (s t : Session) (taken n room : ℕ)
+    (stop : Stop) → IsRead o buffer piece left after taken n room →
+    ((files : Option Files) (w : Option (List ℕ)) (bytes : List ℕ) → IsAt o files w v d s bytes
+    → StopsIn o files w u e t bytes piece room stop) →
+    HasServed o files bytes left w v d s taken → IsKnown (last_progress o files bytes)
+    → HasEndedAs o files bytes after w u e (status_of stop)
+ends_stop o files bytes buffer piece left after w v u d e s t taken n room TooLong read stops at
+    known =
+    let p = stops files w (take taken bytes) at.at in
+    stops_long o files bytes buffer piece left after w u e t taken n room read p.0 p.1 at.input p.2
+    known
+ends_stop o files bytes buffer piece left after w v u d e s t taken n room WriteFault read stops at
+    known =
+    stops_halted o files bytes buffer piece left after w u e taken n room WriteFault tt read
+    at.input (stops files w (take taken bytes) at.at) known
+ends_stop o files bytes buffer piece left after w v u d e s t taken n room Memory read stops at
+    known =
+    stops_halted o files bytes buffer piece left after w u e taken n room Memory tt read at.input
+    (stops files w (take taken bytes) at.at) known
+ends_stop o files bytes buffer piece left after w v u d e s t taken n room StoreStop read stops at
+    known =
+    stops_halted o files bytes buffer piece left after w u e taken n room StoreStop tt read at.input
+    (stops files w (take taken bytes) at.at) known
+ends_stop o files bytes buffer piece left after w v u d e s t taken n room ReadFault read stops at
+    known = absurd (stops files w (take taken bytes) at.at)
 
 -- where nothing is left, all bytes were taken
-all_taken : (bytes : List ℕ) (left : Option (List ℕ)) (taken : ℕ) → HasTaken taken bytes left → IfSome left (λ l. l ≡ []) → length bytes ≡ taken
+all_taken : (bytes : List ℕ) (left : Option (List ℕ)) (taken : ℕ) → HasTaken taken bytes left
+    → IfSome left (λ l. l ≡ []) → length bytes ≡ taken
 all_taken bytes left taken input none =
-    let e : drop taken bytes ≡ [] = subst (λ (x : Option (List ℕ)). IfSome x (λ l. l ≡ [])) input.rest none in
+    let e : drop taken bytes ≡ [] =
+    subst (λ (x : Option (List ℕ)). IfSome x (λ l. l ≡ [])) input.rest none in
     omega (arith, ap length e, length-drop taken bytes, input.within)
 
 -- the end of the input
-through_end : (o : Setup) (files : Option Files) (bytes : List ℕ) (left w v u : Option (List ℕ)) (d e : Desk) (s t : Session) (taken : ℕ) → taken ≤ o.max_bytes → IfSome left (λ l. l ≡ []) →
-    ((files : Option Files) (w : Option (List ℕ)) (bytes : List ℕ) → IsAt o files w v d s bytes → IsKnown (progress o files (all_lines bytes)) → HasReached o w u e t (closed (progress o files (all_lines bytes)))) →
-    HasServed o files bytes left w v d s taken → IsKnown (last_progress o files bytes) → IsThrough o files bytes left w u e t
+pub through_end : (o : Setup) (files : Option Files) (bytes : List ℕ) (left w v u : Option (List ℕ))
+    (d e : Desk) (s t : Session) (taken : ℕ) → taken ≤ o.max_bytes → IfSome left (λ l. l ≡ []) →
+    ((files : Option Files) (w : Option (List ℕ)) (bytes : List ℕ) → IsAt o files w v d s bytes
+    → IsKnown (progress o files (all_lines bytes))
+    → HasReached o w u e t (closed (progress o files (all_lines bytes)))) →
+    HasServed o files bytes left w v d s taken → IsKnown (last_progress o files bytes)
+    → IsThrough o files bytes left w u e t
 through_end o files bytes left w v u d e s t taken few none goes at known =
     let size : length bytes ≡ taken = all_taken bytes left taken at.input none in
     let whole : take taken bytes ≡ bytes = take_all taken bytes (omega arith) in
     let short : length bytes ≤ o.max_bytes = omega arith in
-    let lines : all_lines (take taken bytes) ≡ lines_of o bytes = ap all_lines whole ∙ sym (lines_short o bytes short) in
-    let rest : drop taken bytes ≡ [] = subst (λ (x : Option (List ℕ)). IfSome x (λ l. l ≡ [])) at.input.rest none in
+    let lines : all_lines (take taken bytes) ≡ lines_of o bytes = ap all_lines whole
+    ∙ sym (lines_short o bytes short) in
+    let rest : drop taken bytes ≡ [] =
+    subst (λ (x : Option (List ℕ)). IfSome x (λ l. l ≡ [])) at.input.rest none in
     record {
-      reached = subst (λ x. HasReached o w u e t (closed (progress o files x))) lines (goes files w (take taken bytes) at.at (subst (λ x. IsKnown (progress o files x)) (sym lines) known));
+      reached = subst (λ x. HasReached o w u e t (closed (progress o files x))) lines
+          (goes files w (take taken bytes) at.at
+          (subst (λ x. IsKnown (progress o files x)) (sym lines) known));
       whole = session_short o files bytes short;
-      end = record { taken = taken; few = omega arith; input = at.input; end = inl (at.input.rest ∙ ap Some rest) };
+      end = record {
+        taken = taken;
+        few = omega arith;
+        input = at.input;
+        end = inl
+            (at.input.rest ∙ ap Some rest);
+      };
     }
 
 -- a halt at the last line, or at the end after it
-stopped_end : (o : Setup) (files : Option Files) (front bytes : List ℕ) (w u : Option (List ℕ)) (d : Desk) (status : Status) → length bytes ≤ o.max_bytes → StopsAtEnd o files front (lines_of o bytes) w u d status → HasHalted o files bytes w u d status
+stopped_end : (o : Setup) (files : Option Files) (front bytes : List ℕ) (w u : Option (List ℕ))
+    (d : Desk) (status : Status) → length bytes ≤ o.max_bytes
+    → StopsAtEnd o files front (lines_of o bytes) w u d status
+    → HasHalted o files bytes w u d status
 stopped_end o files front bytes w u d status short (inl halted, replied) = inl halted
-stopped_end o files front bytes w u d status short (inr end, replied) = inr (le-ltb o.max_bytes (length bytes) short, end)
+stopped_end o files front bytes w u d status short (inr end, replied) =
+    inr (le-ltb o.max_bytes (length bytes) short, end)
 
 -- a stop in the answer to the last line
-ends_last : (o : Setup) (files : Option Files) (bytes : List ℕ) (left w v u : Option (List ℕ)) (d e : Desk) (s : Session) (taken : ℕ) (stop : Stop) → taken ≤ o.max_bytes → IfSome left (λ l. l ≡ []) → IsHalt stop →
-    ((files : Option Files) (w : Option (List ℕ)) (bytes : List ℕ) → IsAt o files w v d s bytes → IsKnown (progress o files (all_lines bytes)) → StopsAtEnd o files bytes (all_lines bytes) w u e (status_of stop)) →
-    HasServed o files bytes left w v d s taken → IsKnown (last_progress o files bytes) → HasEndedAs o files bytes left w u e (status_of stop)
+pub ends_last : (o : Setup) (files : Option Files) (bytes : List ℕ) (left w v u : Option (List ℕ))
+    (d e : Desk) (s : Session) (taken : ℕ) (stop : Stop) → taken ≤ o.max_bytes
+    → IfSome left (λ l. l ≡ []) → IsHalt stop →
+    ((files : Option Files) (w : Option (List ℕ)) (bytes : List ℕ) → IsAt o files w v d s bytes
+    → IsKnown (progress o files (all_lines bytes))
+    → StopsAtEnd o files bytes (all_lines bytes) w u e (status_of stop)) →
+    HasServed o files bytes left w v d s taken → IsKnown (last_progress o files bytes)
+    → HasEndedAs o files bytes left w u e (status_of stop)
 ends_last o files bytes left w v u d e s taken stop few none only halts at known =
     let size : length bytes ≡ taken = all_taken bytes left taken at.input none in
     let whole : take taken bytes ≡ bytes = take_all taken bytes (omega arith) in
     let short : length bytes ≤ o.max_bytes = omega arith in
-    let lines : all_lines (take taken bytes) ≡ lines_of o bytes = ap all_lines whole ∙ sym (lines_short o bytes short) in
-    let halted = halts files w (take taken bytes) at.at (subst (λ x. IsKnown (progress o files x)) (sym lines) known) in
+    let lines : all_lines (take taken bytes) ≡ lines_of o bytes = ap all_lines whole
+    ∙ sym (lines_short o bytes short) in
+    let halted = halts files w (take taken bytes) at.at
+    (subst (λ x. IsKnown (progress o files x)) (sym lines) known) in
     halted_ends o files bytes left w u e stop only
-    (stopped_end o files (take taken bytes) bytes w u e (status_of stop) short (subst (λ x. StopsAtEnd o files (take taken bytes) x w u e (status_of stop)) lines halted))
+    (stopped_end o files (take taken bytes) bytes w u e (status_of stop) short
+    (subst (λ x. StopsAtEnd o files (take taken bytes) x w u e (status_of stop)) lines halted))
     (record {
       taken = taken;
       few = omega arith;
@@ -426,152 +646,36 @@ ends_last o files bytes left w v u d e s taken stop few none only halts at known
       replied = replied_first o files bytes (taken - MOST_READ) taken w u (omega arith) halted.1;
     })
 
-ended_as : (o : Setup) (files : Option Files) (bytes : List ℕ) (left w v : Option (List ℕ)) (d : Desk) (refused : Bool) (status : Status) → status ≡ status_at_end refused →
-    (session o files bytes).status ≡ status_at_end refused → v ≡ appended w (session o files bytes).text → IsReadToEnd o files bytes left → IsLikeAfter o (last_progress o files bytes) d →
+ended_as : (o : Setup) (files : Option Files) (bytes : List ℕ) (left w v : Option (List ℕ))
+    (d : Desk) (refused : Bool) (status : Status) → status ≡ status_at_end refused →
+    (session o files bytes).status ≡ status_at_end refused
+    → v ≡ appended w (session o files bytes).text → IsReadToEnd o files bytes left
+    → IsLikeAfter o (last_progress o files bytes) d →
     HasAsked d (last_progress o files bytes).asks → HasEndedAs o files bytes left w v d status
 ended_as o files bytes left w v d true status is same written end like asked =
-    subst (HasEndedAs o files bytes left w v d) (sym is) (record { answer = (record { written = written; same_status = same }, end); leaves = like; asked = asked })
+    subst (HasEndedAs o files bytes left w v d) (sym is)
+    (record {
+      answer = (record { written = written; same_status = same }, end);
+      leaves = like;
+      asked = asked;
+    })
 ended_as o files bytes left w v d false status is same written end like asked =
-    subst (HasEndedAs o files bytes left w v d) (sym is) (record { answer = (record { written = written; same_status = same }, end); leaves = like; asked = asked })
+    subst (HasEndedAs o files bytes left w v d) (sym is)
+    (record {
+      answer = (record { written = written; same_status = same }, end);
+      leaves = like;
+      asked = asked;
+    })
 
 -- the whole script was answered
-ends_through : (o : Setup) (files : Option Files) (bytes : List ℕ) (left w v : Option (List ℕ)) (d : Desk) (s : Session) (status : Status) → status ≡ status_at_end s.refused →
+pub ends_through : (o : Setup) (files : Option Files) (bytes : List ℕ) (left w v : Option (List ℕ))
+    (d : Desk) (s : Session) (status : Status) → status ≡ status_at_end s.refused →
     IsThrough o files bytes left w v d s → HasEndedAs o files bytes left w v d status
 ends_through o files bytes left w v d s status is through =
-    ended_as o files bytes left w v d s.refused status is (ap (λ (a : Answer). a.status) through.whole ∙ ap status_at_end (sym through.reached.between.step.refused))
-    (through.reached.written ∙ ap (λ (a : Answer). appended w a.text) (sym through.whole)) through.end
-    (unclosed o d (last_progress o files bytes) through.reached.between.like) (subst (HasAsked d) (closed_asks (last_progress o files bytes)) through.reached.between.asked)
-
--- how a call ends that was made with a desk at some home
-abbrev Ends : {H : Type 0} → Setup → Option (List ℕ) → Option (List ℕ) → Option (List ℕ) → Option (List ℕ) → (H → Desk) → (H → Desk) → Session → ℕ → Status → Type 0
-Ends {H} o left after v u d e s taken status = (home : H) (files : Option Files) (bytes : List ℕ) (w : Option (List ℕ)) → HasServed o files bytes left w v (d home) s taken → IsKnown (last_progress o files bytes) →
-    HasEndedAs o files bytes after w u (e home) status
-
-abbrev Finishes : {H : Type 0} → Setup → Option (List ℕ) → Option (List ℕ) → Option (List ℕ) → Option (List ℕ) → (H → Desk) → (H → Desk) → Session → Session → ℕ → Type 0
-Finishes {H} o left after v u d e s t taken = (home : H) (files : Option Files) (bytes : List ℕ) (w : Option (List ℕ)) → HasServed o files bytes left w v (d home) s taken → IsKnown (last_progress o files bytes) →
-    IsThrough o files bytes after w u (e home) t
-
-abbrev Serves : {H : Type 0} → Setup → Option (List ℕ) → Option (List ℕ) → Option (List ℕ) → Option (List ℕ) → (H → Desk) → (H → Desk) → Session → Session → ℕ → ℕ → Type 0
-Serves {H} o left after v u d e s t taken more = (home : H) (files : Option Files) (bytes : List ℕ) (w : Option (List ℕ)) → HasServed o files bytes left w v (d home) s taken → HasServed o files bytes after w u (e home) t more
-
--- a call that gives up where the input failed
-pub fault_ends : {T H : Type 0} (r : Result T Stop) (o : Setup) (left after v : Option (List ℕ)) (d : H → Desk) (s : Session) (taken : ℕ) → IsErrAnd r (λ stop. stop ≡ ReadFault) → after ≡ left → taken ≤ o.max_bytes → s.has_quit ≡ false →
-    IfErr r (λ stop. Ends o left after v v d d s taken (status_of stop))
-fault_ends (Ok x) o left after v d s taken is same few running = tt
-fault_ends (Err stop) o left after v d s taken is same few running = λ home files bytes w at known.
-    subst (λ x. HasEndedAs o files bytes after w v (d home) (status_of x)) (sym is) (ends_read_fault o files bytes left after w v (d home) s taken same few running at known)
-
--- a call that gives up within what a read gave
-pub stop_ends : {T H : Type 0} (r : Result T Stop) (stop : Stop) (o : Setup) (buffer piece : List ℕ) (left after v u : Option (List ℕ)) (d e : H → Desk) (s t : Session) (taken n room : ℕ) → IsErrAnd r (λ x. x ≡ stop) →
-    IsRead o buffer piece left after taken n room →
-    ((home : H) (files : Option Files) (w : Option (List ℕ)) (bytes : List ℕ) → IsAt o files w v (d home) s bytes → StopsIn o files w u (e home) t bytes piece room stop) →
-    IfErr r (λ x. Ends o left after v u d e s taken (status_of x))
-stop_ends (Ok x) stop o buffer piece left after v u d e s t taken n room is read stops = tt
-stop_ends (Err x) stop o buffer piece left after v u d e s t taken n room is read stops = λ home files bytes w at known.
-    subst (λ y. HasEndedAs o files bytes after w u (e home) (status_of y)) (sym is) (ends_stop o files bytes buffer piece left after w v u (d home) (e home) s t taken n room stop read (stops home) at known)
-
--- a call that goes on after a read
-pub goes_on : {H : Type 0} (o : Setup) (buffer piece : List ℕ) (left after v u : Option (List ℕ)) (d e : H → Desk) (s t : Session) (taken n room : ℕ) → IsRead o buffer piece left after taken n room → (t.has_quit ≡ false → length piece ≤ room) →
-    ((home : H) → Takes o v u (d home) (e home) s t (take room piece)) → t.has_quit ≡ false → Serves o left after v u d e s t taken (taken + n)
-goes_on o buffer piece left after v u d e s t taken n room read fits goes running home files bytes w at =
-    serving_more o files bytes buffer piece left after w v u (d home) (e home) s t taken n room read (fits running) (goes home) at
-
--- a call that meets a `quit` line in what a read gave
-pub quits_in : {H : Type 0} (o : Setup) (buffer piece : List ℕ) (left after v u : Option (List ℕ)) (d e : H → Desk) (s t : Session) (taken n room : ℕ) → IsRead o buffer piece left after taken n room → s.has_quit ≡ false →
-    ((home : H) → Takes o v u (d home) (e home) s t (take room piece)) → t.has_quit ≡ true → Finishes o left after v u d e s t taken
-quits_in o buffer piece left after v u d e s t taken n room read running goes quit home files bytes w at known =
-    serving_quit o files bytes buffer piece left after w v u (d home) (e home) s t taken n room read running quit (goes home) at known
-
--- a read that gives up, after reads that didn't
-pub after_stop : {T H : Type 0} (r : Result T Stop) (stop : Stop) (o : Setup) (left after end a v u : Option (List ℕ)) (c d e : H → Desk) (s t : Session) (taken : ℕ) → IsErrAnd r (λ x. x ≡ stop) →
-    Serves o left after a v c d s t 0 taken → Ends o after end v u d e t taken (status_of stop) → IfErr r (λ x. Ends o left end a u c e s 0 (status_of x))
-after_stop (Ok x) stop o left after end a v u c d e s t taken is goes stops = tt
-after_stop (Err x) stop o left after end a v u c d e s t taken is goes stops = λ home files bytes w at known.
-    subst (λ y. HasEndedAs o files bytes end w u (e home) (status_of y)) (sym is) (stops home files bytes w (goes home files bytes w at) known)
-
--- the answer to the last line, at the end of the input
-pub last_read : {E H : Type 0} (r : Result (Unit {0}) E) (o : Setup) (left after a v u : Option (List ℕ)) (c d e : H → Desk) (s t f : Session) (taken : ℕ) → taken ≤ o.max_bytes → IfSome after (λ l. l ≡ []) →
-    Serves o left after a v c d s t 0 taken →
-    OnOk r ((home : H) (files : Option Files) (w : Option (List ℕ)) (bytes : List ℕ) → IsAt o files w v (d home) t bytes → IsKnown (progress o files (all_lines bytes)) → HasReached o w u (e home) f (closed (progress o files (all_lines bytes)))) →
-    OnOk r (Finishes o left after a u c e s f 0)
-last_read (Ok x) o left after a v u c d e s t f taken few none goes answers = λ home files bytes w at known.
-    through_end o files bytes after w v u (d home) (e home) t f taken few none (answers home) (goes home files bytes w at) known
-last_read (Err x) o left after a v u c d e s t f taken few none goes answers = tt
-
--- a stop in that answer
-pub last_stop : {H : Type 0} (r : Result (Unit {0}) Stop) (o : Setup) (left after a v u : Option (List ℕ)) (c d e : H → Desk) (s t : Session) (taken : ℕ) → taken ≤ o.max_bytes → IfSome after (λ l. l ≡ []) →
-    Serves o left after a v c d s t 0 taken → IfErr r IsHalt →
-    IfErr r (λ stop. (home : H) (files : Option Files) (w : Option (List ℕ)) (bytes : List ℕ) → IsAt o files w v (d home) t bytes → IsKnown (progress o files (all_lines bytes)) →
-    StopsAtEnd o files bytes (all_lines bytes) w u (e home) (status_of stop)) →
-    IfErr r (λ stop. Ends o left after a u c e s 0 (status_of stop))
-last_stop (Ok x) o left after a v u c d e s t taken few none goes only halts = tt
-last_stop (Err stop) o left after a v u c d e s t taken few none goes only halts = λ home files bytes w at known.
-    ends_last o files bytes after w v u (d home) (e home) t taken stop few none only (halts home) (goes home files bytes w at) known
-
--- how a session ends over the files that its store tells, where what it reads of them is told
-abbrev EndsOver : Setup → Option Files → Option (List ℕ) → Option (List ℕ) → Option (List ℕ) → Option (List ℕ) → Desk → Status → Type 0
-EndsOver o files left after v u d status = IfSome left (λ bytes. IsKnown (last_progress o files bytes) → HasEndedAs o files bytes after v u d status)
-
--- a session that has read its script
-pub serve_read : {H : Type 0} (o : Setup) (files : Option Files) (left after v u : Option (List ℕ)) (m : Map) (k : H → Shelf) (e : H → Desk) (home : H) (s t : Session) (status : Status) → IsFirst files (k home) → IsNew o m s → status ≡ status_at_end t.refused →
-    Finishes o left after v u (λ home. desk m (k home)) e s t 0 → EndsOver o files left after v u (e home) status
-serve_read o files None after v u m k e home s t status is new same reads = tt
-serve_read o files (Some bytes) after v u m k e home s t status is new same reads = λ known.
-    ends_through o files bytes after v u (e home) t status same (reads home files bytes v (serving_start o files bytes v m (k home) s is new) known)
-
--- a session that has stopped
-pub serve_stop : {H : Type 0} (o : Setup) (files : Option Files) (left after v u : Option (List ℕ)) (m : Map) (k : H → Shelf) (e : H → Desk) (home : H) (s : Session) (stop : Stop) (status : Status) → IsFirst files (k home) → IsNew o m s → status ≡ status_of stop →
-    Ends o left after v u (λ home. desk m (k home)) e s 0 (status_of stop) → EndsOver o files left after v u (e home) status
-serve_stop o files None after v u m k e home s stop status is new same stops = tt
-serve_stop o files (Some bytes) after v u m k e home s stop status is new same stops = λ known.
-    subst (λ x. HasEndedAs o files bytes after v u (e home) x) (sym same) (stops home files bytes v (serving_start o files bytes v m (k home) s is new) known)
-
--- what was written, and what is left of the input
-pub told_answer : (o : Setup) (files : Option Files) (left after v u : Option (List ℕ)) (d : Desk) (status : Status) → EndsOver o files left after v u d status →
-    IfSome left (λ bytes. ReadsTold o files bytes → MayEnd o files bytes after v u status)
-told_answer o files None after v u d status ended = tt
-told_answer o files (Some bytes) after v u d status ended = λ told. (ended (known_told o files bytes told)).answer
-
--- what map and files stand for
-pub told_desk : (o : Setup) (files : Option Files) (left after v u : Option (List ℕ)) (d : Desk) (status : Status) → EndsOver o files left after v u d status →
-    IfSome left (λ bytes. ReadsTold o files bytes → Leaves o files bytes after v u d status)
-told_desk o files None after v u d status ended = tt
-told_desk o files (Some bytes) after v u d status ended = λ told. (ended (known_told o files bytes told)).leaves
-
--- the store was asked once at most for each line that names a file
-pub told_asked : (o : Setup) (files : Option Files) (left after v u : Option (List ℕ)) (d : Desk) (status : Status) → EndsOver o files left after v u d status →
-    IfSome left (λ bytes. ReadsTold o files bytes → HasAsked d (last_progress o files bytes).asks)
-told_asked o files None after v u d status ended = tt
-told_asked o files (Some bytes) after v u d status ended = λ told. (ended (known_told o files bytes told)).asked
-
--- the files of the answer are those after the last line
-session_files : (o : Setup) (files : Option Files) (bytes : List ℕ) → (session o files bytes).files ≡ (last_progress o files bytes).files
-session_files o files bytes = elim (cases_lt o.max_bytes (length bytes)) [
-  | inl more ↦ ap (λ (a : Answer). a.files) (session_long o files bytes more) ∙ cut_files (last_progress o files bytes)
-  | inr few ↦ ap (λ (a : Answer). a.files) (session_short o files bytes few) ∙ closed_files (last_progress o files bytes)
-]
-
--- with other statuses no session is halted
-never_halted : (o : Setup) (files : Option Files) (bytes : List ℕ) (old new : Option (List ℕ)) (d : Desk) (s : Status) → ((saved : Option (List ℕ)) (p q : Progress) (told : List ℕ) → HasLeft o saved p q told d s → ⊥) →
-    HasHalted o files bytes old new d s → ⊥
-never_halted o files bytes old new d s never (inl halted) =
-    let p : Progress = progress o files halted.before in never (file_saved (next_command p halted.line)) p (after_line o p halted.line) halted.at.cut.told halted.at.has_left
-never_halted o files bytes old new d s never (inr end) =
-    let p : Progress = progress o files (lines_of o bytes) in never None p (closed p) end.1.cut.told end.1.has_left
-
-files_whole : (o : Setup) (files : Option Files) (bytes : List ℕ) (left old new : Option (List ℕ)) (d : Desk) (s : Status) → Leaves o files bytes left old new d s → IsWhole s → d.store.files ≡ (session o files bytes).files
-files_whole o files bytes left old new d status.Done leaves whole = leaves.told ∙ sym (session_files o files bytes)
-files_whole o files bytes left old new d status.Refused leaves whole = leaves.told ∙ sym (session_files o files bytes)
-files_whole o files bytes left old new d status.TooLong leaves whole = leaves.told ∙ sym (session_files o files bytes)
-files_whole o files bytes left old new d status.Usage leaves whole = absurd (never_halted o files bytes old new d status.Usage (λ saved p q told no. no) leaves)
-files_whole o files bytes left old new d status.BadFile leaves whole = absurd (never_halted o files bytes old new d status.BadFile (λ saved p q told no. no) leaves)
-files_whole o files bytes left old new d status.ReadFault leaves whole = absurd whole
-files_whole o files bytes left old new d status.WriteFault leaves whole = absurd whole
-files_whole o files bytes left old new d status.Memory leaves whole = absurd whole
-files_whole o files bytes left old new d status.StoreFault leaves whole = absurd whole
-
--- the files are those of the answer
-pub told_files : (o : Setup) (files : Option Files) (left after v u : Option (List ℕ)) (d : Desk) (status : Status) → EndsOver o files left after v u d status →
-    IfSome left (λ bytes. ReadsTold o files bytes → IsWhole status → d.store.files ≡ (session o files bytes).files)
-told_files o files None after v u d status ended = tt
-told_files o files (Some bytes) after v u d status ended = λ told whole. files_whole o files bytes after v u d status (ended (known_told o files bytes told)).leaves whole
+    ended_as o files bytes left w v d s.refused status is
+    (ap (λ (a : Answer). a.status) through.whole
+    ∙ ap status_at_end (sym through.reached.between.step.refused))
+    (through.reached.written ∙ ap (λ (a : Answer). appended w a.text) (sym through.whole))
+    through.end
+    (unclosed o d (last_progress o files bytes) through.reached.between.like)
+    (subst (HasAsked d) (closed_asks (last_progress o files bytes)) through.reached.between.asked)

@@ -1,5 +1,8 @@
 -- Sessions that are halted at a line, or at the end of the script.
-use Rattle.std.proofs.Common.{◌≡◌, ℕ, List, [], ◌∷◌, ◌++◌, take, drop, ◌||◌, true, false, cond, Option, None, IsSome, ◌<◌, length, length-drop, arith, Result, Ok, Err, IfErr, OnErr, IsErrAnd, inl, inr, refl, sym, ap, subst, ◌∙◌, append_assoc, append-nil}
+use Rattle.std.proofs.Common.{◌≡◌, ℕ, List, [], ◌∷◌, ◌++◌, take, drop, ◌||◌, true, false, cond}
+use Rattle.std.proofs.Common.{Option, None, IsSome, ◌<◌, length, length-drop, arith, Result, Ok}
+use Rattle.std.proofs.Common.{Err, IfErr, OnErr, IsErrAnd, inl, inr, refl, sym, ap, subst, ◌∙◌}
+use Rattle.std.proofs.Common.{append_assoc, append-nil}
 use Rattle.std.specs.Prelude.{◌⊎◌}
 use Rattle.std.proofs.lemmas.List.{take-append-drop}
 use Rattle.oct_io.specs.Files.{Files}
@@ -18,32 +21,39 @@ use Rattle.oct_session.specs.declared.options.Stop.{Stop}
 use Rattle.oct_session.specs.declared.session.Session.{Session}
 use Rattle.oct_session.specs.Commands.{file_saved}
 use Rattle.oct_session.specs.Ending.{IsBegun, replies_within, HasReplied}
-use Rattle.oct_session.specs.Leaving.{Desk, HasAsked, IsLikeAfter, HasLeft, IsKnown, IsCutBetween, IsHaltedBetween, IsHaltedBy, IsHalted}
-use Rattle.oct_session.specs.Session.{Progress, effect_of, next_command, after_line, progress, ended, closed}
+use Rattle.oct_session.specs.Leaving.{Desk, HasAsked, IsLikeAfter, HasLeft, IsKnown, IsCutBetween}
+use Rattle.oct_session.specs.Leaving.{IsHaltedBetween, IsHaltedBy, IsHalted}
+use Rattle.oct_session.specs.Session.{Progress, effect_of, next_command, after_line, progress}
+use Rattle.oct_session.specs.Session.{ended, closed}
 use Rattle.oct_session.specs.ScanBlock.{end_reply}
 use Rattle.oct_session.specs.Setup.{Setup}
 use Rattle.oct_session.specs.Tally.{counted as count_reply}
-use Rattle.oct_session.specs.Standing.{IsHeard, StandsBeside, HasStoppedAt, IsInStep, IsBetween, HasReached}
+use Rattle.oct_session.specs.Standing.{IsHeard, StandsBeside, HasStoppedAt, IsInStep, IsBetween}
+use Rattle.oct_session.specs.Standing.{HasReached}
 use Rattle.oct_session.specs.Stops.{stop_of_sink, stop_of_store, status_of}
 use Rattle.oct_session.proofs.Effects.{asked_most}
 use Rattle.oct_session.proofs.Prefixes.{begun_more}
 use Rattle.oct_session.proofs.NonemptyReplies.{text_some}
-use Rattle.oct_session.proofs.Progresses.{progress_push, progress_grows, after_answered, asks_before}
+use Rattle.oct_session.proofs.Progresses.{progress_push, progress_grows, after_answered}
+use Rattle.oct_session.proofs.Progresses.{asks_before}
 
 -- what was to be written on the way was written in part
-cut_part : (w v u : Option (List ℕ)) (s : Session) (p q : Progress) (text : List ℕ) (k : ℕ) → s.has_quit ≡ false → IsInStep s p → v ≡ appended w p.text →
+cut_part : (w v u : Option (List ℕ)) (s : Session) (p q : Progress) (text : List ℕ) (k : ℕ)
+    → s.has_quit ≡ false → IsInStep s p → v ≡ appended w p.text →
     q.text ≡ p.text ++ text → k < length text → u ≡ appended v (take k text) → IsCutBetween p q w u
 cut_part w v u s p q text k running at before is less written = record {
   running = sym at.has_quit ∙ running;
   told = take k text;
   untold = drop k text;
   reply = is ∙ ap (λ x. p.text ++ x) (sym (take-append-drop k text));
-  written = written ∙ ap (λ x. appended x (take k text)) before ∙ appended_twice w p.text (take k text);
+  written = written ∙ ap (λ x. appended x (take k text)) before
+      ∙ appended_twice w p.text (take k text);
   more = inl (omega (arith, length-drop k text, less));
 }
 
 -- nothing was written of it
-cut_untold : (w v : Option (List ℕ)) (s : Session) (p q : Progress) (text : List ℕ) → s.has_quit ≡ false → IsInStep s p → v ≡ appended w p.text →
+cut_untold : (w v : Option (List ℕ)) (s : Session) (p q : Progress) (text : List ℕ)
+    → s.has_quit ≡ false → IsInStep s p → v ≡ appended w p.text →
     q.text ≡ p.text ++ text → (0 < length text) ⊎ IsSome q.block → IsCutBetween p q w v
 cut_untold w v s p q text running at before is heard = record {
   running = sym at.has_quit ∙ running;
@@ -55,54 +65,81 @@ cut_untold w v s p q text running at before is heard = record {
 }
 
 -- what is left where all was done
-left_all : (o : Setup) (saved : Option (List ℕ)) (d : Desk) (p q : Progress) (told : List ℕ) (fault : SinkFault) → IsLikeAfter o q d → HasLeft o saved p q told d (status_of (stop_of_sink fault))
+left_all : (o : Setup) (saved : Option (List ℕ)) (d : Desk) (p q : Progress) (told : List ℕ)
+    (fault : SinkFault) → IsLikeAfter o q d
+    → HasLeft o saved p q told d (status_of (stop_of_sink fault))
 left_all o saved d p q told sink_fault.Failed all = all
 left_all o saved d p q told sink_fault.Memory all = inl all
 
 -- what a line leaves of which nothing was told
-left_beside : (o : Setup) (d : Desk) (p : Progress) (line : Line) (fault : StoreFault) → StandsBeside o d p line fault →
-    HasLeft o (file_saved (next_command p line)) p (after_line o p line) [] d (status_of (stop_of_store fault))
+left_beside : (o : Setup) (d : Desk) (p : Progress) (line : Line) (fault : StoreFault)
+    → StandsBeside o d p line fault →
+    HasLeft o (file_saved (next_command p line)) p (after_line o p line) [] d
+    (status_of (stop_of_store fault))
 left_beside o d p line store_fault.Failed torn = (refl, torn.0, torn.1)
 left_beside o d p line store_fault.Memory (inl all) = inl all
 left_beside o d p line store_fault.Memory (inr less) = inr (refl, less)
 
 -- what a line writes
-text_line : (o : Setup) (s : Session) (p : Progress) → s.has_quit ≡ false → IsInStep s p → (after_line o p s.line.line).text ≡ p.text ++ text_of (effect_of o p s.line.line).reply
-text_line o s p running at = ap (λ (x : Progress). x.text) (after_answered o p s.line.line (sym at.has_quit ∙ running))
+text_line : (o : Setup) (s : Session) (p : Progress) → s.has_quit ≡ false → IsInStep s p
+    → (after_line o p s.line.line).text ≡ p.text ++ text_of (effect_of o p s.line.line).reply
+text_line o s p running at =
+    ap (λ (x : Progress). x.text) (after_answered o p s.line.line (sym at.has_quit ∙ running))
 
 -- a line that is heard has a text, or a block is open after it
-heard_line : (o : Setup) (p : Progress) (line : Line) → p.has_quit ≡ false → IsHeard (effect_of o p line) → (0 < length (text_of (effect_of o p line).reply)) ⊎ IsSome (after_line o p line).block
+heard_line : (o : Setup) (p : Progress) (line : Line) → p.has_quit ≡ false
+    → IsHeard (effect_of o p line)
+    → (0 < length (text_of (effect_of o p line).reply)) ⊎ IsSome (after_line o p line).block
 heard_line o p line running (inl some) = inl (text_some (effect_of o p line).reply some)
-heard_line o p line running (inr some) = inr (subst (λ (x : Progress). IsSome x.block) (sym (after_answered o p line running)) some)
+heard_line o p line running (inr some) =
+    inr (subst (λ (x : Progress). IsSome x.block) (sym (after_answered o p line running)) some)
 
 -- a call that gives up before anything of the reply is written
-pub untold_err : {T H : Type 0} (r : Result T Stop) (fault : StoreFault) (o : Setup) (v : Option (List ℕ)) (d e : H → Desk) (s : Session) → IsErrAnd r (λ x. x ≡ stop_of_store fault) → s.has_quit ≡ false →
-    ((home : H) (p : Progress) → IsKnown (after_line o p s.line.line) → IsBetween o (d home) s p → HasStoppedAt o (e home) p s.line.line fault) →
-    IfErr r (λ stop. (home : H) (w : Option (List ℕ)) (p : Progress) → IsKnown (after_line o p s.line.line) → HasReached o w v (d home) s p → IsHaltedBy o p s.line.line w v (e home) (status_of stop))
+pub untold_err : {T H : Type 0} (r : Result T Stop) (fault : StoreFault) (o : Setup)
+    (v : Option (List ℕ)) (d e : H → Desk) (s : Session) → IsErrAnd r (λ x. x ≡ stop_of_store fault)
+    → s.has_quit ≡ false →
+    ((home : H) (p : Progress) → IsKnown (after_line o p s.line.line) → IsBetween o (d home) s p
+    → HasStoppedAt o (e home) p s.line.line fault) →
+    IfErr r (λ stop. (home : H) (w : Option (List ℕ)) (p : Progress)
+    → IsKnown (after_line o p s.line.line) → HasReached o w v (d home) s p
+    → IsHaltedBy o p s.line.line w v (e home) (status_of stop))
 unfolding cut_untold
 untold_err (Ok x) fault o v d e s is running beside = absurd is
 untold_err (Err x) fault o v d e s is running beside = λ home w p known at.
     let b = beside home p known at.between in
     subst (λ y. IsHaltedBy o p s.line.line w v (e home) (status_of y)) (sym is) (record {
-      cut = cut_untold w v s p (after_line o p s.line.line) (text_of (effect_of o p s.line.line).reply) running at.between.step at.written (text_line o s p running at.between.step)
+      cut = cut_untold w v s p (after_line o p s.line.line)
+          (text_of (effect_of o p s.line.line).reply) running at.between.step at.written
+          (text_line o s p running at.between.step)
           (heard_line o p s.line.line (sym at.between.step.has_quit ∙ running) b.heard);
       has_left = left_beside o (e home) p s.line.line fault b.beside;
       asked = b.asked;
     })
 
 -- a call that gives up when a part of the reply is written
-pub part_err : {T H : Type 0} (r : Result T Stop) (fault : SinkFault) (o : Setup) (v u : Option (List ℕ)) (d e : H → Desk) (s t : Session) (text : List ℕ) (k : ℕ) → IsErrAnd r (λ x. x ≡ stop_of_sink fault) → s.has_quit ≡ false →
-    ((home : H) (p : Progress) → IsKnown (after_line o p s.line.line) → IsBetween o (d home) s p → IsBetween o (e home) t (after_line o p s.line.line)) →
-    ((home : H) (p : Progress) → IsKnown (after_line o p s.line.line) → IsBetween o (d home) s p → text ≡ text_of (effect_of o p s.line.line).reply) → k < length text → u ≡ appended v (take k text) →
-    IfErr r (λ stop. (home : H) (w : Option (List ℕ)) (p : Progress) → IsKnown (after_line o p s.line.line) → HasReached o w v (d home) s p → IsHaltedBy o p s.line.line w u (e home) (status_of stop))
+pub part_err : {T H : Type 0} (r : Result T Stop) (fault : SinkFault) (o : Setup)
+    (v u : Option (List ℕ)) (d e : H → Desk) (s t : Session) (text : List ℕ) (k : ℕ)
+    → IsErrAnd r (λ x. x ≡ stop_of_sink fault) → s.has_quit ≡ false →
+    ((home : H) (p : Progress) → IsKnown (after_line o p s.line.line) → IsBetween o (d home) s p
+    → IsBetween o (e home) t (after_line o p s.line.line)) →
+    ((home : H) (p : Progress) → IsKnown (after_line o p s.line.line) → IsBetween o (d home) s p
+    → text ≡ text_of (effect_of o p s.line.line).reply) → k < length text
+    → u ≡ appended v (take k text) →
+    IfErr r (λ stop. (home : H) (w : Option (List ℕ)) (p : Progress)
+    → IsKnown (after_line o p s.line.line) → HasReached o w v (d home) s p
+    → IsHaltedBy o p s.line.line w u (e home) (status_of stop))
 unfolding cut_part
 part_err (Ok x) fault o v u d e s t text k is running between same less written = absurd is
-part_err (Err x) fault o v u d e s t text k is running between same less written = λ home w p known at.
+part_err (Err x) fault o v u d e s t text k is running between same less written =
+    λ home w p known at.
     let b = between home p known at.between in
     subst (λ y. IsHaltedBy o p s.line.line w u (e home) (status_of y)) (sym is) (record {
-      cut = cut_part w v u s p (after_line o p s.line.line) text k running at.between.step at.written
-          (text_line o s p running at.between.step ∙ ap (λ x. p.text ++ x) (sym (same home p known at.between))) less written;
-      has_left = left_all o (file_saved (next_command p s.line.line)) (e home) p (after_line o p s.line.line) (take k text) fault b.like;
+      cut = cut_part w v u s p (after_line o p s.line.line) text k running at.between.step
+          at.written
+          (text_line o s p running at.between.step
+          ∙ ap (λ x. p.text ++ x) (sym (same home p known at.between))) less written;
+      has_left = left_all o (file_saved (next_command p s.line.line)) (e home) p
+          (after_line o p s.line.line) (take k text) fault b.like;
       asked = b.asked;
     })
 
@@ -115,58 +152,82 @@ pub closed_quit : (p : Progress) → p.has_quit ≡ true → closed p ≡ p
 closed_quit p quit = rw quit refl
 
 -- what stands at the end of a script stood before it
-pub unclosed : (o : Setup) (d : Desk) (p : Progress) → IsLikeAfter o (closed p) d → IsLikeAfter o p d
-unclosed o d p = elim p.has_quit as (λ v. IsLikeAfter o (cond v p (ended p)) d → IsLikeAfter o p d) [ true ↦ (λ at. at) | false ↦ (λ at. at) ]
+pub unclosed : (o : Setup) (d : Desk) (p : Progress) → IsLikeAfter o (closed p) d
+    → IsLikeAfter o p d
+unclosed o d p = elim p.has_quit as (λ v. IsLikeAfter o (cond v p (ended p)) d → IsLikeAfter o p d)
+    [ true ↦ (λ at. at) | false ↦ (λ at. at) ]
 
 pub closed_files : (p : Progress) → (closed p).files ≡ p.files
-closed_files p = elim p.has_quit as (λ v. (cond v p (ended p)).files ≡ p.files) [ true ↦ refl | false ↦ refl ]
+closed_files p = elim p.has_quit as (λ v. (cond v p (ended p)).files ≡ p.files)
+    [ true ↦ refl | false ↦ refl ]
 
 pub closed_asks : (p : Progress) → (closed p).asks ≡ p.asks
-closed_asks p = elim p.has_quit as (λ v. (cond v p (ended p)).asks ≡ p.asks) [ true ↦ refl | false ↦ refl ]
+closed_asks p = elim p.has_quit as (λ v. (cond v p (ended p)).asks ≡ p.asks)
+    [ true ↦ refl | false ↦ refl ]
 
 -- it may write more after the replies
 pub closed_grows : (p : Progress) → (more : List ℕ) × ((closed p).text ≡ p.text ++ more)
-closed_grows p = elim p.has_quit as (λ v. (more : List ℕ) × ((cond v p (ended p)).text ≡ p.text ++ more)) [
-  | true ↦ ([], sym (append-nil p.text))
-  | false ↦ (text_of (end_reply p.block), refl)
-]
+closed_grows p = elim p.has_quit as
+    (λ v. (more : List ℕ) × ((cond v p (ended p)).text ≡ p.text ++ more)) [
+      | true ↦ ([], sym (append-nil p.text))
+      | false ↦ (text_of (end_reply p.block), refl)
+    ]
 
 -- the end of the script leaves the desk
-pub like_closed : (o : Setup) (d : Desk) (p : Progress) → IsLikeAfter o p d → IsLikeAfter o (closed p) d
-like_closed o d p at = elim p.has_quit as (λ v. IsLikeAfter o (cond v p (ended p)) d) [ true ↦ at | false ↦ at ]
+pub like_closed : (o : Setup) (d : Desk) (p : Progress) → IsLikeAfter o p d
+    → IsLikeAfter o (closed p) d
+like_closed o d p at = elim p.has_quit as (λ v. IsLikeAfter o (cond v p (ended p)) d)
+    [ true ↦ at | false ↦ at ]
 
 -- the end of the script, answered whole
-pub told_end : (w v u : Option (List ℕ)) (s t : Session) (p : Progress) (r : Option Reply) (text : List ℕ) → s.has_quit ≡ false → IsInStep s p → v ≡ appended w p.text → r ≡ end_reply s.block →
-    text ≡ text_of r → u ≡ appended v text → t.line_count ≡ s.line_count → t.block ≡ None → t.refused ≡ (s.refused || is_refusal r) → t.has_quit ≡ s.has_quit →
+pub told_end : (w v u : Option (List ℕ)) (s t : Session) (p : Progress) (r : Option Reply)
+    (text : List ℕ) → s.has_quit ≡ false → IsInStep s p → v ≡ appended w p.text
+    → r ≡ end_reply s.block →
+    text ≡ text_of r → u ≡ appended v text → t.line_count ≡ s.line_count → t.block ≡ None
+    → t.refused ≡ (s.refused || is_refusal r) → t.has_quit ≡ s.has_quit →
     t.tally ≡ count_reply s.tally r → IsInStep t (closed p) × (u ≡ appended w (closed p).text)
 told_end w v u s t p r text running at before is told written answered block refused quit tally =
     let same : r ≡ end_reply p.block = is ∙ ap end_reply at.block in
-    subst (λ (x : Progress). IsInStep t x × (u ≡ appended w x.text)) (sym (closed_ended p (sym at.has_quit ∙ running))) (
+    subst (λ (x : Progress). IsInStep t x × (u ≡ appended w x.text))
+    (sym (closed_ended p (sym at.has_quit ∙ running))) (
       record {
         counted = answered ∙ at.counted;
         block = block;
-        refused = refused ∙ ap (λ b. b || is_refusal r) at.refused ∙ ap (λ x. p.refused || is_refusal x) same;
+        refused = refused ∙ ap (λ b. b || is_refusal r) at.refused
+            ∙ ap (λ x. p.refused || is_refusal x) same;
         has_quit = quit ∙ at.has_quit;
         tally = tally ∙ ap (λ x. count_reply x r) at.tally ∙ ap (count_reply p.tally) same;
       },
-      written ∙ ap (λ x. appended x text) before ∙ appended_twice w p.text text ∙ ap (λ x. appended w (p.text ++ x)) (told ∙ ap text_of same),
+      written ∙ ap (λ x. appended x text) before ∙ appended_twice w p.text text
+          ∙ ap (λ x. appended w (p.text ++ x)) (told ∙ ap text_of same),
     )
 
 -- a session that has closed its script, with the desk that stands by
-pub reached_closed : (o : Setup) (w v u : Option (List ℕ)) (d : Desk) (s t : Session) (p : Progress) → HasReached o w v d s p → IsInStep t (closed p) × (u ≡ appended w (closed p).text) → HasReached o w u d t (closed p)
+pub reached_closed : (o : Setup) (w v u : Option (List ℕ)) (d : Desk) (s t : Session) (p : Progress)
+    → HasReached o w v d s p → IsInStep t (closed p) × (u ≡ appended w (closed p).text)
+    → HasReached o w u d t (closed p)
 reached_closed o w v u d s t p at told = record {
-  between = record { like = like_closed o d p at.between.like; asked = subst (HasAsked d) (sym (closed_asks p)) at.between.asked; step = told.0 };
+  between = record {
+    like = like_closed o d p at.between.like;
+    asked = subst (HasAsked d)
+        (sym (closed_asks p)) at.between.asked;
+    step = told.0;
+  };
   written = told.1;
 }
 
 -- after a `quit` the end of the script is answered with the last line
-pub reached_quit : (o : Setup) (w v : Option (List ℕ)) (d : Desk) (s : Session) (p : Progress) → s.has_quit ≡ true → HasReached o w v d s p → HasReached o w v d s (closed p)
-reached_quit o w v d s p quit at = subst (HasReached o w v d s) (sym (closed_quit p (sym at.between.step.has_quit ∙ quit))) at
+pub reached_quit : (o : Setup) (w v : Option (List ℕ)) (d : Desk) (s : Session) (p : Progress)
+    → s.has_quit ≡ true → HasReached o w v d s p → HasReached o w v d s (closed p)
+reached_quit o w v d s p quit at =
+    subst (HasReached o w v d s) (sym (closed_quit p (sym at.between.step.has_quit ∙ quit))) at
 
 -- what the end of the script writes
-text_end : (s : Session) (p : Progress) (r : Option Reply) → s.has_quit ≡ false → IsInStep s p → r ≡ end_reply s.block → (closed p).text ≡ p.text ++ text_of r
+text_end : (s : Session) (p : Progress) (r : Option Reply) → s.has_quit ≡ false → IsInStep s p
+    → r ≡ end_reply s.block → (closed p).text ≡ p.text ++ text_of r
 text_end s p r running at is =
-    ap (λ (x : Progress). x.text) (closed_ended p (sym at.has_quit ∙ running)) ∙ ap (λ x. p.text ++ text_of x) (sym (is ∙ ap end_reply at.block))
+    ap (λ (x : Progress). x.text) (closed_ended p (sym at.has_quit ∙ running))
+    ∙ ap (λ x. p.text ++ text_of x) (sym (is ∙ ap end_reply at.block))
 
 -- what holds holds where a call gives up
 pub on_err : {T E A : Type 0} (r : Result T E) → A → OnErr r A
@@ -174,18 +235,27 @@ on_err (Ok x) holds = tt
 on_err (Err x) holds = holds
 
 -- a call that gives up before anything of the end's reply is written
-pub end_untold : (v : Option (List ℕ)) (s : Session) (r : Option Reply) → s.has_quit ≡ false → r ≡ end_reply s.block → IsSome r →
-    (w : Option (List ℕ)) (p : Progress) → IsInStep s p → v ≡ appended w p.text → IsCutBetween p (closed p) w v
-end_untold v s r running is some w p at before = cut_untold w v s p (closed p) (text_of r) running at before (text_end s p r running at is) (inl (text_some r some))
+pub end_untold : (v : Option (List ℕ)) (s : Session) (r : Option Reply) → s.has_quit ≡ false
+    → r ≡ end_reply s.block → IsSome r →
+    (w : Option (List ℕ)) (p : Progress) → IsInStep s p → v ≡ appended w p.text
+    → IsCutBetween p (closed p) w v
+end_untold v s r running is some w p at before =
+    cut_untold w v s p (closed p) (text_of r) running at before (text_end s p r running at is)
+    (inl (text_some r some))
 
 -- a call that gives up when a part of it is written
-pub end_part : (v u : Option (List ℕ)) (s : Session) (r : Option Reply) (text : List ℕ) (k : ℕ) → s.has_quit ≡ false → r ≡ end_reply s.block → text ≡ text_of r → k < length text → u ≡ appended v (take k text) →
-    (w : Option (List ℕ)) (p : Progress) → IsInStep s p → v ≡ appended w p.text → IsCutBetween p (closed p) w u
+pub end_part : (v u : Option (List ℕ)) (s : Session) (r : Option Reply) (text : List ℕ) (k : ℕ)
+    → s.has_quit ≡ false → r ≡ end_reply s.block → text ≡ text_of r → k < length text
+    → u ≡ appended v (take k text) →
+    (w : Option (List ℕ)) (p : Progress) → IsInStep s p → v ≡ appended w p.text
+    → IsCutBetween p (closed p) w u
 end_part v u s r text k running is told less written w p at before =
-    cut_part w v u s p (closed p) text k running at before (text_end s p r running at is ∙ ap (λ y. p.text ++ y) (sym told)) less written
+    cut_part w v u s p (closed p) text k running at before
+    (text_end s p r running at is ∙ ap (λ y. p.text ++ y) (sym told)) less written
 
 -- a halt at the end of the script, with the desk that stands by
-pub halted_closed : (o : Setup) (w v u : Option (List ℕ)) (d : Desk) (s : Session) (p : Progress) (fault : SinkFault) → HasReached o w v d s p → IsCutBetween p (closed p) w u →
+pub halted_closed : (o : Setup) (w v u : Option (List ℕ)) (d : Desk) (s : Session) (p : Progress)
+    (fault : SinkFault) → HasReached o w v d s p → IsCutBetween p (closed p) w u →
     IsHaltedBetween o None p (closed p) w u d (status_of (stop_of_sink fault))
 halted_closed o w v u d s p fault at cut = record {
   cut = cut;
@@ -194,12 +264,17 @@ halted_closed o w v u d s p fault at cut = record {
 }
 
 -- the last of some lines
-pub halted_last : (o : Setup) (files : Option Files) (lines : List Line) (line : Line) (w v : Option (List ℕ)) (d : Desk) (status : Status) → IsHaltedBy o (progress o files lines) line w v d status →
+pub halted_last : (o : Setup) (files : Option Files) (lines : List Line) (line : Line)
+    (w v : Option (List ℕ)) (d : Desk) (status : Status)
+    → IsHaltedBy o (progress o files lines) line w v d status →
     IsHalted o files (lines ++ line ∷ []) w v d status
-halted_last o files lines line w v d status at = record { before = lines; line = line; behind = []; split = refl; at = at }
+halted_last o files lines line w v d status at =
+    record { before = lines; line = line; behind = []; split = refl; at = at }
 
 -- more lines after them
-pub halted_more : (o : Setup) (files : Option Files) (lines more : List Line) (w v : Option (List ℕ)) (d : Desk) (status : Status) → IsHalted o files lines w v d status → IsHalted o files (lines ++ more) w v d status
+pub halted_more : (o : Setup) (files : Option Files) (lines more : List Line)
+    (w v : Option (List ℕ)) (d : Desk) (status : Status) → IsHalted o files lines w v d status
+    → IsHalted o files (lines ++ more) w v d status
 halted_more o files lines more w v d status h = record {
   before = h.before;
   line = h.line;
@@ -209,39 +284,62 @@ halted_more o files lines more w v d status h = record {
 }
 
 -- more bytes after them
-pub halted_bytes : (o : Setup) (files : Option Files) (bytes more : List ℕ) (w v : Option (List ℕ)) (d : Desk) (status : Status) → IsHalted o files (ended_lines bytes) w v d status →
+pub halted_bytes : (o : Setup) (files : Option Files) (bytes more : List ℕ) (w v : Option (List ℕ))
+    (d : Desk) (status : Status) → IsHalted o files (ended_lines bytes) w v d status →
     IsHalted o files (ended_lines (bytes ++ more)) w v d status
 halted_bytes o files bytes more w v d status h =
-    let s = ended_lines-append bytes more in subst (λ x. IsHalted o files x w v d status) (sym s.1) (halted_more o files (ended_lines bytes) s.0 w v d status h)
+    let s = ended_lines-append bytes more in
+    subst (λ x. IsHalted o files x w v d status) (sym s.1)
+    (halted_more o files (ended_lines bytes) s.0 w v d status h)
 
 -- what is written on the way from one state to the next is a prefix of what stands there
-pub between_begun : (p q : Progress) (w v : Option (List ℕ)) → IsCutBetween p q w v → IsBegun q.text w v
-between_begun p q w v h = record { done = p.text ++ h.told; rest = h.untold; written = h.written; split = h.reply ∙ sym (append_assoc p.text h.told h.untold) }
+pub between_begun : (p q : Progress) (w v : Option (List ℕ)) → IsCutBetween p q w v
+    → IsBegun q.text w v
+between_begun p q w v h =
+    record {
+      done = p.text ++ h.told;
+      rest = h.untold;
+      written = h.written;
+      split = h.reply
+          ∙ sym (append_assoc p.text h.told h.untold);
+    }
 
 -- the lines up to the one at which a session was halted, and those after it
-split_at : (o : Setup) (files : Option Files) (lines before behind : List Line) (line : Line) → lines ≡ before ++ line ∷ behind → lines ≡ (before ++ line ∷ []) ++ behind
-split_at o files lines before behind line split = split ∙ sym (append_assoc before (line ∷ []) behind)
+split_at : (o : Setup) (files : Option Files) (lines before behind : List Line) (line : Line)
+    → lines ≡ before ++ line ∷ behind → lines ≡ (before ++ line ∷ []) ++ behind
+split_at o files lines before behind line split = split
+    ∙ sym (append_assoc before (line ∷ []) behind)
 
 -- what was written is a prefix of the replies to all lines
-pub halted_begun : (o : Setup) (files : Option Files) (lines : List Line) (w v : Option (List ℕ)) (d : Desk) (status : Status) → IsHalted o files lines w v d status → IsBegun (progress o files lines).text w v
+pub halted_begun : (o : Setup) (files : Option Files) (lines : List Line) (w v : Option (List ℕ))
+    (d : Desk) (status : Status) → IsHalted o files lines w v d status
+    → IsBegun (progress o files lines).text w v
 halted_begun o files lines w v d status h =
     let p : Progress = progress o files h.before in
     let s = progress_grows o files (h.before ++ h.line ∷ []) h.behind in
     let begun : IsBegun (progress o files (h.before ++ h.line ∷ [])).text w v =
-    subst (λ (x : Progress). IsBegun x.text w v) (sym (progress_push o files h.before h.line)) (between_begun p (after_line o p h.line) w v h.at.cut) in
-    begun_more _ _ s.0 w v (ap (λ x. (progress o files x).text) (split_at o files lines h.before h.behind h.line h.split) ∙ s.1) begun
+    subst (λ (x : Progress). IsBegun x.text w v) (sym (progress_push o files h.before h.line))
+    (between_begun p (after_line o p h.line) w v h.at.cut) in
+    begun_more _ _ s.0 w v (ap (λ x. (progress o files x).text)
+    (split_at o files lines h.before h.behind h.line h.split) ∙ s.1) begun
 
 -- and the store was asked once at most for each of them that names a file
-pub halted_asked : (o : Setup) (files : Option Files) (lines : List Line) (w v : Option (List ℕ)) (d : Desk) (status : Status) → IsHalted o files lines w v d status → HasAsked d (progress o files lines).asks
+pub halted_asked : (o : Setup) (files : Option Files) (lines : List Line) (w v : Option (List ℕ))
+    (d : Desk) (status : Status) → IsHalted o files lines w v d status
+    → HasAsked d (progress o files lines).asks
 halted_asked o files lines w v d status h =
-    subst (λ x. HasAsked d (progress o files x).asks) (sym (split_at o files lines h.before h.behind h.line h.split))
+    subst (λ x. HasAsked d (progress o files x).asks)
+    (sym (split_at o files lines h.before h.behind h.line h.split))
     (asked_most d _ _ (asks_before o files (h.before ++ h.line ∷ []) h.behind)
-    (subst (λ (x : Progress). HasAsked d x.asks) (sym (progress_push o files h.before h.line)) h.at.asked))
+    (subst (λ (x : Progress). HasAsked d x.asks) (sym (progress_push o files h.before h.line))
+    h.at.asked))
 
 -- a halt between two states leaves the replies up to the first of them
-pub replied_between : (o : Setup) (files : Option Files) (bytes : List ℕ) (p q : Progress) (w u : Option (List ℕ)) → (text : List ℕ) × (p.text ≡ replies_within o files bytes ++ text) →
+pub replied_between : (o : Setup) (files : Option Files) (bytes : List ℕ) (p q : Progress)
+    (w u : Option (List ℕ)) → (text : List ℕ) × (p.text ≡ replies_within o files bytes ++ text) →
     IsCutBetween p q w u → HasReplied o files bytes w u
 replied_between o files bytes p q w u t h = record {
   more = t.0 ++ h.told;
-  written = h.written ∙ ap (λ x. appended w (x ++ h.told)) t.1 ∙ ap (appended w) (append_assoc (replies_within o files bytes) t.0 h.told);
+  written = h.written ∙ ap (λ x. appended w (x ++ h.told)) t.1
+      ∙ ap (appended w) (append_assoc (replies_within o files bytes) t.0 h.told);
 }

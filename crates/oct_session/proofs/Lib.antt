@@ -19,6 +19,7 @@ pub mod Effects
 pub mod Loading
 pub mod Restoring
 pub mod Endings
+pub mod Serving
 pub mod Built
 pub mod Drilled
 pub mod StateActions

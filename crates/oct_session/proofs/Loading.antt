@@ -1,5 +1,7 @@
 -- What a load or a restore answers, and what map and files then are; and what a save leaves.
-use Rattle.std.proofs.Common.{◌≡◌, ◌⊎◌, ℕ, List, [], Bool, true, false, cond, length, Option, Some, None, IsSome, Result, Ok, Err, IfOk, IfSome, IsErr, IsErrAnd, inl, inr, refl, sym, ap, subst, ◌∙◌}
+use Rattle.std.proofs.Common.{◌≡◌, ◌⊎◌, ℕ, List, [], Bool, true, false, cond, length, Option, Some}
+use Rattle.std.proofs.Common.{None, IsSome, Result, Ok, Err, IfOk, IfSome, IsErr, IsErrAnd, inl}
+use Rattle.std.proofs.Common.{inr, refl, sym, ap, subst, ◌∙◌}
 use Rattle.std.specs.Prelude.{⊤, pos, nat_eq, nat_lt, option_map, ◌++◌}
 use Rattle.oct_bt.specs.declared.fault.BtFault.{BtFault}
 use Rattle.oct_bt.specs.declared.fault.BtFault.TheVariants as bt_fault
@@ -27,12 +29,14 @@ use Rattle.oct_script.specs.declared.reply.Refusal.{Refusal}
 use Rattle.oct_script.specs.declared.reply.Reply.{Reply}
 use Rattle.oct_script.specs.declared.reply.Reply.TheVariants as reply_of
 use Rattle.oct_session.specs.Commands.{accepted, accepted_saving, file_named, file_saved}
-use Rattle.oct_session.specs.FileCommands.{found_in, nodes_reply, reading_reply, reading_action, load_reply, classes_file, save_reply}
+use Rattle.oct_session.specs.FileCommands.{found_in, nodes_reply, reading_reply, reading_action}
+use Rattle.oct_session.specs.FileCommands.{load_reply, classes_file, save_reply}
 use Rattle.oct_session.specs.History.{History, State, after_all}
 use Rattle.oct_session.specs.Leaving.{StandsFor, IsLike, KeepsUnsaved}
 use Rattle.oct_session.specs.Refusals.{file_refusal, fault_reply}
 use Rattle.oct_session.specs.Session.{Effect, replied}
-use Rattle.oct_session.specs.Standing.{HasAnswered, HasDone, HasEffect, HasFailed, FindsTold, TakesEffect}
+use Rattle.oct_session.specs.Standing.{HasAnswered, HasDone, HasEffect, HasFailed, FindsTold}
+use Rattle.oct_session.specs.Standing.{TakesEffect}
 use Rattle.oct_session.proofs.Effects.{saves_none, same_files}
 use Rattle.oct_session.proofs.MapHistory.{stands_replaced}
 use Rattle.oct_session.proofs.Readings.{IsTold, reading_told}
@@ -42,10 +46,15 @@ use Rattle.oct_values.specs.Classes.{Classes, classes_of}
 -- ---- the map
 
 -- a file that the map took
-pub replace_done : (m n : Map) (file : FileRead) (nodes : ℕ) → nodes ≡ file.nodes → IsAnswerOrMemory (load_answer (ground_of m) file.res (record_total file.codes)) (Ok tt) → IsMapLoaded m n file.codes → IsMap n → ground_of n ≡ ground_of m →
-    HasAnswered (λ s. reading_reply s.base (Ok file)) (λ s. reading_action (Ok file)) m n (Some (reply_of.Loaded nodes))
+pub replace_done : (m n : Map) (file : FileRead) (nodes : ℕ) → nodes ≡ file.nodes
+    → IsAnswerOrMemory (load_answer (ground_of m) file.res (record_total file.codes)) (Ok tt)
+    → IsMapLoaded m n file.codes → IsMap n → ground_of n ≡ ground_of m →
+    HasAnswered (λ s. reading_reply s.base (Ok file)) (λ s. reading_action (Ok file)) m n
+    (Some (reply_of.Loaded nodes))
 replace_done m n file nodes is (inl answer) loaded is_map ground = λ s at. (
-  ap (λ x. Some (reply_of.Loaded x)) is ∙ ap (nodes_reply file.nodes) (answer ∙ ap (λ g. load_answer g file.res (record_total file.codes)) at.base),
+  ap (λ x. Some (reply_of.Loaded x)) is
+      ∙ ap (nodes_reply file.nodes)
+      (answer ∙ ap (λ g. load_answer g file.res (record_total file.codes)) at.base),
   stands_replaced m n s file.codes loaded is_map ground at,
 )
 replace_done m n file nodes is (inr memory) loaded is_map ground = cc
@@ -55,7 +64,10 @@ file_some : (g : Ground) (file : FileRead) → IsSome (reading_reply g (Ok file)
 file_some g file = by_test (nat_eq file.res g.res) (nat_lt g.max_groups (record_total file.codes))
   where
     by_test : (same full : Bool) →
-        IsSome (nodes_reply file.nodes (cond {A = Result ⊤ MapFault} same (cond {A = Result ⊤ MapFault} full (Err (fault.Full 0 (record_total file.codes))) (Ok tt)) (Err (fault.OtherResolution (pos file.res) (pos g.res)))))
+        IsSome (nodes_reply file.nodes
+        (cond {A = Result ⊤ MapFault} same
+        (cond {A = Result ⊤ MapFault} full (Err (fault.Full 0 (record_total file.codes))) (Ok tt))
+        (Err (fault.OtherResolution (pos file.res) (pos g.res)))))
     by_test false full = refl
     by_test true true = refl
     by_test true false = refl
@@ -64,7 +76,8 @@ refused_some : (o : Option Refusal) → IsSome o → IsSome (option_map reply_of
 refused_some None some = cc
 refused_some (Some refusal) some = refl
 
-read_some : (g : Ground) (read : Result FileRead BtFault) → IsTold read → IsSome (reading_reply g read)
+read_some : (g : Ground) (read : Result FileRead BtFault) → IsTold read
+    → IsSome (reading_reply g read)
 read_some g (Ok file) told = file_some g file
 read_some g (Err f) told = refused_some (file_refusal f) told
 
@@ -79,34 +92,25 @@ load_some g TooLarge = refl
 load_some g (Bytes bytes) = reading_some g bytes
 
 -- a file that the map refused
-pub replace_refused : {E : Type 0} (r : Result (Option Reply) E) (m n : Map) (file : FileRead) (f : MapFault) → IfOk r (λ a. a ≡ fault_reply f) → IfOk r IsSome →
-    IsAnswerOrMemory (load_answer (ground_of m) file.res (record_total file.codes)) (Err f) → n ≡ m → HasDone (λ s. reading_reply s.base (Ok file)) (λ s. reading_action (Ok file)) m n r
+pub replace_refused : {E : Type 0} (r : Result (Option Reply) E) (m n : Map) (file : FileRead)
+    (f : MapFault) → IfOk r (λ a. a ≡ fault_reply f) → IfOk r IsSome →
+    IsAnswerOrMemory (load_answer (ground_of m) file.res (record_total file.codes)) (Err f) → n ≡ m
+    → HasDone (λ s. reading_reply s.base (Ok file)) (λ s. reading_action (Ok file)) m n r
 replace_refused (Ok a) m n file f is some (inl answer) same = λ s at. (
-  is ∙ ap (nodes_reply file.nodes) (answer ∙ ap (λ g. load_answer g file.res (record_total file.codes)) at.base),
+  is ∙ ap (nodes_reply file.nodes)
+      (answer ∙ ap (λ g. load_answer g file.res (record_total file.codes)) at.base),
   subst (λ (x : Map). StandsFor x (after_all s (accepted a (reading_action (Ok file))))) (sym same)
-      (subst (λ more. StandsFor m (after_all s more)) (sym (ap (λ b. cond b [] (reading_action (Ok file))) (refuses f a some is))) at),
+      (subst (λ more. StandsFor m (after_all s more))
+      (sym (ap (λ b. cond b [] (reading_action (Ok file))) (refuses f a some is))) at),
 )
 replace_refused (Ok a) m n file f is some (inr none) same = absurd (no_reply f a some is cc)
-replace_refused (Err x) m n file f is some answer same = λ s at. (file_some s.base file, subst (λ (x : Map). StandsFor x s) (sym same) at)
-
--- what was read of a file, or memory ran out
-abbrev IsRead : List ℕ → Result FileRead BtFault → Type 0
-IsRead bytes read = (read ≡ reading bytes) ⊎ (read ≡ Err bt_fault.Memory)
-
-read_ok : (bytes : List ℕ) (file : FileRead) → IsRead bytes (Ok file) → Ok file ≡ reading bytes
-read_ok bytes file (inl is) = is
-read_ok bytes file (inr memory) = cc
-
--- what has a refusal isn't that memory ran out
-told_fault : (f : BtFault) (refusal : Refusal) → file_refusal f ≡ Some refusal → f ≡ bt_fault.Memory → ⊥
-told_fault f refusal is memory = (let absent : ◌≡◌ {A = Option Refusal} None (Some refusal) = sym (ap file_refusal memory) ∙ is in cc)
-
-read_err : (bytes : List ℕ) (f : BtFault) (refusal : Refusal) → file_refusal f ≡ Some refusal → IsRead bytes (Err f) → Err f ≡ reading bytes
-read_err bytes f refusal is (inl same) = same
-read_err bytes f refusal is (inr memory) = absurd (told_fault f refusal is cc)
+replace_refused (Err x) m n file f is some answer same =
+    λ s at. (file_some s.base file, subst (λ (x : Map). StandsFor x s) (sym same) at)
 
 -- a file that memory ran out for
-pub bytes_unread : {E : Type 0} (r : Result (Option Reply) E) (m : Map) (bytes : List ℕ) → IsErr r → HasDone (λ s. reading_reply s.base (reading bytes)) (λ s. reading_action (reading bytes)) m m r
+pub bytes_unread : {E : Type 0} (r : Result (Option Reply) E) (m : Map) (bytes : List ℕ) → IsErr r
+    → HasDone (λ s. reading_reply s.base (reading bytes)) (λ s. reading_action (reading bytes)) m m
+    r
 bytes_unread (Ok x) m bytes err = cc
 bytes_unread (Err x) m bytes err = λ s at. (reading_some s.base bytes, at)
 
@@ -117,120 +121,191 @@ abbrev pub Names : Result Command Refusal → List ℕ → Type 0
 Names c name = file_named c ≡ Some name
 
 -- the file that it names is told
-finds_named : (c : Result Command Refusal) (name : List ℕ) (files : Option Files) → Names c name → FindsTold (file_named c) files → FindsTold (Some name) files
+finds_named : (c : Result Command Refusal) (name : List ℕ) (files : Option Files) → Names c name
+    → FindsTold (file_named c) files → FindsTold (Some name) files
 finds_named c name files named finds = subst (λ x. FindsTold x files) named finds
 
 names_some : (c : Result Command Refusal) (name : List ℕ) → Names c name → IsSome (file_named c)
 names_some c name named = subst (λ x. IsSome x) (sym named) refl
 
 -- a store that failed at a load leaves all files as they were
-same_failed : (c : Result Command Refusal) (name : List ℕ) (files : Option Files) (s : State) (m : Map) (held : Option Files) (x : StoreFault) → Names c name → file_saved c ≡ None → IsLike files s m held → HasFailed c files s m held x
-same_failed c name files s m held store_fault.Failed named none at = (names_some c name named, record { stands = at.stands; others = subst (λ saved. KeepsUnsaved saved files held) (sym none) at.told })
+same_failed : (c : Result Command Refusal) (name : List ℕ) (files : Option Files) (s : State)
+    (m : Map) (held : Option Files) (x : StoreFault) → Names c name → file_saved c ≡ None
+    → IsLike files s m held → HasFailed c files s m held x
+same_failed c name files s m held store_fault.Failed named none at = (
+  names_some c name named,
+  record {
+    stands = at.stands;
+    others = subst (λ saved. KeepsUnsaved saved files held) (sym none)
+        at.told;
+  },
+)
 same_failed c name files s m held store_fault.Memory named none at = at
 
 -- a store that failed at a save leaves all files but one, and all where memory ran out
-torn_failed : (c : Result Command Refusal) (name : List ℕ) (files : Option Files) (s : State) (m : Map) (held : Option Files) (x : StoreFault) → Names c name → file_saved c ≡ Some name → StandsFor m s → KeepsOthers files held name →
+torn_failed : (c : Result Command Refusal) (name : List ℕ) (files : Option Files) (s : State)
+    (m : Map) (held : Option Files) (x : StoreFault) → Names c name → file_saved c ≡ Some name
+    → StandsFor m s → KeepsOthers files held name →
     (x ≡ store_fault.Memory → held ≡ files) → HasFailed c files s m held x
-torn_failed c name files s m held store_fault.Failed named saves at others same = (names_some c name named, record { stands = at; others = subst (λ saved. KeepsUnsaved saved files held) (sym saves) others })
-torn_failed c name files s m held store_fault.Memory named saves at others same = record { stands = at; told = same refl }
+torn_failed c name files s m held store_fault.Failed named saves at others same = (
+  names_some c name named,
+  record {
+    stands = at;
+    others = subst (λ saved. KeepsUnsaved saved files held) (sym saves)
+        others;
+  },
+)
+torn_failed c name files s m held store_fault.Memory named saves at others same =
+    record { stands = at; told = same refl }
 
 -- the file is told
-found_is : (f files : Option Files) (name : List ℕ) (found : Loaded) → f ≡ files → IfSome f (λ files. found ≡ loaded_of (files name)) → FindsTold (Some name) files → Some found ≡ found_in files name
+found_is : (f files : Option Files) (name : List ℕ) (found : Loaded) → f ≡ files
+    → IfSome f (λ files. found ≡ loaded_of (files name)) → FindsTold (Some name) files
+    → Some found ≡ found_in files name
 found_is f None name found same has (inl none) = cc
 found_is f None name found same has (inr some) = cc
-found_is f (Some files) name found same has finds = ap Some (subst (λ x. IfSome x (λ files. found ≡ loaded_of (files name))) same has)
+found_is f (Some files) name found same has finds =
+    ap Some (subst (λ x. IfSome x (λ files. found ≡ loaded_of (files name))) same has)
 
 -- what answers whatever the store has
 abbrev pub AnswersAll : (Ground → Option Loaded → Option Reply) → Type 0
 AnswersAll reply = (g : Ground) (found : Loaded) → IsSome (reply g (Some found))
 
 -- what a command does that takes in a file, by what the store has
-abbrev pub loading_effect : (Ground → Option Loaded → Option Reply) → (Ground → Option Loaded → History) → List ℕ → Option Files → State → Effect
-loading_effect reply actions name files s = replied (reply s.base (found_in files name)) (actions s.base (found_in files name)) None
+abbrev pub loading_effect : (Ground → Option Loaded → Option Reply)
+    → (Ground → Option Loaded → History) → List ℕ → Option Files → State → Effect
+loading_effect reply actions name files s =
+    replied (reply s.base (found_in files name)) (actions s.base (found_in files name)) None
 
-finds_some : (reply : Ground → Option Loaded → Option Reply) → AnswersAll reply → (g : Ground) (files : Option Files) (name : List ℕ) → FindsTold (Some name) files → IsSome (reply g (found_in files name))
+finds_some : (reply : Ground → Option Loaded → Option Reply) → AnswersAll reply
+    → (g : Ground) (files : Option Files) (name : List ℕ) → FindsTold (Some name) files
+    → IsSome (reply g (found_in files name))
 finds_some reply some g None name (inl none) = cc
 finds_some reply some g None name (inr told) = cc
 finds_some reply some g (Some files) name finds = some g (loaded_of (files name))
 
 -- a file that was taken in, or refused
-pub load_done : (c : Result Command Refusal) (reply : Ground → Option Loaded → Option Reply) (actions : Ground → Option Loaded → History) (m n : Map) (f g : Option Files) (key name : List ℕ) (found : Loaded) (a : Option Reply) → Names c name → key ≡ name → g ≡ f →
+pub load_done : (c : Result Command Refusal) (reply : Ground → Option Loaded → Option Reply)
+    (actions : Ground → Option Loaded → History) (m n : Map) (f g : Option Files)
+    (key name : List ℕ) (found : Loaded) (a : Option Reply) → Names c name → key ≡ name → g ≡ f →
     IfSome f (λ files. found ≡ loaded_of (files key)) →
-    HasAnswered (λ s. reply s.base (Some found)) (λ s. actions s.base (Some found)) m n a → TakesEffect (λ files s. loading_effect reply actions name files s) c m f n g None a
+    HasAnswered (λ s. reply s.base (Some found)) (λ s. actions s.base (Some found)) m n a
+    → TakesEffect (λ files s. loading_effect reply actions name files s) c m f n g None a
 load_done c reply actions m n f g key name found a named spelt same has done = λ files s finds at.
-    let is = found_is f files name found at.told (subst (λ k. IfSome f (λ files. found ≡ loaded_of (files k))) spelt has) (finds_named c name files named finds) in
+    let is = found_is f files name found at.told
+    (subst (λ k. IfSome f (λ files. found ≡ loaded_of (files k))) spelt has)
+    (finds_named c name files named finds) in
     let took = done s at.stands in (
       took.0 ∙ ap (reply s.base) is,
       refl,
       record {
-        stands = subst (λ x. StandsFor n (after_all s (accepted (reply s.base x) (actions s.base x)))) is (subst (λ x. StandsFor n (after_all s (accepted x (actions s.base (Some found))))) took.0 took.1);
-        told = same_files g files (accepted_saving (reply s.base (found_in files name)) None) (same ∙ at.told) (saves_none (reply s.base (found_in files name)) None refl);
+        stands = subst (λ x. StandsFor n
+            (after_all s (accepted (reply s.base x) (actions s.base x)))) is
+            (subst (λ x. StandsFor n (after_all s (accepted x (actions s.base (Some found)))))
+            took.0 took.1);
+        told = same_files g files (accepted_saving (reply s.base (found_in files name)) None)
+            (same ∙ at.told) (saves_none (reply s.base (found_in files name)) None refl);
       },
     )
 
 -- one that the store failed at
-pub load_failed : (c : Result Command Refusal) (reply : Ground → Option Loaded → Option Reply) (actions : Ground → Option Loaded → History) → AnswersAll reply → (r : Result (Option Reply) StoreFault) (m : Map) (f g : Option Files) (name : List ℕ) → Names c name → file_saved c ≡ None → IsErr r → g ≡ f →
+pub load_failed : (c : Result Command Refusal) (reply : Ground → Option Loaded → Option Reply)
+    (actions : Ground → Option Loaded → History) → AnswersAll reply
+    → (r : Result (Option Reply) StoreFault) (m : Map) (f g : Option Files) (name : List ℕ)
+    → Names c name → file_saved c ≡ None → IsErr r → g ≡ f →
     HasEffect (λ files s. loading_effect reply actions name files s) c m f m g None r
 load_failed c reply actions some (Ok x) m f g name named none err same = cc
 load_failed c reply actions some (Err x) m f g name named none err same = λ files s finds at. (
   inl (finds_some reply some s.base files name (finds_named c name files named finds)),
-  same_failed c name files s m g x named none (record { stands = at.stands; told = same ∙ at.told }),
+  same_failed c name files s m g x named none
+      (record { stands = at.stands; told = same ∙ at.told }),
 )
 
 -- one that memory ran out for
-pub load_unfinished : (c : Result Command Refusal) (reply : Ground → Option Loaded → Option Reply) (actions : Ground → Option Loaded → History) → AnswersAll reply → (r : Result (Option Reply) StoreFault) (m n : Map) (f g : Option Files) (name : List ℕ) (found : Loaded) → Names c name →
+pub load_unfinished : (c : Result Command Refusal) (reply : Ground → Option Loaded → Option Reply)
+    (actions : Ground → Option Loaded → History) → AnswersAll reply
+    → (r : Result (Option Reply) StoreFault) (m n : Map) (f g : Option Files) (name : List ℕ)
+    (found : Loaded) → Names c name →
     IsErrAnd r (λ x. x ≡ store_fault.Memory) → g ≡ f →
-    ((s : State) → StandsFor m s → IsSome (reply s.base (Some found)) × StandsFor n s) → HasEffect (λ files s. loading_effect reply actions name files s) c m f n g None r
-load_unfinished c reply actions some (Ok x) m n f g name found named memory same kept = absurd memory
-load_unfinished c reply actions some (Err x) m n f g name found named memory same kept = λ files s finds at. (
-  inl (finds_some reply some s.base files name (finds_named c name files named finds)),
-  subst (λ y. HasFailed c files s n g y) (sym memory) (record { stands = (kept s at.stands).1; told = same ∙ at.told }),
-)
+    ((s : State) → StandsFor m s → IsSome (reply s.base (Some found)) × StandsFor n s)
+    → HasEffect (λ files s. loading_effect reply actions name files s) c m f n g None r
+load_unfinished c reply actions some (Ok x) m n f g name found named memory same kept =
+    absurd memory
+load_unfinished c reply actions some (Err x) m n f g name found named memory same kept =
+    λ files s finds at. (
+      inl (finds_some reply some s.base files name (finds_named c name files named finds)),
+      subst (λ y. HasFailed c files s n g y) (sym memory)
+          (record { stands = (kept s at.stands).1; told = same ∙ at.told }),
+    )
 
 -- the canonical file depends on the classes of the map's voxels alone
-same_text : (res : ℕ) (c e : Classes) → ((k : Voxel) → IsInMap k → c k ≡ e k) → bt_text res c ≡ bt_text res e
+same_text : (res : ℕ) (c e : Classes) → ((k : Voxel) → IsInMap k → c k ≡ e k)
+    → bt_text res c ≡ bt_text res e
 unfolding bt_text canonical_size
-same_text res c e same = ap (λ bytes. header_text (node_total bytes) res ++ bytes) (same_data c e same)
+same_text res c e same =
+    ap (λ bytes. header_text (node_total bytes) res ++ bytes) (same_data c e same)
 
 -- the file of a map's classes is that of the state for which it stands
-pub same_file : (m : Map) (s : State) → StandsFor m s → bt_text m.tree.res (classes_in m.tree) ≡ classes_file s
+pub same_file : (m : Map) (s : State) → StandsFor m s
+    → bt_text m.tree.res (classes_in m.tree) ≡ classes_file s
 same_file m s at =
     ap (λ (g : Ground). bt_text g.res (classes_of g.odds (values_of m))) at.base
-    ∙ same_text s.base.res (classes_of s.base.odds (values_of m)) (classes_of s.base.odds s.values) (λ k low. ap (class_of s.base.odds) (sym (at.values k low)))
+    ∙ same_text s.base.res (classes_of s.base.odds (values_of m)) (classes_of s.base.odds s.values)
+    (λ k low. ap (class_of s.base.odds) (sym (at.values k low)))
 
 -- the bytes of the file that is made of a map are those of each state for which it stands
 abbrev pub IsFileOf : Map → (State → List ℕ) → List ℕ → Type 0
 IsFileOf m file bytes = (s : State) → StandsFor m s → bytes ≡ file s
 
-pub classes_saved : (m : Map) (bytes : List ℕ) → bytes ≡ bt_text m.tree.res (classes_in m.tree) → IsFileOf m classes_file bytes
+pub classes_saved : (m : Map) (bytes : List ℕ) → bytes ≡ bt_text m.tree.res (classes_in m.tree)
+    → IsFileOf m classes_file bytes
 classes_saved m bytes is s at = is ∙ same_file m s at
 
 -- what a command does that puts the file of a state under a name
 abbrev pub saving_effect : (State → List ℕ) → List ℕ → State → Effect
-saving_effect file name s = replied (save_reply (file s)) [] (Some (record { name = name; bytes = file s }))
+saving_effect file name s =
+    replied (save_reply (file s)) [] (Some (record { name = name; bytes = file s }))
 
 -- a file that the store took
-pub save_done : (c : Result Command Refusal) (m : Map) (f g : Option Files) (key name bytes : List ℕ) (n : ℕ) (file : State → List ℕ) → key ≡ name → IsFileOf m file bytes → n ≡ length bytes → g ≡ saved f key bytes →
+pub save_done : (c : Result Command Refusal) (m : Map) (f g : Option Files)
+    (key name bytes : List ℕ) (n : ℕ) (file : State → List ℕ) → key ≡ name → IsFileOf m file bytes
+    → n ≡ length bytes → g ≡ saved f key bytes →
     TakesEffect (λ files s. saving_effect file name s) c m f m g None (Some (reply_of.Saved n))
 save_done c m f g key name bytes n file spelt is long told = λ files s finds at.
     let same = is s at.stands in (
       ap (λ x. Some (reply_of.Saved x)) long ∙ ap save_reply same,
       refl,
-      record { stands = at.stands; told = told ∙ ap (λ k. saved f k bytes) spelt ∙ ap (λ x. saved x name bytes) at.told ∙ ap (saved files name) same },
+      record {
+        stands = at.stands;
+        told = told ∙ ap (λ k. saved f k bytes) spelt
+            ∙ ap (λ x. saved x name bytes) at.told ∙ ap (saved files name) same;
+      },
     )
 
 -- one that the store failed at
-pub save_failed : {A : Type 0} (c : Result Command Refusal) (r : Result (Option Reply) StoreFault) (fault : StoreFault) (m : Map) (f g : Option Files) (key name : List ℕ) (file : State → List ℕ) → Names c name → file_saved c ≡ Some name → key ≡ name → IsErrAnd r (λ x. x ≡ fault) → KeepsOthers f g key → (◌≡◌ {A = Result A StoreFault} (Err fault) (Err store_fault.Memory) → g ≡ f) →
+pub save_failed : {A : Type 0} (c : Result Command Refusal) (r : Result (Option Reply) StoreFault)
+    (fault : StoreFault) (m : Map) (f g : Option Files) (key name : List ℕ) (file : State → List ℕ)
+    → Names c name → file_saved c ≡ Some name → key ≡ name → IsErrAnd r (λ x. x ≡ fault)
+    → KeepsOthers f g key → (◌≡◌ {A = Result A StoreFault} (Err fault) (Err store_fault.Memory)
+    → g ≡ f) →
     HasEffect (λ files s. saving_effect file name s) c m f m g None r
 save_failed c (Ok x) fault m f g key name file named saves spelt is others same = absurd is
-save_failed c (Err x) fault m f g key name file named saves spelt is others same = λ files s finds at. (
-  inl refl,
-  torn_failed c name files s m g x named saves at.stands (subst (λ told. KeepsOthers told g name) at.told (subst (KeepsOthers f g) spelt others)) (λ memory. same (ap Err (sym is ∙ memory)) ∙ at.told),
-)
+save_failed c (Err x) fault m f g key name file named saves spelt is others same =
+    λ files s finds at. (
+      inl refl,
+      torn_failed c name files s m g x named saves at.stands
+          (subst (λ told. KeepsOthers told g name) at.told (subst (KeepsOthers f g) spelt others))
+          (λ memory. same (ap Err (sym is ∙ memory)) ∙ at.told),
+    )
 
 -- one that memory ran out for
-pub save_unwritten : (c : Result Command Refusal) (r : Result (Option Reply) StoreFault) (m : Map) (f : Option Files) (name : List ℕ) (file : State → List ℕ) → IsErrAnd r (λ x. x ≡ store_fault.Memory) →
+pub save_unwritten : (c : Result Command Refusal) (r : Result (Option Reply) StoreFault) (m : Map)
+    (f : Option Files) (name : List ℕ) (file : State → List ℕ)
+    → IsErrAnd r (λ x. x ≡ store_fault.Memory) →
     HasEffect (λ files s. saving_effect file name s) c m f m f None r
 save_unwritten c (Ok x) m f name file memory = absurd memory
-save_unwritten c (Err x) m f name file memory = λ files s finds at.
-    (inl refl, subst (λ y. HasFailed c files s m f y) (sym memory) (record { stands = at.stands; told = at.told }))
+save_unwritten c (Err x) m f name file memory = λ files s finds at. (
+  inl refl,
+  subst (λ y. HasFailed c files s m f y) (sym memory)
+      (record { stands = at.stands; told = at.told }),
+)

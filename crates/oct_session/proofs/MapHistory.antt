@@ -1,5 +1,6 @@
 -- What a map stands for after one more command.
-use Rattle.std.proofs.Common.{◌≡◌, ℕ, ℤ, ◌≤ℤ◌, ◌<ℤ◌, List, ◌++◌, ◌||◌, ◌&&◌, not, Bool, true, false, cond, IsTrue, Some, None, refl, sym, ap, subst, ◌∙◌, arith, Option}
+use Rattle.std.proofs.Common.{◌≡◌, ℕ, ℤ, ◌≤ℤ◌, ◌<ℤ◌, List, ◌++◌, ◌||◌, ◌&&◌, not, Bool, true, false}
+use Rattle.std.proofs.Common.{cond, IsTrue, Some, None, refl, sym, ap, subst, ◌∙◌, arith, Option}
 use Rattle.std.specs.Prelude.{int_lt}
 use Rattle.std.proofs.lemmas.Int.{ints}
 use Rattle.std.proofs.lemmas.List.Sums.{fold-append}
@@ -32,13 +33,19 @@ use Rattle.oct_tree.specs.Shape.{IsPruned}
 use Rattle.oct_tree.proofs.Paths.{value_within}
 use Rattle.oct_values.specs.Events.{Events, event_at, after_event, updated}
 use Rattle.oct_script.specs.declared.command.Edit.{Edit}
-use Rattle.oct_session.specs.History.{History, State, Action, Edited, Scanned, Refreshed, Pruned, Cleared, Likened, Replaced, Restored, class_event, value_event, edit_event, command_event, is_stale_by, is_pruned_by, marked_by, after, after_all, start_state, state_after, Boxed, Tracked, Untracked, Limited, Unlimited, base_by}
+use Rattle.oct_session.specs.History.{History, State, Action, Edited, Scanned, Refreshed, Pruned}
+use Rattle.oct_session.specs.History.{Cleared, Likened, Replaced, Restored, class_event}
+use Rattle.oct_session.specs.History.{value_event, edit_event, command_event, is_stale_by}
+use Rattle.oct_session.specs.History.{is_pruned_by, marked_by, after, after_all, start_state}
+use Rattle.oct_session.specs.History.{state_after, Boxed, Tracked, Untracked, Limited, Unlimited}
+use Rattle.oct_session.specs.History.{base_by}
 use Rattle.oct_values.specs.Classes.{classes_of}
 use Rattle.oct_session.specs.Leaving.{StandsFor}
 use Rattle.oct_session.specs.Setup.{Setup}
 
 -- more commands after a history
-pub state_more : (o : Setup) (h more : History) → state_after o (h ++ more) ≡ after_all (state_after o h) more
+pub state_more : (o : Setup) (h more : History)
+    → state_after o (h ++ more) ≡ after_all (state_after o h) more
 state_more o h more = fold-append after (start_state o) h more
 
 -- what answers read beside the values stays, and the mark
@@ -47,7 +54,9 @@ pub record Keeps (m n : Map) : Type 0 where
   pub mark : KeepsMark m n
 
 -- a map with the same values stands for the same
-pub stands_same : (m n : Map) (s : State) → SameValues (values_of m) (values_of n) → n.is_stale ≡ m.is_stale → (IsPruned m.tree → IsPruned n.tree) → Keeps m n → StandsFor m s → StandsFor n s
+pub stands_same : (m n : Map) (s : State) → SameValues (values_of m) (values_of n)
+    → n.is_stale ≡ m.is_stale → (IsPruned m.tree → IsPruned n.tree) → Keeps m n → StandsFor m s
+    → StandsFor n s
 stands_same m n s values stale pruned setup at = record {
   values = λ k low. at.values k low ∙ values k low;
   base = setup.ground ∙ at.base;
@@ -57,10 +66,15 @@ stands_same m n s values stale pruned setup at = record {
 }
 
 -- the map after an action that had these events
-stands_done : (m n : Map) (s : State) (a : Action) (events : Events) → events ≡ command_event (ground_of m) a → SameValues (updated m.tree.odds events (values_of m)) (values_of n) →
-    n.is_stale ≡ is_stale_by m.is_stale a → ((was : Bool) → (was ≡ true → IsPruned m.tree) → is_pruned_by was a ≡ true → IsPruned n.tree) →
+stands_done : (m n : Map) (s : State) (a : Action) (events : Events)
+    → events ≡ command_event (ground_of m) a
+    → SameValues (updated m.tree.odds events (values_of m)) (values_of n) →
+    n.is_stale ≡ is_stale_by m.is_stale a
+    → ((was : Bool) → (was ≡ true → IsPruned m.tree) → is_pruned_by was a ≡ true → IsPruned n.tree)
+    →
     ((g : Ground) → (base_by g a).odds ≡ g.odds) → ground_of n ≡ base_by (ground_of m) a →
-    SameMark (marked_by (classes_of s.base.odds s.values) s.marked a) (marked_of n) → StandsFor m s → StandsFor n (after s a)
+    SameMark (marked_by (classes_of s.base.odds s.values) s.marked a) (marked_of n) → StandsFor m s
+    → StandsFor n (after s a)
 stands_done m n s a events is values stale pruned odds setup mark at = record {
   values = λ k low.
       ap (λ (o : Odds). after_event o (command_event s.base a k) (s.values k)) (odds s.base)
@@ -75,69 +89,108 @@ stands_done m n s a events is values stale pruned odds setup mark at = record {
 }
 
 -- a call that isn't lazy leaves a pruned map pruned
-pruned_unless_lazy : (m n : Map) (lazy was : Bool) → ((IsTrue lazy → ⊥) → IsPruned m.tree → IsPruned n.tree) → (was ≡ true → IsPruned m.tree) → (was && not lazy) ≡ true → IsPruned n.tree
+pruned_unless_lazy : (m n : Map) (lazy was : Bool)
+    → ((IsTrue lazy → ⊥) → IsPruned m.tree → IsPruned n.tree) → (was ≡ true → IsPruned m.tree)
+    → (was && not lazy) ≡ true → IsPruned n.tree
 pruned_unless_lazy m n true true keeps pruned is = cc
 pruned_unless_lazy m n true false keeps pruned is = cc
 pruned_unless_lazy m n false true keeps pruned is = keeps (λ lazy. cc) (pruned is)
 pruned_unless_lazy m n false false keeps pruned is = cc
 
 -- the map after an edit
-pub stands_edited : (m n : Map) (s : State) (p : Point) (e : Edit) (lazy : Bool) (event : Event) → event ≡ edit_event m.tree.odds e →
-    SameValues (updated m.tree.odds (event_at (key_at m.tree.res p) event) (values_of m)) (values_of n) → n.is_stale ≡ (m.is_stale || lazy) →
-    ((IsTrue lazy → ⊥) → IsPruned m.tree → IsPruned n.tree) → Keeps m n → StandsFor m s → StandsFor n (after s (Edited p e lazy))
+pub stands_edited : (m n : Map) (s : State) (p : Point) (e : Edit) (lazy : Bool) (event : Event)
+    → event ≡ edit_event m.tree.odds e →
+    SameValues (updated m.tree.odds (event_at (key_at m.tree.res p) event) (values_of m))
+    (values_of n) → n.is_stale ≡ (m.is_stale || lazy) →
+    ((IsTrue lazy → ⊥) → IsPruned m.tree → IsPruned n.tree) → Keeps m n → StandsFor m s
+    → StandsFor n (after s (Edited p e lazy))
 stands_edited m n s p e lazy event is values stale pruned setup at =
-    stands_done m n s (Edited p e lazy) (event_at (key_at m.tree.res p) event) (ap (event_at (key_at m.tree.res p)) is) values stale
-    (λ was. pruned_unless_lazy m n lazy was pruned) (λ g. refl) setup.ground (same_mark_trans s.marked (marked_of m) (marked_of n) at.marked setup.mark) at
+    stands_done m n s (Edited p e lazy) (event_at (key_at m.tree.res p) event)
+    (ap (event_at (key_at m.tree.res p)) is) values stale
+    (λ was. pruned_unless_lazy m n lazy was pruned) (λ g. refl) setup.ground
+    (same_mark_trans s.marked (marked_of m) (marked_of n) at.marked setup.mark) at
 
 -- the map after an edit of a box
-pub stands_boxed : (m n : Map) (s : State) (low high : Point) (e : Edit) (event : Event) → event ≡ edit_event m.tree.odds e →
-    SameValues (updated m.tree.odds (corner_events (key_at m.tree.res low) (key_at m.tree.res high) event) (values_of m)) (values_of n) → n.is_stale ≡ m.is_stale →
-    (IsPruned m.tree → IsPruned n.tree) → Keeps m n → StandsFor m s → StandsFor n (after s (Boxed low high e))
+pub stands_boxed : (m n : Map) (s : State) (low high : Point) (e : Edit) (event : Event)
+    → event ≡ edit_event m.tree.odds e →
+    SameValues (updated m.tree.odds
+    (corner_events (key_at m.tree.res low) (key_at m.tree.res high) event) (values_of m))
+    (values_of n) → n.is_stale ≡ m.is_stale →
+    (IsPruned m.tree → IsPruned n.tree) → Keeps m n → StandsFor m s
+    → StandsFor n (after s (Boxed low high e))
 stands_boxed m n s low high e event is values stale pruned setup at =
-    stands_done m n s (Boxed low high e) (corner_events (key_at m.tree.res low) (key_at m.tree.res high) event) (ap (corner_events (key_at m.tree.res low) (key_at m.tree.res high)) is) values stale
-    (λ was before now. pruned (before now)) (λ g. refl) setup.ground (same_mark_trans s.marked (marked_of m) (marked_of n) at.marked setup.mark) at
+    stands_done m n s (Boxed low high e)
+    (corner_events (key_at m.tree.res low) (key_at m.tree.res high) event)
+    (ap (corner_events (key_at m.tree.res low) (key_at m.tree.res high)) is) values stale
+    (λ was before now. pruned (before now)) (λ g. refl) setup.ground
+    (same_mark_trans s.marked (marked_of m) (marked_of n) at.marked setup.mark) at
 
 -- the map after a scan
 pub stands_scanned : (m n : Map) (s : State) (sighting : Sighting) (lazy : Bool) →
-    SameValues (updated m.tree.odds (outcome_in m sighting) (values_of m)) (values_of n) → n.is_stale ≡ (m.is_stale || lazy) →
-    ((IsTrue lazy → ⊥) → IsPruned m.tree → IsPruned n.tree) → Keeps m n → StandsFor m s → StandsFor n (after s (Scanned sighting lazy))
+    SameValues (updated m.tree.odds (outcome_in m sighting) (values_of m)) (values_of n)
+    → n.is_stale ≡ (m.is_stale || lazy) →
+    ((IsTrue lazy → ⊥) → IsPruned m.tree → IsPruned n.tree) → Keeps m n → StandsFor m s
+    → StandsFor n (after s (Scanned sighting lazy))
 stands_scanned m n s sighting lazy values stale pruned setup at =
-    stands_done m n s (Scanned sighting lazy) (outcome_in m sighting) refl values stale (λ was. pruned_unless_lazy m n lazy was pruned) (λ g. refl) setup.ground (same_mark_trans s.marked (marked_of m) (marked_of n) at.marked setup.mark) at
+    stands_done m n s (Scanned sighting lazy) (outcome_in m sighting) refl values stale
+    (λ was. pruned_unless_lazy m n lazy was pruned) (λ g. refl) setup.ground
+    (same_mark_trans s.marked (marked_of m) (marked_of n) at.marked setup.mark) at
 
 -- the map after a refresh
-pub stands_refreshed : (m n : Map) (s : State) → SameValues (values_of m) (values_of n) → n.is_stale ≡ false → (IsPruned m.tree → IsPruned n.tree) → Keeps m n →
+pub stands_refreshed : (m n : Map) (s : State) → SameValues (values_of m) (values_of n)
+    → n.is_stale ≡ false → (IsPruned m.tree → IsPruned n.tree) → Keeps m n →
     StandsFor m s → StandsFor n (after s Refreshed)
-stands_refreshed m n s values fresh pruned setup at = stands_done m n s Refreshed (command_event (ground_of m) Refreshed) refl values fresh (λ was before is. pruned (before is)) (λ g. refl) setup.ground (same_mark_trans s.marked (marked_of m) (marked_of n) at.marked setup.mark) at
+stands_refreshed m n s values fresh pruned setup at =
+    stands_done m n s Refreshed (command_event (ground_of m) Refreshed) refl values fresh
+    (λ was before is. pruned (before is)) (λ g. refl) setup.ground
+    (same_mark_trans s.marked (marked_of m) (marked_of n) at.marked setup.mark) at
 
 -- the map after a prune
-pub stands_pruned : (m n : Map) (s : State) → SameValues (values_of m) (values_of n) → n.is_stale ≡ m.is_stale → IsPruned n.tree → Keeps m n →
+pub stands_pruned : (m n : Map) (s : State) → SameValues (values_of m) (values_of n)
+    → n.is_stale ≡ m.is_stale → IsPruned n.tree → Keeps m n →
     StandsFor m s → StandsFor n (after s Pruned)
-stands_pruned m n s values stale pruned setup at = stands_done m n s Pruned (command_event (ground_of m) Pruned) refl values stale (λ was before is. pruned) (λ g. refl) setup.ground (same_mark_trans s.marked (marked_of m) (marked_of n) at.marked setup.mark) at
+stands_pruned m n s values stale pruned setup at =
+    stands_done m n s Pruned (command_event (ground_of m) Pruned) refl values stale
+    (λ was before is. pruned) (λ g. refl) setup.ground
+    (same_mark_trans s.marked (marked_of m) (marked_of n) at.marked setup.mark) at
 
 -- the map after a clear
-pub stands_cleared : (m n : Map) (s : State) → ((k : Voxel) → values_of n k ≡ None) → n.is_stale ≡ false → IsPruned n.tree → ground_of n ≡ ground_of m → n.mark ≡ None → StandsFor m s → StandsFor n (after s Cleared)
+pub stands_cleared : (m n : Map) (s : State) → ((k : Voxel) → values_of n k ≡ None)
+    → n.is_stale ≡ false → IsPruned n.tree → ground_of n ≡ ground_of m → n.mark ≡ None
+    → StandsFor m s → StandsFor n (after s Cleared)
 stands_cleared m n s unknown fresh pruned setup none at =
-    stands_done m n s Cleared (command_event (ground_of m) Cleared) refl (λ k low. forgotten (values_of m k) (values_of n k) (unknown k)) fresh (λ was before is. pruned) (λ g. refl) setup
+    stands_done m n s Cleared (command_event (ground_of m) Cleared) refl
+    (λ k low. forgotten (values_of m k) (values_of n k) (unknown k)) fresh (λ was before is. pruned)
+    (λ g. refl) setup
     (subst (λ x. SameMark None (marked_by_notes x (classes_in n))) (sym none) tt) at
   where
-    forgotten : (old new : Value) → new ≡ None → after_event m.tree.odds (Some event.Forget) old ≡ new
+    forgotten : (old new : Value) → new ≡ None
+        → after_event m.tree.odds (Some event.Forget) old ≡ new
     forgotten None new none = sym none
     forgotten (Some v) new none = sym none
 
 -- the map after maximum likelihood
-pub stands_likened : (m n : Map) (s : State) → SameValues (updated m.tree.odds (λ k. Some event.Likely) (values_of m)) (values_of n) → n.is_stale ≡ false → IsPruned n.tree →
+pub stands_likened : (m n : Map) (s : State)
+    → SameValues (updated m.tree.odds (λ k. Some event.Likely) (values_of m)) (values_of n)
+    → n.is_stale ≡ false → IsPruned n.tree →
     Keeps m n → StandsFor m s → StandsFor n (after s Likened)
 stands_likened m n s values fresh pruned setup at =
-    stands_done m n s Likened (command_event (ground_of m) Likened) refl values fresh (λ was before is. pruned) (λ g. refl) setup.ground (same_mark_trans s.marked (marked_of m) (marked_of n) at.marked setup.mark) at
+    stands_done m n s Likened (command_event (ground_of m) Likened) refl values fresh
+    (λ was before is. pruned) (λ g. refl) setup.ground
+    (same_mark_trans s.marked (marked_of m) (marked_of n) at.marked setup.mark) at
 
 -- what lies within the bounds is its own clamped value
-inside : (low high n : ℤ) (a b : Bool) → int_lt n low ≡ a → int_lt high n ≡ b → low ≤ℤ n → n ≤ℤ high → cond a low (cond b high n) ≡ n
-inside low high n true b f g l h = absurd (let no : n <ℤ low = grind (arith, ints) in omega (arith, ints))
-inside low high n false true f g l h = absurd (let no : high <ℤ n = grind (arith, ints) in omega (arith, ints))
+inside : (low high n : ℤ) (a b : Bool) → int_lt n low ≡ a → int_lt high n ≡ b → low ≤ℤ n → n ≤ℤ high
+    → cond a low (cond b high n) ≡ n
+inside low high n true b f g l h =
+    absurd (let no : n <ℤ low = grind (arith, ints) in omega (arith, ints))
+inside low high n false true f g l h =
+    absurd (let no : high <ℤ n = grind (arith, ints) in omega (arith, ints))
 inside low high n false false f g l h = refl
 
 -- the event of a load gives a voxel the value of its class in the file
-pub replaced_by : (odds : Odds) (c : Class) (old new : Value) → value_for odds c ≡ new → IsWithin odds new → after_event odds (Some (class_event odds c)) old ≡ new
+pub replaced_by : (odds : Odds) (c : Class) (old new : Value) → value_for odds c ≡ new
+    → IsWithin odds new → after_event odds (Some (class_event odds c)) old ≡ new
 replaced_by odds Unknown old new is within = is
 replaced_by odds Free old new is within =
     let bounds : IsWithin odds (Some odds.min) = subst (IsWithin odds) (sym is) within in
@@ -147,25 +200,35 @@ replaced_by odds Occupied old new is within =
     ap Some (inside odds.min odds.max odds.max _ _ refl refl bounds.0 bounds.1) ∙ is
 
 -- the map after the load of a file
-pub stands_replaced : (m n : Map) (s : State) (records : List ℕ) → IsMapLoaded m n records → IsMap n → ground_of n ≡ ground_of m → StandsFor m s → StandsFor n (after s (Replaced (data_classes records)))
+pub stands_replaced : (m n : Map) (s : State) (records : List ℕ) → IsMapLoaded m n records → IsMap n
+    → ground_of n ≡ ground_of m → StandsFor m s
+    → StandsFor n (after s (Replaced (data_classes records)))
 stands_replaced m n s records loaded is_map ground at =
-    stands_done m n s (Replaced (data_classes records)) (command_event (ground_of m) (Replaced (data_classes records))) refl
-    (λ k low. replaced_by m.tree.odds (data_classes records k) (values_of m k) (values_of n k) (loaded.values k low)
-    (subst (λ (g : Ground). IsWithin g.odds (values_of n k)) ground (value_within n.tree k is_map.formed.linked)))
-    loaded.stale (λ was before is. loaded.pruned) (λ g. refl) ground (subst (λ x. SameMark None (marked_by_notes x (classes_in n))) (sym loaded.mark) tt) at
+    stands_done m n s (Replaced (data_classes records))
+    (command_event (ground_of m) (Replaced (data_classes records))) refl
+    (λ k low. replaced_by m.tree.odds (data_classes records k) (values_of m k) (values_of n k)
+    (loaded.values k low)
+    (subst (λ (g : Ground). IsWithin g.odds (values_of n k)) ground
+    (value_within n.tree k is_map.formed.linked)))
+    loaded.stale (λ was before is. loaded.pruned) (λ g. refl) ground
+    (subst (λ x. SameMark None (marked_by_notes x (classes_in n))) (sym loaded.mark) tt) at
 
 -- the event of a restore gives a voxel its value in the snapshot
-restored_by : (odds : Odds) (v old new : Value) → v ≡ new → IsWithin odds new → after_event odds (Some (value_event v)) old ≡ new
+restored_by : (odds : Odds) (v old new : Value) → v ≡ new → IsWithin odds new
+    → after_event odds (Some (value_event v)) old ≡ new
 restored_by odds None old new is within = is
 restored_by odds (Some n) old new is within =
     let bounds : IsWithin odds (Some n) = subst (IsWithin odds) (sym is) within in
     ap Some (inside odds.min odds.max n _ _ refl refl bounds.0 bounds.1) ∙ is
 
 -- the map after the restore of a snapshot, by the log-odds that are in force from then on
-pub stands_restored : (m n : Map) (s : State) (q : Snapshot) → IsMapRestored m n q → IsMap n → StandsFor m s → StandsFor n (after s (Restored q))
+pub stands_restored : (m n : Map) (s : State) (q : Snapshot) → IsMapRestored m n q → IsMap n
+    → StandsFor m s → StandsFor n (after s (Restored q))
 stands_restored m n s q restored is_map at = record {
-  values = λ k low. restored_by q.head.odds (snapshot.values_of q k) (s.values k) (values_of n k) (restored.values k low)
-      (subst (λ (g : Ground). IsWithin g.odds (values_of n k)) restored.setup (value_within n.tree k is_map.formed.linked));
+  values = λ k low. restored_by q.head.odds (snapshot.values_of q k) (s.values k) (values_of n k)
+      (restored.values k low)
+      (subst (λ (g : Ground). IsWithin g.odds (values_of n k)) restored.setup
+      (value_within n.tree k is_map.formed.linked));
   base = restored.setup ∙ ap (λ (g : Ground). ground_after g q.head) at.base;
   marked = subst (λ x. SameMark None (marked_by_notes x (classes_in n))) (sym restored.mark) tt;
   is_stale = restored.stale;
@@ -173,43 +236,68 @@ stands_restored m n s q restored is_map at = record {
 }
 
 -- the classes of a state are those of a map that stands for it
-pub same_classes : (m : Map) (s : State) → StandsFor m s → (k : Voxel) → IsInMap k → classes_of s.base.odds s.values k ≡ classes_in m k
-same_classes m s at k low = ap (class_of s.base.odds) (at.values k low) ∙ ap (λ (g : Ground). class_of g.odds (values_of m k)) (sym at.base)
+pub same_classes : (m : Map) (s : State) → StandsFor m s → (k : Voxel) → IsInMap k
+    → classes_of s.base.odds s.values k ≡ classes_in m k
+same_classes m s at k low = ap (class_of s.base.odds) (at.values k low)
+    ∙ ap (λ (g : Ground). class_of g.odds (values_of m k)) (sym at.base)
 
 -- the map after an action that is about its mark alone
-stands_marked : (m n : Map) (s : State) (a : Action) (x : Option Held) → n ≡ record m { mark = x } → (λ k. None) ≡ command_event (ground_of m) a → m.is_stale ≡ is_stale_by m.is_stale a →
+stands_marked : (m n : Map) (s : State) (a : Action) (x : Option Held) → n ≡ record m { mark = x }
+    → (λ k. None) ≡ command_event (ground_of m) a → m.is_stale ≡ is_stale_by m.is_stale a →
     ((was : Bool) → is_pruned_by was a ≡ was) → ((g : Ground) → base_by g a ≡ g) →
-    SameMark (marked_by (classes_of s.base.odds s.values) s.marked a) (marked_of n) → StandsFor m s → StandsFor n (after s a)
+    SameMark (marked_by (classes_of s.base.odds s.values) s.marked a) (marked_of n) → StandsFor m s
+    → StandsFor n (after s a)
 stands_marked m n s a x exact nothing stale pruned base mark at =
-    stands_done m n s a (λ k. None) nothing (λ k low. ap (λ (t : Map). values_of t k) (sym exact)) (ap (λ (t : Map). t.is_stale) exact ∙ stale)
-    (λ was before is. subst (λ (t : Map). IsPruned t.tree) (sym exact) (before (sym (pruned was) ∙ is)))
-    (λ g. ap (λ (h : Ground). h.odds) (base g)) (ap ground_of exact ∙ sym (base (ground_of m))) mark at
+    stands_done m n s a (λ k. None) nothing (λ k low. ap (λ (t : Map). values_of t k) (sym exact))
+    (ap (λ (t : Map). t.is_stale) exact ∙ stale)
+    (λ was before is. subst (λ (t : Map). IsPruned t.tree) (sym exact)
+    (before (sym (pruned was) ∙ is)))
+    (λ g. ap (λ (h : Ground). h.odds) (base g)) (ap ground_of exact ∙ sym (base (ground_of m))) mark
+    at
 
 -- the map after a mark was set
-pub stands_tracked : (m n : Map) (s : State) (x : Option Held) → n ≡ record m { mark = x } → SameMark (Some (classes_in m)) (marked_of n) → StandsFor m s → StandsFor n (after s Tracked)
+pub stands_tracked : (m n : Map) (s : State) (x : Option Held) → n ≡ record m { mark = x }
+    → SameMark (Some (classes_in m)) (marked_of n) → StandsFor m s → StandsFor n (after s Tracked)
 stands_tracked m n s x exact mark at =
     stands_marked m n s Tracked x exact refl refl (λ was. refl) (λ g. refl)
-    (same_mark_trans (Some (classes_of s.base.odds s.values)) (Some (classes_in m)) (marked_of n) (same_classes m s at) mark) at
+    (same_mark_trans (Some (classes_of s.base.odds s.values)) (Some (classes_in m)) (marked_of n)
+    (same_classes m s at) mark) at
 
 -- the map after its mark was taken away
-pub stands_untracked : (m n : Map) (s : State) → n ≡ record m { mark = None } → StandsFor m s → StandsFor n (after s Untracked)
+pub stands_untracked : (m n : Map) (s : State) → n ≡ record m { mark = None } → StandsFor m s
+    → StandsFor n (after s Untracked)
 stands_untracked m n s exact at =
-    stands_marked m n s Untracked None exact refl refl (λ was. refl) (λ g. refl) (subst (λ (t : Map). SameMark None (marked_of t)) (sym exact) tt) at
+    stands_marked m n s Untracked None exact refl refl (λ was. refl) (λ g. refl)
+    (subst (λ (t : Map). SameMark None (marked_of t)) (sym exact) tt) at
 
 -- the map after an action that is about its update box alone
-stands_boxing : (m n : Map) (s : State) (a : Action) (x : Option Corners) → n ≡ record m { update_box = x } → (λ k. None) ≡ command_event (ground_of m) a → m.is_stale ≡ is_stale_by m.is_stale a →
-    ((was : Bool) → is_pruned_by was a ≡ was) → ((g : Ground) → (base_by g a).odds ≡ g.odds) → ground_of (record m { update_box = x }) ≡ base_by (ground_of m) a →
-    SameMark (marked_by (classes_of s.base.odds s.values) s.marked a) (marked_of m) → StandsFor m s → StandsFor n (after s a)
+stands_boxing : (m n : Map) (s : State) (a : Action) (x : Option Corners)
+    → n ≡ record m { update_box = x } → (λ k. None) ≡ command_event (ground_of m) a
+    → m.is_stale ≡ is_stale_by m.is_stale a →
+    ((was : Bool) → is_pruned_by was a ≡ was) → ((g : Ground) → (base_by g a).odds ≡ g.odds)
+    → ground_of (record m { update_box = x }) ≡ base_by (ground_of m) a →
+    SameMark (marked_by (classes_of s.base.odds s.values) s.marked a) (marked_of m) → StandsFor m s
+    → StandsFor n (after s a)
 stands_boxing m n s a x exact nothing stale pruned odds base mark at =
-    stands_done m n s a (λ k. None) nothing (λ k low. ap (λ (t : Map). values_of t k) (sym exact)) (ap (λ (t : Map). t.is_stale) exact ∙ stale)
-    (λ was before is. subst (λ (t : Map). IsPruned t.tree) (sym exact) (before (sym (pruned was) ∙ is)))
-    odds (ap ground_of exact ∙ base) (subst (λ (t : Map). SameMark (marked_by (classes_of s.base.odds s.values) s.marked a) (marked_of t)) (sym exact) mark) at
+    stands_done m n s a (λ k. None) nothing (λ k low. ap (λ (t : Map). values_of t k) (sym exact))
+    (ap (λ (t : Map). t.is_stale) exact ∙ stale)
+    (λ was before is. subst (λ (t : Map). IsPruned t.tree) (sym exact)
+    (before (sym (pruned was) ∙ is)))
+    odds (ap ground_of exact ∙ base)
+    (subst (λ (t : Map). SameMark (marked_by (classes_of s.base.odds s.values) s.marked a)
+    (marked_of t)) (sym exact) mark) at
 
 -- the map after a limit
-pub stands_limited : (m n : Map) (s : State) (low high : Point) → n ≡ record m { update_box = corner_box (key_at m.tree.res low) (key_at m.tree.res high) } → StandsFor m s → StandsFor n (after s (Limited low high))
+pub stands_limited : (m n : Map) (s : State) (low high : Point)
+    → n ≡ record m { update_box = corner_box (key_at m.tree.res low) (key_at m.tree.res high) }
+    → StandsFor m s → StandsFor n (after s (Limited low high))
 stands_limited m n s low high exact at =
-    stands_boxing m n s (Limited low high) (corner_box (key_at m.tree.res low) (key_at m.tree.res high)) exact refl refl (λ was. refl) (λ g. refl) refl at.marked at
+    stands_boxing m n s (Limited low high)
+    (corner_box (key_at m.tree.res low) (key_at m.tree.res high)) exact refl refl (λ was. refl)
+    (λ g. refl) refl at.marked at
 
 -- the map after the end of a limit
-pub stands_unlimited : (m n : Map) (s : State) → n ≡ record m { update_box = None } → StandsFor m s → StandsFor n (after s Unlimited)
-stands_unlimited m n s exact at = stands_boxing m n s Unlimited None exact refl refl (λ was. refl) (λ g. refl) refl at.marked at
+pub stands_unlimited : (m n : Map) (s : State) → n ≡ record m { update_box = None } → StandsFor m s
+    → StandsFor n (after s Unlimited)
+stands_unlimited m n s exact at =
+    stands_boxing m n s Unlimited None exact refl refl (λ was. refl) (λ g. refl) refl at.marked at

@@ -1,10 +1,12 @@
 -- Texts of which a prefix is written.
-use Rattle.std.proofs.Common.{◌≡◌, ℕ, List, [], ◌++◌, Option, sym, ap, ◌∙◌, append_assoc, append-nil}
+use Rattle.std.proofs.Common.{◌≡◌, ℕ, List, [], ◌++◌, Option, sym, ap, ◌∙◌, append_assoc}
+use Rattle.std.proofs.Common.{append-nil}
 use Rattle.oct_io.specs.Told.{appended}
 use Rattle.oct_session.specs.Ending.{IsBegun}
 
 -- what is written is a prefix of a longer text, too
-pub begun_more : (text longer more : List ℕ) (old new : Option (List ℕ)) → longer ≡ text ++ more → IsBegun text old new → IsBegun longer old new
+pub begun_more : (text longer more : List ℕ) (old new : Option (List ℕ)) → longer ≡ text ++ more
+    → IsBegun text old new → IsBegun longer old new
 begun_more text longer more old new e b = record {
   done = b.done;
   rest = b.rest ++ more;
@@ -13,5 +15,7 @@ begun_more text longer more old new e b = record {
 }
 
 -- a text that is written whole
-pub begun_whole : (text : List ℕ) (old new : Option (List ℕ)) → new ≡ appended old text → IsBegun text old new
-begun_whole text old new e = record { done = text; rest = []; written = e; split = sym (append-nil text) }
+pub begun_whole : (text : List ℕ) (old new : Option (List ℕ)) → new ≡ appended old text
+    → IsBegun text old new
+begun_whole text old new e =
+    record { done = text; rest = []; written = e; split = sym (append-nil text) }

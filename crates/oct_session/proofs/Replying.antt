@@ -1,13 +1,16 @@
 -- What a command or a scan answers, and what the map then stands for.
 use Rattle.std.specs.Prelude.{⊤, List}
-use Rattle.std.proofs.Common.{◌≡◌, ℕ, ℤ, [], ◌||◌, ◌&&◌, nat_lt, Bool, true, false, cond, IsTrue, IsSome, Option, Some, None, Result, Ok, Err, IfOk, OnErr, inl, inr, refl, sym, ap, subst, ◌∙◌, is_some}
+use Rattle.std.proofs.Common.{◌≡◌, ℕ, ℤ, [], ◌||◌, ◌&&◌, nat_lt, Bool, true, false, cond, IsTrue}
+use Rattle.std.proofs.Common.{IsSome, Option, Some, None, Result, Ok, Err, IfOk, OnErr, inl, inr}
+use Rattle.std.proofs.Common.{refl, sym, ap, subst, ◌∙◌, is_some}
 use Rattle.std.proofs.Math.Bool.{or-false}
 use Rattle.oct_io.specs.Files.{Files}
 use Rattle.oct_key.specs.declared.point.Point.{Point}
 use Rattle.oct_odds.specs.declared.event.Event.{Event}
 use Rattle.oct_odds.specs.declared.event.Event.TheVariants as event
 use Rattle.oct_odds.specs.Update.{Value}
-use Rattle.oct_map.specs.Answers.{edit_answer, scan_answer, get_answer, get_answer_at, block_answer, IsAnswerOrMemory, box_answer, limit_answer}
+use Rattle.oct_map.specs.Answers.{edit_answer, scan_answer, get_answer, get_answer_at, block_answer}
+use Rattle.oct_map.specs.Answers.{IsAnswerOrMemory, box_answer, limit_answer}
 use Rattle.oct_cast.specs.declared.outcome.Cast.{Cast}
 use Rattle.oct_cast.specs.Cast.{cast_along}
 use Rattle.oct_map.specs.Casts.{cast_answer, cast_answer_at}
@@ -41,7 +44,8 @@ use Rattle.oct_script.specs.declared.reply.Refusal.{Refusal}
 use Rattle.oct_script.specs.declared.reply.Reply.{Reply}
 use Rattle.oct_script.specs.declared.reply.Reply.TheVariants as reply_of
 use Rattle.oct_script.specs.Replies.{is_refusal}
-use Rattle.oct_session.specs.Commands.{reply, action_of, accepted, edit_reply, value_reply, get_reply, cast_reply, list_reply, changes_reply}
+use Rattle.oct_session.specs.Commands.{reply, action_of, accepted, edit_reply, value_reply}
+use Rattle.oct_session.specs.Commands.{get_reply, cast_reply, list_reply, changes_reply}
 use Rattle.oct_session.specs.Refusals.{fault_reply}
 use Rattle.oct_session.specs.History.{History, State, Scanned, edit_event, after, after_all}
 use Rattle.oct_session.specs.Leaving.{StandsFor}
@@ -49,28 +53,38 @@ use Rattle.oct_session.specs.ScanBlock.{is_zero, scan_reply, block_reply, block_
 use Rattle.oct_session.specs.ScanSoFar.{ScanSoFar, sighting_so_far}
 use Rattle.oct_session.specs.Standing.{HasAnswered, HasObeyed, HasScanned}
 use Rattle.oct_session.specs.declared.block.Block.TheVariants.{Scanning}
-use Rattle.oct_session.proofs.Answering.{same_edit, same_get, same_cast, same_scan, same_box, same_list, same_changed}
-use Rattle.oct_session.proofs.NonemptyReplies.{edit_some, block_some, box_some, list_some, changes_some, limit_some}
-use Rattle.oct_session.proofs.MapHistory.{Keeps, stands_same, stands_edited, stands_scanned, stands_refreshed, stands_pruned, stands_cleared, stands_likened, stands_boxed, stands_tracked, stands_untracked, stands_limited, stands_unlimited}
+use Rattle.oct_session.proofs.Answering.{same_edit, same_get, same_cast, same_scan, same_box}
+use Rattle.oct_session.proofs.Answering.{same_list, same_changed}
+use Rattle.oct_session.proofs.NonemptyReplies.{edit_some, block_some, box_some, list_some}
+use Rattle.oct_session.proofs.NonemptyReplies.{changes_some, limit_some}
+use Rattle.oct_session.proofs.MapHistory.{Keeps, stands_same, stands_edited, stands_scanned}
+use Rattle.oct_session.proofs.MapHistory.{stands_refreshed, stands_pruned, stands_cleared}
+use Rattle.oct_session.proofs.MapHistory.{stands_likened, stands_boxed, stands_tracked}
+use Rattle.oct_session.proofs.MapHistory.{stands_untracked, stands_limited, stands_unlimited}
 
 -- a command that does nothing that later replies may depend on
 accepted_none : (r : Option Reply) (actions : History) → actions ≡ [] → accepted r actions ≡ []
-accepted_none r actions none = elim (is_refusal r) as (λ b. cond b [] actions ≡ []) [ true ↦ refl | false ↦ none ]
+accepted_none r actions none =
+    elim (is_refusal r) as (λ b. cond b [] actions ≡ []) [ true ↦ refl | false ↦ none ]
 
 -- a command was answered, and done on a map that stood for some history
 abbrev Obeys : Map → Map → Result Command Refusal → Option Reply → Type 0
-Obeys m n c r = (files : Option Files) → HasAnswered (λ s. reply files s c) (λ s. action_of files s c) m n r
+Obeys m n c r = (files : Option Files)
+    → HasAnswered (λ s. reply files s c) (λ s. action_of files s c) m n r
 
 -- a scan whose points were all read was
 abbrev Scans : Map → Map → ScanSoFar → Option Reply → Type 0
-Scans m n scan r = HasAnswered (λ s. block_reply s (Scanning scan)) (λ s. block_action (Scanning scan)) m n r
+Scans m n scan r = HasAnswered (λ s. block_reply s (Scanning scan))
+    (λ s. block_action (Scanning scan)) m n r
 
 -- nothing that is accepted leaves the state
-stands_kept : (m : Map) (s : State) (more : History) → more ≡ [] → StandsFor m s → StandsFor m (after_all s more)
+stands_kept : (m : Map) (s : State) (more : History) → more ≡ [] → StandsFor m s
+    → StandsFor m (after_all s more)
 stands_kept m s more none at = subst (λ x. StandsFor m (after_all s x)) (sym none) at
 
 -- what was done for the command that was read
-pub obeyed_as : {E : Type 0} (r : Result (Option Reply) E) (m n : Map) (c read : Result Command Refusal) → c ≡ read → HasObeyed m n read r → HasObeyed m n c r
+pub obeyed_as : {E : Type 0} (r : Result (Option Reply) E) (m n : Map)
+    (c read : Result Command Refusal) → c ≡ read → HasObeyed m n read r → HasObeyed m n c r
 obeyed_as r m n c read is done = subst (λ x. HasObeyed m n x r) (sym is) done
 
 -- a reply to a refusal of the map is a refusal
@@ -91,222 +105,327 @@ refuses (fault.BadSnapshot at) r some is = ap is_refusal is
 refuses (fault.OtherResolution file session) r some is = ap is_refusal is
 refuses (fault.WideWhileTracked count) r some is = ap is_refusal is
 refuses fault.NotTracked r some is = ap is_refusal is
-refuses fault.Memory r some is = let none : IsSome (fault_reply fault.Memory) = subst IsSome is some in cc
+refuses fault.Memory r some is = let none : IsSome (fault_reply fault.Memory) =
+    subst IsSome is some in cc
 
 -- a reply to a fault of memory there is none
-pub no_reply : (f : MapFault) (r : Option Reply) → IsSome r → r ≡ fault_reply f → f ≡ fault.Memory → ⊥
-no_reply f r some is none = let absent : IsSome (fault_reply fault.Memory) = subst IsSome (is ∙ ap fault_reply none) some in cc
+pub no_reply : (f : MapFault) (r : Option Reply) → IsSome r → r ≡ fault_reply f → f ≡ fault.Memory
+    → ⊥
+no_reply f r some is none = let absent : IsSome (fault_reply fault.Memory) =
+    subst IsSome (is ∙ ap fault_reply none) some in cc
 
 -- an edit that the map did
-pub edit_done : (m n : Map) (p : Point) (e : Edit) (lazy : Bool) (event : Event) → event ≡ edit_event m.tree.odds e →
+pub edit_done : (m n : Map) (p : Point) (e : Edit) (lazy : Bool) (event : Event)
+    → event ≡ edit_event m.tree.odds e →
     IsAnswerOrMemory (edit_answer (ground_of m) (values_of m) p) (Ok tt) →
-    SameValues (updated m.tree.odds (event_at (key_at m.tree.res p) event) (values_of m)) (values_of n) → n.is_stale ≡ (m.is_stale || lazy) →
-    ((IsTrue lazy → ⊥) → IsPruned m.tree → IsPruned n.tree) → Keeps m n → Obeys m n (Ok (command.Edit p e lazy)) (Some reply_of.Ok)
-edit_done m n p e lazy event is (inl answer) values stale pruned setup = λ files q at.
-    (ap edit_reply (answer ∙ same_edit m q p at), stands_edited m n q p e lazy event is values stale pruned setup at)
+    SameValues (updated m.tree.odds (event_at (key_at m.tree.res p) event) (values_of m))
+    (values_of n) → n.is_stale ≡ (m.is_stale || lazy) →
+    ((IsTrue lazy → ⊥) → IsPruned m.tree → IsPruned n.tree) → Keeps m n
+    → Obeys m n (Ok (command.Edit p e lazy)) (Some reply_of.Ok)
+edit_done m n p e lazy event is (inl answer) values stale pruned setup = λ files q at. (
+  ap edit_reply (answer ∙ same_edit m q p at),
+  stands_edited m n q p e lazy event is values stale pruned setup at,
+)
 edit_done m n p e lazy event is (inr memory) values stale pruned setup = cc
 
 -- an edit that the map refused
-pub edit_refused : {E : Type 0} (r : Result (Option Reply) E) (m n : Map) (p : Point) (e : Edit) (lazy : Bool) (f : MapFault) →
-    IfOk r (λ a. a ≡ fault_reply f) → IfOk r IsSome → IsAnswerOrMemory (edit_answer (ground_of m) (values_of m) p) (Err f) →
-    SameValues (values_of m) (values_of n) → n.is_stale ≡ m.is_stale → (IsPruned m.tree → IsPruned n.tree) → Keeps m n → HasObeyed m n (Ok (command.Edit p e lazy)) r
+pub edit_refused : {E : Type 0} (r : Result (Option Reply) E) (m n : Map) (p : Point) (e : Edit)
+    (lazy : Bool) (f : MapFault) →
+    IfOk r (λ a. a ≡ fault_reply f) → IfOk r IsSome
+    → IsAnswerOrMemory (edit_answer (ground_of m) (values_of m) p) (Err f) →
+    SameValues (values_of m) (values_of n) → n.is_stale ≡ m.is_stale
+    → (IsPruned m.tree → IsPruned n.tree) → Keeps m n → HasObeyed m n (Ok (command.Edit p e lazy)) r
 edit_refused (Ok a) m n p e lazy f is some (inl answer) values stale pruned setup = λ files q at. (
   is ∙ ap edit_reply (answer ∙ same_edit m q p at),
-  stands_kept n q (accepted a (action_of files q (Ok (command.Edit p e lazy)))) (ap (λ b. cond b [] (action_of files q (Ok (command.Edit p e lazy)))) (refuses f a some is))
+  stands_kept n q (accepted a (action_of files q (Ok (command.Edit p e lazy))))
+      (ap (λ b. cond b [] (action_of files q (Ok (command.Edit p e lazy)))) (refuses f a some is))
       (stands_same m n q values stale pruned setup at),
 )
-edit_refused (Ok a) m n p e lazy f is some (inr memory) values stale pruned setup = absurd (no_reply f a some is cc)
-edit_refused (Err x) m n p e lazy f is some answer values stale pruned setup = λ files q at. (edit_some q.base q.values p, stands_same m n q values stale pruned setup at)
+edit_refused (Ok a) m n p e lazy f is some (inr memory) values stale pruned setup =
+    absurd (no_reply f a some is cc)
+edit_refused (Err x) m n p e lazy f is some answer values stale pruned setup =
+    λ files q at. (edit_some q.base q.values p, stands_same m n q values stale pruned setup at)
 
 -- an edit of a box that the map did
-pub box_done : (m n : Map) (low high : Point) (e : Edit) (event : Event) → event ≡ edit_event m.tree.odds e →
+pub box_done : (m n : Map) (low high : Point) (e : Edit) (event : Event)
+    → event ≡ edit_event m.tree.odds e →
     IsAnswerOrMemory (box_answer (ground_of m) (is_some m.mark) (values_of m) low high) (Ok tt) →
-    SameValues (updated m.tree.odds (corner_events (key_at m.tree.res low) (key_at m.tree.res high) event) (values_of m)) (values_of n) → n.is_stale ≡ (m.is_stale || false) →
-    (IsPruned m.tree → IsPruned n.tree) → Keeps m n → Obeys m n (Ok (command.Box low high e)) (Some reply_of.Ok)
-box_done m n low high e event is (inl answer) values stale pruned setup = λ files q at.
-    (ap edit_reply (answer ∙ same_box m q low high at), stands_boxed m n q low high e event is values (stale ∙ or-false m.is_stale) pruned setup at)
+    SameValues (updated m.tree.odds
+    (corner_events (key_at m.tree.res low) (key_at m.tree.res high) event) (values_of m))
+    (values_of n) → n.is_stale ≡ (m.is_stale || false) →
+    (IsPruned m.tree → IsPruned n.tree) → Keeps m n
+    → Obeys m n (Ok (command.Box low high e)) (Some reply_of.Ok)
+box_done m n low high e event is (inl answer) values stale pruned setup = λ files q at. (
+  ap edit_reply (answer ∙ same_box m q low high at),
+  stands_boxed m n q low high e event is values (stale ∙ or-false m.is_stale) pruned setup at,
+)
 box_done m n low high e event is (inr memory) values stale pruned setup = cc
 
 -- an edit of a box that the map refused
-pub box_refused : {E : Type 0} (r : Result (Option Reply) E) (m n : Map) (low high : Point) (e : Edit) (f : MapFault) →
-    IfOk r (λ a. a ≡ fault_reply f) → IfOk r IsSome → IsAnswerOrMemory (box_answer (ground_of m) (is_some m.mark) (values_of m) low high) (Err f) →
-    SameValues (values_of m) (values_of n) → n.is_stale ≡ m.is_stale → (IsPruned m.tree → IsPruned n.tree) → Keeps m n → HasObeyed m n (Ok (command.Box low high e)) r
+pub box_refused : {E : Type 0} (r : Result (Option Reply) E) (m n : Map) (low high : Point)
+    (e : Edit) (f : MapFault) →
+    IfOk r (λ a. a ≡ fault_reply f) → IfOk r IsSome
+    → IsAnswerOrMemory (box_answer (ground_of m) (is_some m.mark) (values_of m) low high) (Err f) →
+    SameValues (values_of m) (values_of n) → n.is_stale ≡ m.is_stale
+    → (IsPruned m.tree → IsPruned n.tree) → Keeps m n
+    → HasObeyed m n (Ok (command.Box low high e)) r
 box_refused (Ok a) m n low high e f is some (inl answer) values stale pruned setup = λ files q at. (
   is ∙ ap edit_reply (answer ∙ same_box m q low high at),
-  stands_kept n q (accepted a (action_of files q (Ok (command.Box low high e)))) (ap (λ b. cond b [] (action_of files q (Ok (command.Box low high e)))) (refuses f a some is))
+  stands_kept n q (accepted a (action_of files q (Ok (command.Box low high e))))
+      (ap (λ b. cond b [] (action_of files q (Ok (command.Box low high e)))) (refuses f a some is))
       (stands_same m n q values stale pruned setup at),
 )
-box_refused (Ok a) m n low high e f is some (inr memory) values stale pruned setup = absurd (no_reply f a some is cc)
-box_refused (Err x) m n low high e f is some answer values stale pruned setup = λ files q at. (box_some q.base (is_some q.marked) q.values low high, stands_same m n q values stale pruned setup at)
+box_refused (Ok a) m n low high e f is some (inr memory) values stale pruned setup =
+    absurd (no_reply f a some is cc)
+box_refused (Err x) m n low high e f is some answer values stale pruned setup =
+    λ files q at. (
+      box_some q.base (is_some q.marked) q.values low high,
+      stands_same m n q values stale pruned setup at,
+    )
 
 -- a query that the map answered
-pub query_done : (m : Map) (p : Point) (depth : ℕ) (value : Value) (shown : Reply) → shown ≡ value_reply m.tree.odds value →
-    ◌≡◌ {A = Result Value MapFault} (Ok value) (get_answer (ground_of m) m.is_stale (values_of m) p depth) → Obeys m m (Ok (command.Get p depth)) (Some shown)
+pub query_done : (m : Map) (p : Point) (depth : ℕ) (value : Value) (shown : Reply)
+    → shown ≡ value_reply m.tree.odds value →
+    ◌≡◌ {A = Result Value MapFault} (Ok value)
+    (get_answer (ground_of m) m.is_stale (values_of m) p depth)
+    → Obeys m m (Ok (command.Get p depth)) (Some shown)
 query_done m p depth value shown is answer = λ files q at. (
-  ap Some is ∙ ap (λ (g : Ground). Some (value_reply g.odds value)) at.base ∙ ap (get_reply q.base.odds) (answer ∙ same_get m q p depth at),
+  ap Some is ∙ ap (λ (g : Ground). Some (value_reply g.odds value)) at.base
+      ∙ ap (get_reply q.base.odds) (answer ∙ same_get m q p depth at),
   stands_kept m q (accepted (Some shown) []) (accepted_none (Some shown) [] refl) at,
 )
 
 -- a query doesn't run out of memory
-cases_calm : (deep stale : Bool) (value : Value) → ◌≡◌ {A = Result Value MapFault} (cond deep (Err fault.BadDepth) (cond stale (Err fault.Stale) (Ok value))) (Err fault.Memory) → ⊥
+cases_calm : (deep stale : Bool) (value : Value)
+    → ◌≡◌ {A = Result Value MapFault}
+    (cond deep (Err fault.BadDepth) (cond stale (Err fault.Stale) (Ok value))) (Err fault.Memory)
+    → ⊥
 cases_calm true stale value is = cc
 cases_calm false true value is = cc
 cases_calm false false value is = cc
 
-block_calm : (stale : Bool) (values : Values) (depth : ℕ) (k : Voxel) → block_answer stale values depth k ≡ Err fault.Memory → ⊥
-block_calm stale values depth k is = cases_calm (nat_lt 16 depth) (stale && nat_lt depth 16) (depth_value values (block_of depth k)) is
+block_calm : (stale : Bool) (values : Values) (depth : ℕ) (k : Voxel)
+    → block_answer stale values depth k ≡ Err fault.Memory → ⊥
+block_calm stale values depth k is =
+    cases_calm (nat_lt 16 depth) (stale && nat_lt depth 16) (depth_value values (block_of depth k))
+    is
 
-get_calm : (stale : Bool) (values : Values) (depth : ℕ) (key : Option Voxel) → get_answer_at stale values depth key ≡ Err fault.Memory → ⊥
+get_calm : (stale : Bool) (values : Values) (depth : ℕ) (key : Option Voxel)
+    → get_answer_at stale values depth key ≡ Err fault.Memory → ⊥
 get_calm stale values depth None is = cc
 get_calm stale values depth (Some k) is = block_calm stale values depth k is
 
 -- a query that the map refused
-pub query_refused : {E : Type 0} (r : Result (Option Reply) E) (m : Map) (p : Point) (depth : ℕ) (f : MapFault) → IfOk r (λ a. a ≡ fault_reply f) → OnErr r (f ≡ fault.Memory) →
-    ◌≡◌ {A = Result Value MapFault} (Err f) (get_answer (ground_of m) m.is_stale (values_of m) p depth) → HasObeyed m m (Ok (command.Get p depth)) r
+pub query_refused : {E : Type 0} (r : Result (Option Reply) E) (m : Map) (p : Point) (depth : ℕ)
+    (f : MapFault) → IfOk r (λ a. a ≡ fault_reply f) → OnErr r (f ≡ fault.Memory) →
+    ◌≡◌ {A = Result Value MapFault} (Err f)
+    (get_answer (ground_of m) m.is_stale (values_of m) p depth)
+    → HasObeyed m m (Ok (command.Get p depth)) r
 query_refused (Ok a) m p depth f is memory answer = λ files q at. (
   is ∙ ap (get_reply q.base.odds) (answer ∙ same_get m q p depth at),
   stands_kept m q (accepted a []) (accepted_none a [] refl) at,
 )
-query_refused (Err x) m p depth f is memory answer = absurd (get_calm m.is_stale (values_of m) depth (key_at m.tree.res p) (sym answer ∙ ap Err memory))
+query_refused (Err x) m p depth f is memory answer =
+    absurd (get_calm m.is_stale (values_of m) depth (key_at m.tree.res p)
+    (sym answer ∙ ap Err memory))
 
 -- a cast that the map answered
-pub cast_done : (m : Map) (o e : Point) (ignore : Bool) (found : Cast) → ◌≡◌ {A = Result Cast MapFault} (Ok found) (cast_answer (ground_of m) (values_of m) o e ignore) →
+pub cast_done : (m : Map) (o e : Point) (ignore : Bool) (found : Cast)
+    → ◌≡◌ {A = Result Cast MapFault} (Ok found) (cast_answer (ground_of m) (values_of m) o e ignore)
+    →
     Obeys m m (Ok (command.Cast o e ignore)) (Some (reply_of.Casted found))
 cast_done m o e ignore found answer = λ files q at. (
   ap cast_reply (answer ∙ same_cast m q o e ignore at),
-  stands_kept m q (accepted (Some (reply_of.Casted found)) []) (accepted_none (Some (reply_of.Casted found)) [] refl) at,
+  stands_kept m q (accepted (Some (reply_of.Casted found)) [])
+      (accepted_none (Some (reply_of.Casted found)) [] refl) at,
 )
 
 -- a cast doesn't run out of memory
-cast_calm : (key_o key_e : Option Voxel) (found : Cast) → cast_answer_at key_o key_e found ≡ Err fault.Memory → ⊥
+cast_calm : (key_o key_e : Option Voxel) (found : Cast)
+    → cast_answer_at key_o key_e found ≡ Err fault.Memory → ⊥
 cast_calm None key_e found is = cc
 cast_calm (Some k) None found is = cc
 cast_calm (Some k) (Some l) found is = cc
 
 -- a cast that the map refused
-pub cast_refused : {E : Type 0} (r : Result (Option Reply) E) (m : Map) (o e : Point) (ignore : Bool) (f : MapFault) → IfOk r (λ a. a ≡ fault_reply f) → OnErr r (f ≡ fault.Memory) →
-    ◌≡◌ {A = Result Cast MapFault} (Err f) (cast_answer (ground_of m) (values_of m) o e ignore) → HasObeyed m m (Ok (command.Cast o e ignore)) r
+pub cast_refused : {E : Type 0} (r : Result (Option Reply) E) (m : Map) (o e : Point)
+    (ignore : Bool) (f : MapFault) → IfOk r (λ a. a ≡ fault_reply f) → OnErr r (f ≡ fault.Memory) →
+    ◌≡◌ {A = Result Cast MapFault} (Err f) (cast_answer (ground_of m) (values_of m) o e ignore)
+    → HasObeyed m m (Ok (command.Cast o e ignore)) r
 cast_refused (Ok a) m o e ignore f is memory answer = λ files q at. (
   is ∙ ap cast_reply (answer ∙ same_cast m q o e ignore at),
   stands_kept m q (accepted a []) (accepted_none a [] refl) at,
 )
 cast_refused (Err x) m o e ignore f is memory answer =
-    absurd (cast_calm (key_at m.tree.res o) (key_at m.tree.res e) (cast_along m.tree.res o e ignore (classes_of m.tree.odds (values_of m))) (sym answer ∙ ap Err memory))
+    absurd (cast_calm (key_at m.tree.res o) (key_at m.tree.res e)
+    (cast_along m.tree.res o e ignore (classes_of m.tree.odds (values_of m)))
+    (sym answer ∙ ap Err memory))
 
 -- the counts of the map, which is pruned for them
-pub counts_done : (m n : Map) (counts : Counts) → counts.groups ≡ group_count (values_of m) → counts.nodes ≡ node_count (values_of m) →
-    SameValues (values_of m) (values_of n) → n.is_stale ≡ m.is_stale → IsPruned n.tree → Keeps m n → Obeys m n (Ok command.Counts) (Some (reply_of.Counted counts))
+pub counts_done : (m n : Map) (counts : Counts) → counts.groups ≡ group_count (values_of m)
+    → counts.nodes ≡ node_count (values_of m) →
+    SameValues (values_of m) (values_of n) → n.is_stale ≡ m.is_stale → IsPruned n.tree → Keeps m n
+    → Obeys m n (Ok command.Counts) (Some (reply_of.Counted counts))
 counts_done m n counts groups nodes values stale pruned setup = λ files q at.
-    let g : counts.groups ≡ group_count q.values = groups ∙ sym (same_group_count q.values (values_of m) at.values) in
-    let k : counts.nodes ≡ node_count q.values = nodes ∙ sym (same_node_count q.values (values_of m) at.values) in (
-      ap (λ x. Some (reply_of.Counted (record { groups = x; nodes = counts.nodes }))) g ∙ ap (λ x. Some (reply_of.Counted (record { groups = group_count q.values; nodes = x }))) k,
+    let g : counts.groups ≡ group_count q.values = groups
+    ∙ sym (same_group_count q.values (values_of m) at.values) in
+    let k : counts.nodes ≡ node_count q.values = nodes
+    ∙ sym (same_node_count q.values (values_of m) at.values) in (
+      ap (λ x. Some (reply_of.Counted (record { groups = x; nodes = counts.nodes }))) g
+          ∙ ap (λ x. Some (reply_of.Counted (record { groups = group_count q.values; nodes = x }))) k,
       stands_pruned m n q values stale pruned setup at,
     )
 
 -- a refresh
-pub refresh_done : (m n : Map) → SameValues (values_of m) (values_of n) → n.is_stale ≡ false → (IsPruned m.tree → IsPruned n.tree) → Keeps m n →
+pub refresh_done : (m n : Map) → SameValues (values_of m) (values_of n) → n.is_stale ≡ false
+    → (IsPruned m.tree → IsPruned n.tree) → Keeps m n →
     Obeys m n (Ok command.Refresh) (Some reply_of.Ok)
-refresh_done m n values fresh pruned setup = λ files q at. (refl, stands_refreshed m n q values fresh pruned setup at)
+refresh_done m n values fresh pruned setup =
+    λ files q at. (refl, stands_refreshed m n q values fresh pruned setup at)
 
 -- a clear
-pub clear_done : (m n : Map) → ((k : Voxel) → values_of n k ≡ None) → n.is_stale ≡ false → IsPruned n.tree → ground_of n ≡ ground_of m → n.mark ≡ None → Obeys m n (Ok command.Clear) (Some reply_of.Ok)
-clear_done m n unknown fresh pruned setup none = λ files q at. (refl, stands_cleared m n q unknown fresh pruned setup none at)
+pub clear_done : (m n : Map) → ((k : Voxel) → values_of n k ≡ None) → n.is_stale ≡ false
+    → IsPruned n.tree → ground_of n ≡ ground_of m → n.mark ≡ None
+    → Obeys m n (Ok command.Clear) (Some reply_of.Ok)
+clear_done m n unknown fresh pruned setup none =
+    λ files q at. (refl, stands_cleared m n q unknown fresh pruned setup none at)
 
 -- maximum likelihood
-pub likelihood_done : (m n : Map) → SameValues (updated m.tree.odds (λ k. Some event.Likely) (values_of m)) (values_of n) → n.is_stale ≡ false → IsPruned n.tree → Keeps m n →
+pub likelihood_done : (m n : Map)
+    → SameValues (updated m.tree.odds (λ k. Some event.Likely) (values_of m)) (values_of n)
+    → n.is_stale ≡ false → IsPruned n.tree → Keeps m n →
     Obeys m n (Ok command.MaxLikelihood) (Some reply_of.Ok)
-likelihood_done m n values fresh pruned setup = λ files q at. (refl, stands_likened m n q values fresh pruned setup at)
+likelihood_done m n values fresh pruned setup =
+    λ files q at. (refl, stands_likened m n q values fresh pruned setup at)
 
 -- a mark that is set
-pub track_done : (m n : Map) (x : Option Held) → n ≡ record m { mark = x } → SameMark (Some (classes_in m)) (marked_of n) → Obeys m n (Ok command.Track) (Some reply_of.Ok)
+pub track_done : (m n : Map) (x : Option Held) → n ≡ record m { mark = x }
+    → SameMark (Some (classes_in m)) (marked_of n) → Obeys m n (Ok command.Track) (Some reply_of.Ok)
 track_done m n x exact mark = λ files q at. (refl, stands_tracked m n q x exact mark at)
 
 -- a mark that is taken away
-pub untrack_done : (m n : Map) → n ≡ record m { mark = None } → Obeys m n (Ok command.Untrack) (Some reply_of.Ok)
+pub untrack_done : (m n : Map) → n ≡ record m { mark = None }
+    → Obeys m n (Ok command.Untrack) (Some reply_of.Ok)
 untrack_done m n exact = λ files q at. (refl, stands_untracked m n q exact at)
 
 -- the end of a limit
-pub no_limit_done : (m n : Map) → n ≡ record m { update_box = None } → Obeys m n (Ok command.NoLimit) (Some reply_of.Ok)
+pub no_limit_done : (m n : Map) → n ≡ record m { update_box = None }
+    → Obeys m n (Ok command.NoLimit) (Some reply_of.Ok)
 no_limit_done m n exact = λ files q at. (refl, stands_unlimited m n q exact at)
 
 -- a limit that the map took
-pub limit_done : (m n : Map) (low high : Point) → n ≡ record m { update_box = corner_box (key_at m.tree.res low) (key_at m.tree.res high) } →
-    ◌≡◌ {A = Result ⊤ MapFault} (Ok tt) (limit_answer (ground_of m) low high) → Obeys m n (Ok (command.Limit low high)) (Some reply_of.Ok)
-limit_done m n low high exact answer = λ files q at.
-    (ap edit_reply (answer ∙ ap (λ g. limit_answer g low high) at.base), stands_limited m n q low high exact at)
+pub limit_done : (m n : Map) (low high : Point)
+    → n ≡ record m { update_box = corner_box (key_at m.tree.res low) (key_at m.tree.res high) } →
+    ◌≡◌ {A = Result ⊤ MapFault} (Ok tt) (limit_answer (ground_of m) low high)
+    → Obeys m n (Ok (command.Limit low high)) (Some reply_of.Ok)
+limit_done m n low high exact answer = λ files q at. (
+  ap edit_reply (answer ∙ ap (λ g. limit_answer g low high) at.base),
+  stands_limited m n q low high exact at,
+)
 
 -- a limit that the map refused
-pub limit_refused : {E : Type 0} (r : Result (Option Reply) E) (m n : Map) (low high : Point) (f : MapFault) → IfOk r (λ a. a ≡ fault_reply f) → IfOk r IsSome → n ≡ m →
-    ◌≡◌ {A = Result ⊤ MapFault} (Err f) (limit_answer (ground_of m) low high) → HasObeyed m n (Ok (command.Limit low high)) r
+pub limit_refused : {E : Type 0} (r : Result (Option Reply) E) (m n : Map) (low high : Point)
+    (f : MapFault) → IfOk r (λ a. a ≡ fault_reply f) → IfOk r IsSome → n ≡ m →
+    ◌≡◌ {A = Result ⊤ MapFault} (Err f) (limit_answer (ground_of m) low high)
+    → HasObeyed m n (Ok (command.Limit low high)) r
 limit_refused (Ok a) m n low high f is some same answer = λ files q at. (
   is ∙ ap edit_reply (answer ∙ ap (λ g. limit_answer g low high) at.base),
-  stands_kept n q (accepted a (action_of files q (Ok (command.Limit low high)))) (ap (λ b. cond b [] (action_of files q (Ok (command.Limit low high)))) (refuses f a some is))
+  stands_kept n q (accepted a (action_of files q (Ok (command.Limit low high))))
+      (ap (λ b. cond b [] (action_of files q (Ok (command.Limit low high)))) (refuses f a some is))
       (subst (λ (t : Map). StandsFor t q) (sym same) at),
 )
-limit_refused (Err x) m n low high f is some same answer = λ files q at. (limit_some q.base low high, subst (λ (t : Map). StandsFor t q) (sym same) at)
+limit_refused (Err x) m n low high f is some same answer =
+    λ files q at. (limit_some q.base low high, subst (λ (t : Map). StandsFor t q) (sym same) at)
 
 -- a list that the map answered
-pub list_done : (m : Map) (low high : Point) (depth : ℕ) (blocks : List Shown) (threshold : ℤ) → threshold ≡ m.tree.odds.thr →
-    IsAnswerOrMemory (list_answer (ground_of m) m.is_stale (values_of m) low high depth) (Ok blocks) → Obeys m m (Ok (command.List low high depth)) (Some (reply_of.Blocks blocks threshold))
+pub list_done : (m : Map) (low high : Point) (depth : ℕ) (blocks : List Shown) (threshold : ℤ)
+    → threshold ≡ m.tree.odds.thr →
+    IsAnswerOrMemory (list_answer (ground_of m) m.is_stale (values_of m) low high depth) (Ok blocks)
+    → Obeys m m (Ok (command.List low high depth)) (Some (reply_of.Blocks blocks threshold))
 list_done m low high depth blocks threshold is (inl answer) = λ files q at. (
-  ap (λ t. Some (reply_of.Blocks blocks t)) (is ∙ ap (λ (g : Ground). g.odds.thr) at.base) ∙ ap (list_reply q.base.odds.thr) (answer ∙ same_list m q low high depth at),
-  stands_kept m q (accepted (Some (reply_of.Blocks blocks threshold)) []) (accepted_none (Some (reply_of.Blocks blocks threshold)) [] refl) at,
+  ap (λ t. Some (reply_of.Blocks blocks t)) (is ∙ ap (λ (g : Ground). g.odds.thr) at.base)
+      ∙ ap (list_reply q.base.odds.thr) (answer ∙ same_list m q low high depth at),
+  stands_kept m q (accepted (Some (reply_of.Blocks blocks threshold)) [])
+      (accepted_none (Some (reply_of.Blocks blocks threshold)) [] refl) at,
 )
 list_done m low high depth blocks threshold is (inr memory) = cc
 
 -- a list that the map refused
-pub list_refused : {E : Type 0} (r : Result (Option Reply) E) (m : Map) (low high : Point) (depth : ℕ) (f : MapFault) → IfOk r (λ a. a ≡ fault_reply f) → IfOk r IsSome →
-    IsAnswerOrMemory (list_answer (ground_of m) m.is_stale (values_of m) low high depth) (Err f) → HasObeyed m m (Ok (command.List low high depth)) r
+pub list_refused : {E : Type 0} (r : Result (Option Reply) E) (m : Map) (low high : Point)
+    (depth : ℕ) (f : MapFault) → IfOk r (λ a. a ≡ fault_reply f) → IfOk r IsSome →
+    IsAnswerOrMemory (list_answer (ground_of m) m.is_stale (values_of m) low high depth) (Err f)
+    → HasObeyed m m (Ok (command.List low high depth)) r
 list_refused (Ok a) m low high depth f is some (inl answer) = λ files q at. (
   is ∙ ap (list_reply q.base.odds.thr) (answer ∙ same_list m q low high depth at),
   stands_kept m q (accepted a []) (accepted_none a [] refl) at,
 )
 list_refused (Ok a) m low high depth f is some (inr memory) = absurd (no_reply f a some is cc)
-list_refused (Err x) m low high depth f is some answer = λ files q at. (list_some q.base.odds.thr q.base q.is_stale q.values low high depth, at)
+list_refused (Err x) m low high depth f is some answer =
+    λ files q at. (list_some q.base.odds.thr q.base q.is_stale q.values low high depth, at)
 
 -- what has changed, as the map answered it
-pub changes_done : (m : Map) (changes : List Change) → IsAnswerOrMemory (changes_answer (marked_of m) (classes_in m)) (Ok changes) → Obeys m m (Ok command.Changes) (Some (reply_of.Changed changes))
+pub changes_done : (m : Map) (changes : List Change)
+    → IsAnswerOrMemory (changes_answer (marked_of m) (classes_in m)) (Ok changes)
+    → Obeys m m (Ok command.Changes) (Some (reply_of.Changed changes))
 changes_done m changes (inl answer) = λ files q at. (
   ap changes_reply (answer ∙ same_changed m q at),
-  stands_kept m q (accepted (Some (reply_of.Changed changes)) []) (accepted_none (Some (reply_of.Changed changes)) [] refl) at,
+  stands_kept m q (accepted (Some (reply_of.Changed changes)) [])
+      (accepted_none (Some (reply_of.Changed changes)) [] refl) at,
 )
 changes_done m changes (inr memory) = cc
 
 -- what has changed, where the map refused it
-pub changes_refused : {E : Type 0} (r : Result (Option Reply) E) (m : Map) (f : MapFault) → IfOk r (λ a. a ≡ fault_reply f) → IfOk r IsSome →
-    IsAnswerOrMemory (changes_answer (marked_of m) (classes_in m)) (Err f) → HasObeyed m m (Ok command.Changes) r
+pub changes_refused : {E : Type 0} (r : Result (Option Reply) E) (m : Map) (f : MapFault)
+    → IfOk r (λ a. a ≡ fault_reply f) → IfOk r IsSome →
+    IsAnswerOrMemory (changes_answer (marked_of m) (classes_in m)) (Err f)
+    → HasObeyed m m (Ok command.Changes) r
 changes_refused (Ok a) m f is some (inl answer) = λ files q at. (
   is ∙ ap changes_reply (answer ∙ same_changed m q at),
   stands_kept m q (accepted a []) (accepted_none a [] refl) at,
 )
 changes_refused (Ok a) m f is some (inr memory) = absurd (no_reply f a some is cc)
-changes_refused (Err x) m f is some answer = λ files q at. (changes_some q.marked (classes_of q.base.odds q.values), at)
+changes_refused (Err x) m f is some answer =
+    λ files q at. (changes_some q.marked (classes_of q.base.odds q.values), at)
 
 -- the reply to a scan whose quaternion isn't 0
-scan_replied : (m : Map) (q : State) (scan : ScanSoFar) (s : Sighting) (r : Result ScanDone MapFault) → is_zero scan.head ≡ false → s ≡ sighting_so_far scan → StandsFor m q →
+scan_replied : (m : Map) (q : State) (scan : ScanSoFar) (s : Sighting)
+    (r : Result ScanDone MapFault) → is_zero scan.head ≡ false → s ≡ sighting_so_far scan
+    → StandsFor m q →
     r ≡ scan_answer (ground_of m) (values_of m) s → scan_reply r ≡ block_reply q (Scanning scan)
-scan_replied m q scan s r turns saw at answer = rw turns (ap scan_reply (answer ∙ same_scan m q s at ∙ ap (scan_answer q.base q.values) saw))
+scan_replied m q scan s r turns saw at answer =
+    rw turns (ap scan_reply (answer ∙ same_scan m q s at ∙ ap (scan_answer q.base q.values) saw))
 
 -- a scan that the map did
-pub scan_done : (m n : Map) (scan : ScanSoFar) (s : Sighting) (lazy : Bool) (done : ScanDone) → is_zero scan.head ≡ false → s ≡ sighting_so_far scan → lazy ≡ scan.head.lazy →
+pub scan_done : (m n : Map) (scan : ScanSoFar) (s : Sighting) (lazy : Bool) (done : ScanDone)
+    → is_zero scan.head ≡ false → s ≡ sighting_so_far scan → lazy ≡ scan.head.lazy →
     IsAnswerOrMemory (scan_answer (ground_of m) (values_of m) s) (Ok done) →
-    SameValues (updated m.tree.odds (outcome_in m s) (values_of m)) (values_of n) → n.is_stale ≡ (m.is_stale || lazy) →
-    ((IsTrue lazy → ⊥) → IsPruned m.tree → IsPruned n.tree) → Keeps m n → Scans m n scan (Some (reply_of.Scanned (record { hits = done.hits; frees = done.frees })))
+    SameValues (updated m.tree.odds (outcome_in m s) (values_of m)) (values_of n)
+    → n.is_stale ≡ (m.is_stale || lazy) →
+    ((IsTrue lazy → ⊥) → IsPruned m.tree → IsPruned n.tree) → Keeps m n
+    → Scans m n scan (Some (reply_of.Scanned (record { hits = done.hits; frees = done.frees })))
 scan_done m n scan s lazy done turns saw late (inl answer) values stale pruned setup = λ q at. (
   scan_replied m q scan s (Ok done) turns saw at answer,
   subst (λ x. StandsFor n (after q (Scanned x scan.head.lazy))) saw
-      (subst (λ x. StandsFor n (after q (Scanned s x))) late (stands_scanned m n q s lazy values stale pruned setup at)),
+      (subst (λ x. StandsFor n (after q (Scanned s x))) late
+      (stands_scanned m n q s lazy values stale pruned setup at)),
 )
 scan_done m n scan s lazy done turns saw late (inr memory) values stale pruned setup = cc
 
 -- a scan that the map refused
-pub scan_refused : {E : Type 0} (r : Result (Option Reply) E) (m n : Map) (scan : ScanSoFar) (s : Sighting) (f : MapFault) → is_zero scan.head ≡ false → s ≡ sighting_so_far scan →
-    IfOk r (λ a. a ≡ fault_reply f) → IfOk r IsSome → IsAnswerOrMemory (scan_answer (ground_of m) (values_of m) s) (Err f) →
-    SameValues (values_of m) (values_of n) → n.is_stale ≡ m.is_stale → (IsPruned m.tree → IsPruned n.tree) → Keeps m n → HasScanned m n (Scanning scan) r
-scan_refused (Ok a) m n scan s f turns saw is some (inl answer) values stale pruned setup = λ q at. (
-  is ∙ scan_replied m q scan s (Err f) turns saw at answer,
-  stands_kept n q (accepted a (block_action (Scanning scan))) (ap (λ b. cond b [] (block_action (Scanning scan))) (refuses f a some is))
-      (stands_same m n q values stale pruned setup at),
-)
-scan_refused (Ok a) m n scan s f turns saw is some (inr memory) values stale pruned setup = absurd (no_reply f a some is cc)
-scan_refused (Err x) m n scan s f turns saw is some answer values stale pruned setup = λ q at. (block_some q scan, stands_same m n q values stale pruned setup at)
+pub scan_refused : {E : Type 0} (r : Result (Option Reply) E) (m n : Map) (scan : ScanSoFar)
+    (s : Sighting) (f : MapFault) → is_zero scan.head ≡ false → s ≡ sighting_so_far scan →
+    IfOk r (λ a. a ≡ fault_reply f) → IfOk r IsSome
+    → IsAnswerOrMemory (scan_answer (ground_of m) (values_of m) s) (Err f) →
+    SameValues (values_of m) (values_of n) → n.is_stale ≡ m.is_stale
+    → (IsPruned m.tree → IsPruned n.tree) → Keeps m n → HasScanned m n (Scanning scan) r
+scan_refused (Ok a) m n scan s f turns saw is some (inl answer) values stale pruned setup =
+    λ q at. (
+      is ∙ scan_replied m q scan s (Err f) turns saw at answer,
+      stands_kept n q (accepted a (block_action (Scanning scan)))
+          (ap (λ b. cond b [] (block_action (Scanning scan))) (refuses f a some is))
+          (stands_same m n q values stale pruned setup at),
+    )
+scan_refused (Ok a) m n scan s f turns saw is some (inr memory) values stale pruned setup =
+    absurd (no_reply f a some is cc)
+scan_refused (Err x) m n scan s f turns saw is some answer values stale pruned setup =
+    λ q at. (block_some q scan, stands_same m n q values stale pruned setup at)

@@ -13,7 +13,6 @@ ghost use Rattle.oct_session.specs.Drill.{drill as whole_drill, drill_setup, dri
 ghost use Rattle.oct_session.specs.Drill.{drilled_state, line_of_two, summary, EndsUnread};
 ghost use Rattle.oct_session.specs.History.{start_state};
 ghost use Rattle.oct_session.specs.Leaving.{StandsFor};
-ghost use Rattle.oct_session.specs.Session.{status_at_end};
 
 use crate::building::Discard;
 use crate::options::{MOST_BYTES, Options, Status, Stop, status_written};

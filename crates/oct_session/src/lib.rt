@@ -36,7 +36,8 @@
 //! - **Counts.** A count of faults rises by one exactly where the status names its fault, and that
 //!   of a sink's shortages of memory by one at most, where the status is out of memory. So no read
 //!   that failed is tried again, and nothing is read after `quit` or after a fault: such a read
-//!   might fail, too.
+//!   might fail, too. The end of a script is met once at most, and the store is asked once at most
+//!   for each line that names a file (`specs/Counts.antt`).
 //! - **Map and files.** Under the same premise, whatever the status, the lent map then stands for
 //!   a history, and the files are those after the same lines (`StandsFor` and `Leaves` of
 //!   `specs/Leaving.antt`): each voxel has its value after it, the map is stale where a lazy edit

@@ -17,7 +17,7 @@ use Rattle.oct_snap.specs.Reading.{Found, found, number_at, is_within, value_nod
 use Rattle.oct_snap.specs.Reading.{next_node, after_node, read_row, read_node}
 use Rattle.oct_snap.specs.Checked.{IsOneNode, IsRead, IsNodeRead}
 use Rattle.oct_snap.proofs.Rows.{all_joined, total_joined}
-use Rattle.oct_snap.proofs.Drops.{drop_at, drop_end, drop_four}
+use Rattle.oct_snap.proofs.Drops.{drop_at, drop_four}
 
 -- ---- nodes without nodes of their own
 
@@ -63,14 +63,6 @@ value_at_place o bytes at n within inside is test =
     ap (λ (k : ℕ). cond {A = Result Found SnapFault} within
     (Ok (found (Whole (Some n) End) (at + 5) (drop k bytes))) (Err (BadSnapshot at))) five)
 
--- its value is out of bounds
-pub value_bad : (o : Odds) (bytes : List ℕ) (at : ℕ) (n : ℤ) → at + 5 ≤ length bytes
-    → n ≡ number_at bytes (at + 1) → is_within o n ≡ false
-    → IsNodeRead bytes at (value_node o at (drop (at + 1) bytes)) (Err (BadSnapshot at))
-value_bad o bytes at n inside is test =
-    subst (λ (r : Result Found SnapFault). IsNodeRead bytes at r (Err (BadSnapshot at)))
-    (sym (value_at_place o bytes at n false inside is test)) refl
-
 one_read : (bytes : List ℕ) (at next : ℕ) (v : Value) → at < next → next ≤ length bytes
     → IsRead bytes at (found (Whole v End) next (drop next bytes)) (record {
       next = next;
@@ -115,36 +107,6 @@ first_is : (o : Odds) (at byte n : ℕ) (rest : List ℕ) → byte ≡ n → nex
     ≡ next_node None o at (n ∷ rest)
 first_is o at byte n rest is = ap (λ (b : ℕ). next_node None o at (b ∷ rest)) is
 
-large_first : (o : Odds) (at byte : ℕ) (rest : List ℕ) → 1 < byte
-    → next_node None o at (byte ∷ rest) ≡ Err (BadSnapshot at)
-large_first o at zero rest large = absurd (omega arith)
-large_first o at (suc zero) rest large = absurd (omega arith)
-large_first o at (suc (suc zero)) rest large = refl
-large_first o at (suc (suc (suc more))) rest large = refl
-
-pub leaf_ends : (o : Odds) (bytes : List ℕ) (at : ℕ) → at ≡ length bytes
-    → IsNodeRead bytes at (next_node None o at (drop at bytes)) (Err (Truncated at))
-leaf_ends o bytes at end =
-    let is : next_node None o at (drop at bytes) ≡ Err (Truncated at) =
-    ap (next_node None o at) (drop_end bytes at (omega (arith, end))) in
-    subst (λ (r : Result Found SnapFault). IsNodeRead bytes at r (Err (Truncated at))) (sym is) refl
-
-pub leaf_value : (o : Odds) (bytes : List ℕ) (at : ℕ) (seen : Result NodeRead SnapFault)
-    → at < length bytes → slice_index bytes at ≡ 1
-    → IsNodeRead bytes at (value_node o at (drop (at + 1) bytes)) seen
-    → IsNodeRead bytes at (next_node None o at (drop at bytes)) seen
-leaf_value o bytes at seen inside first is =
-    subst (λ (r : Result Found SnapFault). IsNodeRead bytes at r seen)
-    (sym (leaf_is o bytes at inside
-    ∙ first_is o at (slice_index bytes at) 1 (drop (at + 1) bytes) first)) is
-
-pub leaf_bad : (o : Odds) (bytes : List ℕ) (at : ℕ) → at < length bytes → 1 < slice_index bytes at
-    → IsNodeRead bytes at (next_node None o at (drop at bytes)) (Err (BadSnapshot at))
-leaf_bad o bytes at inside large =
-    subst (λ (r : Result Found SnapFault). IsNodeRead bytes at r (Err (BadSnapshot at)))
-    (sym (leaf_is o bytes at inside ∙ large_first o at (slice_index bytes at)
-    (drop (at + 1) bytes) large)) refl
-
 pub leaf_unknown : (o : Odds) (bytes : List ℕ) (at : ℕ) → at < length bytes → slice_index bytes at
     ≡ 0
     → IsNodeRead bytes at (next_node None o at (drop at bytes)) (Ok (record {
@@ -172,9 +134,6 @@ not_parted o (suc h) at (zero ∷ xs) other = refl
 not_parted o (suc h) at (suc zero ∷ xs) other = refl
 not_parted o (suc h) at (suc (suc zero) ∷ xs) other = absurd (other h xs refl refl)
 not_parted o (suc h) at (suc (suc (suc more)) ∷ xs) other = refl
-
-first_of : (xs ys : List ℕ) (x y : ℕ) → xs ≡ y ∷ ys → xs ≡ x ∷ ys → x ≡ y
-first_of xs ys x y e f = ap (λ (t : List ℕ). slice_index t 0) (sym f ∙ e)
 
 head_of : (xs ys zs : List ℕ) (x y : ℕ) → xs ≡ x ∷ ys → xs ≡ y ∷ zs → x ≡ y
 head_of xs ys zs x y e f = ap (λ (t : List ℕ). slice_index t 0) (sym e ∙ f)

@@ -88,15 +88,6 @@ by_fields : (bytes : List ℕ) (r : Result Fields SnapFault) (f : FieldsRead)
 by_fields bytes (Ok h) f seen is go = go h is
 by_fields bytes (Err e) f seen is go = absurd is
 
-start_of : (bytes : List ℕ) (r : Result Fields SnapFault) (f : FieldsRead)
-    → AreFieldsRead bytes r (Ok f) → f.start ≤ length bytes
-start_of bytes (Ok h) f is = is.within
-start_of bytes (Err e) f is = absurd is
-
-pub start_within : (o : Odds) (bytes : List ℕ) (f : FieldsRead)
-    → AreFieldsRead bytes (read_fields o bytes) (Ok f) → f.start ≤ length bytes
-start_within o bytes f is = start_of bytes (read_fields o bytes) f is
-
 pub checked_fault : (o : Odds) (bytes : List ℕ) (f : FieldsRead) (fault : SnapFault)
     → AreFieldsRead bytes (read_fields o bytes) (Ok f)
     → IsNodeRead bytes f.start (read_node (odds_of f.odds) 16 f.start (drop f.start bytes))

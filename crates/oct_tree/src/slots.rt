@@ -1,8 +1,7 @@
 //! Reading and writing the node of a place, in the arena or at the root.
 
 ghost use Rattle.std.specs.Prelude.{◌≡◌, ◌+◌, ◌<◌, ◌≤◌, Some, None, length, replicate, slice_set};
-ghost use Rattle.oct_key.specs.Block.{Cube, root_block};
-ghost use Rattle.oct_key.specs.CubeOf.{cube_of};
+ghost use Rattle.oct_key.specs.Block.{Cube};
 ghost use Rattle.oct_arena.specs.declared.node.Node.TheVariants.{Inner};
 ghost use Rattle.oct_arena.specs.Entries.{IsLive, entry, spare};
 ghost use Rattle.oct_tree.specs.Nodes.{inherited};
@@ -25,18 +24,6 @@ pub(crate) fn read(arena: &NodeArena, root: Node, p: Place) -> Node
     }
 }
 
-/// The block of the whole map.
-fn map() -> Block
-    ensures { cube_of result ≡ root_block }
-{
-    Block {
-        depth: 0,
-        x: 0,
-        y: 0,
-        z: 0,
-    }
-}
-
 /// Puts a group of eight copies of the place's node under it.
 pub(crate) fn split(arena: &mut NodeArena, root: &mut Node, p: Place) -> GroupId
     requires place { IsPlaceOf arena.old p }
@@ -53,7 +40,7 @@ pub(crate) fn split(arena: &mut NodeArena, root: &mut Node, p: Place) -> GroupId
 {
     match p {
         Place::Root => {
-            let id = arena.take(map(), [*root; 8]);
+            let id = arena.take(Block::whole_map(), [*root; 8]);
             *root = inner_over(*root, id);
             id
         }

@@ -3,6 +3,7 @@ pub mod Runs
 pub mod OverFile
 pub mod Replies
 pub mod FileTasks
+pub mod Loads
 pub mod StoreEnds
 pub mod PairTexts
 pub mod Merges

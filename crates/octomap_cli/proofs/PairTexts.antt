@@ -1,5 +1,6 @@
 -- The texts of tasks over two files: that none is empty, and that nine lines are the table.
-use Rattle.std.proofs.Common.{◌≡◌, ℕ, ◌<◌, List, [], ◌++◌, length, Result, Ok, Err, sym, ◌∙◌, ap, append_assoc, append-nil, zero-lt-suc}
+use Rattle.std.proofs.Common.{◌≡◌, ℕ, ◌<◌, List, [], ◌++◌, length, Result, Ok, Err, sym, ◌∙◌, ap}
+use Rattle.std.proofs.Common.{append_assoc, append-nil, zero-lt-suc}
 use Rattle.oct_bt.specs.File.{bt_text, header_text, text_of_lines}
 use Rattle.oct_key.specs.Boxes.{Corners}
 use Rattle.oct_odds.specs.declared.event.Class.{Class}
@@ -7,7 +8,8 @@ use Rattle.oct_odds.specs.declared.event.Class.TheVariants.{Unknown, Free, Occup
 use Rattle.oct_merge.specs.declared.rule.Rule.{Rule}
 use Rattle.oct_merge.specs.Pairs.{pair_counts}
 use Rattle.oct_bt.specs.DataClasses.{data_classes}
-use Rattle.octomap_cli.specs.OverStore.{merged_text, table_text, table_line, table_rows, class_count, pair_line, table_reply, found_reply}
+use Rattle.octomap_cli.specs.OverStore.{merged_text, table_text, table_line, table_rows}
+use Rattle.octomap_cli.specs.OverStore.{class_count, pair_line, table_reply, found_reply}
 use Rattle.octomap_cli.specs.Refusals.{box_between, refused}
 use Rattle.octomap_cli.specs.declared.refusal.Refusal.{Refusal}
 use Rattle.octomap_cli.specs.declared.store_task.PairTask.{PairTask}
@@ -34,11 +36,13 @@ some_line (no.OtherResolution first second) = zero-lt-suc _
 pub some_refusal : (why : Refusal) → 0 < length (refused why).text
 some_refusal why = zero-lt-suc _
 
-some_table_reply : (pair : Pair) (box : Result Corners Refusal) → 0 < length (table_reply pair box).text
+some_table_reply : (pair : Pair) (box : Result Corners Refusal)
+    → 0 < length (table_reply pair box).text
 some_table_reply pair (Ok box) = some_table pair box
 some_table_reply pair (Err why) = some_refusal why
 
-pub some_reply : (asks : PairTask) (found : Result Pair NoPair) → 0 < length (found_reply asks found).text
+pub some_reply : (asks : PairTask) (found : Result Pair NoPair)
+    → 0 < length (found_reply asks found).text
 some_reply asks (Err reason) = some_line reason
 some_reply (Merge rule) (Ok pair) = some_merged rule pair
 some_reply (Table lo hi) (Ok pair) = some_table_reply pair (box_between pair.first.res lo hi)
@@ -60,9 +64,12 @@ nine a b c d e f g h i =
 
 -- the nine lines of the counts are the table
 pub rows_are_table : (pair : Pair) (box : Corners)
-    → table_rows (pair_counts box.lo box.hi (data_classes pair.first.codes) (data_classes pair.second.codes)) ≡ table_text pair box
+    → table_rows (pair_counts box.lo box.hi (data_classes pair.first.codes)
+    (data_classes pair.second.codes)) ≡ table_text pair box
 unfolding table_text pair_counts
-rows_are_table pair box = nine (line Unknown Unknown) (line Unknown Free) (line Unknown Occupied) (line Free Unknown) (line Free Free) (line Free Occupied)
+rows_are_table pair box =
+    nine (line Unknown Unknown) (line Unknown Free) (line Unknown Occupied) (line Free Unknown)
+    (line Free Free) (line Free Occupied)
     (line Occupied Unknown) (line Occupied Free) (line Occupied Occupied)
   where
     line : Class → Class → List ℕ

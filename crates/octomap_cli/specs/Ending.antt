@@ -25,6 +25,7 @@ use Rattle.octomap_cli.specs.Task.{Generate, Drill}
 use Rattle.octomap_cli.specs.FileTasks.{over_file_answer}
 use Rattle.octomap_cli.specs.OverFile.{Reply, EndsOverFile}
 use Rattle.octomap_cli.specs.OverStore.{told_reply, EndsOverStore}
+use Rattle.octomap_cli.specs.TwoFiles.{loads_of}
 use Rattle.octomap_cli.specs.declared.task.Workload.{Workload}
 
 -- the status of a task over a file
@@ -110,11 +111,11 @@ ReadsTold (Some (OverStore task)) files bytes = IsSome files
 ReadsTold _ files bytes = ⊤
 
 -- how often a task may ask the store: once for each line of its script that names a file, or for
--- each file that its words name
+-- each file that its words name, and for the second of them only where the first is a map
 abbrev pub asks_of : Option Task → Option Files → List ℕ → ℕ
 asks_of (Some (Session o)) files bytes = (last_progress o files bytes).asks
 asks_of (Some (Build o)) files bytes = (last_progress o files bytes).asks
-asks_of (Some (OverStore task)) files bytes = 2
+asks_of (Some (OverStore task)) files bytes = loads_of files task.first
 asks_of _ files bytes = 0
 
 -- whether a task reads a script, whose lines may name files

@@ -1,5 +1,6 @@
 -- The two maps that a task over two files goes by, or why there are none.
-use Rattle.std.specs.Prelude.{◌≡◌, ℕ, ◌≤◌, ◌^◌, nat_eq, List, length, Result, Ok, Err}
+use Rattle.std.specs.Prelude.{◌≡◌, ℕ, ◌≤◌, ◌^◌, nat_eq, List, length, Option, Some, None, Result}
+use Rattle.std.specs.Prelude.{Ok, Err}
 use Rattle.std.specs.Prelude.{if◌then◌else◌}
 use Rattle.oct_bt.specs.declared.fault.BtFault.{BtFault}
 use Rattle.oct_bt.specs.File.{FileRead, reading}
@@ -42,7 +43,19 @@ abbrev pub pair_in : Files → List ℕ → List ℕ → Result Pair NoPair
 pair_in files first second =
     joined (map_in (loaded_of (files first))) (map_in (loaded_of (files second)))
 
--- the same, where the first map was read
+-- how many files are loaded, by what the first one is: where that is no map, the second isn't asked
+-- for
+abbrev pub loads_after : Result FileRead NoMap → ℕ
+loads_after (Err reason) = 1
+loads_after (Ok first) = 2
+
+-- how often at most the store is asked for the maps of two names, the first of which is this one;
+-- of files that aren't told nothing more is said than that there are two names
+abbrev pub loads_of : Option Files → List ℕ → ℕ
+loads_of None first = 2
+loads_of (Some files) first = loads_after (map_in (loaded_of (files first)))
+
+-- the two maps, where the first one was read
 abbrev pub second_in : Files → FileRead → List ℕ → Result Pair NoPair
 second_in files first second = joined (Ok first) (map_in (loaded_of (files second)))
 

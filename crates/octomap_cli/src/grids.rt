@@ -6,7 +6,7 @@ ghost use Rattle.oct_bt.specs.DataClasses.{data_classes};
 ghost use Rattle.oct_bt.specs.NodeData.{IsAccepted};
 ghost use Rattle.oct_convert.specs.Input.{IsReadToEnd};
 ghost use Rattle.oct_session.specs.Counts.{IsSinkCounted};
-ghost use Rattle.octomap_cli.specs.Grids.{column_count, grid_reply, project_reply, scene_reply};
+ghost use Rattle.octomap_cli.specs.Grids.{column_count, grid_reply, project_reply};
 ghost use Rattle.octomap_cli.specs.Grids.{vrml_reply};
 ghost use Rattle.octomap_cli.specs.OverFile.{EndsOverFile, status_sent, IsOfReply};
 

@@ -13,7 +13,7 @@ ghost use Rattle.octomap_cli.specs.OverStore.{merged_values, merged_text, table_
 ghost use Rattle.octomap_cli.specs.OverStore.{table_reply, pair_reply, found_reply, EndsByReply};
 ghost use Rattle.octomap_cli.specs.OverStore.{EndsOverStore};
 ghost use Rattle.octomap_cli.specs.Refusals.{box_between, refused};
-ghost use Rattle.octomap_cli.specs.TwoFiles.{AreFit};
+ghost use Rattle.octomap_cli.specs.TwoFiles.{loads_of, AreFit};
 
 use crate::file_tree::tree_of;
 use crate::pair_text::{no_pair_text, table_text};
@@ -44,7 +44,8 @@ pub fn do_over_store<K: Sink, F: Store>(
     ensures ends { EndsOverStore task.now (F.files store.old) (K.written sink.old)
         (K.written sink.new) result }
     ensures files { F.files store.new ≡ F.files store.old }
-    ensures called { F.calls store.new ≤ F.calls store.old + 2 }
+    ensures called { F.calls store.new
+        ≤ F.calls store.old + loads_of (F.files store.old) task.now.first }
     ensures unwritten { result ≡ Status.StoreFault → sink.new ≡ sink.old }
     ensures store_counts { IsStoreCounted result (F.faults store.old) (F.faults store.new) }
     ensures sink_counts { IsSinkCounted result (K.faults sink.old) (K.faults sink.new)

@@ -53,7 +53,8 @@ pub fn run<S: Source, K: Sink, F: Store>(
         ≡ (answer (task_of (bytes_of words.now)) (F.files store.old) bytes).files) }
 
     // The store is asked once at most for each line that names a file, and for each file that a
-    // word names. Where there is none it isn't touched.
+    // word names, for the second only where the first is a map. Where there is none it isn't
+    // touched.
     ensures asked { IfSome (S.left source.old) (λ bytes.
         ReadsTold (task_of (bytes_of words.now)) (F.files store.old) bytes
         → IsAsked (store.new ≡ store.old) (F.calls store.old) (F.calls store.new)

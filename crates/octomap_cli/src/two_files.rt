@@ -4,7 +4,7 @@ ghost use Rattle.oct_io.specs.Counts.{IsAskCounted};
 ghost use Rattle.oct_io.specs.Loaded.{loaded_of, IsWithinLimit};
 ghost use Rattle.oct_bt.specs.File.{reading};
 ghost use Rattle.octomap_cli.specs.TwoFiles.{judged, map_in, of_one_size, pair_in, second_in};
-ghost use Rattle.octomap_cli.specs.TwoFiles.{IsFit, AreFit};
+ghost use Rattle.octomap_cli.specs.TwoFiles.{loads_of, IsFit, AreFit};
 
 use oct_bt::{BtFault, BtFile};
 use oct_io::{Loaded, Store, StoreFault};
@@ -147,7 +147,8 @@ pub(crate) fn load_pair<F: Store>(
     ensures fit { IfOk result (λ found. IfOk found AreFit) }
     ensures same { F.files store.new ≡ F.files store.old }
     ensures store_counts { IsAskCounted result (F.faults store.old) (F.faults store.new) }
-    ensures called { F.calls store.new ≤ F.calls store.old + 2 }
+    ensures called { F.calls store.new
+        ≤ F.calls store.old + loads_of (F.files store.old) first.now }
 {
     match load(alloc, first, store)? {
         Ok(file) => load_second(alloc, file, second, store),

@@ -1,5 +1,5 @@
 //! The words of the command line, and the options among them.
-ghost use Rattle.std.specs.Prelude.{◌≡◌, Option, option_map, string_bytes};
+ghost use Rattle.std.specs.Prelude.{◌≡◌, Option, option_map};
 ghost use Rattle.octomap_cli.specs.Words.{bytes_of, is_option, value_of, are_options};
 
 /// Whether a word is the name of an option.

@@ -13,12 +13,13 @@ use Rattle.oct_edit.proofs.area.touch_box.Goals as goal
 pub touch_part-requires-clause-meets : goal.touch_part-requires-clause-meets
 touch_part-requires-clause-meets c =
     let v : IsInMap c.args.lo = search rules in
-    subst (MeetsBox c.args.lo c.args.hi) (sym c.root.ensures)
+    subst (MeetsBox c.args.lo c.args.hi) (sym c.whole_map.ensures)
     (root_meets c.args.lo c.args.hi v c.requires.order)
 
 pub touch_part-requires-clause-room : goal.touch_part-requires-clause-room
 touch_part-requires-clause-room c =
-    subst (λ b. cut_in c.args.lo c.args.hi b ≤ spare c.args.tree.now.groups) (sym c.root.ensures)
+    subst (λ b. cut_in c.args.lo c.args.hi b ≤ spare c.args.tree.now.groups)
+    (sym c.whole_map.ensures)
     (area_need c.args.lo c.args.hi (spare c.args.tree.now.groups) c.requires.room)
 
 touched : (c : goal.After-touch_part)
@@ -27,7 +28,7 @@ touched : (c : goal.After-touch_part)
 touched c =
     subst (λ b. IsTouched c.args.tree.now c.touch_part.new.tree b
     (box_events c.args.lo c.args.hi c.args.event) false)
-    c.root.ensures c.touch_part.ensures.touched
+    c.whole_map.ensures c.touch_part.ensures.touched
 
 pub returns-clause-edited : goal.returns-clause-edited
 returns-clause-edited c =
@@ -53,4 +54,4 @@ returns-clause-groups c =
     area_groups c.args.tree.now c.touch_part.new.tree c.args.lo c.args.hi c.args.event (touched c)
     (subst (λ b. spare c.args.tree.now.groups ≤ spare c.touch_part.new.tree.groups + cut_in
     c.args.lo c.args.hi b)
-    c.root.ensures c.touch_part.ensures.room)
+    c.whole_map.ensures c.touch_part.ensures.room)

@@ -9,7 +9,7 @@ use Rattle.oct_export.proofs.Sizes.{scene_parts, scene_begins, scene_length}
 use Rattle.oct_export.proofs.scene.vrml.Goals as goal
 
 pub push_boxes-requires-clause-block : goal.push_boxes-requires-clause-block
-push_boxes-requires-clause-block g c = ap Some (sym c.root.ensures)
+push_boxes-requires-clause-block g c = ap Some (sym c.whole_map.ensures)
 
 pub returns-in_err-push-clause-begun : goal.returns-in_err-push-clause-begun
 returns-in_err-push-clause-begun g c =
@@ -25,17 +25,18 @@ returns-in_err-found-clause-begun g c =
     (pushed_piece c.as_bytes-head.result.now c.new-gather.result _ _ _ _ c.in_ok-push.ensures.handed
     c.in_ok-push.ensures.held) c.in_err-found.ensures.begun
     (scene_parts (classes_in c.args.tree.now) c.args.tree.now.res c.args.tree.now.res
-    c.as_bytes-head.result.now (cube_of c.root.result) (cube_of c.root.result) _
-    (search rules) c.root.ensures c.root.ensures refl refl)))
+    c.as_bytes-head.result.now (cube_of c.whole_map.result) (cube_of c.whole_map.result) _
+    (search rules) c.whole_map.ensures c.whole_map.ensures refl refl)))
 
 pub returns-in_err-line-clause-begun : goal.returns-in_err-line-clause-begun
 returns-in_err-line-clause-begun g c =
     on_any_err c.from_residual-in_err-line.result _ (begun_of_none _ _ _ _ c.new-gather.ensures
     (third_begun _ _ _ _ _ _ _ _ _ _ _
     (scene_parts (classes_in c.args.tree.now) c.args.tree.now.res c.res.result
-    c.as_bytes-head.result.now (cube_of c.root.result)
-    (cube_of c.root-2.result) c.in_ok-found.found.full
-    (search rules) c.root.ensures c.root-2.ensures c.in_ok-found.ensures.full c.res.ensures)
+    c.as_bytes-head.result.now (cube_of c.whole_map.result)
+    (cube_of c.whole_map-2.result) c.in_ok-found.found.full
+    (search rules) c.whole_map.ensures c.whole_map-2.ensures c.in_ok-found.ensures.full
+    c.res.ensures)
     (pushed_piece c.as_bytes-head.result.now c.new-gather.result _ _ _ _ c.in_ok-push.ensures.handed
     c.in_ok-push.ensures.held)
     c.in_ok-found.ensures.pushed c.in_err-line.ensures.begun))
@@ -46,9 +47,10 @@ returns-in_err-flush-clause-begun g c =
     on_any_err c.from_residual-in_err-flush.result _ (pushed_cut _ _ _ n _ _ _
     (pushed_three _ _ _ _ _ _ _ _ _ _ _ _
     (scene_parts (classes_in c.args.tree.now) c.args.tree.now.res c.res.result
-    c.as_bytes-head.result.now (cube_of c.root.result)
-    (cube_of c.root-2.result) c.in_ok-found.found.full
-    (search rules) c.root.ensures c.root-2.ensures c.in_ok-found.ensures.full c.res.ensures)
+    c.as_bytes-head.result.now (cube_of c.whole_map.result)
+    (cube_of c.whole_map-2.result) c.in_ok-found.found.full
+    (search rules) c.whole_map.ensures c.whole_map-2.ensures c.in_ok-found.ensures.full
+    c.res.ensures)
     (pushed_piece c.as_bytes-head.result.now c.new-gather.result _ _ _ _ c.in_ok-push.ensures.handed
     c.in_ok-push.ensures.held)
     c.in_ok-found.ensures.pushed c.in_ok-line.ensures.pushed) c.new-gather.ensures wrote)
@@ -58,9 +60,10 @@ returns-clause-written g c =
     pushed_whole _ _ _ _ _ _
     (pushed_three _ _ _ _ _ _ _ _ _ _ _ _
     (scene_parts (classes_in c.args.tree.now) c.args.tree.now.res c.res.result
-    c.as_bytes-head.result.now (cube_of c.root.result)
-    (cube_of c.root-2.result) c.in_ok-found.found.full
-    (search rules) c.root.ensures c.root-2.ensures c.in_ok-found.ensures.full c.res.ensures)
+    c.as_bytes-head.result.now (cube_of c.whole_map.result)
+    (cube_of c.whole_map-2.result) c.in_ok-found.found.full
+    (search rules) c.whole_map.ensures c.whole_map-2.ensures c.in_ok-found.ensures.full
+    c.res.ensures)
     (pushed_piece c.as_bytes-head.result.now c.new-gather.result _ _ _ _ c.in_ok-push.ensures.handed
     c.in_ok-push.ensures.held)
     c.in_ok-found.ensures.pushed c.in_ok-line.ensures.pushed) c.new-gather.ensures
@@ -73,7 +76,8 @@ returns-clause-length g c =
     c.in_ok-found.found.bytes c.in_ok-line.line _ (search rules) refl c.in_ok-found.ensures.bytes
     c.in_ok-line.ensures.bytes
     (scene_parts (classes_in c.args.tree.now) c.args.tree.now.res c.res.result
-    c.as_bytes-head.result.now (cube_of c.root.result)
-    (cube_of c.root-2.result) c.in_ok-found.found.full
-    (search rules) c.root.ensures c.root-2.ensures c.in_ok-found.ensures.full c.res.ensures)
+    c.as_bytes-head.result.now (cube_of c.whole_map.result)
+    (cube_of c.whole_map-2.result) c.in_ok-found.found.full
+    (search rules) c.whole_map.ensures c.whole_map-2.ensures c.in_ok-found.ensures.full
+    c.res.ensures)
     refl (search rules)

@@ -7,20 +7,24 @@ use Rattle.oct_frontier.proofs.listing.frontier.Goals as goal
 pub list_all-requires-clause-count : goal.list_all-requires-clause-count
 list_all-requires-clause-count c =
     let counted = c.in-Some.ensures.counted in
-    let same = ap (λ b. length (found_in c.args.tree.now c.args.lo c.args.hi b)) c.whole-whole.ensures.block in
+    let same = ap (λ b. length (found_in c.args.tree.now c.args.lo c.args.hi b))
+    c.whole-whole.ensures.block in
     omega (arith, counted, same)
 
 pub returns-in_default-clause-refused : goal.returns-in_default-clause-refused
 returns-in_default-clause-refused c =
     subst (λ n. c.args.most < n)
-    (count_is c.args.tree.now c.args.lo c.args.hi (cube_of c.whole-whole.result.block) c.whole-whole.ensures.block)
+    (count_is c.args.tree.now c.args.lo c.args.hi (cube_of c.whole-whole.result.block)
+    c.whole-whole.ensures.block)
     (c.in_default.ensures.more refl)
 
 pub returns-in_err-keys-clause-refused : goal.returns-in_err-keys-clause-refused
 returns-in_err-keys-clause-refused c =
     let counted = c.in-Some.ensures.counted in
-    let same = count_is c.args.tree.now c.args.lo c.args.hi (cube_of c.whole-whole.result.block) c.whole-whole.ensures.block in
-    refused_by_memory c.from_residual.result _ c.args.most (search rules) (omega (arith, counted, same))
+    let same = count_is c.args.tree.now c.args.lo c.args.hi (cube_of c.whole-whole.result.block)
+    c.whole-whole.ensures.block in
+    refused_by_memory c.from_residual.result _ c.args.most (search rules)
+    (omega (arith, counted, same))
 
 pub returns-clause-right : goal.returns-clause-right
 returns-clause-right c = right_of _ _ _ _ c.in_ok-keys.ensures.exact
@@ -28,6 +32,7 @@ returns-clause-right c = right_of _ _ _ _ c.in_ok-keys.ensures.exact
 pub returns-clause-few : goal.returns-clause-few
 returns-clause-few c =
     let counted = c.in-Some.ensures.counted in
-    let same = count_is c.args.tree.now c.args.lo c.args.hi (cube_of c.whole-whole.result.block) c.whole-whole.ensures.block in
+    let same = count_is c.args.tree.now c.args.lo c.args.hi (cube_of c.whole-whole.result.block)
+    c.whole-whole.ensures.block in
     let listed = ap length c.in_ok-keys.ensures.exact in
     omega (arith, counted, same, listed)

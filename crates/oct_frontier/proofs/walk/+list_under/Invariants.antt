@@ -9,6 +9,7 @@ decreases-list_under l = 16 - l.patch.now.block.depth
 
 abbrev pub invariant-loop-i : goal.invariant-loop-i
 invariant-loop-i l = record {
-  listed : l.keys.items ≡ l.fn.keys.items ++ found_first l.tree l.lo l.hi (cube_of l.patch.block) l.i;
+  listed : l.keys.items ≡ l.fn.keys.items
+      ++ found_first l.tree l.lo l.hi (cube_of l.patch.block) l.i;
   capacity : vec_capacity l.keys ≡ vec_capacity l.fn.keys;
 }

@@ -8,5 +8,7 @@ loop-met-preserved c =
     let given = c.in-Some.ensures.next in
     record {
       counted = omega (arith, c.loop-met.invariant.counted, ap length given.first);
-      on_map = λ rest. c.loop-met.invariant.on_map (subst (All IsInMap) (sym given.first) (All-cons IsInMap given.voxel c.next_code.new.self given.on_map rest));
+      on_map = λ rest. c.loop-met.invariant.on_map
+          (subst (All IsInMap) (sym given.first)
+          (All-cons IsInMap given.voxel c.next_code.new.self given.on_map rest));
     }

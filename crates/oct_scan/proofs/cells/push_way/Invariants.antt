@@ -13,8 +13,10 @@ invariant-loop-code l = record {
   on_map : All IsInMap l.walk → All IsInMap l.fn.walk;
   bricks : All IsBrick l.bricks.items;
   current : IsCurrent l.brick;
-  hits : (c : ℕ) → Contains (hit_codes l.bricks.items) c ↔ Contains (hit_codes l.initial.bricks.items) c;
-  scanned : length l.fn.walk ≤ l.room → IsOnWay l.end l.initial.bricks.items l.fn.walk l.bricks.items l.brick l.walk;
+  hits : (c : ℕ) → Contains (hit_codes l.bricks.items) c
+      ↔ Contains (hit_codes l.initial.bricks.items) c;
+  scanned : length l.fn.walk ≤ l.room
+      → IsOnWay l.end l.initial.bricks.items l.fn.walk l.bricks.items l.brick l.walk;
 }
 
 abbrev pub decreases-loop-code : goal.decreases-loop-code

@@ -19,13 +19,16 @@ pub returns-clause-need : goal.returns-clause-need
 returns-clause-need c = rw c.in_ok-set.ensures.need c.in_ok-update.ensures.need
 
 pub returns-clause-events : goal.returns-clause-events
-returns-clause-events c = rw (c.in_ok-set.ensures.hits, c.in_ok-set.ensures.frees) c.in_ok-update.ensures.events
+returns-clause-events c =
+    rw (c.in_ok-set.ensures.hits, c.in_ok-set.ensures.frees) c.in_ok-update.ensures.events
 
 pub returns-clause-hit_count : goal.returns-clause-hit_count
-returns-clause-hit_count c = ap length c.in_ok-set.ensures.hits ∙ sym c.in_ok-update.ensures.hits_counted ∙ c.in_ok-update.ensures.hit_count
+returns-clause-hit_count c = ap length c.in_ok-set.ensures.hits
+    ∙ sym c.in_ok-update.ensures.hits_counted ∙ c.in_ok-update.ensures.hit_count
 
 pub returns-clause-free_count : goal.returns-clause-free_count
-returns-clause-free_count c = ap length c.in_ok-set.ensures.frees ∙ sym c.in_ok-update.ensures.frees_counted ∙ c.in_ok-update.ensures.free_count
+returns-clause-free_count c = ap length c.in_ok-set.ensures.frees
+    ∙ sym c.in_ok-update.ensures.frees_counted ∙ c.in_ok-update.ensures.free_count
 
 pub returns-clause-few : goal.returns-clause-few
 returns-clause-few c =
@@ -34,9 +37,12 @@ returns-clause-few c =
     omega (arith, hits, frees, c.in_ok-update.ensures.few)
 
 pub returns-clause-needed : goal.returns-clause-needed
-returns-clause-needed c = λ hit miss. c.in_ok-set.ensures.need ∙ c.in_ok-update.ensures.needed hit miss
+returns-clause-needed c = λ hit miss. c.in_ok-set.ensures.need
+    ∙ c.in_ok-update.ensures.needed hit miss
 
 pub returns-in_err-set-clause-memory : goal.returns-in_err-set-clause-memory
 returns-in_err-set-clause-memory c _ =
     takes_inside c.args.res (sighting_of c.args.scan.now) c.in_ok-update.ensures.inside
-    (bricks_point c.args.res c.args.window (sighting_of c.args.scan.now) c.in_ok-update.update.bricks c.in_ok-update.ensures.bricks c.in_ok-update.ensures.hits c.in_ok-update.ensures.frees (search rules))
+    (bricks_point c.args.res c.args.window (sighting_of c.args.scan.now)
+    c.in_ok-update.update.bricks c.in_ok-update.ensures.bricks c.in_ok-update.ensures.hits
+    c.in_ok-update.ensures.frees (search rules))

@@ -6,4 +6,5 @@ pub returns-in-Ok : goal.returns-in-Ok
 returns-in-Ok c = changes_done c.args.map.now c.in-Ok.changes c.in-Ok.ensures.answer
 
 pub returns-in-Err : goal.returns-in-Err
-returns-in-Err c = changes_refused (with_reply c.refuse.result c.refuse.new.reply) c.args.map.now c.in-Err.fault c.refuse.ensures.ok c.refuse.ensures.some c.in-Err.ensures.answer
+returns-in-Err c = changes_refused (with_reply c.refuse.result c.refuse.new.reply) c.args.map.now
+    c.in-Err.fault c.refuse.ensures.ok c.refuse.ensures.some c.in-Err.ensures.answer

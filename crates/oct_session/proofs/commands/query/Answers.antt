@@ -8,8 +8,12 @@ use Rattle.oct_session.proofs.commands.query.Goals as goal
 
 pub returns-in-Ok : goal.returns-in-Ok
 returns-in-Ok c =
-    query_done c.args.map.now c.args.p c.args.depth c.in-Ok.value c.show.result (c.show.ensures ∙ ap (λ odds. value_reply odds c.in-Ok.value) (c.odds.ensures ∙ ap (λ (t : Tree). t.odds) c.tree.ensures.exact)) c.in-Ok.ensures.answer
+    query_done c.args.map.now c.args.p c.args.depth c.in-Ok.value c.show.result
+    (c.show.ensures ∙ ap (λ odds. value_reply odds c.in-Ok.value)
+    (c.odds.ensures ∙ ap (λ (t : Tree). t.odds) c.tree.ensures.exact)) c.in-Ok.ensures.answer
 
 pub returns-in-Err : goal.returns-in-Err
 returns-in-Err c =
-    query_refused (with_reply c.refuse.result c.refuse.new.reply) c.args.map.now c.args.p c.args.depth c.in-Err.fault c.refuse.ensures.ok (on_failed c.refuse.result c.refuse.new.reply _ c.refuse.ensures.err) c.in-Err.ensures.answer
+    query_refused (with_reply c.refuse.result c.refuse.new.reply) c.args.map.now c.args.p
+    c.args.depth c.in-Err.fault c.refuse.ensures.ok
+    (on_failed c.refuse.result c.refuse.new.reply _ c.refuse.ensures.err) c.in-Err.ensures.answer

@@ -8,19 +8,47 @@ use Rattle.oct_session.proofs.drilling.work_through.Goals as goal
 
 pub returns-in_err-read_all-clause-memory : goal.returns-in_err-read_all-clause-memory
 returns-in_err-read_all-clause-memory c =
-    passed_stop _ _ c.from_residual.ensures.1 (only_memory (Err c.in_err-read_all.field-0.0) c.args.options.now (files_of c.new-store.result) c.args.seed c.args.scans c.args.points _ _ c.args.map.now (λ home. shelf (λ x. Some (files_of x)) (λ x. 0) home c.new-store.result)
-    (λ home. desk c.read_all.new.map (shelf (λ x. Some (files_of x)) (λ x. 0) home c.read_all.new.store)) c.new-store.result c.new-session.result
-    c.requires.setup (ap Some c.new-script.ensures) (first (λ x. Some (files_of x)) (λ x. 0) c.new-store.result) (begins c.requires.unknown c.new-session.ensures.line c.new-session.ensures.counted c.new-session.ensures.block c.new-session.ensures.refused c.new-session.ensures.running c.new-session.ensures.tally) c.ranges.seed.fits c.requires.few_scans c.requires.few_points c.in_err-read_all.ensures.stops
-    (λ is. zero_stays (c.in_err-read_all.ensures.source_counts.read_fault is)) (λ is. zero_stays (c.in_err-read_all.ensures.counts.failed is).0) (λ is. zero_stays (c.in_err-read_all.ensures.counts.store_failed is).2))
+    passed_stop _ _ c.from_residual.ensures.1
+    (only_memory (Err c.in_err-read_all.field-0.0) c.args.options.now (files_of c.new-store.result)
+    c.args.seed c.args.scans c.args.points _ _ c.args.map.now
+    (λ home. shelf (λ x. Some (files_of x)) (λ x. 0) home c.new-store.result)
+    (λ home. desk c.read_all.new.map
+    (shelf (λ x. Some (files_of x)) (λ x. 0) home c.read_all.new.store)) c.new-store.result
+    c.new-session.result
+    c.requires.setup (ap Some c.new-script.ensures)
+    (first (λ x. Some (files_of x)) (λ x. 0) c.new-store.result)
+    (begins c.requires.unknown c.new-session.ensures.line c.new-session.ensures.counted
+    c.new-session.ensures.block c.new-session.ensures.refused c.new-session.ensures.running
+    c.new-session.ensures.tally) c.ranges.seed.fits c.requires.few_scans c.requires.few_points
+    c.in_err-read_all.ensures.stops
+    (λ is. zero_stays (c.in_err-read_all.ensures.source_counts.read_fault is))
+    (λ is. zero_stays (c.in_err-read_all.ensures.counts.failed is).0)
+    (λ is. zero_stays (c.in_err-read_all.ensures.counts.store_failed is).2))
 
 pub returns-clause-tally : goal.returns-clause-tally
 returns-clause-tally c =
-    (work_done c.args.options.now (files_of c.new-store.result) c.args.seed c.args.scans c.args.points _ _ c.args.map.now (λ home. shelf (λ x. Some (files_of x)) (λ x. 0) home c.new-store.result)
-    (λ home. desk c.read_all.new.map (shelf (λ x. Some (files_of x)) (λ x. 0) home c.read_all.new.store)) c.new-store.result c.new-session.result c.read_all.new.session
-    c.requires.setup c.new-store.ensures (ap Some c.new-script.ensures) (first (λ x. Some (files_of x)) (λ x. 0) c.new-store.result) (begins c.requires.unknown c.new-session.ensures.line c.new-session.ensures.counted c.new-session.ensures.block c.new-session.ensures.refused c.new-session.ensures.running c.new-session.ensures.tally) c.in_ok-read_all.ensures.done).tally
+    (work_done c.args.options.now (files_of c.new-store.result) c.args.seed c.args.scans
+    c.args.points _ _ c.args.map.now
+    (λ home. shelf (λ x. Some (files_of x)) (λ x. 0) home c.new-store.result)
+    (λ home. desk c.read_all.new.map
+    (shelf (λ x. Some (files_of x)) (λ x. 0) home c.read_all.new.store)) c.new-store.result
+    c.new-session.result c.read_all.new.session
+    c.requires.setup c.new-store.ensures (ap Some c.new-script.ensures)
+    (first (λ x. Some (files_of x)) (λ x. 0) c.new-store.result)
+    (begins c.requires.unknown c.new-session.ensures.line c.new-session.ensures.counted
+    c.new-session.ensures.block c.new-session.ensures.refused c.new-session.ensures.running
+    c.new-session.ensures.tally) c.in_ok-read_all.ensures.done).tally
 
 pub returns-clause-stands : goal.returns-clause-stands
 returns-clause-stands c =
-    (work_done c.args.options.now (files_of c.new-store.result) c.args.seed c.args.scans c.args.points _ _ c.args.map.now (λ home. shelf (λ x. Some (files_of x)) (λ x. 0) home c.new-store.result)
-    (λ home. desk c.read_all.new.map (shelf (λ x. Some (files_of x)) (λ x. 0) home c.read_all.new.store)) c.new-store.result c.new-session.result c.read_all.new.session
-    c.requires.setup c.new-store.ensures (ap Some c.new-script.ensures) (first (λ x. Some (files_of x)) (λ x. 0) c.new-store.result) (begins c.requires.unknown c.new-session.ensures.line c.new-session.ensures.counted c.new-session.ensures.block c.new-session.ensures.refused c.new-session.ensures.running c.new-session.ensures.tally) c.in_ok-read_all.ensures.done).stands
+    (work_done c.args.options.now (files_of c.new-store.result) c.args.seed c.args.scans
+    c.args.points _ _ c.args.map.now
+    (λ home. shelf (λ x. Some (files_of x)) (λ x. 0) home c.new-store.result)
+    (λ home. desk c.read_all.new.map
+    (shelf (λ x. Some (files_of x)) (λ x. 0) home c.read_all.new.store)) c.new-store.result
+    c.new-session.result c.read_all.new.session
+    c.requires.setup c.new-store.ensures (ap Some c.new-script.ensures)
+    (first (λ x. Some (files_of x)) (λ x. 0) c.new-store.result)
+    (begins c.requires.unknown c.new-session.ensures.line c.new-session.ensures.counted
+    c.new-session.ensures.block c.new-session.ensures.refused c.new-session.ensures.running
+    c.new-session.ensures.tally) c.in_ok-read_all.ensures.done).stands

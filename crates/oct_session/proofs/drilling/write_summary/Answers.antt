@@ -2,4 +2,5 @@ use Rattle.oct_session.proofs.Drilled.{on_any_err, summary_unwritten}
 use Rattle.oct_session.proofs.drilling.write_summary.Goals as goal
 
 pub returns-in_err-text-clause-err : goal.returns-in_err-text-clause-err
-returns-in_err-text-clause-err g c = on_any_err c.from_residual.result _ (summary_unwritten c.args.scans c.args.tally.now _ _ _ _)
+returns-in_err-text-clause-err g c =
+    on_any_err c.from_residual.result _ (summary_unwritten c.args.scans c.args.tally.now _ _ _ _)

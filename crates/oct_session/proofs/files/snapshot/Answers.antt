@@ -9,13 +9,22 @@ use Rattle.oct_session.proofs.Restoring.{values_saved}
 use Rattle.oct_session.proofs.files.snapshot.Goals as goal
 
 pub returns-in_err-file-clause-effect : goal.returns-in_err-file-clause-effect
-returns-in_err-file-clause-effect g c = save_unwritten (Ok (Snapshot c.args.name.now)) (with_reply c.from_residual.result c.args.reply.now) c.args.map.now _ c.args.name.now snapshot_file (failed_for _ c.args.reply.now store_fault.Memory c.from_residual.ensures.1)
+returns-in_err-file-clause-effect g c =
+    save_unwritten (Ok (Snapshot c.args.name.now))
+    (with_reply c.from_residual.result c.args.reply.now) c.args.map.now _ c.args.name.now
+    snapshot_file (failed_for _ c.args.reply.now store_fault.Memory c.from_residual.ensures.1)
 
 pub returns-in_err-save-clause-effect : goal.returns-in_err-save-clause-effect
 returns-in_err-save-clause-effect g c =
-    save_failed (Ok (Snapshot c.args.name.now)) (with_reply c.from_residual-in_err-save.result c.args.reply.now) _ c.args.map.now _ _ c.as_str.result.now c.args.name.now snapshot_file refl refl c.as_str.ensures (failed_for _ c.args.reply.now _ c.from_residual-in_err-save.ensures.1) c.in_err-save.ensures.others c.in_err-save.ensures.unsaved
+    save_failed (Ok (Snapshot c.args.name.now))
+    (with_reply c.from_residual-in_err-save.result c.args.reply.now) _ c.args.map.now _ _
+    c.as_str.result.now c.args.name.now snapshot_file refl refl c.as_str.ensures
+    (failed_for _ c.args.reply.now _ c.from_residual-in_err-save.ensures.1)
+    c.in_err-save.ensures.others c.in_err-save.ensures.unsaved
 
 pub returns-clause-effect : goal.returns-clause-effect
 returns-clause-effect g c =
-    save_done (Ok (Snapshot c.args.name.now)) c.args.map.now _ _ c.as_str.result.now c.args.name.now c.written-text.result.now _ snapshot_file c.as_str.ensures
-    (values_saved c.args.map.now c.written-text.result.now (c.written-text.ensures ∙ c.in_ok-file.ensures)) refl c.in_ok-save.ensures.saved
+    save_done (Ok (Snapshot c.args.name.now)) c.args.map.now _ _ c.as_str.result.now c.args.name.now
+    c.written-text.result.now _ snapshot_file c.as_str.ensures
+    (values_saved c.args.map.now c.written-text.result.now
+    (c.written-text.ensures ∙ c.in_ok-file.ensures)) refl c.in_ok-save.ensures.saved

@@ -11,8 +11,10 @@ invariant-reading g l = record {
   unended : l.session.line.has_ended ≡ false;
   counted : l.session.line_count ≤ l.taken;
   at : (home : _) (files : Option Files) (bytes : List ℕ) (w : Option (List ℕ))
-      → HasServed l.options files bytes (g.S.Source.left l.fn.source) w (g.K.Sink.written l.fn.sink) (desk l.fn.map (shelf g.F.Store.files g.F.Store.calls home l.fn.store)) l.fn.session 0
-      → HasServed l.options files bytes (g.S.Source.left l.source) w (g.K.Sink.written l.sink) (desk l.map (shelf g.F.Store.files g.F.Store.calls home l.store)) l.session l.taken;
+      → HasServed l.options files bytes (g.S.Source.left l.fn.source) w (g.K.Sink.written l.fn.sink)
+      (desk l.fn.map (shelf g.F.Store.files g.F.Store.calls home l.fn.store)) l.fn.session 0
+      → HasServed l.options files bytes (g.S.Source.left l.source) w (g.K.Sink.written l.sink)
+      (desk l.map (shelf g.F.Store.files g.F.Store.calls home l.store)) l.session l.taken;
   stands : KeepsStanding l.fn.map l.map;
   ends : g.S.Source.ends l.source ≡ g.S.Source.ends l.fn.source;
   read : g.S.Source.faults l.source ≡ g.S.Source.faults l.fn.source;

@@ -28,7 +28,8 @@ bounds-bytes-at t c =
     let (f, is, room) = c.requires.node_there in
     node_inside c.args.tree.now.odds (16 - c.args.depth) c.args.at c.args.bytes.now f is
 
-pub returns-then-bytes-at-eq-UNKNOWN-clause-filled : goal.returns-then-bytes-at-eq-UNKNOWN-clause-filled
+pub returns-then-bytes-at-eq-UNKNOWN-clause-filled
+    : goal.returns-then-bytes-at-eq-UNKNOWN-clause-filled
 returns-then-bytes-at-eq-UNKNOWN-clause-filled t c = λ f b is at.
     unknown_filled c.args.tree.now c.args.tree.now b c.args.tree.now.odds c.args.depth
     (16 - c.args.depth) c.args.bytes.now c.args.at f

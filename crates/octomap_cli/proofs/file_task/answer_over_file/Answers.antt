@@ -7,4 +7,5 @@ returns-in-Ok-clause-answer g c =
 
 pub returns-in-Err-clause-answer : goal.returns-in-Err-clause-answer
 returns-in-Err-clause-answer g c =
-    reason_ends _ _ _ _ c.args.task c.in-Err.reason _ c.refuse.result _ c.status_of.ensures c.refuse.ensures.undone c.refuse.ensures.ends c.in-Err.ensures.answer
+    reason_ends _ _ _ _ c.args.task c.in-Err.reason _ c.refuse.result _ c.status_of.ensures
+    c.refuse.ensures.undone c.refuse.ensures.ends c.in-Err.ensures.answer

@@ -4,7 +4,9 @@ use Rattle.octomap_cli.proofs.frontiers.send_listing.Goals as goal
 
 pub returns-in-Ok-clause-ends : goal.returns-in-Ok-clause-ends
 returns-in-Ok-clause-ends g c = λ whole most bytes left same_text same_status to_end.
-    c.send.ensures.ends whole most bytes left (c.deref.ensures.value ∙ c.in-Ok.ensures ∙ same_text) same_status to_end
+    c.send.ensures.ends whole most bytes left (c.deref.ensures.value ∙ c.in-Ok.ensures ∙ same_text)
+    same_status to_end
 
 pub returns-in-Err-clause-ends : goal.returns-in-Err-clause-ends
-returns-in-Err-clause-ends g c = λ whole most bytes left same_text same_status to_end. none_sent whole most bytes left _ to_end
+returns-in-Err-clause-ends g c =
+    λ whole most bytes left same_text same_status to_end. none_sent whole most bytes left _ to_end

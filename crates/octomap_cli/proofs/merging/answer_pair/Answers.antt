@@ -8,10 +8,14 @@ use Rattle.octomap_cli.proofs.merging.answer_pair.Goals as goal
 
 pub returns-in-Merge-clause-ends : goal.returns-in-Merge-clause-ends
 returns-in-Merge-clause-ends g c =
-    reply_ends c.write_merged.result (pair_reply c.args.asks c.args.pair.now) (merged_text c.in-Merge.rule c.args.pair.now) Done _ _ _ (inl refl)
-    c.status_written.ensures (ap (λ (a : PairTask). pair_reply a c.args.pair.now) c.in-Merge.is) c.write_merged.ensures.written c.write_merged.ensures.cut
+    reply_ends c.write_merged.result (pair_reply c.args.asks c.args.pair.now)
+    (merged_text c.in-Merge.rule c.args.pair.now) Done _ _ _ (inl refl)
+    c.status_written.ensures (ap (λ (a : PairTask). pair_reply a c.args.pair.now) c.in-Merge.is)
+    c.write_merged.ensures.written c.write_merged.ensures.cut
 
 pub returns-in-Table-clause-ends : goal.returns-in-Table-clause-ends
 returns-in-Table-clause-ends g c =
-    same_reply (pair_reply c.args.asks c.args.pair.now) (table_reply c.args.pair.now (box_between c.args.pair.now.first.res c.in-Table.lo c.in-Table.hi)) _ _ _
+    same_reply (pair_reply c.args.asks c.args.pair.now)
+    (table_reply c.args.pair.now
+    (box_between c.args.pair.now.first.res c.in-Table.lo c.in-Table.hi)) _ _ _
     (ap (λ (a : PairTask). pair_reply a c.args.pair.now) c.in-Table.is) c.answer_table.ensures.ends

@@ -3,4 +3,5 @@ use Rattle.oct_frontier.proofs.Steps.{live_x}
 use Rattle.oct_frontier.proofs.patch.Patch.child_node.Goals as goal
 
 pub below-requires-clause-live : goal.below-requires-clause-live
-below-requires-clause-live c = (live_x _ _ _ _ _ _ (block_in_map c.args.self.now.block) c.requires.patch).here
+below-requires-clause-live c =
+    (live_x _ _ _ _ _ _ (block_in_map c.args.self.now.block) c.requires.patch).here

@@ -3,10 +3,13 @@ use Rattle.oct_frontier.proofs.Steps.{live_y}
 use Rattle.oct_frontier.proofs.patch.Patch.on_y.Goals as goal
 
 pub sides_of_child-requires-clause-here : goal.sides_of_child-requires-clause-here
-sides_of_child-requires-clause-here c = (live_y _ _ _ _ _ _ (block_in_map c.args.self.now.block) c.requires.patch).here
+sides_of_child-requires-clause-here c =
+    (live_y _ _ _ _ _ _ (block_in_map c.args.self.now.block) c.requires.patch).here
 
 pub sides_of_child-requires-clause-low : goal.sides_of_child-requires-clause-low
-sides_of_child-requires-clause-low c = (live_y _ _ _ _ _ _ (block_in_map c.args.self.now.block) c.requires.patch).low
+sides_of_child-requires-clause-low c =
+    (live_y _ _ _ _ _ _ (block_in_map c.args.self.now.block) c.requires.patch).low
 
 pub sides_of_child-requires-clause-high : goal.sides_of_child-requires-clause-high
-sides_of_child-requires-clause-high c = (live_y _ _ _ _ _ _ (block_in_map c.args.self.now.block) c.requires.patch).high
+sides_of_child-requires-clause-high c =
+    (live_y _ _ _ _ _ _ (block_in_map c.args.self.now.block) c.requires.patch).high

@@ -5,4 +5,11 @@ use Rattle.oct_frontier.proofs.patch.Patch.whole.Goals as goal
 pub returns-clause-patch : goal.returns-clause-patch
 returns-clause-patch c =
     around_whole c.args.tree.now _ _ _ _ c.root.ensures.linked c.root.ensures.exact
-    (record { west = (_, refl); east = (_, refl); south = (_, refl); north = (_, refl); below = (_, refl); above = (_, refl) })
+    (record {
+      west = (_, refl);
+      east = (_, refl);
+      south = (_, refl);
+      north = (_, refl);
+      below = (_, refl);
+      above = (_, refl);
+    })

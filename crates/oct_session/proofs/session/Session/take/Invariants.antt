@@ -7,7 +7,8 @@ abbrev pub invariant-loop-taken : goal.invariant-loop-taken
 invariant-loop-taken g l = record {
   within : l.taken ≤ length l.piece;
   at : (home : _) → Takes l.options (g.K.Sink.written l.fn.sink) (g.K.Sink.written l.sink)
-      (desk l.fn.map (shelf g.F.Store.files g.F.Store.calls home l.fn.store)) (desk l.map (shelf g.F.Store.files g.F.Store.calls home l.store))
+      (desk l.fn.map (shelf g.F.Store.files g.F.Store.calls home l.fn.store))
+      (desk l.map (shelf g.F.Store.files g.F.Store.calls home l.store))
       l.fn.self l.self (take l.taken l.piece);
   stands : KeepsStanding l.fn.map l.map;
   unended : l.self.line.has_ended ≡ false;
