@@ -63,7 +63,7 @@
 //!
 //! # Who stands on it
 //!
-//! `octomap_cli`. It stands on `oct_script` for lines, commands and replies, on `oct_io` for
+//! `oct_tasks`. It stands on `oct_script` for lines, commands and replies, on `oct_io` for
 //! source, sink and store, on `oct_map` for the map, on `oct_scan` and `oct_pose` for what a scan
 //! is, and on `oct_key`, `oct_odds` and `oct_values` for voxels, their values and what events make
 //! of them.

@@ -17,9 +17,9 @@ mod scans;
 mod scripts;
 mod snapshots;
 
-use crate::program::run;
 use oct_io::{CalmSink, CalmSource, CalmStore, FileBytes};
 use oct_session::Status;
+use oct_tasks::run;
 use std::alloc::Global;
 use std::process::Abort;
 use std::test::Fail;
@@ -62,6 +62,24 @@ fn answer(
     let mut store = CalmStore::new(alloc);
     let status = run(alloc, &texts, &mut source, &mut sink, &mut store);
     Ok((status, Vec::from_slice(alloc, sink.written())?))
+}
+
+/// Expects that the program, by reads of 4,096 bytes, ends and writes so.
+fn expect_answer(
+    rt: &impl Abort,
+    alloc: Global,
+    words: &[&str],
+    input: &[u8],
+    most_written: usize,
+    want: (Status, &[u8]),
+) -> Result<(), Fail>
+    requires { 0 < most_written }
+{
+    let (ends, text) = want;
+    let (status, written) = answer(alloc, words, input, 4096, most_written)?;
+    assert_eq!(rt; status, ends, "at {words:?}");
+    assert_eq!(rt; written.as_slice(), text, "at {words:?}");
+    Ok(())
 }
 
 /// A script at a resolution of 0.1 m.

@@ -1,6 +1,6 @@
 //! Files that are cut off, that say what isn't so, or that are longer than they need be, and what
 //! `inspect` and `convert` answer.
-use super::answer;
+use super::{answer, expect_answer};
 use oct_session::Status;
 use std::alloc::Global;
 use std::process::Abort;
@@ -25,24 +25,31 @@ fn refusal(alloc: Global, taken: usize) -> Result<String, Fail> {
     Ok(text)
 }
 
+/// Expects that `inspect` of this many bytes of the file, by reads of 100, ends and writes so.
+fn expect_front(
+    rt: &impl Abort,
+    alloc: Global,
+    taken: usize,
+    want: (Status, &[u8]),
+) -> Result<(), Fail> {
+    let front = CUBE.get(..taken).unwrap_or(CUBE);
+    let (ends, said) = want;
+    let (status, text) = answer(alloc, &["inspect"], front, 100, 100)?;
+    assert_eq!(rt; status, ends, "{taken}");
+    assert_eq!(rt; text.as_slice(), said, "{taken}");
+    Ok(())
+}
+
 #[test]
 fn each_front_of_a_file_is_refused(rt: HostRuntime) -> Result<(), Fail> {
     for taken in 0..167u8 {
         let taken = usize::from(taken);
-        let front = CUBE.get(..taken).unwrap_or(CUBE);
-        let (status, text) = answer(rt.alloc(), &["inspect"], front, 100, 100)?;
-        assert_eq!(rt; status, Status::BadFile, "{taken}");
-        assert_eq!(rt;
-            text.as_slice(),
-            refusal(rt.alloc(), taken)?.as_bytes(),
-            "{taken}"
-        );
+        let said = refusal(rt.alloc(), taken)?;
+        let want = (Status::BadFile, said.as_bytes());
+        expect_front(&rt, rt.alloc(), taken, want)?;
     }
-    let (status, text) = answer(rt.alloc(), &["inspect"], CUBE, 100, 100)?;
-    let said = b"res 0.1\nsize 16\nrecords 15\nfree 0\noccupied 8\ncanonical yes\n".as_slice();
-    assert_eq!(rt; status, Status::Done);
-    assert_eq!(rt; text.as_slice(), said);
-    Ok(())
+    let said = b"res 0.1\nsize 16\nrecords 15\nfree 0\noccupied 8\ncanonical yes\n";
+    expect_front(&rt, rt.alloc(), CUBE.len(), (Status::Done, said))
 }
 
 /// Node data down to a block of eight voxels, without the record of these.
@@ -54,7 +61,7 @@ const DOWN: &[u8] = &[
 /// what stands after them, what is answered, and the status.
 type Case = (&'static str, usize, &'static [u8], &'static str, Status);
 
-const CASES: [Case; 11] = [
+const CASES: &[Case] = &[
     (
         "# Octomap OcTree file\nid OcTree\nsize 17\nres 0.1\n",
         30,
@@ -153,13 +160,19 @@ fn check_task(
     Ok(())
 }
 
+/// A file of this header, this many bytes of the way down to a voxel, and an end.
+fn file_of(alloc: Global, header: &str, taken: usize, end: &[u8]) -> Result<Vec<u8>, Fail> {
+    let mut file = Vec::from_slice(alloc, header.as_bytes())?;
+    file.extend_from_slice(b"data\n")?;
+    file.extend_from_slice(DOWN.get(..taken).unwrap_or(DOWN))?;
+    file.extend_from_slice(end)?;
+    Ok(file)
+}
+
 #[test]
 fn the_first_fault_of_a_file_is_named(rt: HostRuntime) -> Result<(), Fail> {
-    for (header, taken, end, said, ends) in CASES {
-        let mut file = Vec::from_slice(rt.alloc(), header.as_bytes())?;
-        file.extend_from_slice(b"data\n")?;
-        file.extend_from_slice(DOWN.get(..taken).unwrap_or(DOWN))?;
-        file.extend_from_slice(end)?;
+    for &(header, taken, end, said, ends) in CASES {
+        let file = file_of(rt.alloc(), header, taken, end)?;
         check_task(&rt, rt.alloc(), "inspect", &file, said.as_bytes(), ends)?;
     }
     Ok(())
@@ -183,10 +196,7 @@ fn check_endless(rt: &impl Abort, alloc: Global, length: usize, said: &[u8]) -> 
     for _ in 29..length {
         file.push(b'#')?;
     }
-    let (status, text) = answer(alloc, &["inspect"], &file, 4096, 100)?;
-    assert_eq!(rt; status, Status::BadFile, "{length}");
-    assert_eq!(rt; text.as_slice(), said, "{length}");
-    Ok(())
+    expect_answer(rt, alloc, &["inspect"], &file, 100, (Status::BadFile, said))
 }
 
 #[test]

@@ -1,6 +1,7 @@
 //! Files that are built by a script.
-use super::answer;
+use super::{answer, expect_answer};
 use oct_session::Status;
+use std::alloc::Global;
 use std::test::Fail;
 
 /// The lines of a header around the number of nodes, at a resolution of 0.1 m.
@@ -11,7 +12,7 @@ const HEAD: &str = "# Octomap OcTree binary file\n\
 const TAIL: &str = "\nres 0.1\ndata\n";
 
 /// Words, a script, the number of nodes in its file and the node data, and the status.
-const BUILDS: [(&[&str], &str, &str, &[u8], Status); 5] = [
+const BUILDS: &[(&[&str], &str, &str, &[u8], Status)] = &[
     (&["build", "0.1"], "", "0", b"", Status::Done),
     (
         &["build", "0.1"],
@@ -44,16 +45,21 @@ const BUILDS: [(&[&str], &str, &str, &[u8], Status); 5] = [
     ),
 ];
 
+/// The file of this many nodes, with their data.
+fn file_of(alloc: Global, size: &str, data: &[u8]) -> Result<Vec<u8>, Fail> {
+    let mut file = Vec::from_slice(alloc, HEAD.as_bytes())?;
+    file.extend_from_slice(size.as_bytes())?;
+    file.extend_from_slice(TAIL.as_bytes())?;
+    file.extend_from_slice(data)?;
+    Ok(file)
+}
+
 #[test]
 fn a_build_writes_the_file_of_the_last_map(rt: HostRuntime) -> Result<(), Fail> {
-    for (words, script, size, data, ends) in BUILDS {
-        let mut file = Vec::new(rt.alloc());
-        for part in [HEAD.as_bytes(), size.as_bytes(), TAIL.as_bytes(), data] {
-            file.extend_from_slice(part)?;
-        }
-        let (status, text) = answer(rt.alloc(), words, script.as_bytes(), 4096, 100)?;
-        assert_eq!(rt; status, ends, "at {script:?}");
-        assert_eq!(rt; text.as_slice(), file.as_slice(), "at {script:?}");
+    for &(words, script, size, data, ends) in BUILDS {
+        let file = file_of(rt.alloc(), size, data)?;
+        let want = (ends, file.as_slice());
+        expect_answer(&rt, rt.alloc(), words, script.as_bytes(), 100, want)?;
     }
     Ok(())
 }

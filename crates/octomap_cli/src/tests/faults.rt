@@ -3,9 +3,9 @@
 ghost use Rattle.std.specs.Prelude.{◌<◌};
 
 use super::owned;
-use crate::program::run;
 use oct_io::{FileBytes, KeptList, MemSink, MemSource, MemStore};
 use oct_session::Status;
+use oct_tasks::run;
 use std::alloc::Global;
 use std::process::Abort;
 use std::test::Fail;
@@ -91,7 +91,7 @@ const REPLIES: &[u8] =
     b"ok\nok hits 1 frees 0\nsaved 169\nloaded 17\nsaved 170\nrestored groups 16\n";
 
 /// How many bytes of the script each reply takes, and how many bytes of replies there are then.
-const REPLIED: [(usize, usize); 6] = [(10, 3), (45, 21), (52, 31), (59, 41), (70, 51), (80, 70)];
+const REPLIED: &[(usize, usize)] = &[(10, 3), (45, 21), (52, 31), (59, 41), (70, 51), (80, 70)];
 
 /// The file `m` that it saves: the one voxel is occupied.
 const SAVED: &[u8] = b"# Octomap OcTree binary file\n\
@@ -106,7 +106,7 @@ const INSPECTED: &[u8] = b"res 0.1\nsize 17\nrecords 16\nfree 0\noccupied 1\ncan
 /// How many bytes of replies there are once this many bytes of the script were read.
 fn replied(taken: usize) -> usize {
     let mut length = 0;
-    for (script, replies) in REPLIED {
+    for &(script, replies) in REPLIED {
         if script <= taken {
             length = replies;
         }
@@ -210,7 +210,7 @@ const SCENE: &[u8] = b"#VRML V2.0 utf8\nTransform { translation 0.05 0.05 0.05 c
     [ Shape { geometry Box { size 0.1 0.1 0.1 } } ] }\n";
 
 /// Words, an input, what is written once all of it was read, and whether files are saved meanwhile.
-const TASKS: [(&[&str], &[u8], &[u8], bool); 5] = [
+const TASKS: &[(&[&str], &[u8], &[u8], bool)] = &[
     (
         &["project", "-0.1", "0", "0", "0", "0", "0"],
         SAVED,
@@ -225,7 +225,7 @@ const TASKS: [(&[&str], &[u8], &[u8], bool); 5] = [
 
 #[test]
 fn a_read_that_fails_leaves_nothing_written(rt: HostRuntime) -> Result<(), Fail> {
-    for (words, input, whole, saves) in TASKS {
+    for &(words, input, whole, saves) in TASKS {
         for taken in 0..=170u8 {
             let fault = Failing {
                 read: u64::from(taken) + 1,
@@ -247,7 +247,7 @@ fn a_read_that_fails_leaves_nothing_written(rt: HostRuntime) -> Result<(), Fail>
 
 #[test]
 fn a_write_that_fails_leaves_a_front(rt: HostRuntime) -> Result<(), Fail> {
-    for (words, input, whole, saves) in TASKS {
+    for &(words, input, whole, saves) in TASKS {
         for written in 0..=169u8 {
             let fault = Failing {
                 write: u64::from(written) + 1,

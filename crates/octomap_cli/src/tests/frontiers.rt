@@ -1,6 +1,8 @@
 //! Frontiers of files.
-use super::answer;
+use super::expect_answer;
 use oct_session::Status;
+use std::alloc::Global;
+use std::process::Abort;
 use std::test::Fail;
 
 /// One free voxel, that of key 32768 on each axis.
@@ -18,7 +20,7 @@ const LOW: &str = "-3276.8";
 
 const HIGH: &str = "3276.7";
 
-const CASES: [Case; 11] = [
+const CASES: &[Case] = &[
     (
         &["0", "0", "0", "0", "0", "0"],
         ONE,
@@ -77,15 +79,24 @@ const CASES: [Case; 11] = [
     ),
 ];
 
+/// Expects that the frontier that these words ask for of a file is written so.
+fn expect_frontier(
+    rt: &impl Abort,
+    alloc: Global,
+    words: &[&str],
+    file: &[u8],
+    want: (Status, &[u8]),
+) -> Result<(), Fail> {
+    let mut command = Vec::new(alloc);
+    command.push("frontier")?;
+    command.extend_from_slice(words)?;
+    expect_answer(rt, alloc, &command, file, 100, want)
+}
+
 #[test]
 fn a_frontier_is_listed_or_refused(rt: HostRuntime) -> Result<(), Fail> {
-    for (words, file, text, ends) in CASES {
-        let mut command = Vec::new(rt.alloc());
-        command.push("frontier")?;
-        command.extend_from_slice(words)?;
-        let (status, written) = answer(rt.alloc(), &command, file, 4096, 100)?;
-        assert_eq!(rt; status, ends, "at {words:?}");
-        assert_eq!(rt; written.as_slice(), text.as_bytes(), "at {words:?}");
+    for &(words, file, text, ends) in CASES {
+        expect_frontier(&rt, rt.alloc(), words, file, (ends, text.as_bytes()))?;
     }
     Ok(())
 }
@@ -93,11 +104,6 @@ fn a_frontier_is_listed_or_refused(rt: HostRuntime) -> Result<(), Fail> {
 #[test]
 fn a_face_of_half_the_map_is_too_much(rt: HostRuntime) -> Result<(), Fail> {
     let command = ["frontier", LOW, LOW, LOW, HIGH, HIGH, HIGH];
-    let (status, written) = answer(rt.alloc(), &command, HALF, 4096, 100)?;
-    assert_eq!(rt; status, Status::Refused);
-    assert_eq!(rt;
-        written.as_slice(),
-        b"refused 37 TooManyFrontiers\n".as_slice()
-    );
-    Ok(())
+    let want = (Status::Refused, b"refused 37 TooManyFrontiers\n".as_slice());
+    expect_answer(&rt, rt.alloc(), &command, HALF, 100, want)
 }

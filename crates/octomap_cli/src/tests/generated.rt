@@ -1,10 +1,10 @@
 //! Scripts that a number makes, and drills of them.
-use super::answer;
+use super::{answer, expect_answer};
 use oct_session::Status;
 use std::test::Fail;
 
 /// Words, and the script that they ask for.
-const SCRIPTS: [(&[&str], &str); 5] = [
+const SCRIPTS: &[(&[&str], &str)] = &[
     (&["gen", "7", "0", "0"], "# octomap gen 7 0 0\nquit\n"),
     (
         &["gen", "0", "1", "0"],
@@ -27,10 +27,9 @@ const SCRIPTS: [(&[&str], &str); 5] = [
 
 #[test]
 fn a_script_is_made_and_nothing_is_read(rt: HostRuntime) -> Result<(), Fail> {
-    for (words, script) in SCRIPTS {
-        let (status, text) = answer(rt.alloc(), words, b"hit 0 0 0\n", 4096, 7)?;
-        assert_eq!(rt; status, Status::Done, "at {words:?}");
-        assert_eq!(rt; text.as_slice(), script.as_bytes(), "at {words:?}");
+    for &(words, script) in SCRIPTS {
+        let want = (Status::Done, script.as_bytes());
+        expect_answer(&rt, rt.alloc(), words, b"hit 0 0 0\n", 7, want)?;
     }
     let (status, text) = answer(rt.alloc(), &["gen", "0", "1000", "0"], b"", 4096, 4096)?;
     assert_eq!(rt; (status, text.len()), (Status::Done, 38554));
@@ -38,7 +37,7 @@ fn a_script_is_made_and_nothing_is_read(rt: HostRuntime) -> Result<(), Fail> {
 }
 
 /// Words, and the four lines of the drill that they ask for.
-const DRILLS: [(&[&str], &str); 4] = [
+const DRILLS: &[(&[&str], &str)] = &[
     (
         &["drill", "0", "0", "0"],
         "scans 0 refused 0\nhits 0 frees 0\ngroups 0 nodes 0\nbt 137\n",
@@ -59,10 +58,9 @@ const DRILLS: [(&[&str], &str); 4] = [
 
 #[test]
 fn a_drill_writes_four_lines_and_reads_nothing(rt: HostRuntime) -> Result<(), Fail> {
-    for (words, lines) in DRILLS {
-        let (status, text) = answer(rt.alloc(), words, b"hit\n", 4096, 7)?;
-        assert_eq!(rt; status, Status::Done, "at {words:?}");
-        assert_eq!(rt; text.as_slice(), lines.as_bytes(), "at {words:?}");
+    for &(words, lines) in DRILLS {
+        let want = (Status::Done, lines.as_bytes());
+        expect_answer(&rt, rt.alloc(), words, b"hit\n", 7, want)?;
     }
     Ok(())
 }

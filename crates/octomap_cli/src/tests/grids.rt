@@ -1,5 +1,5 @@
 //! Grids and scenes of files.
-use super::answer;
+use super::expect_answer;
 use oct_session::Status;
 use std::alloc::Global;
 use std::process::Abort;
@@ -41,14 +41,12 @@ const HIGH: &str = "3276.7";
 /// Checks what is written, and the status.
 fn check(rt: &impl Abort, alloc: Global, cases: &[Case]) -> Result<(), Fail> {
     for (words, file, text, ends) in cases {
-        let (status, written) = answer(alloc, words, file, 4096, 100)?;
-        assert_eq!(rt; status, *ends, "at {words:?}");
-        assert_eq!(rt; written.as_slice(), *text, "at {words:?}");
+        expect_answer(rt, alloc, words, file, 100, (*ends, *text))?;
     }
     Ok(())
 }
 
-const GRIDS: [Case; 6] = [
+const GRIDS: &[Case] = &[
     (
         &["project", "0", "0", "0", "0.2", "0.1", "0.1"],
         EIGHT,
@@ -102,10 +100,10 @@ const GRIDS: [Case; 6] = [
 
 #[test]
 fn a_grid_shows_each_column(rt: HostRuntime) -> Result<(), Fail> {
-    check(&rt, rt.alloc(), &GRIDS)
+    check(&rt, rt.alloc(), GRIDS)
 }
 
-const SCENES: [Case; 5] = [
+const SCENES: &[Case] = &[
     (
         &["vrml"],
         EIGHT,
@@ -153,13 +151,13 @@ const SCENES: [Case; 5] = [
 
 #[test]
 fn a_scene_has_each_box(rt: HostRuntime) -> Result<(), Fail> {
-    check(&rt, rt.alloc(), &SCENES)
+    check(&rt, rt.alloc(), SCENES)
 }
 
 /// A file that is no map's file of this kind.
 const FLOAT: &[u8] = b"# Octomap OcTree file\n";
 
-const REFUSED: [Case; 8] = [
+const REFUSED: &[Case] = &[
     (
         &["project", "3276.8", "0", "0", "9999", "0", "0"],
         EIGHT,
@@ -201,7 +199,7 @@ const REFUSED: [Case; 8] = [
     (&["vrml", "--max-bytes", "60"], WHOLE, b"", Status::TooLong),
 ];
 
-const UNKNOWN: [Case; 5] = [
+const UNKNOWN: &[Case] = &[
     (
         &["project", "0", "0", "0", "0", "0"],
         EIGHT,
@@ -226,8 +224,8 @@ const UNKNOWN: [Case; 5] = [
 
 #[test]
 fn what_is_too_much_is_refused(rt: HostRuntime) -> Result<(), Fail> {
-    check(&rt, rt.alloc(), &REFUSED)?;
-    check(&rt, rt.alloc(), &UNKNOWN)
+    check(&rt, rt.alloc(), REFUSED)?;
+    check(&rt, rt.alloc(), UNKNOWN)
 }
 
 /// The front of a file with one box more than a scene may have: the way to one block of depth 9.
@@ -246,11 +244,7 @@ fn a_million_boxes_and_one_are_too_many(rt: HostRuntime) -> Result<(), Fail> {
         let four = block < 213_569;
         file.extend_from_slice(&[if four { 0xAA } else { 0x2A }, 0])?;
     }
-    let (status, written) = answer(rt.alloc(), &["vrml"], &file, 4096, 100)?;
-    assert_eq!(rt; status, Status::Refused);
-    assert_eq!(rt;
-        written.as_slice(),
-        b"refused 39 TooManyBoxes count 1000001\n".as_slice()
-    );
-    Ok(())
+    let text = b"refused 39 TooManyBoxes count 1000001\n";
+    let want = (Status::Refused, text.as_slice());
+    expect_answer(&rt, rt.alloc(), &["vrml"], &file, 100, want)
 }

@@ -5,7 +5,7 @@ use std::alloc::Global;
 use std::test::Fail;
 
 /// Maps of a few groups.
-const GROUPS: [LimitCase; 3] = [
+const GROUPS: &[LimitCase] = &[
     (
         "--max-groups",
         "16",
@@ -32,11 +32,11 @@ const GROUPS: [LimitCase; 3] = [
 
 #[test]
 fn a_full_map_refuses_edits(rt: HostRuntime) -> Result<(), Fail> {
-    check_limits(&rt, rt.alloc(), &GROUPS, 4096)
+    check_limits(&rt, rt.alloc(), GROUPS, 4096)
 }
 
 /// Limits that a scan meets.
-const SCANS: [LimitCase; 9] = [
+const SCANS: &[LimitCase] = &[
     (
         "--max-cells",
         "3",
@@ -104,11 +104,11 @@ const SCANS: [LimitCase; 9] = [
 
 #[test]
 fn limits_that_a_scan_meets(rt: HostRuntime) -> Result<(), Fail> {
-    check_limits(&rt, rt.alloc(), &SCANS, 4096)
+    check_limits(&rt, rt.alloc(), SCANS, 4096)
 }
 
 /// Limits before, in and after a line.
-const BYTES: [LimitCase; 14] = [
+const BYTES: &[LimitCase] = &[
     ("--max-bytes", "0", "", "", Status::Done),
     (
         "--max-bytes",
@@ -200,13 +200,13 @@ const BYTES: [LimitCase; 14] = [
 #[test]
 fn byte_limits_before_in_and_after_a_line(rt: HostRuntime) -> Result<(), Fail> {
     for most_read in [1, 5, 4096] {
-        check_limits(&rt, rt.alloc(), &BYTES, most_read)?;
+        check_limits(&rt, rt.alloc(), BYTES, most_read)?;
     }
     Ok(())
 }
 
 /// The front of a line, how many blanks follow, the rest of the script, and its replies.
-const LONG_LINES: [(&str, usize, &str, &str); 9] = [
+const LONG_LINES: &[(&str, usize, &str, &str)] = &[
     ("hit 0 0 0", 4087, "\n", "ok\n"),
     ("hit 0 0 0", 4088, "\n", "refused 30 LongLine line 1\n"),
     ("hit 0 0 0", 4086, "\r\n", "ok\n"),
@@ -240,7 +240,7 @@ fn padded(alloc: Global, front: &str, blanks: usize, end: &str) -> Result<Vec<u8
 
 #[test]
 fn lines_of_4096_bytes_are_read_and_longer_ones_are_not(rt: HostRuntime) -> Result<(), Fail> {
-    for (front, blanks, end, replies) in LONG_LINES {
+    for &(front, blanks, end, replies) in LONG_LINES {
         let (_, text) = session(rt.alloc(), &padded(rt.alloc(), front, blanks, end)?)?;
         assert_eq!(rt;
             text.as_slice(),

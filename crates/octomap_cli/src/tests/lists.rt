@@ -4,7 +4,7 @@ use oct_session::Status;
 use std::test::Fail;
 
 /// Lists of blocks.
-const LISTS: [Case; 5] = [
+const LISTS: &[Case] = &[
     (
         "scan 0.05 0.05 0.05 1 0 0 0 all\np 0.2 0 0\np 0.4 0 0\nend\nlist 0 0 0 0.4 0 0 16\n",
         "ok hits 2 frees 3\nblock 32768 32768 32768 -400 free\n\
@@ -41,11 +41,11 @@ const LISTS: [Case; 5] = [
 
 #[test]
 fn lists_show_the_known_blocks_in_order(rt: HostRuntime) -> Result<(), Fail> {
-    check(&rt, rt.alloc(), &LISTS)
+    check(&rt, rt.alloc(), LISTS)
 }
 
 /// Marks, and what has changed since.
-const CHANGES: [Case; 6] = [
+const CHANGES: &[Case] = &[
     (
         "track\nhit 0 0 0\nmiss 0 0 0\nmiss 0 0 0\nmiss 0 0 0\nmiss 0 0 0\nget 0 0 0 16\nchanges\n",
         "ok\nok\nok\nok\nok\nok\nknown -750 free\nnew 32768 32768 32768\nend 1\n",
@@ -89,11 +89,11 @@ const CHANGES: [Case; 6] = [
 
 #[test]
 fn changes_are_those_since_the_mark(rt: HostRuntime) -> Result<(), Fail> {
-    check(&rt, rt.alloc(), &CHANGES)
+    check(&rt, rt.alloc(), CHANGES)
 }
 
 /// Scans with log-odds of their own, and scans in a box.
-const SCANS: [Case; 4] = [
+const SCANS: &[Case] = &[
     // What one scan adds isn't what the next one does.
     (
         "scan 0.05 0.05 0.05 1 0 0 0 all 1 -1\np 0.2 0 0\nend\nlist 0 0 0 0.2 0 0 16\n\
@@ -132,5 +132,5 @@ const SCANS: [Case; 4] = [
 
 #[test]
 fn scans_keep_to_their_box_and_their_own_odds(rt: HostRuntime) -> Result<(), Fail> {
-    check(&rt, rt.alloc(), &SCANS)
+    check(&rt, rt.alloc(), SCANS)
 }

@@ -2,11 +2,11 @@
 ghost use Rattle.std.specs.Prelude.{◌<◌};
 
 use super::owned;
-use crate::program::run;
 use oct_io::{
     CalmSink, CalmSource, CalmStore, FileBytes, KeptList, MemSink, MemSource, MemStore, Store,
 };
 use oct_session::Status;
+use oct_tasks::run;
 use std::alloc::Global;
 use std::process::Abort;
 use std::test::Fail;
@@ -45,7 +45,7 @@ const FINE_AGAIN: &[u8] = b"# Octomap OcTree binary file\n\
 const SHORT: &[u8] = b"# Octomap OcTree binary file\nid OcTree\nsize 9\nres 0.1\ndata\n\xAA";
 
 /// The files of the store: `A` and `B`, and what else these tests name. There is no file `c`.
-const FILES: [(&str, &[u8]); 6] = [
+const FILES: &[(&str, &[u8])] = &[
     ("A", EIGHT),
     ("B", ONE),
     ("fine", FINE),
@@ -56,7 +56,7 @@ const FILES: [(&str, &[u8]); 6] = [
 
 /// Puts the files into a store.
 fn fill<F: Store>(store: &mut F) -> Result<(), Fail> {
-    for (name, bytes) in FILES {
+    for &(name, bytes) in FILES {
         store.save(name, bytes)?;
     }
     Ok(())
@@ -70,7 +70,7 @@ fn answer(rt: &impl Abort, alloc: Global, words: &[&str]) -> Result<(Status, Vec
     let mut store = CalmStore::new(alloc);
     fill(&mut store)?;
     let status = run(alloc, &texts, &mut source, &mut sink, &mut store);
-    for (name, bytes) in FILES {
+    for &(name, bytes) in FILES {
         assert_eq!(rt; store.file(name), Some(bytes), "at {words:?}");
     }
     Ok((status, Vec::from_slice(alloc, sink.written())?))
@@ -79,7 +79,7 @@ fn answer(rt: &impl Abort, alloc: Global, words: &[&str]) -> Result<(Status, Vec
 /// The words, what is written, and the status.
 type Case = (&'static [&'static str], &'static [u8], Status);
 
-const MERGES: [Case; 8] = [
+const MERGES: &[Case] = &[
     (&["merge", "greatest", "A", "B"], EIGHT, Status::Done),
     (&["merge", "least", "A", "B"], BOTH, Status::Done),
     (&["merge", "first", "B", "A"], BOTH, Status::Done),
@@ -98,7 +98,7 @@ const MERGES: [Case; 8] = [
     ),
 ];
 
-const TABLES: [Case; 4] = [
+const TABLES: &[Case] = &[
     (
         &["table", "A", "B", "0", "0", "0", "0.1", "0.1", "0.1"],
         b"unknown unknown 0\nunknown free 0\nunknown occupied 0\n\
@@ -131,7 +131,7 @@ const TABLES: [Case; 4] = [
     ),
 ];
 
-const REFUSALS: [Case; 14] = [
+const REFUSALS: &[Case] = &[
     (
         &["merge", "first", "A", "c"],
         b"second refused 33 NoFile\n",
@@ -204,7 +204,7 @@ const REFUSALS: [Case; 14] = [
     ),
 ];
 
-const USAGES: [Case; 8] = [
+const USAGES: &[Case] = &[
     (&["merge", "greatest", "A"], b"", Status::Usage),
     (&["merge", "greatest", "A", "B", "B"], b"", Status::Usage),
     (&["merge", "Greatest", "A", "B"], b"", Status::Usage),
@@ -251,22 +251,22 @@ fn check(rt: &impl Abort, alloc: Global, cases: &[Case]) -> Result<(), Fail> {
 
 #[test]
 fn two_files_are_merged(rt: HostRuntime) -> Result<(), Fail> {
-    check(&rt, rt.alloc(), &MERGES)
+    check(&rt, rt.alloc(), MERGES)
 }
 
 #[test]
 fn classes_are_counted_by_pairs(rt: HostRuntime) -> Result<(), Fail> {
-    check(&rt, rt.alloc(), &TABLES)
+    check(&rt, rt.alloc(), TABLES)
 }
 
 #[test]
 fn the_first_refusal_is_the_reply(rt: HostRuntime) -> Result<(), Fail> {
-    check(&rt, rt.alloc(), &REFUSALS)
+    check(&rt, rt.alloc(), REFUSALS)
 }
 
 #[test]
 fn other_words_ask_for_nothing(rt: HostRuntime) -> Result<(), Fail> {
-    check(&rt, rt.alloc(), &USAGES)
+    check(&rt, rt.alloc(), USAGES)
 }
 
 /// The list of this number alone.

@@ -4,7 +4,7 @@ use oct_session::Status;
 use std::test::Fail;
 
 /// Words that ask for no task.
-const NO_TASK: [&[&str]; 52] = [
+const NO_TASK: &[&[&str]] = &[
     &[],
     &["session"],
     &["session", "0.1", "0.1"],
@@ -61,7 +61,7 @@ const NO_TASK: [&[&str]; 52] = [
 
 #[test]
 fn words_that_ask_for_nothing_read_and_write_nothing(rt: HostRuntime) -> Result<(), Fail> {
-    for words in NO_TASK {
+    for &words in NO_TASK {
         let (status, text) = answer(rt.alloc(), words, b"hit 0 0 0\n", 4096, 4096)?;
         assert_eq!(rt; status, Status::Usage, "at {words:?}");
         assert!(rt; text.is_empty(), "at {words:?}");
@@ -70,7 +70,7 @@ fn words_that_ask_for_nothing_read_and_write_nothing(rt: HostRuntime) -> Result<
 }
 
 /// Words that ask for a session, and what a hit of an unknown voxel then makes of it.
-const MODELS: [(&[&str], &str); 9] = [
+const MODELS: &[(&[&str], &str)] = &[
     (
         &["session", "0.1", "--hit", "1000000", "--max", "1000000"],
         "ok\nknown 1000000 occupied\n",
@@ -125,7 +125,7 @@ const MODELS: [(&[&str], &str); 9] = [
 
 #[test]
 fn options_choose_the_model(rt: HostRuntime) -> Result<(), Fail> {
-    for (words, replies) in MODELS {
+    for &(words, replies) in MODELS {
         let (status, text) = answer(rt.alloc(), words, b"hit 0 0 0\nget 0 0 0 16\n", 4096, 4096)?;
         assert_eq!(rt; status, Status::Done, "at {words:?}");
         assert_eq!(rt; text.as_slice(), replies.as_bytes(), "at {words:?}");

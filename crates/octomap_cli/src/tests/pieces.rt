@@ -1,8 +1,8 @@
 //! Files of several pieces, and how many calls of the sink they take.
 use super::{answer, owned};
-use crate::program::run;
 use oct_io::{CalmSource, CalmStore, FileBytes, KeptList, MemSink};
 use oct_session::Status;
+use oct_tasks::run;
 use std::alloc::Global;
 use std::process::Abort;
 use std::test::Fail;

@@ -4,7 +4,7 @@ use oct_session::Status;
 use std::test::Fail;
 
 /// Scans, and what they leave.
-const BEAMS: [Case; 5] = [
+const BEAMS: &[Case] = &[
     (
         "scan 0.05 0.05 0.05 1 0 0 0 all\np 0.2 0 0\np 0.4 0 0\nend\ncounts\nget 0 0 0 16\n\
          get 0.1 0 0 16\nget 0.2 0 0 16\nget 0.3 0 0 16\nget 0.4 0 0 16\n",
@@ -39,11 +39,11 @@ const BEAMS: [Case; 5] = [
 
 #[test]
 fn scans_free_what_beams_cross_and_hit_where_they_end(rt: HostRuntime) -> Result<(), Fail> {
-    check(&rt, rt.alloc(), &BEAMS)
+    check(&rt, rt.alloc(), BEAMS)
 }
 
 /// Blocks of lines, and their replies.
-const SCAN_BLOCKS: [Case; 12] = [
+const SCAN_BLOCKS: &[Case] = &[
     (
         "scan 0.05 0.05 0.05 1 0 0 0 all\n\n# p\n \t\n p 0.2\t0 0 \r\n end \n",
         "ok hits 1 frees 2\n",
@@ -110,5 +110,5 @@ const SCAN_BLOCKS: [Case; 12] = [
 
 #[test]
 fn a_block_has_one_reply(rt: HostRuntime) -> Result<(), Fail> {
-    check(&rt, rt.alloc(), &SCAN_BLOCKS)
+    check(&rt, rt.alloc(), SCAN_BLOCKS)
 }

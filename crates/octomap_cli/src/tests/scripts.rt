@@ -6,7 +6,7 @@ use std::process::Abort;
 use std::test::Fail;
 
 /// Edits, and the values that they leave.
-const VALUES: [Case; 8] = [
+const VALUES: &[Case] = &[
     ("", "", Status::Done),
     (
         "hit 0 0 0\nget 0 0 0 16\n",
@@ -51,11 +51,11 @@ const VALUES: [Case; 8] = [
 
 #[test]
 fn values_are_clamped_at_each_step(rt: HostRuntime) -> Result<(), Fail> {
-    check(&rt, rt.alloc(), &VALUES)
+    check(&rt, rt.alloc(), VALUES)
 }
 
 /// Queries of blocks.
-const BLOCKS: [Case; 8] = [
+const BLOCKS: &[Case] = &[
     (
         "hit 0 0 0\nget -0.05 -0.05 -0.05 16\nget -0.05 -0.05 -0.05 1\nget -0.05 -0.05 -0.05 0\n",
         "ok\nunknown\nunknown\nknown 850 occupied\n",
@@ -109,11 +109,11 @@ const BLOCKS: [Case; 8] = [
 
 #[test]
 fn blocks_answer_their_largest_value_once_refreshed(rt: HostRuntime) -> Result<(), Fail> {
-    check(&rt, rt.alloc(), &BLOCKS)
+    check(&rt, rt.alloc(), BLOCKS)
 }
 
 /// Casts.
-const CASTS: [Case; 5] = [
+const CASTS: &[Case] = &[
     (
         "cast 0 0 0 0.3 0 0\ncast 0 0 0 0.3 0 0 ignore\n",
         "cast unknown 32768 32768 32768\ncast clear\n",
@@ -147,7 +147,7 @@ const CASTS: [Case; 5] = [
 
 #[test]
 fn casts_name_what_stops_them(rt: HostRuntime) -> Result<(), Fail> {
-    check(&rt, rt.alloc(), &CASTS)
+    check(&rt, rt.alloc(), CASTS)
 }
 
 /// The eight voxels beside the corner of the origin.
@@ -208,7 +208,7 @@ fn counts_are_the_least_that_the_values_need(rt: HostRuntime) -> Result<(), Fail
 }
 
 /// Lines that are `quit`, and lines that are not.
-const QUITS: [Case; 7] = [
+const QUITS: &[Case] = &[
     ("hit 0 0 0\nquit\nhit 0 0 0\n", "ok\n", Status::Done),
     ("quit", "", Status::Done),
     (" quit\t\r\nhit\n", "", Status::Done),
@@ -232,11 +232,11 @@ const QUITS: [Case; 7] = [
 
 #[test]
 fn quit_ends_the_session(rt: HostRuntime) -> Result<(), Fail> {
-    check(&rt, rt.alloc(), &QUITS)
+    check(&rt, rt.alloc(), QUITS)
 }
 
 /// Lines that are refused.
-const REFUSALS: [Case; 6] = [
+const REFUSALS: &[Case] = &[
     (
         "get 0 0\nhit 0 0 x\nhit 4000 0 0\nget 0 0 0 17\n",
         "refused 29 Syntax line 1 column 8\nrefused 29 Syntax line 2 column 9\n\
@@ -279,11 +279,11 @@ const REFUSALS: [Case; 6] = [
 
 #[test]
 fn refusals_name_line_and_column(rt: HostRuntime) -> Result<(), Fail> {
-    check(&rt, rt.alloc(), &REFUSALS)
+    check(&rt, rt.alloc(), REFUSALS)
 }
 
 /// Points at the faces of the map, and beyond them.
-const FACES: [Case; 13] = [
+const FACES: &[Case] = &[
     ("get 3276.799999999 0 0 16\n", "unknown\n", Status::Done),
     ("get 0 3276.799999999 0 16\n", "unknown\n", Status::Done),
     ("get 0 0 3276.799999999 16\n", "unknown\n", Status::Done),
@@ -329,11 +329,11 @@ const FACES: [Case; 13] = [
 
 #[test]
 fn coordinates_at_the_faces_of_the_map(rt: HostRuntime) -> Result<(), Fail> {
-    check(&rt, rt.alloc(), &FACES)
+    check(&rt, rt.alloc(), FACES)
 }
 
 /// Line feeds, carriage returns, blanks and comments.
-const LINES: [Case; 6] = [
+const LINES: &[Case] = &[
     (
         "hit 0 0 0\r\nget 0 0 0 16",
         "ok\nknown 850 occupied\n",
@@ -356,5 +356,5 @@ const LINES: [Case; 6] = [
 
 #[test]
 fn line_ends_blanks_and_comments(rt: HostRuntime) -> Result<(), Fail> {
-    check(&rt, rt.alloc(), &LINES)
+    check(&rt, rt.alloc(), LINES)
 }

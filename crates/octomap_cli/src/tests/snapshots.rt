@@ -21,7 +21,7 @@ fn over(
 
 /// What stands between a snapshot and its restore doesn't matter, and a refused restore does
 /// nothing.
-const ROUNDS: [Case; 5] = [
+const ROUNDS: &[Case] = &[
     (
         "hit 0 0 0\nsnapshot a\nclear\nget 0 0 0 16\nrestore a\nget 0 0 0 16\n",
         "ok\nsaved 170\nok\nunknown\nrestored groups 16\nknown 850 occupied\n",
@@ -57,7 +57,7 @@ const ROUNDS: [Case; 5] = [
 
 #[test]
 fn a_snapshot_is_restored_whole(rt: HostRuntime) -> Result<(), Fail> {
-    check(&rt, rt.alloc(), &ROUNDS)
+    check(&rt, rt.alloc(), ROUNDS)
 }
 
 /// What a snapshot of version 1 begins with, at 0.1 m.
@@ -128,7 +128,7 @@ fn a_snapshot_brings_its_log_odds(rt: HostRuntime) -> Result<(), Fail> {
 }
 
 /// Files that are refused, and why.
-const FAULTS: [(&[u8], &[u8]); 5] = [
+const FAULTS: &[(&[u8], &[u8])] = &[
     (
         b"OCTSNAP2\0\0\0\0\x05\xf5\xe1\0\
           \0\0\x03\x52\xff\xff\xfe\x70\xff\xff\xf8\x30\0\0\x0d\xac\0\0\0\0\x02\0",
@@ -155,7 +155,7 @@ const FAULTS: [(&[u8], &[u8]); 5] = [
 
 #[test]
 fn a_bad_snapshot_is_refused(rt: HostRuntime) -> Result<(), Fail> {
-    for (file, replies) in FAULTS {
+    for &(file, replies) in FAULTS {
         let mut store = CalmStore::new(rt.alloc());
         store.save("a", file)?;
         let words = ["session", "0.1"];

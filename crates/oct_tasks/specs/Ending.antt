@@ -1,0 +1,156 @@
+-- What a run writes, and how it may end.
+use Rattle.std.specs.Prelude.{◌≡◌, ℕ, List, [], Option, Some, None, IsSome, Bool, true, false, ⊤}
+use Rattle.oct_convert.specs.Answers as file_answers
+use Rattle.oct_convert.specs.Answers.{convert_answer, inspect_answer}
+use Rattle.oct_convert.specs.Ending as file_ending
+use Rattle.oct_convert.specs.declared.ending.Ending.{Ending}
+use Rattle.oct_convert.specs.declared.ending.Ending.TheVariants as ending
+use Rattle.oct_gen.specs.Script.{script_of}
+use Rattle.oct_io.specs.Files.{Files}
+use Rattle.oct_session.specs.Building.{build}
+use Rattle.oct_session.specs.Building as building
+use Rattle.oct_session.specs.Drill.{EndsUnread, drill}
+use Rattle.oct_session.specs.Ending.{IsAnswered}
+use Rattle.oct_session.specs.Ending as session_ending
+use Rattle.oct_map.specs.Map.{Map}
+use Rattle.oct_session.specs.Leaving.{Shelf, desk}
+use Rattle.oct_session.specs.Leaving as session_leaving
+use Rattle.oct_session.specs.Session.{Answer, session, last_progress}
+use Rattle.oct_session.specs.Session as session_reading
+use Rattle.oct_session.specs.declared.options.Status.{Status}
+use Rattle.oct_session.specs.declared.options.Status.TheVariants.{Done, Usage, BadFile, TooLong}
+use Rattle.oct_session.specs.declared.options.Status.TheVariants.{ReadFault, WriteFault, Memory}
+use Rattle.oct_tasks.specs.Task.{Task, Session, Build, Convert, Inspect, OverFile, OverStore}
+use Rattle.oct_tasks.specs.Task.{Generate, Drill}
+use Rattle.oct_tasks.specs.FileTasks.{over_file_answer}
+use Rattle.oct_tasks.specs.OverFile.{Reply, EndsOverFile}
+use Rattle.oct_tasks.specs.OverStore.{told_reply, EndsOverStore}
+use Rattle.oct_tasks.specs.TwoFiles.{loads_of}
+use Rattle.oct_tasks.specs.declared.task.Workload.{Workload}
+
+-- the status of a task over a file
+abbrev pub status_of : Ending → Status
+status_of ending.Done = Done
+status_of ending.BadFile = BadFile
+status_of ending.TooLong = TooLong
+status_of ending.ReadFault = ReadFault
+status_of ending.WriteFault = WriteFault
+status_of ending.Memory = Memory
+
+-- the answer of a task over a file, which changes no files
+abbrev pub file_answer : Option Files → file_answers.Answer → Answer
+file_answer files whole =
+    record { text = whole.text; files = files; status = status_of whole.ending }
+
+-- what holds of the end of a task over a file, by its status
+abbrev pub EndsAs : (Ending → Type 0) → Status → Type 0
+EndsAs ends Done = ends ending.Done
+EndsAs ends BadFile = ends ending.BadFile
+EndsAs ends TooLong = ends ending.TooLong
+EndsAs ends ReadFault = ends ending.ReadFault
+EndsAs ends WriteFault = ends ending.WriteFault
+EndsAs ends Memory = ends ending.Memory
+EndsAs ends _ = ⊥
+
+-- the answer of a task over a file that may be refused, which changes no files
+abbrev pub over_file : Option Files → Reply → Answer
+over_file files whole = record { text = whole.text; files = files; status = whole.status }
+
+-- the answer of a task that writes the script of these numbers
+abbrev pub script_answer : Option Files → Workload → Answer
+script_answer files load =
+    record { text = script_of load.seed load.scans load.points; files = files; status = Done }
+
+-- the answer to a task, or to words that have none, on these files and this input
+abbrev pub answer : Option Task → Option Files → List ℕ → Answer
+answer None files bytes = record { text = []; files = files; status = Usage }
+answer (Some (Session o)) files bytes = session o files bytes
+answer (Some (Build o)) files bytes = build o files bytes
+answer (Some (Convert max_bytes)) files bytes = file_answer files (convert_answer max_bytes bytes)
+answer (Some (Inspect max_bytes)) files bytes = file_answer files (inspect_answer max_bytes bytes)
+answer (Some (OverFile task max_bytes)) files bytes =
+    over_file files (over_file_answer task max_bytes bytes)
+answer (Some (OverStore task)) files bytes = over_file files (told_reply task files)
+answer (Some (Generate load)) files bytes = script_answer files load
+answer (Some (Drill load)) files bytes = drill files load.seed load.scans load.points
+
+-- how a run may end whose words have no task, or one that reads nothing, whatever its source tells;
+-- of others nothing is said here
+abbrev pub EndsAlone : Option Task → Option Files → Option (List ℕ) → Option (List ℕ) → Status
+    → Type 0
+EndsAlone None files old new status = IsAnswered (answer None files []) old new status
+EndsAlone (Some (OverStore task)) files old new status = EndsOverStore task files old new status
+EndsAlone (Some (Generate load)) files old new status =
+    EndsUnread (script_answer files load) old new status
+EndsAlone (Some (Drill load)) files old new status =
+    EndsUnread (drill files load.seed load.scans load.points) old new status
+EndsAlone _ files old new status = ⊤
+
+-- how a run over these bytes may end: as the session or the build may, or as the task over a file;
+-- without a task, or with one that reads nothing, no byte was taken
+abbrev pub MayEnd : Option Task → Option Files → List ℕ → Option (List ℕ) → Option (List ℕ)
+    → Option (List ℕ) → Status → Type 0
+MayEnd (Some (Session o)) files bytes left old new status =
+    session_ending.MayEnd o files bytes left old new status
+MayEnd (Some (Build o)) files bytes left old new status =
+    building.MayEnd o files bytes left old new status
+MayEnd (Some (Convert max_bytes)) files bytes left old new status =
+    EndsAs (file_ending.MayEnd (convert_answer max_bytes bytes) max_bytes bytes left old new) status
+MayEnd (Some (Inspect max_bytes)) files bytes left old new status =
+    EndsAs (file_ending.MayEnd (inspect_answer max_bytes bytes) max_bytes bytes left old new) status
+MayEnd (Some (OverFile task max_bytes)) files bytes left old new status =
+    EndsOverFile (over_file_answer task max_bytes bytes) max_bytes bytes left old new status
+MayEnd task files bytes left old new status =
+    EndsAlone task files old new status × (left ≡ Some bytes)
+
+-- all files that a task reads are told
+abbrev pub ReadsTold : Option Task → Option Files → List ℕ → Type 0
+ReadsTold (Some (Session o)) files bytes = session_reading.ReadsTold o files bytes
+ReadsTold (Some (Build o)) files bytes = session_reading.ReadsTold o files bytes
+ReadsTold (Some (OverStore task)) files bytes = IsSome files
+ReadsTold _ files bytes = ⊤
+
+-- how often a task may ask the store: once for each line of its script that names a file, or for
+-- each file that its words name, and for the second of them only where the first is a map
+abbrev pub asks_of : Option Task → Option Files → List ℕ → ℕ
+asks_of (Some (Session o)) files bytes = (last_progress o files bytes).asks
+asks_of (Some (Build o)) files bytes = (last_progress o files bytes).asks
+asks_of (Some (OverStore task)) files bytes = loads_of files task.first
+asks_of _ files bytes = 0
+
+-- whether a task reads a script, whose lines may name files
+abbrev pub has_script : Option Task → Bool
+has_script (Some (Session o)) = true
+has_script (Some (Build o)) = true
+has_script _ = false
+
+-- whether a task may name files of the store: by lines of its script, or as words
+abbrev pub names_files : Option Task → Bool
+names_files (Some (OverStore task)) = true
+names_files task = has_script task
+
+-- whether a task reads its input
+abbrev pub has_input : Option Task → Bool
+has_input None = false
+has_input (Some (OverStore task)) = false
+has_input (Some (Generate load)) = false
+has_input (Some (Drill load)) = false
+has_input _ = true
+
+-- whether a task may take memory beside what its sink takes
+abbrev pub takes_memory : Option Task → Bool
+takes_memory None = false
+takes_memory (Some (Generate load)) = false
+takes_memory _ = true
+
+-- what a run over these bytes and files leaves of the store: a session and a build leave its files
+-- as they say of them and their map, a task over two files leaves what it holds, and any other task
+-- the whole store as it is
+abbrev pub Leaves : Option Task → Option Files → List ℕ → Option (List ℕ) → Option (List ℕ)
+    → Option (List ℕ) → Shelf → Status → Type 0
+Leaves (Some (Session o)) files bytes left old new store status =
+    (map : Map) × session_leaving.Leaves o files bytes left old new (desk map store) status
+Leaves (Some (Build o)) files bytes left old new store status =
+    (map : Map) × building.Leaves o files bytes left (desk map store) status
+Leaves (Some (OverStore task)) files bytes left old new store status = store.files ≡ files
+Leaves _ files bytes left old new store status = store.same

@@ -1,7 +1,0 @@
-use Rattle.std.proofs.Common.{sym, ◌∙◌}
-use Rattle.octomap_cli.proofs.Choosing.{are_options_end}
-use Rattle.octomap_cli.proofs.words.are_options.Goals as goal
-
-pub returns : goal.returns
-returns c = c.is_empty.ensures
-    ∙ sym (c.loop-rest.invariant ∙ are_options_end _ c.in_default.len_below)

@@ -1,6 +1,0 @@
-use Rattle.std.proofs.Common.{sym, ◌∙◌}
-use Rattle.octomap_cli.proofs.Choosing.{value_of_none}
-use Rattle.octomap_cli.proofs.words.value_of.Goals as goal
-
-pub returns : goal.returns
-returns c = sym (c.loop-rest.invariant ∙ value_of_none _ _ c.in_default.len_below)
