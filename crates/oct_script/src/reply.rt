@@ -1,5 +1,5 @@
 //! Replies, and their texts.
-ghost use Rattle.std.specs.Prelude.{◌≡◌, ◌++◌, OnOk, OnErr, take, vec_len, map};
+ghost use Rattle.std.specs.Prelude.{◌≡◌, ◌++◌, OnOk, OnErr, take, vec_len, map, codes};
 ghost use Rattle.std.specs.List.{flat_map};
 ghost use Rattle.oct_script.specs.Replies.{class_name, refusal_text, voxel_text, cast_text};
 ghost use Rattle.oct_script.specs.Replies.{word_text, class_shown, value_text, block_text};
@@ -154,6 +154,14 @@ fn text_of_word(word: HeaderWord) -> &'static str
     }
 }
 
+/// Appends a text.
+fn append_text(out: &mut Vec<u8>, text: &[u8]) -> Result<(), Memory>
+    ensures ok { OnOk result (out.new.items ≡ out.old.items ++ text.now) }
+    ensures err { OnErr result (take (vec_len out.old) out.new.items ≡ out.old.items) }
+{
+    Ok(out.extend_from_slice(text)?)
+}
+
 /// Appends a text and a header's word after it.
 fn append_word(out: &mut Vec<u8>, before: &[u8], word: HeaderWord) -> Result<(), Memory>
     ensures ok { OnOk result (out.new.items ≡ out.old.items ++ (before.now ++ word_text word)) }
@@ -211,46 +219,46 @@ fn append_refusal(out: &mut Vec<u8>, refusal: &Refusal) -> Result<(), Memory>
     ensures err { OnErr result (take (vec_len out.old) out.new.items ≡ out.old.items) }
 {
     match refusal {
-        Refusal::ZeroQuaternion => out.extend_from_slice(b"5 ZeroQuaternion")?,
-        Refusal::OriginOutside => out.extend_from_slice(b"6 OriginOutside")?,
-        Refusal::PointOutside { index } => append_field(out, b"7 PointOutside index ", *index)?,
+        Refusal::ZeroQuaternion => append_text(out, b"5 ZeroQuaternion"),
+        Refusal::OriginOutside => append_text(out, b"6 OriginOutside"),
+        Refusal::PointOutside { index } => append_field(out, b"7 PointOutside index ", *index),
         Refusal::TooManyCells { index, cells } => {
-            append_fields(out, b"8 TooManyCells index ", *index, b" cells ", *cells)?;
+            append_fields(out, b"8 TooManyCells index ", *index, b" cells ", *cells)
         }
-        Refusal::TooManyBlocks { count } => append_field(out, b"9 TooManyBlocks count ", *count)?,
-        Refusal::NotOctomap => out.extend_from_slice(b"10 NotOctomap")?,
-        Refusal::FloatTree => out.extend_from_slice(b"11 FloatTree")?,
-        Refusal::WrongId => out.extend_from_slice(b"12 WrongId")?,
-        Refusal::MissingField { word } => append_word(out, b"13 MissingField ", *word)?,
-        Refusal::BadField { word } => append_word(out, b"14 BadField ", *word)?,
-        Refusal::HeaderTooLong => out.extend_from_slice(b"15 HeaderTooLong")?,
-        Refusal::TooDeep { at } => append_field(out, b"16 TooDeep at ", *at)?,
-        Refusal::Truncated { at } => append_field(out, b"17 Truncated at ", *at)?,
-        Refusal::TrailingBytes { at } => append_field(out, b"18 TrailingBytes at ", *at)?,
+        Refusal::TooManyBlocks { count } => append_field(out, b"9 TooManyBlocks count ", *count),
+        Refusal::NotOctomap => append_text(out, b"10 NotOctomap"),
+        Refusal::FloatTree => append_text(out, b"11 FloatTree"),
+        Refusal::WrongId => append_text(out, b"12 WrongId"),
+        Refusal::MissingField { word } => append_word(out, b"13 MissingField ", *word),
+        Refusal::BadField { word } => append_word(out, b"14 BadField ", *word),
+        Refusal::HeaderTooLong => append_text(out, b"15 HeaderTooLong"),
+        Refusal::TooDeep { at } => append_field(out, b"16 TooDeep at ", *at),
+        Refusal::Truncated { at } => append_field(out, b"17 Truncated at ", *at),
+        Refusal::TrailingBytes { at } => append_field(out, b"18 TrailingBytes at ", *at),
         Refusal::SizeMismatch { said, found } => {
-            append_fields(out, b"19 SizeMismatch said ", *said, b" found ", *found)?;
+            append_fields(out, b"19 SizeMismatch said ", *said, b" found ", *found)
         }
-        Refusal::BadMagic => out.extend_from_slice(b"20 BadMagic")?,
-        Refusal::BadSnapshot { at } => append_field(out, b"21 BadSnapshot at ", *at)?,
-        Refusal::Stale => out.extend_from_slice(b"22 Stale")?,
+        Refusal::BadMagic => append_text(out, b"20 BadMagic"),
+        Refusal::BadSnapshot { at } => append_field(out, b"21 BadSnapshot at ", *at),
+        Refusal::Stale => append_text(out, b"22 Stale"),
         Refusal::Full { groups, need } => {
-            append_fields(out, b"23 Full groups ", *groups, b" need ", *need)?;
+            append_fields(out, b"23 Full groups ", *groups, b" need ", *need)
         }
-        Refusal::Outside { point } => append_field(out, b"24 Outside point ", *point)?,
-        Refusal::BadDepth => out.extend_from_slice(b"25 BadDepth")?,
-        Refusal::BadBox => out.extend_from_slice(b"26 BadBox")?,
+        Refusal::Outside { point } => append_field(out, b"24 Outside point ", *point),
+        Refusal::BadDepth => append_text(out, b"25 BadDepth"),
+        Refusal::BadBox => append_text(out, b"26 BadBox"),
         Refusal::WideWhileTracked { count } => {
-            append_field(out, b"27 WideWhileTracked count ", *count)?;
+            append_field(out, b"27 WideWhileTracked count ", *count)
         }
-        Refusal::NotTracked => out.extend_from_slice(b"28 NotTracked")?,
+        Refusal::NotTracked => append_text(out, b"28 NotTracked"),
         Refusal::Syntax { line, column } => {
-            append_fields(out, b"29 Syntax line ", *line, b" column ", *column)?;
+            append_fields(out, b"29 Syntax line ", *line, b" column ", *column)
         }
-        Refusal::LongLine { line } => append_field(out, b"30 LongLine line ", *line)?,
-        Refusal::OpenScan { line } => append_field(out, b"31 OpenScan line ", *line)?,
-        Refusal::TooManyPoints { line } => append_field(out, b"32 TooManyPoints line ", *line)?,
-        Refusal::NoFile => out.extend_from_slice(b"33 NoFile")?,
-        Refusal::FileTooLarge => out.extend_from_slice(b"34 FileTooLarge")?,
+        Refusal::LongLine { line } => append_field(out, b"30 LongLine line ", *line),
+        Refusal::OpenScan { line } => append_field(out, b"31 OpenScan line ", *line),
+        Refusal::TooManyPoints { line } => append_field(out, b"32 TooManyPoints line ", *line),
+        Refusal::NoFile => append_text(out, b"33 NoFile"),
+        Refusal::FileTooLarge => append_text(out, b"34 FileTooLarge"),
         Refusal::OtherResolution { file, session } => {
             append_signed(
                 out,
@@ -258,10 +266,9 @@ fn append_refusal(out: &mut Vec<u8>, refusal: &Refusal) -> Result<(), Memory>
                 file,
                 b" session ",
                 session,
-            )?;
+            )
         }
     }
-    Ok(())
 }
 
 /// Appends a text and the numbers of a voxel after it.
@@ -349,14 +356,38 @@ fn append_change(out: &mut Vec<u8>, change: Change) -> Result<(), Memory>
     Ok(())
 }
 
+/// Appends a text, the decimal text of a number after it, and a line feed.
+fn append_field_line<I: Integer>(out: &mut Vec<u8>, before: &[u8], n: I) -> Result<(), Memory>
+    ensures ok { OnOk result
+        (out.new.items ≡ out.old.items ++ ((before.now ++ I.text n) ++ codes "\n")) }
+    ensures err { OnErr result (take (vec_len out.old) out.new.items ≡ out.old.items) }
+{
+    append_field(out, before, n)?;
+    append_text(out, b"\n")
+}
+
+/// Appends two texts, each with the decimal text of a number after it, and a line feed.
+fn append_fields_line<I: Integer, J: Integer>(
+    out: &mut Vec<u8>,
+    before: &[u8],
+    n: I,
+    between: &[u8],
+    m: J,
+) -> Result<(), Memory>
+    ensures ok { OnOk result (out.new.items ≡ out.old.items
+        ++ (((before.now ++ I.text n) ++ (between.now ++ J.text m)) ++ codes "\n")) }
+    ensures err { OnErr result (take (vec_len out.old) out.new.items ≡ out.old.items) }
+{
+    append_fields(out, before, n, between, m)?;
+    append_text(out, b"\n")
+}
+
 /// Appends the line after a list of this many lines.
 fn append_end(out: &mut Vec<u8>, count: usize) -> Result<(), Memory>
     ensures ok { OnOk result (out.new.items ≡ out.old.items ++ end_text count) }
     ensures err { OnErr result (take (vec_len out.old) out.new.items ≡ out.old.items) }
 {
-    append_field(out, b"end ", count)?;
-    out.extend_from_slice(b"\n")?;
-    Ok(())
+    append_field_line(out, b"end ", count)
 }
 
 /// Appends a line for each block.
@@ -404,54 +435,60 @@ fn append_changes(out: &mut Vec<u8>, changes: &ChangeList) -> Result<(), Memory>
     append_end(out, changes.len())
 }
 
+/// Appends the line of a known value and its class.
+fn append_known(out: &mut Vec<u8>, value: i32, class: Class) -> Result<(), Memory>
+    ensures ok { OnOk result (out.new.items ≡ out.old.items ++ (codes "known "
+        ++ signed_decimal value ++ codes " " ++ class_name class ++ codes "\n")) }
+    ensures err { OnErr result (take (vec_len out.old) out.new.items ≡ out.old.items) }
+{
+    append_text(out, b"known")?;
+    append_value(out, value, class)?;
+    append_text(out, b"\n")
+}
+
+/// Appends the line of what a cast finds.
+fn append_cast_line(out: &mut Vec<u8>, found: Cast) -> Result<(), Memory>
+    ensures ok { OnOk result (out.new.items ≡ out.old.items ++ (cast_text found ++ codes "\n")) }
+    ensures err { OnErr result (take (vec_len out.old) out.new.items ≡ out.old.items) }
+{
+    append_cast(out, found)?;
+    append_text(out, b"\n")
+}
+
+/// Appends the line of a refusal.
+fn append_refused(out: &mut Vec<u8>, refusal: &Refusal) -> Result<(), Memory>
+    ensures ok { OnOk result (out.new.items
+        ≡ out.old.items ++ (codes "refused " ++ refusal_text refusal.now ++ codes "\n")) }
+    ensures err { OnErr result (take (vec_len out.old) out.new.items ≡ out.old.items) }
+{
+    append_text(out, b"refused ")?;
+    append_refusal(out, refusal)?;
+    append_text(out, b"\n")
+}
+
 /// Appends a reply's line or lines. After an error a part of them may stand there.
 fn append_reply(out: &mut Vec<u8>, reply: &Reply) -> Result<(), Memory>
     ensures ok { OnOk result (out.new.items ≡ out.old.items ++ reply_text reply.now) }
     ensures err { OnErr result (take (vec_len out.old) out.new.items ≡ out.old.items) }
 {
     match reply {
-        Reply::Ok => out.extend_from_slice(b"ok\n")?,
-        Reply::Known { value, class } => {
-            out.extend_from_slice(b"known ")?;
-            push_whole(out, i64::from(*value))?;
-            out.extend_from_slice(b" ")?;
-            out.extend_from_slice(name_of(*class).as_bytes())?;
-            out.extend_from_slice(b"\n")?;
-        }
-        Reply::Unknown => out.extend_from_slice(b"unknown\n")?,
+        Reply::Ok => append_text(out, b"ok\n"),
+        Reply::Known { value, class } => append_known(out, *value, *class),
+        Reply::Unknown => append_text(out, b"unknown\n"),
         Reply::Scanned(done) => {
-            append_fields(out, b"ok hits ", done.hits, b" frees ", done.frees)?;
-            out.extend_from_slice(b"\n")?;
+            append_fields_line(out, b"ok hits ", done.hits, b" frees ", done.frees)
         }
         Reply::Counted(counts) => {
-            append_fields(out, b"groups ", counts.groups, b" nodes ", counts.nodes)?;
-            out.extend_from_slice(b"\n")?;
+            append_fields_line(out, b"groups ", counts.groups, b" nodes ", counts.nodes)
         }
-        Reply::Blocks { blocks, threshold } => append_blocks(out, *threshold, blocks)?,
-        Reply::Changed(changes) => append_changes(out, changes)?,
-        Reply::Casted(found) => {
-            append_cast(out, *found)?;
-            out.extend_from_slice(b"\n")?;
-        }
-        Reply::Saved(bytes) => {
-            append_field(out, b"saved ", *bytes)?;
-            out.extend_from_slice(b"\n")?;
-        }
-        Reply::Loaded(nodes) => {
-            append_field(out, b"loaded ", *nodes)?;
-            out.extend_from_slice(b"\n")?;
-        }
-        Reply::Restored(groups) => {
-            append_field(out, b"restored groups ", *groups)?;
-            out.extend_from_slice(b"\n")?;
-        }
-        Reply::Refused(refusal) => {
-            out.extend_from_slice(b"refused ")?;
-            append_refusal(out, refusal)?;
-            out.extend_from_slice(b"\n")?;
-        }
+        Reply::Blocks { blocks, threshold } => append_blocks(out, *threshold, blocks),
+        Reply::Changed(changes) => append_changes(out, changes),
+        Reply::Casted(found) => append_cast_line(out, *found),
+        Reply::Saved(bytes) => append_field_line(out, b"saved ", *bytes),
+        Reply::Loaded(nodes) => append_field_line(out, b"loaded ", *nodes),
+        Reply::Restored(groups) => append_field_line(out, b"restored groups ", *groups),
+        Reply::Refused(refusal) => append_refused(out, refusal),
     }
-    Ok(())
 }
 
 /// Appends the line of a reply, or its lines, with line feeds. After an error nothing was appended.

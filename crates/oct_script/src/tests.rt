@@ -281,7 +281,7 @@ const BLOCK_COMMANDS: [(&str, Command); 4] = [
 ];
 
 /// Lines outside the block of a scan that aren't in the grammar, and the columns of their faults.
-const FAULTS: [(&str, u32); 94] = [
+const FAULTS: &[(&str, u32)] = &[
     ("clears", 1),
     (" counted 0", 2),
     ("Hit 0 0", 1),
@@ -380,7 +380,7 @@ const FAULTS: [(&str, u32); 94] = [
 
 /// Lines inside the block of a scan that aren't in the grammar there, and the columns of their
 /// faults.
-const BLOCK_FAULTS: [(&str, u32); 17] = [
+const BLOCK_FAULTS: &[(&str, u32)] = &[
     ("clears", 1),
     ("p", 2),
     ("p 0 0", 6),
@@ -400,34 +400,40 @@ const BLOCK_FAULTS: [(&str, u32); 17] = [
     (" limit 0 0", 2),
 ];
 
-#[test]
-fn lines_are_commands(rt: HostRuntime) {
-    for (line, command) in COMMANDS {
-        expect_read(&rt, line, false, Ok(command));
+/// Expects that each line of a table is its command.
+fn expect_commands(rt: &impl Abort, cases: &[(&str, Command)], inside: bool) {
+    for (line, command) in cases {
+        expect_read(rt, line, inside, Ok(*command));
     }
-    for (line, command) in BLOCK_COMMANDS {
-        expect_read(&rt, line, true, Ok(command));
+}
+
+/// Expects that each line of a table has a fault in its column.
+fn expect_faults(rt: &impl Abort, cases: &[(&str, u32)], inside: bool) {
+    for (line, column) in cases {
+        expect_read(rt, line, inside, Err(Syntax { column: *column }));
     }
 }
 
 #[test]
+fn lines_are_commands(rt: HostRuntime) {
+    expect_commands(&rt, &COMMANDS, false);
+    expect_commands(&rt, &BLOCK_COMMANDS, true);
+}
+
+#[test]
 fn faults_have_columns(rt: HostRuntime) {
-    for (line, column) in FAULTS {
-        expect_read(&rt, line, false, Err(Syntax { column }));
-    }
-    for (line, column) in BLOCK_FAULTS {
-        expect_read(&rt, line, true, Err(Syntax { column }));
-    }
+    expect_faults(&rt, FAULTS, false);
+    expect_faults(&rt, BLOCK_FAULTS, true);
 }
 
 /// A name of the greatest length.
 const LONGEST: &str = "a23456789_123456789-123456789.123456789012345678901234567890123Z";
 
 /// Words that are names.
-const NAMES: [&str; 7] = ["m", "_", "0", "Map.bt", "a..b--c__", "9-", LONGEST];
+const NAMES: &[&str] = &["m", "_", "0", "Map.bt", "a..b--c__", "9-", LONGEST];
 
 /// Words that aren't.
-const NO_NAMES: [&str; 10] = [
+const NO_NAMES: &[&str] = &[
     "",
     ".",
     "-",
@@ -449,14 +455,17 @@ fn expect_name(rt: &impl Abort, word: &str, want: bool) {
     assert_eq!(rt; is_kept, want, "{word:?}");
 }
 
+/// Expects that each word is a name, or that none is.
+fn expect_names(rt: &impl Abort, words: &[&str], want: bool) {
+    for word in words {
+        expect_name(rt, word, want);
+    }
+}
+
 #[test]
 fn names_are_words_of_files(rt: HostRuntime) {
-    for word in NAMES {
-        expect_name(&rt, word, true);
-    }
-    for word in NO_NAMES {
-        expect_name(&rt, word, false);
-    }
+    expect_names(&rt, NAMES, true);
+    expect_names(&rt, NO_NAMES, false);
     assert_eq!(rt; Name::new(&[b'm'; 65]), None);
 }
 
@@ -651,14 +660,30 @@ fn expect_reply(rt: &impl Abort, alloc: Global, reply: &Reply, want: &str) -> Re
     Ok(())
 }
 
+/// Expects that each reply of a table is written as its line.
+fn expect_replies(rt: &impl Abort, alloc: Global, cases: &[(Reply, &str)]) -> Result<(), Memory> {
+    for (reply, line) in cases {
+        expect_reply(rt, alloc, reply, line)?;
+    }
+    Ok(())
+}
+
+/// Expects that each refusal of a table is written as its line.
+fn expect_refusals(
+    rt: &impl Abort,
+    alloc: Global,
+    cases: &[(Refusal, &str)],
+) -> Result<(), Memory> {
+    for (refusal, line) in cases {
+        expect_reply(rt, alloc, &Reply::Refused(*refusal), line)?;
+    }
+    Ok(())
+}
+
 #[test]
 fn replies_are_lines(rt: HostRuntime) -> Result<(), Fail> {
-    for (reply, line) in REPLIES {
-        expect_reply(&rt, rt.alloc(), &reply, line)?;
-    }
-    for (refusal, line) in REFUSALS {
-        expect_reply(&rt, rt.alloc(), &Reply::Refused(refusal), line)?;
-    }
+    expect_replies(&rt, rt.alloc(), &REPLIES)?;
+    expect_refusals(&rt, rt.alloc(), &REFUSALS)?;
     Ok(())
 }
 
