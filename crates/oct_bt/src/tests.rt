@@ -132,7 +132,7 @@ fn looks_for_a_header_in_65536_bytes(rt: HostRuntime) {
 }
 
 /// Headers, and their first faults.
-const HEADER_FAULTS: [(&str, BtFault); 13] = [
+const HEADER_FAULTS: &[(&str, BtFault)] = &[
     ("", BtFault::NotOctomap),
     ("# Octomap OcTree binary fil\n", BtFault::NotOctomap),
     ("# Octomap OcTree file\nid OcTree\n", BtFault::FloatTree),
@@ -189,15 +189,20 @@ const HEADER_FAULTS: [(&str, BtFault); 13] = [
     ),
 ];
 
-#[test]
-fn names_the_first_fault_of_a_header(rt: HostRuntime) {
-    for (header, want) in HEADER_FAULTS {
-        expect_read(&rt, rt.alloc(), (header, &[]), 5, Err(want));
+/// Expects that files of these headers and no node data have these faults.
+fn expect_header_faults(rt: &impl Abort, alloc: Global, cases: &[(&str, BtFault)]) {
+    for (header, want) in cases {
+        expect_read(rt, alloc, (header, &[]), 5, Err(*want));
     }
 }
 
+#[test]
+fn names_the_first_fault_of_a_header(rt: HostRuntime) {
+    expect_header_faults(&rt, rt.alloc(), HEADER_FAULTS);
+}
+
 /// Node data after the header of 60 bytes, and its first faults.
-const DATA_FAULTS: [(&[u8], BtFault); 5] = [
+const DATA_FAULTS: &[(&[u8], BtFault)] = &[
     (TOO_DEEP, BtFault::TooDeep { at: 90 }),
     (b"", BtFault::Truncated { at: 60 }),
     (b"\x00\x00\x00", BtFault::TrailingBytes { at: 62 }),
@@ -205,11 +210,16 @@ const DATA_FAULTS: [(&[u8], BtFault); 5] = [
     (b"\x00\x00", BtFault::SizeMismatch { said: 17, found: 1 }),
 ];
 
+/// Expects that files of the header of 60 bytes and these node data have these faults.
+fn expect_data_faults(rt: &impl Abort, alloc: Global, cases: &[(&[u8], BtFault)]) {
+    for (data, want) in cases {
+        expect_read(rt, alloc, (HEADER, data), 60, Err(*want));
+    }
+}
+
 #[test]
 fn names_the_first_fault_of_node_data(rt: HostRuntime) {
-    for (data, want) in DATA_FAULTS {
-        expect_read(&rt, rt.alloc(), (HEADER, data), 60, Err(want));
-    }
+    expect_data_faults(&rt, rt.alloc(), DATA_FAULTS);
     let (short, _) = ONE_VOXEL.split_at(31);
     let ends = BtFault::Truncated { at: 91 };
     expect_read(&rt, rt.alloc(), (HEADER, short), 60, Err(ends));
@@ -237,8 +247,11 @@ fn count(alloc: Global, size: &str, data: &[u8]) -> Result<Counted, BtFault> {
     ))
 }
 
-/// Lines of a size, node data, and what is read of them.
-const RECORDS: [(&str, &[u8], Result<Counted, BtFault>); 6] = [
+/// A line of a size, node data, and what is read of them.
+type CountCase = (&'static str, &'static [u8], Result<Counted, BtFault>);
+
+/// Files of one record and of none.
+const RECORDS: &[CountCase] = &[
     ("size 0", b"", Ok((0, 0, true, 0, 0))),
     ("size 1", b"\x00\x00", Ok((1, 2, false, 0, 0))),
     ("size 9", b"\xAA\xAA", Ok((9, 2, true, 0, 1 << 48))),
@@ -251,15 +264,31 @@ const RECORDS: [(&str, &[u8], Result<Counted, BtFault>); 6] = [
     ),
 ];
 
-#[test]
-fn reads_data_of_one_record_and_of_none(rt: HostRuntime) {
-    for (size, data, want) in RECORDS {
-        assert_eq!(rt; count(rt.alloc(), size, data), want, "at {size}");
+/// Expects that a file whose header has this line of a size is read so.
+fn expect_count(
+    rt: &impl Abort,
+    alloc: Global,
+    size: &str,
+    data: &[u8],
+    want: Result<Counted, BtFault>,
+) {
+    assert_eq!(rt; count(alloc, size, data), want, "at {size}");
+}
+
+/// Expects that the files of a table are read so.
+fn expect_counts(rt: &impl Abort, alloc: Global, cases: &[CountCase]) {
+    for (size, data, want) in cases {
+        expect_count(rt, alloc, size, data, *want);
     }
 }
 
+#[test]
+fn reads_data_of_one_record_and_of_none(rt: HostRuntime) {
+    expect_counts(&rt, rt.alloc(), RECORDS);
+}
+
 /// Faults, and their texts.
-const TEXTS: [(BtFault, &str); 5] = [
+const TEXTS: &[(BtFault, &str)] = &[
     (
         BtFault::MissingField {
             word: HeaderWord::Data,
@@ -286,17 +315,28 @@ const TEXTS: [(BtFault, &str); 5] = [
     (BtFault::Memory, "out of memory"),
 ];
 
-#[test]
-fn prints_the_faults(rt: HostRuntime) -> Result<(), Fail> {
-    for (fault, want) in TEXTS {
-        let text = format!(in rt.alloc(); "{fault}")?;
-        assert_eq!(rt; text.as_str(), want);
+/// Expects that a fault is printed so.
+fn expect_text(rt: &impl Abort, alloc: Global, fault: BtFault, want: &str) -> Result<(), Fail> {
+    let text = format!(in alloc; "{fault}")?;
+    assert_eq!(rt; text.as_str(), want);
+    Ok(())
+}
+
+/// Expects that the faults of a table are printed so.
+fn expect_texts(rt: &impl Abort, alloc: Global, cases: &[(BtFault, &str)]) -> Result<(), Fail> {
+    for (fault, want) in cases {
+        expect_text(rt, alloc, *fault, want)?;
     }
     Ok(())
 }
 
+#[test]
+fn prints_the_faults(rt: HostRuntime) -> Result<(), Fail> {
+    expect_texts(&rt, rt.alloc(), TEXTS)
+}
+
 /// Faults, and their numbers, names and fields.
-const NUMBERS: [(BtFault, &str); 12] = [
+const NUMBERS: &[(BtFault, &str)] = &[
     (BtFault::NotOctomap, "10 NotOctomap"),
     (BtFault::FloatTree, "11 FloatTree"),
     (BtFault::WrongId, "12 WrongId"),
@@ -346,11 +386,17 @@ fn expect_number(rt: &impl Abort, alloc: Global, fault: BtFault, want: &str) -> 
     Ok(())
 }
 
+/// Expects that the faults of a table are written so.
+fn expect_numbers(rt: &impl Abort, alloc: Global, cases: &[(BtFault, &str)]) -> Result<(), Fail> {
+    for (fault, want) in cases {
+        expect_number(rt, alloc, *fault, want)?;
+    }
+    Ok(())
+}
+
 #[test]
 fn names_each_fault_with_its_number_and_fields(rt: HostRuntime) -> Result<(), Fail> {
-    for (fault, want) in NUMBERS {
-        expect_number(&rt, rt.alloc(), fault, want)?;
-    }
+    expect_numbers(&rt, rt.alloc(), NUMBERS)?;
     let mut out = Vec::from_slice(rt.alloc(), b"refused ")?;
     assert!(rt; push_fault(&mut out, BtFault::Memory).is_err());
     assert_eq!(rt; out.as_slice(), b"refused ".as_slice());

@@ -9,6 +9,7 @@ use oct_key::{Key, Res};
 use oct_odds::{Class, Event, OddsModel};
 use oct_tree::{OccTree, Place};
 use std::alloc::Global;
+use std::process::Abort;
 use std::test::Fail;
 
 /// A leaf of the value.
@@ -46,54 +47,102 @@ const fn change(x: u16, y: u16, z: u16, kind: Kind) -> Change {
     }
 }
 
-#[test]
-fn reports_each_pair_of_classes_in_the_order_of_voxels(rt: HostRuntime) -> Result<(), Fail> {
-    let tree = two_children(rt.alloc())?;
-    let mut changes = Changes::new(rt.alloc());
-    for (x, y, z, before) in [
-        // Free now.
-        (4, 9, 9, Class::Unknown),
-        (5, 5, 5, Class::Free),
-        (4, 8, 7, Class::Occupied),
-        // Occupied now.
-        (40_000, 1, 1, Class::Unknown),
-        (40_000, 1, 0, Class::Free),
-        (40_000, 0, 9, Class::Occupied),
-        // Unknown now.
-        (1, 40_000, 1, Class::Unknown),
-        (3, 40_000, 1, Class::Free),
-        (2, 40_000, 1, Class::Occupied),
-        // Noted again: the first note counts.
-        (5, 5, 5, Class::Occupied),
-        (4, 9, 9, Class::Free),
-    ] {
-        changes.reserve(1)?;
-        changes.note(key(x, y, z), before);
-    }
-    let want = [
+/// Notes, in room that is made for it, the class that a voxel had.
+fn note(changes: &mut Changes, k: Key, before: Class) -> Result<(), Fail> {
+    changes.reserve(1)?;
+    changes.note(k, before);
+    Ok(())
+}
+
+/// Notes the classes that three voxels have in the tree, in room that is made for all of them.
+fn note_classes(changes: &mut Changes, tree: &OccTree, voxels: [Key; 3]) -> Result<(), Fail> {
+    let [first, second, third] = voxels;
+    changes.reserve(3)?;
+    changes.note_class(tree, first);
+    changes.note_class(tree, second);
+    changes.note_class(tree, third);
+    Ok(())
+}
+
+/// Expects that a report has these changes.
+fn expect_report(
+    rt: &impl Abort,
+    alloc: Global,
+    changes: &Changes,
+    tree: &OccTree,
+    want: &[Change],
+) -> Result<(), Fail> {
+    let report = changes.report(alloc, tree)?;
+    assert_eq!(rt; report.as_slice(), want);
+    Ok(())
+}
+
+/// Expects so many notes.
+fn expect_len(rt: &impl Abort, changes: &Changes, want: u64) {
+    assert_eq!(rt; changes.len(), want);
+}
+
+/// Expects that the notes can be compacted.
+fn expect_compact(rt: &impl Abort, changes: &mut Changes) {
+    assert!(rt; changes.compact().is_ok());
+}
+
+/// Voxels of the tree of two children, and the classes that they are noted with.
+const NOTES: [(u16, u16, u16, Class); 11] = [
+    // Free now.
+    (4, 9, 9, Class::Unknown),
+    (5, 5, 5, Class::Free),
+    (4, 8, 7, Class::Occupied),
+    // Occupied now.
+    (40_000, 1, 1, Class::Unknown),
+    (40_000, 1, 0, Class::Free),
+    (40_000, 0, 9, Class::Occupied),
+    // Unknown now.
+    (1, 40_000, 1, Class::Unknown),
+    (3, 40_000, 1, Class::Free),
+    (2, 40_000, 1, Class::Occupied),
+    // Noted again: the first note counts.
+    (5, 5, 5, Class::Occupied),
+    (4, 9, 9, Class::Free),
+];
+
+/// And the changes that they make.
+fn wanted() -> [Change; 6] {
+    [
         change(2, 40_000, 1, Kind::Lost),
         change(3, 40_000, 1, Kind::Lost),
         change(4, 8, 7, Kind::Freed),
         change(4, 9, 9, Kind::New),
         change(40_000, 1, 0, Kind::Occupied),
         change(40_000, 1, 1, Kind::New),
-    ];
-    assert_eq!(rt;
-        changes.report(rt.alloc(), &tree)?.as_slice(),
-        want.as_slice()
-    );
+    ]
+}
+
+#[test]
+fn reports_each_pair_of_classes_in_the_order_of_voxels(rt: HostRuntime) -> Result<(), Fail> {
+    let tree = two_children(rt.alloc())?;
+    let mut changes = Changes::new(rt.alloc());
+    for (x, y, z, before) in NOTES {
+        note(&mut changes, key(x, y, z), before)?;
+    }
+    expect_report(&rt, rt.alloc(), &changes, &tree, &wanted())?;
     // Without the notes of voxels that were noted before it is the same report.
-    assert_eq!(rt; changes.len(), 11);
-    changes.compact()?;
-    assert_eq!(rt; changes.len(), 9);
-    assert_eq!(rt;
-        changes.report(rt.alloc(), &tree)?.as_slice(),
-        want.as_slice()
-    );
+    expect_len(&rt, &changes, 11);
+    expect_compact(&rt, &mut changes);
+    expect_len(&rt, &changes, 9);
+    expect_report(&rt, rt.alloc(), &changes, &tree, &wanted())?;
 
     changes.mark();
-    assert!(rt; changes.report(rt.alloc(), &tree)?.as_slice().is_empty());
-    Ok(())
+    expect_report(&rt, rt.alloc(), &changes, &tree, &[])
+}
+
+/// The changes where all voxels become occupied, and three were noted before.
+fn all_new() -> [Change; 3] {
+    [
+        change(7, 6, 8, Kind::New),
+        change(7, 7, 6, Kind::New),
+        change(7, 7, 7, Kind::New),
+    ]
 }
 
 #[test]
@@ -102,23 +151,15 @@ fn notes_what_stands_before_a_change(rt: HostRuntime) -> Result<(), Fail> {
     let odds = OddsModel::default();
     let mut tree = OccTree::new(rt.alloc(), res, odds);
     let mut changes = Changes::new(rt.alloc());
-    changes.reserve(3)?;
-    changes.note_class(&tree, key(7, 7, 7));
-    changes.note_class(&tree, key(7, 7, 6));
-    changes.note_class(&tree, key(7, 6, 8));
+    note_classes(
+        &mut changes,
+        &tree,
+        [key(7, 7, 7), key(7, 7, 6), key(7, 6, 8)],
+    )?;
     tree.set_place(Place::Root, leaf(odds, 850));
-    assert_eq!(rt;
-        changes.report(rt.alloc(), &tree)?.as_slice(),
-        [
-            change(7, 6, 8, Kind::New),
-            change(7, 7, 6, Kind::New),
-            change(7, 7, 7, Kind::New),
-        ]
-        .as_slice()
-    );
+    expect_report(&rt, rt.alloc(), &changes, &tree, &all_new())?;
 
     // A change that is undone is none.
     tree.set_place(Place::Root, Node::Absent);
-    assert!(rt; changes.report(rt.alloc(), &tree)?.as_slice().is_empty());
-    Ok(())
+    expect_report(&rt, rt.alloc(), &changes, &tree, &[])
 }

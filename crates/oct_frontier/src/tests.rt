@@ -70,16 +70,34 @@ fn ask(
     frontier(alloc, tree, lo, hi, most)
 }
 
-/// Whether the frontier of a box has these voxels, in this order.
-fn has(
+/// Expects that the frontier of a box has these voxels, in this order.
+fn expect_frontier(
     rt: &impl Abort,
     alloc: Global,
     tree: &OccTree,
     lo: Key,
     hi: Key,
     want: &[Key],
-) -> Result<bool, FrontierFault> {
-    Ok(ask(rt, alloc, tree, lo, hi, 1000)?.as_slice() == want)
+) -> Result<(), Fail> {
+    let found = ask(rt, alloc, tree, lo, hi, 1000)?;
+    assert_eq!(rt; found.as_slice(), want);
+    Ok(())
+}
+
+/// Expects that the frontier of the whole map has these voxels.
+fn expect_all(rt: &impl Abort, alloc: Global, tree: &OccTree, want: &[Key]) -> Result<(), Fail> {
+    expect_frontier(rt, alloc, tree, all(0), all(65_535), want)
+}
+
+/// Expects that the voxel is in the frontier of its own box, or that it isn't.
+fn expect_one(
+    rt: &impl Abort,
+    alloc: Global,
+    tree: &OccTree,
+    k: Key,
+    want: &[Key],
+) -> Result<(), Fail> {
+    expect_frontier(rt, alloc, tree, k, k, want)
 }
 
 /// Whether the frontier of the whole map has more voxels than that.
@@ -90,37 +108,58 @@ fn has_more(rt: &impl Abort, alloc: Global, tree: &OccTree, most: u64) -> bool {
     )
 }
 
+/// Expects that the frontier of the whole map has more voxels than that, or that it hasn't.
+fn expect_more(rt: &impl Abort, alloc: Global, tree: &OccTree, most: u64, want: bool) {
+    assert_eq!(rt; has_more(rt, alloc, tree, most), want);
+}
+
+/// Expects this voxel at that place of a list.
+fn expect_listed(rt: &impl Abort, list: &KeyList, index: usize, want: Key) {
+    assert_eq!(rt; list.as_slice().get(index), Some(&want));
+}
+
+/// Expects that the frontier of a cube of edge 3 has all its voxels but the middle one.
+fn expect_shell(rt: &impl Abort, alloc: Global, tree: &OccTree) -> Result<(), Fail> {
+    let shell = ask(rt, alloc, tree, all(32_768), all(32_770), 26)?;
+    assert_eq!(rt; shell.as_slice().len(), 26);
+    expect_listed(rt, &shell, 0, all(32_768));
+    expect_listed(rt, &shell, 12, key(32_769, 32_769, 32_768));
+    expect_listed(rt, &shell, 13, key(32_769, 32_769, 32_770));
+    expect_listed(rt, &shell, 25, all(32_770));
+    Ok(())
+}
+
 #[test]
 fn lists_free_voxels_beside_unknown_ones(rt: HostRuntime) -> Result<(), Fail> {
     let mut tree = world(rt.alloc())?;
-    assert!(rt; has(&rt, rt.alloc(), &tree, all(0), all(65_535), &[])?);
+    expect_all(&rt, rt.alloc(), &tree, &[])?;
     // One free voxel.
-    apply(&rt, &mut tree, all(32_768), all(32_768), FREE);
-    let one = [all(32_768)];
-    assert!(rt; has(&rt, rt.alloc(), &tree, all(32_768), all(32_768), &one)?);
-    assert!(rt; has(&rt, rt.alloc(), &tree, all(0), all(65_535), &one)?);
-    assert!(rt; has(&rt, rt.alloc(), &tree, all(0), all(32_767), &[])?);
+    let one = all(32_768);
+    apply(&rt, &mut tree, one, one, FREE);
+    expect_one(&rt, rt.alloc(), &tree, one, &[one])?;
+    expect_all(&rt, rt.alloc(), &tree, &[one])?;
+    expect_frontier(&rt, rt.alloc(), &tree, all(0), all(32_767), &[])?;
     // A cube of them: all but the middle one.
-    apply(&rt, &mut tree, all(32_768), all(32_770), FREE);
-    let shell = ask(&rt, rt.alloc(), &tree, all(32_768), all(32_770), 26)?;
-    assert_eq!(rt; shell.as_slice().len(), 26);
-    assert_eq!(rt; shell.as_slice().first(), Some(&all(32_768)));
-    assert_eq!(rt;
-        shell.as_slice().get(12),
-        Some(&key(32_769, 32_769, 32_768))
-    );
-    assert_eq!(rt;
-        shell.as_slice().get(13),
-        Some(&key(32_769, 32_769, 32_770))
-    );
-    assert_eq!(rt; shell.as_slice().last(), Some(&all(32_770)));
-    assert!(rt; has_more(&rt, rt.alloc(), &tree, 25));
-    assert!(rt; !has_more(&rt, rt.alloc(), &tree, 26));
+    apply(&rt, &mut tree, one, all(32_770), FREE);
+    expect_shell(&rt, rt.alloc(), &tree)?;
+    expect_more(&rt, rt.alloc(), &tree, 25, true);
+    expect_more(&rt, rt.alloc(), &tree, 26, false);
     // An occupied voxel is none, and what is beside it alone isn't either.
     apply(&rt, &mut tree, all(32_767), all(32_771), OCCUPIED);
     apply(&rt, &mut tree, all(32_769), all(32_769), FREE);
-    assert!(rt; has(&rt, rt.alloc(), &tree, all(0), all(65_535), &[])?);
-    Ok(())
+    expect_all(&rt, rt.alloc(), &tree, &[])
+}
+
+/// The voxels on the six faces of the voxel 32,768.
+fn faces() -> [Key; 6] {
+    [
+        key(32_767, 32_768, 32_768),
+        key(32_768, 32_767, 32_768),
+        key(32_768, 32_768, 32_767),
+        key(32_768, 32_768, 32_769),
+        key(32_768, 32_769, 32_768),
+        key(32_769, 32_768, 32_768),
+    ]
 }
 
 #[test]
@@ -130,27 +169,31 @@ fn passes_over_large_blocks(rt: HostRuntime) -> Result<(), Fail> {
     apply(&rt, &mut tree, all(0), key(32_767, 65_535, 65_535), FREE);
     let border = key(32_767, 32_768, 32_768);
     let behind = key(32_766, 32_768, 32_768);
-    assert!(rt; has(&rt, rt.alloc(), &tree, border, border, &[border])?);
-    assert!(rt; has(&rt, rt.alloc(), &tree, behind, behind, &[])?);
-    assert!(rt; has_more(&rt, rt.alloc(), &tree, 1000));
+    expect_one(&rt, rt.alloc(), &tree, border, &[border])?;
+    expect_one(&rt, rt.alloc(), &tree, behind, &[])?;
+    expect_more(&rt, rt.alloc(), &tree, 1000, true);
     // All of it is: nothing beyond the map counts.
     apply(&rt, &mut tree, all(0), all(65_535), FREE);
-    assert!(rt; has(&rt, rt.alloc(), &tree, all(0), all(65_535), &[])?);
+    expect_all(&rt, rt.alloc(), &tree, &[])?;
     // One voxel is unknown: those on its six faces.
     apply(&rt, &mut tree, all(32_768), all(32_768), Event::Forget);
-    let faces = [
-        key(32_767, 32_768, 32_768),
-        key(32_768, 32_767, 32_768),
-        key(32_768, 32_768, 32_767),
-        key(32_768, 32_768, 32_769),
-        key(32_768, 32_769, 32_768),
-        key(32_769, 32_768, 32_768),
-    ];
-    assert!(rt; has(&rt, rt.alloc(), &tree, all(0), all(65_535), &faces)?);
-    for face in faces {
-        assert!(rt; has(&rt, rt.alloc(), &tree, face, face, &[face])?);
+    expect_all(&rt, rt.alloc(), &tree, &faces())?;
+    for face in faces() {
+        expect_one(&rt, rt.alloc(), &tree, face, &[face])?;
     }
     Ok(())
+}
+
+/// The voxels beside the lowest and the highest one of the map.
+fn corners() -> [Key; 6] {
+    [
+        key(0, 0, 1),
+        key(0, 1, 0),
+        key(1, 0, 0),
+        key(65_534, 65_535, 65_535),
+        key(65_535, 65_534, 65_535),
+        key(65_535, 65_535, 65_534),
+    ]
 }
 
 #[test]
@@ -159,16 +202,7 @@ fn looks_at_the_corners_of_the_map(rt: HostRuntime) -> Result<(), Fail> {
     apply(&rt, &mut tree, all(0), all(65_535), FREE);
     apply(&rt, &mut tree, all(0), all(0), Event::Forget);
     apply(&rt, &mut tree, all(65_535), all(65_535), Event::Forget);
-    let corners = [
-        key(0, 0, 1),
-        key(0, 1, 0),
-        key(1, 0, 0),
-        key(65_534, 65_535, 65_535),
-        key(65_535, 65_534, 65_535),
-        key(65_535, 65_535, 65_534),
-    ];
-    assert!(rt; has(&rt, rt.alloc(), &tree, all(0), all(65_535), &corners)?);
-    Ok(())
+    expect_all(&rt, rt.alloc(), &tree, &corners())
 }
 
 /// Whether the voxel of these numbers is in the map and unknown.
@@ -240,26 +274,31 @@ fn scribble(rt: &impl Abort, tree: &mut OccTree, low: u16, seed: u32)
     }
 }
 
+/// Expects that the frontier of a scribbled cube is what a look at each of its voxels finds.
+fn expect_agreement(rt: &impl Abort, alloc: Global, low: u16, seed: u32) -> Result<(), Fail> {
+    assert!(rt; low <= 65_532);
+    let mut tree = world(alloc)?;
+    scribble(rt, &mut tree, low, seed);
+    let want = borders(alloc, &tree, low)?;
+    expect_frontier(rt, alloc, &tree, all(low), all(low + 3), &want)
+}
+
+/// The lowest numbers of cubes, and seeds.
+const CUBES: [(u16, u32); 8] = [
+    (0, 1),
+    (32_766, 2),
+    (32_766, 3),
+    (32_767, 4),
+    (32_768, 5),
+    (40_001, 6),
+    (65_532, 7),
+    (65_532, 8),
+];
+
 #[test]
 fn agrees_with_a_look_at_each_voxel(rt: HostRuntime) -> Result<(), Fail> {
-    for (low, seed) in [
-        (0, 1),
-        (32_766, 2),
-        (32_766, 3),
-        (32_767, 4),
-        (32_768, 5),
-        (40_001, 6),
-        (65_532, 7),
-        (65_532, 8),
-    ] {
-        assert!(rt; low <= 65_532);
-        let mut tree = world(rt.alloc())?;
-        scribble(&rt, &mut tree, low, seed);
-        let want = borders(rt.alloc(), &tree, low)?;
-        assert!(rt;
-            has(&rt, rt.alloc(), &tree, all(low), all(low + 3), &want)?,
-            "seed {seed}"
-        );
+    for (low, seed) in CUBES {
+        expect_agreement(&rt, rt.alloc(), low, seed)?;
     }
     Ok(())
 }

@@ -5,10 +5,11 @@ ghost use Rattle.std.specs.Prelude.{◌≤◌};
 use crate::{Generator, gen_script, generate};
 use oct_io::{CalmSink, KeptList, MemSink, SinkFault, Source};
 use std::alloc::Global;
+use std::process::Abort;
 use std::test::Fail;
 
-/// A seed, how many scans of how many points, and their script.
-const SCRIPTS: [(u64, u32, u32, &str); 7] = [
+/// Seeds, how many scans of how many points, and their scripts.
+const SCRIPTS: &[(u64, u32, u32, &str)] = &[
     (7, 0, 0, "# octomap gen 7 0 0\nquit\n"),
     (7, 0, 100_000, "# octomap gen 7 0 100000\nquit\n"),
     (
@@ -63,13 +64,35 @@ fn script(alloc: Global, seed: u64, scans: u32, points: u32) -> Result<Vec<u8>, 
     Ok(text)
 }
 
-#[test]
-fn writes_the_scripts_of_the_table(rt: HostRuntime) -> Result<(), Fail> {
-    for (seed, scans, points, want) in SCRIPTS {
-        let text = script(rt.alloc(), seed, scans, points)?;
-        assert_eq!(rt; text.as_slice(), want.as_bytes(), "{seed} {scans} {points}");
+/// Expects that this is the script of a seed.
+fn expect_script(
+    rt: &impl Abort,
+    alloc: Global,
+    seed: u64,
+    scans: u32,
+    points: u32,
+    want: &str,
+) -> Result<(), Fail> {
+    let text = script(alloc, seed, scans, points)?;
+    assert_eq!(rt; text.as_slice(), want.as_bytes(), "{seed} {scans} {points}");
+    Ok(())
+}
+
+/// Expects the scripts of a table.
+fn expect_scripts(
+    rt: &impl Abort,
+    alloc: Global,
+    cases: &[(u64, u32, u32, &str)],
+) -> Result<(), Fail> {
+    for (seed, scans, points, want) in cases {
+        expect_script(rt, alloc, *seed, *scans, *points, want)?;
     }
     Ok(())
+}
+
+#[test]
+fn writes_the_scripts_of_the_table(rt: HostRuntime) -> Result<(), Fail> {
+    expect_scripts(&rt, rt.alloc(), SCRIPTS)
 }
 
 #[test]

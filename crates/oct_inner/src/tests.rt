@@ -1,4 +1,4 @@
-ghost use Rattle.std.specs.Prelude.{◌≡◌, ◌≤◌, Some, IfSome};
+ghost use Rattle.std.specs.Prelude.{◌≡◌, ◌≤◌, Some, IfOk, IfSome};
 ghost use Rattle.oct_key.specs.Block.{Cube};
 ghost use Rattle.oct_odds.specs.Odds.{IsSmall};
 ghost use Rattle.oct_arena.specs.Entries.{home_at};
@@ -11,6 +11,8 @@ use oct_key::Res;
 use oct_odds::{Event, OddsModel};
 use oct_tree::{OccTree, Place};
 use std::alloc::Global;
+use std::process::Abort;
+use std::test::Fail;
 
 /// What stands at a place, without the ids.
 #[derive(Clone, Copy, Debug, PartialEq, Eq)]
@@ -95,96 +97,105 @@ fn put(tree: &mut OccTree, p: Place, depth: u8, path: &[u8], value: i32) -> bool
 }
 
 /// The tree of the unknown world, with room for n groups.
-fn unknown(alloc: Global, n: u32) -> Option<OccTree>
+fn unknown(alloc: Global, n: u32) -> Result<OccTree, Fail>
     requires { n ≤ 100 }
-    ensures { IfSome result (λ tree. IsWellFormed tree) }
+    ensures { IfOk result (λ tree. IsWellFormed tree) }
 {
-    let res = Res::new(100_000_000).ok()?;
-    let mut tree = OccTree::new(alloc, res, OddsModel::default());
-    tree.reserve(n).ok()?;
-    Some(tree)
+    let mut tree = OccTree::new(alloc, Res::new(100_000_000)?, OddsModel::default());
+    tree.reserve(n)?;
+    Ok(tree)
+}
+
+/// Puts a leaf at the end of the path, and splits the leaves on the way.
+fn expect_put(rt: &impl Abort, tree: &mut OccTree, path: &[u8], value: i32)
+    requires formed { IsWellFormed tree.old }
+    requires small { IsSmall value }
+    ensures { IsWellFormed tree.new }
+{
+    assert!(rt; put(tree, Place::Root, 0, path, value));
+}
+
+/// Expects that this stands at the end of the path.
+fn expect_at(rt: &impl Abort, tree: &OccTree, path: &[u8], want: Seen) {
+    assert_eq!(rt; at_path(tree, path), want);
+}
+
+/// Expects so many groups.
+fn expect_groups(rt: &impl Abort, tree: &OccTree, want: u32) {
+    assert_eq!(rt; tree.arena().live(), want);
 }
 
 /// A tree whose children are 100 but for the fourth, which is 850, and the sixth, whose own
 /// children are -400. The Inner nodes have the value 100 that they began with.
-fn stale(alloc: Global) -> Option<OccTree>
-    ensures { IfSome result (λ tree. IsWellFormed tree) }
+fn stale(rt: &impl Abort, alloc: Global) -> Result<OccTree, Fail>
+    ensures { IfOk result (λ tree. IsWellFormed tree) }
 {
     let mut tree = unknown(alloc, 2)?;
-    let mut done = put(&mut tree, Place::Root, 0, &[], 100);
-    done &= put(&mut tree, Place::Root, 0, &[3], 850);
+    expect_put(rt, &mut tree, &[], 100);
+    expect_put(rt, &mut tree, &[3], 850);
     for i in 0..8 {
-        done &= put(&mut tree, Place::Root, 0, &[5, i], -400);
+        expect_put(rt, &mut tree, &[5, i], -400);
     }
-    done.then_some(tree)
+    Ok(tree)
 }
 
 #[test]
-fn refresh_mends_inner_values(rt: HostRuntime) {
-    let Some(mut tree) = unknown(rt.alloc(), 0) else {
-        panic!(rt; "no tree");
-    };
+fn refresh_mends_inner_values(rt: HostRuntime) -> Result<(), Fail> {
+    let mut tree = unknown(rt.alloc(), 0)?;
     refresh(&mut tree);
-    assert_eq!(rt; at_path(&tree, &[]), Seen::Absent);
+    expect_at(&rt, &tree, &[], Seen::Absent);
 
-    let Some(mut tree) = stale(rt.alloc()) else {
-        panic!(rt; "no tree");
-    };
-    assert_eq!(rt; at_path(&tree, &[]), Seen::Inner(100));
-    assert_eq!(rt; at_path(&tree, &[5]), Seen::Inner(100));
+    let mut tree = stale(&rt, rt.alloc())?;
+    expect_at(&rt, &tree, &[], Seen::Inner(100));
+    expect_at(&rt, &tree, &[5], Seen::Inner(100));
     refresh(&mut tree);
-    assert_eq!(rt; at_path(&tree, &[]), Seen::Inner(850));
-    assert_eq!(rt; at_path(&tree, &[0]), Seen::Leaf(100));
-    assert_eq!(rt; at_path(&tree, &[3]), Seen::Leaf(850));
-    assert_eq!(rt; at_path(&tree, &[5]), Seen::Inner(-400));
-    assert_eq!(rt; at_path(&tree, &[5, 7]), Seen::Leaf(-400));
-    assert_eq!(rt; tree.arena().live(), 2);
+    expect_at(&rt, &tree, &[], Seen::Inner(850));
+    expect_at(&rt, &tree, &[0], Seen::Leaf(100));
+    expect_at(&rt, &tree, &[3], Seen::Leaf(850));
+    expect_at(&rt, &tree, &[5], Seen::Inner(-400));
+    expect_at(&rt, &tree, &[5, 7], Seen::Leaf(-400));
+    expect_groups(&rt, &tree, 2);
+    Ok(())
 }
 
 #[test]
-fn prune_collapses_up_to_where_nodes_differ(rt: HostRuntime) {
-    let Some(mut tree) = unknown(rt.alloc(), 2) else {
-        panic!(rt; "no tree");
-    };
+fn prune_collapses_up_to_where_nodes_differ(rt: HostRuntime) -> Result<(), Fail> {
+    let mut tree = unknown(rt.alloc(), 2)?;
     prune(&mut tree);
-    assert_eq!(rt; at_path(&tree, &[]), Seen::Absent);
-    assert!(rt; put(&mut tree, Place::Root, 0, &[], 850));
-    assert!(rt; put(&mut tree, Place::Root, 0, &[2, 3], 850));
-    assert_eq!(rt; at_path(&tree, &[2, 3]), Seen::Leaf(850));
-    assert_eq!(rt; tree.arena().live(), 2);
+    expect_at(&rt, &tree, &[], Seen::Absent);
+    expect_put(&rt, &mut tree, &[], 850);
+    expect_put(&rt, &mut tree, &[2, 3], 850);
+    expect_at(&rt, &tree, &[2, 3], Seen::Leaf(850));
+    expect_groups(&rt, &tree, 2);
     prune(&mut tree);
-    assert_eq!(rt; at_path(&tree, &[]), Seen::Leaf(850));
-    assert_eq!(rt; tree.arena().live(), 0);
+    expect_at(&rt, &tree, &[], Seen::Leaf(850));
+    expect_groups(&rt, &tree, 0);
 
-    let Some(mut tree) = stale(rt.alloc()) else {
-        panic!(rt; "no tree");
-    };
+    let mut tree = stale(&rt, rt.alloc())?;
     prune(&mut tree);
-    assert_eq!(rt; at_path(&tree, &[]), Seen::Inner(100));
-    assert_eq!(rt; at_path(&tree, &[3]), Seen::Leaf(850));
-    assert_eq!(rt; at_path(&tree, &[5]), Seen::Leaf(-400));
-    assert_eq!(rt; tree.arena().live(), 1);
+    expect_at(&rt, &tree, &[], Seen::Inner(100));
+    expect_at(&rt, &tree, &[3], Seen::Leaf(850));
+    expect_at(&rt, &tree, &[5], Seen::Leaf(-400));
+    expect_groups(&rt, &tree, 1);
+    Ok(())
 }
 
 #[test]
-fn maximum_likelihood_makes_known_voxels_sure(rt: HostRuntime) {
-    let Some(mut tree) = unknown(rt.alloc(), 0) else {
-        panic!(rt; "no tree");
-    };
+fn maximum_likelihood_makes_known_voxels_sure(rt: HostRuntime) -> Result<(), Fail> {
+    let mut tree = unknown(rt.alloc(), 0)?;
     maximum_likelihood(&mut tree);
-    assert_eq!(rt; at_path(&tree, &[]), Seen::Absent);
+    expect_at(&rt, &tree, &[], Seen::Absent);
     // A value at the threshold is occupied.
-    assert!(rt; put(&mut tree, Place::Root, 0, &[], 0));
+    expect_put(&rt, &mut tree, &[], 0);
     maximum_likelihood(&mut tree);
-    assert_eq!(rt; at_path(&tree, &[]), Seen::Leaf(3500));
+    expect_at(&rt, &tree, &[], Seen::Leaf(3500));
 
-    let Some(mut tree) = stale(rt.alloc()) else {
-        panic!(rt; "no tree");
-    };
+    let mut tree = stale(&rt, rt.alloc())?;
     maximum_likelihood(&mut tree);
-    assert_eq!(rt; at_path(&tree, &[]), Seen::Inner(3500));
-    assert_eq!(rt; at_path(&tree, &[0]), Seen::Leaf(3500));
-    assert_eq!(rt; at_path(&tree, &[3]), Seen::Leaf(3500));
-    assert_eq!(rt; at_path(&tree, &[5]), Seen::Leaf(-2000));
-    assert_eq!(rt; tree.arena().live(), 1);
+    expect_at(&rt, &tree, &[], Seen::Inner(3500));
+    expect_at(&rt, &tree, &[0], Seen::Leaf(3500));
+    expect_at(&rt, &tree, &[3], Seen::Leaf(3500));
+    expect_at(&rt, &tree, &[5], Seen::Leaf(-2000));
+    expect_groups(&rt, &tree, 1);
+    Ok(())
 }

@@ -81,19 +81,23 @@ impl Sink for CalmSink {
 #[cfg(test)]
 mod tests {
     use super::*;
-    use crate::sink::write_all;
-    use std::test::Fail;
+    use crate::tests::{expect_write, expect_write_all};
+    use std::process::Abort;
+
+    // Expects that these bytes were written so far.
+    fn expect_written(rt: &impl Abort, sink: &CalmSink, want: &[u8]) {
+        assert_eq!(rt; sink.written(), want);
+    }
 
     #[test]
-    fn a_sink_of_three_bytes_a_write_gets_whole_pieces(rt: HostRuntime) -> Result<(), Fail> {
+    fn a_sink_of_three_bytes_a_write_gets_whole_pieces(rt: HostRuntime) {
         let mut sink = CalmSink::new(rt.alloc(), 3);
-        write_all(&mut sink, b"")?;
-        write_all(&mut sink, b"occupied")?;
-        assert_eq!(rt; sink.written(), b"occupied".as_slice());
-        assert_eq!(rt; sink.write(b" or free")?, 3);
-        assert_eq!(rt; sink.write(b"")?, 0);
-        assert_eq!(rt; sink.write(b" ")?, 1);
-        assert_eq!(rt; sink.written(), b"occupied or ".as_slice());
-        Ok(())
+        expect_write_all(&rt, &mut sink, b"", Ok(()));
+        expect_write_all(&rt, &mut sink, b"occupied", Ok(()));
+        expect_written(&rt, &sink, b"occupied");
+        expect_write(&rt, &mut sink, b" or free", Ok(3));
+        expect_write(&rt, &mut sink, b"", Ok(0));
+        expect_write(&rt, &mut sink, b" ", Ok(1));
+        expect_written(&rt, &sink, b"occupied or ");
     }
 }

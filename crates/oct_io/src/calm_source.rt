@@ -67,6 +67,7 @@ impl Source for CalmSource {
 mod tests {
     use super::*;
     use std::alloc::Global;
+    use std::process::Abort;
     use std::test::Fail;
 
     // The lengths of twelve reads into a buffer of this room, and the bytes that they moved.
@@ -86,23 +87,30 @@ mod tests {
         Ok((lengths, bytes))
     }
 
+    // Expects these lengths of the reads, and all bytes in order.
+    fn expect_reads(
+        rt: &impl Abort,
+        alloc: Global,
+        most: usize,
+        room: usize,
+        want: [usize; 12],
+    ) -> Result<(), Fail>
+        requires some { 0 < most }
+        requires room { room ≤ 16 }
+    {
+        let (lengths, bytes) = reads(alloc, most, room)?;
+        assert_eq!(rt; lengths.as_slice(), want.as_slice());
+        assert_eq!(rt; bytes.as_slice(), b"0123456789".as_slice());
+        Ok(())
+    }
+
     #[test]
     fn every_length_of_read_gives_the_same_bytes(rt: HostRuntime) -> Result<(), Fail> {
         let alloc = rt.alloc();
-        let cases = [
-            (reads(alloc, 1, 16)?, [1, 1, 1, 1, 1, 1, 1, 1, 1, 1, 0, 0]),
-            (reads(alloc, 2, 16)?, [2, 2, 2, 2, 2, 0, 0, 0, 0, 0, 0, 0]),
-            (reads(alloc, 7, 16)?, [7, 3, 0, 0, 0, 0, 0, 0, 0, 0, 0, 0]),
-            (
-                reads(alloc, 4096, 16)?,
-                [10, 0, 0, 0, 0, 0, 0, 0, 0, 0, 0, 0],
-            ),
-            (reads(alloc, 7, 4)?, [4, 4, 2, 0, 0, 0, 0, 0, 0, 0, 0, 0]),
-        ];
-        for ((lengths, bytes), expected) in &cases {
-            assert_eq!(rt; lengths.as_slice(), expected.as_slice());
-            assert_eq!(rt; bytes.as_slice(), b"0123456789".as_slice());
-        }
-        Ok(())
+        expect_reads(&rt, alloc, 1, 16, [1, 1, 1, 1, 1, 1, 1, 1, 1, 1, 0, 0])?;
+        expect_reads(&rt, alloc, 2, 16, [2, 2, 2, 2, 2, 0, 0, 0, 0, 0, 0, 0])?;
+        expect_reads(&rt, alloc, 7, 16, [7, 3, 0, 0, 0, 0, 0, 0, 0, 0, 0, 0])?;
+        expect_reads(&rt, alloc, 4096, 16, [10, 0, 0, 0, 0, 0, 0, 0, 0, 0, 0, 0])?;
+        expect_reads(&rt, alloc, 7, 4, [4, 4, 2, 0, 0, 0, 0, 0, 0, 0, 0, 0])
     }
 }

@@ -88,19 +88,25 @@ impl From<Vec<u8>> for FileBytes {
 #[cfg(test)]
 mod tests {
     use super::*;
+    use std::process::Abort;
     use std::test::Fail;
+
+    // Expects these bytes, by the answers of all calls that look at them.
+    fn expect_bytes(rt: &impl Abort, bytes: &FileBytes, want: &[u8]) {
+        assert_eq!(rt; bytes.as_slice(), want);
+        assert_eq!(rt; bytes.len(), want.len());
+        assert_eq!(rt; bytes.is_empty(), want.is_empty());
+    }
 
     #[test]
     fn bytes_stand_in_the_order_of_their_adding(rt: HostRuntime) -> Result<(), Fail> {
         let mut bytes = FileBytes::new(rt.alloc());
-        assert!(rt; bytes.is_empty());
+        expect_bytes(&rt, &bytes, b"");
         bytes.push(b'm')?;
         bytes.extend_from_slice(b"ap")?;
-        assert_eq!(rt; bytes.as_slice(), b"map".as_slice());
-        assert_eq!(rt; bytes.len(), 3);
-        assert!(rt; !bytes.is_empty());
+        expect_bytes(&rt, &bytes, b"map");
         let taken_over = FileBytes::from(vec![in rt.alloc(); 1, 2]?);
-        assert_eq!(rt; taken_over.as_slice(), [1, 2].as_slice());
+        expect_bytes(&rt, &taken_over, &[1, 2]);
         Ok(())
     }
 }

@@ -140,41 +140,47 @@ impl<R: Files + Drop> Store for FolderStore<R> {
 #[cfg(test)]
 mod tests {
     use super::*;
+    use crate::tests::{expect_bytes, expect_missing, expect_no_load, expect_save};
+    use std::process::Abort;
     use std::test::Fail;
+
+    // Expects that so many loads and saves have failed.
+    fn expect_faults<R: Files + Drop>(rt: &impl Abort, store: &FolderStore<R>, want: u64) {
+        assert_eq!(rt; store.faults, want);
+    }
+
+    // Expects that a load finds a file that is too large.
+    fn expect_too_large<F: Store>(rt: &impl Abort, alloc: Global, store: &mut F, name: &str) {
+        assert!(rt; matches!(store.load(alloc, name), Ok(Loaded::TooLarge)));
+    }
 
     #[test]
     fn faults_are_counted_and_absent_or_large_files_are_none(rt: HostRuntime) -> Result<(), Fail> {
         let alloc = rt.alloc();
         let mut store = FolderStore::new(&rt);
         fs::create(&rt, "large.bt")?.set_len((1 << 30) + 1)?;
-        assert!(rt; matches!(store.load(alloc, "large.bt")?, Loaded::TooLarge));
+        expect_too_large(&rt, alloc, &mut store, "large.bt");
         fs::remove_file(&rt, "large.bt")?;
-        assert!(rt; matches!(store.load(alloc, "no_folder/map.bt")?, Loaded::Missing));
-        assert_eq!(rt; store.faults, 0);
+        expect_missing(&rt, alloc, &mut store, "no_folder/map.bt");
+        expect_faults(&rt, &store, 0);
 
         // A folder can be opened, and has no bytes to read. A file has no files in it, which is
         // another fault than that there is no such file.
-        assert!(rt; matches!(store.load(alloc, "."), Err(StoreFault::Failed)));
-        assert_eq!(rt; store.faults, 1);
-        store.save("map.bt", b"bytes")?;
-        assert!(rt; matches!(store.load(alloc, "map.bt/map.bt"), Err(StoreFault::Failed)));
-        assert_eq!(rt; store.faults, 2);
+        let failed = Err(StoreFault::Failed);
+        expect_no_load(&rt, alloc, &mut store, ".");
+        expect_faults(&rt, &store, 1);
+        expect_save(&rt, &mut store, "map.bt", b"bytes", Ok(()));
+        expect_no_load(&rt, alloc, &mut store, "map.bt/map.bt");
+        expect_faults(&rt, &store, 2);
 
         // A save that fails leaves the old file whole, and no part of a new one.
-        assert_eq!(rt;
-            store.save("map.bt/map.bt", b"more bytes"),
-            Err(StoreFault::Failed)
-        );
-        assert_eq!(rt; store.faults, 3);
-        let kept = store.load(alloc, "map.bt")?;
-        assert!(rt; matches!(&kept, Loaded::Bytes(old) if old.as_slice() == b"bytes".as_slice()));
-        assert!(rt; matches!(store.load(alloc, PART)?, Loaded::Missing));
+        expect_save(&rt, &mut store, "map.bt/map.bt", b"more bytes", failed);
+        expect_faults(&rt, &store, 3);
+        expect_bytes(&rt, alloc, &mut store, "map.bt", b"bytes");
+        expect_missing(&rt, alloc, &mut store, PART);
         fs::remove_file(&rt, "map.bt")?;
-        assert_eq!(rt;
-            store.save("no_folder/map.bt", b"bytes"),
-            Err(StoreFault::Failed)
-        );
-        assert_eq!(rt; store.faults, 4);
+        expect_save(&rt, &mut store, "no_folder/map.bt", b"bytes", failed);
+        expect_faults(&rt, &store, 4);
         Ok(())
     }
 }

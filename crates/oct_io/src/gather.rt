@@ -1,6 +1,6 @@
 //! Bytes on their way to a sink.
 ghost use Rattle.std.specs.Prelude.{◌≡◌, ◌<◌, ◌≤◌, ◌+◌, ◌++◌, ℕ, [], length, take, drop, OnErr};
-ghost use Rattle.std.specs.Prelude.{OnOk, IsTrue};
+ghost use Rattle.std.specs.Prelude.{OnOk};
 ghost use Rattle.oct_io.specs.Counts.{IsWriteCounted};
 ghost use Rattle.oct_io.specs.Gathered.{handed_on};
 ghost use Rattle.oct_io.specs.Taken.{IsCutOff, IsRefused, IsTaken};

@@ -84,8 +84,8 @@ impl<W: Write + Drop> Sink for StdSink<W> {
 #[cfg(test)]
 mod tests {
     use super::*;
-    use crate::sink::write_all;
-    use std::test::Fail;
+    use crate::tests::{expect_write, expect_write_all};
+    use std::process::Abort;
 
     // Takes one byte, then none, then is out of memory, and then fails.
     #[derive(Drop)]
@@ -109,24 +109,37 @@ mod tests {
         }
     }
 
-    #[test]
-    fn a_writer_gets_its_bytes_and_its_failures_are_counted(rt: HostRuntime) -> Result<(), Fail> {
-        let mut sink = StdSink::new(Vec::new(rt.alloc()));
-        write_all(&mut sink, b"ok\n")?;
-        assert_eq!(rt; sink.write(b"")?, 0);
-        assert_eq!(rt; sink.writer.as_slice(), b"ok\n".as_slice());
-        assert_eq!(rt; sink.faults, 0);
+    // Expects that so many writes have failed, and so many have run out of memory.
+    fn expect_counts<W: Write + Drop>(
+        rt: &impl Abort,
+        sink: &StdSink<W>,
+        faults: u64,
+        shortages: u64,
+    ) {
+        assert_eq!(rt; sink.faults, faults);
+        assert_eq!(rt; sink.shortages, shortages);
+    }
 
+    #[test]
+    fn a_writer_gets_its_bytes(rt: HostRuntime) {
+        let mut sink = StdSink::new(Vec::new(rt.alloc()));
+        expect_write_all(&rt, &mut sink, b"ok\n", Ok(()));
+        expect_write(&rt, &mut sink, b"", Ok(0));
+        assert_eq!(rt; sink.writer.as_slice(), b"ok\n".as_slice());
+        expect_counts(&rt, &sink, 0, 0);
+    }
+
+    #[test]
+    fn the_failures_of_a_writer_are_counted(rt: HostRuntime) {
         let mut sink = StdSink::new(Filling { writes: 0 });
-        assert_eq!(rt; write_all(&mut sink, b"ok\n"), Err(SinkFault::Failed));
-        assert_eq!(rt; sink.faults, 1);
-        assert_eq!(rt; sink.write(b"ok\n"), Err(SinkFault::Memory));
-        assert_eq!(rt; (sink.faults, sink.shortages), (1, 1));
-        assert_eq!(rt; sink.write(b"ok\n"), Err(SinkFault::Failed));
-        assert_eq!(rt; (sink.faults, sink.shortages), (2, 1));
+        expect_write_all(&rt, &mut sink, b"ok\n", Err(SinkFault::Failed));
+        expect_counts(&rt, &sink, 1, 0);
+        expect_write(&rt, &mut sink, b"ok\n", Err(SinkFault::Memory));
+        expect_counts(&rt, &sink, 1, 1);
+        expect_write(&rt, &mut sink, b"ok\n", Err(SinkFault::Failed));
+        expect_counts(&rt, &sink, 2, 1);
         sink.faults = u64::MAX;
-        assert_eq!(rt; sink.write(b"ok\n"), Err(SinkFault::Failed));
-        assert_eq!(rt; sink.faults, u64::MAX);
-        Ok(())
+        expect_write(&rt, &mut sink, b"ok\n", Err(SinkFault::Failed));
+        expect_counts(&rt, &sink, u64::MAX, 1);
     }
 }

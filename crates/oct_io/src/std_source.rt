@@ -58,6 +58,7 @@ impl<R: Read + Drop> Source for StdSource<R> {
 mod tests {
     use super::*;
     use std::io;
+    use std::process::Abort;
     use std::test::Fail;
 
     // Gives a byte at every other read, and fails at those between.
@@ -77,25 +78,53 @@ mod tests {
         }
     }
 
-    #[test]
-    fn a_reader_gives_its_bytes_and_its_failures_are_counted(rt: HostRuntime) -> Result<(), Fail> {
+    // Expects that a read into a buffer of four bytes is answered so.
+    fn expect_read<R: Read + Drop>(
+        rt: &impl Abort,
+        source: &mut StdSource<R>,
+        want: Result<usize, Failed>,
+    ) {
         let mut buffer = [0u8; 4];
-        let mut source = StdSource::new(b"hit 0".as_slice());
-        for expected in [b"hit ".as_slice(), b"0".as_slice(), b"".as_slice()] {
-            let count = source.read(&mut buffer)?;
-            assert_eq!(rt; &buffer[..count], expected);
-        }
-        assert_eq!(rt; source.faults, 0);
+        assert_eq!(rt; source.read(&mut buffer), want);
+    }
 
-        let mut source = StdSource::new(Faltering { fails: false });
-        assert_eq!(rt; source.read(&mut buffer), Err(Failed));
-        assert_eq!(rt; source.read(&mut buffer), Ok(1));
-        assert_eq!(rt; source.read(&mut buffer), Err(Failed));
-        assert_eq!(rt; source.faults, 2);
-        source.faults = u64::MAX;
-        assert_eq!(rt; source.read(&mut buffer), Ok(1));
-        assert_eq!(rt; source.read(&mut buffer), Err(Failed));
-        assert_eq!(rt; source.faults, u64::MAX);
+    // Expects that such a read moves these bytes.
+    fn expect_bytes<R: Read + Drop>(
+        rt: &impl Abort,
+        source: &mut StdSource<R>,
+        want: &[u8],
+    ) -> Result<(), Fail> {
+        let mut buffer = [0u8; 4];
+        let count = source.read(&mut buffer)?;
+        assert_eq!(rt; &buffer[..count], want);
         Ok(())
+    }
+
+    // Expects that so many reads have failed.
+    fn expect_faults<R: Read + Drop>(rt: &impl Abort, source: &StdSource<R>, want: u64) {
+        assert_eq!(rt; source.faults, want);
+    }
+
+    #[test]
+    fn a_reader_gives_its_bytes(rt: HostRuntime) -> Result<(), Fail> {
+        let mut source = StdSource::new(b"hit 0".as_slice());
+        expect_bytes(&rt, &mut source, b"hit ")?;
+        expect_bytes(&rt, &mut source, b"0")?;
+        expect_bytes(&rt, &mut source, b"")?;
+        expect_faults(&rt, &source, 0);
+        Ok(())
+    }
+
+    #[test]
+    fn the_failures_of_a_reader_are_counted(rt: HostRuntime) {
+        let mut source = StdSource::new(Faltering { fails: false });
+        expect_read(&rt, &mut source, Err(Failed));
+        expect_read(&rt, &mut source, Ok(1));
+        expect_read(&rt, &mut source, Err(Failed));
+        expect_faults(&rt, &source, 2);
+        source.faults = u64::MAX;
+        expect_read(&rt, &mut source, Ok(1));
+        expect_read(&rt, &mut source, Err(Failed));
+        expect_faults(&rt, &source, u64::MAX);
     }
 }

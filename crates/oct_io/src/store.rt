@@ -97,32 +97,35 @@ mod tests {
     use super::*;
     use crate::calm_store::CalmStore;
     use crate::folder_store::FolderStore;
+    use crate::tests::{expect_bytes, expect_missing, expect_save};
     use std::fs;
     use std::process::Abort;
     use std::test::Fail;
 
     // Saves two files, one of them twice, and loads them and one that isn't there.
-    fn keeps_files<F: Store>(rt: &impl Abort, alloc: Global, store: &mut F) -> Result<(), Fail> {
-        assert!(rt; matches!(store.load(alloc, "one.bt")?, Loaded::Missing));
-        store.save("one.bt", b"first")?;
-        store.save("two.bt", b"")?;
-        store.save("one.bt", b"then")?;
-        let one = store.load(alloc, "one.bt")?;
-        assert!(rt; matches!(&one, Loaded::Bytes(bytes) if bytes.as_slice() == b"then".as_slice()));
-        let two = store.load(alloc, "two.bt")?;
-        assert!(rt; matches!(&two, Loaded::Bytes(bytes) if bytes.is_empty()));
-        assert!(rt; matches!(store.load(alloc, "one")?, Loaded::Missing));
-        Ok(())
+    fn keeps_files<F: Store>(rt: &impl Abort, alloc: Global, store: &mut F) {
+        expect_missing(rt, alloc, store, "one.bt");
+        expect_save(rt, store, "one.bt", b"first", Ok(()));
+        expect_save(rt, store, "two.bt", b"", Ok(()));
+        expect_save(rt, store, "one.bt", b"then", Ok(()));
+        expect_bytes(rt, alloc, store, "one.bt", b"then");
+        expect_bytes(rt, alloc, store, "two.bt", b"");
+        expect_missing(rt, alloc, store, "one");
+    }
+
+    // Expects that the store has these bytes under the name.
+    fn expect_file(rt: &impl Abort, store: &CalmStore, name: &str, want: Option<&[u8]>) {
+        assert_eq!(rt; store.file(name), want);
     }
 
     #[test]
     fn files_are_kept_by_name(rt: HostRuntime) -> Result<(), Fail> {
         let mut calm = CalmStore::new(rt.alloc());
-        keeps_files(&rt, rt.alloc(), &mut calm)?;
-        assert_eq!(rt; calm.file("one.bt"), Some(b"then".as_slice()));
-        assert_eq!(rt; calm.file("three.bt"), None);
+        keeps_files(&rt, rt.alloc(), &mut calm);
+        expect_file(&rt, &calm, "one.bt", Some(b"then".as_slice()));
+        expect_file(&rt, &calm, "three.bt", None);
 
-        keeps_files(&rt, rt.alloc(), &mut FolderStore::new(&rt))?;
+        keeps_files(&rt, rt.alloc(), &mut FolderStore::new(&rt));
         fs::remove_file(&rt, "one.bt")?;
         fs::remove_file(&rt, "two.bt")?;
         Ok(())

@@ -1,5 +1,5 @@
 //! What a gather hands to a sink, piece by piece, and calls that fail by their numbers.
-ghost use Rattle.std.specs.Prelude.{None};
+ghost use Rattle.std.specs.Prelude.{◌<◌, ◌≤◌, None};
 
 use crate::{
     CalmSink, Failed, FileBytes, Gather, KeptList, Loaded, MemSink, MemSource, MemStore, Sink,
@@ -7,6 +7,7 @@ use crate::{
 };
 use arrayvec::ArrayVec;
 use std::alloc::Global;
+use std::process::Abort;
 use std::test::Fail;
 
 /// Takes whole pieces, and notes how long each of the first four was.
@@ -37,83 +38,186 @@ fn list_of(alloc: Global, numbers: &[u64]) -> Result<KeptList, Fail> {
     Ok(list)
 }
 
-#[test]
-fn a_sink_gets_pieces_of_4096_bytes(rt: HostRuntime) -> Result<(), Fail> {
-    let bytes = [7u8; 10_000];
-    let cases: [(usize, usize, &[usize], &[usize]); 6] = [
-        (0, 1, &[], &[]),
-        (1, 1, &[], &[1]),
-        (4096, 999, &[], &[4096]),
-        (4097, 4097, &[4096], &[4096, 1]),
-        (5000, 999, &[4096], &[4096, 904]),
-        (10_000, 10_000, &[4096, 4096], &[4096, 4096, 1808]),
-    ];
-    for (total, length, before, after) in cases {
-        let mut sink = Noting {
-            lengths: ArrayVec::new(),
-        };
-        let mut gather = Gather::new();
-        for piece in bytes[..total].chunks(length) {
-            gather.push(&mut sink, piece)?;
-        }
-        assert_eq!(rt; sink.lengths.as_slice(), before, "{total} by {length}");
-        gather.flush(&mut sink)?;
-        gather.flush(&mut sink)?;
-        assert_eq!(rt; sink.lengths.as_slice(), after, "{total} by {length}");
+/// Expects that one write of the piece is answered so.
+pub(crate) fn expect_write<K: Sink>(
+    rt: &impl Abort,
+    sink: &mut K,
+    piece: &[u8],
+    want: Result<usize, SinkFault>,
+) {
+    assert_eq!(rt; sink.write(piece), want);
+}
+
+/// Expects that writing all of the piece is answered so.
+pub(crate) fn expect_write_all<K: Sink>(
+    rt: &impl Abort,
+    sink: &mut K,
+    piece: &[u8],
+    want: Result<(), SinkFault>,
+) {
+    assert_eq!(rt; write_all(sink, piece), want);
+}
+
+/// Expects that a push of the piece is answered so.
+fn expect_push<K: Sink>(
+    rt: &impl Abort,
+    gather: &mut Gather,
+    sink: &mut K,
+    piece: &[u8],
+    want: Result<(), SinkFault>,
+) {
+    assert_eq!(rt; gather.push(sink, piece), want);
+}
+
+/// Expects that a flush is answered so.
+fn expect_flush<K: Sink>(
+    rt: &impl Abort,
+    gather: &mut Gather,
+    sink: &mut K,
+    want: Result<(), SinkFault>,
+) {
+    assert_eq!(rt; gather.flush(sink), want);
+}
+
+/// Pushes the bytes in pieces of this length.
+fn push_by<K: Sink>(rt: &impl Abort, gather: &mut Gather, sink: &mut K, bytes: &[u8], length: usize)
+    requires { 0 < length }
+{
+    for piece in bytes.chunks(length) {
+        expect_push(rt, gather, sink, piece, Ok(()));
     }
-    Ok(())
+}
+
+/// Expects that the sink got pieces of these lengths.
+fn expect_lengths(rt: &impl Abort, sink: &Noting, want: &[usize]) {
+    assert_eq!(rt; sink.lengths.as_slice(), want);
+}
+
+/// Expects that of so many bytes, pushed in pieces of this length, the sink gets pieces of these
+/// lengths before a flush, and of these by then.
+fn expect_pieces(rt: &impl Abort, total: usize, length: usize, before: &[usize], after: &[usize])
+    requires within { total ≤ 10000 }
+    requires some { 0 < length }
+{
+    let bytes = [7u8; 10_000];
+    let mut sink = Noting {
+        lengths: ArrayVec::new(),
+    };
+    let mut gather = Gather::new();
+    push_by(rt, &mut gather, &mut sink, &bytes[..total], length);
+    expect_lengths(rt, &sink, before);
+    expect_flush(rt, &mut gather, &mut sink, Ok(()));
+    expect_flush(rt, &mut gather, &mut sink, Ok(()));
+    expect_lengths(rt, &sink, after);
+}
+
+/// How many bytes are pushed, in pieces of which length, and the lengths of the pieces that a sink
+/// gets before a flush and by then.
+type Pushed = (usize, usize, &'static [usize], &'static [usize]);
+
+const PUSHED: [Pushed; 6] = [
+    (0, 1, &[], &[]),
+    (1, 1, &[], &[1]),
+    (4096, 999, &[], &[4096]),
+    (4097, 4097, &[4096], &[4096, 1]),
+    (5000, 999, &[4096], &[4096, 904]),
+    (10_000, 10_000, &[4096, 4096], &[4096, 4096, 1808]),
+];
+
+#[test]
+fn a_sink_gets_pieces_of_4096_bytes(rt: HostRuntime) {
+    for (total, length, before, after) in PUSHED {
+        expect_pieces(&rt, total, length, before, after);
+    }
 }
 
 #[test]
-fn all_bytes_come_to_a_sink_that_takes_three_at_a_time(rt: HostRuntime) -> Result<(), Fail> {
+fn all_bytes_come_to_a_sink_that_takes_three_at_a_time(rt: HostRuntime) {
     let bytes = [7u8; 5000];
     let mut sink = CalmSink::new(rt.alloc(), 3);
     let mut gather = Gather::new();
-    for piece in bytes.chunks(999) {
-        gather.push(&mut sink, piece)?;
-    }
-    gather.flush(&mut sink)?;
+    push_by(&rt, &mut gather, &mut sink, &bytes, 999);
+    expect_flush(&rt, &mut gather, &mut sink, Ok(()));
     assert_eq!(rt; sink.written(), bytes.as_slice());
-    Ok(())
 }
 
 #[test]
 fn no_byte_is_held_after_an_error(rt: HostRuntime) -> Result<(), Fail> {
     let mut sink = MemSink::new(rt.alloc(), 9, list_of(rt.alloc(), &[1, 2])?);
     let mut gather = Gather::new();
-    gather.push(&mut sink, b"lost")?;
-    assert_eq!(rt; gather.flush(&mut sink), Err(SinkFault::Failed));
-    assert_eq!(rt; gather.flush(&mut sink), Ok(()));
-    assert_eq!(rt;
-        gather.push(&mut sink, [7u8; 4097].as_slice()),
-        Err(SinkFault::Failed)
-    );
-    assert_eq!(rt; gather.flush(&mut sink), Ok(()));
-    assert_eq!(rt; write_all(&mut sink, b"kept"), Ok(()));
+    let failed = Err(SinkFault::Failed);
+    expect_push(&rt, &mut gather, &mut sink, b"lost", Ok(()));
+    expect_flush(&rt, &mut gather, &mut sink, failed);
+    expect_flush(&rt, &mut gather, &mut sink, Ok(()));
+    expect_push(&rt, &mut gather, &mut sink, &[7; 4097], failed);
+    expect_flush(&rt, &mut gather, &mut sink, Ok(()));
+    expect_write_all(&rt, &mut sink, b"kept", Ok(()));
     assert_eq!(rt; sink.written(), b"kept".as_slice());
     Ok(())
+}
+
+/// Expects that a read into a buffer of eight bytes is answered so.
+fn expect_read(rt: &impl Abort, source: &mut MemSource, want: Result<usize, Failed>) {
+    let mut buffer = [0u8; 8];
+    assert_eq!(rt; source.read(&mut buffer), want);
 }
 
 #[test]
 fn reads_fail_by_their_numbers(rt: HostRuntime) -> Result<(), Fail> {
     let bytes = FileBytes::from_slice(rt.alloc(), b"abcdef")?;
     let mut source = MemSource::new(bytes, 4, list_of(rt.alloc(), &[3, 1])?);
-    let mut buffer = [0u8; 8];
     for want in [Err(Failed), Ok(4), Err(Failed), Ok(2), Ok(0)] {
-        assert_eq!(rt; source.read(&mut buffer), want);
+        expect_read(&rt, &mut source, want);
     }
     Ok(())
+}
+
+/// Expects that a save is answered so.
+pub(crate) fn expect_save<F: Store>(
+    rt: &impl Abort,
+    store: &mut F,
+    name: &str,
+    bytes: &[u8],
+    want: Result<(), StoreFault>,
+) {
+    assert_eq!(rt; store.save(name, bytes), want);
+}
+
+/// Expects that a load gives these bytes.
+pub(crate) fn expect_bytes<F: Store>(
+    rt: &impl Abort,
+    alloc: Global,
+    store: &mut F,
+    name: &str,
+    want: &[u8],
+) {
+    let loaded = store.load(alloc, name);
+    assert!(rt; matches!(&loaded, Ok(Loaded::Bytes(bytes)) if bytes.as_slice() == want));
+}
+
+/// Expects that a load finds no such file.
+pub(crate) fn expect_missing<F: Store>(rt: &impl Abort, alloc: Global, store: &mut F, name: &str) {
+    assert!(rt; matches!(store.load(alloc, name), Ok(Loaded::Missing)));
+}
+
+/// Expects that a load fails.
+pub(crate) fn expect_no_load<F: Store>(rt: &impl Abort, alloc: Global, store: &mut F, name: &str) {
+    assert!(rt; matches!(store.load(alloc, name), Err(StoreFault::Failed)));
+}
+
+/// Expects that the store has these bytes under the name.
+fn expect_file(rt: &impl Abort, store: &MemStore, name: &str, want: Option<&[u8]>) {
+    assert_eq!(rt; store.file(name), want);
 }
 
 #[test]
 fn loads_and_saves_fail_by_their_numbers(rt: HostRuntime) -> Result<(), Fail> {
     let mut store = MemStore::new(rt.alloc(), list_of(rt.alloc(), &[2, 3])?);
-    store.save("one.bt", b"first")?;
-    assert_eq!(rt; store.save("one.bt", b"then"), Err(StoreFault::Failed));
-    assert!(rt; matches!(store.load(rt.alloc(), "one.bt"), Err(StoreFault::Failed)));
-    let one = store.load(rt.alloc(), "one.bt")?;
-    assert!(rt; matches!(&one, Loaded::Bytes(bytes) if bytes.as_slice() == b"first".as_slice()));
-    assert_eq!(rt; store.file("one.bt"), Some(b"first".as_slice()));
-    assert_eq!(rt; store.file("two.bt"), None);
+    expect_save(&rt, &mut store, "one.bt", b"first", Ok(()));
+    expect_save(&rt, &mut store, "one.bt", b"then", Err(StoreFault::Failed));
+    expect_no_load(&rt, rt.alloc(), &mut store, "one.bt");
+    expect_bytes(&rt, rt.alloc(), &mut store, "one.bt", b"first");
+    expect_file(&rt, &store, "one.bt", Some(b"first".as_slice()));
+    expect_file(&rt, &store, "two.bt", None);
     Ok(())
 }

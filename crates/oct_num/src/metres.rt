@@ -205,79 +205,119 @@ fn nanometres_per_unit(digits: usize) -> u64
 #[cfg(test)]
 mod tests {
     use super::*;
+    use std::process::Abort;
     use std::test::Fail;
 
     const NM: i64 = 1_000_000_000;
 
+    /// Lengths in metres, and their nanometres.
+    const LENGTHS: &[(&str, i64)] = &[
+        ("0", 0),
+        ("1", NM),
+        ("-1", -NM),
+        ("0.05", 50_000_000),
+        ("1.5", 1_500_000_000),
+        ("007.250", 7_250_000_000),
+        ("-0", 0),
+        ("-0.0", 0),
+        ("0000000", 0),
+        ("0.000000001", 1),
+        ("-0.000000001", -1),
+        ("1234567.123456789", 1_234_567_123_456_789),
+        ("9999999.999999999", 9_999_999_999_999_999),
+        ("-9999999.999999999", -9_999_999_999_999_999),
+    ];
+
+    /// Expects that a text is a length of so many nanometres.
+    fn expect_length(rt: &impl Abort, text: &str, want: i64) {
+        assert_eq!(rt; read_metres(text.as_bytes()), Ok(want), "at {text:?}");
+    }
+
+    /// Expects that each text of a table is its length.
+    fn expect_lengths(rt: &impl Abort, cases: &[(&str, i64)]) {
+        for (text, want) in cases {
+            expect_length(rt, text, *want);
+        }
+    }
+
     #[test]
     fn reads_metres_as_nanometres(rt: HostRuntime) {
-        for (text, want) in [
-            ("0", 0),
-            ("1", NM),
-            ("-1", -NM),
-            ("0.05", 50_000_000),
-            ("1.5", 1_500_000_000),
-            ("007.250", 7_250_000_000),
-            ("-0", 0),
-            ("-0.0", 0),
-            ("0000000", 0),
-            ("0.000000001", 1),
-            ("-0.000000001", -1),
-            ("1234567.123456789", 1_234_567_123_456_789),
-            ("9999999.999999999", 9_999_999_999_999_999),
-            ("-9999999.999999999", -9_999_999_999_999_999),
-        ] {
-            assert_eq!(rt; read_metres(text.as_bytes()), Ok(want), "at {text:?}");
+        expect_lengths(&rt, LENGTHS);
+    }
+
+    /// Texts that aren't numbers, and the bytes at which they stop being one.
+    const NO_NUMBERS: &[(&str, u64)] = &[
+        ("", 0),
+        ("-", 1),
+        (".5", 0),
+        ("-.5", 1),
+        ("1.", 2),
+        ("5.", 2),
+        ("-1.", 3),
+        ("1..2", 2),
+        ("1.2.3", 3),
+        ("1,5", 1),
+        ("+1", 0),
+        ("--1", 1),
+        ("1-", 1),
+        ("1.-5", 2),
+        ("1e5", 1),
+        ("1.5e3", 3),
+        (" 1", 0),
+        ("1 ", 1),
+        ("nan", 0),
+        ("½", 0),
+        ("12345678.", 9),
+        ("12345678x", 8),
+        ("1.1234567890x", 12),
+    ];
+
+    /// Expects that a text stops being a number at a byte.
+    fn expect_syntax(rt: &impl Abort, text: &str, at: u64) {
+        let want = Err(NumFault::Syntax { at });
+        assert_eq!(rt; read_metres(text.as_bytes()), want, "at {text:?}");
+    }
+
+    /// Expects that each text of a table stops being a number at its byte.
+    fn expect_syntaxes(rt: &impl Abort, cases: &[(&str, u64)]) {
+        for (text, at) in cases {
+            expect_syntax(rt, text, *at);
         }
     }
 
     #[test]
     fn finds_where_a_text_stops_being_a_number(rt: HostRuntime) {
-        for (text, at) in [
-            ("", 0),
-            ("-", 1),
-            (".5", 0),
-            ("-.5", 1),
-            ("1.", 2),
-            ("5.", 2),
-            ("-1.", 3),
-            ("1..2", 2),
-            ("1.2.3", 3),
-            ("1,5", 1),
-            ("+1", 0),
-            ("--1", 1),
-            ("1-", 1),
-            ("1.-5", 2),
-            ("1e5", 1),
-            ("1.5e3", 3),
-            (" 1", 0),
-            ("1 ", 1),
-            ("nan", 0),
-            ("½", 0),
-            ("12345678.", 9),
-            ("12345678x", 8),
-            ("1.1234567890x", 12),
-        ] {
-            let want = Err(NumFault::Syntax { at });
-            assert_eq!(rt; read_metres(text.as_bytes()), want, "at {text:?}");
+        expect_syntaxes(&rt, NO_NUMBERS);
+    }
+
+    /// Numbers of too many digits, and the bytes of the first digits too many.
+    const LONG_NUMBERS: &[(&str, u64)] = &[
+        ("12345678", 7),
+        ("-12345678", 8),
+        ("00000001", 7),
+        ("123456789.5", 7),
+        ("1.1234567890", 11),
+        ("-1.1234567890", 12),
+        ("1234567.0000000000", 17),
+        ("12345678.1234567890", 7),
+    ];
+
+    /// Expects that the first digit too many of a text is at a byte.
+    fn expect_excess(rt: &impl Abort, text: &str, at: u64) {
+        let want = Err(NumFault::Digits { at });
+        assert_eq!(rt; read_metres(text.as_bytes()), want, "at {text:?}");
+    }
+
+    /// Expects that each text of a table has its first digit too many at its byte.
+    fn expect_excesses(rt: &impl Abort, cases: &[(&str, u64)]) {
+        for (text, at) in cases {
+            expect_excess(rt, text, *at);
         }
     }
 
     #[test]
     fn finds_the_first_digit_too_many(rt: HostRuntime) {
-        for (text, at) in [
-            ("12345678", 7),
-            ("-12345678", 8),
-            ("00000001", 7),
-            ("123456789.5", 7),
-            ("1.1234567890", 11),
-            ("-1.1234567890", 12),
-            ("1234567.0000000000", 17),
-            ("12345678.1234567890", 7),
-        ] {
-            let want = Err(NumFault::Digits { at });
-            assert_eq!(rt; read_metres(text.as_bytes()), want, "at {text:?}");
-        }
+        expect_excesses(&rt, LONG_NUMBERS);
     }
 
     #[test]

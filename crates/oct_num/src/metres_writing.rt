@@ -85,34 +85,50 @@ pub fn push_metres(out: &mut Vec<u8>, nm: i64) -> Result<(), Memory>
 mod tests {
     use super::*;
     use crate::metres::read_metres;
+    use std::alloc::Global;
+    use std::process::Abort;
     use std::test::Fail;
 
     const NM: i64 = 1_000_000_000;
 
-    #[test]
-    fn writes_nanometres_as_metres(rt: HostRuntime) -> Result<(), Fail> {
-        for (nm, want) in [
-            (0, "0"),
-            (NM, "1"),
-            (-NM, "-1"),
-            (10 * NM, "10"),
-            (50_000_000, "0.05"),
-            (100_000_000, "0.1"),
-            (-170_000_000, "-0.17"),
-            (1_623_000_000, "1.623"),
-            (100_000, "0.0001"),
-            (1, "0.000000001"),
-            (-1, "-0.000000001"),
-            (9_999_999_999_999_999, "9999999.999999999"),
-            (i64::MAX, "9223372036.854775807"),
-            (i64::MIN, "-9223372036.854775808"),
-        ] {
-            assert_eq!(rt; metres_text(nm).as_str(), want, "at {nm}");
-            let mut out = Vec::from_slice(rt.alloc(), b"res ")?;
-            push_metres(&mut out, nm)?;
-            assert_eq!(rt; out.len(), 4 + want.len(), "at {nm}");
+    /// Lengths in nanometres, and their texts.
+    const TEXTS: &[(i64, &str)] = &[
+        (0, "0"),
+        (NM, "1"),
+        (-NM, "-1"),
+        (10 * NM, "10"),
+        (50_000_000, "0.05"),
+        (100_000_000, "0.1"),
+        (-170_000_000, "-0.17"),
+        (1_623_000_000, "1.623"),
+        (100_000, "0.0001"),
+        (1, "0.000000001"),
+        (-1, "-0.000000001"),
+        (9_999_999_999_999_999, "9999999.999999999"),
+        (i64::MAX, "9223372036.854775807"),
+        (i64::MIN, "-9223372036.854775808"),
+    ];
+
+    /// Expects that a length has a text, and that so many bytes are added to a list.
+    fn expect_text(rt: &impl Abort, alloc: Global, nm: i64, want: &str) -> Result<(), Fail> {
+        assert_eq!(rt; metres_text(nm).as_str(), want, "at {nm}");
+        let mut out = Vec::from_slice(alloc, b"res ")?;
+        push_metres(&mut out, nm)?;
+        assert_eq!(rt; out.len(), 4 + want.len(), "at {nm}");
+        Ok(())
+    }
+
+    /// Expects that each length of a table has its text.
+    fn expect_texts(rt: &impl Abort, alloc: Global, cases: &[(i64, &str)]) -> Result<(), Fail> {
+        for (nm, want) in cases {
+            expect_text(rt, alloc, *nm, want)?;
         }
         Ok(())
+    }
+
+    #[test]
+    fn writes_nanometres_as_metres(rt: HostRuntime) -> Result<(), Fail> {
+        expect_texts(&rt, rt.alloc(), TEXTS)
     }
 
     #[test]
@@ -122,10 +138,23 @@ mod tests {
         assert_eq!(rt; fraction_text(10, 500_005).as_str(), ".0000500005");
     }
 
+    /// Lengths in nanometres that can be read.
+    const LENGTHS: &[i64] = &[0, 1, -1, 50_000_000, -170_000_000, 9_999_999_999_999_999];
+
+    /// Expects that a length is read back from its text.
+    fn expect_read_back(rt: &impl Abort, nm: i64) {
+        assert_eq!(rt; read_metres(metres_text(nm).as_bytes()), Ok(nm), "at {nm}");
+    }
+
+    /// Expects that each of these lengths is read back from its text.
+    fn expect_all_read_back(rt: &impl Abort, lengths: &[i64]) {
+        for nm in lengths {
+            expect_read_back(rt, *nm);
+        }
+    }
+
     #[test]
     fn reads_back_what_it_writes(rt: HostRuntime) {
-        for nm in [0, 1, -1, 50_000_000, -170_000_000, 9_999_999_999_999_999] {
-            assert_eq!(rt; read_metres(metres_text(nm).as_bytes()), Ok(nm), "at {nm}");
-        }
+        expect_all_read_back(&rt, LENGTHS);
     }
 }

@@ -16,26 +16,40 @@ pub fn ceil_sqrt(n: u128) -> u64
 #[cfg(test)]
 mod tests {
     use super::*;
+    use std::process::Abort;
+
+    /// Numbers, and their roots rounded up.
+    const ROOTS: &[(u128, u64)] = &[
+        (0, 0),
+        (1, 1),
+        (2, 2),
+        (3, 2),
+        (4, 2),
+        (5, 3),
+        (9, 3),
+        (10, 4),
+        (1 << 110, 1 << 55),
+        ((1 << 110) - 1, 1 << 55),
+        ((1 << 110) + 1, (1 << 55) + 1),
+        ((1 << 112) - 1, 1 << 56),
+        (1 << 112, 1 << 56),
+    ];
+
+    /// Expects that the root of a number is rounded up to another.
+    fn expect_root(rt: &impl Abort, n: u128, want: u64) {
+        assert!(rt; n <= 1 << 112);
+        assert_eq!(rt; ceil_sqrt(n), want, "at {n}");
+    }
+
+    /// Expects that the root of each number of a table is rounded up to its partner.
+    fn expect_roots(rt: &impl Abort, cases: &[(u128, u64)]) {
+        for (n, want) in cases {
+            expect_root(rt, *n, *want);
+        }
+    }
 
     #[test]
     fn rounds_roots_up(rt: HostRuntime) {
-        for (n, want) in [
-            (0, 0),
-            (1, 1),
-            (2, 2),
-            (3, 2),
-            (4, 2),
-            (5, 3),
-            (9, 3),
-            (10, 4),
-            (1 << 110, 1 << 55),
-            ((1 << 110) - 1, 1 << 55),
-            ((1 << 110) + 1, (1 << 55) + 1),
-            ((1 << 112) - 1, 1 << 56),
-            (1 << 112, 1 << 56),
-        ] {
-            assert!(rt; n <= 1 << 112);
-            assert_eq!(rt; ceil_sqrt(n), want, "at {n}");
-        }
+        expect_roots(&rt, ROOTS);
     }
 }

@@ -1,4 +1,5 @@
 ghost use Rattle.std.specs.Prelude.{◌≡◌, IfOk};
+ghost use Rattle.oct_odds.specs.Odds.{IsSmall};
 ghost use Rattle.oct_odds.specs.Update.{IsSmallEvent};
 ghost use Rattle.oct_values.specs.Boxes as boxes;
 ghost use Rattle.oct_key.specs.Boxes.{IsBox};
@@ -62,56 +63,99 @@ fn expect_state(
     );
 }
 
+/// Each row: the number of a box's low corner on each axis, its high corner, and the need.
+const NEEDS: &[(u16, (u16, u16, u16), u128)] = &[
+    (32_768, (32_768, 32_768, 32_768), 16),
+    (32_768, (32_769, 32_768, 32_768), 16),
+    (32_768, (32_769, 32_769, 32_769), 15),
+    (32_767, (32_768, 32_768, 32_768), 121),
+    (0, (65_535, 65_535, 65_535), 0),
+];
+
+/// Expects this need of a box.
+fn expect_need(rt: &impl Abort, lo: Key, hi: (u16, u16, u16), want: u128) {
+    let (x, y, z) = hi;
+    assert_eq!(rt; need(rt, lo, Key { x, y, z }), want, "from {lo:?}");
+}
+
+/// Expects the need of each box.
+fn expect_needs(rt: &impl Abort, cases: &[(u16, (u16, u16, u16), u128)]) {
+    for (low, hi, want) in cases {
+        expect_need(rt, all(*low), *hi, *want);
+    }
+}
+
 #[test]
 fn counts_the_blocks_that_a_box_cuts(rt: HostRuntime) {
-    for (lo, hi, want) in [
-        (all(32_768), all(32_768), 16),
-        (
-            all(32_768),
-            Key {
-                x: 32_769,
-                y: 32_768,
-                z: 32_768,
-            },
-            16,
-        ),
-        (all(32_768), all(32_769), 15),
-        (all(32_767), all(32_768), 121),
-        (all(0), all(65_535), 0),
-    ] {
-        assert_eq!(rt; need(&rt, lo, hi), want, "from {lo:?}");
+    expect_needs(&rt, NEEDS);
+}
+
+/// An event, the numbers of a box's corners, the groups afterwards, and the values of a voxel in
+/// all boxes but that of voxel 5, and of one beside the small ones.
+type Edited = (Event, u16, u16, u32, Option<i32>, Option<i32>);
+
+/// Events in turn.
+const EDITS: &[Edited] = &[
+    (Event::Set(850), 0, 65_535, 0, Some(850), Some(850)),
+    (Event::Add(850), 0, 65_535, 0, Some(1700), Some(1700)),
+    (Event::Likely, 0, 65_535, 0, Some(3500), Some(3500)),
+    (Event::Add(-1), 0, 65_535, 0, Some(3499), Some(3499)),
+    (Event::Add(-99), 32_767, 32_768, 121, Some(3400), Some(3499)),
+    (Event::Set(3499), 32_767, 32_768, 0, Some(3499), Some(3499)),
+    (Event::Forget, 32_767, 32_767, 16, None, Some(3499)),
+    (Event::Forget, 0, 65_535, 0, None, None),
+    (Event::Set(-400), 5, 5, 16, None, None),
+    (Event::Likely, 0, 32_767, 16, None, None),
+    (Event::Set(7), 0, 32_767, 1, Some(7), Some(7)),
+    (Event::Add(-7), 0, 65_535, 1, Some(0), Some(0)),
+    (Event::Forget, 0, 65_535, 0, None, None),
+    (Event::Add(850), 32_767, 32_768, 121, Some(850), None),
+    (Event::Set(3500), 0, 65_535, 0, Some(3500), Some(3500)),
+    (Event::Add(850), 32_767, 32_768, 0, Some(3500), Some(3500)),
+];
+
+/// Expects that the number in an event is of at most a million.
+fn expect_small(rt: &impl Abort, event: Event)
+    ensures { IsSmallEvent event }
+{
+    match event {
+        Event::Add(n) => expect_small_number(rt, n),
+        Event::Set(n) => expect_small_number(rt, n),
+        _ => {}
+    }
+}
+
+/// Expects that a number is of at most a million.
+fn expect_small_number(rt: &impl Abort, n: i32)
+    ensures { IsSmall n }
+{
+    assert!(rt; n >= -1_000_000);
+    assert!(rt; n <= 1_000_000);
+}
+
+/// Applies an event to a box, and expects what a row says.
+fn expect_edit(rt: &impl Abort, tree: &mut OccTree, row: Edited)
+    requires { IsWellFormed tree.old }
+    ensures { IsWellFormed tree.new }
+{
+    let (event, low, high, groups, value, beside) = row;
+    expect_small(rt, event);
+    apply(rt, tree, all(low), all(high), event);
+    expect_state(rt, tree, groups, value, beside);
+}
+
+/// Applies each event to its box, and expects what its row says.
+fn expect_edits(rt: &impl Abort, tree: &mut OccTree, cases: &[Edited])
+    requires { IsWellFormed tree.old }
+{
+    for row in cases {
+        expect_edit(rt, tree, *row);
     }
 }
 
 #[test]
 fn applies_events_to_boxes(rt: HostRuntime) -> Result<(), Fail> {
     let mut tree = world(rt.alloc())?;
-    let low = all(0);
-    let high = all(65_535);
-    let within = all(32_767);
-    let above = all(32_768);
-    // Each row: an event, a box, the groups afterwards, and the values of a voxel in all boxes but
-    // that of voxel 5, and of one beside the small ones.
-    for (event, lo, hi, groups, value, beside) in [
-        (Event::Set(850), low, high, 0, Some(850), Some(850)),
-        (Event::Add(850), low, high, 0, Some(1700), Some(1700)),
-        (Event::Likely, low, high, 0, Some(3500), Some(3500)),
-        (Event::Add(-1), low, high, 0, Some(3499), Some(3499)),
-        (Event::Add(-99), within, above, 121, Some(3400), Some(3499)),
-        (Event::Set(3499), within, above, 0, Some(3499), Some(3499)),
-        (Event::Forget, within, within, 16, None, Some(3499)),
-        (Event::Forget, low, high, 0, None, None),
-        (Event::Set(-400), all(5), all(5), 16, None, None),
-        (Event::Likely, low, within, 16, None, None),
-        (Event::Set(7), low, within, 1, Some(7), Some(7)),
-        (Event::Add(-7), low, high, 1, Some(0), Some(0)),
-        (Event::Forget, low, high, 0, None, None),
-        (Event::Add(850), within, above, 121, Some(850), None),
-        (Event::Set(3500), low, high, 0, Some(3500), Some(3500)),
-        (Event::Add(850), within, above, 0, Some(3500), Some(3500)),
-    ] {
-        apply(&rt, &mut tree, lo, hi, event);
-        expect_state(&rt, &tree, groups, value, beside);
-    }
+    expect_edits(&rt, &mut tree, EDITS);
     Ok(())
 }

@@ -1,25 +1,40 @@
 use super::*;
+use std::process::Abort;
 
 /// The voxel of these three numbers.
-fn key(x: u16, y: u16, z: u16) -> Key {
+fn key(numbers: (u16, u16, u16)) -> Key {
+    let (x, y, z) = numbers;
     Key { x, y, z }
+}
+
+/// Pairs of voxels, and whether they are the corners of a box.
+const CORNERS: &[((u16, u16, u16), (u16, u16, u16), bool)] = &[
+    ((1, 2, 3), (4, 5, 6), true),
+    ((1, 2, 3), (1, 2, 3), true),
+    ((0, 0, 0), (65_535, 65_535, 65_535), true),
+    ((2, 2, 3), (1, 5, 6), false),
+    ((1, 6, 3), (4, 5, 6), false),
+    ((1, 2, 7), (4, 5, 6), false),
+];
+
+/// Expects whether two voxels are the corners of a box.
+fn expect_corners(rt: &impl Abort, lo: Key, hi: Key, accepted: bool) {
+    match Window::new(lo, hi) {
+        Some(window) => assert_eq!(rt; (window.lo(), window.hi(), true), (lo, hi, accepted)),
+        None => assert!(rt; !accepted, "from {lo:?} to {hi:?}"),
+    }
+}
+
+/// Expects whether each pair of a table is the corners of a box.
+fn expect_all_corners(rt: &impl Abort, cases: &[((u16, u16, u16), (u16, u16, u16), bool)]) {
+    for (lo, hi, accepted) in cases {
+        expect_corners(rt, key(*lo), key(*hi), *accepted);
+    }
 }
 
 #[test]
 fn a_box_has_its_lowest_corner_first(rt: HostRuntime) {
-    for (lo, hi, accepted) in [
-        (key(1, 2, 3), key(4, 5, 6), true),
-        (key(1, 2, 3), key(1, 2, 3), true),
-        (key(0, 0, 0), key(65_535, 65_535, 65_535), true),
-        (key(2, 2, 3), key(1, 5, 6), false),
-        (key(1, 6, 3), key(4, 5, 6), false),
-        (key(1, 2, 7), key(4, 5, 6), false),
-    ] {
-        match Window::new(lo, hi) {
-            Some(window) => assert_eq!(rt; (window.lo(), window.hi(), true), (lo, hi, accepted)),
-            None => assert!(rt; !accepted, "from {lo:?} to {hi:?}"),
-        }
-    }
+    expect_all_corners(&rt, CORNERS);
 }
 
 /// Whether the box of two corners holds a voxel, or `None` where they are those of no box.
@@ -28,20 +43,32 @@ fn holds(lo: Key, hi: Key, k: Key) -> Option<bool> {
     Some(window.holds(k))
 }
 
+/// Voxels, and whether the box from (10, 20, 30) to (12, 20, 35) holds them.
+const VOXELS: &[((u16, u16, u16), bool)] = &[
+    ((10, 20, 30), true),
+    ((12, 20, 35), true),
+    ((11, 20, 33), true),
+    ((9, 20, 30), false),
+    ((13, 20, 35), false),
+    ((11, 19, 33), false),
+    ((11, 21, 33), false),
+    ((11, 20, 29), false),
+    ((11, 20, 36), false),
+];
+
+/// Expects whether the box of two corners holds a voxel.
+fn expect_held(rt: &impl Abort, lo: Key, hi: Key, k: Key, held: bool) {
+    assert_eq!(rt; holds(lo, hi, k), Some(held), "at {k:?}");
+}
+
+/// Expects whether the box of two corners holds each voxel of a table.
+fn expect_all_held(rt: &impl Abort, lo: Key, hi: Key, cases: &[((u16, u16, u16), bool)]) {
+    for (k, held) in cases {
+        expect_held(rt, lo, hi, key(*k), *held);
+    }
+}
+
 #[test]
 fn a_box_holds_its_corners_and_what_lies_between(rt: HostRuntime) {
-    let (lo, hi) = (key(10, 20, 30), key(12, 20, 35));
-    for (k, held) in [
-        (key(10, 20, 30), true),
-        (key(12, 20, 35), true),
-        (key(11, 20, 33), true),
-        (key(9, 20, 30), false),
-        (key(13, 20, 35), false),
-        (key(11, 19, 33), false),
-        (key(11, 21, 33), false),
-        (key(11, 20, 29), false),
-        (key(11, 20, 36), false),
-    ] {
-        assert_eq!(rt; holds(lo, hi, k), Some(held), "at {k:?}");
-    }
+    expect_all_held(&rt, key((10, 20, 30)), key((12, 20, 35)), VOXELS);
 }

@@ -59,53 +59,79 @@ fn applies_each_event(rt: HostRuntime) {
     assert_eq!(rt; model.apply(Event::Likely, None), None);
 }
 
+/// Values, and what they count as.
+const CLASSES: &[(Option<i32>, Class)] = &[
+    (None, Class::Unknown),
+    (Some(-2000), Class::Free),
+    (Some(-1150), Class::Free),
+    (Some(-300), Class::Free),
+    (Some(-1), Class::Free),
+    (Some(0), Class::Occupied),
+    (Some(550), Class::Occupied),
+    (Some(3500), Class::Occupied),
+];
+
+/// Expects what a value counts as.
+fn expect_class(rt: &impl Abort, model: &OddsModel, value: Option<i32>, want: Class) {
+    assert_eq!(rt; model.class(value), want, "at {value:?}");
+}
+
+/// Expects what each value of a table counts as.
+fn expect_classes(rt: &impl Abort, model: &OddsModel, cases: &[(Option<i32>, Class)]) {
+    for (value, want) in cases {
+        expect_class(rt, model, *value, *want);
+    }
+}
+
 #[test]
 fn compares_with_the_threshold(rt: HostRuntime) {
-    let model = OddsModel::default();
-    for (value, want) in [
-        (None, Class::Unknown),
-        (Some(-2000), Class::Free),
-        (Some(-1150), Class::Free),
-        (Some(-300), Class::Free),
-        (Some(-1), Class::Free),
-        (Some(0), Class::Occupied),
-        (Some(550), Class::Occupied),
-        (Some(3500), Class::Occupied),
-    ] {
-        assert_eq!(rt; model.class(value), want, "at {value:?}");
+    expect_classes(&rt, &OddsModel::default(), CLASSES);
+}
+
+/// The numbers hit, miss, min, max and thr, and the first field at fault, if any.
+const FIELDS: &[(i32, i32, i32, i32, i32, Option<OddsField>)] = &[
+    (850, -400, -2000, 3500, 0, None),
+    (1, -1, 0, 1, 1, None),
+    (1, -1, -1, 0, 0, None),
+    (
+        1_000_000, -1_000_000, -1_000_000, 1_000_000, 1_000_000, None,
+    ),
+    (0, -400, -2000, 3500, 0, Some(OddsField::Hit)),
+    (1_000_001, -400, -2000, 3500, 0, Some(OddsField::Hit)),
+    (i32::MIN, 0, 1, -1, 5, Some(OddsField::Hit)),
+    (850, 0, -2000, 3500, 0, Some(OddsField::Miss)),
+    (850, -1_000_001, 1, 3500, 0, Some(OddsField::Miss)),
+    (850, i32::MIN, -2000, 3500, 0, Some(OddsField::Miss)),
+    (850, -400, 1, 3500, 2, Some(OddsField::Min)),
+    (850, -400, -1_000_001, -1, 0, Some(OddsField::Min)),
+    (850, -400, -2000, -1, 0, Some(OddsField::Max)),
+    (850, -400, -2000, 1_000_001, 2_000_000, Some(OddsField::Max)),
+    (850, -400, -2000, 3500, -2000, Some(OddsField::Thr)),
+    (850, -400, -2000, 3500, 3501, Some(OddsField::Thr)),
+    (850, -400, 0, 0, 0, Some(OddsField::Thr)),
+    (850, -400, -2000, 3500, i32::MAX, Some(OddsField::Thr)),
+];
+
+/// Expects the first field at fault of the numbers hit, miss, min, max and thr.
+fn expect_field(rt: &impl Abort, numbers: (i32, i32, i32, i32, i32), want: Option<OddsField>) {
+    let (hit, miss, min, max, thr) = numbers;
+    let found = match OddsModel::new(hit, miss, min, max, thr) {
+        Ok(_) => None,
+        Err(e) => Some(e.which),
+    };
+    assert_eq!(rt; found, want, "at {hit} {miss} {min} {max} {thr}");
+}
+
+/// Expects the first field at fault of each row of a table.
+fn expect_fields(rt: &impl Abort, cases: &[(i32, i32, i32, i32, i32, Option<OddsField>)]) {
+    for (hit, miss, min, max, thr, want) in cases {
+        expect_field(rt, (*hit, *miss, *min, *max, *thr), *want);
     }
 }
 
 #[test]
 fn names_the_first_field_at_fault(rt: HostRuntime) {
-    for (hit, miss, min, max, thr, want) in [
-        (850, -400, -2000, 3500, 0, None),
-        (1, -1, 0, 1, 1, None),
-        (1, -1, -1, 0, 0, None),
-        (
-            1_000_000, -1_000_000, -1_000_000, 1_000_000, 1_000_000, None,
-        ),
-        (0, -400, -2000, 3500, 0, Some(OddsField::Hit)),
-        (1_000_001, -400, -2000, 3500, 0, Some(OddsField::Hit)),
-        (i32::MIN, 0, 1, -1, 5, Some(OddsField::Hit)),
-        (850, 0, -2000, 3500, 0, Some(OddsField::Miss)),
-        (850, -1_000_001, 1, 3500, 0, Some(OddsField::Miss)),
-        (850, i32::MIN, -2000, 3500, 0, Some(OddsField::Miss)),
-        (850, -400, 1, 3500, 2, Some(OddsField::Min)),
-        (850, -400, -1_000_001, -1, 0, Some(OddsField::Min)),
-        (850, -400, -2000, -1, 0, Some(OddsField::Max)),
-        (850, -400, -2000, 1_000_001, 2_000_000, Some(OddsField::Max)),
-        (850, -400, -2000, 3500, -2000, Some(OddsField::Thr)),
-        (850, -400, -2000, 3500, 3501, Some(OddsField::Thr)),
-        (850, -400, 0, 0, 0, Some(OddsField::Thr)),
-        (850, -400, -2000, 3500, i32::MAX, Some(OddsField::Thr)),
-    ] {
-        let found = match OddsModel::new(hit, miss, min, max, thr) {
-            Ok(_) => None,
-            Err(e) => Some(e.which),
-        };
-        assert_eq!(rt; found, want, "at {hit} {miss} {min} {max} {thr}");
-    }
+    expect_fields(&rt, FIELDS);
 }
 
 #[test]

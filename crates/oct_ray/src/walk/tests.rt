@@ -35,148 +35,179 @@ fn key(x: i16, y: i16, z: i16) -> Key {
     }
 }
 
+/// Three numbers, one for each axis.
+type Triple = (i16, i16, i16);
+
+/// The ends of beams in hundredths of a metre, and the voxels that they meet, from the middle.
+const BEAMS: &[(Triple, Triple, &[Triple])] = &[
+    // A corner touched in one point: the voxel that holds it is met.
+    ((5, 15, 5), (15, 5, 5), &[(0, 1, 0), (1, 1, 0), (1, 0, 0)]),
+    // An exact diagonal meets no voxel beside it.
+    ((5, 5, 5), (25, 25, 5), &[(0, 0, 0), (1, 1, 0), (2, 2, 0)]),
+    (
+        (5, 5, 5),
+        (-15, -15, -15),
+        &[(0, 0, 0), (-1, -1, -1), (-2, -2, -2)],
+    ),
+    // A point to itself, inside and on faces.
+    ((5, -5, 5), (5, -5, 5), &[(0, -1, 0)]),
+    ((0, 10, -10), (0, 10, -10), &[(0, 1, -1)]),
+    // Along each axis from a face, up and down.
+    ((0, 0, 0), (20, 0, 0), &[(0, 0, 0), (1, 0, 0), (2, 0, 0)]),
+    ((0, 0, 0), (-20, 0, 0), &[(0, 0, 0), (-1, 0, 0), (-2, 0, 0)]),
+    ((0, 10, 0), (0, 25, 0), &[(0, 1, 0), (0, 2, 0)]),
+    ((0, 10, 0), (0, -1, 0), &[(0, 1, 0), (0, 0, 0), (0, -1, 0)]),
+    ((0, 0, -10), (0, 0, 10), &[(0, 0, -1), (0, 0, 0), (0, 0, 1)]),
+    (
+        (0, 0, -10),
+        (0, 0, -21),
+        &[(0, 0, -1), (0, 0, -2), (0, 0, -3)],
+    ),
+    // Two steps on one axis for each on another.
+    (
+        (5, 5, 5),
+        (25, 15, 5),
+        &[(0, 0, 0), (1, 0, 0), (1, 1, 0), (2, 1, 0)],
+    ),
+];
+
+/// The keys these many voxels from the middle.
+fn keys(alloc: Global, places: &[Triple]) -> Result<Vec<Key>, AllocError> {
+    let mut keys = Vec::new(alloc);
+    for (x, y, z) in places {
+        keys.push(key(*x, *y, *z))?;
+    }
+    Ok(keys)
+}
+
+/// Expects the voxels of the beam between two points.
+fn expect_beam(
+    rt: &impl Abort,
+    alloc: Global,
+    o: Point,
+    e: Point,
+    want: &[Triple],
+) -> Result<(), Fail> {
+    let met: Vec<Key> = walk(rt, Res::new(TENTH)?, o, e).collect(alloc)?;
+    let want = keys(alloc, want)?;
+    assert_eq!(rt; met.as_slice(), want.as_slice(), "from {o:?} to {e:?}");
+    Ok(())
+}
+
+/// Expects the voxels of each beam.
+fn expect_beams(
+    rt: &impl Abort,
+    alloc: Global,
+    cases: &[(Triple, Triple, &[Triple])],
+) -> Result<(), Fail> {
+    for (o, e, want) in cases {
+        expect_beam(rt, alloc, point_at(*o), point_at(*e), want)?;
+    }
+    Ok(())
+}
+
+/// The point at these many hundredths of a metre.
+fn point_at((x, y, z): Triple) -> Point {
+    hundredths(x, y, z)
+}
+
 #[test]
 fn lists_the_voxels_of_a_beam_in_order(rt: HostRuntime) -> Result<(), Fail> {
+    expect_beams(&rt, rt.alloc(), BEAMS)
+}
+
+/// Points, in hundredths of a metre.
+const POINTS: &[Triple] = &[
+    (5, 15, 5),
+    (15, 5, 5),
+    (0, 0, 0),
+    (30, 30, -30),
+    (-30, 20, 10),
+    (7, -13, 29),
+    (-20, -20, -20),
+    (40, -40, 0),
+];
+
+/// Expects that the beam back meets the voxels of the beam there in the exact reverse.
+fn expect_reverse(rt: &impl Abort, alloc: Global, o: Point, e: Point) -> Result<(), Fail> {
     let res = Res::new(TENTH)?;
-    for (o, e, want) in [
-        // A corner touched in one point: the voxel that holds it is met.
-        (
-            hundredths(5, 15, 5),
-            hundredths(15, 5, 5),
-            &[key(0, 1, 0), key(1, 1, 0), key(1, 0, 0)][..],
-        ),
-        // An exact diagonal meets no voxel beside it.
-        (
-            hundredths(5, 5, 5),
-            hundredths(25, 25, 5),
-            &[key(0, 0, 0), key(1, 1, 0), key(2, 2, 0)],
-        ),
-        (
-            hundredths(5, 5, 5),
-            hundredths(-15, -15, -15),
-            &[key(0, 0, 0), key(-1, -1, -1), key(-2, -2, -2)],
-        ),
-        // A point to itself, inside and on faces.
-        (hundredths(5, -5, 5), hundredths(5, -5, 5), &[key(0, -1, 0)]),
-        (
-            hundredths(0, 10, -10),
-            hundredths(0, 10, -10),
-            &[key(0, 1, -1)],
-        ),
-        // Along each axis from a face, up and down.
-        (
-            hundredths(0, 0, 0),
-            hundredths(20, 0, 0),
-            &[key(0, 0, 0), key(1, 0, 0), key(2, 0, 0)],
-        ),
-        (
-            hundredths(0, 0, 0),
-            hundredths(-20, 0, 0),
-            &[key(0, 0, 0), key(-1, 0, 0), key(-2, 0, 0)],
-        ),
-        (
-            hundredths(0, 10, 0),
-            hundredths(0, 25, 0),
-            &[key(0, 1, 0), key(0, 2, 0)],
-        ),
-        (
-            hundredths(0, 10, 0),
-            hundredths(0, -1, 0),
-            &[key(0, 1, 0), key(0, 0, 0), key(0, -1, 0)],
-        ),
-        (
-            hundredths(0, 0, -10),
-            hundredths(0, 0, 10),
-            &[key(0, 0, -1), key(0, 0, 0), key(0, 0, 1)],
-        ),
-        (
-            hundredths(0, 0, -10),
-            hundredths(0, 0, -21),
-            &[key(0, 0, -1), key(0, 0, -2), key(0, 0, -3)],
-        ),
-        // Two steps on one axis for each on another.
-        (
-            hundredths(5, 5, 5),
-            hundredths(25, 15, 5),
-            &[key(0, 0, 0), key(1, 0, 0), key(1, 1, 0), key(2, 1, 0)],
-        ),
-    ] {
-        let keys: Vec<Key> = walk(&rt, res, o, e).collect(rt.alloc())?;
-        assert_eq!(rt; keys.as_slice(), want, "from {o:?} to {e:?}");
+    let there: Vec<Key> = walk(rt, res, o, e).collect(alloc)?;
+    let mut back: Vec<Key> = walk(rt, res, e, o).collect(alloc)?;
+    back.reverse();
+    assert_eq!(rt; there, back, "from {o:?} to {e:?}");
+    Ok(())
+}
+
+/// Expects the exact reverse of the beam between each two points.
+fn expect_reverses(rt: &impl Abort, alloc: Global, points: &[Triple]) -> Result<(), Fail> {
+    for o in points {
+        for e in points {
+            expect_reverse(rt, alloc, point_at(*o), point_at(*e))?;
+        }
     }
     Ok(())
 }
 
 #[test]
 fn walks_back_in_the_exact_reverse(rt: HostRuntime) -> Result<(), Fail> {
-    let res = Res::new(TENTH)?;
-    let points = [
-        hundredths(5, 15, 5),
-        hundredths(15, 5, 5),
-        hundredths(0, 0, 0),
-        hundredths(30, 30, -30),
-        hundredths(-30, 20, 10),
-        hundredths(7, -13, 29),
-        hundredths(-20, -20, -20),
-        hundredths(40, -40, 0),
-    ];
-    for o in &points {
-        for e in &points {
-            let there: Vec<Key> = walk(&rt, res, *o, *e).collect(rt.alloc())?;
-            let mut back: Vec<Key> = walk(&rt, res, *e, *o).collect(rt.alloc())?;
-            back.reverse();
-            assert_eq!(rt; there, back, "from {o:?} to {e:?}");
-        }
-    }
+    expect_reverses(&rt, rt.alloc(), POINTS)
+}
+
+/// Expects the first and the last voxel of a beam, and how many it meets.
+fn expect_length(
+    rt: &impl Abort,
+    alloc: Global,
+    res: Res,
+    (o, e): (Point, Point),
+    voxels: usize,
+) -> Result<(), Fail> {
+    let keys: Vec<Key> = walk(rt, res, o, e).collect(alloc)?;
+    assert_eq!(rt; keys.first().copied(), res.key_of(o), "from {o:?}");
+    assert_eq!(rt; keys.last().copied(), res.key_of(e), "to {e:?}");
+    assert_eq!(rt; keys.len(), voxels, "from {o:?} to {e:?}");
     Ok(())
+}
+
+/// Expects the lengths of beams across the whole map in a resolution.
+fn expect_across(rt: &impl Abort, alloc: Global, nm: i64) -> Result<(), Fail> {
+    let res = Res::new(nm)?;
+    let edge = res.nm();
+    let half = 32_768 * edge;
+    let third = edge / 3;
+    // From corner to corner: each step is through an exact corner.
+    expect_length(rt, alloc, res, (cube(-half), cube(half - 1)), 65_536)?;
+    expect_length(rt, alloc, res, (cube(half - 1), cube(-half)), 65_536)?;
+    // One axis rises and one falls, and starts a nanometre nearer to its first face: no two faces
+    // are crossed together.
+    let o = Point {
+        x: -half,
+        y: half - 1,
+        z: 0,
+    };
+    let e = Point {
+        x: half - 1,
+        y: -half,
+        z: 0,
+    };
+    expect_length(rt, alloc, res, (o, e), 131_071)?;
+    // No two axes cross together: the longest list of a beam.
+    let o = Point {
+        x: -half,
+        y: -half + third,
+        z: -half + 2 * third,
+    };
+    let e = Point {
+        x: half - 1 - 2 * third,
+        y: half - 1 - third,
+        z: half - 1,
+    };
+    expect_length(rt, alloc, res, (o, e), 196_606)
 }
 
 #[test]
 fn walks_across_the_whole_map(rt: HostRuntime) -> Result<(), Fail> {
     for nm in [100_000, TENTH, 100_000_000_000] {
-        let res = Res::new(nm)?;
-        let edge = res.nm();
-        let half = 32_768 * edge;
-        let third = edge / 3;
-        for (o, e, voxels) in [
-            // From corner to corner: each step is through an exact corner.
-            (cube(-half), cube(half - 1), 65_536),
-            (cube(half - 1), cube(-half), 65_536),
-            // One axis rises and one falls, and starts a nanometre nearer to its first face: no two
-            // faces are crossed together.
-            (
-                Point {
-                    x: -half,
-                    y: half - 1,
-                    z: 0,
-                },
-                Point {
-                    x: half - 1,
-                    y: -half,
-                    z: 0,
-                },
-                131_071,
-            ),
-            // No two axes cross together: the longest list of a beam.
-            (
-                Point {
-                    x: -half,
-                    y: -half + third,
-                    z: -half + 2 * third,
-                },
-                Point {
-                    x: half - 1 - 2 * third,
-                    y: half - 1 - third,
-                    z: half - 1,
-                },
-                196_606,
-            ),
-        ] {
-            let keys: Vec<Key> = walk(&rt, res, o, e).collect(rt.alloc())?;
-            assert_eq!(rt; keys.first().copied(), res.key_of(o), "from {o:?}");
-            assert_eq!(rt; keys.last().copied(), res.key_of(e), "to {e:?}");
-            assert_eq!(rt; keys.len(), voxels, "from {o:?} to {e:?}");
-        }
+        expect_across(&rt, rt.alloc(), nm)?;
     }
     Ok(())
 }
@@ -257,30 +288,46 @@ fn number(key: u16) -> u8 {
     u8::try_from(key.wrapping_sub(LOWEST)).unwrap_or(u8::MAX)
 }
 
+/// Expects that voxels come in the order in which a beam goes through them.
+fn expect_order(rt: &impl Abort, keys: &[Key], o: Offset, e: Offset) {
+    let mut past = None;
+    for k in keys {
+        let voxel = Offset {
+            x: number(k.x),
+            y: number(k.y),
+            z: number(k.z),
+        };
+        let place = first_place(o, e, voxel);
+        assert!(rt; past < place, "{k:?} from {o:?} to {e:?}");
+        past = place;
+    }
+}
+
+/// Expects that a walk lists what the definition asks voxel by voxel of a block.
+fn expect_listed(
+    rt: &impl Abort,
+    alloc: Global,
+    block: &[Offset],
+    o: Offset,
+    e: Offset,
+) -> Result<(), Fail> {
+    let keys: Vec<Key> = walk(rt, Res::new(TENTH)?, point(o), point(e)).collect(alloc)?;
+    expect_order(rt, keys.as_slice(), o, e);
+    let met = block
+        .iter()
+        .filter(|k| first_place(o, e, **k).is_some())
+        .count();
+    assert_eq!(rt; keys.len(), met, "from {o:?} to {e:?}");
+    Ok(())
+}
+
 #[test]
 fn lists_what_the_definition_asks_voxel_by_voxel(rt: HostRuntime) -> Result<(), Fail> {
-    let res = Res::new(TENTH)?;
     let block = offsets(rt.alloc(), &[0, 1, 2])?;
     let points = offsets(rt.alloc(), &[0, 1, 3, 4])?;
     for o in &points {
         for e in &points {
-            let keys: Vec<Key> = walk(&rt, res, point(*o), point(*e)).collect(rt.alloc())?;
-            let mut past = None;
-            for k in &keys {
-                let voxel = Offset {
-                    x: number(k.x),
-                    y: number(k.y),
-                    z: number(k.z),
-                };
-                let place = first_place(*o, *e, voxel);
-                assert!(rt; past < place, "{k:?} from {o:?} to {e:?}");
-                past = place;
-            }
-            let met = block
-                .iter()
-                .filter(|k| first_place(*o, *e, **k).is_some())
-                .count();
-            assert_eq!(rt; keys.len(), met, "from {o:?} to {e:?}");
+            expect_listed(&rt, rt.alloc(), block.as_slice(), *o, *e)?;
         }
     }
     Ok(())

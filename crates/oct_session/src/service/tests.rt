@@ -66,11 +66,46 @@ fn ended<S: Source, K: Sink, F: Store>(
     (status, map)
 }
 
+/// How a session without files on the unknown world ends, and the map that it leaves.
+fn ended_alone<S: Source, K: Sink>(
+    alloc: Global,
+    max_bytes: u64,
+    source: &mut S,
+    sink: &mut K,
+) -> Result<(Status, OccMap), Fail>
+    requires { max_bytes ≤ 2 ^ 40 }
+{
+    let options = options(max_bytes)?;
+    let mut store = CalmStore::new(alloc);
+    Ok(ended(alloc, &options, source, sink, &mut store))
+}
+
 /// A source of a script in reads of this many bytes.
 fn script(alloc: Global, text: &str, most: usize) -> Result<CalmSource, Memory>
     requires { 0 < most }
 {
     Ok(CalmSource::new(FileBytes::from_slice(alloc, text.as_bytes())?, most))
+}
+
+/// Expects that a session ended so.
+fn expect_status(rt: &impl Abort, status: Status, want: Status) {
+    assert_eq!(rt; status, want);
+}
+
+/// Expects that a session on this script ended so, and what it wrote.
+fn expect_answer(
+    rt: &impl Abort,
+    text: &str,
+    (status, written): (Status, &[u8]),
+    (want, replies): (Status, &str),
+) {
+    assert_eq!(rt; status, want, "{text}");
+    assert_eq!(rt; written, replies.as_bytes(), "{text}");
+}
+
+/// Expects that the map has this many groups and nodes.
+fn expect_counts(rt: &impl Abort, map: &mut OccMap, groups: u32, nodes: u64) {
+    assert_eq!(rt; map.counts(), Counts { groups, nodes });
 }
 
 /// Expects that the voxels have these values, and that the map is stale or isn't.
@@ -101,12 +136,10 @@ fn expect_end(
     let text = "hit 0 0 0\nmiss 0.1 0 0 lazy\nget 0 0 0 0\nprune\n";
     let mut source = script(alloc, text, 7)?;
     let mut sink = CalmSink::new(alloc, 100);
-    let mut store = CalmStore::new(alloc);
-    let options = options(max_bytes)?;
-    let (status, mut map) = ended(alloc, &options, &mut source, &mut sink, &mut store);
-    assert_eq!(rt; status, want);
+    let (status, mut map) = ended_alone(alloc, max_bytes, &mut source, &mut sink)?;
+    expect_status(rt, status, want);
     expect_map(rt, &map, Some(850), beside, is_stale);
-    assert_eq!(rt; map.counts(), Counts { groups: 16, nodes });
+    expect_counts(rt, &mut map, 16, nodes);
     Ok(())
 }
 
@@ -176,24 +209,32 @@ fn expect_replies(
 ) -> Result<OccMap, Fail> {
     let mut source = script(alloc, text, 7)?;
     let mut sink = CalmSink::new(alloc, 100);
-    let mut store = CalmStore::new(alloc);
-    let options = options(1000)?;
-    let (status, map) = ended(alloc, &options, &mut source, &mut sink, &mut store);
-    assert_eq!(rt; status, want, "{text}");
-    assert_eq!(rt; sink.written(), replies.as_bytes(), "{text}");
+    let (status, map) = ended_alone(alloc, 1000, &mut source, &mut sink)?;
+    expect_answer(rt, text, (status, sink.written()), (want, replies));
     Ok(map)
+}
+
+/// Expects a row of [`BLOCKS`].
+fn expect_block(
+    rt: &impl Abort,
+    alloc: Global,
+    row: (&str, &str, Option<i32>, Option<i32>, bool),
+) -> Result<(), Fail> {
+    let (text, replies, origin, beside, is_stale) = row;
+    let want = if origin.is_some() {
+        Status::Done
+    } else {
+        Status::Refused
+    };
+    let map = expect_replies(rt, alloc, text, replies, want)?;
+    expect_map(rt, &map, origin, beside, is_stale);
+    Ok(())
 }
 
 #[test]
 fn a_block_has_one_reply(rt: HostRuntime) -> Result<(), Fail> {
-    for (text, replies, origin, beside, is_stale) in BLOCKS {
-        let want = if origin.is_some() {
-            Status::Done
-        } else {
-            Status::Refused
-        };
-        let map = expect_replies(&rt, rt.alloc(), text, replies, want)?;
-        expect_map(&rt, &map, origin, beside, is_stale);
+    for row in BLOCKS {
+        expect_block(&rt, rt.alloc(), row)?;
     }
     Ok(())
 }
@@ -204,10 +245,8 @@ fn the_lent_map_stands_for_the_lines_before_a_fault(rt: HostRuntime) -> Result<(
     let bytes = FileBytes::from_slice(rt.alloc(), text)?;
     let mut source = MemSource::new(bytes, 100, only(rt.alloc(), 2)?);
     let mut sink = CalmSink::new(rt.alloc(), 100);
-    let mut store = CalmStore::new(rt.alloc());
-    let options = options(1000)?;
-    let (status, map) = ended(rt.alloc(), &options, &mut source, &mut sink, &mut store);
-    assert_eq!(rt; status, Status::ReadFault);
+    let (status, map) = ended_alone(rt.alloc(), 1000, &mut source, &mut sink)?;
+    expect_status(&rt, status, Status::ReadFault);
     expect_map(&rt, &map, Some(850), Some(850), false);
     Ok(())
 }
@@ -218,10 +257,8 @@ fn the_lent_map_stands_for_the_line_whose_reply_was_not_written(
 ) -> Result<(), Fail> {
     let mut source = script(rt.alloc(), "hit 0 0 0 lazy\nhit 0.1 0 0\n", 100)?;
     let mut sink = MemSink::new(rt.alloc(), 100, only(rt.alloc(), 1)?);
-    let mut store = CalmStore::new(rt.alloc());
-    let options = options(1000)?;
-    let (status, map) = ended(rt.alloc(), &options, &mut source, &mut sink, &mut store);
-    assert_eq!(rt; status, Status::WriteFault);
+    let (status, map) = ended_alone(rt.alloc(), 1000, &mut source, &mut sink)?;
+    expect_status(&rt, status, Status::WriteFault);
     expect_map(&rt, &map, Some(850), None, true);
     Ok(())
 }

@@ -2,4 +2,4 @@ use Rattle.oct_tree.specs.Shape.{IsWellFormed}
 use Rattle.oct_inner.proofs.tests.stale.Given as goal
 
 abbrev pub invariant-loop-i : goal.invariant-loop-i
-invariant-loop-i l = IsWellFormed l.tree
+invariant-loop-i g l = IsWellFormed l.tree

@@ -2,7 +2,7 @@
 ghost use Rattle.std.specs.Prelude.{◌≤◌};
 
 use super::*;
-use oct_bt::{BtFault, Reader};
+use oct_bt::{BtFault, BtFile, Reader};
 
 /// A file of one occupied voxel at the origin's corner, in the records of sixteen blocks.
 const ONE_VOXEL: &[u8] = &[
@@ -17,6 +17,9 @@ const FIVE_VOXELS: &[u8] = &[
     0x06, 0x00, 0x03, 0x00, 0x02, 0x00,
 ];
 
+/// The values that these voxels get.
+const FIVE_VALUES: [(i8, i32); 5] = [(0, -2000), (1, -2000), (2, 3500), (3, -2000), (4, 3500)];
+
 /// The header of a file of one voxel, of this many metres.
 const ONE_HEADER: &str = "# Octomap OcTree binary file\nid OcTree\nsize 17\nres 0.1\ndata\n";
 
@@ -26,6 +29,25 @@ const FIVE_HEADER: &str = "# Octomap OcTree binary file\nid OcTree\nsize 24\nres
 
 const EMPTY_HEADER: &str = "# Octomap OcTree binary file\nid OcTree\nsize 0\nres 0.1\ndata\n";
 
+/// The file of a header and node data.
+fn file_of(alloc: Global, header: &str, data: &[u8]) -> Result<BtFile, BtFault> {
+    let mut reader = Reader::new(alloc);
+    reader.feed(header.as_bytes())?;
+    reader.feed(data)?;
+    reader.finish()
+}
+
+/// What a load of the file of a header and node data answers, where they are a file.
+fn loaded(
+    alloc: Global,
+    map: &mut OccMap,
+    header: &str,
+    data: &[u8],
+) -> Option<Result<(), MapFault>> {
+    let file = file_of(alloc, header, data).ok()?;
+    Some(map.load(&file))
+}
+
 /// Expects that a load of the file of a header and node data is answered so.
 fn expect_load(
     rt: &impl Abort,
@@ -33,13 +55,8 @@ fn expect_load(
     map: &mut OccMap,
     (header, data): (&str, &[u8]),
     want: Result<(), MapFault>,
-) -> Result<(), BtFault> {
-    let mut reader = Reader::new(alloc);
-    reader.feed(header.as_bytes())?;
-    reader.feed(data)?;
-    let file = reader.finish()?;
-    assert_eq!(rt; map.load(&file), want);
-    Ok(())
+) {
+    assert_eq!(rt; loaded(alloc, map, header, data), Some(want));
 }
 
 #[test]
@@ -60,14 +77,14 @@ fn leaves_the_map_where_a_load_is_refused(rt: HostRuntime) -> Result<(), Fail> {
         &mut map,
         (COARSE_HEADER, ONE_VOXEL),
         Err(other),
-    )?;
+    );
     expect_load(
         &rt,
         rt.alloc(),
         &mut map,
         (FIVE_HEADER, FIVE_VOXELS),
         Err(full),
-    )?;
+    );
     expect_stale(&rt, &map, true);
     expect_voxel(&rt, &map, BEFORE, Some(850));
     Ok(())
@@ -77,7 +94,7 @@ fn leaves_the_map_where_a_load_is_refused(rt: HostRuntime) -> Result<(), Fail> {
 fn takes_the_classes_of_a_file(rt: HostRuntime) -> Result<(), Fail> {
     let mut map = world(rt.alloc(), 19)?;
     expect_edit(&rt, &mut map, BEFORE, HIT, true, Ok(()));
-    expect_load(&rt, rt.alloc(), &mut map, (ONE_HEADER, ONE_VOXEL), Ok(()))?;
+    expect_load(&rt, rt.alloc(), &mut map, (ONE_HEADER, ONE_VOXEL), Ok(()));
     expect_stale(&rt, &map, false);
     expect_voxel(&rt, &map, BEFORE, None);
     expect_block(&rt, &map, ORIGIN, 0, Ok(Some(3500)));
@@ -87,9 +104,9 @@ fn takes_the_classes_of_a_file(rt: HostRuntime) -> Result<(), Fail> {
         &mut map,
         (FIVE_HEADER, FIVE_VOXELS),
         Ok(()),
-    )?;
-    expect_row(&rt, &map, [-2000, -2000, 3500, -2000, 3500]);
-    expect_load(&rt, rt.alloc(), &mut map, (EMPTY_HEADER, &[]), Ok(()))?;
+    );
+    expect_row(&rt, &map, FIVE_VALUES);
+    expect_load(&rt, rt.alloc(), &mut map, (EMPTY_HEADER, &[]), Ok(()));
     expect_block(&rt, &map, tenths(2, 0, 0), 0, Ok(None));
     Ok(())
 }
@@ -148,9 +165,20 @@ fn expect_setup(rt: &impl Abort, map: &OccMap, odds: OddsModel, window: Option<W
     assert!(rt; map.tree().odds() == odds && map.window() == window);
 }
 
-/// Expects that scans are restricted to the box of the two points.
-fn limit_to(rt: &impl Abort, map: &mut OccMap, lo: Point, hi: Point) {
-    assert_eq!(rt; map.limit(lo, hi), Ok(()));
+/// Expects that a restriction of scans to the box of the two points is answered so.
+fn expect_limit(
+    rt: &impl Abort,
+    map: &mut OccMap,
+    lo: Point,
+    hi: Point,
+    want: Result<(), MapFault>,
+) {
+    assert_eq!(rt; map.limit(lo, hi), want);
+}
+
+/// Expects that there are this many bytes.
+fn expect_len(rt: &impl Abort, bytes: &[u8], want: usize) {
+    assert_eq!(rt; bytes.len(), want);
 }
 
 #[test]
@@ -158,7 +186,7 @@ fn takes_the_values_of_a_snapshot(rt: HostRuntime) -> Result<(), Fail> {
     let mut map = world(rt.alloc(), 16)?;
     expect_edit(&rt, &mut map, BEFORE, HIT, true, Ok(()));
     let one = hits(rt.alloc(), 1)?;
-    assert_eq!(rt; one.len(), 149);
+    expect_len(&rt, &one, 149);
     expect_restore(&rt, &mut map, &one, Ok(16));
     expect_stale(&rt, &map, false);
     expect_voxel(&rt, &map, BEFORE, None);
@@ -169,7 +197,7 @@ fn takes_the_values_of_a_snapshot(rt: HostRuntime) -> Result<(), Fail> {
 #[test]
 fn takes_log_odds_and_box_of_version_2(rt: HostRuntime) -> Result<(), Fail> {
     let mut map = world(rt.alloc(), 16)?;
-    limit_to(&rt, &mut map, BEFORE, ORIGIN);
+    expect_limit(&rt, &mut map, BEFORE, ORIGIN, Ok(()));
     let standing = map.window();
     expect_restore(&rt, &mut map, OLD_WHOLE, Ok(0));
     expect_voxel(&rt, &map, BEFORE, Some(70));
@@ -206,7 +234,7 @@ const REFUSED: [(&[u8], MapFault); 3] = [
 #[test]
 fn leaves_the_map_where_a_restore_is_refused(rt: HostRuntime) -> Result<(), Fail> {
     let mut map = world(rt.alloc(), 16)?;
-    limit_to(&rt, &mut map, ORIGIN, ORIGIN);
+    expect_limit(&rt, &mut map, ORIGIN, ORIGIN, Ok(()));
     expect_edit(&rt, &mut map, ORIGIN, HIT, true, Ok(()));
     let standing = map.window();
     let two = hits(rt.alloc(), 2)?;

@@ -33,13 +33,12 @@ fn expect_session<F: Store>(
     options: &Options,
     store: &mut F,
     text: &str,
-    (want, replies): (Status, &str),
+    want: (Status, &str),
 ) -> Result<(), Memory> {
     let mut source = script(alloc, text, 100)?;
     let mut sink = CalmSink::new(alloc, 100);
     let (status, _) = ended(alloc, options, &mut source, &mut sink, store);
-    assert_eq!(rt; status, want, "{text}");
-    assert_eq!(rt; sink.written(), replies.as_bytes(), "{text}");
+    expect_answer(rt, text, (status, sink.written()), want);
     Ok(())
 }
 
@@ -92,15 +91,26 @@ const SAVES: [(&str, &str, &[u8], &[u8]); 6] = [
     ),
 ];
 
+/// Expects a row of [`SAVES`].
+fn expect_saved(
+    rt: &impl Abort,
+    alloc: Global,
+    options: &Options,
+    (text, replies, nodes, data): (&str, &str, &[u8], &[u8]),
+) -> Result<(), Memory> {
+    let mut store = CalmStore::new(alloc);
+    let done = (Status::Done, replies);
+    expect_session(rt, alloc, options, &mut store, text, done)?;
+    let wanted = file(alloc, nodes, data)?;
+    expect_file(rt, &store, "m", wanted.as_slice());
+    Ok(())
+}
+
 #[test]
 fn a_save_writes_the_canonical_file(rt: HostRuntime) -> Result<(), Fail> {
     let options = options(1000)?;
-    for (text, replies, nodes, data) in SAVES {
-        let mut store = CalmStore::new(rt.alloc());
-        let done = (Status::Done, replies);
-        expect_session(&rt, rt.alloc(), &options, &mut store, text, done)?;
-        let wanted = file(rt.alloc(), nodes, data)?;
-        expect_file(&rt, &store, "m", wanted.as_slice());
+    for row in SAVES {
+        expect_saved(&rt, rt.alloc(), &options, row)?;
     }
     Ok(())
 }

@@ -1,6 +1,6 @@
 use Rattle.std.proofs.Common.{All}
 use Rattle.oct_pose.specs.Reach.{IsInReach}
-use Rattle.oct_map.proofs.map.tests.wide_scan.Given as goal
+use Rattle.oct_map.proofs.map.tests.wide_points.Given as goal
 
 abbrev pub invariant-loop-y : goal.invariant-loop-y
 invariant-loop-y l = All IsInReach l.list
