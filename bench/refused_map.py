@@ -42,12 +42,13 @@ def run(last):
         left = shutil.ignore_patterns("out", "must-fail")
         shutil.copytree(os.path.join(ROOT, "crates"), os.path.join(folder, "crates"), ignore=left)
         shutil.copy(os.path.join(ROOT, "crates.txt"), folder)
-        map_folder = os.path.join(folder, "crates", "oct_map")
-        shutil.rmtree(os.path.join(map_folder, "src", "map", "tests"))
-        with open(os.path.join(map_folder, "src", "map", "tests.rt"), "w") as file:
+        tests = os.path.join(folder, "crates", "oct_map_tests")
+        shutil.rmtree(os.path.join(tests, "proofs"))
+        shutil.rmtree(os.path.join(tests, "src", "tests"))
+        with open(os.path.join(tests, "src", "tests.rt"), "w") as file:
             file.write(trial(last))
         call = ["rt", "try", "--test", "--fail-alloc", str(last)]
-        done = subprocess.run(call, cwd=map_folder, capture_output=True, text=True, check=False)
+        done = subprocess.run(call, cwd=tests, capture_output=True, text=True, check=False)
         return done.stdout + done.stderr
 
 

@@ -1,5 +1,6 @@
 #!/usr/bin/env python3
-"""Proves and builds the libraries of crates.txt, side by side where they don't stand on each other.
+"""Proves and builds the libraries that the program stands on, by crates.txt, side by side where they
+don't stand on each other.
 
     tools/build_libraries.py JOBS LOG
 
@@ -20,17 +21,21 @@ import sys
 import tempfile
 from concurrent.futures import FIRST_COMPLETED, ThreadPoolExecutor, wait
 
+PROGRAM = "octomap_cli"
 ROOT = os.path.dirname(os.path.dirname(os.path.abspath(__file__)))
 SOURCES = ("src", "specs", "proofs")
 MOST_JOBS = 4
 
 
 def listed():
-    """The line of crates.txt for each crate, and what of the repository's own it stands on."""
+    """The line of crates.txt for the program and each crate that it stands on, and what of the
+    repository's own each of them stands on."""
     with open(f"{ROOT}/crates.txt") as file:
         lines = {it.split(":")[0].strip(): it for it in file if it.strip() and it[0] != "#"}
     words = {name: line.partition(":")[2].split() for name, line in lines.items()}
-    return lines, {name: [it for it in uses if it in lines] for name, uses in words.items()}
+    uses = {name: [it for it in words[name] if it in lines] for name in lines}
+    needed = {PROGRAM, *below(PROGRAM, uses)}
+    return lines, {name: uses[name] for name in lines if name in needed}
 
 
 def below(name, uses):

@@ -53,8 +53,6 @@ mod node_reader;
 mod path;
 mod reader;
 mod rewriting;
-#[cfg(test)]
-mod tests;
 mod voxels;
 mod words;
 mod writing;

@@ -32,8 +32,6 @@
 mod ending;
 mod input;
 mod tasks;
-#[cfg(test)]
-mod tests;
 mod texts;
 
 pub use ending::Ending;

@@ -16,7 +16,6 @@ pub mod Shares
 pub mod Rounds
 pub mod Needs
 pub mod Expansions
-pub mod FewVoxels
 pub mod UpdateEnds
 pub mod Updates
 pub mod Homes

@@ -204,6 +204,3 @@ fn lies_across(low: u16, high: u16, depth: u8, n: u16) -> bool
     let end = (u32::from(high) + 1) >> height;
     first <= u32::from(n) && u32::from(n) < end
 }
-
-#[cfg(test)]
-mod tests;

@@ -372,6 +372,3 @@ fn has_frees(bricks: &[Brick]) -> bool
     }
     false
 }
-
-#[cfg(test)]
-mod tests;

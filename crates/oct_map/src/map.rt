@@ -588,6 +588,3 @@ fn volume(lo: Key, hi: Key) -> u64
     let along = |low: u16, high: u16| u64::from(high) + 1 - u64::from(low);
     along(lo.x, hi.x) * (along(lo.y, hi.y) * along(lo.z, hi.z))
 }
-
-#[cfg(test)]
-mod tests;

@@ -130,6 +130,3 @@ fn list_voxels(alloc: Global, update: &UpdateBricks) -> Result<UpdateSet, Memory
         need: update.need(),
     })
 }
-
-#[cfg(test)]
-mod tests;

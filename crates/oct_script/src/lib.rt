@@ -39,8 +39,6 @@ mod numbers;
 mod parser;
 mod reply;
 mod table;
-#[cfg(test)]
-mod tests;
 mod verbs;
 mod words;
 

@@ -180,29 +180,3 @@ pub fn status_written(whole: Status, written: Result<(), SinkFault>) -> Status
         Err(SinkFault::Memory) => Status::Memory,
     }
 }
-
-#[cfg(test)]
-mod tests {
-    use super::*;
-    use std::test::Fail;
-
-    #[test]
-    fn statuses_have_their_numbers_and_names(rt: HostRuntime) -> Result<(), Fail> {
-        for (status, number, name) in [
-            (Status::Done, 0, "done"),
-            (Status::Refused, 1, "refused"),
-            (Status::Usage, 2, "usage"),
-            (Status::BadFile, 3, "bad file"),
-            (Status::TooLong, 4, "input too long"),
-            (Status::ReadFault, 5, "read fault"),
-            (Status::WriteFault, 6, "write fault"),
-            (Status::Memory, 7, "out of memory"),
-            (Status::StoreFault, 8, "store fault"),
-        ] {
-            let text = format!(in rt.alloc(); "{status}")?;
-            assert_eq!(rt; text.as_str(), name);
-            assert_eq!(rt; status as u8, number);
-        }
-        Ok(())
-    }
-}

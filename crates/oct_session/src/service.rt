@@ -254,6 +254,3 @@ pub(crate) fn done_or_refused(refused: bool) -> Status
         Status::Done
     }
 }
-
-#[cfg(test)]
-mod tests;

@@ -17,7 +17,8 @@ mod scans;
 mod scripts;
 mod snapshots;
 
-use oct_io::{CalmSink, CalmSource, CalmStore, FileBytes};
+use oct_io::{CalmSink, CalmSource, CalmStore, FileBytes, KeptList, Sink, Source, Store};
+use oct_num::Memory;
 use oct_session::Status;
 use oct_tasks::run;
 use std::alloc::Global;
@@ -45,7 +46,58 @@ fn owned(alloc: Global, words: &[&str]) -> Result<Vec<String>, Fail> {
     Ok(texts)
 }
 
-/// Runs the program on its words and a script, from memory to memory.
+/// The list of this number alone.
+fn only(alloc: Global, number: u64) -> Result<KeptList, Memory> {
+    let mut list = KeptList::new(alloc);
+    list.push(number)?;
+    Ok(list)
+}
+
+/// The status of the program. Without clauses, so that what a test does after it is proved at once.
+fn status_of<S: Source, K: Sink, F: Store>(
+    alloc: Global,
+    words: &[String],
+    source: &mut S,
+    sink: &mut K,
+    store: &mut F,
+) -> Status {
+    run(alloc, words, source, sink, store)
+}
+
+/// The status of the program on its words and an input that is read by this many bytes.
+fn status_over<K: Sink>(
+    alloc: Global,
+    words: &[&str],
+    input: (&[u8], usize),
+    sink: &mut K,
+    store: &mut CalmStore,
+) -> Result<Status, Fail>
+    requires { 0 < input.1 }
+{
+    let (input, most_read) = input;
+    let texts = owned(alloc, words)?;
+    let mut source = CalmSource::new(FileBytes::from_slice(alloc, input)?, most_read);
+    Ok(status_of(alloc, &texts, &mut source, sink, store))
+}
+
+/// The status of the program on its words, an input and files, and what it writes, from memory to
+/// memory.
+fn answer_over(
+    alloc: Global,
+    words: &[&str],
+    input: (&[u8], usize),
+    most_written: usize,
+    store: &mut CalmStore,
+) -> Result<(Status, Vec<u8>), Fail>
+    requires read { 0 < input.1 }
+    requires written { 0 < most_written }
+{
+    let mut sink = CalmSink::new(alloc, most_written);
+    let status = status_over(alloc, words, input, &mut sink, store)?;
+    Ok((status, Vec::from_slice(alloc, sink.written())?))
+}
+
+/// The same without files.
 fn answer(
     alloc: Global,
     words: &[&str],
@@ -56,15 +108,33 @@ fn answer(
     requires read { 0 < most_read }
     requires written { 0 < most_written }
 {
-    let texts = owned(alloc, words)?;
-    let mut source = CalmSource::new(FileBytes::from_slice(alloc, script)?, most_read);
-    let mut sink = CalmSink::new(alloc, most_written);
     let mut store = CalmStore::new(alloc);
-    let status = run(alloc, &texts, &mut source, &mut sink, &mut store);
-    Ok((status, Vec::from_slice(alloc, sink.written())?))
+    answer_over(alloc, words, (script, most_read), most_written, &mut store)
 }
 
-/// Expects that the program, by reads of 4,096 bytes, ends and writes so.
+/// Expects that the program, by reads and writes of these lengths, ends and writes so.
+fn expect_answer_by(
+    rt: &impl Abort,
+    alloc: Global,
+    words: &[&str],
+    input: &[u8],
+    lengths: (usize, usize),
+    want: (Status, &[u8]),
+) -> Result<(), Fail>
+    requires read { 0 < lengths.0 }
+    requires written { 0 < lengths.1 }
+{
+    let (most_read, most_written) = lengths;
+    let (status, written) = answer(alloc, words, input, most_read, most_written)?;
+    assert_eq!(rt;
+        (status, written.as_slice()),
+        want,
+        "at {words:?} {input:?}"
+    );
+    Ok(())
+}
+
+/// The same by reads of 4,096 bytes.
 fn expect_answer(
     rt: &impl Abort,
     alloc: Global,
@@ -75,11 +145,7 @@ fn expect_answer(
 ) -> Result<(), Fail>
     requires { 0 < most_written }
 {
-    let (ends, text) = want;
-    let (status, written) = answer(alloc, words, input, 4096, most_written)?;
-    assert_eq!(rt; status, ends, "at {words:?}");
-    assert_eq!(rt; written.as_slice(), text, "at {words:?}");
-    Ok(())
+    expect_answer_by(rt, alloc, words, input, (4096, most_written), want)
 }
 
 /// A script at a resolution of 0.1 m.
@@ -89,10 +155,10 @@ fn session(alloc: Global, script: &[u8]) -> Result<(Status, Vec<u8>), Fail> {
 
 /// Runs each script of a table.
 fn check(rt: &impl Abort, alloc: Global, cases: &[Case]) -> Result<(), Fail> {
+    let words = ["session", "0.1"];
     for (script, replies, ends) in cases {
-        let (status, text) = session(alloc, script.as_bytes())?;
-        assert_eq!(rt; status, *ends, "at {script:?}");
-        assert_eq!(rt; text.as_slice(), replies.as_bytes(), "at {script:?}");
+        let want = (*ends, replies.as_bytes());
+        expect_answer(rt, alloc, &words, script.as_bytes(), 4096, want)?;
     }
     Ok(())
 }
@@ -108,13 +174,8 @@ fn check_limits(
 {
     for (option, limit, script, replies, ends) in cases {
         let words = ["session", "0.1", option, limit];
-        let (status, text) = answer(alloc, &words, script.as_bytes(), most_read, 100)?;
-        assert_eq!(rt; status, *ends, "{script:?}, {option} {limit}");
-        assert_eq!(rt;
-            text.as_slice(),
-            replies.as_bytes(),
-            "{script:?}, {option} {limit}"
-        );
+        let want = (*ends, replies.as_bytes());
+        expect_answer_by(rt, alloc, &words, script.as_bytes(), (most_read, 100), want)?;
     }
     Ok(())
 }

@@ -1,6 +1,6 @@
 //! Files that are cut off, that say what isn't so, or that are longer than they need be, and what
 //! `inspect` and `convert` answer.
-use super::{answer, expect_answer};
+use super::{expect_answer, expect_answer_by};
 use oct_session::Status;
 use std::alloc::Global;
 use std::process::Abort;
@@ -33,11 +33,7 @@ fn expect_front(
     want: (Status, &[u8]),
 ) -> Result<(), Fail> {
     let front = CUBE.get(..taken).unwrap_or(CUBE);
-    let (ends, said) = want;
-    let (status, text) = answer(alloc, &["inspect"], front, 100, 100)?;
-    assert_eq!(rt; status, ends, "{taken}");
-    assert_eq!(rt; text.as_slice(), said, "{taken}");
-    Ok(())
+    expect_answer_by(rt, alloc, &["inspect"], front, (100, 100), want)
 }
 
 #[test]
@@ -152,12 +148,11 @@ fn check_task(
     said: &[u8],
     ends: Status,
 ) -> Result<(), Fail> {
-    for most_read in [1usize, 2, 7, 4096] {
-        let (status, text) = answer(alloc, &[task], file, most_read, 3)?;
-        assert_eq!(rt; status, ends, "{task} {file:?}");
-        assert_eq!(rt; text.as_slice(), said, "{task} {file:?}");
-    }
-    Ok(())
+    let words = [task];
+    expect_answer_by(rt, alloc, &words, file, (1, 3), (ends, said))?;
+    expect_answer_by(rt, alloc, &words, file, (2, 3), (ends, said))?;
+    expect_answer_by(rt, alloc, &words, file, (7, 3), (ends, said))?;
+    expect_answer_by(rt, alloc, &words, file, (4096, 3), (ends, said))
 }
 
 /// A file of this header, this many bytes of the way down to a voxel, and an end.

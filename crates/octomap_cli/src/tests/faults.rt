@@ -2,10 +2,9 @@
 //! does.
 ghost use Rattle.std.specs.Prelude.{◌<◌};
 
-use super::owned;
-use oct_io::{FileBytes, KeptList, MemSink, MemSource, MemStore};
+use super::{only, owned, status_of};
+use oct_io::{FileBytes, MemSink, MemSource, MemStore};
 use oct_session::Status;
-use oct_tasks::run;
 use std::alloc::Global;
 use std::process::Abort;
 use std::test::Fail;
@@ -26,13 +25,6 @@ const WHOLE: Failing = Failing {
     file: 0,
 };
 
-/// The list of this number alone.
-fn only(alloc: Global, number: u64) -> Result<KeptList, Fail> {
-    let mut list = KeptList::new(alloc);
-    list.push(number)?;
-    Ok(list)
-}
-
 /// The status of the program on its words and an input that is read by this many bytes, and what it
 /// leaves in sink and store. Each write takes one byte.
 fn torn(
@@ -49,7 +41,7 @@ fn torn(
     let mut source = MemSource::new(bytes, most, only(alloc, failing.read)?);
     let mut sink = MemSink::new(alloc, 1, only(alloc, failing.write)?);
     let mut store = MemStore::new(alloc, only(alloc, failing.file)?);
-    let status = run(alloc, &words, &mut source, &mut sink, &mut store);
+    let status = status_of(alloc, &words, &mut source, &mut sink, &mut store);
     Ok((status, sink, store))
 }
 

@@ -1,7 +1,10 @@
 //! Limits on groups, on voxels of a scan, on bytes and on lines, and pieces of the input.
-use super::{LimitCase, answer, check_limits, session};
+ghost use Rattle.std.specs.Prelude.{◌<◌};
+
+use super::{LimitCase, check_limits, expect_answer_by, session};
 use oct_session::Status;
 use std::alloc::Global;
+use std::process::Abort;
 use std::test::Fail;
 
 /// Maps of a few groups.
@@ -238,15 +241,23 @@ fn padded(alloc: Global, front: &str, blanks: usize, end: &str) -> Result<Vec<u8
     Ok(script)
 }
 
+/// Expects these replies to a script, whatever the status.
+fn expect_replies(
+    rt: &impl Abort,
+    alloc: Global,
+    script: &[u8],
+    replies: &[u8],
+) -> Result<(), Fail> {
+    let (_, text) = session(alloc, script)?;
+    assert_eq!(rt; text.as_slice(), replies, "{script:?}");
+    Ok(())
+}
+
 #[test]
 fn lines_of_4096_bytes_are_read_and_longer_ones_are_not(rt: HostRuntime) -> Result<(), Fail> {
     for &(front, blanks, end, replies) in LONG_LINES {
-        let (_, text) = session(rt.alloc(), &padded(rt.alloc(), front, blanks, end)?)?;
-        assert_eq!(rt;
-            text.as_slice(),
-            replies.as_bytes(),
-            "{front:?}, {blanks} blanks and {end:?}"
-        );
+        let script = padded(rt.alloc(), front, blanks, end)?;
+        expect_replies(&rt, rt.alloc(), &script, replies.as_bytes())?;
     }
     Ok(())
 }
@@ -255,32 +266,44 @@ fn lines_of_4096_bytes_are_read_and_longer_ones_are_not(rt: HostRuntime) -> Resu
 fn a_long_line_in_a_block_is_its_fault(rt: HostRuntime) -> Result<(), Fail> {
     let head = "scan 0 0 0 1 0 0 0 all\np 1 0 0";
     let script = padded(rt.alloc(), head, 4090, "\nhit\nend\nhit 0 0 0\n")?;
-    let (_, text) = session(rt.alloc(), &script)?;
-    assert_eq!(rt;
-        text.as_slice(),
-        b"refused 30 LongLine line 2\nok\n".as_slice()
-    );
-    Ok(())
+    expect_replies(
+        &rt,
+        rt.alloc(),
+        &script,
+        b"refused 30 LongLine line 2\nok\n",
+    )
+}
+
+/// A script whose last line has no line feed, and isn't read.
+const CUT: &[u8] = b"hit 0 0 0\r\n\nget 0 0 0 16\nhit\nget 1 0 0 16\nquit\nhit 0 0 0";
+
+/// Expects its replies by reads and writes of these lengths.
+fn expect_cut(
+    rt: &impl Abort,
+    alloc: Global,
+    most_read: usize,
+    most_written: usize,
+) -> Result<(), Fail>
+    requires read { 0 < most_read }
+    requires written { 0 < most_written }
+{
+    let replies = b"ok\nknown 850 occupied\nrefused 29 Syntax line 4 column 4\nunknown\n";
+    let want = (Status::Refused, replies.as_slice());
+    expect_answer_by(
+        rt,
+        alloc,
+        &["session", "0.1"],
+        CUT,
+        (most_read, most_written),
+        want,
+    )
 }
 
 #[test]
 fn any_cut_of_the_input_and_of_the_output_is_the_same(rt: HostRuntime) -> Result<(), Fail> {
-    for most_read in [1usize, 2, 7, 4096] {
-        for most_written in [3usize, 4096] {
-            let (status, text) = answer(
-                rt.alloc(),
-                &["session", "0.1"],
-                b"hit 0 0 0\r\n\nget 0 0 0 16\nhit\nget 1 0 0 16\nquit\nhit 0 0 0",
-                most_read,
-                most_written,
-            )?;
-            assert_eq!(rt; status, Status::Refused, "{most_read} bytes a read");
-            assert_eq!(rt;
-                text.as_slice(),
-                b"ok\nknown 850 occupied\nrefused 29 Syntax line 4 column 4\nunknown\n".as_slice(),
-                "{most_read} bytes a read"
-            );
-        }
-    }
-    Ok(())
+    expect_cut(&rt, rt.alloc(), 1, 3)?;
+    expect_cut(&rt, rt.alloc(), 2, 3)?;
+    expect_cut(&rt, rt.alloc(), 7, 4096)?;
+    expect_cut(&rt, rt.alloc(), 4096, 3)?;
+    expect_cut(&rt, rt.alloc(), 4096, 4096)
 }

@@ -1,12 +1,9 @@
 //! Two files of the store: their merged map, and the table of their classes.
 ghost use Rattle.std.specs.Prelude.{◌<◌};
 
-use super::owned;
-use oct_io::{
-    CalmSink, CalmSource, CalmStore, FileBytes, KeptList, MemSink, MemSource, MemStore, Store,
-};
+use super::{answer_over, only, owned, status_of};
+use oct_io::{CalmStore, FileBytes, MemSink, MemSource, MemStore, Store, StoreFault};
 use oct_session::Status;
-use oct_tasks::run;
 use std::alloc::Global;
 use std::process::Abort;
 use std::test::Fail;
@@ -55,25 +52,27 @@ const FILES: &[(&str, &[u8])] = &[
 ];
 
 /// Puts the files into a store.
-fn fill<F: Store>(store: &mut F) -> Result<(), Fail> {
+fn fill<F: Store>(store: &mut F) -> Result<(), StoreFault> {
     for &(name, bytes) in FILES {
         store.save(name, bytes)?;
     }
     Ok(())
 }
 
-/// The status of the program on its words, and what it writes. It has an input, which it leaves.
-fn answer(rt: &impl Abort, alloc: Global, words: &[&str]) -> Result<(Status, Vec<u8>), Fail> {
-    let texts = owned(alloc, words)?;
-    let mut source = CalmSource::new(FileBytes::from_slice(alloc, b"hit 0 0 0\n")?, 4096);
-    let mut sink = CalmSink::new(alloc, 100);
-    let mut store = CalmStore::new(alloc);
-    fill(&mut store)?;
-    let status = run(alloc, &texts, &mut source, &mut sink, &mut store);
+/// Expects that the store has the files as they were.
+fn expect_files(rt: &impl Abort, store: &CalmStore, words: &[&str]) {
     for &(name, bytes) in FILES {
         assert_eq!(rt; store.file(name), Some(bytes), "at {words:?}");
     }
-    Ok((status, Vec::from_slice(alloc, sink.written())?))
+}
+
+/// The status of the program on its words, and what it writes. It has an input, which it leaves.
+fn answer(rt: &impl Abort, alloc: Global, words: &[&str]) -> Result<(Status, Vec<u8>), Fail> {
+    let mut store = CalmStore::new(alloc);
+    fill(&mut store)?;
+    let answered = answer_over(alloc, words, (b"hit 0 0 0\n", 4096), 100, &mut store)?;
+    expect_files(rt, &store, words);
+    Ok(answered)
 }
 
 /// The words, what is written, and the status.
@@ -269,13 +268,6 @@ fn other_words_ask_for_nothing(rt: HostRuntime) -> Result<(), Fail> {
     check(&rt, rt.alloc(), USAGES)
 }
 
-/// The list of this number alone.
-fn only(alloc: Global, number: u64) -> Result<KeptList, Fail> {
-    let mut list = KeptList::new(alloc);
-    list.push(number)?;
-    Ok(list)
-}
-
 /// The number of the first load of a store, after the saves that fill it.
 const FIRST_LOAD: u8 = 7;
 
@@ -288,7 +280,7 @@ fn torn(alloc: Global, words: &[&str], write: u8, call: u8) -> Result<(Status, V
     let mut sink = MemSink::new(alloc, 1, only(alloc, u64::from(write))?);
     let mut store = MemStore::new(alloc, only(alloc, u64::from(call))?);
     fill(&mut store)?;
-    let status = run(alloc, &texts, &mut source, &mut sink, &mut store);
+    let status = status_of(alloc, &texts, &mut source, &mut sink, &mut store);
     Ok((status, Vec::from_slice(alloc, sink.written())?))
 }
 

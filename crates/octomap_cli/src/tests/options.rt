@@ -1,5 +1,5 @@
 //! The words of the command line.
-use super::answer;
+use super::expect_answer;
 use oct_session::Status;
 use std::test::Fail;
 
@@ -62,9 +62,8 @@ const NO_TASK: &[&[&str]] = &[
 #[test]
 fn words_that_ask_for_nothing_read_and_write_nothing(rt: HostRuntime) -> Result<(), Fail> {
     for &words in NO_TASK {
-        let (status, text) = answer(rt.alloc(), words, b"hit 0 0 0\n", 4096, 4096)?;
-        assert_eq!(rt; status, Status::Usage, "at {words:?}");
-        assert!(rt; text.is_empty(), "at {words:?}");
+        let want = (Status::Usage, b"".as_slice());
+        expect_answer(&rt, rt.alloc(), words, b"hit 0 0 0\n", 4096, want)?;
     }
     Ok(())
 }
@@ -126,9 +125,9 @@ const MODELS: &[(&[&str], &str)] = &[
 #[test]
 fn options_choose_the_model(rt: HostRuntime) -> Result<(), Fail> {
     for &(words, replies) in MODELS {
-        let (status, text) = answer(rt.alloc(), words, b"hit 0 0 0\nget 0 0 0 16\n", 4096, 4096)?;
-        assert_eq!(rt; status, Status::Done, "at {words:?}");
-        assert_eq!(rt; text.as_slice(), replies.as_bytes(), "at {words:?}");
+        let script = b"hit 0 0 0\nget 0 0 0 16\n";
+        let want = (Status::Done, replies.as_bytes());
+        expect_answer(&rt, rt.alloc(), words, script, 4096, want)?;
     }
     Ok(())
 }

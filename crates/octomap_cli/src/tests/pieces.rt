@@ -1,8 +1,7 @@
 //! Files of several pieces, and how many calls of the sink they take.
-use super::{answer, owned};
-use oct_io::{CalmSource, CalmStore, FileBytes, KeptList, MemSink};
+use super::{answer, only, status_over};
+use oct_io::{CalmStore, MemSink};
 use oct_session::Status;
-use oct_tasks::run;
 use std::alloc::Global;
 use std::process::Abort;
 use std::test::Fail;
@@ -15,18 +14,9 @@ fn failing(
     input: &[u8],
     number: u64,
 ) -> Result<(Status, MemSink), Fail> {
-    let words = owned(alloc, words)?;
-    let mut fails = KeptList::new(alloc);
-    fails.push(number)?;
-    let mut source = CalmSource::new(FileBytes::from_slice(alloc, input)?, 4096);
-    let mut sink = MemSink::new(alloc, 8192, fails);
-    let status = run(
-        alloc,
-        &words,
-        &mut source,
-        &mut sink,
-        &mut CalmStore::new(alloc),
-    );
+    let mut sink = MemSink::new(alloc, 8192, only(alloc, number)?);
+    let mut store = CalmStore::new(alloc);
+    let status = status_over(alloc, words, (input, 4096), &mut sink, &mut store)?;
     Ok((status, sink))
 }
 

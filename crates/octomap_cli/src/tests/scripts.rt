@@ -174,13 +174,18 @@ fn hits(alloc: Global, equal: bool) -> Result<String, Fail> {
     Ok(script)
 }
 
-/// Whether the counts after a script are these.
+/// Expects that a script is done, and that its last reply is this one.
+fn expect_last(rt: &impl Abort, alloc: Global, script: &str, reply: &str) -> Result<(), Fail> {
+    let (status, text) = session(alloc, script.as_bytes())?;
+    assert_eq!(rt; status, Status::Done, "at {script:?}");
+    assert!(rt; text.ends_with(reply.as_bytes()), "at {script:?}");
+    Ok(())
+}
+
+/// Expects that the counts after a script are these.
 fn check_counts(rt: &impl Abort, alloc: Global, script: &str, counted: &str) -> Result<(), Fail> {
     let asked = format!(in alloc; "{script}counts\n")?;
-    let (status, text) = session(alloc, asked.as_bytes())?;
-    assert_eq!(rt; status, Status::Done, "at {script:?}");
-    assert!(rt; text.ends_with(counted.as_bytes()), "at {script:?}");
-    Ok(())
+    expect_last(rt, alloc, &asked, counted)
 }
 
 #[test]

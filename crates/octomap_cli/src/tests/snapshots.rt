@@ -1,22 +1,28 @@
 //! Sessions that write and restore snapshots.
-use super::{CalmSink, CalmSource, CalmStore, Case, FileBytes, check, owned, run};
-use oct_io::Store;
+use super::{Case, answer_over, check};
+use oct_io::{CalmStore, FileBytes, Store};
 use oct_session::Status;
 use std::alloc::Global;
+use std::process::Abort;
 use std::test::Fail;
 
-/// The status of a session over these files with a script, and its replies.
-fn over(
+/// Expects the status of a session over these files with a script, and its replies.
+fn expect_over(
+    rt: &impl Abort,
     alloc: Global,
     words: &[&str],
     store: &mut CalmStore,
     script: &[u8],
-) -> Result<(Status, Vec<u8>), Fail> {
-    let texts = owned(alloc, words)?;
-    let mut source = CalmSource::new(FileBytes::from_slice(alloc, script)?, 100);
-    let mut sink = CalmSink::new(alloc, 100);
-    let status = run(alloc, &texts, &mut source, &mut sink, store);
-    Ok((status, Vec::from_slice(alloc, sink.written())?))
+    want: (Status, &[u8]),
+) -> Result<(), Fail> {
+    let (status, text) = answer_over(alloc, words, (script, 100), 100, store)?;
+    assert_eq!(rt; (status, text.as_slice()), want, "at {words:?} {script:?}");
+    Ok(())
+}
+
+/// Expects that the store has these bytes under the name.
+fn expect_file(rt: &impl Abort, store: &CalmStore, name: &str, want: &[u8]) {
+    assert_eq!(rt; store.file(name), Some(want), "{name}");
 }
 
 /// What stands between a snapshot and its restore doesn't matter, and a refused restore does
@@ -77,17 +83,16 @@ fn old_hit(alloc: Global) -> Result<FileBytes, Fail> {
     Ok(bytes)
 }
 
+/// The words of a session at 0.1 m.
+const SESSION: &[&str] = &["session", "0.1"];
+
 #[test]
 fn the_unknown_world_has_a_snapshot(rt: HostRuntime) -> Result<(), Fail> {
     let mut store = CalmStore::new(rt.alloc());
-    let words = ["session", "0.1"];
-    let (status, text) = over(rt.alloc(), &words, &mut store, b"snapshot e\nrestore e\n")?;
-    assert_eq!(rt; status, Status::Done);
-    assert_eq!(rt;
-        text.as_slice(),
-        b"saved 38\nrestored groups 0\n".as_slice()
-    );
-    assert_eq!(rt; store.file("e"), Some(UNKNOWN));
+    let script = b"snapshot e\nrestore e\n";
+    let want = (Status::Done, b"saved 38\nrestored groups 0\n".as_slice());
+    expect_over(&rt, rt.alloc(), SESSION, &mut store, script, want)?;
+    expect_file(&rt, &store, "e", UNKNOWN);
     Ok(())
 }
 
@@ -97,72 +102,77 @@ fn an_older_snapshot_leaves_the_log_odds(rt: HostRuntime) -> Result<(), Fail> {
     store.save("a", old_hit(rt.alloc())?.as_slice())?;
     let words = ["session", "0.1", "--hit", "500"];
     let script = b"restore a\nhit 0 0 0\nget 0 0 0 16\nsnapshot b\n";
-    let (status, text) = over(rt.alloc(), &words, &mut store, script)?;
     let replies = b"restored groups 16\nok\nknown 1350 occupied\nsaved 170\n".as_slice();
-    assert_eq!(rt; status, Status::Done);
-    assert_eq!(rt; text.as_slice(), replies);
-    Ok(())
+    expect_over(
+        &rt,
+        rt.alloc(),
+        &words,
+        &mut store,
+        script,
+        (Status::Done, replies),
+    )
 }
 
 #[test]
 fn a_snapshot_brings_its_log_odds(rt: HostRuntime) -> Result<(), Fail> {
     let mut store = CalmStore::new(rt.alloc());
-    let words = ["session", "0.1"];
-    let (status, text) = over(rt.alloc(), &words, &mut store, b"hit 0 0 0\nsnapshot a\n")?;
-    assert_eq!(rt; status, Status::Done);
-    assert_eq!(rt; text.as_slice(), b"ok\nsaved 170\n".as_slice());
+    let script = b"hit 0 0 0\nsnapshot a\n";
+    let want = (Status::Done, b"ok\nsaved 170\n".as_slice());
+    expect_over(&rt, rt.alloc(), SESSION, &mut store, script, want)?;
     let others = [
         "session", "0.1", "--hit", "500", "--max", "1000", "--thr", "900",
     ];
     let script =
         b"hit 1 0 0\nget 1 0 0 16\nrestore a\nhit 0 0 0\nget 0 0 0 16\nget 1 0 0 16\nclear\n\
           hit 0 0 0\nget 0 0 0 16\n";
-    let (status, text) = over(rt.alloc(), &others, &mut store, script)?;
     let replies =
         b"ok\nknown 500 free\nrestored groups 16\nok\nknown 1700 occupied\nunknown\nok\nok\n\
           known 850 occupied\n"
             .as_slice();
-    assert_eq!(rt; status, Status::Done);
-    assert_eq!(rt; text.as_slice(), replies);
-    Ok(())
+    expect_over(
+        &rt,
+        rt.alloc(),
+        &others,
+        &mut store,
+        script,
+        (Status::Done, replies),
+    )
 }
 
-/// Files that are refused, and why.
+/// Files that are refused, and the replies to a hit, a restore of the file and a query.
 const FAULTS: &[(&[u8], &[u8])] = &[
     (
         b"OCTSNAP2\0\0\0\0\x05\xf5\xe1\0\
           \0\0\x03\x52\xff\xff\xfe\x70\xff\xff\xf8\x30\0\0\x0d\xac\0\0\0\0\x02\0",
-        b"refused 21 BadSnapshot at 36\nknown 850 occupied\n",
+        b"ok\nrefused 21 BadSnapshot at 36\nknown 850 occupied\n",
     ),
     (
         b"OCTSNAP2\0\0\0\0\x05\xf5\xe1\0\
           \0\0\0\0\xff\xff\xfe\x70\xff\xff\xf8\x30\0\0\x0d\xac\0\0\0\0\0\0",
-        b"refused 21 BadSnapshot at 16\nknown 850 occupied\n",
+        b"ok\nrefused 21 BadSnapshot at 16\nknown 850 occupied\n",
     ),
     (
         b"OCTSNAP1\0\0\0\0\x05\xf5\xe1\0\x02\0\0\0\0\0\0\0\0",
-        b"refused 21 BadSnapshot at 16\nknown 850 occupied\n",
+        b"ok\nrefused 21 BadSnapshot at 16\nknown 850 occupied\n",
     ),
     (
         b"OCTSNAP1\0\0\0\0\x05\xf5\xe1\0\0\0",
-        b"refused 18 TrailingBytes at 17\nknown 850 occupied\n",
+        b"ok\nrefused 18 TrailingBytes at 17\nknown 850 occupied\n",
     ),
     (
         b"OCTSNAP1\0\0\0\0\x0b\xeb\xc2\0\0",
-        b"refused 35 OtherResolution file 200000000 session 100000000\nknown 850 occupied\n",
+        b"ok\nrefused 35 OtherResolution file 200000000 session 100000000\nknown 850 occupied\n",
     ),
 ];
 
 #[test]
 fn a_bad_snapshot_is_refused(rt: HostRuntime) -> Result<(), Fail> {
+    let script = b"hit 0 0 0\nrestore a\nget 0 0 0 16\n";
     for &(file, replies) in FAULTS {
         let mut store = CalmStore::new(rt.alloc());
         store.save("a", file)?;
-        let words = ["session", "0.1"];
-        let script = b"hit 0 0 0\nrestore a\nget 0 0 0 16\n";
-        let (status, text) = over(rt.alloc(), &words, &mut store, script)?;
-        assert_eq!(rt; status, Status::Refused);
-        assert_eq!(rt; text.as_slice().strip_prefix(b"ok\n"), Some(replies));
+        let want = (Status::Refused, replies);
+        expect_over(&rt, rt.alloc(), SESSION, &mut store, script, want)?;
     }
     Ok(())
 }

@@ -1,0 +1,162 @@
+ghost use Rattle.std.specs.Prelude.{◌≡◌, IfOk};
+ghost use Rattle.oct_odds.specs.Odds.{IsSmall};
+ghost use Rattle.oct_odds.specs.Update.{IsSmallEvent};
+ghost use Rattle.oct_values.specs.Boxes as boxes;
+ghost use Rattle.oct_key.specs.Boxes.{IsBox};
+ghost use Rattle.oct_tree.specs.Shape.{IsWellFormed};
+
+use oct_edit::{box_need, touch_box};
+use oct_key::{Key, Res};
+use oct_odds::{Event, OddsModel};
+use oct_tree::OccTree;
+use std::alloc::Global;
+use std::process::Abort;
+use std::test::Fail;
+
+/// The voxel with this number on each axis.
+fn all(n: u16) -> Key {
+    Key { x: n, y: n, z: n }
+}
+
+/// A tree of voxels of a tenth of a metre, with room for 300 groups.
+fn world(alloc: Global) -> Result<OccTree, Fail>
+    ensures { IfOk result (λ tree. IsWellFormed tree) }
+{
+    let mut tree = OccTree::new(alloc, Res::new(100_000_000)?, OddsModel::default());
+    tree.reserve(300)?;
+    Ok(tree)
+}
+
+/// The need of a box, once it is seen that its corners are in order.
+fn need(rt: &impl Abort, lo: Key, hi: Key) -> u128
+    ensures order { IsBox lo hi }
+    ensures exact { result ≡ boxes.box_need lo hi }
+{
+    assert!(rt; lo.x <= hi.x);
+    assert!(rt; lo.y <= hi.y);
+    assert!(rt; lo.z <= hi.z);
+    box_need(lo, hi)
+}
+
+/// Applies the event to a box where there is room for it.
+fn apply(rt: &impl Abort, tree: &mut OccTree, lo: Key, hi: Key, event: Event)
+    requires formed { IsWellFormed tree.old }
+    requires small { IsSmallEvent event }
+    ensures { IsWellFormed tree.new }
+{
+    let room = u128::from(tree.arena().spare());
+    assert!(rt; need(rt, lo, hi) <= room);
+    touch_box(tree, lo, hi, event);
+}
+
+/// Expects this many groups, and these values of the voxels 32,767 and 32,766.
+fn expect_state(
+    rt: &impl Abort,
+    tree: &OccTree,
+    groups: u32,
+    value: Option<i32>,
+    beside: Option<i32>,
+) {
+    assert_eq!(rt; tree.arena().live(), groups);
+    assert_eq!(rt;
+        (tree.at(all(32_767)), tree.at(all(32_766))),
+        (value, beside)
+    );
+}
+
+/// Each row: the number of a box's low corner on each axis, its high corner, and the need.
+const NEEDS: &[(u16, (u16, u16, u16), u128)] = &[
+    (32_768, (32_768, 32_768, 32_768), 16),
+    (32_768, (32_769, 32_768, 32_768), 16),
+    (32_768, (32_769, 32_769, 32_769), 15),
+    (32_767, (32_768, 32_768, 32_768), 121),
+    (0, (65_535, 65_535, 65_535), 0),
+];
+
+/// Expects this need of a box.
+fn expect_need(rt: &impl Abort, lo: Key, hi: (u16, u16, u16), want: u128) {
+    let (x, y, z) = hi;
+    assert_eq!(rt; need(rt, lo, Key { x, y, z }), want, "from {lo:?}");
+}
+
+/// Expects the need of each box.
+fn expect_needs(rt: &impl Abort, cases: &[(u16, (u16, u16, u16), u128)]) {
+    for (low, hi, want) in cases {
+        expect_need(rt, all(*low), *hi, *want);
+    }
+}
+
+#[test]
+fn counts_the_blocks_that_a_box_cuts(rt: HostRuntime) {
+    expect_needs(&rt, NEEDS);
+}
+
+/// An event, the numbers of a box's corners, the groups afterwards, and the values of a voxel in
+/// all boxes but that of voxel 5, and of one beside the small ones.
+type Edited = (Event, u16, u16, u32, Option<i32>, Option<i32>);
+
+/// Events in turn.
+const EDITS: &[Edited] = &[
+    (Event::Set(850), 0, 65_535, 0, Some(850), Some(850)),
+    (Event::Add(850), 0, 65_535, 0, Some(1700), Some(1700)),
+    (Event::Likely, 0, 65_535, 0, Some(3500), Some(3500)),
+    (Event::Add(-1), 0, 65_535, 0, Some(3499), Some(3499)),
+    (Event::Add(-99), 32_767, 32_768, 121, Some(3400), Some(3499)),
+    (Event::Set(3499), 32_767, 32_768, 0, Some(3499), Some(3499)),
+    (Event::Forget, 32_767, 32_767, 16, None, Some(3499)),
+    (Event::Forget, 0, 65_535, 0, None, None),
+    (Event::Set(-400), 5, 5, 16, None, None),
+    (Event::Likely, 0, 32_767, 16, None, None),
+    (Event::Set(7), 0, 32_767, 1, Some(7), Some(7)),
+    (Event::Add(-7), 0, 65_535, 1, Some(0), Some(0)),
+    (Event::Forget, 0, 65_535, 0, None, None),
+    (Event::Add(850), 32_767, 32_768, 121, Some(850), None),
+    (Event::Set(3500), 0, 65_535, 0, Some(3500), Some(3500)),
+    (Event::Add(850), 32_767, 32_768, 0, Some(3500), Some(3500)),
+];
+
+/// Expects that the number in an event is of at most a million.
+fn expect_small(rt: &impl Abort, event: Event)
+    ensures { IsSmallEvent event }
+{
+    match event {
+        Event::Add(n) => expect_small_number(rt, n),
+        Event::Set(n) => expect_small_number(rt, n),
+        _ => {}
+    }
+}
+
+/// Expects that a number is of at most a million.
+fn expect_small_number(rt: &impl Abort, n: i32)
+    ensures { IsSmall n }
+{
+    assert!(rt; n >= -1_000_000);
+    assert!(rt; n <= 1_000_000);
+}
+
+/// Applies an event to a box, and expects what a row says.
+fn expect_edit(rt: &impl Abort, tree: &mut OccTree, row: Edited)
+    requires { IsWellFormed tree.old }
+    ensures { IsWellFormed tree.new }
+{
+    let (event, low, high, groups, value, beside) = row;
+    expect_small(rt, event);
+    apply(rt, tree, all(low), all(high), event);
+    expect_state(rt, tree, groups, value, beside);
+}
+
+/// Applies each event to its box, and expects what its row says.
+fn expect_edits(rt: &impl Abort, tree: &mut OccTree, cases: &[Edited])
+    requires { IsWellFormed tree.old }
+{
+    for row in cases {
+        expect_edit(rt, tree, *row);
+    }
+}
+
+#[test]
+fn applies_events_to_boxes(rt: HostRuntime) -> Result<(), Fail> {
+    let mut tree = world(rt.alloc())?;
+    expect_edits(&rt, &mut tree, EDITS);
+    Ok(())
+}

@@ -1,0 +1,9 @@
+//! The tests of [`oct_scan`]: the voxels that scans hit and free, with a range and in a box, what
+//! they need of memory, and each refusal.
+//!
+//! They call public functions alone, and are a crate of their own, as the folder `tests/` of a Rust
+//! crate is: so `oct_scan` isn't proved a second time beside them. Nothing stands on this crate.
+#![tactic(auto)]
+
+#[cfg(test)]
+mod tests;

@@ -1,0 +1,291 @@
+ghost use Rattle.std.specs.Prelude.{◌<◌, ◌≤◌, ◌^◌};
+ghost use Rattle.oct_session.specs.History.{start_state};
+ghost use Rattle.oct_session.specs.Leaving.{StandsFor};
+
+use oct_io::{
+    CalmSink, CalmSource, CalmStore, FileBytes, KeptList, MemSink, MemSource, MemStore, Sink,
+    Source, Store,
+};
+use oct_key::{Point, Res};
+use oct_map::{Limits, OccMap};
+use oct_num::Memory;
+use oct_odds::OddsModel;
+use oct_query::Counts;
+use oct_session::{Options, Status, serve};
+use std::alloc::Global;
+use std::process::Abort;
+use std::test::Fail;
+
+mod files;
+
+/// A point of voxel 0.
+const ORIGIN: Point = Point { x: 0, y: 0, z: 0 };
+
+/// A point of voxel 1 of its row.
+const BESIDE: Point = Point {
+    x: 100_000_000,
+    y: 0,
+    z: 0,
+};
+
+/// Sessions at a resolution of 0.1 m, on scripts of at most `max_bytes` bytes.
+fn options(max_bytes: u64) -> Result<Options, Fail>
+    requires { max_bytes ≤ 2 ^ 40 }
+{
+    Ok(Options {
+        res: Res::new(100_000_000)?,
+        odds: OddsModel::default(),
+        limits: Limits {
+            max_groups: 64,
+            max_cells: 1000,
+        },
+        max_bytes,
+    })
+}
+
+/// The map of the unknown world.
+fn unknown(alloc: Global, options: &Options) -> OccMap
+    ensures { StandsFor result (start_state options.now) }
+{
+    OccMap::new(alloc, options.res, options.odds, options.limits)
+}
+
+/// The list of this number alone.
+fn only(alloc: Global, number: u64) -> Result<KeptList, Fail> {
+    let mut list = KeptList::new(alloc);
+    list.push(number)?;
+    Ok(list)
+}
+
+/// How a session on the unknown world ends, and the map that it leaves.
+fn ended<S: Source, K: Sink, F: Store>(
+    alloc: Global,
+    options: &Options,
+    source: &mut S,
+    sink: &mut K,
+    store: &mut F,
+) -> (Status, OccMap) {
+    let mut map = unknown(alloc, options);
+    let status = serve(alloc, options, &mut map, source, sink, store);
+    (status, map)
+}
+
+/// How a session without files on the unknown world ends, and the map that it leaves.
+fn ended_alone<S: Source, K: Sink>(
+    alloc: Global,
+    max_bytes: u64,
+    source: &mut S,
+    sink: &mut K,
+) -> Result<(Status, OccMap), Fail>
+    requires { max_bytes ≤ 2 ^ 40 }
+{
+    let options = options(max_bytes)?;
+    let mut store = CalmStore::new(alloc);
+    Ok(ended(alloc, &options, source, sink, &mut store))
+}
+
+/// A source of a script in reads of this many bytes.
+fn script(alloc: Global, text: &str, most: usize) -> Result<CalmSource, Memory>
+    requires { 0 < most }
+{
+    Ok(CalmSource::new(FileBytes::from_slice(alloc, text.as_bytes())?, most))
+}
+
+/// Expects that a session ended so.
+fn expect_status(rt: &impl Abort, status: Status, want: Status) {
+    assert_eq!(rt; status, want);
+}
+
+/// Expects that a session on this script ended so, and what it wrote.
+fn expect_answer(
+    rt: &impl Abort,
+    text: &str,
+    (status, written): (Status, &[u8]),
+    (want, replies): (Status, &str),
+) {
+    assert_eq!(rt; status, want, "{text}");
+    assert_eq!(rt; written, replies.as_bytes(), "{text}");
+}
+
+/// Expects that the map has this many groups and nodes.
+fn expect_counts(rt: &impl Abort, map: &mut OccMap, groups: u32, nodes: u64) {
+    assert_eq!(rt; map.counts(), Counts { groups, nodes });
+}
+
+/// Expects that the voxels have these values, and that the map is stale or isn't.
+fn expect_map(
+    rt: &impl Abort,
+    map: &OccMap,
+    origin: Option<i32>,
+    beside: Option<i32>,
+    is_stale: bool,
+) {
+    assert_eq!(rt; map.get(ORIGIN, 16), Ok(origin));
+    assert_eq!(rt; map.get(BESIDE, 16), Ok(beside));
+    assert_eq!(rt; map.is_stale(), is_stale);
+}
+
+/// Expects that a script of at most this many bytes ends so, and that the map has then these values
+/// and this many nodes, and is stale or isn't.
+fn expect_end(
+    rt: &impl Abort,
+    alloc: Global,
+    max_bytes: u64,
+    want: Status,
+    left: (Option<i32>, bool, u64),
+) -> Result<(), Fail>
+    requires { max_bytes ≤ 2 ^ 40 }
+{
+    let (beside, is_stale, nodes) = left;
+    let text = "hit 0 0 0\nmiss 0.1 0 0 lazy\nget 0 0 0 0\nprune\n";
+    let mut source = script(alloc, text, 7)?;
+    let mut sink = CalmSink::new(alloc, 100);
+    let (status, mut map) = ended_alone(alloc, max_bytes, &mut source, &mut sink)?;
+    expect_status(rt, status, want);
+    expect_map(rt, &map, Some(850), beside, is_stale);
+    expect_counts(rt, &mut map, 16, nodes);
+    Ok(())
+}
+
+#[test]
+fn the_lent_map_stands_for_all_lines_that_count(rt: HostRuntime) -> Result<(), Fail> {
+    let all = (Some(-400), true, 18);
+    expect_end(&rt, rt.alloc(), 1000, Status::Refused, all)?;
+    let first = (None, false, 17);
+    expect_end(&rt, rt.alloc(), 20, Status::TooLong, first)?;
+    Ok(())
+}
+
+/// Scripts with the block of a scan, their replies, the values of the two voxels, and whether the
+/// map is stale.
+const BLOCKS: [(&str, &str, Option<i32>, Option<i32>, bool); 6] = [
+    (
+        "scan 0.05 0.05 0.05 1 0 0 0 all lazy\np 0.2 0 0\n# aside\np 0.4 0 0\nend\n",
+        "ok hits 2 frees 3\n",
+        Some(-400),
+        Some(-400),
+        true,
+    ),
+    (
+        "scan 0 0 0 1 0 0 0 all\np 0.1 0 0\nend",
+        "ok hits 1 frees 1\n",
+        Some(-400),
+        Some(850),
+        false,
+    ),
+    (
+        "scan 0 0 0 1 0 0 0 all\np 1 0\nhit 0 0 x\nend\nget 0 0 0 16\n",
+        "refused 29 Syntax line 2 column 6\nunknown\n",
+        None,
+        None,
+        false,
+    ),
+    (
+        "scan 0\np 1 0\nend\nget 0 0 0 16",
+        "refused 29 Syntax line 1 column 7\nunknown\n",
+        None,
+        None,
+        false,
+    ),
+    (
+        "prune\nscan 0 0 0 0 0 0 0 all lazy\np 1 0 0",
+        "ok\nrefused 31 OpenScan line 2\n",
+        None,
+        None,
+        false,
+    ),
+    (
+        "scan 0 0 0 0 0 0 0 all\nend",
+        "refused 5 ZeroQuaternion\n",
+        None,
+        None,
+        false,
+    ),
+];
+
+/// Expects that a script is answered so, and the map that it leaves.
+fn expect_replies(
+    rt: &impl Abort,
+    alloc: Global,
+    text: &str,
+    replies: &str,
+    want: Status,
+) -> Result<OccMap, Fail> {
+    let mut source = script(alloc, text, 7)?;
+    let mut sink = CalmSink::new(alloc, 100);
+    let (status, map) = ended_alone(alloc, 1000, &mut source, &mut sink)?;
+    expect_answer(rt, text, (status, sink.written()), (want, replies));
+    Ok(map)
+}
+
+/// Expects a row of [`BLOCKS`].
+fn expect_block(
+    rt: &impl Abort,
+    alloc: Global,
+    row: (&str, &str, Option<i32>, Option<i32>, bool),
+) -> Result<(), Fail> {
+    let (text, replies, origin, beside, is_stale) = row;
+    let want = if origin.is_some() {
+        Status::Done
+    } else {
+        Status::Refused
+    };
+    let map = expect_replies(rt, alloc, text, replies, want)?;
+    expect_map(rt, &map, origin, beside, is_stale);
+    Ok(())
+}
+
+#[test]
+fn a_block_has_one_reply(rt: HostRuntime) -> Result<(), Fail> {
+    for row in BLOCKS {
+        expect_block(&rt, rt.alloc(), row)?;
+    }
+    Ok(())
+}
+
+#[test]
+fn the_lent_map_stands_for_the_lines_before_a_fault(rt: HostRuntime) -> Result<(), Fail> {
+    let text = b"hit 0 0 0 lazy\nrefresh\nhit 0.1 0 0\nmiss 0 0";
+    let bytes = FileBytes::from_slice(rt.alloc(), text)?;
+    let mut source = MemSource::new(bytes, 100, only(rt.alloc(), 2)?);
+    let mut sink = CalmSink::new(rt.alloc(), 100);
+    let (status, map) = ended_alone(rt.alloc(), 1000, &mut source, &mut sink)?;
+    expect_status(&rt, status, Status::ReadFault);
+    expect_map(&rt, &map, Some(850), Some(850), false);
+    Ok(())
+}
+
+#[test]
+fn the_lent_map_stands_for_the_line_whose_reply_was_not_written(
+    rt: HostRuntime,
+) -> Result<(), Fail> {
+    let mut source = script(rt.alloc(), "hit 0 0 0 lazy\nhit 0.1 0 0\n", 100)?;
+    let mut sink = MemSink::new(rt.alloc(), 100, only(rt.alloc(), 1)?);
+    let (status, map) = ended_alone(rt.alloc(), 1000, &mut source, &mut sink)?;
+    expect_status(&rt, status, Status::WriteFault);
+    expect_map(&rt, &map, Some(850), None, true);
+    Ok(())
+}
+
+/// The statuses, their numbers and their names.
+const STATUSES: &[(Status, u8, &str)] = &[
+    (Status::Done, 0, "done"),
+    (Status::Refused, 1, "refused"),
+    (Status::Usage, 2, "usage"),
+    (Status::BadFile, 3, "bad file"),
+    (Status::TooLong, 4, "input too long"),
+    (Status::ReadFault, 5, "read fault"),
+    (Status::WriteFault, 6, "write fault"),
+    (Status::Memory, 7, "out of memory"),
+    (Status::StoreFault, 8, "store fault"),
+];
+
+#[test]
+fn statuses_have_their_numbers_and_names(rt: HostRuntime) -> Result<(), Fail> {
+    for (status, number, name) in STATUSES {
+        let text = format!(in rt.alloc(); "{status}")?;
+        assert_eq!(rt; text.as_str(), *name);
+        assert_eq!(rt; *status as u8, *number);
+    }
+    Ok(())
+}
