@@ -7,7 +7,7 @@ use oct_brick::Brick;
 use oct_edit::{ScanUpdate, touch, touch_all};
 use oct_key::{Key, Res};
 use oct_odds::{Event, OddsModel};
-use oct_tree::{OccTree, Place};
+use oct_tree::OccTree;
 use std::alloc::Global;
 use std::process::Abort;
 use std::test::Fail;

@@ -1,10 +1,10 @@
 ghost use Rattle.std.specs.Prelude.{◌^◌, pos, ◌≤ℤ◌, ◌<ℤ◌, All, IfOk, IfSome};
 ghost use Rattle.oct_pose.specs.Reach.{IsInReach};
 
-use oct_key::{Key, KeyList, Point, PointList, Res, Window};
+use oct_key::{Key, Point, PointList, Res, Window};
 use oct_num::Memory;
 use oct_pose::Pose;
-use oct_scan::{Scan, ScanFault, UpdateSet, update_set};
+use oct_scan::{Scan, ScanFault, update_set};
 use std::alloc::Global;
 use std::process::Abort;
 use std::test::Fail;
