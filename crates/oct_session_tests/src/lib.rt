@@ -1,9 +1,12 @@
 //! The tests of [`oct_session`]: the map that is lent to a session after each way in which a script
-//! can end, blocks of scans, files that are saved and loaded, a fault at each call of the world, and
-//! the names of the statuses.
+//! can end, blocks of scans, files that are saved and loaded, a fault at each call of the world,
+//! and the names of the statuses.
 //!
-//! They call public functions alone, and are a crate of their own, as the folder `tests/` of a Rust
-//! crate is: so `oct_session` isn't proved a second time beside them. Nothing stands on this crate.
+//! They show what no clause of its contracts says, and call public functions alone. `rt test` in
+//! this folder proves and runs them, and `rt try --test` runs them with nothing proved.
+//!
+//! They are a crate of their own, as the folder `tests/` of a Rust crate is, so that `oct_session`
+//! isn't proved a second time beside them. Nothing stands on this crate.
 #![tactic(auto)]
 
 #[cfg(test)]
