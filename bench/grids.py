@@ -57,7 +57,7 @@ def large_pictures():
 
 
 def scattered(boxes):
-    """A file of so many occupied voxels, each a box: four or three in each block of two voxels a
+    """A file of this many occupied voxels, each a box: four or three in each block of two voxels a
     side, of the 8^6 in a block of depth 9."""
     size = 10 + sum(8**level for level in range(1, 7)) + boxes
     parts = [HEADER % size, bytes([3, 0]) * 9]

@@ -43,7 +43,7 @@ for depth in range(14, -1, -1):
 
 
 def deep(depth, most):
-    """The record of a block of this depth with at most so many records in all, as parts, with their
+    """The record of a block of this depth with at most this many records in all, as parts, with their
     number and that of the lowest."""
     if depth in TEXT and most >= FULL[depth]:
         return [TEXT[depth]], FULL[depth], LOWEST[depth]
@@ -65,7 +65,7 @@ def write_deep(path, length):
 
 
 def write_scan(path, points, cells):
-    """A scan of so many points whose beams meet nearly so many voxels at 0.1 m."""
+    """A scan of this many points whose beams meet nearly that many voxels at 0.1 m."""
     chance = random.Random(1)
     with open(path, "w") as file:
         file.write("scan 0.05 0.05 0.05 1 0 0 0 all\n")

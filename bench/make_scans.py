@@ -24,7 +24,7 @@ def metres(millimetres):
 
 
 def point(numbers, reach):
-    """Three coordinates of a magnitude of at most so many millimetres."""
+    """Three coordinates of a magnitude of at most this many millimetres."""
     return " ".join(metres(next(numbers) % (2 * reach + 1) - reach) for _ in range(3))
 
 

@@ -147,7 +147,7 @@ class Draws:
         return (self.state >> 33) % most
 
     def point(self, most):
-        """Three lengths in millimetres, each at most so many from 0."""
+        """Three lengths in millimetres, each at most this many from 0."""
         return " ".join(metres_text(self.below(2 * most + 1) - most, 3) for _ in range(3))
 
 

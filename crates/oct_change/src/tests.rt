@@ -77,7 +77,7 @@ fn expect_report(
     Ok(())
 }
 
-/// Expects so many notes.
+/// Expects this many notes.
 fn expect_len(rt: &impl Abort, changes: &Changes, want: u64) {
     assert_eq!(rt; changes.len(), want);
 }

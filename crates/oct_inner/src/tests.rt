@@ -120,7 +120,7 @@ fn expect_at(rt: &impl Abort, tree: &OccTree, path: &[u8], want: Seen) {
     assert_eq!(rt; at_path(tree, path), want);
 }
 
-/// Expects so many groups.
+/// Expects this many groups.
 fn expect_groups(rt: &impl Abort, tree: &OccTree, want: u32) {
     assert_eq!(rt; tree.arena().live(), want);
 }

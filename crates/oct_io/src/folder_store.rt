@@ -144,7 +144,7 @@ mod tests {
     use std::process::Abort;
     use std::test::Fail;
 
-    // Expects that so many loads and saves have failed.
+    // Expects that this many loads and saves have failed.
     fn expect_faults<R: Files + Drop>(rt: &impl Abort, store: &FolderStore<R>, want: u64) {
         assert_eq!(rt; store.faults, want);
     }

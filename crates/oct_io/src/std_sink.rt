@@ -109,7 +109,7 @@ mod tests {
         }
     }
 
-    // Expects that so many writes have failed, and so many have run out of memory.
+    // Expects that this many writes have failed, and this many have run out of memory.
     fn expect_counts<W: Write + Drop>(
         rt: &impl Abort,
         sink: &StdSink<W>,

@@ -100,7 +100,7 @@ mod tests {
         Ok(())
     }
 
-    // Expects that so many reads have failed.
+    // Expects that this many reads have failed.
     fn expect_faults<R: Read + Drop>(rt: &impl Abort, source: &StdSource<R>, want: u64) {
         assert_eq!(rt; source.faults, want);
     }

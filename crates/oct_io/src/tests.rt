@@ -93,7 +93,7 @@ fn expect_lengths(rt: &impl Abort, sink: &Noting, want: &[usize]) {
     assert_eq!(rt; sink.lengths.as_slice(), want);
 }
 
-/// Expects that of so many bytes, pushed in pieces of this length, the sink gets pieces of these
+/// Expects that of this many bytes, pushed in pieces of this length, the sink gets pieces of these
 /// lengths before a flush, and of these by then.
 fn expect_pieces(rt: &impl Abort, total: usize, length: usize, before: &[usize], after: &[usize])
     requires within { total ≤ 10000 }

@@ -228,7 +228,7 @@ mod tests {
         ("-9999999.999999999", -9_999_999_999_999_999),
     ];
 
-    /// Expects that a text is a length of so many nanometres.
+    /// Expects that a text is a length of this many nanometres.
     fn expect_length(rt: &impl Abort, text: &str, want: i64) {
         assert_eq!(rt; read_metres(text.as_bytes()), Ok(want), "at {text:?}");
     }

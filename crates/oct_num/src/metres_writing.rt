@@ -109,7 +109,7 @@ mod tests {
         (i64::MIN, "-9223372036.854775808"),
     ];
 
-    /// Expects that a length has a text, and that so many bytes are added to a list.
+    /// Expects that a length has a text, and that this many bytes are added to a list.
     fn expect_text(rt: &impl Abort, alloc: Global, nm: i64, want: &str) -> Result<(), Fail> {
         assert_eq!(rt; metres_text(nm).as_str(), want, "at {nm}");
         let mut out = Vec::from_slice(alloc, b"res ")?;
