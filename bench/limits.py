@@ -43,8 +43,8 @@ for depth in range(14, -1, -1):
 
 
 def deep(depth, most):
-    """The record of a block of this depth with at most this many records in all, as parts, with their
-    number and that of the lowest."""
+    """The record of a block of this depth with at most this many records in all, as parts, with
+    their number and that of the lowest."""
     if depth in TEXT and most >= FULL[depth]:
         return [TEXT[depth]], FULL[depth], LOWEST[depth]
     parts, count, lowest, children = [], 1, 0, 0
