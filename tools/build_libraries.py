@@ -1,6 +1,6 @@
 #!/usr/bin/env python3
-"""Proves and builds the libraries that the program stands on, by crates.txt, side by side where they
-don't stand on each other.
+"""Proves and builds the libraries that the program stands on, by crates.txt, side by side where
+they don't stand on each other.
 
     tools/build_libraries.py JOBS LOG
 

@@ -50,7 +50,7 @@ fn feed_header(reader: &mut Reader, header: &[u8], most: usize) -> Result<(), Bt
 }
 
 /// Reads a file of a header and node data, of which the header is fed in pieces of this many bytes.
-fn file_by(alloc: Global, header: &str, data: &[u8], most: usize) -> Result<BtFile, BtFault>
+fn file_in_pieces(alloc: Global, header: &str, data: &[u8], most: usize) -> Result<BtFile, BtFault>
     requires { 0 < most }
 {
     let mut reader = Reader::new(alloc);
@@ -63,7 +63,7 @@ fn file_by(alloc: Global, header: &str, data: &[u8], most: usize) -> Result<BtFi
 fn read(alloc: Global, header: &str, data: &[u8], most: usize) -> Result<Said, BtFault>
     requires { 0 < most }
 {
-    let file = file_by(alloc, header, data, most)?;
+    let file = file_in_pieces(alloc, header, data, most)?;
     let bytes = file.codes().as_slice().len();
     Ok((file.res().nm(), file.nodes(), bytes, file.is_canonical()))
 }
@@ -434,7 +434,7 @@ fn tree_of(rt: &impl Abort, alloc: Global, file: &BtFile) -> Result<OccTree, Mem
 
 /// The tree of the file of one voxel.
 fn one_voxel(rt: &impl Abort, alloc: Global) -> Result<OccTree, Fail> {
-    let file = file_by(alloc, HEADER, ONE_VOXEL, 4096)?;
+    let file = file_in_pieces(alloc, HEADER, ONE_VOXEL, 4096)?;
     Ok(tree_of(rt, alloc, &file)?)
 }
 
