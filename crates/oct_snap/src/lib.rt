@@ -40,8 +40,6 @@ mod heading;
 mod info;
 mod laws;
 mod tags;
-#[cfg(test)]
-mod tests;
 mod writing;
 
 pub use fault::SnapFault;
