@@ -5,6 +5,15 @@
 //! that two blocks never share one. Groups stand in a [`NodeArena`], each under a [`GroupId`] of
 //! its own, and a node links a group by that id.
 //!
+//! ```text
+//! let mut arena = NodeArena::new(alloc);
+//! arena.reserve(1)?;                                // the one call that can fail
+//! let id = arena.take(Block::whole_map(), [Node::Absent; 8]);
+//! arena.set_node(id, 3, Node::Leaf(850));
+//! let node = arena.node(id, 3);                     // Node::Leaf(850)
+//! arena.give(id);
+//! ```
+//!
 //! An arena is seen as a list of entries, where an id is the number of an entry: a group, or none
 //! where the entry is vacant. What the contracts promise:
 //!

@@ -9,6 +9,14 @@
 //! A [`Brick`] has two such numbers: the voxels that a scan changes, and those of them that it
 //! hits. The others are freed.
 //!
+//! ```text
+//! let code = morton(Key { x: 32768, y: 32768, z: 32768 });
+//! let passed = Brick::around(code).with_scanned(code);
+//! let end = Brick::around(code + 1).with_hit(code + 1);
+//! let bricks = merge_bricks(alloc, vec![in alloc; passed, end]?)?;   // one brick
+//! let freed = bricks[0].frees();                                     // the bit of the first voxel
+//! ```
+//!
 //! What the contracts promise:
 //!
 //! - Whether a number has a voxel is `HasCode`, and the codes of its voxels in their order are

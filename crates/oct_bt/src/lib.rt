@@ -2,6 +2,16 @@
 //! `OcTree`: a text header with the resolution and the number of nodes, and two bits for each child
 //! of a node.
 //!
+//! ```text
+//! let mut reader = Reader::new(alloc);
+//! reader.feed(b"# Octomap OcTree binary file\nid OcTree\nsize 0\n")?;
+//! reader.feed(b"res 0.1\ndata\n")?;                 // pieces of any size
+//! let file = reader.finish()?;
+//! tree.reserve(file.records() as u32)?;
+//! fill(&file, &mut tree);           // classes become values
+//! let length = write(&tree, &mut sink)?;
+//! ```
+//!
 //! What the contracts promise:
 //!
 //! - A [`Reader`] is fed a file in pieces of any size, and answers the file or its first fault, in

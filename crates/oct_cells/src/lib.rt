@@ -7,6 +7,14 @@
 //! can be copied or dropped: whoever has them must hand them to [`deallocate`], else the program is
 //! refused. So no block is lost, and none is given back twice.
 //!
+//! ```text
+//! let (address, mut cells, grant) = allocate(&alloc, 4)?;
+//! cells.write(address, 0, 7u64);
+//! let seven = *cells.get(address, 0);
+//! *cells.get_mut(address, 0) = 8;
+//! deallocate(&alloc, address, 4, cells, grant);
+//! ```
+//!
 //! [`Cells::write`] fills an empty cell, [`Cells::get`] shows a value and [`Cells::get_mut`] lends
 //! one to be changed. Each asks for the address of these cells, and for a cell that is there and
 //! empty, or has a value. A block never moves.

@@ -1,11 +1,13 @@
 //! Tasks over a file of classes: what a source gives is read as a `.bt` file, and a text goes to a
 //! sink.
 //!
-//!     match convert(alloc, 1 << 26, &mut source, &mut sink) {
-//!         Ending::Done => {}       // the canonical file of the same classes was written
-//!         Ending::BadFile => {}    // a line was written, as `refused 13 MissingField size`
-//!         _ => {}                  // too long, a fault, or memory runs out
-//!     }
+//! ```text
+//! match convert(alloc, 1 << 26, &mut source, &mut sink) {
+//!     Ending::Done => {}       // the canonical file of the same classes was written
+//!     Ending::BadFile => {}    // a line was written, as `refused 13 MissingField size`
+//!     _ => {}                  // too long, a fault, or memory runs out
+//! }
+//! ```
 //!
 //! What the contracts promise:
 //!

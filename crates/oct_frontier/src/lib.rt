@@ -4,7 +4,9 @@
 //! [`frontier`] lists, between two corners, the voxels that are free and have an unknown voxel of
 //! the map beside them on an axis, by ascending x, then y, then z:
 //!
-//!     let keys = frontier(alloc, &tree, lo, hi, 1_000_000)?;
+//! ```text
+//! let keys = frontier(alloc, &tree, lo, hi, 1_000_000)?;
+//! ```
 //!
 //! The promise is that the list is a function of the voxels' classes (`frontier_between`): of the
 //! voxels of the map in their order those that lie between the corners and at the frontier, and

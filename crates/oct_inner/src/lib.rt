@@ -7,6 +7,12 @@
 //! mends the values, as `updateInnerOccupancy` of the library does, and [`prune`] takes the groups
 //! away, as its `prune` does.
 //!
+//! ```text
+//! touch(&mut tree, key, Event::Add(850), true);     // lazy: no inner value is renewed
+//! refresh(&mut tree);                               // each is the greatest of its group again
+//! prune(&mut tree);                                 // and no group says what one node can say
+//! ```
+//!
 //! What the contracts promise of a well-formed tree:
 //!
 //! - After [`refresh`] the tree is fresh: each Inner value is the greatest of its group. All else

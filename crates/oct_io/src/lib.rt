@@ -5,6 +5,14 @@
 //! holds, as those in memory do, and counts its faults in any case, so that a caller can be held to
 //! blame a fault only where there was one.
 //!
+//! ```text
+//! let mut source = CalmSource::new(FileBytes::from_slice(alloc, b"hit 0 0 0\n")?, 4096);
+//! let mut sink = CalmSink::new(alloc, 4096);
+//! let mut buffer = [0; 64];
+//! let count = source.read(&mut buffer)?;                             // 10
+//! write_all(&mut sink, &buffer[..count])?;                           // b"hit 0 0 0\n" is written
+//! ```
+//!
 //! What the contracts promise:
 //!
 //! - [`Source::read`] moves the next bytes to the front of a buffer. It answers 0 for a buffer that

@@ -5,6 +5,15 @@
 //! axis, as in the OctoMap library. Lengths are whole nanometres, so that no rounding error moves a
 //! point to a neighbour. A voxel takes its lower faces and not its upper ones.
 //!
+//! ```text
+//! let res = Res::new(100_000_000)?;                            // an edge of 0.1 m
+//! let point = Point { x: 250_000_000, y: 0, z: -1 };           // in nanometres
+//! if let Some(key) = res.key_of(point) {                       // 32770, 32768, 32767
+//!     let block = Block::of(key, 15);                          // 16385, 16384, 16383
+//!     let code = morton(key);                                  // from_morton(code) is the key
+//! }
+//! ```
+//!
 //! What the contracts promise:
 //!
 //! - [`Res::new`] accepts exactly the resolutions from 0.1 mm to 100 m, and each [`Res`] that

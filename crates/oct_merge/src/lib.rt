@@ -1,9 +1,11 @@
 //! Two maps side by side: one is merged into the other, and their classes are compared.
 //!
-//!     let need = merge_need(&into, &other);
-//!     into.reserve(need)?;
-//!     merge(&mut into, &other, Rule::Greatest);
-//!     let table = class_table(&into, &other, lo, hi);
+//! ```text
+//! let need = merge_need(&into, &other);
+//! into.reserve(need)?;
+//! merge(&mut into, &other, Rule::Greatest);
+//! let table = class_table(&into, &other, lo, hi);
+//! ```
 //!
 //! What the contracts promise of two well-formed trees:
 //!

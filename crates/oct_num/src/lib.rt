@@ -1,7 +1,17 @@
 //! Numbers as decimal text, and division and roots that round by a rule.
 //!
 //! Lengths are whole nanometres in an `i64`, written as decimal metres: `-1.25` stands for
-//! -1,250,000,000. The crate promises, for every text and number:
+//! -1,250,000,000.
+//!
+//! ```text
+//! let nm = read_metres(b"-1.25")?;        // -1_250_000_000
+//! let text = metres_text(nm);             // "-1.25"
+//! let down = floor_div(-7, 2);            // -4
+//! let near = round_half_up(-3, 2);        // -1
+//! let root = ceil_sqrt(5);                // 3
+//! ```
+//!
+//! The crate promises, for every text and number:
 //!
 //! - `read_metres` answers the nanometres of exactly the texts of an optional minus, one to seven
 //!   digits, and optionally a point and one to nine digits. To every other text it answers where

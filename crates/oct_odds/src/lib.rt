@@ -7,6 +7,13 @@
 //! computes with floating-point numbers, and this crate with whole ones, so that equal histories
 //! give equal values.
 //!
+//! ```text
+//! let model = OddsModel::new(850, -400, -2000, 3500, 0)?;
+//! let value = model.apply(Event::Add(850), None);                    // Some(850)
+//! let value = model.apply(Event::Add(-400), value);                  // Some(450)
+//! let class = model.class(value);                                    // Class::Occupied
+//! ```
+//!
 //! What the contracts promise:
 //!
 //! - [`OddsModel::new`] accepts exactly the numbers that meet the conditions on a model, and

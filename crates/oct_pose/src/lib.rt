@@ -4,6 +4,12 @@
 //! the four numbers of length 1 that are usual in robotics. Only the quaternion's direction counts:
 //! `(1, 0, 0, 1)` is a quarter turn about the z axis, as `(5, 0, 0, 5)` is.
 //!
+//! ```text
+//! let metre = 1_000_000_000;
+//! let pose = Pose::new(Point { x: 0, y: 0, z: metre }, 1, 0, 0, 1)?; // 1 m up, a quarter turn
+//! let seen = pose.apply(Point { x: 2 * metre, y: 0, z: 0 });         // 0 m, 2 m, 1 m
+//! ```
+//!
 //! What the contracts promise:
 //!
 //! - [`Pose::new`] refuses exactly the quaternion 0, and each [`Pose`] that exists has another one,

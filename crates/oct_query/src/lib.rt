@@ -7,6 +7,12 @@
 //! an inner node has the maximum of its children is the rule of Hornung et al. 2013 and of the
 //! OctoMap library.
 //!
+//! ```text
+//! let value = query(&tree, Block::of(key, 15));     // the largest of eight voxels, or None
+//! let Counts { groups, nodes } = counts(&tree);
+//! for found in list(alloc, &tree, lo, hi, 15, 1_000_000)?.as_slice() { .. }
+//! ```
+//!
 //! [`counts`] answers how many groups live and how many nodes aren't absent. The promise is a law
 //! over all trees: no tree of these values has fewer groups than there are blocks of depth 0 to 15
 //! that aren't uniform (`group_count` of `oct_values`), exactly the pruned trees have no more, and

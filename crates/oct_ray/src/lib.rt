@@ -8,6 +8,13 @@
 //! exactly, it goes on to the voxel across, and meets one beside only where that one has the
 //! corner.
 //!
+//! ```text
+//! let end = cut(origin, far, range);                // where a beam longer than the range ends
+//! for key in Walk::new(res, origin, end) {
+//!     ..                                            // each voxel on the way, in order
+//! }
+//! ```
+//!
 //! What the contracts promise:
 //!
 //! - [`Walk::new`] makes the list of exactly the voxels that the segment meets: each of them once,

@@ -7,6 +7,13 @@
 //! says nothing of the voxel where it was cut. A box of voxels may be handed in, to which the
 //! update is restricted.
 //!
+//! ```text
+//! let scan = Scan { pose, points, range: Some(8_000_000_000), odds: None };
+//! let update = update_bricks(alloc, &scan, res, 1 << 26, None)?;
+//! let (hits, frees) = (update.hit_count(), update.free_count());
+//! for brick in update.bricks() { .. }               // 64 voxels at a time
+//! ```
+//!
 //! What the contracts promise:
 //!
 //! - [`update_bricks`] answers exactly the voxels that are hit and exactly those that are freed, by

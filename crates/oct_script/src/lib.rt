@@ -5,6 +5,12 @@
 //! [`push_reply`] appends the text of a [`Reply`]. What a command does isn't known here, nor
 //! whether a scan is open: the caller says so.
 //!
+//! ```text
+//! let command = parse(b"get 0.05 0 0 16", false)?;  // Command::Get { p, depth: 16 }
+//! let fault = parse(b"get 0.05 0 O 16", false);     // Err(Syntax { column: 12 })
+//! push_reply(&mut out, &Reply::Ok)?;                // appends b"ok\n"
+//! ```
+//!
 //! What the contracts promise:
 //!
 //! - However a script is cut into pieces, [`Lines::feed`] ends exactly the lines that `ended_lines`

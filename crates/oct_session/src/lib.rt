@@ -7,6 +7,12 @@
 //! is looked at. The map is that of `oct_map`, the class `OcTree` of the OctoMap library (Hornung
 //! et al. 2013) in whole numbers.
 //!
+//! ```text
+//! let options = Options { res, odds: OddsModel::default(), limits, max_bytes: MOST_BYTES };
+//! let mut map = OccMap::new(alloc, options.res, options.odds, options.limits);
+//! let status = serve(alloc, &options, &mut map, &mut source, &mut sink, &mut store);
+//! ```
+//!
 //! # What it promises
 //!
 //! - **Replies.** `specs/Session.antt` defines a session as a function of the whole byte string:

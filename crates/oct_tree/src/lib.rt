@@ -7,6 +7,15 @@
 //! says that nothing is known of them. A node stands at a [`Place`]: the root, or a slot of a
 //! group.
 //!
+//! ```text
+//! let mut tree = OccTree::new(alloc, res, OddsModel::default());
+//! tree.reserve(1)?;                                 // the one call that can fail
+//! let id = tree.split(Place::Root);                 // eight absent nodes under the root
+//! tree.set_place(Place::Slot(id, 3), Node::Leaf(850));
+//! tree.settle(Place::Root);                         // Inner, with the value 850
+//! let value = tree.at(key);                         // Some(850) in child 3, else None
+//! ```
+//!
 //! What the contracts promise:
 //!
 //! - [`OccTree::node_over`] is the node that stands at a block, or the leaf or absent node that

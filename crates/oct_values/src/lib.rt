@@ -24,6 +24,10 @@
 //!   on each of these. `box_need` is the number of blocks of depth 0 to 15 that meet the box and
 //!   don't lie in it: a block in the box takes one event as a whole.
 //!
+//! ```text
+//! blocks_have_one_answer();      // does nothing: its clause says that a block has one answer
+//! ```
+//!
 //! Its functions do nothing and promise much: each is a law, so that nobody has to trust a list, a
 //! test or a fold. Each block and each voxel is listed once, the tests say what they say in words
 //! of voxels, a block has one answer, and events make no more groups needed than they may. Scans,

@@ -6,6 +6,12 @@
 //! first words ask for a task over files or over a script that a number makes. The page of
 //! `oct_tasks` goes through them, and docs/FORMATS.md has the words, the scripts and the replies.
 //!
+//! ```text
+//! $ printf 'hit 0 0 0\nget 0 0 0 16\n' | octomap session 0.1
+//! ok
+//! known 850 occupied
+//! ```
+//!
 //! # What it promises
 //!
 //! The contract of [`oct_tasks::run`], proved: for every script, where source and sink tell their
