@@ -1,13 +1,15 @@
 #!/usr/bin/env python3
-"""Draws one layer of the map that a script leaves: '#' is occupied, '.' free, and a blank unknown.
+"""Draws one layer of the map that a script leaves: '#' is occupied, '.' free, and a blank unknown;
+'?' lies outside the map.
 
     examples/draw.py RES X0 Y0 X1 Y1 Z < SCRIPT
 
 draws the voxels from the one that holds (X0, Y0, Z) to the one that holds (X1, Y1, Z); x goes right
-and y up. It asks the program for each of them behind the script. The program is what OCTOMAP names,
-or the launcher beside this folder.
+and y up. It asks the program for each of them behind the script, or where its first `quit` stands.
+The program is what OCTOMAP names, or the launcher beside this folder.
 """
 import os
+import re
 import subprocess
 import sys
 from fractions import Fraction
@@ -22,6 +24,21 @@ def decimal(metres):
 
 
 SIGNS = {"occupied": "#", "free": ".", "unknown": " "}
+ANSWER = re.compile("known -?[0-9]+ (occupied|free)|unknown|refused 24 .*")
+
+
+def before_quit(script):
+    """The lines of a script up to its first `quit` outside the block of a scan."""
+    lines, is_inside = [], False
+    for line in script.split("\n"):
+        words = line.split()
+        if words == ["quit"] and not is_inside:
+            break
+        is_inside = words != ["end"] if is_inside else words[:1] == ["scan"]
+        lines.append(line)
+    if is_inside:
+        sys.exit("draw.py: the script ends inside a scan")
+    return "\n".join(lines).rstrip("\n")
 
 
 def main(words):
@@ -32,11 +49,12 @@ def main(words):
     rows = range(floor(y_1 / edge), floor(y_0 / edge) - 1, -1)
     places = [f"{decimal(x * edge)} {decimal(y * edge)} {words[5]}" for y in rows for x in columns]
     asked = [f"get {place} 16" for place in places]
-    script = sys.stdin.read().rstrip("\n") + "\n" + "\n".join(asked) + "\n"
+    script = before_quit(sys.stdin.read()) + "\n" + "\n".join(asked) + "\n"
     call = [os.environ.get("OCTOMAP", LAUNCHER), "session", words[0]]
     ran = subprocess.run(call, input=script, stdout=subprocess.PIPE, text=True)
     answers = ran.stdout.splitlines()[-len(asked) :]
-    if len(answers) < len(asked):
+    is_answered = len(answers) == len(asked) and all(map(ANSWER.fullmatch, answers))
+    if ran.returncode > 1 or not is_answered:
         sys.exit("draw.py: the program didn't answer the whole script")
     signs = [SIGNS.get(it.split()[-1], "?") for it in answers]
     for row in range(len(rows)):

@@ -5,7 +5,8 @@ first one.
 
 It keeps a number for each known voxel in a dictionary, and exact fractions for each beam. There is
 no tree here, and no walk from crossing to crossing. It is slow, and knows no large blocks: a box
-that isn't refused, or a leaf of a file, has to be small. Files are those of the current folder.
+that isn't refused, or a leaf of a file that is loaded, has to be small. Files are those of the
+current folder.
 """
 import os
 import sys

@@ -1,5 +1,6 @@
 """The tasks of the program: what each writes, and its status."""
 import bt_file
+import frontiers
 import grids
 import pairs
 import texts
@@ -102,6 +103,11 @@ def run_inspect(words, data, _):
     return read_file(words, data, inspected)
 
 
+def run_frontier(words, data, _):
+    points = required(grids.points(words[:6]))
+    return read_file(words[6:], data, lambda edge, root, _: frontiers.listed(edge, root, points))
+
+
 def run_project(words, data, _):
     points = required(grids.points(words[:6]))
     return read_file(words[6:], data, lambda edge, root, _: grids.picture(edge, root, points))
@@ -195,6 +201,7 @@ TASKS = {
     "build": run_build,
     "convert": run_convert,
     "inspect": run_inspect,
+    "frontier": run_frontier,
     "project": run_project,
     "vrml": run_vrml,
     "merge": run_merge,

@@ -72,8 +72,8 @@ def runs(draw, without):
     if "build" not in without:
         yield ["build", *words[1:]], data, {}
     _, text = tasks.run(["build", "0.1"], data, {})
-    project = ["project", *scripts.corners(draw).split()]
-    for task in (["convert"], ["inspect"], project, ["vrml"]):
+    between = [[task, *scripts.corners(draw).split()] for task in ("frontier", "project")]
+    for task in (["convert"], ["inspect"], *between, ["vrml"]):
         yield task, changed(draw, text), {}
     if "build" not in without:
         _, other = tasks.run(["build", "0.1"], scripts.script(draw, without), {})
