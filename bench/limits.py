@@ -1,6 +1,6 @@
 #!/usr/bin/env python3
 """Measures the peak memory of the program on inputs as large as its limits let them be, and fails
-where one takes more than it may.
+where one takes more than it may, or ends with another status than it should.
 
     bench/limits.py [PROGRAM]
 
@@ -98,8 +98,9 @@ def main():
         subprocess.run(["cc", "-O1", "-x", "c", "-", "-o", room / "peak"], input=PEAK.encode(),
                        check=True)
 
-        def measure(name, words, most, made):
-            """Runs the program on a file or a text; whether it took more megabytes than these."""
+        def measure(name, words, most, made, due=0):
+            """Runs the program on a file or a text; whether it took more megabytes than these, or
+            ended with another status."""
             if isinstance(made, bytes):
                 (room / "input").write_bytes(made)
                 made = room / "input"
@@ -107,14 +108,14 @@ def main():
                 done = subprocess.run([room / "peak", PROGRAM, *words.split()], cwd=room,
                                       stdin=data, stdout=subprocess.DEVNULL, stderr=subprocess.PIPE)
             status, peak = re.search(rb"status (\d+) kilobytes (\d+)", done.stderr).groups()
-            print(f"{name}: {int(peak) / 1024:.1f} MB (at most {most}), status {status.decode()}",
-                  flush=True)
-            return int(peak) > 1024 * most
+            print(f"{name}: {int(peak) / 1024:.1f} MB (at most {most}), status {status.decode()}"
+                  f" (due {due})", flush=True)
+            return int(peak) > 1024 * most or int(status) != due
 
         failed |= measure("an empty script", session, 3, b"")
-        failed |= measure("a header without a line feed", "inspect", 3, b"#" * 65536)
+        failed |= measure("a header without a line feed", "inspect", 3, b"#" * 65536, 3)
         write_line(room / "line", 10 ** 9)
-        failed |= measure("a line of a gigabyte", session, 3, room / "line")
+        failed |= measure("a line of a gigabyte", session, 3, room / "line", 1)
         (room / "line").unlink()
         write_scan(room / "scan", 1_000_000, 1 << 26)
         failed |= measure("a scan of a million points", session, 600, room / "scan")
@@ -128,7 +129,8 @@ def main():
         failed |= measure("a load of 2^24 groups", session, 1400, b"load deep\n")
         failed |= measure("and once more", session, 2600, b"load deep\nload deep\n")
         write_deep(room / "deep", 1 << 30)
-        failed |= measure("a load of a file of 2^30 bytes", session, 2200, b"load deep\n")
+        # (accepted as a file, and refused as full)
+        failed |= measure("a load of a file of 2^30 bytes", session, 2200, b"load deep\n", 1)
         failed |= measure("its inspection", inspect, 1200, room / "deep")
         failed |= measure("its conversion", inspect.replace("inspect", "convert"), 1200,
                           room / "deep")

@@ -38,6 +38,8 @@ LINES = """\
 hit 0.05 0.05 0.05
 add 1.05 1.05 1.05 -300 lazy
 get 0.05 0.05 0.05 16
+set 2.05 2.05 2.05 700
+forget 2.05 2.05 2.05 lazy
 scan 0 0 0 1 0 0 0 5
 p 3 1 0.5
 p 3 -1 0.5
@@ -73,11 +75,13 @@ restore values
 counts
 save second
 restore late
+nolimit
 untrack
 clear
 load second
 counts
 restore nothing
+quit
 """
 
 
