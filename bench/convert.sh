@@ -1,7 +1,7 @@
 #!/bin/sh
-# Measures the conversion of a canonical file of 409,748 bytes: the instructions and the peak memory,
-# and how time grows where the map is of four times as many points. Fails where a limit is exceeded.
-# Needs python3 and valgrind.
+# Measures the conversion of a canonical file of 409,748 bytes: the instructions and the peak
+# memory, and how time grows where the map is of four times as many points. Fails where a limit is
+# exceeded. Needs python3 and valgrind.
 
 set -eu
 
@@ -18,8 +18,8 @@ trap 'rm -rf -- "$folder"' EXIT
 python3 "$here/make_scans.py" 1 5 500 | python3 "$here/make_file.py" 0.05 >"$folder/small"
 python3 "$here/make_scans.py" 1 5 2000 | python3 "$here/make_file.py" 0.05 >"$folder/large"
 
-# Converts a file in this folder, and prints the seconds (the least of five runs) and the peak memory
-# in kilobytes.
+# Converts a file in this folder, and prints the seconds (the least of five runs) and the peak
+# memory in kilobytes.
 measure() {
     python3 - "$program" "$folder/$1" <<'PYTHON'
 import resource, subprocess, sys, time

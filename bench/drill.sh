@@ -1,7 +1,7 @@
 #!/bin/sh
 # Measures drills, which make their script themselves: the four lines, the instructions, the seconds
-# (the least of five runs) and the peak memory of `drill 1 5 500` and `drill 1 20 2000`. Needs python3
-# and valgrind.
+# (the least of five runs) and the peak memory of `drill 1 5 500` and `drill 1 20 2000`. Needs
+# python3 and valgrind.
 
 set -eu
 
@@ -30,7 +30,8 @@ for numbers in '1 5 500' '1 20 2000'; do
     # shellcheck disable=SC2086
     set -- drill $numbers
     echo "octomap $*"
-    valgrind --tool=callgrind --callgrind-out-file="$folder/callgrind" "$program" "$@" 2>"$folder/log"
+    valgrind --tool=callgrind --callgrind-out-file="$folder/callgrind" "$program" "$@" \
+        2>"$folder/log"
     measured=$(measure "$@")
     echo "instructions: $(awk '/Collected/ { print $NF }' "$folder/log")"
     echo "seconds: ${measured% *}"

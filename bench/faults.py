@@ -6,8 +6,8 @@ another one than docs/FORMATS.md says.
 
     bench/faults.py [PROGRAM]
 
-What needs leave that the caller lacks (a file system of its own) is left out, and said so. A kill is
-tried at moments spread over the time that a save takes. Needs Linux.
+What needs leave that the caller lacks (a file system of its own) is left out, and said so. A kill
+is tried at moments spread over the time that a save takes. Needs Linux.
 """
 import os
 import pty
@@ -122,7 +122,8 @@ def folder_gone(folder):
 
 
 def full_disk(folder):
-    """A file system of 12 kB, in a space of its own that ends with the session, and a file of 11."""
+    """A file system of 12 kB, in a space of its own that ends with the session, and a save that
+    doesn't fit beside the old file."""
     voxels = [(x, y, z) for x in range(12) for y in range(12) for z in range(12)]
     script = b"".join(b"hit %d.05 %d.05 %d.05\n" % voxel for voxel in voxels) + b"save old\n"
     mount = "mkdir disk && mount -t tmpfs -o size=12k none disk && cd disk && printf whole >old && "

@@ -26,8 +26,8 @@ def nanometres(word):
 
 
 def voxels_met(place, end, edge):
-    """Each voxel that the segment meets. A voxel has its lower faces and lacks its upper ones, so at
-    one place all axes that rise are crossed at once, and then all that fall."""
+    """Each voxel that the segment meets. A voxel has its lower faces and lacks its upper ones, so
+    at one place all axes that rise are crossed at once, and then all that fall."""
     crossings = []
     for axis, (o, e) in enumerate(zip(place, end)):
         low, high = sorted((o, e))

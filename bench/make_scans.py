@@ -1,9 +1,9 @@
 #!/usr/bin/env python3
 """Writes a script of scans: make_scans.py SEED SCANS POINTS.
 
-Each scan stands within 2 m of the origin and is turned by one of five quaternions about the z axis; its points lie within 5 m of the sensor
-on each axis, in whole millimetres, and its range is 8 m. The numbers come from a linear congruential generator, so that one seed always gives
-one script.
+Each scan stands within 2 m of the origin and is turned by one of five quaternions about the z axis;
+its points lie within 5 m of the sensor on each axis, in whole millimetres, and its range is 8 m.
+The numbers come from a linear congruential generator, so that one seed always gives one script.
 """
 import sys
 

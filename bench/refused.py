@@ -1,8 +1,8 @@
 #!/usr/bin/env python3
 """Refuses the program one request for memory, the first, the second and so on, each in a run of its
-own, until a run asks for no more than was granted; over a session in which every command stands, and
-over each other task. Each run must end with the whole answer, or out of memory with a beginning of
-it, and with the files that stand after the lines that were answered, or after one line more.
+own, until a run asks for no more than was granted; over a session in which every command stands,
+and over each other task. Each run must end with the whole answer, or out of memory with a beginning
+of it, and with the files that stand after the lines that were answered, or after one line more.
 
     bench/refused.py [PROGRAM]
 
@@ -156,8 +156,8 @@ def main():
     session, build = ["session", "0.1"], ["build", "0.1"]
     with tempfile.TemporaryDirectory() as room:
         shim = f"{room}/refuse.so"
-        subprocess.run(["cc", "-shared", "-fPIC", "-x", "c", "-", "-o", shim], input=REFUSE.encode(),
-                       check=True)
+        subprocess.run(["cc", "-shared", "-fPIC", "-x", "c", "-", "-o", shim],
+                       input=REFUSE.encode(), check=True)
         faults = attempt("session", session, script, marks_of(session, units), shim)
         # A build writes nothing before its script has ended, whatever files stand by then.
         stands = [(b"", left) for _, left in marks_of(session, units)]
