@@ -149,7 +149,7 @@ mark_fault text =
     else if starts_with nat_eq text (codes "# Octomap OcTree file") then Some FloatTree
     else Some NotOctomap
 
--- only the first n bytes of a file are looked at for its header
+-- only the first 65,536 bytes of a file are looked at for its header
 abbrev pub head_of : List ℕ → List ℕ
 head_of file = take 65536 file
 

@@ -23,7 +23,7 @@ unfoldable pub voxel_on : ℕ → Cube → ℕ → Voxel
 voxel_on zero b way = lowest_voxel b
 voxel_on (suc depths) b way = voxel_on depths (child_of b (way % 8)) (way / 8)
 
--- the voxels of the block before that one are of this class
+-- the voxels of the block before the one at the end of this way are of this class
 abbrev pub IsPureBefore : Classes → Class → ℕ → Cube → ℕ → Type 0
 IsPureBefore classes x zero b way = ⊤
 IsPureBefore classes x (suc depths) b way =

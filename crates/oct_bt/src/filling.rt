@@ -36,6 +36,7 @@ pub fn fill(file: &BtFile, tree: &mut OccTree)
     ensures res { tree.new.res ≡ tree.old.res }
     ensures odds { tree.new.odds ≡ tree.old.odds }
 {
+    // Called for its clauses alone: it computes nothing.
     tree.shape();
     let codes = file.codes().as_slice();
     if !codes.is_empty() {

@@ -14,7 +14,7 @@ use oct_num::{Memory, read_metres, read_natural};
 use std::alloc::Global;
 use std::marker::Model;
 
-/// Only the first n bytes of a file are looked at for its header.
+/// Only this many bytes at the front of a file are looked at for its header.
 const MOST_HEADER_BYTES: u64 = 65_536;
 
 /// What a header says.

@@ -33,8 +33,9 @@
 //!   are of it ([`block_classes_are_exact`]), two classifications have equal canonical data exactly
 //!   where they are equal on the map ([`data_tells_classes`]), no data for a classification is
 //!   shorter than the canonical one ([`canonical_data_is_least`]), exactly the texts of records are
-//!   accepted ([`reading_is_exact`], [`texts_tell_records`]), and canonical data and files are read
-//!   back ([`canonical_data_reads_back`], [`canonical_files_read_back`]). The classes that accepted
+//!   accepted ([`reading_is_exact`], [`texts_tell_records`]), canonical data and files are read
+//!   back ([`canonical_data_reads_back`], [`canonical_files_read_back`]), and each front of a
+//!   canonical file is refused by what it lacks ([`fronts_are_refused`]). The classes that accepted
 //!   data gives the voxels are a function of its bytes ([`data_classes_are_exact`]).
 //! - [`push_fault`] writes a fault as a refusal names it, with its number and its fields.
 //!
@@ -45,8 +46,10 @@
 //! come (`NodeData`). What a reader holds of a file is `file_progress` (`Reading`), and `StandsFor`
 //! says that it was fed exactly that text.
 //!
-//! `feed` and `push_fault` alone can fail because memory ran out; `fill` takes room that was made
-//! before, and `write` takes none.
+//! `feed`, `push_fault` and `CodeList::push` alone take memory, and `finish` answers `Memory` after
+//! a `feed` that ran out of it; `fill` takes room that was made before, and the writers take none
+//! of their own. The tasks over files (`oct_convert`, `oct_tasks`), the map and its sessions stand
+//! on this crate.
 #![tactic(auto)]
 
 mod bt_file;
@@ -75,8 +78,8 @@ pub use fault_text::push_fault;
 pub use filling::fill;
 pub use laws::{
     block_classes_are_exact, canonical_data_is_least, canonical_data_reads_back,
-    canonical_files_read_back, data_classes_are_exact, data_tells_classes, reading_is_exact,
-    texts_tell_records,
+    canonical_files_read_back, data_classes_are_exact, data_tells_classes, fronts_are_refused,
+    reading_is_exact, texts_tell_records,
 };
 pub use reader::Reader;
 pub use rewriting::rewrite;

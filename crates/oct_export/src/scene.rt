@@ -93,8 +93,9 @@ fn push_before<K: Sink>(
     Ok(bytes)
 }
 
-/// Pushes what is found out where a block of one class is come to, and all voxels before it in the
-/// block this many levels above it are occupied: if it is too, nothing, else the boxes before it.
+/// Handles a block of one class before which all voxels of the block this many levels above it are
+/// occupied. If it is occupied too, nothing is written yet; else the blocks before it are boxes,
+/// and are written.
 fn push_leaf<K: Sink>(
     res: Res,
     block: Block,

@@ -464,6 +464,7 @@ impl OccMap {
         ensures setup { ground_of self.new ≡ ground_of self.old }
         ensures map { IsMap self.new }
     {
+        // Called for its clauses alone: that the log-odds meet the conditions on a model.
         self.tree.odds();
         maximum_likelihood(&mut self.tree);
         self.is_stale = false;

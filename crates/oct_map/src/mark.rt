@@ -136,7 +136,7 @@ impl Mark {
 }
 
 /// Makes room for n notes. Where there isn't any, only the first note of each voxel stays, and
-/// there is room for as many notes again, so that the next time is far.
+/// there is room for as many notes again, so that this happens seldom.
 fn make_room(changes: &mut Changes, n: u64) -> Result<(), Memory>
     ensures room { OnOk result (n ≤ changes.new.spare) }
     ensures enough { n ≤ changes.old.spare → IsOk result × (changes.new ≡ changes.old) }

@@ -15,6 +15,7 @@ use std::process::Abort;
 use std::test::Fail;
 
 mod files;
+mod marks;
 
 /// What an addition of a hit adds.
 const HIT: Event = Event::Add(850);
@@ -567,6 +568,7 @@ fn expect_entries(rt: &impl Abort, map: &OccMap, live: u32, spare: u32) {
     assert_eq!(rt; (arena.live(), arena.spare()), (live, spare));
 }
 
+/// The numbers of this scan are those that the model in `bench/model` gives for it too.
 #[test]
 fn makes_room_for_thousands_of_groups(rt: HostRuntime) -> Result<(), Fail> {
     let scan = seen(wide_points(rt.alloc())?);

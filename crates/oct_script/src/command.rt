@@ -117,9 +117,11 @@ pub enum Command {
     Save(Name),
     /// The classes of all voxels, read from the file of this name.
     Load(Name),
-    /// The values of all voxels, written to the file of this name.
+    /// The values of all voxels, with the log-odds and the update box, written to the file of this
+    /// name.
     Snapshot(Name),
-    /// The values of all voxels, read from the file of this name.
+    /// The values of all voxels, with the log-odds and the update box, read from the file of this
+    /// name.
     Restore(Name),
     /// The end of the session.
     Quit,

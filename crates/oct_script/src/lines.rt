@@ -68,7 +68,7 @@ impl Lines {
     /// Takes bytes up to and with the next line feed. The line mustn't have ended since the last
     /// [`Lines::next`].
     ///
-    /// However a script is cut, the lines that are told to have ended are its lines: fed with
+    /// However a script is cut, the lines that are reported as ended are its lines: fed with
     /// `piece` after any bytes that have left this line unended, no line has ended in the bytes
     /// taken, or this one has, with the last of them.
     pub fn feed(&mut self, piece: &[u8]) -> Fed

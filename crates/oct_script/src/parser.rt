@@ -571,8 +571,8 @@ pub fn parse(line: &[u8], inside: bool) -> Result<Command, Syntax>
     Ok(command)
 }
 
-/// Does what [`parse`] does, with the command put in a place. What stands there after a fault isn't
-/// told.
+/// Does what [`parse`] does, with the command put in a place. After a fault any command may stand
+/// there.
 pub fn parse_into(line: &[u8], inside: bool, command: &mut Command) -> Result<(), Syntax>
     requires { length line.now ≤ LONGEST_LINE }
     ensures exact { IsRead result command.new (command_of inside line.now) }

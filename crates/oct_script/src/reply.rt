@@ -71,7 +71,7 @@ pub enum Refusal {
     BadMagic,
     /// What stands at this byte can't stand in a snapshot.
     BadSnapshot { at: u64 },
-    /// The map is stale, and the depth is that of no voxel.
+    /// The map is stale, and the depth is below 16.
     Stale,
     /// These groups and those that the command may need are more than the map may have.
     Full { groups: u64, need: u128 },

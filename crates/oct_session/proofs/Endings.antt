@@ -20,7 +20,8 @@ use Rattle.oct_session.specs.declared.options.Stop.TheVariants.{TooLong, ReadFau
 use Rattle.oct_session.specs.declared.options.Stop.TheVariants.{Memory, StoreFault as StoreStop}
 use Rattle.oct_session.specs.declared.service.TheConstants.{MOST_READ}
 use Rattle.oct_session.specs.declared.session.Session.{Session}
-use Rattle.oct_session.specs.Ending.{HasTaken, HasStopped, IsReadToEnd, IsBegun, replies_within}
+use Rattle.oct_io.specs.Taken.{HasTaken, IsBegun}
+use Rattle.oct_session.specs.Ending.{HasStopped, IsReadToEnd, replies_within}
 use Rattle.oct_session.specs.Ending.{has_quit_within}
 use Rattle.oct_session.specs.Counts.{IsAsked}
 use Rattle.oct_session.specs.Leaving.{StandsFor, Shelf, shelf, Desk, desk, HasAsked, IsLikeAfter}

@@ -20,7 +20,8 @@ use Rattle.oct_session.specs.declared.options.Status.{Status}
 use Rattle.oct_session.specs.declared.options.Stop.{Stop}
 use Rattle.oct_session.specs.declared.session.Session.{Session}
 use Rattle.oct_session.specs.Commands.{file_saved}
-use Rattle.oct_session.specs.Ending.{IsBegun, replies_within, HasReplied}
+use Rattle.oct_io.specs.Taken.{IsBegun}
+use Rattle.oct_session.specs.Ending.{replies_within, HasReplied}
 use Rattle.oct_session.specs.Leaving.{Desk, HasAsked, IsLikeAfter, HasLeft, IsKnown, IsCutBetween}
 use Rattle.oct_session.specs.Leaving.{IsHaltedBetween, IsHaltedBy, IsHalted}
 use Rattle.oct_session.specs.Session.{Progress, effect_of, next_command, after_line, progress}

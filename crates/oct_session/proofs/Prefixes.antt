@@ -2,7 +2,7 @@
 use Rattle.std.proofs.Common.{◌≡◌, ℕ, List, [], ◌++◌, Option, sym, ap, ◌∙◌, append_assoc}
 use Rattle.std.proofs.Common.{append-nil}
 use Rattle.oct_io.specs.Told.{appended}
-use Rattle.oct_session.specs.Ending.{IsBegun}
+use Rattle.oct_io.specs.Taken.{IsBegun}
 
 -- what is written is a prefix of a longer text, too
 pub begun_more : (text longer more : List ℕ) (old new : Option (List ℕ)) → longer ≡ text ++ more

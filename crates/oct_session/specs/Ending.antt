@@ -1,7 +1,8 @@
 -- What a session writes, and how it may end.
-use Rattle.std.specs.Prelude.{◌≡◌, ◌⊎◌, ℕ, ◌+◌, ◌-◌, ◌≤◌, List, [], ◌++◌, length, take, drop, Bool}
+use Rattle.std.specs.Prelude.{◌≡◌, ◌⊎◌, ℕ, ◌+◌, ◌-◌, ◌≤◌, List, [], ◌++◌, take, Bool}
 use Rattle.std.specs.Prelude.{true, false, Option, Some}
 use Rattle.oct_io.specs.Files.{Files}
+use Rattle.oct_io.specs.Taken.{HasTaken, IsBegun}
 use Rattle.oct_io.specs.Told.{appended}
 use Rattle.oct_script.specs.Lines.{ended_lines}
 use Rattle.oct_session.specs.declared.service.TheConstants.{MOST_READ}
@@ -24,18 +25,6 @@ has_quit_within o files bytes = (progress o files (ended_lines bytes)).has_quit
 pub record IsAnswered (whole : Answer) (old new : Option (List ℕ)) (status : Status) : Type 0 where
   pub written : new ≡ appended old whole.text
   pub same_status : whole.status ≡ status
-
--- a prefix of the text was written
-pub record IsBegun (text : List ℕ) (old new : Option (List ℕ)) : Type 0 where
-  pub done : List ℕ
-  pub rest : List ℕ
-  pub written : new ≡ appended old done
-  pub split : text ≡ done ++ rest
-
--- this many bytes of the input were taken
-pub record HasTaken (taken : ℕ) (bytes : List ℕ) (left : Option (List ℕ)) : Type 0 where
-  pub within : taken ≤ length bytes
-  pub rest : left ≡ Some (drop taken bytes)
 
 -- the replies to the lines that end within these bytes were written, and maybe more after them
 pub record HasReplied (o : Setup) (files : Option Files) (bytes : List ℕ)
@@ -60,7 +49,7 @@ pub record IsReadToEnd (o : Setup) (files : Option Files) (bytes : List ℕ)
 
 -- the input failed within the limit and before a `quit` line had ended, and exactly the replies to
 -- the lines that end within the bytes taken were written
-pub record IsCutOff (o : Setup) (files : Option Files) (bytes : List ℕ)
+pub record HasReadFault (o : Setup) (files : Option Files) (bytes : List ℕ)
     (left old new : Option (List ℕ)) : Type 0 where
   pub taken : ℕ
   pub few : taken ≤ o.max_bytes
@@ -91,7 +80,7 @@ MayEnd o files bytes left old new BadFile = ⊥
 MayEnd o files bytes left old new TooLong =
     IsAnswered (session o files bytes) old new TooLong × HasTaken (o.max_bytes + 1) bytes left
 MayEnd o files bytes left old new ReadFault =
-    IsBegun (session o files bytes).text old new × IsCutOff o files bytes left old new
+    IsBegun (session o files bytes).text old new × HasReadFault o files bytes left old new
 MayEnd o files bytes left old new _ =
     IsBegun (session o files bytes).text old new × HasStopped o files bytes left old new
 

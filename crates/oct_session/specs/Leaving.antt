@@ -11,7 +11,7 @@ use Rattle.oct_key.specs.Values.{SameValues}
 use Rattle.oct_tree.specs.Shape.{IsPruned}
 use Rattle.oct_session.specs.Commands.{file_saved}
 use Rattle.oct_session.specs.Counts.{IsAsked}
-use Rattle.oct_session.specs.Ending.{HasTaken}
+use Rattle.oct_io.specs.Taken.{HasTaken}
 use Rattle.oct_session.specs.History.{History, State, state_after}
 use Rattle.oct_session.specs.Session.{Progress, next_command, after_line, progress, closed}
 use Rattle.oct_session.specs.Session.{is_too_long, lines_of, last_progress}

@@ -15,7 +15,8 @@ use Rattle.oct_session.specs.declared.options.Status.{Status}
 use Rattle.oct_session.specs.declared.options.Stop.{Stop}
 use Rattle.oct_session.specs.declared.options.Stop.TheVariants.{TooLong, ReadFault}
 use Rattle.oct_session.specs.declared.session.Session.{Session}
-use Rattle.oct_session.specs.Ending.{HasTaken, HasReplied, IsReadToEnd, MayEnd}
+use Rattle.oct_io.specs.Taken.{HasTaken}
+use Rattle.oct_session.specs.Ending.{HasReplied, IsReadToEnd, MayEnd}
 use Rattle.oct_session.specs.Leaving.{StandsFor, StandsForSome, Desk, HasAsked, IsLike, IsTorn}
 use Rattle.oct_session.specs.Leaving.{IsLikeAfter, IsTornAfter}
 use Rattle.oct_session.specs.Leaving.{IsKnown, IsHalted, IsHaltedAtEnd, Leaves}

@@ -28,7 +28,7 @@ status_of stop.Memory = status.Memory
 status_of stop.StoreFault = status.StoreFault
 
 -- the status of a task whose text was written, or else that of the sink's fault
-abbrev pub status_written : Status → Result ⊤ SinkFault → Status
+abbrev pub status_written : {T : Type 0} → Status → Result T SinkFault → Status
 status_written whole (Ok done) = whole
 status_written whole (Err sink_fault.Failed) = status.WriteFault
 status_written whole (Err sink_fault.Memory) = status.Memory

@@ -11,7 +11,7 @@ ghost use Rattle.oct_session.specs.History.{start_state};
 ghost use Rattle.oct_session.specs.Leaving.{StandsFor, StandsForSome, desk, shelf};
 ghost use Rattle.oct_session.specs.Session.{last_progress, ReadsTold};
 
-use crate::options::{Options, Status};
+use crate::options::{Options, Status, status_written};
 use crate::service::serve;
 use oct_bt::write;
 use oct_io::{Sink, SinkFault, Source, Store};
@@ -54,11 +54,7 @@ fn write_map<K: Sink>(map: &OccMap, ended: Status, sink: &mut K) -> Status
     ensures memory { result ≡ Status.Memory → Rose (K.shortages sink.old) (K.shortages sink.new) }
     ensures no_shortage { result ≢ Status.Memory → K.shortages sink.new ≡ K.shortages sink.old }
 {
-    match write(map.tree(), sink) {
-        Ok(_) => ended,
-        Err(SinkFault::Failed) => Status::WriteFault,
-        Err(SinkFault::Memory) => Status::Memory,
-    }
+    status_written(ended, write(map.tree(), sink))
 }
 
 /// Does a script on the map that it is lent, as [`serve`] does, and writes the file of the classes

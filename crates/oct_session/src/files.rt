@@ -27,7 +27,7 @@ use oct_snap as snap;
 use std::alloc::Global;
 
 /// The most bytes of a file that are written at once.
-const MOST_WRITTEN: usize = 1 << 16;
+const MOST_WRITTEN: usize = 4096;
 
 /// The file of the map's classes, written to memory.
 fn write_classes(alloc: Global, map: &OccMap) -> Result<CalmSink, Memory>

@@ -184,9 +184,9 @@ fn take_long(line: &Lines, number: u64, block: &mut Option<Block>, reply: &mut O
     take_fault(line, Refusal::LongLine { line: number }, block, reply);
 }
 
-/// Does what the line of this number says, where a block is open or none, leaves the block that is
-/// open after it, and puts its reply in its place: whether it ends the session. Where it failed,
-/// nothing was done, but for the file that it names.
+/// Does what the line of this number says, inside a block or outside: leaves the block that is open
+/// afterwards and the reply in their places, and returns whether the line ends the session. Where
+/// it failed, nothing was done, but for the file that it names.
 pub fn take_line<F: Store>(
     alloc: Global,
     map: &mut OccMap,

@@ -22,7 +22,7 @@ pub const MOST_BYTES: u64 = 1 << 40;
 pub struct Options {
     /// The edge of a voxel.
     pub res: Res,
-    /// The log-odds of hits, and their limits.
+    /// The log-odds model.
     pub odds: OddsModel,
     /// How large the map may grow, and how much a scan may meet.
     pub limits: Limits,
@@ -171,11 +171,11 @@ impl From<Stop> for Status {
 }
 
 /// The status of a task whose text was written, or else that of the sink's fault.
-pub fn status_written(whole: Status, written: Result<(), SinkFault>) -> Status
+pub fn status_written<T: Drop>(whole: Status, written: Result<T, SinkFault>) -> Status
     ensures { result ≡ status_written whole written }
 {
     match written {
-        Ok(()) => whole,
+        Ok(_) => whole,
         Err(SinkFault::Failed) => Status::WriteFault,
         Err(SinkFault::Memory) => Status::Memory,
     }

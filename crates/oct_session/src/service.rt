@@ -69,8 +69,8 @@ fn take_piece<K: Sink, F: Store>(
     }
 }
 
-/// One read, and the answers to what it gave: how many bytes, of which none tell the end of the
-/// script.
+/// Reads one piece and answers its lines. Returns how many bytes were read; 0 means that the
+/// script has ended.
 fn turn<S: Source, K: Sink, F: Store>(
     options: &Options,
     map: &mut OccMap,

@@ -40,7 +40,7 @@ pub struct Session {
     pub refused: bool,
     /// What the replies come to.
     pub tally: Tally,
-    /// Whether the last of them was `quit`.
+    /// Whether the last line that was taken in was `quit`.
     pub has_quit: bool,
     /// The text of the last reply.
     pub text: Vec<u8>,
@@ -177,8 +177,8 @@ impl Session {
         Ok(())
     }
 
-    /// Takes the bytes up to and with the next line feed, and answers the line that it ends: how
-    /// many bytes.
+    /// Takes the bytes up to and with the next line feed, answers the line that ends there, and
+    /// returns how many bytes were taken.
     fn advance<K: Sink, F: Store>(
         &mut self,
         options: &Options,

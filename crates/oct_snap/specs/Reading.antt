@@ -27,7 +27,8 @@ pub record Found : Type 0 where
 abbrev pub found : Nodes → ℕ → List ℕ → Found
 found nodes at rest = record { nodes = nodes; at = at; rest = rest }
 
--- what stands at a place of a file
+-- a reader: from a place of the file and the bytes from there on, the nodes that stand there, or
+-- the fault
 abbrev pub Reader : Type 0
 Reader = ℕ → List ℕ → Result Found SnapFault
 

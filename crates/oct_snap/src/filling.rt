@@ -35,6 +35,7 @@ pub fn fill(bytes: &[u8], tree: &mut OccTree)
     ensures res { tree.new.res ≡ tree.old.res }
     ensures odds { tree.new.odds ≡ tree.old.odds }
 {
+    // Called for its clauses alone: it computes nothing.
     tree.shape();
     let Ok(fields) = read_fields(bytes, tree.odds()) else {
         unreachable!();

@@ -28,7 +28,8 @@
 //! and their text (`Nodes`), the text of a value for each voxel (`Texts`), and what a file is read
 //! as (`Reading`).
 //!
-//! A map's `snapshot` writes by this crate, and its `restore` checks by it.
+//! `oct_map` checks and fills by this crate (`OccMap::restore`), and `oct_session` writes by it
+//! (the command `snapshot`).
 #![tactic(auto)]
 
 mod checking;

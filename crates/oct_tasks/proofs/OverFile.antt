@@ -17,7 +17,7 @@ use Rattle.oct_session.specs.declared.options.Status.{Status}
 use Rattle.oct_session.specs.declared.options.Status.TheVariants.{Done, BadFile, TooLong}
 use Rattle.oct_session.specs.declared.options.Status.TheVariants.{WriteFault, Memory}
 use Rattle.oct_tasks.specs.Ending.{status_of}
-use Rattle.oct_tasks.specs.OverFile.{Reply, EndsOverFile, IsHalted, IsSettled, status_sent}
+use Rattle.oct_tasks.specs.OverFile.{Reply, EndsOverFile, IsHalted, IsSettled}
 
 -- the status of a sink's fault
 abbrev status_of_fault : SinkFault → Status
@@ -75,7 +75,7 @@ reply_sent (Err sink.Memory) text status end whole most bytes left old new settl
 -- a reply that a writer wrote piece by piece, or not whole
 pub text_sent : (r : Result ℕ SinkFault) (text other : List ℕ) (end : Status) (whole : Reply)
     (most : ℕ) (bytes : List ℕ) (left old new : Option (List ℕ))
-    → text ≡ other → whole ≡ record { text = other; status = Done } → end ≡ status_sent r
+    → text ≡ other → whole ≡ record { text = other; status = Done } → end ≡ status_written Done r
     → OnOk r (new ≡ appended old text)
     → OnErr r (IsBegun text old new) → IsReadToEnd most bytes left
     → EndsOverFile whole most bytes left old new end

@@ -1,7 +1,5 @@
 -- How a run may end whose task is over a file, and may be refused by what it asks of that.
-use Rattle.std.specs.Prelude.{◌≡◌, ◌≢◌, ◌⊎◌, ◌+◌, ℕ, List, Option, Result, Ok, Err}
-use Rattle.oct_io.specs.declared.sink.SinkFault.{SinkFault}
-use Rattle.oct_io.specs.declared.sink.SinkFault.TheVariants as sink
+use Rattle.std.specs.Prelude.{◌≡◌, ◌≢◌, ◌⊎◌, ◌+◌, ℕ, List, Option}
 use Rattle.oct_io.specs.Taken.{HasTaken, IsBegun}
 use Rattle.oct_io.specs.Told.{appended}
 use Rattle.oct_convert.specs.Ending.{IsStopped}
@@ -19,12 +17,6 @@ pub record Reply : Type 0 where
 -- a status with which a whole reply to a file is written
 abbrev pub IsSettled : Status → Type 0
 IsSettled status = (status ≡ Done) ⊎ (status ≡ Refused)
-
--- the status of a task whose text a writer wrote, or that of the sink's fault
-abbrev pub status_sent : Result ℕ SinkFault → Status
-status_sent (Ok length) = Done
-status_sent (Err sink.Failed) = WriteFault
-status_sent (Err sink.Memory) = Memory
 
 -- a status of a call that only writes: all was done or something refused, the sink failed, or
 -- memory ran out

@@ -8,16 +8,16 @@ ghost use Rattle.oct_convert.specs.Input.{IsReadToEnd};
 ghost use Rattle.oct_session.specs.Counts.{IsSinkCounted};
 ghost use Rattle.oct_tasks.specs.Grids.{column_count, grid_reply, project_reply};
 ghost use Rattle.oct_tasks.specs.Grids.{vrml_reply};
-ghost use Rattle.oct_tasks.specs.OverFile.{EndsOverFile, status_sent, IsOfReply};
+ghost use Rattle.oct_tasks.specs.OverFile.{EndsOverFile, IsOfReply};
 
 use crate::file_tree::tree_of;
 use crate::refusal::{Refusal, box_between};
 use crate::sending::send_refusal;
 use oct_bt::BtFile;
 use oct_export::{box_count, pgm, vrml};
-use oct_io::{Sink, SinkFault};
+use oct_io::Sink;
 use oct_key::{Key, Point};
-use oct_session::Status;
+use oct_session::{Status, status_written};
 use std::alloc::Global;
 
 /// The most columns of a grid.
@@ -80,7 +80,7 @@ fn project_between<K: Sink>(
     let Ok(tree) = tree_of(alloc, file) else {
         return Status::Memory;
     };
-    status_sent(pgm(&tree, low, high, sink))
+    status_written(Status::Done, pgm(&tree, low, high, sink))
 }
 
 /// Writes the occupied space of a file as a scene of boxes.
@@ -101,16 +101,5 @@ pub fn draw_boxes<K: Sink>(alloc: Global, file: &BtFile, sink: &mut K) -> Status
     if count > MOST_BOXES {
         return send_refusal(alloc, Refusal::TooManyBoxes { count }, sink);
     }
-    status_sent(vrml(&tree, sink))
-}
-
-/// The status of a task whose text a writer wrote, or that of the sink's fault.
-fn status_sent(written: Result<u64, SinkFault>) -> Status
-    ensures { result ≡ status_sent written }
-{
-    match written {
-        Ok(_) => Status::Done,
-        Err(SinkFault::Failed) => Status::WriteFault,
-        Err(SinkFault::Memory) => Status::Memory,
-    }
+    status_written(Status::Done, vrml(&tree, sink))
 }

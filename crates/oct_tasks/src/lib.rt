@@ -73,4 +73,7 @@ mod task;
 mod two_files;
 mod words;
 
+pub use file_task::FileTask;
 pub use program::run;
+pub use store_task::{PairTask, StoreTask};
+pub use task::{Stretch, Task, Usage, Workload, read_words};

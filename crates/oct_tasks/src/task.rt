@@ -56,7 +56,7 @@ const BYTES: Choice = Choice {
     default: MOST_BYTES,
 };
 
-/// How many bytes a file may have that is converted or inspected.
+/// How many bytes a file may have that a task reads from its input.
 const FILE_BYTES: Choice = Choice {
     low: 0,
     high: 1 << 32,

@@ -47,6 +47,7 @@ impl OccMap {
         }
         let mut tree = OccTree::new(self.alloc, session, self.tree.odds());
         tree.reserve(records as u32)?;
+        // The calls of `codes` and `shape` are made for their clauses alone: they compute nothing.
         file.codes();
         fill(file, &mut tree);
         tree.shape();

@@ -44,7 +44,7 @@ impl OccMap {
     /// The voxels whose class isn't the one that they had at the mark, each with the kind of its
     /// change, by ascending x, then y, then z. The mark stays, and a stale map answers as well.
     ///
-    /// What it costs goes by the notes, and not by the map.
+    /// Its cost depends on the number of notes, not on the map.
     pub fn changes(&self) -> Result<ChangeList, MapFault>
         ensures answer { IsAnswerOrMemory
             (changes_answer (marked_of self.now) (classes_in self.now)) result }

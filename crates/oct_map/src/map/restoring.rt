@@ -55,6 +55,7 @@ impl OccMap {
         let mut tree = OccTree::new(self.alloc, session, info.odds);
         tree.reserve(info.groups as u32)?;
         fill(bytes, &mut tree);
+        // Called for its clauses alone: it computes nothing.
         tree.shape();
         self.tree = tree;
         self.is_stale = false;

@@ -17,6 +17,13 @@ const VOXEL: &[u8] = &[
     2, 0,
 ];
 
+/// The node data of five voxels on x from voxel 0 on, of which the third and the fifth are occupied
+/// and the others free.
+const BEAM: &[u8] = &[
+    0x00, 0xc0, 3, 0, 3, 0, 3, 0, 3, 0, 3, 0, 3, 0, 3, 0, 3, 0, 3, 0, 3, 0, 3, 0, 3, 0, 0x0f, 0,
+    0x0f, 0, 5, 0, 6, 0, 3, 0, 2, 0,
+];
+
 /// The file at 0.1 m of this many nodes and this node data.
 fn file(alloc: Global, nodes: &[u8], data: &[u8]) -> Result<FileBytes, Memory> {
     let mut bytes = FileBytes::from_slice(alloc, FRONT)?;
@@ -48,7 +55,7 @@ fn expect_file(rt: &impl Abort, store: &CalmStore, name: &str, want: &[u8]) {
 }
 
 /// Scripts that save to `m`, their replies, and the number of nodes and the node data of the file.
-const SAVES: [(&str, &str, &[u8], &[u8]); 6] = [
+const SAVES: [(&str, &str, &[u8], &[u8]); 7] = [
     (
         "hit 0 0 0\nhit 0.1 0 0\nhit 0 0.1 0\nhit 0.1 0.1 0\n\
           hit 0 0 0.1\nhit 0.1 0 0.1\nhit 0 0.1 0.1\nhit 0.1 0.1 0.1\ncounts\nsave m\n",
@@ -67,6 +74,12 @@ const SAVES: [(&str, &str, &[u8], &[u8]); 6] = [
         "ok\ngroups 0 nodes 1\nsaved 138\n",
         b"9",
         &[0xaa, 0xaa],
+    ),
+    (
+        "scan 0.05 0.05 0.05 1 0 0 0 all\np 0.2 0 0\np 0.4 0 0\nend\ncounts\nsave m\n",
+        "ok hits 2 frees 3\ngroups 19 nodes 24\nsaved 175\n",
+        b"24",
+        BEAM,
     ),
     // Eight values of one class are one leaf.
     (

@@ -36,7 +36,8 @@ fn a_script_is_made_and_nothing_is_read(rt: HostRuntime) -> Result<(), Fail> {
     Ok(())
 }
 
-/// Words, and the four lines of the drill that they ask for.
+/// Words, and the four lines of the drill that they ask for, as the model in `bench/model` gives
+/// them too.
 const DRILLS: &[(&[&str], &str)] = &[
     (
         &["drill", "0", "0", "0"],
@@ -65,7 +66,8 @@ fn a_drill_writes_four_lines_and_reads_nothing(rt: HostRuntime) -> Result<(), Fa
     Ok(())
 }
 
-/// What the session over the script of the last drill replies, and the counts after it.
+/// What the session over the script of the last drill replies, and the counts after it: the sums of
+/// its hits and frees, and the counts, are those of the drill.
 const REPLIES: &str = "ok hits 50 frees 7349\nok hits 50 frees 6503\nok hits 50 frees 6796\n\
       groups 17469 nodes 38133\n";
 

@@ -40,6 +40,15 @@ fn a_full_map_refuses_edits(rt: HostRuntime) -> Result<(), Fail> {
 
 /// Limits that a scan meets.
 const SCANS: &[LimitCase] = &[
+    // What lies outside the box needs no group.
+    (
+        "--max-groups",
+        "16",
+        "limit 0.1 0 0 0.3 0 0\nscan 0.05 0.05 0.05 1 0 0 0 all\np 0.2 0 0\np 0.4 0 0\nend\n\
+          nolimit\nscan 0.05 0.05 0.05 1 0 0 0 all\np 0.2 0 0\np 0.4 0 0\nend\n",
+        "ok\nrefused 23 Full groups 0 need 17\nok\nrefused 23 Full groups 0 need 19\n",
+        Status::Refused,
+    ),
     (
         "--max-cells",
         "3",

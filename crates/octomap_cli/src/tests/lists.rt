@@ -13,6 +13,12 @@ const LISTS: &[Case] = &[
         Status::Done,
     ),
     (
+        "scan 0.05 0.05 0.05 1 0 0 0 all\np 0.2 0 0\np 0.4 0 0\nend\nlist 0 0 0 0.4 0 0 15\n",
+        "ok hits 2 frees 3\nblock 16384 16384 16384 -400 free\n\
+         block 16385 16384 16384 850 occupied\nblock 16386 16384 16384 850 occupied\nend 3\n",
+        Status::Done,
+    ),
+    (
         "hit 0 0 0\nmiss 0.1 0.1 0.1\nlist 0.1 0 0 0.1 0 0 15\nlist 0 0 0 0 0 0 0\n\
          list 1 1 1 2 2 2 16\n",
         "ok\nok\nblock 16384 16384 16384 850 occupied\nend 1\nblock 0 0 0 850 occupied\nend 1\n\
@@ -60,6 +66,12 @@ const CHANGES: &[Case] = &[
          end 0\nok\nrefused 28 NotTracked\nok\n",
         Status::Refused,
     ),
+    // A voxel that is as it was is no change, whatever it was in between.
+    (
+        "hit 0 0 0\ntrack\nforget 0 0 0\nmiss 0.1 0 0\nhit 0 0 0\nchanges\nuntrack\nchanges\n",
+        "ok\nok\nok\nok\nok\nnew 32769 32768 32768\nend 1\nok\nrefused 28 NotTracked\n",
+        Status::Refused,
+    ),
     (
         "track\nhit 0 0 0\nclear\nchanges\n",
         "ok\nok\nok\nrefused 28 NotTracked\n",
@@ -94,6 +106,24 @@ fn changes_are_those_since_the_mark(rt: HostRuntime) -> Result<(), Fail> {
 
 /// Scans with log-odds of their own, and scans in a box.
 const SCANS: &[Case] = &[
+    (
+        "limit 0.1 0 0 0.3 0 0\nscan 0.05 0.05 0.05 1 0 0 0 all\np 0.2 0 0\np 0.4 0 0\nend\n\
+         list 0 0 0 0.4 0 0 16\n",
+        "ok\nok hits 1 frees 2\nblock 32769 32768 32768 -400 free\n\
+         block 32770 32768 32768 850 occupied\nblock 32771 32768 32768 -400 free\nend 3\n",
+        Status::Done,
+    ),
+    (
+        "scan 0.05 0.05 0.05 1 0 0 0 all 500 -200\np 0.2 0 0\nend\nget 0.2 0 0 16\nget 0 0 0 16\n",
+        "ok hits 1 frees 2\nknown 500 occupied\nknown -200 free\n",
+        Status::Done,
+    ),
+    // A hit without a miss, and a block that is refused for its head.
+    (
+        "scan 0 0 0 1 0 0 0 all 500\nend\n",
+        "refused 29 Syntax line 1 column 27\n",
+        Status::Refused,
+    ),
     // What one scan adds isn't what the next one does.
     (
         "scan 0.05 0.05 0.05 1 0 0 0 all 1 -1\np 0.2 0 0\nend\nlist 0 0 0 0.2 0 0 16\n\

@@ -67,6 +67,11 @@ const BLOCKS: &[Case] = &[
         Status::Done,
     ),
     (
+        "box 0 0 0 0.1 0.1 0.1 hit\ncounts\n",
+        "ok\ngroups 15 nodes 16\n",
+        Status::Done,
+    ),
+    (
         "hit 0 0 0 lazy\nget 0 0 0 16\nget 0 0 0 15\nrefresh\nget 0 0 0 15\n",
         "ok\nknown 850 occupied\nrefused 22 Stale\nok\nknown 850 occupied\n",
         Status::Refused,
@@ -110,6 +115,19 @@ const BLOCKS: &[Case] = &[
 #[test]
 fn blocks_answer_their_largest_value_once_refreshed(rt: HostRuntime) -> Result<(), Fail> {
     check(&rt, rt.alloc(), BLOCKS)
+}
+
+/// Maps that are saved and loaded again.
+const SAVED: &[Case] = &[(
+    "hit 0 0 0\nsave m\nclear\nload m\nget 0 0 0 16\nload n\nchanges\n",
+    "ok\nsaved 169\nok\nloaded 17\nknown 3500 occupied\nrefused 33 NoFile\n\
+     refused 28 NotTracked\n",
+    Status::Refused,
+)];
+
+#[test]
+fn a_map_is_loaded_as_it_was_saved(rt: HostRuntime) -> Result<(), Fail> {
+    check(&rt, rt.alloc(), SAVED)
 }
 
 /// Casts.

@@ -33,4 +33,4 @@ returns-clause-ends g c = λ most bytes left to_end.
     c.in-Ok.ensures.classes)
     (scene_told c.args.file.now.res (classes_in c.in-Ok.tree) (data_classes c.args.file.now.codes) _
     c.in-Ok.ensures.classes c.box_count-count.ensures c.if-count-gt-MOST_BOXES.false)
-    c.status_sent.ensures c.vrml.ensures.written c.vrml.ensures.begun to_end
+    c.status_written.ensures c.vrml.ensures.written c.vrml.ensures.begun to_end

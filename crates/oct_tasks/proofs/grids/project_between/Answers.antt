@@ -36,4 +36,4 @@ returns-clause-ends g c = λ most bytes left to_end.
     c.in-Ok.ensures.classes inside)
     (grid_told (data_classes c.args.file.now.codes) (record { lo = c.args.low; hi = c.args.high }) _
     c.column_count-count.ensures c.if-count-gt-MOST_COLUMNS.false)
-    c.status_sent.ensures c.pgm.ensures.written c.pgm.ensures.begun to_end
+    c.status_written.ensures c.pgm.ensures.written c.pgm.ensures.begun to_end
