@@ -9,6 +9,7 @@ use oct_key::{Key, Point, Res};
 use oct_odds::{Event, OddsModel};
 use oct_tree::{OccTree, Place};
 use std::alloc::Global;
+use std::process::Abort;
 use std::test::Fail;
 
 /// The first and the last coordinate of the map, in nanometres.
@@ -60,133 +61,196 @@ fn cast_between(tree: &OccTree, o: Point, e: Point, ignore_unknown: bool) -> Opt
     Some(cast(tree, o, e, ignore_unknown))
 }
 
-const fn point(x: i64, y: i64, z: i64) -> Point {
-    Point { x, y, z }
+/// Expects this answer for the segment of two points.
+fn expect_cast(rt: &impl Abort, tree: &OccTree, ends: Ends, ignore_unknown: bool, want: Cast) {
+    let ((x, y, z), (to_x, to_y, to_z)) = ends;
+    let o = Point { x, y, z };
+    let e = Point {
+        x: to_x,
+        y: to_y,
+        z: to_z,
+    };
+    assert_eq!(rt; cast_between(tree, o, e, ignore_unknown), Some(want));
 }
 
-const fn key(x: u16, y: u16, z: u16) -> Key {
-    Key { x, y, z }
+/// What a cast answers that this occupied voxel stops, or none.
+fn hit(voxel: Option<Voxel>) -> Cast {
+    match voxel {
+        Some((x, y, z)) => Cast::Hit(Key { x, y, z }),
+        None => Cast::Clear,
+    }
 }
+
+/// What a cast answers that this unknown voxel stops, or else this occupied one, or none.
+fn unknown_or_hit(unknown: Option<Voxel>, occupied: Option<Voxel>) -> Cast {
+    match unknown {
+        Some((x, y, z)) => Cast::Unknown(Key { x, y, z }),
+        None => hit(occupied),
+    }
+}
+
+/// Expects what a row says.
+fn expect_row(rt: &impl Abort, tree: &OccTree, row: Row) {
+    let (ends, unknown, occupied) = row;
+    expect_cast(rt, tree, ends, false, unknown_or_hit(unknown, occupied));
+    expect_cast(rt, tree, ends, true, hit(occupied));
+}
+
+/// Expects what each row says.
+fn expect_rows(rt: &impl Abort, tree: &OccTree, rows: &[Row]) {
+    for row in rows {
+        expect_row(rt, tree, *row);
+    }
+}
+
+/// The coordinates of a segment's ends.
+type Ends = ((i64, i64, i64), (i64, i64, i64));
+
+/// The numbers of a voxel on the axes.
+type Voxel = (u16, u16, u16);
+
+/// A segment, the unknown voxel that stops its cast, if one does, and the occupied one that stops
+/// it where unknown voxels are ignored.
+type Row = (Ends, Option<Voxel>, Option<Voxel>);
+
+/// The voxel of child 1 that lies beside children 0, 3 and 5.
+const INNER: Option<Voxel> = Some((32_768, 32_767, 32_767));
+
+/// Casts in the tree of two children.
+const CASTS: &[Row] = &[
+    // From a voxel to itself: that voxel alone.
+    (((-1, -1, -1), (-1, -1, -1)), None, None),
+    (((0, -1, -1), (0, -1, -1)), None, INNER),
+    (
+        ((0, 0, -1), (0, 0, -1)),
+        Some((32_768, 32_768, 32_767)),
+        None,
+    ),
+    // The last voxel counts.
+    (((-250_000_000, -1, -1), (0, -1, -1)), None, INNER),
+    (((-250_000_000, -1, -1), (-1, -1, -1)), None, None),
+    // Unknown voxels first, and occupied ones behind them.
+    (
+        (
+            (50_000_000, 150_000_000, -1),
+            (50_000_000, -150_000_000, -1),
+        ),
+        Some((32_768, 32_769, 32_767)),
+        INNER,
+    ),
+    // Through the corner of voxels exactly: to the voxel across, and none beside.
+    (
+        (
+            (-100_000_000, -100_000_000, -1),
+            (100_000_000, 100_000_000, -1),
+        ),
+        Some((32_768, 32_768, 32_767)),
+        None,
+    ),
+    // The corner lies in the voxel of the positive x and y, from which it goes on below.
+    (
+        (
+            (-100_000_000, 100_000_000, -1),
+            (100_000_000, -100_000_000, -1),
+        ),
+        Some((32_767, 32_769, 32_767)),
+        INNER,
+    ),
+    // Along whole axes of the map.
+    (((LOW, -1, -1), (HIGH, -1, -1)), None, INNER),
+    (
+        ((HIGH, -1, -1), (LOW, -1, -1)),
+        None,
+        Some((65_535, 32_767, 32_767)),
+    ),
+    (
+        ((-1, LOW, -1), (-1, HIGH, -1)),
+        Some((32_767, 32_768, 32_767)),
+        None,
+    ),
+    (
+        ((-1, -1, LOW), (-1, -1, HIGH)),
+        Some((32_767, 32_767, 32_768)),
+        None,
+    ),
+    (
+        ((0, HIGH, HIGH), (0, HIGH, LOW)),
+        Some((32_768, 65_535, 65_535)),
+        None,
+    ),
+];
 
 #[test]
 fn finds_the_first_voxel_that_stops_it(rt: HostRuntime) -> Result<(), Fail> {
     let tree = two_children(rt.alloc())?;
-    for (o, e, unknown, ignoring) in [
-        // From a voxel into itself: that voxel alone.
-        (
-            point(-1, -1, -1),
-            point(-1, -1, -1),
-            Cast::Clear,
-            Cast::Clear,
-        ),
-        (
-            point(0, -1, -1),
-            point(0, -1, -1),
-            Cast::Hit(key(32_768, 32_767, 32_767)),
-            Cast::Hit(key(32_768, 32_767, 32_767)),
-        ),
-        (
-            point(0, 0, -1),
-            point(0, 0, -1),
-            Cast::Unknown(key(32_768, 32_768, 32_767)),
-            Cast::Clear,
-        ),
-        // The last voxel counts.
-        (
-            point(-250_000_000, -1, -1),
-            point(0, -1, -1),
-            Cast::Hit(key(32_768, 32_767, 32_767)),
-            Cast::Hit(key(32_768, 32_767, 32_767)),
-        ),
-        (
-            point(-250_000_000, -1, -1),
-            point(-1, -1, -1),
-            Cast::Clear,
-            Cast::Clear,
-        ),
-        // Unknown voxels first, and occupied ones behind them.
-        (
-            point(50_000_000, 150_000_000, -1),
-            point(50_000_000, -150_000_000, -1),
-            Cast::Unknown(key(32_768, 32_769, 32_767)),
-            Cast::Hit(key(32_768, 32_767, 32_767)),
-        ),
-        // Through the corner of voxels exactly: to the voxel across, and none beside.
-        (
-            point(-100_000_000, -100_000_000, -1),
-            point(100_000_000, 100_000_000, -1),
-            Cast::Unknown(key(32_768, 32_768, 32_767)),
-            Cast::Clear,
-        ),
-        // The corner lies in the voxel of the positive x and y, from which it goes on below.
-        (
-            point(-100_000_000, 100_000_000, -1),
-            point(100_000_000, -100_000_000, -1),
-            Cast::Unknown(key(32_767, 32_769, 32_767)),
-            Cast::Hit(key(32_768, 32_767, 32_767)),
-        ),
-        // Along whole axes of the map.
-        (
-            point(LOW, -1, -1),
-            point(HIGH, -1, -1),
-            Cast::Hit(key(32_768, 32_767, 32_767)),
-            Cast::Hit(key(32_768, 32_767, 32_767)),
-        ),
-        (
-            point(HIGH, -1, -1),
-            point(LOW, -1, -1),
-            Cast::Hit(key(65_535, 32_767, 32_767)),
-            Cast::Hit(key(65_535, 32_767, 32_767)),
-        ),
-        (
-            point(-1, LOW, -1),
-            point(-1, HIGH, -1),
-            Cast::Unknown(key(32_767, 32_768, 32_767)),
-            Cast::Clear,
-        ),
-        (
-            point(-1, -1, LOW),
-            point(-1, -1, HIGH),
-            Cast::Unknown(key(32_767, 32_767, 32_768)),
-            Cast::Clear,
-        ),
-        (
-            point(0, HIGH, HIGH),
-            point(0, HIGH, LOW),
-            Cast::Unknown(key(32_768, 65_535, 65_535)),
-            Cast::Clear,
-        ),
-    ] {
-        assert_eq!(rt;
-            cast_between(&tree, o, e, false),
-            Some(unknown),
-            "from {o:?} to {e:?}"
-        );
-        assert_eq!(rt;
-            cast_between(&tree, o, e, true),
-            Some(ignoring),
-            "from {o:?} to {e:?}"
-        );
-    }
+    expect_rows(&rt, &tree, CASTS);
     Ok(())
+}
+
+/// A tree in which child 7 of child 0 of the map is occupied, and all else is free.
+fn two_groups(alloc: Global) -> Result<OccTree, Fail> {
+    let res = Res::new(100_000_000)?;
+    let odds = OddsModel::default();
+    let mut tree = OccTree::new(alloc, res, odds);
+    tree.reserve(2)?;
+    tree.set_place(Place::Root, leaf(odds, -1));
+    let id = tree.split(Place::Root);
+    let under = tree.split(Place::Slot(id, 0));
+    tree.set_place(Place::Slot(under, 7), leaf(odds, 0));
+    Ok(tree)
+}
+
+/// Casts in the tree of two groups, whose occupied block has the voxels 16,384 to 32,767 on each
+/// axis.
+const DEEPER: &[Row] = &[
+    (
+        ((LOW, -1, -1), (HIGH, -1, -1)),
+        None,
+        Some((16_384, 32_767, 32_767)),
+    ),
+    (
+        ((HIGH, -1, -1), (LOW, -1, -1)),
+        None,
+        Some((32_767, 32_767, 32_767)),
+    ),
+    (
+        ((-1, -1, LOW), (-1, -1, HIGH)),
+        None,
+        Some((32_767, 32_767, 16_384)),
+    ),
+    // Through the blocks beside it.
+    (((LOW, LOW, -1), (HIGH, LOW, -1)), None, None),
+    (((LOW, -1, 0), (HIGH, -1, 0)), None, None),
+];
+
+#[test]
+fn goes_through_groups_below_groups(rt: HostRuntime) -> Result<(), Fail> {
+    let tree = two_groups(rt.alloc())?;
+    expect_rows(&rt, &tree, DEEPER);
+    Ok(())
+}
+
+/// Expects what a row says of a tree.
+fn expect_whole(rt: &impl Abort, tree: OccTree, row: Row) {
+    expect_row(rt, &tree, row);
+}
+
+/// From corner to corner of the map.
+const UP: Ends = ((LOW, LOW, LOW), (HIGH, HIGH, HIGH));
+
+const DOWN: Ends = ((HIGH, HIGH, HIGH), (LOW, LOW, LOW));
+
+/// The tree of the unknown world.
+fn unknown_world(alloc: Global) -> Result<OccTree, Fail> {
+    let res = Res::new(100_000_000)?;
+    Ok(OccTree::new(alloc, res, OddsModel::default()))
 }
 
 #[test]
 fn goes_through_one_node_for_the_whole_map(rt: HostRuntime) -> Result<(), Fail> {
-    let o = point(LOW, LOW, LOW);
-    let e = point(HIGH, HIGH, HIGH);
-    let free = one_leaf(rt.alloc(), -400)?;
-    assert_eq!(rt; cast_between(&free, o, e, false), Some(Cast::Clear));
-    let occupied = one_leaf(rt.alloc(), 850)?;
-    assert_eq!(rt;
-        cast_between(&occupied, o, e, true),
-        Some(Cast::Hit(key(0, 0, 0)))
-    );
-    let unknown = OccTree::new(rt.alloc(), Res::new(100_000_000)?, OddsModel::default());
-    assert_eq!(rt;
-        cast_between(&unknown, e, o, false),
-        Some(Cast::Unknown(key(65_535, 65_535, 65_535)))
-    );
-    assert_eq!(rt; cast_between(&unknown, e, o, true), Some(Cast::Clear));
+    expect_whole(&rt, one_leaf(rt.alloc(), -400)?, (UP, None, None));
+    expect_whole(&rt, one_leaf(rt.alloc(), 850)?, (UP, None, Some((0, 0, 0))));
+    let last = Some((65_535, 65_535, 65_535));
+    expect_whole(&rt, unknown_world(rt.alloc())?, (DOWN, last, None));
     Ok(())
 }
