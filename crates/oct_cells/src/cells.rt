@@ -80,10 +80,11 @@ pub fn allocate<T, A: Allocator>(
     }
 }
 
-/// Gives a block back. Values that are still in it are forgotten.
+/// Gives a block back. Values that are still in it are forgotten, and not dropped.
 ///
-/// The cells and the grant are taken, so that nobody can use the block afterwards. Since nothing of
-/// it is left and nothing is answered, there is no `ensures`.
+/// The cells and the grant are taken, so that nobody can use the block afterwards. That the
+/// allocator gets the block back is for the body to show: std's `Allocator::deallocate` promises
+/// nothing that a clause here could pass on.
 pub fn deallocate<T, A: Allocator>(
     alloc: &A,
     address: Address<T>,

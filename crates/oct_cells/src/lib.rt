@@ -17,7 +17,11 @@
 //!
 //! [`Cells::write`] fills an empty cell, [`Cells::get`] shows a value and [`Cells::get_mut`] lends
 //! one to be changed. Each asks for the address of these cells, and for a cell that is there and
-//! empty, or has a value. A block never moves.
+//! empty, or has a value. A block never moves. Values that are still in it when it is given back
+//! are forgotten, so it is for values that need no drop, as the groups of an arena, which are
+//! `Copy`.
+//!
+//! `oct_arena` alone stands on it.
 #![tactic(auto)]
 
 mod cells;

@@ -9,7 +9,7 @@ ghost use Rattle.oct_tree.specs.Survey.{IsSurvey};
 
 use oct_arena::{GroupId, Node, NodeArena};
 
-/// An Inner node in the place of this one, which is not.
+/// The Inner node that takes the place of this one, which links no group.
 pub(crate) fn inner_over(node: Node, id: GroupId) -> Node
     ensures { result ≡ Node.Inner (inherited node) id }
 {
@@ -81,7 +81,7 @@ pub(crate) enum Survey {
     Varied(i32),
 }
 
-/// What the group's nodes come to. Where they differ, the second one that is read mostly tells.
+/// What the group's nodes come to. Where they differ, the second node read usually shows it.
 pub(crate) fn read_group(arena: &NodeArena, id: GroupId) -> Survey
     requires { IsLive arena.now id.number }
     ensures { IsSurvey arena.now id.number result }

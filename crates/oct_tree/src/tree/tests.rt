@@ -1,4 +1,5 @@
 use super::*;
+use std::process::Abort;
 use std::test::Fail;
 
 /// A voxel of the map.
@@ -48,5 +49,35 @@ fn collapses_what_one_leaf_says(rt: HostRuntime) -> Result<(), Fail> {
     assert_eq!(rt; tree.arena().spare(), spare);
     assert_eq!(rt; tree.res().nm(), 100_000_000);
     assert_eq!(rt; tree.odds().max, 3500);
+    Ok(())
+}
+
+/// Expects this node over the block of that depth around a voxel.
+fn expect_over(rt: &impl Abort, tree: &OccTree, depth: u8, voxel: (u16, u16, u16), want: Node) {
+    assert!(rt; depth <= 16);
+    let (x, y, z) = voxel;
+    assert_eq!(rt; tree.node_over(Key { x, y, z }, depth), want);
+}
+
+/// A tree that knows child 2 of the map alone, which is split, and the groups of both.
+fn two_groups(alloc: Global) -> Result<(OccTree, GroupId, GroupId), Fail> {
+    let mut tree = OccTree::new(alloc, Res::new(100_000_000)?, OddsModel::default());
+    tree.reserve(2)?;
+    let id = tree.split(Place::Root);
+    tree.set_place(Place::Slot(id, 2), Node::Leaf(-400));
+    let under = tree.split(Place::Slot(id, 2));
+    Ok((tree, id, under))
+}
+
+#[test]
+fn splits_a_slot_and_keeps_those_beside_it(rt: HostRuntime) -> Result<(), Fail> {
+    let (tree, id, under) = two_groups(rt.alloc())?;
+    expect_over(&rt, &tree, 0, (0, 0, 0), Node::Inner(0, id));
+    expect_over(&rt, &tree, 1, (0, 32_768, 0), Node::Inner(-400, under));
+    // The children beside it are absent, and its own have the leaf's value.
+    expect_over(&rt, &tree, 1, (32_768, 0, 0), Node::Absent);
+    expect_over(&rt, &tree, 1, (32_768, 32_768, 0), Node::Absent);
+    expect_over(&rt, &tree, 2, (0, 32_768, 0), Node::Leaf(-400));
+    expect_over(&rt, &tree, 2, (16_384, 65_535, 32_767), Node::Leaf(-400));
     Ok(())
 }
