@@ -23,7 +23,8 @@ shown values b = option_map (λ value. record { block = b; value = value }) (dep
 unfoldable pub listed_blocks : Values → Voxel → Voxel → ℕ → List Shown
 listed_blocks values lo hi depth = filter_map (shown values) (met_blocks lo hi depth)
 
--- why a list is refused: more blocks than are allowed meet the box, or not more: out of memory
+-- why a list is refused: too many blocks meet the box, with their number; or not too many do, and
+-- memory ran out
 abbrev pub IsRefused : ListFault → ℕ → ℕ → Type 0
 IsRefused (TooManyBlocks count) met most = (count ≡ met) × (most < met)
 IsRefused Memory met most = met ≤ most

@@ -13,10 +13,10 @@
 //! for found in list(alloc, &tree, lo, hi, 15, 1_000_000)?.as_slice() { .. }
 //! ```
 //!
-//! [`counts`] answers how many groups live and how many nodes aren't absent. The promise is a law
-//! over all trees: no tree of these values has fewer groups than there are blocks of depth 0 to 15
-//! that aren't uniform (`group_count` of `oct_values`), exactly the pruned trees have no more, and
-//! then a well-formed one has no more nodes than `node_count` says. [`groups_are_needed`] and
+//! [`counts`] answers how many groups there are and how many nodes aren't absent. The promise is a
+//! law over all trees: no tree of these values has fewer groups than there are blocks of depth 0 to
+//! 15 that aren't uniform (`group_count` of `oct_values`), exactly the pruned trees have no more,
+//! and then a well-formed one has no more nodes than `node_count` says. [`groups_are_needed`] and
 //! [`pruned_is_least`] say why, and what follows for two trees of the same values.
 //!
 //! [`list`] answers for all blocks of a depth that meet a box of voxels and aren't unknown, each

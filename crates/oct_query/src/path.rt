@@ -10,8 +10,8 @@ use oct_arena::Node;
 use oct_key::{Block, Key, child_index};
 use oct_tree::OccTree;
 
-/// The nodes on the way from the root to a voxel, down to a depth. Who asks for one voxel after
-/// another goes up only as far as their ways part, and down from there.
+/// The nodes on the path from the root to a voxel, down to a depth. A caller that asks for one
+/// voxel after another goes up only to where the paths part.
 #[derive(Drop)]
 pub(crate) struct Path {
     nodes: [Node; 17],
@@ -20,7 +20,7 @@ pub(crate) struct Path {
 }
 
 impl Path {
-    /// The way that ends at the root.
+    /// The path that ends at the root.
     pub(crate) fn new(tree: &OccTree) -> Path
         ensures { IsPathOf tree.now result }
     {
@@ -48,7 +48,7 @@ impl Path {
         self.nodes[depth as usize]
     }
 
-    /// A depth, that one at most, down to which the way to the voxel is this one.
+    /// A depth of at most `most`, down to which this path and that to the voxel are the same.
     fn shared(&self, k: Key, most: u8) -> u8
         requires few { self.now.depth ≤ 16 }
         requires in_map { IsInMap self.now.key }

@@ -1,4 +1,4 @@
-ghost use Rattle.std.specs.Prelude.{◌≡◌, None};
+ghost use Rattle.std.specs.Prelude.{◌≡◌, ◌≤◌, None};
 ghost use Rattle.oct_odds.specs.Odds.{odds_of, IsSmall};
 ghost use Rattle.oct_odds.specs.Update.{IsWithin};
 ghost use Rattle.oct_arena.specs.Nodes.{link_of, value_of};
@@ -53,92 +53,64 @@ fn two_children(alloc: Global) -> Result<OccTree, Fail> {
     Ok(tree)
 }
 
+/// The numbers of a voxel on the axes.
+type Voxel = (u16, u16, u16);
+
+/// Expects this answer for the block of that depth around the voxel.
+fn expect_query(rt: &impl Abort, tree: &OccTree, depth: u8, voxel: Voxel, want: Option<i32>) {
+    assert!(rt; depth <= 16);
+    let (x, y, z) = voxel;
+    assert_eq!(rt; query(tree, Block::of(Key { x, y, z }, depth)), want);
+}
+
+/// Expects what each row says.
+fn expect_queries(rt: &impl Abort, tree: OccTree, rows: &[(u8, Voxel, Option<i32>)]) {
+    for (depth, voxel, want) in rows {
+        expect_query(rt, &tree, *depth, *voxel, *want);
+    }
+}
+
+/// Expects this answer for the block of each row.
+fn expect_all(
+    rt: &impl Abort,
+    tree: OccTree,
+    rows: &[(u8, Voxel, Option<i32>)],
+    want: Option<i32>,
+) {
+    for (depth, voxel, _) in rows {
+        expect_query(rt, &tree, *depth, *voxel, want);
+    }
+}
+
+/// The depth of a block, a voxel in it, and the answer for it in the tree of two children.
+const BLOCKS: &[(u8, Voxel, Option<i32>)] = &[
+    (0, (0, 0, 0), Some(900)),
+    (1, (0, 0, 0), None),
+    (1, (32_768, 32_768, 0), Some(900)),
+    (1, (32_768, 0, 32_768), Some(-400)),
+    (9, (65_408, 0, 65_408), Some(-400)),
+    (16, (65_535, 32_768, 0), Some(900)),
+    (16, (0, 0, 65_535), None),
+];
+
 #[test]
 fn answers_at_each_depth(rt: HostRuntime) -> Result<(), Fail> {
-    let unknown = unknown_world(rt.alloc())?;
-    let known = known_world(rt.alloc())?;
-    let two = two_children(rt.alloc())?;
-    for (b, want) in [
-        (
-            Block {
-                depth: 0,
-                x: 0,
-                y: 0,
-                z: 0,
-            },
-            Some(900),
-        ),
-        (
-            Block {
-                depth: 1,
-                x: 0,
-                y: 0,
-                z: 0,
-            },
-            None,
-        ),
-        (
-            Block {
-                depth: 1,
-                x: 1,
-                y: 1,
-                z: 0,
-            },
-            Some(900),
-        ),
-        (
-            Block {
-                depth: 1,
-                x: 1,
-                y: 0,
-                z: 1,
-            },
-            Some(-400),
-        ),
-        (
-            Block {
-                depth: 9,
-                x: 511,
-                y: 0,
-                z: 511,
-            },
-            Some(-400),
-        ),
-        (
-            Block {
-                depth: 16,
-                x: 65_535,
-                y: 32_768,
-                z: 0,
-            },
-            Some(900),
-        ),
-        (
-            Block {
-                depth: 16,
-                x: 0,
-                y: 0,
-                z: 65_535,
-            },
-            None,
-        ),
-    ] {
-        assert_eq!(rt; query(&unknown, b), None);
-        assert_eq!(rt; query(&known, b), Some(850));
-        assert_eq!(rt; query(&two, b), want, "at {b:?}");
-    }
+    expect_queries(&rt, two_children(rt.alloc())?, BLOCKS);
+    expect_all(&rt, unknown_world(rt.alloc())?, BLOCKS, None);
+    expect_all(&rt, known_world(rt.alloc())?, BLOCKS, Some(850));
     Ok(())
+}
+
+/// Expects this many groups, and this many nodes that aren't absent.
+fn expect_counts(rt: &impl Abort, tree: OccTree, groups: u32, nodes: u64) {
+    assert_eq!(rt; counts(&tree), Counts { groups, nodes });
 }
 
 #[test]
 fn counts_groups_and_nodes(rt: HostRuntime) -> Result<(), Fail> {
-    for (tree, groups, nodes) in [
-        (unknown_world(rt.alloc())?, 0, 0),
-        (known_world(rt.alloc())?, 0, 1),
-        (two_children(rt.alloc())?, 1, 3),
-    ] {
-        assert_eq!(rt; counts(&tree), Counts { groups, nodes });
-    }
+    expect_counts(&rt, unknown_world(rt.alloc())?, 0, 0);
+    expect_counts(&rt, known_world(rt.alloc())?, 0, 1);
+    expect_counts(&rt, two_children(rt.alloc())?, 1, 3);
     Ok(())
 }
 
@@ -147,13 +119,20 @@ fn voxels(
     rt: &impl Abort,
     alloc: Global,
     tree: &OccTree,
-    lo: Key,
-    hi: Key,
+    lo: Voxel,
+    hi: Voxel,
 ) -> Result<BlockList, ListFault> {
-    assert!(rt; lo.x <= hi.x);
-    assert!(rt; lo.y <= hi.y);
-    assert!(rt; lo.z <= hi.z);
-    list(alloc, tree, lo, hi, 16, 1_000_000)
+    let (x, y, z) = lo;
+    let (high_x, high_y, high_z) = hi;
+    assert!(rt; x <= high_x);
+    assert!(rt; y <= high_y);
+    assert!(rt; z <= high_z);
+    let hi = Key {
+        x: high_x,
+        y: high_y,
+        z: high_z,
+    };
+    list(alloc, tree, Key { x, y, z }, hi, 16, 1_000_000)
 }
 
 /// A voxel with its value.
@@ -162,72 +141,82 @@ fn found(x: u16, y: u16, z: u16, value: i32) -> Found {
     Found { block, value }
 }
 
+/// Expects that these voxels of a box are known, and come in this order.
+fn expect_voxels(
+    rt: &impl Abort,
+    alloc: Global,
+    tree: &OccTree,
+    lo: Voxel,
+    hi: Voxel,
+    want: [Found; 2],
+) -> Result<(), ListFault> {
+    let list = voxels(rt, alloc, tree, lo, hi)?;
+    assert_eq!(rt; list.as_slice(), want.as_slice());
+    Ok(())
+}
+
 #[test]
 fn lists_known_voxels_by_x_y_and_z(rt: HostRuntime) -> Result<(), Fail> {
     let two = two_children(rt.alloc())?;
-    let key = |x, y, z| Key { x, y, z };
     // Child 3 of the map comes before child 5 by its code, and after it by y.
-    let around = voxels(
+    let around = [
+        found(32_768, 32_767, 32_768, -400),
+        found(32_768, 32_768, 32_767, 900),
+    ];
+    let (low, high) = (32_767, 32_768);
+    expect_voxels(
         &rt,
         rt.alloc(),
         &two,
-        key(32_767, 32_767, 32_767),
-        key(32_768, 32_768, 32_768),
+        (low, low, low),
+        (high, high, high),
+        around,
     )?;
-    assert_eq!(rt;
-        around.as_slice(),
-        [
-            found(32_768, 32_767, 32_768, -400),
-            found(32_768, 32_768, 32_767, 900),
-        ]
-        .as_slice()
-    );
-    let row = voxels(
-        &rt,
-        rt.alloc(),
-        &two,
-        key(65_535, 40_000, 32_766),
-        key(65_535, 40_000, 32_768),
-    )?;
-    assert_eq!(rt;
-        row.as_slice(),
-        [
-            found(65_535, 40_000, 32_766, 900),
-            found(65_535, 40_000, 32_767, 900),
-        ]
-        .as_slice()
-    );
+    let row = [
+        found(65_535, 40_000, 32_766, 900),
+        found(65_535, 40_000, 32_767, 900),
+    ];
+    let (first, last) = ((65_535, 40_000, 32_766), (65_535, 40_000, 32_768));
+    expect_voxels(&rt, rt.alloc(), &two, first, last, row)?;
     Ok(())
+}
+
+/// The fault of a list of this many blocks.
+fn too_many(count: u64) -> Option<ListFault> {
+    Some(ListFault::TooManyBlocks { count })
+}
+
+/// Expects that the list of a box from the lowest voxel on is refused for this, or has no block.
+fn expect_refused(
+    rt: &impl Abort,
+    alloc: Global,
+    tree: &OccTree,
+    hi: Voxel,
+    want: Option<ListFault>,
+) {
+    let refused = match voxels(rt, alloc, tree, (0, 0, 0), hi) {
+        Ok(list) => {
+            assert!(rt; list.as_slice().is_empty());
+            None
+        }
+        Err(fault) => Some(fault),
+    };
+    assert_eq!(rt; refused, want);
 }
 
 #[test]
 fn refuses_a_list_of_more_than_a_million(rt: HostRuntime) -> Result<(), Fail> {
     let unknown = unknown_world(rt.alloc())?;
-    let low = Key { x: 0, y: 0, z: 0 };
     // 100 rows of 10,000 voxels, and 101 rows of 9,901.
-    for (y, z, want) in [
-        (99, 9_999, None),
-        (
-            100,
-            9_900,
-            Some(ListFault::TooManyBlocks { count: 1_000_001 }),
-        ),
-        (
-            65_535,
-            65_535,
-            Some(ListFault::TooManyBlocks {
-                count: 4_294_967_296,
-            }),
-        ),
-    ] {
-        let list = voxels(&rt, rt.alloc(), &unknown, low, Key { x: 0, y, z });
-        match list {
-            Ok(list) => {
-                assert_eq!(rt; None, want);
-                assert!(rt; list.as_slice().is_empty());
-            }
-            Err(fault) => assert_eq!(rt; Some(fault), want),
-        }
-    }
+    expect_refused(&rt, rt.alloc(), &unknown, (0, 99, 9_999), None);
+    expect_refused(
+        &rt,
+        rt.alloc(),
+        &unknown,
+        (0, 100, 9_900),
+        too_many(1_000_001),
+    );
+    let plane = too_many(4_294_967_296);
+    expect_refused(&rt, rt.alloc(), &unknown, (0, 65_535, 65_535), plane);
     Ok(())
 }
