@@ -46,8 +46,8 @@ fn paint(rt: &impl Abort, tree: &mut OccTree, lo: Key, hi: Key, event: Event)
     touch_box(tree, lo, hi, event);
 }
 
-/// Merges where there is room for it, and answers how many groups were needed at most.
-fn join(rt: &impl Abort, into: &mut OccTree, other: &OccTree, rule: Rule) -> u32
+/// Merges where there is room for it.
+fn join(rt: &impl Abort, into: &mut OccTree, other: &OccTree, rule: Rule)
     requires into { IsWellFormed into.old }
     requires other { IsWellFormed other.now }
     requires res { into.old.res ≡ other.now.res }
@@ -56,10 +56,8 @@ fn join(rt: &impl Abort, into: &mut OccTree, other: &OccTree, rule: Rule) -> u32
     ensures res { into.new.res ≡ into.old.res }
     ensures odds { into.new.odds ≡ into.old.odds }
 {
-    let need = merge_need(into, other);
-    assert!(rt; need <= into.arena().spare());
+    assert!(rt; merge_need(into, other) <= into.arena().spare());
     merge(into, other, rule);
-    need
 }
 
 /// The table of a box, once it is seen that its corners are in order.
@@ -73,58 +71,103 @@ fn counts(rt: &impl Abort, a: &OccTree, b: &OccTree, lo: Key, hi: Key) -> [u64; 
     class_table(a, b, lo, hi).counts
 }
 
+/// Two trees whose boxes overlap: the first has occupied voxels, and the second free ones.
+fn overlapping(rt: &impl Abort, alloc: Global) -> Result<(OccTree, OccTree), Fail>
+    ensures { IfOk result (λ pair. IsWellFormed pair.0 × IsWellFormed pair.1
+        × (pair.0.res ≡ pair.1.res) × (pair.0.odds ≡ pair.1.odds)) }
+{
+    let (mut first, mut second) = worlds(alloc)?;
+    paint(rt, &mut first, all(0), all(3), Event::Set(850));
+    paint(rt, &mut second, all(2), all(5), Event::Set(-400));
+    Ok((first, second))
+}
+
+/// Expects this value of the voxel with this number on each axis.
+fn expect_at(rt: &impl Abort, tree: &OccTree, n: u16, want: Option<i32>) {
+    assert_eq!(rt; tree.at(all(n)), want);
+}
+
+/// Expects that a rule gives this value to a voxel that is known in both trees.
+fn expect_rule(rt: &impl Abort, alloc: Global, rule: Rule, both: i32) -> Result<(), Fail> {
+    let (mut a, b) = overlapping(rt, alloc)?;
+    join(rt, &mut a, &b, rule);
+    expect_at(rt, &a, 1, Some(850));
+    expect_at(rt, &a, 3, Some(both));
+    expect_at(rt, &a, 5, Some(-400));
+    expect_at(rt, &a, 7, None);
+    Ok(())
+}
+
 #[test]
 fn merges_by_each_rule(rt: HostRuntime) -> Result<(), Fail> {
-    for (rule, both) in [
-        (Rule::Greatest, 850),
-        (Rule::Least, -400),
-        (Rule::First, 850),
-    ] {
-        let (mut a, mut b) = worlds(rt.alloc())?;
-        paint(&rt, &mut a, all(0), all(3), Event::Set(850));
-        paint(&rt, &mut b, all(2), all(5), Event::Set(-400));
-        join(&rt, &mut a, &b, rule);
-        for (n, want) in [(1, Some(850)), (3, Some(both)), (5, Some(-400)), (7, None)] {
-            assert_eq!(rt; a.at(all(n)), want, "{rule:?} at {n}");
-        }
-    }
-    Ok(())
+    expect_rule(&rt, rt.alloc(), Rule::Greatest, 850)?;
+    expect_rule(&rt, rt.alloc(), Rule::Least, -400)?;
+    expect_rule(&rt, rt.alloc(), Rule::First, 850)
+}
+
+/// Expects that a merge of the other tree into the first needs this many groups at most.
+fn expect_need(rt: &impl Abort, into: &OccTree, other: &OccTree, want: u32)
+    requires into { IsWellFormed into.now }
+    requires other { IsWellFormed other.now }
+{
+    assert_eq!(rt; merge_need(into, other), want);
+}
+
+/// Expects this many groups of two trees.
+fn expect_groups(rt: &impl Abort, a: &OccTree, b: &OccTree, want: (u32, u32)) {
+    assert_eq!(rt; (a.arena().live(), b.arena().live()), want);
 }
 
 #[test]
 fn needs_the_groups_that_are_missing(rt: HostRuntime) -> Result<(), Fail> {
-    // A has a group above each block around voxel 0 of depth 15, and so has B above voxel 0.
+    // A has groups of depth 0 to 14 around voxel 0, whose block of depth 15 is one leaf; B has
+    // them down to depth 15.
     let (mut a, mut b) = worlds(rt.alloc())?;
     paint(&rt, &mut a, all(0), all(1), Event::Set(850));
     paint(&rt, &mut b, all(0), all(0), Event::Set(850));
-    assert_eq!(rt; (a.arena().live(), b.arena().live()), (15, 16));
-    assert_eq!(rt; merge_need(&b, &a), 0);
+    expect_groups(&rt, &a, &b, (15, 16));
+    expect_need(&rt, &b, &a, 0);
+    expect_need(&rt, &a, &b, 1);
     // The one that is missing is taken, and given back, since its voxels are of one value.
-    assert_eq!(rt; join(&rt, &mut a, &b, Rule::Greatest), 1);
-    assert_eq!(rt; a.arena().live(), 15);
+    join(&rt, &mut a, &b, Rule::Greatest);
+    expect_groups(&rt, &a, &b, (15, 16));
     Ok(())
 }
 
+/// Expects these counts of the box of two voxels.
+fn expect_table(rt: &impl Abort, a: &OccTree, b: &OccTree, row: (u16, u16, [u64; 9]))
+    requires a { IsWellFormed a.now }
+    requires b { IsWellFormed b.now }
+{
+    let (low, high, want) = row;
+    assert_eq!(rt; counts(rt, a, b, all(low), all(high)), want);
+}
+
+/// Expects what each row says.
+fn expect_tables(rt: &impl Abort, a: &OccTree, b: &OccTree, rows: &[(u16, u16, [u64; 9])])
+    requires a { IsWellFormed a.now }
+    requires b { IsWellFormed b.now }
+{
+    for row in rows {
+        expect_table(rt, a, b, *row);
+    }
+}
+
+/// The numbers of a box's corners on each axis, and the counts of its voxels.
+const TABLES: &[(u16, u16, [u64; 9])] = &[
+    (0, 7, [392, 56, 0, 0, 0, 0, 56, 8, 0]),
+    (1, 5, [42, 56, 0, 0, 0, 0, 19, 8, 0]),
+    (2, 2, [0, 0, 0, 0, 0, 0, 0, 1, 0]),
+    (9, 9, [1, 0, 0, 0, 0, 0, 0, 0, 0]),
+    (0, 65_535, [281_474_976_710_536, 56, 0, 0, 0, 0, 56, 8, 0]),
+];
+
 #[test]
 fn counts_classes_in_boxes(rt: HostRuntime) -> Result<(), Fail> {
-    let (mut a, mut b) = worlds(rt.alloc())?;
-    paint(&rt, &mut a, all(0), all(3), Event::Set(850));
-    paint(&rt, &mut b, all(2), all(5), Event::Set(-400));
-    for (low, high, want) in [
-        (0, 7, [392, 56, 0, 0, 0, 0, 56, 8, 0]),
-        (1, 5, [42, 56, 0, 0, 0, 0, 19, 8, 0]),
-        (2, 2, [0, 0, 0, 0, 0, 0, 0, 1, 0]),
-        (9, 9, [1, 0, 0, 0, 0, 0, 0, 0, 0]),
-        (0, 65_535, [281_474_976_710_536, 56, 0, 0, 0, 0, 56, 8, 0]),
-    ] {
-        assert_eq!(rt;
-            counts(&rt, &a, &b, all(low), all(high)),
-            want,
-            "{low} to {high}"
-        );
-    }
-    let swapped = counts(&rt, &b, &a, all(1), all(5));
-    assert_eq!(rt; swapped, [42, 0, 19, 56, 0, 8, 0, 0, 0]);
+    let (a, b) = overlapping(&rt, rt.alloc())?;
+    expect_tables(&rt, &a, &b, TABLES);
+    // With the maps exchanged, so are the rows and the columns.
+    expect_table(&rt, &b, &a, (1, 5, [42, 0, 19, 56, 0, 8, 0, 0, 0]));
     Ok(())
 }
 
@@ -188,23 +231,33 @@ fn dabbed(rt: &impl Abort, alloc: Global, seed: u16) -> Result<(OccTree, OccTree
     Ok((first, second))
 }
 
+/// Expects that each voxel near the lowest one is merged.
+fn expect_merged(rt: &impl Abort, before: OccTree, after: OccTree, other: OccTree, rule: Rule) {
+    for n in 0u16..343 {
+        let k = Key {
+            x: n % 7,
+            y: n / 7 % 7,
+            z: n / 49,
+        };
+        assert_eq!(rt; after.at(k), plain(rule, before.at(k), other.at(k)));
+    }
+}
+
+/// Expects that the trees of a number are merged by a rule as voxel by voxel.
+fn expect_agreement(rt: &impl Abort, alloc: Global, seed: u16, rule: Rule) -> Result<(), Fail> {
+    let (before, _) = dabbed(rt, alloc, seed)?;
+    let (mut a, b) = dabbed(rt, alloc, seed)?;
+    join(rt, &mut a, &b, rule);
+    expect_merged(rt, before, a, b, rule);
+    Ok(())
+}
+
 #[test]
 fn merges_as_voxel_by_voxel(rt: HostRuntime) -> Result<(), Fail> {
-    for rule in [Rule::Greatest, Rule::Least, Rule::First] {
-        for seed in 1u16..12 {
-            let (before, _) = dabbed(&rt, rt.alloc(), seed)?;
-            let (mut a, b) = dabbed(&rt, rt.alloc(), seed)?;
-            join(&rt, &mut a, &b, rule);
-            for n in 0u16..343 {
-                let k = Key {
-                    x: n % 7,
-                    y: n / 7 % 7,
-                    z: n / 49,
-                };
-                let want = plain(rule, before.at(k), b.at(k));
-                assert_eq!(rt; a.at(k), want, "{rule:?} of {seed} at {k:?}");
-            }
-        }
+    for seed in 1u16..12 {
+        expect_agreement(&rt, rt.alloc(), seed, Rule::Greatest)?;
+        expect_agreement(&rt, rt.alloc(), seed, Rule::Least)?;
+        expect_agreement(&rt, rt.alloc(), seed, Rule::First)?;
     }
     Ok(())
 }
