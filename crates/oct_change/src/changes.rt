@@ -146,7 +146,7 @@ impl Changes {
     }
 
     /// The voxels whose class in the tree isn't that of their first note, by ascending x, y and z.
-    /// What it costs goes by the notes.
+    /// Its cost depends on the number of notes, not on the map.
     pub fn report(&self, alloc: Global, tree: &OccTree) -> Result<ChangeList, Memory>
         ensures exact { IfOk result (λ changes. changes ≡ changes_between
             (marked_by self.now.notes (classes_of tree.now.odds (value_at tree.now)))

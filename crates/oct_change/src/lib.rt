@@ -3,9 +3,9 @@
 //! A planner that follows a map wants to hear what has changed in it, and not to look through all
 //! of it again. So whoever edits the map notes, before each edit, the class of every voxel that the
 //! edit may change, and later asks for the changes: the voxels that were unknown and aren't, that
-//! are unknown and weren't, and that turned from free to occupied or back. That voxels which became
-//! unknown are told too is this project's own choice; the OctoMap library's change detection
-//! doesn't tell them.
+//! are unknown and weren't, and that turned from free to occupied or back. Voxels that became
+//! unknown are reported too; that is this project's own choice, and the OctoMap library leaves them
+//! out.
 //!
 //! ```text
 //! let mut changes = Changes::new(alloc);

@@ -5,7 +5,9 @@ ghost use Rattle.oct_arena.specs.Nodes.{link_of, value_of};
 
 use super::*;
 use oct_arena::Node;
+use oct_brick::Brick;
 use oct_key::{Key, Res};
+use oct_num::Memory;
 use oct_odds::{Class, Event, OddsModel};
 use oct_tree::{OccTree, Place};
 use std::alloc::Global;
@@ -48,9 +50,17 @@ const fn change(x: u16, y: u16, z: u16, kind: Kind) -> Change {
 }
 
 /// Notes, in room that is made for it, the class that a voxel had.
-fn note(changes: &mut Changes, k: Key, before: Class) -> Result<(), Fail> {
+fn note(changes: &mut Changes, k: Key, before: Class) -> Result<(), Memory> {
     changes.reserve(1)?;
     changes.note(k, before);
+    Ok(())
+}
+
+/// Notes what each row says.
+fn note_all(changes: &mut Changes, rows: &[(u16, u16, u16, Class)]) -> Result<(), Memory> {
+    for (x, y, z, before) in rows {
+        note(changes, key(*x, *y, *z), *before)?;
+    }
     Ok(())
 }
 
@@ -88,7 +98,7 @@ fn expect_compact(rt: &impl Abort, changes: &mut Changes) {
 }
 
 /// Voxels of the tree of two children, and the classes that they are noted with.
-const NOTES: [(u16, u16, u16, Class); 11] = [
+const NOTES: &[(u16, u16, u16, Class)] = &[
     // Free now.
     (4, 9, 9, Class::Unknown),
     (5, 5, 5, Class::Free),
@@ -122,9 +132,7 @@ fn wanted() -> [Change; 6] {
 fn reports_each_pair_of_classes_in_the_order_of_voxels(rt: HostRuntime) -> Result<(), Fail> {
     let tree = two_children(rt.alloc())?;
     let mut changes = Changes::new(rt.alloc());
-    for (x, y, z, before) in NOTES {
-        note(&mut changes, key(x, y, z), before)?;
-    }
+    note_all(&mut changes, NOTES)?;
     expect_report(&rt, rt.alloc(), &changes, &tree, &wanted())?;
     // Without the notes of voxels that were noted before it is the same report.
     expect_len(&rt, &changes, 11);
@@ -162,4 +170,44 @@ fn notes_what_stands_before_a_change(rt: HostRuntime) -> Result<(), Fail> {
     // A change that is undone is none.
     tree.set_place(Place::Root, Node::Absent);
     expect_report(&rt, rt.alloc(), &changes, &tree, &[])
+}
+
+/// Notes the voxels of the brick at the origin, given as those that change and those that are hit
+/// of them, in room that is made for them.
+fn note_brick(
+    rt: &impl Abort,
+    changes: &mut Changes,
+    tree: &OccTree,
+    scanned: u64,
+    hits: u64,
+) -> Result<(), Fail> {
+    assert!(rt; scanned > 0);
+    let brick = Brick {
+        code: 3_848_290_697_216,
+        scanned,
+        hits: scanned & hits,
+    };
+    changes.reserve(128)?;
+    changes.note_bricks(tree, &[brick]);
+    Ok(())
+}
+
+/// The changes where all voxels become occupied, and the first two of the brick were noted before.
+fn two_new() -> [Change; 2] {
+    [
+        change(32_768, 32_768, 32_768, Kind::New),
+        change(32_769, 32_768, 32_768, Kind::New),
+    ]
+}
+
+#[test]
+fn notes_what_a_scan_hits_and_frees(rt: HostRuntime) -> Result<(), Fail> {
+    let res = Res::new(100_000_000)?;
+    let odds = OddsModel::default();
+    let mut tree = OccTree::new(rt.alloc(), res, odds);
+    let mut changes = Changes::new(rt.alloc());
+    note_brick(&rt, &mut changes, &tree, 0b11, 0b10)?;
+    expect_len(&rt, &changes, 2);
+    tree.set_place(Place::Root, leaf(odds, 850));
+    expect_report(&rt, rt.alloc(), &changes, &tree, &two_new())
 }
