@@ -26,7 +26,7 @@
 //! std sorts in place and the list takes over.
 //!
 //! It stands on `oct_tree`, and on `oct_values` for what classes are; `oct_edit` makes the maps of
-//! its tests.
+//! its tests. `oct_tasks` stands on this crate, for its task `frontier`.
 #![tactic(auto)]
 
 mod fault;

@@ -100,6 +100,14 @@ fn expect_one(
     expect_frontier(rt, alloc, tree, k, k, want)
 }
 
+/// Expects that each of the voxels is in the frontier of its own box.
+fn expect_each(rt: &impl Abort, alloc: Global, tree: &OccTree, keys: &[Key]) -> Result<(), Fail> {
+    for k in keys {
+        expect_one(rt, alloc, tree, *k, &[*k])?;
+    }
+    Ok(())
+}
+
 /// Whether the frontier of the whole map has more voxels than that.
 fn has_more(rt: &impl Abort, alloc: Global, tree: &OccTree, most: u64) -> bool {
     matches!(
@@ -144,7 +152,7 @@ fn lists_free_voxels_beside_unknown_ones(rt: HostRuntime) -> Result<(), Fail> {
     expect_shell(&rt, rt.alloc(), &tree)?;
     expect_more(&rt, rt.alloc(), &tree, 25, true);
     expect_more(&rt, rt.alloc(), &tree, 26, false);
-    // An occupied voxel is none, and what is beside it alone isn't either.
+    // An occupied voxel isn't at the frontier, nor is a free one with occupied neighbours alone.
     apply(&rt, &mut tree, all(32_767), all(32_771), OCCUPIED);
     apply(&rt, &mut tree, all(32_769), all(32_769), FREE);
     expect_all(&rt, rt.alloc(), &tree, &[])
@@ -178,10 +186,7 @@ fn passes_over_large_blocks(rt: HostRuntime) -> Result<(), Fail> {
     // One voxel is unknown: those on its six faces.
     apply(&rt, &mut tree, all(32_768), all(32_768), Event::Forget);
     expect_all(&rt, rt.alloc(), &tree, &faces())?;
-    for face in faces() {
-        expect_one(&rt, rt.alloc(), &tree, face, &[face])?;
-    }
-    Ok(())
+    expect_each(&rt, rt.alloc(), &tree, &faces())
 }
 
 /// The voxels beside the lowest and the highest one of the map.
@@ -244,7 +249,7 @@ fn borders(alloc: Global, tree: &OccTree, low: u16) -> Result<Vec<Key>, Fail>
     Ok(found)
 }
 
-/// A number that looks like chance.
+/// The next number of a linear congruential generator.
 fn next(seed: u32) -> u32 {
     seed.wrapping_mul(1_664_525).wrapping_add(1_013_904_223)
 }
@@ -284,7 +289,7 @@ fn expect_agreement(rt: &impl Abort, alloc: Global, low: u16, seed: u32) -> Resu
 }
 
 /// The lowest numbers of cubes, and seeds.
-const CUBES: [(u16, u32); 8] = [
+const CUBES: &[(u16, u32)] = &[
     (0, 1),
     (32_766, 2),
     (32_766, 3),
@@ -295,10 +300,15 @@ const CUBES: [(u16, u32); 8] = [
     (65_532, 8),
 ];
 
-#[test]
-fn agrees_with_a_look_at_each_voxel(rt: HostRuntime) -> Result<(), Fail> {
-    for (low, seed) in CUBES {
-        expect_agreement(&rt, rt.alloc(), low, seed)?;
+/// Expects that of each row.
+fn expect_agreements(rt: &impl Abort, alloc: Global, rows: &[(u16, u32)]) -> Result<(), Fail> {
+    for (low, seed) in rows {
+        expect_agreement(rt, alloc, *low, *seed)?;
     }
     Ok(())
+}
+
+#[test]
+fn agrees_with_a_look_at_each_voxel(rt: HostRuntime) -> Result<(), Fail> {
+    expect_agreements(&rt, rt.alloc(), CUBES)
 }
