@@ -1,3 +1,5 @@
+ghost use Rattle.oct_tree.specs.Tree.{IsPlace};
+
 use super::*;
 use std::process::Abort;
 use std::test::Fail;
@@ -7,25 +9,57 @@ fn voxel(x: u16, y: u16, z: u16) -> Key {
     Key { x, y, z }
 }
 
+/// Expects this value of a voxel.
+fn expect_at(rt: &impl Abort, tree: &OccTree, k: Key, want: Option<i32>) {
+    assert_eq!(rt; tree.at(k), want);
+}
+
+/// Expects this node of the whole map.
+fn expect_root(rt: &impl Abort, tree: &OccTree, want: Node) {
+    assert_eq!(rt; tree.root(), want);
+}
+
+/// Expects this node at a place.
+fn expect_node(rt: &impl Abort, tree: &OccTree, p: Place, want: Node)
+    requires { IsPlace tree.now p }
+{
+    assert_eq!(rt; tree.node(p), want);
+}
+
+/// How many groups can still be taken.
+fn room(tree: &OccTree) -> u32 {
+    tree.arena().spare()
+}
+
+/// Expects that this many groups were taken of what there was room for.
+fn expect_taken(rt: &impl Abort, tree: &OccTree, room: u32, taken: u32) {
+    assert_eq!(rt; tree.arena().spare().checked_add(taken), Some(room));
+}
+
+/// Expects this edge of a voxel, in nanometres, and this upper bound.
+fn expect_setup(rt: &impl Abort, tree: &OccTree, nm: i64, max: i32) {
+    assert_eq!(rt; (tree.res().nm(), tree.odds().max), (nm, max));
+}
+
 #[test]
 #[tactic(auto, using(crate::proofs::Callers::callers))]
 fn splits_and_sets_one_eighth(rt: HostRuntime) -> Result<(), Fail> {
     let mut tree = OccTree::new(rt.alloc(), Res::new(100_000_000)?, OddsModel::default());
-    assert_eq!(rt; tree.at(voxel(0, 0, 0)), None);
+    expect_at(&rt, &tree, voxel(0, 0, 0), None);
     tree.reserve(1)?;
-    let spare = tree.arena().spare();
+    let room = room(&tree);
     tree.set_place(Place::Root, Node::Leaf(850));
-    assert_eq!(rt; tree.at(voxel(65_535, 0, 40_000)), Some(850));
+    expect_at(&rt, &tree, voxel(65_535, 0, 40_000), Some(850));
     let id = tree.split(Place::Root);
-    assert_eq!(rt; tree.root(), Node::Inner(850, id));
-    assert_eq!(rt; tree.node(Place::Slot(id, 7)), Node::Leaf(850));
-    assert_eq!(rt; tree.arena().spare() + 1, spare);
+    expect_root(&rt, &tree, Node::Inner(850, id));
+    expect_node(&rt, &tree, Place::Slot(id, 7), Node::Leaf(850));
+    expect_taken(&rt, &tree, room, 1);
     tree.set_place(Place::Slot(id, 2), Node::Leaf(-400));
-    assert_eq!(rt; tree.at(voxel(0, 32_768, 0)), Some(-400));
-    assert_eq!(rt; tree.at(voxel(0, 32_767, 0)), Some(850));
-    assert_eq!(rt; tree.at(voxel(0, 0, 32_768)), Some(850));
+    expect_at(&rt, &tree, voxel(0, 32_768, 0), Some(-400));
+    expect_at(&rt, &tree, voxel(0, 32_767, 0), Some(850));
+    expect_at(&rt, &tree, voxel(0, 0, 32_768), Some(850));
     assert!(rt; !tree.collapse(Place::Root));
-    assert_eq!(rt; tree.root(), Node::Inner(850, id));
+    expect_root(&rt, &tree, Node::Inner(850, id));
     Ok(())
 }
 
@@ -34,21 +68,20 @@ fn splits_and_sets_one_eighth(rt: HostRuntime) -> Result<(), Fail> {
 fn collapses_what_one_leaf_says(rt: HostRuntime) -> Result<(), Fail> {
     let mut tree = OccTree::new(rt.alloc(), Res::new(100_000_000)?, OddsModel::default());
     tree.reserve(1)?;
-    let spare = tree.arena().spare();
+    let room = room(&tree);
     tree.split(Place::Root);
-    assert_eq!(rt; tree.at(voxel(7, 8, 9)), None);
+    expect_at(&rt, &tree, voxel(7, 8, 9), None);
     assert!(rt; tree.drop_absent(Place::Root));
     assert_eq!(rt; tree.root(), Node::Absent);
     tree.set_place(Place::Root, Node::Leaf(-2000));
     let id = tree.split(Place::Root);
     tree.renew(Place::Root);
-    assert_eq!(rt; tree.root(), Node::Inner(-2000, id));
+    expect_root(&rt, &tree, Node::Inner(-2000, id));
     assert!(rt; !tree.drop_absent(Place::Root));
     assert!(rt; tree.settle(Place::Root));
-    assert_eq!(rt; tree.root(), Node::Leaf(-2000));
-    assert_eq!(rt; tree.arena().spare(), spare);
-    assert_eq!(rt; tree.res().nm(), 100_000_000);
-    assert_eq!(rt; tree.odds().max, 3500);
+    expect_root(&rt, &tree, Node::Leaf(-2000));
+    expect_taken(&rt, &tree, room, 0);
+    expect_setup(&rt, &tree, 100_000_000, 3500);
     Ok(())
 }
 
