@@ -1,5 +1,4 @@
--- A pass over a tree from below, for the proofs of the functions that make one: what holds of the
--- places below one that is done.
+-- What refreshing and pruning make so at each place, and what they keep.
 use Rattle.std.specs.Prelude.{◌≡◌, ℤ}
 use Rattle.oct_arena.specs.declared.node.GroupId.{GroupId}
 use Rattle.oct_arena.specs.declared.node.Node.TheVariants.{Inner}
