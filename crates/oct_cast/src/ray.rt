@@ -33,7 +33,7 @@ pub fn cast(tree: &OccTree, o: Point, e: Point, ignore_unknown: bool) -> Cast
     }
 }
 
-/// What a cast answers whose voxels are all under one node: the first stops it, or none.
+/// What a cast answers where one node covers the map: its first voxel stops it, or none does.
 fn cast_alike(tree: &OccTree, root: Node, walk: Walk, ignore_unknown: bool) -> Cast
     requires root { tree.now.root ≡ root }
     requires leaf { link_of root ≡ None }
