@@ -192,7 +192,7 @@ impl BrickUpdate {
     }
 
     /// Applies the event of the voxel of a bit at its place, which links no group.
-    // Each kind has a call of its own, so that the event isn't asked for its own kind in vain.
+    // Two calls, so that each event's kind is known where `apply_at` is made.
     fn apply_bit(&self, tree: &mut OccTree, p: Place, bit: u64)
         requires linked { IsLinked tree.old }
         requires place { IsPlace tree.old p }
