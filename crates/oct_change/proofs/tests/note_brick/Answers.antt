@@ -1,4 +1,4 @@
-use Rattle.std.proofs.Common.{◌≡◌, ℕ, zero, suc, ◌+◌, ◌*◌, ◌/◌, ◌%◌, ◌^◌, ◌<◌, ◌≤◌, ◌∙◌, List, []}
+use Rattle.std.proofs.Common.{◌≡◌, ℕ, zero, suc, ◌+◌, ◌*◌, ◌/◌, ◌%◌, ◌^◌, ◌<◌, ◌≤◌, ◌∙◌, []}
 use Rattle.std.proofs.Common.{◌∷◌, map, length, bit_and, inl, inr, refl, ap, arith, rules}
 use Rattle.std.proofs.lemmas.Bool.Decides.{eqb_tells}
 use Rattle.std.proofs.lemmas.List.{length-append, length-map}
@@ -37,7 +37,8 @@ codes_few (suc n) first mask = elim (eqb_tells (mask % 2) 1) [
 -- a brick has 64 voxels at most of each kind
 few_by : (f : Brick → ℕ) (b : Brick) → length (map coded_voxel (codes_by f (b ∷ []))) ≤ 64
 few_by f b =
-    let whole = ap length (by_cons f b []) ∙ length-append (codes_of b.code (f b)) (codes_by f []) in
+    let whole =
+    ap length (by_cons f b []) ∙ length-append (codes_of b.code (f b)) (codes_by f []) in
     let none : length (codes_by f []) ≡ 0 = refl in
     let few = codes_few 64 (64 * b.code) (f b) in
     let same = length-map (codes_by f (b ∷ [])) coded_voxel in
