@@ -1,4 +1,5 @@
-use Rattle.std.proofs.Common.{◌≡◌, ℕ, ◌<◌, ◌≤◌, length, refl, ◌∙◌, ap, Some, None, subst, sym, rules}
+use Rattle.std.proofs.Common.{◌≡◌, ℕ, ◌<◌, ◌≤◌, length, refl, sym, ◌∙◌, ap, subst, Some, None}
+use Rattle.std.proofs.Common.{rules}
 use Rattle.std.specs.Prelude.{Option, is_some, slice_set}
 use Rattle.oct_key.specs.Block.{Cube}
 use Rattle.oct_arena.specs.declared.node.Group.{Group}
