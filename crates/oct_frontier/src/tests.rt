@@ -71,41 +71,28 @@ fn ask(
 }
 
 /// Expects that the frontier of a box has these voxels, in this order.
-fn expect_frontier(
-    rt: &impl Abort,
-    alloc: Global,
-    tree: &OccTree,
-    lo: Key,
-    hi: Key,
-    want: &[Key],
-) -> Result<(), Fail> {
-    let found = ask(rt, alloc, tree, lo, hi, 1000)?;
-    assert_eq!(rt; found.as_slice(), want);
-    Ok(())
+fn expect_frontier(rt: &impl Abort, alloc: Global, tree: &OccTree, lo: Key, hi: Key, want: &[Key]) {
+    match ask(rt, alloc, tree, lo, hi, 1000) {
+        Ok(found) => assert_eq!(rt; found.as_slice(), want),
+        Err(_) => panic!(rt; "no frontier"),
+    }
 }
 
 /// Expects that the frontier of the whole map has these voxels.
-fn expect_all(rt: &impl Abort, alloc: Global, tree: &OccTree, want: &[Key]) -> Result<(), Fail> {
-    expect_frontier(rt, alloc, tree, all(0), all(65_535), want)
+fn expect_all(rt: &impl Abort, alloc: Global, tree: &OccTree, want: &[Key]) {
+    expect_frontier(rt, alloc, tree, all(0), all(65_535), want);
 }
 
 /// Expects that the voxel is in the frontier of its own box, or that it isn't.
-fn expect_one(
-    rt: &impl Abort,
-    alloc: Global,
-    tree: &OccTree,
-    k: Key,
-    want: &[Key],
-) -> Result<(), Fail> {
-    expect_frontier(rt, alloc, tree, k, k, want)
+fn expect_one(rt: &impl Abort, alloc: Global, tree: &OccTree, k: Key, want: &[Key]) {
+    expect_frontier(rt, alloc, tree, k, k, want);
 }
 
 /// Expects that each of the voxels is in the frontier of its own box.
-fn expect_each(rt: &impl Abort, alloc: Global, tree: &OccTree, keys: &[Key]) -> Result<(), Fail> {
+fn expect_each(rt: &impl Abort, alloc: Global, tree: &OccTree, keys: &[Key]) {
     for k in keys {
-        expect_one(rt, alloc, tree, *k, &[*k])?;
+        expect_one(rt, alloc, tree, *k, &[*k]);
     }
-    Ok(())
 }
 
 /// Whether the frontier of the whole map has more voxels than that.
@@ -126,36 +113,43 @@ fn expect_listed(rt: &impl Abort, list: &KeyList, index: usize, want: Key) {
     assert_eq!(rt; list.as_slice().get(index), Some(&want));
 }
 
-/// Expects that the frontier of a cube of edge 3 has all its voxels but the middle one.
-fn expect_shell(rt: &impl Abort, alloc: Global, tree: &OccTree) -> Result<(), Fail> {
-    let shell = ask(rt, alloc, tree, all(32_768), all(32_770), 26)?;
+/// Expects that a list has all voxels of a cube of edge 3 but the middle one.
+fn expect_cube(rt: &impl Abort, shell: &KeyList) {
     assert_eq!(rt; shell.as_slice().len(), 26);
-    expect_listed(rt, &shell, 0, all(32_768));
-    expect_listed(rt, &shell, 12, key(32_769, 32_769, 32_768));
-    expect_listed(rt, &shell, 13, key(32_769, 32_769, 32_770));
-    expect_listed(rt, &shell, 25, all(32_770));
-    Ok(())
+    expect_listed(rt, shell, 0, all(32_768));
+    expect_listed(rt, shell, 12, key(32_769, 32_769, 32_768));
+    expect_listed(rt, shell, 13, key(32_769, 32_769, 32_770));
+    expect_listed(rt, shell, 25, all(32_770));
+}
+
+/// Expects that the frontier of a cube of edge 3 has all its voxels but the middle one.
+fn expect_shell(rt: &impl Abort, alloc: Global, tree: &OccTree) {
+    match ask(rt, alloc, tree, all(32_768), all(32_770), 26) {
+        Ok(shell) => expect_cube(rt, &shell),
+        Err(_) => panic!(rt; "no frontier"),
+    }
 }
 
 #[test]
 fn lists_free_voxels_beside_unknown_ones(rt: HostRuntime) -> Result<(), Fail> {
     let mut tree = world(rt.alloc())?;
-    expect_all(&rt, rt.alloc(), &tree, &[])?;
+    expect_all(&rt, rt.alloc(), &tree, &[]);
     // One free voxel.
     let one = all(32_768);
     apply(&rt, &mut tree, one, one, FREE);
-    expect_one(&rt, rt.alloc(), &tree, one, &[one])?;
-    expect_all(&rt, rt.alloc(), &tree, &[one])?;
-    expect_frontier(&rt, rt.alloc(), &tree, all(0), all(32_767), &[])?;
+    expect_one(&rt, rt.alloc(), &tree, one, &[one]);
+    expect_all(&rt, rt.alloc(), &tree, &[one]);
+    expect_frontier(&rt, rt.alloc(), &tree, all(0), all(32_767), &[]);
     // A cube of them: all but the middle one.
     apply(&rt, &mut tree, one, all(32_770), FREE);
-    expect_shell(&rt, rt.alloc(), &tree)?;
+    expect_shell(&rt, rt.alloc(), &tree);
     expect_more(&rt, rt.alloc(), &tree, 25, true);
     expect_more(&rt, rt.alloc(), &tree, 26, false);
     // An occupied voxel isn't at the frontier, nor is a free one with occupied neighbours alone.
     apply(&rt, &mut tree, all(32_767), all(32_771), OCCUPIED);
     apply(&rt, &mut tree, all(32_769), all(32_769), FREE);
-    expect_all(&rt, rt.alloc(), &tree, &[])
+    expect_all(&rt, rt.alloc(), &tree, &[]);
+    Ok(())
 }
 
 /// The voxels on the six faces of the voxel 32,768.
@@ -177,16 +171,17 @@ fn passes_over_large_blocks(rt: HostRuntime) -> Result<(), Fail> {
     apply(&rt, &mut tree, all(0), key(32_767, 65_535, 65_535), FREE);
     let border = key(32_767, 32_768, 32_768);
     let behind = key(32_766, 32_768, 32_768);
-    expect_one(&rt, rt.alloc(), &tree, border, &[border])?;
-    expect_one(&rt, rt.alloc(), &tree, behind, &[])?;
+    expect_one(&rt, rt.alloc(), &tree, border, &[border]);
+    expect_one(&rt, rt.alloc(), &tree, behind, &[]);
     expect_more(&rt, rt.alloc(), &tree, 1000, true);
     // All of it is: nothing beyond the map counts.
     apply(&rt, &mut tree, all(0), all(65_535), FREE);
-    expect_all(&rt, rt.alloc(), &tree, &[])?;
+    expect_all(&rt, rt.alloc(), &tree, &[]);
     // One voxel is unknown: those on its six faces.
     apply(&rt, &mut tree, all(32_768), all(32_768), Event::Forget);
-    expect_all(&rt, rt.alloc(), &tree, &faces())?;
-    expect_each(&rt, rt.alloc(), &tree, &faces())
+    expect_all(&rt, rt.alloc(), &tree, &faces());
+    expect_each(&rt, rt.alloc(), &tree, &faces());
+    Ok(())
 }
 
 /// The voxels beside the lowest and the highest one of the map.
@@ -207,7 +202,8 @@ fn looks_at_the_corners_of_the_map(rt: HostRuntime) -> Result<(), Fail> {
     apply(&rt, &mut tree, all(0), all(65_535), FREE);
     apply(&rt, &mut tree, all(0), all(0), Event::Forget);
     apply(&rt, &mut tree, all(65_535), all(65_535), Event::Forget);
-    expect_all(&rt, rt.alloc(), &tree, &corners())
+    expect_all(&rt, rt.alloc(), &tree, &corners());
+    Ok(())
 }
 
 /// Whether the voxel of these numbers is in the map and unknown.
@@ -285,7 +281,8 @@ fn expect_agreement(rt: &impl Abort, alloc: Global, low: u16, seed: u32) -> Resu
     let mut tree = world(alloc)?;
     scribble(rt, &mut tree, low, seed);
     let want = borders(alloc, &tree, low)?;
-    expect_frontier(rt, alloc, &tree, all(low), all(low + 3), &want)
+    expect_frontier(rt, alloc, &tree, all(low), all(low + 3), &want);
+    Ok(())
 }
 
 /// The lowest numbers of cubes, and seeds.
