@@ -25,7 +25,7 @@ fn count_digits(text: &[u8]) -> usize
 /// A number that a text begins with.
 #[derive(Clone, Copy)]
 pub(crate) struct NumberFront<'a> {
-    /// The number of the digits, where they are at most eighteen.
+    /// The value of the digits, where there are at most eighteen.
     pub(crate) value: u64,
     /// How many digits there are.
     pub(crate) count: usize,
@@ -47,8 +47,8 @@ pub(crate) fn split_number(text: &[u8]) -> NumberFront<'_>
     NumberFront { value, count, rest }
 }
 
-/// The number of the decimal digits that a text begins with, and how many they are. More than
-/// eighteen may have any number.
+/// The value of the decimal digits that a text begins with, and how many there are. Of more than
+/// eighteen the value may be any.
 fn read_front(text: &[u8]) -> (u64, usize)
     ensures count { result.1 ≡ prefix_len is_digit text.now }
     ensures value { result.1 ≤ 18 → result.0 ≡ decimal_value (take_while is_digit text.now) }

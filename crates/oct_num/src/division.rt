@@ -34,7 +34,7 @@ mod tests {
     /// Expects that a quotient is rounded down to a number.
     fn expect_floor(rt: &impl Abort, n: i128, d: i128, want: i128) {
         assert!(rt; d >= 1);
-        assert_eq!(rt; floor_div(n, d), want, "at {n} / {d}");
+        assert_eq!(rt; floor_div(n, d), want);
     }
 
     /// Expects that each quotient of a table is rounded down to its number.

@@ -78,8 +78,8 @@ pub fn split_metres(text: &[u8]) -> Option<(i64, &[u8])>
     Some((with_sign(minus, nanometres), fraction.rest))
 }
 
-/// The number of the digits after the point that a text begins with, and the rest of the text. No
-/// digit follows a point where there are none, and the rest is the whole text.
+/// The value of the digits after the point that a text begins with, and the rest of the text. Where
+/// no digit follows a point there are none, and the rest is the whole text.
 fn split_fraction(text: &[u8]) -> NumberFront<'_>
     ensures count { result.count ≡ length (fraction_front text.now) }
     ensures value { result.count ≤ 18 → result.value ≡ decimal_value (fraction_front text.now) }
@@ -318,6 +318,39 @@ mod tests {
     #[test]
     fn finds_the_first_digit_too_many(rt: HostRuntime) {
         expect_excesses(&rt, LONG_NUMBERS);
+    }
+
+    /// Texts, and the lengths that they begin with and what follows these, if any.
+    const FRONTS: &[(&str, Option<(i64, &str)>)] = &[
+        ("1.5 2", Some((1_500_000_000, " 2"))),
+        ("-0.05", Some((-50_000_000, ""))),
+        ("7.", Some((7 * NM, "."))),
+        ("1.2.3", Some((1_200_000_000, ".3"))),
+        (".5", None),
+        ("-", None),
+        ("12345678", None),
+        ("1.1234567890", None),
+    ];
+
+    /// Expects the length that a text begins with and what follows it, if any.
+    fn expect_front(rt: &impl Abort, text: &str, want: Option<(i64, &str)>) {
+        let want = match want {
+            Some((nm, rest)) => Some((nm, rest.as_bytes())),
+            None => None,
+        };
+        assert_eq!(rt; split_metres(text.as_bytes()), want);
+    }
+
+    /// Expects the length that each text of a table begins with.
+    fn expect_fronts(rt: &impl Abort, cases: &[(&str, Option<(i64, &str)>)]) {
+        for (text, want) in cases {
+            expect_front(rt, text, *want);
+        }
+    }
+
+    #[test]
+    fn takes_the_length_that_a_text_begins_with(rt: HostRuntime) {
+        expect_fronts(&rt, FRONTS);
     }
 
     #[test]

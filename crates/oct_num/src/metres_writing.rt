@@ -109,33 +109,48 @@ mod tests {
         (i64::MIN, "-9223372036.854775808"),
     ];
 
-    /// Expects that a length has a text, and that this many bytes are added to a list.
-    fn expect_text(rt: &impl Abort, alloc: Global, nm: i64, want: &str) -> Result<(), Fail> {
-        assert_eq!(rt; metres_text(nm).as_str(), want, "at {nm}");
+    /// Expects that a length has a text.
+    fn expect_text(rt: &impl Abort, nm: i64, want: &str) {
+        assert_eq!(rt; metres_text(nm).as_str(), want);
+    }
+
+    /// Expects what a list that begins with `res ` has behind that once a length is added.
+    fn expect_added(rt: &impl Abort, alloc: Global, nm: i64, want: &str) -> Result<(), Memory> {
         let mut out = Vec::from_slice(alloc, b"res ")?;
         push_metres(&mut out, nm)?;
-        assert_eq!(rt; out.len(), 4 + want.len(), "at {nm}");
+        let added = out.as_slice().strip_prefix(b"res ".as_slice());
+        assert_eq!(rt; added, Some(want.as_bytes()));
         Ok(())
     }
 
-    /// Expects that each length of a table has its text.
-    fn expect_texts(rt: &impl Abort, alloc: Global, cases: &[(i64, &str)]) -> Result<(), Fail> {
+    /// Expects that each length of a table has its text, and that this is added to a list.
+    fn expect_texts(rt: &impl Abort, alloc: Global, cases: &[(i64, &str)]) -> Result<(), Memory> {
         for (nm, want) in cases {
-            expect_text(rt, alloc, *nm, want)?;
+            expect_text(rt, *nm, want);
+            expect_added(rt, alloc, *nm, want)?;
         }
         Ok(())
     }
 
     #[test]
     fn writes_nanometres_as_metres(rt: HostRuntime) -> Result<(), Fail> {
-        expect_texts(&rt, rt.alloc(), TEXTS)
+        expect_texts(&rt, rt.alloc(), TEXTS)?;
+        Ok(())
+    }
+
+    /// Expects that a fraction of this many places has a text.
+    fn expect_fraction(rt: &impl Abort, places: u32, n: u64, want: &str)
+        requires most { places ≤ 19 }
+        requires few { n < 10 ^ places }
+    {
+        assert_eq!(rt; fraction_text(places, n).as_str(), want);
     }
 
     #[test]
     fn writes_fractions_without_zeros_at_the_end(rt: HostRuntime) {
-        assert_eq!(rt; fraction_text(9, 0).as_str(), "");
-        assert_eq!(rt; fraction_text(9, 50_000_000).as_str(), ".05");
-        assert_eq!(rt; fraction_text(10, 500_005).as_str(), ".0000500005");
+        expect_fraction(&rt, 9, 0, "");
+        expect_fraction(&rt, 9, 50_000_000, ".05");
+        expect_fraction(&rt, 10, 500_005, ".0000500005");
     }
 
     /// Lengths in nanometres that can be read.

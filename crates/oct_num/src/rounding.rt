@@ -44,7 +44,7 @@ mod tests {
     /// Expects that a quotient is rounded to a number.
     fn expect_rounded(rt: &impl Abort, n: i128, d: i128, want: i128) {
         assert!(rt; d >= 1 && d <= 1 << 60 && n >= -(1 << 120) && n <= 1 << 120);
-        assert_eq!(rt; round_half_up(n, d), want, "at {n} / {d}");
+        assert_eq!(rt; round_half_up(n, d), want);
     }
 
     /// Expects that each quotient of a table is rounded to its number.

@@ -111,7 +111,7 @@ mod tests {
     fn expect_appended(rt: &impl Abort, alloc: Global, n: i64, want: &str) -> Result<(), Fail> {
         let mut out = Vec::from_slice(alloc, b"n=")?;
         push_whole(&mut out, n)?;
-        assert_eq!(rt; out.as_slice(), want.as_bytes(), "at {n}");
+        assert_eq!(rt; out.as_slice(), want.as_bytes());
         Ok(())
     }
 
