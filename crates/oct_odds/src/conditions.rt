@@ -7,7 +7,13 @@ use crate::model::OddsField;
 const LARGEST: u32 = 1_000_000;
 
 /// The first field, in the order of the parameters, whose own condition fails.
-pub fn first_bad_field(hit: i32, miss: i32, min: i32, max: i32, thr: i32) -> Option<OddsField>
+pub(crate) fn first_bad_field(
+    hit: i32,
+    miss: i32,
+    min: i32,
+    max: i32,
+    thr: i32,
+) -> Option<OddsField>
     ensures { result ≡ first_bad_field (odds hit miss min max thr) }
 {
     if !is_small(hit) || hit <= 0 {

@@ -1,11 +1,11 @@
 //! Log-odds of occupancy, and what an observation does to them.
 //!
 //! A voxel of an occupancy map is unknown, or it has a log-odds: a whole number of thousandths,
-//! positive where the voxel is rather occupied. An [`OddsModel`] says how much a hit adds to it and
-//! a miss takes off it, between which bounds it is kept, and from which value on a voxel counts as
-//! occupied. The rules are those of Hornung et al. 2013 and of the OctoMap library; the library
-//! computes with floating-point numbers, and this crate with whole ones, so that equal histories
-//! give equal values.
+//! positive where it is more likely occupied than free. An [`OddsModel`] says how much a hit adds
+//! to it and a miss takes off it, between which bounds it is kept, and from which value on a voxel
+//! counts as occupied. The rules are those of Hornung et al. 2013 and of the OctoMap library; the
+//! library computes with floating-point numbers, and this crate with whole ones, so that equal
+//! histories give equal values.
 //!
 //! ```text
 //! let model = OddsModel::new(850, -400, -2000, 3500, 0)?;

@@ -1,3 +1,4 @@
+ghost use Rattle.std.specs.Prelude.{IsTrue};
 ghost use Rattle.oct_odds.specs.Odds.{odds_of};
 ghost use Rattle.oct_odds.specs.Update.{IsSmallEvent, IsWithin};
 
@@ -19,7 +20,7 @@ fn repeat(
     let mut value = start;
     for want in wanted {
         value = model.apply(event, value);
-        assert_eq!(rt; value, Some(*want), "at {want}");
+        assert_eq!(rt; value, Some(*want));
     }
     value
 }
@@ -43,20 +44,68 @@ fn clamps_each_sum_at_once(rt: HostRuntime) {
     repeat(&rt, &model, hit, low, &[-1150, -300, 550]);
 }
 
+/// Events, values before them, and the values afterwards.
+const APPLIED: &[(Event, Option<i32>, Option<i32>)] = &[
+    (Event::Add(0), None, Some(0)),
+    (Event::Add(-9000), Some(3500), Some(-2000)),
+    (Event::Add(1_000_000), Some(3500), Some(3500)),
+    (Event::Set(9000), None, Some(3500)),
+    (Event::Set(-9000), Some(3500), Some(-2000)),
+    (Event::Set(7), Some(3500), Some(7)),
+    (Event::Forget, Some(3500), None),
+    (Event::Forget, None, None),
+    (Event::Likely, Some(0), Some(3500)),
+    (Event::Likely, Some(-1), Some(-2000)),
+    (Event::Likely, None, None),
+];
+
+/// Whether the number in an event, if any, has a magnitude of at most a million.
+fn is_small(event: Event) -> bool
+    ensures { IsTrue result → IsSmallEvent event }
+{
+    match event {
+        Event::Add(change) => change >= -1_000_000 && change <= 1_000_000,
+        Event::Set(value) => value >= -1_000_000 && value <= 1_000_000,
+        Event::Forget | Event::Likely => true,
+    }
+}
+
+/// Whether a known value lies within the bounds of a model.
+fn is_within(model: &OddsModel, value: Option<i32>) -> bool
+    ensures { IsTrue result → IsWithin (odds_of model.now) value }
+{
+    match value {
+        Some(value) => value >= model.min && value <= model.max,
+        None => true,
+    }
+}
+
+/// Expects the value after an event.
+fn expect_applied(
+    rt: &impl Abort,
+    model: &OddsModel,
+    event: Event,
+    value: Option<i32>,
+    want: Option<i32>,
+) {
+    assert!(rt; is_small(event) && is_within(model, value));
+    assert_eq!(rt; model.apply(event, value), want);
+}
+
+/// Expects the value after each event of a table.
+fn expect_all_applied(
+    rt: &impl Abort,
+    model: &OddsModel,
+    cases: &[(Event, Option<i32>, Option<i32>)],
+) {
+    for (event, value, want) in cases {
+        expect_applied(rt, model, *event, *value, *want);
+    }
+}
+
 #[test]
 fn applies_each_event(rt: HostRuntime) {
-    let model = OddsModel::default();
-    assert_eq!(rt; model.apply(Event::Add(0), None), Some(0));
-    assert_eq!(rt; model.apply(Event::Add(-9000), Some(3500)), Some(-2000));
-    assert_eq!(rt; model.apply(Event::Add(1_000_000), Some(3500)), Some(3500));
-    assert_eq!(rt; model.apply(Event::Set(9000), None), Some(3500));
-    assert_eq!(rt; model.apply(Event::Set(-9000), Some(3500)), Some(-2000));
-    assert_eq!(rt; model.apply(Event::Set(7), Some(3500)), Some(7));
-    assert_eq!(rt; model.apply(Event::Forget, Some(3500)), None);
-    assert_eq!(rt; model.apply(Event::Forget, None), None);
-    assert_eq!(rt; model.apply(Event::Likely, Some(0)), Some(3500));
-    assert_eq!(rt; model.apply(Event::Likely, Some(-1)), Some(-2000));
-    assert_eq!(rt; model.apply(Event::Likely, None), None);
+    expect_all_applied(&rt, &OddsModel::default(), APPLIED);
 }
 
 /// Values, and what they count as.
@@ -73,7 +122,7 @@ const CLASSES: &[(Option<i32>, Class)] = &[
 
 /// Expects what a value counts as.
 fn expect_class(rt: &impl Abort, model: &OddsModel, value: Option<i32>, want: Class) {
-    assert_eq!(rt; model.class(value), want, "at {value:?}");
+    assert_eq!(rt; model.class(value), want);
 }
 
 /// Expects what each value of a table counts as.
@@ -119,7 +168,7 @@ fn expect_field(rt: &impl Abort, numbers: (i32, i32, i32, i32, i32), want: Optio
         Ok(_) => None,
         Err(e) => Some(e.which),
     };
-    assert_eq!(rt; found, want, "at {hit} {miss} {min} {max} {thr}");
+    assert_eq!(rt; found, want);
 }
 
 /// Expects the first field at fault of each row of a table.
