@@ -7,7 +7,7 @@ use crate::kept_list::KeptList;
 
 /// How many calls there were, and which are to fail.
 #[derive(Drop)]
-pub struct Calls {
+pub(crate) struct Calls {
     fails: KeptList,
     count: u64,
 }
@@ -20,7 +20,7 @@ impl Calls {
         Calls { fails, count: 0 }
     }
 
-    /// Counts one call more: whether it fails.
+    /// Counts one more call, and answers whether it fails.
     pub fn next_fails(&mut self) -> bool
         ensures exact { result ≡ fails_next self.old }
         ensures counted { self.new ≡ with_call self.old }

@@ -66,51 +66,67 @@ impl Source for CalmSource {
 #[cfg(test)]
 mod tests {
     use super::*;
+    use oct_num::Memory;
     use std::alloc::Global;
     use std::process::Abort;
     use std::test::Fail;
 
-    // The lengths of twelve reads into a buffer of this room, and the bytes that they moved.
-    fn reads(alloc: Global, most: usize, room: usize) -> Result<(Vec<usize>, Vec<u8>), Fail>
-        requires some { 0 < most }
-        requires room { room ≤ 16 }
+    // Expects that a read into a buffer of this length moves these bytes.
+    fn expect_read(rt: &impl Abort, source: &mut CalmSource, room: usize, want: &str)
+        requires { room ≤ 16 }
     {
-        let mut source = CalmSource::new(FileBytes::from_slice(alloc, b"0123456789")?, most);
         let mut buffer = [0u8; 16];
-        let mut lengths = Vec::new(alloc);
-        let mut bytes = Vec::new(alloc);
-        for _ in 0..12 {
-            let count = source.read(&mut buffer[..room])?;
-            lengths.push(count)?;
-            bytes.extend_from_slice(&buffer[..count])?;
-        }
-        Ok((lengths, bytes))
+        let moved = match source.read(&mut buffer[..room]) {
+            Ok(count) => buffer.get(..count),
+            Err(Failed) => None,
+        };
+        assert_eq!(rt; moved, Some(want.as_bytes()));
     }
 
-    // Expects these lengths of the reads, and all bytes in order.
+    // Expects these pieces of ten digits, by reads of `most` bytes into buffers of a length.
     fn expect_reads(
         rt: &impl Abort,
         alloc: Global,
         most: usize,
         room: usize,
-        want: [usize; 12],
-    ) -> Result<(), Fail>
-        requires some { 0 < most }
-        requires room { room ≤ 16 }
-    {
-        let (lengths, bytes) = reads(alloc, most, room)?;
-        assert_eq!(rt; lengths.as_slice(), want.as_slice());
-        assert_eq!(rt; bytes.as_slice(), b"0123456789".as_slice());
+        want: &[&str],
+    ) -> Result<(), Memory> {
+        assert!(rt; most > 0 && room <= 16);
+        let mut source = CalmSource::new(FileBytes::from_slice(alloc, b"0123456789")?, most);
+        for piece in want {
+            expect_read(rt, &mut source, room, piece);
+        }
+        Ok(())
+    }
+
+    // The most bytes of a read, the length of the buffer, and the pieces of ten digits.
+    const READS: &[(usize, usize, &[&str])] = &[
+        (
+            1,
+            16,
+            &["0", "1", "2", "3", "4", "5", "6", "7", "8", "9", "", ""],
+        ),
+        (2, 16, &["01", "23", "45", "67", "89", "", ""]),
+        (7, 16, &["0123456", "789", "", ""]),
+        (4096, 16, &["0123456789", "", ""]),
+        (7, 4, &["0123", "4567", "89", "", ""]),
+    ];
+
+    // Expects the pieces of each row of a table.
+    fn expect_all_reads(
+        rt: &impl Abort,
+        alloc: Global,
+        cases: &[(usize, usize, &[&str])],
+    ) -> Result<(), Memory> {
+        for (most, room, want) in cases {
+            expect_reads(rt, alloc, *most, *room, want)?;
+        }
         Ok(())
     }
 
     #[test]
     fn every_length_of_read_gives_the_same_bytes(rt: HostRuntime) -> Result<(), Fail> {
-        let alloc = rt.alloc();
-        expect_reads(&rt, alloc, 1, 16, [1, 1, 1, 1, 1, 1, 1, 1, 1, 1, 0, 0])?;
-        expect_reads(&rt, alloc, 2, 16, [2, 2, 2, 2, 2, 0, 0, 0, 0, 0, 0, 0])?;
-        expect_reads(&rt, alloc, 7, 16, [7, 3, 0, 0, 0, 0, 0, 0, 0, 0, 0, 0])?;
-        expect_reads(&rt, alloc, 4096, 16, [10, 0, 0, 0, 0, 0, 0, 0, 0, 0, 0, 0])?;
-        expect_reads(&rt, alloc, 7, 4, [4, 4, 2, 0, 0, 0, 0, 0, 0, 0, 0, 0])
+        expect_all_reads(&rt, rt.alloc(), READS)?;
+        Ok(())
     }
 }

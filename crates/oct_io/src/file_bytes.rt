@@ -91,20 +91,30 @@ mod tests {
     use std::process::Abort;
     use std::test::Fail;
 
-    // Expects these bytes, by the answers of all calls that look at them.
+    // Expects these bytes.
     fn expect_bytes(rt: &impl Abort, bytes: &FileBytes, want: &[u8]) {
         assert_eq!(rt; bytes.as_slice(), want);
-        assert_eq!(rt; bytes.len(), want.len());
-        assert_eq!(rt; bytes.is_empty(), want.is_empty());
+    }
+
+    // Expects this many bytes.
+    fn expect_count(rt: &impl Abort, bytes: &FileBytes, want: usize) {
+        assert_eq!(rt; (bytes.len(), bytes.is_empty()), (want, want == 0));
     }
 
     #[test]
     fn bytes_stand_in_the_order_of_their_adding(rt: HostRuntime) -> Result<(), Fail> {
         let mut bytes = FileBytes::new(rt.alloc());
         expect_bytes(&rt, &bytes, b"");
+        expect_count(&rt, &bytes, 0);
         bytes.push(b'm')?;
         bytes.extend_from_slice(b"ap")?;
         expect_bytes(&rt, &bytes, b"map");
+        expect_count(&rt, &bytes, 3);
+        Ok(())
+    }
+
+    #[test]
+    fn a_list_of_bytes_is_taken_over(rt: HostRuntime) -> Result<(), Fail> {
         let taken_over = FileBytes::from(vec![in rt.alloc(); 1, 2]?);
         expect_bytes(&rt, &taken_over, &[1, 2]);
         Ok(())

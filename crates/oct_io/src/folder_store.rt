@@ -154,33 +154,51 @@ mod tests {
         assert!(rt; matches!(store.load(alloc, name), Ok(Loaded::TooLarge)));
     }
 
+    // Makes a file of one byte more than a store loads.
+    fn make_large<R: Files>(rt: &R, name: &str) -> io::Result<()> {
+        fs::create(rt, name)?.set_len((1 << 30) + 1)
+    }
+
+    // Looks for a file that is too large, and for one that isn't there.
+    fn look_for_none<F: Store>(rt: &impl Abort, alloc: Global, store: &mut F) {
+        expect_too_large(rt, alloc, store, "large.bt");
+        expect_missing(rt, alloc, store, "no_folder/map.bt");
+    }
+
+    // A folder can be opened, and has no bytes to read. A file has no files in it, which is another
+    // fault than that there is no such file.
+    fn fail_to_load<F: Store>(rt: &impl Abort, alloc: Global, store: &mut F) {
+        expect_no_load(rt, alloc, store, ".");
+        expect_save(rt, store, "map.bt", b"bytes", Ok(()));
+        expect_no_load(rt, alloc, store, "map.bt/map.bt");
+    }
+
+    // A save that fails leaves the old file whole, and no part of a new one.
+    fn fail_to_save<F: Store>(rt: &impl Abort, alloc: Global, store: &mut F) {
+        let failed = Err(StoreFault::Failed);
+        expect_save(rt, store, "map.bt/map.bt", b"more bytes", failed);
+        expect_bytes(rt, alloc, store, "map.bt", b"bytes");
+        expect_missing(rt, alloc, store, PART);
+        expect_save(rt, store, "no_folder/map.bt", b"bytes", failed);
+    }
+
+    // Takes away the files that were made.
+    fn clear<R: Files>(rt: &R) -> io::Result<()> {
+        fs::remove_file(rt, "large.bt")?;
+        fs::remove_file(rt, "map.bt")
+    }
+
     #[test]
     fn faults_are_counted_and_absent_or_large_files_are_none(rt: HostRuntime) -> Result<(), Fail> {
-        let alloc = rt.alloc();
         let mut store = FolderStore::new(&rt);
-        fs::create(&rt, "large.bt")?.set_len((1 << 30) + 1)?;
-        expect_too_large(&rt, alloc, &mut store, "large.bt");
-        fs::remove_file(&rt, "large.bt")?;
-        expect_missing(&rt, alloc, &mut store, "no_folder/map.bt");
+        make_large(&rt, "large.bt")?;
+        look_for_none(&rt, rt.alloc(), &mut store);
         expect_faults(&rt, &store, 0);
-
-        // A folder can be opened, and has no bytes to read. A file has no files in it, which is
-        // another fault than that there is no such file.
-        let failed = Err(StoreFault::Failed);
-        expect_no_load(&rt, alloc, &mut store, ".");
-        expect_faults(&rt, &store, 1);
-        expect_save(&rt, &mut store, "map.bt", b"bytes", Ok(()));
-        expect_no_load(&rt, alloc, &mut store, "map.bt/map.bt");
+        fail_to_load(&rt, rt.alloc(), &mut store);
         expect_faults(&rt, &store, 2);
-
-        // A save that fails leaves the old file whole, and no part of a new one.
-        expect_save(&rt, &mut store, "map.bt/map.bt", b"more bytes", failed);
-        expect_faults(&rt, &store, 3);
-        expect_bytes(&rt, alloc, &mut store, "map.bt", b"bytes");
-        expect_missing(&rt, alloc, &mut store, PART);
-        fs::remove_file(&rt, "map.bt")?;
-        expect_save(&rt, &mut store, "no_folder/map.bt", b"bytes", failed);
+        fail_to_save(&rt, rt.alloc(), &mut store);
         expect_faults(&rt, &store, 4);
+        clear(&rt)?;
         Ok(())
     }
 }

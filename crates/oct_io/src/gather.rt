@@ -14,7 +14,7 @@ use std::marker::Model;
 const MOST_HELD: usize = 4096;
 
 /// Bytes on their way to a sink, gathered so that the sink gets pieces of 4,096 bytes. It takes no
-/// memory. What is still held when it goes is lost, so whoever is done flushes it.
+/// memory. What it still holds when it is dropped is lost, so flush it last.
 #[derive(Drop)]
 pub struct Gather {
     bytes: ArrayVec<u8, MOST_HELD>,
@@ -31,6 +31,10 @@ impl Model for Gather {
 }
 
 impl Default for Gather {
+    ghost use Rattle.std.specs.Prelude.{◌≡◌, []};
+
+    ghost is_default = { λ g. g ≡ [] };
+
     fn default() -> Self {
         Gather::new()
     }

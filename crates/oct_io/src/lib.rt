@@ -20,7 +20,7 @@
 //! - [`Sink::write`] takes bytes from the front of a piece, at least one where there is one.
 //!   [`write_all`] writes the whole piece, and after an error a prefix of it was written.
 //! - [`Gather`] holds up to 4,096 bytes on their way to a sink, and hands it whole pieces.
-//! - [`read_piece`] reads once of an input that may have this many bytes more.
+//! - [`read_piece`] reads once, and asks for at most one byte more than the input may still have.
 //! - [`Store::save`] sets the bytes of one name and touches no other. [`Store::load`] gives them
 //!   back, or says that there is no such file, or that it has more than `2^30` bytes.
 //! - `Failed` raises the count of faults by one, or leaves it at `2^64 - 1`, where it stays; no
@@ -38,14 +38,16 @@
 //! fault leaves. [`StdSource`], [`StdSink`] and [`FolderStore`] are the edge to the system: a few
 //! lines each over a reader, a writer and the files of the current folder. What the system does is
 //! told by no contract, so of these it is proved that they are safe, count their faults, pass on
-//! what a reader or writer of std tells, and take an error of opening a file for a missing file
-//! exactly where it says so.
+//! what a reader or writer of std tells, and that an error of opening counts as a missing file
+//! exactly where it says so (`unopened`). That a load opens the file and gives its bytes is tested.
 //!
 //! [`FileBytes`] is a list of bytes, and [`KeptList`] one of whole numbers. The definitions that
 //! contracts cite are in `specs/`: `Told` for the bytes and the counts, `Files` for files by name,
 //! `Loaded` for the answers of a load, `Failing` for calls that fail by their numbers. Laws of
 //! appending are in `proofs/Appending.antt`.
-//! Sessions and the program stand on this crate.
+//!
+//! The files of maps (`oct_bt`, `oct_snap`, `oct_convert`, `oct_export`), the generator of scripts,
+//! sessions and the program stand on this crate.
 
 #![tactic(auto)]
 

@@ -5,9 +5,9 @@ ghost use Rattle.oct_io.specs.Told.{dropped};
 
 use crate::source::{Failed, Source};
 
-/// Reads once to the front of a buffer, where `room` bytes more may be taken: it asks for one more
-/// at most, which tells that the input is too long. Answers how many bytes came, of which none tell
-/// the end of the input.
+/// Reads once to the front of the buffer, from an input that may have at most `room` bytes more. It
+/// asks for at most `room + 1`, so that the caller sees where there are too many. Answers how many
+/// came; 0 is the end of the input.
 pub fn read_piece<S: Source>(source: &mut S, buffer: &mut [u8], room: u64) -> Result<usize, Failed>
     requires some { 0 < length buffer.old }
     ensures within { IfOk result (λ n. n ≤ length buffer.old) }
@@ -37,5 +37,36 @@ fn wanted(room: u64, len: usize) -> usize
         room as usize + 1
     } else {
         len
+    }
+}
+
+#[cfg(test)]
+mod tests {
+    use super::*;
+    use crate::calm_source::CalmSource;
+    use crate::file_bytes::FileBytes;
+    use std::process::Abort;
+    use std::test::Fail;
+
+    // Expects that a read with this much room moves these bytes.
+    fn expect_piece(rt: &impl Abort, source: &mut CalmSource, room: u64, want: &[u8]) {
+        let mut buffer = [0u8; 8];
+        let moved = match read_piece(source, &mut buffer, room) {
+            Ok(count) => buffer.get(..count),
+            Err(Failed) => None,
+        };
+        assert_eq!(rt; moved, Some(want));
+    }
+
+    #[test]
+    fn a_piece_has_at_most_one_byte_too_many(rt: HostRuntime) -> Result<(), Fail> {
+        let bytes = FileBytes::from_slice(rt.alloc(), b"0123456789abc")?;
+        let mut source = CalmSource::new(bytes, 64);
+        expect_piece(&rt, &mut source, 2, b"012");
+        expect_piece(&rt, &mut source, 100, b"3456789a");
+        expect_piece(&rt, &mut source, 0, b"b");
+        expect_piece(&rt, &mut source, 1, b"c");
+        expect_piece(&rt, &mut source, 0, b"");
+        Ok(())
     }
 }

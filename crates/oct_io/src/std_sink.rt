@@ -109,6 +109,11 @@ mod tests {
         }
     }
 
+    // Expects that a list has these bytes, by writes through the sink.
+    fn expect_list(rt: &impl Abort, sink: &StdSink<Vec<u8>>, want: &[u8]) {
+        assert_eq!(rt; sink.writer.as_slice(), want);
+    }
+
     // Expects that this many writes have failed, and this many have run out of memory.
     fn expect_counts<W: Write + Drop>(
         rt: &impl Abort,
@@ -125,7 +130,7 @@ mod tests {
         let mut sink = StdSink::new(Vec::new(rt.alloc()));
         expect_write_all(&rt, &mut sink, b"ok\n", Ok(()));
         expect_write(&rt, &mut sink, b"", Ok(0));
-        assert_eq!(rt; sink.writer.as_slice(), b"ok\n".as_slice());
+        expect_list(&rt, &sink, b"ok\n");
         expect_counts(&rt, &sink, 0, 0);
     }
 

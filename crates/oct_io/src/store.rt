@@ -83,7 +83,8 @@ pub trait Store {
         ensures called { calls self.new ≤ calls self.old + 1 };
 
     /// Puts these bytes under the name, in place of a file that stands there. After a failure the
-    /// file of this name may be any, and all others are as before. Where memory runs out all are.
+    /// file of this name may be any, and all others are as before. Where memory runs out, every
+    /// file is as before.
     fn save(&mut self, name: &str, bytes: &[u8]) -> Result<(), StoreFault>
         ensures saved { OnOk result (files self.new ≡ saved (files self.old) name.now bytes.now) }
         ensures others { OnErr result (KeepsOthers (files self.old) (files self.new) name.now) }
@@ -119,12 +120,15 @@ mod tests {
     }
 
     #[test]
-    fn files_are_kept_by_name(rt: HostRuntime) -> Result<(), Fail> {
-        let mut calm = CalmStore::new(rt.alloc());
-        keeps_files(&rt, rt.alloc(), &mut calm);
-        expect_file(&rt, &calm, "one.bt", Some(b"then".as_slice()));
-        expect_file(&rt, &calm, "three.bt", None);
+    fn files_are_kept_by_name(rt: HostRuntime) {
+        let mut store = CalmStore::new(rt.alloc());
+        keeps_files(&rt, rt.alloc(), &mut store);
+        expect_file(&rt, &store, "one.bt", Some(b"then".as_slice()));
+        expect_file(&rt, &store, "three.bt", None);
+    }
 
+    #[test]
+    fn a_folder_keeps_files_by_name(rt: HostRuntime) -> Result<(), Fail> {
         keeps_files(&rt, rt.alloc(), &mut FolderStore::new(&rt));
         fs::remove_file(&rt, "one.bt")?;
         fs::remove_file(&rt, "two.bt")?;

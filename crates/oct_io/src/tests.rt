@@ -131,9 +131,19 @@ fn a_sink_gets_pieces_of_4096_bytes(rt: HostRuntime) {
     }
 }
 
+/// Makes each byte another than the 250 before it.
+fn number(bytes: &mut [u8]) {
+    let mut next = 0u8;
+    for byte in bytes {
+        *byte = next;
+        next = if next < 250 { next + 1 } else { 0 };
+    }
+}
+
 #[test]
 fn all_bytes_come_to_a_sink_that_takes_three_at_a_time(rt: HostRuntime) {
-    let bytes = [7u8; 5000];
+    let mut bytes = [0u8; 5000];
+    number(&mut bytes);
     let mut sink = CalmSink::new(rt.alloc(), 3);
     let mut gather = Gather::new();
     push_by(&rt, &mut gather, &mut sink, &bytes, 999);
