@@ -46,7 +46,7 @@ rotated q p = record {
   z = half_up (weighted (z_row q) p) (norm q);
 }
 
--- no factor is greater than this
+-- no factor has a greater magnitude than this
 pub record IsBounded (most : ℤ) (row : Row) : Type 0 where
   pub x : pos (unsigned_abs row.x) ≤ℤ most
   pub y : pos (unsigned_abs row.y) ≤ℤ most
