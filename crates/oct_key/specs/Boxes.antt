@@ -40,7 +40,7 @@ abbrev pub IsInWindow : Option Corners → Voxel → Type 0
 IsInWindow None k = Unit {0}
 IsInWindow (Some box) k = IsInBox box.lo box.hi k
 
--- whether it does
+-- whether a voxel lies in the box, or no box stands
 abbrev pub is_in_window : Option Corners → Voxel → Bool
 is_in_window None k = true
 is_in_window (Some box) k = is_in_box box.lo box.hi k

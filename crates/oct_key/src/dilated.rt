@@ -83,3 +83,17 @@ fn bits_before(bits: u64) -> u64
 {
     (bits - 1) & PLACES
 }
+
+#[cfg(test)]
+mod tests {
+    use super::*;
+
+    #[test]
+    fn counts_with_the_bits_at_their_places(rt: HostRuntime) {
+        let mut y = Dilated::new(7);
+        y.increment();
+        let mut z = Dilated::new(8);
+        z.decrement();
+        assert_eq!(rt; morton_of_axes(&Dilated::new(3), &y, &z), 0o2455);
+    }
+}

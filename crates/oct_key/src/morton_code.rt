@@ -36,7 +36,7 @@ pub fn from_morton(m: u64) -> Key
 }
 
 /// The number with each bit moved to three times its place.
-pub fn spread_bits(n: u16) -> u64
+pub(crate) fn spread_bits(n: u16) -> u64
     ensures exact { result ≡ interleaved 16 n 0 0 }
     ensures below { result < 2 ^ 46 }
 {
@@ -79,14 +79,18 @@ mod tests {
         (0x1234, 0x5678, 0x9abc, 0o4207_4270_4277_6500),
     ];
 
-    /// Expects that a voxel has a code, and that this is the code of no other.
+    /// Expects that a voxel has a code.
     fn expect_code(rt: &impl Abort, k: Key, code: u64) {
-        assert!(rt; code < 1 << 48);
-        assert_eq!(rt; morton(k), code, "at {k:?}");
-        assert_eq!(rt; from_morton(code), k, "at {code:o}");
+        assert_eq!(rt; morton(k), code);
     }
 
-    /// Expects that each voxel of a table has its code.
+    /// Expects that a code is that of a voxel.
+    fn expect_voxel(rt: &impl Abort, code: u64, k: Key) {
+        assert!(rt; code < 1 << 48);
+        assert_eq!(rt; from_morton(code), k);
+    }
+
+    /// Expects that each voxel of a table has its code, and each code its voxel.
     fn expect_codes(rt: &impl Abort, cases: &[(u16, u16, u16, u64)]) {
         for (x, y, z, code) in cases {
             let k = Key {
@@ -95,6 +99,7 @@ mod tests {
                 z: *z,
             };
             expect_code(rt, k, *code);
+            expect_voxel(rt, *code, k);
         }
     }
 

@@ -8,6 +8,15 @@ const TENTH: i64 = 100_000_000;
 /// Half of the map at a tenth of a metre, in nanometres.
 const HALF: i64 = 3_276_800_000_000;
 
+/// The first and the last voxel of the map.
+const FIRST: Key = Key { x: 0, y: 0, z: 0 };
+
+const LAST: Key = Key {
+    x: 65_535,
+    y: 65_535,
+    z: 65_535,
+};
+
 /// Numbers of nanometres, and whether they are resolutions.
 const EDGES: &[(i64, bool)] = &[
     (100_000, true),
@@ -57,38 +66,27 @@ const KEYS: &[(i64, Option<u16>)] = &[
     (i64::MAX, None),
 ];
 
+/// Expects the voxel that holds a point, if any.
+fn expect_voxel(rt: &impl Abort, res: Res, (x, y, z): (i64, i64, i64), want: Option<Key>) {
+    assert_eq!(rt; res.key_of(Point { x, y, z }), want);
+}
+
+/// The voxel of three numbers, where each is known.
+fn voxel(x: Option<u16>, y: Option<u16>, z: Option<u16>) -> Option<Key> {
+    Some(Key {
+        x: x?,
+        y: y?,
+        z: z?,
+    })
+}
+
 /// Expects the key of a coordinate on each axis.
 fn expect_key(rt: &impl Abort, res: Res, c: i64, want: Option<u16>) {
-    let x = res.key_of(Point { x: c, y: 0, z: -1 });
-    let y = res.key_of(Point { x: -1, y: c, z: 0 });
-    let z = res.key_of(Point { x: 0, y: -1, z: c });
-    assert_eq!(rt;
-        x,
-        want.map(|key| Key {
-            x: key,
-            y: 32_768,
-            z: 32_767
-        }),
-        "x at {c}"
-    );
-    assert_eq!(rt;
-        y,
-        want.map(|key| Key {
-            x: 32_767,
-            y: key,
-            z: 32_768
-        }),
-        "y at {c}"
-    );
-    assert_eq!(rt;
-        z,
-        want.map(|key| Key {
-            x: 32_768,
-            y: 32_767,
-            z: key
-        }),
-        "z at {c}"
-    );
+    let above = Some(32_768);
+    let below = Some(32_767);
+    expect_voxel(rt, res, (c, 0, -1), voxel(want, above, below));
+    expect_voxel(rt, res, (-1, c, 0), voxel(below, want, above));
+    expect_voxel(rt, res, (0, -1, c), voxel(above, below, want));
 }
 
 /// Expects the key of each coordinate of a table.
@@ -104,65 +102,23 @@ fn finds_the_key_of_each_axis(rt: HostRuntime) -> Result<(), Fail> {
     Ok(())
 }
 
+/// Expects the first and the last voxel of the map, which reaches this far on both sides, and none
+/// beyond it.
+fn expect_ends(rt: &impl Abort, res: Res, half: i64) {
+    assert!(rt; half > 0);
+    let last = half - 1;
+    expect_voxel(rt, res, (-half, -half, -half), Some(FIRST));
+    expect_voxel(rt, res, (last, last, last), Some(LAST));
+    expect_voxel(rt, res, (half, 0, 0), None);
+    expect_voxel(rt, res, (0, -half - 1, 0), None);
+    expect_voxel(rt, res, (i64::MIN, 0, 0), None);
+    expect_voxel(rt, res, (0, 0, i64::MAX), None);
+}
+
 #[test]
 fn holds_at_the_smallest_and_the_largest_resolution(rt: HostRuntime) -> Result<(), Fail> {
-    for (edge, half) in [
-        (100_000, 3_276_800_000),
-        (100_000_000_000, 3_276_800_000_000_000),
-    ] {
-        let res = Res::new(edge)?;
-        let first = Point {
-            x: -half,
-            y: -half,
-            z: -half,
-        };
-        let last = Point {
-            x: half - 1,
-            y: half - 1,
-            z: half - 1,
-        };
-        assert_eq!(rt; res.key_of(first), Some(Key { x: 0, y: 0, z: 0 }));
-        assert_eq!(rt;
-            res.key_of(last),
-            Some(Key {
-                x: 65_535,
-                y: 65_535,
-                z: 65_535
-            })
-        );
-        assert_eq!(rt;
-            res.key_of(Point {
-                x: half,
-                y: 0,
-                z: 0
-            }),
-            None
-        );
-        assert_eq!(rt;
-            res.key_of(Point {
-                x: 0,
-                y: -half - 1,
-                z: 0
-            }),
-            None
-        );
-        assert_eq!(rt;
-            res.key_of(Point {
-                x: i64::MIN,
-                y: 0,
-                z: 0
-            }),
-            None
-        );
-        assert_eq!(rt;
-            res.key_of(Point {
-                x: 0,
-                y: 0,
-                z: i64::MAX
-            }),
-            None
-        );
-    }
+    expect_ends(&rt, Res::new(100_000)?, 3_276_800_000);
+    expect_ends(&rt, Res::new(100_000_000_000)?, 3_276_800_000_000_000);
     Ok(())
 }
 
