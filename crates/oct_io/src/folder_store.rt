@@ -188,17 +188,22 @@ mod tests {
         fs::remove_file(rt, "map.bt")
     }
 
+    // Loads and saves files of the folder, and counts the faults.
+    fn count_faults<R: Files>(rt: &impl Abort, alloc: Global, files: &R) -> io::Result<()> {
+        let mut store = FolderStore::new(files);
+        make_large(files, "large.bt")?;
+        look_for_none(rt, alloc, &mut store);
+        expect_faults(rt, &store, 0);
+        fail_to_load(rt, alloc, &mut store);
+        expect_faults(rt, &store, 2);
+        fail_to_save(rt, alloc, &mut store);
+        expect_faults(rt, &store, 4);
+        clear(files)
+    }
+
     #[test]
     fn faults_are_counted_and_absent_or_large_files_are_none(rt: HostRuntime) -> Result<(), Fail> {
-        let mut store = FolderStore::new(&rt);
-        make_large(&rt, "large.bt")?;
-        look_for_none(&rt, rt.alloc(), &mut store);
-        expect_faults(&rt, &store, 0);
-        fail_to_load(&rt, rt.alloc(), &mut store);
-        expect_faults(&rt, &store, 2);
-        fail_to_save(&rt, rt.alloc(), &mut store);
-        expect_faults(&rt, &store, 4);
-        clear(&rt)?;
+        count_faults(&rt, rt.alloc(), &rt)?;
         Ok(())
     }
 }

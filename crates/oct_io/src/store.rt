@@ -99,9 +99,10 @@ mod tests {
     use crate::calm_store::CalmStore;
     use crate::folder_store::FolderStore;
     use crate::tests::{expect_bytes, expect_missing, expect_save};
-    use std::fs;
     use std::process::Abort;
+    use std::rt::Files;
     use std::test::Fail;
+    use std::{fs, io};
 
     // Saves two files, one of them twice, and loads them and one that isn't there.
     fn keeps_files<F: Store>(rt: &impl Abort, alloc: Global, store: &mut F) {
@@ -127,11 +128,16 @@ mod tests {
         expect_file(&rt, &store, "three.bt", None);
     }
 
+    // Saves files to the folder and loads them, and takes them away.
+    fn keeps_in_folder<R: Files>(rt: &impl Abort, alloc: Global, files: &R) -> io::Result<()> {
+        keeps_files(rt, alloc, &mut FolderStore::new(files));
+        fs::remove_file(files, "one.bt")?;
+        fs::remove_file(files, "two.bt")
+    }
+
     #[test]
     fn a_folder_keeps_files_by_name(rt: HostRuntime) -> Result<(), Fail> {
-        keeps_files(&rt, rt.alloc(), &mut FolderStore::new(&rt));
-        fs::remove_file(&rt, "one.bt")?;
-        fs::remove_file(&rt, "two.bt")?;
+        keeps_in_folder(&rt, rt.alloc(), &rt)?;
         Ok(())
     }
 }
