@@ -25,7 +25,7 @@ freed_codes bricks = flat_map (λ b. codes_of b.code (frees_of b)) bricks
 abbrev pub HitsAreScanned : Brick → Type 0
 HitsAreScanned b = (code : ℕ) → HasCode b.code b.hits code → HasCode b.code b.scanned code
 
--- a brick of the map in which a voxel changes, and each voxel that is hit
+-- a brick of the map: some voxel of it changes, and each voxel that is hit is one that changes
 pub record IsBrick (b : Brick) : Type 0 where
   pub code : b.code < 2 ^ 42
   pub fits : b.scanned < 2 ^ 64

@@ -3,7 +3,7 @@ use Rattle.std.specs.Prelude.{◌≡◌, ℕ, zero, suc, ◌+◌, ◌*◌, ◌/�
 use Rattle.std.specs.Prelude.{if◌then◌else◌}
 use Rattle.std.specs.Int.{bit_at}
 
--- a voxel's code lies in the brick of that code, and its bit is set in the mask
+-- a voxel's code lies in the brick of this number, and its bit is set in the mask
 pub record HasCode (brick mask code : ℕ) : Type 0 where
   pub inside : code / 64 ≡ brick
   pub set : bit_at mask (code % 64) ≡ 1

@@ -21,7 +21,7 @@
 //!
 //! - Whether a number has a voxel is `HasCode`, and the codes of its voxels in their order are
 //!   `codes_of`. A list of bricks is seen as two lists of voxels that ascend by their codes,
-//!   `hit_voxels` and `freed_voxels`. No such list is ever made.
+//!   `hit_voxels` and `freed_voxels`. This crate makes no such list.
 //! - [`Brick::with_scanned`], [`Brick::with_hit`] and [`Brick::joined`] add exactly the voxels that
 //!   they say, and [`Brick::frees`] has exactly those that change and aren't hit.
 //! - [`merge_bricks`] keeps exactly the voxels that the bricks change and hit, and puts the bricks
