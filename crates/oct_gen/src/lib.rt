@@ -1,7 +1,7 @@
 //! Scripts of any size, made from a number.
 //!
-//! A session can be tried on a large input without a data set: [`gen_script`] writes a script of so
-//! many scans of this many points each, and a seed says which.
+//! A session can be tried on a large input without a data set: [`gen_script`] writes a script of a
+//! given number of scans with a given number of points each; the seed chooses the numbers in it.
 //!
 //! ```text
 //! gen_script(&mut out, 1, 1, 2)?;
@@ -27,11 +27,11 @@
 //!
 //! `specs/Draws.antt` names each draw by its index: the state after this many steps from the seed,
 //! without its lowest 33 bits. In `specs/Script.antt` each line is a function of the index of its
-//! first draw, so that the script is told with no word of a state that goes from line to line.
+//! first draw, so that the definition needs no state that goes from line to line.
 //!
 //! The code keeps that state (`draws`), makes one line at a time in a string of 128 bytes (`line`),
-//! and knows what comes next (`lines`). So neither a source nor a sink ever holds a whole script,
-//! and no memory is taken.
+//! and knows what comes next (`lines`). So a `Generator` and `generate` hold one line or one piece,
+//! and take no memory.
 //!
 //! A session reads a generator as it reads any other source, and the program writes it out.
 #![tactic(auto)]

@@ -3,7 +3,8 @@
 ghost use Rattle.std.specs.Prelude.{◌≤◌};
 
 use crate::{Generator, gen_script, generate};
-use oct_io::{CalmSink, KeptList, MemSink, SinkFault, Source};
+use oct_io::{CalmSink, KeptList, MemSink, Sink, SinkFault, Source};
+use oct_num::Memory;
 use std::alloc::Global;
 use std::process::Abort;
 use std::test::Fail;
@@ -58,7 +59,7 @@ fn hash_of(text: &[u8]) -> u64 {
 }
 
 /// The script of a seed.
-fn script(alloc: Global, seed: u64, scans: u32, points: u32) -> Result<Vec<u8>, Fail> {
+fn script(alloc: Global, seed: u64, scans: u32, points: u32) -> Result<Vec<u8>, Memory> {
     let mut text = Vec::new(alloc);
     gen_script(&mut text, seed, scans, points)?;
     Ok(text)
@@ -72,9 +73,9 @@ fn expect_script(
     scans: u32,
     points: u32,
     want: &str,
-) -> Result<(), Fail> {
+) -> Result<(), Memory> {
     let text = script(alloc, seed, scans, points)?;
-    assert_eq!(rt; text.as_slice(), want.as_bytes(), "{seed} {scans} {points}");
+    assert_eq!(rt; text.as_slice(), want.as_bytes());
     Ok(())
 }
 
@@ -83,7 +84,7 @@ fn expect_scripts(
     rt: &impl Abort,
     alloc: Global,
     cases: &[(u64, u32, u32, &str)],
-) -> Result<(), Fail> {
+) -> Result<(), Memory> {
     for (seed, scans, points, want) in cases {
         expect_script(rt, alloc, *seed, *scans, *points, want)?;
     }
@@ -92,73 +93,130 @@ fn expect_scripts(
 
 #[test]
 fn writes_the_scripts_of_the_table(rt: HostRuntime) -> Result<(), Fail> {
-    expect_scripts(&rt, rt.alloc(), SCRIPTS)
+    expect_scripts(&rt, rt.alloc(), SCRIPTS)?;
+    Ok(())
+}
+
+/// Expects the length of the script of a seed, and its hash.
+fn expect_hash(
+    rt: &impl Abort,
+    alloc: Global,
+    (seed, scans, points): (u64, u32, u32),
+    size: usize,
+    hash: u64,
+) -> Result<(), Memory> {
+    let text = script(alloc, seed, scans, points)?;
+    assert_eq!(rt; (text.len(), hash_of(&text)), (size, hash));
+    Ok(())
 }
 
 #[test]
 fn writes_what_a_second_program_writes(rt: HostRuntime) -> Result<(), Fail> {
-    for (seed, scans, points, size, hash) in [
-        (1, 3, 50, 3338, 0xb774_dfe8_4595_431b),
-        (0, 1000, 0, 38554, 0x0639_dc40_e451_7dfa),
-    ] {
-        let text = script(rt.alloc(), seed, scans, points)?;
-        assert_eq!(rt; text.len(), size, "{seed} {scans} {points}");
-        assert_eq!(rt; hash_of(&text), hash, "{seed} {scans} {points}");
+    expect_hash(&rt, rt.alloc(), (1, 3, 50), 3338, 0xb774_dfe8_4595_431b)?;
+    expect_hash(&rt, rt.alloc(), (0, 1000, 0), 38554, 0x0639_dc40_e451_7dfa)?;
+    Ok(())
+}
+
+/// The script of seed 1 with three scans of 50 points.
+fn middle_script(alloc: Global) -> Result<Vec<u8>, Memory> {
+    script(alloc, 1, 3, 50)
+}
+
+/// Reads at most this many bytes, and appends them.
+fn read_more(source: &mut Generator, text: &mut Vec<u8>, most: usize) -> Result<(), Memory>
+    requires { most ≤ 4096 }
+{
+    let mut buffer = [0u8; 4096];
+    if let Ok(count) = source.read(&mut buffer[..most]) {
+        text.extend_from_slice(&buffer[..count])?;
     }
     Ok(())
 }
 
-/// The script of seed 1 with three scans of 50 points, by reads of this length.
-fn read_all(alloc: Global, most: usize) -> Result<Vec<u8>, Fail>
-    requires room { most ≤ 4096 }
+/// The same script, by reads of this length.
+fn read_all(alloc: Global, most: usize) -> Result<Vec<u8>, Memory>
+    requires { most ≤ 4096 }
 {
     let mut source = Generator::new(1, 3, 50);
-    let mut buffer = [0u8; 4096];
     let mut text = Vec::new(alloc);
-    for _ in 0..3400 {
-        let count = source.read(&mut buffer[..most])?;
-        text.extend_from_slice(&buffer[..count])?;
+    for _ in 0u32..3400 {
+        read_more(&mut source, &mut text, most)?;
     }
     Ok(text)
 }
 
-#[test]
-fn reads_of_any_length_give_the_same_text(rt: HostRuntime) -> Result<(), Fail> {
-    let alloc = rt.alloc();
-    let want = script(alloc, 1, 3, 50)?;
-    for text in [
-        read_all(alloc, 1)?,
-        read_all(alloc, 7)?,
-        read_all(alloc, 4096)?,
-    ] {
-        assert_eq!(rt; text.as_slice(), want.as_slice());
-    }
+/// Expects that reads of this length give the same text.
+fn expect_read(rt: &impl Abort, alloc: Global, most: usize, want: &[u8]) -> Result<(), Memory>
+    requires { most ≤ 4096 }
+{
+    let text = read_all(alloc, most)?;
+    assert_eq!(rt; text.as_slice(), want);
     Ok(())
 }
 
 #[test]
+fn reads_of_any_length_give_the_same_text(rt: HostRuntime) -> Result<(), Fail> {
+    let want = middle_script(rt.alloc())?;
+    expect_read(&rt, rt.alloc(), 1, &want)?;
+    expect_read(&rt, rt.alloc(), 7, &want)?;
+    expect_read(&rt, rt.alloc(), 4096, &want)?;
+    Ok(())
+}
+
+/// Expects how the writing of that script ends.
+fn expect_end<K: Sink>(rt: &impl Abort, sink: &mut K, want: Result<(), SinkFault>) {
+    assert_eq!(rt; generate(1, 3, 50, sink), want);
+}
+
+#[test]
 fn a_sink_gets_the_same_text(rt: HostRuntime) -> Result<(), Fail> {
-    let want = script(rt.alloc(), 1, 3, 50)?;
+    let want = middle_script(rt.alloc())?;
     let mut sink = CalmSink::new(rt.alloc(), 1000);
-    generate(1, 3, 50, &mut sink)?;
+    expect_end(&rt, &mut sink, Ok(()));
     assert_eq!(rt; sink.written(), want.as_slice());
+    Ok(())
+}
+
+/// Numbers of writes of a byte that fail, how many bytes are written, and how that ends.
+const ENDS: &[(u64, usize, Result<(), SinkFault>)] = &[
+    (1, 0, Err(SinkFault::Failed)),
+    (2, 1, Err(SinkFault::Failed)),
+    (3338, 3337, Err(SinkFault::Failed)),
+    (3339, 3338, Ok(())),
+];
+
+/// Expects how many bytes of a text are written where a write fails, and how that ends.
+fn expect_prefix(
+    rt: &impl Abort,
+    alloc: Global,
+    text: &[u8],
+    number: u64,
+    want: (usize, Result<(), SinkFault>),
+) -> Result<(), Memory> {
+    let mut fails = KeptList::new(alloc);
+    fails.push(number)?;
+    let mut sink = MemSink::new(alloc, 1, fails);
+    expect_end(rt, &mut sink, want.1);
+    assert_eq!(rt; Some(sink.written()), text.get(..want.0));
+    Ok(())
+}
+
+/// Expects what each failing write of a table leaves of a text, and how that ends.
+fn expect_prefixes(
+    rt: &impl Abort,
+    alloc: Global,
+    text: &[u8],
+    cases: &[(u64, usize, Result<(), SinkFault>)],
+) -> Result<(), Memory> {
+    for (number, length, end) in cases {
+        expect_prefix(rt, alloc, text, *number, (*length, *end))?;
+    }
     Ok(())
 }
 
 #[test]
 fn a_sink_that_fails_has_a_prefix(rt: HostRuntime) -> Result<(), Fail> {
-    let want = script(rt.alloc(), 1, 3, 50)?;
-    for (number, length, ends) in [
-        (1, 0, Err(SinkFault::Failed)),
-        (2, 1, Err(SinkFault::Failed)),
-        (3338, 3337, Err(SinkFault::Failed)),
-        (3339, 3338, Ok(())),
-    ] {
-        let mut fails = KeptList::new(rt.alloc());
-        fails.push(number)?;
-        let mut sink = MemSink::new(rt.alloc(), 1, fails);
-        assert_eq!(rt; generate(1, 3, 50, &mut sink), ends, "{number}");
-        assert_eq!(rt; Some(sink.written()), want.get(..length), "{number}");
-    }
+    let text = middle_script(rt.alloc())?;
+    expect_prefixes(&rt, rt.alloc(), &text, ENDS)?;
     Ok(())
 }

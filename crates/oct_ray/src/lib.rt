@@ -9,7 +9,9 @@
 //! corner.
 //!
 //! ```text
-//! let end = cut(origin, far, range);                // where a beam longer than the range ends
+//! let range_squared = u128::from(range.unsigned_abs()).pow(2);
+//! let is_long = square_distance(origin, far) > range_squared;
+//! let end = if is_long { cut(origin, far, range) } else { far };
 //! for key in Walk::new(res, origin, end) {
 //!     ..                                            // each voxel on the way, in order
 //! }
@@ -38,7 +40,7 @@
 //! comparisons, and no product or division. All numbers are whole and fit 128 bits, so no rounding
 //! error skips a voxel.
 //!
-//! No call allocates or fails. Scans stand on this crate, and cite `Meets`, `Precedes`,
+//! No call allocates or fails. Scans and casts stand on this crate, and cite `Meets`, `Precedes`,
 //! `IsPlaceOf`, `IsWalkAlong`, `met_by` and `IsCutEnd`.
 
 #![tactic(auto)]

@@ -4,7 +4,7 @@ ghost use Rattle.oct_ray.specs.Range.{IsCutEnd, axis_distance, cut_coordinate, s
 use oct_key::Point;
 use oct_num::ceil_sqrt;
 
-/// Where the beam from `o` to `e` is cut that is longer than the range `r`, all in nanometres: `o +
+/// Where a beam from `o` to `e` that is longer than the range `r` is cut, all in nanometres: `o +
 /// (e - o) * r / length`, rounded toward `o` on each axis. The length is that of the beam, rounded
 /// up, so that no cut end lies beyond the range.
 ///

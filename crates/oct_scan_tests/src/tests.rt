@@ -4,7 +4,7 @@ ghost use Rattle.oct_pose.specs.Reach.{IsInReach};
 use oct_key::{Key, Point, PointList, Res, Window};
 use oct_num::Memory;
 use oct_pose::Pose;
-use oct_scan::{Scan, ScanFault, update_set};
+use oct_scan::{Scan, ScanFault, UpdateBricks, update_bricks, update_set};
 use std::alloc::Global;
 use std::process::Abort;
 use std::test::Fail;
@@ -65,11 +65,16 @@ fn scan(alloc: Global, origin: i16, points: &[i16], range: Option<u32>) -> Resul
     })
 }
 
+/// Expects the voxel that lies this many voxels from the middle on x.
+fn expect_voxel(rt: &impl Abort, key: Option<&Key>, want: i16) {
+    assert_eq!(rt; key.copied(), Some(voxel(want)));
+}
+
 /// Expects the voxels that lie this many voxels from the middle on x.
 fn expect_voxels(rt: &impl Abort, keys: &[Key], want: &[i16]) {
     assert_eq!(rt; keys.len(), want.len());
-    for (key, x) in keys.iter().zip(want) {
-        assert_eq!(rt; *key, voxel(*x));
+    for (index, x) in want.iter().enumerate() {
+        expect_voxel(rt, keys.get(index), *x);
     }
 }
 
@@ -117,6 +122,19 @@ fn expect_sets(
     for (points, range, hits, frees, need) in cases {
         expect_set(rt, alloc, (*points, *range), None, (*hits, *frees, *need))?;
     }
+    Ok(())
+}
+
+/// Expects how many voxels an update hits and frees.
+fn expect_counts(rt: &impl Abort, update: &UpdateBricks, hits: u64, frees: u64) {
+    assert_eq!(rt; (update.hit_count(), update.free_count()), (hits, frees));
+}
+
+#[test]
+fn counts_hits_and_frees(rt: HostRuntime) -> Result<(), Fail> {
+    let scan = scan(rt.alloc(), 5, &[20, 40], None)?;
+    let update = update_bricks(rt.alloc(), &scan, Res::new(TENTH)?, 1000, None)?;
+    expect_counts(&rt, &update, 2, 3);
     Ok(())
 }
 
@@ -263,11 +281,20 @@ const TEXTS: &[(ScanFault, &str)] = &[
     (ScanFault::Memory, "out of memory"),
 ];
 
-#[test]
-fn says_why_a_scan_is_refused(rt: HostRuntime) -> Result<(), Fail> {
-    for (fault, want) in TEXTS {
-        let text = format!(in rt.alloc(); "{fault}")?;
-        assert_eq!(rt; text.as_str(), *want);
+/// Expects the text of a fault.
+fn expect_text(rt: &impl Abort, alloc: Global, fault: ScanFault, want: &str) {
+    let text = format!(in alloc; "{fault}").unwrap_or(String::new(alloc));
+    assert_eq!(rt; text.as_str(), want);
+}
+
+/// Expects the text of each fault of a table.
+fn expect_texts(rt: &impl Abort, alloc: Global, cases: &[(ScanFault, &str)]) {
+    for (fault, want) in cases {
+        expect_text(rt, alloc, *fault, want);
     }
-    Ok(())
+}
+
+#[test]
+fn says_why_a_scan_is_refused(rt: HostRuntime) {
+    expect_texts(&rt, rt.alloc(), TEXTS);
 }

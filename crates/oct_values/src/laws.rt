@@ -67,9 +67,10 @@ pub fn tests_tell_boxes()
         → IsTrue (is_cut_by lo hi b) ↔ (MeetsBox lo hi b × (LiesInBox lo hi b → ⊥)) }
 {}
 
-/// Events make no more groups needed than their need: a block that isn't uniform afterwards wasn't
-/// before, or holds a voxel with an event. For one voxel that is 16, for a box the number of the
-/// blocks that it cuts, and for one event on every voxel of the map, or none, it is 0.
+/// After events at most `event_need` more groups are needed than before: a block that isn't uniform
+/// afterwards wasn't before, or holds a voxel with an event. For one voxel that is 16, for a box
+/// the number of the blocks that it cuts, and for one event on every voxel of the map, or none, it
+/// is 0.
 pub fn events_make_few_groups()
     ensures events { (odds : Odds) (events : Events) (values : Values)
         → group_count (updated odds events values) ≤ group_count values + event_need events }

@@ -20,12 +20,12 @@
 //!   blocks that hold a known voxel.
 //! - `Needs`: `IsReached` says that some voxel of a block has an event. `event_need` is the number
 //!   of such blocks of depth 0 to 15: this many groups at most have to be made for the events.
-//! - `Boxes`: `IsInBox` says that a voxel lies between two corners, and `box_events` is one event
-//!   on each of these. `box_need` is the number of blocks of depth 0 to 15 that meet the box and
-//!   don't lie in it: a block in the box takes one event as a whole.
+//! - `Boxes`: `box_events` is one event on each voxel that lies between two corners (`IsInBox` of
+//!   `oct_key`). `box_need` is the number of blocks of depth 0 to 15 that meet the box and don't
+//!   lie in it: a block in the box takes one event as a whole.
 //!
 //! ```text
-//! blocks_have_one_answer();      // does nothing: its clause says that a block has one answer
+//! ensures { group_count (updated odds events values) ≤ group_count values + event_need events }
 //! ```
 //!
 //! Its functions do nothing and promise much: each is a law, so that nobody has to trust a list, a

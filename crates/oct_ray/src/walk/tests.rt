@@ -38,8 +38,10 @@ fn key(x: i16, y: i16, z: i16) -> Key {
 /// Three numbers, one for each axis.
 type Triple = (i16, i16, i16);
 
-/// The ends of beams in hundredths of a metre, and the voxels that they meet, from the middle.
-const BEAMS: &[(Triple, Triple, &[Triple])] = &[
+/// The ends of a beam in hundredths of a metre, and the voxels that it meets, from the middle.
+type Beam = (Triple, Triple, &'static [Triple]);
+
+const BEAMS: &[Beam] = &[
     // A corner touched in one point: the voxel that holds it is met.
     ((5, 15, 5), (15, 5, 5), &[(0, 1, 0), (1, 1, 0), (1, 0, 0)]),
     // An exact diagonal meets no voxel beside it.
@@ -71,6 +73,17 @@ const BEAMS: &[(Triple, Triple, &[Triple])] = &[
     ),
 ];
 
+/// The voxels of a beam.
+fn met(
+    rt: &impl Abort,
+    alloc: Global,
+    res: Res,
+    o: Point,
+    e: Point,
+) -> Result<Vec<Key>, AllocError> {
+    walk(rt, res, o, e).collect(alloc)
+}
+
 /// The keys these many voxels from the middle.
 fn keys(alloc: Global, places: &[Triple]) -> Result<Vec<Key>, AllocError> {
     let mut keys = Vec::new(alloc);
@@ -84,13 +97,12 @@ fn keys(alloc: Global, places: &[Triple]) -> Result<Vec<Key>, AllocError> {
 fn expect_beam(
     rt: &impl Abort,
     alloc: Global,
-    o: Point,
-    e: Point,
-    want: &[Triple],
-) -> Result<(), Fail> {
-    let met: Vec<Key> = walk(rt, Res::new(TENTH)?, o, e).collect(alloc)?;
+    res: Res,
+    (o, e, want): Beam,
+) -> Result<(), AllocError> {
+    let met = met(rt, alloc, res, point_at(o), point_at(e))?;
     let want = keys(alloc, want)?;
-    assert_eq!(rt; met.as_slice(), want.as_slice(), "from {o:?} to {e:?}");
+    assert_eq!(rt; met.as_slice(), want.as_slice());
     Ok(())
 }
 
@@ -98,10 +110,11 @@ fn expect_beam(
 fn expect_beams(
     rt: &impl Abort,
     alloc: Global,
-    cases: &[(Triple, Triple, &[Triple])],
-) -> Result<(), Fail> {
-    for (o, e, want) in cases {
-        expect_beam(rt, alloc, point_at(*o), point_at(*e), want)?;
+    res: Res,
+    cases: &[Beam],
+) -> Result<(), AllocError> {
+    for case in cases {
+        expect_beam(rt, alloc, res, *case)?;
     }
     Ok(())
 }
@@ -113,7 +126,29 @@ fn point_at((x, y, z): Triple) -> Point {
 
 #[test]
 fn lists_the_voxels_of_a_beam_in_order(rt: HostRuntime) -> Result<(), Fail> {
-    expect_beams(&rt, rt.alloc(), BEAMS)
+    expect_beams(&rt, rt.alloc(), Res::new(TENTH)?, BEAMS)?;
+    Ok(())
+}
+
+/// Expects the code of the next voxel of a walk, where that isn't the last one.
+fn expect_code(rt: &impl Abort, walk: &mut Walk, want: Option<u64>) {
+    assert_eq!(rt; walk.next_but_last(), want);
+}
+
+/// Expects the next voxel of a walk.
+fn expect_next(rt: &impl Abort, walk: &mut Walk, want: Option<Key>) {
+    assert_eq!(rt; walk.next(), want);
+}
+
+#[test]
+fn stops_before_the_last_voxel(rt: HostRuntime) -> Result<(), Fail> {
+    let res = Res::new(TENTH)?;
+    let mut way = walk(&rt, res, hundredths(0, 0, 0), hundredths(20, 0, 0));
+    expect_code(&rt, &mut way, Some(0o7000_0000_0000_0000));
+    expect_code(&rt, &mut way, Some(0o7000_0000_0000_0001));
+    expect_code(&rt, &mut way, None);
+    expect_next(&rt, &mut way, Some(key(2, 0, 0)));
+    Ok(())
 }
 
 /// Points, in hundredths of a metre.
@@ -129,20 +164,30 @@ const POINTS: &[Triple] = &[
 ];
 
 /// Expects that the beam back meets the voxels of the beam there in the exact reverse.
-fn expect_reverse(rt: &impl Abort, alloc: Global, o: Point, e: Point) -> Result<(), Fail> {
-    let res = Res::new(TENTH)?;
-    let there: Vec<Key> = walk(rt, res, o, e).collect(alloc)?;
-    let mut back: Vec<Key> = walk(rt, res, e, o).collect(alloc)?;
+fn expect_reverse(
+    rt: &impl Abort,
+    alloc: Global,
+    res: Res,
+    o: Point,
+    e: Point,
+) -> Result<(), AllocError> {
+    let there = met(rt, alloc, res, o, e)?;
+    let mut back = met(rt, alloc, res, e, o)?;
     back.reverse();
-    assert_eq!(rt; there, back, "from {o:?} to {e:?}");
+    assert_eq!(rt; there.as_slice(), back.as_slice());
     Ok(())
 }
 
 /// Expects the exact reverse of the beam between each two points.
-fn expect_reverses(rt: &impl Abort, alloc: Global, points: &[Triple]) -> Result<(), Fail> {
+fn expect_reverses(
+    rt: &impl Abort,
+    alloc: Global,
+    res: Res,
+    points: &[Triple],
+) -> Result<(), AllocError> {
     for o in points {
         for e in points {
-            expect_reverse(rt, alloc, point_at(*o), point_at(*e))?;
+            expect_reverse(rt, alloc, res, point_at(*o), point_at(*e))?;
         }
     }
     Ok(())
@@ -150,7 +195,13 @@ fn expect_reverses(rt: &impl Abort, alloc: Global, points: &[Triple]) -> Result<
 
 #[test]
 fn walks_back_in_the_exact_reverse(rt: HostRuntime) -> Result<(), Fail> {
-    expect_reverses(&rt, rt.alloc(), POINTS)
+    expect_reverses(&rt, rt.alloc(), Res::new(TENTH)?, POINTS)?;
+    Ok(())
+}
+
+/// Expects a voxel.
+fn expect_voxel(rt: &impl Abort, found: Option<Key>, want: Option<Key>) {
+    assert_eq!(rt; found, want);
 }
 
 /// Expects the first and the last voxel of a beam, and how many it meets.
@@ -160,17 +211,16 @@ fn expect_length(
     res: Res,
     (o, e): (Point, Point),
     voxels: usize,
-) -> Result<(), Fail> {
-    let keys: Vec<Key> = walk(rt, res, o, e).collect(alloc)?;
-    assert_eq!(rt; keys.first().copied(), res.key_of(o), "from {o:?}");
-    assert_eq!(rt; keys.last().copied(), res.key_of(e), "to {e:?}");
-    assert_eq!(rt; keys.len(), voxels, "from {o:?} to {e:?}");
+) -> Result<(), AllocError> {
+    let keys = met(rt, alloc, res, o, e)?;
+    expect_voxel(rt, keys.first().copied(), res.key_of(o));
+    expect_voxel(rt, keys.last().copied(), res.key_of(e));
+    assert_eq!(rt; keys.len(), voxels);
     Ok(())
 }
 
 /// Expects the lengths of beams across the whole map in a resolution.
-fn expect_across(rt: &impl Abort, alloc: Global, nm: i64) -> Result<(), Fail> {
-    let res = Res::new(nm)?;
+fn expect_across(rt: &impl Abort, alloc: Global, res: Res) -> Result<(), AllocError> {
     let edge = res.nm();
     let half = 32_768 * edge;
     let third = edge / 3;
@@ -206,9 +256,9 @@ fn expect_across(rt: &impl Abort, alloc: Global, nm: i64) -> Result<(), Fail> {
 
 #[test]
 fn walks_across_the_whole_map(rt: HostRuntime) -> Result<(), Fail> {
-    for nm in [100_000, TENTH, 100_000_000_000] {
-        expect_across(&rt, rt.alloc(), nm)?;
-    }
+    expect_across(&rt, rt.alloc(), Res::new(100_000)?)?;
+    expect_across(&rt, rt.alloc(), Res::new(TENTH)?)?;
+    expect_across(&rt, rt.alloc(), Res::new(100_000_000_000)?)?;
     Ok(())
 }
 
@@ -303,21 +353,44 @@ fn expect_order(rt: &impl Abort, keys: &[Key], o: Offset, e: Offset) {
     }
 }
 
+/// How many voxels of a block a beam meets.
+fn count_met(block: &[Offset], o: Offset, e: Offset) -> usize {
+    let mut count = 0usize;
+    for k in block {
+        if first_place(o, e, *k).is_some() {
+            count = count.saturating_add(1);
+        }
+    }
+    count
+}
+
 /// Expects that a walk lists what the definition asks voxel by voxel of a block.
 fn expect_listed(
     rt: &impl Abort,
     alloc: Global,
+    res: Res,
     block: &[Offset],
-    o: Offset,
-    e: Offset,
-) -> Result<(), Fail> {
-    let keys: Vec<Key> = walk(rt, Res::new(TENTH)?, point(o), point(e)).collect(alloc)?;
+    (o, e): (Offset, Offset),
+) -> Result<(), AllocError> {
+    let keys = met(rt, alloc, res, point(o), point(e))?;
     expect_order(rt, keys.as_slice(), o, e);
-    let met = block
-        .iter()
-        .filter(|k| first_place(o, e, **k).is_some())
-        .count();
-    assert_eq!(rt; keys.len(), met, "from {o:?} to {e:?}");
+    assert_eq!(rt; keys.len(), count_met(block, o, e));
+    Ok(())
+}
+
+/// Expects it of the beams between each two points.
+fn expect_all_listed(
+    rt: &impl Abort,
+    alloc: Global,
+    res: Res,
+    block: &[Offset],
+    points: &[Offset],
+) -> Result<(), AllocError> {
+    for o in points {
+        for e in points {
+            expect_listed(rt, alloc, res, block, (*o, *e))?;
+        }
+    }
     Ok(())
 }
 
@@ -325,10 +398,6 @@ fn expect_listed(
 fn lists_what_the_definition_asks_voxel_by_voxel(rt: HostRuntime) -> Result<(), Fail> {
     let block = offsets(rt.alloc(), &[0, 1, 2])?;
     let points = offsets(rt.alloc(), &[0, 1, 3, 4])?;
-    for o in &points {
-        for e in &points {
-            expect_listed(&rt, rt.alloc(), block.as_slice(), *o, *e)?;
-        }
-    }
+    expect_all_listed(&rt, rt.alloc(), Res::new(TENTH)?, &block, &points)?;
     Ok(())
 }
