@@ -62,9 +62,8 @@ abbrev pub kept : Option Corners → List Voxel → List Voxel
 kept None ks = ks
 kept (Some box) ks = filter (is_in_box box.lo box.hi) ks
 
--- The voxels of a walk that lie in the box, where one stands, have come to those of bricks, but not
--- that of its end, and no voxel is hit by them. This many does the walk meet. Where there is no
--- room for them, what came to the bricks isn't said.
+-- the walk meets `met` voxels; where there is room for them, those in the box, but that of the end,
+-- were added to the bricks, and none of them as hit; without room nothing is said of what was added
 pub record IsWayAdded (window : Option Corners) (end : ℕ) (walk : List Voxel) (room : ℕ)
     (old new : List Brick) (met : ℕ) : Type 0 where
   pub counted : met ≡ length walk

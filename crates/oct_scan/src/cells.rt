@@ -167,7 +167,7 @@ fn count_way(walk: Walk) -> u64
 }
 
 /// Adds the voxels of a walk that lie in a box, but not that of the end, as long as there is room,
-/// and answers how many there are with that one and with those outside.
+/// and answers how many voxels the walk meets in all.
 fn push_within(
     bricks: &mut Vec<Brick>,
     walk: Walk,
@@ -195,7 +195,7 @@ fn push_within(
 }
 
 /// Adds the voxels of a walk but that of the end, as long as there is room, and answers how many
-/// there are with that one.
+/// voxels the walk meets in all.
 fn push_way(bricks: &mut Vec<Brick>, walk: Walk, end: u64, room: u64) -> Result<u64, Memory>
     requires few { length walk ≤ 3 * 65535 + 1 }
     requires ends { (k : Voxel) × IsInMap k × (morton_of k ≡ end) × EndsAt k walk }
