@@ -1,9 +1,9 @@
-use oct_io::{CalmSink, KeptList, MemSink, SinkFault};
+use oct_io::{CalmSink, KeptList, MemSink, Sink, SinkFault};
 use oct_key::{Key, Res, Window};
 use oct_odds::OddsModel;
 use oct_snap::{SnapFault, check, write};
 use oct_tree::OccTree;
-use std::alloc::Global;
+use std::alloc::{AllocError, Global};
 use std::process::Abort;
 use std::test::Fail;
 
@@ -33,18 +33,61 @@ fn fault(bytes: &[u8]) -> Option<SnapFault> {
     }
 }
 
+/// Expects how the writing of a snapshot ends.
+fn expect_write<K: Sink>(
+    rt: &impl Abort,
+    tree: &OccTree,
+    window: Option<Window>,
+    sink: &mut K,
+    want: Result<u64, SinkFault>,
+) {
+    assert_eq!(rt; write(tree, window, sink), want);
+}
+
+/// Expects how many bytes a snapshot has, and which from a place on.
+fn expect_bytes(
+    rt: &impl Abort,
+    alloc: Global,
+    (tree, window): (&OccTree, Option<Window>),
+    count: u64,
+    (from, want): (usize, &[u8]),
+) {
+    let mut sink = CalmSink::new(alloc, 7);
+    expect_write(rt, tree, window, &mut sink, Ok(count));
+    assert_eq!(rt; sink.written().get(from..), Some(want));
+}
+
+/// The box from (1, 2, 3) to (256, 2, 4).
+fn window() -> Option<Window> {
+    let lo = Key { x: 1, y: 2, z: 3 };
+    let hi = Key { x: 256, y: 2, z: 4 };
+    Window::new(lo, hi)
+}
+
+/// The fields of that box in a snapshot.
+const WINDOW: &[u8] = &[1, 0, 1, 0, 2, 0, 3, 1, 0, 0, 2, 0, 4, 0];
+
 #[test]
 fn writes_the_empty_map(rt: HostRuntime) -> Result<(), Fail> {
     let tree = unknown(rt.alloc())?;
-    let mut sink = CalmSink::new(rt.alloc(), 7);
-    assert_eq!(rt; write(&tree, None, &mut sink), Ok(38));
-    assert_eq!(rt; sink.written(), EMPTY.as_slice());
-    let lo = Key { x: 1, y: 2, z: 3 };
-    let hi = Key { x: 256, y: 2, z: 4 };
-    let mut sink = CalmSink::new(rt.alloc(), 7);
-    assert_eq!(rt; write(&tree, Window::new(lo, hi), &mut sink), Ok(50));
-    let want = [1, 0, 1, 0, 2, 0, 3, 1, 0, 0, 2, 0, 4, 0];
-    assert_eq!(rt; sink.written().get(36..), Some(want.as_slice()));
+    expect_bytes(&rt, rt.alloc(), (&tree, None), 38, (0, &EMPTY));
+    expect_bytes(&rt, rt.alloc(), (&tree, window()), 50, (36, WINDOW));
+    Ok(())
+}
+
+/// Expects what a sink has of a snapshot where its write of this number fails, and how that ends.
+fn expect_pieces(
+    rt: &impl Abort,
+    alloc: Global,
+    tree: &OccTree,
+    number: u64,
+    want: (Result<u64, SinkFault>, &[u8]),
+) -> Result<(), Fail> {
+    let mut fails = KeptList::new(alloc);
+    fails.push(number)?;
+    let mut sink = MemSink::new(alloc, 4096, fails);
+    expect_write(rt, tree, None, &mut sink, want.0);
+    assert_eq!(rt; sink.written(), want.1);
     Ok(())
 }
 
@@ -52,17 +95,8 @@ fn writes_the_empty_map(rt: HostRuntime) -> Result<(), Fail> {
 fn hands_a_sink_whole_pieces(rt: HostRuntime) -> Result<(), Fail> {
     let tree = unknown(rt.alloc())?;
     // The fields and the node come in one write: the second one would fail.
-    let mut second = KeptList::new(rt.alloc());
-    second.push(2)?;
-    let mut sink = MemSink::new(rt.alloc(), 4096, second);
-    assert_eq!(rt; write(&tree, None, &mut sink), Ok(38));
-    assert_eq!(rt; sink.written(), EMPTY.as_slice());
-    let mut first = KeptList::new(rt.alloc());
-    first.push(1)?;
-    let mut sink = MemSink::new(rt.alloc(), 4096, first);
-    assert_eq!(rt; write(&tree, None, &mut sink), Err(SinkFault::Failed));
-    assert_eq!(rt; sink.written(), [].as_slice());
-    Ok(())
+    expect_pieces(&rt, rt.alloc(), &tree, 2, (Ok(38), &EMPTY))?;
+    expect_pieces(&rt, rt.alloc(), &tree, 1, (Err(SinkFault::Failed), &[]))
 }
 
 #[test]
@@ -86,18 +120,28 @@ const WHOLE: [u8; 21] = [
     0x01, 0x00, 0x00, 0x03, 0x52,
 ];
 
-#[test]
-fn names_the_first_fault(rt: HostRuntime) {
-    assert_eq!(rt; fault(&OLD_EMPTY), None);
-    assert_eq!(rt; fault(&EIGHT), Some(SnapFault::BadSnapshot { at: 16 }));
-    for n in 0..EMPTY.len() {
+/// Expects why these bytes are no snapshot, where they aren't.
+fn expect_fault(rt: &impl Abort, bytes: &[u8], want: Option<SnapFault>) {
+    assert_eq!(rt; fault(bytes), want);
+}
+
+/// Expects the fault of each front of a snapshot but the whole of it.
+fn expect_cuts(rt: &impl Abort, snapshot: &[u8]) {
+    for n in 0..snapshot.len() {
         let want = if n < 8 {
             SnapFault::BadMagic
         } else {
             SnapFault::Truncated { at: n as u64 }
         };
-        assert_eq!(rt; fault(&EMPTY[..n]), Some(want), "{n} bytes");
+        expect_fault(rt, &snapshot[..n], Some(want));
     }
+}
+
+#[test]
+fn names_the_first_fault(rt: HostRuntime) {
+    expect_fault(&rt, &OLD_EMPTY, None);
+    expect_fault(&rt, &EIGHT, Some(SnapFault::BadSnapshot { at: 16 }));
+    expect_cuts(&rt, &EMPTY);
 }
 
 /// The place of a byte, what it is made, and the fault that the snapshot has then.
@@ -132,25 +176,37 @@ const FIELD_CHANGES: &[Change] = &[
     (37, 0x03, Some(SnapFault::BadSnapshot { at: 37 })),
 ];
 
-/// Expects the faults of a snapshot after each change of one byte.
-fn expect_faults(
+/// Expects the fault of a snapshot after a change.
+fn expect_change(
     rt: &impl Abort,
     alloc: Global,
     snapshot: &[u8],
-    changes: &[Change],
-) -> Result<(), Fail> {
-    for (place, byte, want) in changes {
-        let mut bytes = Vec::from_slice(alloc, snapshot)?;
-        if let Some(there) = bytes.get_mut(*place) {
-            *there = *byte;
-        }
-        assert_eq!(rt; fault(&bytes), *want, "{byte} at {place}");
+    (place, byte, want): Change,
+) -> Result<(), AllocError> {
+    let mut bytes = Vec::from_slice(alloc, snapshot)?;
+    if let Some(there) = bytes.get_mut(place) {
+        *there = byte;
+    }
+    expect_fault(rt, &bytes, want);
+    Ok(())
+}
+
+/// Expects the fault of a snapshot after each change of a table.
+fn expect_changes(
+    rt: &impl Abort,
+    alloc: Global,
+    snapshot: &[u8],
+    cases: &[Change],
+) -> Result<(), AllocError> {
+    for case in cases {
+        expect_change(rt, alloc, snapshot, *case)?;
     }
     Ok(())
 }
 
 #[test]
 fn names_the_fault_of_a_changed_byte(rt: HostRuntime) -> Result<(), Fail> {
-    expect_faults(&rt, rt.alloc(), &WHOLE, NODE_CHANGES)?;
-    expect_faults(&rt, rt.alloc(), &EMPTY, FIELD_CHANGES)
+    expect_changes(&rt, rt.alloc(), &WHOLE, NODE_CHANGES)?;
+    expect_changes(&rt, rt.alloc(), &EMPTY, FIELD_CHANGES)?;
+    Ok(())
 }
