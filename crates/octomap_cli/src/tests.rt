@@ -112,6 +112,17 @@ fn answer(
     answer_over(alloc, words, (script, most_read), most_written, &mut store)
 }
 
+/// Expects that the program on these words and this input has ended and written so.
+fn expect_end(
+    rt: &impl Abort,
+    words: &[&str],
+    input: &[u8],
+    end: (Status, &[u8]),
+    want: (Status, &[u8]),
+) {
+    assert_eq!(rt; end, want, "at {words:?} {input:?}");
+}
+
 /// Expects that the program, by reads and writes of these lengths, ends and writes so.
 fn expect_answer_by(
     rt: &impl Abort,
@@ -126,15 +137,24 @@ fn expect_answer_by(
 {
     let (most_read, most_written) = lengths;
     let (status, written) = answer(alloc, words, input, most_read, most_written)?;
-    assert_eq!(rt;
-        (status, written.as_slice()),
-        want,
-        "at {words:?} {input:?}"
-    );
+    expect_end(rt, words, input, (status, &written), want);
     Ok(())
 }
 
-/// The same by reads of 4,096 bytes.
+/// Expects that the program ends so, by reads and writes of 4,096 bytes, and writes this many bytes.
+fn expect_length(
+    rt: &impl Abort,
+    alloc: Global,
+    words: &[&str],
+    input: &[u8],
+    want: (Status, usize),
+) -> Result<(), Fail> {
+    let (status, written) = answer(alloc, words, input, 4096, 4096)?;
+    assert_eq!(rt; (status, written.len()), want);
+    Ok(())
+}
+
+/// The same as `expect_answer_by`, by reads of 4,096 bytes.
 fn expect_answer(
     rt: &impl Abort,
     alloc: Global,

@@ -1,5 +1,5 @@
 //! Files that are built by a script.
-use super::{answer, expect_answer};
+use super::expect_answer;
 use oct_session::Status;
 use std::alloc::Global;
 use std::test::Fail;
@@ -67,7 +67,13 @@ fn a_build_writes_the_file_of_the_last_map(rt: HostRuntime) -> Result<(), Fail> 
 #[test]
 fn a_script_that_is_too_long_builds_nothing(rt: HostRuntime) -> Result<(), Fail> {
     let words = ["build", "0.1", "--max-bytes", "10"];
-    let (status, text) = answer(rt.alloc(), &words, b"hit 0 0 0\nhit 0 0 0\n", 4096, 100)?;
-    assert_eq!(rt; (status, text.len()), (Status::TooLong, 0));
-    Ok(())
+    let want = (Status::TooLong, b"".as_slice());
+    expect_answer(
+        &rt,
+        rt.alloc(),
+        &words,
+        b"hit 0 0 0\nhit 0 0 0\n",
+        100,
+        want,
+    )
 }

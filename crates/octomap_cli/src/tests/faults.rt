@@ -2,8 +2,9 @@
 //! does.
 ghost use Rattle.std.specs.Prelude.{◌<◌};
 
-use super::{only, owned, status_of};
+use super::{expect_end, only, owned, status_of};
 use oct_io::{FileBytes, MemSink, MemSource, MemStore};
+use oct_num::Memory;
 use oct_session::Status;
 use std::alloc::Global;
 use std::process::Abort;
@@ -25,8 +26,29 @@ const WHOLE: Failing = Failing {
     file: 0,
 };
 
-/// The status of the program on its words and an input that is read by this many bytes, and what it
-/// leaves in sink and store. Each write takes one byte.
+/// The source of these bytes, by this many at most, whose read of that number fails.
+fn source_of(alloc: Global, input: &[u8], most: usize, read: u64) -> Result<MemSource, Memory>
+    requires { 0 < most }
+{
+    let bytes = FileBytes::from_slice(alloc, input)?;
+    Ok(MemSource::new(bytes, most, only(alloc, read)?))
+}
+
+/// The status of the program on its words and this source, and what it leaves in sink and store.
+/// Each write takes one byte.
+fn torn_over(
+    alloc: Global,
+    words: &[String],
+    source: &mut MemSource,
+    failing: Failing,
+) -> Result<(Status, MemSink, MemStore), Memory> {
+    let mut sink = MemSink::new(alloc, 1, only(alloc, failing.write)?);
+    let mut store = MemStore::new(alloc, only(alloc, failing.file)?);
+    let status = status_of(alloc, words, source, &mut sink, &mut store);
+    Ok((status, sink, store))
+}
+
+/// The same on an input that is read by this many bytes.
 fn torn(
     alloc: Global,
     words: &[&str],
@@ -34,15 +56,11 @@ fn torn(
     most: usize,
     failing: Failing,
 ) -> Result<(Status, MemSink, MemStore), Fail>
-    requires read { 0 < most }
+    requires { 0 < most }
 {
     let words = owned(alloc, words)?;
-    let bytes = FileBytes::from_slice(alloc, input)?;
-    let mut source = MemSource::new(bytes, most, only(alloc, failing.read)?);
-    let mut sink = MemSink::new(alloc, 1, only(alloc, failing.write)?);
-    let mut store = MemStore::new(alloc, only(alloc, failing.file)?);
-    let status = status_of(alloc, &words, &mut source, &mut sink, &mut store);
-    Ok((status, sink, store))
+    let mut source = source_of(alloc, input, most, failing.read)?;
+    Ok(torn_over(alloc, &words, &mut source, failing)?)
 }
 
 /// Expects that the program ends so on an input that is read by this many bytes, and that it has
@@ -56,11 +74,9 @@ fn check_torn(
     want: (Status, &[u8]),
 ) -> Result<MemStore, Fail> {
     let (bytes, most) = input;
-    let (ends, text) = want;
     assert!(rt; most > 0);
     let (status, sink, store) = torn(alloc, words, bytes, most, failing)?;
-    assert_eq!(rt; status, ends, "{words:?} {}", sink.written().len());
-    assert_eq!(rt; sink.written(), text, "{words:?} {}", text.len());
+    expect_end(rt, words, bytes, (status, sink.written()), want);
     Ok(store)
 }
 
@@ -117,6 +133,11 @@ fn kept(alloc: Global) -> Result<FileBytes, Fail> {
     Ok(bytes)
 }
 
+/// Expects the bytes of a file, or that it isn't there.
+fn expect_file(rt: &impl Abort, store: &MemStore, name: &str, want: Option<&[u8]>) {
+    assert_eq!(rt; store.file(name), want);
+}
+
 /// Of two files the first one is there or not, and so is the second.
 fn check_files(
     rt: &impl Abort,
@@ -126,8 +147,8 @@ fn check_files(
     has_kept: bool,
 ) -> Result<(), Fail> {
     let kept = kept(alloc)?;
-    assert_eq!(rt; store.file("m"), has_saved.then_some(SAVED));
-    assert_eq!(rt; store.file("s"), has_kept.then_some(kept.as_slice()));
+    expect_file(rt, store, "m", has_saved.then_some(SAVED));
+    expect_file(rt, store, "s", has_kept.then_some(kept.as_slice()));
     Ok(())
 }
 

@@ -1,8 +1,9 @@
 //! A long script, beside a fold over each single voxel that knows nothing of trees.
 ghost use Rattle.std.specs.Prelude.{◌<◌};
 
-use super::session;
+use super::expect_answer;
 use oct_session::Status;
+use std::alloc::Global;
 use std::test::Fail;
 
 /// A cube of 4x4x4 voxels from the origin on, with their values in thousandths of log-odds. Of a
@@ -56,39 +57,40 @@ fn is_lazy(n: u64) -> bool {
     n / 8192 % 8 == 7
 }
 
-/// An edit of a voxel. The draws 0 to 63 are a miss of each voxel.
-fn edit(n: u64, cube: &mut Cube, point: &str, lines: &mut Transcript) -> Result<(), Fail> {
-    let voxel = (n % 64) as usize;
-    let number = (n / 65536 % 6001) as i32 - 3000;
-    match n / 1024 % 8 {
-        0..=2 => {
-            write!(lines.script, "miss {point}")?;
-            cube.add(voxel, -400);
-        }
-        3 | 4 => {
-            write!(lines.script, "hit {point}")?;
-            cube.add(voxel, 850);
-        }
-        5 => {
-            write!(lines.script, "add {point} {number}")?;
-            cube.add(voxel, number);
-        }
-        6 => {
-            write!(lines.script, "set {point} {number}")?;
-            cube.values[voxel] = clamped(number);
-        }
-        _ => {
-            write!(lines.script, "forget {point}")?;
-            cube.values[voxel] = None;
-        }
+/// The number that a draw adds or sets.
+fn number_of(n: u64) -> i32 {
+    (n / 65536 % 6001) as i32 - 3000
+}
+
+/// The line of a draw that edits a voxel. The draws 0 to 63 are a miss of each voxel.
+fn edit_line(n: u64, point: &str, script: &mut String) -> Result<(), Fail> {
+    let verb = match n / 1024 % 8 {
+        0..=2 => "miss",
+        3 | 4 => "hit",
+        5 => "add",
+        6 => "set",
+        _ => "forget",
+    };
+    write!(script, "{verb} {point}")?;
+    if matches!(n / 1024 % 8, 5 | 6) {
+        write!(script, " {}", number_of(n))?;
     }
-    if is_lazy(n) {
-        lines.script.push_str(" lazy")?;
-        cube.is_stale = true;
-    }
-    lines.script.push_str("\n")?;
-    lines.replies.push_str("ok\n")?;
+    let flag = if is_lazy(n) { " lazy" } else { "" };
+    writeln!(script, "{flag}")?;
     Ok(())
+}
+
+/// What such a draw makes of the cube.
+fn edit(n: u64, cube: &mut Cube) {
+    let voxel = (n % 64) as usize;
+    match n / 1024 % 8 {
+        0..=2 => cube.add(voxel, -400),
+        3 | 4 => cube.add(voxel, 850),
+        5 => cube.add(voxel, number_of(n)),
+        6 => cube.values[voxel] = clamped(number_of(n)),
+        _ => cube.values[voxel] = None,
+    }
+    cube.is_stale |= is_lazy(n);
 }
 
 /// A scan from the centre of a voxel, with two beams along its row to centres of voxels.
@@ -148,12 +150,20 @@ fn get(n: u64, cube: &Cube, point: &str, lines: &mut Transcript) -> Result<(), F
     Ok(())
 }
 
+/// The lowest corner of a draw's voxel.
+fn point_of(alloc: Global, n: u64) -> Result<String, Fail> {
+    Ok(format!(in alloc; "0.{} 0.{} 0.{}", n % 4, n / 4 % 4, n / 16 % 4)?)
+}
+
 /// The line that a draw stands for, and its reply.
-fn step(rt: &HostRuntime, n: u64, cube: &mut Cube, lines: &mut Transcript) -> Result<(), Fail> {
-    let point = format!(in rt.alloc(); "0.{} 0.{} 0.{}", n % 4, n / 4 % 4, n / 16 % 4)?;
+fn draw(n: u64, point: &str, cube: &mut Cube, lines: &mut Transcript) -> Result<(), Fail> {
     match n / 64 % 16 {
-        0..=7 => edit(n, cube, &point, lines),
-        8..=11 => get(n, cube, &point, lines),
+        0..=7 => {
+            edit(n, cube);
+            edit_line(n, point, &mut lines.script)?;
+            Ok(lines.replies.push_str("ok\n")?)
+        }
+        8..=11 => get(n, cube, point, lines),
         12 | 13 => scan(n, cube, lines),
         _ => {
             lines.script.push_str("refresh\n")?;
@@ -175,7 +185,7 @@ fn a_long_script_is_answered_as_each_voxel_alone(rt: HostRuntime) -> Result<(), 
         replies: String::new(rt.alloc()),
     };
     for n in 0..64 {
-        step(&rt, n, &mut cube, &mut lines)?;
+        draw(n, &point_of(rt.alloc(), n)?, &mut cube, &mut lines)?;
     }
     // All of the cube has one value, so that it is one leaf.
     lines.script.push_str("counts\n")?;
@@ -185,10 +195,10 @@ fn a_long_script_is_answered_as_each_voxel_alone(rt: HostRuntime) -> Result<(), 
         state = state
             .wrapping_mul(6364136223846793005)
             .wrapping_add(1442695040888963407);
-        step(&rt, state >> 33, &mut cube, &mut lines)?;
+        let n = state >> 33;
+        draw(n, &point_of(rt.alloc(), n)?, &mut cube, &mut lines)?;
     }
-    let (status, text) = session(rt.alloc(), lines.script.as_bytes())?;
-    assert_eq!(rt; status, Status::Refused);
-    assert_eq!(rt; text.as_slice(), lines.replies.as_bytes());
-    Ok(())
+    let want = (Status::Refused, lines.replies.as_bytes());
+    let script = lines.script.as_bytes();
+    expect_answer(&rt, rt.alloc(), &["session", "0.1"], script, 4096, want)
 }

@@ -1,5 +1,5 @@
 //! Scripts that a number makes, and drills of them.
-use super::{answer, expect_answer};
+use super::{answer, expect_answer, expect_length};
 use oct_session::Status;
 use std::test::Fail;
 
@@ -31,9 +31,8 @@ fn a_script_is_made_and_nothing_is_read(rt: HostRuntime) -> Result<(), Fail> {
         let want = (Status::Done, script.as_bytes());
         expect_answer(&rt, rt.alloc(), words, b"hit 0 0 0\n", 7, want)?;
     }
-    let (status, text) = answer(rt.alloc(), &["gen", "0", "1000", "0"], b"", 4096, 4096)?;
-    assert_eq!(rt; (status, text.len()), (Status::Done, 38554));
-    Ok(())
+    let words = ["gen", "0", "1000", "0"];
+    expect_length(&rt, rt.alloc(), &words, b"", (Status::Done, 38_554))
 }
 
 /// Words, and the four lines of the drill that they ask for, as the model in `bench/model` gives
@@ -74,13 +73,11 @@ const REPLIES: &str = "ok hits 50 frees 7349\nok hits 50 frees 6503\nok hits 50 
 #[test]
 fn a_drill_sums_up_the_session_over_its_script(rt: HostRuntime) -> Result<(), Fail> {
     let (_, mut script) = answer(rt.alloc(), &["gen", "1", "3", "50"], b"", 4096, 4096)?;
-    let (_, file) = answer(rt.alloc(), &["build", "0.05"], &script, 4096, 4096)?;
-    assert_eq!(rt; file.len(), 35079);
+    let built = (Status::Done, 35_079);
+    expect_length(&rt, rt.alloc(), &["build", "0.05"], &script, built)?;
     // Counts are asked in place of `quit`.
     script.truncate(script.len().saturating_sub(5));
     script.extend_from_slice(b"counts\n")?;
-    let (status, replies) = answer(rt.alloc(), &["session", "0.05"], &script, 4096, 4096)?;
-    assert_eq!(rt; status, Status::Done);
-    assert_eq!(rt; replies.as_slice(), REPLIES.as_bytes());
-    Ok(())
+    let want = (Status::Done, REPLIES.as_bytes());
+    expect_answer(&rt, rt.alloc(), &["session", "0.05"], &script, 4096, want)
 }

@@ -1,7 +1,7 @@
 //! Two files of the store: their merged map, and the table of their classes.
 ghost use Rattle.std.specs.Prelude.{◌<◌};
 
-use super::{answer_over, only, owned, status_of};
+use super::{answer_over, expect_end, only, owned, status_of};
 use oct_io::{CalmStore, FileBytes, MemSink, MemSource, MemStore, Store, StoreFault};
 use oct_session::Status;
 use std::alloc::Global;
@@ -242,8 +242,7 @@ const USAGES: &[Case] = &[
 fn check(rt: &impl Abort, alloc: Global, cases: &[Case]) -> Result<(), Fail> {
     for (words, text, ends) in cases {
         let (status, written) = answer(rt, alloc, words)?;
-        assert_eq!(rt; status, *ends, "at {words:?}");
-        assert_eq!(rt; written.as_slice(), *text, "at {words:?}");
+        expect_end(rt, words, b"", (status, &written), (*ends, text));
     }
     Ok(())
 }
@@ -284,50 +283,50 @@ fn torn(alloc: Global, words: &[&str], write: u8, call: u8) -> Result<(Status, V
     Ok((status, Vec::from_slice(alloc, sink.written())?))
 }
 
+/// Expects that the program ends and writes so then.
+fn expect_torn(
+    rt: &impl Abort,
+    alloc: Global,
+    words: &[&str],
+    (write, call): (u8, u8),
+    want: (Status, &[u8]),
+) -> Result<(), Fail> {
+    let (status, written) = torn(alloc, words, write, call)?;
+    expect_end(rt, words, b"", (status, &written), want);
+    Ok(())
+}
+
 const MERGE: [&str; 4] = ["merge", "least", "A", "B"];
 
 const TABLE: [&str; 9] = ["table", "A", "A", "0", "0", "0", "0", "0", "0"];
 
 #[test]
 fn a_load_that_fails_leaves_nothing_written(rt: HostRuntime) -> Result<(), Fail> {
+    let fault = (Status::StoreFault, b"".as_slice());
     for call in FIRST_LOAD..=8 {
-        let (status, written) = torn(rt.alloc(), &MERGE, 0, call)?;
-        assert_eq!(rt; status, Status::StoreFault, "{call}");
-        assert_eq!(rt; written.len(), 0, "{call}");
-        let (status, written) = torn(rt.alloc(), &TABLE, 0, call)?;
-        assert_eq!(rt; status, Status::StoreFault, "{call}");
-        assert_eq!(rt; written.len(), 0, "{call}");
+        expect_torn(&rt, rt.alloc(), &MERGE, (0, call), fault)?;
+        expect_torn(&rt, rt.alloc(), &TABLE, (0, call), fault)?;
     }
-    let (status, written) = torn(rt.alloc(), &MERGE, 0, 9)?;
-    assert_eq!(rt; status, Status::Done);
-    assert_eq!(rt; written.as_slice(), BOTH);
-    Ok(())
+    expect_torn(&rt, rt.alloc(), &MERGE, (0, 9), (Status::Done, BOTH))
 }
 
 #[test]
 fn behind_a_first_refusal_nothing_is_loaded(rt: HostRuntime) -> Result<(), Fail> {
     let words = ["merge", "least", "c", "B"];
-    let (status, written) = torn(rt.alloc(), &words, 0, 8)?;
-    assert_eq!(rt; status, Status::Refused);
-    assert_eq!(rt; written.as_slice(), b"first refused 33 NoFile\n".as_slice());
-    Ok(())
+    let want = (Status::Refused, b"first refused 33 NoFile\n".as_slice());
+    expect_torn(&rt, rt.alloc(), &words, (0, 8), want)
 }
 
 #[test]
 fn a_write_that_fails_leaves_a_beginning(rt: HostRuntime) -> Result<(), Fail> {
     for count in 0..=169u8 {
-        let (status, written) = torn(rt.alloc(), &MERGE, count + 1, 0)?;
         let ends = if count == 169 {
             Status::Done
         } else {
             Status::WriteFault
         };
-        assert_eq!(rt; status, ends, "{count}");
-        assert_eq!(rt;
-            Some(written.as_slice()),
-            BOTH.get(..usize::from(count)),
-            "{count}"
-        );
+        let front = BOTH.get(..usize::from(count)).unwrap_or(&[]);
+        expect_torn(&rt, rt.alloc(), &MERGE, (count + 1, 0), (ends, front))?;
     }
     Ok(())
 }

@@ -1,5 +1,5 @@
 //! Files of several pieces, and how many calls of the sink they take.
-use super::{answer, only, status_over};
+use super::{answer, expect_end, only, status_over};
 use oct_io::{CalmStore, MemSink};
 use oct_session::Status;
 use std::alloc::Global;
@@ -20,23 +20,34 @@ fn failing(
     Ok((status, sink))
 }
 
+/// Expects that the program ends and writes so then.
+fn expect_failing(
+    rt: &impl Abort,
+    alloc: Global,
+    words: &[&str],
+    input: &[u8],
+    number: u64,
+    want: (Status, &[u8]),
+) -> Result<(), Fail> {
+    let (status, sink) = failing(alloc, words, input, number)?;
+    expect_end(rt, words, input, (status, sink.written()), want);
+    Ok(())
+}
+
 /// What the program writes has at least three pieces, of 4,096 bytes each but for the last one, and
 /// the sink is called once for each.
 fn check_calls(rt: &impl Abort, alloc: Global, words: &[&str], input: &[u8]) -> Result<(), Fail> {
     let (_, whole) = answer(alloc, words, input, 4096, 100)?;
     let mut calls: u64 = 1;
-    let mut front = Vec::new(alloc);
+    let mut length: usize = 0;
     for piece in whole.chunks(4096) {
-        let (status, sink) = failing(alloc, words, input, calls)?;
-        assert_eq!(rt; status, Status::WriteFault, "{words:?} {calls}");
-        assert_eq!(rt; sink.written(), front.as_slice(), "{words:?} {calls}");
-        front.extend_from_slice(piece)?;
+        let front = whole.get(..length).unwrap_or(&[]);
+        expect_failing(rt, alloc, words, input, calls, (Status::WriteFault, front))?;
+        length = length.saturating_add(piece.len());
         calls = calls.saturating_add(1);
     }
-    let (status, sink) = failing(alloc, words, input, calls)?;
-    assert_eq!(rt; status, Status::Done, "{words:?} {calls}");
-    assert_eq!(rt; sink.written(), whole.as_slice(), "{words:?} {calls}");
-    assert!(rt; calls > 3, "{words:?} {calls}");
+    expect_failing(rt, alloc, words, input, calls, (Status::Done, &whole))?;
+    assert!(rt; calls > 3);
     Ok(())
 }
 

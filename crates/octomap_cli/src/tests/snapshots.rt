@@ -1,5 +1,5 @@
 //! Sessions that write and restore snapshots.
-use super::{Case, answer_over, check};
+use super::{Case, answer_over, check, expect_end};
 use oct_io::{CalmStore, FileBytes, Store};
 use oct_session::Status;
 use std::alloc::Global;
@@ -16,7 +16,7 @@ fn expect_over(
     want: (Status, &[u8]),
 ) -> Result<(), Fail> {
     let (status, text) = answer_over(alloc, words, (script, 100), 100, store)?;
-    assert_eq!(rt; (status, text.as_slice()), want, "at {words:?} {script:?}");
+    expect_end(rt, words, script, (status, &text), want);
     Ok(())
 }
 
