@@ -8,7 +8,7 @@ use oct_map::{Limits, MapFault, OccMap, ScanDone};
 use oct_num::Memory;
 use oct_odds::{Event, OddsModel};
 use oct_pose::Pose;
-use oct_query::{Counts, Found};
+use oct_query::{BlockList, Counts, Found};
 use oct_scan::Scan;
 use std::alloc::Global;
 use std::process::Abort;
@@ -76,35 +76,68 @@ fn tenths(x: i8, y: i8, z: i8) -> Point
     }
 }
 
-/// A scan from the sensor, without a turn and without a range.
-fn scan_of(alloc: Global, points: &[Point]) -> Result<Scan, Memory>
-    requires { All IsInReach points.now }
+/// A place, in tenths of a metre on each axis.
+type Place = (i8, i8, i8);
+
+/// The points at these places.
+fn list_of(alloc: Global, places: &[Place]) -> Result<PointList, Memory>
+    ensures { IfOk result (λ list. All IsInReach list) }
+{
+    let mut list = PointList::new(alloc);
+    for (x, y, z) in places {
+        list.push(tenths(*x, *y, *z))?;
+    }
+    Ok(list)
+}
+
+/// A scan of these places from the sensor, without a turn and without a range.
+fn scan_of(alloc: Global, places: &[Place]) -> Result<Scan, Memory>
     ensures points { IfOk result (λ scan. All IsInReach scan.points) }
     ensures range { IfOk result (λ scan. scan.range ≡ None) }
     ensures odds { IfOk result (λ scan. scan.odds ≡ None) }
 {
-    let mut list = PointList::new(alloc);
-    for point in points {
-        list.push(*point)?;
-    }
+    Ok(seen(list_of(alloc, places)?))
+}
+
+/// A scan of the voxel 2 on the x axis, and of a point outside the map.
+fn scan_beyond(alloc: Global) -> Result<Scan, Memory>
+    ensures points { IfOk result (λ scan. All IsInReach scan.points) }
+    ensures range { IfOk result (λ scan. scan.range ≡ None) }
+    ensures odds { IfOk result (λ scan. scan.odds ≡ None) }
+{
+    let mut list = list_of(alloc, &[(2, 0, 0)])?;
+    list.push(OUTSIDE)?;
     Ok(seen(list))
 }
 
-/// Places on the edge of a face of a cube of 24 metres, in tenths of a metre.
-const SPREAD: &[i8] = &[-120, -60, 0, 60, 120];
-
-/// 25 points, spread over that face.
-fn wide_points(alloc: Global) -> Result<PointList, Memory>
-    ensures { IfOk result (λ list. All IsInReach list) }
-{
-    let mut list = PointList::new(alloc);
-    for y in SPREAD {
-        for z in SPREAD {
-            list.push(tenths(120, *y, *z))?;
-        }
-    }
-    Ok(list)
-}
+/// 25 places on a face of a cube of 24 metres.
+const WIDE: &[Place] = &[
+    (120, -120, -120),
+    (120, -120, -60),
+    (120, -120, 0),
+    (120, -120, 60),
+    (120, -120, 120),
+    (120, -60, -120),
+    (120, -60, -60),
+    (120, -60, 0),
+    (120, -60, 60),
+    (120, -60, 120),
+    (120, 0, -120),
+    (120, 0, -60),
+    (120, 0, 0),
+    (120, 0, 60),
+    (120, 0, 120),
+    (120, 60, -120),
+    (120, 60, -60),
+    (120, 60, 0),
+    (120, 60, 60),
+    (120, 60, 120),
+    (120, 120, -120),
+    (120, 120, -60),
+    (120, 120, 0),
+    (120, 120, 60),
+    (120, 120, 120),
+];
 
 /// The scan of these points from the sensor.
 fn seen(points: PointList) -> Scan
@@ -139,9 +172,17 @@ fn seen_from(t: Point, points: PointList) -> Scan
     }
 }
 
+/// Voxels of a tenth of a metre.
+fn tenth(rt: &impl Abort) -> Res {
+    match Res::new(100_000_000) {
+        Ok(res) => res,
+        Err(_) => panic!(rt; "a tenth of a metre is refused"),
+    }
+}
+
 /// A map of voxels of a tenth of a metre, of this many groups, whose scans meet at most `max_cells`
 /// voxels.
-fn bounded(alloc: Global, max_groups: u32, max_cells: u64) -> Result<OccMap, Fail>
+fn bounded(rt: &impl Abort, alloc: Global, max_groups: u32, max_cells: u64) -> OccMap
     requires some { 16 ≤ max_groups }
     requires few { max_groups ≤ 2 ^ 26 }
     requires some_cells { 1 ≤ max_cells }
@@ -151,15 +192,15 @@ fn bounded(alloc: Global, max_groups: u32, max_cells: u64) -> Result<OccMap, Fai
         max_groups,
         max_cells,
     };
-    Ok(OccMap::new(alloc, Res::new(100_000_000)?, OddsModel::default(), limits))
+    OccMap::new(alloc, tenth(rt), OddsModel::default(), limits)
 }
 
 /// Such a map whose scans meet at most 1000 voxels.
-fn world(alloc: Global, max_groups: u32) -> Result<OccMap, Fail>
+fn world(rt: &impl Abort, alloc: Global, max_groups: u32) -> OccMap
     requires some { 16 ≤ max_groups }
     requires few { max_groups ≤ 2 ^ 26 }
 {
-    bounded(alloc, max_groups, 1000)
+    bounded(rt, alloc, max_groups, 1000)
 }
 
 /// Expects this answer for the block of that depth around the point.
@@ -173,26 +214,48 @@ fn expect_block(
     assert_eq!(rt; map.get(p, depth), want, "{p:?} at {depth}");
 }
 
+/// Expects the answers for the blocks of these depths around the point.
+fn expect_blocks(
+    rt: &impl Abort,
+    map: &OccMap,
+    p: Point,
+    cases: &[(u32, Result<Option<i32>, MapFault>)],
+) {
+    for (depth, want) in cases {
+        expect_block(rt, map, p, *depth, *want);
+    }
+}
+
 /// Expects that the voxel has this value.
 fn expect_voxel(rt: &impl Abort, map: &OccMap, p: Point, want: Option<i32>) {
     expect_block(rt, map, p, 16, Ok(want));
 }
 
 /// Expects these values of voxels on the x axis.
-fn expect_row(rt: &impl Abort, map: &OccMap, want: [(i8, i32); 5]) {
+fn expect_row(rt: &impl Abort, map: &OccMap, want: &[(i8, i32)]) {
     for (x, value) in want {
-        expect_voxel(rt, map, tenths(x, 0, 0), Some(value));
+        expect_voxel(rt, map, tenths(*x, 0, 0), Some(*value));
     }
+}
+
+/// Expects that something is so, or that it isn't.
+fn expect_truth(rt: &impl Abort, is_so: bool, want: bool) {
+    assert_eq!(rt; is_so, want);
 }
 
 /// Expects that the map is stale, or that it isn't.
 fn expect_stale(rt: &impl Abort, map: &OccMap, want: bool) {
-    assert_eq!(rt; map.is_stale(), want);
+    expect_truth(rt, map.is_stale(), want);
 }
 
 /// Expects that the values need this many groups and nodes.
 fn expect_counts(rt: &impl Abort, map: &mut OccMap, groups: u32, nodes: u64) {
     assert_eq!(rt; map.counts(), Counts { groups, nodes });
+}
+
+/// Expects that a call is answered so.
+fn expect_answer(rt: &impl Abort, answer: Result<(), MapFault>, want: Result<(), MapFault>) {
+    assert_eq!(rt; answer, want);
 }
 
 /// Expects that an edit of the voxel is answered so.
@@ -206,7 +269,7 @@ fn expect_edit(
 )
     requires { IsSmallEvent event }
 {
-    assert_eq!(rt; map.edit(p, event, lazy), want, "{p:?}");
+    expect_answer(rt, map.edit(p, event, lazy), want);
 }
 
 /// Expects that an edit of the box is answered so.
@@ -220,7 +283,7 @@ fn expect_box(
 )
     requires { IsSmallEvent event }
 {
-    assert_eq!(rt; map.edit_box(lo, hi, event), want, "{lo:?} {hi:?}");
+    assert_eq!(rt; map.edit_box(lo, hi, event), want, "from {lo:?}");
 }
 
 /// Hits the eight voxels beside the origin's corner.
@@ -249,31 +312,27 @@ fn expect_scan(
     assert_eq!(rt; map.scan(scan, lazy), want);
 }
 
-/// What a scan of these points answers.
+/// What a scan of these places answers.
 fn scanned(
     alloc: Global,
     map: &mut OccMap,
-    points: &[Point],
+    places: &[Place],
     lazy: bool,
-) -> Result<ScanDone, MapFault>
-    requires { All IsInReach points.now }
-{
-    let scan = scan_of(alloc, points)?;
+) -> Result<ScanDone, MapFault> {
+    let scan = scan_of(alloc, places)?;
     map.scan(&scan, lazy)
 }
 
-/// Expects that a scan of these points is answered so.
-fn expect_points(
+/// Expects that a scan of these places is answered so.
+fn expect_places(
     rt: &impl Abort,
     alloc: Global,
     map: &mut OccMap,
-    points: &[Point],
+    places: &[Place],
     lazy: bool,
     want: Result<ScanDone, MapFault>,
-)
-    requires { All IsInReach points.now }
-{
-    assert_eq!(rt; scanned(alloc, map, points, lazy), want);
+) {
+    assert_eq!(rt; scanned(alloc, map, places, lazy), want);
 }
 
 /// Expects that the scan of the voxels 2 and 4 on the x axis is answered so.
@@ -284,8 +343,7 @@ fn expect_row_scan(
     lazy: bool,
     want: Result<ScanDone, MapFault>,
 ) {
-    let points = [tenths(2, 0, 0), tenths(4, 0, 0)];
-    expect_points(rt, alloc, map, &points, lazy, want);
+    expect_places(rt, alloc, map, &[(2, 0, 0), (4, 0, 0)], lazy, want);
 }
 
 /// What that scan answers where it isn't refused.
@@ -293,7 +351,7 @@ const ROW_DONE: ScanDone = ScanDone { hits: 2, frees: 3 };
 
 /// And the values of the voxels that it meets: one beam passes through the voxel 2, and the other
 /// one hits it.
-const ROW: [(i8, i32); 5] = [(0, -400), (1, -400), (2, 850), (3, -400), (4, 850)];
+const ROW: &[(i8, i32)] = &[(0, -400), (1, -400), (2, 850), (3, -400), (4, 850)];
 
 /// Expects that a scan from a place outside the map is refused.
 fn expect_no_origin(rt: &impl Abort, alloc: Global, map: &mut OccMap) {
@@ -302,67 +360,80 @@ fn expect_no_origin(rt: &impl Abort, alloc: Global, map: &mut OccMap) {
 }
 
 /// Expects this text of a fault.
-fn expect_text(rt: &impl Abort, alloc: Global, fault: MapFault, want: &str) -> Result<(), Fail> {
-    let text = format!(in alloc; "{fault}")?;
-    assert_eq!(rt; text.as_str(), want);
-    Ok(())
+fn expect_text(rt: &impl Abort, alloc: Global, fault: MapFault, want: &str) {
+    match format!(in alloc; "{fault}") {
+        Ok(text) => assert_eq!(rt; text.as_str(), want),
+        Err(_) => panic!(rt; "out of memory"),
+    }
 }
 
+/// Expects the text of each fault of a table.
+fn expect_texts(rt: &impl Abort, alloc: Global, cases: &[(MapFault, &str)]) {
+    for (fault, want) in cases {
+        expect_text(rt, alloc, *fault, want);
+    }
+}
+
+/// The middle of the voxel that touches the origin's corner from below.
+const BELOW: Point = Point {
+    x: -50_000_000,
+    y: -50_000_000,
+    z: -50_000_000,
+};
+
+/// What blocks around it answer where the voxel just above the origin is hit.
+const BLOCKS_BELOW: &[(u32, Result<Option<i32>, MapFault>)] = &[
+    (16, Ok(None)),
+    (1, Ok(None)),
+    (0, Ok(Some(850))),
+];
+
 #[test]
-fn answers_the_largest_value_of_a_block(rt: HostRuntime) -> Result<(), Fail> {
-    let mut map = world(rt.alloc(), 67_108_864)?;
-    let behind = Point {
-        x: -50_000_000,
-        y: -50_000_000,
-        z: -50_000_000,
-    };
+fn answers_the_largest_value_of_a_block(rt: HostRuntime) {
+    let mut map = world(&rt, rt.alloc(), 67_108_864);
     expect_block(&rt, &map, ORIGIN, 0, Ok(None));
     expect_edit(&rt, &mut map, ORIGIN, HIT, false, Ok(()));
-    for (depth, want) in [(16, None), (1, None), (0, Some(850))] {
-        expect_block(&rt, &map, behind, depth, Ok(want));
-    }
+    expect_blocks(&rt, &map, BELOW, BLOCKS_BELOW);
     expect_edit(&rt, &mut map, BESIDE, MISS, false, Ok(()));
     expect_voxel(&rt, &map, BESIDE, Some(-400));
     expect_block(&rt, &map, BESIDE, 15, Ok(Some(850)));
     expect_block(&rt, &map, BESIDE, 17, Err(MapFault::BadDepth));
-    Ok(())
 }
 
+/// What blocks answer on a stale map around a voxel that is missed twice.
+const STALE_BLOCKS: &[(u32, Result<Option<i32>, MapFault>)] = &[
+    (16, Ok(Some(-800))),
+    (15, Err(MapFault::Stale)),
+    (0, Err(MapFault::Stale)),
+    (17, Err(MapFault::BadDepth)),
+];
+
 #[test]
-fn answers_for_voxels_alone_while_it_is_stale(rt: HostRuntime) -> Result<(), Fail> {
-    let mut map = world(rt.alloc(), 67_108_864)?;
+fn answers_for_voxels_alone_while_it_is_stale(rt: HostRuntime) {
+    let mut map = world(&rt, rt.alloc(), 67_108_864);
     expect_edit(&rt, &mut map, ORIGIN, HIT, false, Ok(()));
     expect_edit(&rt, &mut map, BESIDE, MISS, false, Ok(()));
     expect_stale(&rt, &map, false);
     expect_edit(&rt, &mut map, BESIDE, MISS, true, Ok(()));
     expect_stale(&rt, &map, true);
-    for (depth, want) in [
-        (16, Ok(Some(-800))),
-        (15, Err(MapFault::Stale)),
-        (0, Err(MapFault::Stale)),
-        (17, Err(MapFault::BadDepth)),
-    ] {
-        expect_block(&rt, &map, BESIDE, depth, want);
-    }
+    expect_blocks(&rt, &map, BESIDE, STALE_BLOCKS);
     map.refresh();
     expect_stale(&rt, &map, false);
     expect_block(&rt, &map, BESIDE, 15, Ok(Some(850)));
-    Ok(())
 }
 
 #[test]
-fn refuses_points_outside_first(rt: HostRuntime) -> Result<(), Fail> {
-    let mut map = world(rt.alloc(), 67_108_864)?;
+fn refuses_points_outside_first(rt: HostRuntime) {
+    let mut map = world(&rt, rt.alloc(), 67_108_864);
     let outside = MapFault::Outside { point: 1 };
     expect_block(&rt, &map, OUTSIDE, 17, Err(outside));
     expect_edit(&rt, &mut map, OUTSIDE, HIT, true, Err(outside));
     expect_stale(&rt, &map, false);
-    Ok(())
 }
 
 #[test]
-fn edits_each_voxel_of_a_box(rt: HostRuntime) -> Result<(), Fail> {
-    let mut map = world(rt.alloc(), 121)?;
+fn edits_each_voxel_of_a_box(rt: HostRuntime) {
+    let mut map = world(&rt, rt.alloc(), 121);
     expect_box(&rt, &mut map, BEFORE, ORIGIN, HIT, Ok(()));
     expect_voxel(&rt, &map, BEFORE, Some(850));
     expect_voxel(&rt, &map, ORIGIN, Some(850));
@@ -372,42 +443,60 @@ fn edits_each_voxel_of_a_box(rt: HostRuntime) -> Result<(), Fail> {
     expect_voxel(&rt, &map, BESIDE, Some(-400));
     expect_box(&rt, &mut map, LOWEST, HIGHEST, Event::Set(70), Ok(()));
     expect_counts(&rt, &mut map, 0, 1);
-    Ok(())
+}
+
+/// Boxes whose first corner lies beyond the second on z, on y and on x alone.
+const CROSSED: &[(Place, Place)] = &[
+    ((0, 0, 1), (0, 0, 0)),
+    ((0, 1, 0), (9, 0, 9)),
+    ((1, 0, 0), (0, 9, 9)),
+];
+
+/// Expects that the map refuses boxes between these corners.
+fn expect_no_boxes(rt: &impl Abort, map: &mut OccMap, boxes: &[(Place, Place)]) {
+    for ((x, y, z), (to_x, to_y, to_z)) in boxes {
+        let (lo, hi) = (tenths(*x, *y, *z), tenths(*to_x, *to_y, *to_z));
+        expect_box(rt, map, lo, hi, HIT, Err(MapFault::BadBox));
+    }
+}
+
+/// Expects that a box from there to the origin has no room in the map of 121 groups.
+fn expect_full_box(rt: &impl Abort, map: &mut OccMap, lo: Point, need: u128) {
+    let full = MapFault::Full { groups: 121, need };
+    expect_box(rt, map, lo, ORIGIN, HIT, Err(full));
 }
 
 #[test]
-fn refuses_a_box_in_order(rt: HostRuntime) -> Result<(), Fail> {
-    let mut map = world(rt.alloc(), 121)?;
-    for (lo, hi, want) in [
-        (OUTSIDE, OUTSIDE, MapFault::Outside { point: 1 }),
-        (ORIGIN, OUTSIDE, MapFault::Outside { point: 2 }),
-        (tenths(0, 0, 1), ORIGIN, MapFault::BadBox),
-        (tenths(0, 1, 0), tenths(9, 0, 9), MapFault::BadBox),
-        (BESIDE, tenths(0, 9, 9), MapFault::BadBox),
-    ] {
-        expect_box(&rt, &mut map, lo, hi, HIT, Err(want));
-    }
+fn refuses_a_box_in_order(rt: HostRuntime) {
+    let mut map = world(&rt, rt.alloc(), 121);
+    expect_box(
+        &rt,
+        &mut map,
+        OUTSIDE,
+        OUTSIDE,
+        HIT,
+        Err(MapFault::Outside { point: 1 }),
+    );
+    expect_box(
+        &rt,
+        &mut map,
+        ORIGIN,
+        OUTSIDE,
+        HIT,
+        Err(MapFault::Outside { point: 2 }),
+    );
+    expect_no_boxes(&rt, &mut map, CROSSED);
     expect_box(&rt, &mut map, BEFORE, ORIGIN, HIT, Ok(()));
-    for (lo, need) in [(BEFORE, 121), (SENSOR, 16)] {
-        let groups = 121;
-        expect_box(
-            &rt,
-            &mut map,
-            lo,
-            ORIGIN,
-            HIT,
-            Err(MapFault::Full { groups, need }),
-        );
-    }
+    expect_full_box(&rt, &mut map, BEFORE, 121);
+    expect_full_box(&rt, &mut map, SENSOR, 16);
     expect_voxel(&rt, &map, BEFORE, Some(850));
     expect_voxel(&rt, &map, ORIGIN, Some(850));
     expect_voxel(&rt, &map, BESIDE, None);
-    Ok(())
 }
 
 #[test]
-fn counts_what_the_values_need(rt: HostRuntime) -> Result<(), Fail> {
-    let mut map = world(rt.alloc(), 32)?;
+fn counts_what_the_values_need(rt: HostRuntime) {
+    let mut map = world(&rt, rt.alloc(), 32);
     expect_counts(&rt, &mut map, 0, 0);
     // Eight voxels of one value: lazy edits keep their group, and counting gives it back.
     hit_eight(&rt, &mut map, true);
@@ -422,11 +511,10 @@ fn counts_what_the_values_need(rt: HostRuntime) -> Result<(), Fail> {
         need: 16,
     };
     expect_edit(&rt, &mut map, BEFORE, Event::Forget, false, Err(full));
-    Ok(())
 }
 
 /// Expects that a map of this many groups has room for one voxel and not for an edit more.
-fn expect_room_for_one(rt: &impl Abort, alloc: Global, max_groups: u32) -> Result<(), Fail>
+fn expect_room_for_one(rt: &impl Abort, alloc: Global, max_groups: u32)
     requires some { 16 ≤ max_groups }
     requires few { max_groups ≤ 2 ^ 26 }
 {
@@ -434,7 +522,7 @@ fn expect_room_for_one(rt: &impl Abort, alloc: Global, max_groups: u32) -> Resul
         groups: 16,
         need: 16,
     };
-    let mut map = world(alloc, max_groups)?;
+    let mut map = world(rt, alloc, max_groups);
     expect_edit(rt, &mut map, ORIGIN, HIT, false, Ok(()));
     expect_edit(rt, &mut map, ORIGIN, HIT, false, Err(full));
     expect_edit(rt, &mut map, BEFORE, HIT, true, Err(full));
@@ -442,23 +530,21 @@ fn expect_room_for_one(rt: &impl Abort, alloc: Global, max_groups: u32) -> Resul
     expect_voxel(rt, &map, ORIGIN, Some(850));
     expect_voxel(rt, &map, BEFORE, None);
     expect_counts(rt, &mut map, 16, 17);
-    Ok(())
 }
 
 #[test]
-fn refuses_an_edit_as_full_by_its_values(rt: HostRuntime) -> Result<(), Fail> {
-    expect_room_for_one(&rt, rt.alloc(), 16)?;
-    expect_room_for_one(&rt, rt.alloc(), 31)?;
-    let mut map = world(rt.alloc(), 32)?;
+fn refuses_an_edit_as_full_by_its_values(rt: HostRuntime) {
+    expect_room_for_one(&rt, rt.alloc(), 16);
+    expect_room_for_one(&rt, rt.alloc(), 31);
+    let mut map = world(&rt, rt.alloc(), 32);
     hit_eight(&rt, &mut map, false);
     expect_edit(&rt, &mut map, ORIGIN, HIT, false, Ok(()));
     expect_counts(&rt, &mut map, 16, 24);
-    Ok(())
 }
 
 #[test]
-fn scans_hit_ends_and_free_the_way_there(rt: HostRuntime) -> Result<(), Fail> {
-    let mut map = world(rt.alloc(), 64)?;
+fn scans_hit_ends_and_free_the_way_there(rt: HostRuntime) {
+    let mut map = world(&rt, rt.alloc(), 64);
     expect_row_scan(&rt, rt.alloc(), &mut map, false, Ok(ROW_DONE));
     expect_row(&rt, &map, ROW);
     expect_stale(&rt, &map, false);
@@ -466,20 +552,18 @@ fn scans_hit_ends_and_free_the_way_there(rt: HostRuntime) -> Result<(), Fail> {
     expect_row_scan(&rt, rt.alloc(), &mut map, true, Ok(ROW_DONE));
     expect_voxel(&rt, &map, tenths(4, 0, 0), Some(1700));
     expect_stale(&rt, &map, true);
-    Ok(())
 }
 
 #[test]
-fn a_scan_of_no_points_changes_the_flag_alone(rt: HostRuntime) -> Result<(), Fail> {
-    let mut map = world(rt.alloc(), 64)?;
+fn a_scan_of_no_points_changes_the_flag_alone(rt: HostRuntime) {
+    let mut map = world(&rt, rt.alloc(), 64);
     let nothing = ScanDone { hits: 0, frees: 0 };
-    expect_points(&rt, rt.alloc(), &mut map, &[], false, Ok(nothing));
+    expect_places(&rt, rt.alloc(), &mut map, &[], false, Ok(nothing));
     expect_stale(&rt, &map, false);
-    expect_points(&rt, rt.alloc(), &mut map, &[], true, Ok(nothing));
+    expect_places(&rt, rt.alloc(), &mut map, &[], true, Ok(nothing));
     expect_stale(&rt, &map, true);
     map.refresh();
     expect_stale(&rt, &map, false);
-    Ok(())
 }
 
 /// Expects that a cast between the two points is answered so.
@@ -490,12 +574,32 @@ fn expect_cast(
     ignore_unknown: bool,
     want: Result<Cast, MapFault>,
 ) {
-    assert_eq!(rt; map.cast(o, e, ignore_unknown), want, "from {o:?} to {e:?}");
+    assert_eq!(rt; map.cast(o, e, ignore_unknown), want, "to {e:?}");
+}
+
+/// Ends of casts, and which of the two is the first that lies outside the map.
+const OUTSIDE_ENDS: &[((Point, Point), u8)] = &[
+    ((OUTSIDE, SENSOR), 1),
+    ((SENSOR, OUTSIDE), 2),
+    ((OUTSIDE, OUTSIDE), 1),
+];
+
+/// Expects that casts between these ends are refused.
+fn expect_no_casts(rt: &impl Abort, map: &OccMap, cases: &[((Point, Point), u8)]) {
+    for (ends, point) in cases {
+        expect_cast(
+            rt,
+            map,
+            *ends,
+            true,
+            Err(MapFault::Outside { point: *point }),
+        );
+    }
 }
 
 #[test]
-fn casts_to_what_a_scan_hit(rt: HostRuntime) -> Result<(), Fail> {
-    let mut map = world(rt.alloc(), 64)?;
+fn casts_to_what_a_scan_hit(rt: HostRuntime) {
+    let mut map = world(&rt, rt.alloc(), 64);
     expect_row_scan(&rt, rt.alloc(), &mut map, true, Ok(ROW_DONE));
     let along = Point {
         x: 450_000_000,
@@ -524,34 +628,36 @@ fn casts_to_what_a_scan_hit(rt: HostRuntime) -> Result<(), Fail> {
         Ok(Cast::Unknown(beside)),
     );
     expect_cast(&rt, &map, (SENSOR, across), true, Ok(Cast::Clear));
-    for (ends, point) in [
-        ((OUTSIDE, SENSOR), 1),
-        ((SENSOR, OUTSIDE), 2),
-        ((OUTSIDE, OUTSIDE), 1),
-    ] {
-        expect_cast(&rt, &map, ends, true, Err(MapFault::Outside { point }));
-    }
-    Ok(())
+    expect_no_casts(&rt, &map, OUTSIDE_ENDS);
+}
+
+/// Expects that the map of at most three voxels a scan refuses these scans, and stays.
+fn expect_no_scan(rt: &impl Abort, alloc: Global, map: &mut OccMap, beyond: &Scan)
+    requires points { All IsInReach beyond.now.points }
+    requires range { beyond.now.range ≡ None }
+    requires odds { beyond.now.odds ≡ None }
+{
+    let too_many = MapFault::TooManyCells { index: 1, cells: 8 };
+    expect_row_scan(rt, alloc, map, true, Err(too_many));
+    // Ends are judged before voxels are counted.
+    let outside = MapFault::PointOutside { index: 1 };
+    expect_scan(rt, map, beyond, true, Err(outside));
+    expect_no_origin(rt, alloc, map);
+    expect_stale(rt, map, false);
+    expect_voxel(rt, map, SENSOR, None);
 }
 
 #[test]
 fn refuses_a_scan_and_stays(rt: HostRuntime) -> Result<(), Fail> {
-    let mut map = bounded(rt.alloc(), 16, 3)?;
-    let too_many = MapFault::TooManyCells { index: 1, cells: 8 };
-    expect_row_scan(&rt, rt.alloc(), &mut map, true, Err(too_many));
-    // Ends are judged before voxels are counted.
-    let beyond = [tenths(2, 0, 0), OUTSIDE];
-    let outside = MapFault::PointOutside { index: 1 };
-    expect_points(&rt, rt.alloc(), &mut map, &beyond, true, Err(outside));
-    expect_no_origin(&rt, rt.alloc(), &mut map);
-    expect_stale(&rt, &map, false);
-    expect_voxel(&rt, &map, SENSOR, None);
+    let beyond = scan_beyond(rt.alloc())?;
+    let mut map = bounded(&rt, rt.alloc(), 16, 3);
+    expect_no_scan(&rt, rt.alloc(), &mut map, &beyond);
     Ok(())
 }
 
 #[test]
-fn refuses_a_scan_as_full_and_stays(rt: HostRuntime) -> Result<(), Fail> {
-    let mut map = world(rt.alloc(), 16)?;
+fn refuses_a_scan_as_full_and_stays(rt: HostRuntime) {
+    let mut map = world(&rt, rt.alloc(), 16);
     let full = MapFault::Full {
         groups: 0,
         need: 19,
@@ -559,7 +665,6 @@ fn refuses_a_scan_as_full_and_stays(rt: HostRuntime) -> Result<(), Fail> {
     expect_row_scan(&rt, rt.alloc(), &mut map, true, Err(full));
     expect_stale(&rt, &map, false);
     expect_voxel(&rt, &map, SENSOR, None);
-    Ok(())
 }
 
 /// Expects that the arena of the map has this many groups, and this many vacant entries.
@@ -568,69 +673,87 @@ fn expect_entries(rt: &impl Abort, map: &OccMap, live: u32, spare: u32) {
     assert_eq!(rt; (arena.live(), arena.spare()), (live, spare));
 }
 
+/// Expects that a map of this many groups answers a scan so, and has these entries then.
+fn expect_room(
+    rt: &impl Abort,
+    alloc: Global,
+    max_groups: u32,
+    scan: &Scan,
+    want: Result<ScanDone, MapFault>,
+    live: u32,
+    spare: u32,
+)
+    requires some { 16 ≤ max_groups }
+    requires few { max_groups ≤ 2 ^ 26 }
+    requires points { All IsInReach scan.now.points }
+    requires range { scan.now.range ≡ None }
+    requires odds { scan.now.odds ≡ None }
+{
+    let mut map = bounded(rt, alloc, max_groups, 100_000);
+    expect_scan(rt, &mut map, scan, false, want);
+    expect_entries(rt, &map, live, spare);
+}
+
 /// The numbers of this scan are those that the model in `bench/model` gives for it too.
 #[test]
 fn makes_room_for_thousands_of_groups(rt: HostRuntime) -> Result<(), Fail> {
-    let scan = seen(wide_points(rt.alloc())?);
-    let mut map = bounded(rt.alloc(), 1024, 100_000)?;
+    let scan = scan_of(rt.alloc(), WIDE)?;
     let full = MapFault::Full {
         groups: 0,
         need: 4780,
     };
-    expect_scan(&rt, &mut map, &scan, false, Err(full));
-    expect_entries(&rt, &map, 0, 0);
-    let mut map = bounded(rt.alloc(), 100_000, 100_000)?;
+    expect_room(&rt, rt.alloc(), 1024, &scan, Err(full), 0, 0);
     let done = ScanDone {
         hits: 25,
         frees: 5079,
     };
-    expect_scan(&rt, &mut map, &scan, false, Ok(done));
     // The arena takes whole chunks, and five of 1,024 entries have room for 4,780 groups.
-    expect_entries(&rt, &map, 4776, 5 * 1024 - 4776);
+    let spare = 5 * 1024 - 4776;
+    expect_room(&rt, rt.alloc(), 100_000, &scan, Ok(done), 4776, spare);
     Ok(())
 }
 
+/// Faults of maps, and their texts.
+const TEXTS: &[(MapFault, &str)] = &[
+    (
+        MapFault::OriginOutside,
+        "the origin of the scan lies outside the map",
+    ),
+    (
+        MapFault::PointOutside { index: 1 },
+        "the beam to point 1 ends outside the map",
+    ),
+    (
+        MapFault::TooManyCells { index: 1, cells: 8 },
+        "with point 1 the beams meet 8 voxels, more than are allowed",
+    ),
+    (
+        MapFault::Full {
+            groups: 16,
+            need: 16,
+        },
+        "16 groups and 16 more are too many",
+    ),
+    (
+        MapFault::Outside { point: 1 },
+        "point 1 lies outside the map",
+    ),
+    (
+        MapFault::OtherResolution {
+            file: 200_000_000,
+            session: 100_000_000,
+        },
+        "the file's voxels have 200000000 nanometres, and the map's have 100000000",
+    ),
+    (
+        MapFault::TrailingBytes { at: 17 },
+        "bytes follow the snapshot at byte 17",
+    ),
+];
+
 #[test]
-fn says_why_it_refuses(rt: HostRuntime) -> Result<(), Fail> {
-    for (fault, want) in [
-        (
-            MapFault::OriginOutside,
-            "the origin of the scan lies outside the map",
-        ),
-        (
-            MapFault::PointOutside { index: 1 },
-            "the beam to point 1 ends outside the map",
-        ),
-        (
-            MapFault::TooManyCells { index: 1, cells: 8 },
-            "with point 1 the beams meet 8 voxels, more than are allowed",
-        ),
-        (
-            MapFault::Full {
-                groups: 16,
-                need: 16,
-            },
-            "16 groups and 16 more are too many",
-        ),
-        (
-            MapFault::Outside { point: 1 },
-            "point 1 lies outside the map",
-        ),
-        (
-            MapFault::OtherResolution {
-                file: 200_000_000,
-                session: 100_000_000,
-            },
-            "the file's voxels have 200000000 nanometres, and the map's have 100000000",
-        ),
-        (
-            MapFault::TrailingBytes { at: 17 },
-            "bytes follow the snapshot at byte 17",
-        ),
-    ] {
-        expect_text(&rt, rt.alloc(), fault, want)?;
-    }
-    Ok(())
+fn says_why_it_refuses(rt: HostRuntime) {
+    expect_texts(&rt, rt.alloc(), TEXTS);
 }
 
 /// The block of that depth around a point on the x axis, with its value, where it has one.
@@ -645,13 +768,16 @@ fn alone(map: &OccMap, x: i8, depth: u8) -> Option<Found>
     Some(Found { block, value })
 }
 
+/// The voxels along the x axis that blocks are asked around.
+const ALONG: &[i8] = &[-1, 0, 1, 2, 3, 4, 5];
+
 /// The blocks of that depth along the x axis, each asked alone.
-fn each_alone(alloc: Global, map: &OccMap, depth: u8) -> Result<Vec<Found>, Fail>
+fn each_alone(alloc: Global, map: &OccMap, depth: u8) -> Result<Vec<Found>, Memory>
     requires { depth ≤ 16 }
 {
     let mut blocks = Vec::new(alloc);
-    for x in [-1, 0, 1, 2, 3, 4, 5] {
-        if let Some(found) = alone(map, x, depth) {
+    for x in ALONG {
+        if let Some(found) = alone(map, *x, depth) {
             if blocks.last() != Some(&found) {
                 blocks.push(found)?;
             }
@@ -660,18 +786,31 @@ fn each_alone(alloc: Global, map: &OccMap, depth: u8) -> Result<Vec<Found>, Fail
     Ok(blocks)
 }
 
-/// Expects that the list of the blocks of that depth along the x axis has what each answers alone.
-fn expect_list(rt: &impl Abort, alloc: Global, map: &OccMap, depth: u8) -> Result<(), Fail>
+/// The list of the blocks of that depth along the x axis.
+fn listed(map: &OccMap, depth: u8) -> Result<BlockList, MapFault> {
+    map.list(tenths(-1, 0, 0), tenths(5, 0, 0), u32::from(depth))
+}
+
+/// Expects that this list has what each block answers alone.
+fn expect_list(rt: &impl Abort, alloc: Global, map: &OccMap, depth: u8) -> Result<(), MapFault>
     requires { depth ≤ 16 }
 {
     let want = each_alone(alloc, map, depth)?;
-    let blocks = map.list(tenths(-1, 0, 0), tenths(5, 0, 0), u32::from(depth))?;
+    let blocks = listed(map, depth)?;
     assert_eq!(rt; blocks.as_slice(), want.as_slice(), "at {depth}");
     Ok(())
 }
 
+/// Expects that the lists of all depths have what each block answers alone.
+fn expect_lists(rt: &impl Abort, alloc: Global, map: &OccMap) -> Result<(), MapFault> {
+    for depth in 0u8..17 {
+        expect_list(rt, alloc, map, depth)?;
+    }
+    Ok(())
+}
+
 /// The values of the blocks of a list.
-fn values(alloc: Global, blocks: &[Found]) -> Result<Vec<i32>, Fail> {
+fn values(alloc: Global, blocks: &[Found]) -> Result<Vec<i32>, Memory> {
     let mut values = Vec::new(alloc);
     for found in blocks {
         values.push(found.value)?;
@@ -680,43 +819,49 @@ fn values(alloc: Global, blocks: &[Found]) -> Result<Vec<i32>, Fail> {
 }
 
 /// Expects that the voxels that are listed along the x axis have these values.
-fn expect_voxels(rt: &impl Abort, alloc: Global, map: &OccMap, want: &[i32]) -> Result<(), Fail> {
-    let voxels = map.list(tenths(-1, 0, 0), tenths(5, 0, 0), 16)?;
+fn expect_voxels(
+    rt: &impl Abort,
+    alloc: Global,
+    map: &OccMap,
+    want: &[i32],
+) -> Result<(), MapFault> {
+    let voxels = listed(map, 16)?;
     let values = values(alloc, voxels.as_slice())?;
     assert_eq!(rt; values.as_slice(), want);
     Ok(())
 }
 
 #[test]
-fn lists_blocks_as_they_answer_alone(rt: HostRuntime) -> Result<(), Fail> {
-    let mut map = world(rt.alloc(), 64)?;
+fn lists_blocks_as_they_answer_alone(rt: HostRuntime) {
+    let mut map = world(&rt, rt.alloc(), 64);
     expect_row_scan(&rt, rt.alloc(), &mut map, false, Ok(ROW_DONE));
-    for depth in 0u8..17 {
-        expect_list(&rt, rt.alloc(), &map, depth)?;
-    }
-    expect_voxels(&rt, rt.alloc(), &map, &[-400, -400, 850, -400, 850])
+    expect_answer(&rt, expect_lists(&rt, rt.alloc(), &map), Ok(()));
+    let values = &[-400, -400, 850, -400, 850];
+    expect_answer(&rt, expect_voxels(&rt, rt.alloc(), &map, values), Ok(()));
 }
 
-/// Expects that a list is refused so.
-fn expect_no_list(
+/// How many blocks a list of the box has.
+fn list_len(map: &OccMap, (lo, hi): (Point, Point), depth: u32) -> Result<usize, MapFault> {
+    let blocks = map.list(lo, hi, depth)?;
+    Ok(blocks.as_slice().len())
+}
+
+/// Expects that a list of the box has this many blocks, or is refused so.
+fn expect_len(
     rt: &impl Abort,
     map: &OccMap,
-    (lo, hi): (Point, Point),
+    corners: (Point, Point),
     depth: u32,
-    want: MapFault,
+    want: Result<usize, MapFault>,
 ) {
-    assert_eq!(rt; map.list(lo, hi, depth).err(), Some(want), "{depth}");
+    assert_eq!(rt; list_len(map, corners, depth), want, "at {depth}");
 }
 
-/// How many blocks a list of the box has, where it isn't refused.
-fn list_len(map: &OccMap, lo: Point, hi: Point, depth: u32) -> Option<usize> {
-    let blocks = map.list(lo, hi, depth).ok()?;
-    Some(blocks.as_slice().len())
-}
-
-/// Expects that a list of the box has one block.
-fn expect_one_listed(rt: &impl Abort, map: &OccMap, lo: Point, hi: Point, depth: u32) {
-    assert_eq!(rt; list_len(map, lo, hi, depth), Some(1));
+/// Expects that lists are refused so.
+fn expect_no_lists(rt: &impl Abort, map: &OccMap, cases: &[((Point, Point), u32, MapFault)]) {
+    for (corners, depth, want) in cases {
+        expect_len(rt, map, *corners, *depth, Err(*want));
+    }
 }
 
 /// The upper corner of a cube of a hundred voxels on each axis, from the origin.
@@ -734,7 +879,7 @@ const PLANE: Point = Point {
 };
 
 /// Lists that are refused, and why.
-const REFUSED_LISTS: [((Point, Point), u32, MapFault); 7] = [
+const REFUSED_LISTS: &[((Point, Point), u32, MapFault)] = &[
     ((OUTSIDE, OUTSIDE), 17, MapFault::Outside { point: 1 }),
     ((ORIGIN, OUTSIDE), 17, MapFault::Outside { point: 2 }),
     ((CUBE, ORIGIN), 17, MapFault::BadDepth),
@@ -749,14 +894,11 @@ const REFUSED_LISTS: [((Point, Point), u32, MapFault); 7] = [
 ];
 
 #[test]
-fn refuses_a_list_in_order(rt: HostRuntime) -> Result<(), Fail> {
-    let mut map = world(rt.alloc(), 64)?;
+fn refuses_a_list_in_order(rt: HostRuntime) {
+    let mut map = world(&rt, rt.alloc(), 64);
     expect_edit(&rt, &mut map, ORIGIN, HIT, true, Ok(()));
-    for (corners, depth, want) in REFUSED_LISTS {
-        expect_no_list(&rt, &map, corners, depth, want);
-    }
-    expect_one_listed(&rt, &map, ORIGIN, CUBE, 16);
+    expect_no_lists(&rt, &map, REFUSED_LISTS);
+    expect_len(&rt, &map, (ORIGIN, CUBE), 16, Ok(1));
     map.refresh();
-    expect_one_listed(&rt, &map, LOWEST, HIGHEST, 0);
-    Ok(())
+    expect_len(&rt, &map, (LOWEST, HIGHEST), 0, Ok(1));
 }

@@ -18,7 +18,7 @@ const FIVE_VOXELS: &[u8] = &[
 ];
 
 /// The values that these voxels get.
-const FIVE_VALUES: [(i8, i32); 5] = [(0, -2000), (1, -2000), (2, 3500), (3, -2000), (4, 3500)];
+const FIVE_VALUES: &[(i8, i32)] = &[(0, -2000), (1, -2000), (2, 3500), (3, -2000), (4, 3500)];
 
 /// The header of a file of one voxel, of this many metres.
 const ONE_HEADER: &str = "# Octomap OcTree binary file\nid OcTree\nsize 17\nres 0.1\ndata\n";
@@ -59,40 +59,50 @@ fn expect_load(
     assert_eq!(rt; loaded(alloc, map, header, data), Some(want));
 }
 
-#[test]
-fn leaves_the_map_where_a_load_is_refused(rt: HostRuntime) -> Result<(), Fail> {
-    let mut map = world(rt.alloc(), 18)?;
-    expect_edit(&rt, &mut map, BEFORE, HIT, true, Ok(()));
-    let other = MapFault::OtherResolution {
-        file: 200_000_000,
-        session: 100_000_000,
-    };
-    let full = MapFault::Full {
-        groups: 0,
-        need: 19,
-    };
-    expect_load(
-        &rt,
-        rt.alloc(),
-        &mut map,
-        (COARSE_HEADER, ONE_VOXEL),
-        Err(other),
-    );
-    expect_load(
-        &rt,
-        rt.alloc(),
-        &mut map,
-        (FIVE_HEADER, FIVE_VOXELS),
-        Err(full),
-    );
-    expect_stale(&rt, &map, true);
-    expect_voxel(&rt, &map, BEFORE, Some(850));
-    Ok(())
+/// Files that a map of 18 groups refuses, and why.
+const REFUSED_FILES: &[(&str, &[u8], MapFault)] = &[
+    (
+        COARSE_HEADER,
+        ONE_VOXEL,
+        MapFault::OtherResolution {
+            file: 200_000_000,
+            session: 100_000_000,
+        },
+    ),
+    (
+        FIVE_HEADER,
+        FIVE_VOXELS,
+        MapFault::Full {
+            groups: 0,
+            need: 19,
+        },
+    ),
+];
+
+/// Expects that the map refuses each file of a table.
+fn expect_no_loads(
+    rt: &impl Abort,
+    alloc: Global,
+    map: &mut OccMap,
+    cases: &[(&str, &[u8], MapFault)],
+) {
+    for (header, data, want) in cases {
+        expect_load(rt, alloc, map, (*header, *data), Err(*want));
+    }
 }
 
 #[test]
-fn takes_the_classes_of_a_file(rt: HostRuntime) -> Result<(), Fail> {
-    let mut map = world(rt.alloc(), 19)?;
+fn leaves_the_map_where_a_load_is_refused(rt: HostRuntime) {
+    let mut map = world(&rt, rt.alloc(), 18);
+    expect_edit(&rt, &mut map, BEFORE, HIT, true, Ok(()));
+    expect_no_loads(&rt, rt.alloc(), &mut map, REFUSED_FILES);
+    expect_stale(&rt, &map, true);
+    expect_voxel(&rt, &map, BEFORE, Some(850));
+}
+
+#[test]
+fn takes_the_classes_of_a_file(rt: HostRuntime) {
+    let mut map = world(&rt, rt.alloc(), 19);
     expect_edit(&rt, &mut map, BEFORE, HIT, true, Ok(()));
     expect_load(&rt, rt.alloc(), &mut map, (ONE_HEADER, ONE_VOXEL), Ok(()));
     expect_stale(&rt, &map, false);
@@ -108,7 +118,6 @@ fn takes_the_classes_of_a_file(rt: HostRuntime) -> Result<(), Fail> {
     expect_row(&rt, &map, FIVE_VALUES);
     expect_load(&rt, rt.alloc(), &mut map, (EMPTY_HEADER, &[]), Ok(()));
     expect_block(&rt, &map, tenths(2, 0, 0), 0, Ok(None));
-    Ok(())
 }
 
 /// The fields of a snapshot of version 1, of voxels of a tenth of a metre.
@@ -139,7 +148,7 @@ const BOXLESS: &[u8] = &[
 
 /// The snapshot of version 1 of a hit in the lowest voxel of each of the last n children of
 /// the map.
-fn hits(alloc: Global, children: u8) -> Result<Vec<u8>, Fail>
+fn hits(alloc: Global, children: u8) -> Result<Vec<u8>, Memory>
     requires { children ≤ 8 }
 {
     let mut bytes = Vec::from_slice(alloc, &OLD_HEAD)?;
@@ -160,6 +169,11 @@ fn expect_restore(rt: &impl Abort, map: &mut OccMap, snapshot: &[u8], want: Resu
     assert_eq!(rt; map.restore(snapshot), want);
 }
 
+/// The update box of the map.
+fn window_of(map: &OccMap) -> Option<Window> {
+    map.window()
+}
+
 /// Expects that the map has these log-odds and this update box.
 fn expect_setup(rt: &impl Abort, map: &OccMap, odds: OddsModel, window: Option<Window>) {
     assert!(rt; map.tree().odds() == odds && map.window() == window);
@@ -173,50 +187,65 @@ fn expect_limit(
     hi: Point,
     want: Result<(), MapFault>,
 ) {
-    assert_eq!(rt; map.limit(lo, hi), want);
+    expect_answer(rt, map.limit(lo, hi), want);
 }
 
 /// Expects that there are this many bytes.
-fn expect_len(rt: &impl Abort, bytes: &[u8], want: usize) {
+fn expect_size(rt: &impl Abort, bytes: &[u8], want: usize) {
     assert_eq!(rt; bytes.len(), want);
+}
+
+/// Expects that the map takes the snapshot of one hit.
+fn expect_one_hit(rt: &impl Abort, map: &mut OccMap, snapshot: &[u8]) {
+    expect_size(rt, snapshot, 149);
+    expect_edit(rt, map, BEFORE, HIT, true, Ok(()));
+    expect_restore(rt, map, snapshot, Ok(16));
+    expect_stale(rt, map, false);
+    expect_voxel(rt, map, BEFORE, None);
+    expect_block(rt, map, ORIGIN, 0, Ok(Some(850)));
 }
 
 #[test]
 fn takes_the_values_of_a_snapshot(rt: HostRuntime) -> Result<(), Fail> {
-    let mut map = world(rt.alloc(), 16)?;
-    expect_edit(&rt, &mut map, BEFORE, HIT, true, Ok(()));
     let one = hits(rt.alloc(), 1)?;
-    expect_len(&rt, &one, 149);
-    expect_restore(&rt, &mut map, &one, Ok(16));
-    expect_stale(&rt, &map, false);
-    expect_voxel(&rt, &map, BEFORE, None);
-    expect_block(&rt, &map, ORIGIN, 0, Ok(Some(850)));
+    let mut map = world(&rt, rt.alloc(), 16);
+    expect_one_hit(&rt, &mut map, &one);
     Ok(())
+}
+
+/// The box of the snapshot of version 2.
+fn new_window() -> Option<Window> {
+    let lo = Key { x: 1, y: 2, z: 3 };
+    let hi = Key { x: 256, y: 2, z: 3 };
+    Window::new(lo, hi)
+}
+
+/// Expects that the map takes log-odds and a box where a snapshot has them.
+fn expect_setups(rt: &impl Abort, map: &mut OccMap, odds: OddsModel) {
+    expect_limit(rt, map, BEFORE, ORIGIN, Ok(()));
+    let standing = window_of(map);
+    expect_restore(rt, map, OLD_WHOLE, Ok(0));
+    expect_voxel(rt, map, BEFORE, Some(70));
+    expect_setup(rt, map, OddsModel::default(), standing);
+    expect_restore(rt, map, NEW_WHOLE, Ok(0));
+    expect_setup(rt, map, odds, new_window());
+    expect_edit(rt, map, BEFORE, Event::Add(5000), false, Ok(()));
+    expect_voxel(rt, map, BEFORE, Some(3000));
+    expect_restore(rt, map, BOXLESS, Ok(0));
+    expect_voxel(rt, map, BEFORE, Some(70));
+    expect_setup(rt, map, odds, None);
 }
 
 #[test]
 fn takes_log_odds_and_box_of_version_2(rt: HostRuntime) -> Result<(), Fail> {
-    let mut map = world(rt.alloc(), 16)?;
-    expect_limit(&rt, &mut map, BEFORE, ORIGIN, Ok(()));
-    let standing = map.window();
-    expect_restore(&rt, &mut map, OLD_WHOLE, Ok(0));
-    expect_voxel(&rt, &map, BEFORE, Some(70));
-    expect_setup(&rt, &map, OddsModel::default(), standing);
-    expect_restore(&rt, &mut map, NEW_WHOLE, Ok(0));
-    let lo = Key { x: 1, y: 2, z: 3 };
-    let hi = Key { x: 256, y: 2, z: 3 };
     let odds = OddsModel::new(500, -300, -1000, 3000, 1)?;
-    expect_setup(&rt, &map, odds, Window::new(lo, hi));
-    expect_edit(&rt, &mut map, BEFORE, Event::Add(5000), false, Ok(()));
-    expect_voxel(&rt, &map, BEFORE, Some(3000));
-    expect_restore(&rt, &mut map, BOXLESS, Ok(0));
-    expect_voxel(&rt, &map, BEFORE, Some(70));
-    expect_setup(&rt, &map, odds, None);
+    let mut map = world(&rt, rt.alloc(), 16);
+    expect_setups(&rt, &mut map, odds);
     Ok(())
 }
 
 /// Snapshots that are refused, and why.
-const REFUSED: [(&[u8], MapFault); 3] = [
+const REFUSED: &[(&[u8], MapFault)] = &[
     (
         b"OCTSNAP1\x00\x00\x00\x00\x0B\xEB\xC2\x00\x00",
         MapFault::OtherResolution {
@@ -231,25 +260,35 @@ const REFUSED: [(&[u8], MapFault); 3] = [
     (b"", MapFault::BadMagic),
 ];
 
-#[test]
-fn leaves_the_map_where_a_restore_is_refused(rt: HostRuntime) -> Result<(), Fail> {
-    let mut map = world(rt.alloc(), 16)?;
-    expect_limit(&rt, &mut map, ORIGIN, ORIGIN, Ok(()));
-    expect_edit(&rt, &mut map, ORIGIN, HIT, true, Ok(()));
-    let standing = map.window();
-    let two = hits(rt.alloc(), 2)?;
+/// Expects that the map refuses each snapshot of a table.
+fn expect_no_restores(rt: &impl Abort, map: &mut OccMap, cases: &[(&[u8], MapFault)]) {
+    for (snapshot, want) in cases {
+        expect_restore(rt, map, snapshot, Err(*want));
+    }
+}
+
+/// Expects that the map of 16 groups refuses snapshots, that of two hits among them, and stays.
+fn expect_kept(rt: &impl Abort, map: &mut OccMap, two: &[u8]) {
+    expect_limit(rt, map, ORIGIN, ORIGIN, Ok(()));
+    expect_edit(rt, map, ORIGIN, HIT, true, Ok(()));
+    let standing = window_of(map);
     let full = MapFault::Full {
         groups: 0,
         need: 31,
     };
-    expect_restore(&rt, &mut map, &two, Err(full));
+    expect_restore(rt, map, two, Err(full));
     let short = MapFault::Truncated { at: 53 };
-    expect_restore(&rt, &mut map, &NEW_WHOLE[..53], Err(short));
-    for (bytes, want) in REFUSED {
-        expect_restore(&rt, &mut map, bytes, Err(want));
-    }
-    expect_stale(&rt, &map, true);
-    expect_voxel(&rt, &map, ORIGIN, Some(850));
-    expect_setup(&rt, &map, OddsModel::default(), standing);
+    expect_restore(rt, map, &NEW_WHOLE[..53], Err(short));
+    expect_no_restores(rt, map, REFUSED);
+    expect_stale(rt, map, true);
+    expect_voxel(rt, map, ORIGIN, Some(850));
+    expect_setup(rt, map, OddsModel::default(), standing);
+}
+
+#[test]
+fn leaves_the_map_where_a_restore_is_refused(rt: HostRuntime) -> Result<(), Fail> {
+    let two = hits(rt.alloc(), 2)?;
+    let mut map = world(&rt, rt.alloc(), 16);
+    expect_kept(&rt, &mut map, &two);
     Ok(())
 }

@@ -4,7 +4,7 @@ use oct_change::{Change, Kind};
 
 /// Expects that a mark stands, or that none does.
 fn expect_mark(rt: &impl Abort, map: &OccMap, want: bool) {
-    assert_eq!(rt; map.has_mark(), want);
+    expect_truth(rt, map.has_mark(), want);
 }
 
 /// Expects that exactly these voxels have changed since the mark, or that none stands.
@@ -26,8 +26,8 @@ const NEW: &[Change] = &[Change {
 }];
 
 #[test]
-fn a_mark_stands_until_it_is_taken_away(rt: HostRuntime) -> Result<(), Fail> {
-    let mut map = world(rt.alloc(), 64)?;
+fn a_mark_stands_until_it_is_taken_away(rt: HostRuntime) {
+    let mut map = world(&rt, rt.alloc(), 64);
     expect_mark(&rt, &map, false);
     expect_changes(&rt, &map, None);
     map.track();
@@ -37,12 +37,11 @@ fn a_mark_stands_until_it_is_taken_away(rt: HostRuntime) -> Result<(), Fail> {
     expect_changes(&rt, &map, Some(NEW));
     map.untrack();
     expect_mark(&rt, &map, false);
-    Ok(())
 }
 
 #[test]
-fn a_map_is_made_sure_and_then_cleared(rt: HostRuntime) -> Result<(), Fail> {
-    let mut map = world(rt.alloc(), 64)?;
+fn a_map_is_made_sure_and_then_cleared(rt: HostRuntime) {
+    let mut map = world(&rt, rt.alloc(), 64);
     hit_eight(&rt, &mut map, true);
     expect_entries(&rt, &map, 16, 1024 - 16);
     map.prune();
@@ -52,5 +51,4 @@ fn a_map_is_made_sure_and_then_cleared(rt: HostRuntime) -> Result<(), Fail> {
     map.clear();
     expect_block(&rt, &map, ORIGIN, 0, Ok(None));
     expect_entries(&rt, &map, 0, 0);
-    Ok(())
 }
