@@ -81,12 +81,12 @@ impl Sink for CalmSink {
 #[cfg(test)]
 mod tests {
     use super::*;
-    use crate::tests::{expect_write, expect_write_all};
+    use crate::tests::{expect_bytes, expect_write, expect_write_all};
     use std::process::Abort;
 
     // Expects that these bytes were written so far.
     fn expect_written(rt: &impl Abort, sink: &CalmSink, want: &[u8]) {
-        assert_eq!(rt; sink.written(), want);
+        expect_bytes(rt, sink.written(), want);
     }
 
     #[test]

@@ -66,6 +66,7 @@ impl Source for CalmSource {
 #[cfg(test)]
 mod tests {
     use super::*;
+    use crate::tests::expect_moved;
     use oct_num::Memory;
     use std::alloc::Global;
     use std::process::Abort;
@@ -76,11 +77,8 @@ mod tests {
         requires { room ≤ 16 }
     {
         let mut buffer = [0u8; 16];
-        let moved = match source.read(&mut buffer[..room]) {
-            Ok(count) => buffer.get(..count),
-            Err(Failed) => None,
-        };
-        assert_eq!(rt; moved, Some(want.as_bytes()));
+        let count = source.read(&mut buffer[..room]);
+        expect_moved(rt, &buffer, count, want.as_bytes());
     }
 
     // Expects these pieces of ten digits, by reads of `most` bytes into buffers of a length.

@@ -140,13 +140,13 @@ impl<R: Files + Drop> Store for FolderStore<R> {
 #[cfg(test)]
 mod tests {
     use super::*;
-    use crate::tests::{expect_bytes, expect_missing, expect_no_load, expect_save};
+    use crate::tests::{expect_count, expect_load, expect_missing, expect_no_load, expect_save};
     use std::process::Abort;
     use std::test::Fail;
 
     // Expects that this many loads and saves have failed.
     fn expect_faults<R: Files + Drop>(rt: &impl Abort, store: &FolderStore<R>, want: u64) {
-        assert_eq!(rt; store.faults, want);
+        expect_count(rt, store.faults, want);
     }
 
     // Expects that a load finds a file that is too large.
@@ -177,7 +177,7 @@ mod tests {
     fn fail_to_save<F: Store>(rt: &impl Abort, alloc: Global, store: &mut F) {
         let failed = Err(StoreFault::Failed);
         expect_save(rt, store, "map.bt/map.bt", b"more bytes", failed);
-        expect_bytes(rt, alloc, store, "map.bt", b"bytes");
+        expect_load(rt, alloc, store, "map.bt", b"bytes");
         expect_missing(rt, alloc, store, PART);
         expect_save(rt, store, "no_folder/map.bt", b"bytes", failed);
     }
@@ -189,21 +189,20 @@ mod tests {
     }
 
     // Loads and saves files of the folder, and counts the faults.
-    fn count_faults<R: Files>(rt: &impl Abort, alloc: Global, files: &R) -> io::Result<()> {
-        let mut store = FolderStore::new(files);
-        make_large(files, "large.bt")?;
+    fn count_faults<R: Files + Drop>(rt: &impl Abort, alloc: Global, mut store: FolderStore<R>) {
         look_for_none(rt, alloc, &mut store);
         expect_faults(rt, &store, 0);
         fail_to_load(rt, alloc, &mut store);
         expect_faults(rt, &store, 2);
         fail_to_save(rt, alloc, &mut store);
         expect_faults(rt, &store, 4);
-        clear(files)
     }
 
     #[test]
     fn faults_are_counted_and_absent_or_large_files_are_none(rt: HostRuntime) -> Result<(), Fail> {
-        count_faults(&rt, rt.alloc(), &rt)?;
+        make_large(&rt, "large.bt")?;
+        count_faults(&rt, rt.alloc(), FolderStore::new(&rt));
+        clear(&rt)?;
         Ok(())
     }
 }

@@ -45,17 +45,15 @@ mod tests {
     use super::*;
     use crate::calm_source::CalmSource;
     use crate::file_bytes::FileBytes;
+    use crate::tests::expect_moved;
     use std::process::Abort;
     use std::test::Fail;
 
     // Expects that a read with this much room moves these bytes.
     fn expect_piece(rt: &impl Abort, source: &mut CalmSource, room: u64, want: &[u8]) {
         let mut buffer = [0u8; 8];
-        let moved = match read_piece(source, &mut buffer, room) {
-            Ok(count) => buffer.get(..count),
-            Err(Failed) => None,
-        };
-        assert_eq!(rt; moved, Some(want));
+        let count = read_piece(source, &mut buffer, room);
+        expect_moved(rt, &buffer, count, want);
     }
 
     #[test]

@@ -84,7 +84,7 @@ impl<W: Write + Drop> Sink for StdSink<W> {
 #[cfg(test)]
 mod tests {
     use super::*;
-    use crate::tests::{expect_write, expect_write_all};
+    use crate::tests::{expect_bytes, expect_count, expect_write, expect_write_all};
     use std::process::Abort;
 
     // Takes one byte, then none, then is out of memory, and then fails.
@@ -111,7 +111,7 @@ mod tests {
 
     // Expects that a list has these bytes, by writes through the sink.
     fn expect_list(rt: &impl Abort, sink: &StdSink<Vec<u8>>, want: &[u8]) {
-        assert_eq!(rt; sink.writer.as_slice(), want);
+        expect_bytes(rt, sink.writer.as_slice(), want);
     }
 
     // Expects that this many writes have failed, and this many have run out of memory.
@@ -121,8 +121,8 @@ mod tests {
         faults: u64,
         shortages: u64,
     ) {
-        assert_eq!(rt; sink.faults, faults);
-        assert_eq!(rt; sink.shortages, shortages);
+        expect_count(rt, sink.faults, faults);
+        expect_count(rt, sink.shortages, shortages);
     }
 
     #[test]

@@ -57,9 +57,9 @@ impl<R: Read + Drop> Source for StdSource<R> {
 #[cfg(test)]
 mod tests {
     use super::*;
+    use crate::tests::{expect_count, expect_moved};
     use std::io;
     use std::process::Abort;
-    use std::test::Fail;
 
     // Gives a byte at every other read, and fails at those between.
     #[derive(Drop)]
@@ -89,30 +89,24 @@ mod tests {
     }
 
     // Expects that such a read moves these bytes.
-    fn expect_bytes<R: Read + Drop>(
-        rt: &impl Abort,
-        source: &mut StdSource<R>,
-        want: &[u8],
-    ) -> Result<(), Fail> {
+    fn expect_bytes<R: Read + Drop>(rt: &impl Abort, source: &mut StdSource<R>, want: &[u8]) {
         let mut buffer = [0u8; 4];
-        let count = source.read(&mut buffer)?;
-        assert_eq!(rt; &buffer[..count], want);
-        Ok(())
+        let count = source.read(&mut buffer);
+        expect_moved(rt, &buffer, count, want);
     }
 
     // Expects that this many reads have failed.
     fn expect_faults<R: Read + Drop>(rt: &impl Abort, source: &StdSource<R>, want: u64) {
-        assert_eq!(rt; source.faults, want);
+        expect_count(rt, source.faults, want);
     }
 
     #[test]
-    fn a_reader_gives_its_bytes(rt: HostRuntime) -> Result<(), Fail> {
+    fn a_reader_gives_its_bytes(rt: HostRuntime) {
         let mut source = StdSource::new(b"hit 0".as_slice());
-        expect_bytes(&rt, &mut source, b"hit ")?;
-        expect_bytes(&rt, &mut source, b"0")?;
-        expect_bytes(&rt, &mut source, b"")?;
+        expect_bytes(&rt, &mut source, b"hit ");
+        expect_bytes(&rt, &mut source, b"0");
+        expect_bytes(&rt, &mut source, b"");
         expect_faults(&rt, &source, 0);
-        Ok(())
     }
 
     #[test]

@@ -98,7 +98,7 @@ mod tests {
     use super::*;
     use crate::calm_store::CalmStore;
     use crate::folder_store::FolderStore;
-    use crate::tests::{expect_bytes, expect_missing, expect_save};
+    use crate::tests::{expect_found, expect_load, expect_missing, expect_save};
     use std::process::Abort;
     use std::rt::Files;
     use std::test::Fail;
@@ -110,14 +110,14 @@ mod tests {
         expect_save(rt, store, "one.bt", b"first", Ok(()));
         expect_save(rt, store, "two.bt", b"", Ok(()));
         expect_save(rt, store, "one.bt", b"then", Ok(()));
-        expect_bytes(rt, alloc, store, "one.bt", b"then");
-        expect_bytes(rt, alloc, store, "two.bt", b"");
+        expect_load(rt, alloc, store, "one.bt", b"then");
+        expect_load(rt, alloc, store, "two.bt", b"");
         expect_missing(rt, alloc, store, "one");
     }
 
     // Expects that the store has these bytes under the name.
     fn expect_file(rt: &impl Abort, store: &CalmStore, name: &str, want: Option<&[u8]>) {
-        assert_eq!(rt; store.file(name), want);
+        expect_found(rt, store.file(name), want);
     }
 
     #[test]
@@ -128,16 +128,16 @@ mod tests {
         expect_file(&rt, &store, "three.bt", None);
     }
 
-    // Saves files to the folder and loads them, and takes them away.
-    fn keeps_in_folder<R: Files>(rt: &impl Abort, alloc: Global, files: &R) -> io::Result<()> {
-        keeps_files(rt, alloc, &mut FolderStore::new(files));
+    // Takes away the files that were saved.
+    fn clear<R: Files>(files: &R) -> io::Result<()> {
         fs::remove_file(files, "one.bt")?;
         fs::remove_file(files, "two.bt")
     }
 
     #[test]
     fn a_folder_keeps_files_by_name(rt: HostRuntime) -> Result<(), Fail> {
-        keeps_in_folder(&rt, rt.alloc(), &rt)?;
+        keeps_files(&rt, rt.alloc(), &mut FolderStore::new(&rt));
+        clear(&rt)?;
         Ok(())
     }
 }

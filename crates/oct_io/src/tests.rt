@@ -6,6 +6,7 @@ use crate::{
     SinkFault, Source, Store, StoreFault, write_all,
 };
 use arrayvec::ArrayVec;
+use oct_num::Memory;
 use std::alloc::Global;
 use std::process::Abort;
 use std::test::Fail;
@@ -29,8 +30,42 @@ impl Sink for Noting {
     }
 }
 
+/// Expects these bytes.
+pub(crate) fn expect_bytes(rt: &impl Abort, bytes: &[u8], want: &[u8]) {
+    expect_found(rt, Some(bytes), Some(want));
+}
+
+/// Expects that these bytes are there, or none.
+pub(crate) fn expect_found(rt: &impl Abort, found: Option<&[u8]>, want: Option<&[u8]>) {
+    assert_eq!(rt; found, want);
+}
+
+/// Expects that a read has moved these bytes to the front of the buffer.
+pub(crate) fn expect_moved(
+    rt: &impl Abort,
+    buffer: &[u8],
+    count: Result<usize, Failed>,
+    want: &[u8],
+) {
+    let moved = match count {
+        Ok(count) => buffer.get(..count),
+        Err(Failed) => None,
+    };
+    expect_found(rt, moved, Some(want));
+}
+
+/// Expects that so many were counted.
+pub(crate) fn expect_count(rt: &impl Abort, count: u64, want: u64) {
+    assert_eq!(rt; count, want);
+}
+
+/// Expects that a call to a sink is answered so.
+fn expect_answer(rt: &impl Abort, answer: Result<(), SinkFault>, want: Result<(), SinkFault>) {
+    assert_eq!(rt; answer, want);
+}
+
 /// These numbers as a list.
-fn list_of(alloc: Global, numbers: &[u64]) -> Result<KeptList, Fail> {
+fn list_of(alloc: Global, numbers: &[u64]) -> Result<KeptList, Memory> {
     let mut list = KeptList::new(alloc);
     for number in numbers {
         list.push(*number)?;
@@ -55,7 +90,7 @@ pub(crate) fn expect_write_all<K: Sink>(
     piece: &[u8],
     want: Result<(), SinkFault>,
 ) {
-    assert_eq!(rt; write_all(sink, piece), want);
+    expect_answer(rt, write_all(sink, piece), want);
 }
 
 /// Expects that a push of the piece is answered so.
@@ -66,7 +101,7 @@ fn expect_push<K: Sink>(
     piece: &[u8],
     want: Result<(), SinkFault>,
 ) {
-    assert_eq!(rt; gather.push(sink, piece), want);
+    expect_answer(rt, gather.push(sink, piece), want);
 }
 
 /// Expects that a flush is answered so.
@@ -76,7 +111,7 @@ fn expect_flush<K: Sink>(
     sink: &mut K,
     want: Result<(), SinkFault>,
 ) {
-    assert_eq!(rt; gather.flush(sink), want);
+    expect_answer(rt, gather.flush(sink), want);
 }
 
 /// Pushes the bytes in pieces of this length.
@@ -148,21 +183,26 @@ fn all_bytes_come_to_a_sink_that_takes_three_at_a_time(rt: HostRuntime) {
     let mut gather = Gather::new();
     push_by(&rt, &mut gather, &mut sink, &bytes, 999);
     expect_flush(&rt, &mut gather, &mut sink, Ok(()));
-    assert_eq!(rt; sink.written(), bytes.as_slice());
+    expect_bytes(&rt, sink.written(), &bytes);
+}
+
+/// Pushes bytes to a sink whose first two writes fail, and expects that none of them is held.
+fn lose_bytes(rt: &impl Abort, mut sink: MemSink) {
+    let mut gather = Gather::new();
+    let failed = Err(SinkFault::Failed);
+    expect_push(rt, &mut gather, &mut sink, b"lost", Ok(()));
+    expect_flush(rt, &mut gather, &mut sink, failed);
+    expect_flush(rt, &mut gather, &mut sink, Ok(()));
+    expect_push(rt, &mut gather, &mut sink, &[7; 4097], failed);
+    expect_flush(rt, &mut gather, &mut sink, Ok(()));
+    expect_write_all(rt, &mut sink, b"kept", Ok(()));
+    expect_bytes(rt, sink.written(), b"kept");
 }
 
 #[test]
 fn no_byte_is_held_after_an_error(rt: HostRuntime) -> Result<(), Fail> {
-    let mut sink = MemSink::new(rt.alloc(), 9, list_of(rt.alloc(), &[1, 2])?);
-    let mut gather = Gather::new();
-    let failed = Err(SinkFault::Failed);
-    expect_push(&rt, &mut gather, &mut sink, b"lost", Ok(()));
-    expect_flush(&rt, &mut gather, &mut sink, failed);
-    expect_flush(&rt, &mut gather, &mut sink, Ok(()));
-    expect_push(&rt, &mut gather, &mut sink, &[7; 4097], failed);
-    expect_flush(&rt, &mut gather, &mut sink, Ok(()));
-    expect_write_all(&rt, &mut sink, b"kept", Ok(()));
-    assert_eq!(rt; sink.written(), b"kept".as_slice());
+    let fails = list_of(rt.alloc(), &[1, 2])?;
+    lose_bytes(&rt, MemSink::new(rt.alloc(), 9, fails));
     Ok(())
 }
 
@@ -172,13 +212,20 @@ fn expect_read(rt: &impl Abort, source: &mut MemSource, want: Result<usize, Fail
     assert_eq!(rt; source.read(&mut buffer), want);
 }
 
+/// Reads six bytes, at most four a read, from a source whose first and third reads fail.
+fn read_six(rt: &impl Abort, mut source: MemSource) {
+    expect_read(rt, &mut source, Err(Failed));
+    expect_read(rt, &mut source, Ok(4));
+    expect_read(rt, &mut source, Err(Failed));
+    expect_read(rt, &mut source, Ok(2));
+    expect_read(rt, &mut source, Ok(0));
+}
+
 #[test]
 fn reads_fail_by_their_numbers(rt: HostRuntime) -> Result<(), Fail> {
+    let fails = list_of(rt.alloc(), &[3, 1])?;
     let bytes = FileBytes::from_slice(rt.alloc(), b"abcdef")?;
-    let mut source = MemSource::new(bytes, 4, list_of(rt.alloc(), &[3, 1])?);
-    for want in [Err(Failed), Ok(4), Err(Failed), Ok(2), Ok(0)] {
-        expect_read(&rt, &mut source, want);
-    }
+    read_six(&rt, MemSource::new(bytes, 4, fails));
     Ok(())
 }
 
@@ -194,15 +241,17 @@ pub(crate) fn expect_save<F: Store>(
 }
 
 /// Expects that a load gives these bytes.
-pub(crate) fn expect_bytes<F: Store>(
+pub(crate) fn expect_load<F: Store>(
     rt: &impl Abort,
     alloc: Global,
     store: &mut F,
     name: &str,
     want: &[u8],
 ) {
-    let loaded = store.load(alloc, name);
-    assert!(rt; matches!(&loaded, Ok(Loaded::Bytes(bytes)) if bytes.as_slice() == want));
+    match store.load(alloc, name) {
+        Ok(Loaded::Bytes(bytes)) => expect_bytes(rt, bytes.as_slice(), want),
+        _ => panic!(rt; "no bytes"),
+    }
 }
 
 /// Expects that a load finds no such file.
@@ -217,17 +266,22 @@ pub(crate) fn expect_no_load<F: Store>(rt: &impl Abort, alloc: Global, store: &m
 
 /// Expects that the store has these bytes under the name.
 fn expect_file(rt: &impl Abort, store: &MemStore, name: &str, want: Option<&[u8]>) {
-    assert_eq!(rt; store.file(name), want);
+    expect_found(rt, store.file(name), want);
+}
+
+/// Saves and loads in a store whose second and third calls fail.
+fn keep_first(rt: &impl Abort, alloc: Global, mut store: MemStore) {
+    expect_save(rt, &mut store, "one.bt", b"first", Ok(()));
+    expect_save(rt, &mut store, "one.bt", b"then", Err(StoreFault::Failed));
+    expect_no_load(rt, alloc, &mut store, "one.bt");
+    expect_load(rt, alloc, &mut store, "one.bt", b"first");
+    expect_file(rt, &store, "one.bt", Some(b"first".as_slice()));
+    expect_file(rt, &store, "two.bt", None);
 }
 
 #[test]
 fn loads_and_saves_fail_by_their_numbers(rt: HostRuntime) -> Result<(), Fail> {
-    let mut store = MemStore::new(rt.alloc(), list_of(rt.alloc(), &[2, 3])?);
-    expect_save(&rt, &mut store, "one.bt", b"first", Ok(()));
-    expect_save(&rt, &mut store, "one.bt", b"then", Err(StoreFault::Failed));
-    expect_no_load(&rt, rt.alloc(), &mut store, "one.bt");
-    expect_bytes(&rt, rt.alloc(), &mut store, "one.bt", b"first");
-    expect_file(&rt, &store, "one.bt", Some(b"first".as_slice()));
-    expect_file(&rt, &store, "two.bt", None);
+    let fails = list_of(rt.alloc(), &[2, 3])?;
+    keep_first(&rt, rt.alloc(), MemStore::new(rt.alloc(), fails));
     Ok(())
 }

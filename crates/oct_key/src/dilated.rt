@@ -87,6 +87,7 @@ fn bits_before(bits: u64) -> u64
 #[cfg(test)]
 mod tests {
     use super::*;
+    use crate::tests::expect_number;
 
     #[test]
     fn counts_with_the_bits_at_their_places(rt: HostRuntime) {
@@ -94,6 +95,6 @@ mod tests {
         y.increment();
         let mut z = Dilated::new(8);
         z.decrement();
-        assert_eq!(rt; morton_of_axes(&Dilated::new(3), &y, &z), 0o2455);
+        expect_number(&rt, morton_of_axes(&Dilated::new(3), &y, &z), 0o2455);
     }
 }

@@ -57,6 +57,8 @@ mod lists;
 mod morton_code;
 mod point;
 mod resolution;
+#[cfg(test)]
+mod tests;
 mod window;
 
 pub use block::{Block, child_index};

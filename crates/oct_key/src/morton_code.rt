@@ -62,6 +62,7 @@ fn gather_bits(m: u64) -> u16
 #[cfg(test)]
 mod tests {
     use super::*;
+    use crate::tests::{expect_found, expect_number};
     use std::process::Abort;
 
     /// The three numbers of voxels, and their codes.
@@ -81,13 +82,13 @@ mod tests {
 
     /// Expects that a voxel has a code.
     fn expect_code(rt: &impl Abort, k: Key, code: u64) {
-        assert_eq!(rt; morton(k), code);
+        expect_number(rt, morton(k), code);
     }
 
     /// Expects that a code is that of a voxel.
     fn expect_voxel(rt: &impl Abort, code: u64, k: Key) {
         assert!(rt; code < 1 << 48);
-        assert_eq!(rt; from_morton(code), k);
+        expect_found(rt, Some(from_morton(code)), Some(k));
     }
 
     /// Expects that each voxel of a table has its code, and each code its voxel.

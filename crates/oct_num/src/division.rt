@@ -15,6 +15,7 @@ pub fn floor_div(n: i128, d: i128) -> i128
 #[cfg(test)]
 mod tests {
     use super::*;
+    use crate::tests::expect_number;
     use std::process::Abort;
 
     /// Numbers, their divisors, and the quotients rounded down.
@@ -34,7 +35,7 @@ mod tests {
     /// Expects that a quotient is rounded down to a number.
     fn expect_floor(rt: &impl Abort, n: i128, d: i128, want: i128) {
         assert!(rt; d >= 1);
-        assert_eq!(rt; floor_div(n, d), want);
+        expect_number(rt, floor_div(n, d), want);
     }
 
     /// Expects that each quotient of a table is rounded down to its number.

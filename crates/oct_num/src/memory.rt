@@ -27,12 +27,13 @@ impl<T: Drop> From<AllocFailed<T>> for Memory {
 #[cfg(test)]
 mod tests {
     use super::*;
+    use crate::tests::expect_text;
     use std::test::Fail;
 
     #[test]
     fn says_what_was_wanting(rt: HostRuntime) -> Result<(), Fail> {
         let text = format!(in rt.alloc(); "{Memory}")?;
-        assert_eq!(rt; text.as_str(), "out of memory");
+        expect_text(&rt, text.as_bytes(), "out of memory");
         Ok(())
     }
 }

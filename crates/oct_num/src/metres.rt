@@ -205,6 +205,7 @@ fn nanometres_per_unit(digits: usize) -> u64
 #[cfg(test)]
 mod tests {
     use super::*;
+    use crate::tests::{expect_read, expect_text};
     use std::process::Abort;
     use std::test::Fail;
 
@@ -228,15 +229,10 @@ mod tests {
         ("-9999999.999999999", -9_999_999_999_999_999),
     ];
 
-    /// Expects that a text is a length of this many nanometres.
-    fn expect_length(rt: &impl Abort, text: &str, want: i64) {
-        assert_eq!(rt; read_metres(text.as_bytes()), Ok(want), "at {text:?}");
-    }
-
     /// Expects that each text of a table is its length.
     fn expect_lengths(rt: &impl Abort, cases: &[(&str, i64)]) {
         for (text, want) in cases {
-            expect_length(rt, text, *want);
+            expect_read(rt, text, Ok(*want));
         }
     }
 
@@ -272,16 +268,10 @@ mod tests {
         ("1.1234567890x", 12),
     ];
 
-    /// Expects that a text stops being a number at a byte.
-    fn expect_syntax(rt: &impl Abort, text: &str, at: u64) {
-        let want = Err(NumFault::Syntax { at });
-        assert_eq!(rt; read_metres(text.as_bytes()), want, "at {text:?}");
-    }
-
     /// Expects that each text of a table stops being a number at its byte.
     fn expect_syntaxes(rt: &impl Abort, cases: &[(&str, u64)]) {
         for (text, at) in cases {
-            expect_syntax(rt, text, *at);
+            expect_read(rt, text, Err(NumFault::Syntax { at: *at }));
         }
     }
 
@@ -302,16 +292,10 @@ mod tests {
         ("12345678.1234567890", 7),
     ];
 
-    /// Expects that the first digit too many of a text is at a byte.
-    fn expect_excess(rt: &impl Abort, text: &str, at: u64) {
-        let want = Err(NumFault::Digits { at });
-        assert_eq!(rt; read_metres(text.as_bytes()), want, "at {text:?}");
-    }
-
     /// Expects that each text of a table has its first digit too many at its byte.
     fn expect_excesses(rt: &impl Abort, cases: &[(&str, u64)]) {
         for (text, at) in cases {
-            expect_excess(rt, text, *at);
+            expect_read(rt, text, Err(NumFault::Digits { at: *at }));
         }
     }
 
@@ -358,10 +342,8 @@ mod tests {
         let syntax = NumFault::Syntax { at: 3 };
         let digits = NumFault::Digits { at: 7 };
         let text = format!(in rt.alloc(); "{syntax}; {digits}")?;
-        assert_eq!(rt;
-            text.as_str(),
-            "no decimal number at byte 3; a digit too many at byte 7"
-        );
+        let want = "no decimal number at byte 3; a digit too many at byte 7";
+        expect_text(&rt, text.as_bytes(), want);
         Ok(())
     }
 }

@@ -84,7 +84,7 @@ pub fn push_metres(out: &mut Vec<u8>, nm: i64) -> Result<(), Memory>
 #[cfg(test)]
 mod tests {
     use super::*;
-    use crate::metres::read_metres;
+    use crate::tests::{expect_read, expect_text};
     use std::alloc::Global;
     use std::process::Abort;
     use std::test::Fail;
@@ -110,23 +110,30 @@ mod tests {
     ];
 
     /// Expects that a length has a text.
-    fn expect_text(rt: &impl Abort, nm: i64, want: &str) {
-        assert_eq!(rt; metres_text(nm).as_str(), want);
+    fn expect_metres(rt: &impl Abort, nm: i64, want: &str) {
+        expect_text(rt, metres_text(nm).as_bytes(), want);
+    }
+
+    /// Expects that bytes are `res ` and a text.
+    fn expect_behind(rt: &impl Abort, bytes: &[u8], want: &str) {
+        match bytes.strip_prefix(b"res ".as_slice()) {
+            Some(added) => expect_text(rt, added, want),
+            None => panic!(rt; "another front"),
+        }
     }
 
     /// Expects what a list that begins with `res ` has behind that once a length is added.
     fn expect_added(rt: &impl Abort, alloc: Global, nm: i64, want: &str) -> Result<(), Memory> {
         let mut out = Vec::from_slice(alloc, b"res ")?;
         push_metres(&mut out, nm)?;
-        let added = out.as_slice().strip_prefix(b"res ".as_slice());
-        assert_eq!(rt; added, Some(want.as_bytes()));
+        expect_behind(rt, out.as_slice(), want);
         Ok(())
     }
 
     /// Expects that each length of a table has its text, and that this is added to a list.
     fn expect_texts(rt: &impl Abort, alloc: Global, cases: &[(i64, &str)]) -> Result<(), Memory> {
         for (nm, want) in cases {
-            expect_text(rt, *nm, want);
+            expect_metres(rt, *nm, want);
             expect_added(rt, alloc, *nm, want)?;
         }
         Ok(())
@@ -143,7 +150,7 @@ mod tests {
         requires most { places ≤ 19 }
         requires few { n < 10 ^ places }
     {
-        assert_eq!(rt; fraction_text(places, n).as_str(), want);
+        expect_text(rt, fraction_text(places, n).as_bytes(), want);
     }
 
     #[test]
@@ -158,7 +165,7 @@ mod tests {
 
     /// Expects that a length is read back from its text.
     fn expect_read_back(rt: &impl Abort, nm: i64) {
-        assert_eq!(rt; read_metres(metres_text(nm).as_bytes()), Ok(nm), "at {nm}");
+        expect_read(rt, metres_text(nm).as_str(), Ok(nm));
     }
 
     /// Expects that each of these lengths is read back from its text.

@@ -35,10 +35,15 @@ mod tests {
         (1 << 112, 1 << 56),
     ];
 
+    /// Expects this root of a number.
+    fn expect_value(rt: &impl Abort, n: u128, root: u64, want: u64) {
+        assert_eq!(rt; root, want, "at {n}");
+    }
+
     /// Expects that the root of a number is rounded up to another.
     fn expect_root(rt: &impl Abort, n: u128, want: u64) {
         assert!(rt; n <= 1 << 112);
-        assert_eq!(rt; ceil_sqrt(n), want, "at {n}");
+        expect_value(rt, n, ceil_sqrt(n), want);
     }
 
     /// Expects that the root of each number of a table is rounded up to its partner.

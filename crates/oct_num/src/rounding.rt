@@ -18,6 +18,7 @@ pub fn round_half_up(n: i128, d: i128) -> i128
 #[cfg(test)]
 mod tests {
     use super::*;
+    use crate::tests::expect_number;
     use std::process::Abort;
 
     /// Numbers, their divisors, and the nearest whole numbers to the quotients.
@@ -44,7 +45,7 @@ mod tests {
     /// Expects that a quotient is rounded to a number.
     fn expect_rounded(rt: &impl Abort, n: i128, d: i128, want: i128) {
         assert!(rt; d >= 1 && d <= 1 << 60 && n >= -(1 << 120) && n <= 1 << 120);
-        assert_eq!(rt; round_half_up(n, d), want);
+        expect_number(rt, round_half_up(n, d), want);
     }
 
     /// Expects that each quotient of a table is rounded to its number.

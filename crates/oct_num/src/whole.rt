@@ -52,6 +52,7 @@ pub fn push_whole(out: &mut Vec<u8>, n: i64) -> Result<(), Memory>
 #[cfg(test)]
 mod tests {
     use super::*;
+    use crate::tests::expect_text;
     use std::alloc::Global;
     use std::process::Abort;
     use std::test::Fail;
@@ -108,10 +109,10 @@ mod tests {
     ];
 
     /// Expects what a list that begins with `n=` holds once a number is added.
-    fn expect_appended(rt: &impl Abort, alloc: Global, n: i64, want: &str) -> Result<(), Fail> {
+    fn expect_appended(rt: &impl Abort, alloc: Global, n: i64, want: &str) -> Result<(), Memory> {
         let mut out = Vec::from_slice(alloc, b"n=")?;
         push_whole(&mut out, n)?;
-        assert_eq!(rt; out.as_slice(), want.as_bytes());
+        expect_text(rt, out.as_slice(), want);
         Ok(())
     }
 
@@ -120,7 +121,7 @@ mod tests {
         rt: &impl Abort,
         alloc: Global,
         cases: &[(i64, &str)],
-    ) -> Result<(), Fail> {
+    ) -> Result<(), Memory> {
         for (n, want) in cases {
             expect_appended(rt, alloc, *n, want)?;
         }
@@ -129,6 +130,7 @@ mod tests {
 
     #[test]
     fn appends_whole_numbers(rt: HostRuntime) -> Result<(), Fail> {
-        expect_all_appended(&rt, rt.alloc(), NUMBERS)
+        expect_all_appended(&rt, rt.alloc(), NUMBERS)?;
+        Ok(())
     }
 }

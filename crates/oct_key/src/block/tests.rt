@@ -1,4 +1,5 @@
 use super::*;
+use crate::tests::expect_number;
 use std::process::Abort;
 
 /// The voxel just above the origin.
@@ -44,10 +45,15 @@ const BLOCKS: &[(Key, u8, (u8, u16, u16, u16))] = &[
     (EDGE, 16, (16, 65_535, 0, 1)),
 ];
 
+/// Expects the depth of a block and its number on each axis.
+fn expect_numbers(rt: &impl Abort, b: Block, want: (u8, u16, u16, u16)) {
+    assert_eq!(rt; numbers(b), want);
+}
+
 /// Expects the numbers of the block that holds a voxel at a depth.
 fn expect_block(rt: &impl Abort, k: Key, depth: u8, want: (u8, u16, u16, u16)) {
     assert!(rt; depth <= 16);
-    assert_eq!(rt; numbers(Block::of(k, depth)), want);
+    expect_numbers(rt, Block::of(k, depth), want);
 }
 
 /// Expects the block of each voxel and depth of a table.
@@ -78,7 +84,7 @@ const INDICES: &[(Key, u8, u8)] = &[
 /// Expects which child of the block at a depth holds a voxel.
 fn expect_index(rt: &impl Abort, k: Key, depth: u8, want: u8) {
     assert!(rt; depth <= 15);
-    assert_eq!(rt; child_index(k, depth), want);
+    expect_number(rt, child_index(k, depth) as u64, want as u64);
 }
 
 /// Expects the child of each voxel and depth of a table.
@@ -115,10 +121,8 @@ fn expect_child(rt: &impl Abort, depth: u8, i: u8, want: (u8, u16, u16, u16)) {
     assert!(rt; block.depth <= 15);
     let child = block.child(i);
     assert!(rt; child.depth >= 1);
-    assert_eq!(rt;
-        (numbers(child), numbers(child.parent())),
-        (want, numbers(block))
-    );
+    expect_numbers(rt, child, want);
+    expect_numbers(rt, child.parent(), numbers(block));
 }
 
 /// Expects each child of a table, and the way back from it.

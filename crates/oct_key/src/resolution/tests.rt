@@ -1,4 +1,5 @@
 use super::*;
+use crate::tests::expect_found;
 use std::process::Abort;
 use std::test::Fail;
 
@@ -30,11 +31,17 @@ const EDGES: &[(i64, bool)] = &[
     (i64::MAX, false),
 ];
 
+/// Expects this number of nanometres, or none.
+fn expect_nm(rt: &impl Abort, nm: Option<i64>, want: Option<i64>) {
+    assert_eq!(rt; nm, want);
+}
+
 /// Expects whether a number of nanometres is a resolution.
 fn expect_accepted(rt: &impl Abort, nm: i64, accepted: bool) {
+    let want = accepted.then_some(nm);
     match Res::new(nm) {
-        Ok(res) => assert_eq!(rt; (res.nm(), true), (nm, accepted)),
-        Err(BadResolution) => assert!(rt; !accepted, "at {nm}"),
+        Ok(res) => expect_nm(rt, Some(res.nm()), want),
+        Err(BadResolution) => expect_nm(rt, None, want),
     }
 }
 
@@ -68,7 +75,7 @@ const KEYS: &[(i64, Option<u16>)] = &[
 
 /// Expects the voxel that holds a point, if any.
 fn expect_voxel(rt: &impl Abort, res: Res, (x, y, z): (i64, i64, i64), want: Option<Key>) {
-    assert_eq!(rt; res.key_of(Point { x, y, z }), want);
+    expect_found(rt, res.key_of(Point { x, y, z }), want);
 }
 
 /// The voxel of three numbers, where each is known.

@@ -1,4 +1,5 @@
 use super::*;
+use crate::tests::expect_found;
 use std::process::Abort;
 
 /// The voxel of these three numbers.
@@ -20,8 +21,11 @@ const CORNERS: &[((u16, u16, u16), (u16, u16, u16), bool)] = &[
 /// Expects whether two voxels are the corners of a box.
 fn expect_corners(rt: &impl Abort, lo: Key, hi: Key, accepted: bool) {
     match Window::new(lo, hi) {
-        Some(window) => assert_eq!(rt; (window.lo(), window.hi(), true), (lo, hi, accepted)),
-        None => assert!(rt; !accepted, "from {lo:?} to {hi:?}"),
+        Some(window) => {
+            expect_found(rt, Some(window.lo()), accepted.then_some(lo));
+            expect_found(rt, Some(window.hi()), accepted.then_some(hi));
+        }
+        None => expect_found(rt, None, accepted.then_some(lo)),
     }
 }
 
@@ -37,12 +41,6 @@ fn a_box_has_its_lowest_corner_first(rt: HostRuntime) {
     expect_all_corners(&rt, CORNERS);
 }
 
-/// Whether the box of two corners holds a voxel, or `None` where they are those of no box.
-fn holds(lo: Key, hi: Key, k: Key) -> Option<bool> {
-    let window = Window::new(lo, hi)?;
-    Some(window.holds(k))
-}
-
 /// Voxels, and whether the box from (10, 20, 30) to (12, 20, 35) holds them.
 const VOXELS: &[((u16, u16, u16), bool)] = &[
     ((10, 20, 30), true),
@@ -56,19 +54,22 @@ const VOXELS: &[((u16, u16, u16), bool)] = &[
     ((11, 20, 36), false),
 ];
 
-/// Expects whether the box of two corners holds a voxel.
-fn expect_held(rt: &impl Abort, lo: Key, hi: Key, k: Key, held: bool) {
-    assert_eq!(rt; holds(lo, hi, k), Some(held), "at {k:?}");
+/// Expects whether a box holds a voxel.
+fn expect_held(rt: &impl Abort, window: &Window, k: Key, held: bool) {
+    expect_found(rt, window.holds(k).then_some(k), held.then_some(k));
 }
 
-/// Expects whether the box of two corners holds each voxel of a table.
-fn expect_all_held(rt: &impl Abort, lo: Key, hi: Key, cases: &[((u16, u16, u16), bool)]) {
+/// Expects whether a box holds each voxel of a table.
+fn expect_all_held(rt: &impl Abort, window: &Window, cases: &[((u16, u16, u16), bool)]) {
     for (k, held) in cases {
-        expect_held(rt, lo, hi, key(*k), *held);
+        expect_held(rt, window, key(*k), *held);
     }
 }
 
 #[test]
 fn a_box_holds_its_corners_and_what_lies_between(rt: HostRuntime) {
-    expect_all_held(&rt, key((10, 20, 30)), key((12, 20, 35)), VOXELS);
+    match Window::new(key((10, 20, 30)), key((12, 20, 35))) {
+        Some(window) => expect_all_held(&rt, &window, VOXELS),
+        None => panic!(rt; "no box"),
+    }
 }
