@@ -141,7 +141,7 @@ fn expect_answer_by(
     Ok(())
 }
 
-/// Expects that the program ends so, by reads and writes of 4,096 bytes, and writes this many bytes.
+/// Expects that the program ends so, by reads and writes of 4,096 bytes, and writes so much.
 fn expect_length(
     rt: &impl Abort,
     alloc: Global,
