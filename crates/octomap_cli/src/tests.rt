@@ -123,6 +123,20 @@ fn expect_end(
     assert_eq!(rt; end, want, "at {words:?} {input:?}");
 }
 
+/// Expects that a run on these words and this input ended and wrote so, with memory enough.
+fn expect_answered(
+    rt: &impl Abort,
+    words: &[&str],
+    input: &[u8],
+    answered: Result<(Status, Vec<u8>), Fail>,
+    want: (Status, &[u8]),
+) {
+    match answered {
+        Ok((status, written)) => expect_end(rt, words, input, (status, &written), want),
+        Err(_) => panic!(rt; "out of memory"),
+    }
+}
+
 /// Expects that the program, by reads and writes of these lengths, ends and writes so.
 fn expect_answer_by(
     rt: &impl Abort,
@@ -131,14 +145,13 @@ fn expect_answer_by(
     input: &[u8],
     lengths: (usize, usize),
     want: (Status, &[u8]),
-) -> Result<(), Fail>
+)
     requires read { 0 < lengths.0 }
     requires written { 0 < lengths.1 }
 {
     let (most_read, most_written) = lengths;
-    let (status, written) = answer(alloc, words, input, most_read, most_written)?;
-    expect_end(rt, words, input, (status, &written), want);
-    Ok(())
+    let answered = answer(alloc, words, input, most_read, most_written);
+    expect_answered(rt, words, input, answered, want);
 }
 
 /// Expects that the program ends so, by reads and writes of 4,096 bytes, and writes so much.
@@ -148,10 +161,11 @@ fn expect_length(
     words: &[&str],
     input: &[u8],
     want: (Status, usize),
-) -> Result<(), Fail> {
-    let (status, written) = answer(alloc, words, input, 4096, 4096)?;
-    assert_eq!(rt; (status, written.len()), want);
-    Ok(())
+) {
+    match answer(alloc, words, input, 4096, 4096) {
+        Ok((status, written)) => assert_eq!(rt; (status, written.len()), want),
+        Err(_) => panic!(rt; "out of memory"),
+    }
 }
 
 /// The same as `expect_answer_by`, by reads of 4,096 bytes.
@@ -162,10 +176,10 @@ fn expect_answer(
     input: &[u8],
     most_written: usize,
     want: (Status, &[u8]),
-) -> Result<(), Fail>
+)
     requires { 0 < most_written }
 {
-    expect_answer_by(rt, alloc, words, input, (4096, most_written), want)
+    expect_answer_by(rt, alloc, words, input, (4096, most_written), want);
 }
 
 /// A script at a resolution of 0.1 m.
@@ -174,28 +188,21 @@ fn session(alloc: Global, script: &[u8]) -> Result<(Status, Vec<u8>), Fail> {
 }
 
 /// Runs each script of a table.
-fn check(rt: &impl Abort, alloc: Global, cases: &[Case]) -> Result<(), Fail> {
+fn check(rt: &impl Abort, alloc: Global, cases: &[Case]) {
     let words = ["session", "0.1"];
     for (script, replies, ends) in cases {
         let want = (*ends, replies.as_bytes());
-        expect_answer(rt, alloc, &words, script.as_bytes(), 4096, want)?;
+        expect_answer(rt, alloc, &words, script.as_bytes(), 4096, want);
     }
-    Ok(())
 }
 
 /// Runs each script of a table under its limit, by reads of this length.
-fn check_limits(
-    rt: &impl Abort,
-    alloc: Global,
-    cases: &[LimitCase],
-    most_read: usize,
-) -> Result<(), Fail>
+fn check_limits(rt: &impl Abort, alloc: Global, cases: &[LimitCase], most_read: usize)
     requires { 0 < most_read }
 {
     for (option, limit, script, replies, ends) in cases {
         let words = ["session", "0.1", option, limit];
         let want = (*ends, replies.as_bytes());
-        expect_answer_by(rt, alloc, &words, script.as_bytes(), (most_read, 100), want)?;
+        expect_answer_by(rt, alloc, &words, script.as_bytes(), (most_read, 100), want);
     }
-    Ok(())
 }

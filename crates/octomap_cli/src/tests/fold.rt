@@ -200,5 +200,6 @@ fn a_long_script_is_answered_as_each_voxel_alone(rt: HostRuntime) -> Result<(), 
     }
     let want = (Status::Refused, lines.replies.as_bytes());
     let script = lines.script.as_bytes();
-    expect_answer(&rt, rt.alloc(), &["session", "0.1"], script, 4096, want)
+    expect_answer(&rt, rt.alloc(), &["session", "0.1"], script, 4096, want);
+    Ok(())
 }

@@ -1,7 +1,6 @@
 //! Lists of blocks, changes since a mark, and scans in a box or with log-odds of their own.
 use super::{Case, check};
 use oct_session::Status;
-use std::test::Fail;
 
 /// Lists of blocks.
 const LISTS: &[Case] = &[
@@ -46,8 +45,8 @@ const LISTS: &[Case] = &[
 ];
 
 #[test]
-fn lists_show_the_known_blocks_in_order(rt: HostRuntime) -> Result<(), Fail> {
-    check(&rt, rt.alloc(), LISTS)
+fn lists_show_the_known_blocks_in_order(rt: HostRuntime) {
+    check(&rt, rt.alloc(), LISTS);
 }
 
 /// Marks, and what has changed since.
@@ -100,8 +99,8 @@ const CHANGES: &[Case] = &[
 ];
 
 #[test]
-fn changes_are_those_since_the_mark(rt: HostRuntime) -> Result<(), Fail> {
-    check(&rt, rt.alloc(), CHANGES)
+fn changes_are_those_since_the_mark(rt: HostRuntime) {
+    check(&rt, rt.alloc(), CHANGES);
 }
 
 /// Scans with log-odds of their own, and scans in a box.
@@ -161,6 +160,6 @@ const SCANS: &[Case] = &[
 ];
 
 #[test]
-fn scans_keep_to_their_box_and_their_own_odds(rt: HostRuntime) -> Result<(), Fail> {
-    check(&rt, rt.alloc(), SCANS)
+fn scans_keep_to_their_box_and_their_own_odds(rt: HostRuntime) {
+    check(&rt, rt.alloc(), SCANS);
 }

@@ -1,7 +1,7 @@
 //! Two files of the store: their merged map, and the table of their classes.
 ghost use Rattle.std.specs.Prelude.{◌<◌};
 
-use super::{answer_over, expect_end, only, owned, status_of};
+use super::{answer_over, expect_answered, only, owned, status_of};
 use oct_io::{CalmStore, FileBytes, MemSink, MemSource, MemStore, Store, StoreFault};
 use oct_session::Status;
 use std::alloc::Global;
@@ -239,31 +239,29 @@ const USAGES: &[Case] = &[
 ];
 
 /// Runs each case of a table.
-fn check(rt: &impl Abort, alloc: Global, cases: &[Case]) -> Result<(), Fail> {
+fn check(rt: &impl Abort, alloc: Global, cases: &[Case]) {
     for (words, text, ends) in cases {
-        let (status, written) = answer(rt, alloc, words)?;
-        expect_end(rt, words, b"", (status, &written), (*ends, text));
+        expect_answered(rt, words, b"", answer(rt, alloc, words), (*ends, text));
     }
-    Ok(())
 }
 
 #[test]
-fn two_files_are_merged(rt: HostRuntime) -> Result<(), Fail> {
+fn two_files_are_merged(rt: HostRuntime) {
     check(&rt, rt.alloc(), MERGES)
 }
 
 #[test]
-fn classes_are_counted_by_pairs(rt: HostRuntime) -> Result<(), Fail> {
+fn classes_are_counted_by_pairs(rt: HostRuntime) {
     check(&rt, rt.alloc(), TABLES)
 }
 
 #[test]
-fn the_first_refusal_is_the_reply(rt: HostRuntime) -> Result<(), Fail> {
+fn the_first_refusal_is_the_reply(rt: HostRuntime) {
     check(&rt, rt.alloc(), REFUSALS)
 }
 
 #[test]
-fn other_words_ask_for_nothing(rt: HostRuntime) -> Result<(), Fail> {
+fn other_words_ask_for_nothing(rt: HostRuntime) {
     check(&rt, rt.alloc(), USAGES)
 }
 
@@ -290,10 +288,8 @@ fn expect_torn(
     words: &[&str],
     (write, call): (u8, u8),
     want: (Status, &[u8]),
-) -> Result<(), Fail> {
-    let (status, written) = torn(alloc, words, write, call)?;
-    expect_end(rt, words, b"", (status, &written), want);
-    Ok(())
+) {
+    expect_answered(rt, words, b"", torn(alloc, words, write, call), want);
 }
 
 const MERGE: [&str; 4] = ["merge", "least", "A", "B"];
@@ -301,24 +297,24 @@ const MERGE: [&str; 4] = ["merge", "least", "A", "B"];
 const TABLE: [&str; 9] = ["table", "A", "A", "0", "0", "0", "0", "0", "0"];
 
 #[test]
-fn a_load_that_fails_leaves_nothing_written(rt: HostRuntime) -> Result<(), Fail> {
+fn a_load_that_fails_leaves_nothing_written(rt: HostRuntime) {
     let fault = (Status::StoreFault, b"".as_slice());
     for call in FIRST_LOAD..=8 {
-        expect_torn(&rt, rt.alloc(), &MERGE, (0, call), fault)?;
-        expect_torn(&rt, rt.alloc(), &TABLE, (0, call), fault)?;
+        expect_torn(&rt, rt.alloc(), &MERGE, (0, call), fault);
+        expect_torn(&rt, rt.alloc(), &TABLE, (0, call), fault);
     }
-    expect_torn(&rt, rt.alloc(), &MERGE, (0, 9), (Status::Done, BOTH))
+    expect_torn(&rt, rt.alloc(), &MERGE, (0, 9), (Status::Done, BOTH));
 }
 
 #[test]
-fn behind_a_first_refusal_nothing_is_loaded(rt: HostRuntime) -> Result<(), Fail> {
+fn behind_a_first_refusal_nothing_is_loaded(rt: HostRuntime) {
     let words = ["merge", "least", "c", "B"];
     let want = (Status::Refused, b"first refused 33 NoFile\n".as_slice());
-    expect_torn(&rt, rt.alloc(), &words, (0, 8), want)
+    expect_torn(&rt, rt.alloc(), &words, (0, 8), want);
 }
 
 #[test]
-fn a_write_that_fails_leaves_a_beginning(rt: HostRuntime) -> Result<(), Fail> {
+fn a_write_that_fails_leaves_a_beginning(rt: HostRuntime) {
     for count in 0..=169u8 {
         let ends = if count == 169 {
             Status::Done
@@ -326,7 +322,6 @@ fn a_write_that_fails_leaves_a_beginning(rt: HostRuntime) -> Result<(), Fail> {
             Status::WriteFault
         };
         let front = BOTH.get(..usize::from(count)).unwrap_or(&[]);
-        expect_torn(&rt, rt.alloc(), &MERGE, (count + 1, 0), (ends, front))?;
+        expect_torn(&rt, rt.alloc(), &MERGE, (count + 1, 0), (ends, front));
     }
-    Ok(())
 }

@@ -1,5 +1,5 @@
 //! Sessions that write and restore snapshots.
-use super::{Case, answer_over, check, expect_end};
+use super::{Case, answer_over, check, expect_answered};
 use oct_io::{CalmStore, FileBytes, Store};
 use oct_session::Status;
 use std::alloc::Global;
@@ -14,10 +14,9 @@ fn expect_over(
     store: &mut CalmStore,
     script: &[u8],
     want: (Status, &[u8]),
-) -> Result<(), Fail> {
-    let (status, text) = answer_over(alloc, words, (script, 100), 100, store)?;
-    expect_end(rt, words, script, (status, &text), want);
-    Ok(())
+) {
+    let answered = answer_over(alloc, words, (script, 100), 100, store);
+    expect_answered(rt, words, script, answered, want);
 }
 
 /// Expects that the store has these bytes under the name.
@@ -62,8 +61,8 @@ const ROUNDS: &[Case] = &[
 ];
 
 #[test]
-fn a_snapshot_is_restored_whole(rt: HostRuntime) -> Result<(), Fail> {
-    check(&rt, rt.alloc(), ROUNDS)
+fn a_snapshot_is_restored_whole(rt: HostRuntime) {
+    check(&rt, rt.alloc(), ROUNDS);
 }
 
 /// What a snapshot of version 1 begins with, at 0.1 m.
@@ -87,13 +86,12 @@ fn old_hit(alloc: Global) -> Result<FileBytes, Fail> {
 const SESSION: &[&str] = &["session", "0.1"];
 
 #[test]
-fn the_unknown_world_has_a_snapshot(rt: HostRuntime) -> Result<(), Fail> {
+fn the_unknown_world_has_a_snapshot(rt: HostRuntime) {
     let mut store = CalmStore::new(rt.alloc());
     let script = b"snapshot e\nrestore e\n";
     let want = (Status::Done, b"saved 38\nrestored groups 0\n".as_slice());
-    expect_over(&rt, rt.alloc(), SESSION, &mut store, script, want)?;
+    expect_over(&rt, rt.alloc(), SESSION, &mut store, script, want);
     expect_file(&rt, &store, "e", UNKNOWN);
-    Ok(())
 }
 
 #[test]
@@ -110,15 +108,16 @@ fn an_older_snapshot_leaves_the_log_odds(rt: HostRuntime) -> Result<(), Fail> {
         &mut store,
         script,
         (Status::Done, replies),
-    )
+    );
+    Ok(())
 }
 
 #[test]
-fn a_snapshot_brings_its_log_odds(rt: HostRuntime) -> Result<(), Fail> {
+fn a_snapshot_brings_its_log_odds(rt: HostRuntime) {
     let mut store = CalmStore::new(rt.alloc());
     let script = b"hit 0 0 0\nsnapshot a\n";
     let want = (Status::Done, b"ok\nsaved 170\n".as_slice());
-    expect_over(&rt, rt.alloc(), SESSION, &mut store, script, want)?;
+    expect_over(&rt, rt.alloc(), SESSION, &mut store, script, want);
     let others = [
         "session", "0.1", "--hit", "500", "--max", "1000", "--thr", "900",
     ];
@@ -136,7 +135,7 @@ fn a_snapshot_brings_its_log_odds(rt: HostRuntime) -> Result<(), Fail> {
         &mut store,
         script,
         (Status::Done, replies),
-    )
+    );
 }
 
 /// Files that are refused, and the replies to a hit, a restore of the file and a query.
@@ -172,7 +171,7 @@ fn a_bad_snapshot_is_refused(rt: HostRuntime) -> Result<(), Fail> {
         let mut store = CalmStore::new(rt.alloc());
         store.save("a", file)?;
         let want = (Status::Refused, replies);
-        expect_over(&rt, rt.alloc(), SESSION, &mut store, script, want)?;
+        expect_over(&rt, rt.alloc(), SESSION, &mut store, script, want);
     }
     Ok(())
 }
