@@ -32,7 +32,8 @@ pub record IsMetres (text : List ℕ) (nm : ℤ) : Type 0 where
   pub behind : length form.fraction ≤ 9
   pub value : nm ≡ signed_number form.minus (nanometres form.whole form.fraction)
 
--- the index of the eighth digit before the point, or else of the tenth after it
+-- the index of the eighth digit before the point, or else of the tenth after it, where the digits
+-- begin at index `start`
 abbrev pub IsExcessAt : ℕ → List ℕ → List ℕ → ℕ → Type 0
 IsExcessAt start whole fraction at =
     ((7 < length whole) × (at ≡ start + 7))

@@ -19,21 +19,22 @@
 //! - `split_metres` takes such a length off the front of a text, as far as its digits go.
 //! - `read_whole` answers the number of exactly the texts of an optional minus and one to eighteen
 //!   digits, and `read_natural` that of exactly the texts of one to eighteen digits.
-//! - `metres_text` writes nanometres as the shortest text that is read as them; `push_metres`
-//!   appends it, or leaves the bytes as they were.
-//! - `fraction_text` writes a fraction of this many places: the point and its digits without zeros
-//!   at the end.
+//! - `metres_text` writes nanometres; below 10^16 in magnitude it is the shortest text that is read
+//!   as them. `push_metres` appends it, or leaves the bytes as they were.
+//! - `fraction_text` writes the fraction n / 10^places: a point and its digits without zeros at the
+//!   end, or nothing for 0.
 //! - `push_whole` appends the decimal text of a number, or leaves the bytes as they were.
 //! - `floor_div` rounds down for negative numbers too.
 //! - `round_half_up` answers the nearest whole number to a fraction, and the upper one at a tie.
 //! - `ceil_sqrt` answers the least whole number whose square is at least a number.
 //!
 //! A reader of texts takes off the sign (`split_sign`), splits the digits at the front from what
-//! follows them, and computes in unsigned numbers; the sign comes last. Each is stated twice: as a
-//! function from texts to answers (`metres_of`, `whole_of`), which other definitions compute with,
-//! and by the form of the text alone (`IsMetres`, `BreaksAt`, `HasExcess`, `IsWholeNumber`), which
-//! says nothing of how the text is read. Rounding too is stated twice: as the floor of `(2n + d) /
-//! (2d)` (`half_up`), and as the number that no other one is nearer than (`IsNearest`).
+//! follows them, and computes in unsigned numbers; the sign comes last. `read_metres` and
+//! `read_whole` are stated twice: as functions from texts to answers (`metres_of`, `whole_of`),
+//! which other definitions compute with, and by the form of the text alone (`IsMetres`, `BreaksAt`,
+//! `HasExcess`, `IsWholeNumber`), which says nothing of how the text is read. Rounding too is stated
+//! twice: as the floor of `(2n + d) / (2d)` (`half_up`), and as the number that no other one is
+//! nearer than (`IsNearest`).
 //!
 //! `Memory` is the error of every call that fails only because memory ran out.
 //!

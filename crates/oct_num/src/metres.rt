@@ -15,7 +15,7 @@ const MOST_WHOLE_DIGITS: usize = 7;
 
 const MOST_FRACTION_DIGITS: usize = 9;
 
-const NANOMETRES_PER_METRE: u64 = 1_000_000_000;
+pub(crate) const NANOMETRES_PER_METRE: u64 = 1_000_000_000;
 
 /// Why a text isn't a length in metres. `at` is the index of a byte of the text, from 0 on; a
 /// minus sign counts too.
@@ -64,13 +64,13 @@ pub fn split_metres(text: &[u8]) -> Option<(i64, &[u8])>
 {
     let (minus, magnitude) = split_sign(text);
     let whole = split_number(magnitude);
-    let fraction = split_fraction(whole.rest);
     if whole.count == 0 {
         return None;
     }
     if whole.count > MOST_WHOLE_DIGITS {
         return None;
     }
+    let fraction = split_fraction(whole.rest);
     if fraction.count > MOST_FRACTION_DIGITS {
         return None;
     }
@@ -116,7 +116,8 @@ fn read_magnitude(start: u64, text: &[u8]) -> Result<u64, NumFault>
     read_limited(start, whole, fraction)
 }
 
-/// The digits after the point, in what follows the digits before it.
+/// The digits after the point, in what follows the digits before it. The point, or what stands in
+/// its place, has the index `point`.
 #[tactic(auto, unfolding(crate::specs::Metres::fraction_of))]
 fn read_fraction(point: u64, rest: &[u8]) -> Result<&[u8], NumFault>
     requires short { point + length rest.now < 2 ^ 64 }

@@ -8,10 +8,9 @@ ghost use Rattle.oct_num.specs.MetresText.{leading_digits, metres_text};
 ghost use Rattle.oct_num.specs.Sign.{sign_text};
 
 use crate::memory::Memory;
+use crate::metres::NANOMETRES_PER_METRE;
 use arrayvec::ArrayString;
 use itoa::Buffer;
-
-const NANOMETRES_PER_METRE: u64 = 1_000_000_000;
 
 /// The text of a length in decimal metres: a minus where it's below 0, the whole metres, and,
 /// where nanometres are left, a point and their digits without zeros at the end. So zero is `0`,
@@ -41,8 +40,8 @@ fn sign_text(nm: i64) -> ArrayString<24>
     text
 }
 
-/// The text of a fraction of this many places after the point: the point and its digits without
-/// zeros at the end, or nothing for 0. So 50,000,000 in nine places is `.05`.
+/// The text of the fraction n / 10^places: a point and its digits without zeros at the end, or
+/// nothing for 0. So 50,000,000 in nine places is `.05`.
 pub fn fraction_text(places: u32, n: u64) -> ArrayString<20>
     requires most { places ≤ 19 }
     requires few { n < 10 ^ places }

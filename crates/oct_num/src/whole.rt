@@ -98,6 +98,35 @@ mod tests {
         expect_reads(&rt, TEXTS);
     }
 
+    /// Texts, and the numbers without a sign that they are, if any.
+    const NATURALS: &[(&str, Option<u64>)] = &[
+        ("0", Some(0)),
+        ("007", Some(7)),
+        ("42", Some(42)),
+        ("999999999999999999", Some(999_999_999_999_999_999)),
+        ("1000000000000000000", None),
+        ("", None),
+        ("-1", None),
+        ("1 ", None),
+    ];
+
+    /// Expects that a text is a number without a sign, or none.
+    fn expect_natural(rt: &impl Abort, text: &str, want: Option<u64>) {
+        assert_eq!(rt; read_natural(text.as_bytes()), want, "at {text:?}");
+    }
+
+    /// Expects that each text of a table is its number without a sign, or none.
+    fn expect_naturals(rt: &impl Abort, cases: &[(&str, Option<u64>)]) {
+        for (text, want) in cases {
+            expect_natural(rt, text, *want);
+        }
+    }
+
+    #[test]
+    fn reads_numbers_without_a_sign(rt: HostRuntime) {
+        expect_naturals(&rt, NATURALS);
+    }
+
     /// Whole numbers, and what a list that begins with `n=` holds once they are added.
     const NUMBERS: &[(i64, &str)] = &[
         (0, "n=0"),
