@@ -1,5 +1,5 @@
 -- Boxes of voxels, by two corners.
-use Rattle.std.specs.Prelude.{ℕ, ◌≤◌, Bool, true, ◌&&◌, nat_le, Option, Some, None}
+use Rattle.std.specs.Prelude.{ℕ, ◌≤◌, Bool, true, ◌&&◌, nat_le, Option, Some, None, ⊤}
 use Rattle.oct_key.specs.Voxel.{Voxel}
 
 -- a number lies between two others, both included
@@ -37,7 +37,7 @@ pub record Corners : Type 0 where
 
 -- a voxel lies in the box, or no box stands
 abbrev pub IsInWindow : Option Corners → Voxel → Type 0
-IsInWindow None k = Unit {0}
+IsInWindow None k = ⊤
 IsInWindow (Some box) k = IsInBox box.lo box.hi k
 
 -- whether a voxel lies in the box, or no box stands

@@ -95,10 +95,10 @@ pub fn child_index(k: Key, depth: u8) -> u8
     ensures few { result ≤ 7 }
     ensures step { block_of (depth + 1) k ≡ child_of (block_of depth k) result }
 {
-    let height = 15 - depth;
-    let x = (k.x >> height) & 1;
-    let y = (k.y >> height) & 1;
-    let z = (k.z >> height) & 1;
+    let bit = 15 - depth;
+    let x = (k.x >> bit) & 1;
+    let y = (k.y >> bit) & 1;
+    let z = (k.z >> bit) & 1;
     (x + 2 * y + 4 * z) as u8
 }
 

@@ -3,11 +3,8 @@ ghost use Rattle.oct_key.specs.Voxel.{IsInMap};
 ghost use Rattle.oct_key.specs.Morton.{gathered, morton_of};
 ghost use Rattle.oct_key.specs.Dilated.{dilated, IsDilated};
 
-use crate::morton_code::spread_bits;
+use crate::morton_code::{THIRD_BITS, spread_bits};
 use std::marker::Model;
-
-/// Every third place of a code, from bit 0 on.
-const PLACES: u64 = 0x2492_4924_9249;
 
 /// One, with ones in all places between, so that a carry goes through them.
 const ONE_FILLED: u64 = 0xdb6d_b6db_6db7;
@@ -72,7 +69,7 @@ fn bits_after(bits: u64) -> u64
     requires { IsDilated bits }
     ensures { result ≡ dilated (gathered 16 bits + 1) }
 {
-    (bits + ONE_FILLED) & PLACES
+    (bits + ONE_FILLED) & THIRD_BITS
 }
 
 /// The bits of the number before.
@@ -81,7 +78,7 @@ fn bits_before(bits: u64) -> u64
     requires some { 0 < gathered 16 bits }
     ensures { result ≡ dilated (gathered 16 bits - 1) }
 {
-    (bits - 1) & PLACES
+    (bits - 1) & THIRD_BITS
 }
 
 #[cfg(test)]

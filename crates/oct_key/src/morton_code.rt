@@ -5,6 +5,18 @@ ghost use Rattle.oct_key.specs.Morton.{morton_of, code_prefix, interleaved, gath
 
 use crate::point::Key;
 
+/// Every third bit of 48, from bit 0 on: where a code has the bits of one axis.
+pub(crate) const THIRD_BITS: u64 = 0x2492_4924_9249;
+
+/// The first two bits of every six of 48.
+const PAIRS: u64 = 0xc30_c30c_30c3;
+
+/// The first four bits of every twelve of 48.
+const NIBBLES: u64 = 0xf0_0f00_f00f;
+
+/// The first eight bits of every 24 of 48.
+const BYTES: u64 = 0xff00_00ff;
+
 /// The Morton code of a voxel: bit 3j is bit j of its number on x, bit 3j + 1 that of the number on
 /// y, and bit 3j + 2 that on z.
 ///
@@ -41,10 +53,10 @@ pub(crate) fn spread_bits(n: u16) -> u64
     ensures below { result < 2 ^ 46 }
 {
     let n = u64::from(n);
-    let bytes = (n | (n << 16)) & 0xff00_00ff;
-    let nibbles = (bytes | (bytes << 8)) & 0xf0_0f00_f00f;
-    let pairs = (nibbles | (nibbles << 4)) & 0xc30_c30c_30c3;
-    (pairs | (pairs << 2)) & 0x2492_4924_9249
+    let bytes = (n | (n << 16)) & BYTES;
+    let nibbles = (bytes | (bytes << 8)) & NIBBLES;
+    let pairs = (nibbles | (nibbles << 4)) & PAIRS;
+    (pairs | (pairs << 2)) & THIRD_BITS
 }
 
 /// The bits of every third place, side by side.
@@ -52,10 +64,10 @@ fn gather_bits(m: u64) -> u16
     requires { m < 2 ^ 48 }
     ensures { result ≡ gathered 16 m }
 {
-    let bits = m & 0x2492_4924_9249;
-    let pairs = (bits | (bits >> 2)) & 0xc30_c30c_30c3;
-    let nibbles = (pairs | (pairs >> 4)) & 0xf0_0f00_f00f;
-    let bytes = (nibbles | (nibbles >> 8)) & 0xff00_00ff;
+    let bits = m & THIRD_BITS;
+    let pairs = (bits | (bits >> 2)) & PAIRS;
+    let nibbles = (pairs | (pairs >> 4)) & NIBBLES;
+    let bytes = (nibbles | (nibbles >> 8)) & BYTES;
     ((bytes | (bytes >> 16)) & 0xffff) as u16
 }
 

@@ -31,6 +31,16 @@ fn numbers(b: Block) -> (u8, u16, u16, u16) {
     (b.depth, b.x, b.y, b.z)
 }
 
+/// Expects the depth of a block and its number on each axis.
+fn expect_numbers(rt: &impl Abort, b: Block, want: (u8, u16, u16, u16)) {
+    assert_eq!(rt; numbers(b), want);
+}
+
+#[test]
+fn makes_the_block_of_the_whole_map(rt: HostRuntime) {
+    expect_numbers(&rt, Block::whole_map(), (0, 0, 0, 0));
+}
+
 /// Voxels and depths, and the numbers of the blocks that hold them there.
 const BLOCKS: &[(Key, u8, (u8, u16, u16, u16))] = &[
     (MIDDLE, 0, (0, 0, 0, 0)),
@@ -44,11 +54,6 @@ const BLOCKS: &[(Key, u8, (u8, u16, u16, u16))] = &[
     (EDGE, 15, (15, 32_767, 0, 0)),
     (EDGE, 16, (16, 65_535, 0, 1)),
 ];
-
-/// Expects the depth of a block and its number on each axis.
-fn expect_numbers(rt: &impl Abort, b: Block, want: (u8, u16, u16, u16)) {
-    assert_eq!(rt; numbers(b), want);
-}
 
 /// Expects the numbers of the block that holds a voxel at a depth.
 fn expect_block(rt: &impl Abort, k: Key, depth: u8, want: (u8, u16, u16, u16)) {
