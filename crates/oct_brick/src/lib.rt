@@ -29,9 +29,11 @@
 //! - [`Brick::child_index`] and [`count_octets`] say where a brick lies in the tree: in which child
 //!   of a block, and in how many blocks of depth 15 its voxels lie.
 //!
-//! Merging allocates one list, and nothing else does. Scans stand on this crate, and trees that
-//! take them; they cite `HasCode`, `IsBrick`, `AreAscending`, `scanned_codes`, `hit_codes`,
-//! `hit_voxels` and `freed_voxels`.
+//! Merging allocates one list, and nothing else does. Scans (`oct_scan`), edits of a tree
+//! (`oct_edit`), notes of changes (`oct_change`) and the map (`oct_map`) stand on this crate. Their
+//! contracts cite `IsBrick`, `hit_voxels` and `freed_voxels`. Scans and edits cite `AreAscending`
+//! too, scans and changes `codes_of` and `coded_voxel`, and scans `HasCode`, `scanned_codes`,
+//! `hit_codes` and `octet_count`.
 
 #![tactic(auto)]
 

@@ -115,18 +115,25 @@ fn hit_brick() -> Brick {
     Brick::around(CODE).with_hit(CODE)
 }
 
-/// Expects in which child of its block at a depth the brick lies.
+/// Expects in which child of its block at a depth the brick around the voxel (0x1234, 0x5678,
+/// 0x9abc) lies.
 fn expect_child(rt: &impl Abort, depth: u8, want: u8)
     requires { depth ≤ 13 }
 {
-    assert_eq!(rt; hit_brick().child_index(depth), want);
+    assert_eq!(rt;
+        Brick::around(0o4207_4270_4277_6500).child_index(depth),
+        want
+    );
 }
 
 #[test]
 fn finds_children(rt: HostRuntime) {
-    expect_child(&rt, 0, 3);
-    expect_child(&rt, 1, 4);
-    expect_child(&rt, 13, 4);
+    expect_child(&rt, 0, 4);
+    expect_child(&rt, 1, 2);
+    expect_child(&rt, 2, 0);
+    expect_child(&rt, 3, 7);
+    expect_child(&rt, 12, 6);
+    expect_child(&rt, 13, 5);
 }
 
 /// That brick with one more voxel, which is freed.
@@ -147,10 +154,15 @@ fn tells_frees_from_hits(rt: HostRuntime) {
     expect_frees(&rt, &mixed_brick(), 0x80);
 }
 
+/// Expects what of that brick lies in a mask.
+fn expect_within(rt: &impl Abort, mask: u64, want: Brick) {
+    assert_eq!(rt; mixed_brick().within(mask), want);
+}
+
 #[test]
 fn keeps_what_lies_in_a_mask(rt: HostRuntime) {
-    assert_eq!(rt;
-        hit_brick().within(0xff),
-        Brick::around(0o3444_4444_4444_4400)
-    );
+    let around = Brick::around(CODE);
+    expect_within(&rt, 0xff, around.with_scanned(0o3444_4444_4444_4407));
+    expect_within(&rt, 1 << 0o54, hit_brick());
+    expect_within(&rt, 1, around);
 }
