@@ -8,8 +8,8 @@ pub enum Event {
     Set(i32),
     /// The voxel becomes unknown.
     Forget,
-    /// The value becomes the largest where the voxel is occupied, and the smallest where it is free
-    /// (maximum likelihood).
+    /// An occupied voxel takes the model's largest value, a free one its smallest, and an unknown
+    /// one stays unknown (maximum likelihood).
     Likely,
 }
 

@@ -1,4 +1,4 @@
-ghost use Rattle.std.specs.Prelude.{◌≡◌, pos, negsuc, ◌≤ℤ◌, ◌<ℤ◌, ◌↔◌, Some, None, IsOk, IfOk};
+ghost use Rattle.std.specs.Prelude.{◌≡◌, pos, neg_ℤ, ◌≤ℤ◌, ◌<ℤ◌, ◌↔◌, Some, None, IsOk, IfOk};
 ghost use Rattle.std.specs.Prelude.{IfErr};
 
 use crate::conditions::first_bad_field;
@@ -24,9 +24,9 @@ pub struct OddsModel {
     pub ghost hit_positive: { pos 0 <ℤ hit },
     pub ghost hit_small: { hit ≤ℤ pos 1000000 },
     pub ghost miss_negative: { miss <ℤ pos 0 },
-    pub ghost miss_small: { negsuc 999999 ≤ℤ miss },
+    pub ghost miss_small: { neg_ℤ (pos 1000000) ≤ℤ miss },
     pub ghost min_below: { min ≤ℤ pos 0 },
-    pub ghost min_small: { negsuc 999999 ≤ℤ min },
+    pub ghost min_small: { neg_ℤ (pos 1000000) ≤ℤ min },
     pub ghost max_above: { pos 0 ≤ℤ max },
     pub ghost max_small: { max ≤ℤ pos 1000000 },
     pub ghost thr_above: { min <ℤ thr },
