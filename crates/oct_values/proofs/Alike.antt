@@ -10,7 +10,8 @@ use Rattle.oct_key.proofs.Held.{held_in_map, only_voxel}
 use Rattle.oct_odds.specs.declared.event.Class.{Class}
 use Rattle.oct_odds.specs.declared.event.Class.TheVariants.{Unknown, Free, Occupied}
 use Rattle.oct_values.specs.Classes.{is_same_class}
-use Rattle.oct_values.specs.Uniform.{IsUniform, IsEquality, is_uniform_by, uniform_answer}
+use Rattle.oct_values.specs.Uniform.{IsUniform, is_uniform_by, uniform_answer}
+use Rattle.oct_values.proofs.Equality.{IsEquality}
 use Rattle.oct_values.proofs.Held.{all_pass, each_passes}
 
 -- the test for uniform blocks tells them

@@ -2,6 +2,7 @@ pub mod Eights
 pub mod Sums
 pub mod Held
 pub mod Listed
+pub mod Equality
 pub mod Alike
 pub mod Uniform
 pub mod Largest

@@ -10,11 +10,12 @@ use Rattle.oct_key.specs.Block.{Cube, IsBlock, HoldsVoxel, child_of, root_block,
 use Rattle.oct_key.proofs.Blocks.{lowest_held, lowest_in_map, child_in_map, root_in_map}
 use Rattle.oct_odds.specs.Update.{Value}
 use Rattle.oct_values.specs.Blocks.{child_numbers, voxels_of, blocks_above_voxels}
-use Rattle.oct_values.specs.Uniform.{IsUniform, IsEquality, is_uniform_by}
+use Rattle.oct_values.specs.Uniform.{IsUniform, is_uniform_by}
 use Rattle.oct_values.specs.Counts.{IsKnownIn, is_same_value, is_uniform, is_known_in, group_count}
 use Rattle.oct_values.specs.Counts.{known_children, node_count}
 use Rattle.oct_values.proofs.Alike.{uniform_by_exactly}
 use Rattle.oct_values.proofs.Eights.{all_eight}
+use Rattle.oct_values.proofs.Equality.{IsEquality}
 use Rattle.oct_values.proofs.Held.{all_held, some_passes, one_passes}
 use Rattle.oct_key.proofs.Held.{held_in_map}
 use Rattle.oct_values.proofs.Listed.{all_above_voxels}

@@ -1,5 +1,5 @@
 -- Blocks all of whose voxels have one answer: a value, a class, or anything else that a voxel has.
-use Rattle.std.specs.Prelude.{◌≡◌, ◌↔◌, Bool, IsTrue, Option, Some, None, if◌then◌else◌}
+use Rattle.std.specs.Prelude.{◌≡◌, Bool, Option, Some, None, if◌then◌else◌}
 use Rattle.std.specs.List.{list_all}
 use Rattle.oct_key.specs.Voxel.{Voxel}
 use Rattle.oct_key.specs.Block.{Cube, HoldsVoxel, lowest_voxel}
@@ -8,10 +8,6 @@ use Rattle.oct_values.specs.Blocks.{voxels_of}
 -- all voxels of the block have one answer
 abbrev pub IsUniform : {A : Type 0} → (Voxel → A) → Cube → Type 0
 IsUniform answers b = (j k : Voxel) → HoldsVoxel b j → HoldsVoxel b k → answers j ≡ answers k
-
--- a test for equal answers: what is one answer passes, and nothing else
-abbrev pub IsEquality : {A : Type 0} → (A → A → Bool) → Type 0
-IsEquality {A} same = (x y : A) → IsTrue (same x y) ↔ (x ≡ y)
 
 -- whether the block is uniform by such a test: each of its voxels has the answer of the lowest one
 unfoldable pub is_uniform_by : {A : Type 0} → (A → A → Bool) → (Voxel → A) → Cube → Bool

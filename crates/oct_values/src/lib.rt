@@ -28,10 +28,26 @@
 //! ensures { group_count (updated odds events values) ≤ group_count values + event_need events }
 //! ```
 //!
-//! Its functions do nothing and promise much: each is a law, so that nobody has to trust a list, a
-//! test or a fold. Each block and each voxel is listed once, the tests say what they say in words
-//! of voxels, a block has one answer, and events make no more groups needed than they may. Scans,
-//! the tree's edits and queries, the map, files and the session are held against these words.
+//! Its functions do nothing: their contracts are laws of these words.
+//!
+//! - Each voxel of a block and each block of depth 0 to 15 is listed once
+//!   ([`voxels_are_listed_once`], [`blocks_are_listed_once`]).
+//! - `is_uniform`, `is_known_in`, `is_reached`, `is_in_box`, `is_met_by` and `is_cut_by` say what
+//!   they say in words of voxels ([`tests_tell_blocks`], [`tests_tell_boxes`]).
+//! - Each block has one answer, and `depth_value` is it ([`blocks_have_one_answer`]).
+//! - `group_count`, `node_count`, `depth_value` and `event_need` depend on the voxels of the map
+//!   alone ([`answers_are_of_the_map`]).
+//! - Events make no more groups needed than `event_need` and `box_need` say
+//!   ([`events_make_few_groups`]).
+//!
+//! No law here ties `uniform_answer`, `is_listed` and `box_volume` to other words; of
+//! `class_of_block` a law of `oct_bt` does. Working words of the definitions above are
+//! `child_numbers`, `voxels_below`, `blocks_below`, `larger`, `is_same_value`, `is_same_class`,
+//! `known_children`, `needed_nodes`, `met_on`, `within_on`, `met_at`, `cut_at`, `MeetsSpan` and
+//! `LiesInSpan`.
+//!
+//! Scans, the tree's edits and queries, the map, files and the session are held against these
+//! words.
 #![tactic(auto)]
 
 mod laws;
