@@ -8,7 +8,8 @@ use Rattle.oct_io.specs.declared.calls.Calls.{Calls}
 abbrev pub is_to_fail : List ℕ → ℕ → Bool
 is_to_fail fails number = list_any (λ n. nat_eq n number) fails
 
--- the count stays at its last value, and a call that finds it there has no number
+-- whether the next call has a number: the count stays at its last value, and a call that finds it
+-- there has none
 abbrev pub has_number : ℕ → Bool
 has_number count = nat_lt count (2 ^ 64 - 1)
 

@@ -43,7 +43,7 @@ impl Source for CalmSource {
     ghost ends = { λ _. 0 };
 
     /// A read that finds bytes moves as many as it may: `most`, the length of the buffer, or what
-    /// is left, whichever is least.
+    /// is left, whichever is least. The rest of the buffer stays as it was.
     fn read(&mut self, buffer: &mut [u8]) -> Result<usize, Failed>
         ensures full { result
             ≡ Ok (min self.old.most (min (length buffer.old) (length self.old.left))) }
@@ -51,6 +51,7 @@ impl Source for CalmSource {
         ensures within { IfOk result (λ n. n ≤ length buffer.old) }
         ensures moved { IfOk result (λ n. self.new.left ≡ drop n self.old.left) }
         ensures bytes { IfOk result (λ n. take n buffer.new ≡ take n self.old.left) }
+        ensures rest { IfOk result (λ n. drop n buffer.new ≡ drop n buffer.old) }
         ensures some { IfOk result (λ n. n ≤ length self.old.left) }
         ensures end { IfOk result (λ n. n ≡ 0 → 0 < length buffer.old → self.old.left ≡ []) }
     {

@@ -1,4 +1,5 @@
-ghost use Rattle.std.specs.Prelude.{◌≡◌, Some, IfOk, IsOkUnless, OnErr, OnOk, option_copied};
+ghost use Rattle.std.specs.Prelude.{◌≡◌, Some, IfOk, IsOkUnless, IsSome, OnErr, OnOk};
+ghost use Rattle.std.specs.Prelude.{option_copied};
 
 use crate::file_bytes::FileBytes;
 use crate::store::{LARGEST_FILE, Loaded, Store, StoreFault};
@@ -54,6 +55,9 @@ impl Store for CalmStore {
         ensures found { IfOk result (λ loaded. loaded ≡ loaded_of (files_of self.old name.now)) }
         ensures limit { IfOk result IsWithinLimit }
         ensures calm { IsOkUnless result StoreFault.Memory }
+
+        // Memory runs out only over the bytes of a file.
+        ensures memory { OnErr result (IsSome (files_of self.old name.now)) }
     {
         let Some(bytes) = self.file(name) else {
             return Ok(Loaded::Missing);

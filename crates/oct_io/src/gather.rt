@@ -92,8 +92,7 @@ impl Gather {
         ensures ok { OnOk result (K.written sink.new ≡ appended (K.written sink.old) self.old) }
         ensures empty { self.new ≡ [] }
         ensures waits { self.old ≡ [] → sink.new ≡ sink.old }
-        ensures err { OnErr result ((n : ℕ) × (n < length self.old)
-            × (K.written sink.new ≡ appended (K.written sink.old) (take n self.old))) }
+        ensures err { OnErr result (IsCutOff (K.written sink.old) (K.written sink.new) self.old) }
 
         // Where it gives up, exactly one write of the sink did, for the same reason.
         ensures counts { IsWriteCounted result (K.faults sink.old) (K.faults sink.new)

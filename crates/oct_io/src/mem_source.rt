@@ -42,7 +42,8 @@ impl Source for MemSource {
     ghost ends = { λ _. 0 };
 
     /// A read that doesn't fail moves as many as it may: `most`, the length of the buffer, or what
-    /// is left, whichever is least.
+    /// is left, whichever is least. The rest of the buffer stays as it was, and after an error all
+    /// of it.
     fn read(&mut self, buffer: &mut [u8]) -> Result<usize, Failed>
         ensures fails { is_err result ≡ fails_next self.old.calls }
         ensures counted { self.new.calls ≡ with_call self.old.calls }
@@ -52,10 +53,12 @@ impl Source for MemSource {
         ensures within { IfOk result (λ n. n ≤ length buffer.old) }
         ensures moved { IfOk result (λ n. self.new.supply.left ≡ drop n self.old.supply.left) }
         ensures bytes { IfOk result (λ n. take n buffer.new ≡ take n self.old.supply.left) }
+        ensures rest { IfOk result (λ n. drop n buffer.new ≡ drop n buffer.old) }
         ensures some { IfOk result (λ n. n ≤ length self.old.supply.left) }
         ensures end { IfOk result
             (λ n. n ≡ 0 → 0 < length buffer.old → self.old.supply.left ≡ []) }
         ensures err { OnErr result (self.new.supply.left ≡ self.old.supply.left) }
+        ensures unmoved { OnErr result (buffer.new ≡ buffer.old) }
         ensures counts { IsReadCounted result
             (failed_of self.old.calls) (failed_of self.new.calls) }
     {

@@ -1,5 +1,5 @@
 ghost use Rattle.std.specs.Prelude.{◌≡◌, Some, Err, IfOk, IsErrOf, OnErr, OnOk, option_copied};
-ghost use Rattle.std.specs.Prelude.{true};
+ghost use Rattle.std.specs.Prelude.{true, IsSome};
 ghost use Rattle.oct_io.specs.Counts.{IsAskCounted};
 ghost use Rattle.oct_io.specs.Failing.{fails_next, with_call, failed_of};
 
@@ -59,6 +59,10 @@ impl Store for MemStore {
         ensures found { IfOk result
             (λ loaded. loaded ≡ loaded_of (files_of self.old.shelf name.now)) }
         ensures limit { IfOk result IsWithinLimit }
+
+        // Memory runs out only over the bytes of a file.
+        ensures memory { IsErrOf result StoreFault.Memory
+            → IsSome (files_of self.old.shelf name.now) }
         ensures counts { IsAskCounted result
             (failed_of self.old.calls) (failed_of self.new.calls) }
     {

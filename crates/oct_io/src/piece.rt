@@ -1,4 +1,4 @@
-//! A piece of an input that may have this many bytes.
+//! One read of an input that may have a limited number of bytes more.
 ghost use Rattle.std.specs.Prelude.{◌≡◌, ◌<◌, ◌≤◌, ◌+◌, [], length, take, IfOk, IfSome, OnErr};
 ghost use Rattle.oct_io.specs.Counts.{IsEndCounted, IsReadCounted};
 ghost use Rattle.oct_io.specs.Told.{dropped};

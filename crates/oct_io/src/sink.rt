@@ -2,10 +2,10 @@ ghost use Rattle.std.specs.Prelude.{◌≡◌, ◌<◌, ◌≤◌, List, ℕ, Op
 ghost use Rattle.std.specs.Prelude.{OnOk};
 ghost use Rattle.oct_io.specs.declared.sink.SinkFault.TheVariants.{Memory};
 ghost use Rattle.oct_io.specs.Counts.{IsWriteCounted};
+ghost use Rattle.oct_io.specs.Taken.{IsCutOff};
 ghost use Rattle.oct_io.specs.Told.{appended};
 
 use oct_num::Memory;
-use std::alloc::{AllocError, AllocFailed};
 use thiserror::Error;
 
 /// Why a sink took no bytes.
@@ -24,22 +24,6 @@ impl From<Memory> for SinkFault {
     ghost from_gives = { λ _ e. e ≡ Memory };
 
     fn from(_: Memory) -> Self {
-        SinkFault::Memory
-    }
-}
-
-impl From<AllocError> for SinkFault {
-    ghost from_gives = { λ _ e. e ≡ Memory };
-
-    fn from(_: AllocError) -> Self {
-        SinkFault::Memory
-    }
-}
-
-impl<T: Drop> From<AllocFailed<T>> for SinkFault {
-    ghost from_gives = { λ _ e. e ≡ Memory };
-
-    fn from(_: AllocFailed<T>) -> Self {
         SinkFault::Memory
     }
 }
@@ -72,8 +56,7 @@ pub trait Sink {
 /// Writes the whole piece. After an error a prefix of it was written.
 pub fn write_all<K: Sink>(sink: &mut K, piece: &[u8]) -> Result<(), SinkFault>
     ensures ok { OnOk result (K.written sink.new ≡ appended (K.written sink.old) piece.now) }
-    ensures err { OnErr result ((n : ℕ) × (n < length piece.now)
-        × (K.written sink.new ≡ appended (K.written sink.old) (take n piece.now))) }
+    ensures err { OnErr result (IsCutOff (K.written sink.old) (K.written sink.new) piece.now) }
 
     // Where it gives up, exactly one write of the sink did, for the same reason.
     ensures counts { IsWriteCounted result (K.faults sink.old) (K.faults sink.new)

@@ -180,7 +180,7 @@ fn all_bytes_come_to_a_sink_that_takes_three_at_a_time(rt: HostRuntime) {
     let mut bytes = [0u8; 5000];
     number(&mut bytes);
     let mut sink = CalmSink::new(rt.alloc(), 3);
-    let mut gather = Gather::new();
+    let mut gather = Gather::default();
     push_by(&rt, &mut gather, &mut sink, &bytes, 999);
     expect_flush(&rt, &mut gather, &mut sink, Ok(()));
     expect_bytes(&rt, sink.written(), &bytes);
@@ -283,5 +283,28 @@ fn keep_first(rt: &impl Abort, alloc: Global, mut store: MemStore) {
 fn loads_and_saves_fail_by_their_numbers(rt: HostRuntime) -> Result<(), Fail> {
     let fails = list_of(rt.alloc(), &[2, 3])?;
     keep_first(&rt, rt.alloc(), MemStore::new(rt.alloc(), fails));
+    Ok(())
+}
+
+/// Expects the texts of what a sink and a store answer.
+fn expect_texts(
+    rt: &impl Abort,
+    alloc: Global,
+    (sink, store): (SinkFault, StoreFault),
+    want: &[u8],
+) {
+    let text = format!(in alloc; "{sink}; {store}").unwrap_or(String::new(alloc));
+    expect_bytes(rt, text.as_bytes(), want);
+}
+
+#[test]
+fn faults_say_what_they_are(rt: HostRuntime) -> Result<(), Fail> {
+    let text = format!(in rt.alloc(); "{Failed}")?;
+    expect_bytes(&rt, text.as_bytes(), b"the source could not be read");
+    let failed = (SinkFault::Failed, StoreFault::Failed);
+    let want = b"the sink could not be written to; the file could not be read or written";
+    expect_texts(&rt, rt.alloc(), failed, want);
+    let memory = (SinkFault::Memory, StoreFault::Memory);
+    expect_texts(&rt, rt.alloc(), memory, b"out of memory; out of memory");
     Ok(())
 }
