@@ -2,7 +2,7 @@
 use Rattle.std.proofs.Common.{◌≡◌, ℕ, ◌+◌, ◌-◌, ◌≤◌, List, [], ◌++◌, length, take, drop, min, sym}
 use Rattle.std.proofs.Common.{ap, ◌∙◌, arith}
 use Rattle.std.proofs.lemmas.List.{length-take, length-drop, take-append-le, drop-append-le}
-use Rattle.std.proofs.lemmas.List.{drop-drop, take-take}
+use Rattle.std.proofs.lemmas.List.{drop-drop, take-take, drop_at, take-append-drop}
 use Rattle.std.proofs.Math.Seq.{take-add, take-append-add, drop-length}
 
 -- ---- a piece of a line
@@ -47,6 +47,23 @@ filled_more f n text left buffer part behind same later within fits more =
     ∙ ap (λ t. t ++ take n (part ++ behind)) same
     ∙ ap (λ t. take f text ++ t) (take-append-le n part behind fits ∙ more ∙ ap (take n) later)
     ∙ sym (take-add f n text)
+
+-- what lies behind the pieces stays
+pub rest_more : (f n k : ℕ) (buffer part old : List ℕ) → drop f buffer ≡ drop f old
+    → f ≤ length buffer → n ≤ length part → length part ≡ length (take k (drop f buffer))
+    → drop n part ≡ drop n (take k (drop f buffer))
+    → drop (f + n) (take f buffer ++ (part ++ drop k (drop f buffer))) ≡ drop (f + n) old
+rest_more f n k buffer part old same within fits size kept =
+    let mid = take k (drop f buffer) in
+    let behind = drop k (drop f buffer) in
+    let front : length (take f buffer) ≡ f = omega (arith, length-take f buffer, within) in
+    sym (drop-drop n f (take f buffer ++ (part ++ behind)))
+    ∙ ap (drop n) (drop_at (take f buffer) (part ++ behind) f front)
+    ∙ drop-append-le n part behind fits
+    ∙ ap (λ t. t ++ behind) kept
+    ∙ sym (drop-append-le n mid behind (omega (arith, fits, size)))
+    ∙ ap (drop n) (take-append-drop k (drop f buffer) ∙ same)
+    ∙ drop-drop n f old
 
 pub part_fits : (f n : ℕ) (buffer : List ℕ) → n ≤ length (take (length buffer - f) (drop f buffer))
     → f ≤ length buffer → f + n ≤ length buffer

@@ -41,10 +41,11 @@ impl Generator {
     }
 
     /// Moves the next bytes to the front of the buffer, as many as it holds or as are left, and
-    /// answers how many.
+    /// answers how many. The rest of the buffer stays as it was.
     pub fn fill(&mut self, buffer: &mut [u8]) -> usize
         ensures count { result ≡ min (length buffer.old) (length self.old) }
         ensures bytes { take result buffer.new ≡ take result self.old }
+        ensures rest { drop result buffer.new ≡ drop result buffer.old }
         ensures moved { self.new ≡ drop result self.old }
     {
         let mut filled = 0usize;
@@ -65,6 +66,7 @@ impl Generator {
         ensures enough { result ≤ length self.old }
         ensures len { length buffer.new ≡ length buffer.old }
         ensures bytes { take result buffer.new ≡ take result self.old }
+        ensures rest { drop result buffer.new ≡ drop result buffer.old }
         ensures moved { self.new ≡ drop result self.old }
         ensures end { result ≡ 0 → 0 < length buffer.old → self.old ≡ [] }
     {
@@ -98,6 +100,7 @@ impl Source for Generator {
         ensures within { IfOk result (λ n. n ≤ length buffer.old) }
         ensures moved { IfOk result (λ n. self.new ≡ drop n self.old) }
         ensures bytes { IfOk result (λ n. take n buffer.new ≡ take n self.old) }
+        ensures rest { IfOk result (λ n. drop n buffer.new ≡ drop n buffer.old) }
         ensures some { IfOk result (λ n. n ≤ length self.old) }
         ensures end { IfOk result (λ n. n ≡ 0 → 0 < length buffer.old → self.old ≡ []) }
     {

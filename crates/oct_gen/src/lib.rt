@@ -25,9 +25,10 @@
 //! - A script has at most 62 bytes, and for each scan 59, and 41 for each of its points
 //!   ([`scripts_are_short`]).
 //!
-//! `specs/Draws.antt` names each draw by its index: the state after this many steps from the seed,
-//! without its lowest 33 bits. In `specs/Script.antt` each line is a function of the index of its
-//! first draw, so that the definition needs no state that goes from line to line.
+//! `specs/Draws.antt` names each draw by its index, from 0 on: the state after one step more than
+//! that from the seed, without its lowest 33 bits. In `specs/Script.antt` each line is a function
+//! of the index of its first draw, so that the definition needs no state that goes from line to
+//! line.
 //!
 //! The code keeps that state (`draws`), makes one line at a time in a string of 128 bytes (`line`),
 //! and knows what comes next (`lines`). So a `Generator` and `generate` hold one line or one piece,

@@ -14,6 +14,15 @@ pub(crate) type Line = ArrayString<128>;
 
 const NANOMETRES_PER_MILLIMETRE: i64 = 1_000_000;
 
+/// How far a scan's place lies from 0 on each axis at most, in millimetres.
+const ORIGIN_REACH: u16 = 2000;
+
+/// How large the last number of a scan's quaternion is at most, by which it is turned about z.
+const TURN_REACH: u16 = 2;
+
+/// How far a point lies from 0 on each axis at most, in millimetres.
+const POINT_REACH: u16 = 5000;
+
 /// The first line: a comment that says what made the script.
 pub(crate) fn header_line(seed: u64, scans: u32, points: u32) -> Line
     ensures { result.bytes ≡ header_line seed scans points }
@@ -36,9 +45,9 @@ pub(crate) fn scan_line(draws: &mut Draws) -> Line
 {
     let mut line = Line::new();
     line.push_str("scan ");
-    push_point(&mut line, draws, 2000);
+    push_point(&mut line, draws, ORIGIN_REACH);
     line.push_str(" 1 0 0 ");
-    line.push_str(Buffer::new().format(draws.draw_within(2)));
+    line.push_str(Buffer::new().format(draws.draw_within(TURN_REACH)));
     line.push_str(" 8\n");
     line
 }
@@ -50,7 +59,7 @@ pub(crate) fn point_line(draws: &mut Draws) -> Line
 {
     let mut line = Line::new();
     line.push_str("p ");
-    push_point(&mut line, draws, 5000);
+    push_point(&mut line, draws, POINT_REACH);
     line.push_str("\n");
     line
 }

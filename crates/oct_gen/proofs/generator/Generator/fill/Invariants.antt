@@ -7,6 +7,7 @@ invariant-loop-filled l = record {
   enough : l.filled ≤ length l.fn.self;
   bytes : take l.filled l.buffer ≡ take l.filled l.fn.self;
   moved : l.self ≡ drop l.filled l.fn.self;
+  rest : drop l.filled l.buffer ≡ drop l.filled l.fn.buffer;
 }
 
 abbrev pub decreases-loop-filled : goal.decreases-loop-filled
