@@ -16,9 +16,11 @@
 //!   and a translation whose coordinates are below 10^16 nm in magnitude.
 //! - [`Pose::apply`] is the turn and the move without an error beyond one rounding: the point p
 //!   goes to Hamilton's product `q p q*`, divided by the square of q's length, each coordinate
-//!   rounded to the nearest whole number and half up, and then by the translation. No coordinate
-//!   ever lies half way between two numbers, so the rule for ties is never needed. No coordinate of
+//!   rounded to the nearest whole number and half up, and then by the translation. No coordinate of
 //!   the answer is further than 3 * 10^16 nm from the translation's.
+//!
+//! (By the parities of the quaternion's numbers no coordinate ever lies half way between two whole
+//! numbers; no clause says so.)
 //!
 //! The product stands as a table of nine factors of the point's coordinates, in whole numbers of at
 //! most 2^32. The weighted sums are of 128 bits, and only then divided, once, so that nothing is
