@@ -2,14 +2,22 @@
 use Rattle.std.proofs.Common.{◌≡◌, ℕ, ◌+◌, ◌-◌, ◌*◌, ◌<◌, ◌≤◌, Bool, true, false, not, eqb, ◌&&◌}
 use Rattle.std.proofs.Common.{◌||◌, refl, arith, inl, inr, ◌⊎◌, sym}
 use Rattle.std.proofs.lemmas.Bool.Decides.{nat_tests}
-use Rattle.oct_ray.specs.Moment.{Moment, NotAfter, Before, IsMoment}
 use Rattle.oct_ray.specs.Axis.{HasRoom, crosses, axis_after, not_after, lateness}
 use Rattle.oct_ray.specs.declared.axis.Axis.{Axis}
+use Rattle.oct_ray.proofs.Moments.{Moment, NotAfter, Before, IsMoment}
 use Rattle.oct_ray.proofs.Moments.{moment_trans}
+
+-- the moment of the crossing that comes after i others
+abbrev pub crossing : Axis → ℕ → Moment
+crossing a i = record {
+  numerator = a.distance + i * a.edge;
+  denominator = a.span;
+  late = lateness a;
+}
 
 -- the crossing that comes next
 abbrev pub next_crossing : Axis → Moment
-next_crossing a = record { num = a.distance; den = a.span; late = lateness a }
+next_crossing a = record { numerator = a.distance; denominator = a.span; late = lateness a }
 
 pub lateness-le : (a : Axis) → lateness a ≤ 1
 lateness-le a = grind arith

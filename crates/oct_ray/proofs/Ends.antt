@@ -9,12 +9,12 @@ use Rattle.oct_key.specs.Voxel.{Voxel, HoldsOnAxis, Holds, key_at}
 use Rattle.oct_key.specs.declared.point.Point.{Point}
 use Rattle.oct_key.proofs.Faces.{Holds-key_at}
 use Rattle.oct_ray.specs.Segment.{IsBetweenFaces, IsPlaceOf}
-use Rattle.oct_ray.specs.Moment.{Moment, NotAfter, IsMoment}
-use Rattle.oct_ray.specs.Axis.{HasRoom, axis_after, axis_keys, crosses, crossing, axis_voxel}
+use Rattle.oct_ray.specs.Axis.{HasRoom, axis_after, axis_keys, crosses, axis_voxel}
 use Rattle.oct_ray.specs.declared.axis.Axis.{Axis}
+use Rattle.oct_ray.proofs.Moments.{Moment, NotAfter, IsMoment}
 use Rattle.oct_ray.proofs.Moments.{moment_lt_le}
 use Rattle.oct_ray.proofs.Crossings.{crossings_left, crosses-crossings, axis_after-HasRoom}
-use Rattle.oct_ray.proofs.Crossings.{lateness-le, crossings_left-fall}
+use Rattle.oct_ray.proofs.Crossings.{crossing, lateness-le, crossings_left-fall}
 use Rattle.oct_ray.proofs.KeyLists.{zero_is, keys_end, keys_suc, zero_from}
 use Rattle.oct_ray.proofs.Visits.{IsAt, IsDueAfter, IsReady, VisitAt, at_start, key_after}
 use Rattle.oct_ray.proofs.Visits.{key_after-axis_after, key_after-zero, same_key, voxel_after}

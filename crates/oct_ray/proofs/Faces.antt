@@ -6,11 +6,11 @@ use Rattle.std.proofs.lemmas.Bool.{cases_lt}
 use Rattle.std.proofs.Math.Nat.{mul-le-mul_right, le_of_mul-le-mul_right, lt_of_mul-lt-mul_right}
 use Rattle.std.proofs.Math.Nat.{mul-lt-mul_of_pos_right}
 use Rattle.oct_ray.specs.Segment.{IsBetweenFaces}
-use Rattle.oct_ray.specs.Moment.{Moment}
 use Rattle.oct_ray.specs.Axis.{HasRoom, lateness}
 use Rattle.oct_ray.specs.declared.axis.Axis.{Axis}
 use Rattle.oct_num.proofs.Differences.{IsDifference, natural, of_naturals, plus, scaled}
 use Rattle.oct_num.proofs.Differences.{scaled_left, le, lt, from_le, from_lt}
+use Rattle.oct_ray.proofs.Moments.{Moment}
 use Rattle.oct_ray.proofs.Visits.{IsAt, IsDueAfter, key_after}
 use Rattle.oct_ray.proofs.Crossings.{product_plus_one}
 
@@ -52,7 +52,7 @@ within_in R o e K r d c k p q h g a b =
     record { lower = from_le f l (omega arith); upper = from_lt l n (omega arith) }
 
 abbrev pub place : ℕ → ℕ → Moment
-place p q = record { num = p; den = q; late = 0 }
+place p q = record { numerator = p; denominator = q; late = 0 }
 
 -- an axis that rises by D, from r above the face below its origin
 pub record IsLaidUp (a : Axis) (r D : ℕ) : Type 0 where

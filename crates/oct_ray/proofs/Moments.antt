@@ -1,8 +1,29 @@
--- The order of moments: it is transitive and total, and between two moments lies a place.
+-- Moments on the way along a segment, and their order: it is transitive and total, and between two
+-- moments lies a place.
 use Rattle.std.proofs.Common.{◌≡◌, ℕ, ◌+◌, ◌*◌, ◌<◌, ◌≤◌, arith, inl, inr, ◌⊎◌}
 use Rattle.std.proofs.lemmas.Bool.{cases_lt}
 use Rattle.std.proofs.Math.Nat.{mul-le-mul_right, le_of_mul-le-mul_right}
-use Rattle.oct_ray.specs.Moment.{Moment, NotAfter, Before, IsMoment}
+
+-- a moment on the way along a segment: at the place numerator / denominator, or, where late is 1,
+-- just after it
+pub record Moment : Type 0 where
+  pub numerator : ℕ
+  pub denominator : ℕ
+  pub late : ℕ
+
+-- a has a divisor, and is at a place or just after it
+abbrev pub IsMoment : Moment → Type 0
+IsMoment a = (0 < a.denominator) × (a.late ≤ 1)
+
+-- a comes no later than b
+abbrev pub NotAfter : Moment → Moment → Type 0
+NotAfter a b =
+    2 * (a.numerator * b.denominator) + a.late ≤ 2 * (b.numerator * a.denominator) + b.late
+
+-- a comes before b
+abbrev pub Before : Moment → Moment → Type 0
+Before a b =
+    2 * (a.numerator * b.denominator) + a.late < 2 * (b.numerator * a.denominator) + b.late
 
 -- the products that a chain a ≤ b ≤ c of fractions gives
 pub fraction_trans : (x a y b z c : ℕ) → 0 < b → x * b ≤ y * a → y * c ≤ z * b → x * c ≤ z * a
@@ -23,26 +44,33 @@ fraction_squeeze x a y b z c pa pc h k r =
 pub moment_trans : (a b c : Moment) → IsMoment a → IsMoment b → IsMoment c → NotAfter a b
     → NotAfter b c → NotAfter a c
 moment_trans a b c ia ib ic h k =
-    let h0 : a.num * b.den ≤ b.num * a.den = omega arith in
-    let k0 : b.num * c.den ≤ c.num * b.den = omega arith in
-    let u : a.num * c.den ≤ c.num * a.den =
-    fraction_trans a.num a.den b.num b.den c.num c.den ib.0 h0 k0 in
-    elim (cases_lt (a.num * c.den) (c.num * a.den)) [
+    let h0 : a.numerator * b.denominator ≤ b.numerator * a.denominator = omega arith in
+    let k0 : b.numerator * c.denominator ≤ c.numerator * b.denominator = omega arith in
+    let u : a.numerator * c.denominator ≤ c.numerator * a.denominator =
+    fraction_trans a.numerator a.denominator b.numerator b.denominator c.numerator c.denominator
+    ib.0 h0 k0 in
+    elim (cases_lt (a.numerator * c.denominator) (c.numerator * a.denominator)) [
       | inl l ↦ omega arith
-      | inr l ↦ let e = fraction_squeeze a.num a.den b.num b.den c.num c.den ia.0 ic.0 h0 k0 l in
+      | inr l ↦ let e = fraction_squeeze a.numerator a.denominator b.numerator b.denominator
+          c.numerator c.denominator ia.0 ic.0 h0 k0 l in
           omega arith
     ]
 
 pub moment_total : (a b : Moment) → NotAfter a b ⊎ Before b a
 moment_total a b =
-    elim (cases_lt (2 * (b.num * a.den) + b.late) (2 * (a.num * b.den) + a.late)) [
+    elim (cases_lt (2 * (b.numerator * a.denominator) + b.late)
+    (2 * (a.numerator * b.denominator) + a.late)) [
       | inl l ↦ inr l
       | inr l ↦ inl l
     ]
 
 -- the mediant: a place between two moments
 abbrev pub between : Moment → Moment → Moment
-between a b = record { num = a.num + b.num; den = a.den + b.den; late = 0 }
+between a b = record {
+  numerator = a.numerator + b.numerator;
+  denominator = a.denominator + b.denominator;
+  late = 0;
+}
 
 pub between_from : (a b : Moment) → IsMoment a → IsMoment b → Before a b → NotAfter a (between a b)
 between_from a b ia ib h = omega arith

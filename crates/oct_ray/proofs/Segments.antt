@@ -2,12 +2,12 @@
 use Rattle.std.proofs.Common.{◌≡◌, ◌≢◌, ℕ, List, [], ◌∷◌, refl, arith, sym, ap, subst}
 use Rattle.std.proofs.Common.{slice_index_or, AllPairs}
 use Rattle.oct_ray.specs.Segment.{IsPlaceOf, Precedes, IsWalkAlong}
-use Rattle.oct_ray.specs.Moment.{Moment}
 use Rattle.oct_ray.specs.Axis.{HasRoom}
 use Rattle.oct_ray.specs.Axis.{axis_keys}
 use Rattle.oct_ray.specs.declared.axis.Axis.{Axis}
 use Rattle.oct_key.specs.Voxel.{Voxel}
 use Rattle.oct_key.specs.declared.point.Point.{Point}
+use Rattle.oct_ray.proofs.Moments.{Moment}
 use Rattle.oct_ray.proofs.Crossings.{crossings_left}
 use Rattle.oct_ray.proofs.Visits.{IsAt, IsReady, VisitAt, InTurnBy, keys_visited, visits_listed}
 use Rattle.oct_ray.proofs.Visits.{keys_in_turn, voxel_after, same_key}
@@ -41,28 +41,35 @@ place_equal : (edge : ℕ) (o e : Point) (k l : Voxel) (p q : ℕ) → k ≡ l �
     → IsPlaceOf edge o e l p q
 place_equal edge o e k l p q h w = subst (λ (n : Voxel). IsPlaceOf edge o e n p q) h w
 
-moment_place : (m : Moment) → m.late ≡ 0 → m ≡ place m.num m.den
+moment_place : (m : Moment) → m.late ≡ 0 → m ≡ place m.numerator m.denominator
 moment_place m h =
-    ap (λ (n : ℕ). let w : Moment = record { num = m.num; den = m.den; late = n } in w) h
+    ap (λ (n : ℕ). let w : Moment = record {
+      numerator = m.numerator;
+      denominator = m.denominator;
+      late = n;
+    } in w) h
 
-at_place : (a : Axis) (j : ℕ) (m : Moment) → m.late ≡ 0 → IsAt a j m → IsAt a j (place m.num m.den)
+at_place : (a : Axis) (j : ℕ) (m : Moment) → m.late ≡ 0 → IsAt a j m
+    → IsAt a j (place m.numerator m.denominator)
 at_place a j m h i = subst (λ (w : Moment). IsAt a j w) (moment_place m h) i
 
 -- a visit is a place
 visit_place : (edge : ℕ) (o e : Point) (x y z : Axis) → IsSet edge o e x y z
-    → (k : Voxel) (m : Moment) → VisitAt x y z (place 0 1) k m → IsPlaceOf edge o e k m.num m.den
+    → (k : Voxel) (m : Moment) → VisitAt x y z (place 0 1) k m
+    → IsPlaceOf edge o e k m.numerator m.denominator
 visit_place edge o e x y z l k m v =
-    place_equal edge o e (voxel_after x y z v.i v.j v.h) k m.num m.den (sym v.key_is) (record {
+    place_equal edge o e (voxel_after x y z v.i v.j v.h) k m.numerator m.denominator (sym v.key_is)
+    (record {
       positive = v.positive;
       within = v.within;
       x =
-          at_within edge o.x e.x x l.is_x l.laid_x v.i m.num m.den v.positive v.within
+          at_within edge o.x e.x x l.is_x l.laid_x v.i m.numerator m.denominator v.positive v.within
           (at_place x v.i m v.prompt v.at_x);
       y =
-          at_within edge o.y e.y y l.is_y l.laid_y v.j m.num m.den v.positive v.within
+          at_within edge o.y e.y y l.is_y l.laid_y v.j m.numerator m.denominator v.positive v.within
           (at_place y v.j m v.prompt v.at_y);
       z =
-          at_within edge o.z e.z z l.is_z l.laid_z v.h m.num m.den v.positive v.within
+          at_within edge o.z e.z z l.is_z l.laid_z v.h m.numerator m.denominator v.positive v.within
           (at_place z v.h m v.prompt v.at_z);
     })
 
@@ -89,16 +96,17 @@ place_visit edge o e x y z l k p q w =
 
 -- a list in the order of its visits is one in the order of their places
 turn_from : (edge : ℕ) (o e : Point) (ks : List Voxel)
-    → InTurnBy (λ k m. IsPlaceOf edge o e k m.num m.den) ks → AllPairs (Precedes edge o e) ks
+    → InTurnBy (λ k m. IsPlaceOf edge o e k m.numerator m.denominator) ks
+    → AllPairs (Precedes edge o e) ks
 turn_from edge o e [] t = λ i j d h l. absurd (omega arith)
 turn_from edge o e (k ∷ ks) t =
     AllPairs-cons (Precedes edge o e) k ks
     (λ i d h. let w = t.0 (slice_index_or ks i d) (listed_at ks i d h) in
     record {
-      p = w.first.num;
-      q = w.first.den;
-      p' = w.second.num;
-      q' = w.second.den;
+      p = w.first.numerator;
+      q = w.first.denominator;
+      p' = w.second.numerator;
+      q' = w.second.denominator;
       place =
           w.is_first;
       place' = w.is_second;
@@ -121,7 +129,7 @@ pub keys_walk : (edge : ℕ) (o e : Point) (x y z : Axis) → IsSet edge o e x y
 keys_walk edge o e x y z l =
     let r = set_ready edge o e x y z l in
     let ks = axis_keys (crossings_left x y z) x y z in
-    let P : Voxel → Moment → Type 0 = λ k m. IsPlaceOf edge o e k m.num m.den in
+    let P : Voxel → Moment → Type 0 = λ k m. IsPlaceOf edge o e k m.numerator m.denominator in
     let turns : InTurnBy P ks =
     keys_in_turn (crossings_left x y z) x y z (place 0 1) P r
     (λ k m v. visit_place edge o e x y z l k m v) in
@@ -130,8 +138,8 @@ keys_walk edge o e x y z l =
           let k = slice_index_or ks i d in
           let v = keys_visited (crossings_left x y z) x y z (place 0 1) r k (listed_at ks i d h) in
           record {
-            p = v.place.num;
-            q = v.place.den;
+            p = v.place.numerator;
+            q = v.place.denominator;
             place = visit_place edge o e x y z l k v.place v.visit;
           };
       listed =

@@ -4,7 +4,6 @@ use Rattle.std.proofs.Common.{Bool, true, false, not, eqb, ◌&&◌, ◌||◌, [
 use Rattle.std.proofs.Common.{◌∙◌, ap, subst, length}
 use Rattle.std.proofs.lemmas.Bool.Decides.{nat_tests}
 use Rattle.std.proofs.lemmas.Nat.{mul-lt}
-use Rattle.oct_ray.specs.Moment.{NotAfter, Before}
 use Rattle.oct_ray.specs.Axis.{HasRoom, crosses, axis_after, not_after}
 use Rattle.oct_ray.specs.Track.{track_after, crosses_now, has_ended, track_voxel, track_keys}
 use Rattle.oct_ray.specs.Track.{keys_to_come, IsEnding, IsTrackOf, AreTracks, CanPass}
@@ -12,6 +11,7 @@ use Rattle.oct_ray.specs.Axis.{axis_keys, axis_voxel}
 use Rattle.oct_ray.specs.declared.axis.Axis.{Axis}
 use Rattle.oct_ray.specs.declared.track.Track.{Track}
 use Rattle.oct_ray.specs.declared.walk.Walk.TheInside.{Inside}
+use Rattle.oct_ray.proofs.Moments.{NotAfter, Before}
 use Rattle.oct_ray.proofs.Moments.{moment_le_lt}
 use Rattle.oct_ray.proofs.Crossings.{next_crossing, next_crossing-IsMoment, lateness-le}
 use Rattle.oct_ray.proofs.Crossings.{product_less_one, crossings_left, axis_after-HasRoom}

@@ -6,22 +6,22 @@ use Rattle.std.proofs.Common.{subst}
 use Rattle.std.proofs.lemmas.Bool.{cases_lt}
 use Rattle.std.proofs.Math.Nat.{mul-pos}
 use Rattle.std.proofs.lemmas.Bool.Decides.{nat_tests}
-use Rattle.oct_ray.specs.Moment.{Moment, NotAfter, Before, IsMoment}
-use Rattle.oct_ray.specs.Axis.{HasRoom, crosses, axis_after, after_crossing, lateness, crossing}
+use Rattle.oct_ray.specs.Axis.{HasRoom, crosses, axis_after, after_crossing, lateness}
 use Rattle.oct_ray.specs.Axis.{not_after}
 use Rattle.oct_ray.specs.Axis.{axis_keys, axis_voxel}
 use Rattle.oct_ray.specs.declared.axis.Axis.{Axis}
 use Rattle.oct_key.specs.Voxel.{Voxel}
+use Rattle.oct_ray.proofs.Moments.{Moment, NotAfter, Before, IsMoment}
 use Rattle.oct_ray.proofs.Moments.{moment_trans, moment_total, moment_le_lt, moment_lt_le, between}
 use Rattle.oct_ray.proofs.Moments.{between_from, between_to}
-use Rattle.oct_ray.proofs.Crossings.{next_crossing, next_crossing-IsMoment, lateness-le}
+use Rattle.oct_ray.proofs.Crossings.{crossing, next_crossing, next_crossing-IsMoment, lateness-le}
 use Rattle.oct_ray.proofs.Crossings.{product_plus_one, crossings_left, crossings_left-fall}
 use Rattle.oct_ray.proofs.Crossings.{axis_after-HasRoom, crosses-crossings, not_after_yes}
 use Rattle.oct_ray.proofs.Crossings.{not_after_no, some_crosses}
 use Rattle.oct_ray.proofs.KeyLists.{Lists, keys_suc, keys_end, zero_from}
 
 abbrev pub end_place : Moment
-end_place = record { num = 1; den = 1; late = 0 }
+end_place = record { numerator = 1; denominator = 1; late = 0 }
 
 -- at the place m the axis is j crossings on
 pub record IsAt (a : Axis) (j : ℕ) (m : Moment) : Type 0 where
@@ -51,7 +51,11 @@ crossing_stepped : (a : Axis) (i k : ℕ) → k ≡ i + 1 → crossing (after_cr
 crossing_stepped a i k e =
     let p = product_plus_one i k a.edge e in
     let n : a.distance + a.edge + i * a.edge ≡ a.distance + k * a.edge = omega arith in
-    ap (λ (n : ℕ). let m : Moment = record { num = n; den = a.span; late = lateness a } in m) n
+    ap (λ (n : ℕ). let m : Moment = record {
+      numerator = n;
+      denominator = a.span;
+      late = lateness a;
+    } in m) n
 
 first_equal : (a b m : Moment) → a ≡ b → NotAfter a m → NotAfter b m
 first_equal a b m e h = subst (λ (w : Moment). NotAfter w m) e h
@@ -116,7 +120,7 @@ IsDueAfter-axis_after : (t : Bool) (a : Axis) (s : Moment) → HasRoom a → IsM
     → IsDueAfter (axis_after t a) s
 IsDueAfter-axis_after false a s ia is l n b ends = record { after = b refl; ends = ends }
 IsDueAfter-axis_after true a s ia is l n b ends = record {
-  after = λ h. let p : 0 < a.edge * s.den = mul-pos ia.edges is.0 in omega (arith, n refl);
+  after = λ h. let p : 0 < a.edge * s.denominator = mul-pos ia.edges is.0 in omega (arith, n refl);
   ends =
       λ i h. first_equal _ _ end_place (sym (crossing_stepped a i (i + 1) refl))
       (ends (i + 1) (omega arith));
@@ -266,9 +270,9 @@ voxel_after x y z i j k = record { x = key_after x i; y = key_after y j; z = key
 
 -- from the moment s on, the place m lies in the voxel k
 pub record VisitAt (ax ay az : Axis) (s : Moment) (k : Voxel) (m : Moment) : Type 0 where
-  pub positive : 0 < m.den
+  pub positive : 0 < m.denominator
   pub prompt : m.late ≡ 0
-  pub within : m.num ≤ m.den
+  pub within : m.numerator ≤ m.denominator
   pub from : NotAfter s m
   pub i : ℕ
   pub j : ℕ
@@ -280,7 +284,7 @@ pub record VisitAt (ax ay az : Axis) (s : Moment) (k : Voxel) (m : Moment) : Typ
 
 -- just after the end
 abbrev pub past_end : Moment
-past_end = record { num = 1; den = 1; late = 1 }
+past_end = record { numerator = 1; denominator = 1; late = 1 }
 
 abbrev pub make_key : ℕ → ℕ → ℕ → Voxel
 make_key a b c = record { x = a; y = b; z = c }
@@ -543,7 +547,7 @@ pub record InOrder (P : Voxel → Moment → Type 0) (k l : Voxel) : Type 0 wher
   pub second : Moment
   pub is_first : P k first
   pub is_second : P l second
-  pub less : first.num * second.den < second.num * first.den
+  pub less : first.numerator * second.denominator < second.numerator * first.denominator
   pub differ : k ≢ l
 
 abbrev pub InTurnBy : (Voxel → Moment → Type 0) → List Voxel → Type 0

@@ -4,7 +4,6 @@ use Rattle.std.specs.Prelude.{◌==◌, nat_le, Bool, true, false, not, ◌&&◌
 use Rattle.std.specs.Prelude.{List, [], ◌∷◌, ℤ, pos, neg_ℤ, ◌-ℤ◌, ◌≤ℤ◌, ◌<ℤ◌}
 use Rattle.oct_key.specs.Voxel.{Voxel}
 use Rattle.oct_ray.specs.declared.axis.Axis.{Axis}
-use Rattle.oct_ray.specs.Moment.{Moment}
 
 -- a coordinate lies on the map, whose faces are 32768 voxels away from the origin
 abbrev pub IsOnMap : ℕ → ℤ → Type 0
@@ -56,10 +55,6 @@ pub record IsAxisOf (edge : ℕ) (o e : ℤ) (axis : Axis) : Type 0 where
 -- 1 where an axis falls: a voxel has its lower face, so that one is left only just beyond the face
 abbrev pub lateness : Axis → ℕ
 lateness a = if a.rises then 0 else 1
-
--- the moment of the crossing that comes after i others
-abbrev pub crossing : Axis → ℕ → Moment
-crossing a i = record { num = a.distance + i * a.edge; den = a.span; late = lateness a }
 
 -- an axis after its next crossing
 abbrev pub after_crossing : Axis → Axis

@@ -1,5 +1,4 @@
 pub mod Segment
-pub mod Moment
 pub mod Axis
 pub mod Track
 pub mod Range

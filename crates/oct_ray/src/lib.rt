@@ -40,8 +40,9 @@
 //! comparisons, and no product or division. All numbers are whole and fit 128 bits, so no rounding
 //! error skips a voxel.
 //!
-//! No call allocates or fails. Scans and casts stand on this crate, and cite `Meets`, `Precedes`,
-//! `IsPlaceOf`, `IsWalkAlong`, `met_by` and `IsCutEnd`.
+//! No call allocates or fails. Scans (`oct_scan`) and casts (`oct_cast`) stand on this crate, and
+//! cite `Meets` and `met_by`; casts cite `Precedes` too, and scans `IsWalkAlong`, `IsCutEnd`,
+//! `cut_coordinate` and `square_distance`.
 
 #![tactic(auto)]
 
