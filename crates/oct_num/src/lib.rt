@@ -32,9 +32,9 @@
 //! follows them, and computes in unsigned numbers; the sign comes last. `read_metres` and
 //! `read_whole` are stated twice: as functions from texts to answers (`metres_of`, `whole_of`),
 //! which other definitions compute with, and by the form of the text alone (`IsMetres`, `BreaksAt`,
-//! `HasExcess`, `IsWholeNumber`), which says nothing of how the text is read. Rounding too is stated
-//! twice: as the floor of `(2n + d) / (2d)` (`half_up`), and as the number that no other one is
-//! nearer than (`IsNearest`).
+//! `HasExcess`, `IsWholeNumber`), which says nothing of how the text is read. Rounding too is
+//! stated twice: as the floor of `(2n + d) / (2d)` (`half_up`), and as the number that no other one
+//! is nearer than (`IsNearest`).
 //!
 //! `Memory` is the error of every call that fails only because memory ran out.
 //!
