@@ -13,16 +13,29 @@ use Rattle.oct_key.specs.Boxes.{Corners, IsInWindow, is_in_window}
 use Rattle.oct_key.specs.Morton.{morton_of}
 use Rattle.oct_key.proofs.Boxes.{in_window_exactly}
 use Rattle.oct_key.specs.declared.point.Point.{Point}
-use Rattle.oct_ray.specs.Segment.{Meets}
+use Rattle.oct_ray.specs.Segment.{Meets, IsWalkAlong}
 use Rattle.oct_scan.specs.declared.beam.Beam.{Beam}
 use Rattle.oct_scan.specs.Scanned.{EndsIn}
 use Rattle.oct_scan.specs.Answer.{MeetsSoMany, MeetInAll}
-use Rattle.oct_scan.specs.Gathered.{IsMarked, IsEnd, SomeBeam, AreGathered, IsBeamAdded, end_codes}
+use Rattle.oct_scan.specs.Gathered.{IsMarked, IsEnd, SomeBeam, AreGathered, end_codes}
 use Rattle.oct_scan.specs.Gathered.{is_mute, kept}
 use Rattle.oct_brick.proofs.Lists.{contains_none, contains_here, contains_cases, contains_map}
 use Rattle.oct_brick.proofs.Lists.{contains_from_map, all_contained, pairs_head, pairs_tail}
 use Rattle.oct_key.proofs.Interleavings.{morton_below}
 use Rattle.oct_scan.proofs.Kept.{kept_from, kept_listed, kept_few}
+
+-- the codes of the voxels in the box that a beam meets, of this many in all, have come to those
+-- that are there
+pub record IsBeamAdded (edge : ℕ) (window : Option Corners) (o : Point) (b : Beam) (met : ℕ)
+    (scanned scanned' hits hits' : List ℕ) : Type 0 where
+  pub front : List Voxel
+  pub end : Voxel
+  pub walk : IsWalkAlong edge o b.end (front ++ end ∷ [])
+  pub on_map : All IsInMap (front ++ end ∷ [])
+  pub ended : EndsIn edge end b
+  pub counted : length (front ++ end ∷ []) ≡ met
+  pub marks : scanned' ≡ (scanned ++ map morton_of (kept window front)) ++ end_codes window b end
+  pub ends : hits' ≡ hits ++ end_codes window b end
 
 -- the last element of a list whose elements differ is none of the others
 pub once_last : {X : Type 0} (front : List X) (k x : X) → AllPairs (λ a b. a ≢ b) (front ++ k ∷ [])

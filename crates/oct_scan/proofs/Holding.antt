@@ -20,12 +20,13 @@ use Rattle.oct_brick.proofs.Bits.{none_set}
 use Rattle.oct_brick.proofs.BrickCodes.{codes_by}
 use Rattle.oct_brick.proofs.Merging.{pushed_has}
 use Rattle.oct_scan.specs.declared.beam.Beam.{Beam}
-use Rattle.oct_scan.specs.Gathered.{IsBeamAdded, HoldGathered, IsBeamHeld, IsHeld, IsCurrent}
+use Rattle.oct_scan.specs.Gathered.{HoldGathered, IsBeamHeld, IsHeld, IsCurrent}
 use Rattle.oct_scan.specs.Gathered.{end_codes, is_mute, kept}
 use Rattle.oct_brick.proofs.Lists.{contains_none, contains_here, contains_later, contains_cases}
 use Rattle.oct_brick.proofs.Lists.{contains_map, contains_from_map, all_contained}
 use Rattle.oct_scan.proofs.Kept.{kept_from, kept_listed}
-use Rattle.oct_scan.proofs.Gathering.{ends_with, once_last, gathered_none, gathered_next, few_more}
+use Rattle.oct_scan.proofs.Gathering.{IsBeamAdded, ends_with, once_last, gathered_none}
+use Rattle.oct_scan.proofs.Gathering.{gathered_next, few_more}
 
 -- an empty mask has no code
 none_of : (mask b c : ℕ) → mask ≡ 0 → HasCode b mask c → ⊥

@@ -4,7 +4,7 @@ use Rattle.std.specs.Prelude.{Some, None}
 use Rattle.oct_brick.specs.declared.brick.Brick.{Brick}
 use Rattle.oct_brick.specs.Masks.{octet_count}
 
--- the codes of a list without those of another
+-- the codes of a list without those of another, which stand in it in the same order
 unfoldable pub difference : List ℕ → List ℕ → List ℕ
 difference [] ys = []
 difference (x ∷ xs) [] = x ∷ difference xs []

@@ -83,19 +83,6 @@ is_mute window b end = b.is_cut || not (is_in_window window end)
 abbrev pub end_codes : Option Corners → Beam → Voxel → List ℕ
 end_codes window b end = if is_mute window b end then [] else morton_of end ∷ []
 
--- the codes of the voxels in the box that a beam meets, of this many in all, have come to those
--- that are there
-pub record IsBeamAdded (edge : ℕ) (window : Option Corners) (o : Point) (b : Beam) (met : ℕ)
-    (scanned scanned' hits hits' : List ℕ) : Type 0 where
-  pub front : List Voxel
-  pub end : Voxel
-  pub walk : IsWalkAlong edge o b.end (front ++ end ∷ [])
-  pub on_map : All IsInMap (front ++ end ∷ [])
-  pub ended : EndsIn edge end b
-  pub counted : length (front ++ end ∷ []) ≡ met
-  pub marks : scanned' ≡ (scanned ++ map morton_of (kept window front)) ++ end_codes window b end
-  pub ends : hits' ≡ hits ++ end_codes window b end
-
 -- bricks change the voxels of the one list of codes, and hit those of the other
 pub record HoldCodes (bricks : List Brick) (scanned hits : List ℕ) : Type 0 where
   pub same_scanned : (code : ℕ) → Contains scanned code ↔ Contains (scanned_codes bricks) code

@@ -24,7 +24,8 @@ pub record BrickUpdate : Type 0 where
 abbrev pub listed : BrickUpdate → Update
 listed u = record { hits = hit_voxels u.bricks; frees = freed_voxels u.bricks; need = u.need }
 
--- working word: what is made of codes that were gathered
+-- working word: the update of these codes: its hits and frees ascend by their codes, each once, a
+-- code that is scanned and not hit is freed, and the need counts the blocks of the scanned codes
 pub record IsSettled (scanned hits : List ℕ) (u : Update) : Type 0 where
   pub codes : List ℕ
   pub hit_codes : List ℕ

@@ -39,16 +39,18 @@
 //! The beams are made first, so that all ends are judged before a voxel is counted. Then each beam
 //! is walked once. Its voxels go into the brick where the beam is, which is appended to a list when
 //! the beam leaves it, and the end goes into a brick of its own. A beam that exceeds the limit is
-//! counted to its end and not kept, so that there are never more bricks than the limit allows. How
-//! a beam is walked is chosen by its ends: where both lie in the box, or no box stands, no voxel is
-//! tested; where both lie beyond it on one side, the voxels are only counted; else each is tested
-//! before it is kept. The bricks are sorted by their codes, and those of one code joined. Of the
-//! sorted bricks each adds the blocks that don't hold the one before it, which the highest
-//! different bit of the two codes tells, and its own octets.
+//! counted to its end. Of it at most the voxels within the limit and the end are kept, so that
+//! there is at most one brick more than the limit allows. How a beam is walked is chosen by its
+//! ends: where both lie in the box, or no box stands, no voxel is tested; where both lie beyond it
+//! on one side, the voxels are only counted; else each is tested before it is kept. The bricks are
+//! sorted by their codes, and those of one code joined. Of the sorted bricks each adds the blocks
+//! that don't hold the one before it, which the highest different bit of the two codes tells, and
+//! its own octets.
 //!
-//! Both calls allocate, and touch nothing but their arguments. The scans of a map stand on this
-//! crate, and cite `IsHit`, `IsFreed`, `IsNeed` and `IsRefusedFor`, or `scan_outcome`, `hit_count`,
-//! `free_count`, `cells_met` and `scan_fault`.
+//! Both calls allocate, and touch nothing but their arguments. The scans of a map (`oct_map`) stand
+//! on this crate, and their contracts cite `scan_outcome`, `hit_count`, `free_count`, `scan_fault`
+//! and `TakesMemory`. The map and the session (`oct_session`) cite `Sighting`, `sighting_of` and
+//! `IsTrust`.
 
 #![tactic(auto)]
 
