@@ -217,6 +217,7 @@ fn expect_refused(
     want: ScanFault,
 ) -> Result<(), Fail> {
     let window = Window::new(voxel(2), voxel(2));
+    assert!(rt; window.is_some());
     expect_refused_in(rt, alloc, beams, None, most, want)?;
     expect_refused_in(rt, alloc, beams, window, most, want)
 }
