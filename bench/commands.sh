@@ -6,13 +6,12 @@
 set -eu
 
 here=$(CDPATH='' cd -- "$(dirname -- "$0")" && pwd)
-program=${1:-$here/../crates/octomap_cli/out/octomap_cli}
-program=$(realpath -- "$program")
+[ $# -gt 0 ] || "$here/../octomap" session 0.05 </dev/null
+program=$(realpath -- "${1:-$here/../crates/octomap_cli/out/octomap_cli}")
 folder=$(mktemp -d)
 trap 'rm -rf -- "$folder"' EXIT
 failed=0
 
-[ $# -gt 0 ] || "$here/../octomap" session 0.05 </dev/null
 python3 "$here/make_scans.py" 1 5 500 | sed '/^quit$/d' >"$folder/scans"
 
 # The instructions of the script of this name in the folder; its replies go to NAME.replies.
@@ -26,6 +25,11 @@ count() (
 # Says what KIND took after these lines had been served, shared by so many, and at most how much.
 measure() {
     kind=$1 before=$2 taken=$3 shares=$4 most=$5
+    if [ "${before:-0}" -le 0 ] || [ "${taken:-0}" -le "${before:-0}" ]; then
+        echo "$kind: nothing was counted"
+        failed=1
+        return
+    fi
     each=$(((taken - before) / shares))
     echo "$kind: $each instructions each of $shares (at most $most)"
     [ "$each" -le "$most" ] || failed=1

@@ -28,7 +28,8 @@ int main(int count, char **words) {
     int status;
     struct rusage used;
     wait4(-1, &status, 0, &used);
-    fprintf(stderr, "status %d kilobytes %ld\n", WEXITSTATUS(status), used.ru_maxrss);
+    int code = WIFSIGNALED(status) ? 128 + WTERMSIG(status) : WEXITSTATUS(status);
+    fprintf(stderr, "status %d kilobytes %ld\n", code, used.ru_maxrss);
     return 0;
 }
 """

@@ -127,7 +127,10 @@ def is_due(came, whole, stands):
         return True
     if status != OUT_OF_MEMORY or not whole[1].startswith(output):
         return False
-    answered = [k for k, (text, _) in enumerate(stands) if len(text) <= len(output)]
+    # Those units were answered whose replies are there whole; the last ones may have none. The next
+    # one may be done too, where only its reply is missing.
+    whole_replies = max(len(text) for text, _ in stands if len(text) <= len(output))
+    answered = [k for k, (text, _) in enumerate(stands) if len(text) == whole_replies]
     return any(files == left for _, left in stands[answered[0]:answered[-1] + 2])
 
 

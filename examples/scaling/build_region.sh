@@ -8,8 +8,8 @@
 # first one also has all below them and the last one all above. NUMBER is from 1 to REGIONS. The
 # script has scans and no other line that changes the map or its box.
 #
-# The status is that of `octomap build`: 1 where a scan was refused. Numbers that make no region end
-# with 2 and nothing written.
+# The status is that of `octomap build`: 1 where a line or a scan was refused. Numbers that make no
+# region end with 2 and nothing written.
 
 program=${OCTOMAP:-$(dirname -- "$0")/../../octomap}
 
@@ -36,7 +36,7 @@ fi
 
 # The line `limit` of the region, in metres of nine digits: the middle of its two corner voxels.
 region() {
-    awk -v res="$res" -v regions="$regions" -v low="$low" -v high="$high" -v number="$number" '
+    LC_ALL=C awk -v res="$res" -v regions="$regions" -v low="$low" -v high="$high" -v number="$number" '
         function metres(key) { return sprintf("%.9f", (key - 32768 + 0.5) * res) }
         function cut(n) { return low + int((high - low) * n / regions) }
         BEGIN {
