@@ -128,7 +128,7 @@ impl Changes {
         ensures room { room_of self.new ≡ room_of self.old }
         ensures err { OnErr result (self.new ≡ self.old) }
     {
-        let first = self.first_of_each(self.alloc)?;
+        let first = self.first_of_each()?;
         self.mark();
         put_notes(&mut self.notes, &first);
         Ok(())
@@ -147,7 +147,7 @@ impl Changes {
 
     /// The voxels whose class in the tree isn't that of their first note, by ascending x, y and z.
     /// Its cost depends on the number of notes, not on the map.
-    pub fn report(&self, alloc: Global, tree: &OccTree) -> Result<ChangeList, Memory>
+    pub fn report(&self, tree: &OccTree) -> Result<ChangeList, Memory>
         ensures exact { IfOk result (λ changes. changes ≡ changes_between
             (marked_by self.now.notes (classes_of tree.now.odds (value_at tree.now)))
             (classes_of tree.now.odds (value_at tree.now))) }
@@ -155,18 +155,18 @@ impl Changes {
             (marked_by self.now.notes (classes_of tree.now.odds (value_at tree.now)))
             (classes_of tree.now.odds (value_at tree.now))) }
     {
-        let first = self.first_of_each(alloc)?;
-        changed(alloc, &first, tree)
+        let first = self.first_of_each()?;
+        changed(self.alloc, &first, tree)
     }
 
     /// The class of the first note of each voxel that is noted.
-    fn first_of_each(&self, alloc: Global) -> Result<BTreeMap<Key, Class>, Memory>
+    fn first_of_each(&self) -> Result<BTreeMap<Key, Class>, Memory>
         ensures first { IfOk result (λ first. (k : Voxel) →
             get key_cmp first k ≡ first_noted self.now.notes k) }
         ensures few { IfOk result (λ first. length first.entries ≤ length self.now.notes) }
         ensures in_map { AreInMap self.now.notes }
     {
-        let mut first = BTreeMap::new(alloc);
+        let mut first = BTreeMap::new(self.alloc);
         for note in &self.notes {
             if !first.contains_key(&note.key) {
                 first.insert(note.key, note.before)?;

@@ -12,7 +12,7 @@
 //! changes.reserve(1)?;               // the one call that can fail, before the edit
 //! changes.note_class(&tree, key);
 //! touch(&mut tree, key, Event::Add(850), false);
-//! for change in changes.report(alloc, &tree)?.as_slice() { .. }
+//! for change in changes.report(&tree)?.as_slice() { .. }
 //! ```
 //!
 //! What the contracts promise:

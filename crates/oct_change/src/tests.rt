@@ -75,14 +75,8 @@ fn note_classes(changes: &mut Changes, tree: &OccTree, voxels: [Key; 3]) -> Resu
 }
 
 /// Expects that a report has these changes.
-fn expect_report(
-    rt: &impl Abort,
-    alloc: Global,
-    changes: &Changes,
-    tree: &OccTree,
-    want: &[Change],
-) {
-    match changes.report(alloc, tree) {
+fn expect_report(rt: &impl Abort, changes: &Changes, tree: &OccTree, want: &[Change]) {
+    match changes.report(tree) {
         Ok(report) => assert_eq!(rt; report.as_slice(), want),
         Err(_) => panic!(rt; "out of memory"),
     }
@@ -134,15 +128,15 @@ fn reports_each_pair_of_classes_in_the_order_of_voxels(rt: HostRuntime) -> Resul
     let tree = two_children(rt.alloc())?;
     let mut changes = Changes::new(rt.alloc());
     note_all(&mut changes, NOTES)?;
-    expect_report(&rt, rt.alloc(), &changes, &tree, &wanted());
+    expect_report(&rt, &changes, &tree, &wanted());
     // Without the notes of voxels that were noted before it is the same report.
     expect_len(&rt, &changes, 11);
     expect_compact(&rt, &mut changes);
     expect_len(&rt, &changes, 9);
-    expect_report(&rt, rt.alloc(), &changes, &tree, &wanted());
+    expect_report(&rt, &changes, &tree, &wanted());
 
     changes.mark();
-    expect_report(&rt, rt.alloc(), &changes, &tree, &[]);
+    expect_report(&rt, &changes, &tree, &[]);
     Ok(())
 }
 
@@ -167,11 +161,11 @@ fn notes_what_stands_before_a_change(rt: HostRuntime) -> Result<(), Fail> {
         [key(7, 7, 7), key(7, 7, 6), key(7, 6, 8)],
     )?;
     tree.set_place(Place::Root, leaf(odds, 850));
-    expect_report(&rt, rt.alloc(), &changes, &tree, &all_new());
+    expect_report(&rt, &changes, &tree, &all_new());
 
     // A change that is undone is none.
     tree.set_place(Place::Root, Node::Absent);
-    expect_report(&rt, rt.alloc(), &changes, &tree, &[]);
+    expect_report(&rt, &changes, &tree, &[]);
     Ok(())
 }
 
@@ -212,6 +206,36 @@ fn notes_what_a_scan_hits_and_frees(rt: HostRuntime) -> Result<(), Fail> {
     note_brick(&rt, &mut changes, &tree, 0b11, 0b10)?;
     expect_len(&rt, &changes, 2);
     tree.set_place(Place::Root, leaf(odds, 850));
-    expect_report(&rt, rt.alloc(), &changes, &tree, &two_new());
+    expect_report(&rt, &changes, &tree, &two_new());
+    Ok(())
+}
+
+/// Notes the voxels of a box of four, in room that is made for them.
+fn note_box(changes: &mut Changes, tree: &OccTree) -> Result<(), Memory> {
+    changes.reserve(4)?;
+    changes.note_box(tree, key(7, 6, 5), key(8, 6, 6));
+    Ok(())
+}
+
+/// The changes where all voxels become occupied, and those of the box were noted before.
+fn four_new() -> [Change; 4] {
+    [
+        change(7, 6, 5, Kind::New),
+        change(7, 6, 6, Kind::New),
+        change(8, 6, 5, Kind::New),
+        change(8, 6, 6, Kind::New),
+    ]
+}
+
+#[test]
+fn notes_each_voxel_of_a_box(rt: HostRuntime) -> Result<(), Fail> {
+    let res = Res::new(100_000_000)?;
+    let odds = OddsModel::default();
+    let mut tree = OccTree::new(rt.alloc(), res, odds);
+    let mut changes = Changes::new(rt.alloc());
+    note_box(&mut changes, &tree)?;
+    expect_len(&rt, &changes, 4);
+    tree.set_place(Place::Root, leaf(odds, 850));
+    expect_report(&rt, &changes, &tree, &four_new());
     Ok(())
 }

@@ -12,7 +12,8 @@ use Rattle.oct_odds.specs.declared.event.Event.TheVariants.{Likely}
 use Rattle.oct_values.specs.Events.{updated}
 use Rattle.oct_map.specs.Map.{Map, values_of}
 use Rattle.oct_map.specs.Marks.{classes_in, KeepsMark}
-use Rattle.oct_map.proofs.Marks.{marked_kept, same_noted}
+use Rattle.oct_map.proofs.Edits.{same_noted}
+use Rattle.oct_map.proofs.Marks.{marked_kept}
 
 below : (a b : ℤ) → a <ℤ b → int_lt a b ≡ true
 below a b h = grind (arith, ints)

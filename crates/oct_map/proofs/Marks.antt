@@ -41,7 +41,7 @@ use Rattle.oct_map.specs.Notes.{notes_of, note_room, marked_by_notes, IsNoted, I
 use Rattle.oct_map.specs.Notes.{HasMarked, HasRoomForNotes, LacksNotes, NotesFew, ReservesFewNotes}
 use Rattle.oct_map.specs.Marks.{classes_in, marked_of, SameMark, KeepsMark}
 use Rattle.oct_map.specs.Edits.{IsReadied}
-use Rattle.oct_map.proofs.Edits.{SameEvents, edited_to}
+use Rattle.oct_map.proofs.Edits.{SameEvents, edited_to, same_noted}
 
 -- the same values have the same classes
 pub same_classes : (m n : Map) → SameValues (values_of m) (values_of n) → n.tree.odds ≡ m.tree.odds
@@ -74,14 +74,6 @@ pub kept_mark : (m n : Map) → IsSameNoted m.mark n.mark → SameValues (values
     → n.tree.odds ≡ m.tree.odds → KeepsMark m n
 kept_mark m n noted same odds =
     marked_kept m.mark n.mark (classes_in m) (classes_in n) noted (same_classes m n same odds)
-
--- equal marks have the same notes
-pub same_noted : (a b : Option Held) → b ≡ a → IsSameNoted a b
-same_noted a b e = record {
-  standing = ap is_some e;
-  first = λ k. ap (λ x. first_noted (notes_of x) k) e;
-  few = (let same = ap (λ (x : Option Held). length (notes_of x)) e in omega (arith, same));
-}
 
 -- and where all voxels that change their class were noted
 marked_more : (P : Voxel → Type 0) (n : ℕ) (a b : Option Held) (before after : Classes)
@@ -317,4 +309,5 @@ edit_ok most values target key is answer =
 -- entries are the same whatever the mark is
 pub reserved_remarked : (m n : Map) (mark : Option Held) (need : ℕ) → ReservesFew m n need
     → ReservesFew m (record n { mark = mark }) need
-reserved_remarked m n mark need h = record { kept = h.kept; enough = h.enough; few = h.few }
+reserved_remarked m n mark need h =
+    record { kept = h.kept; enough = h.enough; cleared = h.cleared; few = h.few }

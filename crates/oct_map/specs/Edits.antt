@@ -1,6 +1,7 @@
 -- What a call does to a map that has an event for some voxels: an edit of one, or a scan.
 use Rattle.std.specs.Prelude.{◌≡◌, ℕ, ◌+◌, ◌≤◌, ◌||◌, ◌⊎◌, Bool, IsTrue}
 use Rattle.oct_key.specs.Values.{SameValues}
+use Rattle.oct_values.specs.Counts.{group_count}
 use Rattle.oct_values.specs.Events.{Events, updated}
 use Rattle.oct_arena.specs.Entries.{live, spare}
 use Rattle.oct_tree.specs.Tree.{Tree, value_at}
@@ -10,8 +11,9 @@ use Rattle.oct_edit.specs.Edits.{IsEdited, IsEagerEdit, IsLazyEdit}
 use Rattle.oct_inner.specs.Changes.{IsShrunk}
 use Rattle.oct_scan.specs.Beam.{Sighting}
 use Rattle.oct_map.specs.declared.fault.MapFault.{MapFault}
-use Rattle.oct_map.specs.declared.fault.MapFault.TheVariants.{Full}
+use Rattle.oct_map.specs.declared.fault.MapFault.TheVariants.{Full, Memory}
 use Rattle.oct_map.specs.Map.{Map, HasRoomFor, values_of, ground_of}
+use Rattle.oct_map.specs.Notes.{IsSameNoted}
 use Rattle.oct_map.specs.Outcome.{outcome_of, need_of}
 
 -- the events of a scan in this map
@@ -48,7 +50,8 @@ pub record IsMapEdited (m n : Map) (events : Events) (need : ℕ) (lazy : Bool) 
 
 -- What a call that is refused for this fault leaves, which may have needed this many groups: each
 -- value and the stale flag as they were, and no group more. The tree is fitted at most, but for
--- vacant entries, and one refused as full leaves it pruned, and no more than pruned.
+-- vacant entries, and one refused as full leaves it pruned, and no more than pruned. Nothing was
+-- noted: the mark stays as it was, and where memory ran out each voxel's first note does.
 pub record IsMapRefused (m n : Map) (fault : MapFault) (need : ℕ) : Type 0 where
   pub values : SameValues (values_of m) (values_of n)
   pub stale : n.is_stale ≡ m.is_stale
@@ -57,17 +60,22 @@ pub record IsMapRefused (m n : Map) (fault : MapFault) (need : ℕ) : Type 0 whe
   pub roomy : IsRoomy m need n.tree
   pub full : (groups more : ℕ) → fault ≡ Full groups more
       → IsPruned n.tree × IsShrunk m.tree n.tree
+  pub marked : (fault ≡ Memory → ⊥) → n.mark ≡ m.mark
+  pub noted : IsSameNoted m.mark n.mark
 
 -- the entries of a map: its groups, and those that it can still make without taking memory
 abbrev pub entries_of : Map → ℕ
 entries_of m = live m.tree.groups + spare m.tree.groups
 
 -- A call that may need this many groups takes memory for no more than these and 1,023 entries,
--- beyond the groups that the map had and beyond those that it may have, and for none where it can
--- make them already. It gives no entry away.
+-- beyond the groups that the map had and beyond those that it may have. It takes none where it can
+-- make them already, and none where a prune that there has to be makes room enough. It gives no
+-- entry away.
 pub record ReservesFew (m n : Map) (need : ℕ) : Type 0 where
   pub kept : entries_of m ≤ entries_of n
   pub enough : need ≤ spare m.tree.groups → entries_of n ≡ entries_of m
+  pub cleared : (HasRoomFor m need → ⊥) → group_count (values_of m) + need ≤ entries_of m
+      → entries_of n ≡ entries_of m
   pub few : (entries_of n ≡ entries_of m)
       ⊎ ((entries_of n ≤ live m.tree.groups + need + 1023) × (entries_of n ≤ m.max_groups + 1023))
 

@@ -533,6 +533,8 @@ impl OccMap {
         ensures few { OnOk result (live self.new.tree.groups + need ≤ self.new.max_groups) }
         ensures kept { HasRoomFor self.old need → self.new ≡ self.old }
         ensures shrunk { IsShrunk self.old.tree self.new.tree }
+        ensures least { (HasRoomFor self.old need → ⊥)
+            → live self.new.tree.groups ≡ group_count (values_of self.old) }
         ensures full { OnErr result (IsPruned self.new.tree) }
         ensures spare { spare self.old.tree.groups ≤ spare self.new.tree.groups }
         ensures notes { self.new.mark ≡ self.old.mark }

@@ -122,14 +122,14 @@ impl Mark {
     }
 
     /// The changes since the mark, or none where no mark stands.
-    pub(crate) fn report(&self, alloc: Global, tree: &OccTree) -> Result<Option<ChangeList>, Memory>
+    pub(crate) fn report(&self, tree: &OccTree) -> Result<Option<ChangeList>, Memory>
         ensures exact { IfOk result (λ changes. changes ≡ option_map
             (λ before. changes_between before (classes_of tree.now.odds (value_at tree.now)))
             (marked_by_notes self.now (classes_of tree.now.odds (value_at tree.now)))) }
         ensures none { self.now ≡ None → IsOk result }
     {
         match &self.changes {
-            Some(changes) => Ok(Some(changes.report(alloc, tree)?)),
+            Some(changes) => Ok(Some(changes.report(tree)?)),
             None => Ok(None),
         }
     }

@@ -52,7 +52,7 @@ impl OccMap {
             → IsOk (changes_answer (marked_of self.now) (classes_in self.now)) }
         ensures map { IsMap self.now }
     {
-        let changes = self.mark.report(self.alloc, &self.tree)?;
+        let changes = self.mark.report(&self.tree)?;
         changes.ok_or(MapFault::NotTracked)
     }
 }

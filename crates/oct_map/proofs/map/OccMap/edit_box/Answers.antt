@@ -322,7 +322,7 @@ returns-in_err-reserve-clause-refused c =
     (map_of c.self-2.inside.tree c.self-2.inside.is_stale c.self-2.inside.window
     c.self-2.inside.limits c.reserve.new.self) fault) (sym counted)
     (refused_notes c.args.self.now map c.reserve.new.self fault c.box_need.result
-    (search (rules, e)) ready))
+    (search (rules, e)) ready c.reserve.ensures.kept))
 
 pub returns-in_err-reserve-clause-memory : goal.returns-in_err-reserve-clause-memory
 returns-in_err-reserve-clause-memory c e =

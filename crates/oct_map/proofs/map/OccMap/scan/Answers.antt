@@ -280,7 +280,7 @@ returns-in_err-reserve-clause-refused c =
     (map_of c.self-2.inside.tree c.self-2.inside.is_stale c.self-2.inside.window
     c.self-2.inside.limits c.reserve.new.self) fault) counted
     (refused_notes c.args.self.now map c.reserve.new.self fault c.from.result (search (rules, e))
-    ready))
+    ready c.reserve.ensures.kept))
 
 pub returns-in_err-reserve-clause-reserved : goal.returns-in_err-reserve-clause-reserved
 returns-in_err-reserve-clause-reserved c =
