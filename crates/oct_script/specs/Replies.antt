@@ -168,16 +168,5 @@ text_of (Some reply) = reply_text reply
 
 -- a refusal
 abbrev pub is_refusal : Option Reply → Bool
-is_refusal None = false
-is_refusal (Some Ok) = false
-is_refusal (Some (Known value class)) = false
-is_refusal (Some Unknown) = false
-is_refusal (Some (Scanned done)) = false
-is_refusal (Some (Counted counts)) = false
-is_refusal (Some (Blocks blocks threshold)) = false
-is_refusal (Some (Changed changes)) = false
-is_refusal (Some (Casted found)) = false
-is_refusal (Some (Saved bytes)) = false
-is_refusal (Some (Loaded nodes)) = false
-is_refusal (Some (Restored groups)) = false
 is_refusal (Some (Refused refusal)) = true
+is_refusal _ = false

@@ -135,6 +135,8 @@ impl<'a> Words<'a> {
         ensures reach { IfOk result (λ n. unsigned_abs n < 10 ^ 16) }
     {
         let (_, text) = self.rest.split_at(count_blanks(self.rest));
+        // Nearly every length is read in this one pass; what it can't read is read again, slowly,
+        // for the column of the fault.
         if let Some((length, rest)) = split_metres(text) {
             if count_word(rest) == 0 {
                 self.column += (self.rest.len() - rest.len()) as u32;
