@@ -18,7 +18,6 @@ use Rattle.oct_session.specs.declared.options.Status.TheVariants as status
 use Rattle.oct_session.specs.declared.options.Stop.{Stop}
 use Rattle.oct_session.specs.declared.options.Stop.TheVariants.{TooLong, ReadFault, WriteFault}
 use Rattle.oct_session.specs.declared.options.Stop.TheVariants.{Memory, StoreFault as StoreStop}
-use Rattle.oct_session.specs.declared.service.TheConstants.{MOST_READ}
 use Rattle.oct_session.specs.declared.session.Session.{Session}
 use Rattle.oct_io.specs.Taken.{HasTaken, IsBegun}
 use Rattle.oct_session.specs.Ending.{HasStopped, IsReadToEnd, replies_within}
@@ -347,7 +346,7 @@ pub record IsRead (o : Setup) (buffer piece : List ℕ) (left after : Option (Li
   pub few : taken ≤ o.max_bytes
   pub size : room ≡ o.max_bytes - taken
   pub most : n ≤ room + 1
-  pub at_once : n ≤ MOST_READ
+  pub at_once : n ≤ 16384
   pub moved : after ≡ dropped n left
   pub same : IfSome left (λ l. take n buffer ≡ take n l)
   pub enough : IfSome left (λ l. n ≤ length l)
@@ -475,7 +474,7 @@ serving_quit o files bytes buffer piece left after w v u d e s t taken n room re
           quits = ap (has_quit_within o files)
               (counted bytes piece taken n room o.max_bytes read.few read.size at.input.within p)
               ∙ ends;
-          at_once = no_quit_before o files bytes (taken + n - MOST_READ) taken
+          at_once = no_quit_before o files bytes (taken + n - 16384) taken
               (omega (arith, read.at_once)) (sym before.between.step.has_quit ∙ running);
         });
       };
@@ -505,7 +504,7 @@ stops_halted o files bytes buffer piece left after w u d taken n room stop only 
       taken = taken + n;
       few = omega (arith, read.few, read.size, read.most);
       input = taken_more bytes left after taken n input read.moved read.enough;
-      replied = replied_first o files bytes (taken + n - MOST_READ) taken w u
+      replied = replied_first o files bytes (taken + n - 16384) taken w u
           (omega (arith, read.at_once)) halted.1;
     })
 
@@ -644,7 +643,7 @@ ends_last o files bytes left w v u d e s taken stop few none only halts at known
       taken = taken;
       few = omega arith;
       input = at.input;
-      replied = replied_first o files bytes (taken - MOST_READ) taken w u (omega arith) halted.1;
+      replied = replied_first o files bytes (taken - 16384) taken w u (omega arith) halted.1;
     })
 
 ended_as : (o : Setup) (files : Option Files) (bytes : List ℕ) (left w v : Option (List ℕ))

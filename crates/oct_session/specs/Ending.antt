@@ -5,7 +5,6 @@ use Rattle.oct_io.specs.Files.{Files}
 use Rattle.oct_io.specs.Taken.{HasTaken, IsBegun}
 use Rattle.oct_io.specs.Told.{appended}
 use Rattle.oct_script.specs.Lines.{ended_lines}
-use Rattle.oct_session.specs.declared.service.TheConstants.{MOST_READ}
 use Rattle.oct_session.specs.Session.{Answer, progress, session}
 use Rattle.oct_session.specs.Setup.{Setup}
 use Rattle.oct_session.specs.declared.options.Status.{Status}
@@ -36,7 +35,7 @@ pub record HasReplied (o : Setup) (files : Option Files) (bytes : List ℕ)
 -- all but the last 16,384 of them, as many as one read asks for
 pub record HasQuitIn (o : Setup) (files : Option Files) (bytes : List ℕ) (taken : ℕ) : Type 0 where
   pub quits : has_quit_within o files (take o.max_bytes (take taken bytes)) ≡ true
-  pub at_once : has_quit_within o files (take (taken - MOST_READ) bytes) ≡ false
+  pub at_once : has_quit_within o files (take (taken - 16384) bytes) ≡ false
 
 -- the script was read to its end: nothing is left of it, or a `quit` line ended in what was read
 -- last
@@ -65,7 +64,7 @@ pub record HasStopped (o : Setup) (files : Option Files) (bytes : List ℕ)
   pub taken : ℕ
   pub few : taken ≤ o.max_bytes + 1
   pub input : HasTaken taken bytes left
-  pub replied : HasReplied o files (take (taken - MOST_READ) bytes) old new
+  pub replied : HasReplied o files (take (taken - 16384) bytes) old new
 
 -- how a session over these bytes may end, status by status: what is left of the input, and what was
 -- written

@@ -15,7 +15,6 @@ use Rattle.oct_script.specs.declared.reply.Reply.{Reply}
 use Rattle.oct_script.specs.declared.reply.Reply.TheVariants as reply_of
 use Rattle.oct_script.specs.Commands.{opens_scan}
 use Rattle.oct_script.specs.Lines.{Line, Text, Long}
-use Rattle.oct_session.specs.declared.block.TheConstants.{MOST_POINTS}
 use Rattle.oct_session.specs.Refusals.{fault_reply}
 use Rattle.oct_session.specs.History.{History, State, Scanned}
 use Rattle.oct_session.specs.ScanSoFar.{ScanSoFar, begun, sighting_so_far}
@@ -34,10 +33,11 @@ opened number line (Ok (Scan head)) = Some (Scanning (begun number head))
 opened number line (Ok _) = None
 opened number line (Err refusal) = if opens_block line then Some (Spoilt refusal) else None
 
--- the block with one point more, which is on the line of this number
+-- the block with one point more, which is on the line of this number; a scan has at most 1,000,000
+-- points
 abbrev pub with_point : ℕ → Point → ScanSoFar → Block
 with_point number p scan =
-    if nat_le MOST_POINTS (length scan.points)
+    if nat_le 1000000 (length scan.points)
     then Spoilt (refusal.TooManyPoints number)
     else Scanning (record { line = scan.line; head = scan.head; points = scan.points ++ p ∷ [] })
 

@@ -127,14 +127,9 @@ progress o files lines = fold (after_line o) (start files) lines
 
 -- after the end of the script: a block that is open there is refused
 abbrev pub ended : Progress → Progress
-ended p = record {
-  history = p.history;
-  files = p.files;
-  asks = p.asks;
-  line_count = p.line_count;
+ended p = record p {
   block = None;
   refused = p.refused || is_refusal (end_reply p.block);
-  has_quit = p.has_quit;
   tally = counted p.tally (end_reply p.block);
   text = p.text ++ text_of (end_reply p.block);
 }

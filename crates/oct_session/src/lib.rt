@@ -70,7 +70,8 @@
 //! # Who stands on it
 //!
 //! `oct_tasks`. It stands on `oct_script` for lines, commands and replies, on `oct_io` for
-//! source, sink and store, on `oct_map` for the map, on `oct_scan` and `oct_pose` for what a scan
+//! source, sink and store, on `oct_map` for the map, on `oct_bt` and `oct_snap` for the files that
+//! lines name, on `oct_gen` for the script of a drill, on `oct_scan` and `oct_pose` for what a scan
 //! is, and on `oct_key`, `oct_odds` and `oct_values` for voxels, their values and what events make
 //! of them.
 #![tactic(auto)]
@@ -91,8 +92,9 @@ pub use building::build;
 pub use drilling::drill;
 pub use files::read_classes;
 pub use laws::{
-    groups_stay_within, saves_are_loaded, snapshots_are_restored, states_stay_sound,
-    values_are_folds,
+    faults_read_alike, groups_stay_within, saves_are_loaded, snapshots_are_restored,
+    states_stay_sound, values_are_folds,
 };
+pub use oct_gen::gen_script;
 pub use options::{MOST_BYTES, Options, Status, status_written};
 pub use service::serve;

@@ -62,9 +62,10 @@ impl Options {
 /// How a run ended. The numbers are those that the program ends with.
 #[derive(Clone, Copy, Debug, PartialEq, Eq)]
 pub enum Status {
-    /// The input was read to its end or to `quit`, and nothing was refused.
+    /// All was done, a script to its end or to `quit`, and nothing was refused.
     Done = 0,
-    /// The input was read to its end or to `quit`, and at least one reply was a refusal.
+    /// All was done as far as it could be, and a reply, or the one line of a task over files, is a
+    /// refusal.
     Refused = 1,
     /// The words ask for no task. Nothing was read or written.
     Usage = 2,
@@ -78,7 +79,7 @@ pub enum Status {
     WriteFault = 6,
     /// Memory ran out.
     Memory = 7,
-    /// The store failed, at a command that names a file.
+    /// The store failed, at a command or a task that names a file.
     StoreFault = 8,
 }
 

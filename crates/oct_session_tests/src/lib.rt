@@ -2,8 +2,9 @@
 //! can end, blocks of scans, files that are saved and loaded, a fault at each call of the world,
 //! and the names of the statuses.
 //!
-//! They show what no clause of its contracts says, and call public functions alone. `rt test` in
-//! this folder proves and runs them, and `rt try --test` runs them with nothing proved.
+//! They compare the definitions with examples worked out by hand, and show that calls succeed while
+//! there is memory, which no clause can say. They call public functions alone. `rt test` in this
+//! folder proves and runs them, and `rt try --test` runs them with nothing proved.
 //!
 //! They are a crate of their own, as the folder `tests/` of a Rust crate is, so that `oct_session`
 //! isn't proved a second time beside them. Nothing stands on this crate.

@@ -1,3 +1,4 @@
+//! Scripts over a map that is lent, and what it is like after each way in which they end.
 ghost use Rattle.std.specs.Prelude.{◌<◌, ◌≤◌, ◌^◌};
 ghost use Rattle.oct_session.specs.History.{start_state};
 ghost use Rattle.oct_session.specs.Leaving.{StandsFor};
