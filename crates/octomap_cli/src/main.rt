@@ -23,7 +23,7 @@
 //!
 //! `main` joins `run` to the standard input and output and to the current folder. The tests call
 //! `run` over sources, sinks and stores in memory, whole scripts and files at a time: the worked
-//! examples, every status, and a fault at each call.
+//! examples, every status but want of memory, and a fault at each call.
 //!
 //! # Who stands on it
 //!

@@ -29,6 +29,16 @@ const BUILDS: &[(&[&str], &str, &str, &[u8], Status)] = &[
           \x03\x00\x03\x00\x03\x00\x03\x00\x02\x00",
         Status::Refused,
     ),
+    // Eight voxels of one class and of different values.
+    (
+        &["build", "0.1"],
+        "add 0 0 0 850\nadd 0.1 0 0 1700\nadd 0 0.1 0 2550\nadd 0.1 0.1 0 3400\n\
+         add 0 0 0.1 4250\nadd 0.1 0 0.1 5100\nadd 0 0.1 0.1 5950\nset 0.1 0.1 0.1 0\n",
+        "16",
+        b"\x00\xC0\x03\x00\x03\x00\x03\x00\x03\x00\x03\x00\x03\x00\x03\x00\x03\x00\x03\x00\
+          \x03\x00\x03\x00\x03\x00\x03\x00\x02\x00",
+        Status::Done,
+    ),
     (
         &["build", "0.1", "--max-bytes", "60"],
         "box -3276.8 -3276.8 -3276.8 3276.7 3276.7 3276.7 miss\nhit\n",

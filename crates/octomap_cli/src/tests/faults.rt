@@ -231,6 +231,12 @@ const TASKS: &[(&[&str], &[u8], &[u8], bool)] = &[
         false,
     ),
     (&["vrml"], SAVED, SCENE, false),
+    (
+        &["frontier", "0", "0", "0", "0", "0", "0"],
+        SAVED,
+        b"end 0\n",
+        false,
+    ),
     (&["convert"], SAVED, SAVED, false),
     (&["inspect"], SAVED, INSPECTED, false),
     (&["build", "0.1"], SCRIPT, SAVED, true),

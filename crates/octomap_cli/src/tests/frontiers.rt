@@ -13,6 +13,24 @@ const ONE: &[u8] = b"# Octomap OcTree binary file\nid OcTree\nsize 17\nres 0.1\n
 /// The lower half of the map on x is free.
 const HALF: &[u8] = b"# Octomap OcTree binary file\nid OcTree\nsize 5\nres 0.1\ndata\n\x11\x11";
 
+/// The voxels of keys 32768 to 32770 on each axis are free.
+const CUBE: &[u8] = b"# Octomap OcTree binary file\nid OcTree\nsize 42\nres 0.1\ndata\n\
+    \x00\xC0\x03\x00\x03\x00\x03\x00\x03\x00\x03\x00\x03\x00\x03\x00\x03\x00\x03\x00\x03\
+    \x00\x03\x00\x03\x00\x03\x00\xFD\xFF\x11\x11\x05\x05\x01\x01\x55\x00\x11\x00\x05\x00\x01\
+    \x00";
+
+/// All of its voxels but the middle one.
+const SHELL: &str = "frontier 32768 32768 32768\nfrontier 32768 32768 32769\n\
+    frontier 32768 32768 32770\nfrontier 32768 32769 32768\nfrontier 32768 32769 32769\n\
+    frontier 32768 32769 32770\nfrontier 32768 32770 32768\nfrontier 32768 32770 32769\n\
+    frontier 32768 32770 32770\nfrontier 32769 32768 32768\nfrontier 32769 32768 32769\n\
+    frontier 32769 32768 32770\nfrontier 32769 32769 32768\nfrontier 32769 32769 32770\n\
+    frontier 32769 32770 32768\nfrontier 32769 32770 32769\nfrontier 32769 32770 32770\n\
+    frontier 32770 32768 32768\nfrontier 32770 32768 32769\nfrontier 32770 32768 32770\n\
+    frontier 32770 32769 32768\nfrontier 32770 32769 32769\nfrontier 32770 32769 32770\n\
+    frontier 32770 32770 32768\nfrontier 32770 32770 32769\nfrontier 32770 32770 32770\n\
+    end 26\n";
+
 /// The words after the command, the file, what is written, and the status.
 type Case = (&'static [&'static str], &'static [u8], &'static str, Status);
 
@@ -25,6 +43,12 @@ const CASES: &[Case] = &[
         &["0", "0", "0", "0", "0", "0"],
         ONE,
         "frontier 32768 32768 32768\nend 1\n",
+        Status::Done,
+    ),
+    (
+        &["0", "0", "0", "0.2", "0.2", "0.2"],
+        CUBE,
+        SHELL,
         Status::Done,
     ),
     (

@@ -87,6 +87,14 @@ const CHANGES: &[Case] = &[
         "ok\nok\nrefused 27 WideWhileTracked count 1000001\nok\n",
         Status::Refused,
     ),
+    // A box: each of its voxels, by ascending x, y and z.
+    (
+        "track\nbox 0 0 0 0.1 0.1 0.1 set 850\nchanges\n",
+        "ok\nok\nnew 32768 32768 32768\nnew 32768 32768 32769\nnew 32768 32769 32768\n\
+         new 32768 32769 32769\nnew 32769 32768 32768\nnew 32769 32768 32769\n\
+         new 32769 32769 32768\nnew 32769 32769 32769\nend 8\n",
+        Status::Done,
+    ),
     // A scan over a free and an occupied voxel, and a box over both of them and two unknown ones.
     (
         "miss 0.1 0 0\nhit 0.2 0 0\ntrack\nscan 0.05 0.05 0.05 1 0 0 0 all 900 -900\np 0.1 0 0\n\

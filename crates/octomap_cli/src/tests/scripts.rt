@@ -145,6 +145,14 @@ const CASTS: &[Case] = &[
         Status::Done,
     ),
     (
+        "scan 0.05 0.05 0.05 1 0 0 0 all\np 0.2 0 0\np 0.4 0 0\nend\n\
+         cast 0.05 0.05 0.05 0.45 0.05 0.05\ncast 0.05 0.05 0.05 0.05 0.25 0.05\n\
+         cast 0.05 0.05 0.05 0.05 0.25 0.05 ignore\n",
+        "ok hits 2 frees 3\ncast hit 32770 32768 32768\ncast unknown 32768 32769 32768\n\
+         cast clear\n",
+        Status::Done,
+    ),
+    (
         "hit -0.1 0 0.2 lazy\ncast -0.1 0 0.2 -0.1 0 0.2\nget 0 0 0 15\n",
         "ok\ncast hit 32767 32768 32770\nrefused 22 Stale\n",
         Status::Refused,
@@ -261,9 +269,14 @@ fn quit_ends_the_session(rt: HostRuntime) {
 /// Lines that are refused.
 const REFUSALS: &[Case] = &[
     (
-        "get 0 0\nhit 0 0 x\nhit 4000 0 0\nget 0 0 0 17\n",
+        "get 0 0\nhit 0 0 x\nhit 4000 0 0\nget 0 0 0 17\nbox 1 0 0 0 0 0 forget\n",
         "refused 29 Syntax line 1 column 8\nrefused 29 Syntax line 2 column 9\n\
-         refused 24 Outside point 1\nrefused 25 BadDepth\n",
+         refused 24 Outside point 1\nrefused 25 BadDepth\nrefused 26 BadBox\n",
+        Status::Refused,
+    ),
+    (
+        "fly 0 0 0\n",
+        "refused 29 Syntax line 1 column 1\n",
         Status::Refused,
     ),
     (
