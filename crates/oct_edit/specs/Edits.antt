@@ -1,5 +1,5 @@
--- What an edit does to a tree that has an event for some voxels: for one, for those of a scan, or
--- for those of a box.
+-- What an edit does to a tree where some voxels have an event: one voxel, those of a scan, or those
+-- of a box.
 use Rattle.std.specs.Prelude.{◌≡◌, ℕ, ◌<◌, ◌≤◌, ℤ, ◌⊎◌, Some, None}
 use Rattle.oct_key.specs.Voxel.{Voxel, IsInMap}
 use Rattle.oct_key.specs.Block.{Cube, HoldsVoxel}

@@ -93,7 +93,9 @@ pub fn touch_box(tree: &mut OccTree, lo: Key, hi: Key, event: Event)
     ensures room { live tree.new.groups + spare tree.new.groups
         ≡ live tree.old.groups + spare tree.old.groups }
 {
+    let known = tree.tidiness();
     touch_part(tree, Place::Root, Block::whole_map(), lo, hi, event);
+    tree.note(known);
 }
 
 /// Applies the event to the voxels of the box in the block of the place, which holds some, and

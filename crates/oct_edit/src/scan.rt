@@ -192,7 +192,7 @@ impl BrickUpdate {
     }
 
     /// Applies the event of the voxel of a bit at its place, which links no group.
-    // Two calls, so that each event's kind is known where `apply_at` is made.
+    // Two calls, and not one with the event that is chosen: so each of them has one kind of event.
     fn apply_bit(&self, tree: &mut OccTree, p: Place, bit: u64)
         requires linked { IsLinked tree.old }
         requires place { IsPlace tree.old p }
@@ -298,8 +298,7 @@ impl<'a> ScanUpdate<'a> {
         stays(odds, self.miss, value) || !has_frees(self.bricks)
     }
 
-    /// The child of the block of that depth that holds the first brick of the update, whose bricks
-    /// lie in the block.
+    /// The child with the first brick, where all bricks lie in one block of that depth.
     fn first_child(&self, depth: u8) -> Option<u8>
         requires depth { depth ≤ 13 }
         requires bricks { All IsBrick self.now.bricks.now }
@@ -315,8 +314,8 @@ impl<'a> ScanUpdate<'a> {
         }
     }
 
-    /// The part of the update in the children up to that one of the block of that depth, and what
-    /// is left.
+    /// Parts the update where all its bricks lie in one block of that depth: those in the children
+    /// up to child i, and those in later ones.
     fn split(self, depth: u8, i: u8) -> (ScanUpdate<'a>, ScanUpdate<'a>)
         requires depth { depth ≤ 13 }
         requires order { IsNonDecreasingBy (λ b. brick_child depth b.code) self.bricks.now }
@@ -334,7 +333,8 @@ impl<'a> ScanUpdate<'a> {
     }
 }
 
-/// The bricks in the children up to that one of the block of that depth, and those in later ones.
+/// Parts bricks of one block of that depth: those in the children up to child i, and those in later
+/// ones.
 fn split_bricks<'a>(bricks: &'a [Brick], depth: u8, i: u8) -> (&'a [Brick], &'a [Brick])
     requires depth { depth ≤ 13 }
     requires order { IsNonDecreasingBy (λ b. brick_child depth b.code) bricks.now }

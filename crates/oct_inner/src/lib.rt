@@ -19,9 +19,9 @@
 //!   stays: every voxel's value, every leaf, every group with its home and its id, and every link
 //!   (`IsSameButInner`). So a pruned tree stays pruned.
 //! - After [`prune`] no group is left whose nodes are all absent or all leaves of one value. Every
-//!   voxel keeps its value, no group and no Inner node is made or changes (`IsShrunk`), and the
-//!   tree stays well-formed, and fresh where it was. A tree that is pruned is left as it is.
-//!
+//!   voxel keeps its value. No group comes to be, and each that is left has its home as before, and
+//!   each Inner node that is left its place, its value and its link (`IsShrunk`). The tree stays
+//!   well-formed, and fresh where it was. A tree that is pruned is left as it is.
 //! - After [`maximum_likelihood`] each voxel has the value after the event `Likely`: the upper
 //!   bound where it was occupied, the lower one where it was free, and none where it was unknown.
 //!   The tree is fresh and pruned, whatever it was before, and has no more groups. It is the edit
@@ -34,9 +34,9 @@
 //!
 //! The proof of the first two is one: `AllWithin` says of a block that something is so at each
 //! place within it, and the pass of a block is done (`IsPassed`) once its eight children are and
-//! its own node is closed. `Within` of `proofs/` has this for anything that is said of a node and
-//! its group alone, and for whatever the pass keeps. The map with all its commands stands on this
-//! crate.
+//! its own node is closed. `Within` of the proofs of `oct_tree` has this for anything that is said
+//! of a node and its group alone, and for whatever the pass keeps. The map with all its commands
+//! stands on this crate.
 #![tactic(auto)]
 
 mod likelihood;

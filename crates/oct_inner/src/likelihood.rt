@@ -9,7 +9,7 @@ ghost use Rattle.oct_tree.specs.Shape.{IsWellFormed, IsFresh, IsPruned};
 use oct_edit::touch_box;
 use oct_key::Key;
 use oct_odds::Event;
-use oct_tree::OccTree;
+use oct_tree::{OccTree, Tidiness};
 
 /// Makes each known voxel as sure as it can be: occupied ones get the upper bound and free ones the
 /// lower, as `toMaxLikelihood` of the OctoMap library does. Renews the inner values and collapses
@@ -27,6 +27,10 @@ pub fn maximum_likelihood(tree: &mut OccTree)
     ensures odds { tree.new.odds ≡ tree.old.odds }
 {
     touch_box(tree, LOWEST, HIGHEST, Event::Likely);
+    tree.note(Tidiness {
+        fresh: true,
+        pruned: true,
+    });
 }
 
 /// The corners of the map.

@@ -9,7 +9,7 @@ use super::*;
 use oct_arena::{GroupId, Node};
 use oct_key::Res;
 use oct_odds::{Event, OddsModel};
-use oct_tree::{OccTree, Place};
+use oct_tree::{OccTree, Place, Tidiness};
 use std::alloc::Global;
 use std::process::Abort;
 use std::test::Fail;
@@ -76,7 +76,7 @@ fn enter(tree: &mut OccTree, p: Place) -> Option<GroupId>
 }
 
 /// Puts a leaf at the end of the path below the place, and splits the leaves on the way. Answers
-/// false where the path meets an absent or an Inner node, or there is no room.
+/// false where an absent node stands on the way or an Inner one at the end, or there is no room.
 fn put(tree: &mut OccTree, p: Place, depth: u8, path: &[u8], value: i32) -> bool
     requires formed { IsWellFormed tree.old }
     requires place { IsPlace tree.old p }
@@ -123,6 +123,11 @@ fn expect_at(rt: &impl Abort, tree: &OccTree, path: &[u8], want: Seen) {
 /// Expects this many groups.
 fn expect_groups(rt: &impl Abort, tree: &OccTree, want: u32) {
     assert_eq!(rt; tree.arena().live(), want);
+}
+
+/// Expects that this is known of the inner nodes: whether they are fresh, and whether pruned.
+fn expect_known(rt: &impl Abort, tree: &OccTree, fresh: bool, pruned: bool) {
+    assert_eq!(rt; tree.tidiness(), Tidiness { fresh, pruned });
 }
 
 /// A tree whose children are 100 but for the fourth, which is 850, and the sixth, whose own
@@ -197,5 +202,23 @@ fn maximum_likelihood_makes_known_voxels_sure(rt: HostRuntime) -> Result<(), Fai
     expect_at(&rt, &tree, &[3], Seen::Leaf(3500));
     expect_at(&rt, &tree, &[5], Seen::Leaf(-2000));
     expect_groups(&rt, &tree, 1);
+    Ok(())
+}
+
+#[test]
+fn passes_note_what_they_have_shown(rt: HostRuntime) -> Result<(), Fail> {
+    let mut tree = stale(&rt, rt.alloc())?;
+    expect_known(&rt, &tree, false, false);
+    refresh(&mut tree);
+    expect_known(&rt, &tree, true, false);
+    prune(&mut tree);
+    expect_known(&rt, &tree, true, true);
+    // What is known goes where a node is set.
+    expect_put(&rt, &mut tree, &[3], -400);
+    expect_known(&rt, &tree, false, false);
+    prune(&mut tree);
+    expect_known(&rt, &tree, false, true);
+    maximum_likelihood(&mut tree);
+    expect_known(&rt, &tree, true, true);
     Ok(())
 }

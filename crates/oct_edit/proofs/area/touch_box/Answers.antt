@@ -3,10 +3,11 @@ use Rattle.oct_key.specs.Voxel.{IsInMap}
 use Rattle.oct_key.specs.Block.{root_block}
 use Rattle.oct_values.specs.Boxes.{MeetsBox, box_events}
 use Rattle.oct_arena.specs.Entries.{spare}
+use Rattle.oct_tree.specs.Tree.{Tree}
 use Rattle.oct_edit.specs.Areas.{cut_in}
 use Rattle.oct_edit.specs.Steps.{IsTouched}
 use Rattle.oct_edit.proofs.Areas.{root_meets, area_groups, area_need}
-use Rattle.oct_edit.proofs.Wholes.{same_total, whole_edited, whole_eager, whole_paths}
+use Rattle.oct_edit.proofs.Wholes.{same_total, whole_known, whole_edited, whole_eager, whole_paths}
 use Rattle.std.proofs.lemmas.Bool.{false≢true}
 use Rattle.oct_edit.proofs.area.touch_box.Goals as goal
 
@@ -22,36 +23,52 @@ touch_part-requires-clause-room c =
     (sym c.whole_map.ensures)
     (area_need c.args.lo c.args.hi (spare c.args.tree.now.groups) c.requires.room)
 
-touched : (c : goal.After-touch_part)
-    → IsTouched c.args.tree.now c.touch_part.new.tree root_block
+pub note-requires : goal.note-requires
+note-requires c =
+    whole_known c.args.tree.now c.touch_part.new.tree (box_events c.args.lo c.args.hi c.args.event)
+    false c.tidiness-known.result
+    (subst (λ b. IsTouched c.args.tree.now c.touch_part.new.tree b
+    (box_events c.args.lo c.args.hi c.args.event) false)
+    c.whole_map.ensures c.touch_part.ensures.touched)
+    (λ h. false≢true h) c.tidiness-known.ensures.so
+
+-- the edit within the whole map
+touched : (c : goal.After-note)
+    → IsTouched c.args.tree.now c.note.new.self root_block
     (box_events c.args.lo c.args.hi c.args.event) false
 touched c =
-    subst (λ b. IsTouched c.args.tree.now c.touch_part.new.tree b
+    subst (λ (u : Tree). IsTouched c.args.tree.now u root_block
     (box_events c.args.lo c.args.hi c.args.event) false)
-    c.whole_map.ensures c.touch_part.ensures.touched
+    (sym c.note.ensures.same)
+    (subst (λ b. IsTouched c.args.tree.now c.touch_part.new.tree b
+    (box_events c.args.lo c.args.hi c.args.event) false)
+    c.whole_map.ensures c.touch_part.ensures.touched)
 
 pub returns-clause-edited : goal.returns-clause-edited
 returns-clause-edited c =
-    whole_edited c.args.tree.now c.touch_part.new.tree (box_events c.args.lo c.args.hi c.args.event)
+    whole_edited c.args.tree.now c.note.new.self (box_events c.args.lo c.args.hi c.args.event)
     false (touched c) c.requires.well_formed
 
 pub returns-clause-eager : goal.returns-clause-eager
 returns-clause-eager c =
-    whole_eager c.args.tree.now c.touch_part.new.tree (box_events c.args.lo c.args.hi c.args.event)
+    whole_eager c.args.tree.now c.note.new.self (box_events c.args.lo c.args.hi c.args.event)
     false (touched c) (λ h. false≢true h)
 
 pub returns-clause-path : goal.returns-clause-path
 returns-clause-path c =
-    whole_paths c.args.tree.now c.touch_part.new.tree (box_events c.args.lo c.args.hi c.args.event)
+    whole_paths c.args.tree.now c.note.new.self (box_events c.args.lo c.args.hi c.args.event)
     false (touched c) (λ h. false≢true h)
 
 pub returns-clause-room : goal.returns-clause-room
 returns-clause-room c =
-    same_total c.args.tree.now.groups c.touch_part.new.tree.groups (touched c).apart.outside.length
+    same_total c.args.tree.now.groups c.note.new.self.groups (touched c).apart.outside.length
 
 pub returns-clause-groups : goal.returns-clause-groups
 returns-clause-groups c =
-    area_groups c.args.tree.now c.touch_part.new.tree c.args.lo c.args.hi c.args.event (touched c)
+    area_groups c.args.tree.now c.note.new.self c.args.lo c.args.hi c.args.event (touched c)
+    (subst (λ (u : Tree). spare c.args.tree.now.groups ≤ spare u.groups + cut_in c.args.lo
+    c.args.hi root_block)
+    (sym c.note.ensures.same)
     (subst (λ b. spare c.args.tree.now.groups ≤ spare c.touch_part.new.tree.groups + cut_in
     c.args.lo c.args.hi b)
-    c.whole_map.ensures c.touch_part.ensures.room)
+    c.whole_map.ensures c.touch_part.ensures.room))
