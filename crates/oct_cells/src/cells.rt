@@ -1,5 +1,5 @@
 ghost use Rattle.std.specs.Prelude.{◌≡◌, ℕ, ◌<◌, List, Option, Some, None, length, replicate};
-ghost use Rattle.std.specs.Prelude.{get_or, slice_set, IfOk, ⊤};
+ghost use Rattle.std.specs.Prelude.{slice_index_or, slice_set, IfOk, ⊤};
 ghost use Rattle.std.specs.Borrow.{sem};
 ghost use Rattle.std.specs.Vec.Ownership.{FitsInBlock};
 ghost use base.Fml.{ftrue};
@@ -13,6 +13,7 @@ use std::mem::{align_of, size_of};
 
 /// Where a block begins. It owns nothing.
 pub struct Address<T> {
+    /// The pointer to the first cell.
     pub ptr: *mut T,
 }
 
@@ -32,7 +33,9 @@ impl<T> Copy for Address<T> {}
 /// their address beside them.
 pub struct Cells<T> {
     mark: PhantomData<*const T>,
+    /// Where the cells begin.
     pub ghost at: { Ptr },
+    /// The value in each cell, or none where it is empty.
     pub ghost values: { List (Option T) },
 }
 
@@ -45,8 +48,11 @@ impl<T> Model for Cells<T> {
 /// The right to give a block back. It takes no space.
 pub struct Grant<T, A: Allocator> {
     mark: PhantomData<*const (T, A)>,
+    /// Where the block begins.
     pub ghost at: { Ptr },
+    /// How many cells the block has.
     pub ghost count: { ℕ },
+    /// The allocator that the block goes back to.
     pub ghost alloc: { A },
 }
 
@@ -112,7 +118,7 @@ impl<T> Cells<T> {
     /// Puts a value into an empty cell.
     pub fn write(&mut self, address: Address<T>, index: usize, value: T)
         requires { (address.ptr ≡ self.old.at) × (index < length self.old.values)
-            × (get_or self.old.values index None ≡ None) }
+            × (slice_index_or self.old.values index None ≡ None) }
         ensures { (self.new.at ≡ self.old.at)
             × (self.new.values ≡ slice_set self.old.values index (Some value)) }
     {
@@ -122,7 +128,7 @@ impl<T> Cells<T> {
     /// The value in a cell.
     pub fn get(&self, address: Address<T>, index: usize) -> &T
         requires { (address.ptr ≡ self.now.at) × HasValue self.now.values index }
-        ensures { get_or self.now.values index None ≡ Some result.now }
+        ensures { slice_index_or self.now.values index None ≡ Some result.now }
     {
         unsafe { &*address.ptr.add(index) }
     }
@@ -131,7 +137,7 @@ impl<T> Cells<T> {
     pub fn get_mut(&mut self, address: Address<T>, index: usize) -> &mut T
         requires { (address.ptr ≡ self.old.at) × HasValue self.old.values index }
         ensures* writes_back { sem 𝓛 (cell_lends T.row self.entry index result) }
-        ensures value { get_or self.old.values index None ≡ Some result.now }
+        ensures value { slice_index_or self.old.values index None ≡ Some result.now }
     {
         unsafe { &mut *address.ptr.add(index) }
     }
