@@ -10,7 +10,7 @@ use Rattle.oct_arena.specs.declared.node.Node.TheVariants.{Inner}
 use Rattle.oct_arena.specs.declared.node.GroupId.{GroupId}
 use Rattle.oct_arena.specs.Entries.{Groups, IsArena, IsLive, entry, with_node, spare, live, vacant}
 use Rattle.oct_arena.specs.Free.{next, chain, IsThreaded}
-use Rattle.oct_arena.specs.Chunks.{IsFresh}
+use Rattle.oct_arena.specs.Chunks.{IsNewChunk}
 use Rattle.oct_arena.proofs.Entries.{live_within, live_spare, spare_filled, spare_vacated}
 use Rattle.oct_arena.proofs.Entries.{spare_changed, spare_grown, live_grown, length_grown}
 use Rattle.oct_arena.proofs.FreeLists.{entries, spare_is, length_is, is_arena, live_apart, taken}
@@ -128,7 +128,7 @@ module _ (m : Groups) (h t k : ℕ) (es : Groups) (w : IsThreaded m h t k) (view
     Grown h2 t2 k2 m2 = IsThreaded m2 h2 t2 k2 × (entries m2 h2 k2 ≡ es ++ vacant 1024)
 
     pub grew_first : (gs : Groups) (h2 t2 : ℕ) (m1 : Groups) → k ≡ 0 → m1 ≡ m ++ gs
-        → IsFresh (length m) gs → length m + 1024 ≤ 2 ^ 31 + 1023 → h2 ≡ length m
+        → IsNewChunk (length m) gs → length m + 1024 ≤ 2 ^ 31 + 1023 → h2 ≡ length m
         → t2 ≡ length m + 1023 → Grown h2 t2 (k + 1024) m1
     grew_first gs h2 t2 m1 none memory fresh room head tail =
         let r = grown_first m gs h t (subst (λ j. IsThreaded m h t j) none w) fresh room in
@@ -141,7 +141,7 @@ module _ (m : Groups) (h t k : ℕ) (es : Groups) (w : IsThreaded m h t k) (view
 
     pub grew_more : (gs : Groups) (t2 : ℕ) (id : GroupId) (v : ℤ) (m1 m2 : Groups) → 1 ≤ k
         → m1 ≡ m ++ gs → m2 ≡ slice_set m1 t (with_node (entry m1 t) 0 (Inner v id))
-        → IsFresh (length m) gs → length m + 1024 ≤ 2 ^ 31 + 1023
+        → IsNewChunk (length m) gs → length m + 1024 ≤ 2 ^ 31 + 1023
         → id.number ≡ length m → t2 ≡ length m + 1023 → Grown h t2 (k + 1024) m2
     grew_more gs t2 id v m1 m2 one memory memory2 fresh room start tail =
         let e : k ≡ suc (k - 1) = omega arith in

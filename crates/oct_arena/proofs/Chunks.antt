@@ -13,7 +13,7 @@ use Rattle.oct_cells.specs.Cells.{HasValue}
 use Rattle.oct_arena.specs.declared.node.Group.{Group}
 use Rattle.oct_arena.specs.Entries.{Groups, entry, node_of}
 use Rattle.oct_arena.specs.Free.{IsFull, linked_number}
-use Rattle.oct_arena.specs.Chunks.{IsLink, IsFresh, joined, AllFull}
+use Rattle.oct_arena.specs.Chunks.{IsLink, IsNewChunk, joined, AllFull}
 
 some_value : (e : Option Group) → is_some e ≡ true → (g : Group) × (e ≡ Some g)
 some_value None h = absurd (false≢true h)
@@ -61,7 +61,7 @@ begun_more first i number gs after g b l n link eight h =
           ∙ b.empty j (omega arith) c;
     }
 
-pub fresh_full : (first : ℕ) (gs : Groups) → IsFresh first gs → IsFull gs
+pub fresh_full : (first : ℕ) (gs : Groups) → IsNewChunk first gs → IsFull gs
 fresh_full first gs f i l = (let e = f.links i (let n = f.many in omega arith) in ap is_some e.1)
 
 -- many chunks as one list, by the chunk c and the place s in it

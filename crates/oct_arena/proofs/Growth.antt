@@ -13,7 +13,7 @@ use Rattle.oct_arena.specs.declared.node.GroupId.{GroupId}
 use Rattle.oct_arena.specs.Entries.{Groups, IsArena, entry, node_of, with_node, vacant}
 use Rattle.oct_arena.specs.Free.{IsFull, linked_number, next, chain, without, IsNotIn, AreOnce}
 use Rattle.oct_arena.specs.Free.{EndsAt, IsThreaded}
-use Rattle.oct_arena.specs.Chunks.{IsLink, IsFresh}
+use Rattle.oct_arena.specs.Chunks.{IsLink, IsNewChunk}
 use Rattle.oct_arena.proofs.Entries.{arena_changed}
 use Rattle.oct_arena.proofs.FreeLists.{entries, length_without, next_other, next_with, full_set}
 use Rattle.oct_arena.proofs.FreeLists.{some_with}
@@ -112,7 +112,7 @@ without_run m (g ∷ gs) s (suc n) e l =
     ∙ ap (λ i. slice_set (m ++ g ∷ vacant n) i None) e ∙ set-append_seam m g (vacant n) None
 
 -- the memory with a new chunk
-module _ (m gs : Groups) (fresh : IsFresh (length m) gs) where
+module _ (m gs : Groups) (fresh : IsNewChunk (length m) gs) where
   at_new : (i : ℕ) → length m ≤ i → i < length m + 1024 → IsLink (suc i) (entry (m ++ gs) i)
   at_new i a b =
       let l = fresh.links (i - length m) (omega arith) in
@@ -158,7 +158,7 @@ IsGrown m h k m2 h2 t2 k2 =
     IsThreaded m2 h2 t2 k2 × (entries m2 h2 k2 ≡ entries m h k ++ vacant 1024)
 
 -- where nothing was vacant
-pub grown_first : (m gs : Groups) (h t : ℕ) → IsThreaded m h t 0 → IsFresh (length m) gs
+pub grown_first : (m gs : Groups) (h t : ℕ) → IsThreaded m h t 0 → IsNewChunk (length m) gs
     → length m + 1024 ≤ 2 ^ 31 + 1023
     → IsGrown m h 0 (m ++ gs) (length m) (length m + 1023) 1024
 grown_first m gs h t w fresh few =
@@ -185,7 +185,7 @@ end_within m h t (suc k) n once ends = end_within m (next m h) t k n once.2 ends
 
 -- where the last entry of the list links the new chunk
 pub grown_more : (m gs : Groups) (h t k : ℕ) (id : GroupId) (v : ℤ) → IsThreaded m h t (suc k)
-    → IsFresh (length m) gs → length m + 1024 ≤ 2 ^ 31 + 1023 → id.number ≡ length m
+    → IsNewChunk (length m) gs → length m + 1024 ≤ 2 ^ 31 + 1023 → id.number ≡ length m
     → IsGrown m h (suc k) (slice_set (m ++ gs) t (with_node (entry (m ++ gs) t) 0 (Inner v id))) h
     (length m + 1023) (suc (k + 1024))
 grown_more m gs h t k id v w fresh few e =

@@ -30,10 +30,10 @@ IsLink number e = (g : Group) × (e ≡ Some g) × (length g.nodes ≡ 8)
     × (linked_number (node_of (Some g) 0) ≡ number)
 
 -- a new chunk, whose first group's entry is first: each of its groups links the entry after its own
-pub record IsFresh (first : ℕ) (gs : Groups) : Type 0 where
+pub record IsNewChunk (first : ℕ) (gs : Groups) : Type 0 where
   pub many : length gs ≡ 1024
   pub links : (i : ℕ) → i < 1024 → IsLink (first + suc i) (entry gs i)
 
 -- a new chunk is added
 abbrev pub HasGrown : Groups → Groups → Type 0
-HasGrown before after = (chunk : Groups) × (after ≡ before ++ chunk) × IsFresh (length before) chunk
+HasGrown before after = (chunk : Groups) × (after ≡ before ++ chunk) × IsNewChunk (length before) chunk

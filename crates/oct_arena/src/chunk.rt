@@ -1,7 +1,7 @@
 ghost use Rattle.std.specs.Prelude.{◌≡◌, ◌+◌, ◌<◌, ◌≤◌, ◌^◌, length, replicate, slice_set, Some};
 ghost use Rattle.std.specs.Prelude.{None, IfOk};
 ghost use Rattle.oct_arena.specs.Entries.{entry, with_node};
-ghost use Rattle.oct_arena.specs.Chunks.{IsFresh};
+ghost use Rattle.oct_arena.specs.Chunks.{IsNewChunk};
 
 use crate::home::PackedBlock;
 use crate::node::{Group, GroupId, PackedNode};
@@ -46,7 +46,7 @@ fn write_links(address: Address<Group>, cells: Cells<Group>, first: u32) -> Cell
     requires empty { cells.values ≡ replicate 1024 None }
     requires small { first + 1024 < 2 ^ 31 + 1023 }
     ensures at { result.at ≡ address.ptr }
-    ensures fresh { IsFresh first result.values }
+    ensures fresh { IsNewChunk first result.values }
 {
     let mut cells = cells;
     let mut next = first;
@@ -62,7 +62,7 @@ impl Chunk {
     /// that of its first group.
     pub(crate) fn new(alloc: Global, first: u32) -> Result<Chunk, AllocError>
         requires { first + 1024 < 2 ^ 31 + 1023 }
-        ensures { IfOk result (IsFresh first) }
+        ensures { IfOk result (IsNewChunk first) }
     {
         let (address, cells, grant) = allocate(&alloc, CHUNK)?;
         let cells = write_links(address, cells, first);

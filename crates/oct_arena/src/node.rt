@@ -39,8 +39,8 @@ pub enum Node {
     Absent,
     /// Each voxel of the block has this value, in thousandths of log-odds.
     Leaf(i32),
-    /// The block's children are in that group. The value stands for the whole block, as the
-    /// greatest of its children.
+    /// The block's children are in that group. The value stands for the whole block: where the tree
+    /// is fresh, it is the greatest of its children.
     Inner(i32, GroupId),
 }
 
@@ -100,19 +100,22 @@ impl Model for PackedNode {
     ghost inverse_ok = { λ p h. packed-unpacked p h };
 }
 
-fn bits_of(link: u32, value: i32) -> u64
+/// The bits of a link and a value.
+fn packed(link: u32, value: i32) -> u64
     ensures { result ≡ 2 ^ 32 * link + cast_unsigned w32 value }
 {
     link as u64 * LINK_UNIT + value.cast_unsigned() as u64
 }
 
-fn link_of(bits: u64) -> u32
+/// The link in the bits.
+fn upper_half(bits: u64) -> u32
     ensures { result ≡ bits / 2 ^ 32 }
 {
     (bits / LINK_UNIT) as u32
 }
 
-fn value_of(bits: u64) -> i32
+/// The value in the bits.
+fn lower_half(bits: u64) -> i32
     ensures { result ≡ cast_signed w32 (bits % 2 ^ 32) }
 {
     ((bits % LINK_UNIT) as u32).cast_signed()
@@ -126,13 +129,13 @@ impl PackedNode {
     {
         match node {
             Node::Absent => PackedNode {
-                bits: bits_of(ABSENT, i32::MIN),
+                bits: packed(ABSENT, i32::MIN),
             },
             Node::Leaf(value) => PackedNode {
-                bits: bits_of(LEAF, value),
+                bits: packed(LEAF, value),
             },
             Node::Inner(value, id) => PackedNode {
-                bits: bits_of(id.number(), value),
+                bits: packed(id.number(), value),
             },
         }
     }
@@ -140,8 +143,8 @@ impl PackedNode {
     pub(crate) fn node(self) -> Node
         ensures { result ≡ self }
     {
-        let value = value_of(self.bits);
-        match link_of(self.bits) {
+        let value = lower_half(self.bits);
+        match upper_half(self.bits) {
             ABSENT => Node::Absent,
             LEAF => Node::Leaf(value),
             link => Node::Inner(value, GroupId::new(link)),
@@ -159,7 +162,7 @@ impl PackedNode {
     pub(crate) fn rank(self) -> i32
         ensures { IsRankOf (stored_in self) result }
     {
-        value_of(self.bits)
+        lower_half(self.bits)
     }
 
     /// The node that links the group in the place of this one.

@@ -1,7 +1,7 @@
 use Rattle.std.proofs.Common.{rules, ◌≡◌, ◌+◌, ◌*◌, ◌≤◌, ◌^◌, ◌++◌, List, [], ◌∷◌, ◌∙◌, sym, subst}
 use Rattle.std.proofs.Common.{ap, arith, length, length-append}
 use Rattle.oct_arena.specs.Entries.{Groups}
-use Rattle.oct_arena.specs.Chunks.{joined, AllFull, IsFresh}
+use Rattle.oct_arena.specs.Chunks.{joined, AllFull, IsNewChunk}
 use Rattle.oct_arena.proofs.Chunks.{length_joined, full_more, joined_more}
 use Rattle.oct_arena.proofs.rows.Rows.append.Goals as goal
 
@@ -30,5 +30,5 @@ returns-clause-ok c =
     let first : c.len.result ≡ length c.args.self.now = search rules in (
       k,
       ap joined c.in_ok-push.ensures.items ∙ joined_more cs k ∙ ap (λ xs. xs ++ k) c.self.view_is,
-      subst (λ n. IsFresh n k) first c.in_ok-chunk.ensures,
+      subst (λ n. IsNewChunk n k) first c.in_ok-chunk.ensures,
     )
