@@ -16,14 +16,10 @@ use Rattle.oct_arena.specs.Entries.{home_at, node_at}
 use Rattle.oct_arena.specs.Nodes.{link_of, value_of}
 use Rattle.oct_tree.specs.declared.place.Place.{Place}
 use Rattle.oct_tree.specs.declared.place.Place.TheVariants.{Root, Slot}
-use Rattle.oct_tree.specs.Tree.{Tree, IsLinked, StandsOver, node_in, step, reach, value_at}
+use Rattle.oct_tree.specs.Tree.{Tree, IsLinked, IsOver, StandsOver, node_in, step, reach, value_at}
 use Rattle.oct_tree.proofs.Paths.{homed_entry, step_linked, unlinked_step, place_reached, stays}
 use Rattle.oct_tree.proofs.Paths.{reach_home, value_at_last, child_reached, linked_id, link_down}
 use Rattle.oct_tree.proofs.Links.{place_in_map}
-
--- the paths to a block's voxels come to this node
-abbrev pub IsOver : Tree → Cube → Node → Type 0
-IsOver t b n = (k : Voxel) → HoldsVoxel b k → reach t b.depth k ≡ n
 
 -- the paths to the voxels of a block are one, down to it
 pub same_reach : (t : Tree) (d : ℕ) (j k : Voxel) → d ≤ 16 → block_of d j ≡ block_of d k

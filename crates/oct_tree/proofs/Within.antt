@@ -22,8 +22,24 @@ use Rattle.oct_tree.proofs.Links.{place_in_map}
 use Rattle.oct_tree.proofs.Frames.{same_outside_refl, same_outside_trans, same_outside_parent}
 use Rattle.oct_tree.proofs.Frames.{block_outside, block_before}
 use Rattle.oct_key.proofs.Nested.{lies_in_self, lies_in_trans, child_lies_in, apart, parent_apart}
-use Rattle.oct_tree.specs.Passes.{height, AllWithin, IsPassed, IsPassing}
+use Rattle.oct_tree.specs.Passes.{AllWithin, IsPassed}
 use Rattle.oct_key.proofs.Nested.{lies_in_root, lies_in_depth, lies_in_cases, parent_lies_in}
+
+-- how far a block is above the voxels
+abbrev pub height : Option Cube → ℕ
+height None = 0
+height (Some b) = 16 - b.depth
+
+-- the first n children of the place's block are done, and the place's node is as it was
+pub record IsPassing (Good : Tree → Place → Type 0) (Kept : Tree → Tree → Type 0)
+    (t u : Tree) (p : Place) (b : Cube) (n : ℕ) : Type 0 where
+  pub formed : IsWellFormed u
+  pub kept : Kept t u
+  pub outside : IsSameOutside t u b
+  pub place : IsPlace u p
+  pub block : block_in u p ≡ Some b
+  pub here : node_in u p ≡ node_in t p
+  pub done : (i : ℕ) → i < n → AllWithin Good u (child_of b i)
 
 -- the place's node, and the nodes of the group that it links, are the same in both trees
 pub record IsSeen (t u : Tree) (q : Place) : Type 0 where

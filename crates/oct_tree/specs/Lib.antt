@@ -7,3 +7,4 @@ pub mod Changes
 pub mod Passes
 pub mod Tidiness
 pub mod Filled
+pub mod Classes

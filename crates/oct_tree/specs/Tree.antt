@@ -48,6 +48,10 @@ reach t (suc depth) k = step t.groups (reach t depth k) (child_index_of depth k)
 unfoldable pub value_at : Tree → Values
 value_at t k = value_of (reach t 16 k)
 
+-- the paths to the voxels of a block come to this node there
+abbrev pub IsOver : Tree → Cube → Node → Type 0
+IsOver t b n = (k : Voxel) → HoldsVoxel b k → reach t b.depth k ≡ n
+
 -- A node stands over a block: at a place of the block itself, or, where it is not Inner and so
 -- covers what lies in its own block, at a place of a block that this one lies in.
 pub record StandsOver (t : Tree) (b : Cube) (n : Node) : Type 0 where

@@ -2,8 +2,8 @@
 //! it.
 //!
 //! An [`OccTree`] is an octree as in Hornung et al. 2013: its node of the whole map stands at the
-//! root, and where a node is Inner, the nodes of the eight halves of its block stand in a group of
-//! the arena (`oct_arena`). A leaf gives its value to all voxels of its block, and an absent node
+//! root, and where a node is Inner, the nodes of its block's eight children stand in a group of the
+//! arena (`oct_arena`). A leaf gives its value to all voxels of its block, and an absent node
 //! says that nothing is known of them. A node stands at a [`Place`]: the root, or a slot of a
 //! group.
 //!

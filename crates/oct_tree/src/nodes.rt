@@ -37,7 +37,7 @@ pub(crate) fn common_node(arena: &NodeArena, id: GroupId) -> Option<Node>
     if matches!(first, Node::Inner(..)) {
         return None;
     }
-    for i in 0..8 {
+    for i in 1..8 {
         if !group.are_same(0, i) {
             return None;
         }

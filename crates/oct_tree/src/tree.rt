@@ -7,7 +7,7 @@ ghost use Rattle.oct_odds.specs.Odds.{odds_of};
 ghost use Rattle.oct_odds.specs.Update.{IsWithin};
 ghost use Rattle.oct_arena.specs.declared.node.Node.{Node};
 ghost use Rattle.oct_arena.specs.declared.node.GroupId.{GroupId};
-ghost use Rattle.oct_arena.specs.Entries.{home_at, spare, live, vacant};
+ghost use Rattle.oct_arena.specs.Entries.{IsLive, home_at, spare, live, vacant};
 ghost use Rattle.oct_tree.specs.Nodes.{inherited, IsKnown};
 ghost use Rattle.oct_arena.specs.Nodes.{link_of, value_of};
 
@@ -56,7 +56,7 @@ impl Model for OccTree {
 
 impl OccTree {
     ghost use Rattle.oct_tree.specs.Tree.{Tree, IsLinked, IsPlace, StandsOver, node_in, block_in};
-    ghost use Rattle.oct_tree.specs.Tree.{reach, value_at};
+    ghost use Rattle.oct_tree.specs.Tree.{step, reach, value_at};
     ghost use Rattle.oct_tree.specs.Shape.{IsShaped};
     ghost use Rattle.oct_tree.specs.Changes.{SetsBlock, IsWritten, IsSplit, CanCollapse, CanDrop};
     ghost use Rattle.oct_tree.specs.Changes.{IsCollapsed, IsRenewed, IsGrown, IsSameOutside};
@@ -209,6 +209,20 @@ impl OccTree {
         slots::read(&self.arena, self.root, p)
     }
 
+    /// Child i of a node: that of the group that it links, or the node itself, which covers its
+    /// block's children.
+    #[inline(always)]
+    pub fn child_node(&self, node: Node, i: u8) -> Node
+        requires live { (id : ℕ) → link_of node ≡ Some id → IsLive self.now.groups id }
+        requires index { i ≤ 7 }
+        ensures { result ≡ step self.now.groups node i }
+    {
+        match node {
+            Node::Inner(_, id) => self.arena.node(id, i),
+            _ => node,
+        }
+    }
+
     /// Puts a group of eight copies of the place's node under it, which is not Inner, and makes the
     /// place Inner, with the leaf's value or 0. No voxel changes.
     pub fn split(&mut self, p: Place) -> GroupId
@@ -293,8 +307,8 @@ impl OccTree {
     }
 
     /// Closes the group of an Inner place: collapses it where it can be, as [`OccTree::collapse`]
-    /// does, and answers true; else renews the place's value, as [`OccTree::renew`] does. Reads the
-    /// eight nodes once. No voxel changes.
+    /// does, and answers true; else renews the place's value, as [`OccTree::renew`] does. Compares
+    /// the eight nodes until two differ, and reads their values only then. No voxel changes.
     #[inline(always)]
     pub fn settle(&mut self, p: Place) -> bool
         requires place { IsPlace self.old p }
