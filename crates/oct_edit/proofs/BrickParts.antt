@@ -35,8 +35,8 @@ use Rattle.oct_brick.proofs.Merging.{same_default}
 use Rattle.oct_brick.proofs.Rising.{Rises, same_rising}
 use Rattle.oct_brick.proofs.CodedVoxels.{coded_voxel-IsInMap, morton_of-coded_voxel}
 use Rattle.oct_edit.specs.Bricks.{brick_child, AreCut}
-use Rattle.oct_edit.specs.Parts.{AreIn, IsParted, IsFirstChild}
-use Rattle.oct_edit.proofs.Keys.{prefix_above, quotient_rises}
+use Rattle.oct_edit.specs.Parts.{AreIn, IsFirstChild}
+use Rattle.oct_edit.proofs.Keys.{IsParted, prefix_above, quotient_rises}
 
 -- which child of a block of this depth a code is in
 abbrev pub digit : ℕ → ℕ → ℕ

@@ -30,10 +30,10 @@ use Rattle.oct_brick.proofs.CodedVoxels.{coded_voxel-IsInMap, morton_of-coded_vo
 use Rattle.std.proofs.lemmas.List.Kept.{AllPairs-cons}
 use Rattle.std.proofs.lemmas.List.Elements.{All-contains}
 use Rattle.oct_edit.specs.Listed.{ListedUpdate, update_of}
-use Rattle.oct_edit.specs.Parts.{AreIn, IsParted, IsFirstChild}
+use Rattle.oct_edit.specs.Parts.{AreIn, IsFirstChild}
 use Rattle.oct_edit.specs.Scan.{events_of}
 use Rattle.oct_edit.proofs.Shares.{hit_event, miss_event}
-use Rattle.oct_edit.proofs.Keys.{unlisted}
+use Rattle.oct_edit.proofs.Keys.{IsParted, unlisted}
 use Rattle.oct_edit.proofs.BrickParts.{digit, code_is_listed, from_codes, parted_codes, first_codes}
 use Rattle.oct_edit.proofs.BrickParts.{IsRest, IsWithin, hits_within, scanned_within, frees_within}
 use Rattle.oct_edit.proofs.BrickParts.{below_within, halves}

@@ -1,7 +1,7 @@
 -- Voxels in the order of their Morton codes: which child of a block holds them, and
 -- what is found in a part of them.
 use Rattle.std.proofs.Common.{◌≡◌, ℕ, ◌+◌, ◌-◌, ◌*◌, ◌/◌, ◌%◌, ◌^◌, ◌<◌, ◌≤◌, Bool, true, false}
-use Rattle.std.proofs.Common.{List, [], ◌∷◌, ◌++◌, map, length, get_or, drop, inl, inr, refl, sym}
+use Rattle.std.proofs.Common.{List, [], ◌∷◌, ◌++◌, map, length, get_or, take, drop, inl, inr, refl, sym}
 use Rattle.std.proofs.Common.{subst, ◌∙◌, ap, arith}
 use Rattle.std.specs.Prelude.{◌||◌}
 use Rattle.std.specs.List.{All}
@@ -25,8 +25,17 @@ use Rattle.oct_key.proofs.SameVoxels.{is_same_voxel_exact}
 use Rattle.oct_values.specs.Events.{IsAscending, is_listed}
 use Rattle.oct_values.proofs.Sums.{first_of_all, rest_of_all}
 use Rattle.oct_edit.proofs.Rooms.{or_cases}
-use Rattle.oct_edit.specs.Parts.{AreIn, IsParted}
+use Rattle.oct_edit.specs.Parts.{AreIn}
 use Rattle.oct_edit.proofs.UnderWay.{AreLeft}
+
+-- a list of voxels is cut in two: those in the children up to one of the block of this depth, and
+-- those in later ones
+pub record IsParted (depth i : ℕ) (keys part later : List Voxel) : Type 0 where
+  pub count : ℕ
+  pub first : part ≡ take count keys
+  pub last : later ≡ drop count keys
+  pub here : All (λ k. child_index_of depth k ≤ i) part
+  pub after : All (λ k. i + 1 ≤ child_index_of depth k) later
 
 -- a quotient doesn't fall as its number rises
 pub quotient_rises : (m n d : ℕ) → 0 < d → m ≤ n → m / d ≤ n / d

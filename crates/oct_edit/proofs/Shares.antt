@@ -12,9 +12,9 @@ use Rattle.oct_values.specs.Events.{is_listed}
 use Rattle.oct_edit.specs.Listed.{ListedUpdate}
 use Rattle.oct_edit.specs.Steps.{Reaches}
 use Rattle.oct_edit.specs.Scan.{events_of, AreDisjoint}
-use Rattle.oct_edit.specs.Parts.{AreIn, IsParted, IsFirstChild, IsUpdateIn}
+use Rattle.oct_edit.specs.Parts.{AreIn, IsFirstChild, IsUpdateIn}
 use Rattle.oct_edit.proofs.UnderWay.{IsShare, AreLeft}
-use Rattle.oct_edit.proofs.Keys.{listed_has, unlisted, listed_here, part_of_child}
+use Rattle.oct_edit.proofs.Keys.{IsParted, listed_has, unlisted, listed_here, part_of_child}
 
 -- an event by what lists the voxel
 pub one_of : Bool → Bool → Event → Event → Option Event

@@ -15,9 +15,9 @@ use Rattle.oct_tree.proofs.Paths.{some_injective, slot_place, slot_block}
 use Rattle.oct_edit.specs.Listed.{ListedUpdate}
 use Rattle.oct_edit.specs.Steps.{IsTouched, IsEntered, IsClosed}
 use Rattle.oct_edit.specs.Scan.{events_of, AreDisjoint}
-use Rattle.oct_edit.specs.Parts.{IsUpdateIn, IsParted, IsFirstChild, need_in}
+use Rattle.oct_edit.specs.Parts.{IsUpdateIn, IsFirstChild, need_in}
 use Rattle.oct_edit.proofs.UnderWay.{IsTouchedBelow, IsUnderWay}
-use Rattle.oct_edit.proofs.Keys.{all_left, left_after}
+use Rattle.oct_edit.proofs.Keys.{IsParted, all_left, left_after}
 use Rattle.oct_edit.proofs.Shares.{first_not_done, part_update, part_share, none_between}
 use Rattle.oct_edit.proofs.Rounds.{round_start, round_skip, round_step, round_end}
 use Rattle.oct_edit.proofs.Expansions.{TakesSome, taken_in}

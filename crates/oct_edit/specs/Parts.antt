@@ -1,5 +1,5 @@
 -- How the update of a whole scan goes down the tree: the working words of its proof.
-use Rattle.std.specs.Prelude.{◌≡◌, ℕ, ◌+◌, ◌-◌, ◌≤◌, ◌⊎◌, true, List, [], take, drop, count_by}
+use Rattle.std.specs.Prelude.{◌≡◌, ℕ, ◌-◌, ◌≤◌, ◌⊎◌, true, List, [], count_by}
 use Rattle.std.specs.List.{All}
 use Rattle.std.specs.List.Sorted.{IsNonDecreasingBy}
 use Rattle.oct_key.specs.Voxel.{Voxel, IsInMap}
@@ -38,15 +38,6 @@ need_in events b = count_by (is_reached events) (blocks_below (16 - b.depth) b)
 abbrev pub IsAtRest : Odds → ListedUpdate → Value → Type 0
 IsAtRest odds update value = ((update.hits ≡ []) ⊎ IsSaturated odds update.hit value)
     × ((update.frees ≡ []) ⊎ IsSaturated odds update.miss value)
-
--- a list of voxels is cut in two: those in the children up to one of the block of this depth, and
--- those in later ones
-pub record IsParted (depth i : ℕ) (keys part later : List Voxel) : Type 0 where
-  pub count : ℕ
-  pub first : part ≡ take count keys
-  pub last : later ≡ drop count keys
-  pub here : All (λ k. child_index_of depth k ≤ i) part
-  pub after : All (λ k. i + 1 ≤ child_index_of depth k) later
 
 -- the first child of the block of this depth with a voxel of the lists
 pub record IsFirstChild (depth : ℕ) (hits frees : List Voxel) (i : ℕ) : Type 0 where

@@ -16,7 +16,7 @@ ghost use Rattle.oct_edit.specs.Edits.{IsEdited, IsEagerEdit, IsTidyAlong};
 ghost use Rattle.oct_edit.specs.Steps.{IsTouched};
 ghost use Rattle.oct_edit.specs.Areas.{cut_in};
 
-use crate::voxel::{VOXELS, apply_at, close, enter, stays};
+use crate::voxel::{VOXEL_DEPTH, apply_at, close, enter, stays};
 use oct_arena::Node;
 use oct_key::{Block, Key};
 use oct_odds::Event;
@@ -31,7 +31,7 @@ pub fn box_need(lo: Key, hi: Key) -> u128
     ensures few { result ≤ 2 ^ 49 }
 {
     let mut need = 0;
-    for depth in 0..VOXELS {
+    for depth in 0..VOXEL_DEPTH {
         need += u128::from(cut_at_depth(lo, hi, depth));
     }
     need

@@ -29,7 +29,7 @@ use oct_odds::{Event, OddsModel};
 use oct_tree::{OccTree, Place};
 
 /// The depth of the block of a brick.
-const BRICKS: u8 = 14;
+const BRICK_DEPTH: u8 = 14;
 
 /// The voxels that a scan changes, and the event of each kind.
 #[derive(Clone, Copy)]
@@ -105,7 +105,7 @@ fn touch_within(tree: &mut OccTree, p: Place, depth: u8, update: ScanUpdate, laz
         spare tree.old.groups ≤
         spare tree.new.groups + need_in (events_of (listed update.entry)) b }
 {
-    if depth == BRICKS {
+    if depth == BRICK_DEPTH {
         if let Some(brick) = update.bricks.first().copied() {
             let part = BrickUpdate {
                 brick,

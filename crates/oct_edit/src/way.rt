@@ -14,7 +14,7 @@ ghost use Rattle.oct_edit.specs.Saturated.{IsSaturated, TakesFrom};
 ghost use Rattle.oct_edit.specs.Steps.{HasRoom, IsTouched, IsClosed};
 ghost use Rattle.oct_edit.specs.Way.{IsWholeWay};
 
-use crate::voxel::{VOXELS, close, note_eager, stays, touch_under};
+use crate::voxel::{VOXEL_DEPTH, close, note_eager, stays, touch_under};
 use oct_arena::Node;
 use oct_key::{Key, child_index};
 use oct_odds::Event;
@@ -35,7 +35,7 @@ pub(crate) fn way_to(tree: &OccTree, k: Key) -> Way
 {
     let mut places = [Place::Root; 17];
     let mut p = Place::Root;
-    for depth in 0..VOXELS {
+    for depth in 0..VOXEL_DEPTH {
         let Node::Inner(_, id) = tree.node(p) else {
             return Way { places, depth };
         };
@@ -44,7 +44,7 @@ pub(crate) fn way_to(tree: &OccTree, k: Key) -> Way
     }
     Way {
         places,
-        depth: VOXELS,
+        depth: VOXEL_DEPTH,
     }
 }
 

@@ -26,20 +26,20 @@ pub touch_brick-requires : goal.touch_brick-requires
 touch_brick-requires t c = record {
   linked = c.requires.linked;
   place = c.requires.place;
-  depth = λ b e. c.requires.depth b e ∙ c.if-depth-eq-BRICKS.true;
+  depth = λ b e. c.requires.depth b e ∙ c.if-depth-eq-BRICK_DEPTH.true;
   brick =
       All-head IsBrick c.in-Some.brick []
       (subst (All IsBrick)
       (one_brick c.args.update.bricks.now c.in-Some.brick
       (sym c.first.ensures.value ∙ sym c.copied.ensures ∙ c.in-Some.is) c.requires.ascend
-      (subst (λ d. AreAlike d c.args.update.bricks.now) c.if-depth-eq-BRICKS.true
+      (subst (λ d. AreAlike d c.args.update.bricks.now) c.if-depth-eq-BRICK_DEPTH.true
       c.requires.alike))
       c.requires.bricks);
   inside =
       λ b e. subst (λ l. IsUpdateIn b (update_of l c.args.update.hit c.args.update.miss))
       (one_brick c.args.update.bricks.now c.in-Some.brick
       (sym c.first.ensures.value ∙ sym c.copied.ensures ∙ c.in-Some.is) c.requires.ascend
-      (subst (λ d. AreAlike d c.args.update.bricks.now) c.if-depth-eq-BRICKS.true
+      (subst (λ d. AreAlike d c.args.update.bricks.now) c.if-depth-eq-BRICK_DEPTH.true
       c.requires.alike))
       (c.requires.inside b e);
   room =
@@ -47,7 +47,7 @@ touch_brick-requires t c = record {
       ≤ spare c.args.tree.now.groups)
       (one_brick c.args.update.bricks.now c.in-Some.brick
       (sym c.first.ensures.value ∙ sym c.copied.ensures ∙ c.in-Some.is) c.requires.ascend
-      (subst (λ d. AreAlike d c.args.update.bricks.now) c.if-depth-eq-BRICKS.true
+      (subst (λ d. AreAlike d c.args.update.bricks.now) c.if-depth-eq-BRICK_DEPTH.true
       c.requires.alike))
       (c.requires.room b e);
   hit = c.requires.hit;
@@ -60,7 +60,7 @@ returns-in-Some-clause-touched t c b e =
     (events_of (update_of l c.args.update.hit c.args.update.miss)) c.args.lazy)
     (sym (one_brick c.args.update.bricks.now c.in-Some.brick (sym c.first.ensures.value
     ∙ sym c.copied.ensures ∙ c.in-Some.is) c.requires.ascend
-    (subst (λ d. AreAlike d c.args.update.bricks.now) c.if-depth-eq-BRICKS.true
+    (subst (λ d. AreAlike d c.args.update.bricks.now) c.if-depth-eq-BRICK_DEPTH.true
     c.requires.alike)))
     (c.touch_brick.ensures.touched b e)
 
@@ -70,7 +70,7 @@ returns-in-Some-clause-room t c b e =
     (events_of (update_of l c.args.update.hit c.args.update.miss)) b)
     (sym (one_brick c.args.update.bricks.now c.in-Some.brick (sym c.first.ensures.value
     ∙ sym c.copied.ensures ∙ c.in-Some.is) c.requires.ascend
-    (subst (λ d. AreAlike d c.args.update.bricks.now) c.if-depth-eq-BRICKS.true
+    (subst (λ d. AreAlike d c.args.update.bricks.now) c.if-depth-eq-BRICK_DEPTH.true
     c.requires.alike)))
     (c.touch_brick.ensures.room b e)
 
@@ -92,7 +92,7 @@ enter-id-requires-clause-room t c none =
     let (b, e) = place_block c.args.tree.now c.args.p c.requires.place in
     let deep = c.requires.depth b e in
     need_some c.args.tree.now c.args.p b (listed c.args.update) c.requires.linked e
-    (omega (arith, deep, c.requires.deep, c.if-depth-eq-BRICKS.false)) (c.requires.inside b e)
+    (omega (arith, deep, c.requires.deep, c.if-depth-eq-BRICK_DEPTH.false)) (c.requires.inside b e)
     (c.requires.room b e)
 
 pub loop-i-init : goal.loop-i-init
@@ -108,13 +108,13 @@ loop-i-init t c = record {
 pub first_child-requires-clause-order : goal.first_child-requires-clause-order
 first_child-requires-clause-order t c =
     order_of c.args.depth c.loop-i.rest.bricks.now
-    (omega (arith, c.requires.deep, c.if-depth-eq-BRICKS.false)) c.loop-i.invariant.ascend
+    (omega (arith, c.requires.deep, c.if-depth-eq-BRICK_DEPTH.false)) c.loop-i.invariant.ascend
     c.loop-i.invariant.alike
 
 pub split-requires-clause-order : goal.split-requires-clause-order
 split-requires-clause-order t c =
     order_of c.args.depth c.loop-i.rest.bricks.now
-    (omega (arith, c.requires.deep, c.if-depth-eq-BRICKS.false)) c.loop-i.invariant.ascend
+    (omega (arith, c.requires.deep, c.if-depth-eq-BRICK_DEPTH.false)) c.loop-i.invariant.ascend
     c.loop-i.invariant.alike
 
 pub touch_within-requires : goal.touch_within-requires
@@ -122,7 +122,7 @@ touch_within-requires t c =
     let (b, e) = place_block c.args.tree.now c.args.p c.requires.place in
     let deep : b.depth ≡ c.args.depth = c.requires.depth b e in
     let low : b.depth ≤ 15 = omega (arith, deep, c.requires.deep) in
-    let deeper : b.depth ≤ 13 = omega (arith, deep, c.requires.deep, c.if-depth-eq-BRICKS.false) in
+    let deeper : b.depth ≤ 13 = omega (arith, deep, c.requires.deep, c.if-depth-eq-BRICK_DEPTH.false) in
     let cut : AreCut b.depth c.in-Some-first_child.i c.loop-i.rest.bricks.now
     c.split.result.0.bricks.now c.split.result.1.bricks.now =
     subst (λ d. AreCut d c.in-Some-first_child.i c.loop-i.rest.bricks.now
@@ -238,7 +238,7 @@ loop-i-preserved t c = record {
       let deep : b.depth ≡ c.args.depth = c.requires.depth b e in
       let low : b.depth ≤ 15 = omega (arith, deep, c.requires.deep) in
       let deeper : b.depth ≤ 13 =
-      omega (arith, deep, c.requires.deep, c.if-depth-eq-BRICKS.false) in
+      omega (arith, deep, c.requires.deep, c.if-depth-eq-BRICK_DEPTH.false) in
       let cut : AreCut b.depth c.in-Some-first_child.i c.loop-i.rest.bricks.now
       c.split.result.0.bricks.now c.split.result.1.bricks.now =
       subst (λ d. AreCut d c.in-Some-first_child.i c.loop-i.rest.bricks.now
@@ -325,7 +325,7 @@ returns-clause-touched t c b e =
     let way = c.loop-i.invariant.way b e in
     way_end c.args.tree.now c.enter-id.new.tree c.loop-i.tree c.close.new.tree c.args.p b
     c.enter-id.result (listed c.args.update) (listed c.loop-i.rest) c.args.lazy c.requires.linked
-    c.requires.place e (omega (arith, deep, c.requires.deep, c.if-depth-eq-BRICKS.false))
+    c.requires.place e (omega (arith, deep, c.requires.deep, c.if-depth-eq-BRICK_DEPTH.false))
     (c.requires.inside b e) c.if-is_at_rest.ensures.takes (c.enter-id.ensures b e) way
     (ap hit_voxels c.in_default-first_child.ensures.none)
     (ap freed_voxels c.in_default-first_child.ensures.none) (c.close.ensures b way.done.block)
@@ -337,7 +337,7 @@ returns-clause-room t c b e =
     way_spared c.args.tree.now c.enter-id.new.tree c.loop-i.tree c.close.new.tree c.args.p b
     c.enter-id.result (listed c.args.update) (listed c.loop-i.rest) c.args.lazy
     (place_in_map c.args.tree.now c.args.p b c.requires.linked e)
-    (omega (arith, deep, c.requires.deep, c.if-depth-eq-BRICKS.false)) (c.requires.inside b e)
+    (omega (arith, deep, c.requires.deep, c.if-depth-eq-BRICK_DEPTH.false)) (c.requires.inside b e)
     (c.enter-id.ensures b e) way (c.close.ensures b way.done.block)
 
 pub is_at_rest-requires-clause-apart : goal.is_at_rest-requires-clause-apart
