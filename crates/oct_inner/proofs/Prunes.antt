@@ -26,9 +26,9 @@ use Rattle.oct_key.proofs.Nested.{child_lies_in}
 use Rattle.oct_tree.proofs.Shapes.{linked_place}
 use Rattle.oct_inner.specs.Changes.{IsShrunk}
 use Rattle.oct_inner.specs.Passes.{IsPrunedAt, IsPruning}
-use Rattle.oct_tree.specs.Passes.{IsPassed, IsPassing}
+use Rattle.oct_tree.specs.Passes.{IsPassed}
 use Rattle.oct_tree.proofs.Within.{IsLocal, IsClosed, place_by_block, closed_same, passed_closed}
-use Rattle.oct_tree.proofs.Within.{within_root}
+use Rattle.oct_tree.proofs.Within.{IsPassing, within_root}
 
 -- a group of the same nodes is collapsible too
 collapsible_same : (t u : Tree) (x : ℕ)

@@ -25,7 +25,8 @@ use Rattle.oct_tree.proofs.Frames.{id_of, same_written}
 use Rattle.oct_key.proofs.Nested.{child_lies_in}
 use Rattle.oct_inner.specs.Changes.{IsSameButValue, IsSameButInner}
 use Rattle.oct_inner.specs.Passes.{IsFreshAt, IsRefreshing}
-use Rattle.oct_tree.specs.Passes.{IsPassed, IsPassing}
+use Rattle.oct_tree.specs.Passes.{IsPassed}
+use Rattle.oct_tree.proofs.Within.{IsPassing}
 use Rattle.oct_tree.proofs.Within.{IsLocal, IsClosed, place_by_block, passed_closed, within_root}
 
 -- nodes that are the same but for the value

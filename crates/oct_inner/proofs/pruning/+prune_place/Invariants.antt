@@ -2,7 +2,7 @@ use Rattle.std.proofs.Common.{◌≡◌, Some}
 use Rattle.oct_key.specs.Block.{Cube}
 use Rattle.oct_tree.specs.Tree.{block_in}
 use Rattle.oct_inner.specs.Passes.{IsPrunedAt, IsPruning}
-use Rattle.oct_tree.specs.Passes.{height, IsPassing}
+use Rattle.oct_tree.proofs.Within.{height, IsPassing}
 use Rattle.oct_inner.proofs.pruning.+prune_place.Given as goal
 
 abbrev pub decreases-prune_place : goal.decreases-prune_place

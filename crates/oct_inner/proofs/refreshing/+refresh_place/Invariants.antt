@@ -2,7 +2,7 @@ use Rattle.std.proofs.Common.{◌≡◌, Some}
 use Rattle.oct_key.specs.Block.{Cube}
 use Rattle.oct_tree.specs.Tree.{block_in}
 use Rattle.oct_inner.specs.Passes.{IsFreshAt, IsRefreshing}
-use Rattle.oct_tree.specs.Passes.{height, IsPassing}
+use Rattle.oct_tree.proofs.Within.{height, IsPassing}
 use Rattle.oct_inner.proofs.refreshing.+refresh_place.Given as goal
 
 abbrev pub decreases-refresh_place : goal.decreases-refresh_place
