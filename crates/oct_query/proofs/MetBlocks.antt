@@ -24,7 +24,13 @@ use Rattle.oct_values.specs.Boxes.{MeetsSpan, is_met_by, met_on, met_at}
 use Rattle.oct_values.proofs.Boxes.{MeetsSpans, meets_exactly, met_by_voxels}
 use Rattle.oct_values.proofs.Cuts.{meets_by_division}
 use Rattle.oct_query.specs.Listed.{met_blocks}
-use Rattle.oct_query.specs.Rows.{box_blocks}
+
+-- the blocks of this many planes, from one on
+abbrev pub box_blocks : ℕ → Voxel → Voxel → List Cube
+box_blocks depth first count =
+    map (block_numbered depth)
+    (triples_of (numbers_from first.x count.x) (numbers_from first.y count.y)
+    (numbers_from first.z count.z))
 
 -- the numbers of the first block that meets a box, and how many do on each axis
 abbrev pub first_met : ℕ → Voxel → Voxel

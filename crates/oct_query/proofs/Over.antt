@@ -15,9 +15,9 @@ use Rattle.oct_arena.specs.declared.node.Node.TheVariants.{Absent, Leaf, Inner}
 use Rattle.oct_arena.specs.Entries.{node_at}
 use Rattle.oct_tree.specs.Nodes.{IsGreatest}
 use Rattle.oct_arena.specs.Nodes.{stored_in}
-use Rattle.oct_tree.specs.Tree.{Tree, IsLinked, value_at}
+use Rattle.oct_tree.specs.Tree.{IsOver, Tree, IsLinked, value_at}
 use Rattle.oct_tree.specs.Shape.{IsFresh}
-use Rattle.oct_tree.proofs.Over.{IsOver, over_child, over_value, over_home, reach_place}
+use Rattle.oct_tree.proofs.Over.{over_child, over_value, over_home, reach_place}
 use Rattle.oct_tree.proofs.Paths.{some_injective}
 
 -- a known voxel is at most the answer of its block

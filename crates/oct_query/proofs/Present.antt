@@ -22,12 +22,12 @@ use Rattle.oct_arena.specs.declared.node.Node.{Node}
 use Rattle.oct_arena.specs.declared.node.Node.TheVariants.{Absent, Leaf, Inner}
 use Rattle.oct_arena.specs.Entries.{entry, home_at, node_at}
 use Rattle.oct_arena.specs.Nodes.{link_of, value_of}
-use Rattle.oct_tree.specs.Tree.{Tree, IsLinked, value_at}
+use Rattle.oct_tree.specs.Tree.{IsOver, Tree, IsLinked, value_at}
 use Rattle.oct_tree.specs.Shape.{IsWellFormed, IsPruned}
 use Rattle.oct_tree.proofs.Paths.{homed_entry, reach_zero}
 use Rattle.oct_query.specs.Nodes.{is_present, present_nodes, nodes_of}
 use Rattle.oct_query.proofs.Homes.{at_home, no_home, by_homes}
-use Rattle.oct_tree.proofs.Over.{IsOver, over_value, over_home, slot_value, slot_home}
+use Rattle.oct_tree.proofs.Over.{over_value, over_home, slot_value, slot_home}
 use Rattle.oct_query.proofs.Needed.{home_or_uniform, sum_at_home, home_varied}
 
 -- a value that is there isn't none

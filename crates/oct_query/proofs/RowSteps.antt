@@ -23,9 +23,9 @@ use Rattle.oct_query.specs.Listed.{met_blocks, listed_blocks, shown, IsRefused}
 use Rattle.oct_query.specs.declared.fault.ListFault.{ListFault}
 use Rattle.oct_query.specs.declared.fault.ListFault.TheVariants.{Memory}
 use Rattle.oct_query.specs.Shown.{Shown}
-use Rattle.oct_query.specs.Rows.{row_numbers, row_blocks, plane_blocks, box_blocks}
+use Rattle.oct_query.specs.Rows.{row_numbers, row_blocks, plane_blocks}
 use Rattle.oct_query.proofs.Over.{answer_over, answer_over_voxel}
-use Rattle.oct_query.proofs.MetBlocks.{met_are_box, count_of_met}
+use Rattle.oct_query.proofs.MetBlocks.{box_blocks, met_are_box, count_of_met}
 
 -- numbers, one more
 numbers_more : (first n : ℕ) → numbers_from first (suc n) ≡ numbers_from first n ++ (first + n) ∷ []

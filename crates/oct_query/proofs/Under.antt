@@ -19,13 +19,13 @@ use Rattle.oct_arena.specs.Entries.{Groups, node_at}
 use Rattle.oct_tree.specs.declared.place.Place.{Place}
 use Rattle.oct_tree.specs.declared.place.Place.TheVariants.{Slot}
 use Rattle.oct_arena.specs.Nodes.{link_of}
-use Rattle.oct_tree.specs.Tree.{Tree, IsLinked, IsPlace, node_in, block_in, reach, step}
+use Rattle.oct_tree.specs.Tree.{IsOver, Tree, IsLinked, IsPlace, node_in, block_in, reach, step}
 use Rattle.oct_tree.proofs.Paths.{some_injective, some_not_none, place_block, linked_block}
 use Rattle.oct_tree.proofs.Paths.{slot_place, slot_block, reach_zero, reach_suc, unlinked_step}
 use Rattle.oct_query.specs.Nodes.{is_present, present_nodes, nodes_of}
 use Rattle.oct_query.specs.Under.{sum_below, nodes_under}
 use Rattle.oct_query.proofs.Homes.{at_home, no_home, by_homes}
-use Rattle.oct_tree.proofs.Over.{IsOver, over_child, over_home}
+use Rattle.oct_tree.proofs.Over.{over_child, over_home}
 use Rattle.oct_query.proofs.Needed.{sum_at_home}
 
 -- the sum over the eight numbers

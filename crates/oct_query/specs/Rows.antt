@@ -3,7 +3,7 @@ use Rattle.std.specs.Prelude.{ℕ, List, map}
 use Rattle.std.specs.List.{flat_map}
 use Rattle.oct_key.specs.Voxel.{Voxel}
 use Rattle.oct_key.specs.Block.{Cube}
-use Rattle.oct_key.specs.Order.{numbers_from, triples_of, block_numbered}
+use Rattle.oct_key.specs.Order.{numbers_from, block_numbered}
 
 -- the numbers of a row: this many on z, from one on
 abbrev pub row_numbers : ℕ → ℕ → ℕ → ℕ → List Voxel
@@ -18,10 +18,3 @@ abbrev pub plane_blocks : ℕ → ℕ → ℕ → ℕ → ℕ → ℕ → List C
 plane_blocks depth x first_y count_y first count =
     map (block_numbered depth)
     (flat_map (λ y. row_numbers x y first count) (numbers_from first_y count_y))
-
--- the blocks of this many planes, from one on
-abbrev pub box_blocks : ℕ → Voxel → Voxel → List Cube
-box_blocks depth first count =
-    map (block_numbered depth)
-    (triples_of (numbers_from first.x count.x) (numbers_from first.y count.y)
-    (numbers_from first.z count.z))

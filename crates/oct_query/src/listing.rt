@@ -60,7 +60,7 @@ pub fn list(
     Ok(found)
 }
 
-/// Numbers of blocks on an axis: from the first one on, and below the last.
+/// Numbers of blocks on an axis: from one on, and below another.
 #[derive(Clone, Copy)]
 struct Span {
     from: u32,

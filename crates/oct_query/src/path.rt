@@ -40,7 +40,7 @@ impl Path {
     {
         let from = self.shared(k, depth);
         for level in from..depth {
-            let node = below(tree, self.nodes[level as usize], child_index(k, level));
+            let node = tree.child_node(self.nodes[level as usize], child_index(k, level));
             self.nodes[level as usize + 1] = node;
         }
         self.key = k;
@@ -72,17 +72,4 @@ fn is_one_block(a: Key, b: Key, depth: u8) -> bool
     ensures { IsTrue result → block_of depth a ≡ block_of depth b }
 {
     Block::of(a, depth) == Block::of(b, depth)
-}
-
-/// Child i of the node: that of the group that it links, or the node itself, which covers its
-/// block's children.
-fn below(tree: &OccTree, node: Node, i: u8) -> Node
-    requires live { (id : ℕ) → link_of node ≡ Some id → IsLive tree.now.groups id }
-    requires index { i ≤ 7 }
-    ensures { result ≡ step tree.now.groups node i }
-{
-    match node {
-        Node::Inner(_, id) => tree.arena().node(id, i),
-        _ => node,
-    }
 }

@@ -13,18 +13,18 @@ loop-level-init c = (
       c.shared-from.ensures.few c.shared-from.ensures.same,
 )
 
-pub below-node-requires-clause-live : goal.below-node-requires-clause-live
-below-node-requires-clause-live c id link =
+pub child_node-node-requires-clause-live : goal.child_node-node-requires-clause-live
+child_node-node-requires-clause-live c id link =
     step_live c.args.tree.now c.args.k c.requires.path.linked c.loop-level.level id
     (sym (ap link_of (c.loop-level.invariant.1 c.loop-level.level _ (omega arith))) ∙ link)
 
 pub loop-level-preserved : goal.loop-level-preserved
 loop-level-preserved c =
     let room : length c.loop-level.self.nodes ≡ 17 = c.loop-level.invariant.0 in (
-      length-set c.loop-level.self.nodes (c.loop-level.level + 1) c.below-node.result ∙ room,
+      length-set c.loop-level.self.nodes (c.loop-level.level + 1) c.child_node-node.result ∙ room,
       path_step c.args.tree.now c.loop-level.self.nodes c.args.k c.loop-level.level
-          c.below-node.result (omega (arith, room, c.requires.depth)) c.loop-level.invariant.1
-          (c.below-node.ensures
+          c.child_node-node.result (omega (arith, room, c.requires.depth)) c.loop-level.invariant.1
+          (c.child_node-node.ensures
           ∙ ap (λ n. step c.args.tree.now.groups n c.child_index.result)
           (c.loop-level.invariant.1 c.loop-level.level _ (omega arith))
           ∙ ap (step c.args.tree.now.groups (reach c.args.tree.now c.loop-level.level c.args.k))
