@@ -16,7 +16,7 @@ use Rattle.oct_tree.specs.Tree.{Tree, IsLinked, IsPlace, node_in, block_in, step
 use Rattle.oct_tree.specs.Shape.{IsWellFormed}
 use Rattle.oct_tree.proofs.Paths.{homed_entry, place_reached, reach_zero, reach_suc}
 use Rattle.oct_tree.proofs.Over.{over_child, over_value, over_home}
-use Rattle.oct_merge.specs.Walk.{IsOver}
+use Rattle.oct_tree.specs.Tree.{IsOver}
 
 -- from a block to its children
 pub over_step : (t : Tree) (b : Cube) (n : Node) (i : ℕ) → b.depth < 16 → i < 8 → IsOver t b n

@@ -16,11 +16,11 @@ use Rattle.oct_arena.specs.declared.node.GroupId.{GroupId}
 use Rattle.oct_arena.specs.declared.node.Node.{Node}
 use Rattle.oct_arena.specs.Nodes.{link_of}
 use Rattle.oct_tree.specs.declared.place.Place.{Place}
-use Rattle.oct_tree.specs.Tree.{Tree, IsLinked, reach}
+use Rattle.oct_tree.specs.Tree.{IsOver, Tree, IsLinked, reach}
 use Rattle.oct_tree.proofs.Paths.{some_not_none, reach_home, unlinked_step}
 use Rattle.oct_edit.specs.Steps.{IsEntered}
 use Rattle.oct_edit.proofs.Needs.{sum_below_eight}
-use Rattle.oct_merge.specs.Walk.{IsOver, is_split, is_needed, need_in}
+use Rattle.oct_merge.specs.Walk.{is_split, is_needed, need_in}
 use Rattle.oct_merge.proofs.Known.{over_step, over_low}
 
 -- by the nodes over a block

@@ -19,7 +19,7 @@ use Rattle.oct_arena.specs.Entries.{spare}
 use Rattle.oct_arena.specs.Nodes.{link_of, value_of}
 use Rattle.oct_tree.specs.declared.place.Place.{Place}
 use Rattle.oct_tree.specs.declared.place.Place.TheVariants.{Slot}
-use Rattle.oct_tree.specs.Tree.{Tree, IsLinked, IsPlace, node_in, block_in, reach, value_at}
+use Rattle.oct_tree.specs.Tree.{IsOver, Tree, IsLinked, IsPlace, node_in, block_in, reach, value_at}
 use Rattle.oct_tree.specs.Shape.{IsWellFormed}
 use Rattle.oct_tree.specs.Changes.{IsWritten, SetsBlock, IsSameOutside}
 use Rattle.oct_tree.proofs.Paths.{slot_place, slot_block, value_within}
@@ -37,7 +37,7 @@ use Rattle.oct_edit.proofs.UnderWay.{IsTouchedBelow}
 use Rattle.oct_merge.specs.declared.rule.Rule.{Rule}
 use Rattle.oct_merge.specs.declared.rule.Rule.TheVariants.{First}
 use Rattle.oct_merge.specs.Merged.{merged, merge_event, merge_events}
-use Rattle.oct_merge.specs.Walk.{IsOver, is_needed, need_in}
+use Rattle.oct_merge.specs.Walk.{is_needed, need_in}
 use Rattle.oct_merge.proofs.Joined.{merge_sets, merge_leaves, merged_within, set_value, merge_after}
 use Rattle.oct_merge.proofs.Known.{over_place, over_low, over_known}
 use Rattle.oct_merge.proofs.Needs.{needed_by_nodes, need_of_children, need_alike, entered_alike}

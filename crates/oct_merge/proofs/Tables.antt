@@ -26,9 +26,8 @@ use Rattle.oct_values.proofs.Sums.{sum_by-turned, count_by-same}
 use Rattle.oct_edit.proofs.Needs.{sum_below_eight, sum_below_le}
 use Rattle.oct_arena.specs.declared.node.Node.{Node}
 use Rattle.oct_arena.specs.Nodes.{link_of, value_of}
-use Rattle.oct_tree.specs.Tree.{Tree, IsLinked, value_at}
+use Rattle.oct_tree.specs.Tree.{IsOver, Tree, IsLinked, value_at}
 use Rattle.oct_tree.proofs.Over.{over_value}
-use Rattle.oct_merge.specs.Walk.{IsOver}
 use Rattle.oct_merge.specs.Pairs.{pair_of, is_counted, pairs_in, places, pair_counts}
 use Rattle.oct_merge.specs.Shared.{shared_in}
 use Rattle.oct_merge.proofs.Known.{over_low}

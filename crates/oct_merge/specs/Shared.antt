@@ -3,8 +3,8 @@ use Rattle.std.specs.Prelude.{ℕ, ◌+◌, ◌-◌, ◌*◌, min, max}
 use Rattle.oct_key.specs.Voxel.{Voxel}
 use Rattle.oct_key.specs.Block.{Cube, side}
 
--- on an axis, how many numbers from one on and below another lie in the part with this number, of
--- the parts of this many numbers each
+-- on an axis that is cut into parts of this size, how many of the numbers from `from` on and below
+-- `to` lie in part n
 abbrev pub shared : ℕ → ℕ → ℕ → ℕ → ℕ
 shared from to size n = min (n * size + size) to - max (n * size) from
 

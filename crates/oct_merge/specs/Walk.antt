@@ -1,15 +1,9 @@
 -- How two trees are walked side by side: the working words of the proofs.
-use Rattle.std.specs.Prelude.{◌≡◌, ℕ, ◌-◌, Bool, ◌&&◌, not, is_some, count_by}
-use Rattle.oct_key.specs.Voxel.{Voxel}
-use Rattle.oct_key.specs.Block.{Cube, HoldsVoxel, lowest_voxel}
+use Rattle.std.specs.Prelude.{ℕ, ◌-◌, Bool, ◌&&◌, not, is_some, count_by}
+use Rattle.oct_key.specs.Block.{Cube, lowest_voxel}
 use Rattle.oct_values.specs.Blocks.{blocks_below}
-use Rattle.oct_arena.specs.declared.node.Node.{Node}
 use Rattle.oct_arena.specs.Nodes.{link_of}
 use Rattle.oct_tree.specs.Tree.{Tree, reach}
-
--- the paths to the voxels of a block come to this node there
-abbrev pub IsOver : Tree → Cube → Node → Type 0
-IsOver t b n = (k : Voxel) → HoldsVoxel b k → reach t b.depth k ≡ n
 
 -- whether the node over a block links a group
 abbrev pub is_split : Tree → Cube → Bool

@@ -7,18 +7,19 @@ ghost use Rattle.oct_values.specs.Events.{Events};
 ghost use Rattle.oct_arena.specs.declared.node.Node.{Node};
 ghost use Rattle.oct_arena.specs.Entries.{live, spare};
 ghost use Rattle.oct_arena.specs.Nodes.{link_of, value_of};
-ghost use Rattle.oct_tree.specs.Tree.{IsLinked, IsPlace, node_in, block_in, value_at};
+ghost use Rattle.oct_tree.specs.Tree.{IsOver, IsLinked, IsPlace, node_in, block_in, value_at};
 ghost use Rattle.oct_tree.specs.Shape.{IsWellFormed};
 ghost use Rattle.oct_edit.specs.Edits.{IsEdited, IsEagerEdit, IsTidyAlong};
-ghost use Rattle.oct_edit.specs.Steps.{IsEntered, IsTouched, IsClosed};
+ghost use Rattle.oct_edit.specs.Steps.{IsTouched};
 ghost use Rattle.oct_merge.specs.declared.rule.Rule.{Rule};
 ghost use Rattle.oct_merge.specs.Merged.{merged, merge_event, merge_events};
 ghost use Rattle.oct_merge.specs.Need.{merge_need};
-ghost use Rattle.oct_merge.specs.Walk.{IsOver, need_in};
+ghost use Rattle.oct_merge.specs.Walk.{need_in};
 
 use crate::rule::Rule;
-use crate::walk::{MAP, child_node, is_plain};
-use oct_arena::{GroupId, Node};
+use crate::walk::is_plain;
+use oct_arena::Node;
+use oct_edit::{close, enter};
 use oct_key::Block;
 use oct_tree::{OccTree, Place};
 
@@ -45,7 +46,14 @@ pub fn merge(into: &mut OccTree, other: &OccTree, rule: Rule)
         ≡ live into.old.groups + spare into.old.groups }
 {
     let known = into.tidiness();
-    merge_part(into, Place::Root, other, other.root(), MAP, rule);
+    merge_part(
+        into,
+        Place::Root,
+        other,
+        other.root(),
+        Block::whole_map(),
+        rule,
+    );
     into.note(known);
 }
 
@@ -76,20 +84,17 @@ fn merge_part(tree: &mut OccTree, p: Place, other: &OccTree, node: Node, block: 
     }
     let id = enter(tree, p);
     for i in 0..8 {
-        let child = child_node(other, node, i);
+        let child = other.child_node(node, i);
         merge_part(tree, Place::Slot(id, i), other, child, block.child(i), rule);
     }
-    close(tree, p, id);
+    close(tree, p, id, false);
 }
 
 /// Whether the node is absent.
 fn is_absent(node: Node) -> bool
     ensures { IsTrue result ↔ (node ≡ Node.Absent) }
 {
-    match node {
-        Node::Absent => true,
-        _ => false,
-    }
+    matches!(node, Node::Absent)
 }
 
 /// Whether the place has a leaf, and the rule takes the first map's value, so that each voxel of
@@ -130,28 +135,4 @@ fn write_leaf(tree: &mut OccTree, p: Place, node: Node, rule: Rule)
     };
     let joined = rule.join(tree.node(p).value(), value);
     tree.set_place(p, Node::Leaf(joined));
-}
-
-/// The group under the place. Where it has none, the place is split.
-fn enter(tree: &mut OccTree, p: Place) -> GroupId
-    requires place { IsPlace tree.old p }
-    requires depth { (b : Cube) → block_in tree.old p ≡ Some b → b.depth ≤ 15 }
-    requires room { link_of (node_in tree.old p) ≡ None → 1 ≤ spare tree.old.groups }
-    ensures { (b : Cube) → block_in tree.old p ≡ Some b → IsEntered tree.old tree.new p b result }
-{
-    match tree.node(p) {
-        Node::Inner(_, id) => id,
-        _ => tree.split(p),
-    }
-}
-
-/// Closes that group under the place: collapses it where it can be, and else renews the value of
-/// the place.
-fn close(tree: &mut OccTree, p: Place, id: GroupId)
-    requires linked { IsLinked tree.old }
-    requires place { IsPlace tree.old p }
-    requires inner { link_of (node_in tree.old p) ≡ Some id.number }
-    ensures { (b : Cube) → block_in tree.old p ≡ Some b → IsClosed tree.old tree.new b false }
-{
-    tree.settle_group(p, id);
 }

@@ -1,12 +1,12 @@
 ghost use Rattle.std.specs.Prelude.{◌≡◌, ◌-◌, ◌^◌, ◌≤◌};
 ghost use Rattle.oct_key.specs.CubeOf.{cube_of};
 ghost use Rattle.oct_arena.specs.Entries.{live};
-ghost use Rattle.oct_tree.specs.Tree.{IsLinked};
+ghost use Rattle.oct_tree.specs.Tree.{IsOver, IsLinked};
 ghost use Rattle.oct_tree.specs.Shape.{IsWellFormed};
 ghost use Rattle.oct_merge.specs.Need as groups;
-ghost use Rattle.oct_merge.specs.Walk.{IsOver, need_in};
+ghost use Rattle.oct_merge.specs.Walk.{need_in};
 
-use crate::walk::{MAP, child_node, is_plain};
+use crate::walk::is_plain;
 use oct_arena::Node;
 use oct_key::Block;
 use oct_tree::OccTree;
@@ -19,7 +19,8 @@ pub fn merge_need(into: &OccTree, other: &OccTree) -> u32
     ensures exact { result ≡ groups.merge_need into.now other.now }
     ensures few { result ≤ live other.now.groups }
 {
-    need_under(into, into.root(), other, other.root(), MAP) as u32
+    let map = Block::whole_map();
+    need_under(into, into.root(), other, other.root(), map) as u32
 }
 
 /// How many blocks from this one down have a group in `other` and none in `into`. The nodes are
@@ -37,8 +38,8 @@ fn need_under(into: &OccTree, node: Node, other: &OccTree, theirs: Node, block: 
     }
     let mut need = u64::from(is_plain(node));
     for i in 0..8 {
-        let child = child_node(into, node, i);
-        let their_child = child_node(other, theirs, i);
+        let child = into.child_node(node, i);
+        let their_child = other.child_node(theirs, i);
         need += need_under(into, child, other, their_child, block.child(i));
     }
     need

@@ -7,14 +7,13 @@ ghost use Rattle.oct_key.specs.CubeOf.{cube_of};
 ghost use Rattle.oct_odds.specs.Update.{class_of};
 ghost use Rattle.oct_values.specs.Boxes.{box_volume};
 ghost use Rattle.oct_values.specs.Classes.{classes_of};
-ghost use Rattle.oct_tree.specs.Tree.{IsLinked, value_at};
+ghost use Rattle.oct_tree.specs.Tree.{IsOver, IsLinked, value_at};
 ghost use Rattle.oct_tree.specs.Shape.{IsWellFormed};
 ghost use Rattle.oct_arena.specs.Nodes.{link_of, value_of};
-ghost use Rattle.oct_merge.specs.Walk.{IsOver};
 ghost use Rattle.oct_merge.specs.Pairs.{number_of, pair_of, pair_counts, pairs_in};
 ghost use Rattle.oct_merge.specs.Shared.{shared, shared_in};
 
-use crate::walk::{MAP, child_node, is_plain};
+use crate::walk::is_plain;
 use oct_arena::Node;
 use oct_key::{Block, Key};
 use oct_odds::Class;
@@ -38,7 +37,8 @@ pub fn class_table(a: &OccTree, b: &OccTree, lo: Key, hi: Key) -> ClassTable
     ensures all { sum result.counts ≡ box_volume lo hi }
 {
     let mut table = ClassTable { counts: [0; 9] };
-    count_part(&mut table, a, b, a.root(), b.root(), MAP, Zone { lo, hi });
+    let map = Block::whole_map();
+    count_part(&mut table, a, b, a.root(), b.root(), map, Zone { lo, hi });
     table
 }
 
@@ -95,8 +95,8 @@ fn count_part(
         return;
     }
     for i in 0..8 {
-        let child = child_node(a, first, i);
-        let other = child_node(b, second, i);
+        let child = a.child_node(first, i);
+        let other = b.child_node(second, i);
         count_part(table, a, b, child, other, block.child(i), zone);
     }
 }

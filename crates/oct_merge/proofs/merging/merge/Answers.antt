@@ -4,11 +4,14 @@ use Rattle.std.specs.Prelude.{is_some}
 use Rattle.oct_odds.specs.Update.{IsWithin}
 use Rattle.oct_odds.specs.Odds.{Odds}
 use Rattle.oct_arena.specs.Entries.{live, spare}
-use Rattle.oct_tree.specs.Tree.{Tree, value_at}
+use Rattle.oct_key.specs.Block.{root_block}
+use Rattle.oct_tree.specs.Tree.{Tree, IsOver, value_at}
 use Rattle.oct_tree.proofs.Paths.{value_within}
 use Rattle.oct_edit.specs.Edits.{IsEdited, IsEagerEdit, IsTidyAlong}
 use Rattle.oct_edit.proofs.Wholes.{same_total, whole_edited, whole_eager, whole_paths, whole_known}
+use Rattle.oct_edit.specs.Steps.{IsTouched}
 use Rattle.oct_merge.specs.Need.{merge_need}
+use Rattle.oct_merge.specs.Walk.{need_in}
 use Rattle.oct_merge.proofs.Homes.{need_by_blocks}
 use Rattle.oct_merge.proofs.Joined.{merge_after, merge_sets}
 use Rattle.oct_merge.proofs.Known.{over_root}
@@ -16,28 +19,43 @@ use Rattle.oct_merge.proofs.Parts.{events_of}
 use Rattle.oct_merge.proofs.merging.merge.Goals as goal
 
 pub merge_part-requires-clause-over : goal.merge_part-requires-clause-over
-merge_part-requires-clause-over c k held =
-    over_root c.args.other.now k held ∙ sym c.root.ensures.exact
+merge_part-requires-clause-over c =
+    subst (λ b. IsOver c.args.other.now b c.root.result) (sym c.whole_map.ensures)
+    (λ k held. over_root c.args.other.now k held ∙ sym c.root.ensures.exact)
 
 pub merge_part-requires-clause-room : goal.merge_part-requires-clause-room
 merge_part-requires-clause-room c =
-    subst (λ n. n ≤ spare c.args.into.now.groups)
+    subst (λ b. need_in c.args.into.now c.args.other.now b ≤ spare c.args.into.now.groups)
+    (sym c.whole_map.ensures)
+    (subst (λ n. n ≤ spare c.args.into.now.groups)
     (need_by_blocks c.args.into.now c.args.other.now c.requires.into.linked
     c.requires.other.linked)
-    c.requires.room
+    c.requires.room)
 
 pub note-requires : goal.note-requires
 note-requires c =
     whole_known c.args.into.now c.merge_part.new.tree
     (events_of c.args.rule c.args.into.now c.args.other.now) false c.tidiness-known.result
-    c.merge_part.ensures.touched (λ h. false≢true h) c.tidiness-known.ensures.so
+    (subst (λ b. IsTouched c.args.into.now c.merge_part.new.tree b
+    (events_of c.args.rule c.args.into.now c.args.other.now) false)
+    c.whole_map.ensures c.merge_part.ensures.touched)
+    (λ h. false≢true h) c.tidiness-known.ensures.so
+
+-- the edit within the whole map
+touched : (c : goal.After-note)
+    → IsTouched c.args.into.now c.merge_part.new.tree root_block
+    (events_of c.args.rule c.args.into.now c.args.other.now) false
+touched c =
+    subst (λ b. IsTouched c.args.into.now c.merge_part.new.tree b
+    (events_of c.args.rule c.args.into.now c.args.other.now) false)
+    c.whole_map.ensures c.merge_part.ensures.touched
 
 pub returns-clause-values : goal.returns-clause-values
 returns-clause-values c k v =
     let edited =
     whole_edited c.args.into.now c.merge_part.new.tree
     (events_of c.args.rule c.args.into.now c.args.other.now) false
-    c.merge_part.ensures.touched c.requires.into in
+    (touched c) c.requires.into in
     let within =
     subst (λ (o : Odds). IsWithin o (value_at c.args.other.now k)) (sym c.requires.odds)
     (value_within c.args.other.now k c.requires.other.linked) in
@@ -51,7 +69,7 @@ returns-clause-edited c =
     (sym c.note.ensures.same)
     (whole_edited c.args.into.now c.merge_part.new.tree
     (events_of c.args.rule c.args.into.now c.args.other.now) false
-    c.merge_part.ensures.touched c.requires.into)
+    (touched c) c.requires.into)
 
 pub returns-clause-eager : goal.returns-clause-eager
 returns-clause-eager c =
@@ -60,7 +78,7 @@ returns-clause-eager c =
     (sym c.note.ensures.same)
     (whole_eager c.args.into.now c.merge_part.new.tree
     (events_of c.args.rule c.args.into.now c.args.other.now) false
-    c.merge_part.ensures.touched (λ h. false≢true h))
+    (touched c) (λ h. false≢true h))
 
 pub returns-clause-path : goal.returns-clause-path
 returns-clause-path c k v known =
@@ -69,7 +87,7 @@ returns-clause-path c k v known =
     subst (λ u. IsTidyAlong u k) (sym c.note.ensures.same)
     (whole_paths c.args.into.now c.merge_part.new.tree
     (events_of c.args.rule c.args.into.now c.args.other.now) false
-    c.merge_part.ensures.touched (λ h. false≢true h) k v (ap is_some is))
+    (touched c) (λ h. false≢true h) k v (ap is_some is))
 
 pub returns-clause-room : goal.returns-clause-room
 returns-clause-room c =
@@ -77,14 +95,17 @@ returns-clause-room c =
     c.args.into.now.groups)
     (sym c.note.ensures.same)
     (same_total c.args.into.now.groups c.merge_part.new.tree.groups
-    c.merge_part.ensures.touched.apart.outside.length)
+    (touched c).apart.outside.length)
 
 pub returns-clause-groups : goal.returns-clause-groups
 returns-clause-groups c =
     let total =
     same_total c.args.into.now.groups c.merge_part.new.tree.groups
-    c.merge_part.ensures.touched.apart.outside.length in
-    let room = c.merge_part.ensures.room in
+    (touched c).apart.outside.length in
+    let room =
+    subst (λ b. spare c.args.into.now.groups ≤ spare c.merge_part.new.tree.groups + need_in
+    c.args.into.now c.args.other.now b)
+    c.whole_map.ensures c.merge_part.ensures.room in
     let need =
     need_by_blocks c.args.into.now c.args.other.now c.requires.into.linked
     c.requires.other.linked in
