@@ -30,7 +30,8 @@ use Rattle.oct_frontier.specs.Frontier.{IsRefused, IsFrontier, is_frontier, fron
 use Rattle.oct_frontier.specs.Frontier.{IsFrontierBetween}
 use Rattle.oct_frontier.specs.declared.fault.FrontierFault.{FrontierFault}
 use Rattle.oct_frontier.specs.declared.fault.FrontierFault.TheVariants.{Memory}
-use Rattle.oct_frontier.specs.Found.{classes_in, found_in}
+use Rattle.oct_frontier.specs.Found.{found_in}
+use Rattle.oct_tree.specs.Classes.{classes_in}
 use Rattle.oct_frontier.proofs.Founds.{frontier_decides}
 use Rattle.oct_frontier.proofs.Lists.{times, times_rising, rises, same_count, kept_passes}
 use Rattle.oct_frontier.proofs.Lists.{kept_from, times_kept}

@@ -9,12 +9,12 @@ use Rattle.oct_key.proofs.Held.{held_by_child, child_depths}
 use Rattle.oct_arena.specs.declared.node.Node.{Node}
 use Rattle.oct_arena.specs.Entries.{Groups}
 use Rattle.oct_arena.specs.Nodes.{link_of, value_of}
-use Rattle.oct_tree.specs.Tree.{Tree, step, value_at}
+use Rattle.oct_tree.specs.Tree.{IsOver, Tree, step, value_at}
 use Rattle.oct_tree.proofs.Paths.{some_not_none}
 use Rattle.oct_tree.proofs.Over.{over_value}
 use Rattle.oct_frontier.specs.declared.patch.Sides.{Sides}
 use Rattle.oct_frontier.specs.Frontier.{AreNeighbours}
-use Rattle.oct_frontier.specs.Patches.{IsOver, IsLeaf, AreBeside, AreAround, AreLeaves}
+use Rattle.oct_frontier.specs.Patches.{IsLeaf, AreBeside, AreAround, AreLeaves}
 use Rattle.oct_frontier.specs.Patches.{sides_of_child}
 use Rattle.oct_frontier.proofs.Steps.{leaf_step, around_child}
 

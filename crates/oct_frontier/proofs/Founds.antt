@@ -1,7 +1,7 @@
 -- What a walk finds in a block: nothing where it passes, the voxel where it takes one, and else
 -- what
 -- it finds in the children.
-use Rattle.std.proofs.Common.{◌≡◌, ℕ, suc, ◌+◌, ◌-◌, ◌≤◌, inl, inr, Bool, true, false, List, []}
+use Rattle.std.proofs.Common.{◌≡◌, ℕ, zero, suc, ◌+◌, ◌-◌, ◌≤◌, inl, inr, Bool, true, false, List, []}
 use Rattle.std.proofs.Common.{◌∷◌, ◌++◌, cond, Some, None, refl, sym, ap, subst, ◌∙◌, arith}
 use Rattle.std.proofs.Common.{append-nil, append_assoc}
 use Rattle.std.specs.Prelude.{◌⊎◌, ◌&&◌, nat_eq, filter, int_lt}
@@ -32,7 +32,8 @@ use Rattle.oct_values.proofs.Held.{all_held}
 use Rattle.oct_values.proofs.Sums.{first_of_all, rest_of_all, All-follows}
 use Rattle.oct_frontier.specs.Frontier.{IsNextTo, AreNeighbours, IsFrontier, is_next_to}
 use Rattle.oct_frontier.specs.Frontier.{are_neighbours, is_frontier}
-use Rattle.oct_frontier.specs.Found.{classes_in, found_in, found_first}
+use Rattle.oct_frontier.specs.Found.{found_in}
+use Rattle.oct_tree.specs.Classes.{classes_in}
 use Rattle.oct_frontier.proofs.Neighbours.{HasUnknownAround}
 
 -- the tests
@@ -181,6 +182,11 @@ voxels_next b low =
     (λ i. (let deep = depth_child_of b i in
     let level : 15 - b.depth ≡ 16 - (child_of b i).depth = omega (arith, deep) in
     ap (λ h. voxels_below h (child_of b i)) level))
+
+-- what is found in the first children of a block
+unfoldable pub found_first : Tree → Voxel → Voxel → Cube → ℕ → List Voxel
+found_first t lo hi b zero = []
+found_first t lo hi b (suc n) = found_first t lo hi b n ++ found_in t lo hi (child_of b n)
 
 eight_first : (t : Tree) (lo hi : Voxel) (b : Cube)
     → flat_map (λ i. found_in t lo hi (child_of b i)) child_numbers ≡ found_first t lo hi b 8

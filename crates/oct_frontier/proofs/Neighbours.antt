@@ -7,10 +7,10 @@ use Rattle.oct_key.specs.Block.{Cube}
 use Rattle.oct_arena.specs.declared.node.Node.{Node}
 use Rattle.oct_arena.specs.declared.node.Node.TheVariants.{Absent, Leaf, Inner}
 use Rattle.oct_arena.specs.Nodes.{value_of}
-use Rattle.oct_tree.specs.Tree.{Tree, value_at}
+use Rattle.oct_tree.specs.Tree.{IsOver, Tree, value_at}
 use Rattle.oct_frontier.specs.declared.patch.Sides.{Sides}
 use Rattle.oct_frontier.specs.Frontier.{AreNeighbours}
-use Rattle.oct_frontier.specs.Patches.{IsOver, IsLeaf, AreBeside, AreAround, AreLeaves}
+use Rattle.oct_frontier.specs.Patches.{IsLeaf, AreBeside, AreAround, AreLeaves}
 use Rattle.oct_frontier.proofs.Faces.{voxel_held}
 
 -- a neighbour of the voxel in the map is unknown

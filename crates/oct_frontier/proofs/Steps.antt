@@ -9,11 +9,11 @@ use Rattle.oct_key.proofs.Blocks.{same_cube, depth_child_of, child_holds}
 use Rattle.oct_arena.specs.declared.node.Node.{Node}
 use Rattle.oct_arena.specs.Entries.{Groups, IsLive}
 use Rattle.oct_arena.specs.Nodes.{link_of}
-use Rattle.oct_tree.specs.Tree.{Tree, IsLinked, reach, step}
+use Rattle.oct_tree.specs.Tree.{IsOver, Tree, IsLinked, reach, step}
 use Rattle.oct_tree.proofs.Paths.{reach_zero, reach_suc, homed_entry}
 use Rattle.oct_tree.proofs.Over.{over_home}
 use Rattle.oct_frontier.specs.declared.patch.Sides.{Sides}
-use Rattle.oct_frontier.specs.Patches.{IsOver, IsLeaf, AreBeside, AreAround, AreLeaves, row_x}
+use Rattle.oct_frontier.specs.Patches.{IsLeaf, AreBeside, AreAround, AreLeaves, row_x}
 use Rattle.oct_frontier.specs.Patches.{row_y, row_z, sides_of_child}
 
 -- a child of the node over a block is the node over the block's child

@@ -4,8 +4,8 @@ use Rattle.std.proofs.Common.{sym, ap, ◌∙◌, arith, append_assoc, append-ni
 use Rattle.oct_key.specs.Voxel.{Voxel}
 use Rattle.oct_key.specs.Block.{Cube, child_of}
 use Rattle.oct_tree.specs.Tree.{Tree}
-use Rattle.oct_frontier.specs.Found.{found_in, found_first}
-use Rattle.oct_frontier.proofs.Founds.{found_children}
+use Rattle.oct_frontier.specs.Found.{found_in}
+use Rattle.oct_frontier.proofs.Founds.{found_first, found_children}
 
 pub first_none : (t : Tree) (lo hi : Voxel) (b : Cube) → found_first t lo hi b 0 ≡ []
 unfolding found_first

@@ -1,28 +1,19 @@
 -- What a walk finds in a block, in the order of the walk.
-use Rattle.std.specs.Prelude.{◌≡◌, ℕ, zero, suc, ◌≤◌, ◌++◌, [], ◌∷◌, ◌&&◌, List, filter}
+use Rattle.std.specs.Prelude.{◌≡◌, ◌≤◌, [], ◌∷◌, ◌&&◌, List, filter}
 use Rattle.oct_key.specs.Voxel.{Voxel}
-use Rattle.oct_key.specs.Block.{Cube, child_of}
+use Rattle.oct_key.specs.Block.{Cube}
 use Rattle.oct_key.specs.Boxes.{is_in_box}
-use Rattle.oct_tree.specs.Tree.{Tree, value_at}
+use Rattle.oct_tree.specs.Tree.{Tree}
+use Rattle.oct_tree.specs.Classes.{classes_in}
 use Rattle.oct_values.specs.Blocks.{voxels_of}
-use Rattle.oct_values.specs.Classes.{Classes, classes_of}
 use Rattle.oct_frontier.specs.Frontier.{is_frontier}
 use Rattle.oct_frontier.specs.declared.look.Look.{Look}
 use Rattle.oct_frontier.specs.declared.look.Look.TheVariants.{Pass, Take, Enter}
-
--- what each voxel of a tree counts as
-abbrev pub classes_in : Tree → Classes
-classes_in t = classes_of t.odds (value_at t)
 
 -- the voxels of a block that lie between two corners and at the frontier
 unfoldable pub found_in : Tree → Voxel → Voxel → Cube → List Voxel
 found_in t lo hi b =
     filter (λ k. is_in_box lo hi k && is_frontier (classes_in t) k) (voxels_of b)
-
--- those of its first children
-unfoldable pub found_first : Tree → Voxel → Voxel → Cube → ℕ → List Voxel
-found_first t lo hi b zero = []
-found_first t lo hi b (suc n) = found_first t lo hi b n ++ found_in t lo hi (child_of b n)
 
 -- what a look says of a block: nothing is found in it, or this voxel alone, or it has children
 abbrev pub IsLookAt : Tree → Voxel → Voxel → Cube → Look → Type 0

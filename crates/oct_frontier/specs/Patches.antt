@@ -1,7 +1,6 @@
 -- The nodes over a block and over the blocks beside it, for the proofs of the walk.
 use Rattle.std.specs.Prelude.{◌≡◌, ℕ, ◌+◌, ◌-◌, ◌/◌, ◌%◌, ◌^◌, ◌<◌, nat_eq, ℤ, None, if◌then◌else◌}
-use Rattle.oct_key.specs.Voxel.{Voxel}
-use Rattle.oct_key.specs.Block.{Cube, HoldsVoxel}
+use Rattle.oct_key.specs.Block.{Cube}
 use Rattle.oct_key.specs.CubeOf.{cube_of}
 use Rattle.oct_odds.specs.Update.{class_of}
 use Rattle.oct_odds.specs.declared.event.Class.TheVariants.{Free}
@@ -9,13 +8,9 @@ use Rattle.oct_arena.specs.declared.node.Node.{Node}
 use Rattle.oct_arena.specs.declared.node.Node.TheVariants.{Leaf}
 use Rattle.oct_arena.specs.Entries.{Groups}
 use Rattle.oct_arena.specs.Nodes.{link_of, value_of}
-use Rattle.oct_tree.specs.Tree.{Tree, IsLinked, reach, step}
+use Rattle.oct_tree.specs.Tree.{Tree, IsLinked, IsOver, step}
 use Rattle.oct_frontier.specs.declared.patch.Sides.{Sides}
 use Rattle.oct_frontier.specs.declared.patch.Patch.{Patch}
-
--- the paths to a block's voxels come to this node
-abbrev pub IsOver : Tree → Cube → Node → Type 0
-IsOver t b n = (k : Voxel) → HoldsVoxel b k → reach t b.depth k ≡ n
 
 -- the node is a leaf
 abbrev pub IsLeaf : Node → Type 0

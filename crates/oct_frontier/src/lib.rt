@@ -19,8 +19,8 @@
 //! where it is (`Patch`), so that those of a child are one step further each, and nothing is looked
 //! up from the root. Each child of a block is looked at by its own node first (`look_at`): one that
 //! is unknown or occupied is passed over. Of a free one the nodes beside it are read too, up to the
-//! first axis that settles it, and where nothing there is unknown it is passed over. So of a free
-//! block only what lies at a face to something unknown, or to something smaller, is entered, and
+//! first axis that settles it, and where all of them are leaves it is passed over. So of a free
+//! block only the children at a face to something unknown, or to smaller blocks, are entered, and
 //! all nodes around a block are gathered only where it is. A first walk counts the voxels and ends
 //! at the first one too many, and a second one lists them into room for exactly that many, which
 //! std sorts in place and the list takes over.

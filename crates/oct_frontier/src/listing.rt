@@ -3,7 +3,8 @@ ghost use Rattle.oct_key.specs.Block.{root_block};
 ghost use Rattle.oct_key.specs.Boxes.{IsBox};
 ghost use Rattle.oct_key.specs.CubeOf.{cube_of};
 ghost use Rattle.oct_frontier.specs.Patches.{IsPatchOf};
-ghost use Rattle.oct_frontier.specs.Found.{classes_in, found_in};
+ghost use Rattle.oct_frontier.specs.Found.{found_in};
+ghost use Rattle.oct_tree.specs.Classes.{classes_in};
 ghost use Rattle.oct_frontier.specs.Frontier.{frontier_between, IsFrontierBetween, IsRefused};
 
 use crate::fault::FrontierFault;

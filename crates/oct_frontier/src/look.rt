@@ -31,8 +31,8 @@ pub(crate) enum Look {
 /// asked for.
 ///
 /// A child that is unknown or occupied is passed over at a look at its own node, and so is a free
-/// one with nothing unknown beside it. So of a free block those children are entered that lie at
-/// such a face.
+/// one with leaves alone beside it. So of a free block those children are entered that have
+/// something unknown beside them, or something smaller.
 #[inline(always)]
 pub(crate) fn look_at(tree: &OccTree, patch: &Patch, i: u8, lo: Key, hi: Key) -> Look
     requires patch { IsPatchOf tree.now patch.now }
@@ -102,7 +102,7 @@ fn meets(block: Block, lo: Key, hi: Key) -> bool
 fn is_between(low: u16, high: u16, n: u16) -> bool
     ensures { IsTrue result ↔ IsBetween low high n }
 {
-    low <= n && n <= high
+    (low..=high).contains(&n)
 }
 
 /// Whether something holds on each axis.

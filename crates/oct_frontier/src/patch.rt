@@ -44,12 +44,7 @@ impl Patch {
             high: BEYOND,
         };
         Patch {
-            block: Block {
-                depth: 0,
-                x: 0,
-                y: 0,
-                z: 0,
-            },
+            block: Block::whole_map(),
             here: tree.root(),
             x: beyond,
             y: beyond,
@@ -81,7 +76,7 @@ impl Patch {
         requires index { i ≤ 7 }
         ensures { result ≡ child_node tree.now self.now i }
     {
-        below(tree, self.here, i)
+        tree.child_node(self.here, i)
     }
 
     /// Whether all nodes beside child i are leaves, so that nothing beside it is unknown. Reads no
@@ -138,10 +133,7 @@ fn has_leaves(sides: Sides) -> bool
 fn is_leaf(node: Node) -> bool
     ensures { IsTrue result ↔ IsLeaf node }
 {
-    match node {
-        Node::Leaf(_) => true,
-        _ => false,
-    }
+    matches!(node, Node::Leaf(_))
 }
 
 /// The nodes beside child i on an axis: whether the axis' bit is set in i says in which half of the
@@ -159,27 +151,13 @@ fn sides_of_child(tree: &OccTree, here: Node, sides: Sides, i: u8, bit: u8, half
 {
     if half == 1 {
         Sides {
-            low: below(tree, here, i - bit),
-            high: below(tree, sides.high, i - bit),
+            low: tree.child_node(here, i - bit),
+            high: tree.child_node(sides.high, i - bit),
         }
     } else {
         Sides {
-            low: below(tree, sides.low, i + bit),
-            high: below(tree, here, i + bit),
+            low: tree.child_node(sides.low, i + bit),
+            high: tree.child_node(here, i + bit),
         }
-    }
-}
-
-/// Child i of the node: that of the group that it links, or the node itself, which covers its
-/// block's children.
-#[inline(always)]
-fn below(tree: &OccTree, node: Node, i: u8) -> Node
-    requires live { (id : ℕ) → link_of node ≡ Some id → IsLive tree.now.groups id }
-    requires index { i ≤ 7 }
-    ensures { result ≡ step tree.now.groups node i }
-{
-    match node {
-        Node::Inner(_, id) => tree.arena().node(id, i),
-        _ => node,
     }
 }

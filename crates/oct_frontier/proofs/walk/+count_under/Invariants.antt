@@ -1,6 +1,6 @@
 use Rattle.std.proofs.Common.{◌≡◌, ◌+◌, ◌-◌, length}
 use Rattle.oct_key.specs.CubeOf.{cube_of}
-use Rattle.oct_frontier.specs.Found.{found_first}
+use Rattle.oct_frontier.proofs.Founds.{found_first}
 use Rattle.oct_frontier.proofs.walk.+count_under.Given as goal
 
 abbrev pub decreases-count_under : goal.decreases-count_under

@@ -1,7 +1,7 @@
 use Rattle.std.proofs.Common.{◌≡◌, ◌-◌, ◌++◌}
 use Rattle.std.specs.Prelude.{vec_capacity}
 use Rattle.oct_key.specs.CubeOf.{cube_of}
-use Rattle.oct_frontier.specs.Found.{found_first}
+use Rattle.oct_frontier.proofs.Founds.{found_first}
 use Rattle.oct_frontier.proofs.walk.+list_under.Given as goal
 
 abbrev pub decreases-list_under : goal.decreases-list_under

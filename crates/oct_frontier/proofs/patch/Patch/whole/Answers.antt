@@ -1,10 +1,11 @@
 use Rattle.std.proofs.Common.{refl}
-use Rattle.oct_frontier.proofs.Steps.{around_whole}
+use Rattle.oct_frontier.proofs.Steps.{around_as, around_whole}
 use Rattle.oct_frontier.proofs.patch.Patch.whole.Goals as goal
 
 pub returns-clause-patch : goal.returns-clause-patch
 returns-clause-patch c =
-    around_whole c.args.tree.now _ _ _ _ c.root.ensures.linked c.root.ensures.exact
+    around_as c.args.tree.now _ _ _ _ _ _ _ _ _ _
+    (around_whole c.args.tree.now _ _ _ _ c.root.ensures.linked c.root.ensures.exact
     (record {
       west = (_, refl);
       east = (_, refl);
@@ -12,4 +13,5 @@ returns-clause-patch c =
       north = (_, refl);
       below = (_, refl);
       above = (_, refl);
-    })
+    }))
+    c.whole_map.ensures refl refl refl refl
