@@ -1,10 +1,10 @@
 ghost use Rattle.std.specs.Prelude.{◌≡◌, IfOk};
-ghost use Rattle.oct_odds.specs.Odds.{IsSmall};
 ghost use Rattle.oct_odds.specs.Update.{IsSmallEvent};
 ghost use Rattle.oct_values.specs.Boxes as boxes;
 ghost use Rattle.oct_key.specs.Boxes.{IsBox};
 ghost use Rattle.oct_tree.specs.Shape.{IsWellFormed};
 
+use crate::checks::{expect_small, expect_tidy};
 use oct_edit::{box_need, touch_box};
 use oct_key::{Key, Res};
 use oct_odds::{Event, OddsModel};
@@ -115,25 +115,6 @@ const EDITS: &[Edited] = &[
     (Event::Add(850), 32_767, 32_768, 0, Some(3500), Some(3500)),
 ];
 
-/// Expects that the number in an event is of at most a million.
-fn expect_small(rt: &impl Abort, event: Event)
-    ensures { IsSmallEvent event }
-{
-    match event {
-        Event::Add(n) => expect_small_number(rt, n),
-        Event::Set(n) => expect_small_number(rt, n),
-        _ => {}
-    }
-}
-
-/// Expects that a number is of at most a million.
-fn expect_small_number(rt: &impl Abort, n: i32)
-    ensures { IsSmall n }
-{
-    assert!(rt; n >= -1_000_000);
-    assert!(rt; n <= 1_000_000);
-}
-
 /// Applies an event to a box, and expects what a row says.
 fn expect_edit(rt: &impl Abort, tree: &mut OccTree, row: Edited)
     requires { IsWellFormed tree.old }
@@ -158,5 +139,7 @@ fn expect_edits(rt: &impl Abort, tree: &mut OccTree, cases: &[Edited])
 fn applies_events_to_boxes(rt: HostRuntime) -> Result<(), Fail> {
     let mut tree = world(rt.alloc())?;
     expect_edits(&rt, &mut tree, EDITS);
+    // A box keeps what is known, so that later edits can end early.
+    expect_tidy(&rt, &tree, true);
     Ok(())
 }

@@ -1,8 +1,9 @@
 //! The tests of [`oct_edit`]: events on one voxel, on the voxels of a scan and on those of a box,
 //! the values and the groups that they leave, and the groups that they need.
 //!
-//! They show what no clause of its contracts says, and call public functions alone. `rt test` in
-//! this folder proves and runs them, and `rt try --test` runs them with nothing proved.
+//! They compare the definitions with examples worked out by hand, and show that calls succeed while
+//! there is memory, which no clause can say. They call public functions alone. `rt test` in this
+//! folder proves and runs them, and `rt try --test` runs them with nothing proved.
 //!
 //! They are a crate of their own, as the folder `tests/` of a Rust crate is, so that `oct_edit`
 //! isn't proved a second time beside them. Nothing stands on this crate.
@@ -10,6 +11,8 @@
 
 #[cfg(test)]
 mod area;
+#[cfg(test)]
+mod checks;
 #[cfg(test)]
 mod scan;
 #[cfg(test)]

@@ -17,8 +17,12 @@ const HIT: Event = Event::Add(850);
 
 const MISS: Event = Event::Add(-400);
 
-/// The code of the brick at the origin. The next code is that of the brick beside it on the x axis.
-const ORIGIN: u64 = 3_848_290_697_216;
+/// The code of the brick at the origin: the highest bit of each axis, which are the highest three of
+/// the code's 42. The next code is that of the brick beside it on the x axis.
+const ORIGIN: u64 = 0x380_0000_0000;
+
+/// Room for a scan of two bricks: sixteen groups for each of their voxels, hit or freed.
+const ROOM: u32 = 4096;
 
 /// The key of the voxel so far from the origin along the x axis.
 fn voxel(x: u16) -> Key {
@@ -29,8 +33,8 @@ fn voxel(x: u16) -> Key {
     }
 }
 
-/// Applies a scan of voxels of two bricks, given as those that change and those that are hit of
-/// them, where there is room for it.
+/// Applies a scan of two bricks, where there is room for it. A brick is given by two masks: of its
+/// voxels that change, and of those among them that are hit.
 fn scan(rt: &impl Abort, tree: &mut OccTree, masks: [(u64, u64); 2], lazy: bool)
     requires formed { IsWellFormed tree.old }
     ensures { IsWellFormed tree.new }
@@ -38,7 +42,7 @@ fn scan(rt: &impl Abort, tree: &mut OccTree, masks: [(u64, u64); 2], lazy: bool)
     let [(scanned, hits), (scanned_beside, hits_beside)] = masks;
     assert!(rt; scanned > 0);
     assert!(rt; scanned_beside > 0);
-    assert!(rt; tree.arena().spare() >= 4096);
+    assert!(rt; tree.arena().spare() >= ROOM);
     let bricks = [
         Brick {
             code: ORIGIN,

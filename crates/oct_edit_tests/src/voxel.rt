@@ -1,8 +1,8 @@
 ghost use Rattle.std.specs.Prelude.{IfOk};
-ghost use Rattle.oct_odds.specs.Odds.{IsSmall};
 ghost use Rattle.oct_odds.specs.Update.{IsSmallEvent};
 ghost use Rattle.oct_tree.specs.Shape.{IsWellFormed};
 
+use crate::checks::{expect_small, expect_tidy};
 use oct_arena::Node;
 use oct_edit::touch;
 use oct_key::{Key, Res};
@@ -122,6 +122,8 @@ fn prunes_equal_leaves(rt: HostRuntime) -> Result<(), Fail> {
         expect_eight(&rt, &tree, 16, wanted);
         expect_root(&rt, &tree, Some(want));
     }
+    // What is known of the tree stays known.
+    expect_tidy(&rt, &tree, true);
     Ok(())
 }
 
@@ -153,6 +155,7 @@ fn leaves_inner_values_and_groups_when_lazy(rt: HostRuntime) -> Result<(), Fail>
     // New inner nodes over unknown space have the value 0, and an edit that isn't lazy mends its
     // path.
     apply(&rt, &mut tree, first, HIT, true);
+    expect_tidy(&rt, &tree, false);
     expect_root(&rt, &tree, Some(0));
     expect_pair(&rt, &tree, first, voxel(1, 0, 0), Some(850));
     apply(&rt, &mut tree, first, HIT, false);
@@ -187,25 +190,6 @@ const EDITS: &[(Event, bool, Option<i32>)] = &[
     (Event::Add(0), false, Some(0)),
     (Event::Forget, false, None),
 ];
-
-/// Expects that the number in an event is of at most a million.
-fn expect_small(rt: &impl Abort, event: Event)
-    ensures { IsSmallEvent event }
-{
-    match event {
-        Event::Add(n) => expect_small_number(rt, n),
-        Event::Set(n) => expect_small_number(rt, n),
-        _ => {}
-    }
-}
-
-/// Expects that a number is of at most a million.
-fn expect_small_number(rt: &impl Abort, n: i32)
-    ensures { IsSmall n }
-{
-    assert!(rt; n >= -1_000_000);
-    assert!(rt; n <= 1_000_000);
-}
 
 /// Applies an event to a voxel, and expects this value of it afterwards.
 fn expect_edit(rt: &impl Abort, tree: &mut OccTree, event: Event, lazy: bool, want: Option<i32>)
