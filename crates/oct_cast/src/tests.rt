@@ -12,9 +12,10 @@ use std::alloc::Global;
 use std::process::Abort;
 use std::test::Fail;
 
-/// The first and the last coordinate of the map, in nanometres.
+/// The first coordinate of the map, in nanometres.
 const LOW: i64 = -3_276_800_000_000;
 
+/// The last one.
 const HIGH: i64 = 3_276_799_999_999;
 
 /// A leaf of the value.
