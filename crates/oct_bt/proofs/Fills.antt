@@ -460,3 +460,45 @@ has_filled t u codes whole size same some accepted room shape l none filled =
           groups = omega (arith, empty, before, after, kept, taken, long, counted);
           spare = omega (arith, empty, before, after, kept);
         }
+
+-- what a file makes of a tree of the unknown world
+pub record IsFilledFrom (t u : Tree) (codes : List ℕ) : Type 0 where
+  pub filled : HasFilled t u (length codes / 2)
+  pub values : (classes : Classes) → IsDataOf classes codes → (k : Voxel) → IsInMap k
+      → value_at u k ≡ value_for t.odds (classes k)
+  pub entries : length u.groups ≡ length t.groups
+  pub res : u.res ≡ t.res
+  pub odds : u.odds ≡ t.odds
+
+-- with records
+pub filled_from : (t u : Tree) (codes whole : List ℕ) (size : ℕ) → codes ≡ whole → 0 < length codes
+    → IsAccepted size whole → length whole / 2 ≤ spare t.groups → IsShaped t → IsLinked u
+    → t.root ≡ Absent
+    → ((r : Entries) (tail : List ℕ) → IsRecord 0 r → codes ≡ flat r ++ tail
+    → IsFilled t u root_block (class_by 0 r) (1 + record_count r))
+    → IsFilledFrom t u whole
+filled_from t u codes whole size same some accepted room shape l none filled =
+    let fit : IsAccepted size codes = subst (IsAccepted size) (sym same) accepted in
+    let r = root_asked codes size (spare t.groups) some fit
+    (subst (λ (bytes : List ℕ). length bytes / 2 ≤ spare t.groups) (sym same) room) in
+    let outside = (filled r.r [] r.is r.text).whole.outside in
+    record {
+      filled = has_filled t u codes whole size same some fit room shape l none filled;
+      values = λ classes is k ok. root_filled t u codes classes
+          (subst (IsDataOf classes) (sym same) is) some filled k ok;
+      entries = outside.length;
+      res = outside.res;
+      odds = outside.odds;
+    }
+
+-- without any
+pub unfilled_from : (t : Tree) (codes whole : List ℕ) → codes ≡ whole → length codes ≡ 0
+    → IsShaped t → IsLinked t → t.root ≡ Absent → IsFilledFrom t t whole
+unfilled_from t codes whole same few shape l none = record {
+  filled = unfilled t (length whole / 2) shape l none;
+  values = λ classes is k ok. none_filled t codes classes l none
+      (subst (IsDataOf classes) (sym same) is) few k ok;
+  entries = refl;
+  res = refl;
+  odds = refl;
+}

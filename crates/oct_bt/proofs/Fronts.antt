@@ -21,8 +21,8 @@ use Rattle.oct_values.specs.Classes.{Classes}
 use Rattle.oct_bt.specs.declared.fault.BtFault.TheVariants.{NotOctomap, MissingField}
 use Rattle.oct_bt.specs.declared.fault.HeaderWord.TheVariants.{Data}
 use Rattle.oct_bt.specs.Canonical.{canonical_data, canonical_size}
-use Rattle.oct_bt.specs.Header.{is_line_feed, is_data_line, mark_fault, head_of, header_of}
-use Rattle.oct_bt.specs.Header.{header_at, data_line, lines_from, unless_marked}
+use Rattle.oct_bt.specs.Header.{is_line_feed, is_data_line, first_line_fault, head_of, header_of}
+use Rattle.oct_bt.specs.Header.{header_at, data_line, lines_from, unless_faulty}
 use Rattle.oct_bt.specs.File.{text_of_lines, header_lines, header_text, bt_text, reading}
 use Rattle.oct_bt.specs.File.{after_header, file_with, front_fault}
 use Rattle.oct_bt.proofs.FilesBack.{HeaderTexts, header_texts, after_written}
@@ -169,7 +169,7 @@ all_unmarked : each_below 28 is_unmarked ≡ true
 unfolding each_below is_unmarked
 all_unmarked = refl
 
-short_mark : (n : ℕ) → n < 28 → mark_fault (take n marker) ≡ Some NotOctomap
+short_mark : (n : ℕ) → n < 28 → first_line_fault (take n marker) ≡ Some NotOctomap
 unfolding is_unmarked
 short_mark n few =
     let tests = and_parts (not (starts_with nat_eq (take n marker) marker))
@@ -181,7 +181,7 @@ short_mark n few =
     not_true true e = absurd (false≢true e)
     not_true false e = refl
 
-long_mark : (rest : List ℕ) → mark_fault (marker ++ rest) ≡ None
+long_mark : (rest : List ℕ) → first_line_fault (marker ++ rest) ≡ None
 long_mark rest = refl
 
 -- ---- a header that isn't whole
@@ -211,23 +211,23 @@ head_is_all : (front : List ℕ) → length front ≤ 65536 → head_of front �
 head_is_all front few = take_all 65536 front few
 
 -- one that isn't begun as these files are
-pub front_unmarked : (front : List ℕ) (fault : BtFault) → length front ≤ 65536 → mark_fault front
+pub front_unmarked : (front : List ℕ) (fault : BtFault) → length front ≤ 65536 → first_line_fault front
     ≡ Some fault → reading front ≡ Err fault
 unfolding reading header_of
 front_unmarked front fault few mark =
-    ap (λ head. after_header front (unless_marked (mark_fault head)
+    ap (λ head. after_header front (unless_faulty (first_line_fault head)
     (header_at head (data_line head)))) (head_is_all front few)
-    ∙ ap (λ m. after_header front (unless_marked m (header_at front (data_line front)))) mark
+    ∙ ap (λ m. after_header front (unless_faulty m (header_at front (data_line front)))) mark
 
 -- one without a data line
-pub front_unended : (front : List ℕ) → length front < 65536 → mark_fault front ≡ None
+pub front_unended : (front : List ℕ) → length front < 65536 → first_line_fault front ≡ None
     → data_line front ≡ None → reading front ≡ Err (MissingField Data)
 unfolding reading header_of
 front_unended front few mark line =
     let short : nat_lt (length front) 65536 ≡ true = le-leb (suc (length front)) 65536 few in
-    ap (λ head. after_header front (unless_marked (mark_fault head)
+    ap (λ head. after_header front (unless_faulty (first_line_fault head)
     (header_at head (data_line head)))) (head_is_all front (omega (arith, few)))
-    ∙ ap (λ m. after_header front (unless_marked m (header_at front (data_line front)))) mark
+    ∙ ap (λ m. after_header front (unless_faulty m (header_at front (data_line front)))) mark
     ∙ ap (λ l. after_header front (header_at front l)) line
     ∙ rw short refl
 
@@ -266,7 +266,7 @@ front_by_texts size res t bytes whole n reads few =
         ∙ ap (take n) (append_assoc marker (drop 28 lines) bytes)
         ∙ take-append-le n marker (drop 28 lines ++ bytes) (omega (arith, less)) in
         front_unmarked (take n (lines ++ bytes)) NotOctomap (omega (arith, taken, less))
-        (ap mark_fault is ∙ short_mark n less)
+        (ap first_line_fault is ∙ short_mark n less)
         ∙ rw short refl)
     by_tests false true short within =
         (let less = leb-true (suc n) (length lines) within in
@@ -275,7 +275,7 @@ front_by_texts size res t bytes whole n reads few =
         take-append-le n lines bytes (omega (arith, less)) in
         let few' = t.few in
         front_unended (take n (lines ++ bytes)) (omega (arith, taken, less, few'))
-        (ap mark_fault (is ∙ begins n (omega (arith, more)))
+        (ap first_line_fault (is ∙ begins n (omega (arith, more)))
         ∙ long_mark (take (n - 28) (drop 28 lines)))
         (ap data_line is ∙ no_data t.d t.e t.ds t.es (take n lines) t.size_field t.res_field
         (front_of_lines (header_lines (t.d ∷ t.ds) (t.e ∷ t.es)) n

@@ -4,7 +4,7 @@ use Rattle.std.proofs.Common.{length, drop, refl, sym, subst, ◌∙◌, ap, Res
 use Rattle.std.specs.List.{slice_split}
 use Rattle.std.proofs.lemmas.Bool.{false≢true}
 use Rattle.oct_bt.specs.declared.fault.BtFault.{BtFault}
-use Rattle.oct_bt.specs.Header.{HeaderLine, Header, is_line_feed, mark_fault, unless_marked}
+use Rattle.oct_bt.specs.Header.{HeaderLine, Header, is_line_feed, first_line_fault, unless_faulty}
 use Rattle.oct_bt.specs.Header.{header_at, header_of, head_of, data_line, no_data_line}
 use Rattle.oct_bt.specs.NodeData.{Reading, HasRead, Progress, after_bytes, at_first, read_nodes}
 use Rattle.oct_bt.specs.File.{FileRead, file_with, after_header, reading}
@@ -16,11 +16,11 @@ use Rattle.oct_bt.proofs.HeadSteps.{mark_in}
 
 -- a first line that hasn't ended is the whole head
 unbegun_mark : (head : List ℕ) → has_ended (slice_split is_line_feed head) ≡ false
-    → mark_fault (unended (slice_split is_line_feed head)) ≡ mark_fault head
+    → first_line_fault (unended (slice_split is_line_feed head)) ≡ first_line_fault head
 unfolding unended first_part
 unbegun_mark head begun =
     let (p, ps, is) = some_part head in
-    ap mark_fault (by_parts p ps (sym (ap has_ended is) ∙ begun) is) ∙ mark_first head
+    ap first_line_fault (by_parts p ps (sym (ap has_ended is) ∙ begun) is) ∙ mark_first head
   where
     by_parts : (p : List ℕ) (ps : List (List ℕ)) → has_ended (p ∷ ps) ≡ false
         → slice_split is_line_feed head ≡ p ∷ ps
@@ -33,26 +33,26 @@ head_ended : (head : List ℕ) → data_line head ≡ None → Err (head_fault (
     ≡ header_of head
 unfolding header_of
 head_ended head none =
-    by_mark (has_ended (slice_split is_line_feed head)) refl ∙ by_fault (mark_fault head)
-    ∙ sym (ap (λ o. unless_marked (mark_fault head) (header_at head o)) none)
+    by_mark (has_ended (slice_split is_line_feed head)) refl ∙ by_fault (first_line_fault head)
+    ∙ sym (ap (λ o. unless_faulty (first_line_fault head) (header_at head o)) none)
   where
     by_fault : (m : Option BtFault)
         → ◌≡◌ {A = Result Header BtFault} (Err (fault_or m (no_data_line (length head))))
-        (unless_marked m (Err (no_data_line (length head))))
+        (unless_faulty m (Err (no_data_line (length head))))
     by_fault None = refl
     by_fault (Some fault) = refl
 
     by_mark : (t : Bool) → has_ended (slice_split is_line_feed head) ≡ t
         → ◌≡◌ {A = Result Header BtFault} (Err (head_fault (heading_of head)))
-        (Err (fault_or (mark_fault head) (no_data_line (length head))))
+        (Err (fault_or (first_line_fault head) (no_data_line (length head))))
     by_mark true begun =
         ap (λ t. Err
-        (fault_or (cond t (mark_in t head) (mark_fault (unended (slice_split is_line_feed head))))
+        (fault_or (cond t (mark_in t head) (first_line_fault (unended (slice_split is_line_feed head))))
         (no_data_line (length head)))) begun
     by_mark false begun =
         ap (λ t. Err
         (fault_or (cond t (mark_in t head)
-        (mark_fault (unended (slice_split is_line_feed head)))) (no_data_line (length head))))
+        (first_line_fault (unended (slice_split is_line_feed head)))) (no_data_line (length head))))
         begun
         ∙ ap (λ m. Err (fault_or m (no_data_line (length head)))) (unbegun_mark head begun)
 

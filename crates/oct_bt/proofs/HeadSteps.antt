@@ -15,8 +15,8 @@ use Rattle.oct_num.specs.Whole.{natural_of}
 use Rattle.oct_bt.specs.declared.fault.BtFault.{BtFault}
 use Rattle.oct_bt.specs.Header.{HeaderLine, Fields, Header, is_line_feed, line_of, lines_from}
 use Rattle.oct_bt.specs.Header.{lines_of, is_named, is_data_line, value_among, resolution_of}
-use Rattle.oct_bt.specs.Header.{is_octree, fields_of, judged_fields, judged_id, mark_fault}
-use Rattle.oct_bt.specs.Header.{unless_marked, header_at, header_of, head_fields, head_of}
+use Rattle.oct_bt.specs.Header.{is_octree, fields_of, judged_fields, judged_id, first_line_fault}
+use Rattle.oct_bt.specs.Header.{unless_faulty, header_at, header_of, head_fields, head_of}
 use Rattle.oct_bt.specs.Header.{data_line}
 use Rattle.oct_bt.specs.NodeData.{after_byte, after_bytes, at_first}
 use Rattle.oct_bt.specs.Reading.{Head, Heading, Body, unended, has_ended, heading_of, longer_line}
@@ -224,23 +224,23 @@ abbrev head_with : ℕ → Bool → Option BtFault → Fields → List ℕ → H
 head_with total begun mark fields line = record {
   total = total;
   begun = begun;
-  mark = mark;
+  first_line = mark;
   fields = fields;
   line = line;
 }
 
-heads_equal : (a b : Head) → a.total ≡ b.total → a.begun ≡ b.begun → a.mark ≡ b.mark
+heads_equal : (a b : Head) → a.total ≡ b.total → a.begun ≡ b.begun → a.first_line ≡ b.first_line
     → a.fields ≡ b.fields → a.line ≡ b.line → a ≡ b
 heads_equal a b total begun mark fields line =
-    ap (λ (n : ℕ). head_with n a.begun a.mark a.fields a.line) total
-    ∙ ap (λ t. head_with b.total t a.mark a.fields a.line) begun
+    ap (λ (n : ℕ). head_with n a.begun a.first_line a.fields a.line) total
+    ∙ ap (λ t. head_with b.total t a.first_line a.fields a.line) begun
     ∙ ap (λ m. head_with b.total b.begun m a.fields a.line) mark
-    ∙ ap (λ f. head_with b.total b.begun b.mark f a.line) fields
-    ∙ ap (λ l. head_with b.total b.begun b.mark b.fields l) line
+    ∙ ap (λ f. head_with b.total b.begun b.first_line f a.line) fields
+    ∙ ap (λ l. head_with b.total b.begun b.first_line b.fields l) line
 
 -- the mark of a head whose first line has ended, or hasn't
 abbrev pub mark_in : Bool → List ℕ → Option BtFault
-mark_in begun head = cond begun (mark_fault head) None
+mark_in begun head = cond begun (first_line_fault head) None
 
 marks_longer : (head ys : List ℕ) (t : Bool) → has_ended (slice_split is_line_feed head) ≡ t
     → mark_in t (head ++ ys) ≡ mark_in t head
@@ -283,7 +283,7 @@ head_fed head b e =
     let total : length head + 1 ≡ length (head ++ b ∷ []) = sym (length-append head (b ∷ [])) in
     let mark : cond (has_ended (slice_split is_line_feed head))
     (mark_in (has_ended (slice_split is_line_feed head)) head)
-    (mark_fault (unended (slice_split is_line_feed head)))
+    (first_line_fault (unended (slice_split is_line_feed head)))
     ≡ mark_in (has_ended (slice_split is_line_feed (head ++ b ∷ []))) (head ++ b ∷ []) =
     by_mark (has_ended (slice_split is_line_feed head)) refl
     ∙ sym (ap (λ t. mark_in t (head ++ b ∷ [])) ended) in
@@ -296,24 +296,24 @@ head_fed head b e =
     (heading_of (head ++ b ∷ [])) total (sym ended) mark fields (sym line)
   where
     by_mark : (t : Bool) → has_ended (slice_split is_line_feed head) ≡ t
-        → cond t (mark_in t head) (mark_fault (unended (slice_split is_line_feed head)))
-        ≡ mark_fault (head ++ b ∷ [])
+        → cond t (mark_in t head) (first_line_fault (unended (slice_split is_line_feed head)))
+        ≡ first_line_fault (head ++ b ∷ [])
     by_mark true begun = sym (mark_stays head (b ∷ []) begun)
     by_mark false begun =
         (let (none, empty, first) = lines_unbegun head b e begun in
         let (p, ps, is) = some_part head in
-        ap mark_fault first ∙ first_line p ps is (ap has_ended (sym is) ∙ begun)
+        ap first_line_fault first ∙ first_line p ps is (ap has_ended (sym is) ∙ begun)
         ∙ mark_first (head ++ b ∷ []))
       where
         first_line : (p : List ℕ) (ps : List (List ℕ)) → slice_split is_line_feed head ≡ p ∷ ps
             → has_ended (p ∷ ps) ≡ false
-            → mark_fault (first_part (slice_split is_line_feed head))
-            ≡ mark_fault (first_part (slice_split is_line_feed (head ++ b ∷ [])))
+            → first_line_fault (first_part (slice_split is_line_feed head))
+            ≡ first_line_fault (first_part (slice_split is_line_feed (head ++ b ∷ [])))
         first_line p [] is begun =
-            ap (λ ps. mark_fault (first_part ps)) is
-            ∙ sym (ap (λ ps. mark_fault (first_part ps))
+            ap (λ ps. first_line_fault (first_part ps)) is
+            ∙ sym (ap (λ ps. first_line_fault (first_part ps))
             (split_feed head b e ∙ ap (λ t. joined_parts t ([] ∷ [] ∷ [])) is)
-            ∙ ap mark_fault (append-nil p))
+            ∙ ap first_line_fault (append-nil p))
         first_line p (q ∷ ps) is begun = absurd (false≢true (sym begun))
 
     by_fields : (t : Bool) → has_ended (slice_split is_line_feed head) ≡ t
@@ -370,19 +370,19 @@ header_closed head b e begun none found_it =
     let fields : head_fields (head ++ b ∷ []) ≡ fields_of (lines_of head) =
     ap fields_of (ap (take_while (λ line. not (is_data_line line))) (lines_begun head b e begun)
     ∙ all_before (lines_of head) (last_line head) none found_it) in
-    ap (λ t. unless_marked (mark_in t head)
+    ap (λ t. unless_faulty (mark_in t head)
     (judged_fields (length head + 1) (fields_of (lines_of head)))) begun
-    ∙ ap (λ m. unless_marked m (judged_fields (length head + 1) (fields_of (lines_of head))))
+    ∙ ap (λ m. unless_faulty m (judged_fields (length head + 1) (fields_of (lines_of head))))
     (sym (mark_stays head (b ∷ []) begun))
-    ∙ ap (λ f. unless_marked (mark_fault (head ++ b ∷ [])) (judged_fields (length head + 1) f))
+    ∙ ap (λ f. unless_faulty (first_line_fault (head ++ b ∷ [])) (judged_fields (length head + 1) f))
     (sym fields)
-    ∙ sym (ap (λ o. unless_marked (mark_fault (head ++ b ∷ [])) (header_at (head ++ b ∷ []) o))
+    ∙ sym (ap (λ o. unless_faulty (first_line_fault (head ++ b ∷ [])) (header_at (head ++ b ∷ []) o))
     line)
 
 -- where the node data begins
 pub start_of : (start : ℕ) (mark : Option BtFault) (id : Option Bool) (res size : Option (Option ℕ))
     (header : Header)
-    → unless_marked mark (judged_id start id res size) ≡ Ok header → header.start ≡ start
+    → unless_faulty mark (judged_id start id res size) ≡ Ok header → header.start ≡ start
 start_of start (Some fault) id res size header is = absurd (cc)
 start_of start None None res size header is = absurd (cc)
 start_of start None (Some false) res size header is = absurd (cc)
@@ -583,9 +583,9 @@ header_start : (head : List ℕ) (l : HeaderLine) (header : Header) → data_lin
     → header_of head ≡ Ok header → header.start ≡ l.after
 unfolding header_of
 header_start head l header line is =
-    start_of l.after (mark_fault head)
+    start_of l.after (first_line_fault head)
     (head_fields head).id (head_fields head).res (head_fields head).size header
-    (sym (ap (λ o. unless_marked (mark_fault head) (header_at head o)) line) ∙ is)
+    (sym (ap (λ o. unless_faulty (first_line_fault head) (header_at head o)) line) ∙ is)
 
 -- one byte more of a file
 pub file_step : (file : List ℕ) (b : ℕ) → after_file_byte (file_progress file) b

@@ -13,7 +13,7 @@ use Rattle.std.proofs.Common.{eqb-true}
 use Rattle.oct_bt.specs.declared.fault.BtFault.TheVariants.{NotOctomap, FloatTree}
 use Rattle.oct_bt.specs.Header.{judged_fields, HeaderLine, is_line_feed, line_of, lines_from}
 use Rattle.oct_bt.specs.Header.{lines_of, is_data_line, data_line, head_fields, fields_of, head_of}
-use Rattle.oct_bt.specs.Header.{mark_fault, unless_marked, header_at, header_of}
+use Rattle.oct_bt.specs.Header.{first_line_fault, unless_faulty, header_at, header_of}
 use Rattle.oct_bt.specs.Reading.{has_ended}
 use Rattle.std.specs.List.{starts_with}
 
@@ -237,8 +237,8 @@ begins_first (c ∷ mark) (x ∷ xs) none = by_test (is_line_feed x) refl (some_
         (ap (λ ps. starts_with nat_eq (first_part ps) mark) (sym is)
         ∙ rest (split_none (is_line_feed c) refl none).1))
 
-pub mark_first : (text : List ℕ) → mark_fault (first_part (slice_split is_line_feed text))
-    ≡ mark_fault text
+pub mark_first : (text : List ℕ) → first_line_fault (first_part (slice_split is_line_feed text))
+    ≡ first_line_fault text
 unfolding no_feed
 mark_first text =
     ap (λ t. cond t None
@@ -251,11 +251,11 @@ mark_first text =
 
 -- once the first line has ended, what is wrong with it stays
 pub mark_stays : (xs ys : List ℕ) → has_ended (slice_split is_line_feed xs) ≡ true
-    → mark_fault (xs ++ ys) ≡ mark_fault xs
+    → first_line_fault (xs ++ ys) ≡ first_line_fault xs
 unfolding first_part joined_parts
 mark_stays xs ys ended =
-    sym (mark_first (xs ++ ys)) ∙ ap (λ ps. mark_fault (first_part ps)) (split_joined xs ys)
-    ∙ ap mark_fault (first_stays (slice_split is_line_feed xs) (slice_split is_line_feed ys) ended)
+    sym (mark_first (xs ++ ys)) ∙ ap (λ ps. first_line_fault (first_part ps)) (split_joined xs ys)
+    ∙ ap first_line_fault (first_stays (slice_split is_line_feed xs) (slice_split is_line_feed ys) ended)
     ∙ mark_first xs
   where
     first_stays : (ps qs : List (List ℕ)) → has_ended ps ≡ true → first_part (joined_parts ps qs)
@@ -282,12 +282,12 @@ pub header_stays : (file ys : List ℕ) (l : HeaderLine) → data_line (head_of 
 unfolding header_of
 header_stays file ys l h =
     let (zs, is) = head_front file ys in
-    let mark : mark_fault (head_of (file ++ ys)) ≡ mark_fault (head_of file) =
-    ap mark_fault is ∙ mark_stays (head_of file) zs (data_line_ended (head_of file) l h) in
-    ap (λ m. unless_marked m (header_at (head_of (file ++ ys)) (data_line (head_of (file ++ ys)))))
+    let mark : first_line_fault (head_of (file ++ ys)) ≡ first_line_fault (head_of file) =
+    ap first_line_fault is ∙ mark_stays (head_of file) zs (data_line_ended (head_of file) l h) in
+    ap (λ m. unless_faulty m (header_at (head_of (file ++ ys)) (data_line (head_of (file ++ ys)))))
     mark
-    ∙ ap (λ o. unless_marked (mark_fault (head_of file)) (header_at (head_of (file ++ ys)) o))
+    ∙ ap (λ o. unless_faulty (first_line_fault (head_of file)) (header_at (head_of (file ++ ys)) o))
     (data_line_stays file ys l h)
-    ∙ ap (λ f. unless_marked (mark_fault (head_of file)) (judged_fields l.after f))
+    ∙ ap (λ f. unless_faulty (first_line_fault (head_of file)) (judged_fields l.after f))
     (fields_stay file ys l h)
-    ∙ sym (ap (λ o. unless_marked (mark_fault (head_of file)) (header_at (head_of file) o)) h)
+    ∙ sym (ap (λ o. unless_faulty (first_line_fault (head_of file)) (header_at (head_of file) o)) h)

@@ -10,8 +10,8 @@ use Rattle.oct_bt.specs.declared.fault.BtFault.TheVariants.{SizeMismatch}
 use Rattle.oct_bt.specs.declared.fault.HeaderWord.TheVariants.{Data}
 use Rattle.oct_bt.specs.Canonical.{node_total}
 use Rattle.oct_bt.specs.File.{FileRead, file_with, after_header, reading}
-use Rattle.oct_bt.specs.Header.{Header, HeaderLine, judged_size, judged_res, judged_id, mark_fault}
-use Rattle.oct_bt.specs.Header.{head_of, head_fields, data_line, unless_marked, no_data_line}
+use Rattle.oct_bt.specs.Header.{Header, HeaderLine, judged_size, judged_res, judged_id, first_line_fault}
+use Rattle.oct_bt.specs.Header.{head_of, head_fields, data_line, unless_faulty, no_data_line}
 use Rattle.oct_bt.specs.Header.{header_at, header_of}
 use Rattle.oct_bt.specs.NodeData.{Progress, Reads, Stopped, records_in, after_byte, at_first}
 use Rattle.oct_bt.specs.NodeData.{after_bytes, judged, read_nodes}
@@ -103,11 +103,11 @@ header_at_told head (Some line) =
     id_told line.after (head_fields head).id (head_fields head).res (head_fields head).size
 
 marked_told : (mark : Option BtFault) (header : Result Header BtFault) → IsMarked mark
-    → IsTold header → IsTold (unless_marked mark header)
+    → IsTold header → IsTold (unless_faulty mark header)
 marked_told None header mark told = told
 marked_told (Some fault) header mark told = mark
 
-mark_told : (text : List ℕ) → IsMarked (mark_fault text)
+mark_told : (text : List ℕ) → IsMarked (first_line_fault text)
 mark_told text =
     either IsMarked (starts_with nat_eq text (codes "# Octomap OcTree binary file")) None
     (if starts_with nat_eq text (codes "# Octomap OcTree file") then Some FloatTree
@@ -118,7 +118,7 @@ mark_told text =
 header_told : (head : List ℕ) → IsTold (header_of head)
 unfolding header_of
 header_told head =
-    marked_told (mark_fault head) (header_at head (data_line head)) (mark_told head)
+    marked_told (first_line_fault head) (header_at head (data_line head)) (mark_told head)
     (header_at_told head (data_line head))
 
 -- ---- the file

@@ -2,8 +2,8 @@
 use Rattle.std.proofs.Common.{◌≡◌, ℕ, inl, inr, List, [], ◌++◌, take, drop, Option, Result, Ok, Err}
 use Rattle.std.proofs.Common.{OnOk, OnErr, sym, subst, ◌∙◌, ap}
 use Rattle.oct_io.specs.Told.{appended}
-use Rattle.oct_io.specs.Taken.{IsBegun, IsGathered, IsRefused, IsTaken}
-use Rattle.oct_io.proofs.Gathering.{gathered_first, gathered_push, cut_begun}
+use Rattle.oct_io.specs.Taken.{IsCutOff, IsGathered, IsRefused, IsTaken}
+use Rattle.oct_io.proofs.Gathering.{gathered_first, gathered_push, refused_first}
 use Rattle.oct_values.specs.Classes.{Classes}
 use Rattle.oct_bt.specs.Canonical.{canonical_data, canonical_size, node_total}
 use Rattle.oct_bt.specs.File.{FileRead, bt_text, file_text, header_text}
@@ -56,10 +56,17 @@ two_pushed text first second g0 g1 g2 n m old w1 w2 is none wrote1 held1 wrote2 
     (wrote1 ∙ ap (λ (l : List ℕ). appended old (take n (l ++ first))) none)
     (held1 ∙ ap (λ (l : List ℕ). drop n (l ++ first)) none)) wrote2 held2)
 
--- the second of them was cut off
+-- the first of them was cut off
+pub one_refused : (text first second none : List ℕ) (old new : Option (List ℕ))
+    → text ≡ first ++ second → none ≡ [] → IsRefused first old none new → IsCutOff old new text
+one_refused text first second none old new is empty cut =
+    subst (IsCutOff old new) (sym is) (refused_first first second old new none cut [] old
+    (subst (IsGathered [] old old) (sym empty) (gathered_first old)))
+
+-- the second of them was
 pub two_refused : (text first second g0 g1 : List ℕ) (old w1 w2 : Option (List ℕ))
     → text ≡ first ++ second → g0 ≡ []
-    → IsTaken first old g0 w1 g1 → IsRefused second w1 g1 w2 → IsBegun text old w2
+    → IsTaken first old g0 w1 g1 → IsRefused second w1 g1 w2 → IsCutOff old w2 text
 two_refused text first second g0 g1 old w1 w2 is none one cut =
-    subst (λ (l : List ℕ). IsBegun l old w2) (sym is) (cut_begun old w2 (first ++ second)
-    (cut first old (one [] old (subst (IsGathered [] old old) (sym none) (gathered_first old)))))
+    subst (IsCutOff old w2) (sym is)
+    (cut first old (one [] old (subst (IsGathered [] old old) (sym none) (gathered_first old))))

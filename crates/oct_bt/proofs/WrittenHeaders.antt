@@ -12,7 +12,7 @@ use Rattle.oct_num.specs.Metres.{metres_of}
 use Rattle.oct_num.specs.Whole.{natural_of}
 use Rattle.oct_bt.specs.Header.{HeaderLine, is_line_feed, is_blank, is_in_word, trimmed, first_word}
 use Rattle.oct_bt.specs.Header.{after_word, lines_from, lines_of, is_data_line, fields_of}
-use Rattle.oct_bt.specs.Header.{judged_fields, judged_res, mark_fault, unless_marked, data_line}
+use Rattle.oct_bt.specs.Header.{judged_fields, judged_res, first_line_fault, unless_faulty, data_line}
 use Rattle.oct_bt.specs.Header.{head_fields, header_at, head_of, resolution_of, header_of}
 use Rattle.oct_bt.specs.File.{text_of_lines, header_lines}
 use Rattle.oct_bt.proofs.Headers.{some_part, no_feed}
@@ -216,7 +216,7 @@ file_lines size res rest s r few =
     )
 
 begins : (size res rest : List ℕ)
-    → mark_fault (head_of (text_of_lines (header_lines size res) ++ rest)) ≡ None
+    → first_line_fault (head_of (text_of_lines (header_lines size res) ++ rest)) ≡ None
 unfolding text_of_lines
 begins size res rest = refl
 
@@ -236,7 +236,7 @@ header_written d e ds es rest n edge s r few number resolution =
     (ap (λ ls. fields_of (take_while (λ line. not (is_data_line line)) ls)) lines
     ∙ found_fields d e ds es p ps s r)
   where
-    by_head : (head : List ℕ) → mark_fault head ≡ None
+    by_head : (head : List ℕ) → first_line_fault head ≡ None
         → data_line head ≡ Some (record {
           name = codes "data";
           value = [];
@@ -253,7 +253,7 @@ header_written d e ds es rest n edge s r few number resolution =
           start = header_length (d ∷ ds) (e ∷ es);
         })
     by_head head mark line fields =
-        ap (λ m. unless_marked m (header_at head (data_line head))) mark
+        ap (λ m. unless_faulty m (header_at head (data_line head))) mark
         ∙ ap (header_at head) line
         ∙ ap (judged_fields (header_length (d ∷ ds) (e ∷ es))) fields
         ∙ ap (λ o. judged_res (header_length (d ∷ ds) (e ∷ es)) (Some o)

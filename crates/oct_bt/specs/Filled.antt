@@ -15,7 +15,8 @@ pub record IsFilled (t u : Tree) (b : Cube) (classes : Classes) (groups : ℕ) :
   pub whole : IsFilledWith t u b (λ k. value_for t.odds (classes k))
   pub room : spare t.groups ≤ spare u.groups + groups
 
--- the first n children of the place's block are filled, and the others are absent
+-- the first n children of the place's block are filled, for at most this many groups, and the
+-- others are absent
 pub record IsFilling (t u : Tree) (p : Place) (id : GroupId) (b : Cube) (n : ℕ)
     (classes : Classes) (groups : ℕ) : Type 0 where
   pub part : IsFillingWith t u p id b n (λ k. value_for t.odds (classes k))

@@ -142,9 +142,9 @@ judged_fields start fields = judged_id start fields.id fields.res fields.size
 
 -- ---- the header
 
--- what is wrong with how a file begins
-abbrev pub mark_fault : List ℕ → Option BtFault
-mark_fault text =
+-- what is wrong with the first line of a file, by which it says what it is
+abbrev pub first_line_fault : List ℕ → Option BtFault
+first_line_fault text =
     if starts_with nat_eq text (codes "# Octomap OcTree binary file") then None
     else if starts_with nat_eq text (codes "# Octomap OcTree file") then Some FloatTree
     else Some NotOctomap
@@ -161,20 +161,20 @@ data_line head = find is_data_line (lines_of head)
 abbrev pub head_fields : List ℕ → Fields
 head_fields head = fields_of (take_while (λ line. not (is_data_line line)) (lines_of head))
 
--- a fault of the beginning goes before all others
-abbrev pub unless_marked : Option BtFault → Result Header BtFault → Result Header BtFault
-unless_marked (Some fault) header = Err fault
-unless_marked None header = header
+-- a fault of the first line goes before all others
+abbrev pub unless_faulty : Option BtFault → Result Header BtFault → Result Header BtFault
+unless_faulty (Some fault) header = Err fault
+unless_faulty None header = header
 
 -- the fault of a head without a data line
 abbrev pub no_data_line : ℕ → BtFault
 no_data_line total = if nat_lt total 65536 then MissingField Data else HeaderTooLong
 
--- the header of a head that is marked as one, by its data line
+-- the header of a head whose first line has no fault, by its data line
 abbrev pub header_at : List ℕ → Option HeaderLine → Result Header BtFault
 header_at head None = Err (no_data_line (length head))
 header_at head (Some line) = judged_fields line.after (head_fields head)
 
 -- the header of a file by these first bytes of it, or its first fault
 unfoldable pub header_of : List ℕ → Result Header BtFault
-header_of head = unless_marked (mark_fault head) (header_at head (data_line head))
+header_of head = unless_faulty (first_line_fault head) (header_at head (data_line head))

@@ -9,7 +9,7 @@ use Rattle.oct_num.specs.Metres.{metres_of}
 use Rattle.oct_num.specs.Whole.{natural_of}
 use Rattle.oct_bt.specs.Header.{is_octree, resolution_of, Fields, Header, HeaderLine, is_line_feed}
 use Rattle.oct_bt.specs.Header.{lines_of, line_of, is_named, is_data_line, fields_of, judged_fields}
-use Rattle.oct_bt.specs.Header.{mark_fault, unless_marked, no_data_line, data_line, head_of}
+use Rattle.oct_bt.specs.Header.{first_line_fault, unless_faulty, no_data_line, data_line, head_of}
 use Rattle.oct_bt.specs.Header.{header_of}
 
 -- ---- the head of a file, while no data line has ended
@@ -31,7 +31,7 @@ has_ended (part ∷ next ∷ parts) = true
 pub record Head : Type 0 where
   pub total : ℕ
   pub begun : Bool
-  pub mark : Option BtFault
+  pub first_line : Option BtFault
   pub fields : Fields
   pub line : List ℕ
 
@@ -40,7 +40,7 @@ abbrev pub heading_of : List ℕ → Head
 heading_of head = record {
   total = length head;
   begun = has_ended (slice_split is_line_feed head);
-  mark = if has_ended (slice_split is_line_feed head) then mark_fault head else None;
+  first_line = if has_ended (slice_split is_line_feed head) then first_line_fault head else None;
   fields = fields_of (lines_of head);
   line = unended (slice_split is_line_feed head);
 }
@@ -91,7 +91,7 @@ abbrev pub longer_line : Head → ℕ → Head
 longer_line head byte = record {
   total = head.total + 1;
   begun = head.begun;
-  mark = head.mark;
+  first_line = head.first_line;
   fields = head.fields;
   line = head.line ++ byte ∷ [];
 }
@@ -101,14 +101,14 @@ abbrev pub ended_line : Head → Head
 ended_line head = record {
   total = head.total + 1;
   begun = true;
-  mark = if head.begun then head.mark else mark_fault head.line;
+  first_line = if head.begun then head.first_line else first_line_fault head.line;
   fields = if head.begun then with_line head.fields (line_of head.line 0) else head.fields;
   line = [];
 }
 
 -- the header of a head whose data line has ended
 abbrev pub closed_head : Head → Result Header BtFault
-closed_head head = unless_marked head.mark (judged_fields (head.total + 1) head.fields)
+closed_head head = unless_faulty head.first_line (judged_fields (head.total + 1) head.fields)
 
 -- what a file comes to at the end of its data line
 abbrev pub opened : Result Header BtFault → FileProgress
@@ -148,4 +148,4 @@ fault_or None other = other
 -- the fault of a file that ends in its head
 abbrev pub head_fault : Head → BtFault
 head_fault head =
-    fault_or (if head.begun then head.mark else mark_fault head.line) (no_data_line head.total)
+    fault_or (if head.begun then head.first_line else first_line_fault head.line) (no_data_line head.total)

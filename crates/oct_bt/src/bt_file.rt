@@ -9,7 +9,7 @@ ghost use Rattle.oct_bt.specs.NodeData.{IsAccepted, IsDataOf};
 ghost use Rattle.oct_bt.specs.Records.{record_total};
 
 use crate::code_list::CodeList;
-use crate::path::has_plain;
+use crate::path::{has_plain, record_codes};
 use crate::voxels::{Voxels, count_record};
 use oct_key::Res;
 use std::marker::Model;
@@ -111,6 +111,6 @@ fn passes(codes: &[u8]) -> bool
         return codes.is_empty();
     }
     let (_, rest) = codes.split_at(2);
-    let root = u16::from(codes[0]) + 256 * u16::from(codes[1]);
+    let root = record_codes(codes[0], codes[1]);
     root != 0 && !has_plain(rest)
 }

@@ -1,4 +1,4 @@
-ghost use Rattle.std.specs.Prelude.{◌≡◌, ◌++◌, [], ◌∷◌, OnErr, OnOk};
+ghost use Rattle.std.specs.Prelude.{◌≡◌, ◌<◌, ◌^◌, ◌++◌, [], ◌∷◌, length, OnErr, OnOk};
 
 use oct_num::Memory;
 use std::alloc::Global;
@@ -35,6 +35,14 @@ impl CodeList {
         self.bytes.as_slice()
     }
 
+    /// How many bytes there are.
+    pub(crate) fn len(&self) -> usize
+        ensures exact { result ≡ length self.now }
+        ensures few { result < 2 ^ 63 }
+    {
+        self.bytes.len()
+    }
+
     /// Adds the two bytes of a record at the end. After `Memory` the list is as it was.
     pub fn push(&mut self, first: u8, second: u8) -> Result<(), Memory>
         ensures ok { OnOk result (self.new ≡ self.old ++ first ∷ second ∷ []) }
@@ -42,13 +50,5 @@ impl CodeList {
     {
         self.bytes.extend_from_slice(&[first, second])?;
         Ok(())
-    }
-}
-
-impl From<Vec<u8>> for CodeList {
-    ghost from_gives = { λ v codes. codes ≡ v.items };
-
-    fn from(bytes: Vec<u8>) -> Self {
-        CodeList { bytes }
     }
 }

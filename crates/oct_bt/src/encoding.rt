@@ -11,6 +11,7 @@ ghost use Rattle.oct_bt.specs.Mixtures.{classes_in, leaves_text, IsMixtureOf, Is
 
 use crate::counting::{BlockCount, Kind, count_at};
 use crate::mixture::{Mixture, mixture_at};
+use crate::path::{FREE_LEAVES, OCCUPIED_LEAVES};
 use crate::writing::{write_block, write_record};
 use arrayvec::ArrayString;
 use itoa::Buffer;
@@ -75,8 +76,8 @@ fn write_leaves<K: Sink>(class: Class, gather: &mut Gather, sink: &mut K) -> Res
 {
     match class {
         Class::Unknown => Ok(()),
-        Class::Free => write_record(0x5555, gather, sink),
-        Class::Occupied => write_record(0xaaaa, gather, sink),
+        Class::Free => write_record(FREE_LEAVES, gather, sink),
+        Class::Occupied => write_record(OCCUPIED_LEAVES, gather, sink),
     }
 }
 
@@ -109,7 +110,8 @@ struct FilePlan {
     length: u64,
 }
 
-/// Looks at the whole tree once for the length of its file.
+/// Goes through the tree as far as to the first voxel of another class, and then through all of it
+/// for the length of its file: so twice through a tree of one class.
 fn plan_file(tree: &OccTree) -> FilePlan
     ensures mixture { IsMixtureOf (classes_in tree.now) 16 root_block result.mixture }
     ensures header { result.header.bytes

@@ -14,15 +14,15 @@ ghost use Rattle.oct_bt.specs.Records.{record_total};
 ghost use Rattle.oct_bt.specs.Filled.{IsFilled};
 
 use crate::bt_file::BtFile;
-use crate::path::is_plain;
+use crate::path::{is_plain, record_codes};
 use oct_arena::Node;
-use oct_tree::{OccTree, Place};
+use oct_tree::{OccTree, Place, Tidiness};
 
 /// Fills the tree of the unknown world with the classes of a file: free voxels get the lower bound,
 /// occupied ones the upper bound.
 ///
-/// The tree has room for a group for each record. It comes out fresh and pruned, and what it
-/// doesn't need of the room stays.
+/// The tree has room for a group for each record. It comes out fresh and pruned, and keeps that it
+/// is; what it doesn't need of the room stays.
 pub fn fill(file: &BtFile, tree: &mut OccTree)
     requires unknown { tree.old.root ≡ Node.Absent }
     requires room { record_total file.now.codes ≤ spare tree.old.groups }
@@ -42,6 +42,10 @@ pub fn fill(file: &BtFile, tree: &mut OccTree)
     if !codes.is_empty() {
         fill_block(tree, Place::Root, 0, codes);
     }
+    tree.note(Tidiness {
+        fresh: true,
+        pruned: true,
+    });
 }
 
 /// Fills the block of an absent place from the record that the codes begin with, and closes its
@@ -60,7 +64,7 @@ fn fill_block(tree: &mut OccTree, p: Place, depth: u8, codes: &[u8]) -> usize
         × (result ≡ length (flat r)) }
     ensures linked { IsLinked tree.new }
 {
-    let record = u16::from(codes[0]) + 256 * u16::from(codes[1]);
+    let record = record_codes(codes[0], codes[1]);
     if is_plain(record) {
         fill_leaf(tree, p, record % 4);
         return 2;

@@ -2,7 +2,7 @@
 ghost use Rattle.std.specs.Prelude.{◌≡◌, [], ◌<◌, ◌≤◌, not, nat_lt, ◌&&◌};
 ghost use Rattle.std.specs.Prelude.{true, false, OnOk, OnErr, IfOk, IfSome};
 ghost use Rattle.oct_num.specs.Metres.{metres_of};
-ghost use Rattle.oct_bt.specs.Header.{resolution_of, mark_fault, is_data_line, line_of};
+ghost use Rattle.oct_bt.specs.Header.{resolution_of, first_line_fault, is_data_line, line_of};
 ghost use Rattle.oct_bt.specs.Header.{judged_fields};
 ghost use Rattle.oct_bt.specs.Reading.{Head, heading_of, longer_line, ended_line, closed_head};
 ghost use Rattle.oct_bt.specs.Reading.{head_fault, with_line, after_head_byte, after_take};
@@ -140,9 +140,9 @@ fn read_res(value: &[u8]) -> Option<Res>
     Res::new(nm).ok()
 }
 
-/// What is wrong with how a file begins.
-fn mark_fault(text: &[u8]) -> Option<BtFault>
-    ensures { result ≡ mark_fault text.now }
+/// What is wrong with the first line of a file, by which it says what it is.
+fn first_line_fault(text: &[u8]) -> Option<BtFault>
+    ensures { result ≡ first_line_fault text.now }
 {
     if text.starts_with(b"# Octomap OcTree binary file") {
         None
@@ -162,7 +162,7 @@ pub(crate) struct Head {
     /// Whether the first line has ended.
     begun: bool,
     /// What is wrong with the first line, once it has ended.
-    mark: Option<BtFault>,
+    first_line: Option<BtFault>,
     fields: Fields,
     line: Vec<u8>,
 }
@@ -176,7 +176,7 @@ impl Model for Head {
     ghost view = { λ h. record {
       total = h.total;
       begun = h.begun;
-      mark = h.mark;
+      first_line = h.first_line;
       fields = h.fields;
       line = h.line.items;
     } };
@@ -192,7 +192,7 @@ impl Head {
         Head {
             total: 0,
             begun: false,
-            mark: None,
+            first_line: None,
             fields: Fields {
                 id: None,
                 res: None,
@@ -255,7 +255,7 @@ impl Head {
         ensures exact { result ≡ closed_head self.now }
         ensures near { IfOk result (λ header. header.start ≤ 65536) }
     {
-        if let Some(fault) = self.mark {
+        if let Some(fault) = self.first_line {
             return Err(fault);
         }
         self.fields.header(self.total + 1)
@@ -269,7 +269,7 @@ impl Head {
         if self.begun {
             self.fields.note_line(&self.line);
         } else {
-            self.mark = mark_fault(&self.line);
+            self.first_line = first_line_fault(&self.line);
             self.begun = true;
         }
         self.total += 1;
@@ -280,12 +280,12 @@ impl Head {
     pub(crate) fn fault(&self) -> BtFault
         ensures { result ≡ head_fault self.now }
     {
-        let mark = if self.begun {
-            self.mark
+        let first_line = if self.begun {
+            self.first_line
         } else {
-            mark_fault(&self.line)
+            first_line_fault(&self.line)
         };
-        match mark {
+        match first_line {
             Some(fault) => fault,
             None if self.is_full() => BtFault::HeaderTooLong,
             None => missing(HeaderWord::Data),

@@ -1,6 +1,5 @@
 //! The reading of node data in pieces.
-ghost use Rattle.std.specs.Prelude.{◌≡◌, ◌++◌, ◌≤◌, ◌<◌, ◌^◌, List, ℕ, OnOk, OnErr, IfOk, Result};
-ghost use Rattle.std.specs.Prelude.{Ok, Err, [], ◌∷◌};
+ghost use Rattle.std.specs.Prelude.{◌≡◌, ◌≤◌, ◌<◌, ◌^◌, List, ℕ, OnOk, IfOk, Result, Ok, Err, []};
 ghost use Rattle.oct_bt.specs.NodeData.{HasRead, after_byte, read_nodes};
 ghost use Rattle.oct_bt.specs.NodeData.{IsAccepted};
 ghost use Rattle.oct_bt.specs.Canonical.{node_total};
@@ -12,15 +11,6 @@ use arrayvec::ArrayVec;
 use oct_num::Memory;
 use std::alloc::Global;
 use std::marker::Model;
-
-/// Appends the two bytes of a record.
-fn keep(records: &mut Vec<u8>, first: u8, second: u8) -> Result<(), Memory>
-    ensures kept { OnOk result (records.new.items ≡ records.old.items ++ first ∷ second ∷ []) }
-    ensures same { OnErr result (records.new.items ≡ records.old.items) }
-{
-    records.extend_from_slice(&[first, second])?;
-    Ok(())
-}
 
 /// How many nodes the records stand for.
 fn nodes_in(records: &[u8]) -> u128
@@ -47,7 +37,7 @@ pub(crate) struct NodeReader {
     path: ArrayVec<u8, 16>,
     /// The first byte of the next record, where it has come.
     half: Option<u8>,
-    records: Vec<u8>,
+    records: CodeList,
     stop: Option<BtFault>,
 }
 
@@ -61,12 +51,12 @@ impl Model for NodeReader {
     ghost view = { λ r. record {
       start = r.start;
       size = r.size;
-      progress = progress_by r.stop (Reads (pending_at 0 r.path.items) r.half r.records.items);
+      progress = progress_by r.stop (Reads (pending_at 0 r.path.items) r.half r.records);
     } };
 
     ghost invariant = { λ r. IsTopped r.path.items × (r.start ≤ 2 ^ 32)
         × IsReached r.start r.size
-        (progress_by r.stop (Reads (pending_at 0 r.path.items) r.half r.records.items)) };
+        (progress_by r.stop (Reads (pending_at 0 r.path.items) r.half r.records)) };
 }
 
 impl NodeReader {
@@ -86,7 +76,7 @@ impl NodeReader {
             size,
             path,
             half: None,
-            records: Vec::new(alloc),
+            records: CodeList::new(alloc),
             stop: None,
         }
     }
@@ -125,7 +115,7 @@ impl NodeReader {
             });
             return Ok(());
         }
-        keep(&mut self.records, first, byte)?;
+        self.records.push(first, byte)?;
         self.half = None;
         descend(&mut self.path, deeper);
         Ok(())
@@ -146,13 +136,13 @@ impl NodeReader {
                 at: read + u64::from(self.half.is_some()),
             });
         }
-        let found = nodes_in(&self.records) as u64;
+        let found = nodes_in(self.records.as_slice()) as u64;
         if found != self.size {
             return Err(BtFault::SizeMismatch {
                 said: self.size,
                 found,
             });
         }
-        Ok(CodeList::from(self.records))
+        Ok(self.records)
     }
 }

@@ -1,5 +1,5 @@
 //! How many records of each depth are still to come.
-ghost use Rattle.std.specs.Prelude.{◌≡◌, ◌+◌, ◌<◌, ◌++◌, length, replicate, nat_eq, count_by, []};
+ghost use Rattle.std.specs.Prelude.{◌≡◌, ◌+◌, ◌*◌, ◌<◌, ◌++◌, length, replicate, nat_eq, count_by, []};
 ghost use Rattle.std.specs.Prelude.{◌∷◌};
 ghost use Rattle.oct_bt.specs.Canonical.{codes_in, known_codes};
 ghost use Rattle.oct_bt.specs.NodeData.{records_in};
@@ -7,6 +7,19 @@ ghost use Rattle.oct_bt.specs.Plain.{is_plain, has_plain};
 ghost use Rattle.oct_bt.specs.Path.{pending_at, IsTopped, without_next};
 
 use arrayvec::ArrayVec;
+
+/// The codes of eight leaves that are all free.
+pub(crate) const FREE_LEAVES: u16 = 0x5555;
+
+/// The codes of eight leaves that are all occupied.
+pub(crate) const OCCUPIED_LEAVES: u16 = 0xaaaa;
+
+/// The eight codes in the two bytes of a record.
+pub(crate) fn record_codes(first: u8, second: u8) -> u16
+    ensures { result ≡ first + 256 * second }
+{
+    u16::from(first) + 256 * u16::from(second)
+}
 
 /// How many of the four codes of a byte are 3.
 fn threes(byte: u8) -> u8
@@ -20,7 +33,7 @@ fn threes(byte: u8) -> u8
 }
 
 /// How many of the four codes of a byte aren't 0.
-pub fn known_codes(byte: u8) -> u8
+pub(crate) fn known_codes(byte: u8) -> u8
     ensures count { result ≡ known_codes (byte ∷ []) }
     ensures few { result < 5 }
 {
@@ -31,7 +44,7 @@ pub fn known_codes(byte: u8) -> u8
 }
 
 /// How many of the eight codes of a record are 3.
-pub fn records_in(first: u8, second: u8) -> u8
+pub(crate) fn records_in(first: u8, second: u8) -> u8
     ensures count { result ≡ records_in first second }
     ensures few { result < 9 }
 {
@@ -49,7 +62,7 @@ fn drop_empty(path: &mut ArrayVec<u8, 16>)
 }
 
 /// Takes the next record off, and puts as many of the next depth before the others.
-pub fn descend(path: &mut ArrayVec<u8, 16>, deeper: u8)
+pub(crate) fn descend(path: &mut ArrayVec<u8, 16>, deeper: u8)
     requires some { 0 < length path.old.items }
     requires topped { IsTopped path.old.items }
     requires room { 0 < deeper → length path.old.items < 16 }
@@ -67,19 +80,19 @@ pub fn descend(path: &mut ArrayVec<u8, 16>, deeper: u8)
 }
 
 /// Whether these are the codes of eight equal leaves.
-pub fn is_plain(codes: u16) -> bool
+pub(crate) fn is_plain(codes: u16) -> bool
     ensures { result ≡ is_plain codes }
 {
-    codes == 0 || codes == 21845 || codes == 43690
+    codes == 0 || codes == FREE_LEAVES || codes == OCCUPIED_LEAVES
 }
 
 /// Whether some record has eight equal leaves.
-pub fn has_plain(records: &[u8]) -> bool
+pub(crate) fn has_plain(records: &[u8]) -> bool
     ensures { result ≡ has_plain records.now }
 {
     let mut at = 0;
     while at + 1 < records.len() {
-        if is_plain(u16::from(records[at]) + 256 * u16::from(records[at + 1])) {
+        if is_plain(record_codes(records[at], records[at + 1])) {
             return true;
         }
         at += 2;

@@ -1,7 +1,7 @@
 //! A file that was read, written again.
 ghost use Rattle.std.specs.Prelude.{◌≡◌, OnOk, OnErr};
 ghost use Rattle.oct_io.specs.Counts.{IsWriteCounted};
-ghost use Rattle.oct_io.specs.Taken.{IsBegun};
+ghost use Rattle.oct_io.specs.Taken.{IsCutOff};
 ghost use Rattle.oct_io.specs.Told.{appended};
 ghost use Rattle.oct_bt.specs.File.{file_text};
 
@@ -12,13 +12,13 @@ use oct_io::{Gather, Sink, SinkFault};
 /// Writes a file that was read: a header in the form of [`write`](crate::write), and the records as
 /// they are. Where its node data is canonical, that is the canonical file of its classes.
 ///
-/// Takes no memory, and hands the sink pieces of 4,096 bytes. After an error a prefix of the text
+/// Takes no memory, and hands the sink pieces of 4,096 bytes. After an error a part of the text
 /// was written, and exactly one write of the sink gave up, for that reason.
 pub fn rewrite<K: Sink>(file: &BtFile, sink: &mut K) -> Result<(), SinkFault>
     ensures written { OnOk result
         (K.written sink.new ≡ appended (K.written sink.old) (file_text file.now)) }
-    ensures begun { OnErr result
-        (IsBegun (file_text file.now) (K.written sink.old) (K.written sink.new)) }
+    ensures cut { OnErr result
+        (IsCutOff (K.written sink.old) (K.written sink.new) (file_text file.now)) }
     ensures counts { IsWriteCounted result (K.faults sink.old) (K.faults sink.new)
         (K.shortages sink.old) (K.shortages sink.new) }
 {

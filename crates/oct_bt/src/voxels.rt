@@ -6,6 +6,8 @@ ghost use Rattle.oct_odds.specs.declared.event.Class.TheVariants.{Occupied as oc
 ghost use Rattle.oct_bt.specs.Records.{Entries, IsRecord, class_code, flat};
 ghost use Rattle.oct_bt.specs.Voxels.{IsRecordCount, leaf_voxels};
 
+use crate::path::record_codes;
+
 /// How many voxels of the map are free, and how many are occupied. The others are unknown.
 #[derive(Clone, Copy, Debug, PartialEq, Eq)]
 pub struct Voxels {
@@ -53,7 +55,7 @@ pub(crate) fn count_record(depth: u8, codes: &[u8]) -> RecordCount
     ensures counted { (r : Entries) (tail : List ℕ) → IsRecord depth r → codes.now ≡ flat r ++ tail
         → IsRecordCount depth r result.voxels.free result.voxels.occupied result.bytes }
 {
-    let mut rest = u16::from(codes[0]) + 256 * u16::from(codes[1]);
+    let mut rest = record_codes(codes[0], codes[1]);
     let mut free = 0;
     let mut occupied = 0;
     let mut next = 2;

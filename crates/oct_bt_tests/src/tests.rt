@@ -39,23 +39,23 @@ const HEADER: &str = "# Octomap OcTree binary file\nid OcTree\nsize 17\nres 0.1\
 /// Nanometres, nodes, bytes of records, and whether they are canonical.
 type Said = (i64, u64, usize, bool);
 
-/// Feeds a header in pieces of this many bytes.
-fn feed_header(reader: &mut Reader, header: &[u8], most: usize) -> Result<(), BtFault>
+/// Feeds bytes in pieces of this many.
+fn feed_pieces(reader: &mut Reader, bytes: &[u8], most: usize) -> Result<(), BtFault>
     requires { 0 < most }
 {
-    for piece in header.chunks(most) {
+    for piece in bytes.chunks(most) {
         reader.feed(piece)?;
     }
     Ok(())
 }
 
-/// Reads a file of a header and node data, of which the header is fed in pieces of this many bytes.
+/// Reads a file of a header and node data, both fed in pieces of this many bytes.
 fn file_in_pieces(alloc: Global, header: &str, data: &[u8], most: usize) -> Result<BtFile, BtFault>
     requires { 0 < most }
 {
     let mut reader = Reader::new(alloc);
-    feed_header(&mut reader, header.as_bytes(), most)?;
-    reader.feed(data)?;
+    feed_pieces(&mut reader, header.as_bytes(), most)?;
+    feed_pieces(&mut reader, data, most)?;
     reader.finish()
 }
 
@@ -84,7 +84,7 @@ fn expect_read(
 const ONE: Result<Said, BtFault> = Ok((100_000_000, 17, 32, true));
 
 #[test]
-fn reads_one_voxel_however_the_header_is_cut(rt: HostRuntime) {
+fn reads_one_voxel_however_the_file_is_cut(rt: HostRuntime) {
     for most in [1, 2, 7, 4096] {
         expect_read(&rt, rt.alloc(), (HEADER, ONE_VOXEL), most, ONE);
     }
@@ -111,7 +111,9 @@ fn reads_eight_voxels_in_canonical_and_in_longer_data(rt: HostRuntime) {
         # (feel free to add / change comments, but leave the first line as it is!)\n\
         #\nid OcTree\nsize 16\nres 0.1\ndata\n";
     let want = Ok((100_000_000, 16, 30, true));
-    expect_read(&rt, rt.alloc(), (header, ONE_BLOCK), 100, want);
+    for most in [1, 100] {
+        expect_read(&rt, rt.alloc(), (header, ONE_BLOCK), most, want);
+    }
     let header = "# Octomap OcTree binary file\r\n# a comment\r\nauthor x\r\nsize 24\r\n\
         res 0.1\r\nid OcTree\r\ndata\r\n";
     let want = Ok((100_000_000, 24, 32, false));
@@ -436,6 +438,13 @@ fn tree_of(rt: &impl Abort, alloc: Global, file: &BtFile) -> Result<OccTree, Mem
 fn one_voxel(rt: &impl Abort, alloc: Global) -> Result<OccTree, Fail> {
     let file = file_in_pieces(alloc, HEADER, ONE_VOXEL, 4096)?;
     Ok(tree_of(rt, alloc, &file)?)
+}
+
+#[test]
+fn fills_a_tree_that_is_known_to_be_tidy(rt: HostRuntime) -> Result<(), Fail> {
+    let tree = one_voxel(&rt, rt.alloc())?;
+    assert!(rt; tree.tidiness().is_tidy());
+    Ok(())
 }
 
 /// Expects that a write of the file of a tree is answered so, and that the sink then has these

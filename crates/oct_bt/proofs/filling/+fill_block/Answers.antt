@@ -1,9 +1,11 @@
-use Rattle.std.proofs.Common.{rules, ◌<◌, ◌+◌, ◌/◌, ℕ, length, sym, ap, ◌∙◌, arith, subst}
+use Rattle.std.proofs.Common.{rules, ◌<◌, ◌+◌, ◌/◌, ◌%◌, ℕ, length, get_or, refl, sym, ap, ◌∙◌}
+use Rattle.std.proofs.Common.{arith, subst}
 use Rattle.std.specs.Prelude.{is_some}
 use Rattle.oct_key.specs.Block.{child_of}
 use Rattle.oct_tree.specs.Tree.{IsLinked}
 use Rattle.oct_tree.proofs.Paths.{place_block}
 use Rattle.oct_tree.proofs.Within.{place_by_block}
+use Rattle.oct_bt.specs.Plain.{is_plain}
 use Rattle.oct_bt.specs.Records.{class_by, record_count}
 use Rattle.oct_tree.proofs.Fillings.{slot_asked}
 use Rattle.oct_bt.proofs.Fillings.{filling_all}
@@ -15,17 +17,19 @@ use Rattle.oct_bt.proofs.filling.+fill_block.Goals.{then-rest-eq3, else-rest-eq3
 pub returns-then-is_plain-clause-filled : goal.returns-then-is_plain-clause-filled
 returns-then-is_plain-clause-filled t c = λ r tail b is text at.
     plain_filled c.args.tree.now c.fill_leaf.new.tree b c.args.depth c.args.codes.now r tail
-    c.from.result c.from-2.result is text
-    c.from.ensures c.from-2.ensures (sym c.is_plain.ensures ∙ c.if-is_plain.true)
-    (λ x code. c.fill_leaf.ensures.filled b x at code)
+    (get_or c.args.codes.now 0 0) (get_or c.args.codes.now 1 0) is text refl refl
+    (ap is_plain (sym c.record_codes-record.ensures) ∙ sym c.is_plain.ensures ∙ c.if-is_plain.true)
+    (λ x code. c.fill_leaf.ensures.filled b x at
+    (code ∙ ap (λ (n : ℕ). n % 4) (sym c.record_codes-record.ensures)))
 
 pub loop-i-init : goal.loop-i-init
 loop-i-init t c = record {
-  under = λ r tail b is text at. under_first c.args.tree.now c.split-id.new.self c.args.p
-      c.split-id.result _ b c.args.depth
-      c.args.codes.now r tail c.from.result c.from-2.result c.split-id.ensures.linked
-      c.split-id.ensures.split c.requires.absent at is
-      text c.from.ensures c.from-2.ensures;
+  under = λ r tail b is text at.
+      subst (λ (n : ℕ). IsUnderWay c.args.tree.now c.split-id.new.self c.args.p c.split-id.result b
+      c.args.depth c.args.codes.now 2 n 0 r tail) (sym c.record_codes-record.ensures)
+      (under_first c.args.tree.now c.split-id.new.self c.args.p c.split-id.result _ b c.args.depth
+      c.args.codes.now r tail (get_or c.args.codes.now 0 0) (get_or c.args.codes.now 1 0)
+      c.split-id.ensures.linked c.split-id.ensures.split c.requires.absent at is text refl refl);
   linked = c.split-id.ensures.linked;
 }
 

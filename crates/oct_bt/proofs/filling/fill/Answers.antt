@@ -1,37 +1,12 @@
 use Rattle.std.proofs.Common.{rules, ◌≡◌, ◌<◌, ◌≤◌, ℕ, List, [], length, sym, ◌∙◌, refl, subst}
 use Rattle.oct_key.specs.Block.{root_block}
 use Rattle.oct_arena.specs.Entries.{spare}
-use Rattle.oct_tree.specs.Changes.{IsSameOutside}
-use Rattle.oct_bt.specs.NodeData.{IsAccepted, IsDataOf}
+use Rattle.oct_bt.specs.NodeData.{IsAccepted}
 use Rattle.oct_bt.specs.Records.{record_total}
-use Rattle.oct_bt.proofs.Fills.{HasFilled, root_asked, root_filled, none_filled, unfilled}
-use Rattle.oct_bt.proofs.Fills.{has_filled}
+use Rattle.oct_bt.proofs.Fills.{IsFilledFrom, filled_from, unfilled_from, root_asked}
 use Rattle.oct_bt.proofs.filling.fill.Goals as goal
-
-codes_are : (c : goal.After-fill_block) → c.as_slice-codes.result.now ≡ c.args.file.now.codes
-codes_are c = c.as_slice-codes.ensures ∙ c.codes.ensures.codes
-
-after : (c : goal.After-fill_block)
-    → HasFilled c.args.tree.now c.fill_block.new.tree (record_total c.args.file.now.codes)
-after c =
-    let some : 0 < length c.as_slice-codes.result.now = search rules in
-    has_filled c.args.tree.now c.fill_block.new.tree c.as_slice-codes.result.now
-    c.args.file.now.codes c.args.file.now.nodes (codes_are c)
-    some (subst (IsAccepted c.args.file.now.nodes) (sym (codes_are c)) c.codes.ensures.accepted)
-    c.requires.room
-    c.shape.ensures.shaped c.fill_block.ensures.linked c.requires.unknown
-    (λ r tail is text. (c.fill_block.ensures.filled r tail root_block is text refl).0)
-
-outside : (c : goal.After-fill_block)
-    → IsSameOutside c.args.tree.now c.fill_block.new.tree root_block
-outside c =
-    let some : 0 < length c.as_slice-codes.result.now = search rules in
-    let r = root_asked c.as_slice-codes.result.now c.args.file.now.nodes
-    (spare c.args.tree.now.groups) some
-    (subst (IsAccepted c.args.file.now.nodes) (sym (codes_are c)) c.codes.ensures.accepted)
-    (subst (λ (bytes : List ℕ). record_total bytes ≤ spare c.args.tree.now.groups)
-    (sym (codes_are c)) c.requires.room) in
-    (c.fill_block.ensures.filled r.r [] root_block r.is r.text refl).0.whole.outside
+use Rattle.oct_bt.proofs.filling.fill.Goals.{Joined-not-is_empty, then-not-is_empty}
+use Rattle.oct_bt.proofs.filling.fill.Goals.{else-not-is_empty}
 
 pub fill_block-requires-clause-record_there : goal.fill_block-requires-clause-record_there
 fill_block-requires-clause-record_there c =
@@ -45,60 +20,67 @@ fill_block-requires-clause-record_there c =
     (sym same) c.requires.room) in
     (r.r, [], r.is, r.text, r.enough)
 
-pub returns-then-not-is_empty-clause-values : goal.returns-then-not-is_empty-clause-values
-returns-then-not-is_empty-clause-values c = λ classes is k ok.
-    (let some : 0 < length c.as_slice-codes.result.now = search rules in
-    root_filled c.args.tree.now c.fill_block.new.tree c.as_slice-codes.result.now classes
-    (subst (IsDataOf classes) (sym (codes_are c)) is)
-    some (λ r tail is_r text. (c.fill_block.ensures.filled r tail root_block is_r text refl).0) k
-    ok)
-
-pub returns-else-not-is_empty-clause-values : goal.returns-else-not-is_empty-clause-values
-returns-else-not-is_empty-clause-values c = λ classes is k ok.
-    (let none : length c.as_slice-codes.result.now ≡ 0 = search rules in
+-- what the tree has become
+filled : (c : Joined-not-is_empty)
+    → IsFilledFrom c.args.tree.now c.if-not-is_empty.tree c.args.file.now.codes
+filled c =
     let same : c.as_slice-codes.result.now ≡ c.args.file.now.codes = c.as_slice-codes.ensures
     ∙ c.codes.ensures.codes in
-    none_filled c.args.tree.now c.as_slice-codes.result.now classes c.shape.ensures.linked
-    c.requires.unknown
-    (subst (IsDataOf classes) (sym same) is) none k ok)
+    elim c.if-not-is_empty.branch [
+      | then-not-is_empty w ↦ (
+          let some : 0 < length c.as_slice-codes.result.now = search rules in
+          subst (λ u. IsFilledFrom c.args.tree.now u c.args.file.now.codes) (sym w.tree-is)
+          (filled_from c.args.tree.now w.fill_block.new.tree c.as_slice-codes.result.now
+          c.args.file.now.codes c.args.file.now.nodes same some c.codes.ensures.accepted
+          c.requires.room c.shape.ensures.shaped w.fill_block.ensures.linked c.requires.unknown
+          (λ r tail is text. (w.fill_block.ensures.filled r tail root_block is text refl).0)))
+      | else-not-is_empty w ↦ (
+          let none : length c.as_slice-codes.result.now ≡ 0 = search rules in
+          subst (λ u. IsFilledFrom c.args.tree.now u c.args.file.now.codes) (sym w.tree-is)
+          (unfilled_from c.args.tree.now c.as_slice-codes.result.now c.args.file.now.codes same
+          none c.shape.ensures.shaped c.shape.ensures.linked c.requires.unknown))
+    ]
 
-pub returns-then-not-is_empty-clause-fresh : goal.returns-then-not-is_empty-clause-fresh
-returns-then-not-is_empty-clause-fresh c = (after c).fresh
+pub note-requires : goal.note-requires
+note-requires c =
+    let now = filled (goal.at.note-requires c).Joined-not-is_empty in
+    record { fresh = λ _. now.filled.fresh; pruned = λ _. now.filled.pruned }
 
-pub returns-then-not-is_empty-clause-pruned : goal.returns-then-not-is_empty-clause-pruned
-returns-then-not-is_empty-clause-pruned c = (after c).pruned
+-- and stays as
+noted : (c : goal.After-note)
+    → IsFilledFrom c.args.tree.now c.if-not-is_empty.tree c.args.file.now.codes
+    → IsFilledFrom c.args.tree.now c.note.new.self c.args.file.now.codes
+noted c now =
+    subst (λ u. IsFilledFrom c.args.tree.now u c.args.file.now.codes) (sym c.note.ensures.same) now
 
-pub returns-then-not-is_empty-clause-groups : goal.returns-then-not-is_empty-clause-groups
-returns-then-not-is_empty-clause-groups c = (after c).groups
+pub returns-clause-values : goal.returns-clause-values
+returns-clause-values c =
+    (noted c (filled (goal.at.returns-clause-values c).Joined-not-is_empty)).values
 
-pub returns-then-not-is_empty-clause-spare : goal.returns-then-not-is_empty-clause-spare
-returns-then-not-is_empty-clause-spare c = (after c).spare
+pub returns-clause-fresh : goal.returns-clause-fresh
+returns-clause-fresh c =
+    (noted c (filled (goal.at.returns-clause-fresh c).Joined-not-is_empty)).filled.fresh
 
-pub returns-else-not-is_empty-clause-fresh : goal.returns-else-not-is_empty-clause-fresh
-returns-else-not-is_empty-clause-fresh c =
-    (unfilled c.args.tree.now (record_total c.args.file.now.codes) c.shape.ensures.shaped
-    c.shape.ensures.linked c.requires.unknown).fresh
+pub returns-clause-pruned : goal.returns-clause-pruned
+returns-clause-pruned c =
+    (noted c (filled (goal.at.returns-clause-pruned c).Joined-not-is_empty)).filled.pruned
 
-pub returns-else-not-is_empty-clause-pruned : goal.returns-else-not-is_empty-clause-pruned
-returns-else-not-is_empty-clause-pruned c =
-    (unfilled c.args.tree.now (record_total c.args.file.now.codes) c.shape.ensures.shaped
-    c.shape.ensures.linked c.requires.unknown).pruned
+pub returns-clause-groups : goal.returns-clause-groups
+returns-clause-groups c =
+    (noted c (filled (goal.at.returns-clause-groups c).Joined-not-is_empty)).filled.groups
 
-pub returns-else-not-is_empty-clause-groups : goal.returns-else-not-is_empty-clause-groups
-returns-else-not-is_empty-clause-groups c =
-    (unfilled c.args.tree.now (record_total c.args.file.now.codes) c.shape.ensures.shaped
-    c.shape.ensures.linked c.requires.unknown).groups
+pub returns-clause-spare : goal.returns-clause-spare
+returns-clause-spare c =
+    (noted c (filled (goal.at.returns-clause-spare c).Joined-not-is_empty)).filled.spare
 
-pub returns-else-not-is_empty-clause-spare : goal.returns-else-not-is_empty-clause-spare
-returns-else-not-is_empty-clause-spare c =
-    (unfilled c.args.tree.now (record_total c.args.file.now.codes) c.shape.ensures.shaped
-    c.shape.ensures.linked c.requires.unknown).spare
+pub returns-clause-length : goal.returns-clause-length
+returns-clause-length c =
+    (noted c (filled (goal.at.returns-clause-length c).Joined-not-is_empty)).entries
 
-pub returns-then-not-is_empty-clause-length : goal.returns-then-not-is_empty-clause-length
-returns-then-not-is_empty-clause-length c = (outside c).length
+pub returns-clause-res : goal.returns-clause-res
+returns-clause-res c =
+    (noted c (filled (goal.at.returns-clause-res c).Joined-not-is_empty)).res
 
-pub returns-then-not-is_empty-clause-res : goal.returns-then-not-is_empty-clause-res
-returns-then-not-is_empty-clause-res c = (outside c).res
-
-pub returns-then-not-is_empty-clause-odds : goal.returns-then-not-is_empty-clause-odds
-returns-then-not-is_empty-clause-odds c = (outside c).odds
+pub returns-clause-odds : goal.returns-clause-odds
+returns-clause-odds c =
+    (noted c (filled (goal.at.returns-clause-odds c).Joined-not-is_empty)).odds

@@ -1,4 +1,4 @@
-use Rattle.std.proofs.Common.{◌+◌, ◌*◌, get_or, ℕ, sym, ap, ◌∙◌, arith}
+use Rattle.std.proofs.Common.{sym, ap, ◌∙◌, arith}
 use Rattle.oct_bt.specs.Plain.{is_plain}
 use Rattle.oct_bt.proofs.Plains.{pairs_found, pairs_next, pairs_last}
 use Rattle.oct_bt.proofs.path.has_plain.Goals as goal
@@ -7,19 +7,13 @@ pub returns-then-is_plain : goal.returns-then-is_plain
 returns-then-is_plain c =
     pairs_found c.loop-at.at c.args.records.now c.args.records.now c.is_plain.result
     c.loop-at-test.true c.loop-at.invariant.same
-    (c.is_plain.ensures
-    ∙ ap (λ (n : ℕ). is_plain (n + 256 * c.from-in-loop-at.result)) c.from.ensures
-    ∙ ap (λ (n : ℕ). is_plain (get_or c.args.records.now c.loop-at.at 0 + 256 * n))
-    c.from-in-loop-at.ensures) c.if-is_plain.true
+    (c.is_plain.ensures ∙ ap is_plain c.record_codes.ensures) c.if-is_plain.true
 
 pub loop-at-preserved : goal.loop-at-preserved
 loop-at-preserved c = record {
   same = pairs_next c.loop-at.at c.args.records.now c.args.records.now c.is_plain.result
       c.loop-at-test.true c.loop-at.invariant.same
-      (c.is_plain.ensures
-      ∙ ap (λ (n : ℕ). is_plain (n + 256 * c.from-in-loop-at.result)) c.from.ensures
-      ∙ ap (λ (n : ℕ). is_plain (get_or c.args.records.now c.loop-at.at 0 + 256 * n))
-      c.from-in-loop-at.ensures) c.if-is_plain.false;
+      (c.is_plain.ensures ∙ ap is_plain c.record_codes.ensures) c.if-is_plain.false;
   within = omega arith;
 }
 

@@ -1,10 +1,10 @@
-use Rattle.std.proofs.Common.{◌∙◌}
+use Rattle.std.proofs.Common.{refl, ◌∙◌}
 use Rattle.oct_bt.specs.File.{file_text}
 use Rattle.oct_io.specs.Taken.{IsGathered}
-use Rattle.oct_io.proofs.Gathering.{gathered_whole, gathered_cut, cut_begun}
+use Rattle.oct_io.proofs.Gathering.{gathered_whole, gathered_cut}
 use Rattle.oct_bt.proofs.Writes.{on_any_err}
 use Rattle.oct_bt.proofs.Rewrites.{on_ok_follows, on_err_follows, text_parts, two_pushed}
-use Rattle.oct_bt.proofs.Rewrites.{two_refused}
+use Rattle.oct_bt.proofs.Rewrites.{one_refused, two_refused}
 use Rattle.oct_bt.proofs.rewriting.rewrite.Goals as goal
 
 pub returns-clause-written : goal.returns-clause-written
@@ -20,10 +20,9 @@ returns-clause-written g c =
         c.new-gather.ensures c.in_ok-push.ensures.handed c.in_ok-push.ensures.held
         c.in_ok-push-2.ensures.handed c.in_ok-push-2.ensures.held
 
-pub returns-clause-begun : goal.returns-clause-begun
-returns-clause-begun g c =
-    on_err_follows c.flush.result (λ cut. cut_begun _ _ _ (gathered_cut _ _ _ _ _ all cut))
-    c.flush.ensures.err
+pub returns-clause-cut : goal.returns-clause-cut
+returns-clause-cut g c =
+    on_err_follows c.flush.result (λ cut. gathered_cut _ _ _ _ _ all cut) c.flush.ensures.err
   where
     all : IsGathered (file_text c.args.file.now) (g.K.Sink.written c.args.sink.now)
         (g.K.Sink.written c.push-2.new.sink) c.push-2.new.self
@@ -34,8 +33,16 @@ returns-clause-begun g c =
         c.new-gather.ensures c.in_ok-push.ensures.handed c.in_ok-push.ensures.held
         c.in_ok-push-2.ensures.handed c.in_ok-push-2.ensures.held
 
-pub returns-in_err-push-2-clause-begun : goal.returns-in_err-push-2-clause-begun
-returns-in_err-push-2-clause-begun g c = on_any_err c.from_residual-in_err-push-2.result _
+pub returns-in_err-push-clause-cut : goal.returns-in_err-push-clause-cut
+returns-in_err-push-clause-cut g c = on_any_err c.from_residual.result _
+    (one_refused _ c.as_bytes.result.now c.args.file.now.codes _ _ _
+    (text_parts c.args.file.now _ _ c.nodes.result c.res.result (c.as_bytes.ensures.value
+    ∙ c.deref.ensures.0 ∙ c.header_of-header.ensures)
+    c.nodes.ensures c.res.ensures refl)
+    c.new-gather.ensures c.in_err-push.ensures.refused)
+
+pub returns-in_err-push-2-clause-cut : goal.returns-in_err-push-2-clause-cut
+returns-in_err-push-2-clause-cut g c = on_any_err c.from_residual-in_err-push-2.result _
     (two_refused _ c.as_bytes.result.now c.as_slice.result.now _ _ _ _ _
     (text_parts c.args.file.now _ _ c.nodes.result c.res.result (c.as_bytes.ensures.value
     ∙ c.deref.ensures.0 ∙ c.header_of-header.ensures)

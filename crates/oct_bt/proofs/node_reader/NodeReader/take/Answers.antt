@@ -1,6 +1,6 @@
 use Rattle.std.proofs.Common.{rules, ◌≡◌, ◌++◌, ℕ, [], length, ◌+◌, ◌<◌, ◌∷◌, Some, None, false}
 use Rattle.std.proofs.Common.{subst, sym, ap, ◌∙◌, arith, inl, inr}
-use Rattle.std.specs.Prelude.{is_some, vec_len, replicate}
+use Rattle.std.specs.Prelude.{is_some, replicate}
 use Rattle.oct_bt.specs.NodeData.{Reading, Reads, Stopped, after_byte, progress_by, records_in}
 use Rattle.oct_bt.specs.Path.{pending_at, without_next}
 use Rattle.oct_bt.specs.declared.fault.BtFault.TheVariants.{TooDeep, TrailingBytes}
@@ -13,13 +13,12 @@ returns-then-is_empty-clause-taken c =
     let going_on : is_some c.self.inside.stop ≡ false = sym c.is_some.ensures ∙ c.if-is_some.false
     in
     let none : length c.self.inside.path.items ≡ 0 = search rules in
-    let long : vec_len c.self.inside.records ≡ length c.self.inside.records.items = search rules in
-    ap (λ (n : ℕ). Stopped (TrailingBytes (c.self.inside.start + n))) (c.len.ensures ∙ long)
+    ap (λ (n : ℕ). Stopped (TrailingBytes (c.self.inside.start + n))) c.len.ensures.exact
     ∙ subst (λ (r : Reading). Stopped
-    (TrailingBytes (c.self.inside.start + length c.self.inside.records.items))
+    (TrailingBytes (c.self.inside.start + length c.self.inside.records))
     ≡ after_byte r.start r.progress c.args.byte) c.self.view_is
     (byte_trails c.self.inside.start c.self.inside.stop c.self.inside.path.items c.self.inside.half
-    c.self.inside.records.items c.args.byte going_on none)
+    c.self.inside.records c.args.byte going_on none)
 
 pub returns-in_default-clause-taken : goal.returns-in_default-clause-taken
 returns-in_default-clause-taken c =
@@ -29,13 +28,13 @@ returns-in_default-clause-taken c =
     let none : c.self.inside.half ≡ None = none_of c.self.inside.half c.in_default.not-Some in
     subst (λ (r : Reading). progress_by c.self.inside.stop
     (Reads (pending_at 0 c.self.inside.path.items)
-    (Some c.args.byte) c.self.inside.records.items)
+    (Some c.args.byte) c.self.inside.records)
     ≡ after_byte r.start r.progress c.args.byte) c.self.view_is
     (byte_begins c.self.inside.start c.self.inside.stop c.self.inside.path.items
-    c.self.inside.records.items c.args.byte going_on some c.self.invariant.0
+    c.self.inside.records c.args.byte going_on some c.self.invariant.0
     ∙ ap (λ half. after_byte c.self.inside.start
     (progress_by c.self.inside.stop
-    (Reads (pending_at 0 c.self.inside.path.items) half c.self.inside.records.items))
+    (Reads (pending_at 0 c.self.inside.path.items) half c.self.inside.records))
     c.args.byte) (sym none))
 
 pub returns-then-deeper-gt0-clause-taken : goal.returns-then-deeper-gt0-clause-taken
@@ -46,18 +45,17 @@ returns-then-deeper-gt0-clause-taken c =
     in
     let more : 0 < records_in c.in-Some.first c.args.byte =
     subst (λ (n : ℕ). 0 < n) c.records_in-deeper.ensures.count c.if-deeper-gt0.true in
-    let long : vec_len c.self.inside.records ≡ length c.self.inside.records.items = search rules in
     ap (λ (n : ℕ). Stopped (TooDeep (c.self.inside.start + n)))
-    (c.len-then-deeper-gt0.ensures ∙ long)
+    c.len-then-deeper-gt0.ensures.exact
     ∙ subst (λ (r : Reading). Stopped
-    (TooDeep (c.self.inside.start + length c.self.inside.records.items))
+    (TooDeep (c.self.inside.start + length c.self.inside.records))
     ≡ after_byte r.start r.progress c.args.byte) c.self.view_is
     (byte_deep c.self.inside.start c.self.inside.stop c.self.inside.path.items
-    c.self.inside.records.items c.in-Some.first c.args.byte going_on c.self.invariant.0 deep
+    c.self.inside.records c.in-Some.first c.args.byte going_on c.self.invariant.0 deep
     more
     ∙ ap (λ half. after_byte c.self.inside.start
     (progress_by c.self.inside.stop
-    (Reads (pending_at 0 c.self.inside.path.items) half c.self.inside.records.items))
+    (Reads (pending_at 0 c.self.inside.path.items) half c.self.inside.records))
     c.args.byte) (sym c.in-Some.is))
 
 pub returns-clause-taken : goal.returns-clause-taken
@@ -74,24 +72,24 @@ returns-clause-taken c =
     ] in
     let counted = c.records_in-deeper.ensures.count in
     let now = c.descend.ensures.pending in
-    let kept = c.in_ok-keep.ensures.kept in
+    let kept = c.in_ok-push.ensures.ok in
     subst (λ (r : Reading). progress_by c.self.inside.stop
-    (Reads (pending_at 0 c.descend.new.path.items) None c.keep.new.records.items)
+    (Reads (pending_at 0 c.descend.new.path.items) None c.push.new.self)
     ≡ after_byte r.start r.progress c.args.byte) c.self.view_is
     (ap (progress_by c.self.inside.stop)
-    (ap (λ pending. Reads pending None c.keep.new.records.items) now
+    (ap (λ pending. Reads pending None c.push.new.self) now
     ∙ ap (Reads (replicate c.records_in-deeper.result (length c.self.inside.path.items)
     ++ pending_at 0 (without_next c.self.inside.path.items)) None) kept
     ∙ ap (λ (n : ℕ). Reads
     (replicate n (length c.self.inside.path.items)
     ++ pending_at 0 (without_next c.self.inside.path.items)) None
-    (c.self.inside.records.items ++ c.in-Some.first ∷ c.args.byte ∷ [])) counted)
+    (c.self.inside.records ++ c.in-Some.first ∷ c.args.byte ∷ [])) counted)
     ∙ byte_ends c.self.inside.start c.self.inside.stop c.self.inside.path.items
-    c.self.inside.records.items c.in-Some.first c.args.byte going_on some c.self.invariant.0
+    c.self.inside.records c.in-Some.first c.args.byte going_on some c.self.invariant.0
     high
     ∙ ap (λ half. after_byte c.self.inside.start
     (progress_by c.self.inside.stop
-    (Reads (pending_at 0 c.self.inside.path.items) half c.self.inside.records.items))
+    (Reads (pending_at 0 c.self.inside.path.items) half c.self.inside.records))
     c.args.byte) (sym c.in-Some.is))
 
 pub invariant_of-self : goal.invariant_of-self
@@ -99,15 +97,14 @@ invariant_of-self c =
     let going_on : is_some c.self.inside.stop ≡ false = sym c.is_some.ensures ∙ c.if-is_some.false
     in
     let none : length c.self.inside.path.items ≡ 0 = search rules in
-    let long : vec_len c.self.inside.records ≡ length c.self.inside.records.items = search rules in
     let small : c.args.byte < 256 = search rules in
     let (topped, low, reached) = c.self.invariant in (
       topped,
       low,
       reached_next c.self.inside.start c.self.inside.size c.args.byte _ _ small reached
-          (ap (λ (n : ℕ). Stopped (TrailingBytes (c.self.inside.start + n))) (c.len.ensures ∙ long)
+          (ap (λ (n : ℕ). Stopped (TrailingBytes (c.self.inside.start + n))) c.len.ensures.exact
           ∙ byte_trails c.self.inside.start c.self.inside.stop c.self.inside.path.items
-          c.self.inside.half c.self.inside.records.items c.args.byte going_on none),
+          c.self.inside.half c.self.inside.records c.args.byte going_on none),
     )
 
 pub invariant_of-self-in_default : goal.invariant_of-self-in_default
@@ -122,10 +119,10 @@ invariant_of-self-in_default c =
       low,
       reached_next c.self.inside.start c.self.inside.size c.args.byte _ _ small reached
           (byte_begins c.self.inside.start c.self.inside.stop c.self.inside.path.items
-          c.self.inside.records.items c.args.byte going_on some c.self.invariant.0
+          c.self.inside.records c.args.byte going_on some c.self.invariant.0
           ∙ ap (λ half. after_byte c.self.inside.start
           (progress_by c.self.inside.stop
-          (Reads (pending_at 0 c.self.inside.path.items) half c.self.inside.records.items))
+          (Reads (pending_at 0 c.self.inside.path.items) half c.self.inside.records))
           c.args.byte) (sym none)),
     )
 
@@ -137,20 +134,19 @@ invariant_of-self-then-deeper-gt0 c =
     in
     let more : 0 < records_in c.in-Some.first c.args.byte =
     subst (λ (n : ℕ). 0 < n) c.records_in-deeper.ensures.count c.if-deeper-gt0.true in
-    let long : vec_len c.self.inside.records ≡ length c.self.inside.records.items = search rules in
     let small : c.args.byte < 256 = search rules in
     let (topped, low, reached) = c.self.invariant in (
       topped,
       low,
       reached_next c.self.inside.start c.self.inside.size c.args.byte _ _ small reached
           (ap (λ (n : ℕ). Stopped (TooDeep (c.self.inside.start + n)))
-          (c.len-then-deeper-gt0.ensures ∙ long)
+          c.len-then-deeper-gt0.ensures.exact
           ∙ byte_deep c.self.inside.start c.self.inside.stop c.self.inside.path.items
-          c.self.inside.records.items c.in-Some.first c.args.byte going_on c.self.invariant.0
+          c.self.inside.records c.in-Some.first c.args.byte going_on c.self.invariant.0
           deep more
           ∙ ap (λ half. after_byte c.self.inside.start
           (progress_by c.self.inside.stop
-          (Reads (pending_at 0 c.self.inside.path.items) half c.self.inside.records.items))
+          (Reads (pending_at 0 c.self.inside.path.items) half c.self.inside.records))
           c.args.byte) (sym c.in-Some.is)),
     )
 
@@ -168,25 +164,25 @@ invariant_of-self-2 c =
     ] in
     let counted = c.records_in-deeper.ensures.count in
     let now = c.descend.ensures.pending in
-    let kept = c.in_ok-keep.ensures.kept in
+    let kept = c.in_ok-push.ensures.ok in
     let small : c.args.byte < 256 = search rules in
     let (topped, low, reached) = c.self.invariant in (
       c.descend.ensures.topped,
       low,
       reached_next c.self.inside.start c.self.inside.size c.args.byte _ _ small reached
           (ap (progress_by c.self.inside.stop)
-          (ap (λ pending. Reads pending None c.keep.new.records.items) now
+          (ap (λ pending. Reads pending None c.push.new.self) now
           ∙ ap (Reads (replicate c.records_in-deeper.result (length c.self.inside.path.items)
           ++ pending_at 0 (without_next c.self.inside.path.items)) None) kept
           ∙ ap (λ (n : ℕ). Reads
           (replicate n (length c.self.inside.path.items)
           ++ pending_at 0 (without_next c.self.inside.path.items)) None
-          (c.self.inside.records.items ++ c.in-Some.first ∷ c.args.byte ∷ [])) counted)
+          (c.self.inside.records ++ c.in-Some.first ∷ c.args.byte ∷ [])) counted)
           ∙ byte_ends c.self.inside.start c.self.inside.stop c.self.inside.path.items
-          c.self.inside.records.items c.in-Some.first c.args.byte going_on some
+          c.self.inside.records c.in-Some.first c.args.byte going_on some
           c.self.invariant.0 high
           ∙ ap (λ half. after_byte c.self.inside.start
           (progress_by c.self.inside.stop
-          (Reads (pending_at 0 c.self.inside.path.items) half c.self.inside.records.items))
+          (Reads (pending_at 0 c.self.inside.path.items) half c.self.inside.records))
           c.args.byte) (sym c.in-Some.is)),
     )
