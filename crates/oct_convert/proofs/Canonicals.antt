@@ -1,6 +1,6 @@
 -- The canonical text of a tree that was filled from a file.
 use Rattle.std.proofs.Common.{◌≡◌, ℕ, ℤ, pos, true, List, [], ◌++◌, Option, Result, Ok, Err, OnOk}
-use Rattle.std.proofs.Common.{OnErr, refl, ◌∙◌, ap, subst, arith}
+use Rattle.std.proofs.Common.{OnErr, ◌<◌, length, refl, ◌∙◌, ap, subst, arith, zero-lt-suc}
 use mir.Val.{SFits, to_z, of_z}
 use mir.Syntax.{w64}
 use Rattle.std.proofs.lemmas.Int.{ints, to_z-of_z}
@@ -15,7 +15,7 @@ use Rattle.oct_bt.specs.Canonical.{canonical_data, canonical_size, node_total}
 use Rattle.oct_values.specs.Classes.{Classes, classes_of}
 use Rattle.oct_bt.specs.Classes.{value_for}
 use Rattle.oct_bt.specs.DataClasses.{data_classes}
-use Rattle.oct_bt.specs.File.{FileRead, bt_text, file_text, header_text}
+use Rattle.oct_bt.specs.File.{FileRead, bt_text, file_text, header_text, text_of_lines}
 use Rattle.oct_bt.specs.Plain.{is_canonical_data}
 use Rattle.oct_bt.specs.NodeData.{IsAccepted, IsDataOf}
 use Rattle.oct_bt.proofs.DataClassed.{data_classed}
@@ -23,7 +23,7 @@ use Rattle.oct_bt.proofs.Injective.{same_data}
 use Rattle.oct_bt.proofs.Plains.{canonical_data_exactly}
 use Rattle.oct_bt.proofs.Rewrites.{canonical_again}
 use Rattle.oct_io.specs.declared.sink.SinkFault.{SinkFault}
-use Rattle.oct_io.specs.Taken.{IsBegun}
+use Rattle.oct_io.specs.Taken.{IsCutOff}
 use Rattle.oct_io.specs.Told.{appended}
 use Rattle.oct_convert.specs.Answers.{canonical_text}
 use Rattle.oct_convert.specs.Ending.{Sends}
@@ -76,6 +76,11 @@ again file accepted test = canonical_again file (data_classes file.codes) accept
     ((canonical_data_exactly (data_classes file.codes) file.codes
     (data_classed file.nodes file.codes accepted)).0 test)
 
+-- no canonical file is empty
+pub some_canonical : (file : FileRead) → 0 < length (canonical_text file)
+unfolding bt_text header_text text_of_lines
+some_canonical file = zero-lt-suc _
+
 -- six lines, one after another
 pub six_lines : (z a b c d e f k l m n o p q r s t u v : List ℕ) → z ≡ [] → a ≡ z ++ k → b ≡ a ++ l
     → c ≡ b ++ m → d ≡ c ++ n → e ≡ d ++ o → f ≡ e ++ p
@@ -88,13 +93,13 @@ pub passed_on : (n : ℤ) (res : ℕ) → n ≡ pos res → IsResolution res →
 passed_on n res is range = ap (λ (n : ℤ). to_z w64 (of_z w64 n)) is
     ∙ (let fits : SFits w64 (pos res) = omega (arith, ints, range) in to_z-of_z w64 (pos res) fits)
 
--- a canonical file that was written again, or a prefix of it
+-- a canonical file that was written again, or a part of it
 pub sends_again : {T : Type 0} (r : Result T SinkFault) (file : FileRead)
     (old new : Option (List ℕ)) → IsAccepted file.nodes file.codes
     → is_canonical_data file.codes ≡ true → OnOk r (new ≡ appended old (file_text file))
-    → OnErr r (IsBegun (file_text file) old new)
+    → OnErr r (IsCutOff old new (file_text file))
     → Sends (canonical_text file) old new r
-sends_again (Ok t) file old new accepted test done begun =
+sends_again (Ok t) file old new accepted test done cut =
     done ∙ ap (appended old) (again file accepted test)
-sends_again (Err fault) file old new accepted test done begun =
-    subst (λ l. IsBegun l old new) (again file accepted test) begun
+sends_again (Err fault) file old new accepted test done cut =
+    subst (IsCutOff old new) (again file accepted test) cut

@@ -1,13 +1,12 @@
 -- How a task ends, by what was read and what was written.
 use Rattle.std.specs.Prelude.{◌⊎◌}
-use Rattle.std.proofs.Common.{◌≡◌, ℕ, ◌+◌, ◌<◌, ◌≤◌, List, [], length, take, drop, Option, Some}
+use Rattle.std.proofs.Common.{◌≡◌, ℕ, ◌+◌, ◌<◌, ◌≤◌, List, [], length, take, Option, Some}
 use Rattle.std.proofs.Common.{None, IfSome, Result, Ok, Err, OnOk, OnErr, IsErr, inl, inr, refl}
 use Rattle.std.proofs.Common.{sym, ◌∙◌, ap, subst, arith}
 use Rattle.std.proofs.lemmas.Bool.{lt-ltb, le-ltb, false≢true}
-use Rattle.std.proofs.lemmas.List.{take-append-drop}
 use Rattle.oct_io.specs.declared.sink.SinkFault.{SinkFault}
 use Rattle.oct_io.specs.declared.sink.SinkFault.TheVariants as sink
-use Rattle.oct_io.specs.Taken.{HasTaken, IsBegun}
+use Rattle.oct_io.specs.Taken.{HasTaken, IsCutOff}
 use Rattle.oct_io.specs.Told.{appended}
 use Rattle.oct_io.proofs.Appending.{appended_nil}
 use Rattle.oct_bt.specs.declared.fault.BtFault.{BtFault}
@@ -57,12 +56,12 @@ sent (Ok t) whole text end most bytes left old new is (inr bad) to_end sends =
     )
 sent (Err sink.Failed) whole text end most bytes left old new is which to_end sends =
     record {
-      begun = subst (λ x. IsBegun x old new) (ap (λ (a : Answer). a.text) (sym is)) sends;
+      cut = subst (IsCutOff old new) (ap (λ (a : Answer). a.text) (sym is)) sends;
       input = to_end;
     }
 sent (Err sink.Memory) whole text end most bytes left old new is which to_end sends =
     inr (record {
-      begun = subst (λ x. IsBegun x old new) (ap (λ (a : Answer). a.text) (sym is)) sends;
+      cut = subst (IsCutOff old new) (ap (λ (a : Answer). a.text) (sym is)) sends;
       input = to_end;
     })
 
@@ -124,24 +123,15 @@ reason_ends (Some bytes) left old new reason text most end by read = by bytes re
 
 -- ---- writing
 
--- nothing of a text is a prefix of it
-pub begun_none : (text : List ℕ) (old new : Option (List ℕ)) → new ≡ old → IsBegun text old new
-begun_none text old new same = record {
-  done = [];
-  rest = text;
-  written = same ∙ appended_nil old;
-  split = refl;
-}
+-- of a text that isn't empty nothing was written
+pub cut_none : (text : List ℕ) (old : Option (List ℕ)) → 0 < length text → IsCutOff old old text
+cut_none text old some = (0, some, appended_nil old)
 
--- and so are the first of its bytes
-pub begun_first : (text : List ℕ) (n : ℕ) (old new : Option (List ℕ))
-    → new ≡ appended old (take n text) → IsBegun text old new
-begun_first text n old new written = record {
-  done = take n text;
-  rest = drop n text;
-  written = written;
-  split = sym (take-append-drop n text);
-}
+-- an error before anything of it was
+pub sends_none : {T : Type 0} (r : Result T SinkFault) (text : List ℕ) (old : Option (List ℕ))
+    → IsErr r → 0 < length text → Sends text old old r
+sends_none (Ok t) text old err some = absurd (false≢true err)
+sends_none (Err fault) text old err some = cut_none text old some
 
 -- a whole piece that was written, or its first bytes
 pub sends_piece : {T : Type 0} (r : Result T SinkFault) (text piece : List ℕ)
@@ -150,13 +140,11 @@ pub sends_piece : {T : Type 0} (r : Result T SinkFault) (text piece : List ℕ)
     → OnErr r ((n : ℕ) × (n < length piece) × (new ≡ appended old (take n piece)))
     → Sends text old new r
 sends_piece (Ok t) text piece old new is done part = done ∙ ap (appended old) is
-sends_piece (Err fault) text piece old new is done (n, few, written) =
-    begun_first text n old new (written ∙ ap (λ x. appended old (take n x)) is)
+sends_piece (Err fault) text piece old new is done part = subst (IsCutOff old new) is part
 
 -- an error after the first bytes of a text
-pub sends_part : {T : Type 0} (r : Result T SinkFault) (text piece : List ℕ) (n : ℕ)
-    (old new : Option (List ℕ)) → IsErr r → piece ≡ text
-    → new ≡ appended old (take n piece) → Sends text old new r
-sends_part (Ok t) text piece n old new err is written = absurd (false≢true err)
-sends_part (Err fault) text piece n old new err is written =
-    begun_first text n old new (written ∙ ap (λ x. appended old (take n x)) is)
+pub sends_part : {T : Type 0} (r : Result T SinkFault) (text piece : List ℕ)
+    (old new : Option (List ℕ)) → IsErr r → piece ≡ text → IsCutOff old new piece
+    → Sends text old new r
+sends_part (Ok t) text piece old new err is cut = absurd (false≢true err)
+sends_part (Err fault) text piece old new err is cut = subst (IsCutOff old new) is cut

@@ -2,7 +2,7 @@
 use Rattle.std.specs.Prelude.{◌≡◌, ◌⊎◌, ◌+◌, ℕ, List, Option, Result, Ok, Err}
 use Rattle.oct_io.specs.declared.sink.SinkFault.{SinkFault}
 use Rattle.oct_io.specs.declared.sink.SinkFault.TheVariants as sink
-use Rattle.oct_io.specs.Taken.{HasTaken, IsBegun}
+use Rattle.oct_io.specs.Taken.{HasTaken, IsCutOff}
 use Rattle.oct_io.specs.Told.{appended}
 use Rattle.oct_convert.specs.declared.ending.Ending.{Ending}
 use Rattle.oct_convert.specs.declared.ending.Ending.TheVariants.{Done, BadFile, TooLong, ReadFault}
@@ -15,10 +15,10 @@ pub record IsAnswered (whole : Answer) (old new : Option (List ℕ)) (ending : E
   pub written : new ≡ appended old whole.text
   pub same : whole.ending ≡ ending
 
--- the input was read to its end, and a prefix of the answer was written
+-- the input was read to its end, and of the answer a part was written, and not all of it
 pub record IsHalted (whole : Answer) (max_bytes : ℕ) (bytes : List ℕ)
     (left old new : Option (List ℕ)) : Type 0 where
-  pub begun : IsBegun whole.text old new
+  pub cut : IsCutOff old new whole.text
   pub input : IsReadToEnd max_bytes bytes left
 
 -- the input hasn't ended: at most this many bytes of it were taken, and nothing was written
@@ -42,11 +42,11 @@ MayEnd whole max_bytes bytes left old new WriteFault = IsHalted whole max_bytes 
 MayEnd whole max_bytes bytes left old new Memory =
     IsStopped max_bytes bytes left old new ⊎ IsHalted whole max_bytes bytes left old new
 
--- a text was written, or a prefix of it where the result is an error
+-- a text was written, or where the result is an error a part of it, and not all
 abbrev pub Sends : {T : Type 0} → List ℕ → Option (List ℕ) → Option (List ℕ) → Result T SinkFault
     → Type 0
 Sends text old new (Ok done) = new ≡ appended old text
-Sends text old new (Err fault) = IsBegun text old new
+Sends text old new (Err fault) = IsCutOff old new text
 
 -- how a task ends whose text was written, or not whole
 abbrev pub ending_of : {T : Type 0} → Ending → Result T SinkFault → Ending

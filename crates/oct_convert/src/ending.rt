@@ -22,7 +22,7 @@ pub enum Ending {
 }
 
 /// The end of a task whose text was written, or else the end that the sink's fault is.
-pub fn ending_of(whole: Ending, written: Result<(), SinkFault>) -> Ending
+pub(crate) fn ending_of(whole: Ending, written: Result<(), SinkFault>) -> Ending
     ensures { result ≡ ending_of whole written }
 {
     match written {

@@ -18,8 +18,8 @@
 //! - [`convert`] writes the canonical file of the resolution and the classes of that file, and
 //!   [`inspect`] six lines about it (`convert_answer` and `inspect_answer` in `specs/Answers.antt`,
 //!   functions of the input's bytes). Nothing is written before the input has ended; on a fault of
-//!   the sink, or where memory runs out, a prefix of that text was. `specs/Ending.antt` says how
-//!   each may end.
+//!   the sink, or where memory runs out, a part of that text was, and not all of it.
+//!   `specs/Ending.antt` says how each may end.
 //! - [`refuse`] ends any such task for which there is no file, so that a program's own tasks over a
 //!   file end as these do.
 //! - A count of faults rises by one exactly where the ending names the fault, and the end of the

@@ -67,8 +67,12 @@ fn report(alloc: Global, file: &BtFile) -> Result<Vec<u8>, Memory>
     Ok(out)
 }
 
-/// Writes the line of a refusal. After an error a prefix of it was written.
-pub fn write_refusal<K: Sink>(alloc: Global, fault: BtFault, sink: &mut K) -> Result<(), SinkFault>
+/// Writes the line of a refusal. After an error a part of it was written.
+pub(crate) fn write_refusal<K: Sink>(
+    alloc: Global,
+    fault: BtFault,
+    sink: &mut K,
+) -> Result<(), SinkFault>
     ensures sends { Sends (refusal_line fault) (K.written sink.old) (K.written sink.new) result }
     ensures counts { IsMakingCounted result (K.faults sink.old) (K.faults sink.new)
         (K.shortages sink.old) (K.shortages sink.new) }
@@ -77,8 +81,12 @@ pub fn write_refusal<K: Sink>(alloc: Global, fault: BtFault, sink: &mut K) -> Re
     write_all(sink, &text)
 }
 
-/// Writes the six lines about a file. After an error a prefix of them was written.
-pub fn write_report<K: Sink>(alloc: Global, file: &BtFile, sink: &mut K) -> Result<(), SinkFault>
+/// Writes the six lines about a file. After an error a part of them was written.
+pub(crate) fn write_report<K: Sink>(
+    alloc: Global,
+    file: &BtFile,
+    sink: &mut K,
+) -> Result<(), SinkFault>
     requires accepted { IsAccepted file.now.nodes file.now.codes }
     ensures sends { Sends (report file.now) (K.written sink.old) (K.written sink.new) result }
     ensures counts { IsMakingCounted result (K.faults sink.old) (K.faults sink.new)
@@ -89,8 +97,12 @@ pub fn write_report<K: Sink>(alloc: Global, file: &BtFile, sink: &mut K) -> Resu
 }
 
 /// Writes the canonical file of the classes of a file: its own records where they are canonical,
-/// and else through a tree. After an error a prefix of it was written.
-pub fn write_canonical<K: Sink>(alloc: Global, file: &BtFile, sink: &mut K) -> Result<(), SinkFault>
+/// and else through a tree. After an error a part of it was written.
+pub(crate) fn write_canonical<K: Sink>(
+    alloc: Global,
+    file: &BtFile,
+    sink: &mut K,
+) -> Result<(), SinkFault>
     requires accepted { IsAccepted file.now.nodes file.now.codes }
     requires few { length file.now.codes ≤ 2 ^ 32 }
     ensures sends { Sends (canonical_text file.now)
@@ -108,7 +120,7 @@ pub fn write_canonical<K: Sink>(alloc: Global, file: &BtFile, sink: &mut K) -> R
 }
 
 /// Writes the canonical file of the classes of a file through a tree that is filled with them.
-/// After an error a prefix of it was written.
+/// After an error a part of it was written.
 fn write_merged<K: Sink>(alloc: Global, file: &BtFile, sink: &mut K) -> Result<(), SinkFault>
     requires accepted { IsAccepted file.now.nodes file.now.codes }
     requires few { length file.now.codes ≤ 2 ^ 32 }

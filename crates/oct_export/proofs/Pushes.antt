@@ -4,8 +4,9 @@ use Rattle.std.proofs.Common.{append_assoc, append-nil}
 use Rattle.std.specs.Prelude.{Result, Ok, Err, OnOk, OnErr, IfOk}
 use Rattle.std.proofs.lemmas.List.{take-append-drop}
 use Rattle.oct_io.specs.Told.{appended}
-use Rattle.oct_io.specs.Taken.{IsBegun}
+use Rattle.oct_io.specs.Taken.{IsCutOff}
 use Rattle.oct_io.proofs.Appending.{appended_twice, appended_nil}
+use Rattle.oct_io.proofs.Gathering.{cut_behind}
 use Rattle.oct_export.specs.Pushed.{IsPushed}
 
 -- nothing yet
@@ -58,20 +59,15 @@ pushed_more t u all h0 h1 h2 w0 w1 w2 (b, e) (d, f) is = (
 )
 
 -- a text after another that was cut off
-pub pushed_begun : (t u more all h0 h1 : List ℕ) (w0 w1 w2 : Option (List ℕ))
-    → IsPushed t h0 h1 w0 w1 → IsBegun (h1 ++ u) w1 w2
-    → t ++ (u ++ more) ≡ all → IsBegun (h0 ++ all) w0 w2
-pushed_begun t u more all h0 h1 w0 w1 w2 (b, e) d is = record {
-  done = b.done ++ d.done;
-  rest = d.rest ++ more;
-  written = d.written ∙ ap (λ o. appended o d.done) b.written ∙ appended_twice w0 b.done d.done;
-  split = ap (λ l. h0 ++ l) (sym is) ∙ sym (append_assoc h0 t (u ++ more))
-      ∙ ap (λ l. l ++ (u ++ more)) b.split ∙ append_assoc b.done b.rest (u ++ more)
-      ∙ ap (λ l. b.done ++ l)
-      (ap (λ l. l ++ (u ++ more)) e ∙ sym (append_assoc h1 u more) ∙ ap (λ l. l ++ more) d.split
-      ∙ append_assoc d.done d.rest more)
-      ∙ sym (append_assoc b.done d.done (d.rest ++ more));
-}
+pub second_cut : (t u more all h0 h1 : List ℕ) (w0 w1 w2 : Option (List ℕ))
+    → IsPushed t h0 h1 w0 w1 → IsCutOff w1 w2 (h1 ++ u)
+    → t ++ (u ++ more) ≡ all → IsCutOff w0 w2 (h0 ++ all)
+second_cut t u more all h0 h1 w0 w1 w2 (b, e) cut is =
+    subst (IsCutOff w0 w2)
+    (ap (λ l. b.done ++ l) (append_assoc h1 u more ∙ ap (λ l. l ++ (u ++ more)) (sym e))
+    ∙ sym (append_assoc b.done b.rest (u ++ more)) ∙ ap (λ l. l ++ (u ++ more)) (sym b.split)
+    ∙ append_assoc h0 t (u ++ more) ∙ ap (λ l. h0 ++ l) is)
+    (cut_behind w0 w1 w2 b.done (h1 ++ u) more b.written cut)
 
 -- three texts, one after the other, or the last of them cut off
 pub pushed_three : (t u v all h0 h1 h2 h3 : List ℕ) (w0 w1 w2 w3 : Option (List ℕ))
@@ -81,24 +77,20 @@ pushed_three t u v all h0 h1 h2 h3 w0 w1 w2 w3 is p q r =
     pushed_more (t ++ u) v all h0 h2 h3 w0 w2 w3
     (pushed_more t u (t ++ u) h0 h1 h2 w0 w1 w2 p q refl) r (append_assoc t u v ∙ is)
 
-pub third_begun : (t u v all h0 h1 h2 : List ℕ) (w0 w1 w2 w3 : Option (List ℕ))
+pub third_cut : (t u v all h0 h1 h2 : List ℕ) (w0 w1 w2 w3 : Option (List ℕ))
     → t ++ (u ++ v) ≡ all → IsPushed t h0 h1 w0 w1
-    → IsPushed u h1 h2 w1 w2 → IsBegun (h2 ++ v) w2 w3 → IsBegun (h0 ++ all) w0 w3
-third_begun t u v all h0 h1 h2 w0 w1 w2 w3 is p q r =
-    pushed_begun (t ++ u) v [] all h0 h2 w0 w2 w3
+    → IsPushed u h1 h2 w1 w2 → IsCutOff w2 w3 (h2 ++ v) → IsCutOff w0 w3 (h0 ++ all)
+third_cut t u v all h0 h1 h2 w0 w1 w2 w3 is p q r =
+    second_cut (t ++ u) v [] all h0 h2 w0 w2 w3
     (pushed_more t u (t ++ u) h0 h1 h2 w0 w1 w2 p q refl) r
     (ap (λ l. (t ++ u) ++ l) (append-nil v) ∙ append_assoc t u v ∙ is)
 
 -- a text that was cut off, with more after it
-pub begun_more : (t more all h : List ℕ) (w w' : Option (List ℕ)) → IsBegun (h ++ t) w w'
-    → t ++ more ≡ all → IsBegun (h ++ all) w w'
-begun_more t more all h w w' d is = record {
-  done = d.done;
-  rest = d.rest ++ more;
-  written = d.written;
-  split = ap (λ l. h ++ l) (sym is) ∙ sym (append_assoc h t more) ∙ ap (λ l. l ++ more) d.split
-      ∙ append_assoc d.done d.rest more;
-}
+pub first_cut : (t more all h : List ℕ) (w w' : Option (List ℕ)) → IsCutOff w w' (h ++ t)
+    → t ++ more ≡ all → IsCutOff w w' (h ++ all)
+first_cut t more all h w w' cut is =
+    subst (IsCutOff w w') (append_assoc h t more ∙ ap (λ l. h ++ l) is)
+    (cut_behind w w w' [] (h ++ t) more (appended_nil w) cut)
 
 -- all that was pushed to a gather that held nothing, written
 pub pushed_whole : (t h0 h1 : List ℕ) (w0 w1 w2 : Option (List ℕ)) → IsPushed t h0 h1 w0 w1
@@ -109,24 +101,18 @@ pushed_whole t h0 h1 w0 w1 w2 (b, e) none wrote =
     ∙ ap (appended w0) (ap (λ l. b.done ++ l) (sym e) ∙ sym b.split ∙ ap (λ l. l ++ t) none)
 
 -- or a part of it
-pub pushed_cut : (t h0 h1 : List ℕ) (n : ℕ) (w0 w1 w2 : Option (List ℕ)) → IsPushed t h0 h1 w0 w1
-    → h0 ≡ [] → w2 ≡ appended w1 (take n h1)
-    → IsBegun t w0 w2
-pushed_cut t h0 h1 n w0 w1 w2 (b, e) none wrote = record {
-  done = b.done ++ take n h1;
-  rest = drop n h1;
-  written = wrote ∙ ap (λ o. appended o (take n h1)) b.written
-      ∙ appended_twice w0 b.done (take n h1);
-  split = sym (ap (λ l. l ++ t) none) ∙ b.split
-      ∙ ap (λ l. b.done ++ l) (e ∙ sym (take-append-drop n h1))
-      ∙ sym (append_assoc b.done (take n h1) (drop n h1));
-}
+pub pushed_cut : (t h0 h1 : List ℕ) (w0 w1 w2 : Option (List ℕ)) → IsPushed t h0 h1 w0 w1
+    → h0 ≡ [] → IsCutOff w1 w2 h1 → IsCutOff w0 w2 t
+pushed_cut t h0 h1 w0 w1 w2 (b, e) none cut =
+    subst (IsCutOff w0 w2)
+    (ap (λ l. b.done ++ l) (append-nil h1 ∙ sym e) ∙ sym b.split ∙ ap (λ l. l ++ t) none)
+    (cut_behind w0 w1 w2 b.done h1 [] b.written cut)
 
--- what was begun of a gather that held nothing
-pub begun_of_none : (t h : List ℕ) (w w' : Option (List ℕ)) → h ≡ [] → IsBegun (h ++ t) w w'
-    → IsBegun t w w'
-begun_of_none t h w w' none = subst (λ l. IsBegun (l ++ t) w w' → IsBegun t w w') (sym none)
-    (λ b. b)
+-- what was cut off after a gather that held nothing
+pub cut_of_none : (t h : List ℕ) (w w' : Option (List ℕ)) → h ≡ [] → IsCutOff w w' (h ++ t)
+    → IsCutOff w w' t
+cut_of_none t h w w' none = subst (λ l. IsCutOff w w' (l ++ t) → IsCutOff w w' t) (sym none)
+    (λ cut. cut)
 
 -- ---- what holds of a result
 
@@ -148,6 +134,6 @@ pub if_ok_follows : {T E : Type 0} {P Q : T → Type 0} (r : Result T E) → ((x
 if_ok_follows (Ok x) f p = f x p
 if_ok_follows (Err e) f p = tt
 
-pub begun_as : (t u h : List ℕ) (w w' : Option (List ℕ)) → IsBegun (h ++ t) w w' → t ≡ u
-    → IsBegun (h ++ u) w w'
-begun_as t u h w w' d same = subst (λ l. IsBegun (h ++ l) w w') same d
+pub cut_as : (t u h : List ℕ) (w w' : Option (List ℕ)) → IsCutOff w w' (h ++ t) → t ≡ u
+    → IsCutOff w w' (h ++ u)
+cut_as t u h w w' cut same = subst (λ l. IsCutOff w w' (h ++ l)) same cut

@@ -12,10 +12,10 @@ use Rattle.oct_odds.specs.declared.event.Class.{Class}
 use Rattle.oct_values.specs.Classes.{Classes}
 use Rattle.oct_export.specs.Bands.{band_class, numbers_to}
 use Rattle.oct_export.specs.Grids.{grey_of, row_of, rows_of, grid_head, pgm_text}
-use Rattle.oct_io.specs.Taken.{IsBegun}
+use Rattle.oct_io.specs.Taken.{IsCutOff}
 use Rattle.oct_export.specs.Pushed.{IsPushed}
 use Rattle.oct_export.proofs.Columns.{numbers_append}
-use Rattle.oct_export.proofs.Pushes.{pushed_begun}
+use Rattle.oct_export.proofs.Pushes.{second_cut}
 
 pub numbers_length : (z n : ℕ) → length (numbers_from z n) ≡ n
 unfolding numbers_from
@@ -95,17 +95,17 @@ row_cut c lo hi y x next g k low up most grey same =
     append_parts [] b d = refl
     append_parts (x ∷ a) b d = ap (λ l. x ∷ l) (append_parts a b d)
 
-pub row_begun : (c : Classes) (lo hi : Voxel) (y x next g : ℕ) (k : Class) (h0 h1 : List ℕ)
+pub row_cut_off : (c : Classes) (lo hi : Voxel) (y x next g : ℕ) (k : Class) (h0 h1 : List ℕ)
     (w0 w1 w2 : Option (List ℕ))
     → IsPushed (row_front c lo hi y (x - lo.x)) h0 h1 w0 w1
-    → IsBegun (h1 ++ replicate (next - x) g) w1 w2 → g ≡ grey_of k
+    → IsCutOff w1 w2 (h1 ++ replicate (next - x) g) → g ≡ grey_of k
     → lo.x ≤ x → x < next → next ≤ hi.x + 1
     → ((m : ℕ) → x ≤ m → m < next → band_class c lo.z hi.z m y ≡ k)
-    → IsBegun (h0 ++ row_of c lo hi y) w0 w2
-row_begun c lo hi y x next g k h0 h1 w0 w1 w2 pushed begun grey low up most same =
+    → IsCutOff w0 w2 (h0 ++ row_of c lo hi y)
+row_cut_off c lo hi y x next g k h0 h1 w0 w1 w2 pushed cut grey low up most same =
     let (rest, is) = row_cut c lo hi y x next g k low up most grey same in
-    pushed_begun (row_front c lo hi y (x - lo.x))
-    (replicate (next - x) g) rest (row_of c lo hi y) h0 h1 w0 w1 w2 pushed begun is
+    second_cut (row_front c lo hi y (x - lo.x))
+    (replicate (next - x) g) rest (row_of c lo hi y) h0 h1 w0 w1 w2 pushed cut is
 
 -- ---- rows
 

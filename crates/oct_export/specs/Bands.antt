@@ -10,7 +10,7 @@ use Rattle.oct_values.specs.Classes.{Classes, is_same_class}
 abbrev pub numbers_to : ℕ → ℕ → List ℕ
 numbers_to first last = numbers_from first (last + 1 - first)
 
--- whether, of the voxels with these numbers on x and y, one with one of these on z is of a class
+-- whether some voxel of a column, with one of these numbers on z, is of a class
 abbrev pub has_class : Classes → Class → ℕ → ℕ → List ℕ → Bool
 has_class classes class x y zs =
     list_any (λ z. is_same_class (classes (record { x = x; y = y; z = z })) class) zs

@@ -2,7 +2,7 @@
 ghost use Rattle.std.specs.Prelude.{◌≡◌, ◌+◌, ◌-◌, ◌≤◌, ◌++◌, OnOk, OnErr, IfOk, length, replicate};
 ghost use Rattle.oct_key.specs.Boxes.{IsBox};
 ghost use Rattle.oct_io.specs.Counts.{IsWriteCounted};
-ghost use Rattle.oct_io.specs.Taken.{IsBegun};
+ghost use Rattle.oct_io.specs.Taken.{IsCutOff};
 ghost use Rattle.oct_io.specs.Told.{appended};
 ghost use Rattle.oct_export.specs.Seen.{classes_in};
 ghost use Rattle.oct_export.specs.Grids.{grey_of, grid_head, row_of, rows_of, pgm_text};
@@ -39,8 +39,8 @@ fn push_run<K: Sink>(
 ) -> Result<(), SinkFault>
     ensures pushed { OnOk result (IsPushed (replicate count byte) gather.old gather.new
         (K.written sink.old) (K.written sink.new)) }
-    ensures begun { OnErr result (IsBegun (gather.old ++ replicate count byte)
-        (K.written sink.old) (K.written sink.new)) }
+    ensures cut { OnErr result (IsCutOff (K.written sink.old) (K.written sink.new)
+        (gather.old ++ replicate count byte)) }
     ensures counts { IsWriteCounted result (K.faults sink.old) (K.faults sink.new)
         (K.shortages sink.old) (K.shortages sink.new) }
 {
@@ -67,14 +67,14 @@ fn push_row<K: Sink>(
     requires order { IsBox lo hi }
     ensures pushed { OnOk result (IsPushed (row_of (classes_in tree.now) lo hi y)
         gather.old gather.new (K.written sink.old) (K.written sink.new)) }
-    ensures begun { OnErr result (IsBegun (gather.old ++ row_of (classes_in tree.now) lo hi y)
-        (K.written sink.old) (K.written sink.new)) }
+    ensures cut { OnErr result (IsCutOff (K.written sink.old) (K.written sink.new)
+        (gather.old ++ row_of (classes_in tree.now) lo hi y)) }
     ensures counts { IsWriteCounted result (K.faults sink.old) (K.faults sink.new)
         (K.shortages sink.old) (K.shortages sink.new) }
 {
     let mut x = u32::from(lo.x);
     while x <= u32::from(hi.x) {
-        let strip = strip_at(tree, lo.z, hi.z, x as u16, y);
+        let strip = strip_at(tree, x as u16, y, lo.z, hi.z);
         let next = u32::from(strip.last.min(hi.x)) + 1;
         push_run(grey_of(strip.class), next - x, gather, sink)?;
         x = next;
@@ -94,9 +94,8 @@ fn push_rows<K: Sink>(
     ensures pushed { OnOk result
         (IsPushed (rows_of (classes_in tree.now) lo hi (hi.y + 1 - lo.y))
         gather.old gather.new (K.written sink.old) (K.written sink.new)) }
-    ensures begun { OnErr result
-        (IsBegun (gather.old ++ rows_of (classes_in tree.now) lo hi (hi.y + 1 - lo.y))
-        (K.written sink.old) (K.written sink.new)) }
+    ensures cut { OnErr result (IsCutOff (K.written sink.old) (K.written sink.new)
+        (gather.old ++ rows_of (classes_in tree.now) lo hi (hi.y + 1 - lo.y))) }
     ensures counts { IsWriteCounted result (K.faults sink.old) (K.faults sink.new)
         (K.shortages sink.old) (K.shortages sink.new) }
 {
@@ -127,7 +126,7 @@ fn head_of(width: u32, height: u32) -> ArrayString<32>
 /// the highest number on y to the lowest, and in a row the number on x ascends.
 ///
 /// Takes no memory, and hands the sink pieces of 4,096 bytes. Blocks of one class are looked at
-/// once for all columns of a row over them. After an error a prefix of the text was written, and
+/// once for all columns of a row over them. After an error a part of the text was written, and
 /// exactly one write of the sink gave up, for that reason.
 pub fn pgm<K: Sink>(tree: &OccTree, lo: Key, hi: Key, sink: &mut K) -> Result<u64, SinkFault>
     requires order { IsBox lo hi }
@@ -135,8 +134,8 @@ pub fn pgm<K: Sink>(tree: &OccTree, lo: Key, hi: Key, sink: &mut K) -> Result<u6
         (λ bytes. bytes ≡ length (pgm_text (classes_in tree.now) lo hi)) }
     ensures written { OnOk result (K.written sink.new
         ≡ appended (K.written sink.old) (pgm_text (classes_in tree.now) lo hi)) }
-    ensures begun { OnErr result (IsBegun (pgm_text (classes_in tree.now) lo hi)
-        (K.written sink.old) (K.written sink.new)) }
+    ensures cut { OnErr result (IsCutOff (K.written sink.old) (K.written sink.new)
+        (pgm_text (classes_in tree.now) lo hi)) }
     ensures counts { IsWriteCounted result (K.faults sink.old) (K.faults sink.new)
         (K.shortages sink.old) (K.shortages sink.new) }
 {

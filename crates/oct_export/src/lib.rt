@@ -19,7 +19,7 @@
 //!   code of its lowest voxel, with its middle and its edge in metres, to the half nanometre.
 //!   [`box_count`] says how many these are, and the law [`boxes_rise`] that they stand in that
 //!   order.
-//! - Both writers answer the length of their text. After an error a prefix of it was written, and
+//! - Both writers answer the length of their text. After an error a part of it was written, and
 //!   exactly one write of the sink gave up, for that reason.
 //!
 //! All is said of the classes of voxels alone, so that it makes no difference how a tree is split

@@ -4,7 +4,7 @@ ghost use Rattle.std.specs.Prelude.{if◌then◌else◌};
 ghost use Rattle.oct_key.specs.Block.{number_of_child};
 ghost use Rattle.oct_key.specs.CubeOf.{cube_of};
 ghost use Rattle.oct_io.specs.Counts.{IsWriteCounted};
-ghost use Rattle.oct_io.specs.Taken.{IsBegun};
+ghost use Rattle.oct_io.specs.Taken.{IsCutOff};
 ghost use Rattle.oct_io.specs.Told.{appended};
 ghost use Rattle.oct_tree.specs.Tree.{IsLinked, IsPlace, block_in};
 ghost use Rattle.oct_export.specs.Seen.{classes_in};
@@ -40,8 +40,8 @@ fn push_box<K: Sink>(
     ensures bytes { IfOk result (λ bytes. bytes ≡ length (box_line res (cube_of block))) }
     ensures pushed { OnOk result (IsPushed (box_line res (cube_of block)) gather.old gather.new
         (K.written sink.old) (K.written sink.new)) }
-    ensures begun { OnErr result (IsBegun (gather.old ++ box_line res (cube_of block))
-        (K.written sink.old) (K.written sink.new)) }
+    ensures cut { OnErr result (IsCutOff (K.written sink.old) (K.written sink.new)
+        (gather.old ++ box_line res (cube_of block))) }
     ensures counts { IsWriteCounted result (K.faults sink.old) (K.faults sink.new)
         (K.shortages sink.old) (K.shortages sink.new) }
 {
@@ -75,9 +75,8 @@ fn push_before<K: Sink>(
         ≡ length (box_lines res (blocks_before levels (cube_of block))) % 2 ^ 64) }
     ensures pushed { OnOk result (IsPushed (box_lines res (blocks_before levels (cube_of block)))
         gather.old gather.new (K.written sink.old) (K.written sink.new)) }
-    ensures begun { OnErr result
-        (IsBegun (gather.old ++ box_lines res (blocks_before levels (cube_of block)))
-        (K.written sink.old) (K.written sink.new)) }
+    ensures cut { OnErr result (IsCutOff (K.written sink.old) (K.written sink.new)
+        (gather.old ++ box_lines res (blocks_before levels (cube_of block)))) }
     ensures counts { IsWriteCounted result (K.faults sink.old) (K.faults sink.new)
         (K.shortages sink.old) (K.shortages sink.new) }
 {
@@ -111,9 +110,9 @@ fn push_leaf<K: Sink>(
     ensures pushed { OnOk result
         (IsPushed (box_lines res (if full then [] else blocks_before levels (cube_of block)))
         gather.old gather.new (K.written sink.old) (K.written sink.new)) }
-    ensures begun { OnErr result (IsBegun (gather.old
-        ++ box_lines res (if full then [] else blocks_before levels (cube_of block)))
-        (K.written sink.old) (K.written sink.new)) }
+    ensures cut { OnErr result (IsCutOff (K.written sink.old) (K.written sink.new)
+        (gather.old
+        ++ box_lines res (if full then [] else blocks_before levels (cube_of block)))) }
     ensures counts { IsWriteCounted result (K.faults sink.old) (K.faults sink.new)
         (K.shortages sink.old) (K.shortages sink.new) }
 {
@@ -137,9 +136,8 @@ fn push_due<K: Sink>(
     ensures pushed { OnOk result
         (IsPushed (if is_box then box_line res (cube_of block) else [])
         gather.old gather.new (K.written sink.old) (K.written sink.new)) }
-    ensures begun { OnErr result
-        (IsBegun (gather.old ++ (if is_box then box_line res (cube_of block) else []))
-        (K.written sink.old) (K.written sink.new)) }
+    ensures cut { OnErr result (IsCutOff (K.written sink.old) (K.written sink.new)
+        (gather.old ++ (if is_box then box_line res (cube_of block) else []))) }
     ensures counts { IsWriteCounted result (K.faults sink.old) (K.faults sink.new)
         (K.shortages sink.old) (K.shortages sink.new) }
 {
@@ -185,9 +183,9 @@ fn push_boxes<K: Sink>(
     ensures pushed { OnOk result (IsPushed
         (box_lines tree.now.res (boxes_found (classes_in tree.now) levels (cube_of block)))
         gather.old gather.new (K.written sink.old) (K.written sink.new)) }
-    ensures begun { OnErr result (IsBegun (gather.old
-        ++ box_lines tree.now.res (boxes_found (classes_in tree.now) levels (cube_of block)))
-        (K.written sink.old) (K.written sink.new)) }
+    ensures cut { OnErr result (IsCutOff (K.written sink.old) (K.written sink.new)
+        (gather.old
+        ++ box_lines tree.now.res (boxes_found (classes_in tree.now) levels (cube_of block)))) }
     ensures counts { IsWriteCounted result (K.faults sink.old) (K.faults sink.new)
         (K.shortages sink.old) (K.shortages sink.new) }
     ensures linked { IsLinked tree.now }
@@ -216,15 +214,15 @@ fn push_boxes<K: Sink>(
 /// difference.
 ///
 /// Goes through the tree once, takes no memory, and hands the sink pieces of 4,096 bytes. After an
-/// error a prefix of the text was written, and exactly one write of the sink gave up, for that
+/// error a part of the text was written, and exactly one write of the sink gave up, for that
 /// reason.
 pub fn vrml<K: Sink>(tree: &OccTree, sink: &mut K) -> Result<u64, SinkFault>
     ensures length { IfOk result
         (λ bytes. bytes ≡ length (vrml_text tree.now.res (classes_in tree.now))) }
     ensures written { OnOk result (K.written sink.new
         ≡ appended (K.written sink.old) (vrml_text tree.now.res (classes_in tree.now))) }
-    ensures begun { OnErr result (IsBegun (vrml_text tree.now.res (classes_in tree.now))
-        (K.written sink.old) (K.written sink.new)) }
+    ensures cut { OnErr result (IsCutOff (K.written sink.old) (K.written sink.new)
+        (vrml_text tree.now.res (classes_in tree.now))) }
     ensures counts { IsWriteCounted result (K.faults sink.old) (K.faults sink.new)
         (K.shortages sink.old) (K.shortages sink.new) }
 {

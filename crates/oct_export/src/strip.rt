@@ -82,20 +82,12 @@ fn last_number(number: u16, depth: u8) -> u16
 fn stronger(a: Class, b: Class) -> Class
     ensures { result ≡ stronger a b }
 {
-    match a {
-        Class::Occupied => Class::Occupied,
-        Class::Free => stronger_than_free(b),
-        Class::Unknown => b,
-    }
-}
-
-/// Occupied where the class is, and else free.
-fn stronger_than_free(b: Class) -> Class
-    ensures { result ≡ stronger Class.Free b }
-{
-    match b {
-        Class::Occupied => Class::Occupied,
-        Class::Free | Class::Unknown => Class::Free,
+    match (a, b) {
+        (Class::Occupied, _) => Class::Occupied,
+        (Class::Free, Class::Occupied) => Class::Occupied,
+        (Class::Free, Class::Free) => Class::Free,
+        (Class::Free, Class::Unknown) => Class::Free,
+        (Class::Unknown, _) => b,
     }
 }
 
@@ -116,7 +108,7 @@ pub(crate) fn are_both(a: bool, b: bool) -> bool
 /// What the column of these numbers on x and y shows from one number on z to another, and how far
 /// its row goes on showing it: as far as all the blocks do that were looked at, or as the one does
 /// that is occupied.
-pub(crate) fn strip_at(tree: &OccTree, lo: u16, hi: u16, x: u16, y: u16) -> Strip
+pub(crate) fn strip_at(tree: &OccTree, x: u16, y: u16, lo: u16, hi: u16) -> Strip
     requires { lo ≤ hi }
     ensures reach { x ≤ result.last }
     ensures class { (n : ℕ) → x ≤ n → n ≤ result.last
@@ -150,5 +142,5 @@ pub fn band(tree: &OccTree, x: u16, y: u16, lo: u16, hi: u16) -> Class
     requires { lo ≤ hi }
     ensures { result ≡ band_class (classes_in tree.now) lo hi x y }
 {
-    strip_at(tree, lo, hi, x, y).class
+    strip_at(tree, x, y, lo, hi).class
 }

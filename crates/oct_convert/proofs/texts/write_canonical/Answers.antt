@@ -6,4 +6,4 @@ pub returns-then-is_canonical-clause-sends : goal.returns-then-is_canonical-clau
 returns-then-is_canonical-clause-sends g c =
     sends_again c.rewrite.result c.args.file.now _ _ c.requires.accepted
     (sym c.is_canonical.ensures.test ∙ c.if-is_canonical.true) c.rewrite.ensures.written
-    c.rewrite.ensures.begun
+    c.rewrite.ensures.cut

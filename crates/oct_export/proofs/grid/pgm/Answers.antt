@@ -1,32 +1,31 @@
 use Rattle.std.proofs.Common.{◌+◌, ◌-◌, ◌*◌, ◌++◌, [], ℕ, ap, ◌∙◌, arith, append-nil}
-use Rattle.oct_io.proofs.Gathering.{cut_begun}
 use Rattle.oct_export.specs.Seen.{classes_in}
 use Rattle.oct_export.specs.Grids.{rows_of}
-use Rattle.oct_export.proofs.Pushes.{pushed_piece, pushed_more, pushed_begun, begun_more}
-use Rattle.oct_export.proofs.Pushes.{begun_of_none, pushed_whole, pushed_cut, on_any_err}
+use Rattle.oct_export.proofs.Pushes.{pushed_piece, pushed_more, second_cut, first_cut}
+use Rattle.oct_export.proofs.Pushes.{cut_of_none, pushed_whole, pushed_cut, on_any_err}
 use Rattle.oct_export.proofs.Rows.{pgm_parts, pgm_length, head_as}
 use Rattle.oct_export.proofs.grid.pgm.Goals as goal
 
-pub returns-in_err-push-clause-begun : goal.returns-in_err-push-clause-begun
-returns-in_err-push-clause-begun g c =
+pub returns-in_err-push-clause-cut : goal.returns-in_err-push-clause-cut
+returns-in_err-push-clause-cut g c =
     let ox = c.requires.order.x in let oy = c.requires.order.y in
-    on_any_err c.from_residual.result _ (begun_of_none _ _ _ _ c.new-gather.ensures
-    (begun_more c.as_bytes.result.now
+    on_any_err c.from_residual.result _ (cut_of_none _ _ _ _ c.new-gather.ensures
+    (first_cut c.as_bytes.result.now
     (rows_of (classes_in c.args.tree.now) c.args.lo c.args.hi (c.args.hi.y + 1 - c.args.lo.y)) _
-    _ _ _ (cut_begun _ _ _ c.in_err-push.ensures.cut)
+    _ _ _ c.in_err-push.ensures.cut
     (pgm_parts (classes_in c.args.tree.now) c.args.lo c.args.hi c.as_bytes.result.now _ _
     (c.as_bytes.ensures.value ∙ c.deref.ensures.0 ∙ c.head_of-head.ensures)
     (omega (arith, ox)) (omega (arith, oy)))))
 
-pub returns-in_err-push_rows-clause-begun : goal.returns-in_err-push_rows-clause-begun
-returns-in_err-push_rows-clause-begun g c =
+pub returns-in_err-push_rows-clause-cut : goal.returns-in_err-push_rows-clause-cut
+returns-in_err-push_rows-clause-cut g c =
     let ox = c.requires.order.x in let oy = c.requires.order.y in
-    on_any_err c.from_residual-in_err-push_rows.result _ (begun_of_none _ _ _ _ c.new-gather.ensures
-    (pushed_begun c.as_bytes.result.now
+    on_any_err c.from_residual-in_err-push_rows.result _ (cut_of_none _ _ _ _ c.new-gather.ensures
+    (second_cut c.as_bytes.result.now
     (rows_of (classes_in c.args.tree.now) c.args.lo c.args.hi (c.args.hi.y + 1 - c.args.lo.y))
     [] _ _ _ _ _ _
     (pushed_piece c.as_bytes.result.now c.new-gather.result _ _ _ _ c.in_ok-push.ensures.handed
-    c.in_ok-push.ensures.held) c.in_err-push_rows.ensures.begun
+    c.in_ok-push.ensures.held) c.in_err-push_rows.ensures.cut
     (ap (λ l. c.as_bytes.result.now ++ l)
     (append-nil (rows_of (classes_in c.args.tree.now) c.args.lo c.args.hi
     (c.args.hi.y + 1 - c.args.lo.y)))
@@ -34,11 +33,10 @@ returns-in_err-push_rows-clause-begun g c =
     (c.as_bytes.ensures.value ∙ c.deref.ensures.0 ∙ c.head_of-head.ensures)
     (omega (arith, ox)) (omega (arith, oy)))))
 
-pub returns-in_err-flush-clause-begun : goal.returns-in_err-flush-clause-begun
-returns-in_err-flush-clause-begun g c =
+pub returns-in_err-flush-clause-cut : goal.returns-in_err-flush-clause-cut
+returns-in_err-flush-clause-cut g c =
     let ox = c.requires.order.x in let oy = c.requires.order.y in
-    let (n, few, wrote) = c.in_err-flush.ensures.err in
-    on_any_err c.from_residual-in_err-flush.result _ (pushed_cut _ _ _ n _ _ _
+    on_any_err c.from_residual-in_err-flush.result _ (pushed_cut _ _ _ _ _ _
     (pushed_more c.as_bytes.result.now
     (rows_of (classes_in c.args.tree.now) c.args.lo c.args.hi (c.args.hi.y + 1 - c.args.lo.y)) _
     _ _ _ _ _ _
@@ -46,7 +44,8 @@ returns-in_err-flush-clause-begun g c =
     c.in_ok-push.ensures.held) c.in_ok-push_rows.ensures.pushed
     (pgm_parts (classes_in c.args.tree.now) c.args.lo c.args.hi c.as_bytes.result.now _ _
     (c.as_bytes.ensures.value ∙ c.deref.ensures.0 ∙ c.head_of-head.ensures)
-    (omega (arith, ox)) (omega (arith, oy)))) c.new-gather.ensures wrote)
+    (omega (arith, ox)) (omega (arith, oy)))) c.new-gather.ensures
+    c.in_err-flush.ensures.err)
 
 pub returns-clause-written : goal.returns-clause-written
 returns-clause-written g c =

@@ -1,7 +1,7 @@
 use Rattle.std.proofs.Common.{rules, ◌-◌, ◌∙◌, refl, arith}
 use Rattle.oct_export.specs.Seen.{classes_in}
 use Rattle.oct_export.proofs.Pushes.{pushed_start, pushed_more, pushed_as, on_any_err}
-use Rattle.oct_export.proofs.Rows.{row_front, row_none, row_more, row_begun, row_whole}
+use Rattle.oct_export.proofs.Rows.{row_front, row_none, row_more, row_cut_off, row_whole}
 use Rattle.oct_export.proofs.grid.push_row.Goals as goal
 
 pub loop-x-init : goal.loop-x-init
@@ -14,11 +14,11 @@ loop-x-init g c = record {
   shortages = refl;
 }
 
-pub returns-in_err-push_run-clause-begun : goal.returns-in_err-push_run-clause-begun
-returns-in_err-push_run-clause-begun g c = on_any_err c.from_residual.result _
-    (row_begun (classes_in c.args.tree.now) c.args.lo c.args.hi c.args.y c.loop-x.x _ _
+pub returns-in_err-push_run-clause-cut : goal.returns-in_err-push_run-clause-cut
+returns-in_err-push_run-clause-cut g c = on_any_err c.from_residual.result _
+    (row_cut_off (classes_in c.args.tree.now) c.args.lo c.args.hi c.args.y c.loop-x.x _ _
     c.strip_at-strip.result.class _ _ _ _ _
-    c.loop-x.invariant.pushed c.in_err-push_run.ensures.begun c.grey_of.ensures
+    c.loop-x.invariant.pushed c.in_err-push_run.ensures.cut c.grey_of.ensures
     c.loop-x.invariant.low (search rules) (search rules)
     (λ m low high. c.strip_at-strip.ensures.class m low (search rules)))
 

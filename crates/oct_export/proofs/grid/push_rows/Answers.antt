@@ -1,7 +1,7 @@
 use Rattle.std.proofs.Common.{◌≡◌, ◌+◌, ◌-◌, ◌∙◌, refl, ap, arith}
 use Rattle.oct_export.specs.Seen.{classes_in}
 use Rattle.oct_export.specs.Grids.{rows_of}
-use Rattle.oct_export.proofs.Pushes.{pushed_start, pushed_more, pushed_begun, pushed_as, on_any_err}
+use Rattle.oct_export.proofs.Pushes.{pushed_start, pushed_more, second_cut, pushed_as, on_any_err}
 use Rattle.oct_export.proofs.Rows.{rows_none, rows_next, rows_cut}
 use Rattle.oct_export.proofs.grid.push_rows.Goals as goal
 
@@ -12,15 +12,15 @@ loop-n-init g c = record {
   shortages = refl;
 }
 
-pub returns-in_err-push_row-clause-begun : goal.returns-in_err-push_row-clause-begun
-returns-in_err-push_row-clause-begun g c =
+pub returns-in_err-push_row-clause-cut : goal.returns-in_err-push_row-clause-cut
+returns-in_err-push_row-clause-cut g c =
     let (rest, is) =
     rows_cut (classes_in c.args.tree.now) c.args.lo c.args.hi c.loop-n.n
     (c.args.hi.y + 1 - c.args.lo.y) (omega arith) in
     on_any_err c.from_residual.result _
-    (pushed_begun (rows_of (classes_in c.args.tree.now) c.args.lo c.args.hi c.loop-n.n) _ rest _ _ _
+    (second_cut (rows_of (classes_in c.args.tree.now) c.args.lo c.args.hi c.loop-n.n) _ rest _ _ _
     _ _ _
-    c.loop-n.invariant.pushed c.in_err-push_row.ensures.begun is)
+    c.loop-n.invariant.pushed c.in_err-push_row.ensures.cut is)
 
 pub loop-n-preserved : goal.loop-n-preserved
 loop-n-preserved g c = record {

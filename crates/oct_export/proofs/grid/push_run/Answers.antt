@@ -1,7 +1,6 @@
 use Rattle.std.proofs.Common.{rules, ◌-◌, ◌∙◌, refl, arith}
 use Rattle.std.specs.Prelude.{replicate}
-use Rattle.oct_io.proofs.Gathering.{cut_begun}
-use Rattle.oct_export.proofs.Pushes.{pushed_start, pushed_piece, pushed_more, pushed_begun}
+use Rattle.oct_export.proofs.Pushes.{pushed_start, pushed_piece, pushed_more, second_cut}
 use Rattle.oct_export.proofs.Pushes.{pushed_as, on_any_err}
 use Rattle.oct_export.proofs.Runs.{run_piece, run_none, run_more, run_cut, run_whole}
 use Rattle.oct_export.proofs.grid.push_run.Goals as goal
@@ -14,12 +13,12 @@ loop-left-init g c = record {
   shortages = refl;
 }
 
-pub returns-in_err-push-clause-begun : goal.returns-in_err-push-clause-begun
-returns-in_err-push-clause-begun g c = on_any_err c.from_residual.result _
-    (pushed_begun (replicate (c.args.count - c.loop-left.left) c.args.byte) _
+pub returns-in_err-push-clause-cut : goal.returns-in_err-push-clause-cut
+returns-in_err-push-clause-cut g c = on_any_err c.from_residual.result _
+    (second_cut (replicate (c.args.count - c.loop-left.left) c.args.byte) _
     (replicate (c.loop-left.left - c.min-size.result) c.args.byte)
     (replicate c.args.count c.args.byte)
-    _ _ _ _ _ c.loop-left.invariant.pushed (cut_begun _ _ _ c.in_err-push.ensures.cut)
+    _ _ _ _ _ c.loop-left.invariant.pushed c.in_err-push.ensures.cut
     (run_cut c.args.count c.loop-left.left c.min-size.result c.args.byte _ (search rules)
     c.loop-left.invariant.left
     (run_piece c.min-size.result c.args.byte _ _ refl c.split_at.ensures.front (search rules))))

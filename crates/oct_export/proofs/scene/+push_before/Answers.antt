@@ -2,7 +2,7 @@ use Rattle.std.proofs.Common.{rules, ◌%◌, ◌^◌, ◌++◌, ℕ, List, leng
 use Rattle.oct_key.specs.Block.{Cube, parent_of}
 use Rattle.oct_key.specs.CubeOf.{cube_of}
 use Rattle.oct_export.specs.BoxTexts.{box_line}
-use Rattle.oct_export.proofs.Pushes.{pushed_start, pushed_more, pushed_begun, pushed_as, begun_more}
+use Rattle.oct_export.proofs.Pushes.{pushed_start, pushed_more, second_cut, pushed_as, first_cut}
 use Rattle.oct_export.proofs.Pushes.{on_any_err}
 use Rattle.oct_export.proofs.Walks.{before_none, before_child_of, before_start, before_next}
 use Rattle.oct_export.proofs.Walks.{before_whole, above_cut, before_cut, bytes_more}
@@ -23,11 +23,11 @@ push_before-requires g t c κs within =
     let deep = ap (λ (b : Cube). b.depth) c.parent-parent.ensures.exact in
     (search rules, (within, search rules))
 
-pub returns-in_err-bytes-clause-begun : goal.returns-in_err-bytes-clause-begun
-returns-in_err-bytes-clause-begun g t c =
+pub returns-in_err-bytes-clause-cut : goal.returns-in_err-bytes-clause-cut
+returns-in_err-bytes-clause-cut g t c =
     let (rest, is) = above_cut c.args.res c.args.levels (cube_of c.args.block)
     (cube_of c.parent-parent.result) (search rules) c.parent-parent.ensures.exact in
-    on_any_err c.from_residual.result _ (begun_more _ rest _ _ _ _ c.in_err-bytes.ensures.begun is)
+    on_any_err c.from_residual.result _ (first_cut _ rest _ _ _ _ c.in_err-bytes.ensures.cut is)
 
 pub loop-i-init : goal.loop-i-init
 loop-i-init g t c = record {
@@ -45,16 +45,16 @@ child-requires-clause-depth g t c =
     let deep = ap (λ (b : Cube). b.depth) c.parent-parent.ensures.exact in
     search rules
 
-pub returns-in_err-line-clause-begun : goal.returns-in_err-line-clause-begun
-returns-in_err-line-clause-begun g t c =
+pub returns-in_err-line-clause-cut : goal.returns-in_err-line-clause-cut
+returns-in_err-line-clause-cut g t c =
     let (rest, is) = before_cut c.args.res c.args.levels (cube_of c.args.block)
     (cube_of c.parent-parent.result) c.loop-i.i (search rules) c.parent-parent.ensures.exact
     (search rules) in
     on_any_err c.from_residual-in_err-line.result _
-    (pushed_begun
+    (second_cut
     (before_child_of c.args.res c.args.levels (cube_of c.parent-parent.result) c.loop-i.i)
     (box_line c.args.res (cube_of c.child.result)) rest _ _ _ _ _ _
-    c.loop-i.invariant.pushed c.in_err-line.ensures.begun
+    c.loop-i.invariant.pushed c.in_err-line.ensures.cut
     (ap (λ (b : Cube). before_child_of c.args.res c.args.levels (cube_of c.parent-parent.result)
     c.loop-i.i ++ (box_line c.args.res b ++ rest)) c.child.ensures.exact ∙ is))
 

@@ -11,8 +11,8 @@ use Rattle.oct_export.specs.BoxTexts.{box_lines}
 use Rattle.oct_export.proofs.Places.{above}
 use Rattle.oct_export.proofs.Boxes.{leaf_full, first_full}
 use Rattle.oct_export.proofs.Counts.{leaf_class, full_next, full_of_all}
-use Rattle.oct_export.proofs.Pushes.{pushed_start, pushed_more, pushed_three, pushed_begun}
-use Rattle.oct_export.proofs.Pushes.{pushed_as, begun_as, on_any_err, on_ok_follows, on_err_follows}
+use Rattle.oct_export.proofs.Pushes.{pushed_start, pushed_more, pushed_three, second_cut}
+use Rattle.oct_export.proofs.Pushes.{pushed_as, cut_as, on_any_err, on_ok_follows, on_err_follows}
 use Rattle.oct_export.proofs.Pushes.{if_ok_follows}
 use Rattle.oct_export.proofs.Walks.{found_before, found_none, found_whole, bytes_next, leaf_text}
 use Rattle.oct_export.proofs.Walks.{walk_next, walk_cut, walk_due}
@@ -62,13 +62,13 @@ returns-in_default-clause-pushed g t c =
     c.is_occupied-full.ensures.0 c.is_occupied-full.ensures.1 c.res.ensures))
     c.push_leaf.ensures.pushed
 
-pub returns-in_default-clause-begun : goal.returns-in_default-clause-begun
-returns-in_default-clause-begun g t c =
+pub returns-in_default-clause-cut : goal.returns-in_default-clause-cut
+returns-in_default-clause-cut g t c =
     let none : link_of c.node-node.result ≡ None =
     not_inner c.node-node.result c.in_default.not-Inner in
     let ok = block_in_map c.args.block in
     on_err_follows c.push_leaf.result
-    (λ p. begun_as _ _ _ _ _ p
+    (λ p. cut_as _ _ _ _ _ p
     (leaf_text (classes_in c.args.tree.now) _ _ c.args.levels (cube_of c.args.block)
     c.class_of_node.result c.is_occupied-full.result ok
     (leaf_class c.args.tree.now (cube_of c.args.block)
@@ -76,7 +76,7 @@ returns-in_default-clause-begun g t c =
     (c.node-node.ensures.values (cube_of c.args.block) c.requires.block none)
     (c.class_of_node.ensures none))
     c.is_occupied-full.ensures.0 c.is_occupied-full.ensures.1 c.res.ensures))
-    c.push_leaf.ensures.begun
+    c.push_leaf.ensures.cut
 
 pub loop-i-init : goal.loop-i-init
 unfolding first_full
@@ -129,8 +129,8 @@ push_boxes-requires g t c κs within =
       ),
     )
 
-pub returns-in_err-found-clause-begun : goal.returns-in_err-found-clause-begun
-returns-in_err-found-clause-begun g t c =
+pub returns-in_err-found-clause-cut : goal.returns-in_err-found-clause-cut
+returns-in_err-found-clause-cut g t c =
     let a = above c.args.tree.now c.args.p c.in-Inner.id (cube_of c.args.block)
     c.in-Inner.ensures.linked c.requires.place (ap link_of (sym c.in-Inner.ensures.exact))
     c.requires.block in
@@ -140,14 +140,14 @@ returns-in_err-found-clause-begun g t c =
     c.waited-above.result c.loop-i.full a.ok a.low a.next (omega arith) a.child
     c.loop-i.invariant.full c.child-child.ensures.exact c.waited-above.ensures in
     on_any_err c.from_residual.result _
-    (pushed_begun
+    (second_cut
     (box_lines c.args.tree.now.res (found_before (classes_in c.args.tree.now)
     (16 - (c.args.block.depth + 1)) c.args.levels (cube_of c.args.block) c.loop-i.i)) _ rest _ _
     _ _ _ _
-    c.loop-i.invariant.pushed c.in_err-found.ensures.begun is)
+    c.loop-i.invariant.pushed c.in_err-found.ensures.cut is)
 
-pub returns-in_err-line-clause-begun : goal.returns-in_err-line-clause-begun
-returns-in_err-line-clause-begun g t c =
+pub returns-in_err-line-clause-cut : goal.returns-in_err-line-clause-cut
+returns-in_err-line-clause-cut g t c =
     let a = above c.args.tree.now c.args.p c.in-Inner.id (cube_of c.args.block)
     c.in-Inner.ensures.linked c.requires.place (ap link_of (sym c.in-Inner.ensures.exact))
     c.requires.block in
@@ -159,12 +159,12 @@ returns-in_err-line-clause-begun g t c =
     c.child-child.ensures.exact
     c.waited-above.ensures c.is_due.ensures c.res-in-loop-i.ensures in
     on_any_err c.from_residual-in_err-line.result _
-    (pushed_begun _ _ rest _ _ _ _ _ _
+    (second_cut _ _ rest _ _ _ _ _ _
     (pushed_more
     (box_lines c.args.tree.now.res (found_before (classes_in c.args.tree.now)
     (16 - (c.args.block.depth + 1)) c.args.levels (cube_of c.args.block) c.loop-i.i)) _ _ _ _ _
     _ _ _
-    c.loop-i.invariant.pushed c.in_ok-found.ensures.pushed refl) c.in_err-line.ensures.begun is)
+    c.loop-i.invariant.pushed c.in_ok-found.ensures.pushed refl) c.in_err-line.ensures.cut is)
 
 pub loop-i-preserved : goal.loop-i-preserved
 loop-i-preserved g t c =

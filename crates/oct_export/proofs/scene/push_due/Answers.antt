@@ -1,5 +1,5 @@
 use Rattle.std.proofs.Common.{refl, ◌∙◌}
-use Rattle.oct_export.proofs.Pushes.{pushed_start, pushed_as, begun_as, on_ok_follows}
+use Rattle.oct_export.proofs.Pushes.{pushed_start, pushed_as, cut_as, on_ok_follows}
 use Rattle.oct_export.proofs.Pushes.{on_err_follows, if_ok_follows}
 use Rattle.oct_key.specs.CubeOf.{cube_of}
 use Rattle.oct_export.specs.BoxTexts.{box_line}
@@ -17,12 +17,12 @@ returns-then-is_box-clause-pushed g c =
     (due_is c.args.is_box (box_line c.args.res (cube_of c.args.block)) c.if-is_box.true))
     c.push_box.ensures.pushed
 
-pub returns-then-is_box-clause-begun : goal.returns-then-is_box-clause-begun
-returns-then-is_box-clause-begun g c =
+pub returns-then-is_box-clause-cut : goal.returns-then-is_box-clause-cut
+returns-then-is_box-clause-cut g c =
     on_err_follows c.push_box.result
-    (λ p. begun_as _ _ _ _ _ p
+    (λ p. cut_as _ _ _ _ _ p
     (due_is c.args.is_box (box_line c.args.res (cube_of c.args.block)) c.if-is_box.true))
-    c.push_box.ensures.begun
+    c.push_box.ensures.cut
 
 pub returns-else-is_box-clause-bytes : goal.returns-else-is_box-clause-bytes
 returns-else-is_box-clause-bytes g c = rw c.if-is_box.false refl

@@ -1,7 +1,7 @@
 use Rattle.std.proofs.Common.{refl, ◌∙◌}
 use Rattle.oct_key.specs.CubeOf.{cube_of}
 use Rattle.oct_export.specs.Boxes.{blocks_before}
-use Rattle.oct_export.proofs.Pushes.{pushed_start, pushed_as, begun_as, on_any_err}
+use Rattle.oct_export.proofs.Pushes.{pushed_start, pushed_as, cut_as, on_any_err}
 use Rattle.oct_export.proofs.Walks.{leaf_waits, leaf_tells}
 use Rattle.oct_export.proofs.scene.push_leaf.Goals as goal
 
@@ -14,10 +14,10 @@ returns-then-full-clause-pushed g c =
     (leaf_waits c.args.res c.args.full (blocks_before c.args.levels (cube_of c.args.block))
     c.if-full.true)
 
-pub returns-in_err-bytes-clause-begun : goal.returns-in_err-bytes-clause-begun
-returns-in_err-bytes-clause-begun g c =
+pub returns-in_err-bytes-clause-cut : goal.returns-in_err-bytes-clause-cut
+returns-in_err-bytes-clause-cut g c =
     on_any_err c.from_residual.result _
-    (begun_as _ _ _ _ _ c.in_err-bytes.ensures.begun
+    (cut_as _ _ _ _ _ c.in_err-bytes.ensures.cut
     (leaf_tells c.args.res c.args.full (blocks_before c.args.levels (cube_of c.args.block))
     c.if-full.false))
 
