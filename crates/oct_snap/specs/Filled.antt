@@ -16,7 +16,8 @@ pub record IsFilled (t u : Tree) (b : Cube) (values : Values) (groups : ℕ) : T
   pub whole : IsFilledWith t u b values
   pub room : spare t.groups ≡ spare u.groups + groups
 
--- the first n children of the place's block are filled, and the others are absent
+-- the first n children of the place's block are filled, for exactly this many groups, and the
+-- others are absent
 pub record IsFilling (t u : Tree) (p : Place) (id : GroupId) (b : Cube) (n : ℕ)
     (values : Values) (groups : ℕ) : Type 0 where
   pub part : IsFillingWith t u p id b n values

@@ -97,8 +97,8 @@ fn is_parted(bytes: &[u8], at: usize, depth: u8) -> bool
     depth < 16 && at < bytes.len() && bytes[at] == PARTED
 }
 
-/// The node of a block of this depth that begins at this place, or the first fault. Each byte is
-/// looked at once.
+/// The node of a block of this depth that begins at this place, or the first fault. Goes
+/// through the bytes once.
 pub(crate) fn check_node(
     bytes: &[u8],
     at: usize,

@@ -13,13 +13,14 @@ use crate::checking::number_at;
 use crate::head::read_fields;
 use crate::tags::{UNKNOWN, VALUE};
 use oct_arena::Node;
-use oct_tree::{OccTree, Place};
+use oct_tree::{OccTree, Place, Tidiness};
 
 /// Fills the tree of the unknown world with the values of a snapshot that is accepted with the
 /// tree's log-odds, and has these itself.
 ///
 /// The tree has room for the snapshot's groups, and takes exactly these. It comes out fresh and
-/// pruned. Reads each byte once, at most sixteen calls deep, and takes no memory.
+/// pruned, and keeps that it is. Reads each byte once, at most seventeen calls deep, and takes no
+/// memory.
 pub fn fill(bytes: &[u8], tree: &mut OccTree)
     requires unknown { tree.old.root ≡ Node.Absent }
     requires accepted { (s : Snapshot) × (read_snapshot tree.old.odds bytes.now ≡ Ok s)
@@ -41,6 +42,10 @@ pub fn fill(bytes: &[u8], tree: &mut OccTree)
         unreachable!();
     };
     fill_node(tree, Place::Root, 0, bytes, fields.start);
+    tree.note(Tidiness {
+        fresh: true,
+        pruned: true,
+    });
 }
 
 /// Makes the node of a snapshot that begins at this place of its bytes that of an absent place,

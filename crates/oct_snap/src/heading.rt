@@ -7,8 +7,11 @@ use arrayvec::ArrayVec;
 use oct_key::{Key, Res, Window};
 use oct_odds::OddsModel;
 
+/// The bytes of the fields: at most those of a snapshot with a box.
+pub(crate) type HeadBytes = ArrayVec<u8, 49>;
+
 /// Adds bytes, for which there is room.
-fn put(head: &mut ArrayVec<u8, 49>, bytes: &[u8])
+fn put(head: &mut HeadBytes, bytes: &[u8])
     requires { length head.old.items + length bytes.now ≤ 49 }
     ensures { head.new.items ≡ head.old.items ++ bytes.now }
 {
@@ -16,7 +19,7 @@ fn put(head: &mut ArrayVec<u8, 49>, bytes: &[u8])
 }
 
 /// Adds the five numbers of log-odds.
-fn put_odds(head: &mut ArrayVec<u8, 49>, odds: OddsModel)
+fn put_odds(head: &mut HeadBytes, odds: OddsModel)
     requires { length head.old.items + 20 ≤ 49 }
     ensures { head.new.items ≡ head.old.items ++ odds_bytes (odds_of odds) }
 {
@@ -28,7 +31,7 @@ fn put_odds(head: &mut ArrayVec<u8, 49>, odds: OddsModel)
 }
 
 /// Adds the three numbers of a voxel.
-fn put_voxel(head: &mut ArrayVec<u8, 49>, k: Key)
+fn put_voxel(head: &mut HeadBytes, k: Key)
     requires { length head.old.items + 6 ≤ 49 }
     ensures { head.new.items ≡ head.old.items ++ voxel_bytes k }
 {
@@ -38,7 +41,7 @@ fn put_voxel(head: &mut ArrayVec<u8, 49>, k: Key)
 }
 
 /// Adds whether there is a box, and its corners.
-fn put_window(head: &mut ArrayVec<u8, 49>, window: Option<Window>)
+fn put_window(head: &mut HeadBytes, window: Option<Window>)
     requires { length head.old.items + 13 ≤ 49 }
     ensures { head.new.items ≡ head.old.items ++ window_bytes window }
 {
@@ -52,7 +55,7 @@ fn put_window(head: &mut ArrayVec<u8, 49>, window: Option<Window>)
 }
 
 /// The fields of a snapshot.
-pub(crate) fn head_of(res: Res, odds: OddsModel, window: Option<Window>) -> ArrayVec<u8, 49>
+pub(crate) fn head_of(res: Res, odds: OddsModel, window: Option<Window>) -> HeadBytes
     ensures { result.items ≡ head_bytes res (odds_of odds) window }
 {
     let mut head = ArrayVec::new();

@@ -15,10 +15,10 @@
 //!   4,096 bytes, and after an error a part of the text was written.
 //! - [`check`] answers what a file says of itself, or the first fault that its bytes complete
 //!   (`read_snapshot` in `specs/Reading.antt`): it reads versions 1 and 2, goes through the bytes
-//!   once, at most sixteen calls deep, and takes no memory.
+//!   once, at most seventeen calls deep, and takes no memory.
 //! - [`fill`] makes the tree of the values of a snapshot that is accepted: fresh and pruned, with
-//!   exactly as many groups as the snapshot says. It reads each byte once, at most sixteen calls
-//!   deep, and takes no memory.
+//!   exactly as many groups as the snapshot says. It reads each byte once, at most
+//!   seventeen calls deep, and takes no memory.
 //! - The text of every map of values within the bounds is accepted, and says what it is the text of
 //!   ([`texts_are_accepted`]). What is accepted is the text of the values that it gives, so that
 //!   these have no other one of its version ([`texts_are_the_only_ones`]), and its groups are as

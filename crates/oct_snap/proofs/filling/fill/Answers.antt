@@ -11,6 +11,7 @@ use Rattle.oct_snap.specs.Checked.{IsFieldsRead, AreFieldsRead}
 use Rattle.oct_snap.proofs.WholeFills.{HasFilled, same_snapshot, whole_read, fields_are}
 use Rattle.oct_snap.proofs.WholeFills.{fields_there, node_there, has_filled}
 use Rattle.oct_snap.proofs.filling.fill.Goals as goal
+use Rattle.oct_snap.proofs.filling.fill.Goals.{After-fill_node}
 
 pub unreachable-requires : goal.unreachable-requires
 unreachable-requires c =
@@ -21,14 +22,14 @@ unreachable-requires c =
     (read_fields (odds_of c.odds.result) c.args.bytes.now) r)
     c.in_default.is c.read_fields.ensures)
 
-fields : (c : goal.After-fill_node) (s : Snapshot)
+fields : (c : After-fill_node) (s : Snapshot)
     → read_snapshot c.args.tree.now.odds c.args.bytes.now ≡ Ok s
     → IsFieldsRead c.args.bytes.now s.head c.in-Ok.fields
 fields c s is =
     fields_are c.args.tree.now.odds (odds_of c.odds.result) c.args.bytes.now s c.in-Ok.fields is
     c.odds.ensures c.in-Ok.ensures
 
-after : (c : goal.After-fill_node) (s : Snapshot)
+after : (c : After-fill_node) (s : Snapshot)
     → read_snapshot c.args.tree.now.odds c.args.bytes.now ≡ Ok s
     → HasFilled c.args.tree.now c.fill_node.new.tree s
 after c s is =
@@ -43,7 +44,7 @@ after c s is =
     (subst (λ (s : Snapshot). s.head.odds ≡ c.args.tree.now.odds) e same) (fields c s is).start)
     refl)
 
-any : (c : goal.After-fill_node) → (s : Snapshot) × HasFilled c.args.tree.now c.fill_node.new.tree s
+any : (c : After-fill_node) → (s : Snapshot) × HasFilled c.args.tree.now c.fill_node.new.tree s
 any c = (let (s, is, same, room) = c.requires.accepted in (s, after c s is))
 
 pub fill_node-requires-clause-inside : goal.fill_node-requires-clause-inside
@@ -63,26 +64,49 @@ fill_node-requires-clause-node_there c =
       subst (λ (n : Nodes). group_total n ≤ spare c.args.tree.now.groups) (sym w.nodes) room,
     )
 
+pub note-requires : goal.note-requires
+note-requires c =
+    let (s, now) = any (goal.at.note-requires c).After-fill_node in
+    record { fresh = λ _. now.fresh; pruned = λ _. now.pruned }
+
+-- and stays as
+noted : (c : goal.After-note) (s : Snapshot) → HasFilled c.args.tree.now c.fill_node.new.tree s
+    → HasFilled c.args.tree.now c.note.new.self s
+noted c s now = subst (λ u. HasFilled c.args.tree.now u s) (sym c.note.ensures.same) now
+
+noted_any : (c : goal.After-note)
+    → (s : Snapshot) × HasFilled c.args.tree.now c.fill_node.new.tree s
+    → (s : Snapshot) × HasFilled c.args.tree.now c.note.new.self s
+noted_any c (s, now) = (s, noted c s now)
+
 pub returns-clause-values : goal.returns-clause-values
-returns-clause-values c = λ s is. (after c s is).values
-
-pub returns-clause-fresh : goal.returns-clause-fresh
-returns-clause-fresh c = (any c).1.fresh
-
-pub returns-clause-pruned : goal.returns-clause-pruned
-returns-clause-pruned c = (any c).1.pruned
+returns-clause-values c = λ s is.
+    (noted c s (after (goal.at.returns-clause-values c).After-fill_node s is)).values
 
 pub returns-clause-groups : goal.returns-clause-groups
-returns-clause-groups c = λ s is. (after c s is).groups
+returns-clause-groups c = λ s is.
+    (noted c s (after (goal.at.returns-clause-groups c).After-fill_node s is)).groups
+
+pub returns-clause-fresh : goal.returns-clause-fresh
+returns-clause-fresh c =
+    (noted_any c (any (goal.at.returns-clause-fresh c).After-fill_node)).1.fresh
+
+pub returns-clause-pruned : goal.returns-clause-pruned
+returns-clause-pruned c =
+    (noted_any c (any (goal.at.returns-clause-pruned c).After-fill_node)).1.pruned
 
 pub returns-clause-spare : goal.returns-clause-spare
-returns-clause-spare c = (any c).1.spare
+returns-clause-spare c =
+    (noted_any c (any (goal.at.returns-clause-spare c).After-fill_node)).1.spare
 
 pub returns-clause-length : goal.returns-clause-length
-returns-clause-length c = (any c).1.length
+returns-clause-length c =
+    (noted_any c (any (goal.at.returns-clause-length c).After-fill_node)).1.length
 
 pub returns-clause-res : goal.returns-clause-res
-returns-clause-res c = (any c).1.res
+returns-clause-res c =
+    (noted_any c (any (goal.at.returns-clause-res c).After-fill_node)).1.res
 
 pub returns-clause-odds : goal.returns-clause-odds
-returns-clause-odds c = (any c).1.odds
+returns-clause-odds c =
+    (noted_any c (any (goal.at.returns-clause-odds c).After-fill_node)).1.odds
