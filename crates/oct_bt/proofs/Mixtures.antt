@@ -21,7 +21,8 @@ use Rattle.oct_tree.proofs.Paths.{some_injective, place_block, slot_place, slot_
 use Rattle.oct_bt.specs.declared.mixture.Mixture.{Mixture}
 use Rattle.oct_bt.specs.declared.mixture.Mixture.TheVariants.{Pure, Mixed}
 use Rattle.oct_values.specs.Classes.{Classes, class_of_block}
-use Rattle.oct_bt.specs.Mixtures.{classes_in, voxel_on, IsPureBefore, IsFirstOther, IsSearched}
+use Rattle.oct_bt.specs.Mixtures.{voxel_on, IsPureBefore, IsFirstOther, IsSearched}
+use Rattle.oct_tree.specs.Classes.{classes_in}
 use Rattle.oct_bt.specs.Mixtures.{IsMixtureOf, class_of_mixture}
 use Rattle.oct_bt.proofs.Alike.{class_of_all, class_of_each}
 use Rattle.oct_bt.proofs.Uniform.{one_class_up}

@@ -5,17 +5,12 @@ use Rattle.std.specs.Prelude.{None, List, [], length, ⊤}
 use Rattle.oct_key.specs.Voxel.{Voxel}
 use Rattle.oct_key.specs.Block.{Cube, child_of, lowest_voxel}
 use Rattle.oct_odds.specs.declared.event.Class.{Class}
-use Rattle.oct_tree.specs.Tree.{Tree, value_at}
 use Rattle.oct_bt.specs.declared.mixture.Mixture.{Mixture}
 use Rattle.oct_bt.specs.declared.mixture.Mixture.TheVariants.{Pure, Mixed}
-use Rattle.oct_values.specs.Classes.{Classes, classes_of, class_of_block}
+use Rattle.oct_values.specs.Classes.{Classes, class_of_block}
 use Rattle.oct_odds.specs.declared.event.Class.TheVariants.{Unknown, Free, Occupied}
 use Rattle.oct_bt.specs.Records.{code_bytes}
 use Rattle.oct_bt.specs.Canonical.{known_codes}
-
--- what each voxel of a tree counts as
-abbrev pub classes_in : Tree → Classes
-classes_in t = classes_of t.odds (value_at t)
 
 -- the voxel at the end of a way down from a block, as many depths as it stands above the voxels:
 -- the child indices, the first one in the lowest three bits

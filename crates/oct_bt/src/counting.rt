@@ -6,7 +6,8 @@ ghost use Rattle.oct_values.specs.Classes.{Classes, class_of_block};
 ghost use Rattle.oct_arena.specs.Nodes.{link_of, value_of};
 ghost use Rattle.oct_tree.specs.Tree.{IsLinked, IsPlace, block_in};
 ghost use Rattle.oct_bt.specs.Counts.{class_of_kind, IsBlockCount};
-ghost use Rattle.oct_bt.specs.Mixtures.{classes_in, entry_nodes};
+ghost use Rattle.oct_bt.specs.Mixtures.{entry_nodes};
+ghost use Rattle.oct_tree.specs.Classes.{classes_in};
 
 use crate::mixture::leaf_class;
 use oct_arena::Node;

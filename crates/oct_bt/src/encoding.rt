@@ -7,7 +7,8 @@ ghost use Rattle.oct_io.specs.Taken.{IsCutOff, IsRefused, IsTaken};
 ghost use Rattle.oct_io.specs.Told.{appended};
 ghost use Rattle.oct_bt.specs.Canonical.{canonical_data, canonical_size};
 ghost use Rattle.oct_bt.specs.File.{header_text, bt_text};
-ghost use Rattle.oct_bt.specs.Mixtures.{classes_in, leaves_text, IsMixtureOf, IsCounted};
+ghost use Rattle.oct_bt.specs.Mixtures.{leaves_text, IsMixtureOf, IsCounted};
+ghost use Rattle.oct_tree.specs.Classes.{classes_in};
 
 use crate::counting::{BlockCount, Kind, count_at};
 use crate::mixture::{Mixture, mixture_at};

@@ -4,7 +4,8 @@ ghost use Rattle.oct_key.specs.Block.{Cube};
 ghost use Rattle.oct_odds.specs.Update.{class_of};
 ghost use Rattle.oct_arena.specs.Nodes.{link_of, value_of};
 ghost use Rattle.oct_tree.specs.Tree.{IsLinked, IsPlace, block_in};
-ghost use Rattle.oct_bt.specs.Mixtures.{classes_in, IsSearched, IsMixtureOf};
+ghost use Rattle.oct_bt.specs.Mixtures.{IsSearched, IsMixtureOf};
+ghost use Rattle.oct_tree.specs.Classes.{classes_in};
 
 use oct_arena::Node;
 use oct_odds::Class;

@@ -8,7 +8,8 @@ ghost use Rattle.oct_arena.specs.Nodes.{link_of};
 ghost use Rattle.oct_tree.specs.Tree.{IsLinked, IsPlace, block_in, node_in};
 ghost use Rattle.oct_bt.specs.Records.{code_bytes};
 ghost use Rattle.oct_bt.specs.Canonical.{block_code, data_below};
-ghost use Rattle.oct_bt.specs.Mixtures.{classes_in, class_of_mixture, IsMixtureOf, IsFirstOther};
+ghost use Rattle.oct_bt.specs.Mixtures.{class_of_mixture, IsMixtureOf, IsFirstOther};
+ghost use Rattle.oct_tree.specs.Classes.{classes_in};
 ghost use Rattle.oct_bt.specs.Parts.{IsRecordOf};
 
 use crate::mixture::{Mixture, leaf_class, mixture_at};

@@ -18,7 +18,7 @@ use Rattle.oct_tree.specs.Tree.{Tree, IsLinked, reach}
 use Rattle.oct_tree.proofs.Over.{reach_values}
 use Rattle.oct_tree.proofs.Paths.{reach_home}
 use Rattle.oct_values.specs.Classes.{Classes, is_same_class}
-use Rattle.oct_export.specs.Seen.{classes_in}
+use Rattle.oct_tree.specs.Classes.{classes_in}
 use Rattle.oct_export.specs.Bands.{has_class, shown, stronger, band_class}
 
 -- ---- classes

@@ -11,7 +11,7 @@ use Rattle.oct_odds.specs.declared.event.Class.{Class}
 use Rattle.oct_odds.specs.declared.event.Class.TheVariants.{Occupied}
 use Rattle.oct_tree.specs.Tree.{Tree, value_at}
 use Rattle.oct_values.specs.Classes.{Classes}
-use Rattle.oct_export.specs.Seen.{classes_in}
+use Rattle.oct_tree.specs.Classes.{classes_in}
 use Rattle.oct_export.specs.Boxes.{is_full, boxes_in, boxes_of, boxes_below}
 use Rattle.oct_export.proofs.Places.{IsAbove}
 use Rattle.oct_export.proofs.Boxes.{first_full, first_boxes, first_next, first_whole, boxes_next}

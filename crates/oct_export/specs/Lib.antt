@@ -1,4 +1,3 @@
-pub mod Seen
 pub mod Bands
 pub mod Grids
 pub mod Boxes

@@ -2,7 +2,7 @@
 ghost use Rattle.std.specs.Prelude.{◌≡◌, ◌≤◌, Some, length};
 ghost use Rattle.oct_key.specs.Block.{Cube};
 ghost use Rattle.oct_tree.specs.Tree.{IsLinked, IsPlace, block_in};
-ghost use Rattle.oct_export.specs.Seen.{classes_in};
+ghost use Rattle.oct_tree.specs.Classes.{classes_in};
 ghost use Rattle.oct_export.specs.Boxes.{is_full, boxes_in, boxes_of};
 
 use crate::strip::{are_both, class_of_node, is_occupied};

@@ -4,7 +4,7 @@ ghost use Rattle.oct_key.specs.Boxes.{IsBox};
 ghost use Rattle.oct_io.specs.Counts.{IsWriteCounted};
 ghost use Rattle.oct_io.specs.Taken.{IsCutOff};
 ghost use Rattle.oct_io.specs.Told.{appended};
-ghost use Rattle.oct_export.specs.Seen.{classes_in};
+ghost use Rattle.oct_tree.specs.Classes.{classes_in};
 ghost use Rattle.oct_export.specs.Grids.{grey_of, grid_head, row_of, rows_of, pgm_text};
 ghost use Rattle.oct_export.specs.Pushed.{IsPushed};
 

@@ -7,7 +7,7 @@ ghost use Rattle.oct_io.specs.Counts.{IsWriteCounted};
 ghost use Rattle.oct_io.specs.Taken.{IsCutOff};
 ghost use Rattle.oct_io.specs.Told.{appended};
 ghost use Rattle.oct_tree.specs.Tree.{IsLinked, IsPlace, block_in};
-ghost use Rattle.oct_export.specs.Seen.{classes_in};
+ghost use Rattle.oct_tree.specs.Classes.{classes_in};
 ghost use Rattle.oct_export.specs.Boxes.{is_full, is_due, waited, blocks_before, boxes_found};
 ghost use Rattle.oct_export.specs.BoxTexts.{box_line, box_lines, vrml_text};
 ghost use Rattle.oct_export.specs.Pushed.{IsPushed};

@@ -7,7 +7,7 @@ ghost use Rattle.oct_odds.specs.Update.{class_of};
 ghost use Rattle.oct_odds.specs.declared.event.Class.TheVariants.{Occupied as occupied};
 ghost use Rattle.oct_arena.specs.Nodes.{link_of, value_of};
 ghost use Rattle.oct_tree.specs.Tree.{reach};
-ghost use Rattle.oct_export.specs.Seen.{classes_in};
+ghost use Rattle.oct_tree.specs.Classes.{classes_in};
 ghost use Rattle.oct_export.specs.Bands.{band_class, stronger};
 
 use oct_arena::Node;

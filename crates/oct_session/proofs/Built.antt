@@ -3,7 +3,7 @@ use Rattle.std.proofs.Common.{◌≡◌, ℕ, List, true, false, Option, Some, N
 use Rattle.std.proofs.Common.{sym, ap, subst, ◌∙◌, arith}
 use Rattle.oct_bt.specs.File.{bt_text}
 use Rattle.oct_io.specs.Taken.{IsCutOff}
-use Rattle.oct_bt.specs.Mixtures.{classes_in}
+use Rattle.oct_tree.specs.Classes.{classes_in}
 use Rattle.oct_io.specs.Files.{Files}
 use Rattle.oct_io.specs.Told.{appended, Rose}
 use Rattle.oct_io.proofs.Appending.{appended_nil}

@@ -6,7 +6,7 @@ use Rattle.std.specs.Prelude.{codes, decimal, IsErrOf}
 use Rattle.std.proofs.lemmas.Nat.{mul-le}
 use Rattle.oct_bt.specs.File.{bt_text}
 use Rattle.oct_io.specs.Taken.{IsCutOff}
-use Rattle.oct_bt.specs.Mixtures.{classes_in}
+use Rattle.oct_tree.specs.Classes.{classes_in}
 use Rattle.oct_gen.specs.Script.{script_of}
 use Rattle.oct_gen.proofs.Lengths.{script_short}
 use Rattle.oct_io.specs.Files.{Files, no_files}

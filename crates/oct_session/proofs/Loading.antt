@@ -7,7 +7,7 @@ use Rattle.oct_bt.specs.declared.fault.BtFault.{BtFault}
 use Rattle.oct_bt.specs.declared.fault.BtFault.TheVariants as bt_fault
 use Rattle.oct_bt.specs.Canonical.{canonical_size, node_total}
 use Rattle.oct_bt.specs.File.{FileRead, reading, bt_text, header_text}
-use Rattle.oct_bt.specs.Mixtures.{classes_in}
+use Rattle.oct_tree.specs.Classes.{classes_in}
 use Rattle.oct_bt.specs.Records.{record_total}
 use Rattle.oct_bt.proofs.Injective.{same_data}
 use Rattle.oct_io.specs.Files.{Files, KeepsOthers, saved}

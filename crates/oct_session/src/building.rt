@@ -2,7 +2,7 @@
 ghost use Rattle.std.specs.Prelude.{◌≡◌, ◌≢◌, ◌⊎◌, IfSome, None, true, false};
 ghost use Rattle.oct_io.specs.Told.{Rose};
 ghost use Rattle.oct_bt.specs.File.{bt_text};
-ghost use Rattle.oct_bt.specs.Mixtures.{classes_in};
+ghost use Rattle.oct_tree.specs.Classes.{classes_in};
 ghost use Rattle.oct_session.specs.Counts.{IsSourceCounted, IsSinkCounted, IsStoreCounted, IsAsked};
 ghost use Rattle.oct_session.specs.Building.{build as whole_build, has_ended, EndsWriting, MayEnd};
 ghost use Rattle.oct_session.specs.Building.{Leaves};

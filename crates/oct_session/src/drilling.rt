@@ -4,7 +4,7 @@ ghost use Rattle.std.specs.Prelude.{IfErr};
 ghost use Rattle.oct_bt.specs.File.{bt_text};
 ghost use Rattle.oct_io.specs.Counts.{IsMakingCounted};
 ghost use Rattle.oct_io.specs.Taken.{IsCutOff};
-ghost use Rattle.oct_bt.specs.Mixtures.{classes_in};
+ghost use Rattle.oct_tree.specs.Classes.{classes_in};
 ghost use Rattle.oct_io.specs.Told.{appended};
 ghost use Rattle.oct_map.specs.Map.{values_of};
 ghost use Rattle.oct_values.specs.Counts.{group_count, node_count};

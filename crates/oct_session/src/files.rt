@@ -3,7 +3,7 @@
 ghost use Rattle.std.specs.Prelude.{◌≡◌, ◌⊎◌, ◌≤◌, ◌+◌, IfOk, None, Ok, OnErr, Option, Some, Err};
 ghost use Rattle.oct_bt.specs.declared.fault.BtFault.{BtFault};
 ghost use Rattle.oct_bt.specs.File.{bt_text, reading};
-ghost use Rattle.oct_bt.specs.Mixtures.{classes_in};
+ghost use Rattle.oct_tree.specs.Classes.{classes_in};
 ghost use Rattle.oct_io.specs.Counts.{IsAskCounted};
 ghost use Rattle.oct_map.specs.Map.{values_of};
 ghost use Rattle.oct_snap.specs.Reading.{read_snapshot};

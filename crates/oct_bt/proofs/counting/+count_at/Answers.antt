@@ -5,7 +5,7 @@ use Rattle.oct_arena.specs.Nodes.{link_of, value_of}
 use Rattle.oct_tree.proofs.Paths.{not_inner, place_block, slot_block}
 use Rattle.oct_tree.specs.declared.place.Place.TheVariants.{Slot}
 use Rattle.oct_bt.specs.Counts.{IsBlockCount}
-use Rattle.oct_bt.specs.Mixtures.{classes_in}
+use Rattle.oct_tree.specs.Classes.{classes_in}
 use Rattle.oct_bt.proofs.Mixtures.{class_of_leaf, above, child_asked}
 use Rattle.oct_bt.proofs.Counts.{AreTallied, tallied_first, tallied_small}
 use Rattle.oct_bt.proofs.Adding.{kind_first, kind_next, kind_all, counted_next, counted_several}

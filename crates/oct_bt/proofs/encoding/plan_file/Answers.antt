@@ -1,7 +1,8 @@
 use Rattle.std.proofs.Common.{ℕ, length, ap, ◌∙◌, subst}
 use Rattle.oct_bt.specs.Canonical.{canonical_data, canonical_size}
 use Rattle.oct_bt.specs.File.{header_text}
-use Rattle.oct_bt.specs.Mixtures.{classes_in, IsCounted}
+use Rattle.oct_bt.specs.Mixtures.{IsCounted}
+use Rattle.oct_tree.specs.Classes.{classes_in}
 use Rattle.oct_bt.proofs.Encodings.{nodes_none, nodes_some, file_length}
 use Rattle.oct_bt.proofs.encoding.plan_file.Goals as goal
 use Rattle.oct_bt.proofs.encoding.plan_file.Goals.{then-count-eq0, else-count-eq0}

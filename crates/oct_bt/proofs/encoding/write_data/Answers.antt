@@ -1,7 +1,7 @@
 use Rattle.std.proofs.Common.{List, ℕ, refl, sym, subst}
 use Rattle.oct_key.specs.Block.{root_block}
 use Rattle.oct_io.specs.Taken.{IsTaken, IsRefused}
-use Rattle.oct_bt.specs.Mixtures.{classes_in}
+use Rattle.oct_tree.specs.Classes.{classes_in}
 use Rattle.oct_bt.proofs.Encodings.{data_of_mixture, on_ok, on_err}
 use Rattle.oct_bt.proofs.encoding.write_data.Goals as goal
 

@@ -5,7 +5,8 @@ use Rattle.oct_key.specs.Block.{child_of}
 use Rattle.oct_arena.specs.Nodes.{link_of, value_of}
 use Rattle.oct_tree.proofs.Paths.{not_inner, place_block, slot_block}
 use Rattle.oct_tree.proofs.Links.{place_in_map}
-use Rattle.oct_bt.specs.Mixtures.{classes_in, IsFirstOther}
+use Rattle.oct_bt.specs.Mixtures.{IsFirstOther}
+use Rattle.oct_tree.specs.Classes.{classes_in}
 use Rattle.oct_bt.proofs.Mixtures.{class_of_leaf, other_leaf, child_asked, above, searched_all}
 use Rattle.oct_bt.proofs.Mixtures.{searched_pure, searched_other, way_fits}
 use Rattle.oct_bt.proofs.mixture.+first_other.Goals as goal

@@ -1,7 +1,7 @@
 use Rattle.std.proofs.Common.{◌≡◌, ◌-◌, Some}
 use Rattle.oct_key.specs.Block.{Cube}
 use Rattle.oct_tree.specs.Tree.{block_in}
-use Rattle.oct_bt.specs.Mixtures.{classes_in}
+use Rattle.oct_tree.specs.Classes.{classes_in}
 use Rattle.oct_bt.proofs.Mixtures.{ArePure}
 use Rattle.oct_bt.proofs.mixture.+first_other.Given as goal
 

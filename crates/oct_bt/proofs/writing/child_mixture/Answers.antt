@@ -3,7 +3,7 @@ use Rattle.oct_key.specs.Block.{child_of}
 use Rattle.oct_arena.specs.Nodes.{value_of}
 use Rattle.oct_tree.specs.declared.place.Place.TheVariants.{Slot}
 use Rattle.oct_tree.proofs.Paths.{not_inner, slot_block}
-use Rattle.oct_bt.specs.Mixtures.{classes_in}
+use Rattle.oct_tree.specs.Classes.{classes_in}
 use Rattle.oct_bt.proofs.Mixtures.{above, child_asked, class_of_leaf}
 use Rattle.oct_bt.proofs.Writes.{child_before, child_with}
 use Rattle.oct_bt.proofs.writing.child_mixture.Goals as goal

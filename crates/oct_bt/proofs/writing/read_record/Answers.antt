@@ -1,7 +1,8 @@
 use Rattle.std.proofs.Common.{rules, ◌<◌, ◌+◌, ◌*◌, ◌-◌, ℕ, length, refl, sym, subst, ap}
 use Rattle.std.proofs.Common.{◌∙◌, arith}
 use Rattle.oct_key.specs.Block.{child_of}
-use Rattle.oct_bt.specs.Mixtures.{classes_in, class_of_mixture, IsMixtureOf}
+use Rattle.oct_bt.specs.Mixtures.{class_of_mixture, IsMixtureOf}
+use Rattle.oct_tree.specs.Classes.{classes_in}
 use Rattle.oct_bt.specs.Canonical.{block_code}
 use Rattle.oct_bt.proofs.Mixtures.{above}
 use Rattle.oct_bt.proofs.Writes.{codes_few}

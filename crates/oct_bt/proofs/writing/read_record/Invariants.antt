@@ -1,7 +1,7 @@
 use Rattle.std.proofs.Common.{◌≡◌, ◌<◌, ◌≤◌, ◌^◌, length, Some}
 use Rattle.oct_key.specs.Block.{Cube}
 use Rattle.oct_tree.specs.Tree.{block_in}
-use Rattle.oct_bt.specs.Mixtures.{classes_in}
+use Rattle.oct_tree.specs.Classes.{classes_in}
 use Rattle.oct_bt.proofs.Parting.{IsRecordFrom}
 use Rattle.oct_bt.proofs.writing.read_record.Given as goal
 

@@ -3,7 +3,7 @@ use Rattle.oct_key.specs.Block.{child_of}
 use Rattle.oct_arena.specs.Nodes.{link_of, value_of}
 use Rattle.oct_tree.proofs.Links.{place_in_map}
 use Rattle.oct_tree.proofs.Paths.{not_inner, place_block, slot_block}
-use Rattle.oct_export.specs.Seen.{classes_in}
+use Rattle.oct_tree.specs.Classes.{classes_in}
 use Rattle.oct_export.proofs.Places.{above, child_asked}
 use Rattle.oct_export.proofs.Boxes.{leaf_full, first_full, first_boxes}
 use Rattle.oct_export.proofs.Counts.{leaf_class, leaf_count, full_next, count_next, count_fits}

@@ -1,7 +1,7 @@
 use Rattle.std.proofs.Common.{◌≡◌, ◌-◌, ◌+◌, Some, length}
 use Rattle.oct_key.specs.Block.{Cube}
 use Rattle.oct_tree.specs.Tree.{block_in}
-use Rattle.oct_export.specs.Seen.{classes_in}
+use Rattle.oct_tree.specs.Classes.{classes_in}
 use Rattle.oct_export.proofs.Boxes.{first_full, first_boxes}
 use Rattle.oct_export.proofs.counting.+count_in.Given as goal
 

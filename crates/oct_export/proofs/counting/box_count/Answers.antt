@@ -1,6 +1,6 @@
 use Rattle.std.proofs.Common.{refl}
 use Rattle.oct_key.specs.Block.{root_block}
-use Rattle.oct_export.specs.Seen.{classes_in}
+use Rattle.oct_tree.specs.Classes.{classes_in}
 use Rattle.oct_export.proofs.Counts.{count_of_map}
 use Rattle.oct_export.proofs.counting.box_count.Goals as goal
 

@@ -1,5 +1,5 @@
 use Rattle.std.proofs.Common.{◌≡◌, ◌≤◌, ◌+◌, ◌-◌}
-use Rattle.oct_export.specs.Seen.{classes_in}
+use Rattle.oct_tree.specs.Classes.{classes_in}
 use Rattle.oct_export.specs.Pushed.{IsPushed}
 use Rattle.oct_export.proofs.Rows.{row_front}
 use Rattle.oct_export.proofs.grid.push_row.Given as goal

@@ -1,5 +1,5 @@
 use Rattle.std.proofs.Common.{◌≡◌, ◌+◌, ◌-◌, ◌∙◌, refl, ap, arith}
-use Rattle.oct_export.specs.Seen.{classes_in}
+use Rattle.oct_tree.specs.Classes.{classes_in}
 use Rattle.oct_export.specs.Grids.{rows_of}
 use Rattle.oct_export.proofs.Pushes.{pushed_start, pushed_more, second_cut, pushed_as, on_any_err}
 use Rattle.oct_export.proofs.Rows.{rows_none, rows_next, rows_cut}

@@ -5,7 +5,7 @@ use Rattle.oct_key.specs.CubeOf.{cube_of}
 use Rattle.oct_key.proofs.Blocks.{block_in_map, depth_child_of}
 use Rattle.oct_arena.specs.Nodes.{link_of, value_of}
 use Rattle.oct_tree.proofs.Paths.{not_inner, slot_place, slot_block}
-use Rattle.oct_export.specs.Seen.{classes_in}
+use Rattle.oct_tree.specs.Classes.{classes_in}
 use Rattle.oct_export.specs.Boxes.{is_full}
 use Rattle.oct_export.specs.BoxTexts.{box_lines}
 use Rattle.oct_export.proofs.Places.{above}

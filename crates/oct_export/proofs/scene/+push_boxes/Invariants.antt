@@ -1,6 +1,6 @@
 use Rattle.std.proofs.Common.{◌≡◌, ◌+◌, ◌-◌, ◌%◌, ◌^◌, length}
 use Rattle.oct_key.specs.CubeOf.{cube_of}
-use Rattle.oct_export.specs.Seen.{classes_in}
+use Rattle.oct_tree.specs.Classes.{classes_in}
 use Rattle.oct_export.specs.BoxTexts.{box_lines}
 use Rattle.oct_export.specs.Pushed.{IsPushed}
 use Rattle.oct_export.proofs.Boxes.{first_full}

@@ -1,6 +1,6 @@
 use Rattle.std.proofs.Common.{rules, arith}
 use Rattle.oct_key.specs.CubeOf.{cube_of}
-use Rattle.oct_export.specs.Seen.{classes_in}
+use Rattle.oct_tree.specs.Classes.{classes_in}
 use Rattle.oct_export.proofs.Columns.{shown_start, held_right, held_top, strip_more, strip_occupied}
 use Rattle.oct_export.proofs.Columns.{strip_whole}
 use Rattle.oct_export.proofs.strip.strip_at.Goals as goal

@@ -1,6 +1,6 @@
 use Rattle.std.proofs.Common.{◌≡◌, ◌≤◌, ◌+◌, ◌-◌, ℕ}
 use Rattle.oct_key.specs.Order.{numbers_from}
-use Rattle.oct_export.specs.Seen.{classes_in}
+use Rattle.oct_tree.specs.Classes.{classes_in}
 use Rattle.oct_export.specs.Bands.{shown}
 use Rattle.oct_export.proofs.strip.strip_at.Given as goal
 
