@@ -1,9 +1,7 @@
-ghost use Rattle.std.specs.Prelude.{◌≡◌, ◌+◌, ◌≤◌, ℕ, IsTrue, Some};
+ghost use Rattle.std.specs.Prelude.{◌≡◌, ◌+◌, ◌≤◌, IsTrue};
 ghost use Rattle.oct_key.specs.Voxel.{IsInMap};
 ghost use Rattle.oct_key.specs.Block.{block_of};
-ghost use Rattle.oct_arena.specs.Entries.{IsLive};
-ghost use Rattle.oct_arena.specs.Nodes.{link_of};
-ghost use Rattle.oct_tree.specs.Tree.{step, reach};
+ghost use Rattle.oct_tree.specs.Tree.{reach};
 ghost use Rattle.oct_query.specs.Paths.{IsPathOf};
 
 use oct_arena::Node;
