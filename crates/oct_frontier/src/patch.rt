@@ -4,7 +4,6 @@ ghost use Rattle.oct_key.specs.Block.{child_of, root_block};
 ghost use Rattle.oct_key.specs.CubeOf.{cube_of};
 ghost use Rattle.oct_arena.specs.Entries.{IsLive};
 ghost use Rattle.oct_arena.specs.Nodes.{link_of};
-ghost use Rattle.oct_tree.specs.Tree.{step};
 ghost use Rattle.oct_frontier.specs.Patches.{IsLeaf, IsPatchOf, AreLeavesBeside, sides_of_child};
 ghost use Rattle.oct_frontier.specs.Patches.{child_node, child_x, child_y, child_z};
 
