@@ -211,8 +211,8 @@ head_is_all : (front : List ℕ) → length front ≤ 65536 → head_of front �
 head_is_all front few = take_all 65536 front few
 
 -- one that isn't begun as these files are
-pub front_unmarked : (front : List ℕ) (fault : BtFault) → length front ≤ 65536 → first_line_fault front
-    ≡ Some fault → reading front ≡ Err fault
+pub front_unmarked : (front : List ℕ) (fault : BtFault) → length front ≤ 65536
+    → first_line_fault front ≡ Some fault → reading front ≡ Err fault
 unfolding reading header_of
 front_unmarked front fault few mark =
     ap (λ head. after_header front (unless_faulty (first_line_fault head)

@@ -47,7 +47,8 @@ head_ended head none =
         (Err (fault_or (first_line_fault head) (no_data_line (length head))))
     by_mark true begun =
         ap (λ t. Err
-        (fault_or (cond t (mark_in t head) (first_line_fault (unended (slice_split is_line_feed head))))
+        (fault_or
+        (cond t (mark_in t head) (first_line_fault (unended (slice_split is_line_feed head))))
         (no_data_line (length head)))) begun
     by_mark false begun =
         ap (λ t. Err

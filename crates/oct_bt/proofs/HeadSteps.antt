@@ -374,10 +374,10 @@ header_closed head b e begun none found_it =
     (judged_fields (length head + 1) (fields_of (lines_of head)))) begun
     ∙ ap (λ m. unless_faulty m (judged_fields (length head + 1) (fields_of (lines_of head))))
     (sym (mark_stays head (b ∷ []) begun))
-    ∙ ap (λ f. unless_faulty (first_line_fault (head ++ b ∷ [])) (judged_fields (length head + 1) f))
-    (sym fields)
-    ∙ sym (ap (λ o. unless_faulty (first_line_fault (head ++ b ∷ [])) (header_at (head ++ b ∷ []) o))
-    line)
+    ∙ ap (λ f. unless_faulty (first_line_fault (head ++ b ∷ []))
+    (judged_fields (length head + 1) f)) (sym fields)
+    ∙ sym (ap (λ o. unless_faulty (first_line_fault (head ++ b ∷ []))
+    (header_at (head ++ b ∷ []) o)) line)
 
 -- where the node data begins
 pub start_of : (start : ℕ) (mark : Option BtFault) (id : Option Bool) (res size : Option (Option ℕ))

@@ -255,7 +255,8 @@ pub mark_stays : (xs ys : List ℕ) → has_ended (slice_split is_line_feed xs) 
 unfolding first_part joined_parts
 mark_stays xs ys ended =
     sym (mark_first (xs ++ ys)) ∙ ap (λ ps. first_line_fault (first_part ps)) (split_joined xs ys)
-    ∙ ap first_line_fault (first_stays (slice_split is_line_feed xs) (slice_split is_line_feed ys) ended)
+    ∙ ap first_line_fault
+    (first_stays (slice_split is_line_feed xs) (slice_split is_line_feed ys) ended)
     ∙ mark_first xs
   where
     first_stays : (ps qs : List (List ℕ)) → has_ended ps ≡ true → first_part (joined_parts ps qs)

@@ -12,8 +12,9 @@ use Rattle.oct_num.specs.Metres.{metres_of}
 use Rattle.oct_num.specs.Whole.{natural_of}
 use Rattle.oct_bt.specs.Header.{HeaderLine, is_line_feed, is_blank, is_in_word, trimmed, first_word}
 use Rattle.oct_bt.specs.Header.{after_word, lines_from, lines_of, is_data_line, fields_of}
-use Rattle.oct_bt.specs.Header.{judged_fields, judged_res, first_line_fault, unless_faulty, data_line}
-use Rattle.oct_bt.specs.Header.{head_fields, header_at, head_of, resolution_of, header_of}
+use Rattle.oct_bt.specs.Header.{judged_fields, judged_res, first_line_fault, unless_faulty}
+use Rattle.oct_bt.specs.Header.{data_line, head_fields, header_at, head_of, resolution_of}
+use Rattle.oct_bt.specs.Header.{header_of}
 use Rattle.oct_bt.specs.File.{text_of_lines, header_lines}
 use Rattle.oct_bt.proofs.Headers.{some_part, no_feed}
 

@@ -148,4 +148,5 @@ fault_or None other = other
 -- the fault of a file that ends in its head
 abbrev pub head_fault : Head → BtFault
 head_fault head =
-    fault_or (if head.begun then head.first_line else first_line_fault head.line) (no_data_line head.total)
+    fault_or (if head.begun then head.first_line else first_line_fault head.line)
+    (no_data_line head.total)

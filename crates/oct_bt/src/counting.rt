@@ -48,8 +48,8 @@ fn kind_of(class: Class) -> Kind
     }
 }
 
-/// The kind of a block, which is of the kind `next`, and of the `done` blocks after it, which are of
-/// `kind`: that of the block alone where there are none.
+/// The kind of a block, which is of the kind `next`, and of the `done` blocks after it, which are
+/// of `kind`: that of the block alone where there are none.
 #[inline(always)]
 fn joined(done: u8, kind: Kind, next: Kind) -> Kind
     ensures first { done ≡ 0 → result ≡ next }

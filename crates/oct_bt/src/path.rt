@@ -1,6 +1,6 @@
 //! How many records of each depth are still to come.
-ghost use Rattle.std.specs.Prelude.{◌≡◌, ◌+◌, ◌*◌, ◌<◌, ◌++◌, length, replicate, nat_eq, count_by, []};
-ghost use Rattle.std.specs.Prelude.{◌∷◌};
+ghost use Rattle.std.specs.Prelude.{◌≡◌, ◌+◌, ◌*◌, ◌<◌, ◌++◌, length, replicate, nat_eq, count_by};
+ghost use Rattle.std.specs.Prelude.{[], ◌∷◌};
 ghost use Rattle.oct_bt.specs.Canonical.{codes_in, known_codes};
 ghost use Rattle.oct_bt.specs.NodeData.{records_in};
 ghost use Rattle.oct_bt.specs.Plain.{is_plain, has_plain};

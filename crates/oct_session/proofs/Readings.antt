@@ -11,7 +11,7 @@ use Rattle.oct_bt.specs.declared.fault.HeaderWord.TheVariants.{Data}
 use Rattle.oct_bt.specs.Canonical.{node_total}
 use Rattle.oct_bt.specs.File.{file_with, after_header, reading}
 use Rattle.oct_bt.specs.Header.{Header, HeaderLine, data_line, head_fields, head_of, header_at}
-use Rattle.oct_bt.specs.Header.{header_of, judged_id, judged_res, judged_size, unless_marked}
+use Rattle.oct_bt.specs.Header.{header_of, judged_id, judged_res, judged_size, unless_faulty}
 use Rattle.oct_bt.specs.NodeData.{Progress, Reads, Stopped, records_in, after_byte, after_bytes}
 use Rattle.oct_bt.specs.NodeData.{at_first, judged, read_nodes}
 use Rattle.oct_session.specs.Refusals.{file_refusal}
@@ -45,7 +45,7 @@ at_told head (Some line) =
     id_told line.after (head_fields head).id (head_fields head).res (head_fields head).size
 
 mark_told : (classes other : Bool) (header : Result Header BtFault) → IsTold header
-    → IsTold (unless_marked (cond classes None (cond other (Some FloatTree) (Some NotOctomap)))
+    → IsTold (unless_faulty (cond classes None (cond other (Some FloatTree) (Some NotOctomap)))
     header)
 mark_told true other header told = told
 mark_told false true header told = refl
