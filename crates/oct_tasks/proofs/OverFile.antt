@@ -4,14 +4,14 @@ use Rattle.std.proofs.Common.{◌≡◌, ℕ, ◌<◌, List, length, take, Optio
 use Rattle.std.proofs.Common.{inl, inr, refl, sym, ◌∙◌, ap, subst}
 use Rattle.oct_io.specs.declared.sink.SinkFault.{SinkFault}
 use Rattle.oct_io.specs.declared.sink.SinkFault.TheVariants as sink
-use Rattle.oct_io.specs.Taken.{IsBegun}
+use Rattle.oct_io.specs.Taken.{IsCutOff}
 use Rattle.oct_io.specs.Told.{appended}
 use Rattle.oct_convert.specs.Answers.{Answer}
 use Rattle.oct_convert.specs.Ending.{MayEnd}
 use Rattle.oct_convert.specs.Input.{IsReadToEnd}
 use Rattle.oct_convert.specs.declared.ending.Ending.{Ending}
 use Rattle.oct_convert.specs.declared.ending.Ending.TheVariants as ending
-use Rattle.oct_convert.proofs.Ends.{begun_none, begun_first}
+use Rattle.oct_convert.proofs.Ends.{cut_none}
 use Rattle.oct_session.specs.Stops.{status_written}
 use Rattle.oct_session.specs.declared.options.Status.{Status}
 use Rattle.oct_session.specs.declared.options.Status.TheVariants.{Done, BadFile, TooLong}
@@ -27,15 +27,15 @@ status_of_fault sink.Memory = Memory
 -- a reply that isn't written whole
 halted_by : (fault : SinkFault) (end : Status) (whole : Reply) (most : ℕ) (bytes : List ℕ)
     (left old new : Option (List ℕ)) → end ≡ status_of_fault fault
-    → IsBegun whole.text old new → IsReadToEnd most bytes left
+    → IsCutOff old new whole.text → IsReadToEnd most bytes left
     → EndsOverFile whole most bytes left old new end
-halted_by sink.Failed end whole most bytes left old new ends begun to_end =
+halted_by sink.Failed end whole most bytes left old new ends cut to_end =
     let halted : IsHalted whole most bytes left old new =
-    record { begun = begun; input = to_end } in
+    record { cut = cut; input = to_end } in
     subst (EndsOverFile whole most bytes left old new) (sym ends) halted
-halted_by sink.Memory end whole most bytes left old new ends begun to_end =
+halted_by sink.Memory end whole most bytes left old new ends cut to_end =
     let halted : IsHalted whole most bytes left old new =
-    record { begun = begun; input = to_end } in
+    record { cut = cut; input = to_end } in
     subst (EndsOverFile whole most bytes left old new) (sym ends) (inr halted)
 
 -- a reply that is
@@ -62,22 +62,20 @@ reply_sent (Ok t) text status end whole most bytes left old new settled same_tex
     replied_as status end whole most bytes left old new settled ends same_status
     (ok ∙ ap (appended old) same_text) to_end
 reply_sent (Err sink.Failed) text status end whole most bytes left old new settled same_text
-    same_status ends ok (n, few, written) to_end =
+    same_status ends ok err to_end =
     halted_by sink.Failed end whole most bytes left old new ends
-    (begun_first whole.text n old new (written ∙ ap (λ x. appended old (take n x)) same_text))
-    to_end
+    (subst (IsCutOff old new) same_text err) to_end
 reply_sent (Err sink.Memory) text status end whole most bytes left old new settled same_text
-    same_status ends ok (n, few, written) to_end =
+    same_status ends ok err to_end =
     halted_by sink.Memory end whole most bytes left old new ends
-    (begun_first whole.text n old new (written ∙ ap (λ x. appended old (take n x)) same_text))
-    to_end
+    (subst (IsCutOff old new) same_text err) to_end
 
 -- a reply that a writer wrote piece by piece, or not whole
 pub text_sent : (r : Result ℕ SinkFault) (text other : List ℕ) (end : Status) (whole : Reply)
     (most : ℕ) (bytes : List ℕ) (left old new : Option (List ℕ))
     → text ≡ other → whole ≡ record { text = other; status = Done } → end ≡ status_written Done r
     → OnOk r (new ≡ appended old text)
-    → OnErr r (IsBegun text old new) → IsReadToEnd most bytes left
+    → OnErr r (IsCutOff old new text) → IsReadToEnd most bytes left
     → EndsOverFile whole most bytes left old new end
 text_sent (Ok n) text other end whole most bytes left old new same is ends ok err to_end =
     replied_as Done end whole most bytes left old new (inl refl) ends
@@ -86,17 +84,18 @@ text_sent (Ok n) text other end whole most bytes left old new same is ends ok er
 text_sent (Err sink.Failed) text other end whole most bytes left old new same is ends ok err
     to_end =
     halted_by sink.Failed end whole most bytes left old new ends
-    (subst (λ t. IsBegun t old new) (same ∙ sym (ap (λ (r : Reply). r.text) is)) err) to_end
+    (subst (IsCutOff old new) (same ∙ sym (ap (λ (r : Reply). r.text) is)) err) to_end
 text_sent (Err sink.Memory) text other end whole most bytes left old new same is ends ok err
     to_end =
     halted_by sink.Memory end whole most bytes left old new ends
-    (subst (λ t. IsBegun t old new) (same ∙ sym (ap (λ (r : Reply). r.text) is)) err) to_end
+    (subst (IsCutOff old new) (same ∙ sym (ap (λ (r : Reply). r.text) is)) err) to_end
 
 -- a reply of which nothing was written because memory ran out
 pub none_sent : (whole : Reply) (most : ℕ) (bytes : List ℕ) (left old : Option (List ℕ))
-    → IsReadToEnd most bytes left → EndsOverFile whole most bytes left old old Memory
-none_sent whole most bytes left old to_end =
-    inr (record { begun = begun_none whole.text old old refl; input = to_end })
+    → 0 < length whole.text → IsReadToEnd most bytes left
+    → EndsOverFile whole most bytes left old old Memory
+none_sent whole most bytes left old some to_end =
+    inr (record { cut = cut_none whole.text old some; input = to_end })
 
 -- An answer of a task that is never refused has the same text as a reply, and where the input isn't
 -- a file, or is too long, the reply's status says so.
@@ -122,11 +121,11 @@ unread_ends ending.TooLong whole reply most bytes left old new undone alike
     (answered, unwritten, taken) = (alike.long answered.same, unwritten, taken)
 unread_ends ending.ReadFault whole reply most bytes left old new undone alike stopped = stopped
 unread_ends ending.WriteFault whole reply most bytes left old new undone alike halted =
-    record { begun = subst (λ t. IsBegun t old new) alike.text halted.begun; input = halted.input }
+    record { cut = subst (IsCutOff old new) alike.text halted.cut; input = halted.input }
 unread_ends ending.Memory whole reply most bytes left old new undone alike (inl stopped) =
     inl stopped
 unread_ends ending.Memory whole reply most bytes left old new undone alike (inr halted) =
     inr (record {
-      begun = subst (λ t. IsBegun t old new) alike.text halted.begun;
+      cut = subst (IsCutOff old new) alike.text halted.cut;
       input = halted.input;
     })

@@ -1,22 +1,62 @@
 -- The replies to what is asked of a file, by what is found of its box and its map.
-use Rattle.std.proofs.Common.{◌≡◌, ℕ, ◌<◌, ◌≤◌, List, length, cond, refl, sym, ap, subst, ◌∙◌}
+use Rattle.std.proofs.Common.{◌≡◌, ℕ, ◌<◌, ◌≤◌, Bool, true, false, List, ◌++◌, length, cond, refl}
+use Rattle.std.proofs.Common.{sym, ap, subst, ◌∙◌, arith, length-append, zero-lt-suc}
+use Rattle.std.specs.Prelude.{codes, decimal, nat_lt}
+use Rattle.std.specs.List.{flat_map}
 use Rattle.std.proofs.lemmas.Bool.{lt-ltb, le-ltb}
 use Rattle.oct_key.specs.Boxes.{Corners}
 use Rattle.oct_key.specs.Voxel.{Voxel, IsInMap}
 use Rattle.oct_export.specs.Boxes.{boxes_of}
 use Rattle.oct_export.specs.BoxTexts.{vrml_text}
-use Rattle.oct_export.specs.Grids.{pgm_text}
+use Rattle.oct_export.specs.Grids.{grid_head, pgm_text}
 use Rattle.oct_export.proofs.Same.{same_boxes}
 use Rattle.oct_frontier.specs.Frontier.{frontier_between}
 use Rattle.oct_frontier.proofs.Same.{same_frontier}
 use Rattle.oct_session.specs.declared.options.Status.TheVariants.{Done}
 use Rattle.oct_values.specs.Classes.{Classes}
-use Rattle.oct_tasks.specs.Frontiers.{listing, list_reply}
+use Rattle.oct_tasks.specs.Frontiers.{voxel_line, listing, list_reply}
 use Rattle.oct_tasks.specs.Grids.{column_count, grid_reply, scene_reply}
 use Rattle.oct_tasks.specs.OverFile.{Reply}
 use Rattle.oct_tasks.specs.Refusals.{refused}
 use Rattle.oct_tasks.specs.declared.refusal.Refusal.TheVariants.{TooManyFrontiers, WideGrid}
 use Rattle.oct_tasks.specs.declared.refusal.Refusal.TheVariants.{TooManyBoxes}
+use Rattle.oct_tasks.proofs.PairTexts.{some_refusal}
+
+-- ---- no text is empty
+
+-- of two replies
+some_of_two : (b : Bool) (first second : Reply) → 0 < length first.text → 0 < length second.text
+    → 0 < length (cond b first second).text
+some_of_two true first second one two = one
+some_of_two false first second one two = two
+
+pub some_listing : (voxels : List Voxel) → 0 < length (listing voxels)
+unfolding listing
+some_listing voxels =
+    let parts = length-append
+    (flat_map voxel_line voxels ++ codes "end " ++ decimal (length voxels)) (codes "\n") in
+    omega (arith, parts)
+
+pub some_list : (voxels : List Voxel) → 0 < length (list_reply voxels).text
+some_list voxels =
+    some_of_two (nat_lt 1000000 (length voxels)) (refused TooManyFrontiers)
+    (record { text = listing voxels; status = Done }) (some_refusal TooManyFrontiers)
+    (some_listing voxels)
+
+pub some_grid : (c : Classes) (box : Corners) → 0 < length (grid_reply c box).text
+unfolding grid_reply pgm_text grid_head
+some_grid c box =
+    some_of_two (nat_lt 67108864 (column_count box)) (refused (WideGrid (column_count box)))
+    (record { text = pgm_text c box.lo box.hi; status = Done })
+    (some_refusal (WideGrid (column_count box))) (zero-lt-suc _)
+
+pub some_scene : (edge : ℕ) (c : Classes) → 0 < length (scene_reply edge c).text
+unfolding scene_reply vrml_text
+some_scene edge c =
+    some_of_two (nat_lt 1000000 (length (boxes_of c)))
+    (refused (TooManyBoxes (length (boxes_of c))))
+    (record { text = vrml_text edge c; status = Done })
+    (some_refusal (TooManyBoxes (length (boxes_of c)))) (zero-lt-suc _)
 
 -- ---- a frontier, of a tree that has the classes of a file
 

@@ -7,7 +7,7 @@ use Rattle.oct_io.specs.declared.sink.SinkFault.TheVariants as sink
 use Rattle.oct_io.specs.Files.{Files}
 use Rattle.oct_io.specs.Taken.{IsCutOff}
 use Rattle.oct_io.specs.Told.{appended}
-use Rattle.oct_io.proofs.Appending.{appended_nil}
+use Rattle.oct_convert.proofs.Ends.{cut_none}
 use Rattle.oct_session.specs.Stops.{status_written}
 use Rattle.oct_session.specs.declared.options.Status.{Status}
 use Rattle.oct_session.specs.declared.options.Status.TheVariants.{Memory, StoreFault}
@@ -45,10 +45,6 @@ reply_ends (Err sink.Failed) whole text status end old new settled ends is ok er
 reply_ends (Err sink.Memory) whole text status end old new settled ends is ok err =
     subst (EndsByReply whole old new) (sym ends)
     (subst (IsCutOff old new) (ap (λ (r : Reply). r.text) (sym is)) err)
-
--- of a text that isn't empty nothing was written
-pub cut_none : (text : List ℕ) (old : Option (List ℕ)) → 0 < length text → IsCutOff old old text
-cut_none text old some = (0, some, appended_nil old)
 
 -- an error before anything was written
 pub none_written : {T : Type 0} (r : Result T SinkFault) (text : List ℕ) (old : Option (List ℕ))

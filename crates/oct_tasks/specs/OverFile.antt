@@ -1,6 +1,6 @@
 -- How a run may end whose task is over a file, and may be refused by what it asks of that.
 use Rattle.std.specs.Prelude.{◌≡◌, ◌≢◌, ◌⊎◌, ◌+◌, ℕ, List, Option}
-use Rattle.oct_io.specs.Taken.{HasTaken, IsBegun}
+use Rattle.oct_io.specs.Taken.{HasTaken, IsCutOff}
 use Rattle.oct_io.specs.Told.{appended}
 use Rattle.oct_convert.specs.Ending.{IsStopped}
 use Rattle.oct_convert.specs.Input.{IsReadToEnd}
@@ -34,10 +34,10 @@ pub record IsReplied (whole : Reply) (max_bytes : ℕ) (bytes : List ℕ)
   pub same : whole.status ≡ status
   pub input : IsReadToEnd max_bytes bytes left
 
--- the input was read to its end, and a prefix of the reply was written
+-- the input was read to its end, and of the reply a part was written, and not all of it
 pub record IsHalted (whole : Reply) (max_bytes : ℕ) (bytes : List ℕ)
     (left old new : Option (List ℕ)) : Type 0 where
-  pub begun : IsBegun whole.text old new
+  pub cut : IsCutOff old new whole.text
   pub input : IsReadToEnd max_bytes bytes left
 
 -- how a task with this reply to an input of at most this many bytes may end: what is left of the

@@ -130,7 +130,7 @@ found_reply asks (Err reason) = record { text = pair_line reason; status = Refus
 abbrev pub store_reply : StoreTask → Files → Reply
 store_reply task files = found_reply task.asks (pair_in files task.first task.second)
 
--- the same, where the files are told; of others nothing is said
+-- the same, where the files are told; of others this is a filler that no clause reads
 abbrev pub told_reply : StoreTask → Option Files → Reply
 told_reply task None = record { text = []; status = StoreFault }
 told_reply task (Some files) = store_reply task files

@@ -4,6 +4,8 @@ use Rattle.std.specs.Prelude.{if◌then◌else◌}
 use Rattle.oct_key.specs.declared.point.Point.{Point}
 use Rattle.oct_key.specs.Boxes.{Corners, is_box}
 use Rattle.oct_key.specs.Voxel.{Voxel, key_at}
+use Rattle.oct_script.specs.Replies as replies
+use Rattle.oct_script.specs.declared.reply.Refusal.TheVariants as script
 use Rattle.oct_session.specs.declared.options.Status.TheVariants.{Refused}
 use Rattle.oct_tasks.specs.OverFile.{Reply}
 use Rattle.oct_tasks.specs.declared.refusal.Refusal.{Refusal}
@@ -11,10 +13,11 @@ use Rattle.oct_tasks.specs.declared.refusal.Refusal.TheVariants.{Outside, BadBox
 use Rattle.oct_tasks.specs.declared.refusal.Refusal.TheVariants.{TooManyFrontiers, WideGrid}
 use Rattle.oct_tasks.specs.declared.refusal.Refusal.TheVariants.{TooManyBoxes}
 
--- a refusal by its number, its name and its fields
+-- a refusal by its number, its name and its fields: those of a script that are refusals here too
+-- have its text
 abbrev pub refusal_text : Refusal → List ℕ
-refusal_text (Outside point) = codes "24 Outside point " ++ decimal point
-refusal_text BadBox = codes "26 BadBox"
+refusal_text (Outside point) = replies.refusal_text (script.Outside point)
+refusal_text BadBox = replies.refusal_text script.BadBox
 refusal_text TooManyFrontiers = codes "37 TooManyFrontiers"
 refusal_text (WideGrid count) = codes "38 WideGrid count " ++ decimal count
 refusal_text (TooManyBoxes count) = codes "39 TooManyBoxes count " ++ decimal count

@@ -22,7 +22,7 @@ use oct_session::Status;
 use std::alloc::Global;
 
 /// The most voxels that are listed.
-const MOST: u64 = 1_000_000;
+const MOST_VOXELS: u64 = 1_000_000;
 
 /// Writes the frontier between the voxels of two points, one line for each voxel of it, and their
 /// number.
@@ -64,7 +64,7 @@ fn list_between<K: Sink>(alloc: Global, file: &BtFile, low: Key, high: Key, sink
     let Ok(tree) = tree_of(alloc, file) else {
         return Status::Memory;
     };
-    match frontier(alloc, &tree, low, high, MOST) {
+    match frontier(alloc, &tree, low, high, MOST_VOXELS) {
         Ok(keys) => send_listing(alloc, keys.as_slice(), sink),
         Err(FrontierFault::TooManyFrontiers) => {
             send_refusal(alloc, Refusal::TooManyFrontiers, sink)

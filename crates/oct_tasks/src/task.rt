@@ -24,64 +24,71 @@ use oct_script::{Name, number_of};
 use oct_session::{MOST_BYTES, Options};
 use thiserror::Error;
 
-/// The numbers that an option may choose, both ends included, and the one that stands where it
-/// isn't given.
+/// The numbers that a word may spell, both ends included.
 #[derive(Clone, Copy)]
-struct Choice {
+struct Range {
     low: u64,
     high: u64,
+}
+
+/// The numbers that an option may choose, and the one that stands where it isn't given.
+#[derive(Clone, Copy)]
+struct Choice {
+    numbers: Range,
     default: u64,
-    ghost above: { low ≤ default },
-    ghost below: { default ≤ high },
+    ghost above: { numbers.low ≤ default },
+    ghost below: { default ≤ numbers.high },
 }
 
 /// How many groups a map may have: at least those that one edit may need.
 const GROUPS: Choice = Choice {
-    low: 16,
-    high: 1 << 26,
+    numbers: Range {
+        low: 16,
+        high: 1 << 26,
+    },
     default: 1 << 24,
 };
 
 /// How many voxels a scan may meet.
 const CELLS: Choice = Choice {
-    low: 1,
-    high: 1 << 27,
+    numbers: Range {
+        low: 1,
+        high: 1 << 27,
+    },
     default: 1 << 26,
 };
 
 /// How many bytes a script may have.
 const BYTES: Choice = Choice {
-    low: 0,
-    high: MOST_BYTES,
+    numbers: Range {
+        low: 0,
+        high: MOST_BYTES,
+    },
     default: MOST_BYTES,
 };
 
 /// How many bytes a file may have that a task reads from its input.
 const FILE_BYTES: Choice = Choice {
-    low: 0,
-    high: 1 << 32,
+    numbers: Range {
+        low: 0,
+        high: 1 << 32,
+    },
     default: 1 << 26,
 };
 
 /// The seeds of a script: one to eighteen digits.
-const SEEDS: Choice = Choice {
+const SEEDS: Range = Range {
     low: 0,
     high: 1_000_000_000_000_000_000,
-    default: 0,
 };
 
 /// How many scans a script may have that a number makes.
-const SCANS: Choice = Choice {
-    low: 0,
-    high: 1000,
-    default: 0,
-};
+const SCANS: Range = Range { low: 0, high: 1000 };
 
 /// How many points each of its scans may have.
-const POINTS: Choice = Choice {
+const POINTS: Range = Range {
     low: 0,
     high: 100_000,
-    default: 0,
 };
 
 /// A script that a number makes: of which seed, and of how many scans of how many points each.
@@ -93,11 +100,11 @@ pub struct Workload {
 }
 
 /// Two points, and the most bytes of the file of which something is asked between them.
-#[derive(Clone, Copy, Debug)]
-pub struct Stretch {
-    pub lo: Point,
-    pub hi: Point,
-    pub max_bytes: u64,
+#[derive(Clone, Copy)]
+pub(crate) struct Stretch {
+    pub(crate) lo: Point,
+    pub(crate) hi: Point,
+    pub(crate) max_bytes: u64,
 }
 
 /// A task of the program.
@@ -134,16 +141,20 @@ fn read_resolution(word: &[u8]) -> Option<Res>
     Res::new(nm).ok()
 }
 
-/// Reads a number from `low` to `high`: one to eighteen digits.
-fn read_count(word: &[u8], low: u64, high: u64) -> Option<u64>
-    ensures exact { result ≡ count_of low high word.now }
-    ensures within { IfSome result (λ n. (low ≤ n) × (n ≤ high)) }
+/// Reads one of these numbers: one to eighteen digits.
+fn read_count(word: &[u8], numbers: Range) -> Option<u64>
+    ensures exact { result ≡ count_of numbers.low numbers.high word.now }
+    ensures within { IfSome result (λ n. (numbers.low ≤ n) × (n ≤ numbers.high)) }
 {
     if word.first() == Some(&b'-') {
         return None;
     }
     let n = u64::try_from(read_whole(word)?).ok()?;
-    if n < low || n > high { None } else { Some(n) }
+    if n < numbers.low || n > numbers.high {
+        None
+    } else {
+        Some(n)
+    }
 }
 
 /// The log-odds that an option of this name chooses.
@@ -175,12 +186,13 @@ fn choose_model(words: &[String]) -> Option<OddsModel>
 /// The number that an option of this name chooses.
 fn choose_count(words: &[String], name: &[u8], choice: Choice) -> Option<u64>
     ensures exact { result ≡ chosen_count
-        (bytes_of words.now) name.now choice.default choice.low choice.high }
-    ensures within { IfSome result (λ n. (choice.low ≤ n) × (n ≤ choice.high)) }
+        (bytes_of words.now) name.now choice.default choice.numbers.low choice.numbers.high }
+    ensures within { IfSome result
+        (λ n. (choice.numbers.low ≤ n) × (n ≤ choice.numbers.high)) }
 {
     match value_of(words, name) {
         None => Some(choice.default),
-        Some(word) => read_count(word, choice.low, choice.high),
+        Some(word) => read_count(word, choice.numbers),
     }
 }
 
@@ -247,7 +259,7 @@ fn read_file_number(words: &[String]) -> Option<u64>
     ensures few { IfSome result (λ n. n ≤ 2 ^ 32) }
 {
     match words {
-        [word] => read_count(word.as_bytes(), FILE_BYTES.low, FILE_BYTES.high),
+        [word] => read_count(word.as_bytes(), FILE_BYTES.numbers),
         _ => None,
     }
 }
@@ -372,9 +384,9 @@ fn read_workload(words: &[String]) -> Option<Workload>
         return None;
     };
     Some(Workload {
-        seed: read_count(seed.as_bytes(), SEEDS.low, SEEDS.high)?,
-        scans: read_count(scans.as_bytes(), SCANS.low, SCANS.high)? as u32,
-        points: read_count(points.as_bytes(), POINTS.low, POINTS.high)? as u32,
+        seed: read_count(seed.as_bytes(), SEEDS)?,
+        scans: read_count(scans.as_bytes(), SCANS)? as u32,
+        points: read_count(points.as_bytes(), POINTS)? as u32,
     })
 }
 

@@ -59,7 +59,6 @@ fn judge(alloc: Global, bytes: &[u8]) -> Result<Result<BtFile, NoMap>, Memory>
     match read_classes(alloc, bytes) {
         Ok(file) => {
             // Called for its clauses alone: it computes nothing.
-            // Called for its clauses alone: it computes nothing.
             file.codes();
             Ok(Ok(file))
         }

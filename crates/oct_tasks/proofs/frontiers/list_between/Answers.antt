@@ -6,13 +6,15 @@ use Rattle.oct_frontier.specs.declared.fault.FrontierFault.{FrontierFault}
 use Rattle.oct_tasks.specs.Frontiers.{list_reply}
 use Rattle.oct_tasks.specs.OverFile.{Reply, EndsOverFile}
 use Rattle.oct_tasks.proofs.OverFile.{none_sent}
-use Rattle.oct_tasks.proofs.Replies.{list_told, list_refused}
+use Rattle.oct_tasks.proofs.Replies.{some_list, list_told, list_refused}
 use Rattle.oct_tasks.proofs.frontiers.list_between.Goals as goal
 
 pub returns-in_default-clause-ends : goal.returns-in_default-clause-ends
 returns-in_default-clause-ends g c = λ most bytes left to_end.
     none_sent (list_reply (frontier_between (data_classes c.args.file.now.codes) c.args.low
-    c.args.high)) most bytes left _ to_end
+    c.args.high)) most bytes left _
+    (some_list (frontier_between (data_classes c.args.file.now.codes) c.args.low c.args.high))
+    to_end
 
 pub returns-in-Ok-frontier-clause-ends : goal.returns-in-Ok-frontier-clause-ends
 returns-in-Ok-frontier-clause-ends g c = λ most bytes left to_end.
@@ -39,4 +41,6 @@ returns-in-Err-TooManyFrontiers-clause-ends g c = λ most bytes left to_end.
 pub returns-clause-ends : goal.returns-clause-ends
 returns-clause-ends g c = λ most bytes left to_end.
     none_sent (list_reply (frontier_between (data_classes c.args.file.now.codes) c.args.low
-    c.args.high)) most bytes left _ to_end
+    c.args.high)) most bytes left _
+    (some_list (frontier_between (data_classes c.args.file.now.codes) c.args.low c.args.high))
+    to_end

@@ -6,13 +6,13 @@ use Rattle.oct_export.proofs.Same.{same_scene}
 use Rattle.oct_tasks.specs.Grids.{scene_reply}
 use Rattle.oct_tasks.specs.OverFile.{Reply, EndsOverFile}
 use Rattle.oct_tasks.proofs.OverFile.{none_sent, text_sent}
-use Rattle.oct_tasks.proofs.Replies.{scene_told, scene_refused}
+use Rattle.oct_tasks.proofs.Replies.{some_scene, scene_told, scene_refused}
 use Rattle.oct_tasks.proofs.grids.draw_boxes.Goals as goal
 
 pub returns-in_default-clause-ends : goal.returns-in_default-clause-ends
 returns-in_default-clause-ends g c = λ most bytes left to_end.
     none_sent (scene_reply c.args.file.now.res (data_classes c.args.file.now.codes)) most bytes left
-    _ to_end
+    _ (some_scene c.args.file.now.res (data_classes c.args.file.now.codes)) to_end
 
 pub returns-then-count-gt-MOST_BOXES-clause-ends : goal.returns-then-count-gt-MOST_BOXES-clause-ends
 returns-then-count-gt-MOST_BOXES-clause-ends g c = λ most bytes left to_end.
@@ -33,4 +33,4 @@ returns-clause-ends g c = λ most bytes left to_end.
     c.in-Ok.ensures.classes)
     (scene_told c.args.file.now.res (classes_in c.in-Ok.tree) (data_classes c.args.file.now.codes) _
     c.in-Ok.ensures.classes c.box_count-count.ensures c.if-count-gt-MOST_BOXES.false)
-    c.status_written.ensures c.vrml.ensures.written c.vrml.ensures.begun to_end
+    c.status_written.ensures c.vrml.ensures.written c.vrml.ensures.cut to_end

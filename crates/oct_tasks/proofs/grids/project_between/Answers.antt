@@ -7,7 +7,7 @@ use Rattle.oct_key.specs.Voxel.{IsInMap}
 use Rattle.oct_tasks.specs.Grids.{grid_reply}
 use Rattle.oct_tasks.specs.OverFile.{Reply, EndsOverFile}
 use Rattle.oct_tasks.proofs.OverFile.{none_sent, text_sent}
-use Rattle.oct_tasks.proofs.Replies.{grid_told, grid_refused}
+use Rattle.oct_tasks.proofs.Replies.{some_grid, grid_told, grid_refused}
 use Rattle.oct_tasks.proofs.grids.project_between.Goals as goal
 
 pub returns-then-count-gt-MOST_COLUMNS-clause-ends
@@ -23,7 +23,9 @@ returns-then-count-gt-MOST_COLUMNS-clause-ends g c = λ most bytes left to_end.
 pub returns-in_default-clause-ends : goal.returns-in_default-clause-ends
 returns-in_default-clause-ends g c = λ most bytes left to_end.
     none_sent (grid_reply (data_classes c.args.file.now.codes)
-    (record { lo = c.args.low; hi = c.args.high })) most bytes left _ to_end
+    (record { lo = c.args.low; hi = c.args.high })) most bytes left _
+    (some_grid (data_classes c.args.file.now.codes) (record { lo = c.args.low; hi = c.args.high }))
+    to_end
 
 pub returns-clause-ends : goal.returns-clause-ends
 returns-clause-ends g c = λ most bytes left to_end.
@@ -36,4 +38,4 @@ returns-clause-ends g c = λ most bytes left to_end.
     c.in-Ok.ensures.classes inside)
     (grid_told (data_classes c.args.file.now.codes) (record { lo = c.args.low; hi = c.args.high }) _
     c.column_count-count.ensures c.if-count-gt-MOST_COLUMNS.false)
-    c.status_written.ensures c.pgm.ensures.written c.pgm.ensures.begun to_end
+    c.status_written.ensures c.pgm.ensures.written c.pgm.ensures.cut to_end
