@@ -1,7 +1,7 @@
 use oct_io::{CalmSink, KeptList, MemSink, Sink, SinkFault};
 use oct_key::{Key, Res, Window};
 use oct_odds::OddsModel;
-use oct_snap::{SnapFault, check, write};
+use oct_snap::{SnapFault, check, fill, write};
 use oct_tree::OccTree;
 use std::alloc::{AllocError, Global};
 use std::process::Abort;
@@ -108,7 +108,23 @@ fn reads_what_it_writes(rt: HostRuntime) -> Result<(), Fail> {
     Ok(())
 }
 
-/// The empty map's of version 1.
+/// The tree of a snapshot that needs no groups.
+fn filled(rt: &impl Abort, alloc: Global, bytes: &[u8]) -> Result<OccTree, SnapFault> {
+    let info = check(bytes, OddsModel::default())?;
+    assert!(rt; info.groups == 0);
+    let mut tree = OccTree::new(alloc, info.res, info.odds);
+    fill(bytes, &mut tree);
+    Ok(tree)
+}
+
+#[test]
+fn fills_a_tree_that_is_known_to_be_tidy(rt: HostRuntime) -> Result<(), Fail> {
+    let tree = filled(&rt, rt.alloc(), &WHOLE)?;
+    assert!(rt; tree.tidiness().is_tidy());
+    Ok(())
+}
+
+/// The snapshot of version 1 of the empty map.
 const OLD_EMPTY: [u8; 17] = [
     0x4F, 0x43, 0x54, 0x53, 0x4E, 0x41, 0x50, 0x31, 0x00, 0x00, 0x00, 0x00, 0x05, 0xF5, 0xE1, 0x00,
     0x00,
