@@ -5,7 +5,7 @@ ghost use Rattle.oct_key.specs.Voxel.{Voxel, IsInMap};
 ghost use Rattle.oct_odds.specs.Odds.{default_odds};
 ghost use Rattle.oct_bt.specs.Classes.{value_for};
 ghost use Rattle.oct_bt.specs.DataClasses.{data_classes};
-ghost use Rattle.oct_bt.specs.Mixtures.{classes_in};
+ghost use Rattle.oct_tree.specs.Classes.{classes_in};
 ghost use Rattle.oct_bt.specs.NodeData.{IsAccepted};
 ghost use Rattle.oct_bt.specs.Records.{record_total};
 ghost use Rattle.oct_tree.specs.Shape.{IsWellFormed};

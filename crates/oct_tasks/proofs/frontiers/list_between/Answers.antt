@@ -1,6 +1,6 @@
 use Rattle.std.proofs.Common.{length, sym, ap, subst}
 use Rattle.oct_bt.specs.DataClasses.{data_classes}
-use Rattle.oct_export.specs.Seen.{classes_in}
+use Rattle.oct_tree.specs.Classes.{classes_in}
 use Rattle.oct_frontier.specs.Frontier.{frontier_between, IsRefused}
 use Rattle.oct_frontier.specs.declared.fault.FrontierFault.{FrontierFault}
 use Rattle.oct_tasks.specs.Frontiers.{list_reply}

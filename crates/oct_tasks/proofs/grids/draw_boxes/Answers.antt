@@ -1,7 +1,7 @@
 use Rattle.std.proofs.Common.{sym, ap, subst, ◌∙◌}
 use Rattle.oct_bt.specs.DataClasses.{data_classes}
 use Rattle.oct_export.specs.BoxTexts.{vrml_text}
-use Rattle.oct_export.specs.Seen.{classes_in}
+use Rattle.oct_tree.specs.Classes.{classes_in}
 use Rattle.oct_export.proofs.Same.{same_scene}
 use Rattle.oct_tasks.specs.Grids.{scene_reply}
 use Rattle.oct_tasks.specs.OverFile.{Reply, EndsOverFile}

@@ -1,7 +1,7 @@
 use Rattle.std.proofs.Common.{sym, subst, rules}
 use Rattle.oct_bt.specs.DataClasses.{data_classes}
 use Rattle.oct_export.specs.Grids.{pgm_text}
-use Rattle.oct_export.specs.Seen.{classes_in}
+use Rattle.oct_tree.specs.Classes.{classes_in}
 use Rattle.oct_export.proofs.Same.{same_grid}
 use Rattle.oct_key.specs.Voxel.{IsInMap}
 use Rattle.oct_tasks.specs.Grids.{grid_reply}
