@@ -36,4 +36,5 @@ pub record IsNewChunk (first : ℕ) (gs : Groups) : Type 0 where
 
 -- a new chunk is added
 abbrev pub HasGrown : Groups → Groups → Type 0
-HasGrown before after = (chunk : Groups) × (after ≡ before ++ chunk) × IsNewChunk (length before) chunk
+HasGrown before after =
+    (chunk : Groups) × (after ≡ before ++ chunk) × IsNewChunk (length before) chunk

@@ -17,8 +17,8 @@ const HIT: Event = Event::Add(850);
 
 const MISS: Event = Event::Add(-400);
 
-/// The code of the brick at the origin: the highest bit of each axis, which are the highest three of
-/// the code's 42. The next code is that of the brick beside it on the x axis.
+/// The code of the brick at the origin: the highest bit of each axis, which are the highest three
+/// of the code's 42. The next code is that of the brick beside it on the x axis.
 const ORIGIN: u64 = 0x380_0000_0000;
 
 /// Room for a scan of two bricks: sixteen groups for each of their voxels, hit or freed.

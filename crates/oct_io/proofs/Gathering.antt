@@ -6,7 +6,7 @@ use Rattle.std.specs.Prelude.{Result, Ok, Err, OnErr}
 use Rattle.std.proofs.Math.Seq.{take-add, take-append-add, drop-append-add}
 use Rattle.std.proofs.lemmas.List.{take-append-drop, drop-drop, length-drop}
 use Rattle.oct_io.specs.Gathered.{handed_on}
-use Rattle.oct_io.specs.Taken.{IsBegun, IsCutOff, IsGathered, IsTaken, IsRefused}
+use Rattle.oct_io.specs.Taken.{IsCutOff, IsGathered, IsTaken, IsRefused}
 use Rattle.oct_io.specs.Told.{appended}
 use Rattle.oct_io.proofs.Appending.{appended_twice, appended_nil}
 
@@ -101,16 +101,6 @@ cut_behind old out new front piece more before (count, less, is) =
     take_within xs ys zero l = refl
     take_within [] ys (suc n) l = absurd (omega arith)
     take_within (x ∷ xs) ys (suc n) l = ap (λ t. x ∷ t) (take_within xs ys n (omega arith))
-
--- of which a part is a front
-pub cut_begun : (old new : Option (List ℕ)) (text : List ℕ) → IsCutOff old new text
-    → IsBegun text old new
-cut_begun old new text (count, less, is) = record {
-  done = take count text;
-  rest = drop count text;
-  written = is;
-  split = sym (take-append-drop count text);
-}
 
 -- where it gives up, a part of all was handed on
 pub pushing_cut : (all held rest : List ℕ) (room n : ℕ) (old new next : Option (List ℕ))

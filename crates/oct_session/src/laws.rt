@@ -22,8 +22,8 @@ pub fn values_are_folds()
         → value_after o history k ≡ alone_after o history k }
 {}
 
-/// What is wrong with a file of classes has the same text where a `load` is refused for it and where
-/// a task over a file is. A law, with nothing to compute.
+/// What is wrong with a file of classes has the same text where a `load` is refused for it and
+/// where a task over a file is. A law, with nothing to compute.
 pub fn faults_read_alike()
     ensures { (fault : BtFault) → IfSome (file_refusal fault)
         (λ refusal. refusal_text refusal ≡ fault_text fault) }
