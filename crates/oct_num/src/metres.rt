@@ -64,13 +64,14 @@ pub fn split_metres(text: &[u8]) -> Option<(i64, &[u8])>
 {
     let (minus, magnitude) = split_sign(text);
     let whole = split_number(magnitude);
+    // Read before the whole digits are judged: nearly every text has its length, and so it's faster.
+    let fraction = split_fraction(whole.rest);
     if whole.count == 0 {
         return None;
     }
     if whole.count > MOST_WHOLE_DIGITS {
         return None;
     }
-    let fraction = split_fraction(whole.rest);
     if fraction.count > MOST_FRACTION_DIGITS {
         return None;
     }
