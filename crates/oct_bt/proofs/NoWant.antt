@@ -12,7 +12,7 @@ use Rattle.oct_bt.specs.Canonical.{node_total}
 use Rattle.oct_bt.specs.File.{FileRead, file_with, after_header, reading}
 use Rattle.oct_bt.specs.Header.{Header, HeaderLine, judged_size, judged_res, judged_id}
 use Rattle.oct_bt.specs.Header.{first_line_fault, head_of, head_fields, data_line, unless_faulty}
-use Rattle.oct_bt.specs.Header.{no_data_line, header_at, header_of}
+use Rattle.oct_bt.specs.Header.{header_at, header_of}
 use Rattle.oct_bt.specs.NodeData.{Progress, Reads, Stopped, records_in, after_byte, at_first}
 use Rattle.oct_bt.specs.NodeData.{after_bytes, judged, read_nodes}
 

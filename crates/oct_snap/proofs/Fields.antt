@@ -1,5 +1,5 @@
 -- The fields of a snapshot, test by test.
-use Rattle.std.proofs.Common.{◌≡◌, ℕ, ◌<◌, ◌≤◌, Some, None, List, length}
+use Rattle.std.proofs.Common.{◌≡◌, ℕ, ◌≤◌, Some, None, List, length}
 use Rattle.std.proofs.Common.{sym, subst, ◌∙◌, ap, arith, cond}
 use Rattle.std.specs.Prelude.{ℤ, IfOk, IfErr, Bool, true, false, nat_lt, nat_eq, codes}
 use Rattle.std.specs.Prelude.{Result, Ok, Err}
@@ -10,7 +10,7 @@ use Rattle.oct_odds.specs.declared.model.BadModel.{BadModel}
 use Rattle.oct_snap.specs.declared.fault.SnapFault.{SnapFault}
 use Rattle.oct_snap.specs.declared.fault.SnapFault.TheVariants.{BadMagic, Truncated, BadSnapshot}
 use Rattle.oct_snap.specs.declared.head.FieldsRead.{FieldsRead}
-use Rattle.oct_snap.specs.Reading.{Fields, fields, number_at}
+use Rattle.oct_snap.specs.Reading.{Fields, number_at}
 use Rattle.oct_snap.specs.Reading.{odds_at, read_version, res_at, is_resolution}
 use Rattle.oct_snap.specs.Reading.{read_res, read_fields}
 use Rattle.oct_snap.specs.Checked.{AreFieldsRead}

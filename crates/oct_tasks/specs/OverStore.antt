@@ -1,6 +1,6 @@
 -- What the tasks over two files of the store write, and how they may end.
 use Rattle.std.specs.Prelude.{◌≡◌, ℕ, ◌+◌, ◌++◌, List, [], ◌∷◌, codes, decimal, pos, slice_index_or}
-use Rattle.std.specs.Prelude.{Option, Some, None, Result, Ok, Err, ⊤, if◌then◌else◌}
+use Rattle.std.specs.Prelude.{Option, Some, None, Result, Ok, Err, ⊤}
 use Rattle.std.specs.List.{flat_map}
 use Rattle.oct_bt.specs.Classes.{value_for}
 use Rattle.oct_bt.specs.DataClasses.{data_classes}
@@ -12,8 +12,6 @@ use Rattle.oct_io.specs.Told.{appended}
 use Rattle.oct_key.specs.Block.{root_block}
 use Rattle.oct_key.specs.Boxes.{Corners}
 use Rattle.oct_key.specs.Values.{Values}
-use Rattle.oct_key.specs.declared.point.Point.{Point}
-use Rattle.oct_key.specs.Voxel.{Voxel}
 use Rattle.oct_merge.specs.declared.rule.Rule.{Rule}
 use Rattle.oct_merge.specs.Merged.{merged}
 use Rattle.oct_merge.specs.Pairs.{pair_of, pairs_in}
@@ -25,8 +23,8 @@ use Rattle.oct_script.specs.declared.reply.Refusal.{Refusal}
 use Rattle.oct_script.specs.declared.reply.Refusal.TheVariants as refusal
 use Rattle.oct_script.specs.declared.reply.Reply.TheVariants as script
 use Rattle.oct_session.specs.declared.options.Status.{Status}
-use Rattle.oct_session.specs.declared.options.Status.TheVariants.{Done, Refused, Usage, BadFile}
-use Rattle.oct_session.specs.declared.options.Status.TheVariants.{TooLong, ReadFault, WriteFault}
+use Rattle.oct_session.specs.declared.options.Status.TheVariants.{Done, Refused}
+use Rattle.oct_session.specs.declared.options.Status.TheVariants.{WriteFault}
 use Rattle.oct_session.specs.declared.options.Status.TheVariants.{Memory, StoreFault}
 use Rattle.oct_values.specs.Classes.{classes_of}
 use Rattle.oct_tasks.specs.OverFile.{Reply}

@@ -1,4 +1,4 @@
-use Rattle.std.proofs.Common.{◌≡◌, Some, ap}
+use Rattle.std.proofs.Common.{Some, ap}
 use Rattle.oct_tasks.specs.declared.task.Task.{Task}
 use Rattle.oct_tasks.specs.Asked.{asked}
 use Rattle.oct_session.specs.Leaving.{shelf}
