@@ -213,7 +213,7 @@ fn notes_what_a_scan_hits_and_frees(rt: HostRuntime) -> Result<(), Fail> {
 /// Notes the voxels of a box of four, in room that is made for them.
 fn note_box(changes: &mut Changes, tree: &OccTree) -> Result<(), Memory> {
     changes.reserve(4)?;
-    changes.note_box(tree, key(7, 6, 5), key(8, 6, 6));
+    changes.note_box(tree, Key { x: 7, y: 6, z: 5 }, Key { x: 8, y: 6, z: 6 });
     Ok(())
 }
 
