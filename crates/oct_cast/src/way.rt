@@ -13,20 +13,20 @@ use oct_tree::OccTree;
 /// The way down a tree to a voxel: through the groups that the nodes over it link, to the node that
 /// isn't Inner.
 #[derive(Drop)]
-pub struct Way {
+pub(crate) struct Way {
     /// The groups that are linked above the way's end, by their depths.
-    pub groups: [GroupId; 16],
+    pub(crate) groups: [GroupId; 16],
     /// How deep the block of the node at the end is.
-    pub depth: u8,
+    pub(crate) depth: u8,
     /// How many of a code's last bits the voxels of that block don't have in common.
-    pub height: u8,
+    pub(crate) height: u8,
     /// The bits before them, which they have in common.
-    pub block: u64,
+    pub(crate) block: u64,
 }
 
 impl Way {
     /// The way from the root, which links a group, to the voxel of a code, and the node at its end.
-    pub fn new(tree: &OccTree, id: GroupId, code: u64) -> (Way, Node)
+    pub(crate) fn new(tree: &OccTree, id: GroupId, code: u64) -> (Way, Node)
         requires root { link_of tree.now.root ≡ Some id.number }
         requires code { (k : Voxel) × IsCodeOf code k }
         ensures leads { (k : Voxel) → IsCodeOf code k → LeadsTo tree.now result.0 k }
@@ -44,7 +44,7 @@ impl Way {
     }
 
     /// Whether the voxel of a code lies in the block of the node at the end.
-    pub fn is_over(&self, code: u64) -> bool
+    pub(crate) fn is_over(&self, code: u64) -> bool
         requires { self.now.height ≤ 48 }
         ensures { IsTrue result ↔ (code / 2 ^ self.now.height ≡ self.now.block) }
     {
@@ -53,7 +53,7 @@ impl Way {
 
     /// Leads to the voxel of a code that doesn't lie in the block of the node at the end, and
     /// answers the node at the new end. Goes up only to the block that holds both voxels.
-    pub fn turn_to(&mut self, tree: &OccTree, code: u64) -> Node
+    pub(crate) fn turn_to(&mut self, tree: &OccTree, code: u64) -> Node
         requires before { (k : Voxel) × LeadsTo tree.now self.old k }
         requires code { (k : Voxel) × IsCodeOf code k }
         requires leaves { code / 2 ^ self.old.height ≢ self.old.block }

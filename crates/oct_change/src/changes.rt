@@ -24,7 +24,9 @@ use std::marker::Model;
 /// A voxel, and the class that it had.
 #[derive(Clone, Copy, Debug, PartialEq, Eq)]
 pub struct Note {
+    /// The voxel.
     pub key: Key,
+    /// The class that it had.
     pub before: Class,
 }
 

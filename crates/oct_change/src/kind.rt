@@ -20,7 +20,9 @@ pub enum Kind {
 /// A voxel that changed.
 #[derive(Clone, Copy, Debug, PartialEq, Eq)]
 pub struct Change {
+    /// The voxel.
     pub key: Key,
+    /// How its class has changed.
     pub kind: Kind,
 }
 

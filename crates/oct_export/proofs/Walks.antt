@@ -5,7 +5,7 @@ use Rattle.std.proofs.Common.{append-nil, length-append}
 use Rattle.std.specs.Prelude.{◌&&◌}
 use Rattle.std.proofs.lemmas.Grind.{flat_map-append}
 use Rattle.oct_key.specs.Voxel.{Voxel}
-use Rattle.oct_key.specs.Block.{Cube, IsBlock, HoldsVoxel, child_of, number_of_child, parent_of}
+use Rattle.oct_key.specs.Block.{Cube, IsBlock, HoldsVoxel, child_of, index_in_parent, parent_of}
 use Rattle.oct_key.proofs.Blocks.{depth_child_of, parent_of_child, child_of_parent, child_injective}
 use Rattle.oct_odds.specs.declared.event.Class.{Class}
 use Rattle.oct_odds.specs.declared.event.Class.TheVariants.{Occupied}
@@ -18,14 +18,14 @@ use Rattle.oct_export.proofs.Boxes.{boxes_of_full, boxes_of_parts, first_of_full
 use Rattle.oct_export.proofs.Boxes.{leaf_boxes}
 
 -- which child of its parent a child is
-pub number_below : (b : Cube) → number_of_child b < 8
-unfolding number_of_child
+pub number_below : (b : Cube) → index_in_parent b < 8
+unfolding index_in_parent
 number_below b = omega arith
 
-pub number_is : (b : Cube) (i : ℕ) → i < 8 → number_of_child (child_of b i) ≡ i
+pub number_is : (b : Cube) (i : ℕ) → i < 8 → index_in_parent (child_of b i) ≡ i
 number_is b i li =
     let deep = depth_child_of b i in
-    (child_injective (parent_of (child_of b i)) b (number_of_child (child_of b i)) i
+    (child_injective (parent_of (child_of b i)) b (index_in_parent (child_of b i)) i
     (number_below (child_of b i)) li
     (child_of_parent (child_of b i) (omega (arith, deep)))).1
 
@@ -36,7 +36,7 @@ unfolding blocks_before
 before_child levels b i li =
     let e : levels + 1 ≡ suc levels = omega arith in
     ap (λ (n : ℕ). blocks_before n (child_of b i)) e
-    ∙ ap (λ p. blocks_before levels p ++ children_before p (number_of_child (child_of b i)))
+    ∙ ap (λ p. blocks_before levels p ++ children_before p (index_in_parent (child_of b i)))
     (parent_of_child b i)
     ∙ ap (λ (n : ℕ). blocks_before levels b ++ children_before b n) (number_is b i li)
 
@@ -247,7 +247,7 @@ before_rest edge levels p i (suc left) =
     )
 
 pub before_whole : (edge levels : ℕ) (b p : Cube) (n : ℕ) → 0 < levels → p ≡ parent_of b
-    → n ≡ number_of_child b
+    → n ≡ index_in_parent b
     → before_child_of edge levels p n ≡ box_lines edge (blocks_before levels b)
 unfolding before_child_of blocks_before
 before_whole edge levels b p n some is_p is_n =
@@ -262,27 +262,27 @@ pub above_cut : (edge levels : ℕ) (b p : Cube) → 0 < levels → p ≡ parent
     × (box_lines edge (blocks_before (levels - 1) p) ++ rest
     ≡ box_lines edge (blocks_before levels b))
 above_cut edge levels b p some is_p =
-    let (rest, is) = before_rest edge levels p 0 (number_of_child b) in
-    let e : 0 + number_of_child b ≡ number_of_child b = omega arith in (
+    let (rest, is) = before_rest edge levels p 0 (index_in_parent b) in
+    let e : 0 + index_in_parent b ≡ index_in_parent b = omega arith in (
       rest,
       ap (λ l. l ++ rest) (before_start edge levels p 0 refl) ∙ is
           ∙ ap (before_child_of edge levels p) e
-          ∙ before_whole edge levels b p (number_of_child b) some is_p refl,
+          ∙ before_whole edge levels b p (index_in_parent b) some is_p refl,
     )
 
 pub before_cut : (edge levels : ℕ) (b p : Cube) (i : ℕ) → 0 < levels → p ≡ parent_of b
-    → i < number_of_child b
+    → i < index_in_parent b
     → (rest : List ℕ)
     × (before_child_of edge levels p i ++ (box_line edge (child_of p i) ++ rest)
     ≡ box_lines edge (blocks_before levels b))
 before_cut edge levels b p i some is_p less =
-    let (rest, is) = before_rest edge levels p (i + 1) (number_of_child b - (i + 1)) in
-    let e : i + 1 + (number_of_child b - (i + 1)) ≡ number_of_child b = omega (arith, less) in (
+    let (rest, is) = before_rest edge levels p (i + 1) (index_in_parent b - (i + 1)) in
+    let e : i + 1 + (index_in_parent b - (i + 1)) ≡ index_in_parent b = omega (arith, less) in (
       rest,
       sym (append_assoc (before_child_of edge levels p i) (box_line edge (child_of p i)) rest)
           ∙ ap (λ l. l ++ rest) (before_next edge levels p i) ∙ is
           ∙ ap (before_child_of edge levels p) e
-          ∙ before_whole edge levels b p (number_of_child b) some is_p refl,
+          ∙ before_whole edge levels b p (index_in_parent b) some is_p refl,
     )
 
 pub bytes_more : (a b all : List ℕ) (m n : ℕ) → m ≡ length a % 2 ^ 64 → n ≡ length b → a ++ b ≡ all

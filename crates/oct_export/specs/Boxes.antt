@@ -2,7 +2,7 @@
 use Rattle.std.specs.Prelude.{ℕ, zero, suc, ◌+◌, ◌-◌, Bool, ◌&&◌, ◌||◌, not, nat_eq, List, [], ◌∷◌}
 use Rattle.std.specs.Prelude.{◌++◌, if◌then◌else◌}
 use Rattle.std.specs.List.{filter, flat_map, list_all}
-use Rattle.oct_key.specs.Block.{Cube, child_of, number_of_child, parent_of, root_block}
+use Rattle.oct_key.specs.Block.{Cube, child_of, index_in_parent, parent_of, root_block}
 use Rattle.oct_odds.specs.declared.event.Class.TheVariants.{Occupied}
 use Rattle.oct_values.specs.Blocks.{child_numbers, voxels_of, blocks_below}
 use Rattle.oct_values.specs.Classes.{Classes, is_same_class}
@@ -47,7 +47,7 @@ children_before b (suc i) = children_before b i ++ child_of b i ∷ []
 unfoldable pub blocks_before : ℕ → Cube → List Cube
 blocks_before zero b = []
 blocks_before (suc levels) b =
-    blocks_before levels (parent_of b) ++ children_before (parent_of b) (number_of_child b)
+    blocks_before levels (parent_of b) ++ children_before (parent_of b) (index_in_parent b)
 
 -- what a walk through a block finds out, where all voxels before it in the block this many levels
 -- above it are occupied: nothing as long as its own are too, else which boxes these are, and its

@@ -1,7 +1,7 @@
 //! Occupied space as a scene of boxes.
 ghost use Rattle.std.specs.Prelude.{◌≡◌, ◌%◌, ◌^◌, ◌≤◌, ◌++◌, Some, [], OnOk, OnErr, IfOk, length};
 ghost use Rattle.std.specs.Prelude.{if◌then◌else◌};
-ghost use Rattle.oct_key.specs.Block.{number_of_child};
+ghost use Rattle.oct_key.specs.Block.{index_in_parent};
 ghost use Rattle.oct_key.specs.CubeOf.{cube_of};
 ghost use Rattle.oct_io.specs.Counts.{IsWriteCounted};
 ghost use Rattle.oct_io.specs.Taken.{IsCutOff};
@@ -52,7 +52,7 @@ fn push_box<K: Sink>(
 
 /// Which child of its parent a block is.
 fn number_of(block: Block) -> u8
-    ensures exact { result ≡ number_of_child (cube_of block) }
+    ensures exact { result ≡ index_in_parent (cube_of block) }
     ensures few { result ≤ 7 }
 {
     let x = block.x % 2;

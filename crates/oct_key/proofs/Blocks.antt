@@ -12,7 +12,7 @@ use Rattle.oct_key.specs.declared.block.Block.{Block}
 use Rattle.oct_key.specs.Voxel.{Voxel, IsInMap}
 use Rattle.oct_key.specs.CubeOf.{cube_of}
 use Rattle.oct_key.specs.Block.{Cube, IsBlock, HoldsNumber, HoldsVoxel, is_same_block, block_of}
-use Rattle.oct_key.specs.Block.{child_of, parent_of, number_of_child, child_index_of, root_block}
+use Rattle.oct_key.specs.Block.{child_of, parent_of, index_in_parent, child_index_of, root_block}
 use Rattle.oct_key.specs.Block.{lowest_voxel}
 
 -- a quotient by the next power of two is half of the one by this
@@ -249,8 +249,8 @@ holds_as_child b c i k l li e =
     (child_holds b i k l li)
 
 -- a block is the child of its parent that its lowest bits say
-pub child_of_parent : (b : Cube) → 1 ≤ b.depth → child_of (parent_of b) (number_of_child b) ≡ b
-unfolding child_of parent_of number_of_child
+pub child_of_parent : (b : Cube) → 1 ≤ b.depth → child_of (parent_of b) (index_in_parent b) ≡ b
+unfolding child_of parent_of index_in_parent
 child_of_parent b l = same_cube _ _ (omega arith) (omega arith) (omega arith) (omega arith)
 
 -- the parent of a child is the block

@@ -59,8 +59,8 @@ unfoldable pub parent_of : Cube → Cube
 parent_of b = record { depth = b.depth - 1; x = b.x / 2; y = b.y / 2; z = b.z / 2 }
 
 -- which child of its parent a block is
-unfoldable pub number_of_child : Cube → ℕ
-number_of_child b = b.x % 2 + 2 * (b.y % 2) + 4 * (b.z % 2)
+unfoldable pub index_in_parent : Cube → ℕ
+index_in_parent b = b.x % 2 + 2 * (b.y % 2) + 4 * (b.z % 2)
 
 -- which child of the block of a depth holds a voxel: bit 15 - depth of each of its numbers
 unfoldable pub child_index_of : ℕ → Voxel → ℕ

@@ -19,7 +19,7 @@ pub struct Block {
 }
 
 impl Block {
-    ghost use Rattle.oct_key.specs.Block.{Cube, HoldsVoxel, parent_of, number_of_child, root_block};
+    ghost use Rattle.oct_key.specs.Block.{Cube, HoldsVoxel, parent_of, index_in_parent, root_block};
     ghost use Rattle.oct_key.specs.CubeOf.{cube_of};
 
     /// The block of the whole map.
@@ -75,7 +75,7 @@ impl Block {
     pub fn parent(&self) -> Block
         requires { 1 ≤ self.now.depth }
         ensures exact { cube_of result ≡ parent_of (cube_of self.now) }
-        ensures child { child_of (cube_of result) (number_of_child (cube_of self.now))
+        ensures child { child_of (cube_of result) (index_in_parent (cube_of self.now))
             ≡ cube_of self.now }
     {
         Block {

@@ -61,7 +61,7 @@ const MOST_LISTED: u64 = 1_000_000;
 const MOST_NOTED: u64 = 1_000_000;
 
 /// The depth of the voxels.
-const VOXELS: u32 = 16;
+const VOXEL_DEPTH: u32 = 16;
 
 /// An occupancy map: a value for each voxel, or none where nothing is known of it.
 #[derive(Drop)]
@@ -346,10 +346,10 @@ impl OccMap {
         let Some(k) = self.tree.res().key_of(p) else {
             return Err(MapFault::Outside { point: 1 });
         };
-        if depth > VOXELS {
+        if depth > VOXEL_DEPTH {
             return Err(MapFault::BadDepth);
         }
-        if self.is_stale && depth < VOXELS {
+        if self.is_stale && depth < VOXEL_DEPTH {
             return Err(MapFault::Stale);
         }
         Ok(query(&self.tree, Block::of(k, depth as u8)))
@@ -376,13 +376,13 @@ impl OccMap {
         let Some(last) = self.tree.res().key_of(hi) else {
             return Err(MapFault::Outside { point: 2 });
         };
-        if depth > VOXELS {
+        if depth > VOXEL_DEPTH {
             return Err(MapFault::BadDepth);
         }
         if !is_box(first, last) {
             return Err(MapFault::BadBox);
         }
-        if self.is_stale() && depth < VOXELS {
+        if self.is_stale() && depth < VOXEL_DEPTH {
             return Err(MapFault::Stale);
         }
         let blocks = list(

@@ -64,7 +64,7 @@ pub fn split_metres(text: &[u8]) -> Option<(i64, &[u8])>
 {
     let (minus, magnitude) = split_sign(text);
     let whole = split_number(magnitude);
-    // Read before the whole digits are judged: nearly every text has its length, and so it's faster.
+    // Read before the whole digits are judged: nearly every text is a length, and so it's faster.
     let fraction = split_fraction(whole.rest);
     if whole.count == 0 {
         return None;

@@ -3,6 +3,7 @@ use oct_key::Block;
 /// A block and what it answers.
 #[derive(Clone, Copy, Debug, PartialEq, Eq)]
 pub struct Found {
+    /// The block, of the depth that was asked for.
     pub block: Block,
     /// The largest known value among the block's voxels, in thousandths.
     pub value: i32,
