@@ -97,6 +97,8 @@ def main():
     words.add_argument("--program", default=LAUNCHER)
     words.add_argument("--without", default="")
     given = words.parse_args()
+    if given.last < given.first:
+        words.error("there is no seed from FIRST to LAST")
     for seed in range(given.first, given.last + 1):
         for call, data, files in runs(random.Random(seed), set(given.without.split(","))):
             right, found = wanted(call, data, files), came(given.program, call, data, files)
