@@ -33,3 +33,10 @@ pub mod Volumes
 pub mod Tallies
 pub mod Rewrites
 pub mod Fronts
+pub mod Depths
+pub mod Refused
+pub mod Begun
+pub mod Answered
+pub mod RecordFronts
+pub mod FileFaults
+pub mod Tested

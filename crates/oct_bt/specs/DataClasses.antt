@@ -1,9 +1,9 @@
 -- The classes that node data gives the voxels of the map.
-use Rattle.std.specs.Prelude.{ℕ, zero, suc, List, [], ◌∷◌, ◌++◌}
+use Rattle.std.specs.Prelude.{ℕ, zero, suc, Bool, List, [], ◌∷◌, ◌++◌, bytes_eq}
 use Rattle.oct_odds.specs.declared.event.Class.{Class}
 use Rattle.oct_odds.specs.declared.event.Class.TheVariants.{Unknown, Free, Occupied}
 use Rattle.oct_values.specs.Classes.{Classes}
-use Rattle.oct_bt.specs.Canonical.{codes_in}
+use Rattle.oct_bt.specs.Canonical.{canonical_data, codes_in}
 use Rattle.oct_bt.specs.Records.{Entries, End, Plain, Record, class_by}
 
 -- the entries that some codes say, and what stands after the text of the records among them
@@ -51,3 +51,7 @@ split_record (suc depths) text = record { entries = End; rest = text }
 unfoldable pub data_classes : List ℕ → Classes
 data_classes [] k = Unknown
 data_classes (byte ∷ bytes) k = class_by 0 (split_record 16 (byte ∷ bytes)).entries k
+
+-- whether node data is the canonical one of the classes that it gives the voxels
+unfoldable pub is_canonical : List ℕ → Bool
+is_canonical bytes = bytes_eq bytes (canonical_data (data_classes bytes))

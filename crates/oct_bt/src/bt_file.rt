@@ -4,6 +4,7 @@ ghost use Rattle.oct_odds.specs.declared.event.Class.TheVariants.{Free, Occupied
 ghost use Rattle.oct_values.specs.Blocks.{voxels_of};
 ghost use Rattle.oct_values.specs.Classes.{Classes, is_same_class};
 ghost use Rattle.oct_bt.specs.Canonical.{canonical_data};
+ghost use Rattle.oct_bt.specs.DataClasses.{is_canonical};
 ghost use Rattle.oct_bt.specs.Plain.{is_canonical_data};
 ghost use Rattle.oct_bt.specs.NodeData.{IsAccepted, IsDataOf};
 ghost use Rattle.oct_bt.specs.Records.{record_total};
@@ -78,7 +79,7 @@ impl BtFile {
 
     /// Whether the node data is the canonical one of the classes that it stands for.
     pub fn is_canonical(&self) -> bool
-        ensures test { result ≡ is_canonical_data self.now.codes }
+        ensures test { result ≡ is_canonical self.now.codes }
         ensures exact { (classes : Classes) → IsDataOf classes self.now.codes
             → IsTrue result ↔ (self.now.codes ≡ canonical_data classes) }
     {

@@ -2,6 +2,7 @@
 ghost use Rattle.std.specs.Prelude.{◌≡◌, ◌⊎◌, ◌+◌, ◌*◌, ◌<◌, ◌↔◌, ◌^◌, IsTrue, OnOk, OnErr};
 ghost use Rattle.std.specs.Prelude.{IfOk, length};
 ghost use Rattle.oct_key.specs.Block.{root_block};
+ghost use Rattle.oct_key.specs.Voxel.{Voxel, IsInMap};
 ghost use Rattle.oct_io.specs.Counts.{IsWriteCounted};
 ghost use Rattle.oct_io.specs.Taken.{IsCutOff, IsRefused, IsTaken};
 ghost use Rattle.oct_io.specs.Told.{appended};
@@ -9,6 +10,7 @@ ghost use Rattle.oct_bt.specs.Canonical.{canonical_data, canonical_size};
 ghost use Rattle.oct_bt.specs.File.{header_text, bt_text};
 ghost use Rattle.oct_bt.specs.Mixtures.{leaves_text, IsMixtureOf, IsCounted};
 ghost use Rattle.oct_tree.specs.Classes.{classes_in};
+ghost use Rattle.oct_values.specs.Classes.{Classes};
 
 use crate::counting::{BlockCount, Kind, count_at};
 use crate::mixture::{Mixture, mixture_at};
@@ -144,7 +146,7 @@ pub fn encoded_len(tree: &OccTree) -> u64
 
 /// Writes the canonical file of the tree's classes, and answers its length. Groups that could be
 /// collapsed and blocks of several values but one class are written as if they were one node, so
-/// that the file depends on the classes of the voxels alone.
+/// that the file depends on the classes of the voxels alone, and tells them.
 ///
 /// Takes no memory, looks at each node a few times, however deep the tree is, and hands the sink
 /// pieces of 4,096 bytes. After an error a part of the file was written, and exactly one write of
@@ -156,6 +158,9 @@ pub fn write<K: Sink>(tree: &OccTree, sink: &mut K) -> Result<u64, SinkFault>
         ≡ appended (K.written sink.old) (bt_text tree.now.res (classes_in tree.now))) }
     ensures cut { OnErr result (IsCutOff (K.written sink.old) (K.written sink.new)
         (bt_text tree.now.res (classes_in tree.now))) }
+    ensures tells { (classes : Classes) → canonical_data classes
+        ≡ canonical_data (classes_in tree.now)
+        ↔ ((k : Voxel) → IsInMap k → classes k ≡ classes_in tree.now k) }
     ensures counts { IsWriteCounted result (K.faults sink.old) (K.faults sink.new)
         (K.shortages sink.old) (K.shortages sink.new) }
 {

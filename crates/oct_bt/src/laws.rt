@@ -1,4 +1,5 @@
 ghost use Rattle.std.specs.Prelude.{◌≡◌, ◌≤◌, ◌<◌, ◌++◌, ◌↔◌, ℕ, List, length, take, Ok, Err, Some};
+ghost use Rattle.std.specs.Prelude.{◌+◌, ◌⊎◌, Result, drop, true};
 ghost use Rattle.std.specs.List.{All};
 ghost use Rattle.oct_key.specs.Voxel.{Voxel, IsInMap, IsResolution};
 ghost use Rattle.oct_key.specs.Block.{Cube, IsBlock, HoldsVoxel};
@@ -6,9 +7,16 @@ ghost use Rattle.oct_odds.specs.declared.event.Class.{Class};
 ghost use Rattle.oct_values.specs.Classes.{Classes, class_of_block};
 ghost use Rattle.oct_bt.specs.Records.{Entries, IsRecord, flat};
 ghost use Rattle.oct_bt.specs.Canonical.{canonical_data, canonical_size};
+ghost use Rattle.oct_bt.specs.Header.{Header, head_of, header_of};
 ghost use Rattle.oct_bt.specs.File.{bt_text, front_fault, header_text, reading};
 ghost use Rattle.oct_bt.specs.NodeData.{IsAccepted, IsDataOf, read_nodes};
-ghost use Rattle.oct_bt.specs.DataClasses.{data_classes};
+ghost use Rattle.oct_bt.specs.DataClasses.{data_classes, is_canonical};
+ghost use Rattle.oct_bt.specs.Plain.{is_canonical_data};
+ghost use Rattle.oct_bt.specs.declared.fault.BtFault.{BtFault};
+ghost use Rattle.oct_bt.specs.declared.fault.BtFault.TheVariants.{TooDeep, Truncated};
+ghost use Rattle.oct_bt.specs.declared.fault.BtFault.TheVariants.{TrailingBytes, SizeMismatch};
+ghost use Rattle.oct_bt.specs.Refusals.{IsTooDeep, IsTruncated, IsTrailed, IsMiscounted};
+ghost use Rattle.oct_bt.specs.Refusals.{IsAnswer, IsFront, IsHalfTooDeep};
 
 /// A block is of a class exactly where all its voxels are.
 pub fn block_classes_are_exact()
@@ -72,4 +80,44 @@ pub fn fronts_are_refused()
     ensures exact { (res : ℕ) (c : Classes) (n : ℕ) → IsResolution res → n < length (bt_text res c)
         → reading (take n (bt_text res c))
         ≡ Err (front_fault (length (header_text (canonical_size c) res)) n) }
+{}
+
+/// Node data is canonical exactly where it is the canonical data of the classes that it gives the
+/// voxels, and of data that is accepted the test of records tells that.
+pub fn canonical_test_is_exact()
+    ensures meant { (bytes : List ℕ)
+        → is_canonical bytes ≡ true ↔ (bytes ≡ canonical_data (data_classes bytes)) }
+    ensures exact { (size : ℕ) (bytes : List ℕ) → IsAccepted size bytes
+        → is_canonical_data bytes ≡ is_canonical bytes }
+{}
+
+/// Each refusal of node data comes exactly where the bytes have its cause, and each text of bytes
+/// has exactly one answer: it is accepted, or it is one of these.
+pub fn refusals_are_exact()
+    ensures exact { (start size : ℕ) (bytes : List ℕ) (answer : Result (List ℕ) BtFault)
+        → All (λ b. b < 256) bytes
+        → read_nodes start size bytes ≡ answer ↔ IsAnswer start size bytes answer }
+    ensures too_deep { (start size at : ℕ) (bytes : List ℕ) → All (λ b. b < 256) bytes
+        → read_nodes start size bytes ≡ Err (TooDeep at) ↔ IsTooDeep start size bytes at }
+    ensures truncated { (start size at : ℕ) (bytes : List ℕ) → All (λ b. b < 256) bytes
+        → read_nodes start size bytes ≡ Err (Truncated at) ↔ IsTruncated start size bytes at }
+    ensures trailed { (start size at : ℕ) (bytes : List ℕ) → All (λ b. b < 256) bytes
+        → read_nodes start size bytes ≡ Err (TrailingBytes at) ↔ IsTrailed start size bytes at }
+    ensures miscounted { (start size said found : ℕ) (bytes : List ℕ) → All (λ b. b < 256) bytes
+        → read_nodes start size bytes ≡ Err (SizeMismatch said found)
+        ↔ IsMiscounted size bytes said found }
+    ensures fronts { (start size at : ℕ) (bytes : List ℕ) → All (λ b. b < 256) bytes
+        → read_nodes start size bytes ≡ Err (Truncated at)
+        ↔ ((0 < size) × (at ≡ start + length bytes) × (IsFront bytes ⊎ IsHalfTooDeep bytes)) }
+    ensures apart { (bytes : List ℕ) → IsFront bytes → IsHalfTooDeep bytes → ⊥ }
+{}
+
+/// A file is refused for its header, or else exactly as the bytes after the header are as node data
+/// of the size that it says; places count from the start of the file.
+pub fn file_refusals_are_exact()
+    ensures header { (file : List ℕ) (fault : BtFault) → header_of (head_of file) ≡ Err fault
+        → reading file ≡ Err fault }
+    ensures data { (file : List ℕ) (header : Header) (fault : BtFault) → All (λ b. b < 256) file
+        → header_of (head_of file) ≡ Ok header → reading file ≡ Err fault
+        ↔ IsAnswer header.start header.size (drop header.start file) (Err fault) }
 {}

@@ -1,8 +1,10 @@
 //! The reading of a file in pieces.
 ghost use Rattle.std.specs.Prelude.{◌≡◌, ◌++◌, [], List, ℕ, OnOk, OnErr, IsErr, Err, IfOk, ◌≤◌};
-ghost use Rattle.std.specs.Prelude.{◌↔◌, IsTrue};
+ghost use Rattle.std.specs.Prelude.{◌↔◌, IsTrue, length};
+ghost use Rattle.oct_values.specs.Classes.{Classes};
+ghost use Rattle.oct_bt.specs.Canonical.{canonical_data};
 ghost use Rattle.oct_bt.specs.File.{reading, file_with};
-ghost use Rattle.oct_bt.specs.NodeData.{HasRead, read_nodes};
+ghost use Rattle.oct_bt.specs.NodeData.{HasRead, IsDataOf, read_nodes};
 ghost use Rattle.oct_bt.specs.Reading.{FileProgress, Spent, StandsFor, after_file_byte, opened};
 ghost use Rattle.oct_bt.specs.Holding.{progress_of};
 
@@ -102,10 +104,15 @@ impl Reader {
         Ok(())
     }
 
-    /// The file that was fed, or the first fault in it, in the order of the cases of its form.
+    /// The file that was fed, or the first fault in it, in the order of the cases of its form. No
+    /// data of its classes is shorter than the canonical one, and none as short is another.
     pub fn finish(self) -> Result<BtFile, BtFault>
         ensures answer { (text : List ℕ) → StandsFor self text → result ≡ reading text }
         ensures spent { self ≡ Spent → result ≡ Err BtFault.Memory }
+        ensures least { IfOk result (λ file. (classes : Classes) → IsDataOf classes file.codes
+            → (length (canonical_data classes) ≤ length file.codes)
+            × (length file.codes ≡ length (canonical_data classes)
+            → file.codes ≡ canonical_data classes)) }
     {
         match self.state {
             State::InHead(head) => Err(head.fault()),

@@ -20,7 +20,8 @@
 //!   all others that do (`StopsFirst`), with its class. It is clear exactly where the segment meets
 //!   no such voxel. `IsRight` says so in the words of `oct_ray`, which ask each voxel by itself.
 //! - It is `cast_along` of the two ends and of a class for each voxel, so that whoever says what a
-//!   program answers can compute it.
+//!   program answers can compute it. That this is right is a law ([`casts_are_right`]), for every
+//!   edge of a voxel, both ends and all classes, of a tree or not.
 //!
 //! The walk is that of `oct_ray`, which gives the Morton code of each voxel that the segment meets.
 //! The way down the tree is kept from one voxel to the next: the groups that are linked above the
@@ -34,10 +35,12 @@
 //! `cast_along`.
 #![tactic(auto)]
 
+mod laws;
 mod outcome;
 mod ray;
 mod way;
 
+pub use laws::casts_are_right;
 pub use outcome::Cast;
 pub use ray::cast;
 

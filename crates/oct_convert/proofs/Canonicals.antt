@@ -14,13 +14,12 @@ use Rattle.oct_tree.specs.Tree.{Tree, value_at}
 use Rattle.oct_bt.specs.Canonical.{canonical_data, canonical_size, node_total}
 use Rattle.oct_values.specs.Classes.{Classes, classes_of}
 use Rattle.oct_bt.specs.Classes.{value_for}
-use Rattle.oct_bt.specs.DataClasses.{data_classes}
+use Rattle.oct_bt.specs.DataClasses.{data_classes, is_canonical}
 use Rattle.oct_bt.specs.File.{FileRead, bt_text, file_text, header_text, text_of_lines}
-use Rattle.oct_bt.specs.Plain.{is_canonical_data}
 use Rattle.oct_bt.specs.NodeData.{IsAccepted, IsDataOf}
 use Rattle.oct_bt.proofs.DataClassed.{data_classed}
 use Rattle.oct_bt.proofs.Injective.{same_data}
-use Rattle.oct_bt.proofs.Plains.{canonical_data_exactly}
+use Rattle.std.proofs.lemmas.Slice.Eq.{bytes_eq-Decides}
 use Rattle.oct_bt.proofs.Rewrites.{canonical_again}
 use Rattle.oct_io.specs.declared.sink.SinkFault.{SinkFault}
 use Rattle.oct_io.specs.Taken.{IsCutOff}
@@ -70,11 +69,11 @@ filled_text s t u file res odds grown accepted values kept_res kept_odds =
     (filled_classes s t u file odds grown accepted values kept_odds))
 
 -- a file whose node data is canonical, written again, is the canonical one
-again : (file : FileRead) → IsAccepted file.nodes file.codes → is_canonical_data file.codes ≡ true
+again : (file : FileRead) → IsAccepted file.nodes file.codes → is_canonical file.codes ≡ true
     → file_text file ≡ canonical_text file
-again file accepted test = canonical_again file (data_classes file.codes) accepted
-    ((canonical_data_exactly (data_classes file.codes) file.codes
-    (data_classed file.nodes file.codes accepted)).0 test)
+unfolding is_canonical
+again file accepted is = canonical_again file (data_classes file.codes) accepted
+    ((bytes_eq-Decides file.codes (canonical_data (data_classes file.codes))).0 is)
 
 -- no canonical file is empty
 pub some_canonical : (file : FileRead) → 0 < length (canonical_text file)
@@ -96,7 +95,7 @@ passed_on n res is range = ap (λ (n : ℤ). to_z w64 (of_z w64 n)) is
 -- a canonical file that was written again, or a part of it
 pub sends_again : {T : Type 0} (r : Result T SinkFault) (file : FileRead)
     (old new : Option (List ℕ)) → IsAccepted file.nodes file.codes
-    → is_canonical_data file.codes ≡ true → OnOk r (new ≡ appended old (file_text file))
+    → is_canonical file.codes ≡ true → OnOk r (new ≡ appended old (file_text file))
     → OnErr r (IsCutOff old new (file_text file))
     → Sends (canonical_text file) old new r
 sends_again (Ok t) file old new accepted test done cut =

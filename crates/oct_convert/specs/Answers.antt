@@ -8,10 +8,9 @@ use Rattle.oct_odds.specs.declared.event.Class.TheVariants.{Free, Occupied}
 use Rattle.oct_values.specs.Blocks.{voxels_of}
 use Rattle.oct_bt.specs.declared.fault.BtFault.{BtFault}
 use Rattle.oct_values.specs.Classes.{Classes, is_same_class}
-use Rattle.oct_bt.specs.DataClasses.{data_classes}
+use Rattle.oct_bt.specs.DataClasses.{data_classes, is_canonical}
 use Rattle.oct_bt.specs.FaultText.{fault_text}
 use Rattle.oct_bt.specs.File.{FileRead, bt_text, reading}
-use Rattle.oct_bt.specs.Plain.{is_canonical_data}
 use Rattle.oct_bt.specs.Records.{record_total}
 use Rattle.oct_convert.specs.declared.ending.Ending.{Ending}
 use Rattle.oct_convert.specs.declared.ending.Ending.TheVariants.{Done, BadFile, TooLong}
@@ -42,7 +41,7 @@ canonical_text file = bt_text file.res (data_classes file.codes)
 
 -- whether what was read is a file whose node data is canonical
 abbrev pub is_canonical_file : Result FileRead BtFault → Bool
-is_canonical_file (Ok file) = is_canonical_data file.codes
+is_canonical_file (Ok file) = is_canonical file.codes
 is_canonical_file (Err fault) = false
 
 -- the number of voxels of the map that are of a class
@@ -67,7 +66,7 @@ report file =
     ++ line (codes "records ") (decimal (record_total file.codes))
     ++ line (codes "free ") (decimal (voxel_count Free (data_classes file.codes)))
     ++ line (codes "occupied ") (decimal (voxel_count Occupied (data_classes file.codes)))
-    ++ line (codes "canonical ") (yes_or_no (is_canonical_data file.codes))
+    ++ line (codes "canonical ") (yes_or_no (is_canonical file.codes))
 
 -- the answer of `convert`
 abbrev pub convert_answer : ℕ → List ℕ → Answer

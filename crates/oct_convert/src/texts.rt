@@ -4,7 +4,7 @@ ghost use Rattle.std.specs.Prelude.{false};
 ghost use Rattle.oct_io.specs.Counts.{IsMakingCounted};
 ghost use Rattle.oct_io.specs.Told.{Rose};
 ghost use Rattle.oct_bt.specs.NodeData.{IsAccepted};
-ghost use Rattle.oct_bt.specs.Plain.{is_canonical_data};
+ghost use Rattle.oct_bt.specs.DataClasses.{is_canonical};
 ghost use Rattle.oct_convert.specs.Answers.{canonical_text, line, refusal_line, report, yes_or_no};
 ghost use Rattle.oct_convert.specs.Ending.{Sends};
 
@@ -109,7 +109,7 @@ pub(crate) fn write_canonical<K: Sink>(
         (K.written sink.old) (K.written sink.new) result }
     ensures counts { IsMakingCounted result (K.faults sink.old) (K.faults sink.new)
         (K.shortages sink.old) (K.shortages sink.new) }
-    ensures memory { IsErrOf result SinkFault.Memory → (is_canonical_data file.now.codes ≡ false)
+    ensures memory { IsErrOf result SinkFault.Memory → (is_canonical file.now.codes ≡ false)
         ⊎ Rose (K.shortages sink.old) (K.shortages sink.new) }
 {
     if file.is_canonical() {

@@ -29,7 +29,7 @@ same_fields h g e = ap (λ r. fields_in r h) e
 not_fields : (fault : SnapFault) (h : Fields) → ◌≡◌ {A = Read} (Err fault) (Ok h) → ⊥
 not_fields fault h e = false≢true (ap is_ok e)
 
-not_less : (a b : ℕ) → nat_lt a b ≡ false → b ≤ a
+pub not_less : (a b : ℕ) → nat_lt a b ≡ false → b ≤ a
 not_less a b e = grind (arith, e)
 
 -- the fields of the older version, which goes by the log-odds that it is read with, and has no box

@@ -22,3 +22,8 @@ pub mod HeadsBack
 pub mod TextsBack
 pub mod Again
 pub mod TextsOnly
+pub mod Refused
+pub mod Answered
+pub mod MapAnswers
+pub mod NodeFronts
+pub mod Sound

@@ -4,3 +4,5 @@ pub mod Reading
 pub mod Common
 pub mod Checked
 pub mod Filled
+pub mod Refusals
+pub mod Sound

@@ -1,5 +1,5 @@
 ghost use Rattle.std.specs.Prelude.{◌≡◌, ◌+◌, ◌<◌, ◌++◌, ◌↔◌, ℕ, ◌⊎◌, List, Option, None, IfSome};
-ghost use Rattle.std.specs.Prelude.{length, Ok};
+ghost use Rattle.std.specs.Prelude.{length, drop, Result, Ok, Err};
 ghost use Rattle.std.specs.List.{All};
 ghost use Rattle.oct_odds.specs.Odds.{Odds, IsSound};
 ghost use Rattle.oct_odds.specs.Update.{IsWithin};
@@ -10,7 +10,11 @@ ghost use Rattle.oct_snap.specs.Nodes.{Nodes, AreNodes, text_of, value_in, group
 ghost use Rattle.oct_snap.specs.Texts.{map_text, snap_text, old_text};
 ghost use Rattle.oct_values.specs.Counts.{group_count};
 ghost use Rattle.oct_snap.specs.Reading.{Found, Snapshot, found, read_node, read_snapshot};
-ghost use Rattle.oct_snap.specs.Reading.{values_of};
+ghost use Rattle.oct_snap.specs.Reading.{values_of, Fields, read_fields};
+ghost use Rattle.oct_snap.specs.declared.fault.SnapFault.{SnapFault};
+ghost use Rattle.oct_snap.specs.declared.fault.SnapFault.TheVariants.{Truncated, BadSnapshot};
+ghost use Rattle.oct_snap.specs.Sound.{IsSoundSnapshot};
+ghost use Rattle.oct_snap.specs.Refusals.{IsCutShort, IsFirstWrong, IsNodeAnswer, IsMapAnswer};
 
 /// What is read as a node is exactly the text of one, with what stands after it.
 pub fn nodes_are_read_exactly()
@@ -73,10 +77,43 @@ pub fn snapshots_are_read_again()
 /// What is accepted is the text of its fields and of the values that it gives the voxels: no values
 /// at one resolution, with one model and one box, have two accepted texts of one version.
 pub fn texts_are_the_only_ones()
-    ensures { (o : Odds) (bytes : List ℕ) (s : Snapshot) (values : Values)
+    ensures texts { (o : Odds) (bytes : List ℕ) (s : Snapshot) (values : Values)
         → All (λ b. b < 256) bytes → read_snapshot o bytes ≡ Ok s
         → SameValues (values_of s) values
         → ((s.head.version ≡ 1) × (bytes ≡ old_text s.head.res values))
         ⊎ ((s.head.version ≡ 2)
         × (bytes ≡ snap_text s.head.res s.head.odds s.head.window values)) }
+    ensures sound { (o : Odds) (bytes : List ℕ) (s : Snapshot) → IsSound o
+        → All (λ b. b < 256) bytes → read_snapshot o bytes ≡ Ok s → IsSoundSnapshot s }
+{}
+
+/// Each refusal of a node comes exactly where the bytes have its cause, and each text has exactly
+/// one answer: a node stands at its front, or it is refused for one of these.
+pub fn node_refusals_are_exact()
+    ensures exact { (o : Odds) (depths at : ℕ) (bytes : List ℕ) (answer : Result Found SnapFault)
+        → IsSound o → All (λ b. b < 256) bytes
+        → read_node o depths at bytes ≡ answer ↔ IsNodeAnswer o depths at bytes answer }
+    ensures truncated { (o : Odds) (depths at place : ℕ) (bytes : List ℕ)
+        → IsSound o → All (λ b. b < 256) bytes
+        → read_node o depths at bytes ≡ Err (Truncated place)
+        ↔ IsCutShort o depths at bytes place }
+    ensures bad { (o : Odds) (depths at place : ℕ) (bytes : List ℕ)
+        → IsSound o → All (λ b. b < 256) bytes
+        → read_node o depths at bytes ≡ Err (BadSnapshot place)
+        ↔ IsFirstWrong o depths at bytes place }
+    ensures fronts { (o : Odds) (depths at : ℕ) (nodes : Nodes) (front more : List ℕ)
+        → IsSound o → All (λ b. b < 256) front → AreNodes o depths 1 nodes
+        → text_of nodes ≡ front ++ more → 0 < length more
+        → read_node o depths at front ≡ Err (Truncated (at + length front)) }
+{}
+
+/// A snapshot is refused for its fields, or else exactly where the bytes after them have a cause:
+/// they end before the node of the map is whole, some node can't stand where it stands, or bytes
+/// follow the node of the map.
+pub fn snapshot_refusals_are_exact()
+    ensures fields { (o : Odds) (file : List ℕ) (fault : SnapFault)
+        → read_fields o file ≡ Err fault → read_snapshot o file ≡ Err fault }
+    ensures nodes { (o : Odds) (file : List ℕ) (head : Fields) (answer : Result Snapshot SnapFault)
+        → IsSound o → All (λ b. b < 256) file → read_fields o file ≡ Ok head
+        → read_snapshot o file ≡ answer ↔ IsMapAnswer head (drop head.start file) answer }
 {}

@@ -3,6 +3,7 @@ use Rattle.oct_io.proofs.Gathering.{gathered_whole, gathered_cut}
 use Rattle.oct_tree.specs.Classes.{classes_in}
 use Rattle.oct_bt.proofs.Writes.{on_any_err}
 use Rattle.oct_bt.proofs.Encodings.{sent_file, cut_header, cut_data}
+use Rattle.oct_bt.proofs.Injective.{data_tells_classes}
 use Rattle.oct_bt.proofs.encoding.write.Goals as goal
 
 pub returns-in_err-push-clause-cut : goal.returns-in_err-push-clause-cut
@@ -37,3 +38,19 @@ returns-clause-written g c =
     (c.as_bytes.ensures.value ∙ c.deref.ensures.0 ∙ c.plan_file-plan.ensures.header)
     c.in_ok-push.ensures.taken
     c.in_ok-write_data.ensures.written) c.in_ok-flush.ensures.ok
+
+pub returns-in_err-push-clause-tells : goal.returns-in_err-push-clause-tells
+returns-in_err-push-clause-tells g c = λ classes.
+    data_tells_classes classes (classes_in c.args.tree.now)
+
+pub returns-in_err-write_data-clause-tells : goal.returns-in_err-write_data-clause-tells
+returns-in_err-write_data-clause-tells g c = λ classes.
+    data_tells_classes classes (classes_in c.args.tree.now)
+
+pub returns-in_err-flush-clause-tells : goal.returns-in_err-flush-clause-tells
+returns-in_err-flush-clause-tells g c = λ classes.
+    data_tells_classes classes (classes_in c.args.tree.now)
+
+pub returns-clause-tells : goal.returns-clause-tells
+returns-clause-tells g c = λ classes.
+    data_tells_classes classes (classes_in c.args.tree.now)
