@@ -65,7 +65,7 @@ pub use block::{Block, child_index};
 pub use dilated::{Dilated, morton_of_axes};
 pub use laws::orders_are_whole;
 pub use lists::{KeyList, PointList};
-pub use morton_code::{from_morton, morton};
+pub use morton_code::{child_of_code, from_morton, morton};
 pub use point::{Key, Point};
 pub use resolution::{BadResolution, Res};
 pub use window::Window;

@@ -47,6 +47,14 @@ impl PointList {
     }
 }
 
+impl From<Vec<Point>> for PointList {
+    ghost from_gives = { λ v list. list ≡ v.items };
+
+    fn from(points: Vec<Point>) -> Self {
+        PointList { points }
+    }
+}
+
 /// Keys of voxels. Contracts see them as a list.
 #[derive(Debug, Drop)]
 pub struct KeyList {
@@ -133,6 +141,13 @@ mod tests {
         points.push(LOW)?;
         points.push(HIGH)?;
         expect_points(&rt, &points, &[HIGH, LOW, HIGH]);
+        Ok(())
+    }
+
+    #[test]
+    fn a_list_of_points_is_taken_over(rt: HostRuntime) -> Result<(), Fail> {
+        let points = PointList::from(vec![in rt.alloc(); LOW, HIGH]?);
+        expect_points(&rt, &points, &[LOW, HIGH]);
         Ok(())
     }
 

@@ -34,6 +34,16 @@ pub fn morton(k: Key) -> u64
     spread_bits(k.x) + (spread_bits(k.y) << 1) + (spread_bits(k.z) << 2)
 }
 
+/// Which child of the block of that depth holds the voxel of a code.
+#[inline(always)]
+pub fn child_of_code(code: u64, depth: u8) -> u8
+    requires { depth ≤ 15 }
+    ensures exact { result ≡ code / 2 ^ (3 * (15 - depth)) % 8 }
+    ensures few { result ≤ 7 }
+{
+    ((code >> (3 * (15 - depth))) & 7) as u8
+}
+
 /// The voxel of a Morton code.
 pub fn from_morton(m: u64) -> Key
     requires { m < 2 ^ 48 }

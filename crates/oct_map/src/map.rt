@@ -36,6 +36,7 @@ ghost use Rattle.oct_map.specs.Edits.{IsReadied, ReservesFew, entries_of};
 mod loading;
 mod marking;
 mod restoring;
+mod surveying;
 
 use crate::done::ScanDone;
 use crate::fault::MapFault;

@@ -1,6 +1,6 @@
 //! The mark of a map.
-ghost use Rattle.std.specs.Prelude.{◌≡◌, ◌+◌, ◌≤◌, ◌⊎◌, length, max, [], None, Some, is_some};
-ghost use Rattle.std.specs.Prelude.{IsOk, OnOk, IfOk, option_map};
+ghost use Rattle.std.specs.Prelude.{◌≡◌, ◌+◌, ◌≤◌, ◌<◌, ◌^◌, ◌⊎◌, length, max, [], None, Some};
+ghost use Rattle.std.specs.Prelude.{is_some, IsOk, OnOk, IfOk, option_map};
 ghost use Rattle.std.specs.Prelude.{All, Contains};
 ghost use Rattle.oct_brick.specs.Bricks.{IsBrick};
 ghost use Rattle.oct_brick.specs.Voxels.{hit_voxels, freed_voxels};
@@ -13,7 +13,7 @@ ghost use Rattle.oct_change.specs.Changes.{changes_between};
 ghost use Rattle.oct_change.specs.Held.{room_of};
 ghost use Rattle.oct_change.specs.Notes.{first_noted};
 ghost use Rattle.oct_map.specs.Notes.{HasRoomForNotes, IsSameNoted, ReservesFewNotes, HasMarked};
-ghost use Rattle.oct_map.specs.Notes.{marked_by_notes};
+ghost use Rattle.oct_map.specs.Notes.{marked_by_notes, note_room};
 
 use oct_brick::Brick;
 use oct_change::{ChangeList, Changes};
@@ -67,6 +67,17 @@ impl Mark {
         ensures { result ≡ is_some self.now }
     {
         self.changes.is_some()
+    }
+
+    /// For how many notes there is room in all.
+    pub(crate) fn room(&self) -> u128
+        ensures exact { result ≡ note_room self.now }
+        ensures few { result < 2 ^ 65 }
+    {
+        match &self.changes {
+            Some(changes) => u128::from(changes.len()) + u128::from(changes.spare()),
+            None => 0,
+        }
     }
 
     /// Makes room for n notes, where a mark stands. The first note of each voxel stays.

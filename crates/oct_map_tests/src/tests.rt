@@ -17,6 +17,7 @@ use std::test::Fail;
 mod files;
 mod lists;
 mod marks;
+mod surveys;
 
 /// What an addition of a hit adds.
 const HIT: Event = Event::Add(850);

@@ -7,3 +7,9 @@ pub mod Under
 pub mod Ways
 pub mod MetBlocks
 pub mod RowSteps
+pub mod Above
+pub mod LeafWalks
+pub mod LeafLists
+pub mod LeafBoxes
+pub mod LeafNodes
+pub mod Extents

@@ -1,4 +1,5 @@
-//! Questions to a tree of groups: what it holds for a block, and how many groups and nodes it has.
+//! Questions to a tree of groups: what it holds for a block, how many groups and nodes it has,
+//! which blocks its values are made of, and how far they reach.
 //!
 //! [`query`] answers what stands in the node of a block, or in the leaf that covers it. In a fresh
 //! tree, whose inner values are the greatest of their groups, that is the largest known value among
@@ -11,6 +12,9 @@
 //! let value = query(&tree, Block::of(key, 15));     // the largest of eight voxels, or None
 //! let Counts { groups, nodes } = counts(&tree);
 //! for found in list(alloc, &tree, lo, hi, 15, 1_000_000)?.as_slice() { .. }
+//! for leaf in leaves(alloc, &tree)?.as_slice() { .. }
+//! for leaf in leaves_in(alloc, &tree, lo, hi)?.as_slice() { .. }
+//! let window = bounds(&tree, Sought::Occupied);     // None where no voxel is occupied
 //! ```
 //!
 //! [`counts`] answers how many groups there are and how many nodes aren't absent. The promise is a
@@ -27,27 +31,49 @@
 //! as the ways part, and not to the root. A list of more blocks than are allowed is refused before
 //! one is looked at.
 //!
-//! The first two take no memory. The map stands on this crate, and the replies of a script print
-//! its [`Counts`].
+//! [`leaves`] answers for the whole map: the greatest blocks whose voxels are known and have one
+//! value, each with it, in the order of the Morton codes of their first voxels. Each known voxel
+//! lies in exactly one of them, and no unknown one in any (`IsLeafList`). The list is a function of
+//! the voxels' values (`leaves_of`), so a tree that isn't pruned gives the same one. For a pruned
+//! tree [`leaves_are_leaf_nodes`] says that these are the blocks of its leaf nodes. [`leaves_in`]
+//! answers exactly those whose blocks meet a box (`leaves_met`).
+//!
+//! The walk goes down from the root, and not into a block that doesn't meet the box. Of a block
+//! with children it first looks whether all of its voxels have one value, as far as the first two
+//! that differ: in a pruned tree that is after at most eight nodes for each depth below, and mostly
+//! after two. A tree that isn't pruned can make it look at a node once for each depth above.
+//!
+//! [`bounds`] answers the least box around the known voxels, or around the occupied ones: it holds
+//! each of them, and lies in each box that does (`IsExtent`). There is none exactly where there is
+//! no such voxel.
+//!
+//! Lists alone take memory. The map stands on this crate, and the replies of a script print its
+//! [`Counts`].
 #![tactic(auto)]
 
 mod block_list;
 mod depths;
+mod extent;
 mod fault;
 mod found;
 mod laws;
+mod leaf_list;
 mod listing;
 mod nodes;
 mod path;
+mod sought;
 mod totals;
 
 pub use block_list::BlockList;
 pub use depths::query;
+pub use extent::bounds;
 pub use fault::ListFault;
 pub use found::Found;
-pub use laws::{groups_are_needed, pruned_is_least};
+pub use laws::{groups_are_needed, leaves_are_leaf_nodes, pruned_is_least};
+pub use leaf_list::{leaves, leaves_in};
 pub use listing::list;
 pub use nodes::counts;
+pub use sought::Sought;
 pub use totals::Counts;
 
 #[cfg(test)]

@@ -220,3 +220,109 @@ fn refuses_a_list_of_more_than_a_million(rt: HostRuntime) -> Result<(), Fail> {
     expect_refused(&rt, rt.alloc(), &unknown, (0, 65_535, 65_535), plane);
     Ok(())
 }
+
+/// A tree whose root is split into eight leaves of 850.
+fn unpruned_world(alloc: Global) -> Result<OccTree, Fail> {
+    let res = Res::new(100_000_000)?;
+    let odds = OddsModel::default();
+    let mut tree = OccTree::new(alloc, res, odds);
+    tree.reserve(1)?;
+    tree.set_place(Place::Root, leaf(odds, 850));
+    tree.split(Place::Root);
+    Ok(tree)
+}
+
+/// The block of that depth around the voxel, with a value.
+fn block_found(rt: &impl Abort, depth: u8, voxel: Voxel, value: i32) -> Found {
+    assert!(rt; depth <= 16);
+    let (x, y, z) = voxel;
+    Found {
+        block: Block::of(Key { x, y, z }, depth),
+        value,
+    }
+}
+
+/// Expects these leaves, in this order.
+fn expect_leaves(rt: &impl Abort, alloc: Global, tree: OccTree, want: &[Found]) {
+    match leaves(alloc, &tree) {
+        Ok(list) => assert_eq!(rt; list.as_slice(), want),
+        Err(_) => panic!(rt; "out of memory"),
+    }
+}
+
+#[test]
+fn lists_the_greatest_blocks_of_one_value(rt: HostRuntime) -> Result<(), Fail> {
+    let whole = [block_found(&rt, 0, (0, 0, 0), 850)];
+    let halves = [
+        block_found(&rt, 1, (32_768, 32_768, 0), 900),
+        block_found(&rt, 1, (32_768, 0, 32_768), -400),
+    ];
+    expect_leaves(&rt, rt.alloc(), unknown_world(rt.alloc())?, &[]);
+    expect_leaves(&rt, rt.alloc(), known_world(rt.alloc())?, &whole);
+    // It isn't pruned, and has eight leaf nodes.
+    expect_leaves(&rt, rt.alloc(), unpruned_world(rt.alloc())?, &whole);
+    expect_leaves(&rt, rt.alloc(), two_children(rt.alloc())?, &halves);
+    Ok(())
+}
+
+/// Expects these leaves to meet the box, in this order.
+fn expect_leaves_in(
+    rt: &impl Abort,
+    alloc: Global,
+    tree: &OccTree,
+    corners: (Voxel, Voxel),
+    want: &[Found],
+) {
+    let ((x, y, z), (u, v, w)) = corners;
+    match leaves_in(alloc, tree, Key { x, y, z }, Key { x: u, y: v, z: w }) {
+        Ok(list) => assert_eq!(rt; list.as_slice(), want),
+        Err(_) => panic!(rt; "out of memory"),
+    }
+}
+
+#[test]
+fn lists_the_leaves_that_meet_a_box(rt: HostRuntime) -> Result<(), Fail> {
+    let alloc = rt.alloc();
+    let upper = block_found(&rt, 1, (32_768, 32_768, 0), 900);
+    let lower = block_found(&rt, 1, (32_768, 0, 32_768), -400);
+    let two = two_children(alloc)?;
+    // One voxel within the first; a corner of the first alone; a corner of each; the half without.
+    let inside = ((40_000, 40_000, 5), (40_000, 40_000, 5));
+    let at_first = ((32_767, 0, 0), (32_768, 32_768, 32_767));
+    let at_both = ((32_768, 32_767, 32_767), (32_768, 32_768, 32_768));
+    let without = ((0, 0, 0), (32_767, 65_535, 65_535));
+    expect_leaves_in(&rt, alloc, &two, inside, &[upper]);
+    expect_leaves_in(&rt, alloc, &two, at_first, &[upper]);
+    expect_leaves_in(&rt, alloc, &two, at_both, &[upper, lower]);
+    expect_leaves_in(&rt, alloc, &two, without, &[]);
+    // A leaf of the whole map reaches beyond the box, also where it has eight leaf nodes.
+    let whole = block_found(&rt, 0, (0, 0, 0), 850);
+    expect_leaves_in(&rt, alloc, &unpruned_world(alloc)?, inside, &[whole]);
+    Ok(())
+}
+
+/// Expects these corners of the least box.
+fn expect_bounds(rt: &impl Abort, tree: &OccTree, sought: Sought, want: Option<(Voxel, Voxel)>) {
+    let found = bounds(tree, sought).map(|w| {
+        let (lo, hi) = (w.lo(), w.hi());
+        ((lo.x, lo.y, lo.z), (hi.x, hi.y, hi.z))
+    });
+    assert_eq!(rt; found, want);
+}
+
+/// The corners of the whole map.
+const WHOLE: (Voxel, Voxel) = ((0, 0, 0), (65_535, 65_535, 65_535));
+
+#[test]
+fn finds_the_least_box_around_voxels(rt: HostRuntime) -> Result<(), Fail> {
+    let unknown = unknown_world(rt.alloc())?;
+    expect_bounds(&rt, &unknown, Sought::Known, None);
+    let known = known_world(rt.alloc())?;
+    expect_bounds(&rt, &known, Sought::Known, Some(WHOLE));
+    let two = two_children(rt.alloc())?;
+    let known = ((32_768, 0, 0), (65_535, 65_535, 65_535));
+    let occupied = ((32_768, 32_768, 0), (65_535, 65_535, 32_767));
+    expect_bounds(&rt, &two, Sought::Known, Some(known));
+    expect_bounds(&rt, &two, Sought::Occupied, Some(occupied));
+    Ok(())
+}

@@ -1,0 +1,24 @@
+-- What a map answers when it is asked for its leaves, from the value of each voxel alone.
+use Rattle.std.specs.Prelude.{List, Option, Some, None, Result, Ok, Err, if◌then◌else◌}
+use Rattle.oct_key.specs.declared.point.Point.{Point}
+use Rattle.oct_key.specs.Voxel.{Voxel, key_at}
+use Rattle.oct_key.specs.Values.{Values}
+use Rattle.oct_key.specs.Boxes.{is_box}
+use Rattle.oct_query.specs.Shown.{Shown}
+use Rattle.oct_query.specs.Leaves.{leaves_met}
+use Rattle.oct_map.specs.declared.fault.MapFault.{MapFault}
+use Rattle.oct_map.specs.declared.fault.MapFault.TheVariants.{Outside, BadBox}
+use Rattle.oct_map.specs.Ground.{Ground}
+
+-- the leaves that meet the box of two voxels, or of points outside the map
+abbrev pub leaves_in_answer_at : Values → Option Voxel → Option Voxel
+    → Result (List Shown) MapFault
+leaves_in_answer_at values None high = Err (Outside 1)
+leaves_in_answer_at values (Some low) None = Err (Outside 2)
+leaves_in_answer_at values (Some low) (Some high) =
+    if is_box low high then Ok (leaves_met values low high) else Err BadBox
+
+-- the leaves that meet the box whose corners are the voxels that hold two points
+abbrev pub leaves_in_answer : Ground → Values → Point → Point → Result (List Shown) MapFault
+leaves_in_answer g values lo hi =
+    leaves_in_answer_at values (key_at g.res lo) (key_at g.res hi)

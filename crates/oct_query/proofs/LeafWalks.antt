@@ -1,0 +1,232 @@
+-- The leaves in a block, and those in its children.
+use Rattle.std.proofs.Common.{◌≡◌, ℕ, zero, suc, ◌+◌, ◌-◌, ◌<◌, ◌≤◌, true, false, List, [], ◌∷◌}
+use Rattle.std.proofs.Common.{◌++◌, Some, None, inl, inr, refl, sym}
+use Rattle.std.proofs.Common.{subst, ◌∙◌, ap, arith, append_assoc, append-nil}
+use Rattle.std.specs.Prelude.{Result, Ok, Err, OnOk, OnErr, ⊤, not}
+use Rattle.std.specs.Bool.{Decides}
+use Rattle.std.specs.List.{flat_map}
+use Rattle.std.specs.Option.{option_eq}
+use Rattle.std.specs.Ordering.{int_eq}
+use Rattle.std.proofs.lemmas.Bool.{cases_lt, false≢true, false_from_ne_true, not-false, not-true}
+use Rattle.std.proofs.lemmas.Bool.Decides.{Decides-int_eq}
+use Rattle.std.proofs.lemmas.List.Elements.{filter-append}
+use Rattle.oct_key.specs.Voxel.{Voxel, IsInMap}
+use Rattle.oct_key.specs.Values.{Values}
+use Rattle.oct_key.specs.Block.{Cube, IsBlock, HoldsVoxel, child_of, child_index_of, lowest_voxel}
+use Rattle.oct_key.proofs.Blocks.{child_index_below, lowest_held}
+use Rattle.oct_key.proofs.Held.{held_by_parent, held_by_child, held_in_map}
+use Rattle.oct_odds.specs.Update.{Value}
+use Rattle.oct_values.specs.Blocks.{child_numbers}
+use Rattle.oct_values.specs.Uniform.{IsUniform}
+use Rattle.oct_values.specs.Boxes.{is_met_by}
+use Rattle.oct_values.specs.Counts.{is_uniform}
+use Rattle.oct_values.proofs.Uniform.{uniform_exactly, uniform_of}
+use Rattle.oct_tree.proofs.Paths.{some_injective}
+use Rattle.oct_query.specs.Shown.{Shown}
+use Rattle.oct_query.specs.Leaves.{IsOneValue, own_leaf, leaves_below, block_leaves, that_meet}
+
+-- ---- what follows where a call fails
+
+pub on_any_err : {T E : Type 0} (r : Result T E) (P : Type 0) → P → OnErr r P
+on_any_err (Ok x) P p = tt
+on_any_err (Err e) P p = p
+
+-- ---- the leaves of children
+
+-- those of the first n children
+unfoldable pub first_leaves : Values → ℕ → Cube → ℕ → List Shown
+first_leaves v h b zero = []
+first_leaves v h b (suc i) = first_leaves v h b i ++ leaves_below v h (child_of b i)
+
+pub leaves_next : (v : Values) (h : ℕ) (b : Cube) (i : ℕ) → first_leaves v h b (i + 1)
+    ≡ first_leaves v h b i ++ leaves_below v h (child_of b i)
+unfolding first_leaves
+leaves_next v h b i = (let e : i + 1 ≡ suc i = omega arith in ap (first_leaves v h b) e)
+
+all_lists : {A : Type 0} (f : ℕ → List A) → flat_map f child_numbers
+    ≡ (((((((([] ++ f 0) ++ f 1) ++ f 2) ++ f 3) ++ f 4) ++ f 5) ++ f 6) ++ f 7)
+all_lists f =
+    sym (append_assoc (f 0) (f 1) (f 2 ++ (f 3 ++ (f 4 ++ (f 5 ++ (f 6 ++ (f 7 ++ [])))))))
+    ∙ sym (append_assoc (f 0 ++ f 1) (f 2) (f 3 ++ (f 4 ++ (f 5 ++ (f 6 ++ (f 7 ++ []))))))
+    ∙ sym (append_assoc ((f 0 ++ f 1) ++ f 2) (f 3) (f 4 ++ (f 5 ++ (f 6 ++ (f 7 ++ [])))))
+    ∙ sym (append_assoc (((f 0 ++ f 1) ++ f 2) ++ f 3) (f 4) (f 5 ++ (f 6 ++ (f 7 ++ []))))
+    ∙ sym (append_assoc ((((f 0 ++ f 1) ++ f 2) ++ f 3) ++ f 4) (f 5) (f 6 ++ (f 7 ++ [])))
+    ∙ sym (append_assoc (((((f 0 ++ f 1) ++ f 2) ++ f 3) ++ f 4) ++ f 5) (f 6) (f 7 ++ []))
+    ∙ sym (append_assoc ((((((f 0 ++ f 1) ++ f 2) ++ f 3) ++ f 4) ++ f 5) ++ f 6) (f 7) [])
+    ∙ append-nil (((((((f 0 ++ f 1) ++ f 2) ++ f 3) ++ f 4) ++ f 5) ++ f 6) ++ f 7)
+
+all_leaves : (v : Values) (h : ℕ) (b : Cube)
+    → flat_map (λ i. leaves_below v h (child_of b i)) child_numbers ≡ first_leaves v h b 8
+unfolding first_leaves
+all_leaves v h b = all_lists (λ i. leaves_below v h (child_of b i))
+
+pub leaves_of_parts : (v : Values) (h : ℕ) (b : Cube) → is_uniform v b ≡ false
+    → leaves_below v (suc h) b ≡ first_leaves v h b 8
+unfolding leaves_below
+leaves_of_parts v h b several = rw several (all_leaves v h b)
+
+-- a block whose voxels all have this value
+pub leaves_of_one : (v : Values) (h : ℕ) (b : Cube) (value : Value) → IsBlock b
+    → ((k : Voxel) → HoldsVoxel b k → v k ≡ value) → leaves_below v h b ≡ own_leaf b value
+unfolding leaves_below
+leaves_of_one v zero b value ok one = ap (own_leaf b) (one (lowest_voxel b) (lowest_held b))
+leaves_of_one v (suc h) b value ok one =
+    (let uniform = uniform_of v b value ok one in
+    rw uniform (ap (own_leaf b) (one (lowest_voxel b) (lowest_held b))))
+
+-- ---- the value of all voxels of a block
+
+-- one value so far, of the first n children
+abbrev pub IsOneFirst : Values → Cube → ℕ → Value → Type 0
+IsOneFirst v b n value =
+    (j : ℕ) (k : Voxel) → j < n → HoldsVoxel (child_of b j) k → v k ≡ value
+
+-- a block whose voxels all have this value
+pub all_of_node : (v : Values) (b : Cube) (value told : Value) → IsBlock b
+    → ((k : Voxel) → IsInMap k → HoldsVoxel b k → v k ≡ value) → told ≡ value
+    → (k : Voxel) → HoldsVoxel b k → v k ≡ told
+all_of_node v b value told ok all is k held = all k (held_in_map b k ok held) held ∙ sym is
+
+-- the test of two values
+pub tells_same : (a b : Value) → Decides (option_eq int_eq a b) (a ≡ b)
+tells_same None None = (λ e. refl, λ e. refl)
+tells_same None (Some y) = (λ e. absurd (false≢true e), λ e. cc)
+tells_same (Some x) None = (λ e. absurd (false≢true e), λ e. cc)
+tells_same (Some x) (Some y) = (
+  λ e. ap Some ((Decides-int_eq x y).0 e),
+  λ e. (Decides-int_eq x y).1 (some_injective e),
+)
+
+-- the first child
+pub one_first : (v : Values) (b c : Cube) (value : Value) → c ≡ child_of b 0
+    → IsOneValue v c (Some value) → IsOneFirst v b 1 value
+one_first v b c value child one j k less held =
+    let z : j ≡ 0 = omega (arith, less) in
+    one k (subst (λ d. HoldsVoxel d k) (ap (child_of b) z ∙ sym child) held)
+
+-- a child more
+pub one_next : (v : Values) (b c : Cube) (i : ℕ) (value next : Value) → c ≡ child_of b i
+    → IsOneFirst v b i value → IsOneValue v c (Some next)
+    → not (option_eq int_eq next value) ≡ false
+    → IsOneFirst v b (i + 1) value
+one_next v b c i value next child before here same j k less held = elim (cases_lt j i) [
+  | inl old ↦ before j k old held
+  | inr last ↦ (let e : j ≡ i = omega (arith, less, last) in
+      here k (subst (λ d. HoldsVoxel d k) (ap (child_of b) e ∙ sym child) held)
+      ∙ (tells_same next value).0 (not-false (option_eq int_eq next value) same))
+]
+
+-- all eight of them
+pub one_whole : (v : Values) (b : Cube) (n : ℕ) (value : Value) → b.depth < 16 → n ≡ 8
+    → IsOneFirst v b n value → IsOneValue v b (Some value)
+one_whole v b n value low end first k held =
+    let less = child_index_below b.depth k in
+    first (child_index_of b.depth k) k (omega (arith, end, less)) (held_by_child b k low held)
+
+-- a child has several values, and so the block
+pub several_in : (v : Values) (b c : Cube) (i : ℕ) → b.depth < 16 → i < 8 → c ≡ child_of b i
+    → IsOneValue v c None → IsOneValue v b None
+several_in v b c i low li child several uniform =
+    several (subst (IsUniform v) (sym child)
+    (λ j k held_j held_k. uniform j k (held_by_parent b i j low li held_j)
+    (held_by_parent b i k low li held_k)))
+
+-- two children differ
+pub several_of : (v : Values) (b c : Cube) (i : ℕ) (value next : Value) → b.depth < 16 → 1 ≤ i
+    → i < 8 → c ≡ child_of b i → IsOneFirst v b i value → IsOneValue v c (Some next)
+    → not (option_eq int_eq next value) ≡ true → IsOneValue v b None
+several_of v b c i value next low some li child before here differ uniform =
+    let k = lowest_voxel (child_of b 0) in
+    let l = lowest_voxel (child_of b i) in
+    let held_k = lowest_held (child_of b 0) in
+    let held_l = lowest_held (child_of b i) in
+    let same : next ≡ value =
+    sym (here l (subst (λ d. HoldsVoxel d l) (sym child) held_l))
+    ∙ uniform l k (held_by_parent b i l low li held_l)
+    (held_by_parent b 0 k low (omega arith) held_k)
+    ∙ before 0 k (omega (arith, some)) held_k in
+    false≢true (sym (not-true (option_eq int_eq next value) differ) ∙ (tells_same next value).1 same)
+
+-- ---- those that meet a box
+
+pub meet_next : (v : Values) (lo hi : Voxel) (h : ℕ) (b : Cube) (i : ℕ)
+    → that_meet lo hi (first_leaves v h b (i + 1))
+    ≡ that_meet lo hi (first_leaves v h b i) ++ that_meet lo hi (leaves_below v h (child_of b i))
+meet_next v lo hi h b i =
+    ap (that_meet lo hi) (leaves_next v h b i)
+    ∙ filter-append (λ leaf. is_met_by lo hi leaf.block) (first_leaves v h b i)
+    (leaves_below v h (child_of b i))
+
+-- a block of one value that meets the box
+pub meets_one : (v : Values) (lo hi : Voxel) (b : Cube) (value : Value) → IsBlock b
+    → is_met_by lo hi b ≡ true → ((k : Voxel) → HoldsVoxel b k → v k ≡ value)
+    → that_meet lo hi (block_leaves v b) ≡ own_leaf b value
+meets_one v lo hi b value ok met all =
+    ap (that_meet lo hi) (leaves_of_one v (16 - b.depth) b value ok all) ∙ own value
+  where
+    own : (value : Value) → that_meet lo hi (own_leaf b value) ≡ own_leaf b value
+    own None = refl
+    own (Some x) = rw met refl
+
+-- so it is what is pushed
+pub pushed_one : {E : Type 0} (v : Values) (lo hi : Voxel) (b : Cube) (value : Value)
+    (old now : List Shown) (r : Result ⊤ E) → IsBlock b → is_met_by lo hi b ≡ true
+    → ((k : Voxel) → HoldsVoxel b k → v k ≡ value)
+    → OnOk r (now ≡ old ++ own_leaf b value) → OnErr r (own_leaf b value ≡ [] → ⊥)
+    → OnOk r (now ≡ old ++ that_meet lo hi (block_leaves v b))
+    × OnErr r (that_meet lo hi (block_leaves v b) ≡ [] → ⊥)
+pushed_one v lo hi b value old now r ok met all listed some =
+    rw (meets_one v lo hi b value ok met all) (listed, some)
+
+-- a block of several values
+pub meets_several : (v : Values) (lo hi : Voxel) (h : ℕ) (b : Cube) → IsBlock b
+    → 16 - b.depth ≡ suc h → IsOneValue v b None
+    → that_meet lo hi (block_leaves v b) ≡ that_meet lo hi (first_leaves v h b 8)
+meets_several v lo hi h b ok high several =
+    ap (λ (m : ℕ). that_meet lo hi (leaves_below v m b)) high
+    ∙ ap (that_meet lo hi) (leaves_of_parts v h b
+    (false_from_ne_true (is_uniform v b) (λ is. several ((uniform_exactly v b ok).0 is))))
+
+-- no leaves yet
+pub listed_none : (v : Values) (lo hi : Voxel) (h : ℕ) (b : Cube) (old : List Shown)
+    → old ≡ old ++ that_meet lo hi (first_leaves v h b 0)
+unfolding first_leaves
+listed_none v lo hi h b old = sym (append-nil old)
+
+-- those of a child more
+pub listed_next : (v : Values) (lo hi : Voxel) (h m : ℕ) (b c : Cube) (i : ℕ)
+    (old before now : List Shown)
+    → before ≡ old ++ that_meet lo hi (first_leaves v h b i)
+    → now ≡ before ++ that_meet lo hi (leaves_below v m c) → c ≡ child_of b i → m ≡ h
+    → now ≡ old ++ that_meet lo hi (first_leaves v h b (i + 1))
+listed_next v lo hi h m b c i old before now was is child level =
+    is ∙ ap (λ (n : ℕ). before ++ that_meet lo hi (leaves_below v n c)) level
+    ∙ ap (λ (d : Cube). before ++ that_meet lo hi (leaves_below v h d)) child
+    ∙ ap (λ l. l ++ that_meet lo hi (leaves_below v h (child_of b i))) was
+    ∙ append_assoc old (that_meet lo hi (first_leaves v h b i))
+    (that_meet lo hi (leaves_below v h (child_of b i)))
+    ∙ ap (λ l. old ++ l) (sym (meet_next v lo hi h b i))
+
+-- where one child has some, the first n children have
+pub some_in_child : (v : Values) (lo hi : Voxel) (h m : ℕ) (b c : Cube) (i : ℕ)
+    → c ≡ child_of b i → m ≡ h
+    → (that_meet lo hi (leaves_below v m c) ≡ [] → ⊥) → (n : ℕ) → i < n
+    → that_meet lo hi (first_leaves v h b n) ≡ [] → ⊥
+some_in_child v lo hi h m b c i child level some zero less none = omega (arith, less)
+some_in_child v lo hi h m b c i child level some (suc n) less none =
+    let one : n + 1 ≡ suc n = omega arith in
+    let (before, here) = parts (that_meet lo hi (first_leaves v h b n))
+    (that_meet lo hi (leaves_below v h (child_of b n)))
+    (sym (meet_next v lo hi h b n)
+    ∙ ap (λ (k : ℕ). that_meet lo hi (first_leaves v h b k)) one ∙ none) in
+    elim (cases_lt i n) [
+      | inl old ↦ some_in_child v lo hi h m b c i child level some n old before
+      | inr last ↦ (let e : i ≡ n = omega (arith, less, last) in
+          some (ap (λ (k : ℕ). that_meet lo hi (leaves_below v k c)) level
+          ∙ ap (λ (d : Cube). that_meet lo hi (leaves_below v h d)) (child ∙ ap (child_of b) e)
+          ∙ here))
+    ]
+  where
+    parts : (xs ys : List Shown) → xs ++ ys ≡ [] → (xs ≡ []) × (ys ≡ [])
+    parts [] ys none = (refl, none)
+    parts (x ∷ xs) ys none = cc

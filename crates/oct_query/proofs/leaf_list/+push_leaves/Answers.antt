@@ -1,0 +1,110 @@
+use Rattle.std.proofs.Common.{◌≡◌, ℕ, ◌++◌, ◌-◌, ◌+◌, None, sym, ap, ◌∙◌, arith, append-nil}
+use Rattle.std.specs.Prelude.{is_some}
+use Rattle.oct_key.specs.Block.{Cube}
+use Rattle.oct_key.specs.CubeOf.{cube_of}
+use Rattle.oct_key.proofs.Blocks.{block_in_map}
+use Rattle.oct_arena.specs.Nodes.{link_of, value_of}
+use Rattle.oct_tree.specs.Tree.{value_at}
+use Rattle.oct_tree.proofs.Paths.{not_inner}
+use Rattle.oct_query.specs.Leaves.{that_meet}
+use Rattle.oct_query.proofs.Above.{above, child_slot}
+use Rattle.oct_query.proofs.LeafWalks.{on_any_err, all_of_node, first_leaves, pushed_one}
+use Rattle.oct_query.proofs.LeafWalks.{meets_several, listed_none, listed_next, some_in_child}
+use Rattle.oct_query.proofs.LeafBoxes.{none_meet}
+use Rattle.oct_query.proofs.leaf_list.+push_leaves.Goals as goal
+
+pub returns-then-not-meets-clause-listed : goal.returns-then-not-meets-clause-listed
+returns-then-not-meets-clause-listed t c =
+    sym (append-nil c.args.found.now)
+    ∙ ap (λ l. c.args.found.now ++ l)
+    (sym (none_meet (value_at c.args.tree.now) c.args.lo c.args.hi (cube_of c.args.block)
+    (block_in_map c.args.block) (sym c.if-not-meets.ensures)))
+
+pub returns-in_default : goal.returns-in_default
+returns-in_default t c =
+    let none : link_of c.node-node.result ≡ None =
+    not_inner c.node-node.result c.in_default.not-Inner in
+    let ok = block_in_map c.args.block in
+    let all = all_of_node (value_at c.args.tree.now) (cube_of c.args.block)
+    (value_of c.node-node.result) c.value.result ok
+    (c.node-node.ensures.values (cube_of c.args.block) c.requires.block none)
+    c.value.ensures.exact in
+    let (listed, memory) = pushed_one (value_at c.args.tree.now) c.args.lo c.args.hi
+    (cube_of c.args.block) c.value.result c.args.found.now _ c.push_block.result ok
+    (sym c.if-not-meets.ensures) all c.push_block.ensures.listed c.push_block.ensures.memory in
+    record { listed = listed; memory = memory; linked = c.node-node.ensures.linked }
+
+pub returns-in-Some-clause-listed : goal.returns-in-Some-clause-listed
+returns-in-Some-clause-listed t c =
+    (pushed_one (value_at c.args.tree.now) c.args.lo c.args.hi (cube_of c.args.block)
+    c.in-Some.value c.args.found.now _ c.push_block-in-Some.result (block_in_map c.args.block)
+    (sym c.if-not-meets.ensures) c.in-Some.ensures.exact c.push_block-in-Some.ensures.listed
+    c.push_block-in-Some.ensures.memory).0
+
+pub returns-in-Some-clause-memory : goal.returns-in-Some-clause-memory
+returns-in-Some-clause-memory t c =
+    (pushed_one (value_at c.args.tree.now) c.args.lo c.args.hi (cube_of c.args.block)
+    c.in-Some.value c.args.found.now _ c.push_block-in-Some.result (block_in_map c.args.block)
+    (sym c.if-not-meets.ensures) c.in-Some.ensures.exact c.push_block-in-Some.ensures.listed
+    c.push_block-in-Some.ensures.memory).1
+
+pub loop-i-init : goal.loop-i-init
+loop-i-init t c = record {
+  listed = listed_none (value_at c.args.tree.now) c.args.lo c.args.hi
+      (16 - (c.args.block.depth + 1)) (cube_of c.args.block) c.args.found.now;
+}
+
+pub push_leaves-requires : goal.push_leaves-requires
+push_leaves-requires t c =
+    let (less, here, at) = child_slot c.args.tree.now c.args.p c.in-Inner.id
+    (cube_of c.args.block) (cube_of c.child.result) c.loop-i.i c.in-Inner.ensures.linked
+    c.requires.place (ap link_of (sym c.in-Inner.ensures.exact)) c.requires.block
+    c.child.ensures.exact (omega arith) in
+    (omega (arith, less), (here, at))
+
+pub returns-in_err-push_leaves-clause-memory : goal.returns-in_err-push_leaves-clause-memory
+returns-in_err-push_leaves-clause-memory t c =
+    let a = above c.args.tree.now c.args.p c.in-Inner.id (cube_of c.args.block)
+    c.in-Inner.ensures.linked c.requires.place (ap link_of (sym c.in-Inner.ensures.exact))
+    c.requires.block in
+    on_any_err c.from_residual.result _
+    (λ none. some_in_child (value_at c.args.tree.now) c.args.lo c.args.hi
+    (16 - (c.args.block.depth + 1)) (16 - c.child.result.depth) (cube_of c.args.block)
+    (cube_of c.child.result) c.loop-i.i c.child.ensures.exact
+    (ap (λ (b : Cube). 16 - b.depth) c.child.ensures.exact ∙ a.child c.loop-i.i)
+    c.in_err-push_leaves.ensures.memory 8 (omega arith)
+    (sym (meets_several (value_at c.args.tree.now) c.args.lo c.args.hi
+    (16 - (c.args.block.depth + 1)) (cube_of c.args.block) a.ok a.next
+    c.in_default-shared_value.ensures.exact) ∙ none))
+
+pub loop-i-preserved : goal.loop-i-preserved
+loop-i-preserved t c =
+    let a = above c.args.tree.now c.args.p c.in-Inner.id (cube_of c.args.block)
+    c.in-Inner.ensures.linked c.requires.place (ap link_of (sym c.in-Inner.ensures.exact))
+    c.requires.block in
+    record {
+      listed = listed_next (value_at c.args.tree.now) c.args.lo c.args.hi
+          (16 - (c.args.block.depth + 1)) (16 - c.child.result.depth) (cube_of c.args.block)
+          (cube_of c.child.result) c.loop-i.i c.args.found.now c.loop-i.found _
+          c.loop-i.invariant.listed c.in_ok-push_leaves.ensures.listed c.child.ensures.exact
+          (ap (λ (b : Cube). 16 - b.depth) c.child.ensures.exact ∙ a.child c.loop-i.i);
+    }
+
+pub returns-clause-listed : goal.returns-clause-listed
+returns-clause-listed t c =
+    let a = above c.args.tree.now c.args.p c.in-Inner.id (cube_of c.args.block)
+    c.in-Inner.ensures.linked c.requires.place (ap link_of (sym c.in-Inner.ensures.exact))
+    c.requires.block in
+    let end : c.loop-i.i ≡ 8 = omega arith in
+    c.loop-i.invariant.listed
+    ∙ ap (λ (n : ℕ). c.args.found.now ++ that_meet c.args.lo c.args.hi
+    (first_leaves (value_at c.args.tree.now) (16 - (c.args.block.depth + 1))
+    (cube_of c.args.block) n)) end
+    ∙ ap (λ l. c.args.found.now ++ l)
+    (sym (meets_several (value_at c.args.tree.now) c.args.lo c.args.hi
+    (16 - (c.args.block.depth + 1)) (cube_of c.args.block) a.ok a.next
+    c.in_default-shared_value.ensures.exact))
+
+pub shared_value-requires-clause-inner : goal.shared_value-requires-clause-inner
+shared_value-requires-clause-inner t c =
+    ap (λ n. is_some (link_of n)) (sym c.in-Inner.ensures.exact)

@@ -1,0 +1,141 @@
+//! The greatest blocks of one value.
+ghost use Rattle.std.specs.Prelude.{◌≡◌, ◌++◌, [], Some, IsSome, IfOk, OnOk, OnErr};
+ghost use Rattle.oct_arena.specs.Nodes.{link_of};
+ghost use Rattle.oct_key.specs.CubeOf.{cube_of};
+ghost use Rattle.oct_values.specs.Boxes.{is_met_by};
+ghost use Rattle.oct_tree.specs.Tree.{IsLinked, IsPlace, block_in, node_in, value_at};
+ghost use Rattle.oct_query.specs.Leaves.{IsLeafList, IsOneValue, block_leaves, leaves_met};
+ghost use Rattle.oct_query.specs.Leaves.{leaves_of, own_leaf, that_meet};
+
+use crate::block_list::BlockList;
+use crate::depths::lowest_voxel;
+use crate::extent::{higher, highest_voxel, lower};
+use crate::found::Found;
+use oct_arena::Node;
+use oct_key::{Block, Key, Window};
+use oct_num::Memory;
+use oct_tree::{OccTree, Place};
+use std::alloc::Global;
+
+/// The leaves of the map: the greatest blocks whose voxels are known and have one value, each with
+/// that value, in the order of the Morton codes of their first voxels.
+///
+/// The list is a function of the voxels' values. In a pruned tree these are the blocks of its leaf
+/// nodes; one that isn't pruned gives the same list. Memory is asked for only where a voxel is
+/// known.
+pub fn leaves(alloc: Global, tree: &OccTree) -> Result<BlockList, Memory>
+    ensures exact { IfOk result (λ list. list ≡ leaves_of (value_at tree.now)) }
+    ensures leaves { IfOk result (λ list. IsLeafList (value_at tree.now) list) }
+    ensures memory { OnErr result (leaves_of (value_at tree.now) ≡ [] → ⊥) }
+    ensures linked { IsLinked tree.now }
+{
+    let whole = Block::whole_map();
+    leaves_in(alloc, tree, lowest_voxel(whole), highest_voxel(whole))
+}
+
+/// The leaves of the map whose blocks meet the box of the two corners, both included, in the same
+/// order. Each is a leaf of the whole map, and may reach beyond the box.
+///
+/// Blocks that don't meet the box are looked at only to tell whether they are part of a greater
+/// one, as far as the first two values that differ, and not at all where the tree is known to be
+/// pruned. Memory is asked for only where some leaf meets the box.
+pub fn leaves_in(alloc: Global, tree: &OccTree, lo: Key, hi: Key) -> Result<BlockList, Memory>
+    ensures exact { IfOk result (λ list. list ≡ leaves_met (value_at tree.now) lo hi) }
+    ensures memory { OnErr result (leaves_met (value_at tree.now) lo hi ≡ [] → ⊥) }
+    ensures linked { IsLinked tree.now }
+{
+    let mut found = BlockList::new(alloc);
+    push_leaves(tree, Place::Root, Block::whole_map(), lo, hi, &mut found)?;
+    Ok(found)
+}
+
+/// Adds the leaves in the place's block that meet the box, the block itself where its voxels have
+/// one value.
+fn push_leaves(
+    tree: &OccTree,
+    p: Place,
+    block: Block,
+    lo: Key,
+    hi: Key,
+    found: &mut BlockList,
+) -> Result<(), Memory>
+    requires place { IsPlace tree.now p }
+    requires block { block_in tree.now p ≡ Some (cube_of block) }
+    ensures listed { OnOk result (found.new
+        ≡ found.old ++ that_meet lo hi (block_leaves (value_at tree.now) (cube_of block))) }
+    ensures memory { OnErr result
+        (that_meet lo hi (block_leaves (value_at tree.now) (cube_of block)) ≡ [] → ⊥) }
+    ensures linked { IsLinked tree.now }
+{
+    let node = tree.node(p);
+    if !meets(block, lo, hi) {
+        return Ok(());
+    }
+    let Node::Inner(_, id) = node else {
+        return push_block(block, node.value(), found);
+    };
+    if let Some(value) = shared_value(tree, p, block) {
+        return push_block(block, value, found);
+    }
+    for i in 0..8 {
+        push_leaves(tree, Place::Slot(id, i), block.child(i), lo, hi, found)?;
+    }
+    Ok(())
+}
+
+/// Adds a block whose voxels all have this value, unless they are unknown.
+fn push_block(block: Block, value: Option<i32>, found: &mut BlockList) -> Result<(), Memory>
+    ensures listed { OnOk result (found.new ≡ found.old ++ own_leaf (cube_of block) value) }
+    ensures memory { OnErr result (own_leaf (cube_of block) value ≡ [] → ⊥) }
+{
+    match value {
+        Some(value) => found.push(Found { block, value }),
+        None => Ok(()),
+    }
+}
+
+/// The value of all voxels of the place's block, which has a group, or `None` where they have
+/// several: in a tree that is known to be pruned each such block has several.
+fn shared_value(tree: &OccTree, p: Place, block: Block) -> Option<Option<i32>>
+    requires place { IsPlace tree.now p }
+    requires block { block_in tree.now p ≡ Some (cube_of block) }
+    requires inner { IsSome (link_of (node_in tree.now p)) }
+    ensures exact { IsOneValue (value_at tree.now) (cube_of block) result }
+    ensures linked { IsLinked tree.now }
+{
+    if tree.tidiness().pruned {
+        return None;
+    }
+    one_value(tree, p, block)
+}
+
+/// The value of all voxels of the place's block, where unknown counts as one, or `None` where they
+/// have several. Goes no further than the first two that differ.
+fn one_value(tree: &OccTree, p: Place, block: Block) -> Option<Option<i32>>
+    requires place { IsPlace tree.now p }
+    requires block { block_in tree.now p ≡ Some (cube_of block) }
+    ensures exact { IsOneValue (value_at tree.now) (cube_of block) result }
+    ensures linked { IsLinked tree.now }
+{
+    let node = tree.node(p);
+    let Node::Inner(_, id) = node else {
+        return Some(node.value());
+    };
+    let first = one_value(tree, Place::Slot(id, 0), block.child(0))?;
+    for i in 1..8 {
+        let next = one_value(tree, Place::Slot(id, i), block.child(i))?;
+        if next != first {
+            return None;
+        }
+    }
+    Some(first)
+}
+
+/// Whether some voxel of the block lies in the box: whether what they share is a box.
+fn meets(block: Block, lo: Key, hi: Key) -> bool
+    ensures { result ≡ is_met_by lo hi (cube_of block) }
+{
+    let first = higher(lo, lowest_voxel(block));
+    let last = lower(hi, highest_voxel(block));
+    Window::new(first, last).is_some()
+}
