@@ -54,6 +54,7 @@ def full_output(folder):
         status = subprocess.run(SESSION, input=b"hit 0 0 0\nsave m\n", cwd=folder, stdout=full,
                                 stderr=subprocess.DEVNULL).returncode
     say("a full disk under the output: write fault", status == WRITE, status)
+    say("  and no file is saved after it", names_in(folder) == [], names_in(folder))
 
 
 def closed_pipe(folder):

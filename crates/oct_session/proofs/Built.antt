@@ -15,7 +15,8 @@ use Rattle.oct_session.specs.Ending.{IsAnswered, IsReadToEnd, IsWhole}
 use Rattle.oct_session.specs.FileCommands.{classes_file}
 use Rattle.oct_session.specs.Leaving as lent
 use Rattle.oct_session.specs.Leaving.{Desk, IsLikeAfter}
-use Rattle.oct_session.specs.Session.{last_progress, session, ReadsTold}
+use Rattle.oct_session.specs.Session.{Progress, after_lines, last_progress, session, ReadsTold}
+use Rattle.oct_script.specs.Lines.{Line}
 use Rattle.oct_session.specs.Setup.{Setup}
 use Rattle.oct_session.specs.declared.options.Status.{Status}
 use Rattle.oct_session.specs.declared.options.Status.TheVariants as status
@@ -57,7 +58,8 @@ record HasDone (o : Setup) (files : Option Files) (bytes : List ℕ) (left : Opt
 
 has_done : (o : Setup) (files : Option Files) (bytes : List ℕ) (left : Option (List ℕ)) (d : Desk)
     (ended : Status) → has_ended ended ≡ true → script.MayEnd o files bytes left None None ended
-    → lent.Leaves o files bytes left None None d ended → HasDone o files bytes left d ended
+    → lent.Leaves o files bytes left None None d (Rose 0 0) ended
+    → HasDone o files bytes left d ended
 has_done o files bytes left d status.Done over ends leaves =
     record { same = ends.0.same_status; end = ends.1; like = leaves }
 has_done o files bytes left d status.Refused over ends leaves =
@@ -120,13 +122,13 @@ EndsSilent o files left after d ended =
     IfSome left (λ bytes. ReadsTold o files bytes
     → script.MayEnd o files bytes after None None ended)
     × IfSome left (λ bytes. ReadsTold o files bytes
-    → lent.Leaves o files bytes after None None d ended)
+    → lent.Leaves o files bytes after None None d (Rose 0 0) ended)
 
 -- a build whose script has ended: what was written, and what is left
 written_ends : (o : Setup) (files : Option Files) (bytes : List ℕ) (left v u : Option (List ℕ))
     (d : Desk) (ended result : Status) → has_ended ended ≡ true
     → script.MayEnd o files bytes left None None ended
-    → lent.Leaves o files bytes left None None d ended →
+    → lent.Leaves o files bytes left None None d (Rose 0 0) ended →
     EndsWriting (bt_text d.map.tree.res (classes_in d.map.tree)) v u ended result
     → built.MayEnd o files bytes left v u result × built.Leaves o files bytes left d result
 written_ends o files bytes left v u d ended result over ends leaves writes =
@@ -167,11 +169,55 @@ answered_long o files bytes v u same unwritten = record {
   same_status = same;
 }
 
+-- a count that stays at 0 doesn't rise
+pub zero_stays : Rose 0 0 → ⊥
+zero_stays (inl rose) = omega arith
+zero_stays (inr last) = omega (arith, last.0)
+
+-- what a session leaves that runs out of memory, where its sink takes none
+calm_memory : (o : Setup) (saved : Option (List ℕ)) (p q : Progress) (told : List ℕ)
+    (ahead : List Line) (d : Desk) → lent.HasLeft o saved p q told ahead d (Rose 0 0) status.Memory
+    → lent.HasLeft o saved p q told ahead d ⊥ status.Memory
+calm_memory o saved p q told ahead d (inl ran) = absurd (zero_stays ran.0)
+calm_memory o saved p q told ahead d (inr own) = inr own
+
+calm_between : {o : Setup} {saved : Option (List ℕ)} {p q : Progress} {ahead : List Line}
+    {old new : Option (List ℕ)} {d : Desk} (status : Status)
+    → ((saved : Option (List ℕ)) (p q : Progress) (told : List ℕ) (ahead : List Line)
+    → lent.HasLeft o saved p q told ahead d (Rose 0 0) status
+    → lent.HasLeft o saved p q told ahead d ⊥ status)
+    → lent.IsHaltedBetween o saved p q ahead old new d (Rose 0 0) status
+    → lent.IsHaltedBetween o saved p q ahead old new d ⊥ status
+calm_between {o} {saved} {p} {q} {ahead} status left h = record {
+  cut = h.cut;
+  done = h.done;
+  has_left = left saved p (after_lines o q ahead) h.cut.told ahead h.has_left;
+  asked = h.asked;
+}
+
+-- a halt of such a session
+calm_halted : (o : Setup) (files : Option Files) (bytes : List ℕ) (d : Desk) (status : Status)
+    → ((saved : Option (List ℕ)) (p q : Progress) (told : List ℕ) (ahead : List Line)
+    → lent.HasLeft o saved p q told ahead d (Rose 0 0) status
+    → lent.HasLeft o saved p q told ahead d ⊥ status)
+    → lent.HasHalted o files bytes None None d (Rose 0 0) status
+    → lent.HasHalted o files bytes None None d ⊥ status
+calm_halted o files bytes d status left (inl h) = inl (record {
+  before = h.before;
+  line = h.line;
+  ahead = h.ahead;
+  rest = h.rest;
+  split = h.split;
+  at = calm_between status left h.at;
+})
+calm_halted o files bytes d status left (inr (within, end)) =
+    inr (within, calm_between status left end)
+
 stopped_ends : (o : Setup) (files : Option Files) (bytes : List ℕ) (left v u : Option (List ℕ))
     (d : Desk) (ended : Status) → has_ended ended ≡ false → (ended ≡ status.WriteFault → ⊥)
     → u ≡ v →
     script.MayEnd o files bytes left None None ended
-    → lent.Leaves o files bytes left None None d ended
+    → lent.Leaves o files bytes left None None d (Rose 0 0) ended
     → built.MayEnd o files bytes left v u ended × built.Leaves o files bytes left d ended
 stopped_ends o files bytes left v u d status.Done going calm unwritten ends leaves = cc
 stopped_ends o files bytes left v u d status.Refused going calm unwritten ends leaves = cc
@@ -188,10 +234,15 @@ stopped_ends o files bytes left v u d status.ReadFault going calm unwritten ends
     (record { unwritten = unwritten; stopped = ends }, leaves)
 stopped_ends o files bytes left v u d status.WriteFault going calm unwritten ends leaves =
     absurd (calm refl)
-stopped_ends o files bytes left v u d status.Memory going calm unwritten ends leaves =
-    (inl (record { unwritten = unwritten; stopped = ends }), inl leaves)
-stopped_ends o files bytes left v u d status.StoreFault going calm unwritten ends leaves =
-    (record { unwritten = unwritten; stopped = ends }, leaves)
+stopped_ends o files bytes left v u d status.Memory going calm unwritten ends leaves = (
+  inl (record { unwritten = unwritten; stopped = ends }),
+  inl (calm_halted o files bytes d status.Memory
+      (λ saved p q told ahead. calm_memory o saved p q told ahead d) leaves),
+)
+stopped_ends o files bytes left v u d status.StoreFault going calm unwritten ends leaves = (
+  record { unwritten = unwritten; stopped = ends },
+  calm_halted o files bytes d status.StoreFault (λ saved p q told ahead left. left) leaves,
+)
 
 -- a build whose script hasn't ended
 pub stopped_answer : (o : Setup) (files : Option Files) (left after v u : Option (List ℕ))
@@ -211,11 +262,6 @@ stopped_leaves o files None after v u d ended going calm unwritten served = tt
 stopped_leaves o files (Some bytes) after v u d ended going calm unwritten served =
     λ told. (stopped_ends o files bytes after v u d ended going calm unwritten (served.0 told)
     (served.1 told)).1
-
--- a count that stays at 0 doesn't rise
-pub zero_stays : Rose 0 0 → ⊥
-zero_stays (inl rose) = omega arith
-zero_stays (inr last) = omega (arith, last.0)
 
 -- a script that has ended was answered whole
 pub whole_ended : (ended : Status) → has_ended ended ≡ true → IsWhole ended

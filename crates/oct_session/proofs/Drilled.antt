@@ -86,7 +86,8 @@ work_done o told seed scans points left after m k e home s t is none reads at ne
     (known o told (script_of seed scans points)))
 
 -- the session stops only where memory runs out
-pub only_memory : {H : Type 0} (r : Result (Unit {0}) Stop) (o : Setup) (told : Files)
+pub only_memory : {H : Type 0} (short : Type 0) (r : Result (Unit {0}) Stop) (o : Setup)
+    (told : Files)
     (seed scans points : ℕ) (left after : Option (List ℕ)) (m : Map) (k : H → Shelf) (e : H → Desk)
     (home : H) (s : Session) →
     o ≡ drill_setup → left ≡ Some (script_of seed scans points) → IsFirst (Some told) (k home)
@@ -94,12 +95,14 @@ pub only_memory : {H : Type 0} (r : Result (Unit {0}) Stop) (o : Setup) (told : 
     IfErr r (λ stop. (home : H) (files : Option Files) (bytes : List ℕ) (w : Option (List ℕ))
     → HasServed o files bytes left w None (desk m (k home)) s 0
     → IsKnown (last_progress o files bytes) →
-    HasEndedAs o files bytes after w None (e home) (status_of stop)) →
+    HasEndedAs o files bytes after w None (e home) short (status_of stop)) →
     (IsErrOf r ReadFault → ⊥) → (IsErrOf r WriteFault → ⊥) → (IsErrOf r StoreFault → ⊥)
     → IfErr r (λ stop. stop ≡ Memory)
-only_memory (Ok done) o told seed scans points left after m k e home s is reads at new a b c stops
+only_memory short (Ok done) o told seed scans points left after m k e home s is reads at new a b c
+    stops
     unread unwritten unstored = tt
-only_memory (Err TooLong) o told seed scans points left after m k e home s is reads at new a b c
+only_memory short (Err TooLong) o told seed scans points left after m k e home s is reads at new a b
+    c
     stops unread unwritten unstored =
     let script = script_of seed scans points in
     let ended = stops home (Some told) script None
@@ -108,13 +111,17 @@ only_memory (Err TooLong) o told seed scans points left after m k e home s is re
     let few = script_fits seed scans points a b c in
     let long : o.max_bytes + 1 ≤ length script = ended.answer.1.within in
     absurd (omega (arith, most, few, long))
-only_memory (Err ReadFault) o told seed scans points left after m k e home s is reads at new a b c
+only_memory short (Err ReadFault) o told seed scans points left after m k e home s is reads at new a
+    b c
     stops unread unwritten unstored = absurd (unread refl)
-only_memory (Err WriteFault) o told seed scans points left after m k e home s is reads at new a b c
+only_memory short (Err WriteFault) o told seed scans points left after m k e home s is reads at new
+    a b c
     stops unread unwritten unstored = absurd (unwritten refl)
-only_memory (Err Memory) o told seed scans points left after m k e home s is reads at new a b c
+only_memory short (Err Memory) o told seed scans points left after m k e home s is reads at new a b
+    c
     stops unread unwritten unstored = refl
-only_memory (Err StoreFault) o told seed scans points left after m k e home s is reads at new a b c
+only_memory short (Err StoreFault) o told seed scans points left after m k e home s is reads at new
+    a b c
     stops unread unwritten unstored = absurd (unstored refl)
 
 -- the lines aren't empty

@@ -202,20 +202,22 @@ known_told o files bytes (inl some) = inl (told_fold o (start files) (lines_of o
 known_told o files bytes (inr none) = inr none
 
 -- a halt within a front of the script is a halt of the session
-halted_session : (o : Setup) (files : Option Files) (bytes front back : List ℕ)
+halted_session : {short : Type 0} (o : Setup) (files : Option Files) (bytes front back : List ℕ)
     (old new : Option (List ℕ)) (d : Desk) (status : Status) → bytes ≡ front ++ back
     → length front ≤ o.max_bytes →
-    IsHalted o files (ended_lines front) old new d status → HasHalted o files bytes old new d status
-halted_session o files bytes front back old new d status parts few halted =
+    IsHalted o files (ended_lines front) old new d short status
+    → HasHalted o files bytes old new d short status
+halted_session {short} o files bytes front back old new d status parts few halted =
     let s = lines_within o bytes front back parts few in
-    inl (subst (λ x. IsHalted o files x old new d status) (sym s.1)
+    inl (subst (λ x. IsHalted o files x old new d short status) (sym s.1)
     (halted_more o files (ended_lines front) s.0 old new d status halted))
 
-halted_as : (o : Setup) (files : Option Files) (bytes : List ℕ) (left w u : Option (List ℕ))
-    (d : Desk) (stop : Stop) → IsHalt stop → HasHalted o files bytes w u d (status_of stop) →
+halted_as : {short : Type 0} (o : Setup) (files : Option Files) (bytes : List ℕ)
+    (left w u : Option (List ℕ))
+    (d : Desk) (stop : Stop) → IsHalt stop → HasHalted o files bytes w u d short (status_of stop) →
     IsBegun (session o files bytes).text w u → HasStopped o files bytes left w u
     → HasAsked d (last_progress o files bytes).asks
-    → HasEndedAs o files bytes left w u d (status_of stop)
+    → HasEndedAs o files bytes left w u d short (status_of stop)
 halted_as o files bytes left w u d WriteFault only halted begun input asked =
     record { answer = (begun, input); leaves = halted; asked = asked }
 halted_as o files bytes left w u d Memory only halted begun input asked =
@@ -226,8 +228,9 @@ halted_as o files bytes left w u d TooLong only halted begun input asked = absur
 halted_as o files bytes left w u d ReadFault only halted begun input asked = absurd only
 
 -- what a session that was halted has written is a prefix of the whole answer
-halted_text : (o : Setup) (files : Option Files) (bytes : List ℕ) (w u : Option (List ℕ)) (d : Desk)
-    (status : Status) → HasHalted o files bytes w u d status
+halted_text : {short : Type 0} (o : Setup) (files : Option Files) (bytes : List ℕ)
+    (w u : Option (List ℕ)) (d : Desk)
+    (status : Status) → HasHalted o files bytes w u d short status
     → IsBegun (session o files bytes).text w u
 halted_text o files bytes w u d status (inl halted) = let s = session_text o files bytes in
     begun_more _ _ s.0 w u s.1 (halted_begun o files (lines_of o bytes) w u d status halted)
@@ -238,8 +241,9 @@ halted_text o files bytes w u d status (inr end) =
     end.1.cut)
 
 -- the store was asked once at most for each line that names a file
-halted_asks : (o : Setup) (files : Option Files) (bytes : List ℕ) (w u : Option (List ℕ)) (d : Desk)
-    (status : Status) → HasHalted o files bytes w u d status
+halted_asks : {short : Type 0} (o : Setup) (files : Option Files) (bytes : List ℕ)
+    (w u : Option (List ℕ)) (d : Desk)
+    (status : Status) → HasHalted o files bytes w u d short status
     → HasAsked d (last_progress o files bytes).asks
 halted_asks o files bytes w u d status (inl halted) =
     halted_asked o files (lines_of o bytes) w u d status halted
@@ -247,9 +251,10 @@ halted_asks o files bytes w u d status (inr end) =
     subst (HasAsked d) (closed_asks (last_progress o files bytes)) end.1.asked
 
 -- how a session ends that was halted by its sink or its store, or because memory ran out
-halted_ends : (o : Setup) (files : Option Files) (bytes : List ℕ) (left w u : Option (List ℕ))
-    (d : Desk) (stop : Stop) → IsHalt stop → HasHalted o files bytes w u d (status_of stop) →
-    HasStopped o files bytes left w u → HasEndedAs o files bytes left w u d (status_of stop)
+halted_ends : {short : Type 0} (o : Setup) (files : Option Files) (bytes : List ℕ)
+    (left w u : Option (List ℕ))
+    (d : Desk) (stop : Stop) → IsHalt stop → HasHalted o files bytes w u d short (status_of stop) →
+    HasStopped o files bytes left w u → HasEndedAs o files bytes left w u d short (status_of stop)
 halted_ends o files bytes left w u d stop only halted input =
     halted_as o files bytes left w u d stop only halted
     (halted_text o files bytes w u d (status_of stop) halted) input
@@ -371,11 +376,11 @@ serving_more o files bytes buffer piece left after w v u d e s t taken n room re
     }
 
 -- the input failed
-pub ends_read_fault : (o : Setup) (files : Option Files) (bytes : List ℕ)
+pub ends_read_fault : {short : Type 0} (o : Setup) (files : Option Files) (bytes : List ℕ)
     (left after w v : Option (List ℕ)) (d : Desk) (s : Session) (taken : ℕ) → after ≡ left
     → taken ≤ o.max_bytes → s.has_quit ≡ false →
     HasServed o files bytes left w v d s taken → IsKnown (last_progress o files bytes)
-    → HasEndedAs o files bytes after w v d (status_of ReadFault)
+    → HasEndedAs o files bytes after w v d short (status_of ReadFault)
 ends_read_fault o files bytes left after w v d s taken same few running at known =
     let size : length (take taken bytes) ≤ o.max_bytes = omega (arith, length-take taken bytes) in
     let input : HasTaken taken bytes after =
@@ -481,14 +486,15 @@ serving_quit o files bytes buffer piece left after w v u d e s t taken n room re
     }
 
 -- a halt in what of the piece may be taken
-stops_halted : (o : Setup) (files : Option Files) (bytes buffer piece : List ℕ)
+stops_halted : {short : Type 0} (o : Setup) (files : Option Files) (bytes buffer piece : List ℕ)
     (left after w u : Option (List ℕ)) (d : Desk) (taken n room : ℕ) (stop : Stop) → IsHalt stop
     → IsRead o buffer piece left after taken n room →
     HasTaken taken bytes left
     → (IsKnown (progress o files (ended_lines (take taken bytes ++ take room piece)))
     → IsHaltedBehind o files (take taken bytes) (ended_lines (take taken bytes ++ take room piece))
-    w u d (status_of stop)) →
-    IsKnown (last_progress o files bytes) → HasEndedAs o files bytes after w u d (status_of stop)
+    w u d short (status_of stop)) →
+    IsKnown (last_progress o files bytes)
+    → HasEndedAs o files bytes after w u d short (status_of stop)
 stops_halted o files bytes buffer piece left after w u d taken n room stop only read input halts
     known =
     let p : piece ≡ take n (drop taken bytes) =
@@ -509,11 +515,12 @@ stops_halted o files bytes buffer piece left after w u d taken n room stop only 
     })
 
 -- more bytes than the script may have
-stops_long : (o : Setup) (files : Option Files) (bytes buffer piece : List ℕ)
+stops_long : {short : Type 0} (o : Setup) (files : Option Files) (bytes buffer piece : List ℕ)
     (left after w u : Option (List ℕ)) (d : Desk) (t : Session) (taken n room : ℕ)
     → IsRead o buffer piece left after taken n room → room < length piece → t.has_quit ≡ false →
     HasTaken taken bytes left → IsAt o files w u d t (take taken bytes ++ take room piece)
-    → IsKnown (last_progress o files bytes) → HasEndedAs o files bytes after w u d status.TooLong
+    → IsKnown (last_progress o files bytes)
+    → HasEndedAs o files bytes after w u d short status.TooLong
 stops_long o files bytes buffer piece left after w u d t taken n room read more running input at
     known =
     let p : piece ≡ take n (drop taken bytes) =
@@ -545,13 +552,13 @@ stops_long o files bytes buffer piece left after w u d t taken n room read more 
     }
 
 -- a stop within what a read gave
-pub ends_stop : (o : Setup) (files : Option Files) (bytes buffer piece : List ℕ)
+pub ends_stop : {short : Type 0} (o : Setup) (files : Option Files) (bytes buffer piece : List ℕ)
     (left after w v u : Option (List ℕ)) (d e : Desk) (s t : Session) (taken n room : ℕ)
     (stop : Stop) → IsRead o buffer piece left after taken n room →
     ((files : Option Files) (w : Option (List ℕ)) (bytes : List ℕ) → IsAt o files w v d s bytes
-    → StopsIn o files w u e t bytes piece room stop) →
+    → StopsIn o files w u e t bytes piece room short stop) →
     HasServed o files bytes left w v d s taken → IsKnown (last_progress o files bytes)
-    → HasEndedAs o files bytes after w u e (status_of stop)
+    → HasEndedAs o files bytes after w u e short (status_of stop)
 ends_stop o files bytes buffer piece left after w v u d e s t taken n room TooLong read stops at
     known =
     let p = stops files w (take taken bytes) at.at in
@@ -611,34 +618,37 @@ through_end o files bytes left w v u d e s t taken few none goes at known =
     }
 
 -- a halt at the last line, or at the end after it
-stopped_end : (o : Setup) (files : Option Files) (front bytes : List ℕ) (w u : Option (List ℕ))
+stopped_end : {short : Type 0} (o : Setup) (files : Option Files) (front bytes : List ℕ)
+    (w u : Option (List ℕ))
     (d : Desk) (status : Status) → length bytes ≤ o.max_bytes
-    → StopsAtEnd o files front (lines_of o bytes) w u d status
-    → HasHalted o files bytes w u d status
-stopped_end o files front bytes w u d status short (inl halted, replied) = inl halted
-stopped_end o files front bytes w u d status short (inr end, replied) =
-    inr (le-ltb o.max_bytes (length bytes) short, end)
+    → StopsAtEnd o files front (lines_of o bytes) w u d short status
+    → HasHalted o files bytes w u d short status
+stopped_end o files front bytes w u d status few (inl halted, replied) = inl halted
+stopped_end o files front bytes w u d status few (inr end, replied) =
+    inr (le-ltb o.max_bytes (length bytes) few, end)
 
 -- a stop in the answer to the last line
-pub ends_last : (o : Setup) (files : Option Files) (bytes : List ℕ) (left w v u : Option (List ℕ))
+pub ends_last : {short : Type 0} (o : Setup) (files : Option Files) (bytes : List ℕ)
+    (left w v u : Option (List ℕ))
     (d e : Desk) (s : Session) (taken : ℕ) (stop : Stop) → taken ≤ o.max_bytes
     → IfSome left (λ l. l ≡ []) → IsHalt stop →
     ((files : Option Files) (w : Option (List ℕ)) (bytes : List ℕ) → IsAt o files w v d s bytes
     → IsKnown (progress o files (all_lines bytes))
-    → StopsAtEnd o files bytes (all_lines bytes) w u e (status_of stop)) →
+    → StopsAtEnd o files bytes (all_lines bytes) w u e short (status_of stop)) →
     HasServed o files bytes left w v d s taken → IsKnown (last_progress o files bytes)
-    → HasEndedAs o files bytes left w u e (status_of stop)
-ends_last o files bytes left w v u d e s taken stop few none only halts at known =
+    → HasEndedAs o files bytes left w u e short (status_of stop)
+ends_last {short} o files bytes left w v u d e s taken stop few none only halts at known =
     let size : length bytes ≡ taken = all_taken bytes left taken at.input none in
     let whole : take taken bytes ≡ bytes = take_all taken bytes (omega arith) in
-    let short : length bytes ≤ o.max_bytes = omega arith in
+    let within : length bytes ≤ o.max_bytes = omega arith in
     let lines : all_lines (take taken bytes) ≡ lines_of o bytes = ap all_lines whole
-    ∙ sym (lines_short o bytes short) in
+    ∙ sym (lines_short o bytes within) in
     let halted = halts files w (take taken bytes) at.at
     (subst (λ x. IsKnown (progress o files x)) (sym lines) known) in
     halted_ends o files bytes left w u e stop only
-    (stopped_end o files (take taken bytes) bytes w u e (status_of stop) short
-    (subst (λ x. StopsAtEnd o files (take taken bytes) x w u e (status_of stop)) lines halted))
+    (stopped_end o files (take taken bytes) bytes w u e (status_of stop) within
+    (subst (λ x. StopsAtEnd o files (take taken bytes) x w u e short (status_of stop)) lines
+    halted))
     (record {
       taken = taken;
       few = omega arith;
@@ -646,21 +656,22 @@ ends_last o files bytes left w v u d e s taken stop few none only halts at known
       replied = replied_first o files bytes (taken - 16384) taken w u (omega arith) halted.1;
     })
 
-ended_as : (o : Setup) (files : Option Files) (bytes : List ℕ) (left w v : Option (List ℕ))
+ended_as : {short : Type 0} (o : Setup) (files : Option Files) (bytes : List ℕ)
+    (left w v : Option (List ℕ))
     (d : Desk) (refused : Bool) (status : Status) → status ≡ status_at_end refused →
     (session o files bytes).status ≡ status_at_end refused
     → v ≡ appended w (session o files bytes).text → IsReadToEnd o files bytes left
     → IsLikeAfter o (last_progress o files bytes) d →
-    HasAsked d (last_progress o files bytes).asks → HasEndedAs o files bytes left w v d status
-ended_as o files bytes left w v d true status is same written end like asked =
-    subst (HasEndedAs o files bytes left w v d) (sym is)
+    HasAsked d (last_progress o files bytes).asks → HasEndedAs o files bytes left w v d short status
+ended_as {short} o files bytes left w v d true status is same written end like asked =
+    subst (HasEndedAs o files bytes left w v d short) (sym is)
     (record {
       answer = (record { written = written; same_status = same }, end);
       leaves = like;
       asked = asked;
     })
-ended_as o files bytes left w v d false status is same written end like asked =
-    subst (HasEndedAs o files bytes left w v d) (sym is)
+ended_as {short} o files bytes left w v d false status is same written end like asked =
+    subst (HasEndedAs o files bytes left w v d short) (sym is)
     (record {
       answer = (record { written = written; same_status = same }, end);
       leaves = like;
@@ -668,9 +679,10 @@ ended_as o files bytes left w v d false status is same written end like asked =
     })
 
 -- the whole script was answered
-pub ends_through : (o : Setup) (files : Option Files) (bytes : List ℕ) (left w v : Option (List ℕ))
+pub ends_through : {short : Type 0} (o : Setup) (files : Option Files) (bytes : List ℕ)
+    (left w v : Option (List ℕ))
     (d : Desk) (s : Session) (status : Status) → status ≡ status_at_end s.refused →
-    IsThrough o files bytes left w v d s → HasEndedAs o files bytes left w v d status
+    IsThrough o files bytes left w v d s → HasEndedAs o files bytes left w v d short status
 ends_through o files bytes left w v d s status is through =
     ended_as o files bytes left w v d s.refused status is
     (ap (λ (a : Answer). a.status) through.whole

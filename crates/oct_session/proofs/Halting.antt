@@ -1,7 +1,7 @@
 -- Sessions that are halted at a line, or at the end of the script.
 use Rattle.std.proofs.Common.{◌≡◌, ℕ, List, [], ◌∷◌, ◌++◌, take, drop, ◌||◌, true, false, cond}
 use Rattle.std.proofs.Common.{Option, None, IsSome, ◌<◌, length, length-drop, arith, Result, Ok}
-use Rattle.std.proofs.Common.{Err, IfErr, OnErr, IsErrAnd, inl, inr, refl, sym, ap, subst, ◌∙◌}
+use Rattle.std.proofs.Common.{Err, IfErr, IsErrAnd, inl, inr, refl, sym, ap, subst, ◌∙◌}
 use Rattle.std.proofs.Common.{append_assoc, append-nil}
 use Rattle.std.specs.Prelude.{◌⊎◌}
 use Rattle.std.proofs.lemmas.List.{take-append-drop}
@@ -17,20 +17,19 @@ use Rattle.oct_script.specs.declared.reply.Reply.{Reply}
 use Rattle.oct_script.specs.Replies.{text_of, is_refusal}
 use Rattle.oct_script.proofs.Cuts.{ended_lines-append}
 use Rattle.oct_session.specs.declared.options.Status.{Status}
-use Rattle.oct_session.specs.declared.options.Stop.{Stop}
 use Rattle.oct_session.specs.declared.session.Session.{Session}
 use Rattle.oct_session.specs.Commands.{file_saved}
 use Rattle.oct_io.specs.Taken.{IsBegun}
 use Rattle.oct_session.specs.Ending.{replies_within, HasReplied}
-use Rattle.oct_session.specs.Leaving.{Desk, HasAsked, IsLikeAfter, HasLeft, IsKnown, IsCutBetween}
-use Rattle.oct_session.specs.Leaving.{IsHaltedBetween, IsHaltedBy, IsHalted}
+use Rattle.oct_session.specs.Leaving.{Desk, HasAsked, IsLikeAfter, HasLeft, IsCutBetween}
+use Rattle.oct_session.specs.Leaving.{IsAhead, IsHaltedBetween, IsHaltedBy, IsHalted}
 use Rattle.oct_session.specs.Session.{Progress, effect_of, next_command, after_line, progress}
 use Rattle.oct_session.specs.Session.{ended, closed}
 use Rattle.oct_session.specs.ScanBlock.{end_reply}
 use Rattle.oct_session.specs.Setup.{Setup}
 use Rattle.oct_session.specs.Tally.{counted as count_reply}
-use Rattle.oct_session.specs.Standing.{IsHeard, StandsBeside, HasStoppedAt, IsInStep, IsBetween}
-use Rattle.oct_session.specs.Standing.{HasReached}
+use Rattle.oct_session.specs.Standing.{IsHeard, StandsBeside, HasStoppedAt, IsInStep}
+use Rattle.oct_session.specs.Standing.{HasReached, IsShort, IsCutBy}
 use Rattle.oct_session.specs.Stops.{stop_of_sink, stop_of_store, status_of}
 use Rattle.oct_session.proofs.Effects.{asked_most}
 use Rattle.oct_session.proofs.Prefixes.{begun_more}
@@ -66,20 +65,33 @@ cut_untold w v s p q text running at before is heard = record {
 }
 
 -- what is left where all was done
-left_all : (o : Setup) (saved : Option (List ℕ)) (d : Desk) (p q : Progress) (told : List ℕ)
-    (fault : SinkFault) → IsLikeAfter o q d
-    → HasLeft o saved p q told d (status_of (stop_of_sink fault))
-left_all o saved d p q told sink_fault.Failed all = all
-left_all o saved d p q told sink_fault.Memory all = inl all
+pub left_all : {short : Type 0} (o : Setup) (saved : Option (List ℕ)) (d : Desk) (p q : Progress)
+    (told : List ℕ)
+    (ahead : List Line) (fault : SinkFault) → IsShort fault short → IsLikeAfter o q d
+    → HasLeft o saved p q told ahead d short (status_of (stop_of_sink fault))
+left_all o saved d p q told ahead sink_fault.Failed ran all = all
+left_all o saved d p q told ahead sink_fault.Memory ran all = inl (ran refl, all)
+
+-- the same where no line is ahead, and it may be that nothing was told
+left_cut : {short : Type 0} (o : Setup) (saved : Option (List ℕ)) (d : Desk) (p q : Progress)
+    (told : List ℕ) (fault : SinkFault) → (told ≡ []) ⊎ IsShort fault short → IsLikeAfter o q d
+    → HasLeft o saved p q told [] d short (status_of (stop_of_sink fault))
+left_cut o saved d p q told sink_fault.Failed by all = all
+left_cut o saved d p q told sink_fault.Memory (inl none) all = inr (none, refl, inl all)
+left_cut o saved d p q told sink_fault.Memory (inr ran) all = inl (ran refl, all)
+
+-- no line is done ahead
+pub none_ahead : (o : Setup) (p : Progress) (written : ℕ) → IsAhead o p [] written
+none_ahead o p written = record { unasked = refl; few = λ n less. absurd (omega (arith, less)) }
 
 -- what a line leaves of which nothing was told
-left_beside : (o : Setup) (d : Desk) (p : Progress) (line : Line) (fault : StoreFault)
+left_beside : (short : Type 0) (o : Setup) (d : Desk) (p : Progress) (line : Line)
+    (fault : StoreFault)
     → StandsBeside o d p line fault →
-    HasLeft o (file_saved (next_command p line)) p (after_line o p line) [] d
+    HasLeft o (file_saved (next_command p line)) p (after_line o p line) [] [] d short
     (status_of (stop_of_store fault))
-left_beside o d p line store_fault.Failed torn = (refl, torn.0, torn.1)
-left_beside o d p line store_fault.Memory (inl all) = inl all
-left_beside o d p line store_fault.Memory (inr less) = inr (refl, less)
+left_beside short o d p line store_fault.Failed torn = (refl, refl, torn.0, torn.1)
+left_beside short o d p line store_fault.Memory some = inr (refl, refl, some)
 
 -- what a line writes
 text_line : (o : Setup) (s : Session) (p : Progress) → s.has_quit ≡ false → IsInStep s p
@@ -95,54 +107,23 @@ heard_line o p line running (inl some) = inl (text_some (effect_of o p line).rep
 heard_line o p line running (inr some) =
     inr (subst (λ (x : Progress). IsSome x.block) (sym (after_answered o p line running)) some)
 
--- a call that gives up before anything of the reply is written
-pub untold_err : {T H : Type 0} (r : Result T Stop) (fault : StoreFault) (o : Setup)
-    (v : Option (List ℕ)) (d e : H → Desk) (s : Session) → IsErrAnd r (λ x. x ≡ stop_of_store fault)
-    → s.has_quit ≡ false →
-    ((home : H) (p : Progress) → IsKnown (after_line o p s.line.line) → IsBetween o (d home) s p
-    → HasStoppedAt o (e home) p s.line.line fault) →
-    IfErr r (λ stop. (home : H) (w : Option (List ℕ)) (p : Progress)
-    → IsKnown (after_line o p s.line.line) → HasReached o w v (d home) s p
-    → IsHaltedBy o p s.line.line w v (e home) (status_of stop))
+-- a halt at a line of whose reply nothing was written
+pub halted_untold : {short : Type 0} (o : Setup) (w v : Option (List ℕ)) (d e : Desk) (s : Session)
+    (p : Progress)
+    (fault : StoreFault) → s.has_quit ≡ false → HasReached o w v d s p
+    → HasStoppedAt o e p s.line.line fault
+    → IsHaltedBy o p s.line.line [] w v e short (status_of (stop_of_store fault))
 unfolding cut_untold
-untold_err (Ok x) fault o v d e s is running beside = absurd is
-untold_err (Err x) fault o v d e s is running beside = λ home w p known at.
-    let b = beside home p known at.between in
-    subst (λ y. IsHaltedBy o p s.line.line w v (e home) (status_of y)) (sym is) (record {
+halted_untold {short} o w v d e s p fault running at stopped =
+    record {
       cut = cut_untold w v s p (after_line o p s.line.line)
           (text_of (effect_of o p s.line.line).reply) running at.between.step at.written
           (text_line o s p running at.between.step)
-          (heard_line o p s.line.line (sym at.between.step.has_quit ∙ running) b.heard);
-      has_left = left_beside o (e home) p s.line.line fault b.beside;
-      asked = b.asked;
-    })
-
--- a call that gives up when a part of the reply is written
-pub part_err : {T H : Type 0} (r : Result T Stop) (fault : SinkFault) (o : Setup)
-    (v u : Option (List ℕ)) (d e : H → Desk) (s t : Session) (text : List ℕ) (k : ℕ)
-    → IsErrAnd r (λ x. x ≡ stop_of_sink fault) → s.has_quit ≡ false →
-    ((home : H) (p : Progress) → IsKnown (after_line o p s.line.line) → IsBetween o (d home) s p
-    → IsBetween o (e home) t (after_line o p s.line.line)) →
-    ((home : H) (p : Progress) → IsKnown (after_line o p s.line.line) → IsBetween o (d home) s p
-    → text ≡ text_of (effect_of o p s.line.line).reply) → k < length text
-    → u ≡ appended v (take k text) →
-    IfErr r (λ stop. (home : H) (w : Option (List ℕ)) (p : Progress)
-    → IsKnown (after_line o p s.line.line) → HasReached o w v (d home) s p
-    → IsHaltedBy o p s.line.line w u (e home) (status_of stop))
-unfolding cut_part
-part_err (Ok x) fault o v u d e s t text k is running between same less written = absurd is
-part_err (Err x) fault o v u d e s t text k is running between same less written =
-    λ home w p known at.
-    let b = between home p known at.between in
-    subst (λ y. IsHaltedBy o p s.line.line w u (e home) (status_of y)) (sym is) (record {
-      cut = cut_part w v u s p (after_line o p s.line.line) text k running at.between.step
-          at.written
-          (text_line o s p running at.between.step
-          ∙ ap (λ x. p.text ++ x) (sym (same home p known at.between))) less written;
-      has_left = left_all o (file_saved (next_command p s.line.line)) (e home) p
-          (after_line o p s.line.line) (take k text) fault b.like;
-      asked = b.asked;
-    })
+          (heard_line o p s.line.line (sym at.between.step.has_quit ∙ running) stopped.heard);
+      done = none_ahead o (after_line o p s.line.line) (length (p.text ++ []));
+      has_left = left_beside short o e p s.line.line fault stopped.beside;
+      asked = stopped.asked;
+    }
 
 -- the end of a script whose session goes on
 pub closed_ended : (p : Progress) → p.has_quit ≡ false → closed p ≡ ended p
@@ -230,67 +211,78 @@ text_end s p r running at is =
     ap (λ (x : Progress). x.text) (closed_ended p (sym at.has_quit ∙ running))
     ∙ ap (λ x. p.text ++ text_of x) (sym (is ∙ ap end_reply at.block))
 
--- what holds holds where a call gives up
-pub on_err : {T E A : Type 0} (r : Result T E) → A → OnErr r A
-on_err (Ok x) holds = tt
-on_err (Err x) holds = holds
-
 -- a call that gives up before anything of the end's reply is written
-pub end_untold : (v : Option (List ℕ)) (s : Session) (r : Option Reply) → s.has_quit ≡ false
-    → r ≡ end_reply s.block → IsSome r →
-    (w : Option (List ℕ)) (p : Progress) → IsInStep s p → v ≡ appended w p.text
-    → IsCutBetween p (closed p) w v
-end_untold v s r running is some w p at before =
-    cut_untold w v s p (closed p) (text_of r) running at before (text_end s p r running at is)
-    (inl (text_some r some))
+pub end_untold : {T : Type 0} (short : Type 0) (result : Result T SinkFault) (v : Option (List ℕ))
+    (s : Session) (r : Option Reply) → s.has_quit ≡ false → r ≡ end_reply s.block → IsSome r →
+    IfErr result (λ fault. (w : Option (List ℕ)) (p : Progress) → IsInStep s p
+    → v ≡ appended w p.text → IsCutBy p (closed p) w v short fault)
+unfolding cut_untold
+end_untold short (Ok x) v s r running is some = tt
+end_untold short (Err x) v s r running is some = λ w p at before. record {
+  cut = cut_untold w v s p (closed p) (text_of r) running at before (text_end s p r running at is)
+      (inl (text_some r some));
+  by = inl refl;
+}
 
 -- a call that gives up when a part of it is written
-pub end_part : (v u : Option (List ℕ)) (s : Session) (r : Option Reply) (text : List ℕ) (k : ℕ)
-    → s.has_quit ≡ false → r ≡ end_reply s.block → text ≡ text_of r → k < length text
-    → u ≡ appended v (take k text) →
-    (w : Option (List ℕ)) (p : Progress) → IsInStep s p → v ≡ appended w p.text
-    → IsCutBetween p (closed p) w u
-end_part v u s r text k running is told less written w p at before =
-    cut_part w v u s p (closed p) text k running at before
-    (text_end s p r running at is ∙ ap (λ y. p.text ++ y) (sym told)) less written
+pub end_part : {T short : Type 0} (result : Result T SinkFault) (fault : SinkFault)
+    (v u : Option (List ℕ)) (s : Session) (r : Option Reply) (text : List ℕ) (k : ℕ)
+    → IsErrAnd result (λ x. x ≡ fault) → IsShort fault short → s.has_quit ≡ false
+    → r ≡ end_reply s.block → text ≡ text_of r → k < length text → u ≡ appended v (take k text) →
+    IfErr result (λ fault. (w : Option (List ℕ)) (p : Progress) → IsInStep s p
+    → v ≡ appended w p.text → IsCutBy p (closed p) w u short fault)
+end_part (Ok x) fault v u s r text k same ran running is told less written = tt
+end_part (Err x) fault v u s r text k same ran running is told less written = λ w p at before.
+    record {
+      cut = cut_part w v u s p (closed p) text k running at before
+          (text_end s p r running at is ∙ ap (λ y. p.text ++ y) (sym told)) less written;
+      by = inr (λ memory. ran (sym same ∙ memory));
+    }
 
 -- a halt at the end of the script, with the desk that stands by
-pub halted_closed : (o : Setup) (w v u : Option (List ℕ)) (d : Desk) (s : Session) (p : Progress)
-    (fault : SinkFault) → HasReached o w v d s p → IsCutBetween p (closed p) w u →
-    IsHaltedBetween o None p (closed p) w u d (status_of (stop_of_sink fault))
-halted_closed o w v u d s p fault at cut = record {
-  cut = cut;
-  has_left = left_all o None d p (closed p) cut.told fault (like_closed o d p at.between.like);
+pub halted_closed : {short : Type 0} (o : Setup) (w v u : Option (List ℕ)) (d : Desk) (s : Session)
+    (p : Progress)
+    (fault : SinkFault) → HasReached o w v d s p → IsCutBy p (closed p) w u short fault →
+    IsHaltedBetween o None p (closed p) [] w u d short (status_of (stop_of_sink fault))
+halted_closed o w v u d s p fault at end = record {
+  cut = end.cut;
+  done = none_ahead o (closed p) (length (p.text ++ end.cut.told));
+  has_left = left_cut o None d p (closed p) end.cut.told fault end.by
+      (like_closed o d p at.between.like);
   asked = subst (HasAsked d) (sym (closed_asks p)) at.between.asked;
 }
 
 -- the last of some lines
-pub halted_last : (o : Setup) (files : Option Files) (lines : List Line) (line : Line)
+pub halted_last : {short : Type 0} (o : Setup) (files : Option Files) (lines : List Line)
+    (line : Line)
     (w v : Option (List ℕ)) (d : Desk) (status : Status)
-    → IsHaltedBy o (progress o files lines) line w v d status →
-    IsHalted o files (lines ++ line ∷ []) w v d status
+    → IsHaltedBy o (progress o files lines) line [] w v d short status →
+    IsHalted o files (lines ++ line ∷ []) w v d short status
 halted_last o files lines line w v d status at =
-    record { before = lines; line = line; behind = []; split = refl; at = at }
+    record { before = lines; line = line; ahead = []; rest = []; split = refl; at = at }
 
 -- more lines after them
-pub halted_more : (o : Setup) (files : Option Files) (lines more : List Line)
-    (w v : Option (List ℕ)) (d : Desk) (status : Status) → IsHalted o files lines w v d status
-    → IsHalted o files (lines ++ more) w v d status
+pub halted_more : {short : Type 0} (o : Setup) (files : Option Files) (lines more : List Line)
+    (w v : Option (List ℕ)) (d : Desk) (status : Status) → IsHalted o files lines w v d short status
+    → IsHalted o files (lines ++ more) w v d short status
 halted_more o files lines more w v d status h = record {
   before = h.before;
   line = h.line;
-  behind = h.behind ++ more;
-  split = ap (λ x. x ++ more) h.split ∙ append_assoc h.before (h.line ∷ h.behind) more;
+  ahead = h.ahead;
+  rest = h.rest ++ more;
+  split = ap (λ x. x ++ more) h.split ∙ append_assoc h.before (h.line ∷ (h.ahead ++ h.rest)) more
+      ∙ ap (λ x. h.before ++ h.line ∷ x) (append_assoc h.ahead h.rest more);
   at = h.at;
 }
 
 -- more bytes after them
-pub halted_bytes : (o : Setup) (files : Option Files) (bytes more : List ℕ) (w v : Option (List ℕ))
-    (d : Desk) (status : Status) → IsHalted o files (ended_lines bytes) w v d status →
-    IsHalted o files (ended_lines (bytes ++ more)) w v d status
-halted_bytes o files bytes more w v d status h =
+pub halted_bytes : {short : Type 0} (o : Setup) (files : Option Files) (bytes more : List ℕ)
+    (w v : Option (List ℕ))
+    (d : Desk) (status : Status) → IsHalted o files (ended_lines bytes) w v d short status →
+    IsHalted o files (ended_lines (bytes ++ more)) w v d short status
+halted_bytes {short} o files bytes more w v d status h =
     let s = ended_lines-append bytes more in
-    subst (λ x. IsHalted o files x w v d status) (sym s.1)
+    subst (λ x. IsHalted o files x w v d short status) (sym s.1)
     (halted_more o files (ended_lines bytes) s.0 w v d status h)
 
 -- what is written on the way from one state to the next is a prefix of what stands there
@@ -312,26 +304,28 @@ split_at o files lines before behind line split = split
     ∙ sym (append_assoc before (line ∷ []) behind)
 
 -- what was written is a prefix of the replies to all lines
-pub halted_begun : (o : Setup) (files : Option Files) (lines : List Line) (w v : Option (List ℕ))
-    (d : Desk) (status : Status) → IsHalted o files lines w v d status
+pub halted_begun : {short : Type 0} (o : Setup) (files : Option Files) (lines : List Line)
+    (w v : Option (List ℕ))
+    (d : Desk) (status : Status) → IsHalted o files lines w v d short status
     → IsBegun (progress o files lines).text w v
 halted_begun o files lines w v d status h =
     let p : Progress = progress o files h.before in
-    let s = progress_grows o files (h.before ++ h.line ∷ []) h.behind in
+    let s = progress_grows o files (h.before ++ h.line ∷ []) (h.ahead ++ h.rest) in
     let begun : IsBegun (progress o files (h.before ++ h.line ∷ [])).text w v =
     subst (λ (x : Progress). IsBegun x.text w v) (sym (progress_push o files h.before h.line))
     (between_begun p (after_line o p h.line) w v h.at.cut) in
     begun_more _ _ s.0 w v (ap (λ x. (progress o files x).text)
-    (split_at o files lines h.before h.behind h.line h.split) ∙ s.1) begun
+    (split_at o files lines h.before (h.ahead ++ h.rest) h.line h.split) ∙ s.1) begun
 
 -- and the store was asked once at most for each of them that names a file
-pub halted_asked : (o : Setup) (files : Option Files) (lines : List Line) (w v : Option (List ℕ))
-    (d : Desk) (status : Status) → IsHalted o files lines w v d status
+pub halted_asked : {short : Type 0} (o : Setup) (files : Option Files) (lines : List Line)
+    (w v : Option (List ℕ))
+    (d : Desk) (status : Status) → IsHalted o files lines w v d short status
     → HasAsked d (progress o files lines).asks
 halted_asked o files lines w v d status h =
     subst (λ x. HasAsked d (progress o files x).asks)
-    (sym (split_at o files lines h.before h.behind h.line h.split))
-    (asked_most d _ _ (asks_before o files (h.before ++ h.line ∷ []) h.behind)
+    (sym (split_at o files lines h.before (h.ahead ++ h.rest) h.line h.split))
+    (asked_most d _ _ (asks_before o files (h.before ++ h.line ∷ []) (h.ahead ++ h.rest))
     (subst (λ (x : Progress). HasAsked d x.asks) (sym (progress_push o files h.before h.line))
     h.at.asked))
 

@@ -1,10 +1,9 @@
 -- What a load or a restore answers, and what map and files then are; and what a save leaves.
-use Rattle.std.proofs.Common.{◌≡◌, ◌⊎◌, ℕ, List, [], Bool, true, false, cond, length, Option, Some}
+use Rattle.std.proofs.Common.{◌≡◌, ℕ, List, [], Bool, true, false, cond, length, Option, Some}
 use Rattle.std.proofs.Common.{None, IsSome, Result, Ok, Err, IfOk, IfSome, IsErr, IsErrAnd, inl}
 use Rattle.std.proofs.Common.{inr, refl, sym, ap, subst, ◌∙◌}
 use Rattle.std.specs.Prelude.{⊤, pos, nat_eq, nat_lt, option_map, ◌++◌}
 use Rattle.oct_bt.specs.declared.fault.BtFault.{BtFault}
-use Rattle.oct_bt.specs.declared.fault.BtFault.TheVariants as bt_fault
 use Rattle.oct_bt.specs.Canonical.{canonical_size, node_total}
 use Rattle.oct_bt.specs.File.{FileRead, reading, bt_text, header_text}
 use Rattle.oct_tree.specs.Classes.{classes_in}

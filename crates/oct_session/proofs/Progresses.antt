@@ -7,18 +7,16 @@ use Rattle.std.proofs.lemmas.List.{take-take, take-append-drop}
 use Rattle.std.proofs.lemmas.List.Sums.{fold-append, fold_push}
 use Rattle.oct_io.specs.Files.{Files}
 use Rattle.oct_io.specs.Told.{appended}
-use Rattle.oct_io.proofs.Appending.{appended_twice}
 use Rattle.oct_script.specs.Lines.{Line, ended_lines}
 use Rattle.oct_script.specs.Replies.{text_of}
 use Rattle.oct_script.proofs.Cuts.{ended_lines-append}
-use Rattle.oct_session.specs.declared.session.Session.{Session}
 use Rattle.oct_session.specs.Ending.{replies_within, has_quit_within, HasReplied}
 use Rattle.oct_session.specs.Commands.{Saving, file_named, asks_for, stored}
-use Rattle.oct_session.specs.Leaving.{Desk, IsKnown}
+use Rattle.oct_session.specs.Leaving.{IsKnown}
 use Rattle.oct_session.specs.Session.{Progress, start, effect_of, next_command, answered}
 use Rattle.oct_session.specs.Session.{after_line, progress}
 use Rattle.oct_session.specs.Setup.{Setup}
-use Rattle.oct_session.specs.Standing.{FindsTold, IsBetween, HasReached}
+use Rattle.oct_session.specs.Standing.{FindsTold}
 
 -- one line more
 pub progress_push : (o : Setup) (files : Option Files) (lines : List Line) (line : Line)
@@ -240,17 +238,3 @@ asks_more o p line running some =
     some_asks : (named : Option (List ℕ)) → IsSome named → asks_for named ≡ 1
     some_asks None some = cc
     some_asks (Some name) some = refl
-
--- a line that is answered whole
-pub reached_line : (o : Setup) (w v u : Option (List ℕ)) (d e : Desk) (s t : Session) (p : Progress)
-    (line : Line) (text : List ℕ) → s.has_quit ≡ false →
-    HasReached o w v d s p → IsBetween o e t (after_line o p line)
-    → text ≡ text_of (effect_of o p line).reply → u ≡ appended v text
-    → HasReached o w u e t (after_line o p line)
-reached_line o w v u d e s t p line text running at between is written = record {
-  between = between;
-  written = written ∙ ap (λ x. appended x text) at.written ∙ appended_twice w p.text text
-      ∙ ap (λ x. appended w (p.text ++ x)) is
-      ∙ ap (λ (x : Progress). appended w x.text)
-      (sym (after_answered o p line (sym at.between.step.has_quit ∙ running)));
-}

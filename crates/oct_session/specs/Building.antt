@@ -75,10 +75,10 @@ MayEnd o files bytes left old new Memory =
     IsStopped o files bytes left old new Memory ⊎ IsHaltedBehind o files bytes left old new
 MayEnd o files bytes left old new status = IsStopped o files bytes left old new status
 
--- what a build over these bytes and files leaves of map and files: the same as the session, and all
--- of it where the script had ended before the fault
+-- what a build over these bytes and files leaves of map and files: the same as the session, whose
+-- replies take no memory, and all of it where the script had ended before the fault
 abbrev pub Leaves : Setup → Option Files → List ℕ → Option (List ℕ) → Desk → Status → Type 0
 Leaves o files bytes left d WriteFault = IsLikeAfter o (last_progress o files bytes) d
-Leaves o files bytes left d Memory = lent.Leaves o files bytes left None None d Memory
+Leaves o files bytes left d Memory = lent.Leaves o files bytes left None None d ⊥ Memory
     ⊎ IsLikeAfter o (last_progress o files bytes) d
-Leaves o files bytes left d status = lent.Leaves o files bytes left None None d status
+Leaves o files bytes left d status = lent.Leaves o files bytes left None None d ⊥ status

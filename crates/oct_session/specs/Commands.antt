@@ -1,6 +1,6 @@
 -- The command of a line, and the reply to it outside the block of a scan.
 use Rattle.std.specs.Prelude.{ℕ, ℤ, List, [], ◌∷◌, ⊤, Option, Some, None, is_some, Result, Ok, Err}
-use Rattle.std.specs.Prelude.{Bool, true, false, if◌then◌else◌}
+use Rattle.std.specs.Prelude.{◌≡◌, Bool, true, false, if◌then◌else◌}
 use Rattle.oct_io.specs.Files.{Files, saved}
 use Rattle.oct_key.specs.Values.{Values}
 use Rattle.oct_odds.specs.Odds.{Odds}
@@ -165,6 +165,10 @@ file_named (Ok (Load name)) = Some name
 file_named (Ok (Snapshot name)) = Some name
 file_named (Ok (Restore name)) = Some name
 file_named _ = None
+
+-- a line that names no file, inside the block of a scan or outside
+abbrev pub NamesNoFile : Line → Type 0
+NamesNoFile line = (inside : Bool) (number : ℕ) → file_named (command_on inside number line) ≡ None
 
 -- how often a line asks the store that names this file, or none
 abbrev pub asks_for : Option (List ℕ) → ℕ

@@ -1,5 +1,5 @@
 -- What a session leaves of the map and the files that it was lent.
-use Rattle.std.specs.Prelude.{◌≡◌, ◌⊎◌, ℕ, ◌<◌, length, List, [], ◌∷◌, ◌++◌, take, true, false}
+use Rattle.std.specs.Prelude.{◌≡◌, ◌⊎◌, ℕ, ◌+◌, ◌<◌, length, List, [], ◌∷◌, ◌++◌, take, true, false}
 use Rattle.std.specs.Prelude.{Option}
 use Rattle.std.specs.Prelude.{Some, None, IsSome}
 use Rattle.oct_io.specs.Files.{Files, KeepsOthers}
@@ -13,8 +13,8 @@ use Rattle.oct_session.specs.Commands.{file_saved}
 use Rattle.oct_session.specs.Counts.{IsAsked}
 use Rattle.oct_io.specs.Taken.{HasTaken}
 use Rattle.oct_session.specs.History.{History, State, state_after}
-use Rattle.oct_session.specs.Session.{Progress, next_command, after_line, progress, closed}
-use Rattle.oct_session.specs.Session.{is_too_long, lines_of, last_progress}
+use Rattle.oct_session.specs.Session.{Progress, next_command, after_line, after_lines, progress}
+use Rattle.oct_session.specs.Session.{closed, is_too_long, lines_of, last_progress}
 use Rattle.oct_session.specs.Setup.{Setup}
 use Rattle.oct_session.specs.declared.options.Status.{Status}
 use Rattle.oct_session.specs.declared.options.Status.TheVariants.{Done, Refused, TooLong, ReadFault}
@@ -93,14 +93,16 @@ IsTornAfter o saved p d = IsTorn saved p.files (state_after o p.history) d.map d
 -- what a session leaves that is halted on its way from one state to the next, by the status: on a
 -- write fault all is done; on a store fault, which takes a line that names a file, nothing is, but
 -- for the file that the line saves, if it saves one; where memory runs out all is done or nothing;
--- where it isn't done, nothing of the reply was told
-abbrev pub HasLeft : Setup → Option (List ℕ) → Progress → Progress → List ℕ → Desk → Status
-    → Type 0
-HasLeft o saved p q told d WriteFault = IsLikeAfter o q d
-HasLeft o saved p q told d Memory = IsLikeAfter o q d ⊎ ((told ≡ []) × IsLikeAfter o p d)
-HasLeft o saved p q told d StoreFault =
-    (told ≡ []) × (p.asks < q.asks) × IsTornAfter o saved p d
-HasLeft o saved p q told d _ = ⊥
+-- lines after it are done, or something of its reply was told, only where the sink ran short of
+-- memory, and then all is done
+abbrev pub HasLeft : Setup → Option (List ℕ) → Progress → Progress → List ℕ → List Line → Desk
+    → Type 0 → Status → Type 0
+HasLeft o saved p q told ahead d short WriteFault = IsLikeAfter o q d
+HasLeft o saved p q told ahead d short Memory = (short × IsLikeAfter o q d)
+    ⊎ ((told ≡ []) × (ahead ≡ []) × (IsLikeAfter o q d ⊎ IsLikeAfter o p d))
+HasLeft o saved p q told ahead d short StoreFault =
+    (told ≡ []) × (ahead ≡ []) × (p.asks < q.asks) × IsTornAfter o saved p d
+HasLeft o saved p q told ahead d short _ = ⊥
 
 -- What was to be written on the way from one state to the next was not written whole, unless the
 -- way ends inside a block, whose lines have no reply.
@@ -112,48 +114,63 @@ pub record IsCutBetween (p q : Progress) (old new : Option (List ℕ)) : Type 0 
   pub written : new ≡ appended old (p.text ++ told)
   pub more : (0 < length untold) ⊎ IsSome q.block
 
--- the session was halted on its way from one state to the next, by a line that may save a file; the
--- store was asked once at most for each line that named a file
+-- these lines were done one after another while what was written ended before them: none of them
+-- names a file, and before each fewer than 4,096 bytes of the replies weren't written
+pub record IsAhead (o : Setup) (p : Progress) (lines : List Line) (written : ℕ) : Type 0 where
+  pub unasked : (after_lines o p lines).asks ≡ p.asks
+  pub few : (n : ℕ) → n < length lines
+      → length (after_lines o p (take n lines)).text < written + 4096
+
+-- the session was halted on its way from one state to the next, by a line that may save a file, and
+-- these lines were done ahead; the store was asked once at most for each line that named a file
 pub record IsHaltedBetween (o : Setup) (saved : Option (List ℕ)) (p q : Progress)
-    (old new : Option (List ℕ)) (d : Desk) (status : Status) : Type 0 where
+    (ahead : List Line) (old new : Option (List ℕ)) (d : Desk) (short : Type 0) (status : Status)
+    : Type 0 where
   pub cut : IsCutBetween p q old new
-  pub has_left : HasLeft o saved p q cut.told d status
+  pub done : IsAhead o q ahead (length (p.text ++ cut.told))
+  pub has_left : HasLeft o saved p (after_lines o q ahead) cut.told ahead d short status
   pub asked : HasAsked d q.asks
 
--- the session was halted at this line
-abbrev pub IsHaltedBy : Setup → Progress → Line → Option (List ℕ) → Option (List ℕ) → Desk
-    → Status → Type 0
-IsHaltedBy o p line old new d status =
-    IsHaltedBetween o (file_saved (next_command p line)) p (after_line o p line) old new d status
+-- the session was halted at this line, with these done ahead
+abbrev pub IsHaltedBy : Setup → Progress → Line → List Line → Option (List ℕ) → Option (List ℕ)
+    → Desk → Type 0 → Status → Type 0
+IsHaltedBy o p line ahead old new d short status =
+    IsHaltedBetween o (file_saved (next_command p line)) p (after_line o p line) ahead old new d
+    short
+    status
 
 -- what was answered so far is known: the files are told, or no line named one
 abbrev pub IsKnown : Progress → Type 0
 IsKnown p = IsSome p.files ⊎ (p.asks ≡ 0)
 
--- the session was halted at one of these lines, and all lines before it were answered
+-- the session was halted at one of these lines: all lines before it were answered, its reply wasn't
+-- written whole, and those ahead were done already, with their replies still to be written
 pub record IsHalted (o : Setup) (files : Option Files) (lines : List Line)
-    (old new : Option (List ℕ)) (d : Desk) (status : Status) : Type 0 where
+    (old new : Option (List ℕ)) (d : Desk) (short : Type 0) (status : Status) : Type 0 where
   pub before : List Line
   pub line : Line
-  pub behind : List Line
-  pub split : lines ≡ before ++ line ∷ behind
-  pub at : IsHaltedBy o (progress o files before) line old new d status
+  pub ahead : List Line
+  pub rest : List Line
+  pub split : lines ≡ before ++ line ∷ (ahead ++ rest)
+  pub at : IsHaltedBy o (progress o files before) line ahead old new d short status
 
 -- all these lines were answered, and the session was halted at the end of the script after them,
 -- which names no file
 abbrev pub IsHaltedAtEnd : Setup → Option Files → List Line → Option (List ℕ)
-    → Option (List ℕ) → Desk → Status → Type 0
-IsHaltedAtEnd o files lines old new d status =
-    IsHaltedBetween o None (progress o files lines) (closed (progress o files lines)) old new d
+    → Option (List ℕ) → Desk → Type 0 → Status → Type 0
+IsHaltedAtEnd o files lines old new d short status =
+    IsHaltedBetween o None (progress o files lines) (closed (progress o files lines)) [] old new d
+    short
     status
 
 -- the session was halted at one of its lines, or at the end of its script, which has one where it
 -- isn't too long
 abbrev pub HasHalted : Setup → Option Files → List ℕ → Option (List ℕ) → Option (List ℕ) → Desk
-    → Status → Type 0
-HasHalted o files bytes old new d status =
-    IsHalted o files (lines_of o bytes) old new d status
-    ⊎ ((is_too_long o bytes ≡ false) × IsHaltedAtEnd o files (lines_of o bytes) old new d status)
+    → Type 0 → Status → Type 0
+HasHalted o files bytes old new d short status =
+    IsHalted o files (lines_of o bytes) old new d short status
+    ⊎ ((is_too_long o bytes ≡ false) × IsHaltedAtEnd o files (lines_of o bytes) old new d short
+    status)
 
 -- map and files are as they are after the lines that end within the bytes taken
 pub record IsLikeTaken (o : Setup) (files : Option Files) (bytes : List ℕ)
@@ -164,12 +181,12 @@ pub record IsLikeTaken (o : Setup) (files : Option Files) (bytes : List ℕ)
 
 -- what a session over these bytes and files leaves, status by status: map and files are as after
 -- all lines that were to be answered, as after those that end within the bytes taken, or, where it
--- was halted, as after those that were answered and at most one more, but for the one file that a
--- store fault leaves open
+-- was halted, as after those that were answered, at most one more, and those that were done ahead
+-- of the writing, but for the one file that a store fault leaves open
 abbrev pub Leaves : Setup → Option Files → List ℕ → Option (List ℕ) → Option (List ℕ)
-    → Option (List ℕ) → Desk → Status → Type 0
-Leaves o files bytes left old new d Done = IsLikeAfter o (last_progress o files bytes) d
-Leaves o files bytes left old new d Refused = IsLikeAfter o (last_progress o files bytes) d
-Leaves o files bytes left old new d TooLong = IsLikeAfter o (last_progress o files bytes) d
-Leaves o files bytes left old new d ReadFault = IsLikeTaken o files bytes left d
-Leaves o files bytes left old new d status = HasHalted o files bytes old new d status
+    → Option (List ℕ) → Desk → Type 0 → Status → Type 0
+Leaves o files bytes left old new d short Done = IsLikeAfter o (last_progress o files bytes) d
+Leaves o files bytes left old new d short Refused = IsLikeAfter o (last_progress o files bytes) d
+Leaves o files bytes left old new d short TooLong = IsLikeAfter o (last_progress o files bytes) d
+Leaves o files bytes left old new d short ReadFault = IsLikeTaken o files bytes left d
+Leaves o files bytes left old new d short status = HasHalted o files bytes old new d short status

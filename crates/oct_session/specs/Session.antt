@@ -122,8 +122,12 @@ abbrev pub after_line : Setup → Progress → Line → Progress
 after_line o p line = if p.has_quit then p else answered o p line
 
 -- after these lines, one after another
+abbrev pub after_lines : Setup → Progress → List Line → Progress
+after_lines o p lines = fold (after_line o) p lines
+
+-- after these lines, from the first one on
 abbrev pub progress : Setup → Option Files → List Line → Progress
-progress o files lines = fold (after_line o) (start files) lines
+progress o files lines = after_lines o (start files) lines
 
 -- after the end of the script: a block that is open there is refused
 abbrev pub ended : Progress → Progress

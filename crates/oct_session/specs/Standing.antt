@@ -1,9 +1,10 @@
 -- The desk and the session at work: what they hold for the bytes that were taken.
-use Rattle.std.specs.Prelude.{◌≡◌, ℕ, ◌<◌, ◌⊎◌, List, ◌++◌, length, take, Option, None, IsSome}
-use Rattle.std.specs.Prelude.{Result}
-use Rattle.std.specs.Prelude.{Ok, Err, false}
+use Rattle.std.specs.Prelude.{◌≡◌, ℕ, ◌<◌, ◌⊎◌, List, [], ◌∷◌, ◌++◌, length, take, Option, None}
+use Rattle.std.specs.Prelude.{IsSome, Result, Ok, Err, false}
 use Rattle.oct_io.specs.Files.{Files}
 use Rattle.oct_io.specs.Told.{appended}
+use Rattle.oct_io.specs.declared.sink.SinkFault.{SinkFault}
+use Rattle.oct_io.specs.declared.sink.SinkFault.TheVariants as sink_fault
 use Rattle.oct_io.specs.declared.store.StoreFault.{StoreFault}
 use Rattle.oct_io.specs.declared.store.StoreFault.TheVariants as store_fault
 use Rattle.oct_map.specs.Map.{Map}
@@ -15,11 +16,12 @@ use Rattle.oct_session.specs.declared.options.Status.{Status}
 use Rattle.oct_session.specs.declared.options.Stop.{Stop}
 use Rattle.oct_session.specs.declared.options.Stop.TheVariants.{TooLong, ReadFault}
 use Rattle.oct_session.specs.declared.session.Session.{Session}
-use Rattle.oct_io.specs.Taken.{HasTaken}
+use Rattle.oct_io.specs.Taken.{HasTaken, IsGathered}
 use Rattle.oct_session.specs.Ending.{HasReplied, IsReadToEnd, MayEnd}
 use Rattle.oct_session.specs.Leaving.{StandsFor, StandsForSome, Desk, HasAsked, IsLike, IsTorn}
-use Rattle.oct_session.specs.Leaving.{IsLikeAfter, IsTornAfter}
-use Rattle.oct_session.specs.Leaving.{IsKnown, IsHalted, IsHaltedAtEnd, Leaves}
+use Rattle.oct_session.specs.Leaving.{IsLikeAfter, IsTornAfter, IsCutBetween, IsAhead, IsKnown}
+use Rattle.oct_session.specs.Leaving.{IsHalted}
+use Rattle.oct_session.specs.Leaving.{IsHaltedAtEnd, Leaves}
 use Rattle.oct_session.specs.History.{History, State, after_all}
 use Rattle.oct_session.specs.Session.{Progress, Effect, effect_of, next_command, after_line}
 use Rattle.oct_session.specs.Session.{progress, closed}
@@ -145,6 +147,67 @@ pub record HasReached (o : Setup) (old new : Option (List ℕ)) (d : Desk) (sess
   pub between : IsBetween o d session p
   pub written : new ≡ appended old p.text
 
+-- these lines were done, and of their replies a front was written that ends in that of one of them
+pub record IsUnwritten (o : Setup) (files : Option Files) (lines : List Line) (front : List ℕ)
+    : Type 0 where
+  pub before : List Line
+  pub line : Line
+  pub ahead : List Line
+  pub told : List ℕ
+  pub untold : List ℕ
+  pub split : lines ≡ before ++ line ∷ ahead
+  pub running : (progress o files before).has_quit ≡ false
+  pub reply : (after_line o (progress o files before) line).text
+      ≡ (progress o files before).text ++ (told ++ untold)
+  pub written : front ≡ (progress o files before).text ++ told
+  pub more : 0 < length untold
+  pub done : IsAhead o (after_line o (progress o files before) line) ahead
+      (length ((progress o files before).text ++ told))
+
+-- of the replies to these lines a front was written, and the rest is held; wherever the writing of
+-- it breaks off, the lines behind that place may be done ahead
+pub record IsHolding (o : Setup) (files : Option Files) (lines : List Line)
+    (old new : Option (List ℕ)) (held : List ℕ) : Type 0 where
+  pub gathered : IsGathered (progress o files lines).text old new held
+  pub cut : (k : ℕ) → k < length held → IsUnwritten o files lines (gathered.front ++ take k held)
+
+-- desk and session stand behind these lines, and the session holds what of the replies isn't
+-- written
+pub record HasHeld (o : Setup) (files : Option Files) (lines : List Line)
+    (old new : Option (List ℕ)) (d : Desk) (session : Session) : Type 0 where
+  pub between : IsBetween o d session (progress o files lines)
+  pub holding : IsHolding o files lines old new session.text.items
+
+-- what was held is held still, or was written whole
+abbrev pub HasMoved : Option (List ℕ) → Option (List ℕ) → List ℕ → List ℕ → Type 0
+HasMoved old new held rest =
+    ((new ≡ old) × (rest ≡ held)) ⊎ ((new ≡ appended old held) × (rest ≡ []))
+
+-- more was written, or nothing
+abbrev pub Adds : Option (List ℕ) → Option (List ℕ) → Type 0
+Adds old new = (more : List ℕ) × (new ≡ appended old more)
+
+-- the session was given these bytes, and holds what of the replies isn't written
+pub record IsHeldAt (o : Setup) (files : Option Files) (old new : Option (List ℕ)) (d : Desk)
+    (session : Session) (bytes : List ℕ) : Type 0 where
+  pub reached : IsKnown (progress o files (ended_lines bytes))
+      → HasHeld o files (ended_lines bytes) old new d session
+  pub line : session.has_quit ≡ false → IsReading session.line bytes
+
+-- wherever the session was, it was then given this piece more
+abbrev pub TakesHeld : Setup → Option (List ℕ) → Option (List ℕ) → Desk → Desk → Session → Session
+    → List ℕ → Type 0
+TakesHeld o v u d e s t piece = (files : Option Files) (w : Option (List ℕ)) (bytes : List ℕ)
+    → IsHeldAt o files w v d s bytes → IsHeldAt o files w u e t (bytes ++ piece)
+
+-- wherever the session was, it was then halted at one of these lines, if they are known
+abbrev pub HaltsHeld : Setup → Option (List ℕ) → Option (List ℕ) → Desk → Desk → Session
+    → (List ℕ → List Line) → Type 0 → Status → Type 0
+HaltsHeld o v u d e s lines short status = (files : Option Files) (w : Option (List ℕ))
+    (bytes : List ℕ)
+    → IsHeldAt o files w v d s bytes → IsKnown (progress o files (lines bytes))
+    → IsHalted o files (lines bytes) w u e short status
+
 -- the session was given these bytes: the lines that end within them are answered, and, unless it
 -- has ended, the rest is kept
 pub record IsAt (o : Setup) (files : Option Files) (old new : Option (List ℕ)) (d : Desk)
@@ -162,16 +225,16 @@ Takes o v u d e s t piece = (files : Option Files) (w : Option (List ℕ)) (byte
 -- the session was halted at one of these lines, and the replies to the lines that end within these
 -- bytes were written
 abbrev pub IsHaltedBehind : Setup → Option Files → List ℕ → List Line → Option (List ℕ)
-    → Option (List ℕ) → Desk → Status → Type 0
-IsHaltedBehind o files bytes lines old new d status =
-    IsHalted o files lines old new d status × HasReplied o files bytes old new
+    → Option (List ℕ) → Desk → Type 0 → Status → Type 0
+IsHaltedBehind o files bytes lines old new d short status =
+    IsHalted o files lines old new d short status × HasReplied o files bytes old new
 
 -- wherever the session was, it was then halted at one of these lines, if they are known
 abbrev pub Halts : Setup → Option (List ℕ) → Option (List ℕ) → Desk → Desk → Session
-    → (List ℕ → List Line) → Status → Type 0
-Halts o v u d e s lines status = (files : Option Files) (w : Option (List ℕ)) (bytes : List ℕ)
+    → (List ℕ → List Line) → Type 0 → Status → Type 0
+Halts o v u d e s lines short status = (files : Option Files) (w : Option (List ℕ)) (bytes : List ℕ)
     → IsAt o files w v d s bytes → IsKnown (progress o files (lines bytes))
-    → IsHaltedBehind o files bytes (lines bytes) w u e status
+    → IsHaltedBehind o files bytes (lines bytes) w u e short status
 
 -- the session was given the bytes that were taken of its input
 pub record HasServed (o : Setup) (files : Option Files) (bytes : List ℕ)
@@ -189,27 +252,38 @@ pub record IsThrough (o : Setup) (files : Option Files) (bytes : List ℕ)
 -- the session was halted at one of the last lines, or at the end of the script after them, and the
 -- replies to the lines that end within these bytes were written
 abbrev pub StopsAtEnd : Setup → Option Files → List ℕ → List Line → Option (List ℕ)
-    → Option (List ℕ) → Desk → Status → Type 0
-StopsAtEnd o files bytes lines old new d status =
-    (IsHalted o files lines old new d status ⊎ IsHaltedAtEnd o files lines old new d status)
+    → Option (List ℕ) → Desk → Type 0 → Status → Type 0
+StopsAtEnd o files bytes lines old new d short status =
+    (IsHalted o files lines old new d short status ⊎ IsHaltedAtEnd o files lines old new d short
+    status)
     × HasReplied o files bytes old new
+
+-- a fault of the sink is out of memory only where the sink ran short of it
+abbrev pub IsShort : SinkFault → Type 0 → Type 0
+IsShort fault short = fault ≡ sink_fault.Memory → short
+
+-- what was to be written on the way was cut off, by the sink, or before anything of it was written
+pub record IsCutBy (p q : Progress) (old new : Option (List ℕ)) (short : Type 0) (fault : SinkFault)
+    : Type 0 where
+  pub cut : IsCutBetween p q old new
+  pub by : (cut.told ≡ []) ⊎ IsShort fault short
 
 -- how a session over these bytes may end, and what it then leaves of map and files; the store was
 -- asked once at most for each line that names a file
 pub record HasEndedAs (o : Setup) (files : Option Files) (bytes : List ℕ)
-    (left old new : Option (List ℕ)) (d : Desk) (status : Status) : Type 0 where
+    (left old new : Option (List ℕ)) (d : Desk) (short : Type 0) (status : Status) : Type 0 where
   pub answer : MayEnd o files bytes left old new status
-  pub leaves : Leaves o files bytes left old new d status
+  pub leaves : Leaves o files bytes left old new d short status
   pub asked : HasAsked d (last_progress o files bytes).asks
 
 -- how a session that was given these bytes may stop in a piece, of which `room` bytes may be taken
 abbrev pub StopsIn : Setup → Option Files → Option (List ℕ) → Option (List ℕ) → Desk → Session
-    → List ℕ → List ℕ → ℕ → Stop → Type 0
-StopsIn o files old new d session bytes piece room TooLong =
+    → List ℕ → List ℕ → ℕ → Type 0 → Stop → Type 0
+StopsIn o files old new d session bytes piece room short TooLong =
     (room < length piece) × (session.has_quit ≡ false)
     × IsAt o files old new d session (bytes ++ take room piece)
-StopsIn o files old new d session bytes piece room ReadFault = ⊥
-StopsIn o files old new d session bytes piece room stop =
+StopsIn o files old new d session bytes piece room short ReadFault = ⊥
+StopsIn o files old new d session bytes piece room short stop =
     IsKnown (progress o files (ended_lines (bytes ++ take room piece)))
-    → IsHaltedBehind o files bytes (ended_lines (bytes ++ take room piece)) old new d
+    → IsHaltedBehind o files bytes (ended_lines (bytes ++ take room piece)) old new d short
     (status_of stop)

@@ -3,9 +3,9 @@
 //! # What it is
 //!
 //! [`serve`] reads a script from a source, does its commands and scans on a map that it is lent,
-//! and writes the reply to each command, faulty line and scan block to a sink before the next line
-//! is looked at. The map is that of `oct_map`, the class `OcTree` of the OctoMap library (Hornung
-//! et al. 2013) in whole numbers.
+//! and writes the reply to each command, faulty line and scan block to a sink: those of one read
+//! together, before the next read. The map is that of `oct_map`, the class `OcTree` of the OctoMap
+//! library (Hornung et al. 2013) in whole numbers.
 //!
 //! ```text
 //! let options = Options { res, odds: OddsModel::default(), limits, max_bytes: MOST_BYTES };
@@ -49,23 +49,25 @@
 //!   `specs/Leaving.antt`): each voxel has its value after it, the map is stale where a lazy edit
 //!   or scan stands after the last refresh, and pruned where none stands after the last prune. It
 //!   is the history of all lines that count, on a read fault of those that end within the bytes
-//!   taken, and on a write fault of every line whose reply was written whole and of the one whose
-//!   reply wasn't, or of all lines where the fault came at the end. Out of memory it is the same,
-//!   or without that last line where nothing of its reply was written. Without the premise it
-//!   stands for some history all the same.
+//!   taken, and on a write fault of every line that was done: those whose replies were written
+//!   whole, the one whose reply wasn't, and those that were done ahead of the writing, none of
+//!   which names a file. Before each of these fewer than 4,096 bytes of replies weren't written.
+//!   Out of memory it is the same, or without the one whose reply wasn't, where nothing of it was
+//!   written and nothing done ahead. Without the premise it stands for some history all the same.
 //!
 //! # How it works
 //!
 //! `service` reads pieces of at most 16 KiB and hands each to `session`, which feeds them line by
-//! line to `oct_script` and writes the reply's text by `write_all`. `lines` says what a line does,
-//! inside a block and outside, and keeps a place for its command and for its reply, so that neither
-//! is moved from call to call; `block` keeps the head and the points of the scan that is being
-//! read, or its first fault; `commands` does each command and each scan on the map, and makes the
-//! map's answer a reply; `files` does the commands that name a file, on map and store. `options`
-//! holds what a session is set up with and how a run ends. A reply's text stands in place of the
-//! last one, so that it allocates only where it is longer than all before it.
-//! `building` writes the file of a script's map in place of the replies, and `drilling` four lines
-//! about the session over a script that `oct_gen` makes; `tally` has what its replies come to.
+//! line to `oct_script`. `held` appends the text of each reply to those that are held, and writes
+//! them at the end of the piece, before a line that may name a file, where 4,096 bytes are held,
+//! and where a line fails. Their room stays, so that a reply allocates only where more is held than
+//! ever before. `lines` says what a line does, inside a block and outside, and keeps a place for
+//! its command and for its reply, so that neither is moved from call to call; `block` keeps the
+//! head and the points of the scan that is being read, or its first fault; `commands` does each
+//! command and each scan on the map, and makes the map's answer a reply; `files` does the commands
+//! that name a file, on map and store. `options` holds what a session is set up with and how a run
+//! ends. `building` writes the file of a script's map in place of the replies, and `drilling` four
+//! lines about the session over a script that `oct_gen` makes; `tally` has what its replies come to.
 //!
 //! # Who stands on it
 //!
@@ -81,6 +83,7 @@ mod building;
 mod commands;
 mod drilling;
 mod files;
+mod held;
 mod laws;
 mod lines;
 mod options;

@@ -35,6 +35,7 @@ fn take_piece<K: Sink, F: Store>(
     sink: &mut K,
 ) -> Result<(), Stop>
     requires small { session.old.line_count + length piece.now < 2 ^ 63 }
+    requires empty { session.old.text.items ≡ [] }
     requires unended { session.old.line.has_ended ≡ false }
     ensures ok { OnOk result ((home : F)
         → Takes options.now (K.written sink.old) (K.written sink.new)
@@ -47,7 +48,8 @@ fn take_piece<K: Sink, F: Store>(
         (desk map.old (shelf F.files F.calls home store.old)) session.old bytes
         → StopsIn options.now files w (K.written sink.new)
         (desk map.new (shelf F.files F.calls home store.new))
-        session.new bytes piece.now room stop) }
+        session.new bytes piece.now room (Rose (K.shortages sink.old) (K.shortages sink.new)) stop) }
+    ensures empty { OnOk result (session.new.text.items ≡ []) }
     ensures stands { KeepsStanding map.old map.new }
     ensures unended { OnOk result (session.new.line.has_ended ≡ false) }
     ensures counted { OnOk result
@@ -82,6 +84,7 @@ fn turn<S: Source, K: Sink, F: Store>(
     taken: u64,
 ) -> Result<usize, Stop>
     requires running { session.old.has_quit ≡ false }
+    requires empty { session.old.text.items ≡ [] }
     requires unended { session.old.line.has_ended ≡ false }
     requires small { session.old.line_count ≤ taken }
     requires few { taken ≤ options.now.max_bytes }
@@ -106,7 +109,9 @@ fn turn<S: Source, K: Sink, F: Store>(
         (desk map.old (shelf F.files F.calls home store.old)) session.old taken
         → IsKnown (last_progress options.now files bytes)
         → HasEndedAs options.now files bytes (S.left source.new) w (K.written sink.new)
-        (desk map.new (shelf F.files F.calls home store.new)) (status_of stop)) }
+        (desk map.new (shelf F.files F.calls home store.new))
+        (Rose (K.shortages sink.old) (K.shortages sink.new)) (status_of stop)) }
+    ensures empty { OnOk result (session.new.text.items ≡ []) }
     ensures stands { KeepsStanding map.old map.new }
     ensures fits { IfOk result
         (λ n. session.new.has_quit ≡ false → taken + n ≤ options.now.max_bytes) }
@@ -138,6 +143,7 @@ pub(crate) fn read_all<S: Source, K: Sink, F: Store>(
 ) -> Result<(), Stop>
     requires none { session.old.line_count ≡ 0 }
     requires running { session.old.has_quit ≡ false }
+    requires empty { session.old.text.items ≡ [] }
     requires unended { session.old.line.has_ended ≡ false }
     ensures done { OnOk result ((home : F) (files : Option Files) (bytes : List ℕ)
         (w : Option (List ℕ))
@@ -152,7 +158,8 @@ pub(crate) fn read_all<S: Source, K: Sink, F: Store>(
         (desk map.old (shelf F.files F.calls home store.old)) session.old 0
         → IsKnown (last_progress options.now files bytes)
         → HasEndedAs options.now files bytes (S.left source.new) w (K.written sink.new)
-        (desk map.new (shelf F.files F.calls home store.new)) (status_of stop)) }
+        (desk map.new (shelf F.files F.calls home store.new))
+        (Rose (K.shortages sink.old) (K.shortages sink.new)) (status_of stop)) }
     ensures stands { KeepsStanding map.old map.new }
     ensures source_counts { IsScriptCounted result (S.faults source.old) (S.faults source.new)
         (S.ends source.old) (S.ends source.new) }
@@ -183,8 +190,9 @@ pub(crate) fn read_all<S: Source, K: Sink, F: Store>(
     }
 }
 
-/// Answers a script line by line and block by block, to its end or to its `quit`, and answers what
-/// a read gave before the next one. It works on the map that it is lent: a map that is set up as
+/// Answers a script line by line and block by block, to its end or to its `quit`. The replies to
+/// what a read gave are written together, before the next one; those before a line that may name a
+/// file, before that line is done. It works on the map that it is lent: a map that is set up as
 /// the options say, in which each voxel is unknown and which isn't stale. Files are those of the
 /// store.
 ///
@@ -210,7 +218,8 @@ pub fn serve<S: Source, K: Sink, F: Store>(
     ensures leaves { IfSome (S.left source.old) (λ bytes.
         ReadsTold options.now (F.files store.old) bytes
         → Leaves options.now (F.files store.old) bytes (S.left source.new) (K.written sink.old)
-        (K.written sink.new) (desk map.new (shelf F.files F.calls store.old store.new)) result) }
+        (K.written sink.new) (desk map.new (shelf F.files F.calls store.old store.new))
+        (Rose (K.shortages sink.old) (K.shortages sink.new)) result) }
     ensures files { IfSome (S.left source.old) (λ bytes.
         ReadsTold options.now (F.files store.old) bytes → IsWhole result
         → F.files store.new ≡ (whole_session options.now (F.files store.old) bytes).files) }

@@ -1,28 +1,32 @@
 //! A session between two bytes of its script, and what its lines do to it.
-ghost use Rattle.std.specs.Prelude.{◌≡◌, ℕ, ◌+◌, ◌^◌, ◌<◌, ◌≤◌, List, ◌++◌, length, take, OnOk};
-ghost use Rattle.std.specs.Prelude.{OnErr, IfOk, IfErr, Option, None, IsSome, false};
+ghost use Rattle.std.specs.Prelude.{◌≡◌, ℕ, ◌+◌, ◌^◌, ◌<◌, ◌≤◌, List, [], ◌∷◌, ◌++◌, length, take};
+ghost use Rattle.std.specs.Prelude.{OnOk, OnErr, IfOk, IfErr, Option, None, IsSome, is_some, false};
 ghost use Rattle.oct_io.specs.Counts.{IsAskCounted, IsMakingCounted};
 ghost use Rattle.oct_io.specs.Files.{Files};
-ghost use Rattle.oct_io.specs.Told.{appended};
-ghost use Rattle.oct_script.specs.Lines.{ended_lines, all_lines, unread};
+ghost use Rattle.oct_io.specs.Told.{Rose, appended};
+ghost use Rattle.oct_script.specs.Lines.{Line, ended_lines, all_lines, unread};
 ghost use Rattle.oct_script.specs.Replies.{is_refusal, text_of};
-ghost use Rattle.oct_session.specs.Counts.{IsStopCounted};
+ghost use Rattle.oct_session.specs.Commands.{command_on, file_named, asks_for};
+ghost use Rattle.oct_session.specs.Counts.{IsStopCounted, IsAsked};
 ghost use Rattle.oct_session.specs.ScanBlock.{end_reply};
 ghost use Rattle.oct_session.specs.Session.{Progress, effect_of, after_line, progress, closed};
 ghost use Rattle.oct_session.specs.Tally.{no_replies};
-ghost use Rattle.oct_session.specs.Leaving.{desk, shelf, IsKnown, IsCutBetween, IsHaltedBy};
+ghost use Rattle.oct_session.specs.Leaving.{desk, shelf, IsKnown, IsHalted};
 ghost use Rattle.oct_session.specs.Stops.{IsHalt, status_of};
 ghost use Rattle.oct_session.specs.Standing.{KeepsStanding, HasStoppedAt, IsInStep, IsBetween};
-ghost use Rattle.oct_session.specs.Standing.{HasReached, IsAt, Takes, Halts, StopsAtEnd};
+ghost use Rattle.oct_session.specs.Standing.{HasReached, HasHeld, IsAt, Adds, Takes, TakesHeld};
+ghost use Rattle.oct_session.specs.Standing.{IsCutBy};
+ghost use Rattle.oct_session.specs.Standing.{Halts, HaltsHeld, StopsAtEnd};
 
 use crate::block::Block;
+use crate::held::{MOST_HELD, flush, hold_few, make_way, tell};
 use crate::lines::take_line;
 use crate::options::{Options, Stop};
 use crate::tally::Tally;
-use oct_io::{Sink, SinkFault, Store, StoreFault, write_all};
+use oct_io::{Sink, SinkFault, Store, StoreFault};
 use oct_map::OccMap;
 use oct_num::Memory;
-use oct_script::{Lines, Reply, push_reply};
+use oct_script::{Lines, Reply};
 use std::alloc::Global;
 
 /// A session between two bytes of its script.
@@ -42,7 +46,7 @@ pub struct Session {
     pub tally: Tally,
     /// Whether the last line that was taken in was `quit`.
     pub has_quit: bool,
-    /// The text of the last reply.
+    /// The replies that are still to be written.
     pub text: Vec<u8>,
 }
 
@@ -51,18 +55,6 @@ fn is_refused(reply: &Option<Reply>) -> bool
     ensures { result ≡ is_refusal reply.now }
 {
     matches!(reply, Some(Reply::Refused(_)))
-}
-
-/// Makes the text of a reply, in place of the last one.
-fn tell(text: &mut Vec<u8>, reply: &Option<Reply>) -> Result<(), Memory>
-    ensures ok { OnOk result (text.new.items ≡ text_of reply.now) }
-    ensures err { OnErr result (IsSome reply.now) }
-{
-    text.clear();
-    if let Some(reply) = reply {
-        push_reply(text, reply)?;
-    }
-    Ok(())
 }
 
 /// The reply at the end of the script, if a block is open there.
@@ -83,6 +75,7 @@ impl Session {
         ensures counted { result.line_count ≡ 0 }
         ensures refused { result.refused ≡ false }
         ensures tally { result.tally ≡ no_replies }
+        ensures empty { result.text.items ≡ [] }
         ensures running { result.has_quit ≡ false }
     {
         Session {
@@ -97,8 +90,8 @@ impl Session {
         }
     }
 
-    /// Does what the line that was read says, makes the text of its reply, and begins the next
-    /// line.
+    /// Does what the line that was read says, holds its reply, and begins the next line. After an
+    /// error what is held is as it was.
     fn answer<F: Store>(
         &mut self,
         options: &Options,
@@ -110,7 +103,12 @@ impl Session {
         ensures text { OnOk result ((home : F) (p : Progress)
             → IsKnown (after_line options.now p self.old.line.line)
             → IsBetween options.now (desk map.old (shelf F.files F.calls home store.old)) self.old p
-            → self.new.text.items ≡ text_of (effect_of options.now p self.old.line.line).reply) }
+            → self.new.text.items
+            ≡ self.old.text.items ++ text_of (effect_of options.now p self.old.line.line).reply) }
+        ensures kept { OnErr result (self.new.text.items ≡ self.old.text.items) }
+        ensures asked { IsAsked (store.new ≡ store.old) (F.calls store.old) (F.calls store.new)
+            (asks_for (file_named (command_on (is_some self.old.block) (self.old.line_count + 1)
+            self.old.line.line))) }
         ensures between { OnOk result ((home : F) (p : Progress)
             → IsKnown (after_line options.now p self.old.line.line)
             → IsBetween options.now (desk map.old (shelf F.files F.calls home store.old)) self.old p
@@ -141,7 +139,8 @@ impl Session {
         Ok(())
     }
 
-    /// Answers the line that was read.
+    /// Answers the line that was read, and holds its reply, with few others. What was held before
+    /// is written first where the line may name a file.
     fn respond<K: Sink, F: Store>(
         &mut self,
         options: &Options,
@@ -150,20 +149,25 @@ impl Session {
         sink: &mut K,
     ) -> Result<(), Stop>
         requires few { self.old.line_count < 2 ^ 63 }
+        requires held { length self.old.text.items < MOST_HELD }
         requires running { self.old.has_quit ≡ false }
-        ensures ok { OnOk result ((home : F) (w : Option (List ℕ)) (p : Progress)
-            → IsKnown (after_line options.now p self.old.line.line)
-            → HasReached options.now w (K.written sink.old)
-            (desk map.old (shelf F.files F.calls home store.old)) self.old p
-            → HasReached options.now w (K.written sink.new)
-            (desk map.new (shelf F.files F.calls home store.new)) self.new
-            (after_line options.now p self.old.line.line)) }
-        ensures err { IfErr result (λ stop. (home : F) (w : Option (List ℕ)) (p : Progress)
-            → IsKnown (after_line options.now p self.old.line.line)
-            → HasReached options.now w (K.written sink.old)
-            (desk map.old (shelf F.files F.calls home store.old)) self.old p
-            → IsHaltedBy options.now p self.old.line.line w (K.written sink.new)
-            (desk map.new (shelf F.files F.calls home store.new)) (status_of stop)) }
+        ensures ok { OnOk result ((home : F) (files : Option Files) (lines : List Line)
+            (w : Option (List ℕ))
+            → IsKnown (progress options.now files (lines ++ self.old.line.line ∷ []))
+            → HasHeld options.now files lines w (K.written sink.old)
+            (desk map.old (shelf F.files F.calls home store.old)) self.old
+            → HasHeld options.now files (lines ++ self.old.line.line ∷ []) w (K.written sink.new)
+            (desk map.new (shelf F.files F.calls home store.new)) self.new) }
+        ensures err { IfErr result (λ stop. (home : F) (files : Option Files) (lines : List Line)
+            (w : Option (List ℕ))
+            → IsKnown (progress options.now files (lines ++ self.old.line.line ∷ []))
+            → HasHeld options.now files lines w (K.written sink.old)
+            (desk map.old (shelf F.files F.calls home store.old)) self.old
+            → IsHalted options.now files (lines ++ self.old.line.line ∷ []) w (K.written sink.new)
+            (desk map.new (shelf F.files F.calls home store.new))
+            (Rose (K.shortages sink.old) (K.shortages sink.new)) (status_of stop)) }
+        ensures held { OnOk result (length self.new.text.items < MOST_HELD) }
+        ensures adds { Adds (K.written sink.old) (K.written sink.new) }
         ensures stands { KeepsStanding map.old map.new }
         ensures line { OnOk result (self.new.line ≡ unread) }
         ensures counted { OnOk result (self.new.line_count ≡ self.old.line_count + 1) }
@@ -172,9 +176,17 @@ impl Session {
             (K.shortages sink.old) (K.shortages sink.new)
             (F.faults store.old) (F.faults store.new) }
     {
-        self.answer(options, map, store)?;
-        write_all(sink, &self.text)?;
-        Ok(())
+        make_way(&self.line, &mut self.text, sink)?;
+        match self.answer(options, map, store) {
+            Ok(()) => {
+                hold_few(&mut self.text, sink)?;
+                Ok(())
+            }
+            Err(fault) => {
+                flush(&mut self.text, sink)?;
+                Err(Stop::from(fault))
+            }
+        }
     }
 
     /// Takes the bytes up to and with the next line feed, answers the line that ends there, and
@@ -188,19 +200,23 @@ impl Session {
         sink: &mut K,
     ) -> Result<usize, Stop>
         requires few { self.old.line_count < 2 ^ 63 }
+        requires held { length self.old.text.items < MOST_HELD }
         requires running { self.old.has_quit ≡ false }
         requires unended { self.old.line.has_ended ≡ false }
         requires some { 0 < length piece.now }
         ensures ok { IfOk result (λ n. (home : F)
-            → Takes options.now (K.written sink.old) (K.written sink.new)
+            → TakesHeld options.now (K.written sink.old) (K.written sink.new)
             (desk map.old (shelf F.files F.calls home store.old))
             (desk map.new (shelf F.files F.calls home store.new))
             self.old self.new (take n piece.now)) }
         ensures err { IfErr result (λ stop. (home : F)
-            → Halts options.now (K.written sink.old) (K.written sink.new)
+            → HaltsHeld options.now (K.written sink.old) (K.written sink.new)
             (desk map.old (shelf F.files F.calls home store.old))
             (desk map.new (shelf F.files F.calls home store.new))
-            self.old (λ bytes. ended_lines (bytes ++ piece.now)) (status_of stop)) }
+            self.old (λ bytes. ended_lines (bytes ++ piece.now))
+            (Rose (K.shortages sink.old) (K.shortages sink.new)) (status_of stop)) }
+        ensures held { OnOk result (length self.new.text.items < MOST_HELD) }
+        ensures adds { Adds (K.written sink.old) (K.written sink.new) }
         ensures stands { KeepsStanding map.old map.new }
         ensures unended { OnOk result (self.new.line.has_ended ≡ false) }
         ensures some { IfOk result (λ n. 0 < n) }
@@ -219,7 +235,8 @@ impl Session {
         Ok(fed.taken)
     }
 
-    /// Takes a piece of the script, and answers each line that ends in it, up to a `quit`.
+    /// Takes a piece of the script, and answers each line that ends in it, up to a `quit`. Then all
+    /// replies are written.
     pub fn take<K: Sink, F: Store>(
         &mut self,
         options: &Options,
@@ -229,6 +246,7 @@ impl Session {
         sink: &mut K,
     ) -> Result<(), Stop>
         requires few { self.old.line_count + length piece.now < 2 ^ 63 }
+        requires empty { self.old.text.items ≡ [] }
         requires unended { self.old.line.has_ended ≡ false }
         ensures ok { OnOk result ((home : F)
             → Takes options.now (K.written sink.old) (K.written sink.new)
@@ -239,7 +257,9 @@ impl Session {
             → Halts options.now (K.written sink.old) (K.written sink.new)
             (desk map.old (shelf F.files F.calls home store.old))
             (desk map.new (shelf F.files F.calls home store.new))
-            self.old (λ bytes. ended_lines (bytes ++ piece.now)) (status_of stop)) }
+            self.old (λ bytes. ended_lines (bytes ++ piece.now))
+            (Rose (K.shortages sink.old) (K.shortages sink.new)) (status_of stop)) }
+        ensures empty { OnOk result (self.new.text.items ≡ []) }
         ensures stands { KeepsStanding map.old map.new }
         ensures unended { OnOk result (self.new.line.has_ended ≡ false) }
         ensures counted { OnOk result
@@ -254,6 +274,7 @@ impl Session {
             let (_, rest) = piece.split_at(taken);
             taken += self.advance(options, map, store, rest, sink)?;
         }
+        flush(&mut self.text, sink)?;
         Ok(())
     }
 
@@ -266,6 +287,7 @@ impl Session {
         sink: &mut K,
     ) -> Result<(), Stop>
         requires few { self.old.line_count < 2 ^ 63 }
+        requires empty { self.old.text.items ≡ [] }
         requires running { self.old.has_quit ≡ false }
         ensures ok { OnOk result ((home : F) (files : Option Files) (w : Option (List ℕ))
             (bytes : List ℕ) → IsAt options.now files w (K.written sink.old)
@@ -278,7 +300,9 @@ impl Session {
             → Halts options.now (K.written sink.old) (K.written sink.new)
             (desk map.old (shelf F.files F.calls home store.old))
             (desk map.new (shelf F.files F.calls home store.new))
-            self.old all_lines (status_of stop)) }
+            self.old all_lines (Rose (K.shortages sink.old) (K.shortages sink.new))
+            (status_of stop)) }
+        ensures empty { OnOk result (self.new.text.items ≡ []) }
         ensures stands { KeepsStanding map.old map.new }
         ensures only { IfErr result IsHalt }
         ensures counts { IsStopCounted result (K.faults sink.old) (K.faults sink.new)
@@ -288,24 +312,28 @@ impl Session {
         if !self.line.has_rest() {
             return Ok(());
         }
-        self.respond(options, map, store, sink)
+        self.respond(options, map, store, sink)?;
+        flush(&mut self.text, sink)?;
+        Ok(())
     }
 
     /// Closes the block that is open where the script has ended, if one is, and answers it.
     fn close<K: Sink>(&mut self, sink: &mut K) -> Result<(), SinkFault>
+        requires empty { self.old.text.items ≡ [] }
         requires running { self.old.has_quit ≡ false }
         ensures ok { OnOk result ((w : Option (List ℕ)) (p : Progress) → IsInStep self.old p
             → K.written sink.old ≡ appended w p.text → IsInStep self.new (closed p)
             × (K.written sink.new ≡ appended w (closed p).text)) }
-        ensures err { OnErr result ((w : Option (List ℕ)) (p : Progress) → IsInStep self.old p
-            → K.written sink.old ≡ appended w p.text
-            → IsCutBetween p (closed p) w (K.written sink.new)) }
+        ensures err { IfErr result (λ fault. (w : Option (List ℕ)) (p : Progress)
+            → IsInStep self.old p → K.written sink.old ≡ appended w p.text
+            → IsCutBy p (closed p) w (K.written sink.new)
+            (Rose (K.shortages sink.old) (K.shortages sink.new)) fault) }
         ensures counts { IsMakingCounted result (K.faults sink.old) (K.faults sink.new)
             (K.shortages sink.old) (K.shortages sink.new) }
     {
         let reply = end_reply(self.block.take());
         tell(&mut self.text, &reply)?;
-        write_all(sink, &self.text)?;
+        flush(&mut self.text, sink)?;
         self.refused |= is_refused(&reply);
         self.tally.count(&reply);
         Ok(())
@@ -321,6 +349,7 @@ impl Session {
         sink: &mut K,
     ) -> Result<(), Stop>
         requires few { self.old.line_count < 2 ^ 63 }
+        requires empty { self.old.text.items ≡ [] }
         requires running { self.old.has_quit ≡ false }
         ensures ok { OnOk result ((home : F) (files : Option Files) (w : Option (List ℕ))
             (bytes : List ℕ) → IsAt options.now files w (K.written sink.old)
@@ -335,7 +364,8 @@ impl Session {
             (desk map.old (shelf F.files F.calls home store.old)) self.old bytes
             → IsKnown (progress options.now files (all_lines bytes))
             → StopsAtEnd options.now files bytes (all_lines bytes) w (K.written sink.new)
-            (desk map.new (shelf F.files F.calls home store.new)) (status_of stop)) }
+            (desk map.new (shelf F.files F.calls home store.new))
+            (Rose (K.shortages sink.old) (K.shortages sink.new)) (status_of stop)) }
         ensures stands { KeepsStanding map.old map.new }
         ensures only { IfErr result IsHalt }
         ensures counts { IsStopCounted result (K.faults sink.old) (K.faults sink.new)

@@ -32,25 +32,27 @@ run_session task o files left after v u s is ends =
     subst (λ t. IfSome left (λ bytes. ReadsTold t files bytes → MayEnd t files bytes after v u s))
     (sym is) ends
 
-left_session : (o : Setup) (files : Option Files) (left after v u : Option (List ℕ)) (m : Map)
+left_session : (short : Type 0) (o : Setup) (files : Option Files)
+    (left after v u : Option (List ℕ)) (m : Map)
     (k : Shelf) (s : Status) →
     IfSome left (λ bytes. session_reading.ReadsTold o files bytes
-    → session_leaving.Leaves o files bytes after v u (desk m k) s) →
+    → session_leaving.Leaves o files bytes after v u (desk m k) short s) →
     IfSome left (λ bytes. ReadsTold (Some (Session o)) files bytes
-    → Leaves (Some (Session o)) files bytes after v u k s)
-left_session o files None after v u m k s leaves = tt
-left_session o files (Some bytes) after v u m k s leaves = λ reads. (m, leaves reads)
+    → Leaves (Some (Session o)) files bytes after v u k short s)
+left_session short o files None after v u m k s leaves = tt
+left_session short o files (Some bytes) after v u m k s leaves = λ reads. (m, leaves reads)
 
 -- and leaves what it leaves
-pub run_leaves : (task : Option Task) (o : Setup) (files : Option Files)
+pub run_leaves : (short : Type 0) (task : Option Task) (o : Setup) (files : Option Files)
     (left after v u : Option (List ℕ)) (m : Map) (k : Shelf) (s : Status)
     → task ≡ Some (Session o) →
     IfSome left (λ bytes. session_reading.ReadsTold o files bytes
-    → session_leaving.Leaves o files bytes after v u (desk m k) s) →
-    IfSome left (λ bytes. ReadsTold task files bytes → Leaves task files bytes after v u k s)
-run_leaves task o files left after v u m k s is leaves =
-    subst (λ t. IfSome left (λ bytes. ReadsTold t files bytes → Leaves t files bytes after v u k s))
-    (sym is) (left_session o files left after v u m k s leaves)
+    → session_leaving.Leaves o files bytes after v u (desk m k) short s) →
+    IfSome left (λ bytes. ReadsTold task files bytes → Leaves task files bytes after v u k short s)
+run_leaves short task o files left after v u m k s is leaves =
+    subst (λ t. IfSome left
+    (λ bytes. ReadsTold t files bytes → Leaves t files bytes after v u k short s))
+    (sym is) (left_session short o files left after v u m k s leaves)
 
 -- its files are those of the session
 pub run_files : (task : Option Task) (o : Setup) (files told : Option Files)
@@ -81,24 +83,26 @@ run_build task o files left after v u s is ends =
     subst (λ t. IfSome left (λ bytes. ReadsTold t files bytes → MayEnd t files bytes after v u s))
     (sym is) ends
 
-left_build : (o : Setup) (files : Option Files) (left after v u : Option (List ℕ)) (m : Map)
+left_build : (short : Type 0) (o : Setup) (files : Option Files) (left after v u : Option (List ℕ))
+    (m : Map)
     (k : Shelf) (s : Status) →
     IfSome left (λ bytes. session_reading.ReadsTold o files bytes
     → building.Leaves o files bytes after (desk m k) s) →
     IfSome left (λ bytes. ReadsTold (Some (Build o)) files bytes
-    → Leaves (Some (Build o)) files bytes after v u k s)
-left_build o files None after v u m k s leaves = tt
-left_build o files (Some bytes) after v u m k s leaves = λ reads. (m, leaves reads)
+    → Leaves (Some (Build o)) files bytes after v u k short s)
+left_build short o files None after v u m k s leaves = tt
+left_build short o files (Some bytes) after v u m k s leaves = λ reads. (m, leaves reads)
 
 -- and leaves what it leaves
-pub run_build_leaves : (task : Option Task) (o : Setup) (files : Option Files)
+pub run_build_leaves : (short : Type 0) (task : Option Task) (o : Setup) (files : Option Files)
     (left after v u : Option (List ℕ)) (m : Map) (k : Shelf) (s : Status) → task ≡ Some (Build o) →
     IfSome left (λ bytes. session_reading.ReadsTold o files bytes
     → building.Leaves o files bytes after (desk m k) s) →
-    IfSome left (λ bytes. ReadsTold task files bytes → Leaves task files bytes after v u k s)
-run_build_leaves task o files left after v u m k s is leaves =
-    subst (λ t. IfSome left (λ bytes. ReadsTold t files bytes → Leaves t files bytes after v u k s))
-    (sym is) (left_build o files left after v u m k s leaves)
+    IfSome left (λ bytes. ReadsTold task files bytes → Leaves task files bytes after v u k short s)
+run_build_leaves short task o files left after v u m k s is leaves =
+    subst (λ t. IfSome left
+    (λ bytes. ReadsTold t files bytes → Leaves t files bytes after v u k short s))
+    (sym is) (left_build short o files left after v u m k s leaves)
 
 -- its files are those of the build
 pub run_build_files : (task : Option Task) (o : Setup) (files told : Option Files)
@@ -129,13 +133,15 @@ run_task asked task files left after v u s is ends =
     subst (λ t. IfSome left (λ bytes. ReadsTold t files bytes → MayEnd t files bytes after v u s))
     is ends
 
-pub task_leaves : (asked : Option Task) (task : Task) (files : Option Files)
+pub task_leaves : (short : Type 0) (asked : Option Task) (task : Task) (files : Option Files)
     (left after v u : Option (List ℕ)) (k : Shelf) (s : Status) → Some task ≡ asked →
     IfSome left (λ bytes. ReadsTold (Some task) files bytes
-    → Leaves (Some task) files bytes after v u k s)
-    → IfSome left (λ bytes. ReadsTold asked files bytes → Leaves asked files bytes after v u k s)
-task_leaves asked task files left after v u k s is leaves =
-    subst (λ t. IfSome left (λ bytes. ReadsTold t files bytes → Leaves t files bytes after v u k s))
+    → Leaves (Some task) files bytes after v u k short s)
+    → IfSome left (λ bytes. ReadsTold asked files bytes
+    → Leaves asked files bytes after v u k short s)
+task_leaves short asked task files left after v u k s is leaves =
+    subst (λ t. IfSome left
+    (λ bytes. ReadsTold t files bytes → Leaves t files bytes after v u k short s))
     is leaves
 
 pub task_files : (asked : Option Task) (task : Task) (files told : Option Files)

@@ -144,13 +144,13 @@ takes_memory (Some (Generate load)) = false
 takes_memory _ = true
 
 -- what a run over these bytes and files leaves of the store: a session and a build leave its files
--- as they say of them and their map, a task over two files leaves what it holds, and any other task
--- the whole store as it is
+-- as they say of them and their map, by whether the sink ran short of memory; a task over two files
+-- leaves what it holds, and any other task the whole store as it is
 abbrev pub Leaves : Option Task → Option Files → List ℕ → Option (List ℕ) → Option (List ℕ)
-    → Option (List ℕ) → Shelf → Status → Type 0
-Leaves (Some (Session o)) files bytes left old new store status =
-    (map : Map) × session_leaving.Leaves o files bytes left old new (desk map store) status
-Leaves (Some (Build o)) files bytes left old new store status =
+    → Option (List ℕ) → Shelf → Type 0 → Status → Type 0
+Leaves (Some (Session o)) files bytes left old new store short status =
+    (map : Map) × session_leaving.Leaves o files bytes left old new (desk map store) short status
+Leaves (Some (Build o)) files bytes left old new store short status =
     (map : Map) × building.Leaves o files bytes left (desk map store) status
-Leaves (Some (OverStore task)) files bytes left old new store status = store.files ≡ files
-Leaves _ files bytes left old new store status = store.same
+Leaves (Some (OverStore task)) files bytes left old new store short status = store.files ≡ files
+Leaves _ files bytes left old new store short status = store.same

@@ -46,7 +46,7 @@ pub fn run<S: Source, K: Sink, F: Store>(
         ReadsTold (task_of (bytes_of words.now)) (F.files store.old) bytes
         → Leaves (task_of (bytes_of words.now)) (F.files store.old) bytes (S.left source.new)
         (K.written sink.old) (K.written sink.new) (shelf F.files F.calls store.old store.new)
-        result) }
+        (Rose (K.shortages sink.old) (K.shortages sink.new)) result) }
     ensures files { IfSome (S.left source.old) (λ bytes.
         ReadsTold (task_of (bytes_of words.now)) (F.files store.old) bytes → IsWhole result
         → F.files store.new
@@ -108,7 +108,7 @@ fn perform<S: Source, K: Sink, F: Store>(
         ReadsTold (Some (asked task.now)) (F.files store.old) bytes
         → Leaves (Some (asked task.now)) (F.files store.old) bytes (S.left source.new)
         (K.written sink.old) (K.written sink.new) (shelf F.files F.calls store.old store.new)
-        result) }
+        (Rose (K.shortages sink.old) (K.shortages sink.new)) result) }
     ensures files { IfSome (S.left source.old) (λ bytes.
         ReadsTold (Some (asked task.now)) (F.files store.old) bytes → IsWhole result
         → F.files store.new ≡ (answer (Some (asked task.now)) (F.files store.old) bytes).files) }

@@ -267,3 +267,37 @@ fn a_store_that_fails_ends_the_session(rt: HostRuntime) -> Result<(), Fail> {
     }
     Ok(())
 }
+
+/// Expects that a session whose write of this number fails ends so, what it wrote, whether it saved
+/// its file, and the value that its last line left.
+fn expect_write_fault(
+    rt: &impl Abort,
+    alloc: Global,
+    number: u64,
+    want: (Status, &str),
+    (has_file, beside): (bool, Option<i32>),
+) -> Result<(), Fail> {
+    let text = "hit 0 0 0\nsave m\nhit 0.1 0 0\n";
+    let options = options(1000)?;
+    let mut source = script(alloc, text, 100)?;
+    let mut sink = MemSink::new(alloc, 100, only(alloc, number)?);
+    let mut store = CalmStore::new(alloc);
+    let (status, map) = ended(alloc, &options, &mut source, &mut sink, &mut store);
+    expect_answer(rt, text, (status, sink.written()), want);
+    assert_eq!(rt; store.file("m").is_some(), has_file, "write {number}");
+    expect_map(rt, &map, Some(850), beside, false);
+    Ok(())
+}
+
+#[test]
+fn no_file_is_ahead_of_the_replies(rt: HostRuntime) -> Result<(), Fail> {
+    let fault = Status::WriteFault;
+    for (number, want, left) in [
+        (1, (fault, ""), (false, None)),
+        (2, (fault, "ok\n"), (true, Some(850))),
+        (3, (Status::Done, "ok\nsaved 169\nok\n"), (true, Some(850))),
+    ] {
+        expect_write_fault(&rt, rt.alloc(), number, want, left)?;
+    }
+    Ok(())
+}

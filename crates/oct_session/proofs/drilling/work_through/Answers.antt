@@ -9,7 +9,8 @@ use Rattle.oct_session.proofs.drilling.work_through.Goals as goal
 pub returns-in_err-read_all-clause-memory : goal.returns-in_err-read_all-clause-memory
 returns-in_err-read_all-clause-memory c =
     passed_stop _ _ c.from_residual.ensures.1
-    (only_memory (Err c.in_err-read_all.field-0.0) c.args.options.now (files_of c.new-store.result)
+    (only_memory _ (Err c.in_err-read_all.field-0.0) c.args.options.now
+    (files_of c.new-store.result)
     c.args.seed c.args.scans c.args.points _ _ c.args.map.now
     (λ home. shelf (λ x. Some (files_of x)) (λ x. 0) home c.new-store.result)
     (λ home. desk c.read_all.new.map

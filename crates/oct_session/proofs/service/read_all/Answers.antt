@@ -4,7 +4,8 @@ use Rattle.oct_session.proofs.service.read_all.Goals as goal
 
 pub returns-in_err-count-clause-stops : goal.returns-in_err-count-clause-stops
 returns-in_err-count-clause-stops g c =
-    after_stop _ _ c.args.options.now _ _ _ _ _ _ _ _ _ _ _ _ c.from_residual.ensures.1
+    after_stop _ _ c.args.options.now _ _ _ _ _ _ _ _ _ _ _ _ _ _ _
+    c.reading.invariant.shortages c.from_residual.ensures.1
     c.reading.invariant.at c.in_err-count.ensures.stops
 
 pub returns-then-session-clause-done : goal.returns-then-session-clause-done
@@ -21,7 +22,8 @@ returns-then-count-eq0-clause-done g c =
 
 pub returns-then-count-eq0-clause-stops : goal.returns-then-count-eq0-clause-stops
 returns-then-count-eq0-clause-stops g c =
-    last_stop _ c.args.options.now _ _ _ _ _ _ _ _ _ _ _
+    last_stop _ c.args.options.now _ _ _ _ _ _ _ _ _ _ _ _ _ _
+    (c.in_ok-count.ensures.counts.stays.1 ∙ c.reading.invariant.shortages)
     (c.in_ok-count.ensures.fits c.if-session.false) (c.in_ok-count.ensures.end c.if-count-eq0.true)
     (λ home files bytes w at. c.in_ok-count.ensures.goes c.if-session.false home files bytes w
     (c.reading.invariant.at home files bytes w at)) c.end.ensures.only c.end.ensures.err
@@ -43,6 +45,7 @@ reading-preserved g c = record {
   few = c.in_ok-count.ensures.fits c.if-session.false;
   running = c.if-session.false;
   unended = c.in_ok-count.ensures.unended;
+  empty = c.in_ok-count.ensures.empty;
   counted = c.in_ok-count.ensures.counted;
   at = λ home files bytes w at. c.in_ok-count.ensures.goes c.if-session.false home files bytes w
       (c.reading.invariant.at home files bytes w at);

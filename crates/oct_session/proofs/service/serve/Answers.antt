@@ -7,10 +7,10 @@ use Rattle.oct_session.proofs.service.serve.Goals as goal
 
 pub returns-in-Ok-clause-answer : goal.returns-in-Ok-clause-answer
 returns-in-Ok-clause-answer g c =
-    told_answer c.args.options.now (g.F.Store.files c.args.store.now) _ _ _ _
+    told_answer ⊥ c.args.options.now (g.F.Store.files c.args.store.now) _ _ _ _
     (desk c.read_all.new.map
     (shelf g.F.Store.files g.F.Store.calls c.args.store.now c.read_all.new.store)) _
-    (serve_read c.args.options.now (g.F.Store.files c.args.store.now) _ _ _ _ c.args.map.now
+    (serve_read _ c.args.options.now (g.F.Store.files c.args.store.now) _ _ _ _ c.args.map.now
     (λ home. shelf g.F.Store.files g.F.Store.calls home c.args.store.now)
     (λ home. desk c.read_all.new.map
     (shelf g.F.Store.files g.F.Store.calls home c.read_all.new.store))
@@ -22,7 +22,7 @@ returns-in-Ok-clause-answer g c =
 
 pub returns-clause-answer : goal.returns-clause-answer
 returns-clause-answer g c =
-    told_answer c.args.options.now (g.F.Store.files c.args.store.now) _ _ _ _
+    told_answer _ c.args.options.now (g.F.Store.files c.args.store.now) _ _ _ _
     (desk c.read_all.new.map
     (shelf g.F.Store.files g.F.Store.calls c.args.store.now c.read_all.new.store)) _
     (serve_stop c.args.options.now (g.F.Store.files c.args.store.now) _ _ _ _ c.args.map.now
@@ -37,10 +37,10 @@ returns-clause-answer g c =
 
 pub returns-in-Ok-clause-leaves : goal.returns-in-Ok-clause-leaves
 returns-in-Ok-clause-leaves g c =
-    told_desk c.args.options.now (g.F.Store.files c.args.store.now) _ _ _ _
+    told_desk _ c.args.options.now (g.F.Store.files c.args.store.now) _ _ _ _
     (desk c.read_all.new.map
     (shelf g.F.Store.files g.F.Store.calls c.args.store.now c.read_all.new.store)) _
-    (serve_read c.args.options.now (g.F.Store.files c.args.store.now) _ _ _ _ c.args.map.now
+    (serve_read _ c.args.options.now (g.F.Store.files c.args.store.now) _ _ _ _ c.args.map.now
     (λ home. shelf g.F.Store.files g.F.Store.calls home c.args.store.now)
     (λ home. desk c.read_all.new.map
     (shelf g.F.Store.files g.F.Store.calls home c.read_all.new.store))
@@ -52,7 +52,7 @@ returns-in-Ok-clause-leaves g c =
 
 pub returns-clause-leaves : goal.returns-clause-leaves
 returns-clause-leaves g c =
-    told_desk c.args.options.now (g.F.Store.files c.args.store.now) _ _ _ _
+    told_desk _ c.args.options.now (g.F.Store.files c.args.store.now) _ _ _ _
     (desk c.read_all.new.map
     (shelf g.F.Store.files g.F.Store.calls c.args.store.now c.read_all.new.store)) _
     (serve_stop c.args.options.now (g.F.Store.files c.args.store.now) _ _ _ _ c.args.map.now
@@ -67,10 +67,10 @@ returns-clause-leaves g c =
 
 pub returns-in-Ok-clause-files : goal.returns-in-Ok-clause-files
 returns-in-Ok-clause-files g c =
-    told_files c.args.options.now (g.F.Store.files c.args.store.now) _ _ _ _
+    told_files ⊥ c.args.options.now (g.F.Store.files c.args.store.now) _ _ _ _
     (desk c.read_all.new.map
     (shelf g.F.Store.files g.F.Store.calls c.args.store.now c.read_all.new.store)) _
-    (serve_read c.args.options.now (g.F.Store.files c.args.store.now) _ _ _ _ c.args.map.now
+    (serve_read _ c.args.options.now (g.F.Store.files c.args.store.now) _ _ _ _ c.args.map.now
     (λ home. shelf g.F.Store.files g.F.Store.calls home c.args.store.now)
     (λ home. desk c.read_all.new.map
     (shelf g.F.Store.files g.F.Store.calls home c.read_all.new.store))
@@ -82,7 +82,7 @@ returns-in-Ok-clause-files g c =
 
 pub returns-clause-files : goal.returns-clause-files
 returns-clause-files g c =
-    told_files c.args.options.now (g.F.Store.files c.args.store.now) _ _ _ _
+    told_files _ c.args.options.now (g.F.Store.files c.args.store.now) _ _ _ _
     (desk c.read_all.new.map
     (shelf g.F.Store.files g.F.Store.calls c.args.store.now c.read_all.new.store)) _
     (serve_stop c.args.options.now (g.F.Store.files c.args.store.now) _ _ _ _ c.args.map.now
@@ -97,10 +97,10 @@ returns-clause-files g c =
 
 pub returns-in-Ok-clause-asked : goal.returns-in-Ok-clause-asked
 returns-in-Ok-clause-asked g c =
-    told_asked c.args.options.now (g.F.Store.files c.args.store.now) _ _ _ _
+    told_asked ⊥ c.args.options.now (g.F.Store.files c.args.store.now) _ _ _ _
     (desk c.read_all.new.map
     (shelf g.F.Store.files g.F.Store.calls c.args.store.now c.read_all.new.store)) _
-    (serve_read c.args.options.now (g.F.Store.files c.args.store.now) _ _ _ _ c.args.map.now
+    (serve_read _ c.args.options.now (g.F.Store.files c.args.store.now) _ _ _ _ c.args.map.now
     (λ home. shelf g.F.Store.files g.F.Store.calls home c.args.store.now)
     (λ home. desk c.read_all.new.map
     (shelf g.F.Store.files g.F.Store.calls home c.read_all.new.store))
@@ -112,7 +112,7 @@ returns-in-Ok-clause-asked g c =
 
 pub returns-clause-asked : goal.returns-clause-asked
 returns-clause-asked g c =
-    told_asked c.args.options.now (g.F.Store.files c.args.store.now) _ _ _ _
+    told_asked _ c.args.options.now (g.F.Store.files c.args.store.now) _ _ _ _
     (desk c.read_all.new.map
     (shelf g.F.Store.files g.F.Store.calls c.args.store.now c.read_all.new.store)) _
     (serve_stop c.args.options.now (g.F.Store.files c.args.store.now) _ _ _ _ c.args.map.now

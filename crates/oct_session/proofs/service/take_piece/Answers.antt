@@ -25,7 +25,7 @@ returns-else-session-clause-stops g c = λ home files w bytes at. (
 
 pub returns-then-piece-room-clause-stops : goal.returns-then-piece-room-clause-stops
 returns-then-piece-room-clause-stops g c =
-    stops_whole c.take.result c.args.options.now _ _ _ _ c.args.session.now c.take.new.self
+    stops_whole _ c.take.result c.args.options.now _ _ _ _ c.args.session.now c.take.new.self
     c.args.piece.now c.args.room
     c.if-piece-room.true c.take.ensures.only c.take.ensures.err
 

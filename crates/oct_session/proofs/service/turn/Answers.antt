@@ -4,12 +4,12 @@ use Rattle.oct_session.proofs.service.turn.Goals as goal
 
 pub returns-in_err-count-clause-stops : goal.returns-in_err-count-clause-stops
 returns-in_err-count-clause-stops g c =
-    fault_ends _ c.args.options.now _ _ _ _ c.args.session.now c.args.taken
+    fault_ends _ _ c.args.options.now _ _ _ _ c.args.session.now c.args.taken
     c.from_residual.ensures.1 c.in_err-count.ensures.err c.requires.few c.requires.running
 
 pub returns-in_err-take_piece-clause-stops : goal.returns-in_err-take_piece-clause-stops
 returns-in_err-take_piece-clause-stops g c =
-    stop_ends _ _ c.args.options.now _ _ _ _ _ _ _ _ _ _ c.args.taken _ _
+    stop_ends _ _ _ c.args.options.now _ _ _ _ _ _ _ _ _ _ c.args.taken _ _
     c.from_residual-in_err-take_piece.ensures.1
     (record {
       few = c.requires.few;

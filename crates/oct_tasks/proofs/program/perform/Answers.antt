@@ -14,7 +14,7 @@ returns-in-Session-clause-answer g c =
 
 pub returns-in-Session-clause-leaves : goal.returns-in-Session-clause-leaves
 returns-in-Session-clause-leaves g c =
-    run_leaves _ _ (g.F.Store.files c.args.store.now) _ _ _ _ c.serve.new.map
+    run_leaves _ _ _ (g.F.Store.files c.args.store.now) _ _ _ _ c.serve.new.map
     (shelf g.F.Store.files g.F.Store.calls c.args.store.now c.serve.new.store) _
     (ap (λ (t : Task). Some (asked t)) c.in-Session.is) c.serve.ensures.leaves
 
@@ -36,7 +36,7 @@ returns-in-Build-clause-answer g c =
 
 pub returns-in-Build-clause-leaves : goal.returns-in-Build-clause-leaves
 returns-in-Build-clause-leaves g c =
-    run_build_leaves _ _ (g.F.Store.files c.args.store.now) _ _ _ _ c.build.new.map
+    run_build_leaves _ _ _ (g.F.Store.files c.args.store.now) _ _ _ _ c.build.new.map
     (shelf g.F.Store.files g.F.Store.calls c.args.store.now c.build.new.store) _
     (ap (λ (t : Task). Some (asked t)) c.in-Build.is) c.build.ensures.leaves
 

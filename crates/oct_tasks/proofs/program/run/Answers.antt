@@ -9,7 +9,7 @@ returns-in-Ok-clause-answer g c =
 
 pub returns-in-Ok-clause-leaves : goal.returns-in-Ok-clause-leaves
 returns-in-Ok-clause-leaves g c =
-    task_leaves _ _ (g.F.Store.files c.args.store.now) _ _ _ _
+    task_leaves _ _ _ (g.F.Store.files c.args.store.now) _ _ _ _
     (shelf g.F.Store.files g.F.Store.calls c.args.store.now c.perform.new.store) _
     c.in-Ok.ensures.exact c.perform.ensures.leaves
 

@@ -18,7 +18,7 @@ returns-clause-ok g c =
 pub returns-in_err-close-clause-err : goal.returns-in_err-close-clause-err
 returns-in_err-close-clause-err g c =
     end_stopped _ _ c.args.options.now _ _ _ _ _ c.args.self.now c.respond_last.new.self
-    c.from_residual-in_err-close.ensures.1
+    _ _ _ c.in_ok-respond_last.ensures.counts.stays.1 c.from_residual-in_err-close.ensures.1
     c.in_ok-respond_last.ensures.ok c.in_err-close.ensures.err
 
 pub returns-in_err-respond_last-clause-err : goal.returns-in_err-respond_last-clause-err

@@ -1,25 +1,67 @@
-use Rattle.std.proofs.Common.{◌∙◌}
-use Rattle.oct_session.proofs.Halting.{untold_err, part_err}
-use Rattle.oct_session.proofs.Progresses.{reached_line}
+use Rattle.std.proofs.Common.{[], ◌∷◌, ◌++◌, Err, ap, refl}
+use Rattle.oct_session.specs.Leaving.{desk, shelf}
+use Rattle.oct_session.proofs.Holding.{adds_more, held_moved, held_more, way_err, more_err}
+use Rattle.oct_session.proofs.Holding.{failed_err, own_halt, rose_since}
 use Rattle.oct_session.proofs.session.Session.respond.Goals as goal
 
-pub returns-in_err-answer-clause-err : goal.returns-in_err-answer-clause-err
-returns-in_err-answer-clause-err g c =
-    untold_err _ _ c.args.options.now _ _ _ c.args.self.now c.from_residual.ensures.1
-    c.requires.running c.in_err-answer.ensures.err
+pub returns-in_err-make_way-clause-err : goal.returns-in_err-make_way-clause-err
+returns-in_err-make_way-clause-err g c =
+    way_err _ _ c.args.options.now _ _ _ c.args.self.now c.from_residual.ensures.1
+    c.in_err-make_way.ensures.err (λ e. (c.in_err-make_way.ensures.counts.memory (ap Err e)).1)
 
-pub returns-in_err-write_all-clause-err : goal.returns-in_err-write_all-clause-err
-returns-in_err-write_all-clause-err g c =
-    part_err _ _ c.args.options.now _ _ _ _ c.args.self.now _ c.deref.result.now _
-    c.from_residual-in_err-write_all.ensures.1 c.requires.running
-    c.in_ok-answer.ensures.between
-    (λ home p known at. c.deref.ensures.value ∙ c.in_ok-answer.ensures.text home p known at)
-    c.in_err-write_all.ensures.err.1 c.in_err-write_all.ensures.err.2
+pub returns-in_err-hold_few-in-Ok-clause-adds : goal.returns-in_err-hold_few-in-Ok-clause-adds
+returns-in_err-hold_few-in-Ok-clause-adds g c =
+    adds_more _ _ _ c.make_way.ensures.adds c.hold_few.ensures.adds
 
-pub returns-clause-ok : goal.returns-clause-ok
-returns-clause-ok g c = λ home w p known at.
-    reached_line c.args.options.now w _ _ _ _ c.args.self.now _ p c.args.self.now.line.line
-    c.deref.result.now c.requires.running at
-    (c.in_ok-answer.ensures.between home p known at.between)
-    (c.deref.ensures.value ∙ c.in_ok-answer.ensures.text home p known at.between)
-    c.in_ok-write_all.ensures.ok
+pub returns-in_ok-hold_few-in-Ok-clause-adds : goal.returns-in_ok-hold_few-in-Ok-clause-adds
+returns-in_ok-hold_few-in-Ok-clause-adds g c =
+    adds_more _ _ _ c.make_way.ensures.adds c.hold_few.ensures.adds
+
+pub returns-in_ok-flush-in-Err-clause-adds : goal.returns-in_ok-flush-in-Err-clause-adds
+returns-in_ok-flush-in-Err-clause-adds g c =
+    adds_more _ _ _ c.make_way.ensures.adds c.flush.ensures.adds
+
+pub returns-in_ok-hold_few-in-Ok-clause-ok : goal.returns-in_ok-hold_few-in-Ok-clause-ok
+returns-in_ok-hold_few-in-Ok-clause-ok g c = λ home files lines w known at.
+    held_moved c.args.options.now files (lines ++ c.args.self.now.line.line ∷ []) w _ _ _
+    c.answer.new.self _
+    (record { counted = refl; block = refl; refused = refl; has_quit = refl; tally = refl })
+    c.in_ok-hold_few-in-Ok.ensures.moved
+    (held_more c.args.options.now _ _ _ _ c.args.self.now _ c.answer.new.self c.requires.running
+    (record { counted = refl; block = refl; refused = refl; has_quit = refl; tally = refl })
+    c.requires.held c.in_ok-make_way.ensures.moved c.in_ok-make_way.ensures.clear
+    c.in-Ok.ensures.text c.in-Ok.ensures.between home files lines w known at)
+
+pub returns-in_err-hold_few-in-Ok-clause-err : goal.returns-in_err-hold_few-in-Ok-clause-err
+returns-in_err-hold_few-in-Ok-clause-err g c =
+    more_err _ _ c.args.options.now _ _ _ _ _ c.args.self.now c.answer.new.self
+    c.args.self.now.line.line c.from_residual-in_err-hold_few-in-Ok.ensures.1
+    c.in_err-hold_few-in-Ok.ensures.err
+    (λ e. rose_since _ _ _ c.in_ok-make_way.ensures.counts.stays.1
+    (c.in_err-hold_few-in-Ok.ensures.counts.memory (ap Err e)).1)
+    (held_more c.args.options.now _ _ _ _ c.args.self.now _ c.answer.new.self c.requires.running
+    (record { counted = refl; block = refl; refused = refl; has_quit = refl; tally = refl })
+    c.requires.held c.in_ok-make_way.ensures.moved c.in_ok-make_way.ensures.clear
+    c.in-Ok.ensures.text c.in-Ok.ensures.between)
+
+pub returns-in_err-flush-in-Err-clause-err : goal.returns-in_err-flush-in-Err-clause-err
+returns-in_err-flush-in-Err-clause-err g c =
+    failed_err _ _ _ c.args.options.now _ _ _ _ _ c.args.self.now _ _
+    c.from_residual-in_err-flush-in-Err.ensures.1 c.requires.running
+    (record { counted = refl; block = refl; refused = refl; has_quit = refl; tally = refl })
+    c.requires.held c.in_ok-make_way.ensures.moved c.in-Err.ensures.kept
+    c.in_err-flush-in-Err.ensures.err
+    (λ e. rose_since _ _ _ c.in_ok-make_way.ensures.counts.stays.1
+    (c.in_err-flush-in-Err.ensures.counts.memory (ap Err e)).1)
+    c.in_ok-make_way.ensures.clear c.in-Err.ensures.err
+
+pub returns-in_ok-flush-in-Err-clause-err : goal.returns-in_ok-flush-in-Err-clause-err
+returns-in_ok-flush-in-Err-clause-err g c = λ home files lines w known at.
+    own_halt c.from.result _ c.args.options.now _ _ _
+    (λ home. desk c.args.map.now (shelf g.F.Store.files g.F.Store.calls home c.args.store.now))
+    (λ home. desk c.answer.new.map (shelf g.F.Store.files g.F.Store.calls home c.answer.new.store))
+    c.args.self.now _ _ c.from.ensures
+    c.requires.running
+    (record { counted = refl; block = refl; refused = refl; has_quit = refl; tally = refl })
+    c.in_ok-make_way.ensures.moved c.in-Err.ensures.kept c.in_ok-flush-in-Err.ensures.ok
+    c.in-Err.ensures.err home files lines w known at

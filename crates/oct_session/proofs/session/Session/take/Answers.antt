@@ -1,13 +1,37 @@
-use Rattle.std.proofs.Common.{arith, ◌∙◌}
-use Rattle.oct_session.proofs.Pieces.{at_more, at_quit, at_whole, halted_within}
+use Rattle.std.proofs.Common.{[], ◌++◌, length, take, Err, ap, arith, refl, ◌∙◌}
+use Rattle.oct_session.specs.Leaving.{desk, shelf}
+use Rattle.oct_session.proofs.session.Session.take.Goals.{then-loop-taken-test+else-not-self}
+use Rattle.oct_session.proofs.session.Session.take.Goals.{else-loop-taken-test}
+use Rattle.oct_io.proofs.Appending.{appended_nil}
+use Rattle.oct_session.proofs.Holding.{adds_more, rose_since}
+use Rattle.oct_session.proofs.HeldPieces.{held_start, held_next, held_written, held_within}
+use Rattle.oct_session.proofs.HeldPieces.{held_unwritten}
+use Rattle.oct_session.proofs.Pieces.{at_quit, at_whole}
 use Rattle.oct_session.proofs.session.Session.take.Goals as goal
+
+pub loop-taken-init : goal.loop-taken-init
+loop-taken-init g c = record {
+  within = omega arith;
+  at = λ home files w bytes at. held_start c.args.options.now files w _ _ c.args.self.now bytes
+      c.args.piece.now c.requires.empty at;
+  held = omega (arith, ap length c.requires.empty);
+  adds = ([], appended_nil (g.K.Sink.written c.args.sink.now));
+  stands = λ o some. some;
+  unended = c.requires.unended;
+  counted = omega arith;
+  faults = refl;
+  shortages = refl;
+  store_faults = refl;
+}
 
 pub loop-taken-preserved : goal.loop-taken-preserved
 loop-taken-preserved g c = record {
   within = omega (arith, c.in_ok-taken.ensures.within, c.split_at.ensures);
-  at = λ home files w bytes at. at_more _ w _ _ _ _ _ _ files bytes c.args.piece.now _ _ _
+  at = λ home files w bytes at. held_next _ w _ _ _ _ _ _ files bytes c.args.piece.now _ _ _
       c.split_at.ensures.back (c.in_ok-taken.ensures.ok home)
       (c.loop-taken.invariant.at home files w bytes at);
+  held = c.in_ok-taken.ensures.held;
+  adds = adds_more _ _ _ c.loop-taken.invariant.adds c.advance.ensures.adds;
   stands = λ o some. c.advance.ensures.stands o (c.loop-taken.invariant.stands o some);
   unended = c.in_ok-taken.ensures.unended;
   counted = omega (arith, c.in_ok-taken.ensures.counted, c.loop-taken.invariant.counted);
@@ -16,19 +40,37 @@ loop-taken-preserved g c = record {
   store_faults = c.in_ok-taken.ensures.counts.stays.2 ∙ c.loop-taken.invariant.store_faults;
 }
 
-pub returns-else-not-self-clause-ok : goal.returns-else-not-self-clause-ok
-returns-else-not-self-clause-ok g c = λ home files w bytes at.
-    at_quit c.args.options.now files w _ _ _ bytes c.args.piece.now _ c.if-not-self.false
-    (c.loop-taken.invariant.at home files w bytes at)
-
 pub returns-in_err-taken-clause-err : goal.returns-in_err-taken-clause-err
 returns-in_err-taken-clause-err g c =
-    halted_within _ _ c.args.options.now _ _ _ _ _ _ c.args.self.now c.loop-taken.self
-    c.args.piece.now _ c.loop-taken.taken c.from_residual.ensures.1
-    c.split_at.ensures.back c.loop-taken.invariant.at c.in_err-taken.ensures.err
+    held_within _ _ c.args.options.now _ _ _ _ _ _ c.args.self.now c.loop-taken.self
+    c.args.piece.now _ c.loop-taken.taken _ _ _ c.loop-taken.invariant.shortages
+    c.from_residual.ensures.1
+    c.split_at.ensures.back c.loop-taken.invariant.at
+    (adds_more _ _ _ c.loop-taken.invariant.adds c.advance.ensures.adds) c.in_err-taken.ensures.err
 
-pub returns-after-loop-taken-clause-ok : goal.returns-after-loop-taken-clause-ok
-returns-after-loop-taken-clause-ok g c = λ home files w bytes at.
-    at_whole c.args.options.now files w _ _ c.loop-taken.self bytes c.args.piece.now
-    c.loop-taken.taken c.loop-taken-test.false
-    (c.loop-taken.invariant.at home files w bytes at)
+pub returns-clause-ok : goal.returns-clause-ok
+returns-clause-ok g c = λ home files w bytes at.
+    let here = held_written c.args.options.now files w (g.K.Sink.written c.loop-taken.sink) _
+    (desk c.loop-taken.map (shelf g.F.Store.files g.F.Store.calls home c.loop-taken.store))
+    c.loop-taken.self _ (bytes ++ take c.loop-taken.taken c.args.piece.now)
+    (record { counted = refl; block = refl; refused = refl; has_quit = refl; tally = refl })
+    refl c.in_ok-flush.ensures.ok (c.loop-taken.invariant.at home files w bytes at) in
+    elim c.loop-taken-test.branch [
+      | then-loop-taken-test+else-not-self x ↦ at_quit c.args.options.now files w _ _ _ bytes
+          c.args.piece.now c.loop-taken.taken x.if-not-self.false here
+      | else-loop-taken-test x ↦ at_whole c.args.options.now files w _ _ _ bytes
+          c.args.piece.now c.loop-taken.taken x.loop-taken-test.false here
+    ]
+
+pub returns-in_err-flush-clause-err : goal.returns-in_err-flush-clause-err
+returns-in_err-flush-clause-err g c =
+    held_unwritten _ _ c.args.options.now (g.K.Sink.written c.args.sink.now)
+    (g.K.Sink.written c.loop-taken.sink) _
+    (λ home. desk c.args.map.now (shelf g.F.Store.files g.F.Store.calls home c.args.store.now))
+    (λ home. desk c.loop-taken.map
+    (shelf g.F.Store.files g.F.Store.calls home c.loop-taken.store))
+    c.args.self.now c.loop-taken.self c.args.piece.now c.loop-taken.taken
+    c.from_residual-in_err-flush.ensures.1 c.loop-taken.invariant.at
+    (adds_more _ _ _ c.loop-taken.invariant.adds c.flush.ensures.adds) c.in_err-flush.ensures.err
+    (λ e. rose_since _ _ _ c.loop-taken.invariant.shortages
+    (c.in_err-flush.ensures.counts.memory (ap Err e)).1)

@@ -1,15 +1,20 @@
-use Rattle.std.proofs.Common.{◌≡◌, ◌+◌, ◌-◌, ◌≤◌, length, take, false}
+use Rattle.std.proofs.Common.{◌≡◌, ℕ, ◌+◌, ◌-◌, ◌<◌, ◌≤◌, List, ◌++◌, Option, length, take, false}
+use Rattle.oct_io.specs.Files.{Files}
 use Rattle.oct_session.specs.Leaving.{desk, shelf}
-use Rattle.oct_session.specs.Standing.{KeepsStanding, Takes}
+use Rattle.oct_session.specs.Standing.{KeepsStanding, IsAt, IsHeldAt, Adds}
 use Rattle.oct_session.proofs.session.Session.take.Given as goal
 
 abbrev pub invariant-loop-taken : goal.invariant-loop-taken
 invariant-loop-taken g l = record {
   within : l.taken ≤ length l.piece;
-  at : (home : _) → Takes l.options (g.K.Sink.written l.fn.sink) (g.K.Sink.written l.sink)
-      (desk l.fn.map (shelf g.F.Store.files g.F.Store.calls home l.fn.store))
-      (desk l.map (shelf g.F.Store.files g.F.Store.calls home l.store))
-      l.fn.self l.self (take l.taken l.piece);
+  at : (home : _) (files : Option Files) (w : Option (List ℕ)) (bytes : List ℕ)
+      → IsAt l.options files w (g.K.Sink.written l.fn.sink)
+      (desk l.fn.map (shelf g.F.Store.files g.F.Store.calls home l.fn.store)) l.fn.self bytes
+      → IsHeldAt l.options files w (g.K.Sink.written l.sink)
+      (desk l.map (shelf g.F.Store.files g.F.Store.calls home l.store)) l.self
+      (bytes ++ take l.taken l.piece);
+  held : length l.self.text.items < 4096;
+  adds : Adds (g.K.Sink.written l.fn.sink) (g.K.Sink.written l.sink);
   stands : KeepsStanding l.fn.map l.map;
   unended : l.self.line.has_ended ≡ false;
   counted : l.self.line_count ≤ l.fn.self.line_count + l.taken;

@@ -1,0 +1,285 @@
+-- A piece of a script, line by line, with replies that are held.
+use Rattle.std.proofs.Common.{◌≡◌, ℕ, ◌+◌, List, [], ◌∷◌, ◌++◌, take, drop, Option}
+use Rattle.std.proofs.Common.{Result, Ok, Err, IfErr, IsErrAnd, Bool, true, false, cond, inl, refl}
+use Rattle.std.proofs.Common.{sym, ap, subst, ◌∙◌, append-nil}
+use Rattle.oct_io.specs.Files.{Files}
+use Rattle.oct_io.specs.Taken.{IsCutOff}
+use Rattle.oct_io.specs.Told.{Rose, appended}
+use Rattle.oct_io.proofs.Appending.{appended_twice}
+use Rattle.oct_io.specs.declared.sink.SinkFault.{SinkFault}
+use Rattle.oct_script.specs.Lines.{Line, unread, ended_lines, rest_of, all_lines, last_line}
+use Rattle.oct_script.specs.Lines.{IsReading, HasEnded, HasJoined}
+use Rattle.oct_session.specs.declared.options.Stop.{Stop}
+use Rattle.oct_session.specs.declared.session.Session.{Session}
+use Rattle.oct_session.specs.Ending.{HasReplied, replies_within}
+use Rattle.oct_session.specs.Leaving.{Desk, IsKnown, IsHalted}
+use Rattle.oct_session.specs.Session.{progress}
+use Rattle.oct_session.specs.Setup.{Setup}
+use Rattle.oct_session.specs.Standing.{IsHolding, HasHeld, IsHeldAt, TakesHeld, HaltsHeld, IsAt}
+use Rattle.oct_session.specs.Standing.{Adds, Halts, HasReached, IsShort}
+use Rattle.oct_session.specs.Stops.{stop_of_sink, status_of}
+use Rattle.oct_session.proofs.Halting.{halted_bytes}
+use Rattle.oct_session.proofs.Holding.{holding_none, holding_whole, held_cut, held_moved}
+use Rattle.oct_session.proofs.Holding.{between_beside}
+use Rattle.oct_session.proofs.Pieces.{IsBeside, parts, pieces, reads_next, last_lines, standing}
+use Rattle.oct_session.proofs.Progresses.{known_before, known_bytes}
+
+-- a session that has other bytes of the line that stands
+held_beside : (o : Setup) (files : Option Files) (lines : List Line) (w v : Option (List ℕ))
+    (d : Desk) (s f : Session) → IsBeside f s → f.text.items ≡ s.text.items
+    → HasHeld o files lines w v d s → HasHeld o files lines w v d f
+held_beside o files lines w v d s f beside same at =
+    held_moved o files lines w v v d s f beside (inl (refl, same)) at
+
+-- a piece in which no line ends
+pub held_joined : (o : Setup) (v : Option (List ℕ)) (d : Desk) (s f : Session) (piece : List ℕ)
+    → s.has_quit ≡ false → ((bytes : List ℕ) → IsReading s.line bytes
+    → HasJoined f.line bytes (bytes ++ piece)) → IsBeside f s → f.text.items ≡ s.text.items
+    → TakesHeld o v v d d s f piece
+held_joined o v d s f piece running joins beside same files w bytes at =
+    let done : HasJoined f.line bytes (bytes ++ piece) = joins bytes (at.line running) in
+    record {
+      reached = λ known. subst (λ x. HasHeld o files x w v d f) (sym done.lines)
+          (held_beside o files (ended_lines bytes) w v d s f beside same
+          (at.reached (subst (λ x. IsKnown (progress o files x)) done.lines known)));
+      line = λ goes_on. done.reads;
+    }
+
+-- a piece up to a line feed, and the answer to the line that it ends
+pub held_ended : (o : Setup) (v u : Option (List ℕ)) (d e : Desk) (s f t : Session)
+    (piece : List ℕ) → s.has_quit ≡ false → ((bytes : List ℕ) → IsReading s.line bytes
+    → HasEnded f.line bytes (bytes ++ piece)) → IsBeside f s → f.text.items ≡ s.text.items
+    → ((files : Option Files) (lines : List Line) (w : Option (List ℕ))
+    → IsKnown (progress o files (lines ++ f.line.line ∷ [])) → HasHeld o files lines w v d f
+    → HasHeld o files (lines ++ f.line.line ∷ []) w u e t) → t.line ≡ unread
+    → TakesHeld o v u d e s t piece
+held_ended o v u d e s f t piece running ends beside same answers next files w bytes at =
+    let done : HasEnded f.line bytes (bytes ++ piece) = ends bytes (at.line running) in
+    record {
+      reached = λ known.
+          let line : IsKnown (progress o files (ended_lines bytes ++ f.line.line ∷ [])) =
+          subst (λ x. IsKnown (progress o files x)) done.lines known in
+          subst (λ x. HasHeld o files x w u e t) (sym done.lines)
+          (answers files (ended_lines bytes) w line
+          (held_beside o files (ended_lines bytes) w v d s f beside same
+          (at.reached (known_before o files (ended_lines bytes) (f.line.line ∷ []) line))));
+      line = λ goes_on. reads_next t.line (bytes ++ piece) next done.rest;
+    }
+
+-- and a halt there
+pub held_halted : {short : Type 0} {T H : Type 0} (r : Result T Stop) (stop : Stop) (o : Setup)
+    (v u : Option (List ℕ)) (d e : H → Desk) (s f : Session) (piece : List ℕ) (k : ℕ)
+    → IsErrAnd r (λ x. x ≡ stop) → s.has_quit ≡ false →
+    ((bytes : List ℕ) → IsReading s.line bytes → HasEnded f.line bytes (bytes ++ take k piece))
+    → IsBeside f s → f.text.items ≡ s.text.items →
+    ((home : H) (files : Option Files) (lines : List Line) (w : Option (List ℕ))
+    → IsKnown (progress o files (lines ++ f.line.line ∷ [])) → HasHeld o files lines w v (d home) f
+    → IsHalted o files (lines ++ f.line.line ∷ []) w u (e home) short (status_of stop)) →
+    IfErr r (λ stop. (home : H)
+    → HaltsHeld o v u (d home) (e home) s (λ bytes. ended_lines (bytes ++ piece)) short
+    (status_of stop))
+held_halted {short} (Ok x) stop o v u d e s f piece k is running ends beside same halts = tt
+held_halted {short} (Err x) stop o v u d e s f piece k is running ends beside same halts =
+    λ home files w bytes at known.
+    let done : HasEnded f.line bytes (bytes ++ take k piece) = ends bytes (at.line running) in
+    let front : IsKnown (progress o files (ended_lines (bytes ++ take k piece))) =
+    known_bytes o files (bytes ++ take k piece) (drop k piece)
+    (subst (λ x. IsKnown (progress o files (ended_lines x))) (sym (parts bytes piece k)) known) in
+    let line : IsKnown (progress o files (ended_lines bytes ++ f.line.line ∷ [])) =
+    subst (λ x. IsKnown (progress o files x)) done.lines front in
+    let h = halts home files (ended_lines bytes) w line
+    (held_beside o files (ended_lines bytes) w v (d home) s f beside same
+    (at.reached (known_before o files (ended_lines bytes) (f.line.line ∷ []) line))) in
+    let halted : IsHalted o files (ended_lines (bytes ++ take k piece)) w u (e home) short
+    (status_of stop) =
+    subst (λ x. IsHalted o files x w u (e home) short (status_of stop)) (sym done.lines) h in
+    subst (λ y. IsHalted o files (ended_lines (bytes ++ piece)) w u (e home) short (status_of y))
+    (sym is)
+    (subst (λ x. IsHalted o files (ended_lines x) w u (e home) short (status_of stop))
+    (parts bytes piece k)
+    (halted_bytes o files (bytes ++ take k piece) (drop k piece) w u (e home) (status_of stop)
+    halted))
+
+-- a session that holds nothing
+pub held_first : (o : Setup) (files : Option Files) (w v : Option (List ℕ)) (d : Desk)
+    (s : Session) (bytes : List ℕ) → s.text.items ≡ [] → IsAt o files w v d s bytes
+    → IsHeldAt o files w v d s bytes
+held_first o files w v d s bytes none at = record {
+  reached = λ known. let here = at.reached known in record {
+    between = here.between;
+    holding = subst (λ x. IsHolding o files (ended_lines bytes) w v x) (sym none)
+        (holding_none o files (ended_lines bytes) w v here.written);
+  };
+  line = at.line;
+}
+
+-- the same before the first byte of a piece
+pub held_start : (o : Setup) (files : Option Files) (w v : Option (List ℕ)) (d : Desk)
+    (s : Session) (bytes piece : List ℕ) → s.text.items ≡ [] → IsAt o files w v d s bytes
+    → IsHeldAt o files w v d s (bytes ++ take 0 piece)
+held_start o files w v d s bytes piece none at =
+    subst (λ x. IsHeldAt o files w v d s x) (sym (append-nil bytes))
+    (held_first o files w v d s bytes none at)
+
+-- a step more through a piece
+pub held_next : (o : Setup) (w v u : Option (List ℕ)) (d e : Desk) (s t : Session)
+    (files : Option Files) (bytes piece rest : List ℕ) (i k : ℕ) → rest ≡ drop i piece →
+    (TakesHeld o v u d e s t (take k rest)) → IsHeldAt o files w v d s (bytes ++ take i piece)
+    → IsHeldAt o files w u e t (bytes ++ take (i + k) piece)
+held_next o w v u d e s t files bytes piece rest i k is step at =
+    subst (λ x. IsHeldAt o files w u e t x) (sym (pieces bytes piece rest i k is))
+    (step files w (bytes ++ take i piece) at)
+
+-- all that was held is written
+pub held_written : (o : Setup) (files : Option Files) (w v u : Option (List ℕ)) (d : Desk)
+    (s t : Session) (bytes : List ℕ) → IsBeside t s → t.line ≡ s.line
+    → u ≡ appended v s.text.items → IsHeldAt o files w v d s bytes → IsAt o files w u d t bytes
+held_written o files w v u d s t bytes beside same wrote at = record {
+  reached = λ known. let here = at.reached known in record {
+    between = between_beside o d s t (progress o files (ended_lines bytes)) beside here.between;
+    written = holding_whole o files (ended_lines bytes) w v u s.text.items here.holding wrote;
+  };
+  line = λ running. subst (λ x. IsReading x bytes) (sym same)
+      (at.line (sym beside.has_quit ∙ running));
+}
+
+-- what was written before a piece are the replies to the lines before it
+replied_since : (o : Setup) (files : Option Files) (w v u : Option (List ℕ)) (d : Desk)
+    (s : Session) (bytes : List ℕ) → IsKnown (progress o files (ended_lines bytes))
+    → IsAt o files w v d s bytes → Adds v u → HasReplied o files bytes w u
+replied_since o files w v u d s bytes known at (more, is) = record {
+  more = more;
+  written = is ∙ ap (λ x. appended x more) (at.reached known).written
+      ∙ appended_twice w (replies_within o files bytes) more;
+}
+
+-- a halt behind a front of a piece
+pub held_within : {T H : Type 0} (r : Result T Stop) (stop : Stop) (o : Setup)
+    (a v u : Option (List ℕ)) (c d e : H → Desk) (s t : Session) (piece rest : List ℕ)
+    (i x y z : ℕ) → y ≡ x → IsErrAnd r (λ x. x ≡ stop) → rest ≡ drop i piece →
+    ((home : H) (files : Option Files) (w : Option (List ℕ)) (bytes : List ℕ)
+    → IsAt o files w a (c home) s bytes → IsHeldAt o files w v (d home) t (bytes ++ take i piece)) →
+    Adds a u →
+    ((home : H) → HaltsHeld o v u (d home) (e home) t (λ bytes. ended_lines (bytes ++ rest))
+    (Rose y z)
+    (status_of stop)) →
+    IfErr r (λ stop. (home : H)
+    → Halts o a u (c home) (e home) s (λ bytes. ended_lines (bytes ++ piece)) (Rose x z)
+    (status_of stop))
+held_within (Ok f) stop o a v u c d e s t piece rest i x y z same is e' goes adds halts = tt
+held_within (Err f) stop o a v u c d e s t piece rest i x y z same is e' goes adds halts =
+    λ home files w bytes at known.
+    let whole : (bytes ++ take i piece) ++ rest ≡ bytes ++ piece =
+    ap (λ x. (bytes ++ take i piece) ++ x) e' ∙ parts bytes piece i in
+    let h = halts home files w (bytes ++ take i piece) (goes home files w bytes at)
+    (subst (λ x. IsKnown (progress o files (ended_lines x))) (sym whole) known) in (
+      subst (λ f. IsHalted o files (ended_lines (bytes ++ piece)) w u (e home) (Rose x z)
+          (status_of f)) (sym is)
+          (subst (λ n. IsHalted o files (ended_lines (bytes ++ piece)) w u (e home) (Rose n z)
+          (status_of stop)) same
+          (subst (λ l. IsHalted o files (ended_lines l) w u (e home) (Rose y z) (status_of stop))
+          whole h)),
+      replied_since o files w a u (c home) s bytes (known_bytes o files bytes piece known) at adds,
+    )
+
+-- a halt where what is held is written, behind a front of a piece
+pub held_unwritten : {short : Type 0} {T H : Type 0} (r : Result T Stop) (fault : SinkFault)
+    (o : Setup)
+    (a v u : Option (List ℕ)) (c d : H → Desk) (s t : Session) (piece : List ℕ) (i : ℕ)
+    → IsErrAnd r (λ x. x ≡ stop_of_sink fault) →
+    ((home : H) (files : Option Files) (w : Option (List ℕ)) (bytes : List ℕ)
+    → IsAt o files w a (c home) s bytes → IsHeldAt o files w v (d home) t (bytes ++ take i piece)) →
+    Adds a u → IsCutOff v u t.text.items → IsShort fault short →
+    IfErr r (λ stop. (home : H)
+    → Halts o a u (c home) (d home) s (λ bytes. ended_lines (bytes ++ piece)) short
+    (status_of stop))
+held_unwritten {short} (Ok x) fault o a v u c d s t piece i is goes adds cut ran = tt
+held_unwritten {short} (Err x) fault o a v u c d s t piece i is goes adds cut ran =
+    λ home files w bytes at known.
+    let front : List ℕ = bytes ++ take i piece in
+    let whole : front ++ drop i piece ≡ bytes ++ piece = parts bytes piece i in
+    let line : IsKnown (progress o files (ended_lines front)) =
+    known_bytes o files front (drop i piece)
+    (subst (λ x. IsKnown (progress o files (ended_lines x))) (sym whole) known) in
+    let h = held_cut o files (ended_lines front) w v u (d home) t fault cut ran
+    ((goes home files w bytes at).reached line) in (
+      subst (λ y. IsHalted o files (ended_lines (bytes ++ piece)) w u (d home) short (status_of y))
+          (sym is)
+          (subst (λ x. IsHalted o files (ended_lines x) w u (d home) short
+          (status_of (stop_of_sink fault))) whole
+          (halted_bytes o files front (drop i piece) w u (d home)
+          (status_of (stop_of_sink fault)) h)),
+      replied_since o files w a u (c home) s bytes (known_bytes o files bytes piece known) at adds,
+    )
+
+-- the last line, which lacks its line feed, answered, and what is held written
+pub held_last : {H : Type 0} (o : Setup) (a v u : Option (List ℕ))
+    (d e : H → Desk) (s t f : Session) (has_rest : Bool) → s.has_quit ≡ false → has_rest ≡ true →
+    s.text.items ≡ [] →
+    ((bytes : List ℕ) → IsReading s.line bytes
+    → last_line (rest_of bytes) ≡ cond has_rest (s.line.line ∷ []) []) →
+    ((home : H) (files : Option Files) (lines : List Line) (w : Option (List ℕ))
+    → IsKnown (progress o files (lines ++ s.line.line ∷ [])) → HasHeld o files lines w a (d home) s
+    → HasHeld o files (lines ++ s.line.line ∷ []) w v (e home) t) →
+    u ≡ appended v t.text.items → IsBeside f t →
+    (home : H) (files : Option Files) (w : Option (List ℕ)) (bytes : List ℕ)
+    → IsAt o files w a (d home) s bytes → IsKnown (progress o files (all_lines bytes))
+    → HasReached o w u (e home) f (progress o files (all_lines bytes))
+held_last o a v u d e s t f has_rest running some none last answers wrote beside
+    home files w bytes at known =
+    let lines : all_lines bytes ≡ ended_lines bytes ++ s.line.line ∷ [] =
+    last_lines bytes s.line.line
+    (standing s bytes has_rest true some (last bytes (at.line running))) in
+    let line : IsKnown (progress o files (ended_lines bytes ++ s.line.line ∷ [])) =
+    subst (λ x. IsKnown (progress o files x)) lines known in
+    let h = answers home files (ended_lines bytes) w line
+    ((held_first o files w a (d home) s bytes none at).reached
+    (known_before o files (ended_lines bytes) (s.line.line ∷ []) line)) in
+    subst (λ x. HasReached o w u (e home) f (progress o files x)) (sym lines) (record {
+      between = between_beside o (e home) t f
+          (progress o files (ended_lines bytes ++ s.line.line ∷ [])) beside h.between;
+      written = holding_whole o files (ended_lines bytes ++ s.line.line ∷ []) w v u t.text.items
+          h.holding wrote;
+    })
+
+-- a halt at it
+pub last_halted : {short : Type 0} {T H : Type 0} (r : Result T Stop) (stop : Stop) (o : Setup)
+    (a u : Option (List ℕ)) (d e : H → Desk) (s : Session) (has_rest : Bool)
+    → IsErrAnd r (λ x. x ≡ stop) → s.has_quit ≡ false → has_rest ≡ true → s.text.items ≡ [] →
+    ((bytes : List ℕ) → IsReading s.line bytes
+    → last_line (rest_of bytes) ≡ cond has_rest (s.line.line ∷ []) []) → Adds a u →
+    ((home : H) (files : Option Files) (lines : List Line) (w : Option (List ℕ))
+    → IsKnown (progress o files (lines ++ s.line.line ∷ [])) → HasHeld o files lines w a (d home) s
+    → IsHalted o files (lines ++ s.line.line ∷ []) w u (e home) short (status_of stop)) →
+    IfErr r (λ stop. (home : H) → Halts o a u (d home) (e home) s all_lines short (status_of stop))
+last_halted {short} (Ok x) stop o a u d e s has_rest is running some none last adds halts = tt
+last_halted {short} (Err x) stop o a u d e s has_rest is running some none last adds halts =
+    λ home files w bytes at known.
+    let lines : all_lines bytes ≡ ended_lines bytes ++ s.line.line ∷ [] =
+    last_lines bytes s.line.line
+    (standing s bytes has_rest true some (last bytes (at.line running))) in
+    let line : IsKnown (progress o files (ended_lines bytes ++ s.line.line ∷ [])) =
+    subst (λ x. IsKnown (progress o files x)) lines known in
+    let before : IsKnown (progress o files (ended_lines bytes)) =
+    known_before o files (ended_lines bytes) (s.line.line ∷ []) line in
+    let h = halts home files (ended_lines bytes) w line
+    ((held_first o files w a (d home) s bytes none at).reached before) in (
+      subst (λ y. IsHalted o files (all_lines bytes) w u (e home) short (status_of y)) (sym is)
+          (subst (λ y. IsHalted o files y w u (e home) short (status_of stop)) (sym lines) h),
+      replied_since o files w a u (d home) s bytes before at adds,
+    )
+
+-- what is held can't be written, behind the last line
+pub last_unwritten : {short : Type 0} {H : Type 0} (o : Setup) (a v u : Option (List ℕ))
+    (fault : SinkFault)
+    (d e : H → Desk) (s t : Session) (line : Line) → IsCutOff v u t.text.items
+    → IsShort fault short →
+    ((home : H) (files : Option Files) (lines : List Line) (w : Option (List ℕ))
+    → IsKnown (progress o files (lines ++ line ∷ [])) → HasHeld o files lines w a (d home) s
+    → HasHeld o files (lines ++ line ∷ []) w v (e home) t) →
+    (home : H) (files : Option Files) (lines : List Line) (w : Option (List ℕ))
+    → IsKnown (progress o files (lines ++ line ∷ [])) → HasHeld o files lines w a (d home) s
+    → IsHalted o files (lines ++ line ∷ []) w u (e home) short (status_of (stop_of_sink fault))
+last_unwritten o a v u fault d e s t line cut ran answers home files lines w known at =
+    held_cut o files (lines ++ line ∷ []) w v u (e home) t fault cut ran
+    (answers home files lines w known at)
