@@ -1,0 +1,10 @@
+mod AsBox
+pub mod Chains
+pub mod Fronts
+pub mod Handles
+pub mod Models
+pub mod Opened
+pub mod Reaches
+pub mod Sights
+pub mod Tellings
+pub mod Walks

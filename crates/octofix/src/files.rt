@@ -1,0 +1,255 @@
+//! Files of maps and snapshots, as bytes.
+ghost use Rattle.std.specs.Prelude.{◌≡◌, ◌≢◌, ◌⊎◌, ◌≤◌, ⊤, length, IfOk, IsSome, None, Ok, Err};
+ghost use Rattle.std.specs.Prelude.{OnOk, OnErr};
+ghost use Rattle.oct_bt.specs.File.{reading};
+ghost use Rattle.oct_bt.specs.declared.fault.BtFault.{BtFault};
+ghost use Rattle.octofix.specs.Asked.{IsAnswered, IsReached, asked};
+ghost use Rattle.octofix.specs.Buffers.{HasFit, IsListTold, filled, room_code};
+ghost use Rattle.octofix.specs.Changed.{Left};
+ghost use Rattle.octofix.specs.Files.{IsLoadedFrom, IsRestoredFrom, NeedsGroups, file_of, loading};
+ghost use Rattle.octofix.specs.Files.{restoring, snapshot_of};
+
+use crate::answers::{code_of, details_of};
+use crate::handle::Octofix;
+use crate::refusal::{DONE, MEMORY, Refusal, SMALL_BUFFER};
+use crate::types::Details;
+use oct_bt::{BtFault, BtFile, Reader};
+use oct_io::{CalmSink, Sink, SinkFault};
+use oct_map::{MapFault, OccMap};
+use oct_num::Memory;
+use std::alloc::Global;
+
+/// The most bytes that are written at once.
+const MOST_WRITTEN: usize = 4096;
+
+/// A sink that keeps nothing, for the lengths of what is written.
+#[derive(Drop)]
+struct NoSink;
+
+impl Sink for NoSink {
+    ghost written = { λ _. None };
+
+    ghost faults = { λ _. 0 };
+
+    ghost shortages = { λ _. 0 };
+
+    fn write(&mut self, piece: &[u8]) -> Result<usize, SinkFault> {
+        Ok(piece.len())
+    }
+}
+
+/// How long the binary file of a map's classes is.
+fn file_len(map: &OccMap) -> u64
+    ensures { result ≡ length (file_of map.now) }
+{
+    oct_bt::encoded_len(map.tree())
+}
+
+/// How long the snapshot of a map is.
+fn snapshot_len(map: &OccMap) -> u64
+    ensures { result ≡ length (snapshot_of map.now) }
+{
+    match oct_snap::write(map.tree(), map.window(), &mut NoSink) {
+        Ok(length) => length,
+        Err(_) => unreachable!(),
+    }
+}
+
+/// The binary file of a map's classes, in memory.
+fn encode(alloc: Global, map: &OccMap) -> Result<CalmSink, Memory>
+    ensures { IfOk result (λ sink. sink.written ≡ file_of map.now) }
+{
+    let mut sink = CalmSink::new(alloc, MOST_WRITTEN);
+    if oct_bt::write(map.tree(), &mut sink).is_err() {
+        return Err(Memory);
+    }
+    Ok(sink)
+}
+
+/// The snapshot of a map, in memory.
+fn encode_snapshot(alloc: Global, map: &OccMap) -> Result<CalmSink, Memory>
+    ensures { IfOk result (λ sink. sink.written ≡ snapshot_of map.now) }
+{
+    let mut sink = CalmSink::new(alloc, MOST_WRITTEN);
+    if oct_snap::write(map.tree(), map.window(), &mut sink).is_err() {
+        return Err(Memory);
+    }
+    Ok(sink)
+}
+
+/// Puts bytes to the front of a buffer, and tells how many there are.
+fn put_bytes(text: &[u8], bytes: &mut [u8], len: &mut usize) -> u32
+    ensures code { result ≡ room_code (length bytes.old) (length text.now) }
+    ensures bytes { bytes.new ≡ filled bytes.old text.now }
+    ensures len { len.new ≡ length text.now }
+{
+    *len = text.len();
+    if bytes.len() < text.len() {
+        return SMALL_BUFFER;
+    }
+    bytes[..text.len()].copy_from_slice(text);
+    DONE
+}
+
+/// Puts the binary file of a map's classes to the front of a buffer.
+fn save(alloc: Global, map: &OccMap, bytes: &mut [u8], len: &mut usize) -> u32
+    ensures { IsListTold (Ok (file_of map.now)) (length (file_of map.now) ≤ length bytes.old)
+        result bytes.old bytes.new len.old len.new }
+{
+    let total = file_len(map);
+    if (bytes.len() as u64) < total {
+        *len = total as usize;
+        return SMALL_BUFFER;
+    }
+    match encode(alloc, map) {
+        Ok(sink) => put_bytes(sink.written(), bytes, len),
+        Err(Memory) => MEMORY,
+    }
+}
+
+/// Puts the snapshot of a map to the front of a buffer.
+fn snapshot(alloc: Global, map: &OccMap, bytes: &mut [u8], len: &mut usize) -> u32
+    ensures { IsListTold (Ok (snapshot_of map.now))
+        (length (snapshot_of map.now) ≤ length bytes.old)
+        result bytes.old bytes.new len.old len.new }
+{
+    let total = snapshot_len(map);
+    if (bytes.len() as u64) < total {
+        *len = total as usize;
+        return SMALL_BUFFER;
+    }
+    match encode_snapshot(alloc, map) {
+        Ok(sink) => put_bytes(sink.written(), bytes, len),
+        Err(Memory) => MEMORY,
+    }
+}
+
+/// The file of classes that these bytes are, or what is wrong with them.
+fn read(alloc: Global, bytes: &[u8]) -> Result<BtFile, BtFault>
+    ensures { (result ≡ reading bytes.now) ⊎ (result ≡ Err BtFault.Memory) }
+{
+    let mut reader = Reader::new(alloc);
+    reader.feed(bytes)?;
+    reader.finish()
+}
+
+/// Gives each voxel the value of its class in the binary file of these bytes.
+fn load(alloc: Global, map: &mut OccMap, bytes: &[u8]) -> Result<(), Refusal>
+    ensures answer { IsReached (loading bytes.now map.old) ⊤ result }
+    ensures loaded { OnOk result (IsLoadedFrom bytes.now map.old map.new) }
+    ensures refused { OnErr result (map.new ≡ map.old) }
+{
+    let file = match read(alloc, bytes) {
+        Ok(file) => file,
+        Err(BtFault::Memory) => return Err(Refusal::Map(MapFault::Memory)),
+        Err(fault) => return Err(Refusal::File(fault)),
+    };
+    map.load(&file)?;
+    Ok(())
+}
+
+/// Makes a map that of the snapshot of these bytes.
+fn restore(map: &mut OccMap, bytes: &[u8]) -> Result<u64, Refusal>
+    ensures answer { IsReached (restoring bytes.now map.old)
+        (NeedsGroups (restoring bytes.now map.old)) result }
+    ensures restored { OnOk result (IsRestoredFrom bytes.now map.old map.new) }
+    ensures refused { OnErr result (map.new ≡ map.old) }
+{
+    let groups = map.restore(bytes)?;
+    Ok(groups)
+}
+
+/// Puts the binary file of the map's classes to the front of a buffer, and tells its length.
+#[unsafe(no_mangle)]
+pub extern "C" fn octofix_save(
+    alloc: Global,
+    map: &mut Octofix,
+    bytes: &mut [u8],
+    len: &mut usize,
+) -> u32
+    ensures same { map.new ≡ map.old }
+    ensures told { IsListTold (asked map.old.slot.map (λ m. Ok (file_of m)))
+        (HasFit (length bytes.old) (asked map.old.slot.map (λ m. Ok (file_of m))))
+        result bytes.old bytes.new len.old len.new }
+{
+    match map.map_mut() {
+        Ok(map) => save(alloc, map, bytes, len),
+        Err(refusal) => refusal.code(),
+    }
+}
+
+/// Puts the snapshot of the map to the front of a buffer, with its log-odds and its box, and tells
+/// its length.
+#[unsafe(no_mangle)]
+pub extern "C" fn octofix_snapshot(
+    alloc: Global,
+    map: &mut Octofix,
+    bytes: &mut [u8],
+    len: &mut usize,
+) -> u32
+    ensures same { map.new ≡ map.old }
+    ensures told { IsListTold (asked map.old.slot.map (λ m. Ok (snapshot_of m)))
+        (HasFit (length bytes.old) (asked map.old.slot.map (λ m. Ok (snapshot_of m))))
+        result bytes.old bytes.new len.old len.new }
+{
+    match map.map_mut() {
+        Ok(map) => snapshot(alloc, map, bytes, len),
+        Err(refusal) => refusal.code(),
+    }
+}
+
+/// Loads into the map of a handle.
+fn load_into(alloc: Global, handle: &mut Octofix, bytes: &[u8]) -> Result<(), Refusal>
+    ensures answer { IsReached (asked handle.old.slot.map (loading bytes.now))
+        (IsSome handle.old.slot.map) result }
+    ensures loaded { OnOk result
+        (Left handle.old handle.new (IsLoadedFrom bytes.now)) }
+    ensures refused { OnErr result (handle.new ≡ handle.old) }
+{
+    load(alloc, handle.map_mut()?, bytes)
+}
+
+/// Gives each voxel the value of its class in the binary file of these bytes. The map isn't stale
+/// then, and has no mark. Where it is refused the map stays as it was.
+#[unsafe(no_mangle)]
+pub extern "C" fn octofix_load(
+    alloc: Global,
+    map: &mut Octofix,
+    bytes: &[u8],
+    details: &mut Details,
+) -> u32
+    ensures answer { IsAnswered (asked map.old.slot.map (loading bytes.now))
+        (IsSome map.old.slot.map) result details.new }
+    ensures loaded { result ≡ DONE
+        → Left map.old map.new (IsLoadedFrom bytes.now) }
+    ensures refused { result ≢ DONE → map.new ≡ map.old }
+{
+    let answer = load_into(alloc, map, bytes);
+    *details = details_of(&answer);
+    code_of(&answer)
+}
+
+/// Restores into the map of a handle.
+fn restore_into(handle: &mut Octofix, bytes: &[u8]) -> Result<u64, Refusal>
+    ensures answer { IsReached (asked handle.old.slot.map (restoring bytes.now))
+        (NeedsGroups (asked handle.old.slot.map (restoring bytes.now))) result }
+    ensures restored { OnOk result
+        (Left handle.old handle.new (IsRestoredFrom bytes.now)) }
+    ensures refused { OnErr result (handle.new ≡ handle.old) }
+{
+    restore(handle.map_mut()?, bytes)
+}
+
+/// Makes the map that of the snapshot of these bytes. Where that is refused it stays as it was.
+#[unsafe(no_mangle)]
+pub extern "C" fn octofix_restore(map: &mut Octofix, bytes: &[u8], details: &mut Details) -> u32
+    ensures answer { IsAnswered (asked map.old.slot.map (restoring bytes.now))
+        (NeedsGroups (asked map.old.slot.map (restoring bytes.now))) result details.new }
+    ensures restored { result ≡ DONE
+        → Left map.old map.new (IsRestoredFrom bytes.now) }
+    ensures refused { result ≢ DONE → map.new ≡ map.old }
+{
+    let answer = restore_into(map, bytes);
+    *details = details_of(&answer);
+    code_of(&answer)
+}

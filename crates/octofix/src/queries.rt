@@ -1,0 +1,97 @@
+//! What is known at points.
+ghost use Rattle.std.specs.Prelude.{◌≡◌, length};
+ghost use Rattle.octofix.specs.Asked.{asked};
+ghost use Rattle.octofix.specs.Buffers.{list_code, list_left};
+ghost use Rattle.octofix.specs.Queries.{answer_told, answers_at, value_at, value_code, value_left};
+
+use crate::handle::Octofix;
+use crate::refusal::{DONE, Refusal, SMALL_BUFFER, UNKNOWN};
+use crate::types::{PointAnswer, PointNm};
+use oct_map::OccMap;
+
+/// Tells the value at a point.
+fn get(map: &OccMap, point: &PointNm, depth: u32, value: &mut i32) -> u32
+    ensures code { result ≡ value_code (value_at depth point.now map.now) }
+    ensures value { value.new ≡ value_left value.old (value_at depth point.now map.now) }
+{
+    match map.get(point.point(), depth) {
+        Ok(Some(known)) => {
+            *value = known;
+            DONE
+        }
+        Ok(None) => UNKNOWN,
+        Err(fault) => Refusal::Map(fault).code(),
+    }
+}
+
+/// What a point of many is answered.
+fn answer_at(map: &OccMap, point: &PointNm, depth: u32) -> PointAnswer
+    ensures { result ≡ answer_told (value_at depth point.now map.now) }
+{
+    match map.get(point.point(), depth) {
+        Ok(Some(value)) => PointAnswer { value, code: DONE },
+        Ok(None) => PointAnswer {
+            value: 0,
+            code: UNKNOWN,
+        },
+        Err(fault) => PointAnswer {
+            value: 0,
+            code: Refusal::Map(fault).code(),
+        },
+    }
+}
+
+/// Tells what each point is answered.
+fn get_all(map: &OccMap, points: &[PointNm], depth: u32, answers: &mut [PointAnswer]) -> u32
+    ensures code { result
+        ≡ list_code (length answers.old) (answers_at depth points.now map.now) }
+    ensures answers { answers.new
+        ≡ list_left answers.old (answers_at depth points.now map.now) }
+{
+    if answers.len() < points.len() {
+        return SMALL_BUFFER;
+    }
+    for (i, point) in points.iter().enumerate() {
+        answers[i] = answer_at(map, point, depth);
+    }
+    DONE
+}
+
+/// The largest known value among the voxels of the block of that depth around the point.
+#[unsafe(no_mangle)]
+pub extern "C" fn octofix_get(
+    map: &mut Octofix,
+    point: &PointNm,
+    depth: u32,
+    value: &mut i32,
+) -> u32
+    ensures same { map.new ≡ map.old }
+    ensures code { result ≡ value_code (asked map.old.slot.map (value_at depth point.now)) }
+    ensures value { value.new
+        ≡ value_left value.old (asked map.old.slot.map (value_at depth point.now)) }
+{
+    match map.map_mut() {
+        Ok(map) => get(map, point, depth, value),
+        Err(refusal) => refusal.code(),
+    }
+}
+
+/// The same of many points, each with a code of its own.
+#[unsafe(no_mangle)]
+pub extern "C" fn octofix_get_all(
+    map: &mut Octofix,
+    points: &[PointNm],
+    depth: u32,
+    answers: &mut [PointAnswer],
+) -> u32
+    ensures same { map.new ≡ map.old }
+    ensures code { result
+        ≡ list_code (length answers.old) (asked map.old.slot.map (answers_at depth points.now)) }
+    ensures answers { answers.new
+        ≡ list_left answers.old (asked map.old.slot.map (answers_at depth points.now)) }
+{
+    match map.map_mut() {
+        Ok(map) => get_all(map, points, depth, answers),
+        Err(refusal) => refusal.code(),
+    }
+}

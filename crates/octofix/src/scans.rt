@@ -1,0 +1,168 @@
+//! Scans.
+ghost use Rattle.std.specs.Prelude.{◌≡◌, ◌^◌, ◌≤ℤ◌, ◌<ℤ◌, pos, [], All, Ok, Err, map, IfOk, IfErr};
+ghost use Rattle.std.specs.Prelude.{IfSome, IsTrue};
+ghost use Rattle.oct_pose.specs.Reach.{IsInReach};
+ghost use Rattle.oct_scan.specs.Beam.{IsTrust};
+ghost use Rattle.octofix.specs.Changed.{IsDone, IsValueTold};
+ghost use Rattle.octofix.specs.Points.{point_of};
+ghost use Rattle.octofix.specs.Scans.{IsRead, IsScan};
+ghost use Rattle.octofix.specs.Sightings.{is_in_reach, points_from, range_from, sighting_from};
+ghost use Rattle.octofix.specs.Sightings.{trust_from};
+
+use crate::answers::{details_of, tell};
+use crate::handle::Octofix;
+use crate::refusal::Refusal;
+use crate::types::{Counted, Details, PointNm, PoseNm, ScanOptions};
+use oct_key::{Point, PointList};
+use oct_num::Memory;
+use oct_odds::OddsField;
+use oct_pose::Pose;
+use oct_scan::{Scan, ScanOdds};
+use std::alloc::Global;
+
+/// The magnitude of each coordinate, and a range, is below this: 10,000 km.
+const REACH: u64 = 10_000_000_000_000_000;
+
+/// The largest magnitude of log-odds of a scan's own.
+const MOST: i32 = 1_000_000;
+
+/// Whether a point isn't too far away to be turned and moved.
+fn is_in_reach(p: Point) -> bool
+    ensures exact { result ≡ is_in_reach p }
+    ensures near { IsTrue result → IsInReach p }
+{
+    p.x.unsigned_abs() < REACH && p.y.unsigned_abs() < REACH && p.z.unsigned_abs() < REACH
+}
+
+/// The points, in one piece of memory.
+fn copied(alloc: Global, points: &[PointNm]) -> Result<PointList, Memory>
+    ensures exact { IfOk result (λ list. list ≡ map point_of points.now) }
+    ensures memory { IfErr result (λ _. points.now ≡ [] → ⊥) }
+{
+    let mut list = Vec::with_capacity(alloc, points.len())?;
+    for place in points {
+        list.push(place.point())?;
+    }
+    Ok(PointList::from(list))
+}
+
+/// The first point out of reach is refused.
+fn test_points(points: &[PointNm]) -> Result<(), Refusal>
+    ensures near { IfOk result (λ _. (points_from points.now ≡ Ok (map point_of points.now))
+        × All IsInReach (map point_of points.now)) }
+    ensures far { IfErr result (λ refusal. points_from points.now ≡ Err refusal) }
+{
+    for (index, place) in points.iter().enumerate() {
+        if !is_in_reach(place.point()) {
+            return Err(Refusal::BadArgument {
+                index: index as u64,
+            });
+        }
+    }
+    Ok(())
+}
+
+/// The range, where it isn't negative.
+fn range_of(range: i64) -> Result<Option<i64>, Refusal>
+    ensures exact { result ≡ range_from range }
+    ensures bounds { IfOk result
+        (λ some. IfSome some (λ r. (pos 0 ≤ℤ r) × (r <ℤ pos (10 ^ 16)))) }
+{
+    if range < 0 {
+        return Ok(None);
+    }
+    if range.unsigned_abs() >= REACH {
+        return Err(Refusal::BadArgument { index: 0 });
+    }
+    Ok(Some(range))
+}
+
+/// The log-odds of a scan's own, or none where both are 0.
+fn odds_of(hit: i32, miss: i32) -> Result<Option<ScanOdds>, Refusal>
+    ensures exact { result ≡ trust_from hit miss }
+    ensures trust { IfOk result (λ some. IfSome some IsTrust) }
+{
+    if hit == 0 && miss == 0 {
+        return Ok(None);
+    }
+    if !(1..=MOST).contains(&hit) {
+        return Err(Refusal::BadModel {
+            which: OddsField::Hit,
+        });
+    }
+    if !(-MOST..=-1).contains(&miss) {
+        return Err(Refusal::BadModel {
+            which: OddsField::Miss,
+        });
+    }
+    Ok(Some(ScanOdds { hit, miss }))
+}
+
+/// What C passes, as a scan.
+fn scan_of(
+    alloc: Global,
+    pose: PoseNm,
+    points: &[PointNm],
+    options: ScanOptions,
+) -> Result<Scan, Refusal>
+    ensures { IsRead (sighting_from pose points.now options) points.now result }
+{
+    let origin = pose.at.point();
+    if !is_in_reach(origin) {
+        return Err(Refusal::BadArgument { index: 0 });
+    }
+    test_points(points)?;
+    let range = range_of(options.range)?;
+    let pose = Pose::new(origin, pose.w, pose.x, pose.y, pose.z)?;
+    let odds = odds_of(options.hit, options.miss)?;
+    let points = copied(alloc, points)?;
+    Ok(Scan {
+        pose,
+        points,
+        range,
+        odds,
+    })
+}
+
+/// Scans the map of a handle.
+fn scan(
+    alloc: Global,
+    handle: &mut Octofix,
+    pose: PoseNm,
+    points: &[PointNm],
+    options: ScanOptions,
+) -> Result<Counted, Refusal>
+    ensures { IsDone handle.old handle.new (IsScan pose points.now options)
+        result }
+{
+    let map = handle.map_mut()?;
+    let scan = scan_of(alloc, pose, points, options)?;
+    let done = map.scan(&scan, options.lazy)?;
+    Ok(Counted {
+        hits: done.hits,
+        frees: done.frees,
+    })
+}
+
+/// Does a scan of points in the sensor's frame, and tells how many voxels it hit and freed.
+///
+/// It is refused where the handle has no map, for a number out of its range, for the quaternion 0,
+/// for its own log-odds, for its origin outside the map, for the first beam that ends outside or
+/// with which too many voxels are met, where the map is full, and where memory runs out.
+#[unsafe(no_mangle)]
+pub extern "C" fn octofix_scan(
+    alloc: Global,
+    map: &mut Octofix,
+    pose: &PoseNm,
+    points: &[PointNm],
+    options: &ScanOptions,
+    counted: &mut Counted,
+    details: &mut Details,
+) -> u32
+    ensures { IsValueTold map.old map.new
+        (IsScan pose.now points.now options.now) result details.new counted.old counted.new }
+{
+    let answer = scan(alloc, map, *pose, points, *options);
+    *details = details_of(&answer);
+    tell(&answer, counted)
+}
