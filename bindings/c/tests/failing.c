@@ -1,0 +1,269 @@
+/* Lets each allocation fail in turn, in every call that changes a map or lists things. A call then
+ * answers that memory ran out, with the map as it was, or it was done all the same; at the end all
+ * memory is given back. The other calls take no memory. Needs the linker's --wrap of malloc,
+ * calloc, realloc and free. */
+#include "expect.h"
+
+static long to_go = -1; /* how many allocations still pass, or all */
+static long made;       /* allocations so far */
+static long live;       /* blocks that aren't given back */
+
+void *__real_malloc(size_t size);
+void *__real_calloc(size_t count, size_t size);
+void *__real_realloc(void *old, size_t size);
+void __real_free(void *old);
+void *__wrap_malloc(size_t size);
+void *__wrap_calloc(size_t count, size_t size);
+void *__wrap_realloc(void *old, size_t size);
+void __wrap_free(void *old);
+
+static bool passes(void) {
+    made++;
+    return to_go < 0 || to_go-- > 0;
+}
+
+static void *counted_block(void *block) {
+    live += block != NULL;
+    return block;
+}
+
+void *__wrap_malloc(size_t size) { return passes() ? counted_block(__real_malloc(size)) : NULL; }
+
+void *__wrap_calloc(size_t count, size_t size) {
+    return passes() ? counted_block(__real_calloc(count, size)) : NULL;
+}
+
+void *__wrap_realloc(void *old, size_t size) {
+    if (!passes()) return NULL;
+    void *block = __real_realloc(old, size);
+    live += block != NULL && old == NULL;
+    return block;
+}
+
+void __wrap_free(void *old) {
+    live -= old != NULL;
+    __real_free(old);
+}
+
+enum { POINTS = 40, ROOM = 1 << 17 };
+
+static octofix_details details;
+static octofix_point points[POINTS];
+static octofix_edit_t edits[POINTS];
+static octofix_block blocks[ROOM];
+static octofix_change changes[ROOM];
+static octofix_key keys[ROOM];
+static uint8_t buffer[ROOM], file[ROOM], snapshot[ROOM];
+static size_t file_length, snapshot_length;
+
+static uint32_t scan(octofix_map *map) {
+    octofix_counted counted;
+    return octofix_scan(map, &ahead, points, POINTS, &no_range, &counted, &details);
+}
+static uint32_t edit(octofix_map *map) {
+    return octofix_edit(map, &points[7], OCTOFIX_SET, 77, false, &details);
+}
+static uint32_t edit_box(octofix_map *map) {
+    const octofix_point low = at(-900, -900, -900), high = at(900, 800, 700);
+    return octofix_edit_box(map, &low, &high, OCTOFIX_ADD, 100, &details);
+}
+static uint32_t edit_all(octofix_map *map) {
+    size_t done = 0;
+    const uint32_t code = octofix_edit_all(map, edits, 1, false, &done, &details);
+    EXPECT(done, code == OCTOFIX_DONE ? 1 : 0);
+    return code;
+}
+static uint32_t load(octofix_map *map) { return octofix_load(map, file, file_length, &details); }
+static uint32_t restore(octofix_map *map) {
+    return octofix_restore(map, snapshot, snapshot_length, &details);
+}
+static uint32_t clear(octofix_map *map) { return octofix_clear(map); }
+static uint32_t refresh(octofix_map *map) { return octofix_refresh(map); }
+static uint32_t prune(octofix_map *map) { return octofix_prune(map); }
+static uint32_t max_likelihood(octofix_map *map) { return octofix_max_likelihood(map); }
+static uint32_t track(octofix_map *map) { return octofix_track(map); }
+static uint32_t counts(octofix_map *map) {
+    octofix_counts least;
+    return octofix_counts_of(map, &least);
+}
+static uint32_t leaves(octofix_map *map) {
+    size_t count;
+    return octofix_leaves(map, blocks, ROOM, &count);
+}
+static uint32_t leaves_in(octofix_map *map) {
+    const octofix_point low = at(0, 0, -1000), high = at(1500, 900, 700);
+    size_t count;
+    return octofix_leaves_in(map, &low, &high, blocks, ROOM, &count, &details);
+}
+static uint32_t list(octofix_map *map) {
+    const octofix_point low = at(0, 0, -1000), high = at(1500, 900, 700);
+    size_t count;
+    return octofix_list(map, &low, &high, 15, blocks, ROOM, &count, &details);
+}
+static uint32_t list_changes(octofix_map *map) {
+    size_t count;
+    const uint32_t code = octofix_changes(map, changes, ROOM, &count);
+    return code == OCTOFIX_NOT_TRACKED ? OCTOFIX_DONE : code;
+}
+static uint32_t save(octofix_map *map) {
+    size_t length;
+    return octofix_save(map, buffer, ROOM, &length);
+}
+static uint32_t take_snapshot(octofix_map *map) {
+    size_t length;
+    return octofix_snapshot(map, buffer, ROOM, &length);
+}
+
+static uint32_t (*const calls[])(octofix_map *) = {
+    scan,   edit,           edit_box, edit_all,  load, restore, clear,        refresh, prune,
+    counts, max_likelihood, leaves,   leaves_in, list, save,    list_changes, track,
+    take_snapshot};
+
+/* A map that is scanned, and tracked where that is wanted. */
+static octofix_map scanned(bool is_tracked) {
+    octofix_map map = opened(&default_odds, &default_limits);
+    if (is_tracked) octofix_track(&map);
+    EXPECT(scan(&map), OCTOFIX_DONE);
+    return map;
+}
+
+static size_t values_of(const octofix_map *map, uint8_t *bytes) {
+    size_t length = 0;
+    EXPECT(octofix_snapshot(map, bytes, ROOM, &length), OCTOFIX_DONE);
+    return length;
+}
+
+/* Lets the allocations of one call fail, each in turn; how many calls answered so. */
+static long fail_each(uint32_t (*call)(octofix_map *), bool is_tracked) {
+    static uint8_t before[ROOM], after[ROOM];
+    long told = 0;
+    for (long passing = 0;; passing++) {
+        octofix_map map = scanned(is_tracked);
+        octofix_settings was, is;
+        const size_t length = values_of(&map, before);
+        octofix_settings_of(&map, &was);
+        to_go = passing;
+        const long made_before = made;
+        const uint32_t code = call(&map);
+        const bool has_failed = made - made_before > passing;
+        to_go = -1;
+        if (code == OCTOFIX_MEMORY) {
+            told++;
+            EXPECT(details.first + details.second, 0);
+            EXPECT(values_of(&map, after), length);
+            EXPECT(memcmp(before, after, length), 0);
+            octofix_settings_of(&map, &is);
+            EXPECT(is.is_stale, was.is_stale);
+            EXPECT(is.is_tracked, was.is_tracked);
+        } else {
+            EXPECT(code, OCTOFIX_DONE);
+        }
+        octofix_close(&map);
+        EXPECT(live, 0);
+        if (!has_failed) return told;
+    }
+}
+
+/* Lets the allocations of many edits fail, each in turn: those that were done stand, and no other.
+ * How many calls answered so. */
+static long fail_edits(void) {
+    static uint8_t came[ROOM], wanted[ROOM];
+    long told = 0;
+    for (long passing = 0;; passing++) {
+        octofix_map map = opened(&default_odds, &default_limits);
+        octofix_map same = opened(&default_odds, &default_limits);
+        size_t done = 0;
+        octofix_track(&map); /* so that edits take more memory as they go */
+        to_go = passing;
+        const uint32_t code = octofix_edit_all(&map, edits, POINTS, false, &done, &details);
+        to_go = -1;
+        EXPECT(code == OCTOFIX_MEMORY ? done < POINTS : done == POINTS, true);
+        for (size_t i = 0; i < done; i++)
+            EXPECT(octofix_edit(&same, &edits[i].point, edits[i].event, edits[i].number, false,
+                                &details),
+                   OCTOFIX_DONE);
+        const size_t length = values_of(&same, wanted);
+        EXPECT(values_of(&map, came), length);
+        EXPECT(memcmp(came, wanted, length), 0);
+        octofix_close(&same);
+        octofix_close(&map);
+        EXPECT(live, 0);
+        if (code != OCTOFIX_MEMORY) return told;
+        told++;
+    }
+}
+
+/* The calls that take no memory, without any. */
+static void ask_without_memory(void) {
+    octofix_map map = scanned(true);
+    const octofix_segment way = {points[0], points[39]};
+    octofix_settings settings;
+    octofix_answer answer;
+    octofix_stop stop;
+    octofix_key key;
+    octofix_box box;
+    uint64_t held;
+    int32_t value;
+    size_t count;
+    to_go = 0;
+    const long made_before = made;
+    EXPECT(octofix_get(&map, &points[0], 16, &value), 0);
+    EXPECT(octofix_get_all(&map, points, 1, 16, &answer, 1), 0);
+    EXPECT(octofix_cast(&map, &ahead.at, &points[0], false, &key, &details), 0);
+    EXPECT(octofix_cast_all(&map, &way, 1, true, &stop, 1), 0);
+    EXPECT(octofix_bounds(&map, OCTOFIX_OCCUPIED_VOXELS, &box), 0);
+    EXPECT(octofix_ray(RES, &way.origin, &way.end, keys, ROOM, &count, &details), 0);
+    EXPECT(octofix_settings_of(&map, &settings), 0);
+    EXPECT(octofix_memory(&map, &held), 0);
+    EXPECT(octofix_limit(&map, &points[0], &points[0], &details), 0);
+    EXPECT(octofix_window(&map, &box), 0);
+    EXPECT(octofix_no_limit(&map), 0);
+    EXPECT(octofix_untrack(&map), 0);
+    EXPECT(made, made_before);
+    to_go = -1;
+    octofix_close(&map);
+    EXPECT(live, 0);
+}
+
+static long fail_open(void) {
+    octofix_map map = {0};
+    long told = 0;
+    for (to_go = 0;; told++) {
+        const long passing = to_go;
+        const uint32_t code =
+            octofix_open(&map, RES, &default_odds, &default_limits, &details);
+        to_go = -1;
+        if (code == OCTOFIX_DONE) break;
+        EXPECT(code, OCTOFIX_MEMORY);
+        EXPECT(map.is_open, false);
+        EXPECT(live, 0);
+        to_go = passing + 1;
+    }
+    octofix_close(&map);
+    EXPECT(live, 0);
+    return told;
+}
+
+int main(void) {
+    for (int i = 0; i < POINTS; i++) {
+        points[i] = at(1000 + 50 * i, 70 * i, -30 * i);
+        edits[i] = (octofix_edit_t){at(-80000 * i, 70000 * i, 60000 * i), OCTOFIX_SET, i};
+    }
+    octofix_map map = scanned(false);
+    EXPECT(octofix_save(&map, file, ROOM, &file_length), OCTOFIX_DONE);
+    EXPECT(octofix_snapshot(&map, snapshot, ROOM, &snapshot_length), OCTOFIX_DONE);
+    octofix_close(&map);
+    EXPECT(live, 0);
+    made = 0;
+    long told = fail_open();
+    for (size_t i = 0; i < sizeof calls / sizeof *calls; i++) {
+        details.first = details.second = 0;
+        told += fail_each(calls[i], false);
+        told += fail_each(calls[i], true);
+    }
+    told += fail_edits();
+    ask_without_memory();
+    printf("failing: %ld allocations, %ld calls told that memory ran out, %d failed\n", made, told,
+           failed);
+    return failed != 0 || told == 0;
+}

@@ -1,0 +1,765 @@
+// octofix.hpp: the occupancy map of octofix.h for C++17.
+//
+//     octofix::map world(0.1);                                          // voxels of 0.1 m
+//     world.scan(octofix::pose_at(0, 0, 0.5), octofix::metres(cloud));  // any points with x, y, z
+//     if (auto value = world.get(octofix::metres(2, 0, 0.5))) { .. }    // known, and how sure
+//     for (const auto &leaf : world.leaves()) { .. }
+//
+// Units. Points are octofix_point, in whole nanometres, and metres() makes them: a number of metres
+// is multiplied by 10^9 in double and rounded to the nearest whole number, halves away from zero. A
+// number that isn't finite, or of magnitude 10^7 or more, and a range below 0, is refused by
+// bad_length, which has the index of the first point at fault; that happens before the map is
+// called. What is known of a voxel, its value, is in thousandths of log-odds, as in octofix.h.
+//
+// Errors. A call that the map refuses throws refused, with the code of octofix.h, its name and its
+// details; where memory runs out it throws std::bad_alloc. A call that throws has changed no voxel,
+// but for edit_all, whose edits_refused and edits_out_of_memory say how many edits were done. What
+// isn't refused but has no answer (nothing known, no box) is an empty optional.
+//
+// Threads. Calls that are const may run side by side on one map, as long as no other call on it
+// runs beside them. A map may be moved to another thread. There is no lock.
+#ifndef OCTOFIX_HPP
+#define OCTOFIX_HPP
+
+#include "octofix.h"
+
+#include <cerrno>
+#include <cmath>
+#include <cstddef>
+#include <cstdint>
+#include <filesystem>
+#include <fstream>
+#include <istream>
+#include <iterator>
+#include <limits>
+#include <new>
+#include <optional>
+#include <random>
+#include <stdexcept>
+#include <string>
+#include <system_error>
+#include <type_traits>
+#include <utility>
+#include <vector>
+
+namespace octofix {
+
+using point = octofix_point; ///< in whole nanometres
+using voxel_key = octofix_key;
+using box = octofix_box;
+using segment = octofix_segment;
+using pose = octofix_pose;
+using odds = octofix_odds; ///< in thousandths
+using limits = octofix_limits;
+using settings = octofix_settings;
+using counted = octofix_counted;
+using counts = octofix_counts;
+using block = octofix_block;
+using answer = octofix_answer;
+using stop = octofix_stop; ///< its code: OCTOFIX_DONE (occupied), OCTOFIX_UNKNOWN or OCTOFIX_CLEAR
+using details = octofix_details;
+
+/// Bytes of a .bt file or of a snapshot.
+using bytes = std::vector<std::uint8_t>;
+
+/// What an edit does to the value of a voxel.
+enum class event : std::uint32_t {
+    add = OCTOFIX_ADD,
+    set = OCTOFIX_SET,
+    forget = OCTOFIX_FORGET,
+    likely = OCTOFIX_LIKELY
+};
+
+/// How a voxel has changed since the mark.
+enum class change_kind : std::uint16_t {
+    is_new = OCTOFIX_NEW,
+    lost = OCTOFIX_LOST,
+    occupied = OCTOFIX_OCCUPIED,
+    freed = OCTOFIX_FREED
+};
+
+/// What bounds() looks for.
+enum class sought : std::uint32_t {
+    known = OCTOFIX_KNOWN_VOXELS,
+    occupied = OCTOFIX_OCCUPIED_VOXELS
+};
+
+inline constexpr odds default_odds = OCTOFIX_DEFAULT_ODDS;
+inline constexpr limits default_limits = OCTOFIX_DEFAULT_LIMITS;
+
+/// How a scan is to be done. The range is in metres, 0 or more, and none where it isn't given.
+/// Where hit and miss are both 0, they are those of the map.
+struct scan_options {
+    std::optional<double> range;
+    std::int32_t hit = 0, miss = 0;
+    bool lazy = false;
+};
+
+/// An edit of the voxel that holds a point.
+struct edit {
+    point at;
+    event what;
+    std::int32_t number = 0;
+};
+
+struct change {
+    voxel_key key;
+    change_kind kind;
+};
+
+/// A known voxel and its value.
+struct voxel {
+    voxel_key key;
+    std::int32_t value;
+};
+
+/// Elements that stand in a row and belong to somebody else: those of a vector, an array, a range
+/// of addresses. It is to be used while they stand.
+template <class T> class view {
+  public:
+    constexpr view() = default;
+    constexpr view(const T *first, std::size_t size) : first_(first), size_(size) {}
+    template <std::size_t N> constexpr view(const T (&array)[N]) : first_(array), size_(N) {}
+    template <class Row, class = std::enable_if_t<std::is_convertible_v<
+                             decltype(std::data(std::declval<const Row &>())), const T *>>>
+    constexpr view(const Row &row) : first_(std::data(row)), size_(std::size(row)) {}
+
+    constexpr const T *data() const { return first_; }
+    constexpr std::size_t size() const { return size_; }
+    constexpr bool empty() const { return size_ == 0; }
+    constexpr const T *begin() const { return first_; }
+    constexpr const T *end() const { return first_ + size_; }
+    constexpr const T &operator[](std::size_t i) const { return first_[i]; }
+
+  private:
+    const T *first_ = nullptr;
+    std::size_t size_ = 0;
+};
+
+// -- errors
+
+namespace detail {
+
+/// A code with its name and those of the numbers that its details hold.
+struct code_name {
+    std::uint32_t code;
+    const char *name, *first, *second;
+};
+
+inline constexpr code_name code_names[] = {
+    {OCTOFIX_BAD_RESOLUTION, "BadResolution", nullptr, nullptr},
+    {OCTOFIX_BAD_MODEL, "BadModel", "field", nullptr},
+    {OCTOFIX_ZERO_QUATERNION, "ZeroQuaternion", nullptr, nullptr},
+    {OCTOFIX_ORIGIN_OUTSIDE, "OriginOutside", nullptr, nullptr},
+    {OCTOFIX_POINT_OUTSIDE, "PointOutside", "index", nullptr},
+    {OCTOFIX_TOO_MANY_CELLS, "TooManyCells", "index", "cells"},
+    {OCTOFIX_TOO_MANY_BLOCKS, "TooManyBlocks", "count", nullptr},
+    {OCTOFIX_NOT_OCTOMAP, "NotOctomap", nullptr, nullptr},
+    {OCTOFIX_FLOAT_TREE, "FloatTree", nullptr, nullptr},
+    {OCTOFIX_WRONG_ID, "WrongId", nullptr, nullptr},
+    {OCTOFIX_MISSING_FIELD, "MissingField", "field", nullptr},
+    {OCTOFIX_BAD_FIELD, "BadField", "field", nullptr},
+    {OCTOFIX_HEADER_TOO_LONG, "HeaderTooLong", nullptr, nullptr},
+    {OCTOFIX_TOO_DEEP, "TooDeep", "at", nullptr},
+    {OCTOFIX_TRUNCATED, "Truncated", "at", nullptr},
+    {OCTOFIX_TRAILING_BYTES, "TrailingBytes", "at", nullptr},
+    {OCTOFIX_SIZE_MISMATCH, "SizeMismatch", "said", "found"},
+    {OCTOFIX_BAD_MAGIC, "BadMagic", nullptr, nullptr},
+    {OCTOFIX_BAD_SNAPSHOT, "BadSnapshot", "at", nullptr},
+    {OCTOFIX_STALE, "Stale", nullptr, nullptr},
+    {OCTOFIX_FULL, "Full", "groups", "need"},
+    {OCTOFIX_OUTSIDE, "Outside", "point", nullptr},
+    {OCTOFIX_BAD_DEPTH, "BadDepth", nullptr, nullptr},
+    {OCTOFIX_BAD_BOX, "BadBox", nullptr, nullptr},
+    {OCTOFIX_WIDE_WHILE_TRACKED, "WideWhileTracked", "count", nullptr},
+    {OCTOFIX_NOT_TRACKED, "NotTracked", nullptr, nullptr},
+    {OCTOFIX_OTHER_RESOLUTION, "OtherResolution", "file", "map"},
+    {OCTOFIX_CLOSED, "Closed", nullptr, nullptr},
+    {OCTOFIX_OPEN, "Open", nullptr, nullptr},
+    {OCTOFIX_UNKNOWN, "Unknown", nullptr, nullptr},
+    {OCTOFIX_CLEAR, "Clear", nullptr, nullptr},
+    {OCTOFIX_NONE, "None", nullptr, nullptr},
+    {OCTOFIX_MEMORY, "Memory", nullptr, nullptr},
+    {OCTOFIX_SMALL_BUFFER, "SmallBuffer", nullptr, nullptr},
+    {OCTOFIX_BAD_ARGUMENT, "BadArgument", "index", nullptr},
+};
+
+inline code_name name_of(std::uint32_t code) {
+    for (const code_name &known : code_names)
+        if (known.code == code) return known;
+    return {code, "?", nullptr, nullptr};
+}
+
+/// The text of a refusal, as `refused 7 PointOutside index 3`.
+inline std::string text_of(std::uint32_t code, const details &named) {
+    const code_name known = name_of(code);
+    std::string text = "refused " + std::to_string(code) + ' ' + known.name;
+    if (known.first) text += std::string(" ") + known.first + ' ' + std::to_string(named.first);
+    if (known.second) text += std::string(" ") + known.second + ' ' + std::to_string(named.second);
+    return text;
+}
+
+} // namespace detail
+
+/// What a map refuses: a code of octofix.h, its name, and what it names.
+class refused : public std::runtime_error {
+  public:
+    explicit refused(std::uint32_t code, const octofix::details &named = {})
+        : std::runtime_error(detail::text_of(code, named)), code_(code), details_(named) {}
+    std::uint32_t code() const { return code_; }
+    const char *name() const { return detail::name_of(code_).name; }
+    const octofix::details &details() const { return details_; }
+
+  private:
+    std::uint32_t code_;
+    octofix::details details_;
+};
+
+/// A refusal of edit_all: the edits before this one were done.
+class edits_refused : public refused {
+  public:
+    edits_refused(std::uint32_t code, const octofix::details &named, std::size_t done)
+        : refused(code, named), done_(done) {}
+    std::size_t done() const { return done_; }
+
+  private:
+    std::size_t done_;
+};
+
+/// Memory ran out for an edit of edit_all: the edits before it were done.
+class edits_out_of_memory : public std::bad_alloc {
+  public:
+    explicit edits_out_of_memory(std::size_t done) : done_(done) {}
+    std::size_t done() const { return done_; }
+    const char *what() const noexcept override { return "memory ran out for an edit"; }
+
+  private:
+    std::size_t done_;
+};
+
+/// A number of metres that isn't finite, or of magnitude 10^7 or more, with the index of its point;
+/// or a range below 0.
+class bad_length : public std::domain_error {
+  public:
+    explicit bad_length(std::size_t index = 0)
+        : std::domain_error("point " + std::to_string(index) +
+                            " isn't finite, or 10^7 m or more from the origin"),
+          index_(index) {}
+    /// That of a length, and of no point.
+    explicit bad_length(const std::string &text) : std::domain_error(text) {}
+    std::size_t index() const { return index_; }
+
+  private:
+    std::size_t index_ = 0;
+};
+
+namespace detail {
+
+/// Throws what a code is, but for 0.
+inline void check(std::uint32_t code, const details &named = {}) {
+    if (code == OCTOFIX_DONE) return;
+    if (code == OCTOFIX_MEMORY) throw std::bad_alloc();
+    throw refused(code, named);
+}
+
+/// Where elements begin, and some place where there are none: the calls of C take no null pointer.
+template <class T> const T *start(view<T> row) {
+    static const T none{};
+    return row.empty() ? &none : row.data();
+}
+
+template <class T, class = void> struct has_fields : std::false_type {};
+template <class T>
+struct has_fields<T, std::void_t<decltype(std::declval<const T &>().x + 0.0)>> : std::true_type {};
+
+/// All that a call lists. It is asked again where there are more than a few things.
+template <class T, class Call> std::vector<T> listed(Call call) {
+    std::vector<T> found(256);
+    std::size_t count = 0;
+    std::uint32_t code = call(found.data(), found.size(), &count);
+    if (code == OCTOFIX_SMALL_BUFFER) {
+        found.resize(count);
+        code = call(found.data(), found.size(), &count);
+    }
+    check(code);
+    found.resize(count);
+    return found;
+}
+
+/// All that a stream still has; none where it can't be read.
+inline std::optional<bytes> rest_of(std::istream &in) {
+    if (!in) return std::nullopt;
+    bytes all;
+    for (char part[1 << 14]; in.read(part, sizeof part) || in.gcount() > 0;)
+        all.insert(all.end(), part, part + in.gcount());
+    return in.bad() ? std::nullopt : std::make_optional(std::move(all));
+}
+
+[[noreturn]] inline void fail(const char *what, const std::filesystem::path &path) {
+    throw std::filesystem::filesystem_error(what, path,
+                                            std::error_code(errno, std::generic_category()));
+}
+
+inline bytes read_file(const std::filesystem::path &path) {
+    std::ifstream file(path, std::ios::binary);
+    std::optional<bytes> content = rest_of(file);
+    if (!content) fail("can't be read", path);
+    return *std::move(content);
+}
+
+inline void write_new(const std::filesystem::path &path, const bytes &content) {
+    std::ofstream file(path, std::ios::binary | std::ios::trunc);
+    file.write(reinterpret_cast<const char *>(content.data()),
+               static_cast<std::streamsize>(content.size()));
+    file.close();
+    if (!file) fail("can't be written", path);
+}
+
+/// Puts a file in place of one that stands there only when it is written whole. It is written
+/// beside its place, under a name of its own, and nothing of it stays where that fails.
+inline void write_file(const std::filesystem::path &path, const bytes &content) {
+    std::filesystem::path part = path;
+    part += '.' + std::to_string(std::random_device()()) + ".part";
+    try {
+        write_new(part, content);
+        std::filesystem::rename(part, path);
+    } catch (...) {
+        std::error_code ignored;
+        std::filesystem::remove(part, ignored);
+        throw;
+    }
+}
+
+} // namespace detail
+
+// -- metres, log-odds, keys
+
+/// Whole nanometres. Throws bad_length with this index.
+inline std::int64_t nanometres(double metres, std::size_t index = 0) {
+    if (!(std::fabs(metres) < 1e7)) throw bad_length(index);
+    return std::llround(metres * 1e9);
+}
+
+namespace detail {
+
+/// The edge of a voxel.
+inline std::int64_t edge_of(double metres) {
+    if (std::fabs(metres) < 1e7) return nanometres(metres);
+    throw bad_length("the edge of a voxel isn't finite, or 10^7 m or more");
+}
+
+/// The range of a scan, as octofix.h has it.
+inline std::int64_t range_of(const std::optional<double> &metres) {
+    if (!metres) return -1;
+    if (*metres >= 0 && *metres < 1e7) return nanometres(*metres);
+    throw bad_length("a range isn't from 0 to below 10^7 m");
+}
+
+/// The way from one coordinate to another; where it is longer than numbers go, the longest, which
+/// is refused as every way of 10^16 nanometres is.
+inline std::int64_t way(std::int64_t from, std::int64_t to) {
+    constexpr std::int64_t low = std::numeric_limits<std::int64_t>::min();
+    constexpr std::int64_t high = std::numeric_limits<std::int64_t>::max();
+    if (from < 0 && to > high + from) return high;
+    if (from > 0 && to < low + from) return low;
+    return to - from;
+}
+
+} // namespace detail
+
+/// A point in metres.
+inline point metres(double x, double y, double z) {
+    return {nanometres(x), nanometres(y), nanometres(z)};
+}
+
+/// Points in metres: of any row whose elements have numbers x, y and z, or [0], [1] and [2].
+template <class Row> std::vector<point> metres(const Row &row) {
+    std::vector<point> points;
+    points.reserve(std::size(row));
+    for (const auto &it : row) {
+        const std::size_t i = points.size();
+        if constexpr (detail::has_fields<std::decay_t<decltype(it)>>::value)
+            points.push_back({nanometres(it.x, i), nanometres(it.y, i), nanometres(it.z, i)});
+        else
+            points.push_back({nanometres(it[0], i), nanometres(it[1], i), nanometres(it[2], i)});
+    }
+    return points;
+}
+
+/// Points in metres: of count times three numbers in a row.
+template <class Number> std::vector<point> metres(const Number *xyz, std::size_t count) {
+    std::vector<point> points;
+    points.reserve(count);
+    for (std::size_t i = 0; i < count; ++i, xyz += 3)
+        points.push_back({nanometres(xyz[0], i), nanometres(xyz[1], i), nanometres(xyz[2], i)});
+    return points;
+}
+
+/// The thousandths of log-odds of a probability: 847 of 0.7.
+inline std::int32_t log_odds(double probability) {
+    const double value = 1000 * std::log(probability / (1 - probability));
+    if (!(std::fabs(value) <= 1e6)) throw std::domain_error("not a probability between 0 and 1");
+    return static_cast<std::int32_t>(std::lround(value));
+}
+
+/// The probability of a value.
+inline double probability_of(std::int32_t value) { return 1 / (1 + std::exp(-value / 1000.0)); }
+
+/// A sensor at a place in metres that isn't turned.
+inline pose pose_at(double x, double y, double z) { return {metres(x, y, z), 32767, 0, 0, 0}; }
+
+/// A sensor that is turned by a quaternion of any length. It is kept in sixteen bits, which is off
+/// by up to 3e-5 radians; where that is too much, turn the points before, and use scan_from.
+inline pose turned(const point &at, double w, double x, double y, double z) {
+    const double largest = std::fmax(std::fmax(std::fabs(w), std::fabs(x)),
+                                     std::fmax(std::fabs(y), std::fabs(z)));
+    if (!(largest > 0) || !std::isfinite(w + x + y + z))
+        throw std::domain_error("a quaternion that is 0, or isn't finite");
+    const auto part = [=](double q) {
+        return static_cast<std::int16_t>(std::lround(q / largest * 32767));
+    };
+    return {at, part(w), part(x), part(y), part(z)};
+}
+
+/// How many voxels the edge of a block has.
+inline std::uint32_t edge(const block &it) { return std::uint32_t{1} << (16 - it.depth); }
+
+/// The voxel of a block with the lowest keys.
+inline voxel_key low(const block &it) {
+    const auto number = [&](std::uint16_t b) { return static_cast<std::uint16_t>(b * edge(it)); };
+    return {number(it.x), number(it.y), number(it.z)};
+}
+
+/// All known voxels of blocks, one after another, each made when it is reached. A block of depth 0
+/// has 2^48.
+class voxels {
+  public:
+    class iterator {
+      public:
+        using iterator_category = std::input_iterator_tag;
+        using value_type = voxel;
+        using difference_type = std::ptrdiff_t;
+        using pointer = const voxel *;
+        using reference = voxel;
+
+        iterator(const block *at, std::uint64_t number) : at_(at), number_(number) {}
+        voxel operator*() const {
+            const std::uint64_t n = edge(*at_);
+            const voxel_key first = low(*at_);
+            const auto add = [](std::uint16_t k, std::uint64_t more) {
+                return static_cast<std::uint16_t>(k + more);
+            };
+            return {{add(first.x, number_ / (n * n)), add(first.y, number_ / n % n),
+                     add(first.z, number_ % n)},
+                    at_->value};
+        }
+        iterator &operator++() {
+            const std::uint64_t n = edge(*at_);
+            if (++number_ == n * n * n) ++at_, number_ = 0;
+            return *this;
+        }
+        iterator operator++(int) {
+            iterator before = *this;
+            ++*this;
+            return before;
+        }
+        bool operator==(const iterator &other) const {
+            return at_ == other.at_ && number_ == other.number_;
+        }
+        bool operator!=(const iterator &other) const { return !(*this == other); }
+
+      private:
+        const block *at_;
+        std::uint64_t number_;
+    };
+
+    explicit voxels(std::vector<block> blocks) : blocks_(std::move(blocks)) {}
+    iterator begin() const { return {blocks_.data(), 0}; }
+    iterator end() const { return {blocks_.data() + blocks_.size(), 0}; }
+
+  private:
+    std::vector<block> blocks_;
+};
+
+/// The keys of all voxels of res metres that the straight way between two points meets.
+inline std::vector<voxel_key> ray(double res, const point &origin, const point &end) {
+    const std::int64_t edge = detail::edge_of(res);
+    details named{};
+    return detail::listed<voxel_key>([&](voxel_key *keys, std::size_t room, std::size_t *count) {
+        const std::uint32_t code = octofix_ray(edge, &origin, &end, keys, room, count, &named);
+        if (code != OCTOFIX_SMALL_BUFFER) detail::check(code, named);
+        return code;
+    });
+}
+
+// -- the map
+
+/// A map. It is moved, and copied by clone() alone; one that was moved from is closed.
+class map {
+  public:
+    /// An unknown map of voxels of res metres.
+    explicit map(double res, const odds &log_odds = default_odds,
+                 const limits &most = default_limits) {
+        details named{};
+        const std::int64_t edge = detail::edge_of(res);
+        detail::check(octofix_open(&handle_, edge, &log_odds, &most, &named), named);
+    }
+    map(map &&other) noexcept : handle_(std::exchange(other.handle_, octofix_map{})) {}
+    map &operator=(map &&other) noexcept {
+        map taken(std::move(other));
+        std::swap(handle_, taken.handle_);
+        return *this;
+    }
+    map(const map &) = delete;
+    map &operator=(const map &) = delete;
+    ~map() { octofix_close(&handle_); }
+
+    /// A map of its own with these values, log-odds, limits and box of the limit. It isn't stale,
+    /// and has no mark.
+    map clone() const {
+        const octofix::settings now = settings();
+        map other;
+        details named{};
+        detail::check(octofix_open(&other.handle_, now.res, &now.odds, &now.limits, &named), named);
+        other.restore(snapshot());
+        return other;
+    }
+
+    // Settings.
+
+    octofix::settings settings() const {
+        octofix::settings now{};
+        detail::check(octofix_settings_of(&handle_, &now));
+        return now;
+    }
+    double resolution() const { return static_cast<double>(settings().res) / 1e9; }
+    bool is_occupied(std::int32_t value) const { return value >= settings().odds.thr; }
+    /// The bytes that the map holds now.
+    std::uint64_t memory() const {
+        std::uint64_t held = 0;
+        detail::check(octofix_memory(&handle_, &held));
+        return held;
+    }
+
+    // Edits.
+
+    void edit(const point &at, event what, std::int32_t number = 0, bool lazy = false) {
+        details named{};
+        detail::check(octofix_edit(&handle_, &at, static_cast<std::uint32_t>(what), number, lazy,
+                                   &named),
+                      named);
+    }
+    void add(const point &at, std::int32_t number, bool lazy = false) {
+        edit(at, event::add, number, lazy);
+    }
+    void set(const point &at, std::int32_t number, bool lazy = false) {
+        edit(at, event::set, number, lazy);
+    }
+    void forget(const point &at, bool lazy = false) { edit(at, event::forget, 0, lazy); }
+    /// Each voxel of the box from the voxel of one point to that of the other.
+    void edit_box(const point &low, const point &high, event what, std::int32_t number = 0) {
+        details named{};
+        detail::check(octofix_edit_box(&handle_, &low, &high, static_cast<std::uint32_t>(what),
+                                       number, &named),
+                      named);
+    }
+    /// One edit after another. At the first that isn't done it throws edits_refused, or
+    /// edits_out_of_memory.
+    void edit_all(view<octofix::edit> edits, bool lazy = false) {
+        std::vector<octofix_edit_t> all;
+        all.reserve(edits.size());
+        for (const octofix::edit &it : edits)
+            all.push_back({it.at, static_cast<std::uint32_t>(it.what), it.number});
+        const view<octofix_edit_t> row(all);
+        std::size_t done = 0;
+        details named{};
+        const std::uint32_t code =
+            octofix_edit_all(&handle_, detail::start(row), row.size(), lazy, &done, &named);
+        if (code == OCTOFIX_MEMORY) throw edits_out_of_memory(done);
+        if (code != OCTOFIX_DONE) throw edits_refused(code, named, done);
+    }
+
+    /// Beams from a sensor to points in its own frame.
+    octofix::counted scan(const pose &sensor, view<point> points, const scan_options &how = {}) {
+        const octofix_scan_options options = {detail::range_of(how.range), how.hit, how.miss,
+                                              how.lazy};
+        octofix::counted seen{};
+        details named{};
+        detail::check(octofix_scan(&handle_, &sensor, detail::start(points), points.size(),
+                                   &options, &seen, &named),
+                      named);
+        return seen;
+    }
+    /// Beams from a place to points in the frame of the map. They are refused as those of scan.
+    octofix::counted scan_from(const point &origin, view<point> points,
+                               const scan_options &how = {}) {
+        std::vector<point> from_there;
+        from_there.reserve(points.size());
+        for (const point &it : points)
+            from_there.push_back({detail::way(origin.x, it.x), detail::way(origin.y, it.y),
+                                  detail::way(origin.z, it.z)});
+        return scan({origin, 32767, 0, 0, 0}, from_there, how);
+    }
+
+    /// From now on scans change only voxels of this box.
+    void limit(const point &low, const point &high) {
+        details named{};
+        detail::check(octofix_limit(&handle_, &low, &high, &named), named);
+    }
+    void no_limit() { detail::check(octofix_no_limit(&handle_)); }
+    /// The box of the limit.
+    std::optional<box> window() const { return found(&octofix_window); }
+
+    void refresh() { detail::check(octofix_refresh(&handle_)); }
+    void prune() { detail::check(octofix_prune(&handle_)); }
+    void clear() { detail::check(octofix_clear(&handle_)); }
+    void max_likelihood() { detail::check(octofix_max_likelihood(&handle_)); }
+    /// Prunes the map, and counts the least tree of its values.
+    octofix::counts counts() {
+        octofix::counts least{};
+        detail::check(octofix_counts_of(&handle_, &least));
+        return least;
+    }
+
+    // Queries.
+
+    /// The value of the block of this depth that holds the point; none where nothing is known.
+    std::optional<std::int32_t> get(const point &at, std::uint32_t depth = 16) const {
+        const answer there = answer_at(at, depth);
+        if (there.code == OCTOFIX_UNKNOWN) return std::nullopt;
+        detail::check(there.code, {there.code == OCTOFIX_OUTSIDE ? 1u : 0u, 0});
+        return there.value;
+    }
+    /// The same with a code, as get_all has it.
+    answer answer_at(const point &at, std::uint32_t depth = 16) const {
+        answer there{};
+        there.code = octofix_get(&handle_, &at, depth, &there.value);
+        return there;
+    }
+    /// An answer for each point, with a code of its own.
+    std::vector<answer> get_all(view<point> points, std::uint32_t depth = 16) const {
+        std::vector<answer> answers(points.size() + 1);
+        detail::check(octofix_get_all(&handle_, detail::start(points), points.size(), depth,
+                                      answers.data(), points.size()));
+        answers.pop_back();
+        return answers;
+    }
+    /// What stops the straight way from one point to another first.
+    stop cast(const point &origin, const point &end, bool ignore_unknown = false) const {
+        stop first{};
+        details named{};
+        const std::uint32_t code =
+            octofix_cast(&handle_, &origin, &end, ignore_unknown, &first.key, &named);
+        if (code != OCTOFIX_UNKNOWN && code != OCTOFIX_CLEAR) detail::check(code, named);
+        first.code = static_cast<std::uint16_t>(code);
+        return first;
+    }
+    /// A stop for each segment, with a code of its own.
+    std::vector<stop> cast_all(view<segment> segments, bool ignore_unknown = false) const {
+        std::vector<stop> stops(segments.size() + 1);
+        detail::check(octofix_cast_all(&handle_, detail::start(segments), segments.size(),
+                                       ignore_unknown, stops.data(), segments.size()));
+        stops.pop_back();
+        return stops;
+    }
+    /// The known blocks of a depth that meet a box, by ascending x, then y, then z.
+    std::vector<block> list(const point &low, const point &high, std::uint32_t depth = 16) const {
+        return listed_in_box([&](auto *it, auto... out) {
+            return octofix_list(it, &low, &high, depth, out...);
+        });
+    }
+    /// The largest blocks of one value each, in Morton order: all that is known.
+    std::vector<block> leaves() const {
+        return listed<block>(&octofix_leaves);
+    }
+    /// Those that meet a box, each as a whole.
+    std::vector<block> leaves(const point &low, const point &high) const {
+        return listed_in_box([&](auto *it, auto... out) {
+            return octofix_leaves_in(it, &low, &high, out...);
+        });
+    }
+    /// All known voxels: for (voxel it : world.known_voxels()).
+    voxels known_voxels() const { return voxels(leaves()); }
+    /// The smallest box that holds all known, or all occupied, voxels.
+    std::optional<box> bounds(sought what = sought::known) const {
+        return found([&](const octofix_map *it, box *out) {
+            return octofix_bounds(it, static_cast<std::uint32_t>(what), out);
+        });
+    }
+    /// The middle of a block, or of a voxel, in metres.
+    void middle(const block &it, double &x, double &y, double &z) const {
+        const double res = resolution(), half = edge(it) / 2.0;
+        const voxel_key first = low(it);
+        x = (first.x - 32768 + half) * res;
+        y = (first.y - 32768 + half) * res;
+        z = (first.z - 32768 + half) * res;
+    }
+
+    // Changes since a mark.
+
+    void track() { detail::check(octofix_track(&handle_)); }
+    void untrack() { detail::check(octofix_untrack(&handle_)); }
+    std::vector<change> changes() const {
+        const std::vector<octofix_change> all = listed<octofix_change>(&octofix_changes);
+        std::vector<change> changes;
+        changes.reserve(all.size());
+        for (const octofix_change &it : all)
+            changes.push_back({it.key, static_cast<change_kind>(it.kind)});
+        return changes;
+    }
+
+    // Files. Those of paths throw std::filesystem::filesystem_error where they can't be read or
+    // written; a file is put in place of another one only when it is whole.
+
+    bytes save() const { return listed<std::uint8_t>(&octofix_save); }
+    void load(view<std::uint8_t> file) {
+        details named{};
+        detail::check(octofix_load(&handle_, detail::start(file), file.size(), &named), named);
+    }
+    bytes snapshot() const { return listed<std::uint8_t>(&octofix_snapshot); }
+    void restore(view<std::uint8_t> file) {
+        details named{};
+        detail::check(octofix_restore(&handle_, detail::start(file), file.size(), &named), named);
+    }
+    void save_to(const std::filesystem::path &path) const { detail::write_file(path, save()); }
+    void load_from(const std::filesystem::path &path) { load(detail::read_file(path)); }
+    void snapshot_to(const std::filesystem::path &path) const {
+        detail::write_file(path, snapshot());
+    }
+    void restore_from(const std::filesystem::path &path) { restore(detail::read_file(path)); }
+
+    /// The handle, for a call of octofix.h.
+    const octofix_map *handle() const { return &handle_; }
+    octofix_map *handle() { return &handle_; }
+
+  private:
+    map() = default; // closed
+
+    /// All that a query lists.
+    template <class T, class Call> std::vector<T> listed(Call call) const {
+        return detail::listed<T>([&](auto... out) { return call(&handle_, out...); });
+    }
+    /// The blocks that a query lists of a box.
+    template <class Call> std::vector<block> listed_in_box(Call call) const {
+        details named{};
+        return listed<block>([&](auto *it, auto... out) {
+            const std::uint32_t code = call(it, out..., &named);
+            if (code != OCTOFIX_SMALL_BUFFER) detail::check(code, named);
+            return code;
+        });
+    }
+    /// A box that a query may find.
+    template <class Call> std::optional<box> found(Call call) const {
+        box there{};
+        const std::uint32_t code = call(&handle_, &there);
+        if (code == OCTOFIX_NONE) return std::nullopt;
+        detail::check(code);
+        return there;
+    }
+
+    octofix_map handle_{};
+};
+
+} // namespace octofix
+
+#endif

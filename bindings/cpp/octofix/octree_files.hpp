@@ -1,0 +1,62 @@
+// What stands in files of maps beside the map: streams, headers, records. Part of
+// octofix_octree.hpp.
+#ifndef OCTOFIX_OCTREE_FILES_HPP
+#define OCTOFIX_OCTREE_FILES_HPP
+
+#include "../octofix.hpp"
+
+#include <algorithm>
+#include <ostream>
+#include <sstream>
+
+namespace octofix {
+namespace detail {
+
+/// Writes a file from a byte on.
+inline bool put(std::ostream &out, const bytes &file, std::size_t from) {
+    out.write(reinterpret_cast<const char *>(file.data()) + from,
+              static_cast<std::streamsize>(file.size() - from));
+    return static_cast<bool>(out);
+}
+
+/// Where the records of a canonical .bt file begin.
+inline std::size_t data_of(const bytes &file) {
+    const std::string mark = "\ndata\n";
+    const auto at = std::search(file.begin(), file.end(), mark.begin(), mark.end());
+    return static_cast<std::size_t>(at - file.begin()) + mark.size();
+}
+
+/// The edge of a voxel in metres that the header of a .bt file says, or 0.
+inline double resolution_of(const bytes &file) {
+    const std::size_t most = std::min<std::size_t>(file.size(), 65536);
+    std::istringstream head(std::string(file.begin(), file.begin() + static_cast<long>(most)));
+    double res = 0;
+    for (std::string line, word; std::getline(head, line) && word != "data";) {
+        std::istringstream words(line);
+        if (words >> word && word == "res") words >> res;
+    }
+    return res;
+}
+
+/// A length in metres, to the nanometre.
+inline std::string decimal(std::int64_t nanometres) {
+    const std::string part = std::to_string(1000000000 + nanometres % 1000000000);
+    return std::to_string(nanometres / 1000000000) + '.' + part.substr(1);
+}
+
+/// The .bt file of records, as messages have them, of voxels of this edge.
+inline bytes with_header(const bytes &records, std::int64_t edge) {
+    std::size_t nodes = records.empty() ? 0 : 1;
+    for (const unsigned four : records)
+        for (unsigned child = 0; child < 4; ++child) nodes += (four >> 2 * child & 3) != 0;
+    const std::string head = "# Octomap OcTree binary file\nid OcTree\nsize " +
+                             std::to_string(nodes) + "\nres " + decimal(edge) + "\ndata\n";
+    bytes file(head.begin(), head.end());
+    file.insert(file.end(), records.begin(), records.end());
+    return file;
+}
+
+} // namespace detail
+} // namespace octofix
+
+#endif

@@ -1,0 +1,413 @@
+// What the examples and the clients don't show: refusals, files of paths, moved maps, what the
+// class for OctoMap programs answers or throws, and threads that ask through const methods.
+#include <octofix_octree.hpp>
+
+#include <array>
+#include <csignal>
+#include <cstdio>
+#include <iomanip>
+#include <limits>
+#include <sstream>
+#include <thread>
+
+#include <sys/resource.h>
+
+using octofix::metres;
+
+namespace {
+
+int failed = 0;
+
+void expect(int line, bool holds) {
+    if (holds) return;
+    failed++;
+    std::printf("line %d doesn't hold\n", line);
+}
+
+#define EXPECT(what) expect(__LINE__, what)
+
+/// The code that a call is refused with, or 0.
+template <class Call> std::uint32_t code_of(Call call) {
+    try {
+        call();
+    } catch (const octofix::refused &error) {
+        return error.code();
+    }
+    return 0;
+}
+
+/// The index that a call's lengths are refused with, or -1.
+template <class Call> long index_of(Call call) {
+    try {
+        call();
+    } catch (const octofix::bad_length &error) {
+        return static_cast<long>(error.index());
+    }
+    return -1;
+}
+
+/// What is said of a call's length, or nothing.
+template <class Call> std::string text_of(Call call) {
+    try {
+        call();
+    } catch (const octofix::bad_length &error) {
+        return error.what();
+    }
+    return "";
+}
+
+template <class Call> bool is_file_error(Call call) {
+    try {
+        call();
+    } catch (const std::filesystem::filesystem_error &) {
+        return true;
+    }
+    return false;
+}
+
+template <class Call> bool is_unsupported(Call call) {
+    try {
+        call();
+    } catch (const octofix::unsupported &) {
+        return true;
+    }
+    return false;
+}
+
+void try_lengths() {
+    const double nan = std::numeric_limits<double>::quiet_NaN();
+    const double infinity = std::numeric_limits<double>::infinity();
+    EXPECT(octofix::nanometres(0.1) == 100000000);
+    EXPECT(octofix::nanometres(0.0000000005) == 1); // halves away from zero
+    EXPECT(octofix::nanometres(-0.0000000005) == -1);
+    EXPECT(octofix::nanometres(0.0000000004) == 0);
+    EXPECT(index_of([] { octofix::nanometres(1e7); }) == 0);
+    EXPECT(index_of([&] { metres(0, 0, nan); }) == 0);
+    const double row[] = {0, 0, 0, 1, 1, 1, 0, -infinity, 0};
+    EXPECT(index_of([&] { metres(row, 3); }) == 2);
+    EXPECT(metres(row, 2)[1].z == 1000000000);
+    struct sighting {
+        float x, y, z, intensity;
+    };
+    EXPECT(metres(std::vector<sighting>{{1, 2, 3, 0}})[0].y == 2000000000);
+    EXPECT(text_of([] { metres(0, 1e7, 0); }) ==
+           "point 0 isn't finite, or 10^7 m or more from the origin");
+    const std::string edge = "the edge of a voxel isn't finite, or 10^7 m or more";
+    EXPECT(text_of([&] { octofix::map world(infinity); }) == edge);
+    EXPECT(text_of([] { octofix::map world(1e8); }) == edge);
+    EXPECT(text_of([&] { octofix::ray(nan, {0, 0, 0}, {0, 0, 0}); }) == edge);
+    EXPECT(text_of([&] { octofix::OcTree tree(-infinity); }) == edge);
+    octofix::map world(0.1);
+    const auto wall = metres(row, 2);
+    for (const double range : {nan, infinity, 1e7, -5.0, -1e-12}) {
+        octofix::scan_options how;
+        how.range = range;
+        const std::string text = "a range isn't from 0 to below 10^7 m";
+        EXPECT(text_of([&] { world.scan(octofix::pose_at(0, 0, 0), {}, how); }) == text);
+        EXPECT(text_of([&] { world.scan_from({0, 0, 0}, wall, how); }) == text);
+    }
+    EXPECT(world.leaves().empty());
+    octofix::scan_options nothing;
+    nothing.range = 0;
+    EXPECT(world.scan_from({0, 0, 0}, metres(row + 3, 1), nothing).hits == 0);
+    EXPECT(octofix::log_odds(0.7) == 847);
+    EXPECT(octofix::log_odds(0.4) == -405);
+}
+
+/// Points in nanometres may be any numbers: what is too far away is refused.
+void try_far_points() {
+    constexpr std::int64_t low = std::numeric_limits<std::int64_t>::min();
+    constexpr std::int64_t high = std::numeric_limits<std::int64_t>::max();
+    EXPECT(octofix::detail::way(-2, 3) == 5 && octofix::detail::way(3, -2) == -5);
+    EXPECT(octofix::detail::way(low, low) == 0 && octofix::detail::way(high, high) == 0);
+    EXPECT(octofix::detail::way(0, low) == low && octofix::detail::way(-1, high - 1) == high);
+    EXPECT(octofix::detail::way(-1, high) == high && octofix::detail::way(low, high) == high);
+    EXPECT(octofix::detail::way(1, low) == low && octofix::detail::way(high, low) == low);
+    octofix::map world(0.1);
+    const std::int64_t ends[] = {low, high};
+    for (const std::int64_t end : ends) {
+        const octofix::point points[] = {{0, 0, 0}, {0, 0, end}};
+        for (const std::int64_t z : {std::int64_t{-1}, std::int64_t{1}, low, high}) {
+            const octofix::point origin = {0, 0, z};
+            try {
+                world.scan_from(origin, points);
+                EXPECT(false);
+            } catch (const octofix::refused &error) {
+                const bool is_near = z == -1 || z == 1;
+                EXPECT(error.code() == OCTOFIX_BAD_ARGUMENT);
+                EXPECT(error.details().first == (is_near ? 1u : 0u));
+            }
+        }
+    }
+    EXPECT(world.leaves().empty());
+}
+
+void try_refusals() {
+    EXPECT(code_of([] { octofix::map world(0); }) == OCTOFIX_BAD_RESOLUTION);
+    EXPECT(code_of([] { octofix::map world(0.1, {850, 1, -2000, 3500, 0}); }) == OCTOFIX_BAD_MODEL);
+    EXPECT(code_of([] { octofix::map world(0.1, octofix::default_odds, {0, 0}); }) ==
+           OCTOFIX_BAD_ARGUMENT);
+    octofix::map world(0.1);
+    const octofix::point far = metres(4000, 0, 0), near = metres(1, 1, 1);
+    EXPECT(code_of([&] { world.get(far); }) == OCTOFIX_OUTSIDE);
+    EXPECT(code_of([&] { world.leaves(near, metres(0, 0, 0)); }) == OCTOFIX_BAD_BOX);
+    EXPECT(code_of([&] { world.list(near, far); }) == OCTOFIX_OUTSIDE);
+    EXPECT(code_of([&] { world.changes(); }) == OCTOFIX_NOT_TRACKED);
+    EXPECT(code_of([&] { world.restore({}); }) == OCTOFIX_BAD_MAGIC);
+    EXPECT(code_of([&] { world.load({}); }) == OCTOFIX_NOT_OCTOMAP);
+    EXPECT(code_of([&] { octofix::ray(0.1, near, far); }) == OCTOFIX_OUTSIDE);
+    const std::vector<octofix::edit> edits = {{near, octofix::event::set, 5},
+                                              {far, octofix::event::set, 5}};
+    try {
+        world.edit_all(edits);
+        EXPECT(false);
+    } catch (const octofix::edits_refused &error) {
+        EXPECT(error.done() == 1 && error.code() == OCTOFIX_OUTSIDE);
+        EXPECT(std::string(error.what()) == "refused 24 Outside point 1");
+        EXPECT(std::string(error.name()) == "Outside");
+    }
+    EXPECT(world.get(near) == 5);
+    octofix::map other(std::move(world));
+    EXPECT(code_of([&] { world.settings(); }) == OCTOFIX_CLOSED);
+    world = std::move(other);
+    EXPECT(world.get(near) == 5);
+    EXPECT(world.get_all({}).empty() && world.cast_all({}).empty());
+    world.edit_all({});
+    EXPECT(world.scan(octofix::pose_at(0, 0, 0), {}).hits == 0);
+}
+
+/// How many files a folder has.
+std::ptrdiff_t count_of(const std::filesystem::path &folder) {
+    return std::distance(std::filesystem::directory_iterator(folder), {});
+}
+
+/// A file that can't be written, or put in its place, leaves nothing, and what stood there.
+void try_failing_writes(const std::filesystem::path &folder) {
+    octofix::map world(0.1);
+    world.set(metres(1, 2, 3), 700);
+    const std::filesystem::path full = folder / "full", taken = full / "taken";
+    std::filesystem::create_directories(taken);
+    EXPECT(is_file_error([&] { world.save_to(taken); }));
+    EXPECT(count_of(full) == 1);
+    std::filesystem::remove(taken);
+    world.save_to(taken);
+    const octofix::bytes before = octofix::detail::read_file(taken);
+    world.clear();
+    rlimit most{};
+    getrlimit(RLIMIT_FSIZE, &most);
+    const rlimit few = {3, most.rlim_max};
+    std::signal(SIGXFSZ, SIG_IGN);
+    setrlimit(RLIMIT_FSIZE, &few);
+    EXPECT(is_file_error([&] { world.save_to(taken); }));
+    EXPECT(is_file_error([&] { world.snapshot_to(full / "new"); }));
+    setrlimit(RLIMIT_FSIZE, &most);
+    EXPECT(count_of(full) == 1 && octofix::detail::read_file(taken) == before);
+    world.save_to(taken);
+    EXPECT(count_of(full) == 1 && octofix::detail::read_file(taken) == world.save());
+}
+
+void try_files(const std::filesystem::path &folder) {
+    octofix::map world(0.1), other(0.1);
+    world.set(metres(1, 2, 3), 700);
+    world.limit(metres(0, 0, 0), metres(1, 1, 1));
+    world.save_to(folder / "world.bt");
+    world.snapshot_to(folder / "world.snap");
+    other.load_from(folder / "world.bt");
+    EXPECT(other.get(metres(1, 2, 3)) == 3500);
+    other.restore_from(folder / "world.snap");
+    EXPECT(other.get(metres(1, 2, 3)) == 700);
+    EXPECT(other.window().has_value());
+    EXPECT(world.clone().snapshot() == world.snapshot());
+    EXPECT(is_file_error([&] { other.load_from(folder / "missing.bt"); }));
+    EXPECT(is_file_error([&] { other.load_from(folder); }));
+    EXPECT(is_file_error([&] { other.save_to(folder / "missing" / "world.bt"); }));
+    EXPECT(is_file_error([&] { other.save_to("/dev/full/world.bt"); }));
+    EXPECT(other.get(metres(1, 2, 3)) == 700);
+    octofix::OcTree tree(0.1);
+    EXPECT(tree.readBinary((folder / "world.bt").string()) && tree.search(1, 2, 3));
+    EXPECT(!tree.readBinary((folder / "missing.bt").string()) && !tree.readBinary(folder.string()));
+    EXPECT(!tree.readBinary((folder / "world.snap").string()) && tree.search(1, 2, 3));
+}
+
+void try_voxels() {
+    octofix::map world(0.1);
+    world.edit_box(metres(0, 0, 0), metres(0.3, 0.3, 0.3), octofix::event::set, 9);
+    EXPECT(world.leaves().size() == 1);
+    std::size_t count = 0, last = 0;
+    for (const octofix::voxel &it : world.known_voxels()) {
+        count++;
+        last = it.key.z;
+        EXPECT(it.key.x >= 32768 && it.key.x < 32772 && it.value == 9);
+    }
+    EXPECT(count == 64 && last == 32771);
+    double x, y, z;
+    world.middle(world.leaves()[0], x, y, z);
+    EXPECT(std::fabs(x - 0.2) < 1e-12 && std::fabs(z - 0.2) < 1e-12);
+}
+
+void try_models() {
+    octofix::OcTree tree(0.1);
+    const octofix::point3d p(0.05f, 0.05f, 0.05f);
+    EXPECT(tree.updateNode(p, true)->getLogOdds() == 0.847f);
+    tree.setProbHit(0.9);
+    EXPECT(tree.updateNode(p, true)->getLogOdds() == 3.044f); // 0.847 and 2.197
+    tree.setClampingThresMax(0.9);
+    EXPECT(tree.search(p)->getLogOdds() == 2.197f);
+    tree.setOccupancyThres(0.85);
+    EXPECT(tree.isNodeOccupied(tree.search(p)));
+    EXPECT(tree.updateNode(p, -1.0f)->getLogOdds() == 1.197f);
+    EXPECT(!tree.isNodeOccupied(tree.search(p)));
+    EXPECT(code_of([&] { tree.setClampingThresMax(0.3); }) == OCTOFIX_BAD_MODEL);
+    tree.setResolution(0.2);
+    EXPECT(tree.getResolution() == 0.2);
+    EXPECT(tree.search(octofix::point3d(0.15f, 0.15f, 0.15f))->getLogOdds() == 1.197f);
+    const float nan = std::numeric_limits<float>::quiet_NaN();
+    const float infinity = std::numeric_limits<float>::infinity();
+    octofix::OcTreeNode *node = tree.search(octofix::point3d(0.15f, 0.15f, 0.15f));
+    EXPECT(code_of([&] { tree.updateNode(p, nan); }) == OCTOFIX_BAD_ARGUMENT);
+    EXPECT(code_of([&] { tree.setNodeValue(p, -nan); }) == OCTOFIX_BAD_ARGUMENT);
+    EXPECT(code_of([&] { tree.updateNode(octofix::OcTreeKey(0, 0, 0), nan); }) ==
+           OCTOFIX_BAD_ARGUMENT);
+    EXPECT(code_of([&] { node->setLogOdds(nan); }) == OCTOFIX_BAD_ARGUMENT);
+    EXPECT(code_of([&] { node->addValue(nan); }) == OCTOFIX_BAD_ARGUMENT);
+    EXPECT(tree.getNumLeafNodes() == 1 && tree.begin_leafs()->getLogOdds() == 1.197f);
+    EXPECT(tree.setNodeValue(p, infinity)->getLogOdds() == 2.197f);
+    EXPECT(tree.updateNode(p, -infinity)->getLogOdds() == -2.0f);
+    tree.enableChangeDetection(true);
+    EXPECT(is_unsupported([&] { tree.setResolution(0.1); }));
+    std::istringstream empty;
+    EXPECT(is_unsupported([&] { octofix::OcTree::read(empty); }));
+}
+
+/// An .ot file has all digits of the resolution, whatever stream it is written to.
+void try_resolutions() {
+    octofix::OcTree tree(0.123456789);
+    tree.setNodeValue(octofix::OcTreeKey(32768, 32768, 32768), 0.5f);
+    std::ostringstream out;
+    out << std::setprecision(2) << std::hex;
+    EXPECT(tree.write(out));
+    const std::string head =
+        "# Octomap OcTree file\n# (feel free to add / change comments, but leave the first line as "
+        "it is!)\n#\nid OcTree\nsize 17\nres 0.123456789\ndata\n";
+    EXPECT(out.str().size() == head.size() + 17 * 5); // each node a float and a byte
+    EXPECT(out.str().compare(0, head.size(), head) == 0);
+}
+
+void try_poses() {
+    const octofix::Pose6D pose(1, 2, 3, 0.1, -0.2, 2.5);
+    EXPECT(std::fabs(pose.roll() - 0.1) < 1e-6 && std::fabs(pose.pitch() + 0.2) < 1e-6);
+    EXPECT(std::fabs(pose.yaw() - 2.5) < 1e-6);
+    const octofix::point3d there = pose.inv().transform(pose.transform({4, 5, 6}));
+    EXPECT(there.distance({4, 5, 6}) < 1e-5);
+    octofix::point3d ahead(1, 0, 0);
+    ahead.rotate_IP(0, 0, std::acos(0.0)); // a quarter turn to the left
+    EXPECT(ahead.distance({0, 1, 0}) < 1e-6);
+}
+
+void try_blocks() {
+    octofix::OcTree tree(0.1);
+    const octofix::OcTreeKey key(32770, 32770, 32770);
+    for (unsigned i = 0; i < 64; ++i)
+        tree.updateNode(octofix::OcTreeKey(static_cast<octofix::key_type>(32768 + i % 4),
+                                           static_cast<octofix::key_type>(32768 + i / 4 % 4),
+                                           static_cast<octofix::key_type>(32768 + i / 16)),
+                        true, true);
+    EXPECT(tree.search(key, 14)->getLogOdds() == 0.847f); // also while inner values are old
+    tree.updateInnerOccupancy();
+    EXPECT(tree.getNumLeafNodes() == 1 && tree.begin_leafs().getDepth() == 14);
+    tree.begin_leafs()->setLogOdds(-0.5f);
+    EXPECT(tree.search(key)->getLogOdds() == -0.5f);
+    EXPECT(tree.deleteNode(key, 15) && !tree.search(key) && !tree.deleteNode(key));
+    EXPECT(tree.size() == 15 + 7); // the blocks of depth 0 to 14, and seven leaves
+    EXPECT(!tree.nodeHasChildren(tree.search(octofix::OcTreeKey(32768, 32768, 32768))));
+    tree.setBBXMin({-9000, 0, 0});
+    tree.setBBXMax({9000, 0.1f, 0.1f});
+    tree.useBBXLimit(true);
+    octofix::Pointcloud cloud;
+    const float nan = std::numeric_limits<float>::quiet_NaN();
+    cloud.push_back(2, 0.05f, 0.05f);
+    cloud.push_back(nan, 0, 0);
+    cloud.push_back(1e30f, 0, 0);
+    cloud.push_back(2, 2, 2);
+    tree.insertPointCloud(cloud, {0.05f, 0.05f, 0.05f});
+    EXPECT(tree.search(2, 0.05, 0.05) && !tree.search(2, 2, 2));
+    tree.setBBXMax({-9001, 0, 0});
+    const std::size_t size = tree.size();
+    tree.insertPointCloud(cloud, {0.05f, 0.05f, 0.05f});
+    EXPECT(tree.size() == size);
+    octofix::OcTree copy(tree);
+    tree.clear();
+    EXPECT(tree.size() == 0 && tree.getRoot() == nullptr && tree.begin() == tree.end());
+    tree = copy;
+    EXPECT(tree == copy && tree.size() == size && tree.bbxSet());
+    octofix::OcTree far(0.1), farther(0.1);
+    far.insertPointCloud(cloud, {0.05f, 0.05f, 0.05f});
+    farther.insertPointCloud(cloud, {0.05f, 0.05f, 0.05f}, std::numeric_limits<double>::max());
+    EXPECT(far == farther && far.size() > 0);
+}
+
+void try_changes() {
+    octofix::OcTree tracked(0.1), other(0.2);
+    const octofix::point3d p(0.05f, 0.05f, 0.05f);
+    tracked.enableChangeDetection(true);
+    other.updateNode(p, true);
+    tracked.swapContent(other);
+    EXPECT(tracked.getResolution() == 0.2 && tracked.search(p) && !other.search(p));
+    EXPECT(tracked.numChangesDetected() == 0);
+    tracked.updateNode(p, -2.0f);
+    EXPECT(tracked.numChangesDetected() == 1 && !tracked.changedKeysBegin()->second);
+    other.updateNode(p, true);
+    EXPECT(other.numChangesDetected() == 0);
+    other = tracked;
+    EXPECT(other.isChangeDetectionEnabled() && other.numChangesDetected() == 0);
+    tracked.clear();
+    tracked.updateNode(p, true);
+    EXPECT(tracked.numChangesDetected() == 1 && tracked.changedKeysBegin()->second);
+    tracked.resetChangeDetection();
+    EXPECT(tracked.numChangesDetected() == 0);
+}
+
+void try_threads() {
+    octofix::OcTree tree(0.1);
+    octofix::Pointcloud cloud;
+    for (int i = -150; i < 150; i++)
+        cloud.push_back(3, 0.01f * static_cast<float>(i), 0.02f * static_cast<float>(i % 50));
+    tree.insertPointCloud(cloud, {0, 0, 0}, -1, true);
+    const octofix::OcTree &shared = tree;
+    const auto ask = [&shared](std::size_t *sum) {
+        const octofix::map &world = shared.exact_map();
+        const auto origin = metres(0, 0, 0), wall = metres(3, 0.1, 0.2);
+        *sum += world.get_all(std::array{origin, wall}).size();
+        *sum += world.cast(origin, wall, true).key.x;
+        *sum += world.leaves(origin, wall).size() + world.bounds()->high.y + world.save().size();
+        for (auto it = shared.begin_leafs(), end = shared.end_leafs(); it != end; ++it) ++*sum;
+        for (int i = 0; i < 2000; i++)
+            *sum += shared.search(1.5, 0.001 * i, 0.1, 12 + i % 5) != nullptr;
+        *sum += shared.size();
+    };
+    std::size_t alone = 0, sums[4] = {0, 0, 0, 0};
+    std::vector<std::thread> threads;
+    for (std::size_t &sum : sums) threads.emplace_back(ask, &sum);
+    for (std::thread &thread : threads) thread.join();
+    ask(&alone);
+    for (const std::size_t sum : sums) EXPECT(sum == alone && sum > 0);
+}
+
+} // namespace
+
+int main(int, char **words) {
+    try_lengths();
+    try_far_points();
+    try_refusals();
+    try_files(words[1]);
+    try_failing_writes(words[1]);
+    try_voxels();
+    try_models();
+    try_resolutions();
+    try_poses();
+    try_blocks();
+    try_changes();
+    try_threads();
+    std::printf("faces: %d failed\n", failed);
+    return failed != 0;
+}
