@@ -1,0 +1,545 @@
+"""The map."""
+
+from __future__ import annotations
+
+import operator
+import weakref
+from ctypes import c_size_t, c_uint64
+from typing import Any, TypeVar
+
+import numpy as np
+import numpy.typing as npt
+
+from . import _arrays, _files, _library
+from ._blocks import DEPTH, Blocks, blocks_of, voxels_in
+from ._errors import OTHER_RESOLUTION, Closed, OutOfMemory, Refused, refusal_of_row
+from ._library import call, rows_of
+from ._lock import ReadersWriterLock
+from ._results import (
+    UNKNOWN, Box, Casts, CastKind, Changes, Counted, Counts, Event, Limits, Odds, VoxelClass,
+)
+
+_Map = TypeVar("_Map", bound="Map")
+
+_MOST_GROUPS, _MOST_CELLS = 2**26, 2**27
+_SOUGHT = {"known": 0, "occupied": 1}
+_GUESSED_EDGE = 0.1
+
+
+class Map:
+    """An occupancy octree of voxels with an edge of `res` metres.
+
+    Points are arrays of shape (n, 3), or (3,) for one, in metres; each number is rounded to the
+    nearest whole nanometre. Log-odds are whole thousandths. The map has 65,536 voxels on each axis,
+    with the origin in its middle. What a call refuses leaves the map as it was; `edit` alone has
+    done the points before the one that is refused, or for which memory runs out.
+
+    `hit` and `miss` are what a hit and a miss add, `min` and `max` the bounds of values, and from
+    `threshold` on a voxel is occupied. `max_groups` (16 to 2^26) bounds the groups of eight nodes
+    that the map may have, `max_cells` (1 to 2^27) the voxels that the beams of one scan may meet.
+
+    Several threads may use one map: questions are answered side by side, and what changes the map
+    has it alone. `with Map(0.1) as world:` closes it at the end.
+    """
+
+    def __init__(
+        self,
+        res: float,
+        *,
+        hit: int = 850,
+        miss: int = -400,
+        min: int = -2000,
+        max: int = 3500,
+        threshold: int = 0,
+        max_groups: int = 2**24,
+        max_cells: int = 2**26,
+    ) -> None:
+        self._lock = ReadersWriterLock()
+        self._handle = _library.Handle()
+        self._edge = _arrays.edge(res)
+        odds = _library.Odds(*map(_arrays.integer_32, (hit, miss, min, max, threshold)))
+        limits = _library.Limits(
+            int(_arrays.integers(max_groups, "max_groups", 16, _MOST_GROUPS)),
+            int(_arrays.integers(max_cells, "max_cells", 1, _MOST_CELLS)),
+        )
+        call("open", self._handle, self._edge, odds, limits)
+        self._release = weakref.finalize(self, call, "close", self._handle)
+        # (a thread may still ask while the process ends, which gives all memory back)
+        self._release.atexit = False
+
+    # -- opening and closing
+
+    @classmethod
+    def from_bt(cls: type[_Map], source: _files.PathLike | _files.Bytes, **settings: Any) -> _Map:
+        """A new map of a `.bt` file, a path or its bytes, with the resolution of the file.
+
+        `settings` are the keyword arguments of `Map`.
+        """
+        return cls._from(source, settings, "load")
+
+    @classmethod
+    def from_snapshot(
+        cls: type[_Map], source: _files.PathLike | _files.Bytes, **settings: Any
+    ) -> _Map:
+        """A new map of a snapshot, a path or its bytes, with the resolution of the snapshot.
+
+        `settings` are the keyword arguments of `Map`; log-odds of the snapshot come before them.
+        """
+        return cls._from(source, settings, "restore")
+
+    @classmethod
+    def _from(
+        cls: type[_Map],
+        source: _files.PathLike | _files.Bytes,
+        settings: dict[str, Any],
+        name: str,
+    ) -> _Map:
+        if isinstance(source, (bytes, bytearray, memoryview)):
+            data = source
+        else:
+            data = _files.read(source)
+        made = cls(_GUESSED_EDGE, **settings)
+        try:
+            made._take(name, data)
+        except Refused as refused:
+            made.close()
+            if refused.code != OTHER_RESOLUTION:
+                raise
+            made = cls(refused.fields["file"] / _arrays.NANOMETRES, **settings)
+            made._take(name, data)
+        return made
+
+    def close(self) -> None:
+        """Gives the map's memory back, once the calls of other threads are done.
+
+        A second close does nothing.
+        """
+        with self._lock.writing():
+            self._release()
+
+    @property
+    def closed(self) -> bool:
+        return not self._release.alive
+
+    def __enter__(self: _Map) -> _Map:
+        return self
+
+    def __exit__(self, *_: object) -> None:
+        self.close()
+
+    def __repr__(self) -> str:
+        return f"<octofix.{type(self).__name__} of {self.resolution} m{', closed' * self.closed}>"
+
+    def copy(self: _Map) -> _Map:
+        """A map with the same values, log-odds, limits and box of `limit`.
+
+        It isn't stale, and has no mark.
+        """
+        rebuild, arguments = self.__reduce__()
+        made: _Map = rebuild(*arguments)
+        return made
+
+    __copy__ = copy
+
+    def __deepcopy__(self: _Map, _: dict[int, Any]) -> _Map:
+        return self.copy()
+
+    def __reduce__(self) -> tuple[Any, ...]:
+        return _rebuilt, (type(self), self.resolution, self.limits, self.to_snapshot())
+
+    # -- what the map is
+
+    @property
+    def resolution(self) -> float:
+        """The edge of a voxel in metres."""
+        return self._edge / _arrays.NANOMETRES
+
+    @property
+    def resolution_nm(self) -> int:
+        """The edge of a voxel in nanometres."""
+        return self._edge
+
+    @property
+    def odds(self) -> Odds:
+        """The log-odds in force, which a snapshot that is restored may have changed."""
+        odds = self._settings().odds
+        return Odds(odds.hit, odds.miss, odds.min, odds.max, odds.thr)
+
+    @property
+    def limits(self) -> Limits:
+        limits = self._settings().limits
+        return Limits(limits.max_groups, limits.max_cells)
+
+    @property
+    def stale(self) -> bool:
+        """Whether depths below 16 wait for `refresh`, after lazy edits."""
+        return bool(self._settings().is_stale)
+
+    @property
+    def tracked(self) -> bool:
+        """Whether a mark of `track` stands."""
+        return bool(self._settings().is_tracked)
+
+    @property
+    def memory(self) -> int:
+        """The bytes that the map holds now."""
+        count = c_uint64()
+        self._ask("memory", count)
+        return count.value
+
+    @property
+    def window(self) -> Box | None:
+        """The box of `limit`, or None."""
+        return self._box("window")
+
+    # -- edits
+
+    def scan(
+        self,
+        points: npt.ArrayLike,
+        origin: npt.ArrayLike = (0, 0, 0),
+        quaternion: npt.ArrayLike = (1, 0, 0, 0),
+        range: float | None = None,
+        *,
+        hit: int | None = None,
+        miss: int | None = None,
+        lazy: bool = False,
+    ) -> Counted:
+        """Does a scan: hits the voxels where beams end, and frees those on the way.
+
+        `points`, (n, 3), are in metres in the sensor's frame, which stands at `origin` and is
+        turned by `quaternion` (w, x, y, z), of any length; points are turned in double. A beam
+        that is longer than `range` metres is cut there, and hits nothing. `hit` and `miss` are
+        log-odds of this scan alone. A lazy scan leaves depths below 16 to `refresh`. The scan is
+        done whole or refused: 4, 5, 6, 7 (`index`), 8 (`index`, `cells`) or 23.
+        """
+        turn = _arrays.quaternion(quaternion)
+        places = _arrays.nanometres(points, "points", turn)
+        pose = _library.Pose(_arrays.point(origin, "origin"), 1 if any(turn) else 0, 0, 0, 0)
+        reach = -1 if range is None else _arrays.length(range, "range")
+        options = _library.ScanOptions(reach, *_arrays.own_odds(hit, miss), lazy)
+        counted = _library.Counted()
+        self._do("scan", pose, places.ctypes.data, len(places), options, counted)
+        return Counted(counted.hits, counted.frees)
+
+    def edit(
+        self,
+        points: npt.ArrayLike,
+        event: npt.ArrayLike,
+        number: npt.ArrayLike = 0,
+        *,
+        lazy: bool = False,
+    ) -> None:
+        """Edits the voxels that hold `points`, (n, 3), one after another.
+
+        `event`, an `Event`, and `number`, in thousandths, are one for all points or (n,); beside
+        `FORGET` and `LIKELY` a number means nothing. Where point `index` is refused (23, 24), those
+        before it are done, and none after it; so where `OutOfMemory` is raised with an `index`.
+        """
+        edits = _arrays.edits(points, event, number)
+        done = c_size_t()
+        try:
+            self._do("edit_all", edits.ctypes.data, len(edits), lazy, done)
+        except Refused as refused:
+            raise refusal_of_row(refused.code, done.value, refused.fields) from None
+        except MemoryError:
+            raise OutOfMemory(done.value) from None
+
+    def add(self, points: npt.ArrayLike, number: npt.ArrayLike, *, lazy: bool = False) -> None:
+        """Adds `number` to the voxels that hold `points`, (n, 3), as `edit`."""
+        self.edit(points, Event.ADD, number, lazy=lazy)
+
+    def set(self, points: npt.ArrayLike, number: npt.ArrayLike, *, lazy: bool = False) -> None:
+        """Gives `number` to the voxels that hold `points`, (n, 3), as `edit`."""
+        self.edit(points, Event.SET, number, lazy=lazy)
+
+    def forget(self, points: npt.ArrayLike, *, lazy: bool = False) -> None:
+        """Makes the voxels that hold `points`, (n, 3), unknown, as `edit`."""
+        self.edit(points, Event.FORGET, lazy=lazy)
+
+    def edit_box(
+        self, low: npt.ArrayLike, high: npt.ArrayLike, event: int, number: int = 0
+    ) -> None:
+        """Edits each voxel from that of the point `low` to that of `high`, both included.
+
+        Refused: 23, 24 (`point`), 26, and 27 (`count`) while a mark stands.
+        """
+        corners = _arrays.point(low, "low"), _arrays.point(high, "high")
+        events = _arrays.events_of_edits(event)
+        change = int(events), int(_arrays.numbers_of_edits(number, events))
+        self._do("edit_box", *corners, *change)
+
+    def limit(self, low: npt.ArrayLike, high: npt.ArrayLike) -> None:
+        """From now on scans change only voxels from that of `low` to that of `high`."""
+        self._do("limit", _arrays.point(low, "low"), _arrays.point(high, "high"))
+
+    def no_limit(self) -> None:
+        """Scans change all voxels again."""
+        self._do("no_limit")
+
+    def refresh(self) -> None:
+        """Lets depths below 16 answer again after lazy edits."""
+        self._do("refresh")
+
+    def prune(self) -> None:
+        """Gives back the groups that the values don't need."""
+        self._do("prune")
+
+    def clear(self) -> None:
+        """Makes each voxel unknown, and takes the mark away."""
+        self._do("clear")
+
+    def max_likelihood(self) -> None:
+        """Gives each occupied voxel the largest value, and each free one the smallest."""
+        self._do("max_likelihood")
+
+    def counts(self) -> Counts:
+        """Prunes the map, and counts the least tree of its values."""
+        counts = _library.Counts()
+        self._do("counts_of", counts)
+        return Counts(counts.groups, counts.nodes)
+
+    # -- questions
+
+    def get(self, points: npt.ArrayLike, depth: int = 16) -> npt.NDArray[np.int32]:
+        """The values at `points`, (n, 3), int32 (n,), and `UNKNOWN` where nothing is known.
+
+        At a depth below 16 it is the largest known value in the block around the point. Refused:
+        24 (`index`), 25, and 22 where the map is stale and the depth is below 16.
+        """
+        places = _arrays.nanometres(points)
+        with self._lock.reading():
+            return self._values_within(places, depth)
+
+    def classes(self, points: npt.ArrayLike, depth: int = 16) -> npt.NDArray[np.int8]:
+        """The `VoxelClass` at `points`, int8 (n,): that of the value that `get` answers."""
+        places = _arrays.nanometres(points)
+        with self._lock.reading():
+            values, threshold = self._values_within(places, depth), self._settings_within().odds.thr
+        classes = np.where(values >= threshold, VoxelClass.OCCUPIED, VoxelClass.FREE)
+        return np.where(values == UNKNOWN, VoxelClass.UNKNOWN, classes).astype(np.int8)
+
+    def probabilities(self, points: npt.ArrayLike, depth: int = 16) -> npt.NDArray[np.float64]:
+        """The probabilities of being occupied at `points`, (n,), and NaN where nothing is known."""
+        values = self.get(points, depth)
+        is_known = values != UNKNOWN
+        found = np.full(len(values), np.nan)
+        found[is_known] = np.exp(-np.logaddexp(0, values[is_known] / -1000))
+        return found
+
+    def cast(
+        self, origins: npt.ArrayLike, ends: npt.ArrayLike, ignore_unknown: bool = False
+    ) -> Casts:
+        """What stops the straight way from each of `origins` to its end first.
+
+        Both are (n, 3), or one of them (3,), which then stands for all. An occupied voxel stops a
+        way, and so does an unknown one unless `ignore_unknown`. Refused: 24 (`index`).
+        """
+        ways = _arrays.segments(origins, ends)
+        stops = np.empty(len(ways), _library.STOP)
+        rows = ways.ctypes.data, len(ways), ignore_unknown, stops.ctypes.data, len(stops)
+        self._ask("cast_all", *rows)
+        codes = stops["code"]
+        kinds = np.full(len(ways), CastKind.HIT, np.int8)
+        kinds[codes == _library.CLEAR] = CastKind.CLEAR
+        kinds[codes == _library.UNKNOWN] = CastKind.UNKNOWN
+        _refuse_first(codes, (codes != _library.DONE) & (kinds == CastKind.HIT))
+        return Casts(kinds, stops["key"].copy())
+
+    def list(self, low: npt.ArrayLike, high: npt.ArrayLike, depth: int = 16) -> Blocks:
+        """The known blocks of a depth that meet the box from `low` to `high`, by their index.
+
+        The value of a block is the largest known one in it. Refused: 24 (`point`), 25, 26, 22, and
+        9 (`count`) where more than 1,000,000 blocks meet the box.
+        """
+        corners = _arrays.point(low, "low"), _arrays.point(high, "high")
+        rows = self._rows(_library.BLOCK, "list", *corners, _depth(depth))
+        return blocks_of(rows, self._edge)
+
+    def leaves(
+        self, low: npt.ArrayLike | None = None, high: npt.ArrayLike | None = None
+    ) -> Blocks:
+        """The greatest blocks of known voxels that all have one value, in Morton order.
+
+        With `low` and `high` those that meet the box from one to the other.
+        """
+        if low is None and high is None:
+            return blocks_of(self._rows(_library.BLOCK, "leaves"), self._edge)
+        if low is None or high is None:
+            raise ValueError("low and high stand both or not at all")
+        corners = _arrays.point(low, "low"), _arrays.point(high, "high")
+        return blocks_of(self._rows(_library.BLOCK, "leaves_in", *corners), self._edge)
+
+    def voxels(self, kind: str = "occupied", limit: int = 2**26) -> npt.NDArray[np.uint16]:
+        """The keys of all voxels that are "occupied", "free" or "known", (n, 3), in Morton order.
+
+        ValueError where there are more than `limit`.
+        """
+        if kind not in ("occupied", "free", "known"):
+            raise ValueError(f"kind is 'occupied', 'free' or 'known', not {kind!r}")
+        with self._lock.reading():
+            leaves = rows_of(_library.BLOCK, "leaves", self._handle)
+            threshold = self._settings_within().odds.thr
+        if kind != "known":
+            leaves = leaves[(leaves["value"] >= threshold) == (kind == "occupied")]
+        return voxels_in(leaves, limit)
+
+    def centers(self, keys: npt.ArrayLike) -> npt.NDArray[np.float64]:
+        """The middles of the voxels with these keys, (n, 3), in metres."""
+        self._check_open()
+        return _arrays.centers_of(keys, self._edge)
+
+    def keys(self, points: npt.ArrayLike) -> npt.NDArray[np.uint16]:
+        """The keys of the voxels that hold `points`, (n, 3). Refused: 24 (`index`)."""
+        self._check_open()
+        return _arrays.keys_of(points, self._edge)
+
+    def bounds(self, kind: str = "known") -> Box | None:
+        """The least box of keys that holds all "known" or all "occupied" voxels; None without."""
+        if kind not in _SOUGHT:
+            raise ValueError(f"kind is 'known' or 'occupied', not {kind!r}")
+        return self._box("bounds", _SOUGHT[kind])
+
+    def extent(
+        self, kind: str = "known"
+    ) -> tuple[npt.NDArray[np.float64], npt.NDArray[np.float64]] | None:
+        """The lowest and the highest corner of that box in metres, (3,) each; None without."""
+        box = self.bounds(kind)
+        if box is None:
+            return None
+        faces = np.array([box.low, box.high], np.int64) + [[0], [1]] - _arrays.ORIGIN_KEY
+        low, high = faces * self._edge / _arrays.NANOMETRES
+        return low, high
+
+    # -- changes since a mark
+
+    def track(self) -> None:
+        """Sets the mark, in place of an earlier one."""
+        self._do("track")
+
+    def untrack(self) -> None:
+        """Takes the mark away."""
+        self._do("untrack")
+
+    def changes(self) -> Changes:
+        """The voxels that have another class than at the mark. Refused: 28."""
+        rows = self._rows(_library.CHANGE, "changes")
+        return Changes(rows["key"].copy(), rows["kind"].astype(np.uint8))
+
+    # -- files
+
+    def to_bt(self) -> bytes:
+        """The `.bt` file of the map, which has the classes of voxels."""
+        return self._rows(np.uint8, "save").tobytes()
+
+    def load_bt(self, data: _files.Bytes) -> None:
+        """Makes the map that of a `.bt` file, and takes the mark away.
+
+        Occupied voxels get the largest value, and free ones the smallest. Refused: 10 to 19, 35
+        (`file`, `map`: nanometres), 23, and 34 where it has more than 2^30 bytes.
+        """
+        self._take("load", data)
+
+    def to_snapshot(self) -> bytes:
+        """The snapshot of the map: its values, log-odds and box of `limit`."""
+        return self._rows(np.uint8, "snapshot").tobytes()
+
+    def load_snapshot(self, data: _files.Bytes) -> None:
+        """Makes the map that of a snapshot, and takes the mark away.
+
+        Refused: 17, 18, 20, 21 (`at`), 35 (`file`, `map`: nanometres), 23, 34 as `load_bt`.
+        """
+        self._take("restore", data)
+
+    def save(self, path: _files.PathLike) -> None:
+        """Writes the `.bt` file of the map, in place of one there only when it is whole."""
+        _files.write(path, self.to_bt())
+
+    def load(self, path: _files.PathLike) -> None:
+        """`load_bt` of a file."""
+        self.load_bt(_files.read(path))
+
+    def snapshot(self, path: _files.PathLike) -> None:
+        """Writes the snapshot of the map, in place of a file there only when it is whole."""
+        _files.write(path, self.to_snapshot())
+
+    def restore(self, path: _files.PathLike) -> None:
+        """`load_snapshot` of a file."""
+        self.load_snapshot(_files.read(path))
+
+    # -- calls of the library; what ends with `within` is called while the lock is held
+
+    def _check_open(self) -> None:
+        if self.closed:
+            raise Closed
+
+    def _ask(self, name: str, *arguments: Any) -> int:
+        with self._lock.reading():
+            return call(name, self._handle, *arguments)
+
+    def _do(self, name: str, *arguments: Any) -> None:
+        with self._lock.writing():
+            call(name, self._handle, *arguments)
+
+    def _rows(self, dtype: npt.DTypeLike, name: str, *arguments: Any) -> npt.NDArray[Any]:
+        with self._lock.reading():
+            return rows_of(dtype, name, self._handle, *arguments)
+
+    def _take(self, name: str, data: _files.Bytes) -> None:
+        found = np.frombuffer(data, np.uint8)
+        _files.check_size(len(found))
+        self._do(name, found.ctypes.data, len(found))
+
+    def _box(self, name: str, *arguments: Any) -> Box | None:
+        box = _library.Box()
+        if self._ask(name, *arguments, box) == _library.NONE:
+            return None
+        low, high = box.low, box.high
+        return Box((low.x, low.y, low.z), (high.x, high.y, high.z))
+
+    def _settings(self) -> _library.Settings:
+        with self._lock.reading():
+            return self._settings_within()
+
+    def _settings_within(self) -> _library.Settings:
+        settings = _library.Settings()
+        call("settings_of", self._handle, settings)
+        return settings
+
+    def _values_within(self, places: _arrays.Nanometres, depth: int) -> npt.NDArray[np.int32]:
+        answers = np.empty(len(places), _library.ANSWER)
+        rows = answers.ctypes.data, len(answers)
+        call("get_all", self._handle, places.ctypes.data, len(places), _depth(depth), *rows)
+        codes, values = answers["code"], answers["value"].copy()
+        is_unknown = codes == _library.UNKNOWN
+        values[is_unknown] = UNKNOWN
+        _refuse_first(codes, (codes != _library.DONE) & ~is_unknown)
+        return values
+
+
+def _depth(depth: int) -> int:
+    """The depth, and for each that there isn't the same one."""
+    return operator.index(depth) if 0 <= depth <= DEPTH else DEPTH + 1
+
+
+def _refuse_first(codes: npt.NDArray[Any], is_refused: npt.NDArray[np.bool_]) -> None:
+    """Raises the refusal of the first row that is refused."""
+    if is_refused.any():
+        index = int(is_refused.argmax())
+        raise refusal_of_row(int(codes[index]), index)
+
+
+def _rebuilt(kind: type[_Map], resolution: float, limits: Limits, snapshot: bytes) -> _Map:
+    """The map of a snapshot, for copies."""
+    made = kind(resolution, **limits._asdict())
+    made.load_snapshot(snapshot)
+    return made
+
+
+def ray(res: float, origin: npt.ArrayLike, end: npt.ArrayLike) -> npt.NDArray[np.uint16]:
+    """The keys of the voxels of `res` metres that the way from `origin` to `end` meets, in order.
+
+    uint16 (n, 3). Refused: 3, 24 (`point`).
+    """
+    way = _arrays.point(origin, "origin"), _arrays.point(end, "end")
+    return rows_of(_library.KEY, "ray", _arrays.edge(res), *way).copy()
