@@ -61,4 +61,5 @@ def main():
             print("end")
 
 
-main()
+if __name__ == "__main__":
+    main()

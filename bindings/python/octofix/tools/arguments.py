@@ -1,0 +1,105 @@
+"""Words of the command line that several subcommands take."""
+
+import argparse
+
+from .clouds.reading import FORMS
+
+
+def positive(word):
+    number = float(word)
+    if not 0 < number < 1e7:
+        raise argparse.ArgumentTypeError(f"{word} isn't above 0 and below 10,000 km")
+    return number
+
+
+def finite(word):
+    number = float(word)
+    if not abs(number) < 1e7:
+        raise argparse.ArgumentTypeError(f"{word} is no number below 10,000 km")
+    return number
+
+
+def whole(low, high):
+    """A type of whole numbers from low to high."""
+
+    def number(word):
+        if not low <= int(word) <= high:
+            raise argparse.ArgumentTypeError(f"{word} isn't from {low} to {high}")
+        return int(word)
+
+    return number
+
+
+def columns(word):
+    found = [it.strip() for it in word.split(",")]
+    if len(found) != 3 or not all(found):
+        raise argparse.ArgumentTypeError("three names or numbers, as x,y,z or 4,5,6")
+    return found
+
+
+def add_scans(parser):
+    """The options of how clouds are read and placed."""
+    parser.add_argument("clouds", nargs="+", metavar="CLOUD", help="files; - is the input")
+    form = parser.add_argument_group("how clouds are read")
+    form.add_argument("--format", choices=[*FORMS], help="where the file doesn't show it")
+    form.add_argument(
+        "--columns", type=columns, metavar="X,Y,Z", help="names or numbers (from 1) of columns"
+    )
+    form.add_argument(
+        "--every", type=whole(1, 10**9), default=1, metavar="N", help="each Nth point"
+    )
+    form.add_argument(
+        "--min-range", type=positive, default=0.0, metavar="M", help="no points nearer than this"
+    )
+    form.add_argument("--range", type=positive, metavar="M", help="cut beams that are longer")
+    form.add_argument("--voxel", type=positive, metavar="M", help="one point a voxel of this edge")
+    form.add_argument(
+        "--on-error",
+        choices=["stop", "skip"],
+        default="stop",
+        help="what is done with a cloud or a pose that can't be used (stop)",
+    )
+    parser.add_argument("--quiet", action="store_true", help="say faults alone, show no bar")
+    _add_poses(parser.add_argument_group("where the sensor stood"))
+    bags = parser.add_argument_group("ROS 1 bags")
+    bags.add_argument("--topic", help="the topic of PointCloud2, where there are several")
+    bags.add_argument("--pose-topic", metavar="TOPIC", help="poses: Odometry, PoseStamped, ..")
+    bags.add_argument("--frame", help="poses by tf: the frame of the map")
+
+
+def _add_poses(group):
+    group.add_argument(
+        "--poses", metavar="FILE", help="a pose a line, for each cloud in turn: TUM or KITTI"
+    )
+    group.add_argument(
+        "--pose", nargs=7, type=finite, metavar=("X", "Y", "Z", "QW", "QX", "QY", "QZ"),
+        help="one pose for all clouds",
+    )  # fmt: skip
+    group.add_argument(
+        "--by-time", action="store_true", help="take poses by the times in the names of the clouds"
+    )
+    group.add_argument("--times", metavar="FILE", help="by these times, a line for each cloud")
+    group.add_argument(
+        "--tolerance", type=positive, default=0.05, metavar="S", help="seconds to a pose (0.05)"
+    )
+    group.add_argument(
+        "--interpolate", action="store_true", help="a pose between the two around the time"
+    )
+    group.add_argument(
+        "--sensor", nargs=7, type=finite, metavar=("X", "Y", "Z", "QW", "QX", "QY", "QZ"),
+        help="how the sensor is mounted on what the poses are of",
+    )  # fmt: skip
+    group.add_argument(
+        "--world", action="store_true", help="points are in the map's frame; poses say from where"
+    )
+
+
+def add_map(parser, name="map"):
+    parser.add_argument(name, metavar=name.upper(), help="a .bt file or a snapshot; - is the input")
+
+
+def add_box(parser):
+    parser.add_argument(
+        "--box", nargs=6, type=finite, metavar=("X0", "Y0", "Z0", "X1", "Y1", "Z1"),
+        help="from the voxel of one corner to that of the other, in metres",
+    )  # fmt: skip

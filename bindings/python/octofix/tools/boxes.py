@@ -1,0 +1,29 @@
+"""Boxes of voxels, from corners in metres."""
+
+import numpy as np
+
+from .errors import Unusable
+from .leaves import ORIGIN
+from .lengths import NANO, nanometres
+
+
+def keys_of(points, resolution):
+    """The keys of the voxels that hold points in metres, within the map or not."""
+    return nanometres(points) // resolution + ORIGIN
+
+
+def box_of(corners, resolution):
+    """The low and the high key of six numbers in metres: from the voxel of one corner to that of
+    the other, cut at the border of the map."""
+    low, high = keys_of(np.reshape(corners, (2, 3)), resolution)
+    if (low > high).any():
+        raise Unusable("the box has a first corner that lies beyond the second (--box)")
+    low, high = np.maximum(low, 0), np.minimum(high, 2 * ORIGIN - 1)
+    if (low > high).any():
+        raise Unusable("the box lies outside the map (--box)")
+    return low, high
+
+
+def lowest(keys, resolution):
+    """The lowest corners of voxels in metres, exact to the nanometre."""
+    return (np.asarray(keys) - ORIGIN) * resolution / NANO

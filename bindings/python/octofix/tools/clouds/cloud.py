@@ -1,0 +1,39 @@
+"""One cloud, as a file has it."""
+
+from dataclasses import dataclass
+
+import numpy as np
+
+from ..poses import Pose
+
+
+@dataclass(frozen=True)
+class Cloud:
+    """Points of one scan, with what the file says of it.
+
+    points: (n, 3) in metres, of any kind of numbers; pose: where the file says that the sensor
+    stood, or None; time: in seconds, or None; notes: what is said of how the file was read; gap:
+    why there is no pose where there should be one.
+    """
+
+    name: str
+    points: np.ndarray
+    pose: Pose = None
+    time: float = None
+    notes: tuple = ()
+    gap: str = None
+
+
+def xyz_of(records):
+    """The fields x, y and z of records as (n, 3)."""
+    return np.stack([records[it] for it in "xyz"], axis=-1).reshape(-1, 3)
+
+
+def only(cloud):
+    """An iterator of one cloud, which doesn't keep it."""
+    return _emptied([cloud])
+
+
+def _emptied(clouds):
+    while clouds:
+        yield clouds.pop()

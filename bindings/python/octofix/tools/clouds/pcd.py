@@ -1,0 +1,127 @@
+"""PCD, the files of the Point Cloud Library: ascii, binary and binary_compressed."""
+
+from dataclasses import dataclass
+
+import numpy as np
+
+from ..errors import Unusable
+from ..poses import Pose, numbers_of
+from .cloud import Cloud, only, xyz_of
+from .headers import count_of, header_lines
+from .lzf import unpacked
+from .tables import table_of
+
+TYPES = {"F4", "F8", "I1", "I2", "I4", "I8", "U1", "U2", "U4", "U8"}
+MOST_BYTES = 1 << 20
+FORMS = ("ascii", "binary", "binary_compressed")
+
+
+@dataclass
+class _Header:
+    """The fields by name, as numpy's types with their lengths, and what else is said."""
+
+    names: list
+    types: list
+    repeats: list
+    points: int
+    form: str
+    viewpoint: Pose
+    lines: int
+
+    def layout(self):
+        """x, y and z in a record, at their places."""
+        sizes = [np.dtype(it).itemsize * many for it, many in zip(self.types, self.repeats)]
+        if sum(sizes) > MOST_BYTES:
+            raise Unusable(f"its points have {sum(sizes)} bytes each, and at most 2^20 are read")
+        places = [self.names.index(it) for it in "xyz"]
+        return np.dtype({
+            "names": list("xyz"),
+            "formats": [self.types[it] for it in places],
+            "offsets": [sum(sizes[:it]) for it in places],
+            "itemsize": sum(sizes),
+        })  # fmt: skip
+
+
+def read(name, content, reading):
+    """One cloud, with the VIEWPOINT of the header as its pose where it isn't that of the origin."""
+    header, start = _header_of(content)
+    body = memoryview(content)[start:]
+    points = {"ascii": _of_text, "binary": _of_records, "binary_compressed": _of_compressed}
+    pose = None if header.viewpoint.is_identity() else header.viewpoint
+    return only(Cloud(name, points[header.form](body, header), pose))
+
+
+def _header_of(content):
+    lines, start = header_lines(content, "DATA", "PCD")
+    found = {it[1][0]: it for it in lines if it[1] and not it[1][0].startswith("#")}
+    for name in ("FIELDS", "SIZE", "TYPE", "POINTS"):
+        if len(found.get(name, (0, []))[1]) < 2:
+            raise Unusable(f"its header lacks {name}", line=len(lines))
+    form_line, words, _ = found["DATA"]
+    form = " ".join(words[1:])
+    if form not in FORMS:
+        said = f"DATA {form[:40]} isn't read, only {', '.join(FORMS)} are"
+        raise Unusable(said, line=form_line)
+    line, words, _ = found["POINTS"]
+    names, types, repeats = _fields_of(found)
+    points = count_of(words[1], "POINTS", line)
+    return _Header(names, types, repeats, points, form, _viewpoint(found), len(lines)), start
+
+
+def _fields_of(found):
+    line, (_, *names), _ = found["FIELDS"]
+    if lacking := [it for it in "xyz" if it not in names]:
+        raise Unusable(f"FIELDS lacks {', '.join(lacking)}", line=line)
+    counts = found.get("COUNT", (line, ["COUNT"] + ["1"] * len(names), ""))
+    repeats = [count_of(it, "COUNT", counts[0]) for it in counts[1][1:]]
+    types = [kind + size for kind, size in zip(found["TYPE"][1][1:], found["SIZE"][1][1:])]
+    lengths = {len(names), len(repeats), *(len(found[it][1]) - 1 for it in ("TYPE", "SIZE"))}
+    if len(lengths) != 1 or not set(types) <= TYPES:
+        said = "FIELDS, SIZE, TYPE and COUNT of its header don't fit together"
+        raise Unusable(said, line=line)
+    if any(repeats[names.index(it)] != 1 for it in "xyz"):
+        raise Unusable("COUNT isn't 1 for x, y and z", line=counts[0])
+    return names, ["<" + it.lower() for it in types], repeats
+
+
+def _viewpoint(found):
+    line, words, row = found.get("VIEWPOINT", (0, ["", *"0001000"], "0 0 0 1 0 0 0"))
+    try:
+        numbers = numbers_of(words[1:], row)
+        if len(numbers) != 7:
+            raise Unusable(f"VIEWPOINT has 7 numbers, and here are {len(numbers)}")
+        return Pose.of(numbers[:3], numbers[3:])
+    except Unusable as why:
+        why.line = line
+        raise
+
+
+def _of_text(body, header):
+    places = [sum(header.repeats[: header.names.index(it)]) for it in "xyz"]
+    points = table_of(bytes(body), places, header.lines + 1)
+    if len(points) != header.points:
+        said = f"its data has {len(points)} lines, and {header.points} points are announced"
+        raise Unusable(said)
+    return points
+
+
+def _of_records(body, header):
+    layout = header.layout()
+    if len(body) < header.points * layout.itemsize:
+        announced = f"{header.points} points of {layout.itemsize} bytes are announced"
+        raise Unusable(f"its data has {len(body)} bytes, and {announced}")
+    return xyz_of(np.frombuffer(body, layout, header.points))
+
+
+def _of_compressed(body, header):
+    """The points of compressed data, in which all values of a field stand together."""
+    if len(body) < 8:
+        raise Unusable("its data ends before the two sizes")
+    packed, plain = np.frombuffer(body, "<u4", 2).tolist()
+    layout = header.layout()
+    if plain != header.points * layout.itemsize or len(body) < 8 + packed:
+        raise Unusable(f"its data has {len(body)} bytes, which don't fit the sizes in it")
+    data = unpacked(body[8 : 8 + packed], plain)
+    fields = ((layout.fields[it][0], layout.fields[it][1] * header.points) for it in "xyz")
+    columns = [np.frombuffer(data, kind, header.points, start) for kind, start in fields]
+    return np.stack(columns, axis=-1)

@@ -1,0 +1,60 @@
+"""The command octofix: its subcommands, its statuses, and what is said of a fault."""
+
+import argparse
+import importlib
+import os
+import sys
+
+from octofix import Refused, __version__
+
+from .errors import CLOSED_PIPE, INTERRUPTED, UNUSABLE, Unusable
+from .progress import say
+
+COMMANDS = (
+    "map", "info", "points", "grid", "view", "compare", "crop", "shift", "coarsen", "check",
+)  # fmt: skip
+STATUSES = """statuses: 0 done; 1 an input can't be used, an output can't be written, or something
+was refused; 2 usage; 3 done, but something was skipped; 4 a Python library isn't there; 130 stopped
+by Ctrl-C, with what was done until then written; 141 nobody reads the output any more"""
+
+
+def parser():
+    top = argparse.ArgumentParser("octofix", description=__doc__.split(":")[0], epilog=STATUSES)
+    top.add_argument("--version", action="version", version=f"octofix {__version__}")
+    below = top.add_subparsers(dest="command", metavar="COMMAND", required=True)
+    for name in COMMANDS:
+        module = importlib.import_module(f".commands.{name}", __package__)
+        each = below.add_parser(
+            name, help=module.HELP, description=module.__doc__, epilog=STATUSES,
+            formatter_class=argparse.RawDescriptionHelpFormatter,
+        )  # fmt: skip
+        module.arguments(each)
+        each.set_defaults(run=module.run)
+    return top
+
+
+def main(words=None):
+    """Runs a subcommand, and answers its exit status."""
+    options = parser().parse_args(words)
+    try:
+        status = options.run(options)
+        sys.stdout.flush()
+        return status
+    except Unusable as why:
+        say(str(why))
+        return why.status
+    except Refused as refused:
+        say(str(refused))
+        return UNUSABLE
+    except MemoryError as why:
+        say(str(why) or "memory ran out")
+        return UNUSABLE
+    except BrokenPipeError:
+        # (so that nothing is written when Python ends)
+        os.dup2(os.open(os.devnull, os.O_WRONLY), sys.stdout.fileno())
+        return CLOSED_PIPE
+    except OSError as error:
+        say(f"{error.filename or 'the output'}: {error.strerror or error}")
+        return UNUSABLE
+    except KeyboardInterrupt:
+        return INTERRUPTED

@@ -1,0 +1,108 @@
+"""Compares the classes of two maps of one resolution, voxel by voxel.
+
+    octofix compare before.bt after.bt
+    octofix compare before.bt after.bt --box -5 -5 0 5 5 2 --json
+
+Prints how many voxels have which classes in the two (those that neither knows don't count), the
+intersection over union of the occupied and of the free voxels, and how far the occupied voxels of
+one that aren't occupied in the other lie from the nearest that is (this needs SciPy).
+"""
+
+import json
+
+import numpy as np
+
+from ..arguments import add_box, add_map
+from ..boxes import box_of
+from ..errors import DONE, Unusable
+from ..leaves import FREE, NAMES, OCCUPIED, overlay
+from ..lengths import NANO, metres
+from ..maps import read_leaves
+from ..morton import decode
+from ..optional import wanted
+
+HELP = "classes of two maps side by side"
+
+
+def arguments(parser):
+    add_map(parser, "first")
+    add_map(parser, "second")
+    add_box(parser)
+    parser.add_argument("--json", action="store_true", help="as an object of JSON")
+
+
+def run(options):
+    found = facts(*_maps_of(options))
+    print(json.dumps(found, indent=2) if options.json else _text(found))
+    return DONE
+
+
+def _maps_of(options):
+    maps = [read_leaves(it) for it in (options.first, options.second)]
+    edges = [metres(it.resolution) for it in maps]
+    if edges[0] != edges[1]:
+        said = f"its resolution is {edges[1]} m, and that of {options.first} is {edges[0]} m"
+        raise Unusable(said, options.second)
+    if options.box:
+        maps = [it.within(*box_of(options.box, it.resolution)) for it in maps]
+    return maps
+
+
+def facts(first, second):
+    """The table, the overlaps and the distances of two maps."""
+    volumes, *classes = overlay(first, second)
+    table = np.zeros((3, 3), np.int64)
+    np.add.at(table, tuple(it.astype(int) for it in classes), volumes)
+    table[0, 0] = 0
+    found = {"table": {name: dict(zip(NAMES, row)) for name, row in zip(NAMES, table.tolist())}}
+    del found["table"]["unknown"]["unknown"]
+    found["iou"] = {NAMES[it]: _overlap(table, it) for it in (OCCUPIED, FREE)}
+    if wanted("scipy.spatial") is None:
+        found["distances"] = "they need the Python library scipy (in Debian python3-scipy)"
+    else:
+        pairs = {"first_to_second": (first, second), "second_to_first": (second, first)}
+        found["distances"] = {name: _distances(*pair) for name, pair in pairs.items()}
+    return found
+
+
+def _overlap(table, one):
+    union = int(table[one].sum() + table[:, one].sum() - table[one, one])
+    return round(int(table[one, one]) / union, 6) if union else None
+
+
+def _distances(first, second):
+    """How far the voxels that are occupied in the first alone lie from the second's, in metres."""
+    keys, others = _occupied(first), _occupied(second)
+    if not len(keys) or not len(others):
+        return None
+    keys = keys[second.class_at(_codes(first)) != OCCUPIED]
+    if not len(keys):
+        return {"voxels": 0}
+    away, _ = wanted("scipy.spatial").cKDTree(others).query(keys)
+    away = away * first.resolution / NANO
+    found = {"mean": away.mean(), "median": np.median(away), "most": away.max()}
+    return {"voxels": len(keys), **{name: round(float(it), 6) for name, it in found.items()}}
+
+
+def _codes(leaves):
+    pieces = [codes for codes, _ in leaves.of_class(OCCUPIED).blocks()]
+    return np.concatenate(pieces) if pieces else np.empty(0, np.int64)
+
+
+def _occupied(leaves):
+    return decode(_codes(leaves))
+
+
+def _text(found):
+    lines = [f"{'first / second':15}" + "".join(f"{it:>14}" for it in NAMES)]
+    for name, row in found["table"].items():
+        cells = "".join(f"{row.get(it, '-'):>14}" for it in NAMES)
+        lines.append(f"{name:15}{cells}")
+    lines += [f"IoU of {name}: {value}" for name, value in found["iou"].items()]
+    distances = found["distances"]
+    if isinstance(distances, str):
+        return "\n".join([*lines, f"distances: {distances}"])
+    for name, value in distances.items():
+        said = ", ".join(f"{it} {number}" for it, number in (value or {"voxels": "none"}).items())
+        lines.append(f"occupied in one alone, {name.replace('_', ' ')}, metres: {said}")
+    return "\n".join(lines)

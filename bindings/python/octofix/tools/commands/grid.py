@@ -1,0 +1,99 @@
+"""Writes a height band of a map as a picture with the YAML that the map server of ROS reads.
+
+    octofix grid map.bt --height 0.1 1.8 -o floor.pgm
+    octofix grid map.bt --height 0.1 1.8 -o floor.png --frontier frontier.csv
+
+writes floor.pgm (0 occupied, 254 free, 205 unknown; the top row is that of the highest y) and
+floor.yaml. The box is all that is known where none is given. The frontier is the middles of the
+free cells of the picture that have an unknown one beside them.
+"""
+
+import os
+
+import numpy as np
+
+from .. import planes
+from ..arguments import add_map, finite
+from ..boxes import box_of
+from ..errors import DONE, Unusable
+from ..files import written
+from ..leaves import FREE, OCCUPIED, ORIGIN, UNKNOWN
+from ..lengths import NANO, metres
+from ..maps import read_leaves
+from ..pictures import form_of, write_picture
+from ..pointfiles import write_points
+from ..progress import say
+
+HELP = "a height band as PGM or PNG, with its YAML for ROS"
+GREYS = {UNKNOWN: 205, FREE: 254, OCCUPIED: 0}
+YAML = """image: {image}
+resolution: {resolution}
+origin: [{x}, {y}, 0]
+negate: 0
+occupied_thresh: 0.65
+free_thresh: 0.196
+mode: trinary
+"""
+
+
+def arguments(parser):
+    add_map(parser)
+    parser.add_argument(
+        "--height", nargs=2, type=finite, metavar=("Z0", "Z1"), help="the band, in metres (all)"
+    )
+    parser.add_argument(
+        "--area", nargs=4, type=finite, metavar=("X0", "Y0", "X1", "Y1"), help="in metres (all)"
+    )
+    parser.add_argument("-o", "--output", required=True, metavar="FILE", help=".pgm or .png")
+    parser.add_argument("--frontier", metavar="FILE", help="a .csv of the frontier")
+
+
+def run(options):
+    form_of(options.output)
+    leaves = read_leaves(options.map)
+    low, high = box_for(leaves, options.area, options.height)
+    plane = planes.band(leaves, low, high)
+    greys = np.array([GREYS[it] for it in (UNKNOWN, FREE, OCCUPIED)], np.uint8)
+    write_picture(options.output, greys[plane[::-1]])
+    with written(os.path.splitext(options.output)[0] + ".yaml") as file:
+        file.write(yaml_of(options.output, low, leaves.resolution).encode())
+    if options.frontier:
+        _write_frontier(options.frontier, plane, low, leaves.resolution)
+    counted = ", ".join(f"{(plane == it).sum()} {name}" for it, name in _named())
+    say(f"{plane.shape[1]} x {plane.shape[0]} cells: {counted}")
+    return DONE
+
+
+def _named():
+    return (OCCUPIED, "occupied"), (FREE, "free"), (UNKNOWN, "unknown")
+
+
+def box_for(leaves, area, height):
+    """The keys of the box of an area and a band of heights, of all that is known without them."""
+    known = leaves.box()
+    if known is None:
+        if not (area and height):
+            raise Unusable("nothing is known in the map, so it has no extent")
+        known = np.full((2, 3), ORIGIN)
+    low, high = (it.copy() for it in known)
+    x_0, y_0, x_1, y_1 = area or (0, 0, 0, 0)
+    z_0, z_1 = height or (0, 0)
+    box = box_of((x_0, y_0, z_0, x_1, y_1, z_1), leaves.resolution)
+    for corner, asked in zip((low, high), box):
+        corner[:2] = asked[:2] if area else corner[:2]
+        corner[2] = asked[2] if height else corner[2]
+    return low, high
+
+
+def yaml_of(picture, low, resolution):
+    """The YAML of a picture whose lower left cell has this key: its origin is that corner."""
+    x, y = (metres(it) for it in (np.asarray(low)[:2] - ORIGIN) * resolution)
+    image = os.path.basename(picture)
+    return YAML.format(image=image, resolution=metres(resolution), x=x, y=y)
+
+
+def _write_frontier(name, plane, low, resolution):
+    rows, columns = np.nonzero(planes.frontier(plane))
+    keys = np.stack([columns + low[0], rows + low[1]], axis=-1)
+    middles = (2 * (keys - ORIGIN) + 1) * (resolution / 2 / NANO)
+    write_points(name, "csv", ["x", "y"], [middles])

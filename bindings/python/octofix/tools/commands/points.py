@@ -1,0 +1,71 @@
+"""Writes what a map knows as points: the middles of voxels or of blocks, in metres.
+
+    octofix points map.bt -o map.ply
+    octofix points map.bt --what frontier --box -5 -5 0 5 5 2 -o frontier.csv
+    octofix points map.bt --what leaves -o leaves.npy
+
+occupied and free are voxels, or the blocks of a depth in which one is (a block is free where none
+of its voxels is occupied); frontier are free voxels that have an unknown one beside them on an axis
+(with planar scans that is every free voxel: above and below it all is unknown); leaves are the
+greatest blocks of one class, with the columns size (the edge in metres) and class (1 free, 2
+occupied) behind x, y, z.
+"""
+
+import numpy as np
+
+from ..arguments import add_box, add_map, whole
+from ..boxes import box_of
+from ..errors import DONE, Unusable
+from ..leaves import FREE, OCCUPIED, VOXELS
+from ..lengths import NANO
+from ..maps import read_leaves
+from ..morton import decode
+from ..pointfiles import FORMS, form_of, write_points
+from ..progress import say
+
+HELP = "voxels as points: PLY, PCD, XYZ, CSV, .npy"
+CLASSES = {"occupied": OCCUPIED, "free": FREE}
+
+
+def arguments(parser):
+    add_map(parser)
+    parser.add_argument("--what", choices=[*CLASSES, "frontier", "leaves"], default="occupied")
+    parser.add_argument("--depth", type=whole(0, VOXELS), default=VOXELS, help="of blocks (16)")
+    add_box(parser)
+    parser.add_argument("--format", choices=FORMS, help="where the name's ending doesn't say it")
+    parser.add_argument("-o", "--output", required=True, metavar="FILE", help="- is the output")
+
+
+def run(options):
+    form = form_of(options.output, options.format)
+    if options.what == "frontier" and options.depth != VOXELS:
+        raise Unusable("a frontier is of voxels, and takes no --depth")
+    columns = ["x", "y", "z"] + ["size", "class"] * (options.what == "leaves")
+    count = write_points(options.output, form, columns, pieces(options))
+    say(f"{count} points ({options.what}) written to {options.output}")
+    return DONE
+
+
+def pieces(options):
+    """Arrays of rows of points."""
+    leaves = read_leaves(options.map).coarse(options.depth)
+    box = box_of(options.box, leaves.resolution) if options.box else None
+    if options.what == "frontier":
+        codes = leaves.frontier()
+        if box:
+            keys = decode(codes)
+            codes = codes[((keys >= box[0]) & (keys <= box[1])).all(axis=1)]
+        return [leaves.centers(codes)]
+    if options.what == "leaves":
+        return [_leaf_rows(leaves.within(*box, options.depth) if box else leaves)]
+    leaves = leaves.of_class(CLASSES[options.what])
+    leaves = leaves.within(*box, options.depth) if box else leaves
+    blocks = leaves.blocks(options.depth)
+    return (leaves.centers(codes, options.depth) for codes, _ in blocks)
+
+
+def _leaf_rows(leaves):
+    edges = leaves.edges()[:, None]
+    middles = (2 * (leaves.lows() - (1 << 15)) + edges) * (leaves.resolution / 2 / NANO)
+    sizes = edges * (leaves.resolution / NANO)
+    return np.concatenate([middles, sizes, leaves.classes[:, None]], axis=1)

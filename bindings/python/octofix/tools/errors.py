@@ -1,0 +1,34 @@
+"""What ends a tool, and the exit statuses."""
+
+DONE = 0
+UNUSABLE = 1
+USAGE = 2
+SKIPPED = 3
+MISSING_LIBRARY = 4
+INTERRUPTED = 130
+CLOSED_PIPE = 141
+
+
+class Unusable(Exception):
+    """Why an input can't be used, and where: the file, the line and the column, from 1."""
+
+    status = UNUSABLE
+
+    def __init__(self, why, name=None, line=None, column=None):
+        super().__init__(why)
+        self.why, self.name, self.line, self.column = why, name, line, column
+
+    def named(self, name):
+        """The same, said of this file where no file is named."""
+        self.name = self.name or name
+        return self
+
+    def __str__(self):
+        place = [it for it in (self.name, self.line, self.column) if it is not None]
+        return ":".join(map(str, place)) + ": " * bool(place) + self.why
+
+
+class MissingLibrary(Unusable):
+    """A Python library that is optional, and needed for what was asked."""
+
+    status = MISSING_LIBRARY

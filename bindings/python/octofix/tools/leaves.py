@@ -1,0 +1,190 @@
+"""The classes of a map as arrays: blocks in Morton order, none of which lies in another."""
+
+from dataclasses import dataclass
+
+import numpy as np
+
+from .lengths import NANO
+from .morton import decode, encode
+
+UNKNOWN, FREE, OCCUPIED = 0, 1, 2
+NAMES = ("unknown", "free", "occupied")
+VOXELS = 16
+ORIGIN = 1 << 15
+CHUNK = 1 << 18
+
+
+@dataclass(frozen=True)
+class Leaves:
+    """codes: int64, of the first voxel of each block, ascending; depths: 0 to 16; classes: FREE or
+    OCCUPIED; resolution: whole nanometres."""
+
+    codes: np.ndarray
+    depths: np.ndarray
+    classes: np.ndarray
+    resolution: int
+
+    @staticmethod
+    def of(blocks, threshold):
+        """Those of the blocks of an octofix map."""
+        depths = blocks.depth.astype(np.int64)
+        codes = encode(blocks.index.astype(np.int64) << (VOXELS - depths)[:, None])
+        classes = np.where(blocks.value >= threshold, OCCUPIED, FREE).astype(np.int8)
+        return Leaves.sorted(codes, depths, classes, blocks.resolution_nm)
+
+    @staticmethod
+    def sorted(codes, depths, classes, resolution):
+        order = np.argsort(codes, kind="stable")
+        return Leaves(codes[order], depths[order], classes[order], resolution)
+
+    def __len__(self):
+        return len(self.codes)
+
+    def select(self, mask):
+        return Leaves(self.codes[mask], self.depths[mask], self.classes[mask], self.resolution)
+
+    def of_class(self, one):
+        return self.select(self.classes == one)
+
+    def volumes(self):
+        """The voxels of each block."""
+        return np.left_shift(np.int64(1), 3 * (VOXELS - self.depths))
+
+    def edges(self):
+        """The voxels along an edge of each block."""
+        return np.left_shift(np.int64(1), VOXELS - self.depths)
+
+    def lows(self):
+        """The lowest key of each block, (n, 3)."""
+        return decode(self.codes)
+
+    def count(self, one):
+        """The voxels of a class."""
+        return int(self.volumes()[self.classes == one].sum())
+
+    def box(self):
+        """The lowest and the highest key of all blocks, or None where there are none."""
+        if not len(self):
+            return None
+        lows = self.lows()
+        return lows.min(axis=0), (lows + self.edges()[:, None] - 1).max(axis=0)
+
+    def class_at(self, codes):
+        """The class of each voxel."""
+        if not len(self):
+            return np.zeros(len(codes), np.int8)
+        at = np.searchsorted(self.codes, codes, "right") - 1
+        last = self.codes + self.volumes() - 1
+        return np.where((at >= 0) & (codes <= last[at]), self.classes[at], UNKNOWN).astype(np.int8)
+
+    def known_before(self, codes):
+        """How many known voxels have smaller codes than each of these."""
+        volumes = self.volumes()
+        sums = np.concatenate([[0], np.cumsum(volumes)])
+        at = np.searchsorted(self.codes, codes, "left")
+        inside = np.zeros(len(codes), np.int64)
+        if len(self):
+            before = np.maximum(at - 1, 0)
+            inside = np.maximum(self.codes[before] + volumes[before] - codes, 0) * (at > 0)
+        return sums[at] - inside
+
+    def coarse(self, depth):
+        """The blocks of this depth in place of deeper ones: each has the greatest class in it."""
+        is_deep = self.depths > depth
+        shift = 3 * (VOXELS - depth)
+        codes, classes = self.codes[is_deep] >> shift, self.classes[is_deep]
+        first = np.flatnonzero(np.diff(codes, prepend=-1))
+        joined = np.maximum.reduceat(classes, first) if len(first) else classes[:0]
+        depths = np.full(len(first), depth, np.int64)
+        return Leaves.sorted(
+            np.concatenate([self.codes[~is_deep], codes[first] << shift]),
+            np.concatenate([self.depths[~is_deep], depths]),
+            np.concatenate([self.classes[~is_deep], joined]),
+            self.resolution,
+        )
+
+    def within(self, low, high, depth=VOXELS):
+        """The parts in the box of these keys, both corners included; at the depth a block counts
+        whole where it meets the box."""
+        low, high = np.asarray(low), np.asarray(high)
+        kept, left = [], self
+        while len(left):
+            lows, edges = left.lows(), left.edges()[:, None]
+            ends = lows + edges - 1
+            meets = ((lows <= high) & (ends >= low)).all(axis=1)
+            is_inside = ((lows >= low) & (ends <= high)).all(axis=1) | (left.depths >= depth)
+            kept.append(left.select(meets & is_inside))
+            left = left.select(meets & ~is_inside).children()
+        return _joined(kept, self.resolution)
+
+    def children(self):
+        """The eight blocks of each block."""
+        steps = (self.volumes() // 8)[:, None] * np.arange(8)
+        codes = (self.codes[:, None] + steps).reshape(-1)
+        depths, classes = np.repeat(self.depths + 1, 8), np.repeat(self.classes, 8)
+        return Leaves(codes, depths, classes, self.resolution)
+
+    def blocks(self, depth=VOXELS, chunk=CHUNK):
+        """Arrays of codes and classes of all blocks of this depth, at most `chunk` at a time. No
+        block may be deeper."""
+        shift = 3 * (VOXELS - depth)
+        many = self.volumes() >> shift
+        ends = np.cumsum(many)
+        total = int(ends[-1]) if len(self) else 0
+        for low in range(0, total, chunk):
+            place = np.arange(low, min(low + chunk, total))
+            at = np.searchsorted(ends, place, "right")
+            yield self.codes[at] + (place - ends[at] + many[at] << shift), self.classes[at]
+
+    def centers(self, codes, depth=VOXELS):
+        """The middles of blocks of one depth, in metres."""
+        edge = 1 << (VOXELS - depth)
+        middle = 2 * (decode(codes) - ORIGIN) + edge
+        return middle * (self.resolution / 2 / NANO)
+
+    def frontier(self):
+        """The codes of the free voxels that have an unknown one beside them on an axis."""
+        found = [
+            self._open_faces(axis, is_up) for axis in range(3) for is_up in (False, True)
+        ]
+        return np.unique(np.concatenate(found))
+
+    def _open_faces(self, axis, is_up):
+        """The free voxels that have an unknown one behind this face. Of a block whose neighbour is
+        known throughout there are none; of others the four children at the face are looked at."""
+        free, pending = self.of_class(FREE), np.empty((0, 3), np.int64)
+        lows = free.lows()
+        for depth in range(VOXELS + 1):
+            edge = 1 << (VOXELS - depth)
+            keys = np.concatenate([pending, lows[free.depths == depth]])
+            beside = keys.copy()
+            beside[:, axis] += edge if is_up else -edge
+            is_there = (beside[:, axis] >= 0) & (beside[:, axis] < 2 * ORIGIN)
+            keys, start = keys[is_there], encode(beside[is_there])
+            known = self.known_before(start + edge**3) - self.known_before(start)
+            keys = keys[known < edge**3]
+            if depth < VOXELS:
+                pending = _at_face(keys, edge // 2, axis, is_up)
+        return encode(keys)
+
+
+def _at_face(keys, edge, axis, is_up):
+    """The four children of this edge at a face of each block."""
+    corners = np.array([it for it in np.ndindex(2, 2, 2) if it[axis] == is_up])
+    return (keys[:, None] + corners * edge).reshape(-1, 3)
+
+
+def _joined(parts, resolution):
+    if not parts:
+        parts = [Leaves(*(np.empty(0, np.int64) for _ in range(3)), resolution)]
+    arrays = [[getattr(it, name) for it in parts] for name in ("codes", "depths", "classes")]
+    return Leaves.sorted(*map(np.concatenate, arrays), resolution)
+
+
+def overlay(first, second):
+    """The pieces into which the blocks of two maps part the codes: how many voxels each has, and
+    its classes in the first and in the second."""
+    ends = [it.codes for it in (first, second)]
+    ends += [it.codes + it.volumes() for it in (first, second)]
+    cuts = np.unique(np.concatenate(ends))
+    return np.diff(cuts), first.class_at(cuts[:-1]), second.class_at(cuts[:-1])

@@ -1,0 +1,79 @@
+"""Scans into a map, and into the script of commands that makes the same map."""
+
+import contextlib
+
+import numpy as np
+
+from octofix import Event, Refused
+
+from .editing import edit_blocks
+from .errors import Unusable
+from .gathering import MOST_POINTS, TOO_MANY_CELLS, do_scan, gathered
+from .leaves import OCCUPIED
+
+HELP = {
+    6: "the sensor stands outside the map",
+    7: "its point {index} lies outside the map (--range cuts beams, a larger --res has more space)",
+    8: "a beam meets {cells} voxels (--range, --max-cells)",
+    23: "the map is full (--max-groups allows more, a larger --res or a --range takes less)",
+}
+
+
+def refusal(refused, name):
+    """A refused scan in the words of the options that help."""
+    text = HELP.get(refused.code, str(refused)).format(**refused.fields)
+    return Unusable(text, name)
+
+
+class Mapper:
+    """Does scans in a map and, where there is one, writes them to a script."""
+
+    def __init__(self, world, reach=None, script=None):
+        """reach: the range in metres, or None."""
+        self.world, self.reach, self.script = world, reach, script
+        self.scans = self.points = self.parted = 0
+
+    def add(self, scan):
+        """Does one scan whole; where that is refused nothing is done, and it is Unusable."""
+        try:
+            if not self._add_at_once(scan):
+                self._add_in_parts(scan)
+        except Refused as refused:
+            raise refusal(refused, scan.name) from None
+        self.scans += 1
+        self.points += len(scan.points)
+
+    def _add_at_once(self, scan):
+        """False where the scan has too many points or voxels for that."""
+        if len(scan.points) > MOST_POINTS:
+            return False
+        try:
+            do_scan(self.world, scan.origin, scan.points, self.reach)
+        except Refused as refused:
+            if refused.code == TOO_MANY_CELLS and len(scan.points) > 1:
+                return False
+            raise
+        if self.script:
+            self.script.scan(scan, self.reach)
+        return True
+
+    def _add_in_parts(self, scan):
+        """What the scan does, as edits: each voxel that it hits is hit once, each one that it frees
+        is missed once."""
+        leaves = gathered(scan, self.world.resolution, self.world.limits, self.reach)
+        odds = self.world.odds
+        numbers = np.where(leaves.classes == OCCUPIED, odds.hit, odds.miss)
+        with self._undone_where_refused():
+            edit_blocks(self.world, leaves, Event.ADD, numbers)
+        if self.script:
+            self.script.edits(leaves)
+        self.parted += 1
+
+    @contextlib.contextmanager
+    def _undone_where_refused(self):
+        before = self.world.to_snapshot()
+        try:
+            yield
+        except Refused:
+            self.world.load_snapshot(before)
+            raise

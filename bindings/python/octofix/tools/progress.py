@@ -1,0 +1,54 @@
+"""How far a long run is, on standard error."""
+
+import sys
+import time
+
+from .optional import wanted
+
+
+def say(text):
+    print(f"octofix: {text}", file=sys.stderr, flush=True)
+
+
+class Progress:
+    """A bar of `total` scans with scans/s, points/s and the time left; `total` may be None."""
+
+    def __init__(self, total, is_shown):
+        self.scans = self.points = 0
+        self.began = self.told = time.monotonic()
+        self.total, self.is_shown, self.bar = total, is_shown, None
+        tqdm = wanted("tqdm") if is_shown else None
+        if tqdm:
+            self.bar = tqdm.tqdm(total=total, unit="scan", file=sys.stderr, leave=False)
+
+    def step(self, points):
+        """One more scan is done, of so many points."""
+        self.scans += 1
+        self.points += points
+        if self.bar is not None:
+            self.bar.set_postfix_str(f"{self.points / self.seconds():,.0f} points/s", False)
+            self.bar.update()
+        elif self.is_shown and time.monotonic() - self.told > 0.5:
+            self.told = time.monotonic()
+            print(f"\r{self.line()}", end="", file=sys.stderr, flush=True)
+
+    def seconds(self):
+        return max(time.monotonic() - self.began, 1e-6)
+
+    def rates(self):
+        """The rates of the whole run."""
+        seconds = self.seconds()
+        return f"{self.scans / seconds:,.1f} scans/s, {self.points / seconds:,.0f} points/s"
+
+    def line(self):
+        left = ""
+        if self.total:
+            seconds = (self.total - self.scans) * self.seconds() / max(self.scans, 1)
+            left = f", {seconds:.0f} s left"
+        return f"{self.scans}/{self.total or '?'} scans, {self.rates()}{left}   "
+
+    def close(self):
+        if self.bar is not None:
+            self.bar.close()
+        elif self.is_shown:
+            print("\r" + " " * 78 + "\r", end="", file=sys.stderr, flush=True)

@@ -1,0 +1,163 @@
+"""Clouds made scans: points chosen, turned and placed, in whole nanometres."""
+
+import re
+from dataclasses import dataclass
+
+import numpy as np
+
+from .clouds import clouds_in
+from .errors import Unusable
+from .lengths import FARTHEST, NANO, nanometres
+from .poses import IDENTITY
+from .progress import say
+
+
+# Points that are placed at once.
+PIECE = 1 << 16
+
+
+@dataclass(frozen=True)
+class Scan:
+    """A scan that isn't turned: its origin, and points from there, (n, 3), in nanometres."""
+
+    name: str
+    origin: np.ndarray
+    points: np.ndarray
+
+
+@dataclass(frozen=True)
+class Choice:
+    """Which points are taken: each n-th, those from a distance on, one a voxel of an edge."""
+
+    every: int = 1
+    nearest: float = 0.0
+    voxel: float = None
+
+
+@dataclass
+class Left:
+    """How many points were left out: not finite, too far away, and by choice."""
+
+    endless: int = 0
+    far: int = 0
+    chosen: int = 0
+
+    def text(self):
+        said = [f"{self.endless} points that aren't finite"] if self.endless else []
+        said += [f"{self.far} points 10,000 km away or more"] if self.far else []
+        said += [f"{self.chosen} points by --every, --min-range and --voxel"] if self.chosen else []
+        return ", ".join(said)
+
+
+class Scans:
+    """The scans of files in turn. What can't be used goes to `skips`; gaps counts the clouds that
+    have no pose near enough in time."""
+
+    def __init__(
+        self, names, reading, trajectory, skips, *, mount, is_world, choice, is_quiet=False
+    ):
+        self.names, self.reading, self.trajectory = names, reading, trajectory
+        self.skips, self.mount, self.is_world, self.choice = skips, mount, is_world, choice
+        self.left, self.gaps, self.clouds = Left(), 0, 0
+        self.said, self.is_quiet = set(), is_quiet
+
+    def is_one_each(self):
+        """Whether each file has one cloud, as far as names tell."""
+        is_many = re.compile(r"\.(bag|log|graph)(\.gz)?$")
+        forms = {"bag", "log", "graph"}
+        return self.reading.form not in forms and not any(map(is_many.search, self.names))
+
+    def __iter__(self):
+        for name in self.names:
+            try:
+                # (no name is kept for a cloud, so that it goes when its scan is made)
+                yield from filter(None, map(self._scan_of, clouds_in(name, self.reading)))
+            except Unusable as why:
+                self.clouds += 1
+                self.skips.judge(why)
+
+    def _scan_of(self, cloud):
+        """The scan of a cloud, or None."""
+        number = self.clouds
+        self.clouds += 1
+        for note in cloud.notes:
+            self._say_once(note, cloud.name)
+        try:
+            pose = self._pose_of(number, cloud)
+        except Unusable as why:
+            self.skips.judge(why)
+            return None
+        if pose is None:
+            self.gaps += 1
+            say(f"gap: {cloud.name}: {cloud.gap or 'no pose is near enough in time (--tolerance)'}")
+            return None
+        return self._placed(cloud, pose)
+
+    def _say_once(self, note, name):
+        if note not in self.said and not self.is_quiet:
+            self.said.add(note)
+            say(f"{name}: {note}")
+
+    def _pose_of(self, number, cloud):
+        """The pose of the sensor, or None in a gap."""
+        if self.trajectory is not None:
+            if cloud.pose is not None:
+                self._say_once("the pose in the file isn't used, since poses are given", cloud.name)
+            pose = self.trajectory.pose_of(number, cloud)
+        elif cloud.pose is not None:
+            self._say_once("the pose in the file is used (VIEWPOINT, NODE or the like)", cloud.name)
+            pose = cloud.pose
+        elif cloud.gap:
+            pose = None
+        else:
+            self._say_once("no pose is given: the sensor stands at the origin", cloud.name)
+            pose = IDENTITY
+        return pose and pose.carrying(self.mount)
+
+    def _placed(self, cloud, pose):
+        """The scan of a cloud, made piece by piece, so that little memory is taken beside it."""
+        origin, points, count = nanometres(pose.at), cloud.points[:: self.choice.every], 0
+        self.left.chosen += len(cloud.points) - len(points)
+        beams = np.empty((len(points), 3), np.int64)
+        for start in range(0, len(points), PIECE):
+            piece = self._beams_of(points[start : start + PIECE].astype(float), pose, origin)
+            beams[count : count + len(piece)] = piece
+            count += len(piece)
+        beams = beams[:count]
+        if self.choice.voxel:
+            beams = _one_a_voxel(beams, origin, nanometres(self.choice.voxel))
+            self.left.chosen += count - len(beams)
+        return Scan(cloud.name, origin, beams)
+
+    def _beams_of(self, points, pose, origin):
+        """Beams in nanometres from the origin, along the axes of the map."""
+        is_finite = np.isfinite(points).all(axis=1)
+        is_near = (np.abs(points) < FARTHEST / NANO).all(axis=1)
+        self.left.endless += len(points) - int(is_finite.sum())
+        self.left.far += int((is_finite & ~is_near).sum())
+        points = points[is_finite & is_near]
+        beams = nanometres(points) - origin if self.is_world else nanometres(pose.turned(points))
+        is_near = (np.abs(beams) < FARTHEST).all(axis=1)
+        self.left.far += len(beams) - int(is_near.sum())
+        beams = beams[is_near]
+        if self.choice.nearest > 0:
+            is_chosen = np.linalg.norm(beams / NANO, axis=1) >= self.choice.nearest
+            self.left.chosen += len(beams) - int(is_chosen.sum())
+            beams = beams[is_chosen]
+        return beams
+
+
+def _one_a_voxel(beams, origin, edge):
+    """The first beam that ends in each voxel of the map's frame."""
+    if not len(beams):
+        return beams
+    cells = (beams + origin) // edge
+    cells -= cells.min(axis=0)
+    width, depth, height = (int(it) + 1 for it in cells.max(axis=0))
+    if width * depth * height < 1 << 63:
+        # (one number for three, which sorts faster)
+        numbers = (cells[:, 0] * depth + cells[:, 1]) * height + cells[:, 2]
+        _, first = np.unique(numbers, return_index=True)
+    else:
+        _, first = np.unique(cells, return_index=True, axis=0)
+    return beams[np.sort(first)]

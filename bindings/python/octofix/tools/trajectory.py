@@ -1,0 +1,124 @@
+"""The pose of each cloud: the same for all, one for each in turn, or by its time."""
+
+import os
+import re
+
+import numpy as np
+
+from .errors import Unusable
+from .files import read_text
+from .poses import Pose, numbers_of, read_poses
+
+
+class Same:
+    """One pose for all clouds."""
+
+    def __init__(self, pose):
+        self.pose = pose
+
+    def pose_of(self, number, cloud):
+        return self.pose
+
+    def check(self, clouds):
+        pass
+
+
+class InTurn:
+    """A pose for each cloud, in the same order."""
+
+    def __init__(self, name, skips):
+        self.name = name
+        self.poses = [pose for _, pose in read_poses(name, skips)]
+
+    def check(self, clouds):
+        """Stops where there are more or fewer poses than clouds, if that is known."""
+        if clouds is not None and len(self.poses) != clouds:
+            why = f"it has {len(self.poses)} poses for {clouds} clouds"
+            raise Unusable(f"{why} (--by-time takes poses by their times)", self.name)
+
+    def pose_of(self, number, cloud):
+        if number >= len(self.poses):
+            raise Unusable(f"it has no pose for cloud {number + 1}, {cloud.name}", self.name)
+        if self.poses[number] is None:
+            raise Unusable(f"the pose of cloud {number + 1} can't be used", cloud.name)
+        return self.poses[number]
+
+
+class ByTime:
+    """The pose of the time of a cloud: the nearest one, or between the two around it."""
+
+    def __init__(self, name, skips, times, tolerance, is_between):
+        found = [it for it in read_poses(name, skips) if it[1] is not None]
+        if any(time is None for time, _ in found):
+            raise Unusable("its poses have no times, which --by-time takes", name)
+        found.sort(key=lambda it: it[0])
+        self.name, self.times, self.tolerance = name, times, tolerance
+        self.stamps = np.array([time for time, _ in found])
+        self.poses = [pose for _, pose in found]
+        self.is_between = is_between
+
+    def check(self, clouds):
+        if self.times is not None and clouds is not None and len(self.times) != clouds:
+            raise Unusable(f"there are {len(self.times)} times for {clouds} clouds", self.name)
+
+    def pose_of(self, number, cloud):
+        """The pose, or None where none is near enough."""
+        time = cloud.time if self.times is None else self.times[number]
+        if time is None:
+            time = time_of_name(cloud.name)
+        return self.at(time)
+
+    def at(self, time):
+        after = int(np.searchsorted(self.stamps, time))
+        around = [it for it in (after - 1, after) if 0 <= it < len(self.poses)]
+        near = [it for it in around if abs(self.stamps[it] - time) <= self.tolerance]
+        if self.is_between and len(around) == 2:
+            return self._between(time, *around) if len(near) == 2 else self._exact(time, near)
+        if self.is_between:
+            return self._exact(time, near)
+        if not near:
+            return None
+        return self.poses[min(near, key=lambda it: abs(self.stamps[it] - time))]
+
+    def _exact(self, time, near):
+        return next((self.poses[it] for it in near if self.stamps[it] == time), None)
+
+    def _between(self, time, before, after):
+        span = self.stamps[after] - self.stamps[before]
+        part = (time - self.stamps[before]) / span if span else 0.0
+        return between(self.poses[before], self.poses[after], part)
+
+
+def between(first, second, part):
+    """The pose at this part of the way: places on a line, turns by the shorter way, evenly."""
+    along = float(first.turn @ second.turn)
+    turn = second.turn if along >= 0 else -second.turn
+    angle = np.arctan2(np.linalg.norm(first.turn - turn), np.linalg.norm(first.turn + turn)) * 2
+    if angle < 1e-9:
+        turned = first.turn
+    else:
+        turned = np.sin((1 - part) * angle) * first.turn + np.sin(part * angle) * turn
+    return Pose.of((1 - part) * first.at + part * second.at, turned)
+
+
+def time_of_name(name):
+    """The time that the name of a file is, as 1305031102.1753 or scan_1305031102.1753.pcd."""
+    base = re.sub(r"(\.[A-Za-z]+)+$", "", os.path.basename(name))
+    found = re.search(r"[0-9]+(\.[0-9]+)?$", base)
+    if found is None:
+        raise Unusable("its name has no time (--times FILE gives times)", name)
+    return float(found[0])
+
+
+def read_times(name):
+    """The first number of each line that isn't a comment."""
+    found = []
+    for line, row in enumerate(read_text(name).splitlines(), 1):
+        words = row.split()[:1]
+        if words and not words[0].startswith("#"):
+            try:
+                found += numbers_of(words, row)
+            except Unusable as why:
+                why.name, why.line = name, line
+                raise
+    return found

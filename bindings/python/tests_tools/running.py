@@ -1,0 +1,73 @@
+"""Runs the command octofix within this process, in a folder of its own."""
+
+import io
+import os
+import sys
+import tempfile
+import unittest
+from dataclasses import dataclass
+from pathlib import Path
+from unittest import mock
+
+from octofix import Map
+from octofix.tools.command import main
+
+DATA = Path(__file__).parent / "data"
+
+
+@dataclass(frozen=True)
+class Ran:
+    """The status, the output, and the lines on standard error."""
+
+    status: int
+    output: bytes
+    said: str
+
+
+def octofix(*words, given=b""):
+    streams = [io.TextIOWrapper(io.BytesIO(), write_through=True) for _ in range(2)]
+    given = io.TextIOWrapper(io.BytesIO(given))
+    with mock.patch.multiple(sys, stdout=streams[0], stderr=streams[1], stdin=given):
+        try:
+            status = main([str(it) for it in words])
+        except SystemExit as end:
+            status = end.code
+        output, said = (it.buffer.getvalue() for it in streams)
+    return Ran(status, output, said.decode())
+
+
+class InFolder(unittest.TestCase):
+    """A test in an empty folder."""
+
+    maxDiff = None
+
+    def setUp(self):
+        folder = tempfile.TemporaryDirectory()
+        self.addCleanup(folder.cleanup)
+        self.addCleanup(os.chdir, os.getcwd())
+        os.chdir(folder.name)
+
+    def done(self, *words, status=0, given=b""):
+        """What a command that has to end so wrote and said."""
+        ran = octofix(*words, given=given)
+        self.assertEqual(ran.status, status, ran.said)
+        return ran
+
+    def refused(self, said, *words, status=1, given=b""):
+        """A command has to say this in one line, and nothing on the output."""
+        ran = octofix(*words, given=given)
+        self.assertEqual(ran.said.splitlines()[-1:], [f"octofix: {said}"])
+        self.assertEqual((ran.status, ran.output), (status, b""))
+
+    def script(self, *words, status=0, given=b""):
+        """The script that `octofix map` makes."""
+        words = ("map", "--res", "0.1", *words, "--script", "-")
+        return self.done(*words, status=status, given=given).output.decode()
+
+
+def save_map(name, resolution, voxels):
+    """Writes a .bt file of voxels: keys (x, y, z) counted from the origin, and their values."""
+    with Map(resolution) as world:
+        for keys, value in voxels.items():
+            world.set([[(it + 0.5) * resolution for it in keys]], value)
+        world.save(name)

@@ -1,0 +1,153 @@
+"""Each form of clouds, also as other tools wrote it, gives the points that were written by hand."""
+
+import gzip
+import io
+
+import numpy as np
+from running import DATA, InFolder
+
+CORNER = (DATA / "corner.script").read_text()
+# The nearest number of 32 bits to -0.4, in nanometres.
+CORNER_32 = CORNER.replace("-0.4\n", "-0.400000006\n")
+POINTS = np.array([[2, -0.5, 0], [2, 0, 0], [2, 0.5, 0], [0.5, 1.5, 0], [1, 1.5, 0], [1.5, 1.5, 0]])
+POINTS = np.concatenate([POINTS, [[1, 0, -0.4]]])
+
+
+class OtherTools(InFolder):
+    """Files of the Point Cloud Library 1.13, Open3D 0.16, meshio 5.0 and log2graph 1.9."""
+
+    def test_corner(self):
+        exact = "corner.xyz corner.pcd open3d.ply open3d_ascii.ply open3d_ascii.pcd"
+        for name in (exact + " meshio.ply meshio_ascii.ply").split():
+            with self.subTest(name):
+                self.assertEqual(self.script(DATA / name), CORNER)
+        binary = "corner_binary.pcd corner_normals.pcd corner_binary.ply open3d.pcd"
+        for name in (binary + " open3d_compressed.pcd").split():
+            with self.subTest(name):
+                self.assertEqual(self.script(DATA / name), CORNER_32)
+        ascii_ply = CORNER.replace("-0.4\n", "-0.40000001\n")
+        self.assertEqual(self.script(DATA / "corner_ascii.ply"), ascii_ply)
+
+    def test_viewpoint(self):
+        """A third of a turn around (1, 1, 1) makes y of x, z of y and x of z."""
+        wanted = "scan 1 2 0.5 1 0 0 0 all\np -0.125 2 0.25\np 3 0 1\nend\n"
+        for name in ("viewpoint.pcd", "viewpoint_binary.pcd", "viewpoint_compressed.pcd"):
+            ran = self.done("map", "--res", "0.1", DATA / name, "--script", "-")
+            self.assertEqual(ran.output.decode(), wanted)
+            self.assertIn("the pose in the file is used", ran.said)
+
+    def test_viewpoint_gives_way_to_poses(self):
+        pose = ["--pose", 0, 0, 1, 1, 0, 0, 0]
+        ran = self.done("map", "--res", 1, DATA / "viewpoint.pcd", "--script", "-", *pose)
+        self.assertEqual(ran.output, b"scan 0 0 1 1 0 0 0 all\np 2 0.25 -0.125\np 0 1 3\nend\n")
+        self.assertIn("isn't used, since poses are given", ran.said)
+
+    def test_nodes(self):
+        """The second node is turned by one radian: cos 1 is 0.540302306, sin 1 is 0.841470985. The
+        .graph has quaternions of 32 bits."""
+        exact = self.script(DATA / "two_nodes.log").splitlines()
+        last = ["scan 4 5 6 1 0 0 0 all", "p 0.059783407 0.555811069 -0.125", "end"]
+        self.assertEqual(exact[4:], last)
+        of_graph = self.script(DATA / "two_nodes.graph").splitlines()
+        for lines in (exact, of_graph):
+            self.assertEqual(lines[0], "scan 1 2 3 1 0 0 0 all")
+            came = [[float(it) for it in lines[at].split()[1:]] for at in (1, 2, 5)]
+            np.testing.assert_allclose(came, TURNED, atol=1e-7)
+
+
+COS, SIN = np.cos([0.1, 0.2, 0.3]), np.sin([0.1, 0.2, 0.3])
+# (the first and the second column of Rz(0.3) Ry(0.2) Rx(0.1), the second one times 1.5)
+TURNED = [
+    [COS[2] * COS[1], SIN[2] * COS[1], -SIN[1]],
+    [
+        1.5 * (COS[2] * SIN[1] * SIN[0] - SIN[2] * COS[0]),
+        1.5 * (SIN[2] * SIN[1] * SIN[0] + COS[2] * COS[0]),
+        1.5 * (COS[1] * SIN[0]),
+    ],
+    [0.059783407, 0.555811069, -0.125],
+]
+
+
+class Text(InFolder):
+    def points(self, content, *words):
+        lines = self.script("-", *words, given=content.encode()).splitlines()
+        return [line[2:] for line in lines if line.startswith("p ")]
+
+    def test_parted_by_anything(self):
+        blanks, tabs, semicolons = "1 2 3\n4 5 6\n", "\t1\t2 3 \n4 5 6", "1;2;3\n\n4;5;6\n"
+        for content in (blanks, tabs, semicolons, "1,2,3\r\n4, 5 ,6"):
+            self.assertEqual(self.points(content), ["1 2 3", "4 5 6"], content)
+
+    def test_comments_and_a_mark_of_bytes(self):
+        content = "\ufeff# a cloud\n// of two\n1 2 3\n# more\n//\n4 5 6 # last\n"
+        self.assertEqual(self.points(content), ["1 2 3", "4 5 6"])
+
+    def test_named_columns(self):
+        for head in ("i,z,y,x\n", "#i,z,y,x\n", '"I","Z","Y","X"\n', "// i, z, y, x\n"):
+            self.assertEqual(self.points(head + "9,3,2,1\n"), ["1 2 3"], head)
+
+    def test_columns_that_are_asked(self):
+        self.assertEqual(self.points("9 8 1 2 3\n", "--columns", "3,4,5"), ["1 2 3"])
+        self.assertEqual(self.points("t a b c\n9 1 2 3\n", "--columns", "a,b,c"), ["1 2 3"])
+
+    def test_which_columns_is_said(self):
+        words = ("map", "--res", "1", "-", "--script", "-")
+        said = self.done(*words, given=b"1 2 3 4\n").said
+        self.assertIn("columns 1, 2, 3 are taken as x, y, z (--columns)", said)
+        said = self.done(*words, given=b"i x y z\n4 1 2 3\n").said
+        self.assertIn("columns 2, 3, 4 are x, y, z by their names", said)
+        self.assertNotIn("columns", self.done(*words, given=b"1 2 3\n").said)
+
+    def test_gzip(self):
+        packed = gzip.compress((DATA / "corner.xyz").read_bytes())
+        self.assertEqual(self.script("-", given=packed), CORNER)
+
+    def test_no_point(self):
+        self.assertEqual(self.script("-", given=b""), "scan 0 0 0 1 0 0 0 all\nend\n")
+
+    def test_rounding(self):
+        """To the nearest nanometre, of two that are as near to the even one."""
+        came = self.points("0.0000000015 -0.0000000005 0.0000000025")
+        self.assertEqual(came, ["0.000000002 0 0.000000002"])
+
+
+class Arrays(InFolder):
+    def of_array(self, array, *words):
+        file = io.BytesIO()
+        np.save(file, array)
+        return self.script("-", *words, given=file.getvalue())
+
+    def test_npy(self):
+        self.assertEqual(self.of_array(POINTS), CORNER)
+        self.assertEqual(self.of_array(np.asfortranarray(POINTS)), CORNER)
+        self.assertEqual(self.of_array(POINTS.astype(">f4")), CORNER_32)
+        wide = np.concatenate([POINTS * 7, POINTS], axis=1)
+        self.assertEqual(self.of_array(wide, "--columns", "4,5,6"), CORNER)
+
+    def test_npy_records(self):
+        records = np.zeros(7, [("t", "u1"), ("z", "f8"), ("y", "f8"), ("x", "f8")])
+        for axis, name in enumerate("xyz"):
+            records[name] = POINTS[:, axis]
+        self.assertEqual(self.of_array(records), CORNER)
+
+    def test_kitti(self):
+        rows = np.concatenate([POINTS, np.ones((7, 1))], axis=1).astype("<f4")
+        rows.tofile("000000.bin")
+        self.assertEqual(self.script("000000.bin"), CORNER_32)
+
+    def test_big_endian_ply(self):
+        """With faces before the vertices, and a property between the coordinates."""
+        head = "ply\nformat binary_big_endian 1.0\nelement camera 2\nproperty double f\n"
+        head += "element vertex 7\nproperty uchar red\nproperty double x\nproperty float y\n"
+        head += "property double z\nelement face 1\nproperty list uchar int i\nend_header\n"
+        layout = [("red", "u1"), ("x", ">f8"), ("y", ">f4"), ("z", ">f8")]
+        rows = np.array([(9, *it) for it in POINTS.tolist()], layout)
+        content = head.encode() + bytes(16) + rows.tobytes() + bytes(13)
+        self.assertEqual(self.script("-", given=content), CORNER)
+
+    def test_fields_in_any_order(self):
+        head = "VERSION 0.7\nFIELDS z _ y x\nSIZE 8 1 8 8\nTYPE F U F F\nCOUNT 1 3 1 1\nWIDTH 7\n"
+        head += "HEIGHT 1\nPOINTS 7\nDATA binary\n"
+        layout = [("z", "<f8"), ("_", "u1", 3), ("y", "<f8"), ("x", "<f8")]
+        rows = np.array([(z, (1, 2, 3), y, x) for x, y, z in POINTS.tolist()], layout)
+        self.assertEqual(self.script("-", given=head.encode() + rows.tobytes()), CORNER)

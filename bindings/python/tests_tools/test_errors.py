@@ -1,0 +1,281 @@
+"""Each fault is said in one line, with its place, and nothing is written."""
+
+import gzip
+import io
+import os
+from unittest import mock
+
+import numpy as np
+from running import DATA, InFolder, save_map
+
+PCD = (DATA / "corner.pcd").read_text()
+BINARY_PCD = (DATA / "corner_binary.pcd").read_bytes()
+PACKED_PCD = (DATA / "corner_normals.pcd").read_bytes()
+PLY = (DATA / "corner_ascii.ply").read_text()
+BINARY_PLY = (DATA / "corner_binary.ply").read_bytes()
+
+
+def npy(array):
+    file = io.BytesIO()
+    np.save(file, array)
+    return file.getvalue()
+
+
+def lines(text, number, new):
+    """The text with another line of this number, from 1."""
+    rows = text.split("\n")
+    return "\n".join([*rows[: number - 1], new, *rows[number:]])
+
+
+CLOUDS = [
+    # text
+    ("bad:2:4: the line has 2 numbers, and 3 are needed", "1 2 3\n4 5\n"),
+    ("bad:2:5: 'six' is no number", "1 2 3\n4 5 six\n"),
+    ("bad:3:4: '' is no number", "# a\n1,2,3\n4, ,6\n"),
+    ("bad:1: no column has the name x (--columns)", "a b c\n1 2 3\n"),
+    # PCD
+    ("bad:1: its header has no line DATA", "FIELDS x y z"),
+    ("bad:11: its header lacks SIZE", PCD.replace("SIZE", "SIZES")),
+    ("bad:3: FIELDS lacks z", PCD.replace("FIELDS x y z", "FIELDS x y t")),
+    (
+        "bad:3: FIELDS, SIZE, TYPE and COUNT of its header don't fit together",
+        PCD.replace("TYPE F", "TYPE Q"),
+    ),
+    ("bad:6: COUNT is no count: '-1'", PCD.replace("COUNT 1", "COUNT -1")),
+    ("bad:6: COUNT isn't 1 for x, y and z", PCD.replace("COUNT 1", "COUNT 2")),
+    ("bad:9: the quaternion is 0, which is no direction", PCD.replace(" 1 0 0 0", " 0 0 0 0")),
+    ("bad:9:21: 'a' is no number", PCD.replace("1 0 0 0", "1 0 a 0").replace("a", "a", 1)),
+    ("bad:9: VIEWPOINT has 7 numbers, and here are 6", PCD.replace("0 0 0 1 0", "0 0 0 1")),
+    (
+        "bad:11: DATA zip isn't read, only ascii, binary, binary_compressed are",
+        PCD.replace("DATA ascii", "DATA zip"),
+    ),
+    (
+        "bad: its data has 7 lines, and 8 points are announced",
+        PCD.replace("1 0 -0.4\n", ""),
+    ),
+    ("bad:13:3: 'b' is no number", lines(PCD, 13, "2 b 0")),
+    (
+        "bad: its data has 4028 bytes, and 400 points of 12 bytes are announced",
+        BINARY_PCD.replace(b"POINTS 8", b"POINTS 400"),
+    ),
+    ("bad: its data ends before the two sizes", PACKED_PCD[:240]),
+    (
+        "bad: its data has 20 bytes, which don't fit the sizes in it",
+        PACKED_PCD[:256],
+    ),
+    ("bad: its compressed data is damaged", PACKED_PCD[:244] + b"\xff\xff\xff" + PACKED_PCD[247:]),
+    # PLY
+    ("bad:2: its header has no line end_header", "ply\nformat ascii 1.0"),
+    (
+        "bad:2: the format other isn't read, "
+        "only ascii, binary_little_endian, binary_big_endian are",
+        PLY.replace("format ascii", "format other"),
+    ),
+    ("bad:2: its header has no line format", "ply\nend_header\n"),
+    ("bad:3: it has no element vertex", "ply\nformat ascii 1.0\nend_header\n"),
+    ("bad:4: its vertices lack z", PLY.replace("float z", "float t")),
+    (
+        "bad:5: a property of the type list isn't read before or in vertex",
+        PLY.replace("property float x", "property list uchar int x"),
+    ),
+    ("bad:4: the number of elements is no count: '-8'", PLY.replace("vertex 8", "vertex -8")),
+    (
+        "bad: its data has 9 lines, and 80 vertices are announced",
+        PLY.replace("vertex 8", "vertex 80").replace(PLY[-39:], "1 2 3\n", 1),
+    ),
+    (
+        "bad: its data has 180 bytes, and 80 vertices of 12 bytes are announced",
+        BINARY_PLY.replace(b"vertex 8", b"vertex 80"),
+    ),
+    # arrays
+    ("bad: its array is 7 of int64, and n x 3 numbers are needed", npy(np.arange(7))),
+    ("bad: its records lack z", npy(np.zeros(2, [("x", "f4"), ("y", "f4")]))),
+    # scan logs
+    ("bad:1: points stand before the first line NODE", "1 2 3\nNODE 0 0 0 0 0 0\n"),
+    ("bad:2: NODE has 6 numbers, and here are 5", "# a\nNODE 0 0 0 0 0\n"),
+    ("bad:3:3: 'b' is no number", "NODE 0 0 0 0 0 0\n1 2 3\n4 b 6\n"),
+    # gzip
+    (
+        "bad: it isn't whole gzip data: "
+        "Compressed file ended before the end-of-stream marker was reached",
+        gzip.compress(b"1 2 3\n" * 1000)[:-9],
+    ),
+]
+
+POSES = [
+    ("poses:1:3: 'x' is no number", "0 x 0 0 0 0 0 1\n"),
+    ("poses:2: a number of the pose isn't finite", "# t\n0 nan 0 0 0 0 0 1\n"),
+    ("poses:1: the time isn't finite", "inf 0 0 0 0 0 0 1\n"),
+    ("poses:1: the quaternion is 0, which is no direction", "0 0 0 0 0 0 0 0\n"),
+    ("poses:1: the place lies 10,000 km away or more", "0 1e7 0 0 0 0 0 1\n"),
+    ("poses:1: a pose has 8 numbers (TUM) or 12 (KITTI), and here are 3", "1 2 3\n"),
+    ("poses:1: the 3 x 3 part of the pose is no turn", "2 0 0 0 0 1 0 0 0 0 1 0\n"),
+    ("poses: it has no pose", "# nothing\n"),
+    (
+        "poses: it has 2 poses for 1 clouds (--by-time takes poses by their times)",
+        "0 0 0 0 0 0 0 1\n" * 2,
+    ),
+]
+
+
+class Files(InFolder):
+    def test_clouds(self):
+        for said, content in CLOUDS:
+            with self.subTest(said), open("bad", "wb") as file:
+                file.write(content if isinstance(content, bytes) else content.encode())
+                file.flush()
+                words = ["--format", "log"] if "NODE" in said else []
+                self.refused(said, "map", "--res", 1, *words, "bad", "-o", "a.bt")
+        self.assertEqual(os.listdir(), ["bad"])
+
+    def test_no_file(self):
+        self.refused("none: No such file or directory", "map", "--res", 1, "none", "-o", "a.bt")
+        self.refused(".: Is a directory", "map", "--res", 1, ".", "-o", "a.bt")
+
+    def test_forms_by_name(self):
+        with open("a.bin", "wb") as file:
+            file.write(bytes(17))
+        said = "a.bin: its 17 bytes are no whole number of records of 16 bytes"
+        self.refused(said, "map", "--res", 1, "a.bin", "-o", "a.bt")
+        content = (DATA / "two_nodes.graph").read_bytes()
+        with open("a.graph", "wb") as file:
+            file.write(content[:200])
+        said = "a.graph: it ends at byte 200 inside node 2 of 2"
+        self.refused(said, "map", "--res", 1, "a.graph", "-o", "a.bt")
+        with open("a.graph", "wb") as file:
+            file.write(content[:4])
+        said = "a.graph: it ends at byte 4 before all nodes are read"
+        self.refused(said, "map", "--res", 1, "a.graph", "-o", "a.bt")
+        with open("a.graph", "wb") as file:
+            file.write(content[:8] + b"\x04" + content[9:])
+        said = "a.graph: node 1 isn't as log2graph writes it"
+        self.refused(said, "map", "--res", 1, "a.graph", "-o", "a.bt")
+
+    def test_columns(self):
+        words = ["map", "--res", 1, "-", "-o", "a.bt", "--columns"]
+        self.refused("-: there is no column 9: a line has 3", *words, "1,2,9", given=b"1 2 3\n")
+        self.refused("-: no column has the name 'x'", *words, "x,y,t", given=b"1 2 3\n")
+        said = "-: there is no column 4: its array has 3"
+        self.refused(said, *words, "1,2,4", given=npy(np.ones((2, 3))))
+
+    def test_poses(self):
+        for said, content in POSES:
+            with self.subTest(said), open("poses", "w") as file:
+                file.write(content)
+                file.flush()
+                words = ["map", "--res", 1, "-", "--poses", "poses", "-o", "a.bt"]
+                self.refused(said, *words, given=b"1 2 3\n")
+
+    def test_times(self):
+        with open("poses", "w") as file:
+            file.write("1 0 0 0 0 0 0 1\n")
+        words = ["map", "--res", 1, "-o", "a.bt", "--poses", "poses"]
+        said = "-: its name has no time (--times FILE gives times)"
+        self.refused(said, *words, "--by-time", "-", given=b"1 2 3\n")
+        with open("times", "w") as file:
+            file.write("1\nnow\n")
+        self.refused("times:2:1: 'now' is no number", *words, "--times", "times", "-")
+        with open("times", "w") as file:
+            file.write("1\n2\n")
+        self.refused("poses: there are 2 times for 1 clouds", *words, "--times", "times", "-")
+        with open("poses", "w") as file:
+            file.write("1 0 0 0 0 1 0 0 0 0 1 0\n")
+        said = "poses: its poses have no times, which --by-time takes"
+        self.refused(said, *words, "--by-time", "-")
+
+    def test_scans(self):
+        words = ["map", "--res", "0.1", "-o", "a.bt", "-"]
+        said = "-: its point 1 lies outside the map "
+        said += "(--range cuts beams, a larger --res has more space)"
+        self.refused(said, *words, given=b"1 0 0\n4000 0 0\n")
+        pose = ["--pose", 4000, 0, 0, 1, 0, 0, 0]
+        self.refused("-: the sensor stands outside the map", *words, *pose, given=b"1 0 0\n")
+
+    def test_maps(self):
+        with open("bad.bt", "wb") as file:
+            file.write(b"# Octomap OcTree file\n")
+        tools = [["info"], ["points", "-o", "a.ply"], ["grid", "-o", "a.pgm"]]
+        tools.append(["view", "-o", "a.png"])
+        for words in tools:
+            said = "bad.bt: it can't be read as a map: refused 11 FloatTree"
+            self.refused(said, *words, "bad.bt")
+        self.refused("none.bt: No such file or directory", "info", "none.bt")
+
+
+class Words(InFolder):
+    def setUp(self):
+        super().setUp()
+        save_map("a.bt", 0.5, {(0, 0, 0): 9})
+        save_map("b.bt", 0.25, {(0, 0, 0): 9})
+        save_map("empty.bt", 0.5, {})
+
+    def test_usage(self):
+        wrong = [[], ["fly"], ["map", "a.xyz"], ["points", "a.bt"]]
+        wrong.append(["coarsen", "a.bt", "--depth", 17])
+        for words in wrong:
+            self.assertEqual(self.done(*words, status=2).output, b"")
+
+    def test_asked_wrongly(self):
+        for said, *words in (
+            ("nothing is to be written (-o, --snapshot or --script)", "map", "--res", 1, "-"),
+            ("--pose and --poses exclude each other", "map", "--res", 1, "-", "-o", "c.bt",
+             "--poses", "p", "--pose", 0, 0, 0, 1, 0, 0, 0),
+            ("--by-time, --times and --interpolate need --poses", "map", "--res", 1, "-", "-o", "c",
+             "--by-time"),
+            ("the quaternion is 0, which is no direction", "map", "--res", 1, "-", "-o", "c",
+             "--sensor", 0, 0, 0, 0, 0, 0, 0),
+            ("only one of -o, --snapshot and --script can be the output", "map", "--res", 1, "-",
+             "-o", "-", "--script", "-"),
+            ("--res is from 0.0001 to 100", "map", "--res", 101, "-", "-o", "c.bt"),
+            ("c.txt: --format is needed: the name has none of ply, pcd, xyz, csv, npy",
+             "points", "a.bt", "-o", "c.txt"),
+            ("a frontier is of voxels, and takes no --depth", "points", "a.bt", "-o", "c.ply",
+             "--what", "frontier", "--depth", 15),
+            ("the box has a first corner that lies beyond the second (--box)", "points", "a.bt",
+             "-o", "c.ply", "--box", 1, 0, 0, 0, 0, 0),
+            ("the box lies outside the map (--box)", "crop", "a.bt", "-o", "c.bt", "--box",
+             20000, 0, 0, 20001, 0, 0),
+            ("c.gif: a picture's name ends in .pgm or .png", "grid", "a.bt", "-o", "c.gif"),
+            ("c.pgm: a picture in colours is a PNG", "view", "a.bt", "-o", "c.pgm"),
+            ("20001 x 20001 columns are more than 2^26 (--area or --box takes fewer)", "grid",
+             "a.bt", "-o", "c.pgm", "--area", -5000, -5000, 5000, 5000),
+            ("nothing is known in the map, so it has no extent", "grid", "empty.bt", "-o", "c.pgm"),
+            ("nothing is occupied there", "view", "empty.bt", "--oblique", "-o", "c.png"),
+            ("--text shows a slice (--slice Z)", "view", "a.bt", "--text"),
+            ("nothing is to be written (-o FILE, --text or --open)", "view", "a.bt"),
+            ("b.bt: its resolution is 0.25 m, and that of a.bt is 0.5 m", "compare", "a.bt",
+             "b.bt"),
+            ("the box is to be given (--box)", "crop", "a.bt", "-o", "c.bt"),
+            ("--by isn't in whole voxels of 0.5 m: 0.7 0 0", "shift", "a.bt", "-o", "c.bt",
+             "--by", 0.7, 0, 0),
+            ("the map would reach beyond its border", "shift", "a.bt", "-o", "c.bt", "--voxels",
+             40000, 0, 0),
+            ("none/c.bt: No such file or directory", "crop", "a.bt", "-o", "none/c.bt", "--box",
+             0, 0, 0, 1, 1, 1),
+        ):  # fmt: skip
+            with self.subTest(said):
+                self.refused(said, *words)
+        self.assertEqual(sorted(os.listdir()), ["a.bt", "b.bt", "empty.bt"])
+
+    def test_no_display(self):
+        said = "--open needs a display (-o FILE writes a picture)"
+        places = {"DISPLAY": "", "WAYLAND_DISPLAY": ""}
+        with mock.patch.dict("sys.modules", open3d=mock.Mock()):
+            with mock.patch.dict(os.environ, places):
+                self.refused(said, "view", "a.bt", "--open")
+
+    def test_missing_libraries(self):
+        """What is optional, with the name of Debian's package."""
+        missing = ("PIL", "PIL.Image", "rosbag", "open3d", "scipy.spatial")
+        with mock.patch.dict("sys.modules", dict.fromkeys(missing)):
+            said = "a PNG needs the Python library PIL (in Debian python3-pil)"
+            self.refused(said, "view", "a.bt", "-o", "c.png", status=4)
+            said = "a ROS bag needs the Python library rosbag (in Debian python3-rosbag)"
+            said = f"{DATA / 'small.bag'}: {said}"
+            self.refused(said, "map", "--res", 1, DATA / "small.bag", "-o", "c.bt", status=4)
+            said = "--open needs the Python library open3d (in Debian python3-open3d)"
+            self.refused(said, "view", "a.bt", "--open", status=4)
+            ran = self.done("compare", "a.bt", "a.bt")
+            said = b"distances: they need the Python library scipy (in Debian python3-scipy)"
+            self.assertIn(said, ran.output)

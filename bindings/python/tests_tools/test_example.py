@@ -1,0 +1,42 @@
+"""The lines of docs/TOOLS.md, on the clouds of examples/flat_clouds.py, with voxels of 0.1 m."""
+
+import json
+import subprocess
+import sys
+from pathlib import Path
+
+import numpy as np
+from running import InFolder
+
+from octofix import Map
+
+SCRIPT = Path(__file__).resolve().parents[3] / "examples" / "flat_clouds.py"
+
+
+class Flat(InFolder):
+    def test_lines(self):
+        subprocess.run([sys.executable, SCRIPT, "."], check=True)
+        clouds = [f"clouds/{number}.npy" for number in range(7)]
+        self.done("map", "--res", "0.1", "--poses", "poses.txt", *clouds, "-o", "flat.bt")
+        self.places()
+        self.done("view", "flat.bt", "--oblique", "--above", "50", "-o", "flat.png")
+        self.done("grid", "flat.bt", "--height", "0.1", "1.6", "-o", "floor.png")
+        found = json.loads(self.done("info", "flat.bt", "--json").output)
+        # (the walls stand at 5 m and 3.5 m, and may lie in the voxel on either side)
+        np.testing.assert_allclose(found["known_to"][:2], [5.05, 3.55], atol=0.051)
+        np.testing.assert_allclose(found["known_from"], [-5.05, -3.55, -0.05], atol=0.051)
+        shares = self.done("check", "flat.bt", "--poses", "poses.txt", *clouds, "--json").output
+        self.assertGreater(json.loads(shares)["share_of_known_voxels_correct"], 0.95)
+
+    def places(self):
+        """The middle of a room and of a door are free, walls and a leg of a table occupied, and
+        behind the wall and below the floor nothing is known."""
+        with Map.from_bt("flat.bt") as world:
+            free = world.classes([[-3, -1, 1], [3.2, -1, 1.8], [-1, -1.3, 1], [2.1, 0.4, 1]])
+            self.assertEqual(free.tolist(), [1] * 4)
+            unknown = world.classes([[6, 0, 1], [0, -1.6, -0.5]])
+            self.assertEqual(unknown.tolist(), [0, 0])
+            beside = np.array([[5, 0, 1], [-5, -1, 1], [0, 0.4, 1.5], [1.25, -2.35, 0.35]])
+            steps = np.array([[x, y, 0] for x in (-0.05, 0.05) for y in (-0.05, 0.05)])
+            for place in beside:
+                self.assertEqual(world.classes(place + steps).max(), 2, place)

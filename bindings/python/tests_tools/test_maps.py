@@ -1,0 +1,120 @@
+"""Maps that are compared, cut, moved, made coarser, and checked against scans."""
+
+import json
+
+import numpy as np
+from running import DATA, InFolder, save_map
+
+from octofix import Map
+
+
+class Compare(InFolder):
+    def test_table(self):
+        save_map("a.bt", 0.5, {(0, 0, 0): 9, (1, 0, 0): 9, (2, 0, 0): -9, (5, 0, 0): -9})
+        save_map("b.bt", 0.5, {(0, 0, 0): 9, (1, 0, 0): -9, (2, 0, 0): -9, (4, 0, 3): 9})
+        found = json.loads(self.done("compare", "a.bt", "b.bt", "--json").output)
+        table = {"unknown": {"free": 0, "occupied": 1}}
+        table |= {"free": {"unknown": 1, "free": 1, "occupied": 0}}
+        table |= {"occupied": {"unknown": 0, "free": 1, "occupied": 1}}
+        self.assertEqual(found["table"], table)
+        self.assertEqual(found["iou"], {"occupied": 0.333333, "free": 0.333333})
+        if isinstance(found["distances"], dict):
+            # (from (1, 0, 0) to (0, 0, 0), and from (4, 0, 3) to (1, 0, 0))
+            one = {"voxels": 1, "mean": 0.5, "median": 0.5, "most": 0.5}
+            other = dict.fromkeys(("mean", "median", "most"), round(0.5 * 18**0.5, 6))
+            wanted = {"first_to_second": one, "second_to_first": {"voxels": 1, **other}}
+            self.assertEqual(found["distances"], wanted)
+
+    def test_blocks(self):
+        """A free block of 8 m against its lower half, which is occupied there."""
+        for name, height, value in (("a.bt", 7.9, -9), ("b.bt", 3.9, 9)):
+            with Map(0.5) as world:
+                world.edit_box((0, 0, 0), (7.9, 7.9, height), 1, value)
+                world.save(name)
+        table = json.loads(self.done("compare", "a.bt", "b.bt", "--json").output)["table"]
+        self.assertEqual(table["free"], {"unknown": 2048, "free": 0, "occupied": 2048})
+        box = ["--box", 0, 0, 3.5, 0.4, 0.4, 4]
+        table = json.loads(self.done("compare", "a.bt", "b.bt", "--json", *box).output)["table"]
+        self.assertEqual(table["free"], {"unknown": 1, "free": 0, "occupied": 1})
+
+
+class Edited(InFolder):
+    """crop, shift, coarsen: the file of the same voxels, made one by one."""
+
+    def setUp(self):
+        super().setUp()
+        with Map(0.5) as world:
+            world.edit_box((0, 0, 0), (1.9, 1.9, 1.9), 1, -9)
+            world.set([[0.2, 0.2, 0.2]], 9)
+            world.save("a.bt")
+
+    def agrees(self, *words):
+        self.done(*words, "-o", "came.bt")
+        with open("came.bt", "rb") as came, open("wanted.bt", "rb") as wanted:
+            self.assertEqual(came.read(), wanted.read())
+
+    def voxels(self):
+        corners = np.ndindex(4, 4, 4)
+        return {it: 9 if it == (0, 0, 0) else -9 for it in corners}
+
+    def test_crop(self):
+        kept = {at: it for at, it in self.voxels().items() if at[0] > 0 and at[2] < 3}
+        save_map("wanted.bt", 0.5, kept)
+        self.agrees("crop", "a.bt", "--box", 0.5, -7, 0, 9, 9, 1.4)
+
+    def test_shift(self):
+        moved = {(x - 3, y + 1, z): it for (x, y, z), it in self.voxels().items()}
+        save_map("wanted.bt", 0.5, moved)
+        self.agrees("shift", "a.bt", "--by", -1.5, 0.5, 0)
+        self.agrees("shift", "a.bt", "--voxels", -3, 1, 0)
+
+    def test_coarsen(self):
+        coarse = {at: 9 if max(at) < 2 else -9 for at in self.voxels()}
+        save_map("wanted.bt", 0.5, coarse)
+        self.agrees("coarsen", "a.bt", "--depth", 15)
+        save_map("wanted.bt", 0.5, dict.fromkeys(coarse, 9))
+        self.agrees("coarsen", "a.bt", "--depth", 14)
+
+
+class Check(InFolder):
+    def test_shares(self):
+        """A map of two beams along x: free up to 2 m, occupied there. Of four beams one agrees, one
+        ends earlier, one goes through the wall, and one goes where nothing is known."""
+        save_map("a.bt", 1, {(0, 0, 0): -9, (1, 0, 0): -9, (2, 0, 0): 9})
+        given = b"2 0 0\n1 0 0\n4 0 0\n0 3 0\n"
+        at = ["--pose", 0.5, 0.5, 0.5, 1, 0, 0, 0, "-"]
+        found = json.loads(self.done("check", "a.bt", *at, "--json", given=given).output)
+        wanted = {"scans": 1, "beams": 4, "ends": 4, "ends_occupied": 1, "ways_free": 2}
+        # (hit are 1, 2 and 4 on x and 3 on y; freed are 0 and 3 on x, and 1 and 2 on y)
+        wanted |= {"voxels_correct": 2, "voxels_wrong": 1, "voxels_unknown": 5}
+        wanted |= {"share_of_ends_occupied": 0.25, "share_of_ways_free": 0.5}
+        wanted |= {"share_of_known_voxels_correct": 0.666667}
+        self.assertEqual(found, wanted)
+
+    def test_range(self):
+        """Cut beams have no end, and a free way."""
+        save_map("a.bt", 1, {(0, 0, 0): -9, (1, 0, 0): -9})
+        words = ["--range", 1, "--pose", 0.5, 0.5, 0.5, 1, 0, 0, 0, "-", "--json"]
+        found = json.loads(self.done("check", "a.bt", *words, given=b"9 0 0\n").output)
+        self.assertEqual((found["ends"], found["ways_free"]), (0, 1))
+        self.assertEqual(found["share_of_ends_occupied"], None)
+
+    def test_as_the_library_counts(self):
+        """eval_octree_accuracy of the OctoMap library 1.9 makes a map of four scans of this log,
+        and compares it with the fifth."""
+        scans = (DATA / "five_scans.log").read_text().split("NODE")[1:]
+        for name, part in (("four.log", scans[:4]), ("one.log", scans[4:])):
+            with open(name, "w") as file:
+                file.writelines(f"NODE{it}" for it in part)
+        self.done("map", "--res", "0.2", "four.log", "-o", "a.bt")
+        found = json.loads(self.done("check", "a.bt", "one.log", "--json").output)
+        wanted = {"voxels_correct": 64, "voxels_wrong": 10, "voxels_unknown": 201}
+        self.assertEqual({name: found[name] for name in wanted}, wanted)
+
+    def test_its_own_scans(self):
+        """A map of one scan agrees with it throughout."""
+        np.save("a.npy", np.random.default_rng(5).normal(size=(100, 3)))
+        self.done("map", "--res", "0.3", "a.npy", "-o", "a.bt")
+        found = json.loads(self.done("check", "a.bt", "a.npy", "--json").output)
+        self.assertEqual(found["share_of_ends_occupied"], 1)
+        self.assertEqual(found["share_of_known_voxels_correct"], 1)

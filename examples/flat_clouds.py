@@ -1,0 +1,68 @@
+#!/usr/bin/env python3
+"""Writes the clouds that a spinning sensor of 64 rings sees of the flat of flat.py, one for each of
+its places, and the poses, as examples of what a robot leaves behind:
+
+    examples/flat_clouds.py FOLDER
+
+makes FOLDER/clouds/0.npy to 6.npy, with points in the sensor's own frame, and FOLDER/poses.txt in
+the form of the TUM benchmarks. Walls are 2.4 m high, what stands on the floor 1 m, tables 0.75 m.
+"""
+import sys
+from math import pi
+from pathlib import Path
+
+import numpy as np
+from flat import LEGS, ON_FLOOR, PLACES, TABLES, WALLS
+
+SENSOR = 1.4
+RINGS = np.radians(np.linspace(-60, 30, 64))
+AROUND = (np.arange(1200) + 0.5) * 2 * pi / 1200
+# Lines from (x, y) to (x, y) that stand between two heights.
+SURFACES = [(WALLS, 0, 2.4), (ON_FLOOR, 0, 1), (TABLES, 0.7, 0.75), (LEGS, 0, 0.7)]
+
+
+def ways_to(place, turns, lines):
+    """How far each turn goes until each line, (turns, lines); infinite where it passes by."""
+    ends = np.array(lines)
+    start, along = ends[:, :2] - place, ends[:, 2:] - ends[:, :2]
+    dx, dy = np.cos(turns)[:, None], np.sin(turns)[:, None]
+    across = dx * along[:, 1] - dy * along[:, 0]
+    with np.errstate(divide="ignore", invalid="ignore"):
+        way = (start[:, 0] * along[:, 1] - start[:, 1] * along[:, 0]) / across
+        part = (start[:, 0] * dy - start[:, 1] * dx) / across
+        return np.where((way > 0) & (part >= 0) & (part <= 1), way, np.inf)
+
+
+def seen_from(place, turned):
+    """The points that are seen, in the frame of a sensor that is turned by so many radians."""
+    turns = AROUND + turned
+    tangents = np.tan(RINGS)[:, None]
+    nearest = np.where(tangents < 0, SENSOR / np.maximum(-tangents, 1e-9), np.inf)
+    nearest = np.broadcast_to(nearest, (len(RINGS), len(turns))).copy()
+    for lines, low, high in SURFACES:
+        for way in ways_to(place, turns, lines).T:
+            with np.errstate(invalid="ignore"):
+                height = SENSOR + way * tangents
+            is_met = (height >= low) & (height <= high)
+            nearest = np.where(is_met, np.minimum(nearest, way), nearest)
+    is_seen = nearest < 12
+    points = [nearest * np.cos(AROUND), nearest * np.sin(AROUND), nearest * tangents]
+    return np.stack([it[is_seen] for it in points], axis=-1)
+
+
+def main(folder):
+    clouds = Path(folder, "clouds")
+    clouds.mkdir(parents=True, exist_ok=True)
+    poses = []
+    for number, (x, y) in enumerate(PLACES):
+        turned = number * 0.9
+        np.save(clouds / f"{number}.npy", seen_from((x, y), turned).astype(np.float32))
+        turn = f"0 0 {np.sin(turned / 2):.9f} {np.cos(turned / 2):.9f}"
+        poses.append(f"{number} {x} {y} {SENSOR} {turn}\n")
+    Path(folder, "poses.txt").write_text("# time x y z qx qy qz qw\n" + "".join(poses))
+
+
+if __name__ == "__main__":
+    if len(sys.argv) != 2:
+        sys.exit(__doc__.strip())
+    main(sys.argv[1])
