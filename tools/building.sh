@@ -1,0 +1,75 @@
+# How the program and the library are built and kept, in POSIX sh. The caller sets `root`, and has
+# read words.sh.
+
+fail() {
+    say "$1"
+    exit 9
+}
+
+# Where a crate's program or library is kept, proved or unproved, with what its build said and a
+# file as old as the start of that build.
+choose() {
+    crate=$1
+    how=$2
+    place=$root/crates/$crate/out
+    [ "$how" = proved ] || place=$place/unproved
+    case $crate in
+    octofix) made=$place/liboctofix.a ;;
+    *) made=$place/$crate ;;
+    esac
+    stamp=$place/launcher.stamp
+    log=$place/launcher.log
+}
+
+newer_sources() (
+    cd -- "$root" && find crates.txt crates/*/* -name out -prune -o -newer "$stamp" -print
+)
+
+is_built() {
+    [ -f "$made" ] && [ -f "$stamp" ] && newer=$(newer_sources) && [ -z "$newer" ]
+}
+
+# Fails where OCTOMAP_JOBS is set and no number from 1 on.
+check_jobs() {
+    case ${OCTOMAP_JOBS-1} in
+    '' | 0* | *[!0-9]*) fail "OCTOMAP_JOBS is no number from 1 on: $OCTOMAP_JOBS" ;;
+    esac
+}
+
+# How many jobs prove at once: one a processor, where each has 3 GB of free memory.
+jobs_at_once() {
+    processors=$(nproc)
+    gigabytes=$(awk '/^MemAvailable:/ { print int($2 / 1000000) }' /proc/meminfo)
+    jobs=$((gigabytes / 3 < processors ? gigabytes / 3 : processors))
+    echo "${OCTOMAP_JOBS:-$((jobs > 1 ? jobs : 1))}"
+}
+
+build_proved() {
+    say "$crate is proved now, which takes minutes; the kit's own words go to $log"
+    "$root/tools/build_proved.py" "$crate" "$(jobs_at_once)" "$log" </dev/null
+}
+
+build_unproved() {
+    say "$crate is built without proof now, which takes half a minute"
+    "$root/tools/build_unproved.py" "$crate" "$made" </dev/null >"$log" 2>&1
+}
+
+# Only the built file says that there was a build.
+build() {
+    rm -f -- "$made" "$stamp" && mkdir -p -- "$place" || return
+    : >"$stamp.new" && : >"$log" || return
+    "build_$how"
+    [ -f "$made" ] && mv -- "$stamp.new" "$stamp"
+}
+
+# One launcher proves at a time, and one builds without proof. One that had to wait looks again.
+ensure_built() {
+    choose "$1" "$2"
+    is_built && return
+    check_jobs
+    command -v rt >/dev/null || fail 'the command rt of the kit is not on the path (see README.md)'
+    exec 9<"$root/tools/build_$how.py" || exit 9
+    flock -n 9 || { say "waiting for another octomap to build $crate" && flock 9; } || exit 9
+    is_built || build || fail "$crate can't be built; the last lines of $log say why"
+    exec 9<&-
+}

@@ -1,0 +1,18 @@
+# Versions that differ in their first number don't fit each other.
+
+set(PACKAGE_VERSION @VERSION@)
+
+string(REGEX MATCH "^[0-9]+" _octofix_major "${PACKAGE_VERSION}")
+if(PACKAGE_VERSION VERSION_LESS PACKAGE_FIND_VERSION
+   OR NOT PACKAGE_FIND_VERSION_MAJOR EQUAL _octofix_major)
+  set(PACKAGE_VERSION_COMPATIBLE FALSE)
+else()
+  set(PACKAGE_VERSION_COMPATIBLE TRUE)
+  if(PACKAGE_VERSION VERSION_EQUAL PACKAGE_FIND_VERSION)
+    set(PACKAGE_VERSION_EXACT TRUE)
+  endif()
+endif()
+if(NOT PACKAGE_FIND_VERSION)
+  set(PACKAGE_VERSION_COMPATIBLE TRUE)
+endif()
+unset(_octofix_major)
