@@ -16,7 +16,7 @@ use crate::place::Place;
 use crate::slots;
 use crate::tidiness::{NOTHING, Tidiness};
 use oct_arena::{GroupId, Node, NodeArena};
-use oct_key::{Key, Res, child_index};
+use oct_key::{Key, Res, child_of_code, morton};
 use oct_num::Memory;
 use oct_odds::OddsModel;
 use std::alloc::Global;
@@ -188,12 +188,13 @@ impl OccTree {
             → home_at self.now.groups id ≡ Some (block_of depth k) }
         ensures linked { IsLinked self.now }
     {
+        let code = morton(k);
         let mut node = self.root;
         for level in 0..depth {
             let Node::Inner(_, id) = node else {
                 return node;
             };
-            node = self.arena.node(id, child_index(k, level));
+            node = self.arena.node(id, child_of_code(code, level));
         }
         node
     }
