@@ -23,12 +23,6 @@ stored_in Absent = None
 stored_in (Leaf v) = Some v
 stored_in (Inner v id) = Some v
 
--- the node that links a group in the place of one that links none: it has a leaf's value, or 0
-abbrev pub inner_over : Node → GroupId → Node
-inner_over Absent id = Inner (pos 0) id
-inner_over (Leaf v) id = Inner v id
-inner_over (Inner v x) id = Inner (pos 0) id
-
 -- the rank of a stored value: the number itself, or, of none, the least number of 32 bits
 abbrev pub IsRankOf : Option ℤ → ℤ → Type 0
 IsRankOf None rank = rank ≡ neg_ℤ (pos (2 ^ 31))

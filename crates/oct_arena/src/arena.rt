@@ -3,7 +3,6 @@ ghost use Rattle.std.specs.Prelude.{Some, None, OnOk, OnErr, IsOk, max, pos};
 ghost use Rattle.oct_arena.specs.declared.node.Node.TheVariants.{Inner};
 ghost use Rattle.oct_key.specs.Block.{Cube};
 ghost use Rattle.oct_key.specs.CubeOf.{cube_of};
-ghost use Rattle.oct_arena.specs.Nodes.{inner_over};
 ghost use Rattle.oct_arena.specs.Entries.{IsArena, IsLive, entry, node_at, home_at, with_node};
 ghost use Rattle.oct_arena.specs.Entries.{copies_under, spare, live, vacant};
 
@@ -128,8 +127,9 @@ impl NodeArena {
     }
 
     /// Puts a group of eight copies of node i of the group into a vacant entry, and makes the node
-    /// Inner, so that it links them. No other entry changes.
-    pub fn split(&mut self, id: GroupId, i: u8) -> GroupId
+    /// Inner, with this value, so that it links them. No other entry changes.
+    #[inline(always)]
+    pub fn split_to(&mut self, id: GroupId, i: u8, value: i32) -> GroupId
         requires live { IsLive self.old id.number }
         requires index { i ≤ 7 }
         requires deep { (b : Cube) → home_at self.old id.number ≡ Some b → b.depth ≤ 15 }
@@ -139,7 +139,7 @@ impl NodeArena {
         ensures filled { let mid = slice_set self.old result.number
             (copies_under (entry self.old id.number) i) in
             self.new ≡ slice_set mid id.number
-            (with_node (entry mid id.number) i (inner_over (node_at self.old id.number i) result)) }
+            (with_node (entry mid id.number) i (Inner value result)) }
         ensures spare { spare self.new + 1 ≡ spare self.old }
         ensures arena { IsArena self.new }
     {
@@ -150,7 +150,8 @@ impl NodeArena {
         self.spare -= 1;
         let (home, node) = self.rows.get(at).child(i);
         self.rows.fill(free, home, [node; 8]);
-        self.rows.set_node(at, i, node.over(under));
+        self.rows
+            .set_node(at, i, PackedNode::new(Node::Inner(value, under)));
         under
     }
 

@@ -19,7 +19,7 @@
 //!
 //! - [`NodeArena::take`] puts the group that it is given into a vacant entry, [`NodeArena::give`]
 //!   makes the entry vacant again, and [`NodeArena::set_node`] changes one node of one group.
-//!   [`NodeArena::split`] does two of these at once: it puts eight copies of a node under it.
+//!   [`NodeArena::split_to`] does two of these at once: it puts eight copies of a node under it.
 //!   Nothing else changes: each says the whole list after the call.
 //! - [`NodeArena::node`], [`NodeArena::home`] and [`NodeArena::group`] answer what was put there.
 //!   They may be asked of live groups only. [`Group::are_same`] compares two nodes of a group, and

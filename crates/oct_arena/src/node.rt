@@ -122,7 +122,7 @@ fn lower_half(bits: u64) -> i32
 }
 
 impl PackedNode {
-    ghost use Rattle.oct_arena.specs.Nodes.{stored_in, inner_over, IsRankOf};
+    ghost use Rattle.oct_arena.specs.Nodes.{stored_in, IsRankOf};
 
     pub(crate) fn new(node: Node) -> PackedNode
         ensures { result ≡ node }
@@ -163,16 +163,6 @@ impl PackedNode {
         ensures { IsRankOf (stored_in self) result }
     {
         lower_half(self.bits)
-    }
-
-    /// The node that links the group in the place of this one.
-    pub(crate) fn over(self, id: GroupId) -> PackedNode
-        ensures { result ≡ inner_over self id }
-    {
-        match self.node() {
-            Node::Leaf(value) => PackedNode::new(Node::Inner(value, id)),
-            _ => PackedNode::new(Node::Inner(0, id)),
-        }
     }
 
     pub(crate) fn all(nodes: &[Node; 8]) -> [PackedNode; 8]

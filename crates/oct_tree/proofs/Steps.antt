@@ -11,7 +11,7 @@ use Rattle.oct_arena.specs.Entries.{Groups, IsArena, IsLive, entry}
 use Rattle.oct_arena.proofs.Entries.{arena_vacated}
 use Rattle.oct_tree.specs.declared.place.Place.{Place}
 use Rattle.oct_tree.specs.declared.place.Place.TheVariants.{Root, Slot}
-use Rattle.oct_tree.specs.Nodes.{inherited, IsAll, IsCollapsible, IsGreatest}
+use Rattle.oct_tree.specs.Nodes.{IsAll, IsCollapsible, IsGreatest}
 use Rattle.oct_arena.specs.Nodes.{link_of, value_of}
 use Rattle.oct_tree.specs.Places.{groups_with, root_with}
 use Rattle.oct_tree.specs.Tree.{Tree, IsLinked, IsPlace, node_in, block_in, value_at}
@@ -65,24 +65,23 @@ set_step t u p n l ok before none within is =
       linked = m;
     }
 
-pub record IsSplitStep (t u : Tree) (p : Place) (id : GroupId) : Type 0 where
-  pub split : IsSplit t u p id (inherited (node_in t p))
+pub record IsSplitStep (t u : Tree) (p : Place) (id : GroupId) (v : ℤ) : Type 0 where
+  pub split : IsSplit t u p id v
   pub values : SameValues (value_at t) (value_at u)
   pub outside : (b : Cube) → block_in t p ≡ Some b → IsSameOutside t u b
   pub linked : IsLinked u
 
 -- the tree that a split makes
-abbrev pub split_tree : Tree → Place → GroupId → Cube → Tree
-split_tree t p id b =
-    tree_with (with_entry t id.number (Some (copies_group b (node_in t p)))) p
-    (Inner (inherited (node_in t p)) id)
+abbrev pub split_tree : Tree → Place → GroupId → ℤ → Cube → Tree
+split_tree t p id v b =
+    tree_with (with_entry t id.number (Some (copies_group b (node_in t p)))) p (Inner v id)
 
-pub split_step : (t u : Tree) (p : Place) (id : GroupId) (b : Cube) → IsLinked t → IsPlace t p
+pub split_step : (t u : Tree) (p : Place) (id : GroupId) (v : ℤ) (b : Cube) → IsLinked t
+    → IsPlace t p
     → block_in t p ≡ Some b → b.depth ≤ 15 → link_of (node_in t p) ≡ None
-    → entry t.groups id.number ≡ None → id.number < length t.groups → u ≡ split_tree t p id b
-    → IsSplitStep t u p id
-split_step t u p id b l ok e low none vacant within is =
-    let v = inherited (node_in t p) in
+    → entry t.groups id.number ≡ None → id.number < length t.groups → u ≡ split_tree t p id v b
+    → IsSplitStep t u p id v
+split_step t u p id v b l ok e low none vacant within is =
     let mid = with_entry t id.number (Some (copies_group b (node_in t p))) in
     let a = arena_copies t.groups id.number b (node_in t p) l.arena in
     let ok' =
@@ -192,24 +191,25 @@ set_call t s p n gs root e l ok before none within f g =
     rw (f, g) refl in
     set_step s u p n (subst IsLinked e l) ok before none within (is ∙ ap (λ x. tree_with x p n) e)
 
-pub split_call : (t s : Tree) (p : Place) (id : GroupId) (gs : Groups) (root : Node) → t ≡ s
+pub split_call : (t s : Tree) (p : Place) (id : GroupId) (v : ℤ) (gs : Groups) (root : Node)
+    → t ≡ s
     → IsLinked t → IsPlace s p → link_of (node_in s p) ≡ None
     → ((b : Cube) → block_in s p ≡ Some b → b.depth ≤ 15) → entry t.groups id.number ≡ None
     → id.number < length t.groups
     → ((b : Cube) → block_in t p ≡ Some b → gs ≡ groups_with (slice_set t.groups id.number
-    (Some (copies_group b (node_in t p)))) p (Inner (inherited (node_in t p)) id))
-    → root ≡ root_with t.root p (Inner (inherited (node_in t p)) id)
-    → IsSplitStep s (record { groups = gs; root = root; res = t.res; odds = t.odds }) p id
-split_call t s p id gs root e l ok none low vacant within f g =
+    (Some (copies_group b (node_in t p)))) p (Inner v id))
+    → root ≡ root_with t.root p (Inner v id)
+    → IsSplitStep s (record { groups = gs; root = root; res = t.res; odds = t.odds }) p id v
+split_call t s p id v gs root e l ok none low vacant within f g =
     let u : Tree = record { groups = gs; root = root; res = t.res; odds = t.odds } in
     let (b, block) = place_block s p ok in
     let is : ◌≡◌ {A = Tree} (record { groups = gs; root = root; res = t.res; odds = t.odds })
-    (split_tree t p id b) =
+    (split_tree t p id v b) =
     rw (f b (subst (λ x. block_in x p ≡ Some b) (sym e) block), g) refl in
-    split_step s u p id b (subst IsLinked e l) ok block (low b block) none
+    split_step s u p id v b (subst IsLinked e l) ok block (low b block) none
     (subst (λ (x : Tree). entry x.groups id.number ≡ None) e vacant)
     (subst (λ (x : Tree). id.number < length x.groups) e within)
-    (is ∙ ap (λ x. split_tree x p id b) e)
+    (is ∙ ap (λ x. split_tree x p id v b) e)
 
 pub collapse_call : (t s : Tree) (p : Place) (id : GroupId) (v : ℤ) (n : Node) (gs : Groups)
     (root : Node)

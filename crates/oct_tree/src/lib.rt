@@ -25,9 +25,9 @@
 //!   block, and each group is what the path to its home comes to. The type keeps that through every
 //!   call. [`OccTree::shape`] says what follows: homes are distinct, one node alone links each
 //!   group, and so on (`IsShaped`).
-//! - [`OccTree::split`], [`OccTree::collapse`], [`OccTree::drop_absent`], [`OccTree::renew`],
-//!   [`OccTree::settle`] and [`OccTree::settle_group`] change no voxel. [`OccTree::set_place`]
-//!   changes the voxels of the place's block alone.
+//! - [`OccTree::split`], [`OccTree::split_to`], [`OccTree::collapse`], [`OccTree::drop_absent`],
+//!   [`OccTree::renew`], [`OccTree::settle`] and [`OccTree::settle_group`] change no voxel.
+//!   [`OccTree::set_place`] changes the voxels of the place's block alone.
 //! - Each of these says what it changes: one node (`IsWritten`), or one node and the group under it
 //!   (`IsSplit`, where a collapse is a split undone). Every other node, home and entry stays, and
 //!   so do the resolution and the log-odds.

@@ -9,13 +9,13 @@ ghost use Rattle.oct_tree.specs.Survey.{IsSurvey};
 
 use oct_arena::{GroupId, Node, NodeArena};
 
-/// The Inner node that takes the place of this one, which links no group.
-pub(crate) fn inner_over(node: Node, id: GroupId) -> Node
-    ensures { result ≡ Node.Inner (inherited node) id }
+/// The value that an Inner node begins with where it takes the place of this one: a leaf's, or 0.
+pub(crate) fn inherited(node: Node) -> i32
+    ensures { result ≡ inherited node }
 {
     match node {
-        Node::Leaf(value) => Node::Inner(value, id),
-        _ => Node::Inner(0, id),
+        Node::Leaf(value) => value,
+        _ => 0,
     }
 }
 

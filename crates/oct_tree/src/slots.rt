@@ -4,11 +4,9 @@ ghost use Rattle.std.specs.Prelude.{◌≡◌, ◌+◌, ◌<◌, ◌≤◌, Some
 ghost use Rattle.oct_key.specs.Block.{Cube};
 ghost use Rattle.oct_arena.specs.declared.node.Node.TheVariants.{Inner};
 ghost use Rattle.oct_arena.specs.Entries.{IsLive, entry, spare};
-ghost use Rattle.oct_tree.specs.Nodes.{inherited};
 ghost use Rattle.oct_tree.specs.Places.{IsPlaceOf, IsAboveVoxels, node_at_place, block_at_place};
 ghost use Rattle.oct_tree.specs.Places.{groups_with, root_with};
 
-use crate::nodes::inner_over;
 use crate::place::Place;
 use oct_arena::{GroupId, Node, NodeArena};
 use oct_key::Block;
@@ -24,8 +22,10 @@ pub(crate) fn read(arena: &NodeArena, root: Node, p: Place) -> Node
     }
 }
 
-/// Puts a group of eight copies of the place's node under it.
-pub(crate) fn split(arena: &mut NodeArena, root: &mut Node, p: Place) -> GroupId
+/// Puts a group of eight copies of the place's node under it, and makes the place Inner, with this
+/// value.
+#[inline(always)]
+pub(crate) fn split(arena: &mut NodeArena, root: &mut Node, p: Place, value: i32) -> GroupId
     requires place { IsPlaceOf arena.old p }
     requires home { IsAboveVoxels arena.old p }
     requires room { 1 ≤ spare arena.old }
@@ -34,17 +34,16 @@ pub(crate) fn split(arena: &mut NodeArena, root: &mut Node, p: Place) -> GroupId
     ensures groups { (b : Cube) → block_at_place arena.old p ≡ Some b → arena.new
         ≡ groups_with (slice_set arena.old result.number
         (Some (record { home = b; nodes = replicate 8 (node_at_place arena.old root.old p) }))) p
-        (Inner (inherited (node_at_place arena.old root.old p)) result) }
-    ensures root { root.new
-        ≡ root_with root.old p (Inner (inherited (node_at_place arena.old root.old p)) result) }
+        (Inner value result) }
+    ensures root { root.new ≡ root_with root.old p (Inner value result) }
 {
     match p {
         Place::Root => {
             let id = arena.take(Block::whole_map(), [*root; 8]);
-            *root = inner_over(*root, id);
+            *root = Node::Inner(value, id);
             id
         }
-        Place::Slot(id, i) => arena.split(id, i),
+        Place::Slot(id, i) => arena.split_to(id, i, value),
     }
 }
 

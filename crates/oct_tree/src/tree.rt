@@ -11,7 +11,7 @@ ghost use Rattle.oct_arena.specs.Entries.{IsLive, home_at, spare, live, vacant};
 ghost use Rattle.oct_tree.specs.Nodes.{inherited, IsKnown};
 ghost use Rattle.oct_arena.specs.Nodes.{link_of, value_of};
 
-use crate::nodes::{Survey, common_node, greatest, is_absent, read_group};
+use crate::nodes::{Survey, common_node, greatest, inherited, is_absent, read_group};
 use crate::place::Place;
 use crate::slots;
 use crate::tidiness::{NOTHING, Tidiness};
@@ -237,8 +237,25 @@ impl OccTree {
             → IsSameOutside self.old self.new b }
         ensures linked { IsLinked self.new }
     {
+        let value = inherited(slots::read(&self.arena, self.root, p));
+        self.split_to(p, value)
+    }
+
+    /// The same, with this value in the place of the leaf's or 0.
+    #[inline(always)]
+    pub fn split_to(&mut self, p: Place, value: i32) -> GroupId
+        requires place { IsPlace self.old p }
+        requires node { link_of (node_in self.old p) ≡ None }
+        requires depth { (b : Cube) → block_in self.old p ≡ Some b → b.depth ≤ 15 }
+        requires room { 1 ≤ spare self.old.groups }
+        ensures split { IsSplit self.old self.new p result value }
+        ensures values { SameValues (value_at self.old) (value_at self.new) }
+        ensures outside { (b : Cube) → block_in self.old p ≡ Some b
+            → IsSameOutside self.old self.new b }
+        ensures linked { IsLinked self.new }
+    {
         self.known = NOTHING;
-        slots::split(&mut self.arena, &mut self.root, p)
+        slots::split(&mut self.arena, &mut self.root, p, value)
     }
 
     /// Gives back the group of an Inner place whose eight nodes are all absent, or all leaves of

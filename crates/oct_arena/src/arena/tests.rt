@@ -103,7 +103,7 @@ fn split(rt: &impl Abort, arena: &mut NodeArena, id: GroupId) -> GroupId
     let home = arena.home(id);
     assert!(rt; home.depth <= 15);
     assert!(rt; arena.spare() >= 1);
-    arena.split(id, 5)
+    arena.split_to(id, 5, 400)
 }
 
 #[test]
@@ -122,7 +122,7 @@ fn splits_a_node_into_eight_copies(rt: HostRuntime) -> Result<(), Fail> {
     let leaves = [Node::Leaf(850); 8];
     expect_group(&rt, &arena, under, child, leaves);
     let mut nodes = leaves;
-    nodes[5] = Node::Inner(850, under);
+    nodes[5] = Node::Inner(400, under);
     expect_group(&rt, &arena, over, block(1), nodes);
     Ok(())
 }

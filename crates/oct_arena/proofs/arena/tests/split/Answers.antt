@@ -40,16 +40,16 @@ deep_home : (home b : Cube) (o : Option Cube) → o ≡ Some home → home.depth
     → b.depth ≤ 15
 deep_home home b o e deep is = subst (λ (c : Cube). c.depth ≤ 15) (some_is home b (sym e ∙ is)) deep
 
-pub split-requires-clause-deep : goal.split-requires-clause-deep
-split-requires-clause-deep g c b is =
+pub split_to-requires-clause-deep : goal.split_to-requires-clause-deep
+split_to-requires-clause-deep g c b is =
     deep_home _ b _ c.home-home.ensures.exact (search rules) is
 
 pub returns-clause-over : goal.returns-clause-over
 returns-clause-over g c =
-    (live_split _ _ _ _ 5 _ c.split.ensures.filled c.split.ensures.vacant c.split.ensures.within
+    (live_split _ _ _ _ 5 _ c.split_to.ensures.filled c.split_to.ensures.vacant c.split_to.ensures.within
     c.requires).0
 
 pub returns-clause-under : goal.returns-clause-under
 returns-clause-under g c =
-    (live_split _ _ _ _ 5 _ c.split.ensures.filled c.split.ensures.vacant c.split.ensures.within
+    (live_split _ _ _ _ 5 _ c.split_to.ensures.filled c.split_to.ensures.vacant c.split_to.ensures.within
     c.requires).1

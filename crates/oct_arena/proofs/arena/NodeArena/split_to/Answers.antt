@@ -1,14 +1,14 @@
 use Rattle.std.proofs.Common.{◌≡◌, ◌∙◌, ◌+◌, ◌-◌, ◌<◌, ap, subst, sym, refl, length, replicate}
-use Rattle.std.proofs.Common.{Some}
+use Rattle.std.proofs.Common.{Some, SFits, w32, to_z-of_z, rules}
 use Rattle.std.specs.Prelude.{slice_set}
 use Rattle.oct_key.specs.Block.{Cube}
 use Rattle.oct_arena.specs.declared.node.Node.{Node}
+use Rattle.oct_arena.specs.declared.node.Node.TheVariants.{Inner}
 use Rattle.oct_arena.specs.Entries.{entry, node_of, node_at, home_of, with_node, spare}
 use Rattle.oct_arena.specs.Free.{linked_number}
-use Rattle.oct_arena.specs.Nodes.{inner_over}
 use Rattle.oct_arena.proofs.Calls.{some_vacant, within, in_memory, arena}
 use Rattle.oct_arena.proofs.Splits.{HasSplit, has_split, with_copies}
-use Rattle.oct_arena.proofs.arena.NodeArena.split.Goals as goal
+use Rattle.oct_arena.proofs.arena.NodeArena.split_to.Goals as goal
 
 pub get-requires : goal.get-requires
 get-requires c =
@@ -52,12 +52,12 @@ seen c =
 
 after : (c : goal.After-set_node) → (let a = c.self.inside in
     HasSplit a.rows a.head.number a.tail.number a.spare c.args.self.now c.self.invariant
-    c.self.view_is c.next-self-inside.result.number c.args.id.number c.args.i c.over.result
+    c.self.view_is c.next-self-inside.result.number c.args.id.number c.args.i c.new.result
     c.set_node.new.self)
 after c =
     let a = c.self.inside in
     has_split a.rows a.head.number a.tail.number a.spare c.args.self.now c.self.invariant
-    c.self.view_is c.next-self-inside.result.number c.args.id.number c.args.i c.over.result
+    c.self.view_is c.next-self-inside.result.number c.args.id.number c.args.i c.new.result
     c.get-2.result.now c.fill.new.self c.set_node.new.self
     c.requires.spare c.requires.live (there c)
     (c.next-self-inside.ensures
@@ -74,17 +74,14 @@ after c =
     (λ j. (c.child-home.ensures.home j, c.child-home.ensures.node j)))
     (c.set_node.ensures
     ∙ ap (λ i. slice_set c.fill.new.self i (with_node (entry c.fill.new.self i) c.args.i
-    c.over.result))
+    c.new.result))
     c.number-at.ensures.same)
 
 -- the node that links the copies
-link : (c : goal.After-set_node)
-    → c.over.result
-    ≡ inner_over (node_at c.args.self.now c.args.id.number c.args.i) c.self.inside.head
+link : (c : goal.After-set_node) → c.new.result ≡ Inner c.args.value c.self.inside.head
 link c =
-    c.over.ensures
-    ∙ ap (λ n. inner_over n c.self.inside.head)
-    (c.child-home.ensures.node ∙ ap (λ e. node_of e c.args.i) (sym (seen c)))
+    let fits : SFits w32 c.args.value = search rules in
+    c.new.ensures ∙ ap (λ v. Inner v c.self.inside.head) (to_z-of_z fits)
 
 pub invariant_of-self : goal.invariant_of-self
 invariant_of-self c = (after c).threaded
