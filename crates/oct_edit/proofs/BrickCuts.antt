@@ -185,6 +185,16 @@ one_brick (x ∷ y ∷ bs) b first ascend alike =
     same_codes : (m n p : ℕ) → m < n → m / 2 ^ 0 ≡ p → n / 2 ^ 0 ≡ p → ⊥
     same_codes m n p l e f = omega (arith, l, e, f)
 
+-- and the update of the bricks is that of the one
+pub one_listed : (bs : List Brick) (b c : Brick) (hit miss h m : Event) → slice_get bs 0 ≡ Some b
+    → AreAscending bs → AreAlike 14 bs → c ≡ b → h ≡ hit → m ≡ miss
+    → update_of bs hit miss ≡ update_of (c ∷ []) h m
+one_listed bs b c hit miss h m first ascend alike brick same_hit same_miss =
+    ap (λ l. update_of l hit miss) (one_brick bs b first ascend alike)
+    ∙ ap (λ (x : Brick). update_of (x ∷ []) hit miss) (sym brick)
+    ∙ ap (λ e. update_of (c ∷ []) e miss) (sym same_hit)
+    ∙ ap (λ e. update_of (c ∷ []) h e) (sym same_miss)
+
 -- all bricks begin alike in the whole map
 pub all_alike : (bs : List Brick) → All IsBrick bs → AreAlike 0 bs
 all_alike bs h = (0, λ n d l. (let k = (h n d l).code in nothing (get_or bs n d).code k))

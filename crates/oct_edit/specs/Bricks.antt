@@ -5,6 +5,7 @@ use Rattle.std.specs.Prelude.{bit_and, Bool, List, [], ◌∷◌, take, drop, So
 use Rattle.std.specs.List.{All, Contains}
 use Rattle.oct_key.specs.Block.{Cube}
 use Rattle.oct_odds.specs.declared.event.Event.{Event}
+use Rattle.oct_odds.specs.declared.event.Event.TheVariants.{Add}
 use Rattle.oct_odds.specs.Update.{IsSmallEvent}
 use Rattle.oct_arena.specs.Entries.{spare}
 use Rattle.oct_tree.specs.declared.place.Place.{Place}
@@ -20,7 +21,7 @@ use Rattle.oct_edit.specs.Parts.{IsUpdateIn, need_in}
 
 -- the voxels and events of an update
 abbrev pub listed : ScanUpdate → ListedUpdate
-listed update = update_of update.bricks.now update.hit update.miss
+listed update = update_of update.bricks.now (Add update.hit) (Add update.miss)
 
 -- those of the update of one brick
 abbrev pub listed_one : BrickUpdate → ListedUpdate

@@ -7,6 +7,7 @@ ghost use Rattle.oct_key.specs.Voxel.{Voxel, IsInMap};
 ghost use Rattle.oct_key.specs.Block.{Cube, block_of};
 ghost use Rattle.oct_odds.specs.Odds.{odds_of};
 ghost use Rattle.oct_odds.specs.Update.{IsSmallEvent};
+ghost use Rattle.oct_odds.specs.declared.event.Event.{Event};
 ghost use Rattle.oct_values.specs.Events.{event_at, is_listed};
 ghost use Rattle.oct_values.specs.Needs.{event_need};
 ghost use Rattle.oct_brick.specs.Bricks.{IsBrick, AreAscending};
@@ -31,16 +32,16 @@ use oct_tree::{OccTree, Place};
 /// The depth of the block of a brick.
 const BRICK_DEPTH: u8 = 14;
 
-/// The voxels that a scan changes, and the event of each kind.
+/// The voxels that a scan changes, and what each kind adds.
 #[derive(Clone, Copy)]
 pub struct ScanUpdate<'a> {
     /// The voxels that are hit and those that are freed, in the order of the bricks' codes, each
     /// brick once.
     pub bricks: &'a [Brick],
-    /// What a hit does to a voxel.
-    pub hit: Event,
-    /// What a miss does to a voxel.
-    pub miss: Event,
+    /// What a hit adds to a voxel.
+    pub hit: i32,
+    /// What a miss adds to a voxel.
+    pub miss: i32,
 }
 
 /// The voxels of a brick that a scan changes, or some of them, and the event of each kind.
@@ -62,8 +63,8 @@ pub fn touch_all(tree: &mut OccTree, update: ScanUpdate, lazy: bool)
     requires bricks { All IsBrick update.bricks.now }
     requires ascend { AreAscending update.bricks.now }
     requires room { event_need (events_of (listed update)) ≤ spare tree.old.groups }
-    requires hit { IsSmallEvent update.hit }
-    requires miss { IsSmallEvent update.miss }
+    requires hit { IsSmallEvent (Event.Add update.hit) }
+    requires miss { IsSmallEvent (Event.Add update.miss) }
     ensures edited { IsEdited tree.old tree.new (events_of (listed update.entry)) }
     ensures eager { (IsTrue lazy → ⊥)
         → IsEagerEdit tree.old tree.new (events_of (listed update.entry)) }
@@ -97,8 +98,8 @@ fn touch_within(tree: &mut OccTree, p: Place, depth: u8, update: ScanUpdate, laz
     requires inside { (b : Cube) → block_in tree.old p ≡ Some b → IsUpdateIn b (listed update) }
     requires room { (b : Cube) → block_in tree.old p ≡ Some b →
         need_in (events_of (listed update)) b ≤ spare tree.old.groups }
-    requires hit { IsSmallEvent update.hit }
-    requires miss { IsSmallEvent update.miss }
+    requires hit { IsSmallEvent (Event.Add update.hit) }
+    requires miss { IsSmallEvent (Event.Add update.miss) }
     ensures touched { (b : Cube) → block_in tree.old p ≡ Some b →
         IsTouched tree.old tree.new b (events_of (listed update.entry)) lazy }
     ensures room { (b : Cube) → block_in tree.old p ≡ Some b →
@@ -107,12 +108,7 @@ fn touch_within(tree: &mut OccTree, p: Place, depth: u8, update: ScanUpdate, laz
 {
     if depth == BRICK_DEPTH {
         if let Some(brick) = update.bricks.first().copied() {
-            let part = BrickUpdate {
-                brick,
-                hit: update.hit,
-                miss: update.miss,
-            };
-            touch_brick(tree, p, part, lazy);
+            touch_brick(tree, p, update.of_brick(brick), lazy);
         }
         return;
     }
@@ -256,6 +252,19 @@ impl BrickUpdate {
 }
 
 impl<'a> ScanUpdate<'a> {
+    /// The update of one of the bricks.
+    fn of_brick(&self, brick: Brick) -> BrickUpdate
+        ensures brick { result.brick ≡ brick }
+        ensures hit { result.hit ≡ Event.Add self.now.hit }
+        ensures miss { result.miss ≡ Event.Add self.now.miss }
+    {
+        BrickUpdate {
+            brick,
+            hit: Event::Add(self.hit),
+            miss: Event::Add(self.miss),
+        }
+    }
+
     /// Whether the value that the place gives its voxels takes nothing from the events.
     fn is_at_rest(&self, tree: &OccTree, p: Place) -> bool
         requires place { IsPlace tree.now p }
@@ -278,24 +287,26 @@ impl<'a> ScanUpdate<'a> {
     fn hits_rest(&self, odds: OddsModel, value: Option<i32>) -> bool
         requires { All IsBrick self.now.bricks.now }
         ensures rests { IsTrue result →
-            ((listed self.now).hits ≡ []) ⊎ IsSaturated (odds_of odds) self.now.hit value }
+            ((listed self.now).hits ≡ []) ⊎
+            IsSaturated (odds_of odds) (Event.Add self.now.hit) value }
         ensures moved { OnFalse result ((k : Voxel) × IsInMap k ×
             (is_listed (listed self.now).hits k ≡ true) ×
-            (IsSaturated (odds_of odds) self.now.hit value → ⊥)) }
+            (IsSaturated (odds_of odds) (Event.Add self.now.hit) value → ⊥)) }
     {
-        stays(odds, self.hit, value) || !has_hits(self.bricks)
+        stays(odds, Event::Add(self.hit), value) || !has_hits(self.bricks)
     }
 
     /// Whether no voxel is freed, or the value takes nothing from a miss.
     fn misses_rest(&self, odds: OddsModel, value: Option<i32>) -> bool
         requires { All IsBrick self.now.bricks.now }
         ensures rests { IsTrue result →
-            ((listed self.now).frees ≡ []) ⊎ IsSaturated (odds_of odds) self.now.miss value }
+            ((listed self.now).frees ≡ []) ⊎
+            IsSaturated (odds_of odds) (Event.Add self.now.miss) value }
         ensures moved { OnFalse result ((k : Voxel) × IsInMap k ×
             (is_listed (listed self.now).frees k ≡ true) ×
-            (IsSaturated (odds_of odds) self.now.miss value → ⊥)) }
+            (IsSaturated (odds_of odds) (Event.Add self.now.miss) value → ⊥)) }
     {
-        stays(odds, self.miss, value) || !has_frees(self.bricks)
+        stays(odds, Event::Add(self.miss), value) || !has_frees(self.bricks)
     }
 
     /// The child with the first brick, where all bricks lie in one block of that depth.

@@ -1,5 +1,6 @@
 ghost use Rattle.std.specs.Prelude.{◌≤◌, IfOk};
 ghost use Rattle.oct_odds.specs.Update.{IsSmallEvent};
+ghost use Rattle.oct_odds.specs.declared.event.Event.{Event};
 ghost use Rattle.oct_tree.specs.Shape.{IsWellFormed};
 
 use oct_arena::Node;
@@ -12,10 +13,10 @@ use std::alloc::Global;
 use std::process::Abort;
 use std::test::Fail;
 
-/// What a hit and a miss do to a voxel.
-const HIT: Event = Event::Add(850);
+/// What a hit and a miss add to a voxel.
+const HIT: i32 = 850;
 
-const MISS: Event = Event::Add(-400);
+const MISS: i32 = -400;
 
 /// The code of the brick at the origin: the highest bit of each axis, which are the highest three
 /// of the code's 42. The next code is that of the brick beside it on the x axis.
@@ -63,14 +64,14 @@ fn scan(rt: &impl Abort, tree: &mut OccTree, masks: [(u64, u64); 2], lazy: bool)
     touch_all(tree, update, lazy);
 }
 
-/// Applies an event to a voxel where there is room for it.
-fn apply(rt: &impl Abort, tree: &mut OccTree, x: u16, event: Event)
+/// Adds to a voxel where there is room for it.
+fn apply(rt: &impl Abort, tree: &mut OccTree, x: u16, change: i32)
     requires formed { IsWellFormed tree.old }
-    requires small { IsSmallEvent event }
+    requires small { IsSmallEvent (Event.Add change) }
     ensures { IsWellFormed tree.new }
 {
     assert!(rt; tree.arena().spare() >= 16);
-    touch(tree, voxel(x), event, false);
+    touch(tree, voxel(x), Event::Add(change), false);
 }
 
 /// What the tree holds: the values of the first five voxels on the x axis, the value at the root,

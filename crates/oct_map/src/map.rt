@@ -315,7 +315,7 @@ impl OccMap {
         ensures setup { ground_of self.new ≡ ground_of self.old }
         ensures map { IsMap self.new }
     {
-        let (hit, miss) = events_of_scan(self.tree.odds(), scan.odds);
+        let (hit, miss) = odds_of_scan(self.tree.odds(), scan.odds);
         let window = self.window();
         let set = update_bricks(
             self.alloc,
@@ -561,19 +561,17 @@ impl OccMap {
     }
 }
 
-/// The events of a hit and of a miss of a scan: by its own log-odds, where it has them, else by the
-/// map's.
-fn events_of_scan(model: OddsModel, own: Option<ScanOdds>) -> (Event, Event)
+/// What a hit and a miss of a scan add: its own log-odds, where it has them, else the map's.
+fn odds_of_scan(model: OddsModel, own: Option<ScanOdds>) -> (i32, i32)
     requires { IfSome own IsTrust }
-    ensures hit { result.0 ≡ hit_event (odds_of model) own }
-    ensures miss { result.1 ≡ miss_event (odds_of model) own }
-    ensures small { IsSmallEvent result.0 × IsSmallEvent result.1 }
+    ensures hit { Event.Add result.0 ≡ hit_event (odds_of model) own }
+    ensures miss { Event.Add result.1 ≡ miss_event (odds_of model) own }
+    ensures small { IsSmallEvent (Event.Add result.0) × IsSmallEvent (Event.Add result.1) }
 {
-    let (hit, miss) = match own {
+    match own {
         Some(own) => (own.hit, own.miss),
         None => (model.hit, model.miss),
-    };
-    (Event::Add(hit), Event::Add(miss))
+    }
 }
 
 /// Whether the voxels are the corners of a box: on no axis the first is beyond the second.

@@ -5,74 +5,79 @@ use Rattle.oct_key.specs.Block.{child_of}
 use Rattle.oct_key.proofs.Blocks.{depth_child_of}
 use Rattle.oct_tree.specs.declared.place.Place.TheVariants.{Slot}
 use Rattle.oct_tree.proofs.Paths.{place_block}
+use Rattle.oct_odds.specs.Update.{IsSmallEvent}
+use Rattle.oct_odds.specs.declared.event.Event.TheVariants.{Add}
 use Rattle.oct_arena.specs.Entries.{spare}
 use Rattle.oct_brick.specs.Bricks.{IsBrick, frees_of}
 use Rattle.oct_brick.specs.Voxels.{hit_voxels, freed_voxels}
 use Rattle.oct_edit.specs.Steps.{IsTouched}
 use Rattle.oct_edit.specs.Scan.{events_of}
 use Rattle.oct_edit.specs.Parts.{IsUpdateIn, IsFirstChild, need_in}
-use Rattle.oct_edit.specs.Listed.{update_of}
-use Rattle.oct_edit.specs.Bricks.{listed, AreAlike, AreCut}
+use Rattle.oct_edit.specs.Bricks.{listed, listed_one, AreAlike, AreCut}
 use Rattle.oct_edit.proofs.Needs.{place_in_map}
 use Rattle.oct_edit.proofs.UpdateEnds.{rest_touched}
 use Rattle.oct_edit.proofs.BrickParts.{cut_parted}
 use Rattle.oct_edit.proofs.BrickCuts.{order_of, part_bricks, later_bricks, part_apart, later_apart}
 use Rattle.oct_edit.proofs.BrickCuts.{part_alike, later_alike, cut_shorter, one_brick}
+use Rattle.oct_edit.proofs.BrickCuts.{one_listed}
 use Rattle.oct_edit.proofs.Updates.{way_start, way_place, way_part, way_room, way_step, way_back}
 use Rattle.oct_edit.proofs.Updates.{way_end, way_spared, at_block, need_some}
 use Rattle.oct_edit.proofs.scan.+touch_within.Goals as goal
 
 pub touch_brick-requires : goal.touch_brick-requires
-touch_brick-requires t c = record {
-  linked = c.requires.linked;
-  place = c.requires.place;
-  depth = λ b e. c.requires.depth b e ∙ c.if-depth-eq-BRICK_DEPTH.true;
-  brick =
-      All-head IsBrick c.in-Some.brick []
-      (subst (All IsBrick)
-      (one_brick c.args.update.bricks.now c.in-Some.brick
-      (sym c.first.ensures.value ∙ sym c.copied.ensures ∙ c.in-Some.is) c.requires.ascend
-      (subst (λ d. AreAlike d c.args.update.bricks.now) c.if-depth-eq-BRICK_DEPTH.true
-      c.requires.alike))
-      c.requires.bricks);
-  inside =
-      λ b e. subst (λ l. IsUpdateIn b (update_of l c.args.update.hit c.args.update.miss))
-      (one_brick c.args.update.bricks.now c.in-Some.brick
-      (sym c.first.ensures.value ∙ sym c.copied.ensures ∙ c.in-Some.is) c.requires.ascend
-      (subst (λ d. AreAlike d c.args.update.bricks.now) c.if-depth-eq-BRICK_DEPTH.true
-      c.requires.alike))
-      (c.requires.inside b e);
-  room =
-      λ b e. subst (λ l. need_in (events_of (update_of l c.args.update.hit c.args.update.miss)) b
-      ≤ spare c.args.tree.now.groups)
-      (one_brick c.args.update.bricks.now c.in-Some.brick
-      (sym c.first.ensures.value ∙ sym c.copied.ensures ∙ c.in-Some.is) c.requires.ascend
-      (subst (λ d. AreAlike d c.args.update.bricks.now) c.if-depth-eq-BRICK_DEPTH.true
-      c.requires.alike))
-      (c.requires.room b e);
-  hit = c.requires.hit;
-  miss = c.requires.miss;
-}
+touch_brick-requires t c =
+    let same : listed c.args.update ≡ listed_one c.of_brick.result =
+    one_listed c.args.update.bricks.now c.in-Some.brick c.of_brick.result.brick
+    (Add c.args.update.hit) (Add c.args.update.miss) c.of_brick.result.hit c.of_brick.result.miss
+    (sym c.first.ensures.value ∙ sym c.copied.ensures ∙ c.in-Some.is) c.requires.ascend
+    (subst (λ d. AreAlike d c.args.update.bricks.now) c.if-depth-eq-BRICK_DEPTH.true
+    c.requires.alike)
+    c.of_brick.ensures.brick c.of_brick.ensures.hit c.of_brick.ensures.miss in
+    record {
+      linked = c.requires.linked;
+      place = c.requires.place;
+      depth = λ b e. c.requires.depth b e ∙ c.if-depth-eq-BRICK_DEPTH.true;
+      brick =
+          subst IsBrick (sym c.of_brick.ensures.brick)
+          (All-head IsBrick c.in-Some.brick []
+          (subst (All IsBrick)
+          (one_brick c.args.update.bricks.now c.in-Some.brick
+          (sym c.first.ensures.value ∙ sym c.copied.ensures ∙ c.in-Some.is) c.requires.ascend
+    (subst (λ d. AreAlike d c.args.update.bricks.now) c.if-depth-eq-BRICK_DEPTH.true
+    c.requires.alike))
+          c.requires.bricks));
+      inside = λ b e. subst (IsUpdateIn b) same (c.requires.inside b e);
+      room =
+          λ b e. subst (λ u. need_in (events_of u) b ≤ spare c.args.tree.now.groups) same
+          (c.requires.room b e);
+      hit = subst IsSmallEvent (sym c.of_brick.ensures.hit) c.requires.hit;
+      miss = subst IsSmallEvent (sym c.of_brick.ensures.miss) c.requires.miss;
+    }
 
 pub returns-in-Some-clause-touched : goal.returns-in-Some-clause-touched
 returns-in-Some-clause-touched t c b e =
-    subst (λ l. IsTouched c.args.tree.now c.touch_brick.new.tree b
-    (events_of (update_of l c.args.update.hit c.args.update.miss)) c.args.lazy)
-    (sym (one_brick c.args.update.bricks.now c.in-Some.brick (sym c.first.ensures.value
-    ∙ sym c.copied.ensures ∙ c.in-Some.is) c.requires.ascend
+    let same : listed c.args.update ≡ listed_one c.of_brick.result =
+    one_listed c.args.update.bricks.now c.in-Some.brick c.of_brick.result.brick
+    (Add c.args.update.hit) (Add c.args.update.miss) c.of_brick.result.hit c.of_brick.result.miss
+    (sym c.first.ensures.value ∙ sym c.copied.ensures ∙ c.in-Some.is) c.requires.ascend
     (subst (λ d. AreAlike d c.args.update.bricks.now) c.if-depth-eq-BRICK_DEPTH.true
-    c.requires.alike)))
-    (c.touch_brick.ensures.touched b e)
+    c.requires.alike)
+    c.of_brick.ensures.brick c.of_brick.ensures.hit c.of_brick.ensures.miss in
+    subst (λ u. IsTouched c.args.tree.now c.touch_brick.new.tree b (events_of u) c.args.lazy)
+    (sym same) (c.touch_brick.ensures.touched b e)
 
 pub returns-in-Some-clause-room : goal.returns-in-Some-clause-room
 returns-in-Some-clause-room t c b e =
-    subst (λ l. spare c.args.tree.now.groups ≤ spare c.touch_brick.new.tree.groups + need_in
-    (events_of (update_of l c.args.update.hit c.args.update.miss)) b)
-    (sym (one_brick c.args.update.bricks.now c.in-Some.brick (sym c.first.ensures.value
-    ∙ sym c.copied.ensures ∙ c.in-Some.is) c.requires.ascend
+    let same : listed c.args.update ≡ listed_one c.of_brick.result =
+    one_listed c.args.update.bricks.now c.in-Some.brick c.of_brick.result.brick
+    (Add c.args.update.hit) (Add c.args.update.miss) c.of_brick.result.hit c.of_brick.result.miss
+    (sym c.first.ensures.value ∙ sym c.copied.ensures ∙ c.in-Some.is) c.requires.ascend
     (subst (λ d. AreAlike d c.args.update.bricks.now) c.if-depth-eq-BRICK_DEPTH.true
-    c.requires.alike)))
-    (c.touch_brick.ensures.room b e)
+    c.requires.alike)
+    c.of_brick.ensures.brick c.of_brick.ensures.hit c.of_brick.ensures.miss in
+    subst (λ u. spare c.args.tree.now.groups
+    ≤ spare c.touch_brick.new.tree.groups + need_in (events_of u) b)
+    (sym same) (c.touch_brick.ensures.room b e)
 
 pub is_at_rest-requires-clause-some : goal.is_at_rest-requires-clause-some
 is_at_rest-requires-clause-some t c =
@@ -172,7 +177,7 @@ touch_within-requires t c =
     (listed c.split.result.0) (listed c.split.result.1) c.args.lazy
     (place_in_map c.args.tree.now c.args.p b c.requires.linked e) low
     (c.requires.inside b e) (c.requires.room b e) entered way first hits frees
-    c.split.ensures.hit.0 c.split.ensures.miss.0 in
+    (ap Add c.split.ensures.hit.0) (ap Add c.split.ensures.miss.0) in
     let level : (child_of b c.in-Some-first_child.i).depth ≡ c.args.depth + 1 =
     (let next = depth_child_of b c.in-Some-first_child.i in omega (arith, next, deep)) in
     let part_all =
@@ -282,8 +287,8 @@ loop-i-preserved t c = record {
       c.in-Some-first_child.i (listed c.args.update) (listed c.loop-i.rest)
       (listed c.split.result.0) (listed c.split.result.1) c.args.lazy entered.linked
       (place_in_map c.args.tree.now c.args.p b c.requires.linked e) low (c.requires.inside b e)
-      way first hits frees c.split.ensures.hit.0 c.split.ensures.miss.0 c.split.ensures.hit.1
-      c.split.ensures.miss.1
+      way first hits frees (ap Add c.split.ensures.hit.0) (ap Add c.split.ensures.miss.0) (ap Add c.split.ensures.hit.1)
+      (ap Add c.split.ensures.miss.1)
       (c.touch_within.ensures.touched (child_of b c.in-Some-first_child.i) place.1)
       (c.touch_within.ensures.room (child_of b c.in-Some-first_child.i) place.1);
   bricks =

@@ -1,6 +1,7 @@
 use Rattle.std.proofs.Common.{◌<◌, ◌≤◌, length, refl, sym, subst, rules}
 use Rattle.oct_key.specs.Block.{root_block}
 use Rattle.oct_arena.specs.Entries.{spare}
+use Rattle.oct_odds.specs.declared.event.Event.TheVariants.{Add}
 use Rattle.oct_tree.proofs.Paths.{some_injective}
 use Rattle.oct_edit.specs.Scan.{events_of}
 use Rattle.oct_edit.specs.Bricks.{listed}
@@ -16,7 +17,7 @@ pub touch_within-requires-clause-inside : goal.touch_within-requires-clause-insi
 touch_within-requires-clause-inside c b e =
     let some : 0 < length c.args.update.bricks.now = search rules in
     subst (λ a. IsUpdateIn a (listed c.args.update)) (some_injective e)
-    (whole_bricks c.args.update.bricks.now c.args.update.hit c.args.update.miss
+    (whole_bricks c.args.update.bricks.now (Add c.args.update.hit) (Add c.args.update.miss)
     c.requires.bricks c.requires.ascend some)
 
 pub touch_within-requires-clause-alike : goal.touch_within-requires-clause-alike

@@ -1,5 +1,6 @@
 use Rattle.std.proofs.Common.{◌≡◌, ◌+◌, ◌||◌, ◌≤◌, length, Err, refl, sym, subst, ap, ◌∙◌, arith}
 use Rattle.std.proofs.Common.{rules}
+use Rattle.oct_odds.specs.declared.event.Event.TheVariants.{Add}
 use Rattle.oct_values.specs.Events.{Events}
 use Rattle.oct_arena.specs.Entries.{live, spare}
 use Rattle.std.specs.Prelude.{◌⊎◌, Contains}
@@ -29,8 +30,8 @@ use Rattle.oct_map.proofs.map.OccMap.scan.Goals as goal
 
 -- the update, and its events
 abbrev given : goal.After-drop-set-inside-2 → ListedUpdate
-given c = update_of c.bricks-bricks.result.now c.events_of_scan-hit.result.0
-    c.events_of_scan-hit.result.1
+given c = update_of c.bricks-bricks.result.now (Add c.odds_of_scan-hit.result.0)
+    (Add c.odds_of_scan-hit.result.1)
 
 abbrev update : goal.After-drop-set-inside-2 → Events
 update c = events_of (given c)
@@ -39,14 +40,14 @@ update c = events_of (given c)
 ready : (c : goal.After-drop-set-inside-2)
     → IsPrepared c.args.self.now (sighting_of c.args.scan.now)
     (hit_voxels c.bricks-bricks.result.now) (freed_voxels c.bricks-bricks.result.now)
-    c.events_of_scan-hit.result.0 c.events_of_scan-hit.result.1 c.from.result
+    (Add c.odds_of_scan-hit.result.0) (Add c.odds_of_scan-hit.result.1) c.from.result
 ready c =
     prepared c.args.self.now _ (sighting_of c.args.scan.now) (listed c.in_ok-set.set)
     (hit_voxels c.bricks-bricks.result.now) (freed_voxels c.bricks-bricks.result.now) c.res.result
-    c.window-window.result c.events_of_scan-hit.result.0 c.events_of_scan-hit.result.1 _
+    c.window-window.result (Add c.odds_of_scan-hit.result.0) (Add c.odds_of_scan-hit.result.1) _
     c.from.result
-    c.self.view_is c.res.ensures (search rules) c.odds.ensures c.events_of_scan-hit.ensures.hit
-    c.events_of_scan-hit.ensures.miss (search rules) (search rules) (search rules)
+    c.self.view_is c.res.ensures (search rules) c.odds.ensures c.odds_of_scan-hit.ensures.hit
+    c.odds_of_scan-hit.ensures.miss (search rules) (search rules) (search rules)
     c.in_ok-set.ensures.events c.in_ok-set.ensures.needed
 
 -- the map that making room left
@@ -121,10 +122,10 @@ pub touch_all-requires-clause-room : goal.touch_all-requires-clause-room
 touch_all-requires-clause-room c =
     let ready = prepared c.args.self.now _ (sighting_of c.args.scan.now) (listed c.in_ok-set.set)
     (hit_voxels c.bricks-bricks.result.now) (freed_voxels c.bricks-bricks.result.now) c.res.result
-    c.window-window.result c.events_of_scan-hit.result.0 c.events_of_scan-hit.result.1 _
+    c.window-window.result (Add c.odds_of_scan-hit.result.0) (Add c.odds_of_scan-hit.result.1) _
     c.from.result
-    c.self.view_is c.res.ensures (search rules) c.odds.ensures c.events_of_scan-hit.ensures.hit
-    c.events_of_scan-hit.ensures.miss (search rules) (search rules) (search rules)
+    c.self.view_is c.res.ensures (search rules) c.odds.ensures c.odds_of_scan-hit.ensures.hit
+    c.odds_of_scan-hit.ensures.miss (search rules) (search rules) (search rules)
     c.in_ok-set.ensures.events c.in_ok-set.ensures.needed in
     let room : c.from.result ≤ spare c.self-2.inside.tree.groups =
     subst (λ (m : Map). c.from.result ≤ spare m.tree.groups) (sym c.self-2.view_is)
