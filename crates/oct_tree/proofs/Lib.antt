@@ -14,3 +14,4 @@ pub mod Fillings
 pub mod Over
 pub mod Tidied
 pub mod Callers
+pub mod Descents

@@ -8,3 +8,4 @@ pub mod Passes
 pub mod Tidiness
 pub mod Filled
 pub mod Classes
+pub mod Descents

@@ -11,12 +11,13 @@ ghost use Rattle.oct_arena.specs.Entries.{IsLive, home_at, spare, live, vacant};
 ghost use Rattle.oct_tree.specs.Nodes.{inherited, IsKnown};
 ghost use Rattle.oct_arena.specs.Nodes.{link_of, value_of};
 
+use crate::descent::Descent;
 use crate::nodes::{Survey, common_node, greatest, inherited, is_absent, read_group};
 use crate::place::Place;
 use crate::slots;
 use crate::tidiness::{NOTHING, Tidiness};
 use oct_arena::{GroupId, Node, NodeArena};
-use oct_key::{Key, Res, child_of_code, morton};
+use oct_key::{Key, Res, morton};
 use oct_num::Memory;
 use oct_odds::OddsModel;
 use std::alloc::Global;
@@ -188,13 +189,13 @@ impl OccTree {
             → home_at self.now.groups id ≡ Some (block_of depth k) }
         ensures linked { IsLinked self.now }
     {
-        let code = morton(k);
+        let mut way = Descent::new(morton(k), 0);
         let mut node = self.root;
-        for level in 0..depth {
+        for _level in 0..depth {
             let Node::Inner(_, id) = node else {
                 return node;
             };
-            node = self.arena.node(id, child_of_code(code, level));
+            node = self.arena.node(id, way.step());
         }
         node
     }
