@@ -207,6 +207,19 @@ listed_next v lo hi h m b c i old before now was is child level =
     (that_meet lo hi (leaves_below v h (child_of b i)))
     ∙ ap (λ l. old ++ l) (sym (meet_next v lo hi h b i))
 
+-- an unknown child has none
+pub listed_unknown : (v : Values) (lo hi : Voxel) (h : ℕ) (b : Cube) (i : ℕ)
+    (old before : List Shown)
+    → before ≡ old ++ that_meet lo hi (first_leaves v h b i) → IsBlock (child_of b i)
+    → ((k : Voxel) → IsInMap k → HoldsVoxel (child_of b i) k → v k ≡ None)
+    → before ≡ old ++ that_meet lo hi (first_leaves v h b (i + 1))
+listed_unknown v lo hi h b i old before was ok unknown =
+    let none : leaves_below v h (child_of b i) ≡ [] =
+    leaves_of_one v h (child_of b i) None ok
+    (λ k held. unknown k (held_in_map (child_of b i) k ok held) held) in
+    listed_next v lo hi h h b (child_of b i) i old before before was
+    (sym (append-nil before) ∙ ap (λ l. before ++ that_meet lo hi l) (sym none)) refl refl
+
 -- where one child has some, the first n children have
 pub some_in_child : (v : Values) (lo hi : Voxel) (h m : ℕ) (b c : Cube) (i : ℕ)
     → c ≡ child_of b i → m ≡ h

@@ -5,6 +5,7 @@ pub mod Needed
 pub mod Present
 pub mod Under
 pub mod Ways
+pub mod Shared
 pub mod MetBlocks
 pub mod RowSteps
 pub mod Above

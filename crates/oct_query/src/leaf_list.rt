@@ -78,7 +78,11 @@ fn push_leaves(
         return push_block(block, value, found);
     }
     for i in 0..8 {
-        push_leaves(tree, Place::Slot(id, i), block.child(i), lo, hi, found)?;
+        let slot = Place::Slot(id, i);
+        if let Node::Absent = tree.node(slot) {
+            continue;
+        }
+        push_leaves(tree, slot, block.child(i), lo, hi, found)?;
     }
     Ok(())
 }

@@ -1,11 +1,11 @@
-ghost use Rattle.std.specs.Prelude.{◌≡◌, ◌+◌, ◌≤◌, IsTrue};
+ghost use Rattle.std.specs.Prelude.{◌≡◌, ◌+◌, ◌≤◌};
 ghost use Rattle.oct_key.specs.Voxel.{IsInMap};
 ghost use Rattle.oct_key.specs.Block.{block_of};
 ghost use Rattle.oct_tree.specs.Tree.{reach};
 ghost use Rattle.oct_query.specs.Paths.{IsPathOf};
 
 use oct_arena::Node;
-use oct_key::{Block, Key, child_index};
+use oct_key::{Key, child_index};
 use oct_tree::OccTree;
 
 /// The nodes on the path from the root to a voxel, down to a depth. A caller that asks for one
@@ -55,19 +55,10 @@ impl Path {
         ensures same { block_of result self.now.key ≡ block_of result k }
     {
         let depth = self.depth.min(most);
-        for up in 0..depth {
-            if is_one_block(self.key, k, depth - up) {
-                return depth - up;
-            }
+        let differ = (self.key.x ^ k.x) | (self.key.y ^ k.y) | (self.key.z ^ k.z);
+        if differ == 0 {
+            return depth;
         }
-        0
+        depth.min(15 - differ.ilog2() as u8)
     }
-}
-
-/// Whether the voxels lie in one block of that depth.
-fn is_one_block(a: Key, b: Key, depth: u8) -> bool
-    requires { depth ≤ 16 }
-    ensures { IsTrue result → block_of depth a ≡ block_of depth b }
-{
-    Block::of(a, depth) == Block::of(b, depth)
 }

@@ -1,15 +1,19 @@
-use Rattle.std.proofs.Common.{◌≡◌, ℕ, ◌++◌, ◌-◌, ◌+◌, None, sym, ap, ◌∙◌, arith, append-nil}
+use Rattle.std.proofs.Common.{◌≡◌, ℕ, ◌++◌, ◌-◌, ◌+◌, None, refl, sym, ap, ◌∙◌, arith}
+use Rattle.std.proofs.Common.{append-nil}
 use Rattle.std.specs.Prelude.{is_some}
-use Rattle.oct_key.specs.Block.{Cube}
+use Rattle.oct_key.specs.Block.{Cube, child_of}
 use Rattle.oct_key.specs.CubeOf.{cube_of}
 use Rattle.oct_key.proofs.Blocks.{block_in_map}
 use Rattle.oct_arena.specs.Nodes.{link_of, value_of}
 use Rattle.oct_tree.specs.Tree.{value_at}
+use Rattle.oct_tree.specs.declared.place.Place.TheVariants.{Slot}
+use Rattle.oct_tree.proofs.Links.{place_in_map}
 use Rattle.oct_tree.proofs.Paths.{not_inner}
 use Rattle.oct_query.specs.Leaves.{that_meet}
 use Rattle.oct_query.proofs.Above.{above, child_slot}
 use Rattle.oct_query.proofs.LeafWalks.{on_any_err, all_of_node, first_leaves, pushed_one}
 use Rattle.oct_query.proofs.LeafWalks.{meets_several, listed_none, listed_next, some_in_child}
+use Rattle.oct_query.proofs.LeafWalks.{listed_unknown}
 use Rattle.oct_query.proofs.LeafBoxes.{none_meet}
 use Rattle.oct_query.proofs.leaf_list.+push_leaves.Goals as goal
 
@@ -88,6 +92,22 @@ loop-i-preserved t c =
           (cube_of c.child.result) c.loop-i.i c.args.found.now c.loop-i.found _
           c.loop-i.invariant.listed c.in_ok-push_leaves.ensures.listed c.child.ensures.exact
           (ap (λ (b : Cube). 16 - b.depth) c.child.ensures.exact ∙ a.child c.loop-i.i);
+    }
+
+-- an absent child
+pub loop-i-preserved-in-Absent : goal.loop-i-preserved-in-Absent
+loop-i-preserved-in-Absent t c =
+    let child = child_of (cube_of c.args.block) c.loop-i.i in
+    let (less, here, at) = child_slot c.args.tree.now c.args.p c.in-Inner.id
+    (cube_of c.args.block) child c.loop-i.i c.in-Inner.ensures.linked c.requires.place
+    (ap link_of (sym c.in-Inner.ensures.exact)) c.requires.block refl (omega arith) in
+    record {
+      listed = listed_unknown (value_at c.args.tree.now) c.args.lo c.args.hi
+          (16 - (c.args.block.depth + 1)) (cube_of c.args.block) c.loop-i.i c.args.found.now
+          c.loop-i.found c.loop-i.invariant.listed
+          (place_in_map c.args.tree.now c.in-Inner.ensures.linked
+          (Slot c.in-Inner.id c.loop-i.i) child here at)
+          (c.in-Absent.ensures.values child at refl);
     }
 
 pub returns-clause-listed : goal.returns-clause-listed

@@ -1,13 +1,12 @@
-use Rattle.std.proofs.Common.{rules, ◌∙◌, sym}
-use Rattle.oct_key.specs.Voxel.{IsInMap}
-use Rattle.oct_key.proofs.Blocks.{block_of_root}
+use Rattle.std.proofs.Common.{rules, ◌+◌, ◌≤◌, arith}
+use Rattle.oct_query.proofs.Shared.{one_voxel, above_bit}
 use Rattle.oct_query.proofs.path.Path.shared.Goals as goal
+
+pub returns-then-differ-eq0-clause-same : goal.returns-then-differ-eq0-clause-same
+returns-then-differ-eq0-clause-same c =
+    one_voxel c.args.self.now.key c.args.k _ (search rules)
 
 pub returns-clause-same : goal.returns-clause-same
 returns-clause-same c =
-    let there : IsInMap c.args.k = record {
-      x = search rules;
-      y = search rules;
-      z = search rules;
-    } in
-    block_of_root c.args.self.now.key c.requires.in_map ∙ sym (block_of_root c.args.k there)
+    above_bit c.args.self.now.key c.args.k _ c.ilog2.result c.ilog2.ensures.next_power_gt
+    (omega arith)
