@@ -1,17 +1,17 @@
 -- The length that a text begins with.
-use Rattle.std.proofs.Common.{◌≡◌, ℕ, ◌+◌, ◌-◌, ◌*◌, ◌^◌, ◌<◌, ◌≤◌, ℤ, unsigned_abs, Bool, List, []}
-use Rattle.std.proofs.Common.{◌∷◌, ◌++◌, length, drop, nat_eq, refl, sym, ap, ◌∙◌, append_assoc}
-use Rattle.std.proofs.Common.{arith, inl, inr}
-use Rattle.std.proofs.lemmas.Bool.{cases_Bool, eqb-true}
+use Rattle.std.proofs.Common.{◌≡◌, ℕ, ◌^◌, ◌<◌, ◌≤◌, ℤ, unsigned_abs, Bool, List, []}
+use Rattle.std.proofs.Common.{◌∷◌, ◌++◌, length, drop, nat_eq, nat_lt, refl, sym, ap, ◌∙◌, subst}
+use Rattle.std.proofs.Common.{append_assoc, arith, inl, inr, Option, Some, None, take_while}
+use Rattle.std.proofs.lemmas.Bool.{cases_Bool, eqb-true, eqb-false, ltb-false}
 use Rattle.std.proofs.lemmas.List.{take-append-drop}
 use Rattle.std.proofs.lemmas.Int.{ints, to_z-of_z}
 use mir.Val.{SFits, to_z, of_z}
 use mir.Syntax.{w64}
-use Rattle.std.specs.List.{AllPass, prefix_len, take_while}
-use Rattle.oct_num.specs.Decimal.{is_digit, decimal_value}
+use Rattle.std.specs.List.{AllPass, prefix_len}
+use Rattle.oct_num.specs.Decimal.{is_digit}
 use Rattle.oct_num.specs.Sign.{sign_text, signed_number, has_minus, without_minus}
 use Rattle.oct_num.specs.Form.{nanometres, fraction_text, BeginsWith}
-use Rattle.oct_num.specs.Metres.{fraction_front, fraction_rest}
+use Rattle.oct_num.specs.Metres.{fraction_front, fraction_rest, metres_front}
 use Rattle.oct_num.proofs.DigitRuns.{front_count, front_digits}
 use Rattle.oct_num.proofs.FormLaw.{sign_split}
 
@@ -90,33 +90,36 @@ begins_with text magnitude whole behind fraction rest minus n nm sign body first
       };
     }
 
--- the same, by the numbers of the digits
-pub begins_so : (text magnitude behind rest : List ℕ) (minus : Bool)
-    (count value places fraction n : ℕ) (nm : ℤ)
-    →
-    minus ≡ has_minus text → magnitude ≡ without_minus text →
-    count ≡ prefix_len is_digit magnitude
-    → (count ≤ 18 → value ≡ decimal_value (take_while is_digit magnitude)) →
-    behind ≡ drop (prefix_len is_digit magnitude) magnitude →
-    places ≡ length (fraction_front behind)
-    → (places ≤ 18 → fraction ≡ decimal_value (fraction_front behind))
-    → rest ≡ fraction_rest behind →
-    (count ≡ 0 → ⊥) → count ≤ 7 → places ≤ 9 → n ≡ value * 10 ^ 9 + fraction * 10 ^ (9 - places)
-    → nm ≡ signed_number minus n → BeginsWith text nm rest
-begins_so text magnitude behind rest minus count value places fraction n nm sign body counted valued
-    left placed fractional after some few few_places sum is =
-    let size : length (take_while is_digit magnitude) ≡ count =
-    front_count magnitude ∙ sym counted in
-    let same : n ≡ nanometres (take_while is_digit magnitude) (fraction_front behind) =
-    sum ∙ ap (λ v. v * 10 ^ 9 + fraction * 10 ^ (9 - places)) (valued (omega (arith, few)))
-    ∙ ap (λ f. decimal_value (take_while is_digit magnitude) * 10 ^ 9 + f * 10 ^ (9 - places))
-    (fractional (omega (arith, few_places)))
-    ∙ ap (λ p. decimal_value (take_while is_digit magnitude) * 10 ^ 9 + decimal_value
-    (fraction_front behind) * 10 ^ (9 - p))
-    placed in
-    begins_with text magnitude (take_while is_digit magnitude) behind (fraction_front behind) rest
-    minus n nm sign body refl left (front_digits magnitude)
-    (omega (arith, size, some))
-    (fraction_spelled behind ∙ ap (λ r. fraction_text (fraction_front behind) ++ r) (sym after))
-    (fraction_digits behind)
-    (omega (arith, size, few)) (omega (arith, placed, few_places)) same is
+-- the length that a text begins with, if any, and its rest stand there
+abbrev IsFrontOf : List ℕ → Option (ℤ × List ℕ) → Type 0
+IsFrontOf text None = Unit {0}
+IsFrontOf text (Some front) = BeginsWith text front.0 front.1
+
+front_right : (text : List ℕ) → IsFrontOf text (metres_front text)
+unfolding metres_front
+front_right text =
+    let magnitude = without_minus text in
+    let whole = take_while is_digit magnitude in
+    let behind = drop (prefix_len is_digit magnitude) magnitude in
+    let fraction = fraction_front behind in
+    elim (cases_Bool (nat_eq (length whole) 0)) [
+      | inl none ↦ rw none tt
+      | inr some ↦ elim (cases_Bool (nat_lt 7 (length whole))) [
+        | inl many ↦ rw (some, many) tt
+        | inr few ↦ elim (cases_Bool (nat_lt 9 (length fraction))) [
+          | inl many ↦ rw (some, few, many) tt
+          | inr few_behind ↦ rw (some, few, few_behind)
+              (begins_with text magnitude whole behind fraction (fraction_rest behind)
+              (has_minus text) (nanometres whole fraction)
+              (signed_number (has_minus text) (nanometres whole fraction)) refl refl refl refl
+              (front_digits magnitude) (omega (arith, eqb-false (length whole) 0 some))
+              (fraction_spelled behind) (fraction_digits behind) (ltb-false 7 (length whole) few)
+              (ltb-false 9 (length fraction) few_behind) refl refl)
+        ]
+      ]
+    ]
+
+-- a length that is read at the front of a text stands there
+pub front_begins : (text : List ℕ) (nm : ℤ) (rest : List ℕ) → metres_front text ≡ Some (nm, rest)
+    → BeginsWith text nm rest
+front_begins text nm rest read = subst (IsFrontOf text) read (front_right text)

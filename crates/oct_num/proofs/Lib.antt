@@ -7,6 +7,7 @@ pub mod FormReading
 pub mod MetresReading
 pub mod MetresWriting
 pub mod Fronts
+pub mod FrontsAt
 pub mod NumberFronts
 pub mod Nearest
 pub mod Roots

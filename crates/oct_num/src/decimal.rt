@@ -1,4 +1,5 @@
-ghost use Rattle.std.specs.Prelude.{◌≡◌, ◌+◌, ◌^◌, ◌<◌, ◌≤◌, length, drop, take_while};
+ghost use Rattle.std.specs.Prelude.{◌≡◌, ℕ, ◌+◌, ◌-◌, ◌*◌, ◌^◌, ◌<◌, ◌≤◌, nat_le, length, drop};
+ghost use Rattle.std.specs.Prelude.{take_while};
 ghost use Rattle.std.specs.List.{AllPass, prefix_len};
 ghost use Rattle.oct_num.specs.Decimal.{is_digit, decimal_value};
 
@@ -22,49 +23,40 @@ fn count_digits(text: &[u8]) -> usize
     text.iter().take_while(|byte| byte.is_ascii_digit()).count()
 }
 
-/// A number that a text begins with.
-#[derive(Clone, Copy)]
-pub(crate) struct NumberFront<'a> {
-    /// The value of the digits, where there are at most eighteen.
-    pub(crate) value: u64,
-    /// How many digits there are.
-    pub(crate) count: usize,
-    /// What stands after them.
-    pub(crate) rest: &'a [u8],
-}
-
-/// The number of the decimal digits that a text begins with, and what follows them.
-pub(crate) fn split_number(text: &[u8]) -> NumberFront<'_>
-    ensures count { result.count ≡ prefix_len is_digit text.now }
-    ensures value { result.count ≤ 18
-        → result.value ≡ decimal_value (take_while is_digit text.now) }
-    ensures small { result.count ≤ 18 → result.value < 10 ^ result.count }
-    ensures rest { result.rest.now ≡ drop (prefix_len is_digit text.now) text.now }
-    ensures together { result.count + length result.rest.now ≡ length text.now }
-{
-    let (value, count) = read_front(text);
-    let (_, rest) = text.split_at(count);
-    NumberFront { value, count, rest }
-}
-
-/// The value of the decimal digits that a text begins with, and how many there are. Of more than
-/// eighteen the value may be any.
-fn read_front(text: &[u8]) -> (u64, usize)
-    ensures count { result.1 ≡ prefix_len is_digit text.now }
-    ensures value { result.1 ≤ 18 → result.0 ≡ decimal_value (take_while is_digit text.now) }
-    ensures small { result.1 ≤ 18 → result.0 < 10 ^ result.1 }
+/// Reads on in a number: the number of the digits read before and of those that stand in a text from
+/// an index on, and the index behind these. Of more than eighteen digits in all it may be any.
+#[inline(always)]
+pub(crate) fn add_digits(front: u64, text: &[u8], from: usize) -> (u64, usize)
+    requires { from ≤ length text.now }
+    ensures end { result.1 ≡ from + prefix_len is_digit (drop from text.now) }
+    ensures value { let rest = drop from text.now in let count = prefix_len is_digit rest in
+        (before : ℕ) → front < 10 ^ before → before + count ≤ 18
+        → result.0 ≡ front * 10 ^ count + decimal_value (take_while is_digit rest) }
+    ensures small { let count = prefix_len is_digit (drop from text.now) in
+        (before : ℕ) → front < 10 ^ before → before + count ≤ 18
+        → result.0 < 10 ^ (before + count) }
     ensures within { result.1 ≤ length text.now }
 {
-    let mut value = 0u64;
-    let mut count = 0usize;
-    for byte in text {
-        if !byte.is_ascii_digit() {
-            return (value, count);
+    let mut value = front;
+    let mut at = from;
+    while at < text.len() {
+        let digit = digit_value(text[at]);
+        if digit > 9 {
+            return (value, at);
         }
-        value = value.wrapping_mul(10).wrapping_add(u64::from(*byte - b'0'));
-        count += 1;
+        value = value.wrapping_mul(10).wrapping_add(digit);
+        at += 1;
     }
-    (value, count)
+    (value, at)
+}
+
+/// The value of a decimal digit. Every other byte has one above 9.
+#[inline(always)]
+fn digit_value(byte: u8) -> u64
+    ensures digit { nat_le result 9 ≡ is_digit byte }
+    ensures value { result ≤ 9 → result ≡ byte - 48 }
+{
+    u64::from(byte).wrapping_sub(u64::from(b'0'))
 }
 
 /// The number that decimal digits stand for.

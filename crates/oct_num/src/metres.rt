@@ -1,14 +1,14 @@
 ghost use Rattle.std.specs.Prelude.{◌≡◌, ◌↔◌, ℕ, ◌+◌, ◌-◌, ◌*◌, ◌^◌, ◌<◌, ◌≤◌, ℤ, unsigned_abs};
 ghost use Rattle.std.specs.Prelude.{length, MatchResult, Ok, Err, IfOk, MatchOption, Some, None};
-ghost use Rattle.std.specs.Prelude.{IfSome};
+ghost use Rattle.std.specs.Prelude.{IfSome, drop};
 ghost use Rattle.std.specs.List.{AllPass};
 ghost use Rattle.oct_num.specs.Decimal.{is_digit, decimal_value};
 ghost use Rattle.oct_num.specs.Metres.{fraction_of, limited_nanometres, magnitude_of, metres_of};
 ghost use Rattle.oct_num.specs.Metres.{fraction_front, fraction_rest, metres_front};
 ghost use Rattle.oct_num.specs.Form.{nanometres, IsMetres, HasExcess, BreaksAt, BeginsWith};
 
-use crate::decimal::{NumberFront, digits_value, split_digits, split_number};
-use crate::sign::{split_sign, with_sign};
+use crate::decimal::{add_digits, digits_value, split_digits};
+use crate::sign::{has_at, skip_sign, split_sign, with_sign};
 use thiserror::Error;
 
 const MOST_WHOLE_DIGITS: usize = 7;
@@ -54,7 +54,6 @@ pub fn read_metres(text: &[u8]) -> Result<i64, NumFault>
 /// Takes the length in decimal metres that a text begins with: its nanometres, and the rest of the
 /// text. Its digits go as far as they can, and a point belongs to it where a digit follows. `None`
 /// comes where the text begins with no digit after its sign, or with too many.
-#[tactic(auto, unfolding(crate::specs::Metres::metres_front))]
 pub fn split_metres(text: &[u8]) -> Option<(i64, &[u8])>
     ensures exact { MatchOption result (metres_front text.now ≡ None)
         (λ split. metres_front text.now ≡ Some (split.0, split.1.now)) }
@@ -62,43 +61,62 @@ pub fn split_metres(text: &[u8]) -> Option<(i64, &[u8])>
     ensures reach { IfSome result (λ split. unsigned_abs split.0 < 10 ^ 16) }
     ensures within { IfSome result (λ split. length split.1.now ≤ length text.now) }
 {
-    let (minus, magnitude) = split_sign(text);
-    let whole = split_number(magnitude);
-    // Read before the whole digits are judged: nearly every text is a length, and so it's faster.
-    let fraction = split_fraction(whole.rest);
-    if whole.count == 0 {
-        return None;
-    }
-    if whole.count > MOST_WHOLE_DIGITS {
-        return None;
-    }
-    if fraction.count > MOST_FRACTION_DIGITS {
-        return None;
-    }
-    let nanometres = sum_of(whole.value, fraction.value, fraction.count);
-    Some((with_sign(minus, nanometres), fraction.rest))
+    let (nm, end) = metres_at(text, 0)?;
+    let (_, rest) = text.split_at(end);
+    Some((nm, rest))
 }
 
-/// The value of the digits after the point that a text begins with, and the rest of the text. Where
-/// no digit follows a point there are none, and the rest is the whole text.
-fn split_fraction(text: &[u8]) -> NumberFront<'_>
-    ensures count { result.count ≡ length (fraction_front text.now) }
-    ensures value { result.count ≤ 18 → result.value ≡ decimal_value (fraction_front text.now) }
-    ensures small { result.count ≤ 18 → result.value < 10 ^ result.count }
-    ensures rest { result.rest.now ≡ fraction_rest text.now }
-    ensures within { length result.rest.now ≤ length text.now }
+/// Does what [`split_metres`] does for the text from an index on, and answers the index of the rest.
+#[inline(always)]
+pub fn metres_at(text: &[u8], from: usize) -> Option<(i64, usize)>
+    requires { from ≤ length text.now }
+    ensures exact { MatchOption result (metres_front (drop from text.now) ≡ None)
+        (λ found. metres_front (drop from text.now) ≡ Some (found.0, drop found.1 text.now)) }
+    ensures begins { IfSome result
+        (λ found. BeginsWith (drop from text.now) found.0 (drop found.1 text.now)) }
+    ensures reach { IfSome result (λ found. unsigned_abs found.0 < 10 ^ 16) }
+    ensures within { IfSome result (λ found. found.1 ≤ length text.now) }
 {
-    if let [b'.', behind @ ..] = text {
-        let fraction = split_number(behind);
-        if fraction.count > 0 {
-            return fraction;
-        }
+    let (minus, start) = skip_sign(text, from);
+    let (whole, point) = add_digits(0, text, start);
+    let digits = point - start;
+    if digits == 0 {
+        return None;
     }
-    NumberFront {
-        value: 0,
-        count: 0,
-        rest: text,
+    if digits > MOST_WHOLE_DIGITS {
+        return None;
     }
+    let (nm, end) = add_fraction(whole, text, point)?;
+    Some((with_sign(minus, nm), end))
+}
+
+/// The nanometres of whole metres and of the fraction that stands at an index of a text, and the
+/// index behind it. Where no digit follows a point there is no fraction. `None` comes where it has
+/// too many digits.
+#[inline(always)]
+fn add_fraction(whole: u64, text: &[u8], point: usize) -> Option<(u64, usize)>
+    requires before { whole < 10 ^ 7 }
+    requires within { point ≤ length text.now }
+    ensures exact { let fraction = fraction_front (drop point text.now) in
+        MatchOption result (9 < length fraction) (λ found. (length fraction ≤ 9)
+        × (found.0 ≡ whole * 10 ^ 9 + decimal_value fraction * 10 ^ (9 - length fraction))
+        × (drop found.1 text.now ≡ fraction_rest (drop point text.now))) }
+    ensures reach { IfSome result (λ found. found.0 < 10 ^ 16) }
+    ensures within { IfSome result (λ found. found.1 ≤ length text.now) }
+{
+    if !has_at(text, point, b'.') {
+        return Some((whole * NANOMETRES_PER_METRE, point));
+    }
+    let start = point + 1;
+    let (value, end) = add_digits(whole, text, start);
+    let digits = end - start;
+    if digits == 0 {
+        return Some((whole * NANOMETRES_PER_METRE, point));
+    }
+    if digits > MOST_FRACTION_DIGITS {
+        return None;
+    }
+    Some((value * nanometres_per_unit(digits), end))
 }
 
 /// Reads a length after its sign. The text stands from index `start` on.

@@ -3,7 +3,7 @@ ghost use Rattle.std.specs.Prelude.{OnOk, OnErr, Some, IfSome};
 ghost use Rattle.std.specs.Fmt.{signed_decimal};
 ghost use Rattle.oct_num.specs.Whole.{natural_of, whole_of, IsWholeNumber};
 
-use crate::decimal::split_number;
+use crate::decimal::add_digits;
 use crate::memory::Memory;
 use crate::sign::{split_sign, with_sign};
 use itoa::Buffer;
@@ -31,11 +31,11 @@ pub fn read_natural(digits: &[u8]) -> Option<u64>
     ensures reach { IfSome result (λ n. n < 10 ^ 18) }
     ensures below { IfSome result (λ n. n < 10 ^ length digits.now) }
 {
-    let number = split_number(digits);
-    if number.count == 0 || number.count > MOST_DIGITS || !number.rest.is_empty() {
+    let (number, end) = add_digits(0, digits, 0);
+    if end == 0 || end > MOST_DIGITS || end < digits.len() {
         return None;
     }
-    Some(number.value)
+    Some(number)
 }
 
 /// Appends the decimal text of a number, as `itoa` writes it: a `-` if it's below 0, and its
