@@ -32,10 +32,3 @@ leads_out edits lazy m u n i d why within leads refused =
     leads n i (Err (refusal_at i why)) (subst
     (λ es. AreEdits es i lazy u n i (Err (refusal_at i why)))
     (sym (drop_more edits i d within)) (inr (why, refused, refl, refl)))
-
--- no other
-pub leads_whole : (edits : List PointEdit) (lazy : Bool) (m n : Map) (i : ℕ) → length edits ≤ i
-    → LeadsTo edits lazy m i n → AreEdits edits 0 lazy m n i (Ok tt)
-leads_whole edits lazy m n i all leads =
-    leads n i (Ok tt) (subst (λ es. AreEdits es i lazy n n i (Ok tt))
-    (sym (drop_all i edits all)) (refl, refl, refl))

@@ -50,7 +50,6 @@ file_code bt.Memory = 45
 abbrev pub refusal_code : Refusal → ℕ
 refusal_code refusal.Closed = 40
 refusal_code refusal.Open = 41
-refusal_code refusal.SmallBuffer = 46
 refusal_code (refusal.BadArgument index) = 47
 refusal_code refusal.BadResolution = 3
 refusal_code (refusal.BadModel which) = 4
@@ -123,7 +122,6 @@ refusal_details (refusal.Map fault) = map_details fault
 refusal_details (refusal.File fault) = file_details fault
 refusal_details refusal.Closed = no_details
 refusal_details refusal.Open = no_details
-refusal_details refusal.SmallBuffer = no_details
 refusal_details refusal.BadResolution = no_details
 refusal_details refusal.ZeroQuaternion = no_details
 

@@ -22,7 +22,7 @@ fn sought_numbered(number: u32) -> Option<Sought>
 }
 
 /// Tells a box, where there is one.
-fn tell_box(found: Option<Window>, corners: &mut VoxelBox) -> u32
+pub fn tell_box(found: Option<Window>, corners: &mut VoxelBox) -> u32
     ensures code { result ≡ window_code (Ok found) }
     ensures corners { corners.new ≡ window_left corners.old (Ok found) }
 {

@@ -8,8 +8,9 @@ ghost use Rattle.octofix.specs.Limits.{window_code, window_left};
 ghost use Rattle.octofix.specs.Points.{point_of};
 
 use crate::answers::{code_of, details_of, tell};
+use crate::bounds::tell_box;
 use crate::handle::Octofix;
-use crate::refusal::{DONE, NONE, Refusal};
+use crate::refusal::Refusal;
 use crate::types::{Details, PointNm, VoxelBox};
 use oct_key::Window;
 
@@ -80,11 +81,7 @@ pub extern "C" fn octofix_window(map: &mut Octofix, window: &mut VoxelBox) -> u3
         ≡ window_left window.old (asked map.old.slot.map (λ m. Ok m.update_box)) }
 {
     match self::window(map) {
-        Ok(Some(found)) => {
-            *window = VoxelBox::of(found);
-            DONE
-        }
-        Ok(None) => NONE,
+        Ok(found) => tell_box(found, window),
         Err(refusal) => refusal.code(),
     }
 }

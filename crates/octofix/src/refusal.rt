@@ -49,8 +49,6 @@ pub enum Refusal {
     Closed,
     /// The handle has a map already.
     Open,
-    /// The buffer is too small.
-    SmallBuffer,
     /// A number that was passed is out of its range; in an array, that of this index.
     BadArgument { index: u64 },
     /// The edge of a voxel isn't from 0.1 mm to 100 m.
@@ -70,14 +68,6 @@ impl From<MapFault> for Refusal {
 
     fn from(fault: MapFault) -> Self {
         Refusal::Map(fault)
-    }
-}
-
-impl From<BtFault> for Refusal {
-    ghost from_gives = { λ fault e. e ≡ refusal.File fault };
-
-    fn from(fault: BtFault) -> Self {
-        Refusal::File(fault)
     }
 }
 
@@ -123,7 +113,6 @@ impl Refusal {
         match self {
             Refusal::Closed => CLOSED,
             Refusal::Open => OPEN,
-            Refusal::SmallBuffer => SMALL_BUFFER,
             Refusal::BadArgument { .. } => BAD_ARGUMENT,
             Refusal::BadResolution => 3,
             Refusal::BadModel { .. } => 4,
