@@ -52,17 +52,17 @@ small_one r l =
     ])
 
 -- a scanned code of a brick is one that it hits or frees
-scanned_is : (r : Brick) (c : ℕ) → r.hits < 2 ^ 64 → HasCode r.code r.scanned c
+pub scanned_is : (r : Brick) (c : ℕ) → r.hits < 2 ^ 64 → HasCode r.code r.scanned c
     → Contains (hit_codes (r ∷ [])) c ⊎ Contains (freed_codes (r ∷ [])) c
 scanned_is r c l h = elim (has_tells r.code r.hits c h.inside) [
   | inl k ↦ inl ((by_one (λ b. b.hits) r c).1 k)
   | inr k ↦ inr ((by_one frees_of r c).1 ((and_not r.code r.scanned r.hits c l).1 (h, k)))
 ]
 
-below_of : (r : Brick) (m c : ℕ) → r.code < 2 ^ 42 → HasCode r.code m c → c < 2 ^ 48
+pub below_of : (r : Brick) (m c : ℕ) → r.code < 2 ^ 42 → HasCode r.code m c → c < 2 ^ 48
 below_of r m c l h = (let i = h.inside in omega (arith, l, i))
 
-listed_in : (cs : List ℕ) (c : ℕ) → Contains cs c → Contains (map coded_voxel cs) (coded_voxel c)
+pub listed_in : (cs : List ℕ) (c : ℕ) → Contains cs c → Contains (map coded_voxel cs) (coded_voxel c)
 listed_in [] c h = absurd (contains_none c h)
 listed_in (x ∷ cs) c h = elim (contains_cases x c cs h) [
   | inl e ↦ subst (λ y. Contains (map coded_voxel (x ∷ cs)) (coded_voxel y)) e
@@ -319,15 +319,17 @@ set_bit m x t c mask place some = elim (cases_eq (bit_at m (c % 64)) 1) [
     zero_of : (a : ℕ) → a < 2 → a ≢ 1 → a ≡ 0
     zero_of a l ne = omega (arith, l, ne)
 
--- a code that a brick hasn't among its hits is no hit
-pub unlisted_one : (p : Brick) (c : ℕ) → p.code < 2 ^ 42 → c < 2 ^ 48 → ¬ HasCode p.code p.hits c
-    → is_listed (hit_voxels (p ∷ [])) (coded_voxel c) ≡ false
-unlisted_one p c small below out =
-    unlisted (λ k. HasCode p.code p.hits (morton_of k)) (hit_voxels (p ∷ [])) (coded_voxel c)
-    (from_codes (λ k. HasCode p.code p.hits (morton_of k)) (hit_codes (p ∷ [])) (λ d h.
-    let k = (by_one (λ b. b.hits) p d).0 h in
-    subst (HasCode p.code p.hits) (sym (morton_of-coded_voxel d (below_of p p.hits d small k))) k))
-    (λ h. out (subst (HasCode p.code p.hits) (morton_of-coded_voxel c below) h))
+-- a code that a brick hasn't in a mask is none of the mask's
+pub unlisted_by : (f : Brick → ℕ) (p : Brick) (c : ℕ) → p.code < 2 ^ 42 → c < 2 ^ 48
+    → ¬ HasCode p.code (f p) c
+    → is_listed (map coded_voxel (codes_by f (p ∷ []))) (coded_voxel c) ≡ false
+unlisted_by f p c small below out =
+    unlisted (λ k. HasCode p.code (f p) (morton_of k)) (map coded_voxel (codes_by f (p ∷ [])))
+    (coded_voxel c)
+    (from_codes (λ k. HasCode p.code (f p) (morton_of k)) (codes_by f (p ∷ [])) (λ d h.
+    let k = (by_one f p d).0 h in
+    subst (HasCode p.code (f p)) (sym (morton_of-coded_voxel d (below_of p (f p) d small k))) k))
+    (λ h. out (subst (HasCode p.code (f p)) (morton_of-coded_voxel c below) h))
 
 -- the event of the part that is one voxel
 pub part_event : (r p w : Brick) (x t c : ℕ) (hit miss event : Event) → w.code < 2 ^ 42 → IsRest w r
@@ -348,7 +350,7 @@ part_event r p w x t c hit miss event small rest part mask place has there is =
           (below_within r.hits p.hits x rest.hits_fit part.hits)).1
           ((scanned_within r p x c part).1 (has, there), unhit) in
           miss_event u (coded_voxel c)
-          (unlisted_one p c p_small (below_of r r.scanned c r_small has) unhit)
+          (unlisted_by (λ b. b.hits) p c p_small (below_of r r.scanned c r_small has) unhit)
           (code_is_listed (freed_codes (p ∷ [])) c ((by_one frees_of p c).1 freed))
           ∙ ap Some (sym (is ∙ rw n.0 refl))
       | inr n ↦

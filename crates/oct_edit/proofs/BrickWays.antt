@@ -13,14 +13,15 @@ use Rattle.oct_arena.specs.declared.node.GroupId.{GroupId}
 use Rattle.oct_arena.specs.Entries.{spare}
 use Rattle.oct_tree.specs.declared.place.Place.{Place}
 use Rattle.oct_tree.specs.declared.place.Place.TheVariants.{Slot}
-use Rattle.oct_tree.specs.Tree.{Tree, IsLinked, block_in}
+use Rattle.oct_arena.specs.Nodes.{link_of}
+use Rattle.oct_tree.specs.Tree.{Tree, IsLinked, node_in, block_in}
 use Rattle.oct_brick.proofs.Bits.{some_code}
 use Rattle.oct_brick.proofs.CodedVoxels.{coded_voxel-IsInMap}
 use Rattle.oct_edit.specs.Steps.{IsTouched, IsEntered}
 use Rattle.oct_edit.specs.Scan.{events_of}
 use Rattle.oct_edit.proofs.UnderWay.{IsUnderWay}
 use Rattle.oct_edit.proofs.UpdateEnds.{one_touched}
-use Rattle.oct_edit.proofs.Updates.{way_place, way_part, way_room, way_step}
+use Rattle.oct_edit.proofs.Updates.{way_slot, way_part, way_room, way_step}
 use Rattle.oct_odds.specs.declared.event.Event.{Event}
 use Rattle.oct_brick.specs.declared.brick.Brick.{Brick}
 use Rattle.oct_brick.specs.Bricks.{IsBrick}
@@ -143,16 +144,17 @@ voxel_event s w p b u whole r hit miss event x lazy h is =
     placed c t l = omega (arith, l)
 
 -- after the voxel's event, one voxel more is done
-pub voxel_step : (t s w z : Tree) (p : Place) (b : Cube) (id : GroupId) (u : ListedUpdate)
+pub voxel_step : (s w z : Tree) (p : Place) (b : Cube) (id : GroupId) (u : ListedUpdate)
     (whole r q : Brick) (hit miss hit' miss' event : Event) (x : ℕ) (lazy : Bool)
-    → IsLinked s → IsBlock b → IsEntered t s p b id → IsAtVoxel s w p b u whole r hit miss x lazy
+    → IsLinked s → IsBlock b → link_of (node_in s p) ≡ Some id.number
+    → IsAtVoxel s w p b u whole r hit miss x lazy
     → IsWithin r (bit_not w64 x) q → hit' ≡ hit → miss' ≡ miss
     → event ≡ (if bit_and r.hits x == 0 then miss else hit)
     → spare z.groups ≡ spare w.groups
     → ((k : Voxel) (lazy : Bool) → IsInMap k → block_in w (Slot id (voxel_index r))
     ≡ Some (block_of 16 k) → IsTouched w z (block_of 16 k) (event_at (Some k) event) lazy)
     → IsUnderWay s z p b u (update_of (q ∷ []) hit' miss') lazy
-voxel_step t s w z p b id u whole r q hit miss hit' miss' event x lazy linked ok entered h later
+voxel_step s w z p b id u whole r q hit miss hit' miss' event x lazy linked ok link h later
     same_hit same_miss is spared touched =
     let i : ℕ = voxel_index r in
     let deep = h.deep in
@@ -160,7 +162,7 @@ voxel_step t s w z p b id u whole r q hit miss hit' miss' event x lazy linked ok
     let part : ListedUpdate = update_of (part_of r x ∷ []) hit miss in
     let round = voxel_next s w p b u whole r q hit miss x lazy h later in
     let inside = voxel_inside s w p b u whole r hit miss x lazy h in
-    let place = way_place t s w p b id i u (update_of (r ∷ []) hit miss) lazy few entered h.way in
+    let place = way_slot s w p b id i u (update_of (r ∷ []) hit miss) lazy few link h.way in
     let done =
     one_touched w z (Slot id i) (child_of b i) part (coded_voxel (first_of r)) event lazy place.1
     (depth_child_of b i ∙ ap (λ (d : ℕ). d + 1) deep) inside (coded_voxel-IsInMap (first_of r))

@@ -23,7 +23,11 @@ pub mod BrickParts
 pub mod BrickRounds
 pub mod BrickRest
 pub mod BrickCuts
+pub mod BrickSingles
 pub mod BrickWays
+pub mod BrickGaps
+pub mod Planting
+pub mod PlantedVoxels
 pub mod Ways
 pub mod Wholes
 pub mod Leaves

@@ -29,31 +29,42 @@ use Rattle.oct_edit.proofs.Needs.{need_of_share}
 abbrev pub needs : ListedUpdate → Cube → ℕ → ℕ
 needs u b i = need_in (events_of u) (child_of b i)
 
--- the place's group is there, and no child is done
-pub way_start : (t s : Tree) (p : Place) (b : Cube) (id : GroupId) (u : ListedUpdate) (lazy : Bool)
-    → IsEntered t s p b id → IsUpdateIn b u → IsUnderWay s s p b u u lazy
-way_start t s p b id u lazy e inside = record {
+-- no child is done
+pub way_begun : (s : Tree) (p : Place) (b : Cube) (u : ListedUpdate) (lazy : Bool) → IsLinked s
+    → IsPlace s p → block_in s p ≡ Some b → IsUpdateIn b u → IsUnderWay s s p b u u lazy
+way_begun s p b u lazy l ok e inside = record {
   next = 0;
   few = omega arith;
   hits = all_left b u.hits inside.hits;
   frees = all_left b u.frees inside.frees;
   hit = refl;
   miss = refl;
-  done = round_start s p b (events_of u) lazy e.linked e.place e.block;
+  done = round_start s p b (events_of u) lazy l ok e;
   room = omega arith;
 }
 
+-- the place's group is there, and no child is done
+pub way_start : (t s : Tree) (p : Place) (b : Cube) (id : GroupId) (u : ListedUpdate) (lazy : Bool)
+    → IsEntered t s p b id → IsUpdateIn b u → IsUnderWay s s p b u u lazy
+way_start t s p b id u lazy e inside = way_begun s p b u lazy e.linked e.place e.block inside
+
 -- the slot of a child is a place, of the child's block
+pub way_slot : (s w : Tree) (p : Place) (b : Cube) (id : GroupId) (i : ℕ) (u rest : ListedUpdate)
+    (lazy : Bool)
+    → i < 8 → link_of (node_in s p) ≡ Some id.number → IsUnderWay s w p b u rest lazy
+    → IsPlace w (Slot id i) × (block_in w (Slot id i) ≡ Some (child_of b i))
+way_slot s w p b id i u rest lazy few link way =
+    let linked : link_of (node_in w p) ≡ Some id.number = ap link_of way.done.node ∙ link in (
+      slot_place w way.done.linked p way.done.place id i linked few,
+      slot_block w way.done.linked p id i b linked way.done.block,
+    )
+
 pub way_place : (t s w : Tree) (p : Place) (b : Cube) (id : GroupId) (i : ℕ) (u rest : ListedUpdate)
     (lazy : Bool)
     → i < 8 → IsEntered t s p b id → IsUnderWay s w p b u rest lazy
     → IsPlace w (Slot id i) × (block_in w (Slot id i) ≡ Some (child_of b i))
 way_place t s w p b id i u rest lazy few e way =
-    let (v, link) = e.link in
-    let linked : link_of (node_in w p) ≡ Some id.number = ap link_of (way.done.node ∙ link) in (
-      slot_place w way.done.linked p way.done.place id i linked few,
-      slot_block w way.done.linked p id i b linked way.done.block,
-    )
+    (let (v, link) = e.link in way_slot s w p b id i u rest lazy few (ap link_of link) way)
 
 -- the part of the first child
 pub way_part : (s w : Tree) (p : Place) (b : Cube) (i : ℕ) (u rest part later : ListedUpdate)
@@ -144,7 +155,7 @@ no_more b keys e =
     subst (All (λ k. 8 ≤ child_index_of b.depth k)) (sym e) (λ n d l. absurd (omega (arith, l)))
 
 -- where nothing is left, all children are done
-way_done : (s w : Tree) (p : Place) (b : Cube) (u rest : ListedUpdate) (lazy : Bool) → b.depth ≤ 15
+pub way_done : (s w : Tree) (p : Place) (b : Cube) (u rest : ListedUpdate) (lazy : Bool) → b.depth ≤ 15
     → IsUnderWay s w p b u rest lazy → rest.hits ≡ [] → rest.frees ≡ []
     → IsTouchedBelow s w p b 8 (events_of u) lazy
 way_done s w p b u rest lazy low way hits frees =

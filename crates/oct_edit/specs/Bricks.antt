@@ -1,15 +1,17 @@
 -- How bricks go down the tree: the working words of their proof, and what an update of bricks
 -- stands for.
 use Rattle.std.specs.Prelude.{◌≡◌, ℕ, ◌+◌, ◌-◌, ◌*◌, ◌/◌, ◌%◌, ◌^◌, ◌≤◌, ◌==◌, if◌then◌else◌}
-use Rattle.std.specs.Prelude.{bit_and, Bool, List, [], ◌∷◌, take, drop, Some}
+use Rattle.std.specs.Prelude.{bit_and, Bool, List, [], ◌∷◌, take, drop, ℤ, Some, None}
 use Rattle.std.specs.List.{All, Contains}
-use Rattle.oct_key.specs.Block.{Cube}
+use Rattle.oct_key.specs.Voxel.{Voxel, IsInMap}
+use Rattle.oct_key.specs.Block.{Cube, HoldsVoxel}
 use Rattle.oct_odds.specs.declared.event.Event.{Event}
 use Rattle.oct_odds.specs.declared.event.Event.TheVariants.{Add}
-use Rattle.oct_odds.specs.Update.{IsSmallEvent}
+use Rattle.oct_odds.specs.Update.{IsSmallEvent, IsWithin, applied}
+use Rattle.oct_arena.specs.declared.node.Node.TheVariants.{Absent}
 use Rattle.oct_arena.specs.Entries.{spare}
 use Rattle.oct_tree.specs.declared.place.Place.{Place}
-use Rattle.oct_tree.specs.Tree.{Tree, IsLinked, IsPlace, block_in}
+use Rattle.oct_tree.specs.Tree.{Tree, IsLinked, IsPlace, node_in, block_in}
 use Rattle.oct_brick.specs.Bricks.{IsBrick}
 use Rattle.oct_brick.specs.declared.brick.Brick.{Brick}
 use Rattle.oct_edit.specs.declared.scan.ScanUpdate.{ScanUpdate}
@@ -74,3 +76,15 @@ pub record IsApplied (t u : Tree) (p : Place) (update : BrickUpdate) (lazy : Boo
       → IsTouched t u b (events_of (listed_one update)) lazy
   pub room : (b : Cube) → block_in t p ≡ Some b
       → spare t.groups ≤ spare u.groups + need_in (events_of (listed_one update)) b
+
+-- some voxel of a block has no event of an update
+abbrev pub HasGap : Cube → ListedUpdate → Type 0
+HasGap b update = (k : Voxel) × IsInMap k × HoldsVoxel b k × (events_of update k ≡ None)
+
+-- nothing is known at a place, none of the voxels of a brick's update is hit, and those that are
+-- freed come to have this value
+pub record IsPlain (t : Tree) (p : Place) (update : BrickUpdate) (m : ℤ) : Type 0 where
+  pub absent : node_in t p ≡ Absent
+  pub freed : update.brick.hits ≡ 0
+  pub value : Some m ≡ applied t.odds update.miss None
+  pub within : IsWithin t.odds (Some m)

@@ -1,6 +1,6 @@
 ghost use Rattle.std.specs.Prelude.{◌≡◌, ◌+◌, ◌-◌, ◌*◌, ◌/◌, ◌%◌, ◌^◌, ◌==◌, true, bit_and, ◌≤◌};
 ghost use Rattle.std.specs.Prelude.{◌≤ℤ◌, ◌<◌, ◌⊎◌, [], All, Bool, IsTrue, IsSome, IfSome, IfNone};
-ghost use Rattle.std.specs.Prelude.{Some};
+ghost use Rattle.std.specs.Prelude.{Some, None, false};
 ghost use Rattle.std.specs.Bool.{OnTrue, OnFalse};
 ghost use Rattle.std.specs.List.Sorted.{IsNonDecreasingBy};
 ghost use Rattle.oct_key.specs.Voxel.{Voxel, IsInMap};
@@ -22,15 +22,19 @@ ghost use Rattle.oct_edit.specs.Steps.{IsTouched};
 ghost use Rattle.oct_edit.specs.Parts.{IsUpdateIn, IsAtRest, IsFirstChild, need_in};
 ghost use Rattle.oct_edit.specs.Scan.{events_of, AreDisjoint};
 ghost use Rattle.oct_edit.specs.Bricks.{listed, listed_one, brick_child, event_of_bit, CanApply};
-ghost use Rattle.oct_edit.specs.Bricks.{IsApplied, AreAlike, AreCut, IsFirstBrick};
+ghost use Rattle.oct_edit.specs.Bricks.{IsApplied, AreAlike, AreCut, IsFirstBrick, HasGap, IsPlain};
 
 use crate::voxel::{apply_at, close, enter, note_eager, stays};
+use oct_arena::Node;
 use oct_brick::Brick;
 use oct_odds::{Event, OddsModel};
 use oct_tree::{OccTree, Place};
 
 /// The depth of the block of a brick.
 const BRICK_DEPTH: u8 = 14;
+
+/// The depth of the blocks of which bricks are the children.
+const LAST_DEPTH: u8 = 13;
 
 /// The voxels that a scan changes, and what each kind adds.
 #[derive(Clone, Copy)]
@@ -149,6 +153,10 @@ fn touch_octet(tree: &mut OccTree, p: Place, update: BrickUpdate, lazy: bool)
     requires { CanApply tree.old p 15 update }
     ensures { IsApplied tree.old tree.new p update lazy }
 {
+    if let Some(value) = update.plain_value(tree, p, lazy) {
+        plant_octet(tree, p, update, value);
+        return;
+    }
     if update.is_at_rest(tree, p) {
         return;
     }
@@ -162,6 +170,26 @@ fn touch_octet(tree: &mut OccTree, p: Place, update: BrickUpdate, lazy: bool)
         rest = rest.within(!bit);
     }
     close(tree, p, id, lazy);
+}
+
+/// Applies the misses of an octet of which nothing is known, and of which something stays unknown:
+/// the freed voxels get this value, and so does the node over them.
+fn plant_octet(tree: &mut OccTree, p: Place, update: BrickUpdate, value: i32)
+    requires can { CanApply tree.old p 15 update }
+    requires plain { IsPlain tree.old p update value }
+    requires gap { (b : Cube) → b.depth ≡ 15 → IsUpdateIn b (listed_one update)
+        → HasGap b (listed_one update) }
+    ensures { IsApplied tree.old tree.new p update false }
+{
+    let id = tree.split_to(p, value);
+    let mut rest = update;
+    while rest.brick.scanned != 0 {
+        let place = rest.brick.scanned.trailing_zeros();
+        let i = (place % 8) as u8;
+        let bit = 1_u64 << place;
+        tree.set_place(Place::Slot(id, i), Node::Leaf(value));
+        rest = rest.within(!bit);
+    }
 }
 
 /// The eight bits of an octet.
@@ -185,6 +213,43 @@ impl BrickUpdate {
             brick: self.brick.within(mask),
             ..self
         }
+    }
+
+    /// The value that the freed voxels of an octet get, where its group can be made with it: where
+    /// nothing is known of the octet, no voxel is hit, and some voxel stays unknown. A lazy edit
+    /// leaves the value of the node over them to a later refresh.
+    fn plain_value(&self, tree: &OccTree, p: Place, lazy: bool) -> Option<i32>
+        requires place { IsPlace tree.now p }
+        requires brick { IsBrick self.now.brick }
+        requires miss { IsSmallEvent self.now.miss }
+        ensures plain { IfSome result (IsPlain tree.now p self.now) }
+        ensures gap { IfSome result (λ _. (b : Cube) → b.depth ≡ 15
+            → IsUpdateIn b (listed_one self.now) → HasGap b (listed_one self.now)) }
+        ensures eager { IfSome result (λ _. lazy ≡ false) }
+    {
+        if lazy {
+            return None;
+        }
+        if self.brick.hits != 0 {
+            return None;
+        }
+        if !self.has_gap() {
+            return None;
+        }
+        match tree.node(p) {
+            Node::Absent => tree.odds().apply(self.miss, None),
+            _ => None,
+        }
+    }
+
+    /// Whether some voxel of the octet isn't among those that change.
+    fn has_gap(&self) -> bool
+        requires { IsBrick self.now.brick }
+        ensures { IsTrue result → (b : Cube) → b.depth ≡ 15 → IsUpdateIn b (listed_one self.now)
+            → HasGap b (listed_one self.now) }
+    {
+        let octet = octet_bits((self.brick.scanned.trailing_zeros() / 8) as u8);
+        octet & !self.brick.scanned != 0
     }
 
     /// Applies the event of the voxel of a bit at its place, which links no group.
@@ -325,11 +390,13 @@ impl<'a> ScanUpdate<'a> {
         }
     }
 
-    /// Parts the update where all its bricks lie in one block of that depth: those in the children
-    /// up to child i, and those in later ones.
+    /// Parts the update where all its bricks lie in one block of that depth: those in child i, the
+    /// first one that has some, and those in later ones.
     fn split(self, depth: u8, i: u8) -> (ScanUpdate<'a>, ScanUpdate<'a>)
         requires depth { depth ≤ 13 }
-        requires order { IsNonDecreasingBy (λ b. brick_child depth b.code) self.bricks.now }
+        requires first { IsFirstBrick depth self.bricks.now i }
+        requires ascend { AreAscending self.bricks.now }
+        requires alike { AreAlike depth self.bricks.now }
         ensures cut { AreCut depth i self.entry.bricks.now result.0.bricks.now result.1.bricks.now }
         ensures hit { (result.0.hit ≡ self.entry.hit) × (result.1.hit ≡ self.entry.hit) }
         ensures miss { (result.0.miss ≡ self.entry.miss) × (result.1.miss ≡ self.entry.miss) }
@@ -344,13 +411,18 @@ impl<'a> ScanUpdate<'a> {
     }
 }
 
-/// Parts bricks of one block of that depth: those in the children up to child i, and those in later
-/// ones.
+/// Parts bricks of one block of that depth: those in child i, the first one that has some, and those
+/// in later ones.
 fn split_bricks<'a>(bricks: &'a [Brick], depth: u8, i: u8) -> (&'a [Brick], &'a [Brick])
     requires depth { depth ≤ 13 }
-    requires order { IsNonDecreasingBy (λ b. brick_child depth b.code) bricks.now }
+    requires first { IsFirstBrick depth bricks.now i }
+    requires ascend { AreAscending bricks.now }
+    requires alike { AreAlike depth bricks.now }
     ensures { AreCut depth i bricks.entry.now result.0.now result.1.now }
 {
+    if depth == LAST_DEPTH {
+        return bricks.split_at(1);
+    }
     bricks.split_at(bricks.partition_point(|b| b.child_index(depth) <= i))
 }
 

@@ -43,8 +43,8 @@ touch_brick-requires t c =
           (subst (All IsBrick)
           (one_brick c.args.update.bricks.now c.in-Some.brick
           (sym c.first.ensures.value ∙ sym c.copied.ensures ∙ c.in-Some.is) c.requires.ascend
-    (subst (λ d. AreAlike d c.args.update.bricks.now) c.if-depth-eq-BRICK_DEPTH.true
-    c.requires.alike))
+          (subst (λ d. AreAlike d c.args.update.bricks.now) c.if-depth-eq-BRICK_DEPTH.true
+          c.requires.alike))
           c.requires.bricks));
       inside = λ b e. subst (IsUpdateIn b) same (c.requires.inside b e);
       room =
@@ -112,12 +112,6 @@ loop-i-init t c = record {
 
 pub first_child-requires-clause-order : goal.first_child-requires-clause-order
 first_child-requires-clause-order t c =
-    order_of c.args.depth c.loop-i.rest.bricks.now
-    (omega (arith, c.requires.deep, c.if-depth-eq-BRICK_DEPTH.false)) c.loop-i.invariant.ascend
-    c.loop-i.invariant.alike
-
-pub split-requires-clause-order : goal.split-requires-clause-order
-split-requires-clause-order t c =
     order_of c.args.depth c.loop-i.rest.bricks.now
     (omega (arith, c.requires.deep, c.if-depth-eq-BRICK_DEPTH.false)) c.loop-i.invariant.ascend
     c.loop-i.invariant.alike

@@ -3,11 +3,12 @@ use Rattle.std.proofs.Common.{arith}
 use Rattle.std.specs.Int.{bit_not, w64, trailing_zeros}
 use Rattle.oct_key.specs.Block.{child_of}
 use Rattle.oct_key.proofs.Blocks.{depth_child_of}
+use Rattle.oct_arena.specs.Nodes.{link_of}
 use Rattle.oct_tree.specs.declared.place.Place.TheVariants.{Slot}
 use Rattle.oct_tree.proofs.Paths.{place_block}
 use Rattle.oct_odds.specs.Update.{IsSmallEvent}
 use Rattle.oct_edit.specs.Listed.{update_of}
-use Rattle.oct_edit.specs.Bricks.{listed_one, event_of_bit}
+use Rattle.oct_edit.specs.Bricks.{listed_one, event_of_bit, IsApplied}
 use Rattle.oct_edit.proofs.Needs.{place_in_map}
 use Rattle.oct_edit.proofs.UpdateEnds.{one_plain, rest_touched}
 use Rattle.oct_edit.proofs.BrickParts.{IsWithin}
@@ -16,6 +17,11 @@ use Rattle.oct_edit.proofs.BrickWays.{part_of, voxel_index, voxel_at, voxel_mask
 use Rattle.oct_edit.proofs.BrickWays.{voxel_step}
 use Rattle.oct_edit.proofs.Updates.{way_start, way_place, way_back, way_end, way_spared, need_some}
 use Rattle.oct_edit.proofs.scan.touch_octet.Goals as goal
+
+pub returns-in-Some : goal.returns-in-Some
+returns-in-Some c =
+    subst (IsApplied c.args.tree.now c.plant_octet.new.tree c.args.p c.args.update)
+    (sym c.in-Some.ensures.eager) c.plant_octet.ensures
 
 pub returns-then-is_at_rest : goal.returns-then-is_at_rest
 returns-then-is_at_rest c = record {
@@ -122,11 +128,12 @@ loop-rest-preserved c = record {
       let r = c.loop-rest.rest.brick in
       let x : ℕ = 1 * 2 ^ trailing_zeros w64 r.scanned % 2 ^ 64 in
       let entered = c.enter-id.ensures b e in
-      voxel_step c.args.tree.now c.enter-id.new.tree c.loop-rest.tree c.apply_bit.new.tree c.args.p
+      voxel_step c.enter-id.new.tree c.loop-rest.tree c.apply_bit.new.tree c.args.p
       b c.enter-id.result (listed_one c.args.update) c.args.update.brick r
       c.within-rest.result.brick c.loop-rest.rest.hit c.loop-rest.rest.miss c.within-rest.result.hit
       c.within-rest.result.miss (event_of_bit c.loop-rest.rest x) x c.args.lazy entered.linked
-      (place_in_map c.args.tree.now c.args.p b c.requires.linked e) entered
+      (place_in_map c.args.tree.now c.args.p b c.requires.linked e)
+      (ap link_of entered.link.1)
       (voxel_at c.enter-id.new.tree c.loop-rest.tree c.args.p b (listed_one c.args.update)
       c.args.update.brick c.loop-rest.rest.brick c.loop-rest.rest.hit c.loop-rest.rest.miss
       c.args.lazy (c.requires.depth b e) c.requires.brick c.loop-rest.invariant.rest
