@@ -13,14 +13,14 @@ use Rattle.oct_ray.specs.Segment.{IsBetweenFaces, Meets}
 use Rattle.oct_scan.specs.Gathered.{IsSpanned}
 
 -- a coordinate in the voxels of a number, with the map's lower face as 0
-record IsHeldFrom (edge key a b : ℕ) : Type 0 where
-  low : key * edge + b ≤ a + 32768 * edge
-  high : a + 32768 * edge < key * edge + edge + b
+pub record IsHeldFrom (edge key a b : ℕ) : Type 0 where
+  pub low : key * edge + b ≤ a + 32768 * edge
+  pub high : a + 32768 * edge < key * edge + edge + b
 
 face : (edge key : ℕ) → IsDifference (lower_face edge key) (key * edge) (32768 * edge)
 face edge key = scaled edge (of_naturals key 32768)
 
-held_from : (edge key : ℕ) (c : ℤ) → HoldsOnAxis edge key c → IsHeldFrom edge key (up c) (down c)
+pub held_from : (edge key : ℕ) (c : ℤ) → HoldsOnAxis edge key c → IsHeldFrom edge key (up c) (down c)
 held_from edge key c h =
     let itself : IsDifference c (up c) (down c) = parts c in
     let low = le (face edge key) itself h.0 in

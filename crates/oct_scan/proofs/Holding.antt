@@ -18,7 +18,6 @@ use Rattle.oct_brick.specs.Masks.{HasCode}
 use Rattle.oct_brick.specs.Bricks.{scanned_codes, hit_codes, IsBrick, HitsAreScanned}
 use Rattle.oct_brick.proofs.Bits.{none_set}
 use Rattle.oct_brick.proofs.BrickCodes.{codes_by}
-use Rattle.oct_brick.proofs.Merging.{pushed_has}
 use Rattle.oct_scan.specs.declared.beam.Beam.{Beam}
 use Rattle.oct_scan.specs.Gathered.{HoldGathered, IsBeamHeld, IsHeld, IsCurrent}
 use Rattle.oct_scan.specs.Gathered.{end_codes, is_mute, kept}
@@ -32,21 +31,14 @@ use Rattle.oct_scan.proofs.Gathering.{gathered_next, few_more}
 none_of : (mask b c : ℕ) → mask ≡ 0 → HasCode b mask c → ⊥
 none_of mask b c e h = none_set b c (subst (λ m. HasCode b m c) e h)
 
--- one brick more
-pub pushed_scanned : (bs bs' : List Brick) (b : Brick) → bs' ≡ bs ++ b ∷ [] → (c : ℕ)
-    → Contains (scanned_codes bs') c ↔ IsHeld bs b c
-pushed_scanned bs bs' b e c =
-    subst (λ (xs : List Brick). Contains (scanned_codes xs) c ↔ IsHeld bs b c) (sym e)
-    (pushed_has (λ b. b.scanned) bs b c)
-
-pub pushed_unhit : (bs bs' : List Brick) (b : Brick) → bs' ≡ bs ++ b ∷ [] → b.hits ≡ 0 → (c : ℕ)
-    → Contains (hit_codes bs') c ↔ Contains (hit_codes bs) c
-pushed_unhit bs bs' b e none c =
-    let both = pushed_has (λ b. b.hits) bs b c in
-    subst (λ (xs : List Brick). Contains (hit_codes xs) c ↔ Contains (hit_codes bs) c) (sym e) (
-      λ h. elim (both.0 h) [ inl k ↦ k | inr k ↦ absurd (none_of b.hits b.code c none k) ],
-      λ h. both.1 (inl h),
-    )
+-- one brick more, in which nothing is hit
+pub pushed_unhit : (bs bs' : List Brick) (b : Brick)
+    → ((c : ℕ) → Contains (hit_codes bs') c ↔ (Contains (hit_codes bs) c ⊎ HasCode b.code b.hits c))
+    → b.hits ≡ 0 → (c : ℕ) → Contains (hit_codes bs') c ↔ Contains (hit_codes bs) c
+pushed_unhit bs bs' b both none c = (
+  λ h. elim ((both c).0 h) [ inl k ↦ k | inr k ↦ absurd (none_of b.hits b.code c none k) ],
+  λ h. (both c).1 (inl h),
+)
 
 pub kept_scanned : (bs : List Brick) (b : Brick) → b.scanned ≡ 0 → (c : ℕ)
     → Contains (scanned_codes bs) c ↔ IsHeld bs b c
@@ -69,25 +61,27 @@ end_code false end c e = (
   λ h. subst (Contains (end ∷ [])) h (contains_here end []),
 )
 
+-- the bricks have the codes of others, in one mask, and those of one brick more
+abbrev pub HasMore : (Brick → ℕ) → List Brick → List Brick → Brick → Type 0
+HasMore f bs bs' b = (c : ℕ)
+    → Contains (codes_by f bs') c ↔ (Contains (codes_by f bs) c ⊎ HasCode b.code (f b) c)
+
 end_by : (f : Brick → ℕ) (bs bs' : List Brick) (around b : Brick) (end : ℕ) (t : Bool) → t ≡ false
-    → bs' ≡ bs ++ b ∷ [] → f around ≡ 0
+    → HasMore f bs bs' b → f around ≡ 0
     → ((c : ℕ) → HasCode b.code (f b) c ↔ (HasCode around.code (f around) c ⊎ (end ≡ c))) → (c : ℕ)
     → Contains (codes_by f bs') c ↔ (Contains (codes_by f bs) c ⊎ Contains (cond t [] (end ∷ [])) c)
-end_by f bs bs' around b end t whole e none both c =
-    let pushed = pushed_has f bs b c in
-    let one = end_code t end c whole in
-    subst (λ (xs : List Brick). Contains (codes_by f xs) c
-    ↔ (Contains (codes_by f bs) c ⊎ Contains (cond t [] (end ∷ [])) c)) (sym e) (
-      λ h. elim (pushed.0 h) [
+end_by f bs bs' around b end t whole more none both c =
+    let one = end_code t end c whole in (
+      λ h. elim ((more c).0 h) [
         | inl k ↦ inl k
         | inr k ↦ inr (elim ((both c).0 k)
             [ inl m ↦ absurd (none_of (f around) around.code c none m) | inr m ↦ one.1 m ])
       ],
-      λ h. pushed.1 (elim h [ inl k ↦ inl k | inr k ↦ inr ((both c).1 (inr (one.0 k))) ]),
+      λ h. (more c).1 (elim h [ inl k ↦ inl k | inr k ↦ inr ((both c).1 (inr (one.0 k))) ]),
     )
 
 pub end_scanned : (bs bs' : List Brick) (around b : Brick) (end : ℕ) (t : Bool) → t ≡ false
-    → bs' ≡ bs ++ b ∷ [] → around.scanned ≡ 0
+    → HasMore (λ b. b.scanned) bs bs' b → around.scanned ≡ 0
     → ((c : ℕ) → HasCode b.code b.scanned c ↔ (HasCode around.code around.scanned c ⊎ (end ≡ c)))
     → (c : ℕ) → Contains (scanned_codes bs') c
     ↔ (Contains (scanned_codes bs) c ⊎ Contains (cond t [] (end ∷ [])) c)
@@ -95,7 +89,7 @@ end_scanned bs bs' around b end t whole e none both =
     end_by (λ b. b.scanned) bs bs' around b end t whole e none both
 
 pub end_hits : (bs bs' : List Brick) (around b : Brick) (end : ℕ) (t : Bool) → t ≡ false
-    → bs' ≡ bs ++ b ∷ [] → around.hits ≡ 0
+    → HasMore (λ b. b.hits) bs bs' b → around.hits ≡ 0
     → ((c : ℕ) → HasCode b.code b.hits c ↔ (HasCode around.code around.hits c ⊎ (end ≡ c)))
     → (c : ℕ) → Contains (hit_codes bs') c
     ↔ (Contains (hit_codes bs) c ⊎ Contains (cond t [] (end ∷ [])) c)

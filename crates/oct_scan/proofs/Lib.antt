@@ -17,3 +17,6 @@ pub mod Faults
 pub mod Totals
 pub mod Ends
 pub mod Taking
+pub mod MostMet
+pub mod Judging
+pub mod Piling

@@ -19,6 +19,7 @@ ghost use Rattle.oct_scan.specs.Update.{IsSettled, listed};
 use crate::beam::beams_of;
 use crate::cells::gather;
 use crate::fault::ScanFault;
+use crate::judge::judge;
 use crate::need::count_blocks;
 use crate::scan::Scan;
 use oct_brick::{Brick, merge_bricks};
@@ -86,8 +87,8 @@ impl UpdateBricks {
 ///
 /// A scan is refused first where its origin lies outside the map, then for the first beam that ends
 /// outside, and then for the first beam with which the beams meet too many voxels, where a voxel
-/// counts once for each beam that meets it. None of the three looks at the box. Memory is taken
-/// only where the origin lies in the map, and the first beam ends there.
+/// counts once for each beam that meets it. None of the three looks at the box. A scan that is
+/// refused takes no memory, and neither does one without points.
 pub fn update_bricks(
     alloc: Global,
     scan: &Scan,
@@ -116,6 +117,8 @@ pub fn update_bricks(
         (beams_of (sighting_of scan.now)) max_cells) }
     ensures refused { IfErr result (IsRefusedFor res (sighting_of scan.now) max_cells) }
     ensures memory { result ≡ Err ScanFault.Memory → TakesMemory res (sighting_of scan.now) }
+    ensures spared { result ≡ Err ScanFault.Memory →
+        scan_fault res (sighting_of scan.now) max_cells ≡ None }
 
     ensures events { IfOk result (λ set. (hit miss : Event) (k : Voxel) → IsInMap k →
         scan_events (hit_voxels set.bricks) hit (freed_voxels set.bricks) miss k ≡
@@ -133,9 +136,10 @@ pub fn update_bricks(
         scan_fault res (sighting_of scan.now) max_cells ≡ Some f) }
 {
     let origin = scan.pose.t;
-    if res.key_of(origin).is_none() {
+    let Some(start) = res.key_of(origin) else {
         return Err(ScanFault::OriginOutside);
-    }
+    };
+    judge(scan, res, start, max_cells)?;
     let beams = beams_of(alloc, scan, res)?;
     let bricks = gather(alloc, res, origin, &beams, &window, max_cells)?;
     let set = merge_update(alloc, bricks)?;

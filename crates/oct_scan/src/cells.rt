@@ -11,6 +11,7 @@ ghost use Rattle.oct_scan.specs.Gathered.{is_mute, EndsAt, IsWayAdded};
 
 use crate::beam::Beam;
 use crate::fault::ScanFault;
+use crate::pile::BrickPile;
 use oct_brick::Brick;
 use oct_key::{Key, Point, Res, Window, from_morton, morton};
 use oct_num::Memory;
@@ -38,7 +39,7 @@ pub fn gather(
     ensures err { IfErr result (IsExcessFault res origin beams.now most) }
     ensures some { OnErr result (0 < length beams.now) }
 {
-    let mut bricks: Vec<Brick> = Vec::new(alloc);
+    let mut bricks = BrickPile::new(alloc);
     let mut total = 0;
     for (index, beam) in beams.iter().enumerate() {
         total += add_beam(&mut bricks, res, origin, *beam, window, most - total)?;
@@ -49,13 +50,13 @@ pub fn gather(
             });
         }
     }
-    Ok(bricks)
+    Ok(bricks.into_bricks())
 }
 
 /// Adds what a beam changes in the box, where one stands, and answers how many voxels it meets.
 /// Where these are more than there is room for, what is added is of no use any more.
 fn add_beam(
-    bricks: &mut Vec<Brick>,
+    bricks: &mut BrickPile,
     res: Res,
     origin: Point,
     beam: Beam,
@@ -64,12 +65,12 @@ fn add_beam(
 ) -> Result<u64, Memory>
     requires origin { IsSome (key_at res origin) }
     requires end { IsSome (key_at res beam.end) }
-    requires bricks { All IsBrick bricks.old.items }
+    requires bricks { All IsBrick bricks.old }
     ensures met { IfOk result (MeetsSoMany res origin beam.end) }
     ensures few { IfOk result (λ met. met ≤ 3 * 65535 + 1) }
     ensures added { IfOk result (λ met. met ≤ room →
-        IsBeamHeld res window.now origin beam met bricks.old.items bricks.new.items) }
-    ensures bricks { OnOk result (All IsBrick bricks.new.items) }
+        IsBeamHeld res window.now origin beam met bricks.old bricks.new) }
+    ensures bricks { OnOk result (All IsBrick bricks.new) }
 {
     let start = res.key_of(origin).unwrap();
     let end = res.key_of(beam.end).unwrap();
@@ -94,7 +95,7 @@ fn is_mute(window: &Option<Window>, beam: Beam, end: Key) -> bool
 /// Adds the voxels of a walk but that of the end, as far as they lie in the box, where one stands,
 /// and as long as there is room, and answers how many there are, in the box or not.
 fn push_kept(
-    bricks: &mut Vec<Brick>,
+    bricks: &mut BrickPile,
     walk: Walk,
     start: Key,
     end: Key,
@@ -104,9 +105,9 @@ fn push_kept(
     requires few { length walk ≤ 3 * 65535 + 1 }
     requires ends { EndsAt end walk }
     requires between { (k : Voxel) → Contains walk k → IsSpanned start end k }
-    requires bricks { All IsBrick bricks.old.items }
+    requires bricks { All IsBrick bricks.old }
     ensures { IfOk result (IsWayAdded window.now (morton_of end) walk room
-        bricks.old.items bricks.new.items) }
+        bricks.old bricks.new) }
 {
     match window {
         None => push_way(bricks, walk, morton(end), room),
@@ -117,7 +118,7 @@ fn push_kept(
 /// The same in a box. A walk whose ends both lie in it lies in it with all its voxels, and none
 /// that passes it by has one there: the voxels of either are tested together.
 fn push_part(
-    bricks: &mut Vec<Brick>,
+    bricks: &mut BrickPile,
     walk: Walk,
     start: Key,
     end: Key,
@@ -127,9 +128,9 @@ fn push_part(
     requires few { length walk ≤ 3 * 65535 + 1 }
     requires ends { EndsAt end walk }
     requires between { (k : Voxel) → Contains walk k → IsSpanned start end k }
-    requires bricks { All IsBrick bricks.old.items }
+    requires bricks { All IsBrick bricks.old }
     ensures { IfOk result (IsWayAdded (Some window.now) (morton_of end) walk room
-        bricks.old.items bricks.new.items) }
+        bricks.old bricks.new) }
 {
     if window.holds(start) && window.holds(end) {
         push_way(bricks, walk, morton(end), room)
@@ -153,7 +154,7 @@ fn is_passed_by(window: &Window, a: Key, b: Key) -> bool
 }
 
 /// How many voxels a walk has.
-fn count_way(walk: Walk) -> u64
+pub fn count_way(walk: Walk) -> u64
     requires few { length walk ≤ 3 * 65535 + 1 }
     ensures met { result ≡ length walk }
     ensures on_map { All IsInMap walk }
@@ -169,7 +170,7 @@ fn count_way(walk: Walk) -> u64
 /// Adds the voxels of a walk that lie in a box, but not that of the end, as long as there is room,
 /// and answers how many voxels the walk meets in all.
 fn push_within(
-    bricks: &mut Vec<Brick>,
+    bricks: &mut BrickPile,
     walk: Walk,
     end: u64,
     window: &Window,
@@ -177,9 +178,9 @@ fn push_within(
 ) -> Result<u64, Memory>
     requires few { length walk ≤ 3 * 65535 + 1 }
     requires end { end < 2 ^ 48 }
-    requires bricks { All IsBrick bricks.old.items }
+    requires bricks { All IsBrick bricks.old }
     ensures { IfOk result (IsWayAdded (Some window.now) end walk room
-        bricks.old.items bricks.new.items) }
+        bricks.old bricks.new) }
 {
     let mut walk = walk;
     let mut met = 0;
@@ -196,13 +197,13 @@ fn push_within(
 
 /// Adds the voxels of a walk but that of the end, as long as there is room, and answers how many
 /// voxels the walk meets in all.
-fn push_way(bricks: &mut Vec<Brick>, walk: Walk, end: u64, room: u64) -> Result<u64, Memory>
+fn push_way(bricks: &mut BrickPile, walk: Walk, end: u64, room: u64) -> Result<u64, Memory>
     requires few { length walk ≤ 3 * 65535 + 1 }
     requires ends { (k : Voxel) × IsInMap k × (morton_of k ≡ end) × EndsAt k walk }
     requires end { end < 2 ^ 48 }
-    requires bricks { All IsBrick bricks.old.items }
+    requires bricks { All IsBrick bricks.old }
     ensures { IfOk result (IsWayAdded None end walk room
-        bricks.old.items bricks.new.items) }
+        bricks.old bricks.new) }
 {
     let mut walk = walk;
     let mut met = 1;
@@ -218,20 +219,20 @@ fn push_way(bricks: &mut Vec<Brick>, walk: Walk, end: u64, room: u64) -> Result<
 /// Adds a voxel to the current brick, where it lies in that, and else adds that one to the bricks,
 /// as long as there is room, and goes on with the voxel's own.
 fn push_code(
-    bricks: &mut Vec<Brick>,
+    bricks: &mut BrickPile,
     brick: Brick,
     code: u64,
     has_room: bool,
 ) -> Result<Brick, Memory>
-    requires bricks { All IsBrick bricks.old.items }
+    requires bricks { All IsBrick bricks.old }
     requires current { IsCurrent brick }
     requires code { code < 2 ^ 48 }
     ensures scanned { IfOk result (λ next. IsTrue has_room → (c : ℕ) →
-        IsHeld bricks.new.items next c ↔ (IsHeld bricks.old.items brick c ⊎ (code ≡ c))) }
+        IsHeld bricks.new next c ↔ (IsHeld bricks.old brick c ⊎ (code ≡ c))) }
     ensures hits { OnOk result ((c : ℕ) →
-        Contains (hit_codes bricks.new.items) c ↔ Contains (hit_codes bricks.old.items) c) }
+        Contains (hit_codes bricks.new) c ↔ Contains (hit_codes bricks.old) c) }
     ensures current { IfOk result IsCurrent }
-    ensures bricks { OnOk result (All IsBrick bricks.new.items) }
+    ensures bricks { OnOk result (All IsBrick bricks.new) }
 {
     if code >> 6 == brick.code {
         return Ok(brick.with_scanned(code));
@@ -241,14 +242,14 @@ fn push_code(
 }
 
 /// Adds a brick, where a voxel is freed in it and there is room.
-fn push_some(bricks: &mut Vec<Brick>, brick: Brick, has_room: bool) -> Result<(), Memory>
-    requires bricks { All IsBrick bricks.old.items }
+fn push_some(bricks: &mut BrickPile, brick: Brick, has_room: bool) -> Result<(), Memory>
+    requires bricks { All IsBrick bricks.old }
     requires current { IsCurrent brick }
     ensures scanned { OnOk result (IsTrue has_room → (c : ℕ) →
-        Contains (scanned_codes bricks.new.items) c ↔ IsHeld bricks.old.items brick c) }
+        Contains (scanned_codes bricks.new) c ↔ IsHeld bricks.old brick c) }
     ensures hits { OnOk result ((c : ℕ) →
-        Contains (hit_codes bricks.new.items) c ↔ Contains (hit_codes bricks.old.items) c) }
-    ensures bricks { OnOk result (All IsBrick bricks.new.items) }
+        Contains (hit_codes bricks.new) c ↔ Contains (hit_codes bricks.old) c) }
+    ensures bricks { OnOk result (All IsBrick bricks.new) }
 {
     if has_room && brick.scanned != 0 {
         bricks.push(brick)?;
@@ -257,16 +258,16 @@ fn push_some(bricks: &mut Vec<Brick>, brick: Brick, has_room: bool) -> Result<()
 }
 
 /// Adds the voxel of the end of a beam, which is hit, but not where the beam says nothing of it.
-fn push_end(bricks: &mut Vec<Brick>, end: u64, is_mute: bool) -> Result<(), Memory>
-    requires bricks { All IsBrick bricks.old.items }
+fn push_end(bricks: &mut BrickPile, end: u64, is_mute: bool) -> Result<(), Memory>
+    requires bricks { All IsBrick bricks.old }
     requires end { end < 2 ^ 48 }
-    ensures scanned { OnOk result ((c : ℕ) → Contains (scanned_codes bricks.new.items) c ↔
-        (Contains (scanned_codes bricks.old.items) c
+    ensures scanned { OnOk result ((c : ℕ) → Contains (scanned_codes bricks.new) c ↔
+        (Contains (scanned_codes bricks.old) c
         ⊎ Contains (if is_mute then [] else end ∷ []) c)) }
-    ensures hits { OnOk result ((c : ℕ) → Contains (hit_codes bricks.new.items) c ↔
-        (Contains (hit_codes bricks.old.items) c
+    ensures hits { OnOk result ((c : ℕ) → Contains (hit_codes bricks.new) c ↔
+        (Contains (hit_codes bricks.old) c
         ⊎ Contains (if is_mute then [] else end ∷ []) c)) }
-    ensures bricks { OnOk result (All IsBrick bricks.new.items) }
+    ensures bricks { OnOk result (All IsBrick bricks.new) }
 {
     if !is_mute {
         bricks.push(Brick::around(end).with_hit(end))?;

@@ -33,19 +33,20 @@
 //! - A scan is refused for its origin, for the first beam that ends outside the map, or for the
 //!   first beam with which the voxels met exceed the limit, in this order and exactly then. No
 //!   refusal looks at the box, and a voxel that is met counts where it lies outside too. Memory
-//!   runs out only where some is taken: the origin lies in the map, and so does the end of the
-//!   first beam (`TakesMemory`).
+//!   runs out only where some is taken: the scan has a point (`TakesMemory`) and isn't refused
+//!   (`spared`). So a refused scan takes none.
 //!
-//! The beams are made first, so that all ends are judged before a voxel is counted. Then each beam
-//! is walked once. Its voxels go into the brick where the beam is, which is appended to a list when
-//! the beam leaves it, and the end goes into a brick of its own. A beam that exceeds the limit is
-//! counted to its end. Of it at most the voxels within the limit and the end are kept, so that
-//! there is at most one brick more than the limit allows. How a beam is walked is chosen by its
-//! ends: where both lie in the box, or no box stands, no voxel is tested; where both lie beyond it
-//! on one side, the voxels are only counted; else each is tested before it is kept. The bricks are
-//! sorted by their codes, and those of one code joined. Of the sorted bricks each adds the blocks
-//! that don't hold the one before it, which the highest different bit of the two codes tells, and
-//! its own octets.
+//! A scan is judged first. A beam meets no more voxels than one and the faces between the voxels of
+//! its ends, which are counted at once; only where the sum of these exceeds the limit are the
+//! voxels counted along the beams. Then each beam is walked. Its voxels go into the brick where the
+//! beam is, which is added to a pile when the beam leaves it, and the end goes into a brick of its
+//! own. The pile remembers in a table where bricks stand, so that mostly a brick is joined with
+//! that of its code, and memory follows the bricks that the beams touch. How a beam is walked is
+//! chosen by its ends: where both lie in the box, or no box stands, no voxel is tested; where both
+//! lie beyond it on one side, the voxels are only counted; else each is tested before it is kept.
+//! The bricks are sorted by their codes, and those of one code joined. Of the sorted bricks each
+//! adds the blocks that don't hold the one before it, which the highest different bit of the two
+//! codes tells, and its own octets.
 //!
 //! Both calls allocate, and touch nothing but their arguments. The scans of a map (`oct_map`) stand
 //! on this crate, and their contracts cite `scan_outcome`, `hit_count`, `free_count`, `scan_fault`
@@ -58,9 +59,11 @@ mod beam;
 mod bricks;
 mod cells;
 mod fault;
+mod judge;
 mod keys;
 mod laws;
 mod need;
+mod pile;
 mod scan;
 mod update;
 

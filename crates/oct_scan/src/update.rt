@@ -68,8 +68,8 @@ impl UpdateSet {
 ///
 /// A scan is refused first where its origin lies outside the map, then for the first beam that ends
 /// outside, and then for the first beam with which the beams meet too many voxels, where a voxel
-/// counts once for each beam that meets it. None of the three looks at the box. Memory is taken
-/// only where the origin lies in the map, and the first beam ends there.
+/// counts once for each beam that meets it. None of the three looks at the box. A scan that is
+/// refused takes no memory, and neither does one without points.
 pub fn update_set(
     alloc: Global,
     scan: &Scan,
@@ -94,6 +94,8 @@ pub fn update_set(
         (beams_of (sighting_of scan.now)) max_cells) }
     ensures refused { IfErr result (IsRefusedFor res (sighting_of scan.now) max_cells) }
     ensures memory { result ≡ Err ScanFault.Memory → TakesMemory res (sighting_of scan.now) }
+    ensures spared { result ≡ Err ScanFault.Memory →
+        scan_fault res (sighting_of scan.now) max_cells ≡ None }
 
     ensures events { IfOk result (λ set. (hit miss : Event) (k : Voxel) → IsInMap k →
         scan_events set.hits hit set.frees miss k ≡

@@ -22,7 +22,7 @@ loop-code-init c = record {
     unhit = c.around-brick.ensures.hits;
   };
   hits = λ k. (λ h. h, λ h. h);
-  scanned = λ fits. way_none c.args.end c.args.bricks.now.items c.args.walk c.around-brick.result
+  scanned = λ fits. way_none c.args.end c.args.bricks.now c.args.walk c.around-brick.result
       c.around-brick.ensures.scanned;
 }
 
@@ -50,8 +50,8 @@ loop-code-preserved c =
           (subst (EndsAt end) given.first (c.loop-code.invariant.ends end ends))).0 in
           let room : c.loop-code.met + 1 ≤ c.args.room =
           omega (arith, fits, some, c.loop-code.invariant.counted, ap length given.first) in
-          way_marked c.args.end c.args.bricks.now.items c.args.walk c.loop-code.bricks.items
-          c.push_code.new.bricks.items c.loop-code.brick c.in_ok-brick.brick c.loop-code.walk rest
+          way_marked c.args.end c.args.bricks.now c.args.walk c.loop-code.bricks
+          c.push_code.new.bricks c.loop-code.brick c.in_ok-brick.brick c.loop-code.walk rest
           given.voxel c.in-Some.code given.first given.coded
           (λ same. other (morton_injective given.voxel end given.on_map on_map
           (sym given.coded ∙ same ∙ sym coded))) (c.in_ok-brick.ensures.scanned (le-leb _ _ room))
@@ -69,11 +69,11 @@ returns c =
       counted = omega (arith, i.counted, ap length one);
       on_map = i.on_map (subst (All IsInMap) (sym one)
           (All-cons IsInMap end [] on_map (All-nil IsInMap)));
-      scanned = λ fits. way_all c.args.end c.args.bricks.now.items c.args.walk
-          c.loop-code.bricks.items c.push_some.new.bricks.items c.loop-code.brick [] refl
+      scanned = λ fits. way_all c.args.end c.args.bricks.now c.args.walk
+          c.loop-code.bricks c.push_some.new.bricks c.loop-code.brick [] refl
           (c.in_ok-push_some.ensures.scanned
           (le-leb _ _ (omega (arith, fits, i.counted, ap length one))))
-          (way_passed c.args.end c.args.bricks.now.items c.args.walk c.loop-code.bricks.items
+          (way_passed c.args.end c.args.bricks.now c.args.walk c.loop-code.bricks
           c.loop-code.brick rest [] end (morton_of end) one refl coded (i.scanned fits));
       hits = λ k. (
         λ h. (i.hits k).0 ((c.in_ok-push_some.ensures.hits k).0 h),

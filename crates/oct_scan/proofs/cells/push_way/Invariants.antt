@@ -11,12 +11,12 @@ invariant-loop-code l = record {
   counted : l.met + length l.walk ≡ length l.fn.walk + 1;
   ends : (k : Voxel) → EndsAt k l.fn.walk → EndsAt k l.walk;
   on_map : All IsInMap l.walk → All IsInMap l.fn.walk;
-  bricks : All IsBrick l.bricks.items;
+  bricks : All IsBrick l.bricks;
   current : IsCurrent l.brick;
-  hits : (c : ℕ) → Contains (hit_codes l.bricks.items) c
-      ↔ Contains (hit_codes l.initial.bricks.items) c;
+  hits : (c : ℕ) → Contains (hit_codes l.bricks) c
+      ↔ Contains (hit_codes l.initial.bricks) c;
   scanned : length l.fn.walk ≤ l.room
-      → IsOnWay l.end l.initial.bricks.items l.fn.walk l.bricks.items l.brick l.walk;
+      → IsOnWay l.end l.initial.bricks l.fn.walk l.bricks l.brick l.walk;
 }
 
 abbrev pub decreases-loop-code : goal.decreases-loop-code

@@ -22,7 +22,7 @@ loop-code-init c = record {
     unhit = c.around-brick.ensures.hits;
   };
   hits = λ k. (λ h. h, λ h. h);
-  scanned = λ fits. way_none c.args.end c.args.bricks.now.items
+  scanned = λ fits. way_none c.args.end c.args.bricks.now
       (kept (Some c.args.window.now) c.args.walk) c.around-brick.result
       c.around-brick.ensures.scanned;
 }
@@ -47,8 +47,8 @@ loop-code-preserved-then-code-end c =
           let inside = tested c.args.window.now c.in-Some.code given.voxel c.from_morton.result
           c.holds.result given.on_map given.coded c.from_morton.ensures.only
           c.holds.ensures.exact in
-          way_added c.args.end c.args.bricks.now.items (kept (Some c.args.window.now) c.args.walk)
-          c.loop-code.bricks.items c.push_code.new.bricks.items c.loop-code.brick
+          way_added c.args.end c.args.bricks.now (kept (Some c.args.window.now) c.args.walk)
+          c.loop-code.bricks c.push_code.new.bricks c.loop-code.brick
           c.in_ok-brick.brick c.args.window.now c.loop-code.walk c.next_code.new.self given.voxel
           c.in-Some.code given.first (inside ∙ c.if-holds.true) given.coded c.if-code-end.true
           (c.in_ok-brick.ensures.scanned (le-leb _ _ room)) (c.loop-code.invariant.scanned fits);
@@ -69,13 +69,13 @@ loop-code-preserved c =
       hits = c.loop-code.invariant.hits;
       scanned = λ fits. elim c.else-holds.branch [
         | else-holds-via-then-holds+else-code-end w ↦
-            way_ended c.args.end c.args.bricks.now.items (kept (Some c.args.window.now) c.args.walk)
-            c.loop-code.bricks.items c.loop-code.brick c.args.window.now c.loop-code.walk
+            way_ended c.args.end c.args.bricks.now (kept (Some c.args.window.now) c.args.walk)
+            c.loop-code.bricks c.loop-code.brick c.args.window.now c.loop-code.walk
             c.next_code.new.self given.voxel c.in-Some.code given.first (inside ∙ w.if-holds.true)
             given.coded w.if-code-end.false (c.loop-code.invariant.scanned fits)
         | else-holds-via-else-holds w ↦
-            way_outside c.args.end c.args.bricks.now.items
-            (kept (Some c.args.window.now) c.args.walk) c.loop-code.bricks.items c.loop-code.brick
+            way_outside c.args.end c.args.bricks.now
+            (kept (Some c.args.window.now) c.args.walk) c.loop-code.bricks c.loop-code.brick
             c.args.window.now c.loop-code.walk c.next_code.new.self given.voxel given.first
             (inside ∙ w.if-holds.false) (c.loop-code.invariant.scanned fits)
       ];
@@ -87,9 +87,9 @@ returns c =
     record {
       counted = omega (arith, i.counted, ap length c.in_default.ensures.none.0);
       on_map = i.on_map (subst (All IsInMap) (sym c.in_default.ensures.none.0) (All-nil IsInMap));
-      scanned = λ fits. way_all c.args.end c.args.bricks.now.items
-          (kept (Some c.args.window.now) c.args.walk) c.loop-code.bricks.items
-          c.push_some.new.bricks.items c.loop-code.brick
+      scanned = λ fits. way_all c.args.end c.args.bricks.now
+          (kept (Some c.args.window.now) c.args.walk) c.loop-code.bricks
+          c.push_some.new.bricks c.loop-code.brick
           (kept (Some c.args.window.now) c.loop-code.walk)
           (kept_nothing c.args.window.now c.loop-code.walk c.in_default.ensures.none.0)
           (c.in_ok-push_some.ensures.scanned (le-leb _ _ (omega (arith, fits, i.counted))))

@@ -10,12 +10,12 @@ abbrev pub invariant-loop-code : goal.invariant-loop-code
 invariant-loop-code l = record {
   counted : l.met + length l.walk ≡ length l.fn.walk;
   on_map : All IsInMap l.walk → All IsInMap l.fn.walk;
-  bricks : All IsBrick l.bricks.items;
+  bricks : All IsBrick l.bricks;
   current : IsCurrent l.brick;
-  hits : (c : ℕ) → Contains (hit_codes l.bricks.items) c
-      ↔ Contains (hit_codes l.initial.bricks.items) c;
+  hits : (c : ℕ) → Contains (hit_codes l.bricks) c
+      ↔ Contains (hit_codes l.initial.bricks) c;
   scanned : length l.fn.walk ≤ l.room
-      → IsOnWay l.end l.initial.bricks.items (kept (Some l.window) l.fn.walk) l.bricks.items l.brick
+      → IsOnWay l.end l.initial.bricks (kept (Some l.window) l.fn.walk) l.bricks l.brick
       (kept (Some l.window) l.walk);
 }
 

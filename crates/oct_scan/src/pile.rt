@@ -1,0 +1,122 @@
+ghost use Rattle.std.specs.Prelude.{◌≡◌, ℕ, ◌↔◌, ◌⊎◌, [], All, Contains, OnOk};
+ghost use Rattle.oct_brick.specs.Masks.{HasCode};
+ghost use Rattle.oct_brick.specs.Bricks.{scanned_codes, hit_codes, IsBrick};
+ghost use Rattle.oct_scan.specs.Gathered.{IsHeld};
+
+use oct_brick::Brick;
+use oct_num::Memory;
+use std::alloc::Global;
+use std::marker::Model;
+
+/// How many places a table has at first.
+const LEAST: usize = 1 << 10;
+
+/// How many it has at most: so many stay in the processor's nearer memory.
+const MOST: usize = 1 << 15;
+
+/// The bricks of the beams so far. A brick is joined with one of its code that is remembered, so
+/// that mostly there is one for each code.
+#[derive(Debug, Drop)]
+pub struct BrickPile {
+    bricks: Vec<Brick>,
+    /// Where a brick may stand, by the place of its code here.
+    places: Vec<u32>,
+}
+
+impl Model for BrickPile {
+    ghost use Rattle.std.specs.Prelude.{List};
+    ghost use Rattle.oct_brick.specs.declared.brick.Brick.{Brick};
+
+    ghost Value = { List Brick };
+
+    ghost view = { λ pile. pile.bricks.items };
+}
+
+impl BrickPile {
+    /// No bricks, which take no memory.
+    pub fn new(alloc: Global) -> BrickPile
+        ensures { result ≡ [] }
+    {
+        BrickPile {
+            bricks: Vec::new(alloc),
+            places: Vec::new(alloc),
+        }
+    }
+
+    /// Adds the voxels of a brick.
+    pub fn push(&mut self, brick: Brick) -> Result<(), Memory>
+        requires bricks { All IsBrick self.old }
+        requires brick { IsBrick brick }
+        ensures scanned { OnOk result ((c : ℕ) →
+            Contains (scanned_codes self.new) c ↔ IsHeld self.old brick c) }
+        ensures hits { OnOk result ((c : ℕ) → Contains (hit_codes self.new) c ↔
+            (Contains (hit_codes self.old) c ⊎ HasCode brick.code brick.hits c)) }
+        ensures bricks { OnOk result (All IsBrick self.new) }
+    {
+        let at = find(self.places.as_slice(), brick.code);
+        if at < self.bricks.len() {
+            let known = self.bricks[at];
+            if known.code == brick.code {
+                self.bricks[at] = known.joined(brick);
+                return Ok(());
+            }
+        }
+        remember(&mut self.places, self.bricks.as_slice(), brick.code)?;
+        self.bricks.push(brick)?;
+        Ok(())
+    }
+
+    /// The bricks, in no order, and of a code there may be several.
+    pub fn into_bricks(self) -> Vec<Brick>
+        ensures { result.items ≡ self }
+    {
+        self.bricks
+    }
+}
+
+/// Where a brick of this code may stand.
+#[inline(always)]
+fn find(places: &[u32], code: u64) -> usize {
+    let place = place_of(code, places.len());
+    if place < places.len() {
+        places[place] as usize
+    } else {
+        0
+    }
+}
+
+/// Remembers that a brick of this code comes next in the list.
+#[inline(always)]
+fn remember(places: &mut Vec<u32>, bricks: &[Brick], code: u64) -> Result<(), Memory> {
+    if bricks.len() >= places.len() && places.len() < MOST {
+        widen(places, bricks)?;
+    }
+    note(places, code, bricks.len());
+    Ok(())
+}
+
+/// Makes the table twice as long, and remembers all bricks anew.
+#[inline(never)]
+fn widen(places: &mut Vec<u32>, bricks: &[Brick]) -> Result<(), Memory> {
+    places.resize(places.len().saturating_mul(2).max(LEAST), 0)?;
+    for (at, brick) in bricks.iter().enumerate() {
+        note(places, brick.code, at);
+    }
+    Ok(())
+}
+
+/// Notes where a brick of this code stands. An index of more than 32 bits is of no use.
+#[inline(always)]
+fn note(places: &mut Vec<u32>, code: u64, at: usize) {
+    let place = place_of(code, places.len());
+    if place < places.len() {
+        places[place] = (at & 0xffff_ffff) as u32;
+    }
+}
+
+/// The place of a code in a table, whose length is a power of two: bricks that lie near one another
+/// have different ones.
+#[inline(always)]
+fn place_of(code: u64, length: usize) -> usize {
+    ((code ^ (code >> 12) ^ (code >> 24)) as usize) & length.wrapping_sub(1)
+}
