@@ -1,15 +1,17 @@
 -- The voxels that a beam meets lie in the box that those of its ends span.
 use Rattle.std.proofs.Common.{◌≡◌, ℕ, ◌+◌, ◌-◌, ◌*◌, ◌<◌, ◌≤◌, Some, arith, sym, subst, ℤ, ◌-ℤ◌}
+use Rattle.std.proofs.Common.{List, All}
+use Rattle.std.proofs.lemmas.List.Elements.{All-weaker}
 use Rattle.std.specs.Prelude.{min, max}
 use Rattle.std.proofs.Math.Nat.{mul-le-mul_right, lt_of_mul-lt-mul_right}
 use borrow.Author.Differences.{up, down}
-use Rattle.oct_key.specs.Voxel.{Voxel, HoldsOnAxis, lower_face, key_at}
+use Rattle.oct_key.specs.Voxel.{Voxel, HoldsOnAxis, IsInMap, lower_face, key_at}
 use Rattle.oct_key.specs.Boxes.{IsBetween}
 use Rattle.oct_key.specs.declared.point.Point.{Point}
-use Rattle.oct_key.proofs.Faces.{Holds-key_at}
+use Rattle.oct_key.proofs.Faces.{Holds-key_at, IsInMap-key_at}
 use Rattle.oct_num.proofs.Differences.{IsDifference, parts, natural, of_naturals, scaled}
 use Rattle.oct_num.proofs.Differences.{scaled_left, plus, minus, le, lt}
-use Rattle.oct_ray.specs.Segment.{IsBetweenFaces, Meets}
+use Rattle.oct_ray.specs.Segment.{IsBetweenFaces, IsWalkAlong, Meets}
 use Rattle.oct_scan.specs.Gathered.{IsSpanned}
 
 -- a coordinate in the voxels of a number, with the map's lower face as 0
@@ -119,3 +121,18 @@ met_spanned edge o e a b k positive first last m =
       y = on_axis edge k.y m.p m.q a.y b.y o.y e.y at.positive at.within start.y end.y at.y;
       z = on_axis edge k.z m.p m.q a.z b.z o.z e.z at.positive at.within start.z end.z at.z;
     }
+
+in_map : (a b k : Voxel) → IsInMap a → IsInMap b → IsSpanned a b k → IsInMap k
+in_map a b k in_a in_b s = record {
+  x = (let l = in_a.x in let m = in_b.x in let h = s.x.1 in omega (arith, l, m, h));
+  y = (let l = in_a.y in let m = in_b.y in let h = s.y.1 in omega (arith, l, m, h));
+  z = (let l = in_a.z in let m = in_b.z in let h = s.z.1 in omega (arith, l, m, h));
+}
+
+-- so that a walk between two points of the map lies in it
+pub walk_on_map : (edge : ℕ) (o e : Point) (a b : Voxel) (ks : List Voxel) → 1 ≤ edge
+    → key_at edge o ≡ Some a → key_at edge e ≡ Some b → IsWalkAlong edge o e ks → All IsInMap ks
+walk_on_map edge o e a b ks positive first last walk =
+    All-weaker (Meets edge o e) IsInMap (λ k m.
+    in_map a b k (IsInMap-key_at edge o a first) (IsInMap-key_at edge e b last)
+    (met_spanned edge o e a b k positive first last m)) ks walk.met

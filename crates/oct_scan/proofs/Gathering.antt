@@ -1,5 +1,5 @@
 -- Codes that are gathered beam by beam.
-use Rattle.std.proofs.Common.{◌≡◌, ◌≢◌, ℕ, suc, ◌+◌, ◌-◌, ◌^◌, ◌<◌, ◌≤◌, ◌⊎◌, inl, inr, true, false}
+use Rattle.std.proofs.Common.{◌≡◌, ◌≢◌, ℕ, suc, ◌+◌, ◌-◌, ◌^◌, ◌<◌, ◌≤◌, inl, inr, true, false}
 use Rattle.std.proofs.Common.{Bool, not, ◌||◌, cond, List, [], ◌∷◌, ◌++◌, map, length, take, get_or}
 use Rattle.std.proofs.Common.{Some, Option, refl, sym, subst, ◌∙◌, ap, arith, append_assoc}
 use Rattle.std.specs.Prelude.{slice_get}

@@ -19,13 +19,14 @@ use Rattle.oct_brick.specs.Bricks.{scanned_codes, hit_codes, IsBrick, HitsAreSca
 use Rattle.oct_brick.proofs.Bits.{none_set}
 use Rattle.oct_brick.proofs.BrickCodes.{codes_by}
 use Rattle.oct_scan.specs.declared.beam.Beam.{Beam}
-use Rattle.oct_scan.specs.Gathered.{HoldGathered, IsBeamHeld, IsHeld, IsCurrent}
+use Rattle.oct_scan.specs.Gathered.{HoldGathered, HoldAllGathered, IsBeamHeld, IsHeld}
+use Rattle.oct_scan.specs.Gathered.{IsCurrent}
 use Rattle.oct_scan.specs.Gathered.{end_codes, is_mute, kept}
 use Rattle.oct_brick.proofs.Lists.{contains_none, contains_here, contains_later, contains_cases}
 use Rattle.oct_brick.proofs.Lists.{contains_map, contains_from_map, all_contained}
 use Rattle.oct_scan.proofs.Kept.{kept_from, kept_listed}
 use Rattle.oct_scan.proofs.Gathering.{IsBeamAdded, ends_with, once_last, gathered_none}
-use Rattle.oct_scan.proofs.Gathering.{gathered_next, few_more}
+use Rattle.oct_scan.proofs.Gathering.{gathered_next, few_more, met_next}
 
 -- an empty mask has no code
 none_of : (mask b c : ℕ) → mask ≡ 0 → HasCode b mask c → ⊥
@@ -343,4 +344,21 @@ current_brick b h fits some = record {
   hits_fit = (let e = h.unhit in omega (arith, e));
   some = omega (arith, some);
   part = none_hit b h.unhit;
+}
+
+pub all_none : (edge : ℕ) (window : Option Corners) (o : Point)
+    → HoldAllGathered edge window o [] []
+all_none edge window o = record { total = 0; met = refl; all = held_none edge window o }
+
+-- the same, with how many voxels are met
+pub all_next : (edge : ℕ) (window : Option Corners) (o : Point) (bs : List Beam) (i : ℕ) (d : Beam)
+    (met : ℕ) (bricks bricks' : List Brick) → i < length bs
+    → HoldAllGathered edge window o (take i bs) bricks
+    → IsBeamHeld edge window o (get_or bs i d) met bricks bricks'
+    → HoldAllGathered edge window o (take (i + 1) bs) bricks'
+all_next edge window o bs i d met bricks bricks' l h a = record {
+  total = h.total + met;
+  met = met_next edge o bs i d h.total met l h.met
+      (record { voxels = a.front ++ a.end ∷ []; walk = a.walk; counted = a.counted });
+  all = held_next edge window o bs i d met h.total bricks bricks' l h.all a;
 }

@@ -1,7 +1,7 @@
 -- One voxel more of a walk of which only what lies in a box is kept.
 use Rattle.std.proofs.Common.{◌≡◌, ◌≢◌, ℕ, ◌⊎◌, ◌↔◌, inl, inr, Bool, true, false, Option, Some}
 use Rattle.std.proofs.Common.{List, [], ◌∷◌, map, sym, subst, ◌∙◌, ap, arith}
-use Rattle.std.specs.Prelude.{min, max, Result, Ok, Err, IfOk}
+use Rattle.std.specs.Prelude.{min, max, Result, Ok, Err, OnOk}
 use Rattle.std.specs.List.{Contains}
 use Rattle.oct_key.specs.Voxel.{Voxel, IsInMap}
 use Rattle.oct_key.specs.Boxes.{Corners, IsBetween, IsInBox, is_in_box}
@@ -73,26 +73,23 @@ AreAdded old new ks end = (c : ℕ)
     ↔ (Contains (scanned_codes old) c ⊎ (Contains (map morton_of ks) c × (end ≢ c)))
 
 -- what is added in one box is what is added in another, where both keep the same
-added_so : (window window' : Option Corners) (end end' : ℕ) (walk : List Voxel) (room : ℕ)
-    (old new : List Brick) (met : ℕ) → kept window' walk ≡ kept window walk → end ≡ end'
-    → IsWayAdded window end walk room old new met → IsWayAdded window' end' walk room old new met
-added_so window window' end end' walk room old new met same is h = record {
-  counted = h.counted;
-  on_map = h.on_map;
-  scanned = λ fits. subst (λ l. AreAdded old new l end') (sym same)
-      (subst (λ e. AreAdded old new (kept window walk) e) is (h.scanned fits));
+added_so : (window window' : Option Corners) (end end' : ℕ) (walk : List Voxel)
+    (old new : List Brick) → kept window' walk ≡ kept window walk → end ≡ end'
+    → IsWayAdded window end walk old new → IsWayAdded window' end' walk old new
+added_so window window' end end' walk old new same is h = record {
+  scanned = subst (λ l. AreAdded old new l end') (sym same)
+      (subst (λ e. AreAdded old new (kept window walk) e) is h.scanned);
   hits = h.hits;
   bricks = h.bricks;
 }
 
-pub added_as : {E : Type 0} (r : Result ℕ E) (window window' : Option Corners) (end end' : ℕ)
-    (walk : List Voxel) (room : ℕ) (old new : List Brick) → kept window' walk ≡ kept window walk
-    → end ≡ end'
-    → IfOk r (IsWayAdded window end walk room old new)
-    → IfOk r (IsWayAdded window' end' walk room old new)
-added_as (Ok met) window window' end end' walk room old new same is h =
-    added_so window window' end end' walk room old new met same is h
-added_as (Err e) window window' end end' walk room old new same is h = h
+pub added_as : {X E : Type 0} (r : Result X E) (window window' : Option Corners) (end end' : ℕ)
+    (walk : List Voxel) (old new : List Brick) → kept window' walk ≡ kept window walk
+    → end ≡ end' → OnOk r (IsWayAdded window end walk old new)
+    → OnOk r (IsWayAdded window' end' walk old new)
+added_as (Ok x) window window' end end' walk old new same is h =
+    added_so window window' end end' walk old new same is h
+added_as (Err e) window window' end end' walk old new same is h = h
 
 pub none_added : (old : List Brick) (ks : List Voxel) (end : ℕ) → ks ≡ [] → AreAdded old old ks end
 none_added old ks end none c = (

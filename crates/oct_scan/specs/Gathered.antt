@@ -13,6 +13,7 @@ use Rattle.oct_brick.specs.Masks.{HasCode}
 use Rattle.oct_brick.specs.Bricks.{scanned_codes, hit_codes, IsBrick}
 use Rattle.oct_scan.specs.declared.beam.Beam.{Beam}
 use Rattle.oct_scan.specs.Scanned.{EndsIn}
+use Rattle.oct_scan.specs.Answer.{MeetInAll}
 
 -- a code of a voxel in the box that the beam meets, but not that of a cut end
 pub record IsMarked (edge : ℕ) (window : Option Corners) (o : Point) (code : ℕ)
@@ -62,13 +63,11 @@ abbrev pub kept : Option Corners → List Voxel → List Voxel
 kept None ks = ks
 kept (Some box) ks = filter (is_in_box box.lo box.hi) ks
 
--- the walk meets `met` voxels; where there is room for them, those in the box, but that of the end,
--- were added to the bricks, and none of them as hit; without room nothing is said of what was added
-pub record IsWayAdded (window : Option Corners) (end : ℕ) (walk : List Voxel) (room : ℕ)
-    (old new : List Brick) (met : ℕ) : Type 0 where
-  pub counted : met ≡ length walk
-  pub on_map : All IsInMap walk
-  pub scanned : length walk ≤ room → (code : ℕ) → Contains (scanned_codes new) code ↔
+-- the voxels of the walk in the box, but that of the end, were added to the bricks, and none of them
+-- as hit
+pub record IsWayAdded (window : Option Corners) (end : ℕ) (walk : List Voxel)
+    (old new : List Brick) : Type 0 where
+  pub scanned : (code : ℕ) → Contains (scanned_codes new) code ↔
       (Contains (scanned_codes old) code
       ⊎ (Contains (map morton_of (kept window walk)) code × (end ≢ code)))
   pub hits : (code : ℕ) → Contains (hit_codes new) code ↔ Contains (hit_codes old) code
@@ -97,6 +96,13 @@ pub record HoldGathered (edge : ℕ) (window : Option Corners) (o : Point) (bs :
   pub gathered : AreGathered edge window o bs scanned hits
   pub few : length scanned ≤ most
   pub held : HoldCodes bricks scanned hits
+
+-- the same, where all these beams together meet so many voxels
+pub record HoldAllGathered (edge : ℕ) (window : Option Corners) (o : Point) (bs : List Beam)
+    (bricks : List Brick) : Type 0 where
+  pub total : ℕ
+  pub met : MeetInAll edge o bs total
+  pub all : HoldGathered edge window o bs bricks total
 
 -- the voxels in the box that a beam meets, of this many in all, have come to those of bricks
 pub record IsBeamHeld (edge : ℕ) (window : Option Corners) (o : Point) (b : Beam) (met : ℕ)

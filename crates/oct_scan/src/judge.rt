@@ -1,4 +1,4 @@
-ghost use Rattle.std.specs.Prelude.{◌≡◌, ◌≢◌, ◌+◌, ◌^◌, ◌≤◌, pos, ◌≤ℤ◌, Some, All};
+ghost use Rattle.std.specs.Prelude.{◌≡◌, ◌≢◌, ◌+◌, ◌*◌, ◌^◌, ◌≤◌, length, pos, ◌≤ℤ◌, Some, All};
 ghost use Rattle.std.specs.Prelude.{IfSome, IfOk, IfErr, OnOk, IsSome, IsNone};
 ghost use Rattle.std.specs.Int.{abs_diff};
 ghost use Rattle.oct_key.specs.Voxel.{key_at};
@@ -9,7 +9,6 @@ ghost use Rattle.oct_scan.specs.Answer.{first_outside, IsOutsideFault, IsExcessF
 ghost use Rattle.oct_scan.specs.Answer.{IsRefusedFor, IsInside};
 
 use crate::beam::beam_to;
-use crate::cells::count_way;
 use crate::fault::ScanFault;
 use crate::scan::Scan;
 use oct_key::{Key, Res};
@@ -93,4 +92,17 @@ fn count_met(scan: &Scan, res: Res, most: u64) -> Result<(), ScanFault>
         }
     }
     Ok(())
+}
+
+/// How many voxels a walk has.
+fn count_way(walk: Walk) -> u64
+    requires few { length walk ≤ 3 * 65535 + 1 }
+    ensures met { result ≡ length walk }
+{
+    let mut walk = walk;
+    let mut met = 0;
+    while let Some(_) = walk.next_code() {
+        met += 1;
+    }
+    met
 }

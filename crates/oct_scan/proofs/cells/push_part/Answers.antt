@@ -12,15 +12,12 @@ returns-then-holds-2 c =
     (c.holds.ensures.means.0 c.if-holds.true) (c.holds-then-holds.ensures.means.0 c.if-holds-2.true)
     (c.requires.between k there)) in
     added_as c.push_way.result None (Some c.args.window.now) c.morton.result (morton_of c.args.end)
-    c.args.walk c.args.room c.args.bricks.now c.push_way.new.bricks all
-    c.morton.ensures.exact c.push_way.ensures
+    c.args.walk c.args.bricks.now c.push_way.new.bricks all c.morton.ensures.exact
+    c.push_way.ensures
 
 pub returns-then-is_passed_by : goal.returns-then-is_passed_by
 returns-then-is_passed_by c = record {
-  counted = c.count_way.ensures.met;
-  on_map = c.count_way.ensures.on_map;
-  scanned = λ fits.
-      none_added c.args.bricks.now (kept (Some c.args.window.now) c.args.walk)
+  scanned = none_added c.args.bricks.now (kept (Some c.args.window.now) c.args.walk)
       (morton_of c.args.end) (kept_none c.args.window.now c.args.walk
       (λ k there inside. c.is_passed_by.ensures c.if-is_passed_by.true k
       (c.requires.between k there) inside));
@@ -31,6 +28,5 @@ returns-then-is_passed_by c = record {
 pub returns-else-is_passed_by : goal.returns-else-is_passed_by
 returns-else-is_passed_by c =
     added_as c.push_within.result (Some c.args.window.now) (Some c.args.window.now)
-    c.morton-else-is_passed_by.result (morton_of c.args.end) c.args.walk c.args.room
-    c.args.bricks.now c.push_within.new.bricks refl
-    c.morton-else-is_passed_by.ensures.exact c.push_within.ensures
+    c.morton-else-is_passed_by.result (morton_of c.args.end) c.args.walk c.args.bricks.now
+    c.push_within.new.bricks refl c.morton-else-is_passed_by.ensures.exact c.push_within.ensures

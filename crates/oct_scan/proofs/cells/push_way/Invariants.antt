@@ -1,6 +1,6 @@
-use Rattle.std.proofs.Common.{◌≡◌, ℕ, ◌+◌, ◌≤◌, ◌↔◌, length, All}
+use Rattle.std.proofs.Common.{ℕ, ◌↔◌, length, All}
 use Rattle.std.specs.List.{Contains}
-use Rattle.oct_key.specs.Voxel.{Voxel, IsInMap}
+use Rattle.oct_key.specs.Voxel.{Voxel}
 use Rattle.oct_brick.specs.Bricks.{IsBrick, hit_codes}
 use Rattle.oct_scan.specs.Gathered.{IsCurrent, EndsAt}
 use Rattle.oct_scan.proofs.Holding.{IsOnWay}
@@ -8,15 +8,11 @@ use Rattle.oct_scan.proofs.cells.push_way.Given as goal
 
 abbrev pub invariant-loop-code : goal.invariant-loop-code
 invariant-loop-code l = record {
-  counted : l.met + length l.walk ≡ length l.fn.walk + 1;
   ends : (k : Voxel) → EndsAt k l.fn.walk → EndsAt k l.walk;
-  on_map : All IsInMap l.walk → All IsInMap l.fn.walk;
   bricks : All IsBrick l.bricks;
   current : IsCurrent l.brick;
-  hits : (c : ℕ) → Contains (hit_codes l.bricks) c
-      ↔ Contains (hit_codes l.initial.bricks) c;
-  scanned : length l.fn.walk ≤ l.room
-      → IsOnWay l.end l.initial.bricks l.fn.walk l.bricks l.brick l.walk;
+  hits : (c : ℕ) → Contains (hit_codes l.bricks) c ↔ Contains (hit_codes l.initial.bricks) c;
+  scanned : IsOnWay l.end l.initial.bricks l.fn.walk l.bricks l.brick l.walk;
 }
 
 abbrev pub decreases-loop-code : goal.decreases-loop-code

@@ -1,7 +1,3 @@
-use Rattle.std.proofs.Common.{◌+◌, ◌≤◌, sym, subst, ap, length, All, arith}
-use Rattle.std.proofs.lemmas.Bool.{le-leb}
-use Rattle.std.proofs.lemmas.List.Elements.{All-cons, All-nil}
-use Rattle.oct_key.specs.Voxel.{IsInMap}
 use Rattle.oct_scan.proofs.Holding.{way_none, way_all, around_below}
 use Rattle.oct_scan.proofs.Kept.{kept_nothing}
 use Rattle.oct_scan.proofs.Parts.{tested, way_outside, way_ended, way_added}
@@ -13,8 +9,6 @@ use Rattle.oct_scan.proofs.cells.push_within.Goals.{else-holds-via-else-holds}
 
 pub loop-code-init : goal.loop-code-init
 loop-code-init c = record {
-  counted = omega arith;
-  on_map = λ h. h;
   bricks = c.requires.bricks;
   current = record {
     code = around_below c.around-brick.result.code c.args.end
@@ -22,7 +16,7 @@ loop-code-init c = record {
     unhit = c.around-brick.ensures.hits;
   };
   hits = λ k. (λ h. h, λ h. h);
-  scanned = λ fits. way_none c.args.end c.args.bricks.now
+  scanned = way_none c.args.end c.args.bricks.now
       (kept (Some c.args.window.now) c.args.walk) c.around-brick.result
       c.around-brick.ensures.scanned;
 }
@@ -31,19 +25,13 @@ pub loop-code-preserved-then-code-end : goal.loop-code-preserved-then-code-end
 loop-code-preserved-then-code-end c =
     let given = c.in-Some.ensures.next in
     record {
-      counted = omega (arith, c.loop-code.invariant.counted, ap length given.first);
-      on_map = λ rest. c.loop-code.invariant.on_map
-          (subst (All IsInMap) (sym given.first)
-          (All-cons IsInMap given.voxel c.next_code.new.self given.on_map rest));
       bricks = c.in_ok-brick.ensures.bricks;
       current = c.in_ok-brick.ensures.current;
       hits = λ k. (
         λ h. (c.loop-code.invariant.hits k).0 ((c.in_ok-brick.ensures.hits k).0 h),
         λ h. (c.in_ok-brick.ensures.hits k).1 ((c.loop-code.invariant.hits k).1 h),
       );
-      scanned = λ fits.
-          let room : c.loop-code.met + 1 ≤ c.args.room =
-          omega (arith, fits, c.loop-code.invariant.counted, ap length given.first) in
+      scanned =
           let inside = tested c.args.window.now c.in-Some.code given.voxel c.from_morton.result
           c.holds.result given.on_map given.coded c.from_morton.ensures.only
           c.holds.ensures.exact in
@@ -51,7 +39,7 @@ loop-code-preserved-then-code-end c =
           c.loop-code.bricks c.push_code.new.bricks c.loop-code.brick
           c.in_ok-brick.brick c.args.window.now c.loop-code.walk c.next_code.new.self given.voxel
           c.in-Some.code given.first (inside ∙ c.if-holds.true) given.coded c.if-code-end.true
-          (c.in_ok-brick.ensures.scanned (le-leb _ _ room)) (c.loop-code.invariant.scanned fits);
+          c.in_ok-brick.ensures.scanned c.loop-code.invariant.scanned;
     }
 
 pub loop-code-preserved : goal.loop-code-preserved
@@ -60,24 +48,20 @@ loop-code-preserved c =
     let inside = tested c.args.window.now c.in-Some.code given.voxel c.from_morton.result
     c.holds.result given.on_map given.coded c.from_morton.ensures.only c.holds.ensures.exact in
     record {
-      counted = omega (arith, c.loop-code.invariant.counted, ap length given.first);
-      on_map = λ rest. c.loop-code.invariant.on_map
-          (subst (All IsInMap) (sym given.first)
-          (All-cons IsInMap given.voxel c.next_code.new.self given.on_map rest));
       bricks = c.loop-code.invariant.bricks;
       current = c.loop-code.invariant.current;
       hits = c.loop-code.invariant.hits;
-      scanned = λ fits. elim c.else-holds.branch [
+      scanned = elim c.else-holds.branch [
         | else-holds-via-then-holds+else-code-end w ↦
             way_ended c.args.end c.args.bricks.now (kept (Some c.args.window.now) c.args.walk)
             c.loop-code.bricks c.loop-code.brick c.args.window.now c.loop-code.walk
             c.next_code.new.self given.voxel c.in-Some.code given.first (inside ∙ w.if-holds.true)
-            given.coded w.if-code-end.false (c.loop-code.invariant.scanned fits)
+            given.coded w.if-code-end.false c.loop-code.invariant.scanned
         | else-holds-via-else-holds w ↦
             way_outside c.args.end c.args.bricks.now
             (kept (Some c.args.window.now) c.args.walk) c.loop-code.bricks c.loop-code.brick
             c.args.window.now c.loop-code.walk c.next_code.new.self given.voxel given.first
-            (inside ∙ w.if-holds.false) (c.loop-code.invariant.scanned fits)
+            (inside ∙ w.if-holds.false) c.loop-code.invariant.scanned
       ];
     }
 
@@ -85,15 +69,13 @@ pub returns : goal.returns
 returns c =
     let i = c.loop-code.invariant in
     record {
-      counted = omega (arith, i.counted, ap length c.in_default.ensures.none.0);
-      on_map = i.on_map (subst (All IsInMap) (sym c.in_default.ensures.none.0) (All-nil IsInMap));
-      scanned = λ fits. way_all c.args.end c.args.bricks.now
+      scanned = way_all c.args.end c.args.bricks.now
           (kept (Some c.args.window.now) c.args.walk) c.loop-code.bricks
           c.push_some.new.bricks c.loop-code.brick
           (kept (Some c.args.window.now) c.loop-code.walk)
           (kept_nothing c.args.window.now c.loop-code.walk c.in_default.ensures.none.0)
-          (c.in_ok-push_some.ensures.scanned (le-leb _ _ (omega (arith, fits, i.counted))))
-          (i.scanned fits);
+          c.in_ok-push_some.ensures.scanned
+          i.scanned;
       hits = λ k. (
         λ h. (i.hits k).0 ((c.in_ok-push_some.ensures.hits k).0 h),
         λ h. (c.in_ok-push_some.ensures.hits k).1 ((i.hits k).1 h),

@@ -1,6 +1,5 @@
-use Rattle.std.proofs.Common.{◌≡◌, ℕ, ◌+◌, ◌≤◌, ◌↔◌, length, All, Some}
+use Rattle.std.proofs.Common.{ℕ, ◌↔◌, length, All, Some}
 use Rattle.std.specs.List.{Contains}
-use Rattle.oct_key.specs.Voxel.{IsInMap}
 use Rattle.oct_brick.specs.Bricks.{IsBrick, hit_codes}
 use Rattle.oct_scan.specs.Gathered.{IsCurrent, kept}
 use Rattle.oct_scan.proofs.Holding.{IsOnWay}
@@ -8,14 +7,10 @@ use Rattle.oct_scan.proofs.cells.push_within.Given as goal
 
 abbrev pub invariant-loop-code : goal.invariant-loop-code
 invariant-loop-code l = record {
-  counted : l.met + length l.walk ≡ length l.fn.walk;
-  on_map : All IsInMap l.walk → All IsInMap l.fn.walk;
   bricks : All IsBrick l.bricks;
   current : IsCurrent l.brick;
-  hits : (c : ℕ) → Contains (hit_codes l.bricks) c
-      ↔ Contains (hit_codes l.initial.bricks) c;
-  scanned : length l.fn.walk ≤ l.room
-      → IsOnWay l.end l.initial.bricks (kept (Some l.window) l.fn.walk) l.bricks l.brick
+  hits : (c : ℕ) → Contains (hit_codes l.bricks) c ↔ Contains (hit_codes l.initial.bricks) c;
+  scanned : IsOnWay l.end l.initial.bricks (kept (Some l.window) l.fn.walk) l.bricks l.brick
       (kept (Some l.window) l.walk);
 }
 

@@ -1,4 +1,4 @@
-use Rattle.std.proofs.Common.{refl, sym}
+use Rattle.std.proofs.Common.{sym}
 use Rattle.oct_scan.specs.Answer.{MeetsSoMany}
 use Rattle.oct_scan.specs.Beam.{sighting_of}
 use Rattle.oct_scan.proofs.Judging.{inside_at, judged_more, exceeded}
