@@ -25,6 +25,7 @@ pub mod BrickRest
 pub mod BrickCuts
 pub mod BrickSingles
 pub mod BrickWays
+pub mod Chains
 pub mod BrickGaps
 pub mod Planting
 pub mod PlantedVoxels

@@ -21,12 +21,14 @@ use Rattle.oct_tree.specs.declared.place.Place.TheVariants.{Root, Slot}
 use Rattle.oct_tree.specs.Nodes.{IsKnown, IsCollapsible, IsGreatest}
 use Rattle.oct_tree.specs.Tree.{Tree, IsLinked, IsPlace, node_in, block_in, value_at}
 use Rattle.oct_tree.specs.Shape.{IsFresh, IsPruned}
-use Rattle.oct_tree.proofs.Paths.{slot_place, slot_block, same_home, only_link, linked_live}
+use Rattle.oct_tree.proofs.Paths.{slot_place, slot_block, linked_live}
 use Rattle.oct_edit.specs.Saturated.{TakesFrom}
 use Rattle.oct_edit.specs.Steps.{IsTouched, IsEntered, IsClosed}
 use Rattle.oct_edit.specs.Way.{place_on, IsWayTo, IsWholeWay}
 use Rattle.oct_edit.proofs.Insides.{above_apart}
-use Rattle.oct_edit.proofs.Locals.{same_local, same_value}
+use Rattle.oct_edit.proofs.Closings.{closed_already}
+use Rattle.oct_edit.proofs.Locals.{same_local}
+use Rattle.oct_edit.proofs.Joins.{unfolded}
 use Rattle.oct_edit.proofs.Descents.{place_back, link_back, touched_up}
 use Rattle.oct_edit.proofs.Voxels.{voxel_plain}
 
@@ -130,13 +132,14 @@ pub back : (t w : Tree) (k : Voxel) (places : List Place) (depth d : ℕ) (event
 back t w k places depth d event lazy l way low r =
     let m : d < 16 = (let few = way.few in omega arith) in
     let (v, id, link, e) = entered_way t k places depth d l way low in
-    let (ok, block) = place_back t t w (place_on places d) d k id event lazy m e r in
+    let f = unfolded t t (place_on places d) (block_of d k) id lazy e in
+    let (ok, block) = place_back t t w (place_on places d) d k id event lazy m f r in
     record {
       place = ok;
       block = block;
       node = r.apart.outside.nodes (place_on places d) (block_of d k)
           (λ f. above_apart d (d + 1) k (omega arith) (omega arith) f) (way.at d (omega arith)).1;
-      inner = ap is_some (link_back t t w (place_on places d) d k id event lazy m e r);
+      inner = ap is_some (link_back t t w (place_on places d) d k id event lazy m f r);
     }
 
 -- one place up the way, where its group is closed
@@ -150,7 +153,8 @@ pub climbed : (t w z : Tree) (k : Voxel) (places : List Place) (depth d : ℕ) (
 climbed t w z k places depth d event lazy l v way low takes r f =
     let m : d < 16 = (let few = way.few in omega arith) in
     let (a, id, link, e) = entered_way t k places depth d l way low in
-    touched_up t t w z (place_on places d) d k id event lazy l m v e r f takes
+    touched_up t t w z (place_on places d) d k id event lazy l m v
+    (unfolded t t (place_on places d) (block_of d k) id lazy e) r f takes
 
 -- What the nodes of a group say stays where they do.
 known_alike : (gs hs : Groups) (x : ℕ) → ((i : ℕ) → i < 8 → node_at hs x i ≡ node_at gs x i)
@@ -182,44 +186,17 @@ pub closed_by_itself : (t w : Tree) (k : Voxel) (p : Place) (d : ℕ) (id : Grou
     → IsBack t w k p d → IsTouched t w (block_of (d + 1) k) (event_at (Some k) event) lazy
     → node_in w (Slot id (child_index_of d k)) ≡ node_in t (Slot id (child_index_of d k))
     → IsClosed w w (block_of d k) lazy
-closed_by_itself t w k p d id v event lazy fresh pruned low ok e is b r kept = record {
-  linked = r.linked;
-  values = λ q m. refl;
-  local = same_local w (block_of d k);
-  closed = record {
-    known =
-        λ x home. subst (IsKnown w.groups) (sym (own x home))
-        (known_alike t.groups w.groups id.number same (fresh.formed.known id.number live));
-    lean =
-        λ _ x home can. pruned id.number live
-        (collapsible_alike t.groups w.groups id.number same
-        (subst (IsCollapsible w.groups) (own x home) can));
-    greatest = λ _ q y a link home. (let f : y.number ≡ id.number = own y.number home in
-        let place : q ≡ p =
-        only_link w r.linked q p id.number (ap link_of link ∙ ap Some f) (ap link_of here) in
-        let value : v ≡ a = same_value v a id y (sym here ∙ ap (node_in w) (sym place) ∙ link) in
-        subst (λ n. IsGreatest w.groups n a) (sym f)
-        (subst (IsGreatest w.groups id.number) value
-        (greatest_alike t.groups w.groups id.number v same (fresh.greatest p id v is))));
-  };
-  homes = λ x c h. h;
-  spare = omega arith;
-  dropped = λ _ depth q m inside. inl refl;
-}
+closed_by_itself t w k p d id v event lazy fresh pruned low ok e is b r kept =
+    closed_already w p (block_of d k) id v lazy r.linked b.block (b.node ∙ is)
+    (known_alike t.groups w.groups id.number same (fresh.formed.known id.number live))
+    (λ _ can. pruned id.number live (collapsible_alike t.groups w.groups id.number same can))
+    (λ _. greatest_alike t.groups w.groups id.number v same (fresh.greatest p id v is))
   where
     l : IsLinked t
     l = fresh.formed.linked
 
     live : IsLive t.groups id.number
     live = linked_live t l p ok id.number (ap link_of is)
-
-    here : node_in w p ≡ Inner v id
-    here = b.node ∙ is
-
-    own : (x : ℕ) → home_at w.groups x ≡ Some (block_of d k) → x ≡ id.number
-    own x home =
-        same_home w r.linked x id.number (block_of d k) home
-        (r.linked.links p id.number (ap link_of here) ∙ b.block)
 
     same : (i : ℕ) → i < 8 → node_at w.groups id.number i ≡ node_at t.groups id.number i
     same i few = elim (cases_eq i (child_index_of d k)) [

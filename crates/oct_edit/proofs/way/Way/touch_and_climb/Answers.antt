@@ -1,13 +1,25 @@
-use Rattle.std.proofs.Common.{rules, ◌≡◌, ◌∙◌, ◌-◌, sym, subst, arith, get_or}
+use Rattle.std.proofs.Common.{rules, ◌≡◌, ◌∙◌, ◌-◌, sym, ap, subst, arith, get_or}
 use Rattle.std.proofs.lemmas.Bool.{false≢true}
 use Rattle.oct_key.specs.Voxel.{IsInMap}
 use Rattle.oct_key.specs.Block.{block_of}
 use Rattle.oct_key.proofs.Nested.{lies_in_self}
+use Rattle.oct_arena.specs.Nodes.{link_of}
 use Rattle.oct_tree.specs.Tree.{IsPlace, node_in}
 use Rattle.oct_edit.specs.Way.{place_on}
 use Rattle.oct_edit.proofs.Frames.{place_after}
-use Rattle.oct_edit.proofs.Ways.{IsBack, read_on, back_above, climbed_above, kept_above}
+use Rattle.oct_edit.proofs.Ways.{IsBack, read_on, way_ends, back_above, climbed_above}
+use Rattle.oct_edit.proofs.Ways.{kept_above}
 use Rattle.oct_edit.proofs.way.Way.touch_and_climb.Goals as goal
+
+pub touch_under-requires-clause-plain : goal.touch_under-requires-clause-plain
+touch_under-requires-clause-plain c =
+    let w = c.requires.way in
+    let d = c.args.self.now.depth in
+    let same =
+    read_on c.args.tree.now c.args.k c.args.self.now.places d d c.index-self-depth.result w.way
+    (omega arith) in
+    ap (λ p. link_of (node_in c.args.tree.now p)) same
+    ∙ way_ends c.args.tree.now c.args.k c.args.self.now.places d c.requires.linked w
 
 pub node-requires : goal.node-requires
 node-requires c =
