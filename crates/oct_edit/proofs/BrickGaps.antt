@@ -1,5 +1,5 @@
 -- A voxel of a brick's block that the brick doesn't change.
-use Rattle.std.proofs.Common.{◌≡◌, ℕ, ◌+◌, ◌*◌, ◌/◌, ◌%◌, ◌^◌, ◌<◌, ◌≤◌, [], ◌∷◌, map, inl, inr, refl}
+use Rattle.std.proofs.Common.{◌≡◌, ◌≢◌, ℕ, ◌+◌, ◌*◌, ◌/◌, ◌%◌, ◌^◌, ◌<◌, ◌≤◌, [], ◌∷◌, inl, inr}
 use Rattle.std.proofs.Common.{sym, subst, ◌∙◌, ap, arith, None, bit_and, ◌-◌}
 use Rattle.std.specs.Prelude.{IsTrue, not, nat_eq}
 use Rattle.std.proofs.lemmas.Bool.{false≢true}
@@ -8,8 +8,8 @@ use Rattle.std.specs.Int.{bit_not, w64, trailing_zeros}
 use Rattle.std.proofs.lemmas.Nat.Bits.{bit_at-trailing_zeros}
 use Rattle.std.proofs.lemmas.Nat.{and_le_l}
 use Rattle.std.proofs.lemmas.List.Elements.{All-contains}
-use Rattle.oct_key.specs.Voxel.{Voxel, IsInMap}
-use Rattle.oct_key.specs.Block.{Cube, HoldsVoxel, block_of}
+use Rattle.oct_key.specs.Voxel.{IsInMap}
+use Rattle.oct_key.specs.Block.{Cube, HoldsVoxel}
 use Rattle.oct_key.specs.Morton.{morton_of, code_prefix}
 use Rattle.oct_key.proofs.Blocks.{block_of_held, held_by_block_of}
 use Rattle.oct_key.proofs.Interleavings.{same_prefix}
@@ -93,6 +93,34 @@ octet_gap b r x hit miss deep brick inside is fits some =
   where
     subst_mask : (x z c : ℕ) → x ≡ z → HasCode r.code x c → HasCode r.code z c
     subst_mask x z c e h = subst (λ m. HasCode r.code m c) e h
+
+-- where a bit of the brick isn't scanned, there is such a voxel in the brick's block
+pub brick_gap : (b : Cube) (r : Brick) (hit miss : Event) → b.depth ≡ 14 → IsBrick r
+    → IsUpdateIn b (update_of (r ∷ []) hit miss) → 0 < bit_not w64 r.scanned
+    → HasGap b (update_of (r ∷ []) hit miss)
+brick_gap b r hit miss deep brick inside some =
+    let y : ℕ = bit_not w64 r.scanned in
+    let fits = brick.fits in
+    let y_fits : y < 2 ^ 64 = omega (arith, fits) in
+    let c : ℕ = 64 * r.code + trailing_zeros w64 y in
+    let d : ℕ = 64 * r.code + trailing_zeros w64 r.scanned in
+    let has : HasCode r.code y c = some_code r.code y some y_fits in
+    let out : ¬ HasCode r.code r.scanned c = not_hasnt r.code r.scanned c brick.fits has in
+    let first : HasCode r.code r.scanned d = some_code r.code r.scanned brick.some brick.fits in
+    let inside_c = has.inside in
+    let inside_d = first.inside in
+    let small = brick.code in
+    let below : c < 2 ^ 48 = omega (arith, inside_c, small) in (
+      coded_voxel c,
+      coded_voxel-IsInMap c,
+      code_held b r c d (omega (arith, deep)) brick inside.hits inside.frees below first
+          (ap (λ n. code_prefix n c) deep ∙ (inside_c ∙ sym inside_d)
+          ∙ sym (ap (λ n. code_prefix n d) deep)),
+      code_left r c hit miss brick below out,
+    )
+
+pub not_zero : (n : ℕ) → n ≢ 0 → 0 < n
+not_zero n ne = omega (arith, ne)
 
 -- a mask that isn't 0
 pub some_bit : (n : ℕ) → IsTrue (not (nat_eq n 0)) → 0 < n

@@ -17,11 +17,11 @@ use Rattle.oct_arena.specs.Nodes.{link_of}
 use Rattle.oct_tree.specs.Tree.{Tree, IsLinked, node_in, block_in}
 use Rattle.oct_brick.proofs.Bits.{some_code}
 use Rattle.oct_brick.proofs.CodedVoxels.{coded_voxel-IsInMap}
-use Rattle.oct_edit.specs.Steps.{IsTouched, IsEntered}
+use Rattle.oct_edit.specs.Steps.{IsTouched}
 use Rattle.oct_edit.specs.Scan.{events_of}
 use Rattle.oct_edit.proofs.UnderWay.{IsUnderWay}
 use Rattle.oct_edit.proofs.UpdateEnds.{one_touched}
-use Rattle.oct_edit.proofs.Updates.{way_slot, way_part, way_room, way_step}
+use Rattle.oct_edit.proofs.Updates.{way_slot, way_part, way_room_in, way_step}
 use Rattle.oct_odds.specs.declared.event.Event.{Event}
 use Rattle.oct_brick.specs.declared.brick.Brick.{Brick}
 use Rattle.oct_brick.specs.Bricks.{IsBrick}
@@ -266,22 +266,21 @@ octet_inside s w p b u whole r part hit miss hit' miss' x lazy h within =
     (omega (arith, deep)) h.inside.apart h.way round.first round.hits round.frees
 
 -- there is room for it
-pub octet_room : (t s w : Tree) (p : Place) (b : Cube) (id : GroupId) (u : ListedUpdate)
-    (whole r part : Brick) (hit miss hit' miss' : Event) (x : ℕ) (lazy : Bool)
-    → IsBlock b → IsUpdateIn b u → need_in (events_of u) b ≤ spare t.groups → IsEntered t s p b id
+pub octet_room : (s w : Tree) (p : Place) (b : Cube) (u : ListedUpdate) (whole r part : Brick)
+    (hit miss hit' miss' : Event) (x : ℕ) (lazy : Bool)
+    → IsBlock b → IsUpdateIn b u → need_in (events_of u) b ≤ spare s.groups + 1
     → IsAtOctet s w p b u whole r hit miss x lazy → IsWithin r x part → hit' ≡ hit → miss' ≡ miss
     → need_in (events_of (update_of (part ∷ []) hit' miss')) (child_of b (octet_index r))
     ≤ spare w.groups
-octet_room t s w p b id u whole r part hit miss hit' miss' x lazy ok inside enough entered h within
-    same_hit same_miss =
+octet_room s w p b u whole r part hit miss hit' miss' x lazy ok inside enough h within same_hit
+    same_miss =
     let rest : Brick = part_of r (bit_not w64 x) in
     let round =
     octet_next s w p b u whole r part rest hit miss x lazy h within (part_is r (bit_not w64 x)) in
     let deep = h.deep in
-    way_room t s w p b id (octet_index r) u (update_of (r ∷ []) hit miss)
+    way_room_in s w p b (octet_index r) u (update_of (r ∷ []) hit miss)
     (update_of (part ∷ []) hit' miss') (update_of (rest ∷ []) hit miss) lazy ok
-    (omega (arith, deep)) inside enough entered h.way round.first round.hits round.frees
-    same_hit same_miss
+    (omega (arith, deep)) inside enough h.way round.first round.hits round.frees same_hit same_miss
 
 -- after the octet's update, one octet more is done
 pub octet_step : (s w z : Tree) (p : Place) (b : Cube) (u : ListedUpdate) (whole r part q : Brick)

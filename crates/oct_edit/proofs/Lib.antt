@@ -29,6 +29,7 @@ pub mod Chains
 pub mod BrickGaps
 pub mod Planting
 pub mod PlantedVoxels
+pub mod PlantedBricks
 pub mod Ways
 pub mod Wholes
 pub mod Leaves

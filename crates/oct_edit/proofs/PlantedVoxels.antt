@@ -1,11 +1,11 @@
 -- The voxels of an octet of which nothing was known, one by one.
-use Rattle.std.proofs.Common.{◌≡◌, ℕ, ◌<◌, ◌≤◌, ◌==◌, [], ◌∷◌, map, refl, sym, subst, ◌∙◌, ap, arith}
+use Rattle.std.proofs.Common.{◌≡◌, ℕ, ◌<◌, ◌==◌, [], ◌∷◌, map, refl, sym, subst, ◌∙◌, ap, arith}
 use Rattle.std.proofs.Common.{Some, None, Bool, false, bit_and}
 use Rattle.std.specs.Prelude.{ℤ, if◌then◌else◌, Option, IfSome}
 use Rattle.std.specs.Int.{bit_not, w64}
 use Rattle.std.proofs.lemmas.Nat.{and_le_l}
 use Rattle.oct_key.specs.Voxel.{Voxel, IsInMap}
-use Rattle.oct_key.specs.Block.{Cube, IsBlock, block_of, child_of}
+use Rattle.oct_key.specs.Block.{Cube, IsBlock, block_of}
 use Rattle.oct_odds.specs.Odds.{Odds}
 use Rattle.oct_odds.specs.Update.{applied, IsWithin}
 use Rattle.oct_odds.specs.declared.event.Event.{Event}
@@ -19,7 +19,6 @@ use Rattle.oct_tree.specs.Tree.{Tree, IsLinked, IsPlace, node_in, block_in, valu
 use Rattle.oct_tree.specs.Changes.{IsSameOutside, IsWritten, IsSplit, SetsBlock}
 use Rattle.oct_brick.specs.declared.brick.Brick.{Brick}
 use Rattle.oct_brick.specs.Voxels.{hit_voxels}
-use Rattle.oct_brick.proofs.Lists.{contains_none, contains_cases, all_contained}
 use Rattle.oct_key.proofs.Nested.{lies_in_self}
 use Rattle.oct_edit.specs.Listed.{ListedUpdate, update_of}
 use Rattle.oct_edit.specs.Scan.{events_of}

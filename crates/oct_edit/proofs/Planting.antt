@@ -3,7 +3,7 @@
 use Rattle.std.proofs.Common.{◌≡◌, ℕ, ◌+◌, ◌<◌, ◌≤◌, sym, subst, ◌∙◌, ap, arith, inl, inr, refl, Some}
 use Rattle.std.proofs.Common.{None, false, [], ◌≤ℤ◌}
 use Rattle.std.proofs.lemmas.Int.{ints}
-use Rattle.std.specs.Prelude.{◌⊎◌, ℤ, Option}
+use Rattle.std.specs.Prelude.{◌⊎◌, ℤ}
 use Rattle.std.proofs.lemmas.Bool.{cases_eq, false≢true, true≢false}
 use Rattle.oct_key.specs.Voxel.{Voxel, IsInMap}
 use Rattle.oct_key.specs.Values.{SameValues}
@@ -19,12 +19,12 @@ use Rattle.oct_values.specs.Events.{Events, after_event, is_listed}
 use Rattle.oct_arena.specs.declared.node.GroupId.{GroupId}
 use Rattle.oct_arena.specs.declared.node.Node.{Node}
 use Rattle.oct_arena.specs.declared.node.Node.TheVariants.{Absent, Leaf, Inner}
-use Rattle.oct_arena.specs.Entries.{Groups, home_at, node_at, spare}
+use Rattle.oct_arena.specs.Entries.{home_at, node_at, spare}
 use Rattle.oct_arena.specs.Nodes.{link_of, value_of, stored_in}
 use Rattle.oct_tree.specs.declared.place.Place.{Place}
 use Rattle.oct_tree.specs.declared.place.Place.TheVariants.{Slot}
 use Rattle.oct_tree.specs.Nodes.{IsCollapsible, IsKnown, IsGreatest}
-use Rattle.oct_tree.specs.Tree.{Tree, IsLinked, IsPlace, node_in, block_in, reach, value_at}
+use Rattle.oct_tree.specs.Tree.{Tree, IsLinked, IsPlace, node_in, block_in, value_at}
 use Rattle.oct_tree.specs.Changes.{IsSameOutside, IsSplit}
 use Rattle.oct_tree.proofs.Paths.{some_injective, some_not_none, same_home, only_link, slot_place}
 use Rattle.oct_tree.proofs.Paths.{slot_block, place_reached}
@@ -252,21 +252,25 @@ planted_start t s p b u l ls ok e out inside =
     let after = place_after t s p b b l ok e out (lies_in_self b) in
     way_begun s p b u false ls after.0 after.1 inside
 
--- the misses of an octet of which nothing was known, and of which something stays unknown
-pub planted_octet : (t s w : Tree) (p : Place) (b : Cube) (id : GroupId) (m : ℤ)
+-- the misses of a block of which nothing was known, and of which something stays unknown, where its
+-- group needs no closing
+pub planted_pure : (t s w : Tree) (p : Place) (b : Cube) (id : GroupId) (m : ℤ)
     (u rest : ListedUpdate) (k : Voxel)
-    → IsLinked t → IsLinked s → IsPlace t p → block_in t p ≡ Some b → IsBlock b → b.depth ≡ 15
+    → IsLinked t → IsLinked s → IsPlace t p → block_in t p ≡ Some b → b.depth ≤ 15
     → node_in t p ≡ Absent → IsSplit t s p id m → SameValues (value_at t) (value_at s)
     → IsSameOutside t s b → IsUpdateIn b u → u.hits ≡ [] → Some m ≡ applied t.odds u.miss None
     → IsInMap k → HoldsVoxel b k → events_of u k ≡ None
     → IsUnderWay s w p b u rest false → rest.hits ≡ [] → rest.frees ≡ []
+    → (IsTouchedBelow s w p b 8 (events_of u) false
+    → ((q : Voxel) → IsInMap q → HoldsVoxel b q → (value_at w q ≡ None) ⊎ (value_at w q ≡ Some m))
+    → (j : Voxel) → IsInMap j → HoldsVoxel b j → value_at w j ≡ Some m → value_at w k ≡ None
+    → IsClosedAt false w b)
     → IsTouched t w b (events_of u) false
-planted_octet t s w p b id m u rest k l ls ok e map deep absent sp same out inside pure value mk hk
-    none way hits frees =
-    planted_end t s w p b id m (events_of u) l ls ok e (omega (arith, deep)) plain sp same out done
-    (octet_closed w p b id m some.voxel k done.linked done.place done.block map deep
-    (done.node ∙ sp.link) (λ q v h. after q v h (miss_or_none u q pure)) some.in_map some.here
-    (known (miss_or_none u some.voxel pure)) mk hk (left k mk hk none))
+planted_pure t s w p b id m u rest k l ls ok e low absent sp same out inside pure value mk hk none
+    way hits frees close =
+    planted_end t s w p b id m (events_of u) l ls ok e low plain sp same out done
+    (close done (λ q v h. after q v h (miss_or_none u q pure)) some.voxel some.in_map some.here
+    (known (miss_or_none u some.voxel pure)) (left k mk hk none))
     some (
       some.voxel,
       some.here,
@@ -277,13 +281,13 @@ planted_octet t s w p b id m u rest k l ls ok e map deep absent sp same out insi
     some = inside.some
 
     done : IsTouchedBelow s w p b 8 (events_of u) false
-    done = way_done s w p b u rest false (omega (arith, deep)) way hits frees
+    done = way_done s w p b u rest false low way hits frees
 
     plain : link_of (node_in t p) ≡ None
     plain = ap link_of absent
 
     unknown : (q : Voxel) → IsInMap q → HoldsVoxel b q → value_at t q ≡ None
-    unknown q v h = covered t p b l ok e (omega (arith, deep)) plain q v h ∙ ap value_of absent
+    unknown q v h = covered t p b l ok e (omega (arith, low)) plain q v h ∙ ap value_of absent
 
     left : (q : Voxel) → IsInMap q → HoldsVoxel b q → events_of u q ≡ None → value_at w q ≡ None
     left q v h is =
@@ -318,3 +322,19 @@ planted_octet t s w p b id m u rest k l ls ok e map deep absent sp same out insi
       λ h. none_not_some (value_at t some.voxel) (unknown some.voxel some.in_map some.here)
           (saturated_known t.odds u.miss (value_at t some.voxel) h),
     )
+
+-- where it is an octet
+pub planted_octet : (t s w : Tree) (p : Place) (b : Cube) (id : GroupId) (m : ℤ)
+    (u rest : ListedUpdate) (k : Voxel)
+    → IsLinked t → IsLinked s → IsPlace t p → block_in t p ≡ Some b → IsBlock b → b.depth ≡ 15
+    → node_in t p ≡ Absent → IsSplit t s p id m → SameValues (value_at t) (value_at s)
+    → IsSameOutside t s b → IsUpdateIn b u → u.hits ≡ [] → Some m ≡ applied t.odds u.miss None
+    → IsInMap k → HoldsVoxel b k → events_of u k ≡ None
+    → IsUnderWay s w p b u rest false → rest.hits ≡ [] → rest.frees ≡ []
+    → IsTouched t w b (events_of u) false
+planted_octet t s w p b id m u rest k l ls ok e map deep absent sp same out inside pure value mk hk
+    none way hits frees =
+    planted_pure t s w p b id m u rest k l ls ok e (omega (arith, deep)) absent sp same out inside
+    pure value mk hk none way hits frees
+    (λ done one j mj hj known unknown. octet_closed w p b id m j k done.linked done.place done.block
+    map deep (done.node ∙ sp.link) one mj hj known mk hk unknown)

@@ -77,17 +77,16 @@ way_part s w p b i u rest part later lazy low apart way first hits frees =
     part_update b way.next i u rest part later low way.hits way.frees apart first hits frees
 
 -- there is room for what the part needs
-pub way_room : (t s w : Tree) (p : Place) (b : Cube) (id : GroupId) (i : ℕ)
+pub way_room_in : (s w : Tree) (p : Place) (b : Cube) (i : ℕ)
     (u rest part later : ListedUpdate) (lazy : Bool)
-    → IsBlock b → b.depth ≤ 15 → IsUpdateIn b u → need_in (events_of u) b ≤ spare t.groups
-    → IsEntered t s p b id → IsUnderWay s w p b u rest lazy
+    → IsBlock b → b.depth ≤ 15 → IsUpdateIn b u → need_in (events_of u) b ≤ spare s.groups + 1
+    → IsUnderWay s w p b u rest lazy
     → IsFirstChild b.depth rest.hits rest.frees i
     → IsParted b.depth i rest.hits part.hits later.hits
     → IsParted b.depth i rest.frees part.frees later.frees → part.hit ≡ rest.hit
     → part.miss ≡ rest.miss
     → need_in (events_of part) (child_of b i) ≤ spare w.groups
-way_room t s w p b id i u rest part later lazy ok low inside enough e way first hits frees hit
-    miss =
+way_room_in s w p b i u rest part later lazy ok low inside enough way first hits frees hit miss =
     let few : i < 8 = (let l = first.few in omega (arith, l)) in
     let up =
     first_not_done b way.next i u.hits u.frees rest.hits rest.frees way.hits way.frees first in
@@ -102,9 +101,21 @@ way_room t s w p b id i u rest part later lazy ok low inside enough e way first 
     let here = sum_below_next (needs u b) i in
     let done = sum_below_le (needs u b) way.next i up in
     let all = sum_below_le (needs u b) (i + 1) 8 (omega arith) in
-    let entered = entered_spare t s p b id e in
     let before = way.room in
-    omega (arith, part_need, whole, here, done, all, entered, before, enough)
+    omega (arith, part_need, whole, here, done, all, before, enough)
+
+pub way_room : (t s w : Tree) (p : Place) (b : Cube) (id : GroupId) (i : ℕ)
+    (u rest part later : ListedUpdate) (lazy : Bool)
+    → IsBlock b → b.depth ≤ 15 → IsUpdateIn b u → need_in (events_of u) b ≤ spare t.groups
+    → IsEntered t s p b id → IsUnderWay s w p b u rest lazy
+    → IsFirstChild b.depth rest.hits rest.frees i
+    → IsParted b.depth i rest.hits part.hits later.hits
+    → IsParted b.depth i rest.frees part.frees later.frees → part.hit ≡ rest.hit
+    → part.miss ≡ rest.miss
+    → need_in (events_of part) (child_of b i) ≤ spare w.groups
+way_room t s w p b id i u rest part later lazy ok low inside enough e =
+    let entered = entered_spare t s p b id e in
+    way_room_in s w p b i u rest part later lazy ok low inside (omega (arith, entered, enough))
 
 -- one child more is done
 pub way_step : (s w x : Tree) (p : Place) (b : Cube) (i : ℕ) (u rest part later : ListedUpdate)

@@ -12,20 +12,22 @@ ghost use Rattle.oct_values.specs.Events.{event_at, is_listed};
 ghost use Rattle.oct_values.specs.Needs.{event_need};
 ghost use Rattle.oct_brick.specs.Bricks.{IsBrick, AreAscending};
 ghost use Rattle.oct_brick.specs.Voxels.{hit_voxels, freed_voxels};
+ghost use Rattle.oct_arena.specs.declared.node.Node.{Node};
 ghost use Rattle.oct_arena.specs.Entries.{live, spare};
 ghost use Rattle.oct_arena.specs.Nodes.{link_of, value_of};
 ghost use Rattle.oct_tree.specs.Tree.{IsLinked, IsPlace, node_in, block_in};
 ghost use Rattle.oct_tree.specs.Shape.{IsWellFormed};
 ghost use Rattle.oct_edit.specs.Saturated.{IsSaturated, TakesFrom};
 ghost use Rattle.oct_edit.specs.Edits.{IsEdited, IsEagerEdit, IsLazyEdit, IsTidyAlong};
-ghost use Rattle.oct_edit.specs.Steps.{IsTouched};
+ghost use Rattle.oct_edit.specs.Steps.{IsTouched, IsClosed};
 ghost use Rattle.oct_edit.specs.Parts.{IsUpdateIn, IsAtRest, IsFirstChild, need_in};
 ghost use Rattle.oct_edit.specs.Scan.{events_of, AreDisjoint};
 ghost use Rattle.oct_edit.specs.Bricks.{listed, listed_one, brick_child, event_of_bit, CanApply};
-ghost use Rattle.oct_edit.specs.Bricks.{IsApplied, AreAlike, AreCut, IsFirstBrick, HasGap, IsPlain};
+ghost use Rattle.oct_edit.specs.Bricks.{IsApplied, AreAlike, AreCut, IsFirstBrick, HasGap};
+ghost use Rattle.oct_edit.specs.Bricks.{IsPlain, IsBrickOpened};
 
 use crate::voxel::{apply_at, close, enter, note_eager, stays};
-use oct_arena::Node;
+use oct_arena::{GroupId, Node};
 use oct_brick::Brick;
 use oct_odds::{Event, OddsModel};
 use oct_tree::{OccTree, Place};
@@ -134,10 +136,11 @@ fn touch_brick(tree: &mut OccTree, p: Place, update: BrickUpdate, lazy: bool)
     requires { CanApply tree.old p 14 update }
     ensures { IsApplied tree.old tree.new p update lazy }
 {
+    let plain = update.plain_brick(tree, p, lazy);
     if update.is_at_rest(tree, p) {
         return;
     }
-    let id = enter(tree, p);
+    let id = open_brick(tree, p, plain);
     let mut rest = update;
     while rest.brick.scanned != 0 {
         let i = (rest.brick.scanned.trailing_zeros() / 8) as u8;
@@ -145,7 +148,36 @@ fn touch_brick(tree: &mut OccTree, p: Place, update: BrickUpdate, lazy: bool)
         touch_octet(tree, Place::Slot(id, i), rest.within(octet), lazy);
         rest = rest.within(!octet);
     }
-    close(tree, p, id, lazy);
+    close_brick(tree, p, id, plain, lazy);
+}
+
+/// The group under the place of a brick. Where nothing is known of it, and its freed voxels get one
+/// value, it is made with that value over it.
+fn open_brick(tree: &mut OccTree, p: Place, plain: Option<i32>) -> GroupId
+    requires place { IsPlace tree.old p }
+    requires depth { (b : Cube) → block_in tree.old p ≡ Some b → b.depth ≤ 15 }
+    requires room { link_of (node_in tree.old p) ≡ None → 1 ≤ spare tree.old.groups }
+    requires absent { IfSome plain (λ _. node_in tree.old p ≡ Node.Absent) }
+    ensures { IsBrickOpened tree.old tree.new p plain result }
+{
+    match plain {
+        Some(value) => tree.split_to(p, value),
+        None => enter(tree, p),
+    }
+}
+
+/// Closes that group, where it needs it.
+fn close_brick(tree: &mut OccTree, p: Place, id: GroupId, plain: Option<i32>, lazy: bool)
+    requires linked { IsLinked tree.old }
+    requires place { IsPlace tree.old p }
+    requires inner { link_of (node_in tree.old p) ≡ Some id.number }
+    ensures closed { IfNone plain
+        ((b : Cube) → block_in tree.old p ≡ Some b → IsClosed tree.old tree.new b lazy) }
+    ensures kept { IfSome plain (λ _. tree.new ≡ tree.old) }
+{
+    if plain.is_none() {
+        close(tree, p, id, lazy);
+    }
 }
 
 /// Applies the events of an octet of a brick, which is the block of the place.
@@ -153,7 +185,7 @@ fn touch_octet(tree: &mut OccTree, p: Place, update: BrickUpdate, lazy: bool)
     requires { CanApply tree.old p 15 update }
     ensures { IsApplied tree.old tree.new p update lazy }
 {
-    if let Some(value) = update.plain_value(tree, p, lazy) {
+    if let Some(value) = update.plain_octet(tree, p, lazy) {
         plant_octet(tree, p, update, value);
         return;
     }
@@ -216,9 +248,8 @@ impl BrickUpdate {
     }
 
     /// The value that the freed voxels of an octet get, where its group can be made with it: where
-    /// nothing is known of the octet, no voxel is hit, and some voxel stays unknown. A lazy edit
-    /// leaves the value of the node over them to a later refresh.
-    fn plain_value(&self, tree: &OccTree, p: Place, lazy: bool) -> Option<i32>
+    /// some voxel stays unknown.
+    fn plain_octet(&self, tree: &OccTree, p: Place, lazy: bool) -> Option<i32>
         requires place { IsPlace tree.now p }
         requires brick { IsBrick self.now.brick }
         requires miss { IsSmallEvent self.now.miss }
@@ -227,13 +258,40 @@ impl BrickUpdate {
             → IsUpdateIn b (listed_one self.now) → HasGap b (listed_one self.now)) }
         ensures eager { IfSome result (λ _. lazy ≡ false) }
     {
+        if !self.has_gap() {
+            return None;
+        }
+        self.plain_value(tree, p, lazy)
+    }
+
+    /// The same of a whole brick.
+    fn plain_brick(&self, tree: &OccTree, p: Place, lazy: bool) -> Option<i32>
+        requires place { IsPlace tree.now p }
+        requires brick { IsBrick self.now.brick }
+        requires miss { IsSmallEvent self.now.miss }
+        ensures plain { IfSome result (IsPlain tree.now p self.now) }
+        ensures gap { IfSome result (λ _. (b : Cube) → b.depth ≡ 14
+            → IsUpdateIn b (listed_one self.now) → HasGap b (listed_one self.now)) }
+        ensures eager { IfSome result (λ _. lazy ≡ false) }
+    {
+        if !self.brick.scanned == 0 {
+            return None;
+        }
+        self.plain_value(tree, p, lazy)
+    }
+
+    /// The value that freed voxels get, where nothing is known at the place and no voxel is hit. A
+    /// lazy edit leaves the value of the node over them to a later refresh.
+    fn plain_value(&self, tree: &OccTree, p: Place, lazy: bool) -> Option<i32>
+        requires place { IsPlace tree.now p }
+        requires miss { IsSmallEvent self.now.miss }
+        ensures plain { IfSome result (IsPlain tree.now p self.now) }
+        ensures eager { IfSome result (λ _. lazy ≡ false) }
+    {
         if lazy {
             return None;
         }
         if self.brick.hits != 0 {
-            return None;
-        }
-        if !self.has_gap() {
             return None;
         }
         match tree.node(p) {

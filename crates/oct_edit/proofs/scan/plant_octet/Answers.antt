@@ -11,9 +11,7 @@ use Rattle.oct_tree.specs.Changes.{IsSplit, IsWritten, SetsBlock}
 use Rattle.oct_tree.specs.declared.place.Place.TheVariants.{Slot}
 use Rattle.oct_tree.proofs.Paths.{place_block}
 use Rattle.oct_edit.specs.Listed.{update_of}
-use Rattle.oct_edit.specs.Bricks.{listed_one, HasGap}
-use Rattle.oct_edit.specs.Steps.{IsTouched}
-use Rattle.oct_edit.specs.Scan.{events_of}
+use Rattle.oct_edit.specs.Bricks.{listed_one}
 use Rattle.oct_edit.proofs.Needs.{place_in_map}
 use Rattle.oct_edit.proofs.UpdateEnds.{one_plain}
 use Rattle.oct_edit.proofs.BrickParts.{IsWithin}

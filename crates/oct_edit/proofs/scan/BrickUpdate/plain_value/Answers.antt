@@ -1,4 +1,4 @@
-use Rattle.std.proofs.Common.{◌≡◌, ◌∙◌, sym, subst, ap, rules, Some, None}
+use Rattle.std.proofs.Common.{◌∙◌, sym, subst, ap, rules, None}
 use Rattle.oct_odds.specs.Odds.{Odds}
 use Rattle.oct_odds.specs.Update.{applied, IsWithin}
 use Rattle.oct_edit.specs.Bricks.{IsPlain}
@@ -17,10 +17,6 @@ returns-in-Absent-clause-plain c =
           subst (IsWithin c.args.tree.now.odds) is
           (subst (λ (o : Odds). IsWithin o c.apply.result) c.odds.ensures c.apply.ensures.within);
     })
-
-pub returns-in-Absent-clause-gap : goal.returns-in-Absent-clause-gap
-returns-in-Absent-clause-gap c =
-    when_some _ c.apply.result (λ m is b deep inside. c.has_gap.ensures (search rules) b deep inside)
 
 pub returns-in-Absent-clause-eager : goal.returns-in-Absent-clause-eager
 returns-in-Absent-clause-eager c = when_some _ c.apply.result (λ m is. search rules)
