@@ -1,7 +1,7 @@
 -- The groups that are made from a place down to a voxel, each with its last value.
-use Rattle.std.proofs.Common.{◌≡◌, ◌≢◌, ℕ, zero, suc, ◌+◌, ◌<◌, ◌≤◌, sym, subst, ◌∙◌, ap, arith}
+use Rattle.std.proofs.Common.{◌≡◌, ◌≢◌, ℕ, zero, suc, ◌+◌, ◌<◌, sym, subst, ◌∙◌, ap, arith}
 use Rattle.std.proofs.Common.{inl, inr, refl, Some, None, Bool, true, false}
-use Rattle.std.specs.Prelude.{◌⊎◌, ℤ, ◌≤ℤ◌, Option}
+use Rattle.std.specs.Prelude.{◌⊎◌, ℤ, ◌≤ℤ◌}
 use Rattle.std.proofs.lemmas.Bool.{cases_eq, true≢false}
 use Rattle.std.proofs.lemmas.Int.{ints}
 use Rattle.oct_key.specs.Voxel.{Voxel, IsInMap}

@@ -14,7 +14,7 @@ use Rattle.oct_values.specs.Events.{event_at}
 use Rattle.oct_arena.specs.declared.node.GroupId.{GroupId}
 use Rattle.oct_arena.specs.declared.node.Node.{Node}
 use Rattle.oct_arena.specs.declared.node.Node.TheVariants.{Inner}
-use Rattle.oct_arena.specs.Entries.{Groups, IsLive, home_at, node_at}
+use Rattle.oct_arena.specs.Entries.{Groups, IsLive, node_at}
 use Rattle.oct_arena.specs.Nodes.{link_of}
 use Rattle.oct_tree.specs.declared.place.Place.{Place}
 use Rattle.oct_tree.specs.declared.place.Place.TheVariants.{Root, Slot}

@@ -1,12 +1,11 @@
-use Rattle.std.proofs.Common.{◌≡◌, ◌≤◌, ◌<◌, ◌+◌, ◌∙◌, subst, sym, ap, arith, refl, None, rules, false}
+use Rattle.std.proofs.Common.{◌∙◌, subst, sym, ap, arith, refl, rules}
 use Rattle.std.proofs.lemmas.Bool.{true≢false}
 use Rattle.std.proofs.lemmas.Int.{to_z-of_z}
 use mir.Syntax.{w32}
 use mir.Val.{SFits, to_z, of_z}
 use Rattle.oct_key.specs.Block.{block_of}
-use Rattle.oct_odds.specs.Odds.{Odds, odds_of}
-use Rattle.oct_odds.specs.Update.{IsWithin, Value, applied}
-use Rattle.oct_arena.specs.Entries.{spare}
+use Rattle.oct_odds.specs.Odds.{odds_of}
+use Rattle.oct_odds.specs.Update.{IsWithin}
 use Rattle.oct_arena.specs.Nodes.{link_of, value_of}
 use Rattle.oct_tree.specs.Tree.{node_in}
 use Rattle.oct_edit.specs.Steps.{IsGreaterOf, LeavesBlock, inherited_from}
