@@ -159,6 +159,15 @@ pub sum_next : (f : ℕ → ℕ) (first need more i : ℕ) → need ≡ first + 
     → need + more ≡ first + sum_below f (i + 1)
 sum_next f first need more i sum is = let next = sum_below_next f i in omega (arith, sum, is, next)
 
+-- where nothing comes to it
+pub sum_none : (f : ℕ → ℕ) (first need i : ℕ) → need ≡ first + sum_below f i → f i ≡ 0
+    → need ≡ first + sum_below f (i + 1)
+sum_none f first need i sum none =
+    let next = sum_below_next f i in omega (arith, sum, none, next)
+
+pub few_more : (need i most : ℕ) → need ≤ 1 + i * most → need ≤ 1 + (i + 1) * most
+few_more need i most few = omega (arith, few)
+
 pub sum_first : (f : ℕ → ℕ) (first need : ℕ) → need ≡ first → need ≡ first + sum_below f 0
 sum_first f first need is = let none = sum_below_none f in omega (arith, is, none)
 

@@ -85,6 +85,9 @@ fn merge_part(tree: &mut OccTree, p: Place, other: &OccTree, node: Node, block: 
     let id = enter(tree, p);
     for i in 0..8 {
         let child = other.child_node(node, i);
+        if is_absent(child) {
+            continue;
+        }
         merge_part(tree, Place::Slot(id, i), other, child, block.child(i), rule);
     }
     close(tree, p, id, false);

@@ -38,8 +38,11 @@ fn need_under(into: &OccTree, node: Node, other: &OccTree, theirs: Node, block: 
     }
     let mut need = u64::from(is_plain(node));
     for i in 0..8 {
-        let child = into.child_node(node, i);
         let their_child = other.child_node(theirs, i);
+        if is_plain(their_child) {
+            continue;
+        }
+        let child = into.child_node(node, i);
         need += need_under(into, child, other, their_child, block.child(i));
     }
     need

@@ -1,8 +1,8 @@
-use Rattle.std.proofs.Common.{◌≡◌, ◌+◌, ◌<◌, ◌≤◌, sym, subst, ◌∙◌, ap, arith, rules, Some, false}
+use Rattle.std.proofs.Common.{◌≡◌, ◌+◌, ◌<◌, ◌≤◌, refl, sym, subst, ◌∙◌, ap, arith, rules, Some, false}
 use Rattle.std.proofs.lemmas.Bool.{false≢true}
-use Rattle.oct_key.specs.Block.{Cube}
+use Rattle.oct_key.specs.Block.{Cube, child_of}
 use Rattle.oct_key.specs.CubeOf.{cube_of}
-use Rattle.oct_key.proofs.Blocks.{block_in_map, depth_child_of}
+use Rattle.oct_key.proofs.Blocks.{block_in_map, child_in_map, depth_child_of}
 use Rattle.oct_arena.specs.Entries.{spare}
 use Rattle.oct_tree.proofs.Paths.{some_injective}
 use Rattle.oct_edit.specs.Steps.{IsTouched}
@@ -169,6 +169,29 @@ loop-i-preserved t c =
     (subst (λ a. spare c.loop-i.tree.groups ≤ spare c.merge_part.new.tree.groups + need_in
     c.loop-i.tree c.args.other.now a)
     child c.merge_part.ensures.room)
+
+-- an absent child
+pub loop-i-preserved-then-is_absent-2 : goal.loop-i-preserved-then-is_absent-2
+loop-i-preserved-then-is_absent-2 t c =
+    let deep : c.args.block.depth ≤ 15 =
+    part_low c.args.tree.now c.args.other.now c.args.p (cube_of c.args.block) c.args.node
+    c.are_plain.result c.requires.linked c.requires.other.linked c.requires.block
+    (block_in_map c.args.block) c.requires.over c.if-are_plain.false c.are_plain.ensures in
+    let few : c.loop-i.i < 8 = omega arith in
+    let child = child_of (cube_of c.args.block) c.loop-i.i in
+    let over =
+    over_next c.args.other.now (cube_of c.args.block) child c.args.node c.child_node-child.result
+    c.loop-i.i deep few refl c.child_node-child.ensures c.requires.over in
+    merging_step c.args.tree.now c.enter-id.new.tree c.loop-i.tree c.loop-i.tree c.args.other.now
+    c.args.p (cube_of c.args.block) c.enter-id.result c.loop-i.i c.args.rule c.requires.linked
+    (block_in_map c.args.block) deep few (c.enter-id.ensures (cube_of c.args.block)
+    c.requires.block) c.loop-i.invariant
+    (part_unknown c.loop-i.tree c.args.other.now child c.child_node-child.result c.args.rule
+    c.loop-i.invariant.done.linked
+    (child_in_map (cube_of c.args.block) c.loop-i.i (block_in_map c.args.block)
+    (omega (arith, deep))) over
+    (c.is_absent-in-loop-i.ensures.0 c.if-is_absent-2.true))
+    (omega arith)
 
 pub close-requires-clause-linked : goal.close-requires-clause-linked
 close-requires-clause-linked t c = c.loop-i.invariant.done.linked

@@ -1,4 +1,5 @@
-use Rattle.std.proofs.Common.{◌≡◌, ◌+◌, ◌-◌, ◌^◌, ◌<◌, ◌≤◌, cond, sym, subst, ◌∙◌, ap, arith, rules}
+use Rattle.std.proofs.Common.{◌≡◌, ◌+◌, ◌-◌, ◌^◌, ◌<◌, ◌≤◌, cond, refl, sym, subst, ◌∙◌, ap}
+use Rattle.std.proofs.Common.{arith, rules}
 use Rattle.oct_key.specs.Block.{Cube, child_of}
 use Rattle.oct_key.specs.CubeOf.{cube_of}
 use Rattle.oct_key.proofs.Blocks.{block_in_map, depth_child_of}
@@ -6,7 +7,7 @@ use Rattle.oct_query.proofs.Under.{few_next, few_all, sum_fits, depths_down}
 use Rattle.oct_merge.specs.Walk.{is_needed, need_in}
 use Rattle.oct_merge.proofs.Known.{over_live, over_next}
 use Rattle.oct_merge.proofs.Needs.{need_none, need_of_children, counted_here, linked_low, sum_first}
-use Rattle.oct_merge.proofs.Needs.{sum_next, sum_last, one_few}
+use Rattle.oct_merge.proofs.Needs.{sum_next, sum_none, sum_last, one_few, few_more}
 use Rattle.oct_merge.proofs.need.+need_under.Goals as goal
 
 pub returns-then-is_plain-clause-exact : goal.returns-then-is_plain-clause-exact
@@ -111,6 +112,34 @@ loop-i-preserved t c =
           (cond (is_needed c.args.into.now c.args.other.now (cube_of c.args.block)) 1 0) _ _ _
           c.loop-i.invariant.counted more;
       few = few_next _ _ _ _ c.loop-i.invariant.few power;
+    }
+
+-- a child without a group in the second tree
+pub loop-i-preserved-then-is_plain-2 : goal.loop-i-preserved-then-is_plain-2
+loop-i-preserved-then-is_plain-2 t c =
+    let low : c.args.block.depth ≤ 15 =
+    linked_low c.args.other.now (cube_of c.args.block) c.args.theirs c.is_plain.result
+    c.requires.other (block_in_map c.args.block) c.requires.theirs c.if-is_plain.false
+    c.is_plain.ensures in
+    let few : c.loop-i.i < 8 = omega arith in
+    let child = child_of (cube_of c.args.block) c.loop-i.i in
+    let theirs =
+    over_next c.args.other.now (cube_of c.args.block) child c.args.theirs
+    c.child_node-their_child.result c.loop-i.i low few refl c.child_node-their_child.ensures
+    c.requires.theirs in
+    let level = depth_child_of (cube_of c.args.block) c.loop-i.i in
+    let none : need_in c.args.into.now c.args.other.now child ≡ 0 =
+    need_none c.args.into.now c.args.other.now child c.child_node-their_child.result
+    (omega (arith, level, low)) theirs
+    (c.is_plain-in-loop-i.ensures.0 c.if-is_plain-2.true) in
+    record {
+      counted =
+          sum_none
+          (λ j. need_in c.args.into.now c.args.other.now (child_of (cube_of c.args.block) j))
+          (cond (is_needed c.args.into.now c.args.other.now (cube_of c.args.block)) 1 0) _ _
+          c.loop-i.invariant.counted none;
+      few = few_more c.loop-i.need c.loop-i.i (9 ^ (15 - c.args.block.depth))
+          c.loop-i.invariant.few;
     }
 
 pub returns-clause-exact : goal.returns-clause-exact

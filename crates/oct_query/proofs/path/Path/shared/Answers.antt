@@ -1,4 +1,4 @@
-use Rattle.std.proofs.Common.{rules, ◌+◌, ◌≤◌, arith}
+use Rattle.std.proofs.Common.{rules, arith}
 use Rattle.oct_query.proofs.Shared.{one_voxel, above_bit}
 use Rattle.oct_query.proofs.path.Path.shared.Goals as goal
 
