@@ -3,6 +3,7 @@ pub mod NameBytes
 pub mod LineFeeds
 pub mod Feeding
 pub mod WordSplits
+pub mod WordsAt
 pub mod Lengths
 pub mod Leaving
 pub mod FirstWords

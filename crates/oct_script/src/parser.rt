@@ -10,7 +10,6 @@ ghost use Rattle.oct_script.specs.Names.{name_of};
 ghost use Rattle.oct_script.specs.Faults.{IsMeant, LeavesAt};
 ghost use Rattle.oct_script.specs.Commands.{command_of, IsRead, opens_scan, IsSmallEdit, IsRange};
 ghost use Rattle.oct_script.specs.Commands.{IsHitOdds, IsMissOdds, IsOwnOdds, IsSmallCommand};
-ghost use Rattle.oct_script.specs.declared.verbs.Verb.TheVariants.{Save, Load, Snapshot, Restore};
 ghost use Rattle.oct_script.specs.Reading.{single_command, number_in, point_in, point_number_in};
 ghost use Rattle.oct_script.specs.Reading.{rotation_in, excess, end_in, flag_in, edit_end_in};
 ghost use Rattle.oct_script.specs.Reading.{edit_in, points_in, number_edit_in, query_in, cast_in};
@@ -80,6 +79,7 @@ fn read_range(words: &mut Words<'_>) -> Result<Option<i64>, Syntax>
 
 /// Reads `X Y Z`.
 #[tactic(auto, unfolding(crate::specs::Reading::point_in))]
+#[inline(always)]
 fn read_point(words: &mut Words<'_>) -> Result<Point, Syntax>
     ensures exact { MatchResult result
         (λ p. point_in words.old.end words.old.words ≡ Ok (p, words.new.words))
@@ -432,50 +432,6 @@ fn read_file(words: &mut Words<'_>) -> Result<Name, Syntax>
     Ok(name)
 }
 
-/// Reads NAME and the end of the line, after `save`.
-#[tactic(auto, unfolding(crate::specs::Reading::behind_verb))]
-fn read_save(words: &mut Words<'_>, command: &mut Command) -> Result<(), Syntax>
-    ensures exact { IsRead result command.new (behind_verb Save words.old.end words.old.words) }
-    ensures small { OnOk result (IsSmallCommand command.new) }
-{
-    let name = read_file(words)?;
-    *command = Command::Save(name);
-    Ok(())
-}
-
-/// Reads NAME and the end of the line, after `load`.
-#[tactic(auto, unfolding(crate::specs::Reading::behind_verb))]
-fn read_load(words: &mut Words<'_>, command: &mut Command) -> Result<(), Syntax>
-    ensures exact { IsRead result command.new (behind_verb Load words.old.end words.old.words) }
-    ensures small { OnOk result (IsSmallCommand command.new) }
-{
-    let name = read_file(words)?;
-    *command = Command::Load(name);
-    Ok(())
-}
-
-/// Reads NAME and the end of the line, after `snapshot`.
-#[tactic(auto, unfolding(crate::specs::Reading::behind_verb))]
-fn read_snapshot(words: &mut Words<'_>, command: &mut Command) -> Result<(), Syntax>
-    ensures exact { IsRead result command.new (behind_verb Snapshot words.old.end words.old.words) }
-    ensures small { OnOk result (IsSmallCommand command.new) }
-{
-    let name = read_file(words)?;
-    *command = Command::Snapshot(name);
-    Ok(())
-}
-
-/// Reads NAME and the end of the line, after `restore`.
-#[tactic(auto, unfolding(crate::specs::Reading::behind_verb))]
-fn read_restore(words: &mut Words<'_>, command: &mut Command) -> Result<(), Syntax>
-    ensures exact { IsRead result command.new (behind_verb Restore words.old.end words.old.words) }
-    ensures small { OnOk result (IsSmallCommand command.new) }
-{
-    let name = read_file(words)?;
-    *command = Command::Restore(name);
-    Ok(())
-}
-
 /// Reads the end of a line whose one word is its command.
 fn read_alone(single: Single, words: &mut Words<'_>, command: &mut Command) -> Result<(), Syntax>
     ensures exact { IsRead result command.new (end_in (single_command single) words.old.words) }
@@ -506,10 +462,22 @@ fn read_behind(verb: &Verb, words: &mut Words<'_>, command: &mut Command) -> Res
         Verb::Limit => read_limit(words, command),
         Verb::Scan => read_scan(words, command),
         Verb::Beam => read_beam(words, command),
-        Verb::Save => read_save(words, command),
-        Verb::Load => read_load(words, command),
-        Verb::Snapshot => read_snapshot(words, command),
-        Verb::Restore => read_restore(words, command),
+        Verb::Save => {
+            *command = Command::Save(read_file(words)?);
+            Ok(())
+        }
+        Verb::Load => {
+            *command = Command::Load(read_file(words)?);
+            Ok(())
+        }
+        Verb::Snapshot => {
+            *command = Command::Snapshot(read_file(words)?);
+            Ok(())
+        }
+        Verb::Restore => {
+            *command = Command::Restore(read_file(words)?);
+            Ok(())
+        }
         Verb::Alone(single) => read_alone(*single, words, command),
     }
 }

@@ -1,5 +1,5 @@
 //! The words of a line, which are parted by blanks, and where they stand.
-ghost use Rattle.std.specs.Prelude.{◌≡◌, ◌+◌, ◌^◌, ◌<◌, ◌≤◌, unsigned_abs, [], ◌∷◌, length};
+ghost use Rattle.std.specs.Prelude.{◌≡◌, ◌+◌, ◌^◌, ◌<◌, ◌≤◌, unsigned_abs, [], ◌∷◌, length, drop};
 ghost use Rattle.std.specs.Prelude.{MatchOption, MatchResult, IfOk, Ok, Err};
 ghost use Rattle.oct_script.specs.Grammar.{length_of};
 ghost use Rattle.oct_script.specs.Reading.{number_in};
@@ -10,7 +10,7 @@ ghost use Rattle.oct_script.specs.Words.{first_text};
 use crate::command::Syntax;
 use crate::lines::LONGEST_LINE;
 use crate::numbers::length_of;
-use oct_num::split_metres;
+use oct_num::metres_at;
 use std::marker::Model;
 
 /// A word of a line.
@@ -36,25 +36,24 @@ impl WordAt<'_> {
 /// The words of a line that are still to be read.
 #[derive(Drop)]
 pub struct Words<'a> {
-    /// What stands after the last word that was read.
-    rest: &'a [u8],
-    /// The column of its first byte.
-    column: u32,
+    line: &'a [u8],
+    /// The index behind the last word that was read.
+    at: usize,
 }
 
 impl<'a> Model for Words<'a> {
-    ghost use Rattle.std.specs.Prelude.{◌+◌, ◌≤◌, length};
+    ghost use Rattle.std.specs.Prelude.{◌+◌, ◌≤◌, length, drop};
     ghost use Rattle.oct_script.specs.Words.{words_from};
     ghost use Rattle.oct_script.specs.Reading.{Unread};
 
     ghost Value = { Unread };
 
     ghost view = { λ w. record {
-      words = words_from w.column w.rest.now;
-      end = w.column + length w.rest.now;
+      words = words_from (w.at + 1) (drop w.at w.line.now);
+      end = length w.line.now + 1;
     } };
 
-    ghost invariant = { λ w. w.column + length w.rest.now ≤ 4097 };
+    ghost invariant = { λ w. (w.at ≤ length w.line.now) × (length w.line.now ≤ 4096) };
 }
 
 /// Whether a byte is a space or a tab.
@@ -64,26 +63,47 @@ fn is_blank(b: u8) -> bool
     b == b' ' || b == b'\t'
 }
 
-fn count_blanks(text: &[u8]) -> usize
-    ensures count { result ≡ prefix_len is_blank text.now }
+/// The index of the first byte from an index on that isn't a blank, or of the end.
+#[inline(always)]
+fn skip_blanks(text: &[u8], from: usize) -> usize
+    requires { from ≤ length text.now }
+    ensures end { result ≡ from + prefix_len is_blank (drop from text.now) }
     ensures within { result ≤ length text.now }
 {
-    text.iter().take_while(|b| is_blank(**b)).count()
+    let mut at = from;
+    while at < text.len() {
+        if !is_blank(text[at]) {
+            return at;
+        }
+        at += 1;
+    }
+    at
 }
 
-fn count_word(text: &[u8]) -> usize
-    ensures count { result ≡ prefix_len is_in_word text.now }
+/// The index of the first blank from an index on, or of the end.
+#[inline(always)]
+fn skip_word(text: &[u8], from: usize) -> usize
+    requires { from ≤ length text.now }
+    ensures end { result ≡ from + prefix_len is_in_word (drop from text.now) }
     ensures within { result ≤ length text.now }
 {
-    text.iter().take_while(|b| !is_blank(**b)).count()
+    let mut at = from;
+    while at < text.len() {
+        if is_blank(text[at]) {
+            return at;
+        }
+        at += 1;
+    }
+    at
 }
 
 /// The first word of a line of any length. It has no byte where the line has no word.
 pub fn first_word(line: &[u8]) -> &[u8]
     ensures { result.now ≡ first_text (placed_words line.now) }
 {
-    let (_, text) = line.split_at(count_blanks(line));
-    let (word, _) = text.split_at(count_word(text));
+    let start = skip_blanks(line, 0);
+    let (_, text) = line.split_at(start);
+    let (word, _) = text.split_at(skip_word(line, start) - start);
     word
 }
 
@@ -94,39 +114,40 @@ impl<'a> Words<'a> {
         ensures words { result.words ≡ placed_words line.now }
         ensures end { result.end ≡ length line.now + 1 }
     {
-        Words {
-            rest: line,
-            column: 1,
-        }
+        Words { line, at: 0 }
     }
 
     /// The column after the line: one more than its length.
     pub fn end(&self) -> u32
         ensures { result ≡ self.now.end }
     {
-        self.column + self.rest.len() as u32
+        self.line.len() as u32 + 1
     }
 
     /// The next word, if there is one.
+    #[inline(always)]
     pub fn next_word(&mut self) -> Option<WordAt<'a>>
         ensures words { MatchOption result (self.old.words ≡ [])
             (λ w. self.old.words
             ≡ record { text = w.text.now; column = w.column } ∷ self.new.words) }
         ensures end { self.new.end ≡ self.old.end }
     {
-        let (blanks, text) = self.rest.split_at(count_blanks(self.rest));
-        let (word, rest) = text.split_at(count_word(text));
-        let column = self.column + blanks.len() as u32;
-        self.rest = rest;
-        self.column = column + word.len() as u32;
-        if word.is_empty() {
+        let start = skip_blanks(self.line, self.at);
+        let end = skip_word(self.line, start);
+        self.at = end;
+        if start == end {
             return None;
         }
-        Some(WordAt { text: word, column })
+        let (_, text) = self.line.split_at(start);
+        let (word, _) = text.split_at(end - start);
+        Some(WordAt {
+            text: word,
+            column: start as u32 + 1,
+        })
     }
 
     /// Reads a length, an X, a Y or a Z: the next word, which mustn't be missing.
-    #[tactic(auto, unfolding(crate::specs::Reading::number_in))]
+    #[inline(always)]
     pub fn take_length(&mut self) -> Result<i64, Syntax>
         ensures exact { MatchResult result
             (λ n. number_in length_of self.old.end self.old.words ≡ Ok (n, self.new.words))
@@ -134,16 +155,28 @@ impl<'a> Words<'a> {
         ensures end { self.new.end ≡ self.old.end }
         ensures reach { IfOk result (λ n. unsigned_abs n < 10 ^ 16) }
     {
-        let (_, text) = self.rest.split_at(count_blanks(self.rest));
+        let start = skip_blanks(self.line, self.at);
         // Nearly every length is read in this one pass; what it can't read is read again, slowly,
         // for the column of the fault.
-        if let Some((length, rest)) = split_metres(text) {
-            if count_word(rest) == 0 {
-                self.column += (self.rest.len() - rest.len()) as u32;
-                self.rest = rest;
+        if let Some((length, end)) = metres_at(self.line, start) {
+            if skip_word(self.line, end) == end {
+                self.at = end;
                 return Ok(length);
             }
         }
+        self.take_length_slowly()
+    }
+
+    /// Does what [`Words::take_length`] does, in more passes.
+    #[tactic(auto, unfolding(crate::specs::Reading::number_in))]
+    #[inline(never)]
+    fn take_length_slowly(&mut self) -> Result<i64, Syntax>
+        ensures exact { MatchResult result
+            (λ n. number_in length_of self.old.end self.old.words ≡ Ok (n, self.new.words))
+            (λ s. number_in length_of self.old.end self.old.words ≡ Err s) }
+        ensures end { self.new.end ≡ self.old.end }
+        ensures reach { IfOk result (λ n. unsigned_abs n < 10 ^ 16) }
+    {
         let word = self.take_word()?;
         length_of(word.text).ok_or(word.fault())
     }

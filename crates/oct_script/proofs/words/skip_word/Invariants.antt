@@ -1,0 +1,12 @@
+use Rattle.std.proofs.Common.{◌≡◌, ◌+◌, ◌-◌, ◌≤◌, length, drop}
+use Rattle.std.specs.List.{prefix_len}
+use Rattle.oct_script.specs.Words.{is_in_word}
+use Rattle.oct_script.proofs.words.skip_word.Given as goal
+
+abbrev pub invariant-loop-at : goal.invariant-loop-at
+invariant-loop-at l =
+    (l.at ≤ length l.text) × (l.from + prefix_len is_in_word (drop l.from l.text)
+    ≡ l.at + prefix_len is_in_word (drop l.at l.text))
+
+abbrev pub decreases-loop-at : goal.decreases-loop-at
+decreases-loop-at l = length l.text - l.at
