@@ -1,7 +1,8 @@
 -- What notes become that an ordered map of the first ones is made of.
-use Rattle.std.proofs.Common.{◌≡◌, List, [], ◌∷◌, ◌++◌, map, Bool, true, false}
+use Rattle.std.proofs.Common.{◌≡◌, ℕ, List, [], ◌∷◌, ◌++◌, length, map, Bool, true, false}
 use Rattle.std.proofs.Common.{Some, refl, sym, ap, subst, ◌∙◌, append_assoc}
-use Rattle.std.specs.Prelude.{cond}
+use Rattle.std.specs.Prelude.{cond, max}
+use Rattle.std.proofs.lemmas.List.{length-map}
 use Rattle.std.specs.BTreeMap.{BTreeMap, is_at, get, IsOrdered}
 use Rattle.std.specs.Map.{lookup}
 use Rattle.std.specs.List.Sorted.{IsStrictlySortedBy}
@@ -13,7 +14,9 @@ use Rattle.oct_key.proofs.SameVoxels.{is_same_voxel_exact, is_same_voxel_refl}
 use Rattle.oct_key.proofs.Order.{is_at-key_cmp}
 use Rattle.oct_odds.specs.declared.event.Class.{Class}
 use Rattle.oct_change.specs.declared.changes.Note.{Note}
-use Rattle.oct_change.specs.Notes.{AreInMap, first_noted, note_of}
+use Rattle.oct_change.specs.Notes.{AreInMap, first_noted, note_of, noted_total}
+use Rattle.oct_change.specs.Held.{Held, IsCompacted, room_of, wanted_room}
+use Rattle.oct_change.proofs.Totals.{compact_total}
 
 -- the test for one voxel is that of the other
 same_test : (a b : Voxel) (x : Bool) → is_same_voxel a b ≡ x → is_same_voxel b a ≡ x
@@ -64,12 +67,33 @@ keys_noted : (es : List (Voxel × Class))
 keys_noted [] = refl
 keys_noted (e ∷ es) = ap (λ l. e.0 ∷ l) (keys_noted es)
 
-pub compact_alone : (new : List Note) (first : BTreeMap Voxel Class) → IsOrdered key_cmp first
-    → new ≡ map note_of first.entries
-    → IsStrictlySortedBy key_cmp (map (λ (note : Note). note.key) new)
-compact_alone new first ordered made =
-    subst (λ l. IsStrictlySortedBy key_cmp (map (λ (note : Note). note.key) l)) (sym made)
-    (subst (IsStrictlySortedBy key_cmp) (sym (keys_noted first.entries)) ordered)
+-- and no voxel has two
+pub compact_once : (old new : List Note) (first : BTreeMap Voxel Class) → IsOrdered key_cmp first
+    → ((k : Voxel) → get key_cmp first k ≡ first_noted old k) → new ≡ map note_of first.entries
+    → AreInMap new → length new ≡ noted_total old
+compact_once old new first ordered is made inside =
+    compact_total old new inside
+    (subst (λ l. IsStrictlySortedBy key_cmp (map (λ (note : Note). note.key) l)) (sym made)
+    (subst (IsStrictlySortedBy key_cmp) (sym (keys_noted first.entries)) ordered))
+    (compact_first old new first is made)
+
+-- what is left of notes, in the room that was made
+pub compacted : (old mid new : Held) (n : ℕ) (first : BTreeMap Voxel Class)
+    → IsOrdered key_cmp first → ((k : Voxel) → get key_cmp first k ≡ first_noted old.notes k)
+    → new.notes ≡ map note_of first.entries → AreInMap new.notes
+    → room_of mid ≡ max (room_of old) (wanted_room (length first.entries) n)
+    → room_of new ≡ room_of mid → IsCompacted old new n
+compacted old mid new n first ordered is made inside grown same = record {
+  first = compact_first old.notes new.notes first is made;
+  once = once;
+  room = same ∙ grown ∙ ap (λ m. max (room_of old) (wanted_room m n)) (sym length_is ∙ once);
+}
+  where
+    once : length new.notes ≡ noted_total old.notes
+    once = compact_once old.notes new.notes first ordered is made inside
+
+    length_is : length new.notes ≡ length first.entries
+    length_is = ap length made ∙ length-map first.entries note_of
 
 -- one entry more is put
 pub put_step : (old new whole : List Note) (e : Voxel × Class) (left rest : List (Voxel × Class))

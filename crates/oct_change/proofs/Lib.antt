@@ -3,6 +3,7 @@ pub mod Firsts
 pub mod Noting
 pub mod Compacts
 pub mod Reports
+pub mod Totals
 pub mod Exact
 pub mod Masks
 pub mod Boxes

@@ -99,7 +99,7 @@ rises now (e ∷ es) h = go (kind_between e.1 (now e.0)) refl (rises now es h.1)
     go (Some kind) is rest = rw is (after_first now (λ q. key_cmp e.0 q ≡ Less) es h.0, rest)
 
 -- a voxel that is noted is the voxel of a note
-noted_of : (P : Voxel → Type 0) (notes : List Note) (k : Voxel)
+pub noted_of : (P : Voxel → Type 0) (notes : List Note) (k : Voxel)
     → All (λ (note : Note). P note.key) notes → is_some (first_noted notes k) ≡ true → P k
 noted_of P [] k all h = absurd (false≢true h)
 noted_of P (note ∷ notes) k all h = go

@@ -1,8 +1,10 @@
 -- Notes of the classes that voxels had, and what they say of the classes at the mark.
-use Rattle.std.specs.Prelude.{◌≡◌, List, ◌++◌, All, Option, IsSome, option_map}
+use Rattle.std.specs.Prelude.{◌≡◌, ℕ, List, ◌++◌, All, Option, is_some, IsSome, option_map}
+use Rattle.std.specs.Prelude.{count_by}
 use Rattle.std.specs.Option.{unwrap_or}
 use Rattle.std.specs.List.{find}
 use Rattle.oct_key.specs.Voxel.{Voxel, IsInMap}
+use Rattle.oct_key.specs.Order.{voxels_in_order}
 use Rattle.oct_key.specs.Values.{is_same_voxel}
 use Rattle.oct_odds.specs.declared.event.Class.{Class}
 use Rattle.oct_values.specs.Classes.{Classes}
@@ -20,6 +22,10 @@ AreInMap notes = All (λ note. IsInMap note.key) notes
 abbrev pub first_noted : List Note → Voxel → Option Class
 first_noted notes k =
     option_map (λ note. note.before) (find (λ note. is_same_voxel note.key k) notes)
+
+-- how many voxels of the map are noted, each counted once
+abbrev pub noted_total : List Note → ℕ
+noted_total notes = count_by (λ k. is_some (first_noted notes k)) voxels_in_order
 
 -- the classes at the mark: that of a voxel's first note, or its class now where it isn't noted
 abbrev pub marked_by : List Note → Classes → Classes

@@ -1,8 +1,7 @@
-ghost use Rattle.std.specs.Prelude.{◌≡◌, ◌+◌, ◌-◌, ◌≤◌, ◌++◌, ◌∷◌, [], length, max, IsOk, OnOk};
-ghost use Rattle.std.specs.Prelude.{OnErr, IfOk, map, vec_len, vec_capacity};
+ghost use Rattle.std.specs.Prelude.{◌≡◌, ◌+◌, ◌-◌, ◌<◌, ◌≤◌, ◌++◌, ◌∷◌, [], length, max, IsOk};
+ghost use Rattle.std.specs.Prelude.{OnOk, OnErr, IfOk, map, vec_len, vec_capacity};
 ghost use Rattle.std.specs.BTreeMap.{IsOrdered, get};
 ghost use Rattle.std.specs.List.{filter_map};
-ghost use Rattle.std.specs.List.Sorted.{IsStrictlySortedBy};
 ghost use Rattle.oct_key.specs.Voxel.{Voxel, IsInMap};
 ghost use Rattle.oct_key.specs.Order.{key_cmp};
 ghost use Rattle.oct_values.specs.Classes.{classes_of};
@@ -63,7 +62,7 @@ impl Model for Changes {
 }
 
 impl Changes {
-    ghost use Rattle.oct_change.specs.Held.{room_of};
+    ghost use Rattle.oct_change.specs.Held.{room_of, wanted_room, IsCompacted};
 
     /// No notes. Takes no memory.
     pub fn new(alloc: Global) -> Changes
@@ -98,41 +97,37 @@ impl Changes {
         self.notes.clear();
     }
 
-    /// Makes room for n more notes, or, where that is more, for as many as there are. All notes
-    /// stay.
+    /// Makes room for n more notes. Where there isn't any, each note goes whose voxel was noted
+    /// before it, the others come by ascending x, y and z, and there is room for n more, or for as
+    /// many again, where these are more. So this happens seldom, however often a voxel is noted.
     ///
     /// `Memory` comes only where there wasn't room for n, and then nothing changes.
     pub fn reserve(&mut self, n: u64) -> Result<(), Memory>
         ensures room { OnOk result (n ≤ self.new.spare) }
         ensures enough { n ≤ self.old.spare → IsOk result × (self.new ≡ self.old) }
-        ensures few { self.new.spare ≤ max self.old.spare (max n (length self.old.notes)) }
-        ensures notes { self.new.notes ≡ self.old.notes }
+        ensures made { OnOk result (self.old.spare < n → IsCompacted self.old self.new n) }
         ensures err { OnErr result (self.new ≡ self.old) }
     {
-        let notes = self.notes.len();
-        let spare = self.notes.capacity() - notes;
-        if spare < n as usize {
-            self.notes.reserve_exact((n as usize).max(notes))?;
+        if self.spare() < n {
+            let first = self.first_of_each()?;
+            self.grow(first.len(), n as usize)?;
+            self.mark();
+            put_notes(&mut self.notes, &first);
         }
         Ok(())
     }
 
-    /// Drops each note whose voxel was noted before it. The others come by ascending x, y and z,
-    /// and the room of all stays.
-    ///
-    /// Where memory runs out for this, all notes stay.
-    pub fn compact(&mut self) -> Result<(), Memory>
-        ensures first { (k : Voxel)
-            → first_noted self.new.notes k ≡ first_noted self.old.notes k }
-        ensures fewer { length self.new.notes ≤ length self.old.notes }
-        ensures alone { OnOk result
-            (IsStrictlySortedBy key_cmp (map (λ (note : Note). note.key) self.new.notes)) }
-        ensures room { room_of self.new ≡ room_of self.old }
+    /// Makes room for this many of the notes and n more, or for as many again, where that is more.
+    fn grow(&mut self, left: usize, n: usize) -> Result<(), Memory>
+        requires { left ≤ length self.old.notes }
+        ensures notes { self.new.notes ≡ self.old.notes }
+        ensures room { OnOk result
+            (room_of self.new ≡ max (room_of self.old) (wanted_room left n)) }
         ensures err { OnErr result (self.new ≡ self.old) }
     {
-        let first = self.first_of_each()?;
-        self.mark();
-        put_notes(&mut self.notes, &first);
+        let gone = self.notes.len() - left;
+        self.notes
+            .reserve_exact(n.max(left).saturating_sub(gone))?;
         Ok(())
     }
 
@@ -156,6 +151,7 @@ impl Changes {
         ensures changes { IfOk result (AreChanges
             (marked_by self.now.notes (classes_of tree.now.odds (value_at tree.now)))
             (classes_of tree.now.odds (value_at tree.now))) }
+        ensures none { self.now.notes ≡ [] → IsOk result }
     {
         let first = self.first_of_each()?;
         changed(self.alloc, &first, tree)
@@ -166,6 +162,7 @@ impl Changes {
         ensures first { IfOk result (λ first. (k : Voxel) →
             get key_cmp first k ≡ first_noted self.now.notes k) }
         ensures few { IfOk result (λ first. length first.entries ≤ length self.now.notes) }
+        ensures none { self.now.notes ≡ [] → IsOk result }
         ensures in_map { AreInMap self.now.notes }
     {
         let mut first = BTreeMap::new(self.alloc);
@@ -201,6 +198,7 @@ fn changed(
     ensures changes { IfOk result (λ changes. changes ≡ filter_map
         (λ e. change_of e.0 e.1 (classes_of tree.now.odds (value_at tree.now) e.0))
         first.now.entries) }
+    ensures none { first.now.entries ≡ [] → IsOk result }
 {
     let mut changes = ChangeList::new(alloc);
     for (key, before) in first {

@@ -19,9 +19,9 @@
 //!
 //! - [`Changes`] is seen as a list of notes, each a voxel and the class that it had, and as the
 //!   number of notes that it has room for. [`Changes::note`] adds one at the end and can't fail,
-//!   [`Changes::reserve`] makes room, and no more than it says, and [`Changes::mark`] drops all.
-//!   [`Changes::compact`] drops those of voxels that were noted before, and leaves each voxel's
-//!   first note.
+//!   and [`Changes::mark`] drops all. [`Changes::reserve`] makes room: where there is none, only
+//!   each voxel's first note stays, in room for at least as many again (`IsCompacted`). So room is
+//!   bounded by the voxels that were noted, each counted once, however often they are noted.
 //! - The first note of a voxel since the mark counts. So the classes at the mark (`marked_by`) are
 //!   those of the first notes, and the classes now where nothing was noted. The lemma `mark_kept`
 //!   says that an edit doesn't change them, if each voxel that changes its class was noted before.

@@ -87,9 +87,10 @@ fn expect_len(rt: &impl Abort, changes: &Changes, want: u64) {
     assert_eq!(rt; changes.len(), want);
 }
 
-/// Expects that the notes can be compacted.
-fn expect_compact(rt: &impl Abort, changes: &mut Changes) {
-    assert!(rt; changes.compact().is_ok());
+/// Expects that room is made for n notes more, and that there is room for this many then.
+fn expect_room(rt: &impl Abort, changes: &mut Changes, n: u64, want: u64) {
+    assert!(rt; changes.reserve(n).is_ok());
+    assert_eq!(rt; changes.spare(), want);
 }
 
 /// Voxels of the tree of two children, and the classes that they are noted with.
@@ -129,9 +130,12 @@ fn reports_each_pair_of_classes_in_the_order_of_voxels(rt: HostRuntime) -> Resul
     let mut changes = Changes::new(rt.alloc());
     note_all(&mut changes, NOTES)?;
     expect_report(&rt, &changes, &tree, &wanted());
-    // Without the notes of voxels that were noted before it is the same report.
+    // Room is made for as many notes as there are voxels noted: 1, 2, 4, 8 and 16 in all.
     expect_len(&rt, &changes, 11);
-    expect_compact(&rt, &mut changes);
+    expect_room(&rt, &mut changes, 5, 5);
+    expect_len(&rt, &changes, 11);
+    // Without the notes of voxels that were noted before it is the same report.
+    expect_room(&rt, &mut changes, 6, 9);
     expect_len(&rt, &changes, 9);
     expect_report(&rt, &changes, &tree, &wanted());
 

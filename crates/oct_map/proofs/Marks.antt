@@ -2,11 +2,11 @@
 use Rattle.std.proofs.Common.{◌≡◌, ℕ, ◌+◌, ◌<◌, ◌≤◌, List, [], ◌∷◌, ◌++◌, length, Bool, true, false}
 use Rattle.std.proofs.Common.{Option, Some, None, Ok, Err, inl, inr, refl, sym, ap, subst, ◌∙◌}
 use Rattle.std.proofs.Common.{append-nil, arith}
-use Rattle.std.specs.Prelude.{◌⊎◌, ⊤, max, is_some, IsSome, IsOk, Result, All, Contains}
+use Rattle.std.specs.Prelude.{◌⊎◌, ⊤, is_some, IsSome, IsOk, Result, All, Contains}
 use Rattle.std.specs.Option.{option_or, unwrap_or}
 use Rattle.std.proofs.lemmas.Bool.{false≢true, cases_lt}
+use Rattle.std.proofs.lemmas.List.{length-append}
 use Rattle.std.proofs.lemmas.List.Elements.{All-contains_itself}
-use Rattle.std.proofs.Math.Nat.{le-max_left}
 use Rattle.oct_brick.proofs.Lists.{contains_none, contains_cases}
 use Rattle.oct_key.specs.Voxel.{Voxel, IsInMap}
 use Rattle.oct_key.specs.Values.{Values, SameValues, is_same_voxel}
@@ -22,7 +22,7 @@ use Rattle.oct_values.specs.Boxes.{box_events}
 use Rattle.oct_key.proofs.Boxes.{in_box_exactly}
 use Rattle.oct_values.proofs.Sums.{first_of_all, rest_of_all, All-follows}
 use Rattle.oct_change.specs.declared.changes.Note.{Note}
-use Rattle.oct_change.specs.Held.{Held}
+use Rattle.oct_change.specs.Held.{Held, IsCompacted}
 use Rattle.oct_change.specs.Notes.{first_noted, marked_by}
 use Rattle.oct_change.proofs.Marks.{first_noted-append, mark_kept}
 use Rattle.oct_tree.specs.Tree.{Tree, value_at}
@@ -37,8 +37,10 @@ use Rattle.oct_map.specs.Answers.{IsAnswerOrMemory, room_answer, edit_need, edit
 use Rattle.oct_map.specs.Edits.{ReservesFew}
 use Rattle.oct_map.specs.Ground.{Ground}
 use Rattle.oct_map.specs.Map.{Map, values_of}
-use Rattle.oct_map.specs.Notes.{notes_of, note_room, marked_by_notes, IsNoted, IsSameNoted}
-use Rattle.oct_map.specs.Notes.{HasMarked, HasRoomForNotes, LacksNotes, NotesFew, ReservesFewNotes}
+use Rattle.oct_map.specs.Notes.{notes_of, note_room, noted_count, marked_by_notes, IsNoted}
+use Rattle.oct_map.specs.Notes.{IsSameNoted}
+use Rattle.oct_map.specs.Notes.{HasMarked, HasRoomForNotes, LacksNotes, NotesFew, IsNotedBehind}
+use Rattle.oct_map.specs.Notes.{IsRoomMade}
 use Rattle.oct_map.specs.Marks.{classes_in, marked_of, SameMark, KeepsMark}
 use Rattle.oct_map.specs.Edits.{IsReadied}
 use Rattle.oct_map.proofs.Edits.{SameEvents, edited_to, same_noted}
@@ -128,57 +130,72 @@ marked_only now P n (Some old) b (held, is, h, used, kept) k noted =
     (subst (λ x. IsNoted x k) is noted)))
     [ inl before ↦ inl before | inr later ↦ inr (found_asked P h.added k h.only later) ]
 
-marked_few : (now : Classes) (P : Voxel → Type 0) (n : ℕ) (a b : Option Held)
-    → HasMarked now P n a b
-    → (length (notes_of b) ≤ length (notes_of a) + n) × (note_room b ≡ note_room a)
-marked_few now P n None b h = rw h (omega arith, refl)
-marked_few now P n (Some old) b (held, is, h, used, kept) =
-    rw is (omega (arith, used, kept), kept)
+-- this many notes came behind those that there were, in the same room
+marked_behind : (now : Classes) (P : Voxel → Type 0) (n : ℕ) (a b : Option Held)
+    → HasMarked now P n a b → IsNotedBehind a b n
+marked_behind now P n None b h =
+    record { added = []; notes = ap notes_of h; few = omega arith; room = ap note_room h }
+marked_behind now P n (Some old) b (held, is, h, used, kept) = record {
+  added = h.added;
+  notes = ap notes_of is ∙ h.split;
+  few = (let more = ap length h.split ∙ length-append old.notes h.added in
+      omega (arith, more, used, kept));
+  room = ap note_room is ∙ kept;
+}
 
--- the notes that there were stay, with more after them
-marked_added : (now : Classes) (P : Voxel → Type 0) (n : ℕ) (a b : Option Held)
-    → HasMarked now P n a b → (added : List Note) × (notes_of b ≡ notes_of a ++ added)
-marked_added now P n None b h = ([], ap notes_of h)
-marked_added now P n (Some old) b (held, is, h, used, kept) = (h.added, ap notes_of is ∙ h.split)
+-- room was made before them, or there was room
+behind_made : (a m b : Option Held) (n : ℕ) → IsNotedBehind m b n
+    → (m ≡ a) ⊎ IsRoomMade a m n 0 → IsNotedBehind a b n ⊎ IsRoomMade a b n n
+behind_made a m b n h (inl same) = inl (subst (λ x. IsNotedBehind x b n) same h)
+behind_made a m b n h (inr made) = inr (record {
+  few = (let more = ap length h.notes ∙ length-append (notes_of m) h.added in
+      let few = made.few in
+      let added = h.few in
+      omega (arith, more, few, added));
+  room = h.room ∙ made.room;
+})
+
+-- room was made among the notes of a mark
+pub room_made : (old new : Held) (a b : Option Held) (n : ℕ) → (n ≤ old.spare → new ≡ old)
+    → (old.spare < n → IsCompacted old new n) → a ≡ Some old → b ≡ Some new
+    → (b ≡ a) ⊎ IsRoomMade a b n 0
+room_made old new a b n enough made is becomes = elim (cases_lt old.spare n) [
+  | inl wanting ↦ (let h = made wanting in
+      let once = h.once in
+      let few : length (notes_of b) ≤ noted_count a + 0 = rw (is, becomes) (omega (arith, once)) in
+      inr (record { few = few; room = rw (is, becomes) h.room }))
+  | inr there ↦ inl (becomes ∙ ap Some (enough there) ∙ sym is)
+]
 
 -- room is made and these voxels are noted
 pub noted_few : (now : Classes) (P : Voxel → Type 0) (n : ℕ) (a m b : Option Held) (events : Events)
-    → IsSameNoted a m → ReservesFewNotes a m n → (HasRoomForNotes a n → m ≡ a)
+    → IsSameNoted a m → (m ≡ a) ⊎ IsRoomMade a m n 0 → (HasRoomForNotes a n → m ≡ a)
     → HasMarked now P n m b
     → ((k : Voxel) → IsInMap k → P k → IsSome (events k)) → NotesFew a b events n
-noted_few now P n a m b events same few enough h asked = record {
+noted_few now P n a m b events same made enough h asked = record {
   only = λ k v noted. elim (marked_only now P n m b h k noted) [
     | inl before ↦ inl (subst IsSome (same.first k) before)
     | inr later ↦ inr (asked k v later)
   ];
-  few = (let more = (marked_few now P n m b h).0 in let fewer = same.few in
-      omega (arith, more, fewer));
-  room = subst (λ r. r ≤ max (note_room a) (length (notes_of a) + max n (length (notes_of a))))
-      (sym (marked_few now P n m b h).1) few;
-  enough = λ there. (marked_few now P n m b h).1 ∙ ap note_room (enough there);
-  kept = λ there. subst (λ x. (added : List Note) × (notes_of b ≡ notes_of x ++ added))
-      (enough there)
-      (marked_added now P n m b h);
-}
-
--- room is made, and nothing is noted
-pub kept_few : (n : ℕ) (a b : Option Held) (events : Events) → IsSameNoted a b
-    → ReservesFewNotes a b n → (HasRoomForNotes a n → b ≡ a) → NotesFew a b events n
-kept_few n a b events same few enough = record {
-  only = λ k v noted. inl (subst IsSome (same.first k) noted);
-  few = (let fewer = same.few in omega (arith, fewer));
-  room = few;
-  enough = λ there. ap note_room (enough there);
-  kept = λ there. ([], ap notes_of (enough there) ∙ sym (append-nil (notes_of a)));
+  enough = λ there. subst (λ x. IsNotedBehind x b n) (enough there) (marked_behind now P n m b h);
+  made = behind_made a m b n (marked_behind now P n m b h) made;
 }
 
 -- nothing is noted
 pub same_few : (n : ℕ) (a b : Option Held) (events : Events) → b ≡ a → NotesFew a b events n
-same_few n a b events e =
-    kept_few n a b events (same_noted a b e)
-    (subst (λ x. ReservesFewNotes a x n) (sym e)
-    (le-max_left (note_room a) (length (notes_of a) + max n (length (notes_of a)))))
-    (λ _. e)
+same_few n a b events e = record {
+  only = λ k v noted. inl (subst (λ x. IsNoted x k) e noted);
+  enough = λ _. behind;
+  made = inl behind;
+}
+  where
+    behind : IsNotedBehind a b n
+    behind = record {
+      added = [];
+      notes = ap notes_of e ∙ sym (append-nil (notes_of a));
+      few = omega arith;
+      room = ap note_room e;
+    }
 
 -- room was made in a map
 pub readied_mark : (m u : Map) (need : ℕ) → IsReadied m u need → KeepsMark m u
@@ -208,13 +225,13 @@ marked_edit m u w b c d P n need lazy ready noted marked edited asked =
           | inr is ↦ inr is
         ]
 
--- notes were made room for alone
-pub marked_room : (m u : Map) (b : Option Held) (need : ℕ) → IsReadied m u need
-    → IsSameNoted u.mark b → KeepsMark m (record u { mark = b })
-marked_room m u b need ready noted =
+-- there was no room for notes
+pub marked_room : (m u : Map) (b : Option Held) (need : ℕ) → IsReadied m u need → b ≡ u.mark
+    → KeepsMark m (record u { mark = b })
+marked_room m u b need ready same =
     same_mark_trans (marked_of m) (marked_of u) (marked_of (record u { mark = b }))
     (readied_mark m u need ready)
-    (marked_kept u.mark b (classes_in u) (classes_in u) noted (λ k v. refl))
+    (marked_kept u.mark b (classes_in u) (classes_in u) (same_noted u.mark b same) (λ k v. refl))
 
 -- an equal mark in words of the first one
 pub few_after : (n : ℕ) (a m b : Option Held) (events : Events) → m ≡ a → NotesFew m b events n
@@ -310,4 +327,4 @@ edit_ok most values target key is answer =
 pub reserved_remarked : (m n : Map) (mark : Option Held) (need : ℕ) → ReservesFew m n need
     → ReservesFew m (record n { mark = mark }) need
 reserved_remarked m n mark need h =
-    record { kept = h.kept; enough = h.enough; cleared = h.cleared; few = h.few }
+    record { kept = h.kept; enough = h.enough; few = h.few }

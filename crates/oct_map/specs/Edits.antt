@@ -1,5 +1,5 @@
 -- What a call does to a map that has an event for some voxels: an edit of one, or a scan.
-use Rattle.std.specs.Prelude.{◌≡◌, ℕ, ◌+◌, ◌≤◌, ◌||◌, ◌⊎◌, Bool, IsTrue}
+use Rattle.std.specs.Prelude.{◌≡◌, ℕ, ◌+◌, ◌≤◌, nat_lt, ◌||◌, ◌⊎◌, Bool, IsTrue, if◌then◌else◌}
 use Rattle.oct_key.specs.Values.{SameValues}
 use Rattle.oct_values.specs.Counts.{group_count}
 use Rattle.oct_values.specs.Events.{Events, updated}
@@ -11,9 +11,8 @@ use Rattle.oct_edit.specs.Edits.{IsEdited, IsEagerEdit, IsLazyEdit}
 use Rattle.oct_inner.specs.Changes.{IsShrunk}
 use Rattle.oct_scan.specs.Beam.{Sighting}
 use Rattle.oct_map.specs.declared.fault.MapFault.{MapFault}
-use Rattle.oct_map.specs.declared.fault.MapFault.TheVariants.{Full, Memory}
+use Rattle.oct_map.specs.declared.fault.MapFault.TheVariants.{Full}
 use Rattle.oct_map.specs.Map.{Map, HasRoomFor, values_of, ground_of}
-use Rattle.oct_map.specs.Notes.{IsSameNoted}
 use Rattle.oct_map.specs.Outcome.{outcome_of, need_of}
 
 -- the events of a scan in this map
@@ -49,35 +48,46 @@ pub record IsMapEdited (m n : Map) (events : Events) (need : ℕ) (lazy : Bool) 
   pub lazily : IsTrue lazy → IsLazyEdit fitted n.tree events
 
 -- What a call that is refused for this fault leaves, which may have needed this many groups: each
--- value and the stale flag as they were, and no group more. The tree is fitted at most, but for
--- vacant entries, and one refused as full leaves it pruned, and no more than pruned. Nothing was
--- noted: the mark stays as it was, and where memory ran out each voxel's first note does.
+-- value, the stale flag and the mark as they were, and no group more. The tree is fitted at most,
+-- but for vacant entries, and one refused as full leaves it pruned, and no more than pruned.
 pub record IsMapRefused (m n : Map) (fault : MapFault) (need : ℕ) : Type 0 where
   pub values : SameValues (values_of m) (values_of n)
   pub stale : n.is_stale ≡ m.is_stale
+  pub mark : n.mark ≡ m.mark
   pub pruned : IsPruned m.tree → IsPruned n.tree
   pub live : live n.tree.groups ≤ live m.tree.groups
   pub roomy : IsRoomy m need n.tree
   pub full : (groups more : ℕ) → fault ≡ Full groups more
       → IsPruned n.tree × IsShrunk m.tree n.tree
-  pub marked : (fault ≡ Memory → ⊥) → n.mark ≡ m.mark
-  pub noted : IsSameNoted m.mark n.mark
 
 -- the entries of a map: its groups, and those that it can still make without taking memory
 abbrev pub entries_of : Map → ℕ
 entries_of m = live m.tree.groups + spare m.tree.groups
 
+-- the groups that a map has once it is fitted to this many more: its own where there is room for
+-- them, and else as many as its values need
+abbrev pub fitted_groups : Map → ℕ → ℕ
+fitted_groups m need =
+    if nat_lt m.max_groups (live m.tree.groups + need) then group_count (values_of m)
+    else live m.tree.groups
+
+-- a map that is fitted to this many groups more can make them without taking memory
+abbrev pub HasEntriesFor : Map → ℕ → Type 0
+HasEntriesFor m need = fitted_groups m need + need ≤ entries_of m
+
+-- it can't
+abbrev pub LacksEntries : Map → ℕ → Type 0
+LacksEntries m need = HasEntriesFor m need → ⊥
+
 -- A call that may need this many groups takes memory for no more than these and 1,023 entries,
--- beyond the groups that the map had and beyond those that it may have. It takes none where it can
--- make them already, and none where a prune that there has to be makes room enough. It gives no
--- entry away.
+-- beyond the groups that the fitted map has and beyond those that it may have, and none where it
+-- can make them without. It gives no entry away.
 pub record ReservesFew (m n : Map) (need : ℕ) : Type 0 where
   pub kept : entries_of m ≤ entries_of n
-  pub enough : need ≤ spare m.tree.groups → entries_of n ≡ entries_of m
-  pub cleared : (HasRoomFor m need → ⊥) → group_count (values_of m) + need ≤ entries_of m
-      → entries_of n ≡ entries_of m
+  pub enough : HasEntriesFor m need → entries_of n ≡ entries_of m
   pub few : (entries_of n ≡ entries_of m)
-      ⊎ ((entries_of n ≤ live m.tree.groups + need + 1023) × (entries_of n ≤ m.max_groups + 1023))
+      ⊎ ((entries_of n ≤ fitted_groups m need + need + 1023)
+      × (entries_of n ≤ m.max_groups + 1023))
 
 -- working word: what making room for this many groups leaves of a map
 pub record IsReadied (m u : Map) (need : ℕ) : Type 0 where

@@ -6,8 +6,8 @@ use Rattle.oct_key.specs.Voxel.{Voxel, IsInMap}
 use Rattle.oct_values.specs.Classes.{Classes}
 use Rattle.oct_values.specs.Events.{Events}
 use Rattle.oct_change.specs.declared.changes.Note.{Note}
-use Rattle.oct_change.specs.Held.{Held, room_of}
-use Rattle.oct_change.specs.Notes.{first_noted, marked_by, HasNoted}
+use Rattle.oct_change.specs.Held.{Held, room_of, wanted_room}
+use Rattle.oct_change.specs.Notes.{first_noted, marked_by, noted_total, HasNoted}
 
 -- the notes of a mark, none where none stands
 abbrev pub notes_of : Option Held → List Note
@@ -36,16 +36,27 @@ LacksNotes mark n = HasRoomForNotes mark n → ⊥
 abbrev pub marked_by_notes : Option Held → Classes → Option Classes
 marked_by_notes mark now = option_map (λ (held : Held). marked_by held.notes now) mark
 
--- the same mark by its notes: each voxel has the same first note, and there are no more of them
+-- how many voxels are noted
+abbrev pub noted_count : Option Held → ℕ
+noted_count mark = noted_total (notes_of mark)
+
+-- working word: the same mark by its notes, where each voxel has the same first note
 pub record IsSameNoted (a b : Option Held) : Type 0 where
   pub standing : is_some b ≡ is_some a
   pub first : (k : Voxel) → first_noted (notes_of b) k ≡ first_noted (notes_of a) k
-  pub few : length (notes_of b) ≤ length (notes_of a)
 
--- room is made for no more than this many notes beside those that there are, or for as many again
-abbrev pub ReservesFewNotes : Option Held → Option Held → ℕ → Type 0
-ReservesFewNotes a b n =
-    note_room b ≤ max (note_room a) (length (notes_of a) + max n (length (notes_of a)))
+-- at most this many notes were added behind those that there were, in the same room
+pub record IsNotedBehind (a b : Option Held) (n : ℕ) : Type 0 where
+  pub added : List Note
+  pub notes : notes_of b ≡ notes_of a ++ added
+  pub few : length added ≤ n
+  pub room : note_room b ≡ note_room a
+
+-- Room was made for n notes, and this many were added at most: each voxel that was noted kept one
+-- note, and there is room for these and for n more, or for as many again.
+pub record IsRoomMade (a b : Option Held) (n added : ℕ) : Type 0 where
+  pub few : length (notes_of b) ≤ noted_count a + added
+  pub room : note_room b ≡ max (note_room a) (wanted_room (noted_count a) n)
 
 -- where a mark stands, these voxels were noted with their classes now, by this many notes
 abbrev pub HasMarked : Classes → (Voxel → Type 0) → ℕ → Option Held → Option Held → Type 0
@@ -55,12 +66,9 @@ HasMarked now asked n (Some old) new =
     × (old.spare ≡ held.spare + n) × (room_of held ≡ room_of old)
 
 -- What a call does to the notes of a mark, which has these events, for this many voxels: it notes
--- no voxel without an event, by no more notes than these, and makes room for no more than these, or
--- for as many as there are. Where there is room already, none is made, and the notes that there are
--- stay as they are.
+-- no voxel without an event, by no more notes than these. Where there is room for these, they come
+-- behind the others; else room is made, or nothing is noted.
 pub record NotesFew (a b : Option Held) (events : Events) (n : ℕ) : Type 0 where
   pub only : (k : Voxel) → IsInMap k → IsNoted b k → IsNoted a k ⊎ IsSome (events k)
-  pub few : length (notes_of b) ≤ length (notes_of a) + n
-  pub room : ReservesFewNotes a b n
-  pub enough : HasRoomForNotes a n → note_room b ≡ note_room a
-  pub kept : HasRoomForNotes a n → (added : List Note) × (notes_of b ≡ notes_of a ++ added)
+  pub enough : HasRoomForNotes a n → IsNotedBehind a b n
+  pub made : IsNotedBehind a b n ⊎ IsRoomMade a b n n

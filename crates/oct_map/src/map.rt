@@ -31,7 +31,8 @@ ghost use Rattle.oct_map.specs.Notes.{LacksNotes, NotesFew};
 ghost use Rattle.oct_map.specs.Marks.{KeepsMark};
 ghost use Rattle.oct_map.specs.Lists.{list_answer};
 ghost use Rattle.oct_map.specs.Edits.{outcome_in, scan_need, IsMapEdited, IsMapRefused, IsRoomy};
-ghost use Rattle.oct_map.specs.Edits.{IsReadied, ReservesFew, entries_of};
+ghost use Rattle.oct_map.specs.Edits.{IsReadied, LacksEntries, ReservesFew, entries_of};
+ghost use Rattle.oct_map.specs.Edits.{fitted_groups};
 
 mod loading;
 mod marking;
@@ -153,7 +154,7 @@ impl OccMap {
             (edit_answer (ground_of self.old) (values_of self.old) p) result }
         ensures memory { result ≡ Err MapFault.Memory
             → IsOk (edit_answer (ground_of self.old) (values_of self.old) p)
-            × ((spare self.old.tree.groups < edit_need) ⊎ LacksNotes self.old.mark 1) }
+            × (LacksEntries self.old edit_need ⊎ LacksNotes self.old.mark 1) }
         ensures edited { OnOk result (IsMapEdited self.old self.new
             (event_at (key_at self.old.tree.res p) event) edit_need lazy) }
         ensures refused { IfErr result (λ fault. IsMapRefused self.old self.new fault edit_need) }
@@ -194,8 +195,8 @@ impl OccMap {
         ensures memory { result ≡ Err MapFault.Memory
             → IsOk (box_answer (ground_of self.old) (is_some self.old.mark) (values_of self.old)
             lo hi)
-            × ((spare self.old.tree.groups
-            < corner_need (key_at self.old.tree.res lo) (key_at self.old.tree.res hi))
+            × (LacksEntries self.old
+            (corner_need (key_at self.old.tree.res lo) (key_at self.old.tree.res hi))
             ⊎ LacksNotes self.old.mark (corner_volume (key_at self.old.tree.res lo)
             (key_at self.old.tree.res hi))) }
         ensures edited { OnOk result (IsMapEdited self.old self.new
@@ -513,7 +514,7 @@ impl OccMap {
             (room_answer self.old.max_groups (values_of self.old) need) result }
         ensures memory { result ≡ Err MapFault.Memory
             → IsOk (room_answer self.old.max_groups (values_of self.old) need)
-            × (spare self.old.tree.groups < need) }
+            × LacksEntries self.old need }
         ensures room { OnOk result (need ≤ spare self.new.tree.groups) }
         ensures few { OnOk result (live self.new.tree.groups + need ≤ self.new.max_groups) }
         ensures full { (groups more : ℕ) → result ≡ Err (MapFault.Full groups more)
@@ -534,10 +535,8 @@ impl OccMap {
         ensures few { OnOk result (live self.new.tree.groups + need ≤ self.new.max_groups) }
         ensures kept { HasRoomFor self.old need → self.new ≡ self.old }
         ensures shrunk { IsShrunk self.old.tree self.new.tree }
-        ensures least { (HasRoomFor self.old need → ⊥)
-            → live self.new.tree.groups ≡ group_count (values_of self.old) }
+        ensures groups { live self.new.tree.groups ≡ fitted_groups self.old need }
         ensures full { OnErr result (IsPruned self.new.tree) }
-        ensures spare { spare self.old.tree.groups ≤ spare self.new.tree.groups }
         ensures notes { self.new.mark ≡ self.old.mark }
         ensures values { SameValues (values_of self.old) (values_of self.new) }
         ensures stale { self.new.is_stale ≡ self.old.is_stale }

@@ -1,19 +1,16 @@
 //! The mark of a map.
-ghost use Rattle.std.specs.Prelude.{◌≡◌, ◌+◌, ◌≤◌, ◌<◌, ◌^◌, ◌⊎◌, length, max, [], None, Some};
-ghost use Rattle.std.specs.Prelude.{is_some, IsOk, OnOk, IfOk, option_map};
+ghost use Rattle.std.specs.Prelude.{◌≡◌, ◌+◌, ◌<◌, ◌^◌, ◌⊎◌, length, [], None, Some};
+ghost use Rattle.std.specs.Prelude.{is_some, IsOk, OnOk, OnErr, IfOk, option_map};
 ghost use Rattle.std.specs.Prelude.{All, Contains};
 ghost use Rattle.oct_brick.specs.Bricks.{IsBrick};
 ghost use Rattle.oct_brick.specs.Voxels.{hit_voxels, freed_voxels};
-ghost use Rattle.oct_key.specs.Voxel.{Voxel};
 ghost use Rattle.oct_tree.specs.Tree.{value_at};
 ghost use Rattle.oct_key.specs.Boxes.{IsBox, IsInBox};
 ghost use Rattle.oct_values.specs.Boxes.{box_volume};
 ghost use Rattle.oct_values.specs.Classes.{classes_of};
 ghost use Rattle.oct_change.specs.Changes.{changes_between};
-ghost use Rattle.oct_change.specs.Held.{room_of};
-ghost use Rattle.oct_change.specs.Notes.{first_noted};
-ghost use Rattle.oct_map.specs.Notes.{HasRoomForNotes, IsSameNoted, ReservesFewNotes, HasMarked};
-ghost use Rattle.oct_map.specs.Notes.{marked_by_notes, note_room};
+ghost use Rattle.oct_map.specs.Notes.{HasRoomForNotes, IsSameNoted, IsRoomMade, HasMarked};
+ghost use Rattle.oct_map.specs.Notes.{marked_by_notes, notes_of, note_room};
 
 use oct_brick::Brick;
 use oct_change::{ChangeList, Changes};
@@ -80,15 +77,17 @@ impl Mark {
         }
     }
 
-    /// Makes room for n notes, where a mark stands. The first note of each voxel stays.
+    /// Makes room for n notes, where a mark stands. The first note of each voxel stays, and where
+    /// memory runs out all of them do.
     pub(crate) fn reserve(&mut self, n: u64) -> Result<(), Memory>
         ensures room { OnOk result (HasRoomForNotes self.new n) }
         ensures enough { HasRoomForNotes self.old n → IsOk result × (self.new ≡ self.old) }
-        ensures few { ReservesFewNotes self.old self.new n }
+        ensures made { (self.new ≡ self.old) ⊎ IsRoomMade self.old self.new n 0 }
         ensures kept { IsSameNoted self.old self.new }
+        ensures err { OnErr result (self.new ≡ self.old) }
     {
         if let Some(changes) = &mut self.changes {
-            make_room(changes, n)?;
+            changes.reserve(n)?;
         }
         Ok(())
     }
@@ -137,29 +136,11 @@ impl Mark {
         ensures exact { IfOk result (λ changes. changes ≡ option_map
             (λ before. changes_between before (classes_of tree.now.odds (value_at tree.now)))
             (marked_by_notes self.now (classes_of tree.now.odds (value_at tree.now)))) }
-        ensures none { self.now ≡ None → IsOk result }
+        ensures none { notes_of self.now ≡ [] → IsOk result }
     {
         match &self.changes {
             Some(changes) => Ok(Some(changes.report(tree)?)),
             None => Ok(None),
         }
     }
-}
-
-/// Makes room for n notes. Where there isn't any, only the first note of each voxel stays, and
-/// there is room for as many notes again, so that this happens seldom.
-fn make_room(changes: &mut Changes, n: u64) -> Result<(), Memory>
-    ensures room { OnOk result (n ≤ changes.new.spare) }
-    ensures enough { n ≤ changes.old.spare → IsOk result × (changes.new ≡ changes.old) }
-    ensures few { room_of changes.new ≤ max (room_of changes.old)
-        (length changes.old.notes + max n (length changes.old.notes)) }
-    ensures first { (k : Voxel)
-        → first_noted changes.new.notes k ≡ first_noted changes.old.notes k }
-    ensures fewer { length changes.new.notes ≤ length changes.old.notes }
-{
-    if changes.spare() < n {
-        changes.compact()?;
-        changes.reserve(n.max(changes.len()))?;
-    }
-    Ok(())
 }

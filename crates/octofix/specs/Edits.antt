@@ -1,15 +1,14 @@
 -- What edits do.
-use Rattle.std.specs.Prelude.{◌≡◌, ◌==◌, ℕ, ◌+◌, ◌<◌, ◌⊎◌, ◌&&◌, ℤ, pos, neg_ℤ, int_le, Bool}
+use Rattle.std.specs.Prelude.{◌≡◌, ◌==◌, ℕ, ◌+◌, ◌⊎◌, ◌&&◌, ℤ, pos, neg_ℤ, int_le, Bool}
 use Rattle.std.specs.Prelude.{if◌then◌else◌}
 use Rattle.std.specs.Prelude.{false, is_some, IsSome, List, [], ◌∷◌, ⊤, Some, None}
 use Rattle.std.specs.Prelude.{Result, Ok, Err, IsOk, OnOk, IfErr}
-use Rattle.oct_arena.specs.Entries.{spare}
 use Rattle.oct_edit.specs.Edits.{IsTidyAlong}
 use Rattle.oct_edit.specs.Saturated.{IsSaturated}
 use Rattle.oct_key.specs.Voxel.{Voxel, IsInMap, key_at}
 use Rattle.oct_key.specs.declared.point.Point.{Point}
 use Rattle.oct_map.specs.Answers.{box_answer, box_fault, edit_answer, edit_need, IsAnswerOrMemory}
-use Rattle.oct_map.specs.Edits.{IsMapEdited, IsMapRefused, IsRoomy, ReservesFew}
+use Rattle.oct_map.specs.Edits.{IsMapEdited, IsMapRefused, IsRoomy, LacksEntries, ReservesFew}
 use Rattle.oct_map.specs.Map.{Map, IsMap, ground_of, values_of}
 use Rattle.oct_map.specs.Marks.{KeepsMark}
 use Rattle.oct_map.specs.Notes.{LacksNotes, NotesFew}
@@ -46,7 +45,7 @@ pub record IsVoxelEdit (p : Point) (lazy : Bool) (e : Event) (m n : Map) (done :
     : Type 0 where
   pub answer : IsAnswerOrMemory (edit_answer (ground_of m) (values_of m) p) done
   pub memory : done ≡ Err fault.Memory → IsOk (edit_answer (ground_of m) (values_of m) p)
-      × ((spare m.tree.groups < edit_need) ⊎ LacksNotes m.mark 1)
+      × (LacksEntries m edit_need ⊎ LacksNotes m.mark 1)
   pub edited : OnOk done
       (IsMapEdited m n (event_at (key_at m.tree.res p) e) edit_need lazy)
   pub refused : IfErr done (λ fault. IsMapRefused m n fault edit_need)
@@ -71,7 +70,7 @@ pub record IsBoxEdit (lo hi : Point) (e : Event) (m n : Map) (done : Result ⊤ 
       (box_answer (ground_of m) (is_some m.mark) (values_of m) lo hi) done
   pub memory : done ≡ Err fault.Memory
       → IsOk (box_answer (ground_of m) (is_some m.mark) (values_of m) lo hi)
-      × ((spare m.tree.groups < corner_need (key_at m.tree.res lo) (key_at m.tree.res hi))
+      × (LacksEntries m (corner_need (key_at m.tree.res lo) (key_at m.tree.res hi))
       ⊎ LacksNotes m.mark (corner_volume (key_at m.tree.res lo) (key_at m.tree.res hi)))
   pub edited : OnOk done (IsMapEdited m n
       (corner_events (key_at m.tree.res lo) (key_at m.tree.res hi) e)

@@ -19,7 +19,8 @@ impl OccMap {
     ///
     /// A file of another resolution is refused, and then one that has more records than the map may
     /// have groups. The old map goes only when the new one is there, so that one that is refused,
-    /// also because memory ran out, leaves the map as it was.
+    /// also because memory ran out, leaves the map as it was. Until then both take memory, the new
+    /// one for at most 1,023 entries more than the file has records.
     pub fn load(&mut self, file: &BtFile) -> Result<(), MapFault>
         ensures answer { IsAnswerOrMemory (load_answer (ground_of self.old) file.now.res
             (record_total file.now.codes)) result }

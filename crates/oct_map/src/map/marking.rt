@@ -3,6 +3,7 @@ ghost use Rattle.std.specs.Prelude.{◌≡◌, [], Some, None, Err, is_some, IsO
 ghost use Rattle.oct_map.specs.declared.fault.MapFault.{MapFault};
 ghost use Rattle.oct_map.specs.Answers.{IsAnswerOrMemory};
 ghost use Rattle.oct_map.specs.Marks.{classes_in, marked_of, changes_answer, SameMark};
+ghost use Rattle.oct_map.specs.Notes.{notes_of};
 
 use super::OccMap;
 use crate::fault::MapFault;
@@ -49,7 +50,8 @@ impl OccMap {
         ensures answer { IsAnswerOrMemory
             (changes_answer (marked_of self.now) (classes_in self.now)) result }
         ensures memory { result ≡ Err MapFault.Memory
-            → IsOk (changes_answer (marked_of self.now) (classes_in self.now)) }
+            → IsOk (changes_answer (marked_of self.now) (classes_in self.now))
+            × (notes_of self.now.mark ≡ [] → ⊥) }
         ensures map { IsMap self.now }
     {
         let changes = self.mark.report(&self.tree)?;

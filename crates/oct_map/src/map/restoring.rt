@@ -23,7 +23,8 @@ impl OccMap {
     /// It is refused for the first fault of the snapshot, then for another resolution, and then
     /// where the values need more groups than the map may have. The old map goes only when the new
     /// one is there, so that a snapshot that is refused, also because memory ran out, leaves the
-    /// map as it was.
+    /// map as it was. Until then both take memory, the new one for at most 1,023 entries more than
+    /// its groups.
     pub fn restore(&mut self, bytes: &[u8]) -> Result<u64, MapFault>
         ensures answer { IsAnswerOrMemory (restore_answer (ground_of self.old)
             (read_snapshot self.old.tree.odds bytes.now)) result }

@@ -14,7 +14,7 @@ returns-in-Ok c =
     let answer = changes_answer (marked_of c.args.map.now) (classes_in c.args.map.now) in
     list_told change_told answer (Ok c.in-Ok.found) (IsOk (changes_in c.args.map.now))
     c.put_changes.result old c.put_changes.new.changes c.args.count.now c.put_changes.new.count
-    c.in-Ok.ensures.answer (λ is. each_ok change_told answer (c.in-Ok.ensures.memory is))
+    c.in-Ok.ensures.answer (λ is. each_ok change_told answer (c.in-Ok.ensures.memory is).0)
     (p.code ∙ ap (λ found. room_code (length old) (length found)) c.as_slice.ensures
     ∙ ap (room_code (length old)) (sym (length-map c.in-Ok.found change_told)))
     (p.changes ∙ ap (λ found. filled old (map change_told found)) c.as_slice.ensures)
@@ -25,5 +25,5 @@ returns-in-Err c =
     let answer = changes_answer (marked_of c.args.map.now) (classes_in c.args.map.now) in
     list_told change_told answer (Err c.in-Err.fault) (IsOk (changes_in c.args.map.now))
     c.code.result c.args.changes.now c.args.changes.now c.args.count.now c.args.count.now
-    c.in-Err.ensures.answer (λ is. each_ok change_told answer (c.in-Err.ensures.memory is))
+    c.in-Err.ensures.answer (λ is. each_ok change_told answer (c.in-Err.ensures.memory is).0)
     c.code.ensures.code refl refl

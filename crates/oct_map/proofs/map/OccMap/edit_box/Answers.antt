@@ -9,7 +9,7 @@ use Rattle.oct_arena.specs.Entries.{live, spare}
 use Rattle.oct_map.specs.Map.{Map, IsMap, values_of}
 use Rattle.oct_map.specs.Answers.{room_answer, IsAnswerOrMemory}
 use Rattle.oct_map.specs.Outcome.{corner_events, corner_need, corner_volume}
-use Rattle.oct_map.specs.Edits.{IsMapRefused, IsMapEdited, ReservesFew, IsReadied}
+use Rattle.oct_map.specs.Edits.{IsMapRefused, IsMapEdited, ReservesFew, IsReadied, LacksEntries}
 use Rattle.oct_map.proofs.Views.{map_of}
 use Rattle.oct_map.proofs.Corners.{corners_need, corners_volume, corners_events, corners_answer}
 use Rattle.oct_map.proofs.Corners.{corners_ok, still_stale}
@@ -17,7 +17,7 @@ use Rattle.oct_map.specs.Marks.{classes_in, KeepsMark}
 use Rattle.oct_map.specs.Notes.{HasRoomForNotes, HasMarked, LacksNotes, NotesFew}
 use Rattle.oct_map.proofs.Edits.{handed_on, edited_map, map_edited, edited_reserved, if_err}
 use Rattle.oct_map.proofs.Edits.{refused_room, refused_notes, remarked}
-use Rattle.oct_map.proofs.Marks.{marked_edit, marked_room, readied_mark, noted_few, kept_few}
+use Rattle.oct_map.proofs.Marks.{marked_edit, marked_room, readied_mark, noted_few}
 use Rattle.oct_map.proofs.Marks.{same_few, few_after, box_asked, asked_box, lacks_notes}
 use Rattle.oct_map.proofs.Marks.{reserved_remarked, room_ok}
 use Rattle.oct_map.proofs.Scans.{event_back}
@@ -246,7 +246,7 @@ returns-clause-noted c =
     map.mark c.reserve.new.self c.note_box.new.self
     (corner_events (key_at c.args.self.now.tree.res c.args.lo)
     (key_at c.args.self.now.tree.res c.args.hi) c.args.event)
-    c.reserve.ensures.kept c.reserve.ensures.few (λ there. (c.reserve.ensures.enough there).1)
+    c.reserve.ensures.kept c.reserve.ensures.made (λ there. (c.reserve.ensures.enough there).1)
     (subst (λ n. HasMarked (classes_in map) (IsInBox c.in-Some.low c.in-Some-key_of.high) n
     c.reserve.new.self c.note_box.new.self) (sym c.volume-count.ensures) c.note_box.ensures)
     (λ q v e. asked_box (key_at c.args.self.now.tree.res c.args.lo)
@@ -261,38 +261,15 @@ returns-in_err-reserve-clause-mark c =
     subst (λ (m : Map). IsReadied c.args.self.now m c.box_need.result) (sym c.self-2.view_is)
     c.make_room.ensures.readied in
     marked_room c.args.self.now map c.reserve.new.self c.box_need.result ready
-    c.reserve.ensures.kept
+    c.in_err-reserve.ensures.err
 
 pub returns-in_err-reserve-clause-noted : goal.returns-in_err-reserve-clause-noted
 returns-in_err-reserve-clause-noted c =
-    let low : key_at c.args.self.now.tree.res c.args.lo ≡ Some c.in-Some.low =
-    sym (sym c.in-Some.is ∙ c.key_of.ensures.exact
-    ∙ ap (λ (r : ℕ). key_at r c.args.lo)
-    (c.res.ensures ∙ ap (λ (m : Map). m.tree.res) c.self.view_is)) in
-    let high : key_at c.args.self.now.tree.res c.args.hi ≡ Some c.in-Some-key_of.high =
-    sym (sym c.in-Some-key_of.is ∙ c.key_of-2.ensures.exact
-    ∙ ap (λ (r : ℕ). key_at r c.args.hi)
-    (c.res-2.ensures ∙ ap (λ (m : Map). m.tree.res) c.self.view_is)) in
-    let many : c.volume-count.result
-    ≡ corner_volume (key_at c.args.self.now.tree.res c.args.lo)
-    (key_at c.args.self.now.tree.res c.args.hi) =
-    c.volume-count.ensures ∙ sym
-    (corners_volume _ _ c.in-Some.low c.in-Some-key_of.high low high) in
-    let map : Map = map_of c.self-2.inside.tree c.self-2.inside.is_stale c.self-2.inside.window
-    c.self-2.inside.limits c.self-2.inside.mark in
-    let ready : IsReadied c.args.self.now map c.box_need.result =
-    subst (λ (m : Map). IsReadied c.args.self.now m c.box_need.result) (sym c.self-2.view_is)
-    c.make_room.ensures.readied in
-    subst (NotesFew c.args.self.now.mark c.reserve.new.self
+    same_few _ c.args.self.now.mark c.reserve.new.self
     (corner_events (key_at c.args.self.now.tree.res c.args.lo)
-    (key_at c.args.self.now.tree.res c.args.hi) c.args.event)) many
-    (few_after c.volume-count.result c.args.self.now.mark map.mark c.reserve.new.self
-    (corner_events (key_at c.args.self.now.tree.res c.args.lo)
-    (key_at c.args.self.now.tree.res c.args.hi) c.args.event) ready.notes
-    (kept_few c.volume-count.result map.mark c.reserve.new.self
-    (corner_events (key_at c.args.self.now.tree.res c.args.lo)
-    (key_at c.args.self.now.tree.res c.args.hi) c.args.event) c.reserve.ensures.kept
-    c.reserve.ensures.few (λ there. (c.reserve.ensures.enough there).1)))
+    (key_at c.args.self.now.tree.res c.args.hi) c.args.event)
+    (c.in_err-reserve.ensures.err ∙ ap (λ (m : Map). m.mark) c.self-2.view_is
+    ∙ c.make_room.ensures.readied.notes)
 
 pub returns-in_err-reserve-clause-refused : goal.returns-in_err-reserve-clause-refused
 returns-in_err-reserve-clause-refused c =
@@ -322,7 +299,7 @@ returns-in_err-reserve-clause-refused c =
     (map_of c.self-2.inside.tree c.self-2.inside.is_stale c.self-2.inside.window
     c.self-2.inside.limits c.reserve.new.self) fault) (sym counted)
     (refused_notes c.args.self.now map c.reserve.new.self fault c.box_need.result
-    (search (rules, e)) ready c.reserve.ensures.kept))
+    (search (rules, e)) ready c.in_err-reserve.ensures.err))
 
 pub returns-in_err-reserve-clause-memory : goal.returns-in_err-reserve-clause-memory
 returns-in_err-reserve-clause-memory c e =
@@ -415,5 +392,5 @@ returns-in_err-make_room-clause-memory c e =
           (values_of c.args.self.now) _ _ c.in-Some.low c.in-Some-key_of.high low high
           (sym c.is_box.ensures.exact ∙ c.if-not-is_box.false) (search rules)
           c.box_need.ensures.exact room,
-      inl (subst (λ n. spare c.args.self.now.tree.groups < n) (sym counted) few),
+      inl (subst (LacksEntries c.args.self.now) (sym counted) few),
     )

@@ -15,13 +15,14 @@ use Rattle.oct_scan.specs.Answer.{TakesMemory}
 use Rattle.oct_scan.proofs.Taking.{need_point, takes_inside}
 use Rattle.oct_map.specs.Map.{Map, IsMap}
 use Rattle.oct_map.specs.Edits.{outcome_in, scan_need, IsMapRefused, ReservesFew, IsReadied}
+use Rattle.oct_map.proofs.Rooms.{lacks_need}
 use Rattle.oct_map.proofs.Views.{map_of}
 use Rattle.oct_scan.specs.Outcome.{hit_count, free_count}
-use Rattle.oct_map.specs.Notes.{HasRoomForNotes, NotesFew, ReservesFewNotes}
+use Rattle.oct_map.specs.Notes.{HasRoomForNotes, NotesFew, IsRoomMade}
 use Rattle.oct_map.specs.Marks.{classes_in}
 use Rattle.oct_map.proofs.Edits.{handed_as, map_edited, edited_map, edited_reserved, if_err}
 use Rattle.oct_map.proofs.Edits.{refused_room, refused_notes, remarked}
-use Rattle.oct_map.proofs.Marks.{marked_edit, marked_room, readied_mark, noted_few, kept_few}
+use Rattle.oct_map.proofs.Marks.{marked_edit, marked_room, readied_mark, noted_few}
 use Rattle.oct_map.proofs.Marks.{same_few, few_after, scan_asked, asked_scan, reserved_remarked}
 use Rattle.oct_map.proofs.Marks.{lacks_notes, lacks_some}
 use Rattle.oct_map.proofs.Scans.{IsPrepared, prepared, room_for, made_few, event_back, same_need_in}
@@ -216,8 +217,9 @@ returns-clause-noted c =
     (length (hit_voxels c.bricks-bricks.result.now)
     + length (freed_voxels c.bricks-bricks.result.now)) c.self-2.inside.mark c.reserve.new.self
     c.note_bricks.new.self (outcome_in c.args.self.now (sighting_of c.args.scan.now))
-    c.reserve.ensures.kept (subst (ReservesFewNotes c.self-2.inside.mark c.reserve.new.self) counts
-    c.reserve.ensures.few)
+    c.reserve.ensures.kept
+    (subst (λ n. (c.reserve.new.self ≡ c.self-2.inside.mark)
+    ⊎ IsRoomMade c.self-2.inside.mark c.reserve.new.self n 0) counts c.reserve.ensures.made)
     (subst (λ n. HasRoomForNotes c.self-2.inside.mark n → c.reserve.new.self ≡ c.self-2.inside.mark)
     counts (λ there. (c.reserve.ensures.enough there).1)) c.note_bricks.ensures
     (λ q v asked. asked_scan (given c) (outcome_in c.args.self.now (sighting_of c.args.scan.now)) q
@@ -230,35 +232,15 @@ returns-in_err-reserve-clause-mark c =
     let ready : IsReadied c.args.self.now map c.from.result =
     subst (λ (m : Map). IsReadied c.args.self.now m c.from.result) (sym c.self-2.view_is)
     c.make_room.ensures.readied in
-    marked_room c.args.self.now map c.reserve.new.self c.from.result ready c.reserve.ensures.kept
+    marked_room c.args.self.now map c.reserve.new.self c.from.result ready
+    c.in_err-reserve.ensures.err
 
 pub returns-in_err-reserve-clause-noted : goal.returns-in_err-reserve-clause-noted
 returns-in_err-reserve-clause-noted c =
-    let edge : c.res.result ≡ c.args.self.now.tree.res = c.res.ensures
-    ∙ ap (λ (m : Map). m.tree.res) c.self.view_is in
-    let box : c.window-window.result ≡ c.args.self.now.update_box = search rules in
-    let hit : c.hit_count.result
-    ≡ hit_count c.args.self.now.tree.res c.args.self.now.update_box (sighting_of c.args.scan.now) =
-    c.hit_count.ensures ∙ c.in_ok-set.ensures.hit_count
-    ∙ ap (λ r. hit_count r c.window-window.result (sighting_of c.args.scan.now)) edge
-    ∙ ap (λ w. hit_count c.args.self.now.tree.res w (sighting_of c.args.scan.now)) box in
-    let free : c.free_count.result
-    ≡ free_count c.args.self.now.tree.res c.args.self.now.update_box (sighting_of c.args.scan.now) =
-    c.free_count.ensures ∙ c.in_ok-set.ensures.free_count
-    ∙ ap (λ r. free_count r c.window-window.result (sighting_of c.args.scan.now)) edge
-    ∙ ap (λ w. free_count c.args.self.now.tree.res w (sighting_of c.args.scan.now)) box in
-    let counts : c.hit_count.result + c.free_count.result
-    ≡ (hit_count c.args.self.now.tree.res c.args.self.now.update_box (sighting_of c.args.scan.now)
-    + free_count c.args.self.now.tree.res c.args.self.now.update_box
-    (sighting_of c.args.scan.now)) = omega (arith, hit, free) in
-    subst (NotesFew c.args.self.now.mark c.reserve.new.self
-    (outcome_in c.args.self.now (sighting_of c.args.scan.now))) counts
-    (few_after (c.hit_count.result + c.free_count.result) c.args.self.now.mark c.self-2.inside.mark
-    c.reserve.new.self (outcome_in c.args.self.now (sighting_of c.args.scan.now))
-    (ap (λ (m : Map). m.mark) c.self-2.view_is ∙ c.make_room.ensures.readied.notes)
-    (kept_few (c.hit_count.result + c.free_count.result) c.self-2.inside.mark c.reserve.new.self
-    (outcome_in c.args.self.now (sighting_of c.args.scan.now)) c.reserve.ensures.kept
-    c.reserve.ensures.few (λ there. (c.reserve.ensures.enough there).1)))
+    same_few _ c.args.self.now.mark c.reserve.new.self
+    (outcome_in c.args.self.now (sighting_of c.args.scan.now))
+    (c.in_err-reserve.ensures.err ∙ ap (λ (m : Map). m.mark) c.self-2.view_is
+    ∙ c.make_room.ensures.readied.notes)
 
 pub returns-in_err-reserve-clause-refused : goal.returns-in_err-reserve-clause-refused
 returns-in_err-reserve-clause-refused c =
@@ -281,7 +263,7 @@ returns-in_err-reserve-clause-refused c =
     (map_of c.self-2.inside.tree c.self-2.inside.is_stale c.self-2.inside.window
     c.self-2.inside.limits c.reserve.new.self) fault) counted
     (refused_notes c.args.self.now map c.reserve.new.self fault c.from.result (search (rules, e))
-    ready c.reserve.ensures.kept))
+    ready c.in_err-reserve.ensures.err))
 
 pub returns-in_err-reserve-clause-reserved : goal.returns-in_err-reserve-clause-reserved
 returns-in_err-reserve-clause-reserved c =
@@ -341,8 +323,10 @@ returns-in_err-make_room-clause-memory c e =
     let need : c.from.result ≡ c.in_ok-set.set.need = search rules in
     let (room, few) = c.make_room.ensures.memory
     (handed_as _ _ _ _ c.in_err-make_room.was c.from_residual-in_err-make_room.ensures.1 e) in
+    let some = lacks_need c.args.self.now c.from.result
+    (subst IsMap c.self.view_is c.self.invariant) few in
     let point = need_point c.res.result c.window-window.result (sighting_of c.args.scan.now)
-    c.in_ok-set.set.need c.in_ok-set.ensures.need (omega (arith, need, few)) in
+    c.in_ok-set.set.need c.in_ok-set.ensures.need (omega (arith, need, some)) in
     subst (λ n. TakesMemory n (sighting_of c.args.scan.now))
     (c.res.ensures ∙ ap (λ (m : Map). m.tree.res) c.self.view_is)
     (takes_inside c.res.result (sighting_of c.args.scan.now) c.in_ok-set.ensures.inside point)
