@@ -1,6 +1,6 @@
 -- What each call of an arena leaves, for the entries that its memory is seen as.
-use Rattle.std.proofs.Common.{◌≡◌, ◌≢◌, ℕ, zero, suc, ◌+◌, ◌-◌, ◌<◌, ◌≤◌, ◌^◌, ◌++◌, length, refl}
-use Rattle.std.proofs.Common.{sym, subst, ◌∙◌, ap, arith, Some, None, ℤ, ◌∷◌, append-nil}
+use Rattle.std.proofs.Common.{◌≡◌, ◌≢◌, ℕ, zero, suc, ◌+◌, ◌-◌, ◌*◌, ◌<◌, ◌≤◌, ◌^◌, ◌++◌, length}
+use Rattle.std.proofs.Common.{refl, sym, subst, ◌∙◌, ap, arith, Some, None, ℤ, ◌∷◌, append-nil}
 use Rattle.std.proofs.Common.{append_assoc}
 use Rattle.std.specs.Prelude.{slice_set, max}
 use Rattle.std.proofs.Math.Nat.{le-max_left, le-max_right}
@@ -159,6 +159,7 @@ module _ (m : Groups) (h t k : ℕ) (es : Groups) (w : IsThreaded m h t k) (view
 -- entries that are appended until n are vacant
 pub record IsReserving (n : ℕ) (old new : Groups) : Type 0 where
   pub kept : new ≡ old ++ vacant (length new - length old)
+  pub chunks : (c : ℕ) × (length new ≡ length old + 1024 * c)
   pub few : spare new ≤ max (spare old) (n + 1023)
   pub live : live new ≡ live old
   pub enough : n ≤ spare old → new ≡ old
@@ -168,6 +169,7 @@ reserving n old =
     let none : length old - length old ≡ 0 = omega arith in
     record {
       kept = sym (append-nil old) ∙ ap (λ k. old ++ vacant k) (sym none);
+      chunks = (0, omega arith);
       few = le-max_left (spare old) (n + 1023);
       live = refl;
       enough = λ l. refl;
@@ -194,6 +196,7 @@ reserving_more n old new after r l e =
             ∙ append_assoc old (vacant (length new - length old)) (vacant 1024)
             ∙ ap (λ gs. old ++ gs)
             (replicate_more (length new - length old) 1024 ∙ ap vacant count);
+        chunks = (let (c, is) = r.chunks in (c + 1, omega (arith, longer, is)));
         few =
             subst (λ k. k ≤ max (spare old) (n + 1023)) (sym more)
             (let top = le-max_right (spare old) (n + 1023) in

@@ -1,5 +1,5 @@
-ghost use Rattle.std.specs.Prelude.{◌≡◌, ◌+◌, ◌-◌, ◌<◌, ◌≤◌, ◌^◌, [], ◌++◌, length, slice_set};
-ghost use Rattle.std.specs.Prelude.{Some, None, OnOk, OnErr, IsOk, max, pos};
+ghost use Rattle.std.specs.Prelude.{◌≡◌, ℕ, ◌+◌, ◌-◌, ◌*◌, ◌<◌, ◌≤◌, ◌^◌, [], ◌++◌, length};
+ghost use Rattle.std.specs.Prelude.{slice_set, Some, None, OnOk, OnErr, IsOk, max, pos};
 ghost use Rattle.oct_arena.specs.declared.node.Node.TheVariants.{Inner};
 ghost use Rattle.oct_key.specs.Block.{Cube};
 ghost use Rattle.oct_key.specs.CubeOf.{cube_of};
@@ -74,12 +74,13 @@ impl NodeArena {
     /// Makes room for n more groups, and for at most 1,023 more than these where there wasn't room
     /// for n. The groups and their ids stay.
     ///
-    /// `Memory` comes only where there wasn't room for n.
+    /// `Memory` comes only where there wasn't room for n. Whole chunks were appended then, or none.
     pub fn reserve(&mut self, n: u32) -> Result<(), Memory>
         requires { live self.old + n ≤ 2 ^ 31 }
         ensures room { OnOk result (n ≤ spare self.new) }
         ensures enough { n ≤ spare self.old → IsOk result × (self.new ≡ self.old) }
         ensures kept { self.new ≡ self.old ++ vacant (length self.new - length self.old) }
+        ensures chunks { (c : ℕ) × (length self.new ≡ length self.old + 1024 * c) }
         ensures few { spare self.new ≤ max (spare self.old) (n + 1023) }
         ensures live { live self.new ≡ live self.old }
         ensures arena { IsArena self.new }

@@ -36,6 +36,9 @@ grow-preserved c = (after c).0
 pub returns-in_err-grow-clause-kept : goal.returns-in_err-grow-clause-kept
 returns-in_err-grow-clause-kept c = rw (c.in_err-grow.ensures.err) c.grow.invariant.kept
 
+pub returns-in_err-grow-clause-chunks : goal.returns-in_err-grow-clause-chunks
+returns-in_err-grow-clause-chunks c = rw (c.in_err-grow.ensures.err) c.grow.invariant.chunks
+
 pub returns-in_err-grow-clause-few : goal.returns-in_err-grow-clause-few
 returns-in_err-grow-clause-few c = rw (c.in_err-grow.ensures.err) c.grow.invariant.few
 
@@ -52,6 +55,9 @@ returns-clause-room c = omega (arith, c.spare.ensures.exact, c.grow-test.false)
 
 pub returns-clause-kept : goal.returns-clause-kept
 returns-clause-kept c = c.grow.invariant.kept
+
+pub returns-clause-chunks : goal.returns-clause-chunks
+returns-clause-chunks c = c.grow.invariant.chunks
 
 pub returns-clause-few : goal.returns-clause-few
 returns-clause-few c = c.grow.invariant.few
