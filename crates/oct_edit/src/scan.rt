@@ -469,8 +469,8 @@ impl<'a> ScanUpdate<'a> {
     }
 }
 
-/// Parts bricks of one block of that depth: those in child i, the first one that has some, and those
-/// in later ones.
+/// Parts bricks of one block of that depth: those in child i, the first one that has some, and
+/// those in later ones.
 fn split_bricks<'a>(bricks: &'a [Brick], depth: u8, i: u8) -> (&'a [Brick], &'a [Brick])
     requires depth { depth ≤ 13 }
     requires first { IsFirstBrick depth bricks.now i }
