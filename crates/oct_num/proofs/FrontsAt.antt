@@ -45,7 +45,11 @@ pub sign_there : (text : List ℕ) (from : ℕ) → HasAt text from 45 ≡ true
     → (from < length text) × (true ≡ has_minus (drop from text))
     × (drop (from + 1) text ≡ without_minus (drop from text))
 sign_there text from there =
-    let p = byte_there text from 45 there in (p.0, sym (ap has_minus p.1), sym (ap without_minus p.1))
+    let p = byte_there text from 45 there in (
+      p.0,
+      sym (ap has_minus p.1),
+      sym (ap without_minus p.1),
+    )
 
 pub sign_absent : (text : List ℕ) (from : ℕ) → HasAt text from 45 ≡ false → from ≤ length text
     → (false ≡ has_minus (drop from text)) × (drop from text ≡ without_minus (drop from text))
@@ -83,7 +87,8 @@ pub fraction_empty : (text : List ℕ) (point end digits : ℕ)
     → end ≡ point + 1 + prefix_len is_digit (drop (point + 1) text) → digits ≡ end - (point + 1)
     → digits ≡ 0 → fraction_front (drop point text) ≡ []
 fraction_empty text point end digits there ends counted none =
-    let count : prefix_len is_digit (drop (point + 1) text) ≡ 0 = omega (arith, ends, counted, none) in
+    let count : prefix_len is_digit (drop (point + 1) text) ≡ 0 =
+    omega (arith, ends, counted, none) in
     there ∙ ap (λ n. take n (drop (point + 1) text)) count
 
 -- more than nine digits follow it
@@ -112,10 +117,12 @@ pub fraction_some : (text : List ℕ) (point whole value end digits scale n : �
     × (n ≡ whole * 10 ^ 9 + decimal_value (fraction_front (drop point text))
     * 10 ^ (9 - length (fraction_front (drop point text))))
     × (drop end text ≡ fraction_rest (drop point text))
-fraction_some text point whole value end digits scale n there ends counted some few is unit product =
+fraction_some text point whole value end digits scale n there ends counted some few is unit
+    product =
     let size : length (take_while is_digit (drop (point + 1) text)) ≡ digits =
     front_count (drop (point + 1) text) ∙ omega (arith, ends, counted) in
-    let count : prefix_len is_digit (drop (point + 1) text) ≡ digits = omega (arith, ends, counted) in
+    let count : prefix_len is_digit (drop (point + 1) text) ≡ digits =
+    omega (arith, ends, counted) in
     let f = decimal_value (take_while is_digit (drop (point + 1) text)) in
     let nine : 9 ≡ digits + (9 - digits) = omega (arith, few) in
     let split : 10 ^ 9 ≡ 10 ^ digits * 10 ^ (9 - digits) =

@@ -23,8 +23,8 @@ fn count_digits(text: &[u8]) -> usize
     text.iter().take_while(|byte| byte.is_ascii_digit()).count()
 }
 
-/// Reads on in a number: the number of the digits read before and of those that stand in a text from
-/// an index on, and the index behind these. Of more than eighteen digits in all it may be any.
+/// Reads on in a number: the number of the digits read before and of those that stand in a text
+/// from an index on, and the index behind these. Of more than eighteen digits in all it may be any.
 #[inline(always)]
 pub(crate) fn add_digits(front: u64, text: &[u8], from: usize) -> (u64, usize)
     requires { from ≤ length text.now }

@@ -66,7 +66,8 @@ pub fn split_metres(text: &[u8]) -> Option<(i64, &[u8])>
     Some((nm, rest))
 }
 
-/// Does what [`split_metres`] does for the text from an index on, and answers the index of the rest.
+/// Does what [`split_metres`] does for the text from an index on, and answers the index of the
+/// rest.
 #[inline(always)]
 pub fn metres_at(text: &[u8], from: usize) -> Option<(i64, usize)>
     requires { from ≤ length text.now }

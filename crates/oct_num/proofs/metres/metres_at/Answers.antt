@@ -11,7 +11,8 @@ returns-then-digits-eq0-clause-exact c =
     front_missing c.args.text.now c.args.from _ _ _ c.skip_sign-minus.ensures.rest
     c.add_digits-whole.ensures.end refl (inl c.if-digits-eq0.true)
 
-pub returns-then-digits-gt-MOST_WHOLE_DIGITS-clause-exact : goal.returns-then-digits-gt-MOST_WHOLE_DIGITS-clause-exact
+pub returns-then-digits-gt-MOST_WHOLE_DIGITS-clause-exact :
+    goal.returns-then-digits-gt-MOST_WHOLE_DIGITS-clause-exact
 returns-then-digits-gt-MOST_WHOLE_DIGITS-clause-exact c =
     front_missing c.args.text.now c.args.from _ _ _ c.skip_sign-minus.ensures.rest
     c.add_digits-whole.ensures.end refl (inr (inl c.if-digits-gt-MOST_WHOLE_DIGITS.true))
