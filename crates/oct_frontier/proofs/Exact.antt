@@ -1,11 +1,11 @@
 -- What is found in the whole map, in order, is the frontier.
-use Rattle.std.proofs.Common.{◌≡◌, ℕ, ◌≤◌, true, Bool, Result, Ok, Err, List, [], ◌∷◌, ◌++◌, length}
-use Rattle.std.proofs.Common.{cond, refl, sym, ap, subst, ◌∙◌, arith}
+use Rattle.std.proofs.Common.{◌≡◌, ℕ, zero, suc, ◌<◌, ◌≤◌, IsOk, true, Bool, Result, Ok, Err, List}
+use Rattle.std.proofs.Common.{[], ◌∷◌, ◌++◌, length, cond, refl, sym, ap, subst, ◌∙◌, arith}
 use Rattle.std.specs.Prelude.{◌&&◌, IfErr, filter}
 use Rattle.std.specs.List.{AllByRecursion, Contains}
 use Rattle.std.specs.List.Sorted.{IsSorted, IsPermutation, IsStrictlySortedBy}
 use Rattle.std.specs.declared.cmp.Ordering.TheVariants.{Less}
-use Rattle.std.proofs.lemmas.Bool.{and_parts}
+use Rattle.std.proofs.lemmas.Bool.{and_parts, false≢true}
 use Rattle.std.proofs.lemmas.List.Sums.{length-filter}
 use Rattle.std.proofs.lemmas.List.Elements.{All-contains, All-filter}
 use Rattle.std.proofs.lemmas.List.Kept.{IsStrictlySortedBy-filter}
@@ -147,9 +147,15 @@ pub right_of : (classes : Classes) (lo hi : Voxel) (list : List Voxel)
 right_of classes lo hi list e =
     subst (IsFrontierBetween classes lo hi) (sym e) (frontier_right classes lo hi)
 
--- out of memory comes only where there are few enough
+-- what is done for none fails only for some
+pub not_none : {A E : Type 0} {e : E} (count : ℕ) (r : Result A E) → r ≡ Err e
+    → (count ≡ 0 → IsOk r) → 0 < count
+not_none zero r is none = absurd (false≢true (subst IsOk is (none refl)))
+not_none (suc count) r is none = omega arith
+
+-- out of memory comes only where there are some, and few enough
 pub refused_by_memory : {A : Type 0} (r : Result A FrontierFault) (count most : ℕ)
     → IfErr r (λ fault. fault ≡ Memory)
-    → count ≤ most → IfErr r (λ fault. IsRefused fault count most)
+    → (0 < count) × (count ≤ most) → IfErr r (λ fault. IsRefused fault count most)
 refused_by_memory (Ok x) count most h few = tt
 refused_by_memory (Err fault) count most h few = subst (λ q. IsRefused q count most) (sym h) few

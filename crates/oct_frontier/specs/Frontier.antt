@@ -53,7 +53,8 @@ pub record IsFrontierBetween (classes : Classes) (lo hi : Voxel) (list : List Vo
   pub inside : All IsInMap list
   pub exact : (k : Voxel) → IsInMap k → Contains list k ↔ (IsInBox lo hi k × IsFrontier classes k)
 
--- why a frontier is refused: it has more voxels than are allowed; or it has not, and memory ran out
+-- why a frontier is refused: it has more voxels than are allowed; or it has some, and no more, and
+-- memory ran out
 abbrev pub IsRefused : FrontierFault → ℕ → ℕ → Type 0
 IsRefused TooManyFrontiers count most = most < count
-IsRefused Memory count most = count ≤ most
+IsRefused Memory count most = (0 < count) × (count ≤ most)

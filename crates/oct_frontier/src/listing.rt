@@ -1,4 +1,4 @@
-ghost use Rattle.std.specs.Prelude.{◌≡◌, ◌<◌, ◌≤◌, length, IfOk, IfErr};
+ghost use Rattle.std.specs.Prelude.{◌≡◌, ◌<◌, ◌≤◌, length, IsOk, IfOk, IfErr};
 ghost use Rattle.oct_key.specs.Block.{root_block};
 ghost use Rattle.oct_key.specs.Boxes.{IsBox};
 ghost use Rattle.oct_key.specs.CubeOf.{cube_of};
@@ -20,7 +20,7 @@ use std::alloc::Global;
 ///
 /// A neighbour counts where it lies beyond the corners too. Where there are more than `most`, the
 /// answer is `TooManyFrontiers`, and none is listed. Memory is taken once, for exactly the voxels
-/// of the answer.
+/// of the answer, and none where there are none.
 pub fn frontier(
     alloc: Global,
     tree: &OccTree,
@@ -57,6 +57,7 @@ fn list_all(
     requires order { IsBox lo hi }
     requires count { length (found_in tree.now lo hi root_block) ≡ count }
     ensures exact { IfOk result (λ list. list ≡ frontier_between (classes_in tree.now) lo hi) }
+    ensures none { count ≡ 0 → IsOk result }
 {
     let mut keys = Vec::with_capacity(alloc, count as usize)?;
     list_under(tree, whole, lo, hi, &mut keys);

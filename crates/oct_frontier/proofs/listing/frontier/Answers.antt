@@ -1,7 +1,7 @@
-use Rattle.std.proofs.Common.{◌<◌, length, refl, ap, subst, rules, arith}
+use Rattle.std.proofs.Common.{◌<◌, ◌-◌, length, refl, ap, subst, rules, arith}
 use Rattle.oct_key.specs.CubeOf.{cube_of}
 use Rattle.oct_frontier.specs.Found.{found_in}
-use Rattle.oct_frontier.proofs.Exact.{count_is, right_of, refused_by_memory}
+use Rattle.oct_frontier.proofs.Exact.{count_is, right_of, refused_by_memory, not_none}
 use Rattle.oct_frontier.proofs.listing.frontier.Goals as goal
 
 pub list_all-requires-clause-count : goal.list_all-requires-clause-count
@@ -23,8 +23,10 @@ returns-in_err-keys-clause-refused c =
     let counted = c.in-Some.ensures.counted in
     let same = count_is c.args.tree.now c.args.lo c.args.hi (cube_of c.whole-whole.result.block)
     c.whole-whole.ensures.block in
+    let some : 0 < c.args.most - c.in-Some.left =
+    not_none _ c.list_all.result c.in_err-keys.was c.list_all.ensures.none in
     refused_by_memory c.from_residual.result _ c.args.most (search rules)
-    (omega (arith, counted, same))
+    (omega (arith, counted, same, some), omega (arith, counted, same))
 
 pub returns-clause-right : goal.returns-clause-right
 returns-clause-right c = right_of _ _ _ _ c.in_ok-keys.ensures.exact
