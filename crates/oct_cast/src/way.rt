@@ -1,5 +1,5 @@
 //! The way down a tree to a voxel, kept from one voxel to the next.
-ghost use Rattle.std.specs.Prelude.{◌≡◌, ◌≢◌, ◌+◌, ◌*◌, ◌-◌, ◌/◌, ◌%◌, ◌^◌, ◌<◌, ◌≤◌, ◌↔◌, IsTrue};
+ghost use Rattle.std.specs.Prelude.{◌≡◌, ◌≢◌, ◌+◌, ◌*◌, ◌-◌, ◌/◌, ◌^◌, ◌<◌, ◌≤◌, ◌↔◌, IsTrue};
 ghost use Rattle.std.specs.Prelude.{ℕ, Some};
 ghost use Rattle.oct_key.specs.Voxel.{Voxel};
 ghost use Rattle.oct_key.specs.Morton.{code_prefix};
@@ -8,7 +8,7 @@ ghost use Rattle.oct_tree.specs.Tree.{value_at};
 ghost use Rattle.oct_cast.specs.Way.{IsCodeOf, AreLinked, LeadsTo};
 
 use oct_arena::{GroupId, Node};
-use oct_tree::OccTree;
+use oct_tree::{Descent, OccTree};
 
 /// The way down a tree to a voxel: through the groups that the nodes over it link, to the node that
 /// isn't Inner.
@@ -97,24 +97,16 @@ impl Way {
     {
         let arena = tree.arena();
         let mut depth = self.depth;
-        let mut node = arena.node(self.groups[depth as usize], child_index(code, depth));
+        let mut way = Descent::new(code, depth);
+        let mut node = arena.node(self.groups[depth as usize], way.step());
         while let Node::Inner(_, id) = node {
             depth += 1;
             self.groups[depth as usize] = id;
-            node = arena.node(id, child_index(code, depth));
+            node = arena.node(id, way.step());
         }
         self.depth = depth + 1;
         self.height = 3 * (15 - depth);
         self.block = code >> self.height;
         node
     }
-}
-
-/// Which child of the block of that depth holds the voxel of a code.
-fn child_index(code: u64, depth: u8) -> u8
-    requires { depth ≤ 15 }
-    ensures exact { result ≡ code / 2 ^ (3 * (15 - depth)) % 8 }
-    ensures few { result ≤ 7 }
-{
-    ((code >> (3 * (15 - depth))) & 7) as u8
 }

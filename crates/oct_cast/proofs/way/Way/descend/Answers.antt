@@ -17,8 +17,10 @@ loop-node-init c = (
   under_start c.args.tree.now c.requires.linked.0 _ c.args.self.now.groups c.args.code
       c.args.self.now.depth _ _ _
       c.arena-arena.ensures.exact c.requires.linked.1 c.requires.depth c.requires.linked.2
-      c.child_index.ensures.exact c.node-node.ensures.exact,
+      (c.step.ensures.child c.args.self.now.depth c.args.code c.requires.depth c.new-way.ensures)
+      c.node-node.ensures.exact,
   search rules,
+  c.step.ensures.onward c.args.self.now.depth c.args.code c.new-way.ensures,
 )
 
 pub bounds-self-depth-in-Inner : goal.bounds-self-depth-in-Inner
@@ -34,25 +36,24 @@ listed-in-Inner c =
     let sixteen = c.loop-node.invariant.1 in
     omega (arith, deep, sixteen)
 
-pub child_index-requires-in-Inner : goal.child_index-requires-in-Inner
-child_index-requires-in-Inner c =
-    under_linked c.args.tree.now _ _ _ _ c.in-Inner.id.number c.arena-arena.ensures.linked
-    c.loop-node.invariant.0 (ap link_of c.in-Inner.is)
-
 pub node-node-requires-in-Inner-clause-live : goal.node-node-requires-in-Inner-clause-live
 node-node-requires-in-Inner-clause-live c =
     under_live c.args.tree.now _ _ _ _ _ c.in-Inner.id.number c.arena-arena.ensures.linked
     c.arena-arena.ensures.exact c.loop-node.invariant.0 (ap link_of c.in-Inner.is)
 
 pub loop-node-preserved : goal.loop-node-preserved
-loop-node-preserved c = (
-  under_step c.args.tree.now _ c.loop-node.self.groups c.args.code c.loop-node.depth _
-      c.in-Inner.id _ _ c.arena-arena.ensures.linked c.arena-arena.ensures.exact
-      c.loop-node.invariant.0 (ap link_of c.in-Inner.is) c.loop-node.invariant.1
-      c.child_index-in-Inner.ensures.exact c.node-node-in-Inner.ensures.exact,
-  length-set c.loop-node.self.groups (c.loop-node.depth + 1) c.in-Inner.id
-      ∙ c.loop-node.invariant.1,
-)
+loop-node-preserved c =
+    let (under, sixteen, way) = c.loop-node.invariant in
+    let deep = under_linked c.args.tree.now _ _ _ _ c.in-Inner.id.number
+    c.arena-arena.ensures.linked under (ap link_of c.in-Inner.is) in (
+      under_step c.args.tree.now _ c.loop-node.self.groups c.args.code c.loop-node.depth _
+          c.in-Inner.id _ _ c.arena-arena.ensures.linked c.arena-arena.ensures.exact under
+          (ap link_of c.in-Inner.is) sixteen
+          (c.step-in-Inner.ensures.child (c.loop-node.depth + 1) c.args.code deep way)
+          c.node-node-in-Inner.ensures.exact,
+      length-set c.loop-node.self.groups (c.loop-node.depth + 1) c.in-Inner.id ∙ sixteen,
+      c.step-in-Inner.ensures.onward (c.loop-node.depth + 1) c.args.code way,
+    )
 
 pub returns : goal.returns
 returns c =
