@@ -126,8 +126,7 @@ impl Changes {
         ensures err { OnErr result (self.new ≡ self.old) }
     {
         let gone = self.notes.len() - left;
-        self.notes
-            .reserve_exact(n.max(left).saturating_sub(gone))?;
+        self.notes.reserve_exact(n.max(left).saturating_sub(gone))?;
         Ok(())
     }
 
