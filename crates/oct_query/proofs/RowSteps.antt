@@ -4,6 +4,7 @@ use Rattle.std.proofs.Common.{◌≤◌, List, [], ◌∷◌, ◌++◌, map, len
 use Rattle.std.proofs.Common.{refl, sym, subst, ◌∙◌, ap, arith}
 use Rattle.std.specs.Prelude.{◌⊎◌, ℤ}
 use Rattle.std.specs.List.{filter_map, flat_map}
+use Rattle.std.proofs.lemmas.Bool.{cases_lt}
 use Rattle.std.proofs.lemmas.List.{append-nil, append_assoc, map-append}
 use Rattle.std.proofs.lemmas.List.Elements.{filter_map-append}
 use Rattle.std.proofs.lemmas.Grind.{flat_map-append}
@@ -140,6 +141,44 @@ found_more f old now new xs ys zs is more all =
 pub found_none : {X Y : Type 0} (f : X → Option Y) (old : List Y) (xs : List X) → xs ≡ []
     → old ≡ old ++ filter_map f xs
 found_none f old xs none = sym (append-nil old) ∙ ap (λ l. old ++ filter_map f l) (sym none)
+
+-- where nothing is found in some blocks and in those before them, nothing is in either
+none_parts : {X Y : Type 0} (f : X → Option Y) (xs ys zs : List X) → zs ≡ xs ++ ys
+    → filter_map f zs ≡ [] → (filter_map f xs ≡ []) × (filter_map f ys ≡ [])
+none_parts f xs ys zs all none =
+    parts (filter_map f xs) (filter_map f ys)
+    (sym (filter_map-append f xs ys) ∙ ap (filter_map f) (sym all) ∙ none)
+  where
+    parts : {A : Type 0} (ls rs : List A) → ls ++ rs ≡ [] → (ls ≡ []) × (rs ≡ [])
+    parts [] rs e = (refl, e)
+    parts (a ∷ ls) rs e = cc
+
+-- where nothing is found up to a number, nothing is at each one below it
+pub none_within : {X Y : Type 0} (f : X → Option Y) (upto each : ℕ → List X) (from : ℕ)
+    → ((z : ℕ) → from ≤ z → upto (z + 1) ≡ upto z ++ each z) → (to z : ℕ) → from ≤ z → suc z ≤ to
+    → filter_map f (upto to) ≡ [] → filter_map f (each z) ≡ []
+none_within f upto each from more zero z low high none = absurd (omega (arith, high))
+none_within {X} f upto each from more (suc to) z low high none =
+    let next : upto (suc to) ≡ upto to ++ each to = ap upto (one_more to)
+    ∙ more to (omega (arith, low, high)) in
+    let parts = none_parts f (upto to) (each to) (upto (suc to)) next none in
+    elim (cases_lt z to) [
+      | inl below ↦ none_within f upto each from more to z low below parts.0
+      | inr above ↦ (let last : z ≡ to = omega (arith, high, above) in
+          ap (λ (n : ℕ). filter_map f (each n)) last ∙ parts.1)
+    ]
+  where
+    one_more : (n : ℕ) → suc n ≡ n + 1
+    one_more n = omega arith
+
+pub none_listed : (values : Values) (lo hi : Voxel) (depth : ℕ) (bs : List Cube)
+    → bs ≡ met_blocks lo hi depth → listed_blocks values lo hi depth ≡ []
+    → filter_map (shown values) bs ≡ []
+unfolding listed_blocks
+none_listed values lo hi depth bs all none = ap (filter_map (shown values)) all ∙ none
+
+pub one_isnt_none : {A : Type 0} (a : A) → a ∷ [] ≡ [] → ⊥
+one_isnt_none a e = cc
 
 -- the value that stands over a block is what it answers
 pub stored_answer : (t : Tree) (b : Cube) (n : Node) → IsLinked t → IsBlock b

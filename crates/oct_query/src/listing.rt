@@ -1,5 +1,5 @@
 ghost use Rattle.std.specs.Prelude.{◌≡◌, ◌+◌, ◌-◌, ◌*◌, ◌/◌, ◌^◌, ◌<◌, ◌≤◌, ◌⊎◌, ◌++◌, ◌∷◌, []};
-ghost use Rattle.std.specs.Prelude.{length, IfOk, IfErr, OnOk};
+ghost use Rattle.std.specs.Prelude.{length, Err, IfOk, IfErr, OnOk, OnErr};
 ghost use Rattle.std.specs.List.{filter_map};
 ghost use Rattle.oct_key.specs.Block.{side};
 ghost use Rattle.oct_key.specs.CubeOf.{cube_of};
@@ -7,6 +7,7 @@ ghost use Rattle.oct_key.specs.Order.{block_numbered};
 ghost use Rattle.oct_key.specs.Boxes.{IsBox};
 ghost use Rattle.oct_tree.specs.Tree.{value_at};
 ghost use Rattle.oct_tree.specs.Shape.{IsFresh};
+ghost use Rattle.oct_query.specs.declared.fault.ListFault.{ListFault};
 ghost use Rattle.oct_query.specs.Listed.{met_blocks, listed_blocks, shown, IsRefused};
 ghost use Rattle.oct_query.specs.Paths.{IsPathOf};
 ghost use Rattle.oct_query.specs.Rows.{row_blocks, plane_blocks};
@@ -44,6 +45,8 @@ pub fn list(
     ensures few { IfOk result (λ _. length (met_blocks lo hi depth) ≤ most) }
     ensures refused { IfErr result
         (λ fault. IsRefused fault (length (met_blocks lo hi depth)) most) }
+    ensures memory { result ≡ Err ListFault.Memory
+        → listed_blocks (value_at tree.now) lo hi depth ≡ [] → ⊥ }
 {
     let xs = span_on(lo.x, hi.x, depth);
     let ys = span_on(lo.y, hi.y, depth);
@@ -110,9 +113,11 @@ fn list_plane(
     requires x { x < 2 ^ depth }
     requires y { (ys.from < ys.to) × (ys.to ≤ 2 ^ depth) }
     requires z { (zs.from < zs.to) × (zs.to ≤ 2 ^ depth) }
-    ensures { OnOk result (IsPathOf tree.now path.new × (found.new ≡ found.old
+    ensures listed { OnOk result (IsPathOf tree.now path.new × (found.new ≡ found.old
         ++ filter_map (shown (value_at tree.now))
         (plane_blocks depth x ys.from (ys.to - ys.from) zs.from (zs.to - zs.from)))) }
+    ensures memory { OnErr result (filter_map (shown (value_at tree.now))
+        (plane_blocks depth x ys.from (ys.to - ys.from) zs.from (zs.to - zs.from)) ≡ [] → ⊥) }
 {
     for y in ys.from..ys.to {
         list_row(tree, path, found, depth, x, y, zs)?;
@@ -136,9 +141,11 @@ fn list_row(
     requires x { x < 2 ^ depth }
     requires y { y < 2 ^ depth }
     requires z { (zs.from < zs.to) × (zs.to ≤ 2 ^ depth) }
-    ensures { OnOk result (IsPathOf tree.now path.new × (found.new ≡ found.old
+    ensures listed { OnOk result (IsPathOf tree.now path.new × (found.new ≡ found.old
         ++ filter_map (shown (value_at tree.now))
         (row_blocks depth x y zs.from (zs.to - zs.from)))) }
+    ensures memory { OnErr result (filter_map (shown (value_at tree.now))
+        (row_blocks depth x y zs.from (zs.to - zs.from)) ≡ [] → ⊥) }
 {
     for z in zs.from..zs.to {
         list_block(tree, path, found, block_at(depth, x, y, z))?;
@@ -155,8 +162,10 @@ fn list_block(
 ) -> Result<(), Memory>
     requires path { IsPathOf tree.now path.old }
     requires answers { IsFresh tree.now ⊎ (block.depth ≡ 16) }
-    ensures { OnOk result (IsPathOf tree.now path.new × (found.new ≡ found.old
+    ensures listed { OnOk result (IsPathOf tree.now path.new × (found.new ≡ found.old
         ++ filter_map (shown (value_at tree.now)) (cube_of block ∷ []))) }
+    ensures memory { OnErr result
+        (filter_map (shown (value_at tree.now)) (cube_of block ∷ []) ≡ [] → ⊥) }
 {
     let node = path.go(tree, lowest_voxel(block), block.depth);
     match node.stored() {
