@@ -3,13 +3,14 @@ ghost use Rattle.oct_key.specs.Block.{root_block};
 ghost use Rattle.oct_odds.specs.declared.event.Class.TheVariants.{Free, Occupied};
 ghost use Rattle.oct_values.specs.Blocks.{voxels_of};
 ghost use Rattle.oct_values.specs.Classes.{Classes, is_same_class};
-ghost use Rattle.oct_bt.specs.Canonical.{canonical_data};
+ghost use Rattle.oct_bt.specs.Canonical.{canonical_data, node_total};
 ghost use Rattle.oct_bt.specs.DataClasses.{is_canonical};
 ghost use Rattle.oct_bt.specs.Plain.{is_canonical_data};
 ghost use Rattle.oct_bt.specs.NodeData.{IsAccepted, IsDataOf};
 ghost use Rattle.oct_bt.specs.Records.{record_total};
 
 use crate::code_list::CodeList;
+use crate::node_reader::nodes_in;
 use crate::path::{has_plain, record_codes};
 use crate::voxels::{Voxels, count_record};
 use oct_key::Res;
@@ -46,6 +47,19 @@ impl BtFile {
         ensures { result ≡ record { res = res; codes = codes; nodes = nodes } }
     {
         BtFile { res, codes, nodes }
+    }
+
+    /// A file of this resolution, whose records are these. Reads each byte once.
+    pub fn of_records(res: Res, records: Vec<u8>) -> Self
+        requires { IsAccepted (node_total records.items) records.items }
+        ensures { result ≡ record {
+          res = res;
+          codes = records.items;
+          nodes = node_total records.items;
+        } }
+    {
+        let nodes = nodes_in(&records) as u64;
+        BtFile::new(res, CodeList::of(records), nodes)
     }
 
     /// The resolution.

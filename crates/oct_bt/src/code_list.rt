@@ -28,6 +28,13 @@ impl CodeList {
         }
     }
 
+    /// The records of these bytes.
+    pub(crate) fn of(bytes: Vec<u8>) -> Self
+        ensures { result ≡ bytes.items }
+    {
+        CodeList { bytes }
+    }
+
     /// The bytes in order.
     pub fn as_slice(&self) -> &[u8]
         ensures { result.now ≡ self.now }

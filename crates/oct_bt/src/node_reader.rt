@@ -13,7 +13,7 @@ use std::alloc::Global;
 use std::marker::Model;
 
 /// How many nodes the records stand for.
-fn nodes_in(records: &[u8]) -> u128
+pub(crate) fn nodes_in(records: &[u8]) -> u128
     ensures { result ≡ node_total records.now }
 {
     if records.is_empty() {

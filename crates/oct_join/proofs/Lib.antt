@@ -1,0 +1,5 @@
+pub mod Records
+pub mod Whole
+pub mod Walks
+pub mod Classes
+pub mod Closings

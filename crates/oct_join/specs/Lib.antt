@@ -1,0 +1,3 @@
+pub mod Merged
+pub mod Joined
+pub mod Sides

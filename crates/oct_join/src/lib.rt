@@ -1,0 +1,27 @@
+//! The maps of two `.bt` files, joined record by record.
+//!
+//! ```text
+//! let file = join(alloc, Rule::Greatest, &first, &second)?;
+//! rewrite(&file, &mut sink)?;
+//! ```
+//!
+//! [`join`] makes the canonical file of the merged map of two files: each voxel has the class that
+//! the rule makes of its two (`merged_class` in `specs/Merged.antt`), and the node data is the
+//! canonical one of these classes, whatever the records of the two files were. No tree is made.
+//!
+//! It is one recursion over blocks, with the code of the block in each file and the text from its
+//! record on. Both texts are read side by side, each byte once. A block of one class stands for
+//! eight children of it, and reads nothing. A record's place is kept free, its children are
+//! appended after it, and then the record is written there; where all eight came out as one class,
+//! it is taken off again, and the block is of that class. So what was appended for a block is its
+//! canonical data. Room for as many bytes as both files have is asked for once.
+//!
+//! The recursion is at most 16 deep. The program stands on it, for its task `merge` over two files.
+#![tactic(auto)]
+
+mod codes;
+mod joining;
+mod laws;
+
+pub use joining::join;
+pub use laws::merged_classes_are_exact;
