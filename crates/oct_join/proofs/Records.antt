@@ -239,7 +239,8 @@ joined_gives with (Record r es) (Plain b fs) d (suc n) (suc i) k (low, inner, he
 joined_gives with (Record r es) (Record s fs) d (suc n) zero k (low, inner, he)
     (low', inner', hf) l =
     closed_first (joined with r s) (joined with es fs) d k
-    (with (class_by (suc d) r k) (class_by (suc d) s k)) (joined_are with r s (suc d) 8 inner inner')
+    (with (class_by (suc d) r k) (class_by (suc d) s k))
+    (joined_are with r s (suc d) 8 inner inner')
     (joined_gives with r s (suc d) 8 (child_index_of (suc d) k) k inner inner'
     (child_index_below (suc d) k))
 joined_gives with (Record r es) (Record s fs) d (suc n) (suc i) k (low, inner, he)

@@ -106,8 +106,8 @@ pub record IsNext (d code : ℕ) (text : List ℕ) (next rest n : ℕ) (r : Entr
   pub side : IsSide (d + 1) (rest % 4) (next_child es)
   pub front : drop next text
       ≡ side_text (rest % 4) (next_child es) ++ (bodies_of (after_child es) ++ tail)
-  pub after : IsAhead d code text (next + length (side_text (rest % 4) (next_child es))) (rest / 4) n
-      r tail (after_child es)
+  pub after : IsAhead d code text (next + length (side_text (rest % 4) (next_child es)))
+      (rest / 4) n r tail (after_child es)
   pub low : rest % 4 ≡ 3 → d < 15
 
 pub side_next : (d code : ℕ) (text : List ℕ) (next rest n : ℕ) (r : Entries) (tail : List ℕ)
@@ -325,8 +325,8 @@ pub same_joining : (with : Class → Class → Class) (d a b : ℕ) (first secon
     → new ≡ now → at' ≡ at → to' ≡ to → codes' ≡ codes
     → IsJoining with d a b first second r s p q old now at to left other codes unit i
     → IsJoining with d a b first second r s p q old new at' to' left other codes' unit i
-same_joining with d a b first second r s p q old now new at at' to to' left other codes codes' unit i
-    now_is at_is to_is codes_is j =
+same_joining with d a b first second r s p q old now new at at' to to' left other codes codes'
+    unit i now_is at_is to_is codes_is j =
     subst (λ (t : List ℕ). IsJoining with d a b first second r s p q old t at' to' left other codes'
     unit i) (sym now_is)
     (subst (λ (n : ℕ). IsJoining with d a b first second r s p q old now n to' left other codes'
@@ -456,7 +456,8 @@ not_parted false l o when is =
 pub fits_text : (m : ℕ) (piece text tail : List ℕ) → m ≤ length piece → text ≡ piece ++ tail
     → m ≤ length text
 fits_text m piece text tail few is =
-    (let long : length text ≡ length piece + length tail = ap length is ∙ length-append piece tail in
+    (let long : length text ≡ length piece + length tail =
+    ap length is ∙ length-append piece tail in
     omega (arith, few, long))
 
 pub product_fits : (codes unit code n : ℕ) → n ≡ code → codes + unit * code < 65536
