@@ -129,6 +129,11 @@ def main():
         write_deep(room / "deep", 2 * ((1 << 24) - 1) + 200)
         failed |= measure("a load of 2^24 groups", session, 1400, b"load deep\n")
         failed |= measure("and once more", session, 2600, b"load deep\nload deep\n")
+        write_deep(room / "deep", 1 << 29)
+        write_deep(room / "other", (1 << 29) - (1 << 20))
+        failed |= measure("a merge of two files of 2^29 bytes", "merge greatest deep other", 1700,
+                          b"")
+        (room / "other").unlink()
         write_deep(room / "deep", 1 << 30)
         # (accepted as a file, and refused as full)
         failed |= measure("a load of a file of 2^30 bytes", session, 2200, b"load deep\n", 1)

@@ -1,13 +1,9 @@
 -- The merged map of two files, and the table of their classes.
-use Rattle.std.proofs.Common.{◌≡◌, ℕ, zero, suc, ◌≤◌, ◌^◌, Bool, true, false, List, ◌++◌, length}
-use Rattle.std.proofs.Common.{Option, Some, None, Ok, Err, inl, inr, refl, sym, ◌∙◌, ap, subst}
+use Rattle.std.proofs.Common.{◌≡◌, ℕ, ◌≤◌, ◌^◌, List, ◌++◌, length}
+use Rattle.std.proofs.Common.{Ok, Err, inl, inr, sym, ◌∙◌, ap}
 use Rattle.std.proofs.Common.{le_trans}
 use Rattle.std.proofs.Math.Path.{fun_ext}
-use Rattle.std.specs.Prelude.{◌&&◌, ◌||◌, ◌⊎◌, not, nat_eq, count_by, map}
-use Rattle.std.proofs.lemmas.List.Folds.{list_any-append}
-use Rattle.oct_arena.specs.Entries.{Groups, home_of, is_that_home, has_home, spare, vacant}
-use Rattle.oct_arena.specs.declared.node.Group.{Group}
-use Rattle.oct_merge.specs.Need.{is_missing, merge_need}
+use Rattle.std.specs.Prelude.{◌&&◌, ◌⊎◌, nat_eq, map}
 use Rattle.oct_key.specs.Voxel.{Voxel, IsInMap}
 use Rattle.oct_key.specs.Block.{Cube, root_block, HoldsVoxel}
 use Rattle.oct_key.specs.Boxes.{Corners, is_in_box}
@@ -22,12 +18,13 @@ use Rattle.oct_values.specs.Classes.{Classes, classes_of}
 use Rattle.oct_values.proofs.Held.{all_held}
 use Rattle.oct_values.proofs.Sums.{All-follows, count_by-same}
 use Rattle.oct_merge.specs.declared.rule.Rule.{Rule}
-use Rattle.oct_merge.specs.Merged.{merged}
+use Rattle.oct_join.specs.Merged.{merged_classes}
+use Rattle.oct_join.proofs.Classes.{class_merged}
 use Rattle.oct_merge.specs.Pairs.{pair_of, is_counted, pairs_in, places, pair_counts}
 use Rattle.oct_bt.specs.Canonical.{canonical_data, canonical_size, node_total}
 use Rattle.oct_bt.specs.Classes.{value_for}
 use Rattle.oct_bt.specs.DataClasses.{data_classes}
-use Rattle.oct_bt.specs.File.{FileRead, bt_text, header_text, reading}
+use Rattle.oct_bt.specs.File.{FileRead, bt_text, file_text, header_text, reading}
 use Rattle.oct_bt.specs.declared.fault.BtFault.TheVariants as fault
 use Rattle.oct_bt.proofs.Short.{reading_short}
 use Rattle.oct_bt.specs.NodeData.{IsAccepted, IsDataOf}
@@ -57,54 +54,6 @@ filled_values s t u file odds grown accepted values k in_map =
     values (data_classes file.codes) (data_classed file.nodes file.codes accepted) k in_map
     ∙ ap (λ (o : Odds). value_for o (data_classes file.codes k)) (grown.odds ∙ odds)
 
--- a merge of two such trees has the merged values
-pub merged_pair : (rule : Rule) (a b m : Tree) (pair : Pair)
-    → ((k : Voxel) → IsInMap k → value_at a k ≡ values_in pair.first k)
-    → ((k : Voxel) → IsInMap k → value_at b k ≡ values_in pair.second k)
-    → ((k : Voxel) → IsInMap k → value_at m k ≡ merged rule (value_at a k) (value_at b k))
-    → (k : Voxel) → IsInMap k → value_at m k ≡ merged_values rule pair k
-merged_pair rule a b m pair first second values k in_map =
-    values k in_map ∙ ap (λ (v : Value). merged rule v (value_at b k)) (first k in_map)
-    ∙ ap (merged rule (values_in pair.first k)) (second k in_map)
-
--- ---- the need
-
-or_none : (b : Bool) → (b || false) ≡ b
-or_none true = refl
-or_none false = refl
-
--- vacant entries are no homes
-no_homes : (n : ℕ) (b : Cube) → has_home (vacant n) b ≡ false
-no_homes zero b = refl
-no_homes (suc n) b = no_homes n b
-
-homes_kept : (gs : Groups) (n : ℕ) (b : Cube) → has_home (gs ++ vacant n) b ≡ has_home gs b
-homes_kept gs n b =
-    list_any-append (λ e. is_that_home b (home_of e)) gs (vacant n)
-    ∙ ap (λ any. has_home gs b || any) (no_homes n b) ∙ or_none (has_home gs b)
-
-missing_kept : (gs : Groups) (n : ℕ) (e : Option Group)
-    → is_missing (gs ++ vacant n) e ≡ is_missing gs e
-missing_kept gs n None = refl
-missing_kept gs n (Some g) = ap not (homes_kept gs n g.home)
-
--- with more vacant entries a tree needs as many groups
-pub need_kept : (t u other : Tree) (n : ℕ) → u.groups ≡ t.groups ++ vacant n
-    → merge_need u other ≡ merge_need t other
-unfolding merge_need
-need_kept t u other n grown =
-    let same : is_missing (t.groups ++ vacant n) ≡ is_missing t.groups =
-    fun_ext (missing_kept t.groups n) in
-    ap (λ (gs : Groups). count_by (is_missing gs) other.groups) grown
-    ∙ ap (λ (f : Option Group → Bool). count_by f other.groups) same
-
--- and has room for them
-pub need_has_room : (t u other : Tree) (n m : ℕ) → u.groups ≡ t.groups ++ vacant n
-    → m ≡ merge_need t other → m ≤ spare u.groups
-    → merge_need u other ≤ spare u.groups
-need_has_room t u other n m grown exact room =
-    subst (λ k. k ≤ spare u.groups) (exact ∙ sym (need_kept t u other n grown)) room
-
 -- ---- the file
 
 -- files of one node data and one resolution are one text
@@ -113,19 +62,24 @@ same_text : (res : ℕ) (c e : Classes) → canonical_data c ≡ canonical_data 
 unfolding bt_text canonical_size
 same_text res c e same = ap (λ (data' : List ℕ). header_text (node_total data') res ++ data') same
 
--- the file of a tree with the merged values
-pub merged_file : (rule : Rule) (pair : Pair) (t : Tree) → t.res ≡ pair.first.res
-    → t.odds ≡ default_odds
-    → ((k : Voxel) → IsInMap k → value_at t k ≡ merged_values rule pair k)
-    → bt_text t.res (classes_of t.odds (value_at t)) ≡ merged_text rule pair
-unfolding merged_text
-merged_file rule pair t res odds values =
-    ap (λ (r : ℕ). bt_text r (classes_of t.odds (value_at t))) res
-    ∙ same_text pair.first.res (classes_of t.odds (value_at t))
-    (classes_of default_odds (merged_values rule pair))
-    (same_data (classes_of t.odds (value_at t)) (classes_of default_odds (merged_values rule pair))
-    (λ k in_map. ap (class_of t.odds) (values k in_map)
-    ∙ ap (λ (o : Odds). class_of o (merged_values rule pair k)) odds))
+-- the file of the joined records is that of the merged values
+pub joined_file : (rule : Rule) (pair : Pair) (file : FileRead) → file.res ≡ pair.first.res
+    → file.codes ≡ canonical_data (merged_classes rule (data_classes pair.first.codes)
+    (data_classes pair.second.codes))
+    → file.nodes ≡ canonical_size (merged_classes rule (data_classes pair.first.codes)
+    (data_classes pair.second.codes))
+    → file_text file ≡ merged_text rule pair
+unfolding merged_text bt_text
+joined_file rule pair file res codes nodes =
+    let classes : Classes = merged_classes rule (data_classes pair.first.codes)
+    (data_classes pair.second.codes) in
+    ap (λ (n : ℕ). header_text n file.res ++ file.codes) nodes
+    ∙ ap (λ (r : ℕ). header_text (canonical_size classes) r ++ file.codes) res
+    ∙ ap (λ (t : List ℕ). header_text (canonical_size classes) pair.first.res ++ t) codes
+    ∙ same_text pair.first.res classes (classes_of default_odds (merged_values rule pair))
+    (same_data classes (classes_of default_odds (merged_values rule pair))
+    (λ k in_map. sym (class_merged rule (data_classes pair.first.codes k)
+    (data_classes pair.second.codes k))))
 
 -- ---- the table
 

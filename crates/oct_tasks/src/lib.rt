@@ -53,10 +53,10 @@
 //! `octomap_cli`, the program, whose tests go through all of it. It stands on `oct_session` for the
 //! loop, on `oct_map` for the map that the loop is lent, on `oct_convert` for the tasks over a
 //! file, on `oct_bt`, `oct_tree`, `oct_frontier` and `oct_export` for the frontier, the grid and
-//! the boxes of one, on `oct_merge` for two side by side, on `oct_gen` for a script that a number
-//! makes, on `oct_num`, `oct_key` and `oct_odds` for the numbers of the command line, on
-//! `oct_script` for what a log-odds and a name are there, and for the names of classes and the
-//! lines of refusals, and on `oct_io` for the world.
+//! the boxes of one, on `oct_join` for the merge of two and on `oct_merge` for their table, on
+//! `oct_gen` for a script that a number makes, on `oct_num`, `oct_key` and `oct_odds` for the
+//! numbers of the command line, on `oct_script` for what a log-odds and a name are there, and for
+//! the names of classes and the lines of refusals, and on `oct_io` for the world.
 #![tactic(auto)]
 
 mod file_task;

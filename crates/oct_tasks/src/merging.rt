@@ -4,12 +4,9 @@ ghost use Rattle.oct_io.specs.Counts.{IsMakingCounted};
 ghost use Rattle.oct_io.specs.Taken.{IsCutOff};
 ghost use Rattle.oct_io.specs.Told.{appended};
 ghost use Rattle.oct_key.specs.Boxes.{IsBox};
-ghost use Rattle.oct_key.specs.Voxel.{Voxel, IsInMap};
-ghost use Rattle.oct_odds.specs.Odds.{default_odds};
-ghost use Rattle.oct_tree.specs.Tree.{value_at};
 ghost use Rattle.oct_session.specs.Counts.{IsSinkCounted, IsStoreCounted};
 ghost use Rattle.oct_tasks.specs.OverFile.{IsOfReply};
-ghost use Rattle.oct_tasks.specs.OverStore.{merged_values, merged_text, table_text, pair_line};
+ghost use Rattle.oct_tasks.specs.OverStore.{merged_text, table_text, pair_line};
 ghost use Rattle.oct_tasks.specs.OverStore.{table_reply, pair_reply, found_reply, EndsByReply};
 ghost use Rattle.oct_tasks.specs.OverStore.{EndsOverStore};
 ghost use Rattle.oct_tasks.specs.Refusals.{box_between, refused};
@@ -20,13 +17,13 @@ use crate::pair_text::{no_pair_text, table_text};
 use crate::refusal::{Refusal, box_between, line_of};
 use crate::store_task::{PairTask, StoreTask};
 use crate::two_files::{NoPair, Pair, load_pair};
-use oct_bt::write;
+use oct_bt::rewrite;
 use oct_io::{Sink, SinkFault, Store, StoreFault, write_all};
 use oct_key::{Point, Window};
-use oct_merge::{Rule, class_table, merge, merge_need};
+use oct_join::join;
+use oct_merge::{Rule, class_table};
 use oct_num::Memory;
 use oct_session::{Status, status_written};
-use oct_tree::OccTree;
 use std::alloc::Global;
 
 /// Loads two files of the store, and writes what is asked of them: the canonical file of the merged
@@ -112,21 +109,6 @@ fn answer_table<K: Sink>(alloc: Global, pair: &Pair, lo: Point, hi: Point, sink:
     }
 }
 
-/// The tree of the merged map of two files.
-fn merged_tree(alloc: Global, rule: Rule, pair: &Pair) -> Result<OccTree, Memory>
-    requires fit { AreFit pair.now }
-    ensures res { IfOk result (λ tree. tree.res ≡ pair.now.first.res) }
-    ensures odds { IfOk result (λ tree. tree.odds ≡ default_odds) }
-    ensures values { IfOk result (λ tree. (k : Voxel) → IsInMap k
-        → value_at tree k ≡ merged_values rule pair.now k) }
-{
-    let mut into = tree_of(alloc, &pair.first)?;
-    let other = tree_of(alloc, &pair.second)?;
-    into.reserve(merge_need(&into, &other))?;
-    merge(&mut into, &other, rule);
-    Ok(into)
-}
-
 /// Writes the file of the merged map. After an error a part of it was written.
 fn write_merged<K: Sink>(
     alloc: Global,
@@ -142,8 +124,8 @@ fn write_merged<K: Sink>(
     ensures sink_counts { IsMakingCounted result (K.faults sink.old) (K.faults sink.new)
         (K.shortages sink.old) (K.shortages sink.new) }
 {
-    let tree = merged_tree(alloc, rule, pair)?;
-    write(&tree, sink)?;
+    let file = join(alloc, rule, &pair.first, &pair.second)?;
+    rewrite(&file, sink)?;
     Ok(())
 }
 
