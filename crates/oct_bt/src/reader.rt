@@ -1,6 +1,6 @@
 //! The reading of a file in pieces.
 ghost use Rattle.std.specs.Prelude.{◌≡◌, ◌++◌, [], List, ℕ, OnOk, OnErr, IsErr, Err, IfOk, ◌≤◌};
-ghost use Rattle.std.specs.Prelude.{◌↔◌, IsTrue, length};
+ghost use Rattle.std.specs.Prelude.{◌↔◌, ◌⊎◌, IsTrue, length};
 ghost use Rattle.oct_values.specs.Classes.{Classes};
 ghost use Rattle.oct_bt.specs.Canonical.{canonical_data};
 ghost use Rattle.oct_bt.specs.File.{reading, file_with};
@@ -146,4 +146,13 @@ fn end_body(header: &Header, nodes: NodeReader) -> Result<BtFile, BtFault>
     let size = nodes.size();
     let codes = nodes.finish()?;
     Ok(BtFile::new(header.res(), codes, size))
+}
+
+/// The file of classes that these bytes are, or what is wrong with them.
+pub fn read_classes(alloc: Global, bytes: &[u8]) -> Result<BtFile, BtFault>
+    ensures { (result ≡ reading bytes.now) ⊎ (result ≡ Err BtFault.Memory) }
+{
+    let mut reader = Reader::new(alloc);
+    reader.feed(bytes)?;
+    reader.finish()
 }

@@ -20,15 +20,16 @@ use Rattle.oct_values.proofs.Uniform.{same_group_count, same_node_count}
 use Rattle.oct_session.specs.Drill.{drill, drill_setup, drilled, drilled_state, line_of_two}
 use Rattle.oct_session.specs.Drill.{summary, summary_of, EndsUnread}
 use Rattle.oct_session.specs.History.{State}
-use Rattle.oct_session.specs.Leaving.{StandsFor, Shelf, Desk, desk, IsKnown}
+use Rattle.oct_session.specs.Leaving.{StandsFor, Desk, desk, IsKnown}
+use Rattle.oct_ending.specs.Shelf.{Shelf}
 use Rattle.oct_session.specs.Session.{Answer, last_progress, status_at_end}
 use Rattle.oct_session.specs.Setup.{Setup}
 use Rattle.oct_session.specs.Standing.{HasServed, IsThrough, HasEndedAs}
-use Rattle.oct_session.specs.Stops.{status_of, status_written}
-use Rattle.oct_session.specs.declared.options.Status.{Status}
-use Rattle.oct_session.specs.declared.options.Stop.{Stop}
-use Rattle.oct_session.specs.declared.options.Stop.TheVariants.{TooLong, ReadFault, WriteFault}
-use Rattle.oct_session.specs.declared.options.Stop.TheVariants.{Memory, StoreFault}
+use Rattle.oct_ending.specs.Stops.{status_of, status_written}
+use Rattle.oct_ending.specs.declared.status.Status.{Status}
+use Rattle.oct_ending.specs.declared.stop.Stop.{Stop}
+use Rattle.oct_ending.specs.declared.stop.Stop.TheVariants.{TooLong, ReadFault, WriteFault}
+use Rattle.oct_ending.specs.declared.stop.Stop.TheVariants.{Memory, StoreFault}
 use Rattle.oct_session.specs.declared.session.Session.{Session}
 use Rattle.oct_session.specs.declared.tally.Tally.{Tally}
 use Rattle.oct_session.proofs.Endings.{IsFirst, IsNew, serving_start, known_told}

@@ -26,8 +26,9 @@ use Rattle.oct_session.specs.ScanBlock.{opens_block, opened, is_end, with_line, 
 use Rattle.oct_session.specs.ScanBlock.{spoilt_reply, block_reply, block_action}
 use Rattle.oct_session.specs.ScanSoFar.{begun}
 use Rattle.oct_session.specs.History.{History, State, after_all, state_after}
-use Rattle.oct_session.specs.Counts.{IsAsked}
-use Rattle.oct_session.specs.Leaving.{StandsFor, StandsForSome, Desk, desk, shelf, HasAsked, IsLike}
+use Rattle.oct_ending.specs.Counts.{IsAsked}
+use Rattle.oct_session.specs.Leaving.{StandsFor, StandsForSome, Desk, desk, HasAsked, IsLike}
+use Rattle.oct_ending.specs.Shelf.{shelf}
 use Rattle.oct_session.specs.Leaving.{IsLikeAfter, IsKnown}
 use Rattle.oct_session.specs.Session.{Progress, Effect, effect, effect_of_command, effect_opened}
 use Rattle.oct_session.specs.Session.{effect_inside, effect_of, next_command, replied, silent}

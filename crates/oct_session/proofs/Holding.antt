@@ -17,7 +17,7 @@ use Rattle.oct_io.specs.declared.store.StoreFault.{StoreFault}
 use Rattle.oct_io.specs.declared.store.StoreFault.TheVariants as store_fault
 use Rattle.oct_script.specs.Lines.{Line}
 use Rattle.oct_script.specs.Replies.{text_of}
-use Rattle.oct_session.specs.declared.options.Stop.{Stop}
+use Rattle.oct_ending.specs.declared.stop.Stop.{Stop}
 use Rattle.oct_session.specs.declared.session.Session.{Session}
 use Rattle.oct_session.specs.Commands.{NamesNoFile, asks_for, file_saved}
 use Rattle.oct_session.specs.Leaving.{Desk, HasAsked, IsAhead, IsHalted, IsKnown, IsLikeAfter}
@@ -26,7 +26,7 @@ use Rattle.oct_session.specs.Session.{after_lines, progress}
 use Rattle.oct_session.specs.Setup.{Setup}
 use Rattle.oct_session.specs.Standing.{IsBetween, IsUnwritten, IsHolding, HasHeld, HasMoved, Adds}
 use Rattle.oct_session.specs.Standing.{HasStoppedAt, StandsBeside, IsShort}
-use Rattle.oct_session.specs.Stops.{stop_of_sink, stop_of_store, status_of}
+use Rattle.oct_ending.specs.Stops.{stop_of_sink, stop_of_store, status_of}
 use Rattle.oct_session.proofs.Halting.{halted_last, halted_untold, left_all, none_ahead}
 use Rattle.oct_session.proofs.Pieces.{IsBeside}
 use Rattle.oct_session.proofs.Progresses.{progress_push, after_answered, asks_next}

@@ -7,13 +7,15 @@ use Rattle.oct_io.specs.Files.{Files}
 use Rattle.oct_io.specs.Told.{Rose}
 use Rattle.oct_map.specs.Map.{Map}
 use Rattle.oct_script.specs.Lines.{Line, all_lines}
-use Rattle.oct_session.specs.declared.options.Status.{Status}
-use Rattle.oct_session.specs.declared.options.Status.TheVariants as status
-use Rattle.oct_session.specs.declared.options.Stop.{Stop}
-use Rattle.oct_session.specs.declared.options.Stop.TheVariants.{ReadFault}
+use Rattle.oct_ending.specs.declared.status.Status.{Status}
+use Rattle.oct_ending.specs.declared.status.Status.TheVariants as status
+use Rattle.oct_ending.specs.declared.stop.Stop.{Stop}
+use Rattle.oct_ending.specs.declared.stop.Stop.TheVariants.{ReadFault}
 use Rattle.oct_session.specs.declared.session.Session.{Session}
-use Rattle.oct_session.specs.Ending.{MayEnd, IsWhole}
-use Rattle.oct_session.specs.Leaving.{Shelf, Desk, desk, HasAsked, HasLeft, IsKnown, HasHalted}
+use Rattle.oct_session.specs.Ending.{MayEnd}
+use Rattle.oct_ending.specs.Whole.{IsWhole}
+use Rattle.oct_ending.specs.Shelf.{Shelf}
+use Rattle.oct_session.specs.Leaving.{Desk, desk, HasAsked, HasLeft, IsKnown, HasHalted}
 use Rattle.oct_session.specs.Leaving.{Leaves}
 use Rattle.oct_session.specs.Commands.{file_saved}
 use Rattle.oct_session.specs.Session.{Progress, Answer, next_command, after_line, after_lines}
@@ -23,7 +25,7 @@ use Rattle.oct_session.specs.Session.{ReadsTold}
 use Rattle.oct_session.specs.Setup.{Setup}
 use Rattle.oct_session.specs.Standing.{Takes, StopsAtEnd, HasReached, IsAt, HasServed, IsThrough}
 use Rattle.oct_session.specs.Standing.{HasEndedAs, StopsIn}
-use Rattle.oct_session.specs.Stops.{status_of, IsHalt}
+use Rattle.oct_ending.specs.Stops.{status_of, IsHalt}
 use Rattle.oct_session.proofs.Halting.{closed_files}
 use Rattle.oct_session.proofs.Endings.{session_short, session_long, cut_files, known_told, IsNew}
 use Rattle.oct_session.proofs.Endings.{IsFirst, serving_start, IsRead, serving_more}

@@ -11,10 +11,10 @@ use Rattle.oct_session.specs.Leaving as lent
 use Rattle.oct_session.specs.Leaving.{Desk, IsLikeAfter}
 use Rattle.oct_session.specs.Session.{Answer, last_progress, session}
 use Rattle.oct_session.specs.Setup.{Setup}
-use Rattle.oct_session.specs.declared.options.Status.{Status}
-use Rattle.oct_session.specs.declared.options.Status.TheVariants.{Done, Refused}
-use Rattle.oct_session.specs.declared.options.Status.TheVariants.{TooLong, WriteFault}
-use Rattle.oct_session.specs.declared.options.Status.TheVariants.{Memory}
+use Rattle.oct_ending.specs.declared.status.Status.{Status}
+use Rattle.oct_ending.specs.declared.status.Status.TheVariants.{Done, Refused}
+use Rattle.oct_ending.specs.declared.status.Status.TheVariants.{TooLong, WriteFault}
+use Rattle.oct_ending.specs.declared.status.Status.TheVariants.{Memory}
 
 -- the state after the last line of a script
 abbrev pub last_state : Setup → Option Files → List ℕ → State

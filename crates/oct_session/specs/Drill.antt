@@ -10,10 +10,10 @@ use Rattle.oct_session.specs.FileCommands.{classes_file}
 use Rattle.oct_session.specs.History.{State, state_after}
 use Rattle.oct_session.specs.Session.{Answer, Progress, closed, last_progress, status_at_end}
 use Rattle.oct_session.specs.Setup.{Setup}
-use Rattle.oct_session.specs.declared.options.Status.{Status}
-use Rattle.oct_session.specs.declared.options.Status.TheVariants.{Done, Refused}
-use Rattle.oct_session.specs.declared.options.Status.TheVariants.{WriteFault}
-use Rattle.oct_session.specs.declared.options.Status.TheVariants.{Memory}
+use Rattle.oct_ending.specs.declared.status.Status.{Status}
+use Rattle.oct_ending.specs.declared.status.Status.TheVariants.{Done, Refused}
+use Rattle.oct_ending.specs.declared.status.Status.TheVariants.{WriteFault}
+use Rattle.oct_ending.specs.declared.status.Status.TheVariants.{Memory}
 use Rattle.oct_session.specs.declared.tally.Tally.{Tally}
 
 -- what a drill is set up with: voxels of 0.05 m, and the default of each option

@@ -7,10 +7,10 @@ use Rattle.oct_io.specs.Told.{appended}
 use Rattle.oct_script.specs.Lines.{ended_lines}
 use Rattle.oct_session.specs.Session.{Answer, progress, session}
 use Rattle.oct_session.specs.Setup.{Setup}
-use Rattle.oct_session.specs.declared.options.Status.{Status}
-use Rattle.oct_session.specs.declared.options.Status.TheVariants.{Done, Refused, Usage, BadFile}
-use Rattle.oct_session.specs.declared.options.Status.TheVariants.{TooLong, ReadFault, WriteFault}
-use Rattle.oct_session.specs.declared.options.Status.TheVariants.{Memory, StoreFault}
+use Rattle.oct_ending.specs.declared.status.Status.{Status}
+use Rattle.oct_ending.specs.declared.status.Status.TheVariants.{Done, Refused, Usage, BadFile}
+use Rattle.oct_ending.specs.declared.status.Status.TheVariants.{TooLong, ReadFault, WriteFault}
+use Rattle.oct_ending.specs.declared.status.Status.TheVariants.{Memory, StoreFault}
 
 -- the replies to the lines that end within these bytes
 abbrev pub replies_within : Setup → Option Files → List ℕ → List ℕ
@@ -82,11 +82,3 @@ MayEnd o files bytes left old new ReadFault =
     IsBegun (session o files bytes).text old new × HasReadFault o files bytes left old new
 MayEnd o files bytes left old new _ =
     IsBegun (session o files bytes).text old new × HasStopped o files bytes left old new
-
--- a status that comes with the whole answer
-abbrev pub IsWhole : Status → Type 0
-IsWhole ReadFault = ⊥
-IsWhole WriteFault = ⊥
-IsWhole Memory = ⊥
-IsWhole StoreFault = ⊥
-IsWhole _ = Unit {0}

@@ -10,15 +10,16 @@ use Rattle.oct_script.specs.Lines.{Line, ended_lines}
 use Rattle.oct_key.specs.Values.{SameValues}
 use Rattle.oct_tree.specs.Shape.{IsPruned}
 use Rattle.oct_session.specs.Commands.{file_saved}
-use Rattle.oct_session.specs.Counts.{IsAsked}
+use Rattle.oct_ending.specs.Counts.{IsAsked}
+use Rattle.oct_ending.specs.Shelf.{Shelf}
 use Rattle.oct_io.specs.Taken.{HasTaken}
 use Rattle.oct_session.specs.History.{History, State, state_after}
 use Rattle.oct_session.specs.Session.{Progress, next_command, after_line, after_lines, progress}
 use Rattle.oct_session.specs.Session.{closed, is_too_long, lines_of, last_progress}
 use Rattle.oct_session.specs.Setup.{Setup}
-use Rattle.oct_session.specs.declared.options.Status.{Status}
-use Rattle.oct_session.specs.declared.options.Status.TheVariants.{Done, Refused, TooLong, ReadFault}
-use Rattle.oct_session.specs.declared.options.Status.TheVariants.{WriteFault, Memory, StoreFault}
+use Rattle.oct_ending.specs.declared.status.Status.{Status}
+use Rattle.oct_ending.specs.declared.status.Status.TheVariants.{Done, Refused, TooLong, ReadFault}
+use Rattle.oct_ending.specs.declared.status.Status.TheVariants.{WriteFault, Memory, StoreFault}
 
 -- the map stands for a state: each voxel has its value there, the map's answers read the same
 -- beside the values, it has the same mark, inner values may be out of date exactly where they may
@@ -33,23 +34,6 @@ pub record StandsFor (map : Map) (s : State) : Type 0 where
 -- the map stands for the state after some history
 abbrev pub StandsForSome : Setup → Map → Type 0
 StandsForSome o map = (history : History) × StandsFor map (state_after o history)
-
--- a store, as a session uses it: its files, where it tells them, that it is as it was at first, and
--- how often it had been asked at first and has been now, where it counts that
-pub record Shelf : Type 1 where
-  pub files : Option Files
-  pub same : Type 0
-  pub first_calls : ℕ
-  pub calls : ℕ
-
--- the shelf that a store is now, which was that of `home` at first
-abbrev pub shelf : {F : Type 0} → (F → Option Files) → (F → ℕ) → F → F → Shelf
-shelf files calls home store = record {
-  files = files store;
-  same = store ≡ home;
-  first_calls = calls home;
-  calls = calls store;
-}
 
 -- what a session works on: a map, and a store
 pub record Desk : Type 1 where

@@ -1,5 +1,3 @@
-pub mod Stops
-pub mod Counts
 pub mod Setup
 pub mod History
 pub mod Refusals
@@ -14,5 +12,3 @@ pub mod Leaving
 pub mod Standing
 pub mod Building
 pub mod Drill
-pub mod GivenBack
-pub mod LoadedBack

@@ -17,9 +17,9 @@ use Rattle.oct_session.specs.ScanBlock.{end_reply}
 use Rattle.oct_session.specs.Setup.{Setup}
 use Rattle.oct_session.specs.Tally.{counted, no_replies}
 use Rattle.oct_session.specs.declared.block.Block.{Block}
-use Rattle.oct_session.specs.declared.options.Status.{Status}
+use Rattle.oct_ending.specs.declared.status.Status.{Status}
 use Rattle.oct_session.specs.declared.tally.Tally.{Tally}
-use Rattle.oct_session.specs.declared.options.Status.TheVariants as status
+use Rattle.oct_ending.specs.declared.status.Status.TheVariants as status
 
 -- what a line does: its reply, what it adds to the history, what it saves, and the block that is
 -- open after it

@@ -1,5 +1,5 @@
 -- The numbers that a session is set up with.
-use Rattle.std.specs.Prelude.{ℕ, None}
+use Rattle.std.specs.Prelude.{ℕ, ◌≤◌, ◌^◌, None}
 use Rattle.oct_map.specs.Ground.{Ground}
 use Rattle.oct_odds.specs.Odds.{Odds}
 
@@ -21,3 +21,8 @@ ground_in o = record {
   max_groups = o.max_groups;
   max_cells = o.max_cells;
 }
+
+-- the most groups are within the range that the option has
+pub record IsLimited (o : Setup) : Type 0 where
+  pub some : 16 ≤ o.max_groups
+  pub few : o.max_groups ≤ 2 ^ 26

@@ -12,9 +12,9 @@ use Rattle.oct_script.specs.declared.command.Command.{Command}
 use Rattle.oct_script.specs.declared.reply.Refusal.{Refusal}
 use Rattle.oct_script.specs.declared.reply.Reply.{Reply}
 use Rattle.oct_script.specs.Lines.{Line, ended_lines, IsReading}
-use Rattle.oct_session.specs.declared.options.Status.{Status}
-use Rattle.oct_session.specs.declared.options.Stop.{Stop}
-use Rattle.oct_session.specs.declared.options.Stop.TheVariants.{TooLong, ReadFault}
+use Rattle.oct_ending.specs.declared.status.Status.{Status}
+use Rattle.oct_ending.specs.declared.stop.Stop.{Stop}
+use Rattle.oct_ending.specs.declared.stop.Stop.TheVariants.{TooLong, ReadFault}
 use Rattle.oct_session.specs.declared.session.Session.{Session}
 use Rattle.oct_io.specs.Taken.{HasTaken, IsGathered}
 use Rattle.oct_session.specs.Ending.{HasReplied, IsReadToEnd, MayEnd}
@@ -29,7 +29,7 @@ use Rattle.oct_session.specs.Session.{session, finished, last_progress}
 use Rattle.oct_session.specs.Commands.{reply, action_of, accepted, stored, file_named, file_saved}
 use Rattle.oct_session.specs.ScanBlock.{block_reply, block_action}
 use Rattle.oct_session.specs.Setup.{Setup}
-use Rattle.oct_session.specs.Stops.{status_of}
+use Rattle.oct_ending.specs.Stops.{status_of}
 use Rattle.oct_session.specs.declared.block.Block.{Block}
 
 -- a map that stands for some history stands for some history afterwards

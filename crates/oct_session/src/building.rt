@@ -3,15 +3,17 @@ ghost use Rattle.std.specs.Prelude.{◌≡◌, ◌≢◌, ◌⊎◌, IfSome, Non
 ghost use Rattle.oct_io.specs.Told.{Rose};
 ghost use Rattle.oct_bt.specs.File.{bt_text};
 ghost use Rattle.oct_tree.specs.Classes.{classes_in};
-ghost use Rattle.oct_session.specs.Counts.{IsSourceCounted, IsSinkCounted, IsStoreCounted, IsAsked};
+ghost use Rattle.oct_ending.specs.Counts.{IsSourceCounted, IsSinkCounted, IsStoreCounted, IsAsked};
 ghost use Rattle.oct_session.specs.Building.{build as whole_build, has_ended, EndsWriting, MayEnd};
 ghost use Rattle.oct_session.specs.Building.{Leaves};
-ghost use Rattle.oct_session.specs.Ending.{IsWhole};
+ghost use Rattle.oct_ending.specs.Whole.{IsWhole};
 ghost use Rattle.oct_session.specs.History.{start_state};
-ghost use Rattle.oct_session.specs.Leaving.{StandsFor, StandsForSome, desk, shelf};
+ghost use Rattle.oct_session.specs.Leaving.{StandsFor, StandsForSome, desk};
+ghost use Rattle.oct_ending.specs.Shelf.{shelf};
 ghost use Rattle.oct_session.specs.Session.{last_progress, ReadsTold};
 
-use crate::options::{Options, Status, status_written};
+use crate::options::Options;
+use oct_ending::{Status, status_written};
 use crate::service::serve;
 use oct_bt::write;
 use oct_io::{Sink, SinkFault, Source, Store};

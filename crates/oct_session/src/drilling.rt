@@ -8,14 +8,15 @@ ghost use Rattle.oct_tree.specs.Classes.{classes_in};
 ghost use Rattle.oct_io.specs.Told.{appended};
 ghost use Rattle.oct_map.specs.Map.{values_of};
 ghost use Rattle.oct_values.specs.Counts.{group_count, node_count};
-ghost use Rattle.oct_session.specs.Counts.{IsSinkCounted};
+ghost use Rattle.oct_ending.specs.Counts.{IsSinkCounted};
 ghost use Rattle.oct_session.specs.Drill.{drill as whole_drill, drill_setup, drilled};
 ghost use Rattle.oct_session.specs.Drill.{drilled_state, line_of_two, summary, EndsUnread};
 ghost use Rattle.oct_session.specs.History.{start_state};
 ghost use Rattle.oct_session.specs.Leaving.{StandsFor};
 
 use crate::building::Discard;
-use crate::options::{MOST_BYTES, Options, Status, Stop, status_written};
+use crate::options::{MOST_BYTES, Options};
+use oct_ending::{Status, Stop, status_written};
 use crate::service::{done_or_refused, read_all};
 use crate::session::Session;
 use crate::tally::Tally;

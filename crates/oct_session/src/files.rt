@@ -1,6 +1,6 @@
 //! What a command does that names a file: a save or a snapshot to the store, or a load or a restore
 //! from it.
-ghost use Rattle.std.specs.Prelude.{◌≡◌, ◌⊎◌, ◌≤◌, ◌+◌, IfOk, None, Ok, OnErr, Option, Some, Err};
+ghost use Rattle.std.specs.Prelude.{◌≡◌, ◌≤◌, ◌+◌, IfOk, None, Ok, OnErr, Option, Some};
 ghost use Rattle.oct_bt.specs.declared.fault.BtFault.{BtFault};
 ghost use Rattle.oct_bt.specs.File.{bt_text, reading};
 ghost use Rattle.oct_tree.specs.Classes.{classes_in};
@@ -18,7 +18,7 @@ ghost use Rattle.oct_session.specs.Session.{effect_of_command};
 ghost use Rattle.oct_session.specs.Standing.{with_reply, HasDone, HasEffect, KeepsStanding};
 
 use crate::commands::refuse;
-use oct_bt::{BtFault, BtFile, Reader, write};
+use oct_bt::{BtFault, BtFile, read_classes, write};
 use oct_io::{CalmSink, Loaded, Store, StoreFault};
 use oct_map::OccMap;
 use oct_num::Memory;
@@ -96,15 +96,6 @@ fn file_refusal(fault: BtFault) -> Result<Refusal, Memory>
         BtFault::SizeMismatch { said, found } => Ok(Refusal::SizeMismatch { said, found }),
         BtFault::Memory => Err(Memory),
     }
-}
-
-/// The file of classes that these bytes are, or what is wrong with them.
-pub fn read_classes(alloc: Global, bytes: &[u8]) -> Result<BtFile, BtFault>
-    ensures { (result ≡ reading bytes.now) ⊎ (result ≡ Err BtFault.Memory) }
-{
-    let mut reader = Reader::new(alloc);
-    reader.feed(bytes)?;
-    reader.finish()
 }
 
 /// Puts the classes of a file in place of the map, and answers its number of nodes.

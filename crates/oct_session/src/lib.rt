@@ -17,8 +17,8 @@
 //!
 //! - **Replies.** `specs/Session.antt` defines a session as a function of the whole byte string:
 //!   its lines up to a `quit` or to the end, each line outside a scan block, and each block as a
-//!   whole, answered from the plain fold over each single voxel's history (`specs/History.antt`,
-//!   and [`values_are_folds`], which says that no voxel reads another one). No tree is in that
+//!   whole, answered from the plain fold over each single voxel's history (`specs/History.antt`). The
+//!   laws of `oct_session_laws` say that no voxel reads another one. No tree is in that
 //!   definition: a query shows the largest known value among the voxels of its block, an edit or a
 //!   scan is full by what the values need, and lazy edits, lazy scans and prunes can't be told
 //!   from a reply, but for the one refusal of a stale map.
@@ -30,10 +30,6 @@
 //!   the first thing that is wrong with it (`specs/FileCommands.antt`). So do `snapshot` and
 //!   `restore` with the voxels' values, the log-odds and the update box; from a restore on, the
 //!   session goes by the log-odds of its snapshot.
-//!   Whatever stands between a snapshot and a restore of its name, the restore gives back what was
-//!   kept and isn't refused, as long as no line between them writes that file
-//!   ([`snapshots_are_restored`]). So does a load with the classes that a save of its name wrote
-//!   ([`saves_are_loaded`]).
 //! - **Endings.** Where source and sink tell their bytes, as those in memory do, and the store its
 //!   files or no line names one, `specs/Ending.antt` says for each status what is written and what
 //!   is left of the input. Stopped by a fault or out of memory, what was written is a prefix of
@@ -84,7 +80,6 @@ mod commands;
 mod drilling;
 mod files;
 mod held;
-mod laws;
 mod lines;
 mod options;
 mod service;
@@ -93,11 +88,6 @@ mod tally;
 
 pub use building::build;
 pub use drilling::drill;
-pub use files::read_classes;
-pub use laws::{
-    faults_read_alike, groups_stay_within, saves_are_loaded, snapshots_are_restored,
-    states_stay_sound, values_are_folds,
-};
 pub use oct_gen::gen_script;
-pub use options::{MOST_BYTES, Options, Status, status_written};
+pub use options::{MOST_BYTES, Options};
 pub use service::serve;

@@ -3,7 +3,7 @@ ghost use Rattle.std.specs.Prelude.{◌≡◌, ℕ, IfOk, None, Ok, Some, is_som
 ghost use Rattle.oct_io.specs.Counts.{IsAskCounted};
 ghost use Rattle.oct_script.specs.Commands.{IsSmallCommand};
 ghost use Rattle.oct_script.specs.Lines.{Line};
-ghost use Rattle.oct_session.specs.Counts.{IsAsked};
+ghost use Rattle.oct_ending.specs.Counts.{IsAsked};
 ghost use Rattle.oct_session.specs.Commands.{asks_for, command_on, file_named, is_quit};
 ghost use Rattle.oct_session.specs.ScanBlock.{is_end, opened, spoilt_by, spoilt_reply};
 ghost use Rattle.oct_session.specs.Session.{effect_of_command, effect_opened, effect_inside};

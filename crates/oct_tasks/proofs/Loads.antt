@@ -4,11 +4,11 @@ use Rattle.std.proofs.Common.{sym, subst, arith}
 use Rattle.oct_bt.specs.File.{FileRead}
 use Rattle.oct_io.specs.Files.{Files}
 use Rattle.oct_io.specs.Loaded.{loaded_of}
-use Rattle.oct_session.specs.Leaving.{Shelf}
+use Rattle.oct_ending.specs.Shelf.{Shelf}
 use Rattle.oct_tasks.specs.Task.{Task, OverStore}
-use Rattle.oct_tasks.specs.TwoFiles.{map_in, loads_after, loads_of}
-use Rattle.oct_tasks.specs.declared.store_task.StoreTask.{StoreTask}
-use Rattle.oct_tasks.specs.declared.two_files.NoMap.{NoMap}
+use Rattle.oct_file_tasks.specs.TwoFiles.{map_in, loads_after, loads_of}
+use Rattle.oct_file_tasks.specs.declared.store_task.StoreTask.{StoreTask}
+use Rattle.oct_file_tasks.specs.declared.two_files.NoMap.{NoMap}
 use Rattle.oct_tasks.proofs.Runs.{AsksAs}
 
 -- the first one is asked for in any case

@@ -5,14 +5,15 @@ use Rattle.oct_map.specs.Map.{Map}
 use Rattle.oct_session.specs.Building as building
 use Rattle.oct_session.specs.Building.{build}
 use Rattle.oct_session.specs.Ending as session_ending
-use Rattle.oct_session.specs.Ending.{IsWhole}
+use Rattle.oct_ending.specs.Whole.{IsWhole}
 use Rattle.oct_session.specs.Leaving as session_leaving
-use Rattle.oct_session.specs.Counts.{IsAsked}
-use Rattle.oct_session.specs.Leaving.{Shelf, desk}
+use Rattle.oct_ending.specs.Counts.{IsAsked}
+use Rattle.oct_ending.specs.Shelf.{Shelf}
+use Rattle.oct_session.specs.Leaving.{desk}
 use Rattle.oct_session.specs.Session as session_reading
 use Rattle.oct_session.specs.Session.{session, last_progress}
 use Rattle.oct_session.specs.Setup.{Setup}
-use Rattle.oct_session.specs.declared.options.Status.{Status}
+use Rattle.oct_ending.specs.declared.status.Status.{Status}
 use Rattle.oct_tasks.specs.Ending.{MayEnd, EndsAlone, Leaves, ReadsTold, asks_of, answer}
 use Rattle.oct_tasks.specs.Task.{Task, Session, Build}
 

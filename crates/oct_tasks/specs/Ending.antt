@@ -13,29 +13,21 @@ use Rattle.oct_session.specs.Drill.{EndsUnread, drill}
 use Rattle.oct_session.specs.Ending.{IsAnswered}
 use Rattle.oct_session.specs.Ending as session_ending
 use Rattle.oct_map.specs.Map.{Map}
-use Rattle.oct_session.specs.Leaving.{Shelf, desk}
+use Rattle.oct_ending.specs.Shelf.{Shelf}
+use Rattle.oct_session.specs.Leaving.{desk}
 use Rattle.oct_session.specs.Leaving as session_leaving
 use Rattle.oct_session.specs.Session.{Answer, session, last_progress}
 use Rattle.oct_session.specs.Session as session_reading
-use Rattle.oct_session.specs.declared.options.Status.{Status}
-use Rattle.oct_session.specs.declared.options.Status.TheVariants.{Done, Usage, BadFile, TooLong}
-use Rattle.oct_session.specs.declared.options.Status.TheVariants.{ReadFault, WriteFault, Memory}
+use Rattle.oct_ending.specs.declared.status.Status.{Status}
+use Rattle.oct_ending.specs.declared.status.Status.TheVariants.{Done, Usage, BadFile, TooLong}
+use Rattle.oct_ending.specs.declared.status.Status.TheVariants.{ReadFault, WriteFault, Memory}
 use Rattle.oct_tasks.specs.Task.{Task, Session, Build, Convert, Inspect, OverFile, OverStore}
 use Rattle.oct_tasks.specs.Task.{Generate, Drill}
-use Rattle.oct_tasks.specs.FileTasks.{over_file_answer}
-use Rattle.oct_tasks.specs.OverFile.{Reply, EndsOverFile}
-use Rattle.oct_tasks.specs.OverStore.{told_reply, EndsOverStore}
-use Rattle.oct_tasks.specs.TwoFiles.{loads_of}
+use Rattle.oct_file_tasks.specs.FileTasks.{over_file_answer}
+use Rattle.oct_file_tasks.specs.OverFile.{Reply, EndsOverFile, status_of}
+use Rattle.oct_file_tasks.specs.OverStore.{told_reply, EndsOverStore}
+use Rattle.oct_file_tasks.specs.TwoFiles.{loads_of}
 use Rattle.oct_tasks.specs.declared.task.Workload.{Workload}
-
--- the status of a task over a file
-abbrev pub status_of : Ending → Status
-status_of ending.Done = Done
-status_of ending.BadFile = BadFile
-status_of ending.TooLong = TooLong
-status_of ending.ReadFault = ReadFault
-status_of ending.WriteFault = WriteFault
-status_of ending.Memory = Memory
 
 -- the answer of a task over a file, which changes no files
 abbrev pub file_answer : Option Files → file_answers.Answer → Answer

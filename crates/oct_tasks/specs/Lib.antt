@@ -2,10 +2,3 @@ pub mod Words
 pub mod Task
 pub mod Asked
 pub mod Ending
-pub mod OverFile
-pub mod Refusals
-pub mod Frontiers
-pub mod Grids
-pub mod FileTasks
-pub mod TwoFiles
-pub mod OverStore

@@ -14,12 +14,12 @@ use Rattle.oct_script.specs.Grammar.{number_of}
 use Rattle.oct_script.specs.Names.{name_of}
 use Rattle.oct_script.specs.Words.{Word}
 use Rattle.oct_session.specs.Setup.{Setup}
-use Rattle.oct_tasks.specs.declared.file_task.FileTask.{FileTask}
-use Rattle.oct_tasks.specs.declared.file_task.FileTask.TheVariants.{Frontier, Project, Vrml}
+use Rattle.oct_file_tasks.specs.declared.file_task.FileTask.{FileTask}
+use Rattle.oct_file_tasks.specs.declared.file_task.FileTask.TheVariants.{Frontier, Project, Vrml}
 use Rattle.oct_tasks.specs.declared.task.Stretch.{Stretch}
-use Rattle.oct_tasks.specs.declared.store_task.PairTask.{PairTask}
-use Rattle.oct_tasks.specs.declared.store_task.PairTask.TheVariants.{Merge, Table}
-use Rattle.oct_tasks.specs.declared.store_task.StoreTask.{StoreTask}
+use Rattle.oct_file_tasks.specs.declared.store_task.PairTask.{PairTask}
+use Rattle.oct_file_tasks.specs.declared.store_task.PairTask.TheVariants.{Merge, Table}
+use Rattle.oct_file_tasks.specs.declared.store_task.StoreTask.{StoreTask}
 use Rattle.oct_tasks.specs.declared.task.Workload.{Workload}
 use Rattle.oct_tasks.specs.Words.{value_of, are_options}
 

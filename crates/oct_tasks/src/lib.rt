@@ -37,44 +37,28 @@
 //! replies to the lines that lie whole in the bytes taken. What a task over a file writes is a
 //! function of the file, and what one over two files writes a function of both. `specs/Ending.antt`
 //! says this over the tasks that the words of the command line ask for (`Words`, `Task`), over the
-//! session of `oct_session`, and over the endings of `oct_convert`.
+//! session of `oct_session`, and over the endings of `oct_convert` and `oct_file_tasks`.
 //!
 //! # How it works
 //!
 //! `words` finds the options among the words of the command line, and `task` reads the task that
 //! they ask for. For a session `program` makes the map of the unknown world, which may grow as far
-//! as the options say, and lends it to the loop of `oct_session`. `file_task` reads a file and
-//! hands it to what is asked of it: `frontiers` and `grids` fill a tree with its classes
-//! (`file_tree`), and `sending` writes their replies, a `refusal` among them. `merging` goes by two
-//! files, which `two_files` loads.
+//! as the options say, and lends it to the loop of `oct_session`. The tasks over files are those of
+//! `oct_convert` and `oct_file_tasks`.
 //!
 //! # Who stands on it
 //!
 //! `octomap_cli`, the program, whose tests go through all of it. It stands on `oct_session` for the
-//! loop, on `oct_map` for the map that the loop is lent, on `oct_convert` for the tasks over a
-//! file, on `oct_bt`, `oct_tree`, `oct_frontier` and `oct_export` for the frontier, the grid and
-//! the boxes of one, on `oct_join` for the merge of two and on `oct_merge` for their table, on
-//! `oct_gen` for a script that a number makes, on `oct_num`, `oct_key` and `oct_odds` for the
-//! numbers of the command line, on `oct_script` for what a log-odds and a name are there, and for
-//! the names of classes and the lines of refusals, and on `oct_io` for the world.
+//! loop, on `oct_map` for the map that the loop is lent, on `oct_convert` and `oct_file_tasks` for
+//! the tasks over files, on `oct_gen` for a script that a number makes, on `oct_num`, `oct_key`,
+//! `oct_odds` and `oct_merge` for the numbers and the rules of the command line, on `oct_script` for
+//! what a log-odds and a name are there, on `oct_ending` for the statuses, and on `oct_io` for the
+//! world.
 #![tactic(auto)]
 
-mod file_task;
-mod file_tree;
-mod frontier_text;
-mod frontiers;
-mod grids;
-mod merging;
-mod pair_text;
 mod program;
-mod refusal;
-mod sending;
-mod store_task;
 mod task;
-mod two_files;
 mod words;
 
-pub use file_task::FileTask;
 pub use program::run;
-pub use store_task::{PairTask, StoreTask};
 pub use task::{Task, Usage, Workload, read_words};

@@ -1,25 +1,26 @@
 //! The top call of the program.
 ghost use Rattle.std.specs.Prelude.{◌≡◌, ◌≢◌, IfSome, Some, None, false};
 ghost use Rattle.oct_io.specs.Told.{Rose};
-ghost use Rattle.oct_session.specs.Counts.{IsSourceCounted, IsSinkCounted, IsStoreCounted, IsAsked};
-ghost use Rattle.oct_session.specs.Ending.{IsWhole};
+ghost use Rattle.oct_ending.specs.Counts.{IsSourceCounted, IsSinkCounted, IsStoreCounted, IsAsked};
+ghost use Rattle.oct_ending.specs.Whole.{IsWhole};
 ghost use Rattle.oct_session.specs.History.{start_state};
-ghost use Rattle.oct_session.specs.Leaving.{StandsFor, shelf};
+ghost use Rattle.oct_session.specs.Leaving.{StandsFor};
+ghost use Rattle.oct_ending.specs.Shelf.{shelf};
 ghost use Rattle.oct_tasks.specs.Words.{bytes_of};
 ghost use Rattle.oct_tasks.specs.Asked.{asked};
 ghost use Rattle.oct_tasks.specs.Task.{IsInRange, task_of};
 ghost use Rattle.oct_tasks.specs.Ending.{MayEnd, EndsAlone, Leaves, ReadsTold, asks_of};
 ghost use Rattle.oct_tasks.specs.Ending.{has_script, names_files, has_input, takes_memory};
-ghost use Rattle.oct_tasks.specs.Ending.{answer, status_of};
+ghost use Rattle.oct_tasks.specs.Ending.{answer};
 
-use crate::file_task::answer_over_file;
-use crate::merging::do_over_store;
 use crate::task::{Task, Usage, read_words};
-use oct_convert::{Ending, convert, inspect};
+use oct_convert::{convert, inspect};
+use oct_ending::{Status, status_written};
+use oct_file_tasks::{answer_over_file, do_over_store, status_of};
 use oct_gen::generate;
 use oct_io::{Sink, Source, Store};
 use oct_map::OccMap;
-use oct_session::{Options, Status, build, drill, serve, status_written};
+use oct_session::{Options, build, drill, serve};
 use std::alloc::Global;
 
 /// Does what the words ask for, which don't have the program's own name.
@@ -155,20 +156,6 @@ fn perform<S: Source, K: Sink, F: Store>(
             status_written(Status::Done, written)
         }
         Task::Drill(load) => drill(alloc, load.seed, load.scans, load.points, sink),
-    }
-}
-
-/// The status of a task over a file.
-pub(crate) fn status_of(ending: Ending) -> Status
-    ensures { result ≡ status_of ending }
-{
-    match ending {
-        Ending::Done => Status::Done,
-        Ending::BadFile => Status::BadFile,
-        Ending::TooLong => Status::TooLong,
-        Ending::ReadFault => Status::ReadFault,
-        Ending::WriteFault => Status::WriteFault,
-        Ending::Memory => Status::Memory,
     }
 }
 

@@ -10,11 +10,10 @@ ghost use Rattle.oct_tasks.specs.Task.{resolution_of, count_of, chosen_number, c
 ghost use Rattle.oct_tasks.specs.Task.{chosen_model, chosen_groups, chosen_cells, chosen_bytes};
 ghost use Rattle.oct_tasks.specs.Task.{setup_asked, task_of};
 ghost use Rattle.oct_tasks.specs.Asked.{asked};
-ghost use Rattle.oct_tasks.specs.declared.store_task.PairTask.TheVariants.{Merge};
+ghost use Rattle.oct_file_tasks.specs.declared.store_task.PairTask.TheVariants.{Merge};
 
-use crate::file_task::FileTask;
-use crate::store_task::{PairTask, StoreTask};
 use crate::words::{are_options, value_of};
+use oct_file_tasks::{FileTask, PairTask, StoreTask};
 use oct_key::{Point, Res};
 use oct_map::Limits;
 use oct_merge::Rule;

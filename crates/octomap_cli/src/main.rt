@@ -27,7 +27,7 @@
 //!
 //! # Who stands on it
 //!
-//! Nothing: this is the top. It stands on `oct_tasks` for what it does, on `oct_session` for the
+//! Nothing: this is the top. It stands on `oct_tasks` for what it does, on `oct_ending` for the
 //! statuses, and on `oct_io` for the world.
 #![tactic(auto)]
 
@@ -35,7 +35,7 @@
 mod tests;
 
 use oct_io::{FolderStore, StdSink, StdSource};
-use oct_session::Status;
+use oct_ending::Status;
 use oct_tasks::run;
 use std::process::ExitCode;
 use std::{env, io};

@@ -19,7 +19,7 @@ mod snapshots;
 
 use oct_io::{CalmSink, CalmSource, CalmStore, FileBytes, KeptList, Sink, Source, Store};
 use oct_num::Memory;
-use oct_session::Status;
+use oct_ending::Status;
 use oct_tasks::run;
 use std::alloc::Global;
 use std::process::Abort;

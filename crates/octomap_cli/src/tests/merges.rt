@@ -3,7 +3,7 @@ ghost use Rattle.std.specs.Prelude.{◌<◌};
 
 use super::{answer_over, expect_answered, only, owned, status_of};
 use oct_io::{CalmStore, FileBytes, MemSink, MemSource, MemStore, Store, StoreFault};
-use oct_session::Status;
+use oct_ending::Status;
 use std::alloc::Global;
 use std::process::Abort;
 use std::test::Fail;

@@ -1,6 +1,6 @@
 //! Edits, queries, counts and refusals.
 use super::{Case, check, session};
-use oct_session::Status;
+use oct_ending::Status;
 use std::alloc::Global;
 use std::process::Abort;
 use std::test::Fail;

@@ -1,5 +1,6 @@
 use Rattle.std.proofs.Common.{refl, sym, ◌∙◌}
-use Rattle.oct_session.specs.Leaving.{desk, shelf}
+use Rattle.oct_session.specs.Leaving.{desk}
+use Rattle.oct_ending.specs.Shelf.{shelf}
 use Rattle.oct_session.proofs.Built.{written_answer, written_leaves, stopped_answer, stopped_leaves}
 use Rattle.oct_session.proofs.Built.{whole_ended, files_built, zero_stays}
 use Rattle.oct_session.proofs.building.build.Goals as goal

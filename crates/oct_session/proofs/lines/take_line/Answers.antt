@@ -1,7 +1,7 @@
 use Rattle.std.proofs.Common.{◌≡◌, Ok, Err, is_some, sym, ap, subst, ◌∙◌}
 use Rattle.oct_script.specs.declared.reply.Refusal.TheVariants as refusal
 use Rattle.oct_session.specs.Commands.{asks_for, file_named, is_quit}
-use Rattle.oct_session.specs.Counts.{IsAsked}
+use Rattle.oct_ending.specs.Counts.{IsAsked}
 use Rattle.oct_session.specs.Session.{effect}
 use Rattle.oct_session.specs.Standing.{with_reply}
 use Rattle.oct_session.proofs.Effects.{fault_taken, long_in, misspelt_in, read_in, still_failed}

@@ -1,5 +1,6 @@
 use Rattle.std.proofs.Common.{[]}
-use Rattle.oct_session.specs.Leaving.{desk, shelf}
+use Rattle.oct_session.specs.Leaving.{desk}
+use Rattle.oct_ending.specs.Shelf.{shelf}
 use Rattle.oct_session.proofs.Endings.{begins, first}
 use Rattle.oct_session.proofs.Serving.{serve_read, serve_stop, told_answer, told_desk, told_asked}
 use Rattle.oct_session.proofs.Serving.{told_files}

@@ -1,7 +1,7 @@
 use Rattle.std.proofs.Common.{Some, ap}
 use Rattle.oct_tasks.specs.declared.task.Task.{Task}
 use Rattle.oct_tasks.specs.Asked.{asked}
-use Rattle.oct_session.specs.Leaving.{shelf}
+use Rattle.oct_ending.specs.Shelf.{shelf}
 use Rattle.oct_tasks.proofs.Runs.{run_session, run_leaves, run_files, run_asked, run_build}
 use Rattle.oct_tasks.proofs.Runs.{run_build_leaves, run_build_files, run_build_asked}
 use Rattle.oct_tasks.proofs.Loads.{store_asked}

@@ -1,4 +1,4 @@
-use Rattle.oct_session.specs.Leaving.{shelf}
+use Rattle.oct_ending.specs.Shelf.{shelf}
 use Rattle.oct_tasks.proofs.Runs.{run_task, task_leaves, task_files, task_asked, task_made}
 use Rattle.oct_tasks.proofs.program.run.Goals as goal
 

@@ -1,5 +1,6 @@
 use Rattle.std.proofs.Common.{[], ◌∷◌, ◌++◌, Err, ap, refl}
-use Rattle.oct_session.specs.Leaving.{desk, shelf}
+use Rattle.oct_session.specs.Leaving.{desk}
+use Rattle.oct_ending.specs.Shelf.{shelf}
 use Rattle.oct_session.proofs.Holding.{adds_more, held_moved, held_more, way_err, more_err}
 use Rattle.oct_session.proofs.Holding.{failed_err, own_halt, rose_since}
 use Rattle.oct_session.proofs.session.Session.respond.Goals as goal

@@ -1,5 +1,6 @@
 use Rattle.std.proofs.Common.{[], ◌++◌, length, take, Err, ap, arith, refl, ◌∙◌}
-use Rattle.oct_session.specs.Leaving.{desk, shelf}
+use Rattle.oct_session.specs.Leaving.{desk}
+use Rattle.oct_ending.specs.Shelf.{shelf}
 use Rattle.oct_session.proofs.session.Session.take.Goals.{then-loop-taken-test+else-not-self}
 use Rattle.oct_session.proofs.session.Session.take.Goals.{else-loop-taken-test}
 use Rattle.oct_io.proofs.Appending.{appended_nil}

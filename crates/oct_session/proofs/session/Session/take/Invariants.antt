@@ -1,6 +1,7 @@
 use Rattle.std.proofs.Common.{◌≡◌, ℕ, ◌+◌, ◌-◌, ◌<◌, ◌≤◌, List, ◌++◌, Option, length, take, false}
 use Rattle.oct_io.specs.Files.{Files}
-use Rattle.oct_session.specs.Leaving.{desk, shelf}
+use Rattle.oct_session.specs.Leaving.{desk}
+use Rattle.oct_ending.specs.Shelf.{shelf}
 use Rattle.oct_session.specs.Standing.{KeepsStanding, IsAt, IsHeldAt, Adds}
 use Rattle.oct_session.proofs.session.Session.take.Given as goal
 

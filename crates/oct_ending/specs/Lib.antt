@@ -1,0 +1,4 @@
+pub mod Stops
+pub mod Counts
+pub mod Whole
+pub mod Shelf

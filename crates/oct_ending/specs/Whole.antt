@@ -1,0 +1,12 @@
+-- Whether the whole answer was given, by the status.
+use Rattle.oct_ending.specs.declared.status.Status.{Status}
+use Rattle.oct_ending.specs.declared.status.Status.TheVariants.{ReadFault, WriteFault, Memory}
+use Rattle.oct_ending.specs.declared.status.Status.TheVariants.{StoreFault}
+
+-- a status that comes with the whole answer
+abbrev pub IsWhole : Status → Type 0
+IsWhole ReadFault = ⊥
+IsWhole WriteFault = ⊥
+IsWhole Memory = ⊥
+IsWhole StoreFault = ⊥
+IsWhole _ = Unit {0}

@@ -1,0 +1,127 @@
+-- The merged map of two files, and the table of their classes.
+use Rattle.std.proofs.Common.{◌≡◌, ℕ, ◌≤◌, ◌^◌, List, ◌++◌, length}
+use Rattle.std.proofs.Common.{Ok, Err, inl, inr, sym, ◌∙◌, ap}
+use Rattle.std.proofs.Common.{le_trans}
+use Rattle.std.proofs.Math.Path.{fun_ext}
+use Rattle.std.specs.Prelude.{◌&&◌, ◌⊎◌, nat_eq, map}
+use Rattle.oct_key.specs.Voxel.{Voxel, IsInMap}
+use Rattle.oct_key.specs.Block.{Cube, root_block, HoldsVoxel}
+use Rattle.oct_key.specs.Boxes.{Corners, is_in_box}
+use Rattle.oct_key.proofs.Blocks.{root_in_map}
+use Rattle.oct_key.proofs.Held.{held_in_map}
+use Rattle.oct_odds.specs.Odds.{Odds, default_odds}
+use Rattle.oct_odds.specs.Update.{class_of, Value}
+use Rattle.oct_tree.specs.Changes.{IsGrown}
+use Rattle.oct_tree.specs.Tree.{Tree, value_at}
+use Rattle.oct_values.specs.Blocks.{voxels_of}
+use Rattle.oct_values.specs.Classes.{Classes, classes_of}
+use Rattle.oct_values.proofs.Held.{all_held}
+use Rattle.oct_values.proofs.Sums.{All-follows, count_by-same}
+use Rattle.oct_merge.specs.declared.rule.Rule.{Rule}
+use Rattle.oct_join.specs.Merged.{merged_classes}
+use Rattle.oct_join.proofs.Classes.{class_merged}
+use Rattle.oct_merge.specs.Pairs.{pair_of, is_counted, pairs_in, places, pair_counts}
+use Rattle.oct_bt.specs.Canonical.{canonical_data, canonical_size, node_total}
+use Rattle.oct_bt.specs.Classes.{value_for}
+use Rattle.oct_bt.specs.DataClasses.{data_classes}
+use Rattle.oct_bt.specs.File.{FileRead, bt_text, file_text, header_text, reading}
+use Rattle.oct_bt.specs.declared.fault.BtFault.TheVariants as fault
+use Rattle.oct_bt.proofs.Short.{reading_short}
+use Rattle.oct_bt.specs.NodeData.{IsAccepted, IsDataOf}
+use Rattle.oct_bt.proofs.DataClassed.{data_classed}
+use Rattle.oct_bt.proofs.Injective.{same_data}
+use Rattle.oct_file_tasks.specs.OverStore.{merged_values, merged_text, values_in, table_rows}
+use Rattle.oct_file_tasks.specs.OverStore.{table_text}
+use Rattle.oct_file_tasks.proofs.PairTexts.{rows_are_table}
+use Rattle.oct_file_tasks.specs.TwoFiles.{IsFit}
+use Rattle.oct_file_tasks.specs.declared.two_files.Pair.{Pair}
+
+-- a file that was read of few bytes is small
+pub fit_file : (file : FileRead) (bytes : List ℕ)
+    → (Ok file ≡ reading bytes) ⊎ (Ok file ≡ Err fault.Memory) → length bytes ≤ 2 ^ 30
+    → IsAccepted file.nodes file.codes → IsFit file
+fit_file file bytes (inl is) few accepted =
+    record { accepted = accepted; few = le_trans (reading_short bytes file (sym is)) few }
+fit_file file bytes (inr none) few accepted = absurd (cc)
+
+-- a tree that was filled has the values of the file's classes
+pub filled_values : (s t u : Tree) (file : FileRead) → s.odds ≡ default_odds → IsGrown s t
+    → IsAccepted file.nodes file.codes
+    → ((classes : Classes) → IsDataOf classes file.codes → (k : Voxel) → IsInMap k
+    → value_at u k ≡ value_for t.odds (classes k))
+    → (k : Voxel) → IsInMap k → value_at u k ≡ values_in file k
+filled_values s t u file odds grown accepted values k in_map =
+    values (data_classes file.codes) (data_classed file.nodes file.codes accepted) k in_map
+    ∙ ap (λ (o : Odds). value_for o (data_classes file.codes k)) (grown.odds ∙ odds)
+
+-- ---- the file
+
+-- files of one node data and one resolution are one text
+same_text : (res : ℕ) (c e : Classes) → canonical_data c ≡ canonical_data e
+    → bt_text res c ≡ bt_text res e
+unfolding bt_text canonical_size
+same_text res c e same = ap (λ (data' : List ℕ). header_text (node_total data') res ++ data') same
+
+-- the file of the joined records is that of the merged values
+pub joined_file : (rule : Rule) (pair : Pair) (file : FileRead) → file.res ≡ pair.first.res
+    → file.codes ≡ canonical_data (merged_classes rule (data_classes pair.first.codes)
+    (data_classes pair.second.codes))
+    → file.nodes ≡ canonical_size (merged_classes rule (data_classes pair.first.codes)
+    (data_classes pair.second.codes))
+    → file_text file ≡ merged_text rule pair
+unfolding merged_text bt_text
+joined_file rule pair file res codes nodes =
+    let classes : Classes = merged_classes rule (data_classes pair.first.codes)
+    (data_classes pair.second.codes) in
+    ap (λ (n : ℕ). header_text n file.res ++ file.codes) nodes
+    ∙ ap (λ (r : ℕ). header_text (canonical_size classes) r ++ file.codes) res
+    ∙ ap (λ (t : List ℕ). header_text (canonical_size classes) pair.first.res ++ t) codes
+    ∙ same_text pair.first.res classes (classes_of default_odds (merged_values rule pair))
+    (same_data classes (classes_of default_odds (merged_values rule pair))
+    (λ k in_map. sym (class_merged rule (data_classes pair.first.codes k)
+    (data_classes pair.second.codes k))))
+
+-- ---- the table
+
+-- the counts depend on the classes of the map's voxels alone
+same_pairs : (lo hi : Voxel) (a b c d : Classes) (n : ℕ) → ((k : Voxel) → IsInMap k → a k ≡ c k)
+    → ((k : Voxel) → IsInMap k → b k ≡ d k)
+    → pairs_in lo hi a b n root_block ≡ pairs_in lo hi c d n root_block
+unfolding pairs_in
+same_pairs lo hi a b c d n first second =
+    count_by-same (is_counted lo hi a b n) (is_counted lo hi c d n) (voxels_of root_block)
+    (All-follows (HoldsVoxel root_block) (λ k. is_counted lo hi a b n k ≡ is_counted lo hi c d n k)
+    (voxels_of root_block)
+    (λ k there. ap (λ class. is_in_box lo hi k && nat_eq (pair_of class (b k)) n)
+    (first k (held_in_map root_block k root_in_map there))
+    ∙ ap (λ class. is_in_box lo hi k && nat_eq (pair_of (c k) class) n)
+    (second k (held_in_map root_block k root_in_map there)))
+    (all_held root_block root_in_map))
+
+pub same_counts : (lo hi : Voxel) (a b c d : Classes) → ((k : Voxel) → IsInMap k → a k ≡ c k)
+    → ((k : Voxel) → IsInMap k → b k ≡ d k)
+    → pair_counts lo hi a b ≡ pair_counts lo hi c d
+unfolding pair_counts
+same_counts lo hi a b c d first second =
+    let same : (λ (n : ℕ). pairs_in lo hi a b n root_block)
+    ≡ (λ (n : ℕ). pairs_in lo hi c d n root_block) =
+    fun_ext (λ n. same_pairs lo hi a b c d n first second) in
+    ap (λ (f : ℕ → ℕ). map f places) same
+
+-- the lines of what two such trees count
+pub rows_told : (pair : Pair) (box : Corners) (lo hi : Voxel) (a b : Tree) (counts : List ℕ)
+    → counts ≡ pair_counts lo hi (classes_of a.odds (value_at a)) (classes_of b.odds (value_at b))
+    → lo ≡ box.lo → hi ≡ box.hi
+    → ((k : Voxel) → IsInMap k → classes_of a.odds (value_at a) k ≡ data_classes pair.first.codes k)
+    → ((k : Voxel) → IsInMap k
+    → classes_of b.odds (value_at b) k ≡ data_classes pair.second.codes k)
+    → table_rows counts ≡ table_text pair box
+rows_told pair box lo hi a b counts exact at_lo at_hi first second =
+    ap table_rows (exact ∙ ap
+    (λ (l : Voxel). pair_counts l hi (classes_of a.odds (value_at a))
+    (classes_of b.odds (value_at b))) at_lo
+    ∙ ap (λ (h : Voxel). pair_counts box.lo h (classes_of a.odds (value_at a))
+    (classes_of b.odds (value_at b))) at_hi
+    ∙ same_counts box.lo box.hi (classes_of a.odds (value_at a)) (classes_of b.odds (value_at b))
+    (data_classes pair.first.codes) (data_classes pair.second.codes) first second)
+    ∙ rows_are_table pair box

@@ -1,0 +1,46 @@
+-- Why what is asked of a file is refused.
+use Rattle.std.specs.Prelude.{ℕ, ◌++◌, codes, decimal, List, Option, Some, None, Result, Ok, Err}
+use Rattle.std.specs.Prelude.{if◌then◌else◌}
+use Rattle.oct_key.specs.declared.point.Point.{Point}
+use Rattle.oct_key.specs.Boxes.{Corners, is_box}
+use Rattle.oct_key.specs.Voxel.{Voxel, key_at}
+use Rattle.oct_script.specs.Replies as replies
+use Rattle.oct_script.specs.declared.reply.Refusal.TheVariants as script
+use Rattle.oct_ending.specs.declared.status.Status.TheVariants.{Refused}
+use Rattle.oct_file_tasks.specs.OverFile.{Reply}
+use Rattle.oct_file_tasks.specs.declared.refusal.Refusal.{Refusal}
+use Rattle.oct_file_tasks.specs.declared.refusal.Refusal.TheVariants.{Outside, BadBox}
+use Rattle.oct_file_tasks.specs.declared.refusal.Refusal.TheVariants.{TooManyFrontiers, WideGrid}
+use Rattle.oct_file_tasks.specs.declared.refusal.Refusal.TheVariants.{TooManyBoxes}
+
+-- a refusal by its number, its name and its fields: those of a script that are refusals here too
+-- have its text
+abbrev pub refusal_text : Refusal → List ℕ
+refusal_text (Outside point) = replies.refusal_text (script.Outside point)
+refusal_text BadBox = replies.refusal_text script.BadBox
+refusal_text TooManyFrontiers = codes "37 TooManyFrontiers"
+refusal_text (WideGrid count) = codes "38 WideGrid count " ++ decimal count
+refusal_text (TooManyBoxes count) = codes "39 TooManyBoxes count " ++ decimal count
+
+-- the reply that says it
+abbrev pub refused : Refusal → Reply
+refused refusal = record {
+  text = codes "refused " ++ refusal_text refusal ++ codes "\n";
+  status = Refused;
+}
+
+-- the box of two voxels, where both are there and are corners
+abbrev pub box_from : Option Voxel → Option Voxel → Result Corners Refusal
+box_from None hi = Err (Outside 1)
+box_from (Some lo) None = Err (Outside 2)
+box_from (Some lo) (Some hi) = if is_box lo hi then Ok (record { lo = lo; hi = hi }) else Err BadBox
+
+-- the box between two points, at a resolution in nanometres: that of their voxels, where both lie
+-- in the map and are corners
+unfoldable pub box_between : ℕ → Point → Point → Result Corners Refusal
+box_between edge lo hi = box_from (key_at edge lo) (key_at edge hi)
+
+-- the reply to what is asked of a box, or the refusal for which there is none
+abbrev pub reply_in : (Corners → Reply) → Result Corners Refusal → Reply
+reply_in reply (Ok corners) = reply corners
+reply_in reply (Err refusal) = refused refusal

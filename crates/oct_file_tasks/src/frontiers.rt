@@ -1,0 +1,89 @@
+//! The frontier of a file.
+ghost use Rattle.std.specs.Prelude.{◌≡◌, ◌≤◌, ◌^◌, ℕ, List, Option, length};
+ghost use Rattle.oct_key.specs.Boxes.{IsBox};
+ghost use Rattle.oct_bt.specs.DataClasses.{data_classes};
+ghost use Rattle.oct_bt.specs.NodeData.{IsAccepted};
+ghost use Rattle.oct_convert.specs.Input.{IsReadToEnd};
+ghost use Rattle.oct_frontier.specs.Frontier.{frontier_between};
+ghost use Rattle.oct_ending.specs.Counts.{IsSinkCounted};
+ghost use Rattle.oct_file_tasks.specs.Frontiers.{listing, list_reply, frontier_reply};
+ghost use Rattle.oct_file_tasks.specs.OverFile.{Reply, EndsOverFile, IsOfReply};
+
+use crate::file_tree::tree_of;
+use crate::frontier_text::listing_text;
+use crate::refusal::{Refusal, box_between};
+use crate::sending::{send, send_refusal};
+use oct_bt::BtFile;
+use oct_frontier::{FrontierFault, frontier};
+use oct_io::Sink;
+use oct_key::{Key, Point};
+use oct_num::Memory;
+use oct_ending::Status;
+use std::alloc::Global;
+
+/// The most voxels that are listed.
+const MOST_VOXELS: u64 = 1_000_000;
+
+/// Writes the frontier between the voxels of two points, one line for each voxel of it, and their
+/// number.
+pub fn list_frontier<K: Sink>(
+    alloc: Global,
+    file: &BtFile,
+    lo: Point,
+    hi: Point,
+    sink: &mut K,
+) -> Status
+    requires accepted { IsAccepted file.now.nodes file.now.codes }
+    requires few { length file.now.codes ≤ 2 ^ 32 }
+    ensures ends { (most : ℕ) (bytes : List ℕ) (left : Option (List ℕ))
+        → IsReadToEnd most bytes left → EndsOverFile (frontier_reply lo hi file.now) most bytes left
+        (K.written sink.old) (K.written sink.new) result }
+    ensures sink_counts { IsSinkCounted result (K.faults sink.old) (K.faults sink.new)
+        (K.shortages sink.old) (K.shortages sink.new) }
+    ensures ended { IsOfReply result }
+{
+    match box_between(file.res(), lo, hi) {
+        Ok(corners) => list_between(alloc, file, corners.lo(), corners.hi(), sink),
+        Err(refusal) => send_refusal(alloc, refusal, sink),
+    }
+}
+
+/// Writes the frontier of a file between two corners.
+fn list_between<K: Sink>(alloc: Global, file: &BtFile, low: Key, high: Key, sink: &mut K) -> Status
+    requires accepted { IsAccepted file.now.nodes file.now.codes }
+    requires few { length file.now.codes ≤ 2 ^ 32 }
+    requires order { IsBox low high }
+    ensures ends { (most : ℕ) (bytes : List ℕ) (left : Option (List ℕ))
+        → IsReadToEnd most bytes left
+        → EndsOverFile (list_reply (frontier_between (data_classes file.now.codes) low high))
+        most bytes left (K.written sink.old) (K.written sink.new) result }
+    ensures sink_counts { IsSinkCounted result (K.faults sink.old) (K.faults sink.new)
+        (K.shortages sink.old) (K.shortages sink.new) }
+    ensures ended { IsOfReply result }
+{
+    let Ok(tree) = tree_of(alloc, file) else {
+        return Status::Memory;
+    };
+    match frontier(alloc, &tree, low, high, MOST_VOXELS) {
+        Ok(keys) => send_listing(alloc, keys.as_slice(), sink),
+        Err(FrontierFault::TooManyFrontiers) => {
+            send_refusal(alloc, Refusal::TooManyFrontiers, sink)
+        }
+        Err(FrontierFault::Memory) => Status::Memory,
+    }
+}
+
+/// Writes the lines that list these voxels.
+fn send_listing<K: Sink>(alloc: Global, keys: &[Key], sink: &mut K) -> Status
+    ensures ends { (whole : Reply) (most : ℕ) (bytes : List ℕ) (left : Option (List ℕ))
+        → listing keys.now ≡ whole.text → Status.Done ≡ whole.status → IsReadToEnd most bytes left
+        → EndsOverFile whole most bytes left (K.written sink.old) (K.written sink.new) result }
+    ensures sink_counts { IsSinkCounted result (K.faults sink.old) (K.faults sink.new)
+        (K.shortages sink.old) (K.shortages sink.new) }
+    ensures ended { IsOfReply result }
+{
+    match listing_text(alloc, keys) {
+        Ok(text) => send(&text, Status::Done, sink),
+        Err(Memory) => Status::Memory,
+    }
+}

@@ -1,0 +1,105 @@
+//! The map of a file as other programs read it: a height band as a grid, and occupied space as
+//! boxes.
+ghost use Rattle.std.specs.Prelude.{◌≡◌, ◌≤◌, ◌^◌, ℕ, List, Option, length};
+ghost use Rattle.oct_key.specs.Boxes.{IsBox};
+ghost use Rattle.oct_bt.specs.DataClasses.{data_classes};
+ghost use Rattle.oct_bt.specs.NodeData.{IsAccepted};
+ghost use Rattle.oct_convert.specs.Input.{IsReadToEnd};
+ghost use Rattle.oct_ending.specs.Counts.{IsSinkCounted};
+ghost use Rattle.oct_file_tasks.specs.Grids.{column_count, grid_reply, project_reply};
+ghost use Rattle.oct_file_tasks.specs.Grids.{vrml_reply};
+ghost use Rattle.oct_file_tasks.specs.OverFile.{EndsOverFile, IsOfReply};
+
+use crate::file_tree::tree_of;
+use crate::refusal::{Refusal, box_between};
+use crate::sending::send_refusal;
+use oct_bt::BtFile;
+use oct_export::{box_count, pgm, vrml};
+use oct_io::Sink;
+use oct_key::{Key, Point};
+use oct_ending::{Status, status_written};
+use std::alloc::Global;
+
+/// The most columns of a grid.
+const MOST_COLUMNS: u64 = 1 << 26;
+
+/// The most boxes of a scene.
+const MOST_BOXES: u64 = 1_000_000;
+
+/// Writes the columns between the voxels of two points as a picture: each shows what stands in it
+/// between the heights of the two.
+pub fn project<K: Sink>(alloc: Global, file: &BtFile, lo: Point, hi: Point, sink: &mut K) -> Status
+    requires accepted { IsAccepted file.now.nodes file.now.codes }
+    requires few { length file.now.codes ≤ 2 ^ 32 }
+    ensures ends { (most : ℕ) (bytes : List ℕ) (left : Option (List ℕ))
+        → IsReadToEnd most bytes left → EndsOverFile (project_reply lo hi file.now) most bytes left
+        (K.written sink.old) (K.written sink.new) result }
+    ensures sink_counts { IsSinkCounted result (K.faults sink.old) (K.faults sink.new)
+        (K.shortages sink.old) (K.shortages sink.new) }
+    ensures ended { IsOfReply result }
+{
+    match box_between(file.res(), lo, hi) {
+        Ok(corners) => project_between(alloc, file, corners.lo(), corners.hi(), sink),
+        Err(refusal) => send_refusal(alloc, refusal, sink),
+    }
+}
+
+/// How many columns the box of two corners has.
+fn column_count(low: Key, high: Key) -> u64
+    requires order { IsBox low high }
+    ensures { result ≡ column_count (record { lo = low; hi = high }) }
+{
+    let width = u32::from(high.x - low.x) + 1;
+    let height = u32::from(high.y - low.y) + 1;
+    u64::from(width) * u64::from(height)
+}
+
+/// Writes the columns of a file between two corners.
+fn project_between<K: Sink>(
+    alloc: Global,
+    file: &BtFile,
+    low: Key,
+    high: Key,
+    sink: &mut K,
+) -> Status
+    requires accepted { IsAccepted file.now.nodes file.now.codes }
+    requires few { length file.now.codes ≤ 2 ^ 32 }
+    requires order { IsBox low high }
+    ensures ends { (most : ℕ) (bytes : List ℕ) (left : Option (List ℕ))
+        → IsReadToEnd most bytes left → EndsOverFile
+        (grid_reply (data_classes file.now.codes) (record { lo = low; hi = high }))
+        most bytes left (K.written sink.old) (K.written sink.new) result }
+    ensures sink_counts { IsSinkCounted result (K.faults sink.old) (K.faults sink.new)
+        (K.shortages sink.old) (K.shortages sink.new) }
+    ensures ended { IsOfReply result }
+{
+    let count = column_count(low, high);
+    if count > MOST_COLUMNS {
+        return send_refusal(alloc, Refusal::WideGrid { count }, sink);
+    }
+    let Ok(tree) = tree_of(alloc, file) else {
+        return Status::Memory;
+    };
+    status_written(Status::Done, pgm(&tree, low, high, sink))
+}
+
+/// Writes the occupied space of a file as a scene of boxes.
+pub fn draw_boxes<K: Sink>(alloc: Global, file: &BtFile, sink: &mut K) -> Status
+    requires accepted { IsAccepted file.now.nodes file.now.codes }
+    requires few { length file.now.codes ≤ 2 ^ 32 }
+    ensures ends { (most : ℕ) (bytes : List ℕ) (left : Option (List ℕ))
+        → IsReadToEnd most bytes left → EndsOverFile (vrml_reply file.now) most bytes left
+        (K.written sink.old) (K.written sink.new) result }
+    ensures sink_counts { IsSinkCounted result (K.faults sink.old) (K.faults sink.new)
+        (K.shortages sink.old) (K.shortages sink.new) }
+    ensures ended { IsOfReply result }
+{
+    let Ok(tree) = tree_of(alloc, file) else {
+        return Status::Memory;
+    };
+    let count = box_count(&tree);
+    if count > MOST_BOXES {
+        return send_refusal(alloc, Refusal::TooManyBoxes { count }, sink);
+    }
+    status_written(Status::Done, vrml(&tree, sink))
+}

@@ -1,0 +1,188 @@
+//! The tasks `merge` and `table`: two files of the store in, and one map, or a table, out.
+ghost use Rattle.std.specs.Prelude.{◌≡◌, ◌≢◌, ◌≤◌, ◌+◌, IfOk, OnErr, OnOk};
+ghost use Rattle.oct_io.specs.Counts.{IsMakingCounted};
+ghost use Rattle.oct_io.specs.Taken.{IsCutOff};
+ghost use Rattle.oct_io.specs.Told.{appended};
+ghost use Rattle.oct_key.specs.Boxes.{IsBox};
+ghost use Rattle.oct_ending.specs.Counts.{IsSinkCounted, IsStoreCounted};
+ghost use Rattle.oct_file_tasks.specs.OverFile.{IsOfReply};
+ghost use Rattle.oct_file_tasks.specs.OverStore.{merged_text, table_text, pair_line};
+ghost use Rattle.oct_file_tasks.specs.OverStore.{table_reply, pair_reply, found_reply, EndsByReply};
+ghost use Rattle.oct_file_tasks.specs.OverStore.{EndsOverStore};
+ghost use Rattle.oct_file_tasks.specs.Refusals.{box_between, refused};
+ghost use Rattle.oct_file_tasks.specs.TwoFiles.{loads_of, AreFit};
+
+use crate::file_tree::tree_of;
+use crate::pair_text::{no_pair_text, table_text};
+use crate::refusal::{Refusal, box_between, line_of};
+use crate::store_task::{PairTask, StoreTask};
+use crate::two_files::{NoPair, Pair, load_pair};
+use oct_bt::rewrite;
+use oct_io::{Sink, SinkFault, Store, StoreFault, write_all};
+use oct_key::{Point, Window};
+use oct_join::join;
+use oct_merge::{Rule, class_table};
+use oct_num::Memory;
+use oct_ending::{Status, status_written};
+use std::alloc::Global;
+
+/// Loads two files of the store, and writes what is asked of them: the canonical file of the merged
+/// map, or a table of nine lines that says how many voxels between two points have which classes.
+///
+/// The first file is judged before the second is loaded, then their resolutions, and then the
+/// points of a table. What is refused is written as a line, after the word `first` or `second`
+/// where one file is at fault. Nothing is written where the store fails.
+pub fn do_over_store<K: Sink, F: Store>(
+    alloc: Global,
+    task: &StoreTask,
+    sink: &mut K,
+    store: &mut F,
+) -> Status
+    ensures ends { EndsOverStore task.now (F.files store.old) (K.written sink.old)
+        (K.written sink.new) result }
+    ensures files { F.files store.new ≡ F.files store.old }
+    ensures called { F.calls store.new
+        ≤ F.calls store.old + loads_of (F.files store.old) task.now.first }
+    ensures unwritten { result ≡ Status.StoreFault → sink.new ≡ sink.old }
+    ensures store_counts { IsStoreCounted result (F.faults store.old) (F.faults store.new) }
+    ensures sink_counts { IsSinkCounted result (K.faults sink.old) (K.faults sink.new)
+        (K.shortages sink.old) (K.shortages sink.new) }
+    ensures named { (result ≢ Status.Usage) × (result ≢ Status.BadFile)
+        × (result ≢ Status.TooLong) × (result ≢ Status.ReadFault) }
+{
+    match load_pair(alloc, &task.first, &task.second, store) {
+        Ok(found) => answer(alloc, task.asks, &found, sink),
+        Err(StoreFault::Failed) => Status::StoreFault,
+        Err(StoreFault::Memory) => Status::Memory,
+    }
+}
+
+/// Writes what is asked of the files that were loaded, or why there is none.
+fn answer<K: Sink>(
+    alloc: Global,
+    asks: PairTask,
+    found: &Result<Pair, NoPair>,
+    sink: &mut K,
+) -> Status
+    requires fit { IfOk found.now AreFit }
+    ensures ends { EndsByReply (found_reply asks found.now) (K.written sink.old)
+        (K.written sink.new) result }
+    ensures sink_counts { IsSinkCounted result (K.faults sink.old) (K.faults sink.new)
+        (K.shortages sink.old) (K.shortages sink.new) }
+    ensures ended { IsOfReply result }
+{
+    match found {
+        Ok(pair) => answer_pair(alloc, asks, pair, sink),
+        Err(reason) => status_written(Status::Refused, write_no_pair(alloc, *reason, sink)),
+    }
+}
+
+/// Writes what is asked of two maps.
+fn answer_pair<K: Sink>(alloc: Global, asks: PairTask, pair: &Pair, sink: &mut K) -> Status
+    requires fit { AreFit pair.now }
+    ensures ends { EndsByReply (pair_reply asks pair.now) (K.written sink.old)
+        (K.written sink.new) result }
+    ensures sink_counts { IsSinkCounted result (K.faults sink.old) (K.faults sink.new)
+        (K.shortages sink.old) (K.shortages sink.new) }
+    ensures ended { IsOfReply result }
+{
+    match asks {
+        PairTask::Merge(rule) => {
+            status_written(Status::Done, write_merged(alloc, rule, pair, sink))
+        }
+        PairTask::Table { lo, hi } => answer_table(alloc, pair, lo, hi, sink),
+    }
+}
+
+/// Writes the table of the voxels between two points, or the refusal of the points.
+fn answer_table<K: Sink>(alloc: Global, pair: &Pair, lo: Point, hi: Point, sink: &mut K) -> Status
+    requires fit { AreFit pair.now }
+    ensures ends { EndsByReply (table_reply pair.now (box_between pair.now.first.res lo hi))
+        (K.written sink.old) (K.written sink.new) result }
+    ensures sink_counts { IsSinkCounted result (K.faults sink.old) (K.faults sink.new)
+        (K.shortages sink.old) (K.shortages sink.new) }
+    ensures ended { IsOfReply result }
+{
+    match box_between(pair.first.res(), lo, hi) {
+        Ok(zone) => status_written(Status::Done, write_table(alloc, pair, zone, sink)),
+        Err(why) => status_written(Status::Refused, write_refusal(alloc, why, sink)),
+    }
+}
+
+/// Writes the file of the merged map. After an error a part of it was written.
+fn write_merged<K: Sink>(
+    alloc: Global,
+    rule: Rule,
+    pair: &Pair,
+    sink: &mut K,
+) -> Result<(), SinkFault>
+    requires fit { AreFit pair.now }
+    ensures written { OnOk result
+        (K.written sink.new ≡ appended (K.written sink.old) (merged_text rule pair.now)) }
+    ensures cut { OnErr result
+        (IsCutOff (K.written sink.old) (K.written sink.new) (merged_text rule pair.now)) }
+    ensures sink_counts { IsMakingCounted result (K.faults sink.old) (K.faults sink.new)
+        (K.shortages sink.old) (K.shortages sink.new) }
+{
+    let file = join(alloc, rule, &pair.first, &pair.second)?;
+    rewrite(&file, sink)?;
+    Ok(())
+}
+
+/// The table of the voxels of a box in two maps.
+fn table_of(alloc: Global, pair: &Pair, zone: Window) -> Result<Vec<u8>, Memory>
+    requires fit { AreFit pair.now }
+    requires order { IsBox zone.lo zone.hi }
+    ensures { IfOk result (λ text. text.items ≡ table_text pair.now zone) }
+{
+    let first = tree_of(alloc, &pair.first)?;
+    let second = tree_of(alloc, &pair.second)?;
+    let table = class_table(&first, &second, zone.lo(), zone.hi());
+    table_text(alloc, &table)
+}
+
+/// Writes the table of the voxels of a box in two maps. After an error a part of it was written.
+fn write_table<K: Sink>(
+    alloc: Global,
+    pair: &Pair,
+    zone: Window,
+    sink: &mut K,
+) -> Result<(), SinkFault>
+    requires fit { AreFit pair.now }
+    requires order { IsBox zone.lo zone.hi }
+    ensures written { OnOk result
+        (K.written sink.new ≡ appended (K.written sink.old) (table_text pair.now zone)) }
+    ensures cut { OnErr result
+        (IsCutOff (K.written sink.old) (K.written sink.new) (table_text pair.now zone)) }
+    ensures sink_counts { IsMakingCounted result (K.faults sink.old) (K.faults sink.new)
+        (K.shortages sink.old) (K.shortages sink.new) }
+{
+    let text = table_of(alloc, pair, zone)?;
+    write_all(sink, &text)
+}
+
+/// Writes the line of a refusal. After an error a part of it was written.
+fn write_refusal<K: Sink>(alloc: Global, why: Refusal, sink: &mut K) -> Result<(), SinkFault>
+    ensures written { OnOk result
+        (K.written sink.new ≡ appended (K.written sink.old) (refused why).text) }
+    ensures cut { OnErr result
+        (IsCutOff (K.written sink.old) (K.written sink.new) (refused why).text) }
+    ensures sink_counts { IsMakingCounted result (K.faults sink.old) (K.faults sink.new)
+        (K.shortages sink.old) (K.shortages sink.new) }
+{
+    let text = line_of(alloc, why)?;
+    write_all(sink, &text)
+}
+
+/// Writes the line of why there are no two maps. After an error a part of it was written.
+fn write_no_pair<K: Sink>(alloc: Global, reason: NoPair, sink: &mut K) -> Result<(), SinkFault>
+    ensures written { OnOk result
+        (K.written sink.new ≡ appended (K.written sink.old) (pair_line reason)) }
+    ensures cut { OnErr result
+        (IsCutOff (K.written sink.old) (K.written sink.new) (pair_line reason)) }
+    ensures sink_counts { IsMakingCounted result (K.faults sink.old) (K.faults sink.new)
+        (K.shortages sink.old) (K.shortages sink.new) }
+{
+    let text = no_pair_text(alloc, reason)?;
+    write_all(sink, &text)
+}

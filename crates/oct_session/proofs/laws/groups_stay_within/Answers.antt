@@ -1,5 +1,0 @@
-use Rattle.oct_session.proofs.Fitting.{groups_within}
-use Rattle.oct_session.proofs.laws.groups_stay_within.Goals as goal
-
-pub returns : goal.returns
-returns c = groups_within

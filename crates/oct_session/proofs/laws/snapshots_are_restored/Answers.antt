@@ -1,5 +1,0 @@
-use Rattle.oct_session.proofs.GivenBack.{restore_gives_back}
-use Rattle.oct_session.proofs.laws.snapshots_are_restored.Goals as goal
-
-pub returns : goal.returns
-returns c = restore_gives_back

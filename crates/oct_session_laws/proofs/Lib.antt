@@ -1,0 +1,11 @@
+pub mod Alone
+pub mod LoadedGroups
+pub mod LowBytes
+pub mod RestoredGroups
+pub mod Fitting
+pub mod StateActions
+pub mod SnapshotFields
+pub mod StateCommands
+pub mod GivenBack
+pub mod SavedRecords
+pub mod LoadedBack

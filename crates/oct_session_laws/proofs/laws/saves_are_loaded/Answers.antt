@@ -1,0 +1,5 @@
+use Rattle.oct_session_laws.proofs.LoadedBack.{load_gives_back}
+use Rattle.oct_session_laws.proofs.laws.saves_are_loaded.Goals as goal
+
+pub returns : goal.returns
+returns c = load_gives_back

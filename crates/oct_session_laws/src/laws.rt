@@ -1,0 +1,69 @@
+//! What the definitions come to, with nothing to compute.
+ghost use Rattle.std.specs.Prelude.{◌≡◌, ◌≤◌, ℕ, List, Option, IfSome};
+ghost use Rattle.oct_bt.specs.FaultText.{fault_text};
+ghost use Rattle.oct_bt.specs.declared.fault.BtFault.{BtFault};
+ghost use Rattle.oct_key.specs.Voxel.{Voxel};
+ghost use Rattle.oct_values.specs.Counts.{group_count};
+ghost use Rattle.oct_io.specs.Files.{Files};
+ghost use Rattle.oct_script.specs.Lines.{Line};
+ghost use Rattle.oct_script.specs.Replies.{refusal_text};
+ghost use Rattle.oct_session.specs.Refusals.{file_refusal};
+ghost use Rattle.oct_session_laws.specs.GivenBack.{IsSetUp, AreBytes, IsState};
+ghost use Rattle.oct_session_laws.specs.GivenBack.{AreSnapshotAndRestore};
+ghost use Rattle.oct_session_laws.specs.GivenBack.{GivesBack};
+ghost use Rattle.oct_session.specs.Setup.{IsLimited};
+ghost use Rattle.oct_session_laws.specs.LoadedBack.{AreSaveAndLoad, LoadsBack};
+ghost use Rattle.oct_session.specs.History.{History, state_after, value_after, alone_after};
+ghost use Rattle.oct_session.specs.Session.{progress};
+ghost use Rattle.oct_session.specs.Setup.{Setup};
+
+/// The value of a voxel after a history is the fold of its own events, one after another, from
+/// unknown on: what other voxels have is not read. A law, with nothing to compute.
+pub fn values_are_folds()
+    ensures { (o : Setup) (history : History) (k : Voxel)
+        → value_after o history k ≡ alone_after o history k }
+{}
+
+/// What is wrong with a file of classes has the same text where a `load` is refused for it and
+/// where a task over a file is. A law, with nothing to compute.
+pub fn faults_read_alike()
+    ensures { (fault : BtFault) → IfSome (file_refusal fault)
+        (λ refusal. refusal_text refusal ≡ fault_text fault) }
+{}
+
+/// The groups that the values of a session need are never more than its limit. A law, with nothing
+/// to compute.
+pub fn groups_stay_within()
+    ensures { (o : Setup) (files : Option Files) (lines : List Line)
+        → group_count (value_after o (progress o files lines).history) ≤ o.max_groups }
+{}
+
+/// Between any two lines of a session its log-odds make a model, the box to which scans are
+/// restricted lies in the map, and each known value lies within the bounds. A law, with nothing to
+/// compute.
+pub fn states_stay_sound()
+    ensures { (o : Setup) (files : Option Files) (lines : List Line) → IsSetUp o
+        → IfSome files AreBytes → IsState (state_after o (progress o files lines).history) }
+{}
+
+/// A restore gives back what the snapshot of that name kept, and isn't refused, whatever stands
+/// between them: scans, edits, a clear, loads, other files, other log-odds. Every voxel has the
+/// value that it had at the snapshot, and the session goes by the log-odds and the box of then. A
+/// law, with nothing to compute.
+pub fn snapshots_are_restored()
+    ensures { (o : Setup) (files : Files) (name : List ℕ) (before : List Line) (snapshot : Line)
+        (between : List Line) (restore : Line) → IsSetUp o → AreBytes files
+        → AreSnapshotAndRestore o files name before snapshot between restore
+        → GivesBack o files before snapshot between restore }
+{}
+
+/// A load gives back the classes that the save of that name wrote, and isn't refused, whatever
+/// stands between them: scans, edits, a clear, loads, other files, other log-odds. The reply has
+/// the number of nodes of the file that was saved, and each voxel has the class that it had at the
+/// save, with a value that is as sure of it as can be. A law, with nothing to compute.
+pub fn saves_are_loaded()
+    ensures { (o : Setup) (files : Files) (name : List ℕ) (before : List Line) (save : Line)
+        (between : List Line) (load : Line) → IsSetUp o → IsLimited o → AreBytes files
+        → AreSaveAndLoad o files name before save between load
+        → LoadsBack o files before save between load }
+{}

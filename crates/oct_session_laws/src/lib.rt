@@ -1,0 +1,24 @@
+//! Laws of sessions: what their definitions come to, with nothing to compute.
+//!
+//! - [`values_are_folds`]: the value of a voxel is the fold of its own events, and no voxel reads
+//!   another one.
+//! - [`states_stay_sound`], [`groups_stay_within`]: between any two lines the log-odds in force make
+//!   a model, each known value lies within the bounds, and the values need no more groups than the
+//!   limit.
+//! - [`snapshots_are_restored`]: whatever stands between a snapshot and a restore of its name, the
+//!   restore gives back what was kept and isn't refused, as long as no line between them writes
+//!   that file (`specs/GivenBack.antt`). [`saves_are_loaded`]: so does a load with the classes that
+//!   a save of its name wrote (`specs/LoadedBack.antt`).
+//! - [`faults_read_alike`]: a faulty file is refused with the same words by a `load` and by a task
+//!   over a file.
+//!
+//! Nothing stands on this crate, so that the program's first start need not wait for it. It stands
+//! on `oct_session`, whose definitions it speaks of.
+#![tactic(auto)]
+
+mod laws;
+
+pub use laws::{
+    faults_read_alike, groups_stay_within, saves_are_loaded, snapshots_are_restored,
+    states_stay_sound, values_are_folds,
+};
