@@ -4,6 +4,10 @@ use Rattle.std.proofs.Common.{◌≡◌, ℕ, ◌+◌, ◌<◌, ◌≤◌, List,
 use Rattle.std.proofs.Common.{None, IfSome, Result, Ok, Err, OnOk, OnErr, IsErr, inl, inr, refl}
 use Rattle.std.proofs.Common.{sym, ◌∙◌, ap, subst, arith}
 use Rattle.std.proofs.lemmas.Bool.{lt-ltb, le-ltb, false≢true}
+use Rattle.oct_ending.specs.Answer.{Answer}
+use Rattle.oct_ending.specs.Stops.{status_written}
+use Rattle.oct_ending.specs.declared.status.Status.{Status}
+use Rattle.oct_ending.specs.declared.status.Status.TheVariants as status
 use Rattle.oct_io.specs.declared.sink.SinkFault.{SinkFault}
 use Rattle.oct_io.specs.declared.sink.SinkFault.TheVariants as sink
 use Rattle.oct_io.specs.Taken.{HasTaken, IsCutOff}
@@ -11,46 +15,44 @@ use Rattle.oct_io.specs.Told.{appended}
 use Rattle.oct_io.proofs.Appending.{appended_nil}
 use Rattle.oct_bt.specs.declared.fault.BtFault.{BtFault}
 use Rattle.oct_bt.specs.File.{FileRead, reading}
-use Rattle.oct_convert.specs.declared.ending.Ending.{Ending}
-use Rattle.oct_convert.specs.declared.ending.Ending.TheVariants as ending
 use Rattle.oct_convert.specs.declared.input.NoFile.{NoFile}
 use Rattle.oct_convert.specs.declared.input.NoFile.TheVariants.{BadFile, TooLong}
-use Rattle.oct_convert.specs.Answers.{Answer, answer_to, task_answer, refusal_line}
-use Rattle.oct_convert.specs.Ending.{MayEnd, Sends, ending_of}
+use Rattle.oct_convert.specs.Answers.{answer_to, task_answer, done_with, refusal_line}
+use Rattle.oct_convert.specs.Ending.{EndsOverFile, Sends}
 use Rattle.oct_convert.specs.Input.{MayRead, IsReadToEnd}
 
 -- the answer to an input that isn't too long
-answer_short : (text : FileRead → List ℕ) (most : ℕ) (bytes : List ℕ) → length bytes ≤ most
-    → task_answer text most bytes ≡ answer_to text (reading bytes)
+answer_short : (of_file : FileRead → Answer) (most : ℕ) (bytes : List ℕ) → length bytes ≤ most
+    → task_answer of_file most bytes ≡ answer_to of_file (reading bytes)
 unfolding task_answer
-answer_short text most bytes few = rw (le-ltb most (length bytes) few) refl
+answer_short of_file most bytes few = rw (le-ltb most (length bytes) few) refl
 
-answer_long : (text : FileRead → List ℕ) (most : ℕ) (bytes : List ℕ) → most < length bytes
-    → task_answer text most bytes ≡ record { text = []; ending = ending.TooLong }
+answer_long : (of_file : FileRead → Answer) (most : ℕ) (bytes : List ℕ) → most < length bytes
+    → task_answer of_file most bytes ≡ record { text = []; status = status.TooLong }
 unfolding task_answer
-answer_long text most bytes more = rw (lt-ltb most (length bytes) more) refl
+answer_long of_file most bytes more = rw (lt-ltb most (length bytes) more) refl
 
 -- a text that was written, or not whole, where the whole answer is that text and this ending
-sent : {T : Type 0} (r : Result T SinkFault) (whole : Answer) (text : List ℕ) (end : Ending)
+sent : {T : Type 0} (r : Result T SinkFault) (whole : Answer) (text : List ℕ) (end : Status)
     (most : ℕ) (bytes : List ℕ) (left old new : Option (List ℕ))
-    → whole ≡ record { text = text; ending = end } → (end ≡ ending.Done) ⊎ (end ≡ ending.BadFile)
+    → whole ≡ record { text = text; status = end } → (end ≡ status.Done) ⊎ (end ≡ status.BadFile)
     → IsReadToEnd most bytes left → Sends text old new r
-    → MayEnd whole most bytes left old new (ending_of end r)
+    → EndsOverFile whole most bytes left old new (status_written end r)
 sent (Ok t) whole text end most bytes left old new is (inl done) to_end sends =
-    subst (MayEnd whole most bytes left old new) (sym done) (
+    subst (EndsOverFile whole most bytes left old new) (sym done) (
       record {
         written = sends ∙ ap (λ (a : Answer). appended old a.text) (sym is);
-        same =
-            ap (λ (a : Answer). a.ending) is ∙ done;
+        same_status =
+            ap (λ (a : Answer). a.status) is ∙ done;
       },
       to_end,
     )
 sent (Ok t) whole text end most bytes left old new is (inr bad) to_end sends =
-    subst (MayEnd whole most bytes left old new) (sym bad) (
+    subst (EndsOverFile whole most bytes left old new) (sym bad) (
       record {
         written = sends ∙ ap (λ (a : Answer). appended old a.text) (sym is);
-        same =
-            ap (λ (a : Answer). a.ending) is ∙ bad;
+        same_status =
+            ap (λ (a : Answer). a.status) is ∙ bad;
       },
       to_end,
     )
@@ -67,45 +69,50 @@ sent (Err sink.Memory) whole text end most bytes left old new is which to_end se
 
 -- a task that read a file
 pub file_ends : {T : Type 0} (r : Result T SinkFault) (text : FileRead → List ℕ) (file : FileRead)
-    (most : ℕ) (first left old new : Option (List ℕ)) (end : Ending)
-    → end ≡ ending_of ending.Done r → IfSome first (λ bytes. MayRead most bytes left (Ok file))
+    (most : ℕ) (first left old new : Option (List ℕ)) (end : Status)
+    → end ≡ status_written status.Done r → IfSome first (λ bytes. MayRead most bytes left (Ok file))
     → Sends (text file) old new r
-    → IfSome first (λ bytes. MayEnd (task_answer text most bytes) most bytes left old new end)
+    → IfSome first (λ bytes. EndsOverFile (task_answer (done_with text) most bytes) most bytes left
+    old new end)
 file_ends r text file most None left old new end ends read sends = tt
 file_ends r text file most (Some bytes) left old new end ends (is, to_end) sends =
-    subst (MayEnd (task_answer text most bytes) most bytes left old new) (sym ends)
-    (sent r (task_answer text most bytes) (text file) ending.Done most bytes left old new
-    (answer_short text most bytes to_end.few ∙ ap (answer_to text) is) (inl refl) to_end sends)
+    subst (EndsOverFile (task_answer (done_with text) most bytes) most bytes left old new)
+    (sym ends)
+    (sent r (task_answer (done_with text) most bytes)
+    (text file) status.Done most bytes left old new
+    (answer_short (done_with text) most bytes to_end.few ∙ ap (answer_to (done_with text)) is)
+    (inl refl) to_end sends)
 
 -- a task whose input isn't a file
-pub fault_ends : {T : Type 0} (r : Result T SinkFault) (text : FileRead → List ℕ) (reason : NoFile)
-    (fault : BtFault) (most : ℕ) (bytes : List ℕ)
-    (left old new : Option (List ℕ)) (end : Ending) → reason ≡ BadFile fault
-    → end ≡ ending_of ending.BadFile r → MayRead most bytes left (Err reason)
+pub fault_ends : {T : Type 0} (r : Result T SinkFault) (of_file : FileRead → Answer)
+    (reason : NoFile) (fault : BtFault) (most : ℕ) (bytes : List ℕ)
+    (left old new : Option (List ℕ)) (end : Status) → reason ≡ BadFile fault
+    → end ≡ status_written status.BadFile r → MayRead most bytes left (Err reason)
     → Sends (refusal_line fault) old new r
-    → MayEnd (task_answer text most bytes) most bytes left old new end
-fault_ends r text reason fault most bytes left old new end is ends read sends =
+    → EndsOverFile (task_answer of_file most bytes) most bytes left old new end
+fault_ends r of_file reason fault most bytes left old new end is ends read sends =
     let (faulty, to_end) : MayRead most bytes left (Err (BadFile fault)) =
     subst (λ reason. MayRead most bytes left (Err reason)) is read in
-    subst (MayEnd (task_answer text most bytes) most bytes left old new) (sym ends)
-    (sent r (task_answer text most bytes)
-    (refusal_line fault) ending.BadFile most bytes left old new
-    (answer_short text most bytes to_end.few ∙ ap (answer_to text) faulty) (inr refl) to_end sends)
+    subst (EndsOverFile (task_answer of_file most bytes) most bytes left old new) (sym ends)
+    (sent r (task_answer of_file most bytes)
+    (refusal_line fault) status.BadFile most bytes left old new
+    (answer_short of_file most bytes to_end.few ∙ ap (answer_to of_file) faulty) (inr refl) to_end
+    sends)
 
 -- a task whose input is too long
-pub long_ends : (text : FileRead → List ℕ) (reason : NoFile) (most : ℕ) (bytes : List ℕ)
+pub long_ends : (of_file : FileRead → Answer) (reason : NoFile) (most : ℕ) (bytes : List ℕ)
     (left old : Option (List ℕ)) → reason ≡ TooLong
     → MayRead most bytes left (Err reason)
-    → MayEnd (task_answer text most bytes) most bytes left old old ending.TooLong
-long_ends text reason most bytes left old reason_is read =
+    → EndsOverFile (task_answer of_file most bytes) most bytes left old old status.TooLong
+long_ends of_file reason most bytes left old reason_is read =
     let taken : HasTaken (most + 1) bytes left =
     subst (λ reason. MayRead most bytes left (Err reason)) reason_is read in
     let within = taken.within in
-    let is = answer_long text most bytes (omega (arith, within)) in (
+    let is = answer_long of_file most bytes (omega (arith, within)) in (
       record {
         written = appended_nil old ∙ ap (λ (a : Answer). appended old a.text) (sym is);
-        same =
-            ap (λ (a : Answer). a.ending) is;
+        same_status =
+            ap (λ (a : Answer). a.status) is;
       },
       refl,
       taken,
@@ -113,13 +120,14 @@ long_ends text reason most bytes left old reason_is read =
 
 -- what a task answers to a reason for which there is no file
 pub reason_ends : (first left old new : Option (List ℕ)) (reason : NoFile)
-    (text : FileRead → List ℕ) (most : ℕ) (end : Ending)
+    (of_file : FileRead → Answer) (most : ℕ) (end : Status)
     → ((bytes : List ℕ) → MayRead most bytes left (Err reason)
-    → MayEnd (task_answer text most bytes) most bytes left old new end)
+    → EndsOverFile (task_answer of_file most bytes) most bytes left old new end)
     → IfSome first (λ bytes. MayRead most bytes left (Err reason))
-    → IfSome first (λ bytes. MayEnd (task_answer text most bytes) most bytes left old new end)
-reason_ends None left old new reason text most end by read = tt
-reason_ends (Some bytes) left old new reason text most end by read = by bytes read
+    → IfSome first (λ bytes. EndsOverFile (task_answer of_file most bytes) most bytes left old new
+    end)
+reason_ends None left old new reason of_file most end by read = tt
+reason_ends (Some bytes) left old new reason of_file most end by read = by bytes read
 
 -- ---- writing
 

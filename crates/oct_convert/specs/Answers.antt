@@ -12,28 +12,27 @@ use Rattle.oct_bt.specs.DataClasses.{data_classes, is_canonical}
 use Rattle.oct_bt.specs.FaultText.{fault_text}
 use Rattle.oct_bt.specs.File.{FileRead, bt_text, reading}
 use Rattle.oct_bt.specs.Records.{record_total}
-use Rattle.oct_convert.specs.declared.ending.Ending.{Ending}
-use Rattle.oct_convert.specs.declared.ending.Ending.TheVariants.{Done, BadFile, TooLong}
-
--- what a task writes, and how it ends
-pub record Answer : Type 0 where
-  pub text : List ℕ
-  pub ending : Ending
+use Rattle.oct_ending.specs.Answer.{Answer}
+use Rattle.oct_ending.specs.declared.status.Status.TheVariants.{Done, BadFile, TooLong}
 
 -- the line of a refusal
 abbrev pub refusal_line : BtFault → List ℕ
 refusal_line fault = codes "refused " ++ fault_text fault ++ codes "\n"
 
--- the answer to what was read, by the text that the task makes of a file
-abbrev pub answer_to : (FileRead → List ℕ) → Result FileRead BtFault → Answer
-answer_to text (Ok file) = record { text = text file; ending = Done }
-answer_to text (Err fault) = record { text = refusal_line fault; ending = BadFile }
+-- the answer to what was read, by that to a file
+abbrev pub answer_to : (FileRead → Answer) → Result FileRead BtFault → Answer
+answer_to of_file (Ok file) = of_file file
+answer_to of_file (Err fault) = record { text = refusal_line fault; status = BadFile }
 
 -- the answer to an input: nothing where it has too many bytes
-unfoldable pub task_answer : (FileRead → List ℕ) → ℕ → List ℕ → Answer
-task_answer text max_bytes bytes =
-    if nat_lt max_bytes (length bytes) then record { text = []; ending = TooLong }
-    else answer_to text (reading bytes)
+unfoldable pub task_answer : (FileRead → Answer) → ℕ → List ℕ → Answer
+task_answer of_file max_bytes bytes =
+    if nat_lt max_bytes (length bytes) then record { text = []; status = TooLong }
+    else answer_to of_file (reading bytes)
+
+-- the answer to a file that is this text of it
+abbrev pub done_with : (FileRead → List ℕ) → FileRead → Answer
+done_with text file = record { text = text file; status = Done }
 
 -- the canonical file of the resolution and the classes of a file
 abbrev pub canonical_text : FileRead → List ℕ
@@ -70,8 +69,8 @@ report file =
 
 -- the answer of `convert`
 abbrev pub convert_answer : ℕ → List ℕ → Answer
-convert_answer max_bytes bytes = task_answer canonical_text max_bytes bytes
+convert_answer max_bytes bytes = task_answer (done_with canonical_text) max_bytes bytes
 
 -- the answer of `inspect`
 abbrev pub inspect_answer : ℕ → List ℕ → Answer
-inspect_answer max_bytes bytes = task_answer report max_bytes bytes
+inspect_answer max_bytes bytes = task_answer (done_with report) max_bytes bytes

@@ -2,7 +2,8 @@
 ghost use Rattle.std.specs.Prelude.{◌<◌};
 
 use oct_bt::{BtFault, HeaderWord};
-use oct_convert::{Ending, NoFile, convert, inspect, read_file};
+use oct_convert::{NoFile, convert, inspect, read_file};
+use oct_ending::Status;
 use oct_io::{CalmSink, CalmSource, FileBytes, KeptList, MemSource};
 use oct_num::Memory;
 use std::alloc::Global;
@@ -59,7 +60,7 @@ fn reads_a_file_in_pieces_of_any_length(rt: HostRuntime) {
 
 /// The most bytes that a file may have, the file, what `convert` and `inspect` write, and how both
 /// end.
-type TaskCase = (u64, &'static [u8], &'static [u8], &'static [u8], Ending);
+type TaskCase = (u64, &'static [u8], &'static [u8], &'static [u8], Status);
 
 const TASKS: &[TaskCase] = &[
     (
@@ -69,7 +70,7 @@ const TASKS: &[TaskCase] = &[
             # (feel free to add / change comments, but leave the first line as it is!)\n#\n\
             id OcTree\nsize 9\nres 0.1\ndata\n\xAA\xAA",
         b"res 0.1\nsize 9\nrecords 1\nfree 0\noccupied 281474976710656\ncanonical yes\n",
-        Ending::Done,
+        Status::Done,
     ),
     (
         100,
@@ -79,7 +80,7 @@ const TASKS: &[TaskCase] = &[
             id OcTree\nsize 4\nres 0.25\ndata\n\x06\x40",
         b"res 0.25\nsize 12\nrecords 2\nfree 70368744177664\noccupied 35184372088832\n\
             canonical no\n",
-        Ending::Done,
+        Status::Done,
     ),
     (
         100,
@@ -88,16 +89,16 @@ const TASKS: &[TaskCase] = &[
             # (feel free to add / change comments, but leave the first line as it is!)\n#\n\
             id OcTree\nsize 0\nres 0.1\ndata\n",
         b"res 0.1\nsize 1\nrecords 1\nfree 0\noccupied 0\ncanonical no\n",
-        Ending::Done,
+        Status::Done,
     ),
     (
         100,
         b"# Octomap OcTree binary file\n",
         b"refused 13 MissingField data\n",
         b"refused 13 MissingField data\n",
-        Ending::BadFile,
+        Status::BadFile,
     ),
-    (60, FILE, b"", b"", Ending::TooLong),
+    (60, FILE, b"", b"", Status::TooLong),
 ];
 
 /// A source of these bytes in reads of seven.
@@ -114,7 +115,7 @@ fn expect_converted(
     alloc: Global,
     max_bytes: u64,
     bytes: &[u8],
-    want: (&[u8], Ending),
+    want: (&[u8], Status),
 ) -> Result<(), Memory> {
     assert!(rt; max_bytes <= MOST);
     let mut source = source_of(alloc, bytes)?;
@@ -130,7 +131,7 @@ fn expect_inspected(
     alloc: Global,
     max_bytes: u64,
     bytes: &[u8],
-    want: (&[u8], Ending),
+    want: (&[u8], Status),
 ) -> Result<(), Memory> {
     let mut source = source_of(alloc, bytes)?;
     let mut sink = CalmSink::new(alloc, 3);

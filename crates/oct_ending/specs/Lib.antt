@@ -1,4 +1,5 @@
 pub mod Stops
 pub mod Counts
+pub mod Answer
 pub mod Whole
 pub mod Shelf

@@ -10,14 +10,17 @@
 //!
 //! The definitions say what holds beside a status, whatever was to be done:
 //!
-//! - `Counts`: a count of faults rises by one exactly where the status names the fault, and no other
-//!   count changes; the end of an input is met once at most, and a store asked so many times.
+//! - `Answer`: what a task writes, with its status, and that all of it was written (`IsAnswered`);
+//!   what a run leaves, files among it (`Outcome`); how a task ends that reads nothing
+//!   (`EndsUnread`).
+//! - `Counts`: a count of faults rises by one exactly where the status names the fault, and no
+//!   other count changes; the end of an input is met once at most, and a store asked so many times.
 //! - `Whole`: which statuses come with the whole answer.
 //! - `Stops`: the status of a stop, and the stop of a fault.
 //! - `Shelf`: a store, as a run uses it.
 //!
-//! It stands on `oct_io`, whose sources, sinks and stores have the faults. `oct_session`, the tasks
-//! over files (`oct_file_tasks`) and `oct_tasks` stand on it.
+//! It stands on `oct_io`, whose sources, sinks and stores have the faults. The tasks over files
+//! (`oct_convert`, `oct_file_tasks`), `oct_session` and `oct_tasks` stand on it.
 #![tactic(auto)]
 
 mod status;

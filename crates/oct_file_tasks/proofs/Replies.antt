@@ -16,7 +16,7 @@ use Rattle.oct_ending.specs.declared.status.Status.TheVariants.{Done}
 use Rattle.oct_values.specs.Classes.{Classes}
 use Rattle.oct_file_tasks.specs.Frontiers.{voxel_line, listing, list_reply}
 use Rattle.oct_file_tasks.specs.Grids.{column_count, grid_reply, scene_reply}
-use Rattle.oct_file_tasks.specs.OverFile.{Reply}
+use Rattle.oct_ending.specs.Answer.{Answer}
 use Rattle.oct_file_tasks.specs.Refusals.{refused}
 use Rattle.oct_file_tasks.specs.declared.refusal.Refusal.TheVariants.{TooManyFrontiers, WideGrid}
 use Rattle.oct_file_tasks.specs.declared.refusal.Refusal.TheVariants.{TooManyBoxes}
@@ -25,7 +25,7 @@ use Rattle.oct_file_tasks.proofs.PairTexts.{some_refusal}
 -- ---- no text is empty
 
 -- of two replies
-some_of_two : (b : Bool) (first second : Reply) → 0 < length first.text → 0 < length second.text
+some_of_two : (b : Bool) (first second : Answer) → 0 < length first.text → 0 < length second.text
     → 0 < length (cond b first second).text
 some_of_two true first second one two = one
 some_of_two false first second one two = two
@@ -82,7 +82,7 @@ list_told c d low high slice keys same is exact few =
     ap list_reply (sym (exact ∙ same_frontier c d low high same)) ∙ few_enough keys few
     ∙ ap told (sym is)
   where
-    told : List Voxel → Reply
+    told : List Voxel → Answer
     told voxels = record { text = listing voxels; status = Done }
 
 -- ---- a grid

@@ -11,7 +11,8 @@ use Rattle.oct_convert.proofs.Ends.{cut_none}
 use Rattle.oct_ending.specs.Stops.{status_written}
 use Rattle.oct_ending.specs.declared.status.Status.{Status}
 use Rattle.oct_ending.specs.declared.status.Status.TheVariants.{Memory, StoreFault}
-use Rattle.oct_file_tasks.specs.OverFile.{Reply, IsSettled}
+use Rattle.oct_ending.specs.Answer.{Answer}
+use Rattle.oct_file_tasks.specs.OverFile.{IsSettled}
 use Rattle.oct_file_tasks.specs.OverStore.{found_reply, store_reply, EndsByReply, EndsOverStore}
 use Rattle.oct_file_tasks.specs.TwoFiles.{pair_in}
 use Rattle.oct_file_tasks.proofs.PairTexts.{some_reply}
@@ -20,7 +21,7 @@ use Rattle.oct_file_tasks.specs.declared.two_files.NoPair.{NoPair}
 use Rattle.oct_file_tasks.specs.declared.two_files.Pair.{Pair}
 
 -- a reply whose text was written, or not whole
-pub reply_ends : (r : Result ⊤ SinkFault) (whole : Reply) (text : List ℕ) (status end : Status)
+pub reply_ends : (r : Result ⊤ SinkFault) (whole : Answer) (text : List ℕ) (status end : Status)
     (old new : Option (List ℕ)) → IsSettled status
     → end ≡ status_written status r → whole ≡ record { text = text; status = status }
     → OnOk r (new ≡ appended old text) → OnErr r (IsCutOff old new text)
@@ -28,23 +29,23 @@ pub reply_ends : (r : Result ⊤ SinkFault) (whole : Reply) (text : List ℕ) (s
 reply_ends (Ok t) whole text status end old new (inl done) ends is ok err =
     subst (EndsByReply whole old new) (sym (ends ∙ done))
     (record {
-      written = ok ∙ ap (λ (r : Reply). appended old r.text) (sym is);
-      same = ap
-          (λ (r : Reply). r.status) is ∙ done;
+      written = ok ∙ ap (λ (r : Answer). appended old r.text) (sym is);
+      same_status = ap
+          (λ (r : Answer). r.status) is ∙ done;
     })
 reply_ends (Ok t) whole text status end old new (inr refused) ends is ok err =
     subst (EndsByReply whole old new) (sym (ends ∙ refused))
     (record {
-      written = ok ∙ ap (λ (r : Reply). appended old r.text) (sym is);
-      same = ap
-          (λ (r : Reply). r.status) is ∙ refused;
+      written = ok ∙ ap (λ (r : Answer). appended old r.text) (sym is);
+      same_status = ap
+          (λ (r : Answer). r.status) is ∙ refused;
     })
 reply_ends (Err sink.Failed) whole text status end old new settled ends is ok err =
     subst (EndsByReply whole old new) (sym ends)
-    (subst (IsCutOff old new) (ap (λ (r : Reply). r.text) (sym is)) err)
+    (subst (IsCutOff old new) (ap (λ (r : Answer). r.text) (sym is)) err)
 reply_ends (Err sink.Memory) whole text status end old new settled ends is ok err =
     subst (EndsByReply whole old new) (sym ends)
-    (subst (IsCutOff old new) (ap (λ (r : Reply). r.text) (sym is)) err)
+    (subst (IsCutOff old new) (ap (λ (r : Answer). r.text) (sym is)) err)
 
 -- an error before anything was written
 pub none_written : {T : Type 0} (r : Result T SinkFault) (text : List ℕ) (old : Option (List ℕ))
@@ -76,7 +77,7 @@ cut_written (Ok t) text piece old new is err cut = tt
 cut_written (Err fault) text piece old new is err cut = subst (IsCutOff old new) is cut
 
 -- the end by another name of the reply
-pub same_reply : (whole other : Reply) (old new : Option (List ℕ)) (end : Status) → whole ≡ other
+pub same_reply : (whole other : Answer) (old new : Option (List ℕ)) (end : Status) → whole ≡ other
     → EndsByReply other old new end → EndsByReply whole old new end
 same_reply whole other old new end is ends = subst (λ w. EndsByReply w old new end) (sym is) ends
 

@@ -9,7 +9,7 @@ use Rattle.oct_export.specs.BoxTexts.{vrml_text}
 use Rattle.oct_export.specs.Grids.{pgm_text}
 use Rattle.oct_ending.specs.declared.status.Status.TheVariants.{Done}
 use Rattle.oct_values.specs.Classes.{Classes}
-use Rattle.oct_file_tasks.specs.OverFile.{Reply}
+use Rattle.oct_ending.specs.Answer.{Answer}
 use Rattle.oct_file_tasks.specs.Refusals.{refused, box_between, reply_in}
 use Rattle.oct_file_tasks.specs.declared.refusal.Refusal.TheVariants.{WideGrid, TooManyBoxes}
 
@@ -18,23 +18,23 @@ abbrev pub column_count : Corners → ℕ
 column_count box = (box.hi.x + 1 - box.lo.x) * (box.hi.y + 1 - box.lo.y)
 
 -- the reply that shows a box as a picture, where it has no more than 2^26 columns
-unfoldable pub grid_reply : Classes → Corners → Reply
+unfoldable pub grid_reply : Classes → Corners → Answer
 grid_reply classes box =
     if nat_lt (2 ^ 26) (column_count box) then refused (WideGrid (column_count box))
     else record { text = pgm_text classes box.lo box.hi; status = Done }
 
 -- the reply to a file: the box is that of its resolution, and the classes its own
-abbrev pub project_reply : Point → Point → FileRead → Reply
+abbrev pub project_reply : Point → Point → FileRead → Answer
 project_reply lo hi file =
     reply_in (grid_reply (data_classes file.codes)) (box_between file.res lo hi)
 
 -- the reply that shows occupied space as a scene, where it makes no more than 1,000,000 boxes
-unfoldable pub scene_reply : ℕ → Classes → Reply
+unfoldable pub scene_reply : ℕ → Classes → Answer
 scene_reply edge classes =
     if nat_lt 1000000 (length (boxes_of classes))
     then refused (TooManyBoxes (length (boxes_of classes)))
     else record { text = vrml_text edge classes; status = Done }
 
 -- the reply to a file, of its resolution and its classes
-abbrev pub vrml_reply : FileRead → Reply
+abbrev pub vrml_reply : FileRead → Answer
 vrml_reply file = scene_reply file.res (data_classes file.codes)

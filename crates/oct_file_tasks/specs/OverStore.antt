@@ -7,8 +7,6 @@ use Rattle.oct_bt.specs.DataClasses.{data_classes}
 use Rattle.oct_bt.specs.File.{FileRead, bt_text}
 use Rattle.oct_convert.specs.Answers.{refusal_line}
 use Rattle.oct_io.specs.Files.{Files}
-use Rattle.oct_io.specs.Taken.{IsCutOff}
-use Rattle.oct_io.specs.Told.{appended}
 use Rattle.oct_key.specs.Block.{root_block}
 use Rattle.oct_key.specs.Boxes.{Corners}
 use Rattle.oct_key.specs.Values.{Values}
@@ -22,12 +20,11 @@ use Rattle.oct_script.specs.Replies.{class_name, reply_text}
 use Rattle.oct_script.specs.declared.reply.Refusal.{Refusal}
 use Rattle.oct_script.specs.declared.reply.Refusal.TheVariants as refusal
 use Rattle.oct_script.specs.declared.reply.Reply.TheVariants as script
+use Rattle.oct_ending.specs.Answer.{Answer, EndsUnread}
 use Rattle.oct_ending.specs.declared.status.Status.{Status}
 use Rattle.oct_ending.specs.declared.status.Status.TheVariants.{Done, Refused}
-use Rattle.oct_ending.specs.declared.status.Status.TheVariants.{WriteFault}
-use Rattle.oct_ending.specs.declared.status.Status.TheVariants.{Memory, StoreFault}
+use Rattle.oct_ending.specs.declared.status.Status.TheVariants.{StoreFault}
 use Rattle.oct_values.specs.Classes.{classes_of}
-use Rattle.oct_file_tasks.specs.OverFile.{Reply}
 use Rattle.oct_file_tasks.specs.Refusals.{box_between, refused}
 use Rattle.oct_file_tasks.specs.declared.refusal.Refusal as asked
 use Rattle.oct_file_tasks.specs.TwoFiles.{pair_in}
@@ -110,44 +107,36 @@ table_rows counts = table_row Unknown 0 counts ++ table_row Free 3 counts
 -- ---- replies
 
 -- the reply that is a table, or the refusal of its points
-abbrev pub table_reply : Pair → Result Corners asked.Refusal → Reply
+abbrev pub table_reply : Pair → Result Corners asked.Refusal → Answer
 table_reply pair (Ok box) = record { text = table_text pair box; status = Done }
 table_reply pair (Err why) = refused why
 
 -- the reply that two maps are given
-abbrev pub pair_reply : PairTask → Pair → Reply
+abbrev pub pair_reply : PairTask → Pair → Answer
 pair_reply (Merge rule) pair = record { text = merged_text rule pair; status = Done }
 pair_reply (Table lo hi) pair = table_reply pair (box_between pair.first.res lo hi)
 
 -- the reply to what was loaded
-abbrev pub found_reply : PairTask → Result Pair NoPair → Reply
+abbrev pub found_reply : PairTask → Result Pair NoPair → Answer
 found_reply asks (Ok pair) = pair_reply asks pair
 found_reply asks (Err reason) = record { text = pair_line reason; status = Refused }
 
 -- the reply of a task over these files
-abbrev pub store_reply : StoreTask → Files → Reply
+abbrev pub store_reply : StoreTask → Files → Answer
 store_reply task files = found_reply task.asks (pair_in files task.first task.second)
 
 -- the same, where the files are told; of others this is a filler that no clause reads
-abbrev pub told_reply : StoreTask → Option Files → Reply
+abbrev pub told_reply : StoreTask → Option Files → Answer
 told_reply task None = record { text = []; status = StoreFault }
 told_reply task (Some files) = store_reply task files
 
 -- ---- the end
 
--- the whole reply was written, and the status is its own
-pub record IsReplied (whole : Reply) (old new : Option (List ℕ)) (status : Status) : Type 0 where
-  pub written : new ≡ appended old whole.text
-  pub same : whole.status ≡ status
-
--- how a task with this reply may end, that reads nothing of its input
-abbrev pub EndsByReply : Reply → Option (List ℕ) → Option (List ℕ) → Status → Type 0
-EndsByReply whole old new Done = IsReplied whole old new Done
-EndsByReply whole old new Refused = IsReplied whole old new Refused
-EndsByReply whole old new WriteFault = IsCutOff old new whole.text
-EndsByReply whole old new Memory = IsCutOff old new whole.text
+-- how a task with this answer may end: as one that reads nothing of its input, and nothing was
+-- written where the store failed
+abbrev pub EndsByReply : Answer → Option (List ℕ) → Option (List ℕ) → Status → Type 0
 EndsByReply whole old new StoreFault = new ≡ old
-EndsByReply whole old new _ = ⊥
+EndsByReply whole old new status = EndsUnread whole old new status
 
 -- how a task over two files of the store may end
 abbrev pub EndsOverStore : StoreTask → Option Files → Option (List ℕ) → Option (List ℕ) → Status

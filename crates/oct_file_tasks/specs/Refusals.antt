@@ -7,7 +7,7 @@ use Rattle.oct_key.specs.Voxel.{Voxel, key_at}
 use Rattle.oct_script.specs.Replies as replies
 use Rattle.oct_script.specs.declared.reply.Refusal.TheVariants as script
 use Rattle.oct_ending.specs.declared.status.Status.TheVariants.{Refused}
-use Rattle.oct_file_tasks.specs.OverFile.{Reply}
+use Rattle.oct_ending.specs.Answer.{Answer}
 use Rattle.oct_file_tasks.specs.declared.refusal.Refusal.{Refusal}
 use Rattle.oct_file_tasks.specs.declared.refusal.Refusal.TheVariants.{Outside, BadBox}
 use Rattle.oct_file_tasks.specs.declared.refusal.Refusal.TheVariants.{TooManyFrontiers, WideGrid}
@@ -23,7 +23,7 @@ refusal_text (WideGrid count) = codes "38 WideGrid count " ++ decimal count
 refusal_text (TooManyBoxes count) = codes "39 TooManyBoxes count " ++ decimal count
 
 -- the reply that says it
-abbrev pub refused : Refusal → Reply
+abbrev pub refused : Refusal → Answer
 refused refusal = record {
   text = codes "refused " ++ refusal_text refusal ++ codes "\n";
   status = Refused;
@@ -41,6 +41,6 @@ unfoldable pub box_between : ℕ → Point → Point → Result Corners Refusal
 box_between edge lo hi = box_from (key_at edge lo) (key_at edge hi)
 
 -- the reply to what is asked of a box, or the refusal for which there is none
-abbrev pub reply_in : (Corners → Reply) → Result Corners Refusal → Reply
+abbrev pub reply_in : (Corners → Answer) → Result Corners Refusal → Answer
 reply_in reply (Ok corners) = reply corners
 reply_in reply (Err refusal) = refused refusal

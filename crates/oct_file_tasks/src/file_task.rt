@@ -4,15 +4,16 @@ ghost use Rattle.oct_bt.specs.NodeData.{IsAccepted};
 ghost use Rattle.oct_convert.specs.Input.{IsReadToEnd};
 ghost use Rattle.oct_ending.specs.Counts.{IsSourceCounted, IsSinkCounted};
 ghost use Rattle.oct_file_tasks.specs.FileTasks.{file_reply, over_file_answer};
-ghost use Rattle.oct_file_tasks.specs.OverFile.{EndsOverFile, IsOfReply, status_of};
+ghost use Rattle.oct_convert.specs.Ending.{EndsOverFile};
+ghost use Rattle.oct_file_tasks.specs.OverFile.{IsOfReply};
 
 use crate::frontiers::list_frontier;
 use crate::grids::{draw_boxes, project};
 use oct_bt::BtFile;
-use oct_convert::{Ending, read_file, refuse};
+use oct_convert::{read_file, refuse};
+use oct_ending::Status;
 use oct_io::{Sink, Source};
 use oct_key::Point;
-use oct_ending::Status;
 use std::alloc::Global;
 
 /// What is asked of a file of classes.
@@ -53,7 +54,7 @@ pub fn answer_over_file<S: Source, K: Sink>(
 {
     match read_file(alloc, max_bytes, source) {
         Ok(file) => answer_file(alloc, task, &file, sink),
-        Err(reason) => status_of(refuse(alloc, reason, sink)),
+        Err(reason) => refuse(alloc, reason, sink),
     }
 }
 
@@ -72,19 +73,5 @@ fn answer_file<K: Sink>(alloc: Global, task: FileTask, file: &BtFile, sink: &mut
         FileTask::Frontier { lo, hi } => list_frontier(alloc, file, lo, hi, sink),
         FileTask::Project { lo, hi } => project(alloc, file, lo, hi, sink),
         FileTask::Vrml => draw_boxes(alloc, file, sink),
-    }
-}
-
-/// The status of a task over a file.
-pub fn status_of(ending: Ending) -> Status
-    ensures { result ≡ status_of ending }
-{
-    match ending {
-        Ending::Done => Status::Done,
-        Ending::BadFile => Status::BadFile,
-        Ending::TooLong => Status::TooLong,
-        Ending::ReadFault => Status::ReadFault,
-        Ending::WriteFault => Status::WriteFault,
-        Ending::Memory => Status::Memory,
     }
 }

@@ -7,18 +7,20 @@ ghost use Rattle.oct_convert.specs.Input.{IsReadToEnd};
 ghost use Rattle.oct_frontier.specs.Frontier.{frontier_between};
 ghost use Rattle.oct_ending.specs.Counts.{IsSinkCounted};
 ghost use Rattle.oct_file_tasks.specs.Frontiers.{listing, list_reply, frontier_reply};
-ghost use Rattle.oct_file_tasks.specs.OverFile.{Reply, EndsOverFile, IsOfReply};
+ghost use Rattle.oct_ending.specs.Answer.{Answer};
+ghost use Rattle.oct_convert.specs.Ending.{EndsOverFile};
+ghost use Rattle.oct_file_tasks.specs.OverFile.{IsOfReply};
 
 use crate::file_tree::tree_of;
 use crate::frontier_text::listing_text;
 use crate::refusal::{Refusal, box_between};
 use crate::sending::{send, send_refusal};
 use oct_bt::BtFile;
+use oct_ending::Status;
 use oct_frontier::{FrontierFault, frontier};
 use oct_io::Sink;
 use oct_key::{Key, Point};
 use oct_num::Memory;
-use oct_ending::Status;
 use std::alloc::Global;
 
 /// The most voxels that are listed.
@@ -75,7 +77,7 @@ fn list_between<K: Sink>(alloc: Global, file: &BtFile, low: Key, high: Key, sink
 
 /// Writes the lines that list these voxels.
 fn send_listing<K: Sink>(alloc: Global, keys: &[Key], sink: &mut K) -> Status
-    ensures ends { (whole : Reply) (most : ℕ) (bytes : List ℕ) (left : Option (List ℕ))
+    ensures ends { (whole : Answer) (most : ℕ) (bytes : List ℕ) (left : Option (List ℕ))
         → listing keys.now ≡ whole.text → Status.Done ≡ whole.status → IsReadToEnd most bytes left
         → EndsOverFile whole most bytes left (K.written sink.old) (K.written sink.new) result }
     ensures sink_counts { IsSinkCounted result (K.faults sink.old) (K.faults sink.new)

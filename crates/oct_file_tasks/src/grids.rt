@@ -8,16 +8,17 @@ ghost use Rattle.oct_convert.specs.Input.{IsReadToEnd};
 ghost use Rattle.oct_ending.specs.Counts.{IsSinkCounted};
 ghost use Rattle.oct_file_tasks.specs.Grids.{column_count, grid_reply, project_reply};
 ghost use Rattle.oct_file_tasks.specs.Grids.{vrml_reply};
-ghost use Rattle.oct_file_tasks.specs.OverFile.{EndsOverFile, IsOfReply};
+ghost use Rattle.oct_convert.specs.Ending.{EndsOverFile};
+ghost use Rattle.oct_file_tasks.specs.OverFile.{IsOfReply};
 
 use crate::file_tree::tree_of;
 use crate::refusal::{Refusal, box_between};
 use crate::sending::send_refusal;
 use oct_bt::BtFile;
+use oct_ending::{Status, status_written};
 use oct_export::{box_count, pgm, vrml};
 use oct_io::Sink;
 use oct_key::{Key, Point};
-use oct_ending::{Status, status_written};
 use std::alloc::Global;
 
 /// The most columns of a grid.

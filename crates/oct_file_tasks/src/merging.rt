@@ -18,12 +18,12 @@ use crate::refusal::{Refusal, box_between, line_of};
 use crate::store_task::{PairTask, StoreTask};
 use crate::two_files::{NoPair, Pair, load_pair};
 use oct_bt::rewrite;
+use oct_ending::{Status, status_written};
 use oct_io::{Sink, SinkFault, Store, StoreFault, write_all};
-use oct_key::{Point, Window};
 use oct_join::join;
+use oct_key::{Point, Window};
 use oct_merge::{Rule, class_table};
 use oct_num::Memory;
-use oct_ending::{Status, status_written};
 use std::alloc::Global;
 
 /// Loads two files of the store, and writes what is asked of them: the canonical file of the merged

@@ -11,7 +11,8 @@ use Rattle.oct_session.specs.Building as built
 use Rattle.oct_session.specs.Building.{last_state, text_built, build, has_ended, EndsWriting}
 use Rattle.oct_session.specs.Building.{IsHaltedBehind}
 use Rattle.oct_session.specs.Ending as script
-use Rattle.oct_session.specs.Ending.{IsAnswered, IsReadToEnd}
+use Rattle.oct_ending.specs.Answer.{IsAnswered, answer_of}
+use Rattle.oct_session.specs.Ending.{IsReadToEnd}
 use Rattle.oct_ending.specs.Whole.{IsWhole}
 use Rattle.oct_session.specs.FileCommands.{classes_file}
 use Rattle.oct_session.specs.Leaving as lent
@@ -162,7 +163,7 @@ written_leaves o files (Some bytes) after v u d ended result over served writes 
 -- nothing is written where the script is too long
 answered_long : (o : Setup) (files : Option Files) (bytes : List ℕ) (v u : Option (List ℕ))
     → (session o files bytes).status ≡ status.TooLong → u ≡ v
-    → IsAnswered (build o files bytes) v u status.TooLong
+    → IsAnswered (answer_of (build o files bytes)) v u status.TooLong
 unfolding build
 answered_long o files bytes v u same unwritten = record {
   written = unwritten ∙ appended_nil v

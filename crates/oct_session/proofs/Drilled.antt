@@ -18,11 +18,12 @@ use Rattle.oct_map.specs.Map.{Map, values_of}
 use Rattle.oct_values.specs.Counts.{group_count, node_count}
 use Rattle.oct_values.proofs.Uniform.{same_group_count, same_node_count}
 use Rattle.oct_session.specs.Drill.{drill, drill_setup, drilled, drilled_state, line_of_two}
-use Rattle.oct_session.specs.Drill.{summary, summary_of, EndsUnread}
+use Rattle.oct_session.specs.Drill.{summary, summary_of}
+use Rattle.oct_ending.specs.Answer.{Answer, EndsUnread}
 use Rattle.oct_session.specs.History.{State}
 use Rattle.oct_session.specs.Leaving.{StandsFor, Desk, desk, IsKnown}
 use Rattle.oct_ending.specs.Shelf.{Shelf}
-use Rattle.oct_session.specs.Session.{Answer, last_progress, status_at_end}
+use Rattle.oct_session.specs.Session.{last_progress, status_at_end}
 use Rattle.oct_session.specs.Setup.{Setup}
 use Rattle.oct_session.specs.Standing.{HasServed, IsThrough, HasEndedAs}
 use Rattle.oct_ending.specs.Stops.{status_of, status_written}
@@ -209,12 +210,12 @@ pub drill_told : (r : Result (Unit {0}) SinkFault) (seed scans points : ℕ) (m 
     (node_count (values_of m)) (length (bt_text m.tree.res (classes_in m.tree))))) →
     OnErr r (IsCutOff v u (summary scans tally (group_count (values_of m))
     (node_count (values_of m)) (length (bt_text m.tree.res (classes_in m.tree))))) →
-    EndsUnread (drill None seed scans points) v u result
+    EndsUnread (drill seed scans points) v u result
 drill_told r seed scans points m tally v u ended result refused same stands some is ends written
     cut =
-    subst (EndsUnread (drill None seed scans points) v u)
+    subst (EndsUnread (drill seed scans points) v u)
     (sym (ends ∙ ap (λ x. status_written x r) is))
-    (text_ends r (drill None seed scans points) refused _ v u
+    (text_ends r (drill seed scans points) refused _ v u
     (ap (λ (t : Tally). status_at_end (nat_lt 0 t.refused)) (sym same)
     ∙ ap status_at_end (sym some))
     (summary_stands m (drilled_state seed scans points) scans tally
@@ -222,7 +223,7 @@ drill_told r seed scans points m tally v u ended result refused same stands some
 
 -- a drill whose session was stopped
 pub drill_stopped : (seed scans points : ℕ) (v : Option (List ℕ)) (stop : Stop) (result : Status)
-    → stop ≡ Memory → result ≡ status_of stop → EndsUnread (drill None seed scans points) v v result
+    → stop ≡ Memory → result ≡ status_of stop → EndsUnread (drill seed scans points) v v result
 drill_stopped seed scans points v stop result is ends =
-    subst (EndsUnread (drill None seed scans points) v v) (sym (ends ∙ ap status_of is))
+    subst (EndsUnread (drill seed scans points) v v) (sym (ends ∙ ap status_of is))
     (summary_unwritten scans (drilled seed scans points).tally _ _ _ v)

@@ -22,12 +22,13 @@ use Rattle.oct_session.specs.declared.session.Session.{Session}
 use Rattle.oct_io.specs.Taken.{HasTaken, IsBegun}
 use Rattle.oct_session.specs.Ending.{HasStopped, IsReadToEnd, replies_within}
 use Rattle.oct_session.specs.Ending.{has_quit_within}
+use Rattle.oct_ending.specs.Answer.{Outcome}
 use Rattle.oct_ending.specs.Counts.{IsAsked}
 use Rattle.oct_session.specs.Leaving.{StandsFor, Desk, desk, HasAsked, IsLikeAfter}
 use Rattle.oct_ending.specs.Shelf.{Shelf, shelf}
 use Rattle.oct_session.specs.Leaving.{IsKnown, IsHalted, HasHalted}
 use Rattle.oct_session.specs.History.{start_state}
-use Rattle.oct_session.specs.Session.{Progress, Answer, start, progress, lines_of, last_progress}
+use Rattle.oct_session.specs.Session.{Progress, start, progress, lines_of, last_progress}
 use Rattle.oct_session.specs.Session.{session, finished, cut_short, closed, is_too_long}
 use Rattle.oct_session.specs.Session.{status_at_end, ReadsTold}
 use Rattle.oct_session.specs.Setup.{Setup}
@@ -94,7 +95,7 @@ cut_status p running = rw running refl
 -- what the session of a script that is too long writes are the replies to its lines
 text_long : (o : Setup) (files : Option Files) (bytes : List ℕ) → o.max_bytes < length bytes
     → (session o files bytes).text ≡ (last_progress o files bytes).text
-text_long o files bytes more = ap (λ (a : Answer). a.text) (session_long o files bytes more)
+text_long o files bytes more = ap (λ (a : Outcome). a.text) (session_long o files bytes more)
     ∙ cut_text (last_progress o files bytes)
 
 -- what a session writes begins with the replies to its lines
@@ -107,7 +108,7 @@ session_text o files bytes = elim (cases_lt o.max_bytes (length bytes)) [
         ∙ sym (append-nil (last_progress o files bytes).text),
   )
   | inr few ↦ (let s = closed_grows (last_progress o files bytes) in
-      (s.0, ap (λ (a : Answer). a.text) (session_short o files bytes few) ∙ s.1))
+      (s.0, ap (λ (a : Outcome). a.text) (session_short o files bytes few) ∙ s.1))
 ]
 
 -- the first bytes that count, of a script that is too long
@@ -237,7 +238,7 @@ halted_text o files bytes w u d status (inl halted) = let s = session_text o fil
     begun_more _ _ s.0 w u s.1 (halted_begun o files (lines_of o bytes) w u d status halted)
 halted_text o files bytes w u d status (inr end) =
     subst (λ x. IsBegun x w u)
-    (sym (ap (λ (a : Answer). a.text) (session_whole o files bytes end.0)))
+    (sym (ap (λ (a : Outcome). a.text) (session_whole o files bytes end.0)))
     (between_begun (last_progress o files bytes) (closed (last_progress o files bytes)) w u
     end.1.cut)
 
@@ -542,7 +543,7 @@ stops_long o files bytes buffer piece left after w u d t taken n room read more 
       answer = (
         record {
           written = reached.written ∙ ap (appended w) (sym (text_long o files bytes long));
-          same_status = ap (λ (a : Answer). a.status) (session_long o files bytes long)
+          same_status = ap (λ (a : Outcome). a.status) (session_long o files bytes long)
               ∙ cut_status (last_progress o files bytes)
               (sym reached.between.step.has_quit ∙ running);
         },
@@ -686,9 +687,9 @@ pub ends_through : {short : Type 0} (o : Setup) (files : Option Files) (bytes : 
     IsThrough o files bytes left w v d s → HasEndedAs o files bytes left w v d short status
 ends_through o files bytes left w v d s status is through =
     ended_as o files bytes left w v d s.refused status is
-    (ap (λ (a : Answer). a.status) through.whole
+    (ap (λ (a : Outcome). a.status) through.whole
     ∙ ap status_at_end (sym through.reached.between.step.refused))
-    (through.reached.written ∙ ap (λ (a : Answer). appended w a.text) (sym through.whole))
+    (through.reached.written ∙ ap (λ (a : Outcome). appended w a.text) (sym through.whole))
     through.end
     (unclosed o d (last_progress o files bytes) through.reached.between.like)
     (subst (HasAsked d) (closed_asks (last_progress o files bytes)) through.reached.between.asked)

@@ -7,6 +7,7 @@ use Rattle.oct_io.specs.Files.{Files}
 use Rattle.oct_io.specs.Told.{Rose}
 use Rattle.oct_map.specs.Map.{Map}
 use Rattle.oct_script.specs.Lines.{Line, all_lines}
+use Rattle.oct_ending.specs.Answer.{Outcome}
 use Rattle.oct_ending.specs.declared.status.Status.{Status}
 use Rattle.oct_ending.specs.declared.status.Status.TheVariants as status
 use Rattle.oct_ending.specs.declared.stop.Stop.{Stop}
@@ -18,7 +19,7 @@ use Rattle.oct_ending.specs.Shelf.{Shelf}
 use Rattle.oct_session.specs.Leaving.{Desk, desk, HasAsked, HasLeft, IsKnown, HasHalted}
 use Rattle.oct_session.specs.Leaving.{Leaves}
 use Rattle.oct_session.specs.Commands.{file_saved}
-use Rattle.oct_session.specs.Session.{Progress, Answer, next_command, after_line, after_lines}
+use Rattle.oct_session.specs.Session.{Progress, next_command, after_line, after_lines}
 use Rattle.oct_session.specs.Session.{progress}
 use Rattle.oct_session.specs.Session.{lines_of, last_progress, session, closed, status_at_end}
 use Rattle.oct_session.specs.Session.{ReadsTold}
@@ -213,9 +214,9 @@ told_asked short o files (Some bytes) after v u d status ended =
 session_files : (o : Setup) (files : Option Files) (bytes : List ℕ)
     → (session o files bytes).files ≡ (last_progress o files bytes).files
 session_files o files bytes = elim (cases_lt o.max_bytes (length bytes)) [
-  | inl more ↦ ap (λ (a : Answer). a.files) (session_long o files bytes more)
+  | inl more ↦ ap (λ (a : Outcome). a.files) (session_long o files bytes more)
       ∙ cut_files (last_progress o files bytes)
-  | inr few ↦ ap (λ (a : Answer). a.files) (session_short o files bytes few)
+  | inr few ↦ ap (λ (a : Outcome). a.files) (session_short o files bytes few)
       ∙ closed_files (last_progress o files bytes)
 ]
 

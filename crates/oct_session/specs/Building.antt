@@ -4,13 +4,14 @@ use Rattle.oct_io.specs.Taken.{IsCutOff}
 use Rattle.oct_io.specs.Files.{Files}
 use Rattle.oct_io.specs.Told.{appended}
 use Rattle.oct_session.specs.Ending as script
-use Rattle.oct_session.specs.Ending.{IsAnswered, IsReadToEnd}
+use Rattle.oct_session.specs.Ending.{IsReadToEnd}
 use Rattle.oct_session.specs.FileCommands.{classes_file}
 use Rattle.oct_session.specs.History.{State, state_after}
 use Rattle.oct_session.specs.Leaving as lent
 use Rattle.oct_session.specs.Leaving.{Desk, IsLikeAfter}
-use Rattle.oct_session.specs.Session.{Answer, last_progress, session}
+use Rattle.oct_session.specs.Session.{last_progress, session}
 use Rattle.oct_session.specs.Setup.{Setup}
+use Rattle.oct_ending.specs.Answer.{Outcome, IsAnswered, answer_of}
 use Rattle.oct_ending.specs.declared.status.Status.{Status}
 use Rattle.oct_ending.specs.declared.status.Status.TheVariants.{Done, Refused}
 use Rattle.oct_ending.specs.declared.status.Status.TheVariants.{TooLong, WriteFault}
@@ -25,9 +26,9 @@ abbrev pub text_built : List ℕ → Status → List ℕ
 text_built file TooLong = []
 text_built file _ = file
 
--- the answer of a build: that of the session over its script, with the file of the last state in
+-- what a build leaves: the same as the session over its script, with the file of the last state in
 -- place of the replies
-unfoldable pub build : Setup → Option Files → List ℕ → Answer
+unfoldable pub build : Setup → Option Files → List ℕ → Outcome
 build o files bytes = record {
   text = text_built (classes_file (last_state o files bytes)) (session o files bytes).status;
   files = (session o files bytes).files;
@@ -65,11 +66,12 @@ pub record IsStopped (o : Setup) (files : Option Files) (bytes : List ℕ)
 abbrev pub MayEnd : Setup → Option Files → List ℕ → Option (List ℕ) → Option (List ℕ)
     → Option (List ℕ) → Status → Type 0
 MayEnd o files bytes left old new Done =
-    IsAnswered (build o files bytes) old new Done × IsReadToEnd o files bytes left
+    IsAnswered (answer_of (build o files bytes)) old new Done × IsReadToEnd o files bytes left
 MayEnd o files bytes left old new Refused =
-    IsAnswered (build o files bytes) old new Refused × IsReadToEnd o files bytes left
+    IsAnswered (answer_of (build o files bytes)) old new Refused × IsReadToEnd o files bytes left
 MayEnd o files bytes left old new TooLong =
-    IsAnswered (build o files bytes) old new TooLong × IsStopped o files bytes left old new TooLong
+    IsAnswered (answer_of (build o files bytes)) old new TooLong
+    × IsStopped o files bytes left old new TooLong
 MayEnd o files bytes left old new WriteFault = IsHaltedBehind o files bytes left old new
 MayEnd o files bytes left old new Memory =
     IsStopped o files bytes left old new Memory ⊎ IsHaltedBehind o files bytes left old new

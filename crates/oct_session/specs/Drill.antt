@@ -1,19 +1,14 @@
 -- A drill: a session over a script that a number makes, and four lines about it.
-use Rattle.std.specs.Prelude.{ℕ, ◌^◌, ◌++◌, List, codes, decimal, length, nat_lt, Option, Some}
-use Rattle.oct_io.specs.Taken.{IsCutOff}
+use Rattle.std.specs.Prelude.{ℕ, ◌^◌, ◌++◌, List, codes, decimal, length, nat_lt, Some}
 use Rattle.oct_gen.specs.Script.{script_of}
-use Rattle.oct_io.specs.Files.{Files, no_files}
+use Rattle.oct_ending.specs.Answer.{Answer}
+use Rattle.oct_io.specs.Files.{no_files}
 use Rattle.oct_odds.specs.Odds.{default_odds}
 use Rattle.oct_values.specs.Counts.{group_count, node_count}
-use Rattle.oct_session.specs.Ending.{IsAnswered}
 use Rattle.oct_session.specs.FileCommands.{classes_file}
 use Rattle.oct_session.specs.History.{State, state_after}
-use Rattle.oct_session.specs.Session.{Answer, Progress, closed, last_progress, status_at_end}
+use Rattle.oct_session.specs.Session.{Progress, closed, last_progress, status_at_end}
 use Rattle.oct_session.specs.Setup.{Setup}
-use Rattle.oct_ending.specs.declared.status.Status.{Status}
-use Rattle.oct_ending.specs.declared.status.Status.TheVariants.{Done, Refused}
-use Rattle.oct_ending.specs.declared.status.Status.TheVariants.{WriteFault}
-use Rattle.oct_ending.specs.declared.status.Status.TheVariants.{Memory}
 use Rattle.oct_session.specs.declared.tally.Tally.{Tally}
 
 -- what a drill is set up with: voxels of 0.05 m, and the default of each option
@@ -53,19 +48,9 @@ abbrev pub summary_of : ℕ → Tally → State → List ℕ
 summary_of scans tally s =
     summary scans tally (group_count s.values) (node_count s.values) (length (classes_file s))
 
--- the answer of a drill, which changes no files
-abbrev pub drill : Option Files → ℕ → ℕ → ℕ → Answer
-drill files seed scans points = record {
+-- the answer of a drill
+abbrev pub drill : ℕ → ℕ → ℕ → Answer
+drill seed scans points = record {
   text = summary_of scans (drilled seed scans points).tally (drilled_state seed scans points);
-  files = files;
   status = status_at_end (nat_lt 0 (drilled seed scans points).tally.refused);
 }
-
--- how a task that reads nothing may end, by what it writes: the whole text, or a part of it where
--- the sink fails or memory runs out
-abbrev pub EndsUnread : Answer → Option (List ℕ) → Option (List ℕ) → Status → Type 0
-EndsUnread whole old new Done = IsAnswered whole old new Done
-EndsUnread whole old new Refused = IsAnswered whole old new Refused
-EndsUnread whole old new WriteFault = IsCutOff old new whole.text
-EndsUnread whole old new Memory = IsCutOff old new whole.text
-EndsUnread whole old new _ = ⊥

@@ -5,8 +5,9 @@ use Rattle.oct_io.specs.Files.{Files}
 use Rattle.oct_io.specs.Taken.{HasTaken, IsBegun}
 use Rattle.oct_io.specs.Told.{appended}
 use Rattle.oct_script.specs.Lines.{ended_lines}
-use Rattle.oct_session.specs.Session.{Answer, progress, session}
+use Rattle.oct_session.specs.Session.{progress, session}
 use Rattle.oct_session.specs.Setup.{Setup}
+use Rattle.oct_ending.specs.Answer.{IsAnswered, answer_of}
 use Rattle.oct_ending.specs.declared.status.Status.{Status}
 use Rattle.oct_ending.specs.declared.status.Status.TheVariants.{Done, Refused, Usage, BadFile}
 use Rattle.oct_ending.specs.declared.status.Status.TheVariants.{TooLong, ReadFault, WriteFault}
@@ -19,11 +20,6 @@ replies_within o files bytes = (progress o files (ended_lines bytes)).text
 -- whether a `quit` line ends within these bytes
 abbrev pub has_quit_within : Setup → Option Files → List ℕ → Bool
 has_quit_within o files bytes = (progress o files (ended_lines bytes)).has_quit
-
--- the whole answer was written, and its status is this one
-pub record IsAnswered (whole : Answer) (old new : Option (List ℕ)) (status : Status) : Type 0 where
-  pub written : new ≡ appended old whole.text
-  pub same_status : whole.status ≡ status
 
 -- the replies to the lines that end within these bytes were written, and maybe more after them
 pub record HasReplied (o : Setup) (files : Option Files) (bytes : List ℕ)
@@ -71,13 +67,14 @@ pub record HasStopped (o : Setup) (files : Option Files) (bytes : List ℕ)
 abbrev pub MayEnd : Setup → Option Files → List ℕ → Option (List ℕ) → Option (List ℕ)
     → Option (List ℕ) → Status → Type 0
 MayEnd o files bytes left old new Done =
-    IsAnswered (session o files bytes) old new Done × IsReadToEnd o files bytes left
+    IsAnswered (answer_of (session o files bytes)) old new Done × IsReadToEnd o files bytes left
 MayEnd o files bytes left old new Refused =
-    IsAnswered (session o files bytes) old new Refused × IsReadToEnd o files bytes left
+    IsAnswered (answer_of (session o files bytes)) old new Refused × IsReadToEnd o files bytes left
 MayEnd o files bytes left old new Usage = ⊥
 MayEnd o files bytes left old new BadFile = ⊥
 MayEnd o files bytes left old new TooLong =
-    IsAnswered (session o files bytes) old new TooLong × HasTaken (o.max_bytes + 1) bytes left
+    IsAnswered (answer_of (session o files bytes)) old new TooLong
+    × HasTaken (o.max_bytes + 1) bytes left
 MayEnd o files bytes left old new ReadFault =
     IsBegun (session o files bytes).text old new × HasReadFault o files bytes left old new
 MayEnd o files bytes left old new _ =

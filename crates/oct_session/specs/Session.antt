@@ -17,6 +17,7 @@ use Rattle.oct_session.specs.ScanBlock.{end_reply}
 use Rattle.oct_session.specs.Setup.{Setup}
 use Rattle.oct_session.specs.Tally.{counted, no_replies}
 use Rattle.oct_session.specs.declared.block.Block.{Block}
+use Rattle.oct_ending.specs.Answer.{Outcome}
 use Rattle.oct_ending.specs.declared.status.Status.{Status}
 use Rattle.oct_session.specs.declared.tally.Tally.{Tally}
 use Rattle.oct_ending.specs.declared.status.Status.TheVariants as status
@@ -142,22 +143,16 @@ ended p = record p {
 abbrev pub closed : Progress → Progress
 closed p = if p.has_quit then p else ended p
 
--- what a run leaves: the text that it has written, the files, where they are told, and its status
-pub record Answer : Type 0 where
-  pub text : List ℕ
-  pub files : Option Files
-  pub status : Status
-
 -- the status where the script was read to its end, and some reply was a refusal or none
 abbrev pub status_at_end : Bool → Status
 status_at_end refused = if refused then status.Refused else status.Done
 
--- the answer of a session that has ended
-abbrev pub finished : Progress → Answer
+-- what a session leaves that has ended
+abbrev pub finished : Progress → Outcome
 finished p = record { text = p.text; files = p.files; status = status_at_end p.refused }
 
--- the answer where the script has too many bytes, which doesn't matter after a `quit`
-abbrev pub cut_short : Progress → Answer
+-- what it leaves where the script has too many bytes, which doesn't matter after a `quit`
+abbrev pub cut_short : Progress → Outcome
 cut_short p =
     if p.has_quit then finished p else record
     { text = p.text; files = p.files; status = status.TooLong }
@@ -176,8 +171,8 @@ lines_of o bytes =
 abbrev pub last_progress : Setup → Option Files → List ℕ → Progress
 last_progress o files bytes = progress o files (lines_of o bytes)
 
--- the answer to a script over these files
-unfoldable pub session : Setup → Option Files → List ℕ → Answer
+-- what a session over a script and these files leaves
+unfoldable pub session : Setup → Option Files → List ℕ → Outcome
 session o files bytes =
     if is_too_long o bytes then cut_short (last_progress o files bytes) else finished
     (closed (last_progress o files bytes))

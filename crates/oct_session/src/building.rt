@@ -13,9 +13,9 @@ ghost use Rattle.oct_ending.specs.Shelf.{shelf};
 ghost use Rattle.oct_session.specs.Session.{last_progress, ReadsTold};
 
 use crate::options::Options;
-use oct_ending::{Status, status_written};
 use crate::service::serve;
 use oct_bt::write;
+use oct_ending::{Status, status_written};
 use oct_io::{Sink, SinkFault, Source, Store};
 use oct_map::OccMap;
 use std::alloc::Global;

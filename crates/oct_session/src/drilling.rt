@@ -10,18 +10,19 @@ ghost use Rattle.oct_map.specs.Map.{values_of};
 ghost use Rattle.oct_values.specs.Counts.{group_count, node_count};
 ghost use Rattle.oct_ending.specs.Counts.{IsSinkCounted};
 ghost use Rattle.oct_session.specs.Drill.{drill as whole_drill, drill_setup, drilled};
-ghost use Rattle.oct_session.specs.Drill.{drilled_state, line_of_two, summary, EndsUnread};
+ghost use Rattle.oct_session.specs.Drill.{drilled_state, line_of_two, summary};
+ghost use Rattle.oct_ending.specs.Answer.{EndsUnread};
 ghost use Rattle.oct_session.specs.History.{start_state};
 ghost use Rattle.oct_session.specs.Leaving.{StandsFor};
 
 use crate::building::Discard;
 use crate::options::{MOST_BYTES, Options};
-use oct_ending::{Status, Stop, status_written};
 use crate::service::{done_or_refused, read_all};
 use crate::session::Session;
 use crate::tally::Tally;
 use itoa::Buffer;
 use oct_bt::encoded_len;
+use oct_ending::{Status, Stop, status_written};
 use oct_gen::Generator;
 use oct_io::{CalmStore, Sink, SinkFault, write_all};
 use oct_key::Res;
@@ -162,7 +163,7 @@ fn work_through(
 pub fn drill<K: Sink>(alloc: Global, seed: u64, scans: u32, points: u32, sink: &mut K) -> Status
     requires few_scans { scans ≤ 1000 }
     requires few_points { points ≤ 100000 }
-    ensures answer { EndsUnread (whole_drill None seed scans points)
+    ensures answer { EndsUnread (whole_drill seed scans points)
         (K.written sink.old) (K.written sink.new) result }
     ensures sink_counts { IsSinkCounted result (K.faults sink.old) (K.faults sink.new)
         (K.shortages sink.old) (K.shortages sink.new) }

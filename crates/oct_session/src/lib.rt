@@ -17,11 +17,12 @@
 //!
 //! - **Replies.** `specs/Session.antt` defines a session as a function of the whole byte string:
 //!   its lines up to a `quit` or to the end, each line outside a scan block, and each block as a
-//!   whole, answered from the plain fold over each single voxel's history (`specs/History.antt`). The
-//!   laws of `oct_session_laws` say that no voxel reads another one. No tree is in that
-//!   definition: a query shows the largest known value among the voxels of its block, an edit or a
-//!   scan is full by what the values need, and lazy edits, lazy scans and prunes can't be told
-//!   from a reply, but for the one refusal of a stale map.
+//!   whole, answered from the plain fold over each single voxel's history (`specs/History.antt`).
+//!   No tree is in that definition: a query shows the largest known value among the voxels of its
+//!   block, an edit or a scan is full by what the values need, and lazy edits, lazy scans and
+//!   prunes can't be told from a reply, but for the one refusal of a stale map. The laws of
+//!   `oct_session_laws` say what it comes to: that no voxel reads another one, and that restores
+//!   and loads give back what was kept.
 //! - **Scans.** The lines of a scan are a block with one reply, after its `end` or at the end of
 //!   the script (`specs/ScanBlock.antt`). The first faulty line among its head and the lines
 //!   inside is what it is refused for; a scan is done whole or not at all.
@@ -39,7 +40,7 @@
 //!   of a sink's shortages of memory by one at most, where the status is out of memory. So no read
 //!   that failed is tried again, and nothing is read after `quit` or after a fault: such a read
 //!   might fail, too. The end of a script is met once at most, and the store is asked once at most
-//!   for each line that names a file (`specs/Counts.antt`).
+//!   for each line that names a file (`specs/Counts.antt` of `oct_ending`).
 //! - **Map and files.** Under the same premise, whatever the status, the lent map then stands for
 //!   a history, and the files are those after the same lines (`StandsFor` and `Leaves` of
 //!   `specs/Leaving.antt`): each voxel has its value after it, the map is stale where a lazy edit
@@ -61,17 +62,17 @@
 //! its command and for its reply, so that neither is moved from call to call; `block` keeps the
 //! head and the points of the scan that is being read, or its first fault; `commands` does each
 //! command and each scan on the map, and makes the map's answer a reply; `files` does the commands
-//! that name a file, on map and store. `options` holds what a session is set up with and how a run
-//! ends. `building` writes the file of a script's map in place of the replies, and `drilling` four
-//! lines about the session over a script that `oct_gen` makes; `tally` has what its replies come to.
+//! that name a file, on map and store. `options` holds what a session is set up with. `building`
+//! writes the file of a script's map in place of the replies, and `drilling` four lines about the
+//! session over a script that `oct_gen` makes; `tally` has what its replies come to.
 //!
 //! # Who stands on it
 //!
-//! `oct_tasks`. It stands on `oct_script` for lines, commands and replies, on `oct_io` for
-//! source, sink and store, on `oct_map` for the map, on `oct_bt` and `oct_snap` for the files that
-//! lines name, on `oct_gen` for the script of a drill, on `oct_scan` and `oct_pose` for what a scan
-//! is, and on `oct_key`, `oct_odds` and `oct_values` for voxels, their values and what events make
-//! of them.
+//! `oct_tasks`, and `oct_session_laws`. It stands on `oct_script` for lines, commands and replies,
+//! on `oct_ending` for the statuses, on `oct_io` for source, sink and store, on `oct_map` for the
+//! map, on `oct_bt` and `oct_snap` for the files that lines name, on `oct_gen` for the script of a
+//! drill, on `oct_scan` and `oct_pose` for what a scan is, and on `oct_key`, `oct_odds` and
+//! `oct_values` for voxels, their values and what events make of them.
 #![tactic(auto)]
 
 mod block;

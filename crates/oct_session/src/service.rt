@@ -18,8 +18,8 @@ ghost use Rattle.oct_session.specs.Standing.{HasEndedAs, StopsIn};
 ghost use Rattle.oct_ending.specs.Stops.{status_of};
 
 use crate::options::Options;
-use oct_ending::{Status, Stop};
 use crate::session::Session;
+use oct_ending::{Status, Stop};
 use oct_io::{Sink, Source, Store, read_piece};
 use oct_map::OccMap;
 use std::alloc::Global;

@@ -2,9 +2,9 @@
 //!
 //! - [`values_are_folds`]: the value of a voxel is the fold of its own events, and no voxel reads
 //!   another one.
-//! - [`states_stay_sound`], [`groups_stay_within`]: between any two lines the log-odds in force make
-//!   a model, each known value lies within the bounds, and the values need no more groups than the
-//!   limit.
+//! - [`states_stay_sound`], [`groups_stay_within`]: between any two lines the log-odds in force
+//!   make a model, each known value lies within the bounds, and the values need no more groups than
+//!   the limit.
 //! - [`snapshots_are_restored`]: whatever stands between a snapshot and a restore of its name, the
 //!   restore gives back what was kept and isn't refused, as long as no line between them writes
 //!   that file (`specs/GivenBack.antt`). [`saves_are_loaded`]: so does a load with the classes that

@@ -3,6 +3,7 @@ ghost use Rattle.std.specs.Prelude.{◌<◌, ◌≤◌, ◌^◌};
 ghost use Rattle.oct_session.specs.History.{start_state};
 ghost use Rattle.oct_session.specs.Leaving.{StandsFor};
 
+use oct_ending::Status;
 use oct_io::{
     CalmSink, CalmSource, CalmStore, FileBytes, KeptList, MemSink, MemSource, MemStore, Sink,
     Source, Store,
@@ -13,7 +14,6 @@ use oct_num::Memory;
 use oct_odds::OddsModel;
 use oct_query::Counts;
 use oct_session::{Options, serve};
-use oct_ending::Status;
 use std::alloc::Global;
 use std::process::Abort;
 use std::test::Fail;

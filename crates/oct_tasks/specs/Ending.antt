@@ -1,81 +1,64 @@
 -- What a run writes, and how it may end.
 use Rattle.std.specs.Prelude.{◌≡◌, ℕ, List, [], Option, Some, None, IsSome, Bool, true, false, ⊤}
-use Rattle.oct_convert.specs.Answers as file_answers
 use Rattle.oct_convert.specs.Answers.{convert_answer, inspect_answer}
-use Rattle.oct_convert.specs.Ending as file_ending
-use Rattle.oct_convert.specs.declared.ending.Ending.{Ending}
-use Rattle.oct_convert.specs.declared.ending.Ending.TheVariants as ending
+use Rattle.oct_convert.specs.Ending.{EndsOverFile}
+use Rattle.oct_ending.specs.Answer.{Answer, Outcome, with_files, IsAnswered, EndsUnread}
 use Rattle.oct_gen.specs.Script.{script_of}
 use Rattle.oct_io.specs.Files.{Files}
 use Rattle.oct_session.specs.Building.{build}
 use Rattle.oct_session.specs.Building as building
-use Rattle.oct_session.specs.Drill.{EndsUnread, drill}
-use Rattle.oct_session.specs.Ending.{IsAnswered}
+use Rattle.oct_session.specs.Drill.{drill}
 use Rattle.oct_session.specs.Ending as session_ending
 use Rattle.oct_map.specs.Map.{Map}
 use Rattle.oct_ending.specs.Shelf.{Shelf}
 use Rattle.oct_session.specs.Leaving.{desk}
 use Rattle.oct_session.specs.Leaving as session_leaving
-use Rattle.oct_session.specs.Session.{Answer, session, last_progress}
+use Rattle.oct_session.specs.Session.{session, last_progress}
 use Rattle.oct_session.specs.Session as session_reading
 use Rattle.oct_ending.specs.declared.status.Status.{Status}
-use Rattle.oct_ending.specs.declared.status.Status.TheVariants.{Done, Usage, BadFile, TooLong}
-use Rattle.oct_ending.specs.declared.status.Status.TheVariants.{ReadFault, WriteFault, Memory}
+use Rattle.oct_ending.specs.declared.status.Status.TheVariants.{Done, Usage}
 use Rattle.oct_tasks.specs.Task.{Task, Session, Build, Convert, Inspect, OverFile, OverStore}
 use Rattle.oct_tasks.specs.Task.{Generate, Drill}
 use Rattle.oct_file_tasks.specs.FileTasks.{over_file_answer}
-use Rattle.oct_file_tasks.specs.OverFile.{Reply, EndsOverFile, status_of}
 use Rattle.oct_file_tasks.specs.OverStore.{told_reply, EndsOverStore}
 use Rattle.oct_file_tasks.specs.TwoFiles.{loads_of}
 use Rattle.oct_tasks.specs.declared.task.Workload.{Workload}
 
--- the answer of a task over a file, which changes no files
-abbrev pub file_answer : Option Files → file_answers.Answer → Answer
-file_answer files whole =
-    record { text = whole.text; files = files; status = status_of whole.ending }
-
--- what holds of the end of a task over a file, by its status
-abbrev pub EndsAs : (Ending → Type 0) → Status → Type 0
-EndsAs ends Done = ends ending.Done
-EndsAs ends BadFile = ends ending.BadFile
-EndsAs ends TooLong = ends ending.TooLong
-EndsAs ends ReadFault = ends ending.ReadFault
-EndsAs ends WriteFault = ends ending.WriteFault
-EndsAs ends Memory = ends ending.Memory
-EndsAs ends _ = ⊥
-
--- the answer of a task over a file that may be refused, which changes no files
-abbrev pub over_file : Option Files → Reply → Answer
-over_file files whole = record { text = whole.text; files = files; status = whole.status }
-
 -- the answer of a task that writes the script of these numbers
-abbrev pub script_answer : Option Files → Workload → Answer
-script_answer files load =
-    record { text = script_of load.seed load.scans load.points; files = files; status = Done }
+abbrev pub script_answer : Workload → Answer
+script_answer load = record {
+  text = script_of load.seed load.scans load.points;
+  status = Done;
+}
 
--- the answer to a task, or to words that have none, on these files and this input
-abbrev pub answer : Option Task → Option Files → List ℕ → Answer
-answer None files bytes = record { text = []; files = files; status = Usage }
+-- the answer to words that have no task
+abbrev pub usage : Answer
+usage = record { text = []; status = Usage }
+
+-- what a run of a task, or of words that have none, leaves on these files and this input
+abbrev pub answer : Option Task → Option Files → List ℕ → Outcome
+answer None files bytes = with_files files usage
 answer (Some (Session o)) files bytes = session o files bytes
 answer (Some (Build o)) files bytes = build o files bytes
-answer (Some (Convert max_bytes)) files bytes = file_answer files (convert_answer max_bytes bytes)
-answer (Some (Inspect max_bytes)) files bytes = file_answer files (inspect_answer max_bytes bytes)
+answer (Some (Convert max_bytes)) files bytes = with_files files (convert_answer max_bytes bytes)
+answer (Some (Inspect max_bytes)) files bytes = with_files files (inspect_answer max_bytes bytes)
 answer (Some (OverFile task max_bytes)) files bytes =
-    over_file files (over_file_answer task max_bytes bytes)
-answer (Some (OverStore task)) files bytes = over_file files (told_reply task files)
-answer (Some (Generate load)) files bytes = script_answer files load
-answer (Some (Drill load)) files bytes = drill files load.seed load.scans load.points
+    with_files files (over_file_answer task max_bytes bytes)
+answer (Some (OverStore task)) files bytes = with_files files (told_reply task files)
+answer (Some (Generate load)) files bytes = with_files files (script_answer load)
+answer (Some (Drill load)) files bytes =
+    with_files files (drill load.seed load.scans load.points)
 
 -- how a run may end whose words have no task, or one that reads nothing, whatever its source tells;
 -- of others nothing is said here
 abbrev pub EndsAlone : Option Task → Option Files → Option (List ℕ) → Option (List ℕ) → Status
     → Type 0
-EndsAlone None files old new status = IsAnswered (answer None files []) old new status
+EndsAlone None files old new status = IsAnswered usage old new status
 EndsAlone (Some (OverStore task)) files old new status = EndsOverStore task files old new status
 EndsAlone (Some (Generate load)) files old new status =
-    EndsUnread (script_answer files load) old new status
+    EndsUnread (script_answer load) old new status
 EndsAlone (Some (Drill load)) files old new status =
-    EndsUnread (drill files load.seed load.scans load.points) old new status
+    EndsUnread (drill load.seed load.scans load.points) old new status
 EndsAlone _ files old new status = ⊤
 
 -- how a run over these bytes may end: as the session or the build may, or as the task over a file;
@@ -87,9 +70,9 @@ MayEnd (Some (Session o)) files bytes left old new status =
 MayEnd (Some (Build o)) files bytes left old new status =
     building.MayEnd o files bytes left old new status
 MayEnd (Some (Convert max_bytes)) files bytes left old new status =
-    EndsAs (file_ending.MayEnd (convert_answer max_bytes bytes) max_bytes bytes left old new) status
+    EndsOverFile (convert_answer max_bytes bytes) max_bytes bytes left old new status
 MayEnd (Some (Inspect max_bytes)) files bytes left old new status =
-    EndsAs (file_ending.MayEnd (inspect_answer max_bytes bytes) max_bytes bytes left old new) status
+    EndsOverFile (inspect_answer max_bytes bytes) max_bytes bytes left old new status
 MayEnd (Some (OverFile task max_bytes)) files bytes left old new status =
     EndsOverFile (over_file_answer task max_bytes bytes) max_bytes bytes left old new status
 MayEnd task files bytes left old new status =

@@ -16,7 +16,7 @@ ghost use Rattle.oct_tasks.specs.Ending.{answer};
 use crate::task::{Task, Usage, read_words};
 use oct_convert::{convert, inspect};
 use oct_ending::{Status, status_written};
-use oct_file_tasks::{answer_over_file, do_over_store, status_of};
+use oct_file_tasks::{answer_over_file, do_over_store};
 use oct_gen::generate;
 use oct_io::{Sink, Source, Store};
 use oct_map::OccMap;
@@ -145,8 +145,8 @@ fn perform<S: Source, K: Sink, F: Store>(
             let mut map = map_for(alloc, options);
             build(alloc, options, &mut map, source, sink, store)
         }
-        Task::Convert { max_bytes } => status_of(convert(alloc, *max_bytes, source, sink)),
-        Task::Inspect { max_bytes } => status_of(inspect(alloc, *max_bytes, source, sink)),
+        Task::Convert { max_bytes } => convert(alloc, *max_bytes, source, sink),
+        Task::Inspect { max_bytes } => inspect(alloc, *max_bytes, source, sink),
         Task::OverFile { task, max_bytes } => {
             answer_over_file(alloc, *task, *max_bytes, source, sink)
         }

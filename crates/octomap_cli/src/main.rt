@@ -34,8 +34,8 @@
 #[cfg(test)]
 mod tests;
 
-use oct_io::{FolderStore, StdSink, StdSource};
 use oct_ending::Status;
+use oct_io::{FolderStore, StdSink, StdSource};
 use oct_tasks::run;
 use std::process::ExitCode;
 use std::{env, io};

@@ -17,9 +17,9 @@ mod scans;
 mod scripts;
 mod snapshots;
 
+use oct_ending::Status;
 use oct_io::{CalmSink, CalmSource, CalmStore, FileBytes, KeptList, Sink, Source, Store};
 use oct_num::Memory;
-use oct_ending::Status;
 use oct_tasks::run;
 use std::alloc::Global;
 use std::process::Abort;

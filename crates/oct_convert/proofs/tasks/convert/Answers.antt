@@ -1,14 +1,14 @@
-use Rattle.oct_convert.specs.Answers.{canonical_text}
+use Rattle.oct_convert.specs.Answers.{canonical_text, done_with}
 use Rattle.oct_convert.proofs.Ends.{file_ends, reason_ends}
 use Rattle.oct_convert.proofs.tasks.convert.Goals as goal
 
 pub returns-in-Ok-clause-answer : goal.returns-in-Ok-clause-answer
 returns-in-Ok-clause-answer g c =
-    file_ends c.write_canonical.result canonical_text c.in-Ok.file _ _ _ _ _ _ c.ending_of.ensures
-    c.in-Ok.ensures.answer c.write_canonical.ensures.sends
+    file_ends c.write_canonical.result canonical_text c.in-Ok.file _ _ _ _ _ _
+    c.status_written.ensures c.in-Ok.ensures.answer c.write_canonical.ensures.sends
 
 pub returns-in-Err-clause-answer : goal.returns-in-Err-clause-answer
 returns-in-Err-clause-answer g c =
-    reason_ends _ _ _ _ c.in-Err.reason canonical_text c.args.max_bytes _
-    (λ bytes. c.refuse.ensures.ends canonical_text c.args.max_bytes bytes _)
+    reason_ends _ _ _ _ c.in-Err.reason (done_with canonical_text) c.args.max_bytes _
+    (λ bytes. c.refuse.ensures.ends (done_with canonical_text) c.args.max_bytes bytes _)
     c.in-Err.ensures.answer

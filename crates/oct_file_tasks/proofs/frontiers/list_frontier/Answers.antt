@@ -3,13 +3,14 @@ use Rattle.oct_bt.specs.DataClasses.{data_classes}
 use Rattle.oct_frontier.specs.Frontier.{frontier_between}
 use Rattle.oct_key.specs.Boxes.{Corners}
 use Rattle.oct_file_tasks.specs.Frontiers.{list_reply}
-use Rattle.oct_file_tasks.specs.OverFile.{Reply, EndsOverFile}
+use Rattle.oct_ending.specs.Answer.{Answer}
+use Rattle.oct_convert.specs.Ending.{EndsOverFile}
 use Rattle.oct_file_tasks.specs.Refusals.{box_between, reply_in}
 use Rattle.oct_file_tasks.proofs.frontiers.list_frontier.Goals as goal
 
 pub returns-in-Ok-clause-ends : goal.returns-in-Ok-clause-ends
 returns-in-Ok-clause-ends g c = λ most bytes left to_end.
-    subst (λ (whole : Reply). EndsOverFile whole most bytes left (g.K.Sink.written c.args.sink.now)
+    subst (λ (whole : Answer). EndsOverFile whole most bytes left (g.K.Sink.written c.args.sink.now)
     (g.K.Sink.written c.list_between.new.sink) c.list_between.result)
     (ap (λ lo. list_reply (frontier_between (data_classes c.args.file.now.codes) lo c.hi.result))
     c.lo.ensures
@@ -22,7 +23,7 @@ returns-in-Ok-clause-ends g c = λ most bytes left to_end.
 
 pub returns-in-Err-clause-ends : goal.returns-in-Err-clause-ends
 returns-in-Err-clause-ends g c = λ most bytes left to_end.
-    subst (λ (whole : Reply). EndsOverFile whole most bytes left (g.K.Sink.written c.args.sink.now)
+    subst (λ (whole : Answer). EndsOverFile whole most bytes left (g.K.Sink.written c.args.sink.now)
     (g.K.Sink.written c.send_refusal.new.sink) c.send_refusal.result)
     (ap (reply_in (λ (box : Corners). list_reply
     (frontier_between (data_classes c.args.file.now.codes) box.lo box.hi)))

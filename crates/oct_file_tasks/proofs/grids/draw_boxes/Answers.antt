@@ -4,7 +4,8 @@ use Rattle.oct_export.specs.BoxTexts.{vrml_text}
 use Rattle.oct_tree.specs.Classes.{classes_in}
 use Rattle.oct_export.proofs.Same.{same_scene}
 use Rattle.oct_file_tasks.specs.Grids.{scene_reply}
-use Rattle.oct_file_tasks.specs.OverFile.{Reply, EndsOverFile}
+use Rattle.oct_ending.specs.Answer.{Answer}
+use Rattle.oct_convert.specs.Ending.{EndsOverFile}
 use Rattle.oct_file_tasks.proofs.OverFile.{none_sent, text_sent}
 use Rattle.oct_file_tasks.proofs.Replies.{some_scene, scene_told, scene_refused}
 use Rattle.oct_file_tasks.proofs.grids.draw_boxes.Goals as goal
@@ -16,7 +17,7 @@ returns-in_default-clause-ends g c = λ most bytes left to_end.
 
 pub returns-then-count-gt-MOST_BOXES-clause-ends : goal.returns-then-count-gt-MOST_BOXES-clause-ends
 returns-then-count-gt-MOST_BOXES-clause-ends g c = λ most bytes left to_end.
-    subst (λ (whole : Reply). EndsOverFile whole most bytes left (g.K.Sink.written c.args.sink.now)
+    subst (λ (whole : Answer). EndsOverFile whole most bytes left (g.K.Sink.written c.args.sink.now)
     (g.K.Sink.written c.send_refusal.new.sink) c.send_refusal.result)
     (sym (scene_refused c.args.file.now.res (classes_in c.in-Ok.tree)
     (data_classes c.args.file.now.codes) _ c.in-Ok.ensures.classes c.box_count-count.ensures
