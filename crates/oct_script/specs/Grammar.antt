@@ -232,7 +232,7 @@ grammar =
     ∷ row (codes "refresh") (alone command.Refresh)
     ∷ row (codes "prune") (alone command.Prune)
     ∷ row (codes "clear") (alone command.Clear)
-    ∷ row (codes "maxlik") (alone command.MaxLikelihood)
+    ∷ row (codes "maxlik") (alone command.MaxLik)
     ∷ row (codes "cast") cast
     ∷ row (codes "box") box
     ∷ row (codes "list") listing

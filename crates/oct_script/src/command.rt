@@ -53,17 +53,9 @@ pub enum Command {
     Blank,
     /// An edit of the voxel that holds the point `p`. A lazy one leaves the inner values to a later
     /// refresh.
-    Edit {
-        p: Point,
-        e: Edit,
-        lazy: bool,
-    },
+    Edit { p: Point, e: Edit, lazy: bool },
     /// The same edit of each voxel of the box whose corners hold the two points, both included.
-    Box {
-        low: Point,
-        high: Point,
-        e: Edit,
-    },
+    Box { lo: Point, hi: Point, e: Edit },
     /// A scan, whose block begins after this line.
     Scan(ScanHead),
     /// A point that the open scan saw, from the sensor.
@@ -72,24 +64,13 @@ pub enum Command {
     End,
     /// The value of the block of this depth that holds the point `p`. The depth has at most seven
     /// digits, and may be above that of a voxel.
-    Get {
-        p: Point,
-        depth: u32,
-    },
+    Get { p: Point, depth: u32 },
     /// The values of the known blocks of this depth that meet the box whose corners hold the two
     /// points, both included. The depth has at most seven digits, and may be above that of a voxel.
-    List {
-        low: Point,
-        high: Point,
-        depth: u32,
-    },
+    List { lo: Point, hi: Point, depth: u32 },
     /// What lies first on the straight way from a point to another one. Unknown voxels stop it
     /// unless they are ignored.
-    Cast {
-        origin: Point,
-        end: Point,
-        ignore_unknown: bool,
-    },
+    Cast { o: Point, e: Point, ignore: bool },
     /// The numbers of groups and nodes.
     Counts,
     /// All inner values are made anew.
@@ -99,7 +80,7 @@ pub enum Command {
     /// Each voxel becomes unknown.
     Clear,
     /// Each known voxel becomes as sure as it can be.
-    MaxLikelihood,
+    MaxLik,
     /// From now on it's noted how voxels change.
     Track,
     /// From now on it isn't.
@@ -107,10 +88,7 @@ pub enum Command {
     /// The voxels that have changed since `Track`.
     Changes,
     /// From now on scans are limited to the box whose corners hold the two points, both included.
-    Limit {
-        low: Point,
-        high: Point,
-    },
+    Limit { lo: Point, hi: Point },
     /// Scans are no longer limited to a box.
     NoLimit,
     /// The classes of all voxels, written to the file of this name.

@@ -249,7 +249,11 @@ fn read_box(words: &mut Words<'_>, command: &mut Command) -> Result<(), Syntax>
 {
     let (low, high) = read_points(words)?;
     let e = read_edit_word(words)?;
-    *command = Command::Box { low, high, e };
+    *command = Command::Box {
+        lo: low,
+        hi: high,
+        e,
+    };
     Ok(())
 }
 
@@ -288,7 +292,11 @@ fn read_listing(words: &mut Words<'_>, command: &mut Command) -> Result<(), Synt
     let (low, high) = read_points(words)?;
     let depth = read_depth(words)?;
     read_end(words)?;
-    *command = Command::List { low, high, depth };
+    *command = Command::List {
+        lo: low,
+        hi: high,
+        depth,
+    };
     Ok(())
 }
 
@@ -300,7 +308,7 @@ fn read_limit(words: &mut Words<'_>, command: &mut Command) -> Result<(), Syntax
 {
     let (low, high) = read_points(words)?;
     read_end(words)?;
-    *command = Command::Limit { low, high };
+    *command = Command::Limit { lo: low, hi: high };
     Ok(())
 }
 
@@ -313,9 +321,9 @@ fn read_cast(words: &mut Words<'_>, command: &mut Command) -> Result<(), Syntax>
     let (origin, end) = read_points(words)?;
     let ignore_unknown = read_flag(b"ignore", words)?;
     *command = Command::Cast {
-        origin,
-        end,
-        ignore_unknown,
+        o: origin,
+        e: end,
+        ignore: ignore_unknown,
     };
     Ok(())
 }

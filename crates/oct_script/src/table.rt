@@ -25,7 +25,7 @@ const OUTSIDE: [FirstWord; 25] = [
     row!(b"refresh", Verb::Alone(Single::Refresh)),
     row!(b"prune", Verb::Alone(Single::Prune)),
     row!(b"clear", Verb::Alone(Single::Clear)),
-    row!(b"maxlik", Verb::Alone(Single::MaxLikelihood)),
+    row!(b"maxlik", Verb::Alone(Single::MaxLik)),
     row!(b"cast", Verb::Cast),
     row!(b"box", Verb::Box),
     row!(b"list", Verb::List),

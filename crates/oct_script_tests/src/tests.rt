@@ -127,7 +127,7 @@ macro_rules! edit {
 /// An edit of the box from the origin to a point.
 macro_rules! on_box {
     ($high:expr, $e:expr) => {
-        Command::Box { low: ORIGIN, high: $high, e: $e }
+        Command::Box { lo: ORIGIN, hi: $high, e: $e }
     };
 }
 
@@ -141,14 +141,14 @@ macro_rules! get {
 /// A cast between two points.
 macro_rules! cast {
     ($origin:expr, $end:expr, $ignore:expr) => {
-        Command::Cast { origin: $origin, end: $end, ignore_unknown: $ignore }
+        Command::Cast { o: $origin, e: $end, ignore: $ignore }
     };
 }
 
 /// A list of the blocks of a depth in a box.
 macro_rules! list {
     ($low:expr, $high:expr, $depth:expr) => {
-        Command::List { low: $low, high: $high, depth: $depth }
+        Command::List { lo: $low, hi: $high, depth: $depth }
     };
 }
 
@@ -218,7 +218,7 @@ const COMMANDS: [(&str, Command); 45] = [
     (" refresh", Command::Refresh),
     ("prune ", Command::Prune),
     ("clear", Command::Clear),
-    ("maxlik", Command::MaxLikelihood),
+    ("maxlik", Command::MaxLik),
     ("box 0 0 0 0 0 0 hit", on_box!(ORIGIN, Edit::Hit)),
     (
         " box 0 0 0  1.5 -0.000000001 9999999.999999999 \t miss ",
@@ -236,8 +236,8 @@ const COMMANDS: [(&str, Command); 45] = [
     (
         "limit 0 0 0 \t 1.5 -0.000000001 9999999.999999999 ",
         Command::Limit {
-            low: ORIGIN,
-            high: FAR,
+            lo: ORIGIN,
+            hi: FAR,
         },
     ),
     ("nolimit", Command::NoLimit),

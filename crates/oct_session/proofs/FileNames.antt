@@ -184,7 +184,7 @@ rows_other word o false =
     and inr (number_fileless an_edit.Set) and inr (edit_fileless an_edit.Forget)
     and inr (alone_fileless command.Counts refl) and inr (alone_fileless command.Refresh refl)
     and inr (alone_fileless command.Prune refl) and inr (alone_fileless command.Clear refl)
-    and inr (alone_fileless command.MaxLikelihood refl) and inr cast_fileless and inr box_fileless
+    and inr (alone_fileless command.MaxLik refl) and inr cast_fileless and inr box_fileless
     and inr ((λ x y z a b c depth. refl) and tt) and inr (alone_fileless command.Quit refl)
     and inr scan_fileless and inl o.not_save and inl o.not_load and inl o.not_snapshot
     and inl o.not_restore and inr (alone_fileless command.Track refl)

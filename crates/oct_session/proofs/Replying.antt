@@ -294,7 +294,7 @@ clear_done m n unknown fresh pruned setup none =
 pub likelihood_done : (m n : Map)
     → SameValues (updated m.tree.odds (λ k. Some event.Likely) (values_of m)) (values_of n)
     → n.is_stale ≡ false → IsPruned n.tree → Keeps m n →
-    Obeys m n (Ok command.MaxLikelihood) (Some reply_of.Ok)
+    Obeys m n (Ok command.MaxLik) (Some reply_of.Ok)
 likelihood_done m n values fresh pruned setup =
     λ files q at. (refl, stands_likened m n q values fresh pruned setup at)
 

@@ -18,7 +18,7 @@ use Rattle.oct_script.specs.declared.command.Command.{Command}
 use Rattle.oct_script.specs.declared.command.Command.TheVariants as command
 use Rattle.oct_script.specs.declared.command.Command.TheVariants.{Blank, Edit, Get, Cast, Counts}
 use Rattle.oct_script.specs.declared.command.Command.TheVariants.{Refresh, Prune, Clear, Quit}
-use Rattle.oct_script.specs.declared.command.Command.TheVariants.{MaxLikelihood, Scan, Beam, End}
+use Rattle.oct_script.specs.declared.command.Command.TheVariants.{MaxLik, Scan, Beam, End}
 use Rattle.oct_script.specs.declared.command.Command.TheVariants.{Box, Save, Load, Snapshot}
 use Rattle.oct_script.specs.declared.command.Command.TheVariants.{Restore}
 use Rattle.oct_script.specs.declared.command.Syntax.{Syntax}
@@ -111,7 +111,7 @@ reply files s (Ok Counts) = Some (counts_reply s.values)
 reply files s (Ok Refresh) = Some Ok
 reply files s (Ok Prune) = Some Ok
 reply files s (Ok Clear) = Some Ok
-reply files s (Ok MaxLikelihood) = Some Ok
+reply files s (Ok MaxLik) = Some Ok
 reply files s (Ok (Save name)) = save_reply (classes_file s)
 reply files s (Ok (Load name)) = load_reply s.base (found_in files name)
 reply files s (Ok (Snapshot name)) = save_reply (snapshot_file s)
@@ -134,7 +134,7 @@ action_of files s (Ok Refresh) = Refreshed ∷ []
 action_of files s (Ok Counts) = Pruned ∷ []
 action_of files s (Ok Prune) = Pruned ∷ []
 action_of files s (Ok Clear) = Cleared ∷ []
-action_of files s (Ok MaxLikelihood) = Likened ∷ []
+action_of files s (Ok MaxLik) = Likened ∷ []
 action_of files s (Ok (Load name)) = load_action (found_in files name)
 action_of files s (Ok (Restore name)) = restore_action s.base (found_in files name)
 action_of files s (Ok command.Track) = Tracked ∷ []

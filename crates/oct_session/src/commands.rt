@@ -247,7 +247,7 @@ fn clear(map: &mut OccMap, reply: &mut Option<Reply>) -> Result<(), Memory>
 
 /// Makes each known voxel as sure as it can be, and answers it.
 fn max_likelihood(map: &mut OccMap, reply: &mut Option<Reply>) -> Result<(), Memory>
-    ensures { HasObeyed map.old map.new (Ok Command.MaxLikelihood) (with_reply result reply.new) }
+    ensures { HasObeyed map.old map.new (Ok Command.MaxLik) (with_reply result reply.new) }
 {
     map.max_likelihood();
     *reply = Some(Reply::Ok);
@@ -291,20 +291,16 @@ pub fn obey(map: &mut OccMap, command: &Command, reply: &mut Option<Reply>) -> R
     match command {
         Command::Edit { p, e, lazy } => edit(map, *p, *e, *lazy, reply),
         Command::Get { p, depth } => query(map, *p, *depth, reply),
-        Command::Cast {
-            origin,
-            end,
-            ignore_unknown,
-        } => cast(map, *origin, *end, *ignore_unknown, reply),
-        Command::Box { low, high, e } => edit_box(map, *low, *high, *e, reply),
-        Command::List { low, high, depth } => list(map, *low, *high, *depth, reply),
-        Command::Limit { low, high } => limit(map, *low, *high, reply),
+        Command::Cast { o, e, ignore } => cast(map, *o, *e, *ignore, reply),
+        Command::Box { lo, hi, e } => edit_box(map, *lo, *hi, *e, reply),
+        Command::List { lo, hi, depth } => list(map, *lo, *hi, *depth, reply),
+        Command::Limit { lo, hi } => limit(map, *lo, *hi, reply),
         Command::NoLimit => no_limit(map, reply),
         Command::Counts => count(map, reply),
         Command::Refresh => refresh(map, reply),
         Command::Prune => prune(map, reply),
         Command::Clear => clear(map, reply),
-        Command::MaxLikelihood => max_likelihood(map, reply),
+        Command::MaxLik => max_likelihood(map, reply),
         Command::Track => track(map, reply),
         Command::Untrack => untrack(map, reply),
         Command::Changes => changes(map, reply),

@@ -240,7 +240,7 @@ command_is files s (Ok command.Counts) good is = edited_is s Pruned refl is
 command_is files s (Ok command.Refresh) good is = edited_is s Refreshed refl is
 command_is files s (Ok command.Prune) good is = edited_is s Pruned refl is
 command_is files s (Ok command.Clear) good is = edited_is s Cleared refl is
-command_is files s (Ok command.MaxLikelihood) good is = edited_is s Likened refl is
+command_is files s (Ok command.MaxLik) good is = edited_is s Likened refl is
 command_is files s (Ok command.Quit) good is = is
 command_is files s (Ok (command.Save name)) good is = is
 command_is files s (Ok (command.Load name)) good is = load_is s (found_in files name) is
@@ -306,7 +306,7 @@ saving_good s (Ok command.Counts) ok is = tt
 saving_good s (Ok command.Refresh) ok is = tt
 saving_good s (Ok command.Prune) ok is = tt
 saving_good s (Ok command.Clear) ok is = tt
-saving_good s (Ok command.MaxLikelihood) ok is = tt
+saving_good s (Ok command.MaxLik) ok is = tt
 saving_good s (Ok command.Quit) ok is = tt
 saving_good s (Ok (command.Save name)) ok is =
     classes_good s.base.res (classes_of s.base.odds s.values)

@@ -1,6 +1,6 @@
 use Rattle.std.proofs.Common.{Ok, ap}
 use Rattle.oct_script.specs.declared.command.Command.TheVariants.{Edit, Get, Cast, Counts, Refresh}
-use Rattle.oct_script.specs.declared.command.Command.TheVariants.{Prune, Clear, MaxLikelihood, Box}
+use Rattle.oct_script.specs.declared.command.Command.TheVariants.{Prune, Clear, MaxLik, Box}
 use Rattle.oct_script.specs.declared.command.Command.TheVariants.{List, Track, Untrack, Changes}
 use Rattle.oct_script.specs.declared.command.Command.TheVariants.{Limit, NoLimit}
 use Rattle.oct_session.specs.Standing.{with_reply}
@@ -22,18 +22,18 @@ returns-in-Edit c = obeyed_as (with_reply c.edit.result c.edit.new.reply) c.args
 
 pub returns-in-Box : goal.returns-in-Box
 returns-in-Box c = obeyed_as (with_reply c.edit_box.result c.edit_box.new.reply) c.args.map.now
-    c.edit_box.new.map (Ok c.args.command.now) (Ok (Box c.in-Box.low c.in-Box.high c.in-Box.e))
+    c.edit_box.new.map (Ok c.args.command.now) (Ok (Box c.in-Box.lo c.in-Box.hi c.in-Box.e))
     (ap Ok c.in-Box.is) c.edit_box.ensures
 
 pub returns-in-Clear : goal.returns-in-Clear
 returns-in-Clear c = obeyed_as (with_reply c.clear.result c.clear.new.reply) c.args.map.now
     c.clear.new.map (Ok c.args.command.now) (Ok Clear) (ap Ok c.in-Clear.is) c.clear.ensures
 
-pub returns-in-MaxLikelihood : goal.returns-in-MaxLikelihood
-returns-in-MaxLikelihood c =
+pub returns-in-MaxLik : goal.returns-in-MaxLik
+returns-in-MaxLik c =
     obeyed_as (with_reply c.max_likelihood.result c.max_likelihood.new.reply) c.args.map.now
-    c.max_likelihood.new.map (Ok c.args.command.now) (Ok MaxLikelihood)
-    (ap Ok c.in-MaxLikelihood.is) c.max_likelihood.ensures
+    c.max_likelihood.new.map (Ok c.args.command.now) (Ok MaxLik)
+    (ap Ok c.in-MaxLik.is) c.max_likelihood.ensures
 
 pub returns-in-Get : goal.returns-in-Get
 returns-in-Get c = obeyed_as (with_reply c.query.result c.query.new.reply) c.args.map.now
@@ -43,13 +43,13 @@ returns-in-Get c = obeyed_as (with_reply c.query.result c.query.new.reply) c.arg
 pub returns-in-Cast : goal.returns-in-Cast
 returns-in-Cast c =
     obeyed_as (with_reply c.cast.result c.cast.new.reply) c.args.map.now c.args.map.now
-    (Ok c.args.command.now) (Ok (Cast c.in-Cast.origin c.in-Cast.end c.in-Cast.ignore_unknown))
+    (Ok c.args.command.now) (Ok (Cast c.in-Cast.o c.in-Cast.e c.in-Cast.ignore))
     (ap Ok c.in-Cast.is) c.cast.ensures
 
 pub returns-in-List : goal.returns-in-List
 returns-in-List c =
     obeyed_as (with_reply c.list.result c.list.new.reply) c.args.map.now c.args.map.now
-    (Ok c.args.command.now) (Ok (List c.in-List.low c.in-List.high c.in-List.depth))
+    (Ok c.args.command.now) (Ok (List c.in-List.lo c.in-List.hi c.in-List.depth))
     (ap Ok c.in-List.is) c.list.ensures
 
 pub returns-in-Track : goal.returns-in-Track
@@ -66,7 +66,7 @@ returns-in-Changes c = obeyed_as (with_reply c.changes.result c.changes.new.repl
 
 pub returns-in-Limit : goal.returns-in-Limit
 returns-in-Limit c = obeyed_as (with_reply c.limit.result c.limit.new.reply) c.args.map.now
-    c.limit.new.map (Ok c.args.command.now) (Ok (Limit c.in-Limit.low c.in-Limit.high))
+    c.limit.new.map (Ok c.args.command.now) (Ok (Limit c.in-Limit.lo c.in-Limit.hi))
     (ap Ok c.in-Limit.is) c.limit.ensures
 
 pub returns-in-NoLimit : goal.returns-in-NoLimit
