@@ -1,8 +1,8 @@
 -- The way to a voxel, down the tree and up again.
 use Rattle.std.proofs.Common.{◌≡◌, ◌≢◌, ℕ, zero, suc, ◌+◌, ◌<◌, ◌≤◌, sym, subst, ◌∙◌, ap, arith}
 use Rattle.std.proofs.Common.{inl, inr, refl, List, length, get_or, ◌-◌, Some, None, Bool}
-use Rattle.std.specs.Prelude.{ℤ, IsSome, is_some, slice_set}
-use Rattle.std.proofs.lemmas.Bool.{cases_eq}
+use Rattle.std.specs.Prelude.{ℤ, ◌≤ℤ◌, ◌⊎◌, IsSome, is_some, slice_set}
+use Rattle.std.proofs.lemmas.Bool.{cases_eq, false≢true}
 use Rattle.std.proofs.lemmas.List.{get_or-set_same, get_or-set_other, get_or_default, length-set}
 use Rattle.oct_key.specs.Voxel.{Voxel, IsInMap}
 use Rattle.oct_key.specs.Block.{Cube, LiesIn, block_of, child_of, child_index_of}
@@ -13,18 +13,18 @@ use Rattle.oct_odds.specs.declared.event.Event.{Event}
 use Rattle.oct_values.specs.Events.{event_at}
 use Rattle.oct_arena.specs.declared.node.GroupId.{GroupId}
 use Rattle.oct_arena.specs.declared.node.Node.{Node}
-use Rattle.oct_arena.specs.declared.node.Node.TheVariants.{Inner}
+use Rattle.oct_arena.specs.declared.node.Node.TheVariants.{Absent, Leaf, Inner}
 use Rattle.oct_arena.specs.Entries.{Groups, IsLive, node_at}
-use Rattle.oct_arena.specs.Nodes.{link_of}
+use Rattle.oct_arena.specs.Nodes.{link_of, stored_in}
 use Rattle.oct_tree.specs.declared.place.Place.{Place}
 use Rattle.oct_tree.specs.declared.place.Place.TheVariants.{Root, Slot}
-use Rattle.oct_tree.specs.Nodes.{IsKnown, IsCollapsible, IsGreatest}
+use Rattle.oct_tree.specs.Nodes.{IsAll, IsKnown, IsCollapsible, IsGreatest}
 use Rattle.oct_tree.specs.Tree.{Tree, IsLinked, IsPlace, node_in, block_in, value_at}
 use Rattle.oct_tree.specs.Shape.{IsFresh, IsPruned}
 use Rattle.oct_tree.proofs.Paths.{slot_place, slot_block, linked_live}
 use Rattle.oct_edit.specs.Saturated.{TakesFrom}
 use Rattle.oct_edit.specs.Steps.{IsTouched, IsEntered, IsClosed}
-use Rattle.oct_edit.specs.Way.{place_on, IsWayTo, IsWholeWay}
+use Rattle.oct_edit.specs.Way.{place_on, IsWayTo, IsWholeWay, KeepsGreatest}
 use Rattle.oct_edit.proofs.Insides.{above_apart}
 use Rattle.oct_edit.proofs.Closings.{closed_already}
 use Rattle.oct_edit.proofs.Locals.{same_local}
@@ -177,6 +177,21 @@ greatest_alike gs hs x m same h = record {
     stored : Node → Rattle.std.specs.Prelude.Option ℤ
     stored n = Rattle.oct_arena.specs.Nodes.stored_in n
 
+-- After an edit in a child's block the other nodes of the group are as they were.
+other_nodes : (t w : Tree) (k : Voxel) (p : Place) (d : ℕ) (id : GroupId) (v : ℤ) (event : Event)
+    (lazy : Bool)
+    → IsLinked t → d < 16 → block_in t p ≡ Some (block_of d k) → node_in t p ≡ Inner v id
+    → IsTouched t w (block_of (d + 1) k) (event_at (Some k) event) lazy
+    → (i : ℕ) → i < 8 → i ≢ child_index_of d k
+    → node_at w.groups id.number i ≡ node_at t.groups id.number i
+other_nodes t w k p d id v event lazy l low e is r i few off =
+    r.apart.outside.nodes (Slot id i) (child_of (block_of d k) i)
+    (λ f. nested.apart (block_of d k) (child_of (block_of d k) i) i (child_index_of d k)
+    (let deep = depth_block_of d k in omega arith) few (child_index_below d k) off
+    (lies_in_self (child_of (block_of d k) i))
+    (subst (λ c. LiesIn (child_of (block_of d k) i) c) (block_step d k low) f))
+    (slot_block t l p id i (block_of d k) (ap link_of is) e)
+
 -- Where the node of a child stays as it was, the group of its block is closed as it is, if the tree
 -- was fresh and pruned.
 pub closed_by_itself : (t w : Tree) (k : Voxel) (p : Place) (d : ℕ) (id : GroupId) (v : ℤ)
@@ -202,13 +217,80 @@ closed_by_itself t w k p d id v event lazy fresh pruned low ok e is b r kept =
     same i few = elim (cases_eq i (child_index_of d k)) [
       | inl on ↦ ap (node_at w.groups id.number) on ∙ kept
           ∙ ap (node_at t.groups id.number) (sym on)
-      | inr off ↦ r.apart.outside.nodes (Slot id i) (child_of (block_of d k) i)
-          (λ f. nested.apart (block_of d k) (child_of (block_of d k) i) i (child_index_of d k)
-          (let deep = depth_block_of d k in omega arith) few (child_index_below d k) off
-          (lies_in_self (child_of (block_of d k) i))
-          (subst (λ c. LiesIn (child_of (block_of d k) i) c) (block_step d k low) f))
-          (slot_block t l p id i (block_of d k) (ap link_of is) e)
+      | inr off ↦ other_nodes t w k p d id v event lazy l low e is r i few off
     ]
+
+-- A group keeps its greatest value where one of its nodes becomes an Inner one that isn't above it.
+pub greatest_kept : (gs hs : Groups) (x j : ℕ) (m v : ℤ) (y : GroupId) → j < 8
+    → ((i : ℕ) → i < 8 → i ≢ j → node_at hs x i ≡ node_at gs x i) → node_at hs x j ≡ Inner v y
+    → v ≤ℤ m → (v ≡ m) ⊎ (stored_in (node_at gs x j) ≢ Some m)
+    → IsGreatest gs x m → IsGreatest hs x m
+greatest_kept gs hs x j m v y low same is below kept h = record {
+  there = elim kept [
+    | inl on ↦ (j, low, ap stored_in is ∙ ap Some on)
+    | inr other ↦ (let (i, few, at) = h.there in (
+      i,
+      few,
+      ap stored_in (same i few
+          (λ on. other (sym (ap (λ n. stored_in (node_at gs x n)) on) ∙ at))) ∙ at,
+    ))
+  ];
+  most = λ i a few at. elim (cases_eq i j) [
+    | inl on ↦ subst (λ n. n ≤ℤ m)
+        (inner_value v a (sym (ap stored_in is) ∙ ap (λ n. stored_in (node_at hs x n)) (sym on) ∙ at))
+        below
+    | inr off ↦ h.most i a few (sym (ap stored_in (same i few off)) ∙ at)
+  ];
+}
+  where
+    inner_value : (a b : ℤ) → ◌≡◌ {A = Rattle.std.specs.Prelude.Option ℤ} (Some a) (Some b) → a ≡ b
+    inner_value a b e = cc
+
+-- A group with an Inner node isn't all of one leaf, and not absent.
+not_all_plain : (gs : Groups) (x j : ℕ) (v : ℤ) (y : GroupId) (n : Node) → j < 8
+    → node_at gs x j ≡ Inner v y → link_of n ≡ None → IsAll gs x n → ⊥
+not_all_plain gs x j v y n low is plain all =
+    false≢true (ap is_some (sym plain ∙ ap link_of (sym (all j low) ∙ is)))
+
+inner_known : (gs : Groups) (x j : ℕ) (v : ℤ) (y : GroupId) → j < 8 → node_at gs x j ≡ Inner v y
+    → IsKnown gs x
+inner_known gs x j v y low is =
+    (j, low, λ none. false≢true (ap (λ n. is_some (link_of n)) (sym none ∙ is)))
+
+inner_lean : (gs : Groups) (x j : ℕ) (v : ℤ) (y : GroupId) → j < 8 → node_at gs x j ≡ Inner v y
+    → IsCollapsible gs x → ⊥
+inner_lean gs x j v y low is (inl none) = not_all_plain gs x j v y Absent low is refl none
+inner_lean gs x j v y low is (inr (a, leaf)) = not_all_plain gs x j v y (Leaf a) low is refl leaf
+
+-- So the group of its block is closed as it is.
+pub closed_by_greatest : (t w : Tree) (k : Voxel) (p : Place) (d : ℕ) (id : GroupId) (v : ℤ)
+    (event : Event) (lazy : Bool)
+    → IsFresh t → d < 16 → block_in t p ≡ Some (block_of d k) → node_in t p ≡ Inner v id
+    → IsBack t w k p d → IsTouched t w (block_of (d + 1) k) (event_at (Some k) event) lazy
+    → KeepsGreatest (node_in t p) (node_in t (Slot id (child_index_of d k)))
+    (node_in w (Slot id (child_index_of d k)))
+    → IsClosed w w (block_of d k) lazy
+closed_by_greatest t w k p d id v event lazy fresh low e is b r keeps =
+    closed_already w p (block_of d k) id v lazy r.linked b.block (b.node ∙ is)
+    (inner_known w.groups id.number j keeps.value keeps.link few keeps.now_is)
+    (λ _. inner_lean w.groups id.number j keeps.value keeps.link few keeps.now_is)
+    (λ _. greatest_kept t.groups w.groups id.number j v keeps.value keeps.link few
+    (λ i. other_nodes t w k p d id v event lazy fresh.formed.linked low e is r i)
+    keeps.now_is (subst (λ m. keeps.value ≤ℤ m) (sym same) keeps.most_yet)
+    (subst (λ m. (keeps.value ≡ m) ⊎ (stored_in (node_at t.groups id.number j) ≢ Some m))
+    (sym same) keeps.there) (fresh.greatest p id v is))
+  where
+    j : ℕ
+    j = child_index_of d k
+
+    few : j < 8
+    few = child_index_below d k
+
+    one_value : (a c : ℤ) (x y : GroupId) → ◌≡◌ {A = Node} (Inner a x) (Inner c y) → a ≡ c
+    one_value a c x y f = cc
+
+    same : v ≡ keeps.most
+    same = one_value v keeps.most id keeps.group (sym is ∙ keeps.over_is)
 
 -- So nothing is left to do above a place whose node stays as it was.
 pub kept_above : (t w : Tree) (k : Voxel) (places : List Place) (depth d : ℕ) (event : Event)
@@ -239,6 +321,28 @@ kept_above t w k places depth (suc d) event lazy fresh pruned v way low takes r 
     below still in
     kept_above t w k places depth d event lazy fresh pruned v way (omega arith) takes
     (climbed t w w k places depth d event lazy l v way lower takes below c) b.node
+
+-- Nor is there anything left above a group that keeps its greatest value.
+pub done_above : (t w : Tree) (k : Voxel) (places : List Place) (depth d : ℕ) (event : Event)
+    (lazy : Bool)
+    → IsFresh t → IsPruned t → IsInMap k → IsWayTo t k places depth → d < depth
+    → TakesFrom t.odds (event_at (Some k) event) (value_at t) k
+    → IsTouched t w (block_of (d + 1) k) (event_at (Some k) event) lazy
+    → KeepsGreatest (node_in t (place_on places d)) (node_in t (place_on places (d + 1)))
+    (node_in w (place_on places (d + 1)))
+    → IsTouched t w (block_of 0 k) (event_at (Some k) event) lazy
+done_above t w k places depth d event lazy fresh pruned v way lower takes r keeps =
+    let l : IsLinked t = fresh.formed.linked in
+    let few : d < 16 = (let most = way.few in omega arith) in
+    let b = back t w k places depth d event lazy l way lower r in
+    let (a, id, link, next) = way.linked d lower in
+    let (ok, e) = way.at d (omega arith) in
+    let c =
+    closed_by_greatest t w k (place_on places d) d id a event lazy fresh few e link b r
+    (subst (λ q. KeepsGreatest (node_in t (place_on places d)) (node_in t q) (node_in w q)) next
+    keeps) in
+    kept_above t w k places depth d event lazy fresh pruned v way (omega arith) takes
+    (climbed t w w k places depth d event lazy l v way lower takes r c) b.node
 
 -- the last place of a whole way links no group, the voxel's neither
 pub way_ends : (t : Tree) (k : Voxel) (places : List Place) (depth : ℕ) → IsLinked t

@@ -1,6 +1,7 @@
 //! An edit of one voxel along its way: the places from the root down to the first one that links no
 //! group. Above it no group has to be made, and in a tree that is known to be fresh and pruned none
-//! has to be closed above a node that stays as it was.
+//! has to be closed above a node that stays as it was, nor from a group on that keeps its greatest
+//! value.
 
 ghost use Rattle.std.specs.Prelude.{◌≡◌, ◌+◌, ◌≤◌, ◌≤ℤ◌, ◌↔◌, IsTrue, IsSome, Some};
 ghost use Rattle.oct_key.specs.Block.{Cube, block_of};
@@ -12,9 +13,9 @@ ghost use Rattle.oct_tree.specs.Tree.{IsLinked, IsPlace, node_in, block_in, valu
 ghost use Rattle.oct_tree.specs.Shape.{IsFresh, IsPruned, IsWellFormed};
 ghost use Rattle.oct_edit.specs.Saturated.{IsSaturated, TakesFrom};
 ghost use Rattle.oct_edit.specs.Steps.{HasRoom, IsTouched, IsClosed};
-ghost use Rattle.oct_edit.specs.Way.{IsWholeWay};
+ghost use Rattle.oct_edit.specs.Way.{IsWholeWay, KeepsGreatest};
 
-use crate::voxel::{VOXEL_DEPTH, close, note_eager, stays, touch_under};
+use crate::voxel::{VOXEL_DEPTH, close, is_same_value, note_eager, stays, touch_under};
 use oct_arena::Node;
 use oct_key::{Key, child_index};
 use oct_odds::Event;
@@ -62,7 +63,7 @@ impl Way {
     /// Applies the event to the voxel, which isn't saturated, and closes the groups of the way.
     ///
     /// Where the tree is known to be fresh and pruned, they are closed from below until a node
-    /// stays as it was.
+    /// stays as it was, or a group keeps its greatest value.
     pub(crate) fn touch(&self, tree: &mut OccTree, k: Key, event: Event, lazy: bool)
         requires way { IsWholeWay tree.old k self.now.places self.now.depth }
         requires formed { IsWellFormed tree.old }
@@ -92,32 +93,53 @@ impl Way {
     {
         let mut depth = self.depth;
         let p = self.places[depth as usize];
-        let before = tree.node(p);
+        let mut before = tree.node(p);
         touch_under(tree, p, depth, k, event, lazy);
-        let mut kept = tidy && is_same(before, tree.node(p));
-        while depth > 0 && !kept {
+        let mut now = tree.node(p);
+        while depth > 0 {
+            if tidy && is_same(before, now) {
+                return;
+            }
             depth -= 1;
-            kept = close_over(tree, self.places[depth as usize], lazy) && tidy;
+            let q = self.places[depth as usize];
+            let over = tree.node(q);
+            if tidy && keeps_greatest(over, before, now) {
+                return;
+            }
+            before = over;
+            now = close_over(tree, q, over, lazy);
         }
     }
 }
 
-/// Closes the group under the place, and answers true only where the node of the place stays as it
-/// was.
-fn close_over(tree: &mut OccTree, p: Place, lazy: bool) -> bool
+/// Closes the group under the place, whose node this is, and answers its node then.
+fn close_over(tree: &mut OccTree, p: Place, over: Node, lazy: bool) -> Node
     requires linked { IsLinked tree.old }
     requires place { IsPlace tree.old p }
     requires inner { IsSome (link_of (node_in tree.old p)) }
+    requires over { over ≡ node_in tree.old p }
     requires block { (b : Cube) × (block_in tree.old p ≡ Some b) }
     ensures closed { (b : Cube) → block_in tree.old p ≡ Some b → IsClosed tree.old tree.new b lazy }
-    ensures kept { IsTrue result → node_in tree.new p ≡ node_in tree.old p }
+    ensures node { result ≡ node_in tree.new p }
 {
-    let before = tree.node(p);
-    let Node::Inner(_, id) = before else {
+    let Node::Inner(_, id) = over else {
         unreachable!();
     };
     close(tree, p, id, lazy);
-    is_same(before, tree.node(p))
+    tree.node(p)
+}
+
+/// Whether a group whose greatest value stands in the node over it keeps that one, and isn't
+/// collapsible, where one of its nodes changes so.
+fn keeps_greatest(over: Node, before: Node, now: Node) -> bool
+    ensures { IsTrue result → KeepsGreatest over before now }
+{
+    match (over, now) {
+        (Node::Inner(most, _), Node::Inner(value, _)) => {
+            value == most || (value < most && !is_same_value(before.stored(), Some(most)))
+        }
+        _ => false,
+    }
 }
 
 /// Whether both are one node.

@@ -1,5 +1,4 @@
 use Rattle.std.proofs.Common.{◌≡◌, ◌+◌, ◌≤◌, Some}
-use Rattle.std.specs.Prelude.{IsTrue}
 use Rattle.oct_key.specs.Block.{block_of}
 use Rattle.oct_values.specs.Events.{event_at}
 use Rattle.oct_arena.specs.Entries.{spare}
@@ -13,10 +12,8 @@ invariant-loop-depth l = record {
   low : l.depth ≤ l.self.depth;
   touched : IsTouched l.fn.tree l.tree (block_of l.depth l.fn.k) (event_at (Some l.fn.k) l.fn.event)
       l.lazy;
-  tidy : IsTrue l.kept → IsTrue l.tidy;
-  kept : IsTrue l.kept
-      → node_in l.tree (place_on l.self.places l.depth)
-      ≡ node_in l.fn.tree (place_on l.self.places l.depth);
+  before : l.before ≡ node_in l.fn.tree (place_on l.self.places l.depth);
+  now : l.now ≡ node_in l.tree (place_on l.self.places l.depth);
   spare : spare l.fn.tree.groups ≤ spare l.tree.groups + 16;
 }
 
