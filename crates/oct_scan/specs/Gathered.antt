@@ -63,8 +63,8 @@ abbrev pub kept : Option Corners → List Voxel → List Voxel
 kept None ks = ks
 kept (Some box) ks = filter (is_in_box box.lo box.hi) ks
 
--- the voxels of the walk in the box, but that of the end, were added to the bricks, and none of them
--- as hit
+-- the voxels of the walk in the box, but that of the end, were added to the bricks, and none of
+-- them as hit
 pub record IsWayAdded (window : Option Corners) (end : ℕ) (walk : List Voxel)
     (old new : List Brick) : Type 0 where
   pub scanned : (code : ℕ) → Contains (scanned_codes new) code ↔

@@ -20,8 +20,8 @@
 //!
 //! - [`OccTree::node_over`] is the node that stands at a block, or the leaf or absent node that
 //!   covers it (`StandsOver`): from the root by the voxel's child indices, until a node is not
-//!   Inner. [`OccTree::at`] is the value that it gives a voxel (`value_at`). [`Descent`] gives these
-//!   indices one by one, from the voxel's Morton code.
+//!   Inner. [`OccTree::at`] is the value that it gives a voxel (`value_at`). [`Descent`] gives
+//!   these indices one by one, from the voxel's Morton code.
 //! - Each tree is linked (`IsLinked`): a node that links a group links one whose home is the node's
 //!   block, and each group is what the path to its home comes to. The type keeps that through every
 //!   call. [`OccTree::shape`] says what follows: homes are distinct, one node alone links each
