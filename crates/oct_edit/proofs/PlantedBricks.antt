@@ -1,6 +1,8 @@
 -- The block of a brick of which nothing was known: what stands in its group.
 use Rattle.std.proofs.Common.{◌≡◌, ℕ, ◌+◌, ◌<◌, ◌≤◌, sym, subst, ◌∙◌, ap, arith, inl, inr, refl, Some}
-use Rattle.std.proofs.Common.{None, false, true, ◌≤ℤ◌, []}
+use Rattle.std.proofs.Common.{None, false, true, ◌≤ℤ◌, [], ◌∷◌, bit_and}
+use Rattle.std.specs.Int.{bit_not, w64}
+use Rattle.oct_odds.specs.Odds.{Odds}
 use Rattle.std.specs.Prelude.{◌⊎◌, ℤ, Bool, Option, IfSome, IfNone}
 use Rattle.oct_key.specs.Voxel.{Voxel, IsInMap}
 use Rattle.oct_key.specs.Block.{Cube, IsBlock, HoldsVoxel, child_of, child_index_of, lowest_voxel}
@@ -26,20 +28,26 @@ use Rattle.oct_tree.specs.Tree.{Tree, IsLinked, IsPlace, node_in, block_in, valu
 use Rattle.oct_tree.proofs.Paths.{some_injective, some_not_none, slot_place, slot_block}
 use Rattle.oct_tree.proofs.Paths.{place_block}
 use Rattle.oct_tree.specs.Changes.{IsSplit, IsSameOutside}
-use Rattle.oct_edit.specs.Listed.{ListedUpdate}
+use Rattle.oct_edit.specs.Listed.{ListedUpdate, update_of}
 use Rattle.oct_edit.specs.Steps.{IsClosedAt, IsTouched, IsEntered, IsClosed}
 use Rattle.oct_edit.specs.Scan.{events_of}
 use Rattle.oct_edit.specs.Parts.{IsUpdateIn, need_in}
 use Rattle.oct_edit.specs.declared.scan.BrickUpdate.{BrickUpdate}
 use Rattle.oct_edit.specs.Bricks.{listed_one, HasGap, IsPlain, IsBrickOpened}
 use Rattle.oct_edit.proofs.Frames.{place_after}
-use Rattle.oct_edit.proofs.PlantedVoxels.{no_hits}
+use Rattle.oct_brick.specs.declared.brick.Brick.{Brick}
+use Rattle.oct_edit.proofs.BrickParts.{IsWithin}
+use Rattle.oct_edit.proofs.BrickWays.{IsAtOctet, octet_index, octet_below, octet_next, part_of}
+use Rattle.oct_edit.proofs.BrickWays.{part_is}
+use Rattle.oct_edit.proofs.Shares.{first_not_done}
+use Rattle.oct_edit.proofs.PlantedVoxels.{no_hits, still_freed, within_after}
 use Rattle.oct_edit.proofs.UnderWay.{IsTouchedBelow, IsUnderWay}
 use Rattle.oct_edit.proofs.Expansions.{TakesSome}
 use Rattle.oct_edit.proofs.Needs.{sum_below_le, need_of_children, entered_spare}
 use Rattle.oct_edit.proofs.Updates.{needs, way_end}
 use Rattle.oct_edit.proofs.UpdateEnds.{covered}
 use Rattle.oct_edit.proofs.Planting.{closed_here, voxel_stored, no_more, planted_pure}
+use Rattle.oct_edit.proofs.Planting.{fresh_slot}
 
 -- what is known of the voxels of a block of depth 14 whose octets were edited: they have one value,
 -- or none, and before the edit the group had no group below it
@@ -349,6 +357,58 @@ brick_spared t s w z p b u rest lazy ok low inside one way after =
     let all = sum_below_le (needs u b) way.next 8 way.few in
     let before = way.room in
     omega (arith, whole, all, one, before, after)
+
+-- the part of the misses in an octet that wasn't edited yet is plain too
+pub octet_plain : (plain : Option ℤ) (t s w : Tree) (p : Place) (b : Cube) (id : GroupId)
+    (update rest part : BrickUpdate) (x : ℕ) (lazy : Bool)
+    → IsLinked t → IsPlace t p → block_in t p ≡ Some b → IsBlock b → IsBrickOpened t s p plain id
+    → IsAtOctet s w p b (listed_one update) update.brick rest.brick rest.hit rest.miss x lazy
+    → IsWithin rest.brick x part.brick → part.miss ≡ rest.miss → IfSome plain (IsPlain t p update)
+    → IfSome plain (λ _. lazy ≡ false) → IfSome plain (λ _. rest.brick.hits ≡ 0)
+    → IfSome plain (IsPlain w (Slot id (octet_index rest.brick)) part)
+octet_plain None t s w p b id update rest part x lazy l ok e map opened h within miss plain eager
+    freed = tt
+octet_plain (Some m) t s w p b id update rest part x lazy l ok e map opened h within miss plain
+    eager freed =
+    let i : ℕ = octet_index rest.brick in
+    let few : i < 8 = octet_below rest.brick update.brick i h.rest h.some refl in
+    let deep = h.deep in
+    let sp = opened.split in
+    let after = opened_place (Some m) t s p b id l ok e opened in
+    let left : Brick = part_of rest.brick (bit_not w64 x) in
+    let round =
+    octet_next s w p b (listed_one update) update.brick rest.brick part.brick left rest.hit rest.miss x
+    lazy h within (part_is rest.brick (bit_not w64 x)) in
+    let up =
+    first_not_done b h.way.next i (listed_one update).hits (listed_one update).frees
+    (update_of (rest.brick ∷ []) rest.hit rest.miss).hits
+    (update_of (rest.brick ∷ []) rest.hit rest.miss).frees h.way.hits h.way.frees round.first in
+    let odds : w.odds ≡ t.odds = h.way.done.apart.outside.odds ∙ sp.odds in
+    record {
+      absent =
+          fresh_slot t s w p b id m h.way.next i (events_of (listed_one update)) opened.linked
+          after.0 after.1 map (omega (arith, deep)) sp
+          (subst (IsTouchedBelow s w p b h.way.next (events_of (listed_one update))) eager
+          h.way.done)
+          up few
+          ∙ plain.absent;
+      freed = still_freed rest.brick.hits part.brick.hits x within.hits freed;
+      value =
+          plain.value ∙ ap (λ (o : Odds). applied o update.miss None) (sym odds)
+          ∙ ap (λ event. applied w.odds event None) (sym (miss ∙ h.way.miss));
+      within = within_after t.odds w.odds m odds plain.within;
+    }
+
+-- and none of what is left is hit
+pub rest_freed : (plain : Option ℤ) (m part x : ℕ) → part ≡ bit_and m x
+    → IfSome plain (λ _. m ≡ 0) → IfSome plain (λ _. part ≡ 0)
+rest_freed None m part x is none = tt
+rest_freed (Some v) m part x is none = still_freed m part x is none
+
+pub plain_freed : (plain : Option ℤ) (t : Tree) (p : Place) (update : BrickUpdate)
+    → IfSome plain (IsPlain t p update) → IfSome plain (λ _. update.brick.hits ≡ 0)
+plain_freed None t p update h = tt
+plain_freed (Some m) t p update h = h.freed
 
 pub absent_of : (plain : Option ℤ) (t : Tree) (p : Place) (update : BrickUpdate)
     → IfSome plain (IsPlain t p update) → IfSome plain (λ _. node_in t p ≡ Absent)

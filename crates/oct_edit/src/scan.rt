@@ -145,7 +145,7 @@ fn touch_brick(tree: &mut OccTree, p: Place, update: BrickUpdate, lazy: bool)
     while rest.brick.scanned != 0 {
         let i = (rest.brick.scanned.trailing_zeros() / 8) as u8;
         let octet = octet_bits(i);
-        touch_octet(tree, Place::Slot(id, i), rest.within(octet), lazy);
+        touch_octet(tree, Place::Slot(id, i), rest.within(octet), plain, lazy);
         rest = rest.within(!octet);
     }
     close_brick(tree, p, id, plain, lazy);
@@ -153,6 +153,7 @@ fn touch_brick(tree: &mut OccTree, p: Place, update: BrickUpdate, lazy: bool)
 
 /// The group under the place of a brick. Where nothing is known of it, and its freed voxels get one
 /// value, it is made with that value over it.
+#[inline(always)]
 fn open_brick(tree: &mut OccTree, p: Place, plain: Option<i32>) -> GroupId
     requires place { IsPlace tree.old p }
     requires depth { (b : Cube) → block_in tree.old p ≡ Some b → b.depth ≤ 15 }
@@ -167,6 +168,7 @@ fn open_brick(tree: &mut OccTree, p: Place, plain: Option<i32>) -> GroupId
 }
 
 /// Closes that group, where it needs it.
+#[inline(always)]
 fn close_brick(tree: &mut OccTree, p: Place, id: GroupId, plain: Option<i32>, lazy: bool)
     requires linked { IsLinked tree.old }
     requires place { IsPlace tree.old p }
@@ -180,12 +182,21 @@ fn close_brick(tree: &mut OccTree, p: Place, id: GroupId, plain: Option<i32>, la
     }
 }
 
-/// Applies the events of an octet of a brick, which is the block of the place.
-fn touch_octet(tree: &mut OccTree, p: Place, update: BrickUpdate, lazy: bool)
-    requires { CanApply tree.old p 15 update }
+/// Applies the events of an octet of a brick, which is the block of the place. The value that its
+/// freed voxels get is there where it is known from the brick.
+fn touch_octet(
+    tree: &mut OccTree,
+    p: Place,
+    update: BrickUpdate,
+    plain: Option<i32>,
+    lazy: bool,
+)
+    requires can { CanApply tree.old p 15 update }
+    requires plain { IfSome plain (IsPlain tree.old p update) }
+    requires eager { IfSome plain (λ _. lazy ≡ false) }
     ensures { IsApplied tree.old tree.new p update lazy }
 {
-    if let Some(value) = update.plain_octet(tree, p, lazy) {
+    if let Some(value) = update.plain_octet(tree, p, plain, lazy) {
         plant_octet(tree, p, update, value);
         return;
     }
@@ -206,6 +217,7 @@ fn touch_octet(tree: &mut OccTree, p: Place, update: BrickUpdate, lazy: bool)
 
 /// Applies the misses of an octet of which nothing is known, and of which something stays unknown:
 /// the freed voxels get this value, and so does the node over them.
+#[inline(always)]
 fn plant_octet(tree: &mut OccTree, p: Place, update: BrickUpdate, value: i32)
     requires can { CanApply tree.old p 15 update }
     requires plain { IsPlain tree.old p update value }
@@ -248,11 +260,20 @@ impl BrickUpdate {
     }
 
     /// The value that the freed voxels of an octet get, where its group can be made with it: where
-    /// some voxel stays unknown.
-    fn plain_octet(&self, tree: &OccTree, p: Place, lazy: bool) -> Option<i32>
+    /// some voxel stays unknown. It may be known from the brick.
+    #[inline(always)]
+    fn plain_octet(
+        &self,
+        tree: &OccTree,
+        p: Place,
+        plain: Option<i32>,
+        lazy: bool,
+    ) -> Option<i32>
         requires place { IsPlace tree.now p }
         requires brick { IsBrick self.now.brick }
         requires miss { IsSmallEvent self.now.miss }
+        requires plain { IfSome plain (IsPlain tree.now p self.now) }
+        requires eager { IfSome plain (λ _. lazy ≡ false) }
         ensures plain { IfSome result (IsPlain tree.now p self.now) }
         ensures gap { IfSome result (λ _. (b : Cube) → b.depth ≡ 15
             → IsUpdateIn b (listed_one self.now) → HasGap b (listed_one self.now)) }
@@ -261,10 +282,14 @@ impl BrickUpdate {
         if !self.has_gap() {
             return None;
         }
+        if plain.is_some() {
+            return plain;
+        }
         self.plain_value(tree, p, lazy)
     }
 
     /// The same of a whole brick.
+    #[inline(always)]
     fn plain_brick(&self, tree: &OccTree, p: Place, lazy: bool) -> Option<i32>
         requires place { IsPlace tree.now p }
         requires brick { IsBrick self.now.brick }
@@ -282,6 +307,7 @@ impl BrickUpdate {
 
     /// The value that freed voxels get, where nothing is known at the place and no voxel is hit. A
     /// lazy edit leaves the value of the node over them to a later refresh.
+    #[inline(always)]
     fn plain_value(&self, tree: &OccTree, p: Place, lazy: bool) -> Option<i32>
         requires place { IsPlace tree.now p }
         requires miss { IsSmallEvent self.now.miss }
@@ -301,6 +327,7 @@ impl BrickUpdate {
     }
 
     /// Whether some voxel of the octet isn't among those that change.
+    #[inline(always)]
     fn has_gap(&self) -> bool
         requires { IsBrick self.now.brick }
         ensures { IsTrue result → (b : Cube) → b.depth ≡ 15 → IsUpdateIn b (listed_one self.now)

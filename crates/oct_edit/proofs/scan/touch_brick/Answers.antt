@@ -19,6 +19,7 @@ use Rattle.oct_edit.proofs.BrickWays.{octet_room, octet_step}
 use Rattle.oct_edit.proofs.Updates.{way_begun, way_slot, need_some, at_block}
 use Rattle.oct_edit.proofs.PlantedBricks.{opened_place, opened_link, opened_spare, opened_room}
 use Rattle.oct_edit.proofs.PlantedBricks.{closed_spare, absent_of, brick_end, brick_spared}
+use Rattle.oct_edit.proofs.PlantedBricks.{octet_plain, rest_freed, plain_freed}
 use Rattle.oct_edit.proofs.scan.touch_brick.Goals as goal
 
 pub returns-then-is_at_rest : goal.returns-then-is_at_rest
@@ -48,6 +49,9 @@ loop-rest-init c = record {
       way_begun c.open_brick-id.new.tree c.args.p b (listed_one c.args.update) c.args.lazy
       c.open_brick-id.ensures.linked place.0 place.1 (c.requires.inside b e));
   rest = rest_of_brick c.args.update.brick c.requires.brick;
+  freed =
+      plain_freed c.plain_brick-plain.result c.args.tree.now c.args.p c.args.update
+      c.plain_brick-plain.ensures.plain;
 }
 
 pub octet_bits-octet-requires : goal.octet_bits-octet-requires
@@ -55,8 +59,8 @@ octet_bits-octet-requires c =
     octet_few c.loop-rest.rest.brick c.args.update.brick c.loop-rest.invariant.rest
     c.loop-rest-test.true
 
-pub touch_octet-requires : goal.touch_octet-requires
-touch_octet-requires c = record {
+pub touch_octet-requires-clause-can : goal.touch_octet-requires-clause-can
+touch_octet-requires-clause-can c = record {
   linked =
       (let (b, e) = place_block c.args.tree.now c.args.p c.requires.place in
       let way = c.loop-rest.invariant.way b e in
@@ -180,6 +184,26 @@ touch_octet-requires c = record {
       subst IsSmallEvent (sym (c.within.ensures.miss ∙ way.miss)) c.requires.miss;
 }
 
+pub touch_octet-requires-clause-plain : goal.touch_octet-requires-clause-plain
+touch_octet-requires-clause-plain c =
+    let (b, e) = place_block c.args.tree.now c.args.p c.requires.place in
+    octet_plain c.plain_brick-plain.result c.args.tree.now c.open_brick-id.new.tree c.loop-rest.tree
+    c.args.p b c.open_brick-id.result c.args.update c.loop-rest.rest c.within.result
+    c.octet_bits-octet.result c.args.lazy c.requires.linked c.requires.place e
+    (place_in_map c.args.tree.now c.args.p b c.requires.linked e) c.open_brick-id.ensures
+    (octet_at c.open_brick-id.new.tree c.loop-rest.tree c.args.p b (listed_one c.args.update)
+    c.args.update.brick c.loop-rest.rest.brick c.loop-rest.rest.hit c.loop-rest.rest.miss
+    c.octet_bits-octet.result c.args.lazy (c.requires.depth b e) c.requires.brick
+    c.loop-rest.invariant.rest c.loop-rest-test.true (c.loop-rest.invariant.way b e)
+    (c.requires.inside b e) c.octet_bits-octet.ensures (search rules))
+    (record {
+      code = c.within.ensures.code;
+      scanned = c.within.ensures.scanned;
+      hits = c.within.ensures.hits;
+    })
+    c.within.ensures.miss c.plain_brick-plain.ensures.plain c.plain_brick-plain.ensures.eager
+    c.loop-rest.invariant.freed
+
 pub loop-rest-smaller : goal.loop-rest-smaller
 loop-rest-smaller c =
     let (b, e) = place_block c.args.tree.now c.args.p c.requires.place in
@@ -248,6 +272,9 @@ loop-rest-preserved c = record {
         scanned = c.within-rest.ensures.scanned;
         hits = c.within-rest.ensures.hits;
       });
+  freed =
+      rest_freed c.plain_brick-plain.result c.loop-rest.rest.brick.hits
+      c.within-rest.result.brick.hits _ c.within-rest.ensures.hits c.loop-rest.invariant.freed;
 }
 
 pub close_brick-requires-clause-linked : goal.close_brick-requires-clause-linked
