@@ -3,7 +3,7 @@ use Rattle.std.proofs.Common.{◌≡◌, ℕ, ◌+◌, ◌<◌, ◌≤◌, sym, 
 use Rattle.std.proofs.Common.{None, false, true, ◌≤ℤ◌, [], ◌∷◌, bit_and}
 use Rattle.std.specs.Int.{bit_not, w64}
 use Rattle.oct_odds.specs.Odds.{Odds}
-use Rattle.std.specs.Prelude.{◌⊎◌, ℤ, Bool, Option, IfSome, IfNone}
+use Rattle.std.specs.Prelude.{◌⊎◌, ℤ, Bool, Option, IfSome, IfNone, is_some}
 use Rattle.oct_key.specs.Voxel.{Voxel, IsInMap}
 use Rattle.oct_key.specs.Block.{Cube, IsBlock, HoldsVoxel, child_of, child_index_of, lowest_voxel}
 use Rattle.oct_key.proofs.Blocks.{child_index_below, child_in_map, child_holds, depth_child_of}
@@ -320,11 +320,21 @@ closed_spare (Some m) w z p b lazy e closed kept =
     (let same : spare w.groups ≡ spare z.groups = ap (λ (x : Tree). spare x.groups) (sym kept) in
     omega (arith, same))
 
+-- what holds where there is no value
+pub given_none : {A : Type 0} (plain : Option ℤ) → A → IfNone plain A
+given_none None a = a
+given_none (Some m) a = tt
+
+pub known_some : (A : Type 0) (plain : Option ℤ) → is_some plain ≡ true → IfNone plain A
+known_some A None h = absurd (false≢true h)
+known_some A (Some m) h = tt
+
 -- a brick's update is done, once its octets are and its group is closed, where that is needed
 pub brick_end : (plain : Option ℤ) (t s w z : Tree) (p : Place) (b : Cube) (id : GroupId)
     (update : BrickUpdate) (rest : ListedUpdate) (lazy : Bool)
     → IsLinked t → IsPlace t p → block_in t p ≡ Some b → IsBlock b → b.depth ≡ 14
-    → IsUpdateIn b (listed_one update) → TakesSome t.odds (listed_one update) (value_of (node_in t p))
+    → IsUpdateIn b (listed_one update)
+    → IfNone plain (TakesSome t.odds (listed_one update) (value_of (node_in t p)))
     → IsBrickOpened t s p plain id
     → IsUnderWay s w p b (listed_one update) rest lazy → rest.hits ≡ [] → rest.frees ≡ []
     → IfSome plain (IsPlain t p update)

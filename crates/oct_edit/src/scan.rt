@@ -137,7 +137,7 @@ fn touch_brick(tree: &mut OccTree, p: Place, update: BrickUpdate, lazy: bool)
     ensures { IsApplied tree.old tree.new p update lazy }
 {
     let plain = update.plain_brick(tree, p, lazy);
-    if update.is_at_rest(tree, p) {
+    if plain.is_none() && update.is_at_rest(tree, p) {
         return;
     }
     let id = open_brick(tree, p, plain);

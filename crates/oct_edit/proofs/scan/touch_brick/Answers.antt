@@ -20,6 +20,10 @@ use Rattle.oct_edit.proofs.Updates.{way_begun, way_slot, need_some, at_block}
 use Rattle.oct_edit.proofs.PlantedBricks.{opened_place, opened_link, opened_spare, opened_room}
 use Rattle.oct_edit.proofs.PlantedBricks.{closed_spare, absent_of, brick_end, brick_spared}
 use Rattle.oct_edit.proofs.PlantedBricks.{octet_plain, rest_freed, plain_freed}
+use Rattle.oct_edit.proofs.PlantedBricks.{given_none, known_some}
+use Rattle.std.specs.Prelude.{not}
+use Rattle.oct_edit.proofs.scan.touch_brick.Goals.{else-is_none-via-then-is_none+else-is_at_rest}
+use Rattle.oct_edit.proofs.scan.touch_brick.Goals.{else-is_none-via-else-is_none}
 use Rattle.oct_edit.proofs.scan.touch_brick.Goals as goal
 
 pub returns-then-is_at_rest : goal.returns-then-is_at_rest
@@ -307,7 +311,14 @@ returns c = record {
       c.loop-rest.tree c.close_brick.new.tree c.args.p b c.open_brick-id.result c.args.update
       (listed_one c.loop-rest.rest) c.args.lazy c.requires.linked c.requires.place e
       (place_in_map c.args.tree.now c.args.p b c.requires.linked e) (c.requires.depth b e)
-      (c.requires.inside b e) c.if-is_at_rest.ensures.takes c.open_brick-id.ensures
+      (c.requires.inside b e)
+      (elim c.else-is_none.branch [
+        | else-is_none-via-then-is_none+else-is_at_rest w ↦
+          given_none c.plain_brick-plain.result w.if-is_at_rest.ensures.takes
+        | else-is_none-via-else-is_none w ↦
+          known_some _ c.plain_brick-plain.result (c.is_none.ensures ∙ ap not w.if-is_none.false)
+      ])
+      c.open_brick-id.ensures
       (c.loop-rest.invariant.way b e) none.0 none.1 c.plain_brick-plain.ensures.plain
       c.plain_brick-plain.ensures.gap c.plain_brick-plain.ensures.eager c.close_brick.ensures.closed
       c.close_brick.ensures.kept;
