@@ -184,13 +184,7 @@ fn close_brick(tree: &mut OccTree, p: Place, id: GroupId, plain: Option<i32>, la
 
 /// Applies the events of an octet of a brick, which is the block of the place. The value that its
 /// freed voxels get is there where it is known from the brick.
-fn touch_octet(
-    tree: &mut OccTree,
-    p: Place,
-    update: BrickUpdate,
-    plain: Option<i32>,
-    lazy: bool,
-)
+fn touch_octet(tree: &mut OccTree, p: Place, update: BrickUpdate, plain: Option<i32>, lazy: bool)
     requires can { CanApply tree.old p 15 update }
     requires plain { IfSome plain (IsPlain tree.old p update) }
     requires eager { IfSome plain (λ _. lazy ≡ false) }
@@ -262,13 +256,7 @@ impl BrickUpdate {
     /// The value that the freed voxels of an octet get, where its group can be made with it: where
     /// some voxel stays unknown. It may be known from the brick.
     #[inline(always)]
-    fn plain_octet(
-        &self,
-        tree: &OccTree,
-        p: Place,
-        plain: Option<i32>,
-        lazy: bool,
-    ) -> Option<i32>
+    fn plain_octet(&self, tree: &OccTree, p: Place, plain: Option<i32>, lazy: bool) -> Option<i32>
         requires place { IsPlace tree.now p }
         requires brick { IsBrick self.now.brick }
         requires miss { IsSmallEvent self.now.miss }

@@ -314,9 +314,9 @@ returns c = record {
       (c.requires.inside b e)
       (elim c.else-is_none.branch [
         | else-is_none-via-then-is_none+else-is_at_rest w ↦
-          given_none c.plain_brick-plain.result w.if-is_at_rest.ensures.takes
+            given_none c.plain_brick-plain.result w.if-is_at_rest.ensures.takes
         | else-is_none-via-else-is_none w ↦
-          known_some _ c.plain_brick-plain.result (c.is_none.ensures ∙ ap not w.if-is_none.false)
+            known_some _ c.plain_brick-plain.result (c.is_none.ensures ∙ ap not w.if-is_none.false)
       ])
       c.open_brick-id.ensures
       (c.loop-rest.invariant.way b e) none.0 none.1 c.plain_brick-plain.ensures.plain
