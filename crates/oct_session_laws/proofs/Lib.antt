@@ -9,3 +9,5 @@ pub mod StateCommands
 pub mod GivenBack
 pub mod SavedRecords
 pub mod LoadedBack
+pub mod Allowed
+pub mod BlockReplies

@@ -1,2 +1,3 @@
 pub mod GivenBack
 pub mod LoadedBack
+pub mod BlockReply

@@ -7,6 +7,7 @@ ghost use Rattle.oct_values.specs.Counts.{group_count};
 ghost use Rattle.oct_io.specs.Files.{Files};
 ghost use Rattle.oct_script.specs.Lines.{Line};
 ghost use Rattle.oct_script.specs.Replies.{refusal_text};
+ghost use Rattle.oct_session_laws.specs.BlockReply.{IsBlock, RepliesOnce};
 ghost use Rattle.oct_session.specs.Refusals.{file_refusal};
 ghost use Rattle.oct_session_laws.specs.GivenBack.{IsSetUp, AreBytes, IsState};
 ghost use Rattle.oct_session_laws.specs.GivenBack.{AreSnapshotAndRestore};
@@ -14,7 +15,7 @@ ghost use Rattle.oct_session_laws.specs.GivenBack.{GivesBack};
 ghost use Rattle.oct_session.specs.Setup.{IsLimited};
 ghost use Rattle.oct_session_laws.specs.LoadedBack.{AreSaveAndLoad, LoadsBack};
 ghost use Rattle.oct_session.specs.History.{History, state_after, value_after, alone_after};
-ghost use Rattle.oct_session.specs.Session.{progress};
+ghost use Rattle.oct_session.specs.Session.{Progress, progress};
 ghost use Rattle.oct_session.specs.Setup.{Setup};
 
 /// The value of a voxel after a history is the fold of its own events, one after another, from
@@ -66,4 +67,13 @@ pub fn saves_are_loaded()
         (between : List Line) (load : Line) → IsSetUp o → IsLimited o → AreBytes files
         → AreSaveAndLoad o files name before save between load
         → LoadsBack o files before save between load }
+{}
+
+/// The block of a scan has one reply. It is the fault of its first line, where that has one, else
+/// the first fault of a line inside, in their order, of which one is a point too many; else that
+/// the quaternion is 0, and else what the map answers to the scan of all its points. A law, with
+/// nothing to compute.
+pub fn blocks_have_one_reply()
+    ensures { (o : Setup) (p : Progress) (head : Line) (inside : List Line) (last : Line)
+        → IsBlock p head inside last → RepliesOnce o p head inside last }
 {}

@@ -9,6 +9,8 @@
 //!   restore gives back what was kept and isn't refused, as long as no line between them writes
 //!   that file (`specs/GivenBack.antt`). [`saves_are_loaded`]: so does a load with the classes that
 //!   a save of its name wrote (`specs/LoadedBack.antt`).
+//! - [`blocks_have_one_reply`]: the block of a scan has one reply, and the first of its faults
+//!   decides which (`specs/BlockReply.antt`).
 //! - [`faults_read_alike`]: a faulty file is refused with the same words by a `load` and by a task
 //!   over a file.
 //!
@@ -19,6 +21,6 @@
 mod laws;
 
 pub use laws::{
-    faults_read_alike, groups_stay_within, saves_are_loaded, snapshots_are_restored,
-    states_stay_sound, values_are_folds,
+    blocks_have_one_reply, faults_read_alike, groups_stay_within, saves_are_loaded,
+    snapshots_are_restored, states_stay_sound, values_are_folds,
 };
