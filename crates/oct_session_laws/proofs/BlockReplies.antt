@@ -1,7 +1,7 @@
 -- The block of a scan has one reply, which the first of its faults decides.
 use Rattle.std.proofs.Common.{◌≡◌, ℕ, ◌+◌, List, [], ◌∷◌, ◌++◌, length, nat_le, true, false}
-use Rattle.std.proofs.Common.{cond, Option, Some, None, IsSome, is_some, Result, Ok, Err, ◌⊎◌, inl, inr}
-use Rattle.std.proofs.Common.{refl, sym, ap, subst, ◌∙◌, arith, append_assoc, append-nil}
+use Rattle.std.proofs.Common.{cond, Option, Some, None, IsSome, is_some, Result, Ok, Err, ◌⊎◌}
+use Rattle.std.proofs.Common.{inl, inr, refl, sym, ap, subst, ◌∙◌, arith, append_assoc, append-nil}
 use Rattle.std.proofs.Common.{length-append}
 use Rattle.std.specs.Option.{option_or}
 use Rattle.std.proofs.lemmas.List.Sums.{fold-append}
@@ -117,7 +117,7 @@ point_more : (number : ℕ) (lines : List Line) → Comes (number + 1) lines →
 point_more number lines comes p scan =
     let more : ScanSoFar = with_points scan (p ∷ []) in
     let count : length more.points ≡ length scan.points + 1 =
-        length-append scan.points (p ∷ []) in
+    length-append scan.points (p ∷ []) in
     comes more
     ∙ ap (λ n. block_without (first_fault (number + 1) n lines)
     (with_points more (points_in (number + 1) lines))) count
@@ -239,9 +239,9 @@ first_in o p head runs outside begins =
     let number : ℕ = p.line_count + 1 in
     let c : Result Command Refusal = next_command p head in
     let is : effect_of o p head ≡ silent (first_block number c) =
-        ap (λ block. effect p.files (state_after o p.history) number head c block) outside
-        ∙ ap (λ block. effect_opened p.files (state_after o p.history) c block)
-        (first_opens number head c begins) in
+    ap (λ block. effect p.files (state_after o p.history) number head c block) outside
+    ∙ ap (λ block. effect_opened p.files (state_after o p.history) c block)
+    (first_opens number head c begins) in
     silent_in o p p head p.line_count (first_block number c) runs refl refl refl is
     (first_runs head c begins)
 
@@ -272,10 +272,10 @@ inner_in : (o : Setup) (p q : Progress) (line : Line) (count : ℕ) (block : Blo
 inner_in o p q line count block at goes_on =
     let c : Result Command Refusal = command_on true (count + 1) line in
     let is : effect_of o q line ≡ silent (with_line (count + 1) c block) =
-        effect_in o p q line count block at
-        ∙ ap (λ b. cond b
-        (replied (block_reply (state_after o q.history) block) (block_action block) None)
-        (silent (with_line (count + 1) c block))) goes_on in
+    effect_in o p q line count block at
+    ∙ ap (λ b. cond b
+    (replied (block_reply (state_after o q.history) block) (block_action block) None)
+    (silent (with_line (count + 1) c block))) goes_on in
     silent_in o p q line count (with_line (count + 1) c block) at.running at.history at.text
     at.lines is
     (ap is_quit (next_in p q line count block at) ∙ inside_runs (count + 1) line)
@@ -289,10 +289,10 @@ all_in o p q [] count block at none =
     subst (λ n. IsIn p q n block) same at
 all_in o p q (line ∷ lines) count block at none =
     let one : IsIn p (after_line o q line) (count + 1)
-        (with_line (count + 1) (command_on true (count + 1) line) block) =
-        inner_in o p q line count block at none.0 in
+    (with_line (count + 1) (command_on true (count + 1) line) block) =
+    inner_in o p q line count block at none.0 in
     let more = all_in o p (after_line o q line) lines (count + 1)
-        (with_line (count + 1) (command_on true (count + 1) line) block) one none.1 in
+    (with_line (count + 1) (command_on true (count + 1) line) block) one none.1 in
     let same : (count + 1) + length lines ≡ count + length (line ∷ lines) = omega arith in
     subst (λ n. IsIn p (after_lines o (after_line o q line) lines) n
     (block_after (count + 1) (line ∷ lines) block)) same more
@@ -314,21 +314,22 @@ last_done o p q inside line block at ends one =
     let c : Result Command Refusal = command_on true (count + 1) line in
     let next = next_in p q line count block at in
     let is : effect_of o q line
-        ≡ replied (block_reply (state_after o p.history) block) (block_action block) None =
-        effect_in o p q line count block at
-        ∙ ap (λ b. cond b
-        (replied (block_reply (state_after o q.history) block) (block_action block) None)
-        (silent (with_line (count + 1) c block))) ends
-        ∙ ap (λ h. replied (block_reply (state_after o h) block) (block_action block) None)
-        at.history in
+    ≡ replied (block_reply (state_after o p.history) block) (block_action block) None =
+    effect_in o p q line count block at
+    ∙ ap (λ b. cond b
+    (replied (block_reply (state_after o q.history) block) (block_action block) None)
+    (silent (with_line (count + 1) c block))) ends
+    ∙ ap (λ h. replied (block_reply (state_after o h) block) (block_action block) None)
+    at.history in
     let reply : Option Reply = block_reply (state_after o p.history) block in
     let running : is_quit (next_command q line) ≡ false =
-        ap is_quit next
-        ∙ end_runs c (line_has IsInside (inl refl) true inside_forms (count + 1) line) ends in
+    ap is_quit next
+    ∙ end_runs c (line_has IsInside (inl refl) true inside_forms (count + 1) line) ends in
     let at_lines = at.lines in
     let lines : q.line_count + 1 ≡ p.line_count + (length inside + 2) =
-        omega (arith, at_lines) in
-    subst (λ x. HasOneReply p x (length inside + 2) reply) (sym (after_answered o q line at.running))
+    omega (arith, at_lines) in
+    subst (λ x. HasOneReply p x (length inside + 2) reply)
+    (sym (after_answered o q line at.running))
     (record {
       one = one;
       text = ap (λ (e : Effect). q.text ++ text_of e.reply) is
@@ -371,13 +372,13 @@ block_replies o p head inside last at =
     let q : Progress = after_line o p head in
     let block : Block = block_after (number + 1) inside (first_block number c) in
     let inner : IsIn p (after_lines o q inside) (number + length inside) block =
-        all_in o p q inside number (first_block number c)
-        (first_in o p head at.running at.outside at.begins) at.inner in
+    all_in o p q inside number (first_block number c)
+    (first_in o p head at.running at.outside at.begins) at.inner in
     let done = last_done o p (after_lines o q inside) inside last block inner at.ends
-        (some_reply s block) in
+    (some_reply s block) in
     let same : after_line o (after_lines o q inside) last
-        ≡ after_lines o p (head ∷ inside ++ last ∷ []) =
-        sym (fold-append (after_line o) q inside (last ∷ [])) in
+    ≡ after_lines o p (head ∷ inside ++ last ∷ []) =
+    sym (fold-append (after_line o) q inside (last ∷ [])) in
     subst (λ x. HasOneReply p x (length inside + 2) (reply_to_block s number c inside)) same
     (subst (λ r. HasOneReply p (after_line o (after_lines o q inside) last) (length inside + 2) r)
     (reply_is s number inside head c at.begins) done)

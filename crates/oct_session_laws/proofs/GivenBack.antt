@@ -38,7 +38,7 @@ use Rattle.oct_session.specs.FileCommands.{found_in, snapshot_file, restore_repl
 use Rattle.oct_session.specs.FileCommands.{snapshot_action, groups_reply}
 use Rattle.oct_session_laws.specs.GivenBack.{IsState, IsSetUp, AreBytes, IsNext, name_written}
 use Rattle.oct_session_laws.specs.GivenBack.{NoneWrites, AreSnapshotAndRestore, IsGivenBack}
-use Rattle.oct_session_laws.specs.GivenBack.{GivesBack}
+use Rattle.oct_session_laws.specs.GivenBack.{GivesBack, TwoLines, up_to_second, AreKeptApart}
 use Rattle.oct_session.specs.History.{State, Restored, value_event, after, after_all, state_after}
 use Rattle.oct_session.specs.History.{value_after}
 use Rattle.oct_session.specs.Session.{Progress, Effect, effect, effect_of, next_command, answered}
@@ -51,6 +51,7 @@ use Rattle.oct_session.proofs.Progresses.{progress_push, after_answered, told_fo
 use Rattle.oct_session_laws.proofs.RestoredGroups.{groups_of_snapshot}
 use Rattle.oct_session_laws.proofs.StateActions.{restored_value}
 use Rattle.oct_session_laws.proofs.StateCommands.{session_is, res_of, most_of}
+use Rattle.oct_session_laws.proofs.Telling.{Does, told_and_left}
 
 -- ---- the file that was written
 
@@ -182,10 +183,8 @@ accepted_back s t q back res room =
 
 -- and the state after it has what the other one had
 state_back : (s t : State) (q : Snapshot) → IsState s → IsReadBack s t.base.odds q
-    → (reply : Option Reply) → reply ≡ Some (reply_of.Restored (group_count s.values)) →
-    IsGivenBack s reply (after t (Restored q))
-state_back s t q is back reply replied = record {
-  answer = replied;
+    → IsGivenBack s (after t (Restored q))
+state_back s t q is back = record {
   values = λ k low.
       ap (λ (o : Odds). after_event o (Some (value_event (snapshot.values_of q k))) (t.values k))
       back.odds
@@ -231,8 +230,8 @@ given_back : (o : Setup) (p r : Progress) (line : Line) (name : List ℕ) → Is
     file_in r.files name ≡ Some (snapshot_file (state_after o p.history))
     → length (snapshot_file (state_after o p.history)) ≤ 2 ^ 30
     → IsNext r line (command.Restore name) →
-    IsGivenBack (state_after o p.history) (effect_of o r line).reply
-    (state_after o (after_line o r line).history)
+    Does o r line (reply_of.Restored (group_count (value_after o p.history)))
+    (IsGivenBack (state_after o p.history))
 given_back o p r line name set is few there short next =
     let s : State = state_after o p.history in
     let t : State = state_after o r.history in
@@ -251,28 +250,42 @@ given_back o p r line name set is few there short next =
     ap (λ (x : Progress). state_after o x.history) (after_answered o r line next.running)
     ∙ state_more o r.history (effect_of o r line).added
     ∙ ap (after_all t) added in
-    subst (IsGivenBack s (effect_of o r line).reply) (sym ends)
-    (state_back s t q is back (effect_of o r line).reply replied)
+    record {
+      answer = replied;
+      state = subst (IsGivenBack s) (sym ends) (state_back s t q is back);
+    }
+
+-- the file that was written is there until it is read
+pub file_kept : (o : Setup) (files : Files) (bytes name file : List ℕ) (t : TwoLines)
+    (first second : Command) → AreKeptApart o files bytes name t first second
+    → file_in (after_line o (progress o (Some files) t.before) t.first).files name ≡ Some file
+    → file_in (progress o (Some files) (up_to_second t)).files name ≡ Some file
+file_kept o files bytes name file t first second given written =
+    let p : Progress = progress o (Some files) t.before in
+    let pushed : progress o (Some files) (t.before ++ t.first ∷ []) ≡ after_line o p t.first =
+    progress_push o (Some files) t.before t.first in
+    ap (λ (x : Progress). file_in x.files name)
+    (fold-append (after_line o) (start (Some files)) t.before (t.first ∷ t.between))
+    ∙ kept_lines o (after_line o p t.first) t.between name file
+    (subst (λ (x : Progress). NoneWrites o name x t.between) pushed given.kept) written
 
 -- the law
-pub restore_gives_back : (o : Setup) (files : Files) (name : List ℕ) (before : List Line)
-    (first : Line) (between : List Line) (last : Line) → IsSetUp o → AreBytes files →
-    AreSnapshotAndRestore o files name before first between last
-    → GivesBack o files before first between last
-restore_gives_back o files name before first between last set small given =
-    let p : Progress = progress o (Some files) before in
-    let r : Progress = progress o (Some files) (before ++ first ∷ between) in
-    let pushed : progress o (Some files) (before ++ first ∷ []) ≡ after_line o p first =
-    progress_push o (Some files) before first in
-    let onward : r ≡ fold (after_line o) (after_line o p first) between =
-    fold-append (after_line o) (start (Some files)) before (first ∷ between) in
-    let written = written_there o p first name given.first
-    (told_fold o (start (Some files)) before refl) in
-    let there : file_in r.files name ≡ Some (snapshot_file (state_after o p.history)) =
-    ap (λ (x : Progress). file_in x.files name) onward
-    ∙ kept_lines o (after_line o p first) between name (snapshot_file (state_after o p.history))
-    (subst (λ (x : Progress). NoneWrites o name x between) pushed given.kept) written in
-    subst (λ (x : Progress). IsGivenBack (state_after o p.history) (effect_of o r last).reply
-    (state_after o x.history)) (sym (progress_push o (Some files) (before ++ first ∷ between) last))
-    (given_back o p r last name set (session_is o (Some files) before set small).state
-    (groups_within o (Some files) before) there given.loadable given.last)
+pub restore_gives_back : (o : Setup) → IsSetUp o → (files : Files) (bytes name : List ℕ)
+    (t : TwoLines) → AreBytes files → AreSnapshotAndRestore o files bytes name t
+    → GivesBack o files bytes t
+restore_gives_back o set files bytes name t small given =
+    let p : Progress = progress o (Some files) t.before in
+    let r : Progress = progress o (Some files) (up_to_second t) in
+    let lines = given.lines in
+    let written = written_there o p t.first name lines.writes
+    (told_fold o (start (Some files)) t.before refl) in
+    let there = file_kept o files bytes name (snapshot_file (state_after o p.history)) t
+    (command.Snapshot name) (command.Restore name) lines written in
+    let does = given_back o p r t.second name set
+    (session_is o (Some files) t.before set small).state (groups_within o (Some files) t.before)
+    there given.loadable lines.reads in
+    let reads = lines.reads in
+    let done = told_and_left o files bytes t
+    (reply_of.Restored (group_count (value_after o p.history)))
+    (IsGivenBack (state_after o p.history)) lines.script reads.running does in
+    record { told = done.0; left = done.1 }

@@ -6,6 +6,8 @@ pub mod Fitting
 pub mod StateActions
 pub mod SnapshotFields
 pub mod StateCommands
+pub mod SoundOdds
+pub mod Telling
 pub mod GivenBack
 pub mod SavedRecords
 pub mod LoadedBack

@@ -1,12 +1,10 @@
 -- A load gives back the classes that the save of the same name wrote.
-use Rattle.std.proofs.Common.{◌≡◌, ℕ, ◌+◌, ◌≤◌, ◌++◌, List, [], ◌∷◌, Bool, true, false, cond}
+use Rattle.std.proofs.Common.{◌≡◌, ℕ, ◌+◌, ◌≤◌, List, [], ◌∷◌, Bool, true, false, cond}
 use Rattle.std.proofs.Common.{Option, Some, None, IsSome, Result, Ok, Err, refl, sym, ap, subst}
 use Rattle.std.proofs.Common.{◌∙◌, arith}
 use Rattle.std.specs.Prelude.{int_lt, pos, ◌≤ℤ◌, ◌<ℤ◌, ⊤}
-use Rattle.std.specs.List.{fold}
 use Rattle.std.proofs.lemmas.Bool.{eq-eqb, le-ltb}
 use Rattle.std.proofs.lemmas.Int.{ints}
-use Rattle.std.proofs.lemmas.List.Sums.{fold-append}
 use Rattle.oct_bt.specs.Canonical.{canonical_data, canonical_size}
 use Rattle.oct_bt.specs.Classes.{value_for}
 use Rattle.oct_bt.specs.DataClasses.{data_classes}
@@ -36,7 +34,7 @@ use Rattle.oct_values.specs.Events.{after_event}
 use Rattle.oct_session.specs.Commands.{accepted, stored}
 use Rattle.oct_session.specs.FileCommands.{found_in, classes_file, load_reply, load_action}
 use Rattle.oct_session.specs.FileCommands.{reading_reply, reading_action, nodes_reply}
-use Rattle.oct_session_laws.specs.GivenBack.{IsState, IsSetUp, AreBytes, IsNext, NoneWrites}
+use Rattle.oct_session_laws.specs.GivenBack.{IsSetUp, IsNext, TwoLines, up_to_second}
 use Rattle.oct_session.specs.History.{State, Replaced, class_event, after, after_all, state_after}
 use Rattle.oct_session.specs.History.{value_after}
 use Rattle.oct_session.specs.Setup.{IsLimited}
@@ -46,13 +44,15 @@ use Rattle.oct_session.specs.Session.{Progress, Effect, effect, effect_of, after
 use Rattle.oct_session.specs.Session.{progress}
 use Rattle.oct_session.specs.Setup.{Setup}
 use Rattle.oct_session_laws.proofs.Fitting.{groups_within}
-use Rattle.oct_session_laws.proofs.GivenBack.{file_in, saved_there, kept_lines, effect_next}
-use Rattle.oct_session_laws.proofs.GivenBack.{found_there}
+use Rattle.oct_session_laws.proofs.GivenBack.{file_in, saved_there, effect_next}
+use Rattle.oct_session_laws.proofs.GivenBack.{found_there, file_kept}
 use Rattle.oct_session.proofs.MapHistory.{state_more, replaced_by}
-use Rattle.oct_session.proofs.Progresses.{progress_push, after_answered, told_fold}
+use Rattle.oct_session.proofs.Progresses.{after_answered, told_fold}
 use Rattle.oct_session_laws.proofs.SavedRecords.{records_few, file_few}
 use Rattle.oct_session_laws.proofs.StateActions.{bound_within}
-use Rattle.oct_session_laws.proofs.StateCommands.{session_is, res_of, most_of}
+use Rattle.oct_session_laws.proofs.SoundOdds.{odds_stay_sound}
+use Rattle.oct_session_laws.proofs.StateCommands.{res_of, most_of}
+use Rattle.oct_session_laws.proofs.Telling.{Does, told_and_left}
 
 -- ---- values and classes
 
@@ -156,13 +156,11 @@ loads files s t line number name found read answer = all
     }
 
 -- and the state after it has the classes of the other one
-state_back : (s t : State) → IsState t → (reply : Option Reply)
-    → reply ≡ Some (reply_of.Loaded (canonical_size (classes_in s))) →
-    IsLoadedBack s reply (after t (Replaced (data_classes (canonical_data (classes_in s)))))
-state_back s t is reply replied = record {
-  answer = replied;
+state_back : (s t : State) → IsSound t.base.odds
+    → IsLoadedBack s (after t (Replaced (data_classes (canonical_data (classes_in s)))))
+state_back s t sound = record {
   classes = λ k low. ap (class_of t.base.odds) (value_is k low)
-      ∙ class_back t.base.odds is.odds (classes_in s k);
+      ∙ class_back t.base.odds sound (classes_in s k);
   values = value_is;
 }
   where
@@ -173,15 +171,16 @@ state_back s t is reply replied = record {
     value_is k low =
         ap (λ (c : Class). after_event t.base.odds (Some (class_event t.base.odds c)) (t.values k))
         (data_back (classes_in s) k low)
-        ∙ value_back t.base.odds is.odds (classes_in s k) (t.values k)
+        ∙ value_back t.base.odds sound (classes_in s k) (t.values k)
 
 loaded_back : (o : Setup) (p r : Progress) (line : Line) (name : List ℕ) → IsSetUp o → IsLimited o
-    → IsState (state_after o r.history) → group_count (value_after o p.history) ≤ o.max_groups →
+    → IsSound (state_after o r.history).base.odds
+    → group_count (value_after o p.history) ≤ o.max_groups →
     file_in r.files name ≡ Some (classes_file (state_after o p.history))
     → IsNext r line (command.Load name) →
-    IsLoadedBack (state_after o p.history) (effect_of o r line).reply
-    (state_after o (after_line o r line).history)
-loaded_back o p r line name set limited is few there next =
+    Does o r line (reply_of.Loaded (canonical_size (classes_in (state_after o p.history))))
+    (IsLoadedBack (state_after o p.history))
+loaded_back o p r line name set limited sound few there next =
     let s : State = state_after o p.history in
     let t : State = state_after o r.history in
     let ok : IsResolution s.base.res = subst IsResolution (sym (res_of o p.history)) set.res in
@@ -205,29 +204,27 @@ loaded_back o p r line name set limited is few there next =
     ap (λ (x : Progress). state_after o x.history) (after_answered o r line next.running)
     ∙ state_more o r.history (effect_of o r line).added
     ∙ ap (after_all t) added in
-    subst (IsLoadedBack s (effect_of o r line).reply) (sym ends)
-    (state_back s t is (effect_of o r line).reply replied)
+    record {
+      answer = replied;
+      state = subst (IsLoadedBack s) (sym ends) (state_back s t sound);
+    }
 
 -- the law
-pub load_gives_back : (o : Setup) (files : Files) (name : List ℕ) (before : List Line)
-    (first : Line) (between : List Line) (last : Line) → IsSetUp o → IsLimited o → AreBytes files →
-    AreSaveAndLoad o files name before first between last
-    → LoadsBack o files before first between last
-load_gives_back o files name before first between last set limited small given =
-    let p : Progress = progress o (Some files) before in
-    let r : Progress = progress o (Some files) (before ++ first ∷ between) in
-    let pushed : progress o (Some files) (before ++ first ∷ []) ≡ after_line o p first =
-    progress_push o (Some files) before first in
-    let onward : r ≡ fold (after_line o) (after_line o p first) between =
-    fold-append (after_line o) (start (Some files)) before (first ∷ between) in
-    let written = written_there o p first name given.first
-    (told_fold o (start (Some files)) before refl) in
-    let there : file_in r.files name ≡ Some (classes_file (state_after o p.history)) =
-    ap (λ (x : Progress). file_in x.files name) onward
-    ∙ kept_lines o (after_line o p first) between name (classes_file (state_after o p.history))
-    (subst (λ (x : Progress). NoneWrites o name x between) pushed given.kept) written in
-    subst (λ (x : Progress). IsLoadedBack (state_after o p.history) (effect_of o r last).reply
-    (state_after o x.history)) (sym (progress_push o (Some files) (before ++ first ∷ between) last))
-    (loaded_back o p r last name set limited
-    (session_is o (Some files) (before ++ first ∷ between) set small).state
-    (groups_within o (Some files) before) there given.last)
+pub load_gives_back : (o : Setup) → IsSetUp o → IsLimited o → (files : Files)
+    (bytes name : List ℕ) (t : TwoLines) → AreSaveAndLoad o files bytes name t
+    → LoadsBack o files bytes t
+load_gives_back o set limited files bytes name t given =
+    let p : Progress = progress o (Some files) t.before in
+    let r : Progress = progress o (Some files) (up_to_second t) in
+    let written = written_there o p t.first name given.writes
+    (told_fold o (start (Some files)) t.before refl) in
+    let there = file_kept o files bytes name (classes_file (state_after o p.history)) t
+    (command.Save name) (command.Load name) given written in
+    let sound = odds_stay_sound o (Some files) (up_to_second t) set.odds in
+    let does = loaded_back o p r t.second name set limited sound
+    (groups_within o (Some files) t.before) there given.reads in
+    let reads = given.reads in
+    let done = told_and_left o files bytes t
+    (reply_of.Loaded (canonical_size (classes_in (state_after o p.history))))
+    (IsLoadedBack (state_after o p.history)) given.script reads.running does in
+    record { told = done.0; left = done.1 }

@@ -13,11 +13,13 @@ use Rattle.oct_script.specs.declared.command.Command.{Command}
 use Rattle.oct_script.specs.declared.command.Command.TheVariants.{Snapshot, Restore}
 use Rattle.oct_script.specs.declared.reply.Reply.{Reply}
 use Rattle.oct_script.specs.declared.reply.Reply.TheVariants.{Restored}
+use Rattle.oct_script.specs.Replies.{reply_text}
 use Rattle.oct_values.specs.Counts.{group_count}
 use Rattle.oct_session.specs.Commands.{Saving}
 use Rattle.oct_session.specs.FileCommands.{snapshot_file}
 use Rattle.oct_session.specs.History.{State, state_after}
 use Rattle.oct_session.specs.Session.{Progress, effect_of, next_command, after_line, progress}
+use Rattle.oct_session.specs.Session.{lines_of, last_progress, session}
 use Rattle.oct_session.specs.Setup.{Setup}
 
 -- ---- what holds between any two lines
@@ -43,7 +45,7 @@ pub record IsSetUp (o : Setup) : Type 0 where
 abbrev pub AreBytes : Files → Type 0
 AreBytes files = (name : List ℕ) → IfSome (files name) (All (λ byte. byte < 256))
 
--- ---- a snapshot, and a restore of the same name later on
+-- ---- two lines of a script
 
 -- the next line is this command, outside the block of a scan, of a session that goes on
 pub record IsNext (p : Progress) (line : Line) (command : Command) : Type 0 where
@@ -61,30 +63,65 @@ NoneWrites o name p [] = ⊤
 NoneWrites o name p (line ∷ lines) =
     (name_written o p line ≢ Some name) × NoneWrites o name (after_line o p line) lines
 
--- After some lines one is a snapshot of this name, and after more lines, whatever they do, one is
--- a restore of it. Between them no line writes the file of that name, by a snapshot or a save, and
--- the snapshot has no more bytes than a file may have that is loaded.
-pub record AreSnapshotAndRestore (o : Setup) (files : Files) (name : List ℕ) (before : List Line)
-    (snapshot : Line) (between : List Line) (restore : Line) : Type 0 where
-  pub first : IsNext (progress o (Some files) before) snapshot (Snapshot name)
-  pub kept : NoneWrites o name (progress o (Some files) (before ++ snapshot ∷ [])) between
-  pub last : IsNext (progress o (Some files) (before ++ snapshot ∷ between)) restore (Restore name)
-  pub loadable :
-      length (snapshot_file (state_after o (progress o (Some files) before).history)) ≤ 2 ^ 30
+-- two lines of a script, with the lines before, between and after them
+pub record TwoLines : Type 0 where
+  pub before : List Line
+  pub first : Line
+  pub between : List Line
+  pub second : Line
+  pub after : List Line
 
--- A restore isn't refused, and replies with the groups that the values need which were there when
--- the snapshot was written; after it each voxel has the value that it had then, and the log-odds
--- and the box to which scans are restricted are those of then.
-pub record IsGivenBack (old : State) (reply : Option Reply) (new : State) : Type 0 where
-  pub answer : reply ≡ Some (Restored (group_count old.values))
+-- the lines before the second one
+abbrev pub up_to_second : TwoLines → List Line
+up_to_second t = t.before ++ t.first ∷ t.between
+
+-- all of them
+abbrev pub lines_in : TwoLines → List Line
+lines_in t = up_to_second t ++ t.second ∷ t.after
+
+-- The lines of a script: one of them is this command, and a later one that command. Between them no
+-- line writes the file of this name, by a snapshot or a save.
+pub record AreKeptApart (o : Setup) (files : Files) (bytes name : List ℕ) (t : TwoLines)
+    (first second : Command) : Type 0 where
+  pub script : lines_of o bytes ≡ lines_in t
+  pub writes : IsNext (progress o (Some files) t.before) t.first first
+  pub kept : NoneWrites o name (progress o (Some files) (t.before ++ t.first ∷ [])) t.between
+  pub reads : IsNext (progress o (Some files) (up_to_second t)) t.second second
+
+-- the state before the first line
+abbrev pub state_then : Setup → Files → TwoLines → State
+state_then o files t = state_after o (progress o (Some files) t.before).history
+
+-- the state that a session over these bytes leaves, for which its map then stands
+abbrev pub last_state : Setup → Files → List ℕ → State
+last_state o files bytes = state_after o (last_progress o (Some files) bytes).history
+
+-- the text of a session over these bytes has this reply to the second line, right behind the
+-- replies to all lines before it
+pub record RepliesTo (o : Setup) (files : Files) (bytes : List ℕ) (t : TwoLines) (reply : Reply)
+    : Type 0 where
+  pub more : List ℕ
+  pub text : (session o (Some files) bytes).text
+      ≡ (progress o (Some files) (up_to_second t)).text ++ (reply_text reply ++ more)
+
+-- ---- a snapshot, and a restore of the same name later on
+
+-- One line is a snapshot of this name, and a later one a restore of it. The snapshot has no more
+-- bytes than a file may have that is loaded.
+pub record AreSnapshotAndRestore (o : Setup) (files : Files) (bytes name : List ℕ) (t : TwoLines)
+    : Type 0 where
+  pub lines : AreKeptApart o files bytes name t (Snapshot name) (Restore name)
+  pub loadable : length (snapshot_file (state_then o files t)) ≤ 2 ^ 30
+
+-- each voxel has the value that it had then, and the log-odds and the box to which scans are
+-- restricted are those of then
+pub record IsGivenBack (old new : State) : Type 0 where
   pub values : SameValues new.values old.values
   pub odds : new.base.odds ≡ old.base.odds
   pub update_box : new.base.update_box ≡ old.base.update_box
 
--- what the restore after these lines gives back
-abbrev pub GivesBack : Setup → Files → List Line → Line → List Line → Line → Type 0
-GivesBack o files before snapshot between restore = IsGivenBack
-    (state_after o (progress o (Some files) before).history)
-    (effect_of o (progress o (Some files) (before ++ snapshot ∷ between)) restore).reply
-    (state_after o
-    (progress o (Some files) ((before ++ snapshot ∷ between) ++ restore ∷ [])).history)
+-- The restore isn't refused, and replies with the groups that the values need which were there when
+-- the snapshot was written. Where it is the last line, all is given back in the end.
+pub record GivesBack (o : Setup) (files : Files) (bytes : List ℕ) (t : TwoLines) : Type 0 where
+  pub told : RepliesTo o files bytes t (Restored (group_count (state_then o files t).values))
+  pub left : t.after ≡ [] → IsGivenBack (state_then o files t) (last_state o files bytes)

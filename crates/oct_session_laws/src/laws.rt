@@ -10,13 +10,13 @@ ghost use Rattle.oct_script.specs.Replies.{refusal_text};
 ghost use Rattle.oct_session_laws.specs.BlockReply.{IsBlock, RepliesOnce};
 ghost use Rattle.oct_session.specs.Refusals.{file_refusal};
 ghost use Rattle.oct_session_laws.specs.GivenBack.{IsSetUp, AreBytes, IsState};
-ghost use Rattle.oct_session_laws.specs.GivenBack.{AreSnapshotAndRestore};
-ghost use Rattle.oct_session_laws.specs.GivenBack.{GivesBack};
-ghost use Rattle.oct_session.specs.Setup.{IsLimited};
+ghost use Rattle.oct_session_laws.specs.GivenBack.{TwoLines, AreSnapshotAndRestore, GivesBack};
 ghost use Rattle.oct_session_laws.specs.LoadedBack.{AreSaveAndLoad, LoadsBack};
 ghost use Rattle.oct_session.specs.History.{History, state_after, value_after, alone_after};
 ghost use Rattle.oct_session.specs.Session.{Progress, progress};
-ghost use Rattle.oct_session.specs.Setup.{Setup};
+ghost use Rattle.oct_session.specs.Setup.{Setup, IsLimited};
+
+use oct_session::Options;
 
 /// The value of a voxel after a history is the fold of its own events, one after another, from
 /// unknown on: what other voxels have is not read. A law, with nothing to compute.
@@ -39,35 +39,52 @@ pub fn groups_stay_within()
         → group_count (value_after o (progress o files lines).history) ≤ o.max_groups }
 {}
 
+/// What the type of the options keeps: a resolution and log-odds that make a model, and limits in
+/// their ranges.
+fn keep(options: &Options)
+    ensures set_up { IsSetUp options.now }
+    ensures limited { IsLimited options.now }
+{
+    options.res.nm();
+}
+
 /// Between any two lines of a session its log-odds make a model, the box to which scans are
 /// restricted lies in the map, and each known value lies within the bounds. A law, with nothing to
 /// compute.
-pub fn states_stay_sound()
-    ensures { (o : Setup) (files : Option Files) (lines : List Line) → IsSetUp o
-        → IfSome files AreBytes → IsState (state_after o (progress o files lines).history) }
-{}
+pub fn states_stay_sound(options: &Options)
+    ensures { (files : Option Files) (lines : List Line) → IfSome files AreBytes
+        → IsState (state_after options.now (progress options.now files lines).history) }
+{
+    keep(options);
+}
 
 /// A restore gives back what the snapshot of that name kept, and isn't refused, whatever stands
-/// between them: scans, edits, a clear, loads, other files, other log-odds. Every voxel has the
-/// value that it had at the snapshot, and the session goes by the log-odds and the box of then. A
-/// law, with nothing to compute.
-pub fn snapshots_are_restored()
-    ensures { (o : Setup) (files : Files) (name : List ℕ) (before : List Line) (snapshot : Line)
-        (between : List Line) (restore : Line) → IsSetUp o → AreBytes files
-        → AreSnapshotAndRestore o files name before snapshot between restore
-        → GivesBack o files before snapshot between restore }
-{}
+/// between them: scans, edits, a clear, loads, other files, other log-odds. Its reply, in the text
+/// of the session, has the number of groups of then; and where it is the last line, every voxel has
+/// the value that it had at the snapshot, and the session goes by the log-odds and the box of then.
+/// The files that are there at first are of bytes, which a store does not say of those that it
+/// tells: a file of other numbers could set a box that no snapshot can hold. A law, with nothing to
+/// compute.
+pub fn snapshots_are_restored(options: &Options)
+    ensures { (files : Files) (bytes name : List ℕ) (t : TwoLines) → AreBytes files
+        → AreSnapshotAndRestore options.now files bytes name t
+        → GivesBack options.now files bytes t }
+{
+    keep(options);
+}
 
 /// A load gives back the classes that the save of that name wrote, and isn't refused, whatever
-/// stands between them: scans, edits, a clear, loads, other files, other log-odds. The reply has
-/// the number of nodes of the file that was saved, and each voxel has the class that it had at the
-/// save, with a value that is as sure of it as can be. A law, with nothing to compute.
-pub fn saves_are_loaded()
-    ensures { (o : Setup) (files : Files) (name : List ℕ) (before : List Line) (save : Line)
-        (between : List Line) (load : Line) → IsSetUp o → IsLimited o → AreBytes files
-        → AreSaveAndLoad o files name before save between load
-        → LoadsBack o files before save between load }
-{}
+/// stands between them: scans, edits, a clear, loads, other files, other log-odds. Its reply, in
+/// the text of the session, has the number of nodes of the file that was saved; and where it is the
+/// last line, each voxel has the class that it had at the save, with a value that is as sure of it
+/// as can be. A law, with nothing to compute.
+pub fn saves_are_loaded(options: &Options)
+    ensures { (files : Files) (bytes name : List ℕ) (t : TwoLines)
+        → AreSaveAndLoad options.now files bytes name t
+        → LoadsBack options.now files bytes t }
+{
+    keep(options);
+}
 
 /// The block of a scan has one reply. It is the fault of its first line, where that has one, else
 /// the first fault of a line inside, in their order, of which one is a point too many; else that

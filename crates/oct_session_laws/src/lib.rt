@@ -5,10 +5,11 @@
 //! - [`states_stay_sound`], [`groups_stay_within`]: between any two lines the log-odds in force
 //!   make a model, each known value lies within the bounds, and the values need no more groups than
 //!   the limit.
-//! - [`snapshots_are_restored`]: whatever stands between a snapshot and a restore of its name, the
-//!   restore gives back what was kept and isn't refused, as long as no line between them writes
-//!   that file (`specs/GivenBack.antt`). [`saves_are_loaded`]: so does a load with the classes that
-//!   a save of its name wrote (`specs/LoadedBack.antt`).
+//! - [`snapshots_are_restored`]: whatever stands in a script between a snapshot and a restore of
+//!   its name, the restore isn't refused and what was kept is given back, where no line between
+//!   them writes that file (`specs/GivenBack.antt`). [`saves_are_loaded`]: so does a load with the
+//!   classes that a save of its name wrote (`specs/LoadedBack.antt`). Both take the options of a
+//!   session, and speak of its bytes, files and text as a caller of `serve` has them.
 //! - [`blocks_have_one_reply`]: the block of a scan has one reply, and the first of its faults
 //!   decides which (`specs/BlockReply.antt`).
 //! - [`faults_read_alike`]: a faulty file is refused with the same words by a `load` and by a task

@@ -1,0 +1,176 @@
+-- The log-odds in force stay a model, whatever numbers the files hold.
+use Rattle.std.proofs.Common.{◌≡◌, ℕ, ◌+◌, List, [], ◌∷◌, true, false, cond, Option, Some}
+use Rattle.std.proofs.Common.{None, Result, Ok, Err, refl, sym, subst}
+use Rattle.std.specs.Prelude.{⊤}
+use Rattle.std.specs.List.{fold}
+use Rattle.oct_bt.specs.File.{FileRead, reading}
+use Rattle.oct_bt.specs.declared.fault.BtFault.{BtFault}
+use Rattle.oct_io.specs.Files.{Files}
+use Rattle.oct_io.specs.declared.store.Loaded.{Loaded}
+use Rattle.oct_io.specs.declared.store.Loaded.TheVariants.{Bytes, Missing, TooLarge}
+use Rattle.oct_odds.specs.Odds.{Odds, IsSound}
+use Rattle.oct_script.specs.Lines.{Line}
+use Rattle.oct_script.specs.Replies.{is_refusal}
+use Rattle.oct_script.specs.declared.command.Command.{Command}
+use Rattle.oct_script.specs.declared.command.Command.TheVariants as command
+use Rattle.oct_script.specs.declared.reply.Refusal.{Refusal}
+use Rattle.oct_script.specs.declared.reply.Reply.{Reply}
+use Rattle.oct_snap.specs.Reading.{Snapshot, read_snapshot}
+use Rattle.oct_snap.specs.declared.fault.SnapFault.{SnapFault}
+use Rattle.oct_session.specs.Commands.{reply, action_of, accepted}
+use Rattle.oct_session.specs.FileCommands.{found_in, load_action, reading_action, restore_action}
+use Rattle.oct_session.specs.FileCommands.{snapshot_action}
+use Rattle.oct_session.specs.History.{History, State, Action, Edited, Boxed, Scanned, Refreshed}
+use Rattle.oct_session.specs.History.{Pruned, Cleared, Likened, Replaced, Restored, Tracked}
+use Rattle.oct_session.specs.History.{Untracked, Limited, Unlimited, after, after_all, state_after}
+use Rattle.oct_session.specs.ScanBlock.{opened, with_line, is_end, block_reply, block_action}
+use Rattle.oct_session.specs.Session.{Progress, Effect, effect, effect_of, effect_opened}
+use Rattle.oct_session.specs.Session.{next_command, answered, after_line, start, progress, replied}
+use Rattle.oct_session.specs.Session.{silent}
+use Rattle.oct_session.specs.Setup.{Setup}
+use Rattle.oct_session.specs.declared.block.Block.{Block}
+use Rattle.oct_session.specs.declared.block.Block.TheVariants.{Scanning, Spoilt}
+use Rattle.oct_session.proofs.MapHistory.{state_more}
+use Rattle.oct_session_laws.proofs.SnapshotFields.{snapshot_fine}
+
+-- the log-odds in force make a model
+abbrev IsModel : State → Type 0
+IsModel s = IsSound s.base.odds
+
+-- only the restore of a snapshot changes them, which has log-odds of its own
+abbrev IsFine : Action → Type 0
+IsFine (Restored q) = IsSound q.head.odds
+IsFine other = ⊤
+
+abbrev AreFine : History → Type 0
+AreFine [] = ⊤
+AreFine (a ∷ h) = IsFine a × AreFine h
+
+action_kept : (s : State) (a : Action) → IsFine a → IsModel s → IsModel (after s a)
+action_kept s (Edited p e lazy) fine is = is
+action_kept s (Boxed low high e) fine is = is
+action_kept s (Scanned seen lazy) fine is = is
+action_kept s Refreshed fine is = is
+action_kept s Pruned fine is = is
+action_kept s Cleared fine is = is
+action_kept s Likened fine is = is
+action_kept s (Replaced classes) fine is = is
+action_kept s (Restored q) fine is = fine
+action_kept s Tracked fine is = is
+action_kept s Untracked fine is = is
+action_kept s (Limited low high) fine is = is
+action_kept s Unlimited fine is = is
+
+actions_kept : (s : State) (h : History) → AreFine h → IsModel s → IsModel (after_all s h)
+actions_kept s [] fine is = is
+actions_kept s (a ∷ h) fine is =
+    actions_kept (after s a) h fine.1 (action_kept s a fine.0 is)
+
+-- ---- what a command does
+
+reading_fine : (read : Result FileRead BtFault) → AreFine (reading_action read)
+reading_fine (Err fault) = tt
+reading_fine (Ok file) = (tt, tt)
+
+load_fine : (found : Option Loaded) → AreFine (load_action found)
+load_fine None = tt
+load_fine (Some Missing) = tt
+load_fine (Some TooLarge) = tt
+load_fine (Some (Bytes bytes)) = reading_fine (reading bytes)
+
+snapshot_are_fine : (o : Odds) (bytes : List ℕ) (read : Result Snapshot SnapFault) → IsSound o
+    → read_snapshot o bytes ≡ read → AreFine (snapshot_action read)
+snapshot_are_fine o bytes (Err fault) sound is = tt
+snapshot_are_fine o bytes (Ok q) sound is = ((snapshot_fine o bytes q sound is).0, tt)
+
+restore_fine : (s : State) (found : Option Loaded) → IsModel s
+    → AreFine (restore_action s.base found)
+restore_fine s None is = tt
+restore_fine s (Some Missing) is = tt
+restore_fine s (Some TooLarge) is = tt
+restore_fine s (Some (Bytes bytes)) is =
+    snapshot_are_fine s.base.odds bytes (read_snapshot s.base.odds bytes) is refl
+
+command_fine : (files : Option Files) (s : State) (c : Result Command Refusal) → IsModel s
+    → AreFine (action_of files s c)
+command_fine files s (Err refusal) is = tt
+command_fine files s (Ok command.Blank) is = tt
+command_fine files s (Ok (command.Edit p e lazy)) is = (tt, tt)
+command_fine files s (Ok (command.Box low high e)) is = (tt, tt)
+command_fine files s (Ok (command.Scan head)) is = tt
+command_fine files s (Ok (command.Beam p)) is = tt
+command_fine files s (Ok command.End) is = tt
+command_fine files s (Ok (command.Get p depth)) is = tt
+command_fine files s (Ok (command.Cast o e ignore)) is = tt
+command_fine files s (Ok command.Counts) is = (tt, tt)
+command_fine files s (Ok command.Refresh) is = (tt, tt)
+command_fine files s (Ok command.Prune) is = (tt, tt)
+command_fine files s (Ok command.Clear) is = (tt, tt)
+command_fine files s (Ok command.MaxLikelihood) is = (tt, tt)
+command_fine files s (Ok command.Quit) is = tt
+command_fine files s (Ok (command.Save name)) is = tt
+command_fine files s (Ok (command.Load name)) is = load_fine (found_in files name)
+command_fine files s (Ok (command.Snapshot name)) is = tt
+command_fine files s (Ok (command.Restore name)) is = restore_fine s (found_in files name) is
+command_fine files s (Ok (command.List low high depth)) is = tt
+command_fine files s (Ok command.Track) is = (tt, tt)
+command_fine files s (Ok command.Untrack) is = (tt, tt)
+command_fine files s (Ok command.Changes) is = tt
+command_fine files s (Ok (command.Limit low high)) is = (tt, tt)
+command_fine files s (Ok command.NoLimit) is = (tt, tt)
+
+accepted_fine : (r : Option Reply) (h : History) → AreFine h → AreFine (accepted r h)
+accepted_fine r h fine =
+    elim (is_refusal r) as (λ b. AreFine (cond {A = History} b [] h)) [ true ↦ tt | false ↦ fine ]
+
+block_fine : (block : Block) → AreFine (block_action block)
+block_fine (Spoilt refusal) = tt
+block_fine (Scanning scan) = (tt, tt)
+
+opened_fine : (files : Option Files) (s : State) (c : Result Command Refusal)
+    (block : Option Block) → IsModel s → AreFine (effect_opened files s c block).added
+opened_fine files s c None is =
+    accepted_fine (reply files s c) (action_of files s c) (command_fine files s c is)
+opened_fine files s c (Some block) is = tt
+
+effect_fine : (files : Option Files) (s : State) (number : ℕ) (line : Line)
+    (c : Result Command Refusal) (block : Option Block) → IsModel s
+    → AreFine (effect files s number line c block).added
+effect_fine files s number line c None is = opened_fine files s c (opened number line c) is
+effect_fine files s number line c (Some block) is =
+    elim (is_end c) as (λ b. AreFine
+    (cond {A = Effect} b (replied (block_reply s block) (block_action block) None)
+    (silent (with_line number c block))).added) [
+      | true ↦ accepted_fine (block_reply s block) (block_action block) (block_fine block)
+      | false ↦ tt
+    ]
+
+-- ---- lines
+
+-- the log-odds in force between two lines make a model
+abbrev IsModelAt : Setup → Progress → Type 0
+IsModelAt o p = IsModel (state_after o p.history)
+
+answered_kept : (o : Setup) (p : Progress) (line : Line) → IsModelAt o p
+    → IsModelAt o (answered o p line)
+answered_kept o p line is =
+    let s : State = state_after o p.history in
+    subst IsModel (sym (state_more o p.history (effect_of o p line).added))
+    (actions_kept s (effect_of o p line).added
+    (effect_fine p.files s (p.line_count + 1) line (next_command p line) p.block is) is)
+
+line_kept : (o : Setup) (p : Progress) (line : Line) → IsModelAt o p
+    → IsModelAt o (after_line o p line)
+line_kept o p line is = elim p.has_quit as (λ v. IsModelAt o (cond v p (answered o p line)))
+    [ true ↦ is | false ↦ answered_kept o p line is ]
+
+lines_kept : (o : Setup) (p : Progress) (lines : List Line) → IsModelAt o p
+    → IsModelAt o (fold (after_line o) p lines)
+lines_kept o p [] is = is
+lines_kept o p (line ∷ lines) is =
+    lines_kept o (after_line o p line) lines (line_kept o p line is)
+
+-- between any two lines of a session
+pub odds_stay_sound : (o : Setup) (files : Option Files) (lines : List Line) → IsSound o.odds
+    → IsSound (state_after o (progress o files lines).history).base.odds
+odds_stay_sound o files lines sound = lines_kept o (start files) lines sound
