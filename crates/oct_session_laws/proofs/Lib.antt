@@ -13,3 +13,4 @@ pub mod SavedRecords
 pub mod LoadedBack
 pub mod Allowed
 pub mod BlockReplies
+pub mod Summed

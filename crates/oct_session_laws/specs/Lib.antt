@@ -1,3 +1,4 @@
 pub mod GivenBack
 pub mod LoadedBack
 pub mod BlockReply
+pub mod Sums

@@ -11,6 +11,8 @@ ghost use Rattle.oct_session_laws.specs.BlockReply.{IsBlock, RepliesOnce};
 ghost use Rattle.oct_session.specs.Refusals.{file_refusal};
 ghost use Rattle.oct_session_laws.specs.GivenBack.{IsSetUp, AreBytes, IsState};
 ghost use Rattle.oct_session_laws.specs.GivenBack.{TwoLines, AreSnapshotAndRestore, GivesBack};
+ghost use Rattle.oct_session_laws.specs.Sums.{IsSummed, drill_replies};
+ghost use Rattle.oct_session.specs.Drill.{drilled};
 ghost use Rattle.oct_session_laws.specs.LoadedBack.{AreSaveAndLoad, LoadsBack};
 ghost use Rattle.oct_session.specs.History.{History, state_after, value_after, alone_after};
 ghost use Rattle.oct_session.specs.Session.{Progress, progress};
@@ -93,4 +95,12 @@ pub fn saves_are_loaded(options: &Options)
 pub fn blocks_have_one_reply()
     ensures { (o : Setup) (p : Progress) (head : Line) (inside : List Line) (last : Line)
         → IsBlock p head inside last → RepliesOnce o p head inside last }
+{}
+
+/// What a drill tells of its replies are plain sums over them: how many were refused, how many
+/// voxels the scans hit, and how many they freed; or 2^64 - 1 where a sum is more. A law, with
+/// nothing to compute.
+pub fn drills_sum_up()
+    ensures { (seed scans points : ℕ)
+        → IsSummed (drilled seed scans points).tally (drill_replies seed scans points) }
 {}

@@ -12,6 +12,7 @@
 //!   session, and speak of its bytes, files and text as a caller of `serve` has them.
 //! - [`blocks_have_one_reply`]: the block of a scan has one reply, and the first of its faults
 //!   decides which (`specs/BlockReply.antt`).
+//! - [`drills_sum_up`]: what a drill tells of its replies are sums over them (`specs/Sums.antt`).
 //! - [`faults_read_alike`]: a faulty file is refused with the same words by a `load` and by a task
 //!   over a file.
 //!
@@ -22,6 +23,6 @@
 mod laws;
 
 pub use laws::{
-    blocks_have_one_reply, faults_read_alike, groups_stay_within, saves_are_loaded,
+    blocks_have_one_reply, drills_sum_up, faults_read_alike, groups_stay_within, saves_are_loaded,
     snapshots_are_restored, states_stay_sound, values_are_folds,
 };
