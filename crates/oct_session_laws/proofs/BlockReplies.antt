@@ -17,12 +17,12 @@ use Rattle.oct_script.specs.declared.reply.Refusal.TheVariants.{TooManyPoints}
 use Rattle.oct_script.specs.declared.reply.Reply.{Reply}
 use Rattle.oct_session_laws.specs.BlockReply.{BeginsBlock, NoneEnds, IsBlock, points_of, points_in}
 use Rattle.oct_session_laws.specs.BlockReply.{line_fault, first_fault, reply_unless, reply_to_block}
-use Rattle.oct_session_laws.specs.BlockReply.{HasOneReply, RepliesOnce}
-use Rattle.oct_session.specs.Commands.{command_on, is_quit}
-use Rattle.oct_session.specs.History.{State, state_after}
+use Rattle.oct_session_laws.specs.BlockReply.{done_for_block, HasOneReply, RepliesOnce}
+use Rattle.oct_session.specs.Commands.{command_on, is_quit, accepted}
+use Rattle.oct_session.specs.History.{History, State, Scanned, state_after}
 use Rattle.oct_session.specs.ScanBlock.{opened, opens_block, with_line, is_end}
 use Rattle.oct_session.specs.ScanBlock.{block_reply, block_action}
-use Rattle.oct_session.specs.ScanSoFar.{ScanSoFar, begun}
+use Rattle.oct_session.specs.ScanSoFar.{ScanSoFar, begun, sighting_so_far}
 use Rattle.oct_session.specs.Session.{Progress, Effect, effect, effect_inside, effect_opened}
 use Rattle.oct_session.specs.Session.{effect_of, next_command, after_line, after_lines}
 use Rattle.oct_session.specs.Session.{replied, silent}
@@ -309,6 +309,7 @@ last_done : (o : Setup) (p q : Progress) (inside : List Line) (line : Line) (blo
     → IsSome (block_reply (state_after o p.history) block) →
     HasOneReply p (after_line o q line) (length inside + 2)
     (block_reply (state_after o p.history) block)
+    (accepted (block_reply (state_after o p.history) block) (block_action block))
 last_done o p q inside line block at ends one =
     let count : ℕ = p.line_count + 1 + length inside in
     let c : Result Command Refusal = command_on true (count + 1) line in
@@ -328,12 +329,15 @@ last_done o p q inside line block at ends one =
     let at_lines = at.lines in
     let lines : q.line_count + 1 ≡ p.line_count + (length inside + 2) =
     omega (arith, at_lines) in
-    subst (λ x. HasOneReply p x (length inside + 2) reply)
+    let actions : History = accepted reply (block_action block) in
+    subst (λ x. HasOneReply p x (length inside + 2) reply actions)
     (sym (after_answered o q line at.running))
     (record {
       one = one;
       text = ap (λ (e : Effect). q.text ++ text_of e.reply) is
           ∙ ap (λ text. text ++ text_of reply) at.text;
+      history = ap (λ (e : Effect). q.history ++ e.added) is
+          ∙ ap (λ h. h ++ actions) at.history;
       closed = ap (λ (e : Effect). e.block) is;
       running = running;
       lines = lines;
@@ -362,6 +366,28 @@ reply_is s number inside line = of_first line
     ∙ unless_is s (first_fault (number + 1) 0 inside)
     (with_points (begun number head) (points_in (number + 1) inside)))
 
+-- what a block comes to, where it does what its reply says
+abbrev done_by : State → Block → History
+done_by s block = accepted (block_reply s block) (block_action block)
+
+done_unless : (s : State) (f : Option Refusal) (scan : ScanSoFar)
+    → done_by s (block_without f scan)
+    ≡ accepted (reply_unless f s scan) (Scanned (sighting_so_far scan) scan.head.lazy ∷ [])
+done_unless s None scan = refl
+done_unless s (Some r) scan = refl
+
+done_is : (s : State) (number : ℕ) (inside : List Line) (line : Line)
+    (c : Result Command Refusal) → BeginsBlock c line →
+    done_by s (block_after (number + 1) inside (first_block number c))
+    ≡ done_for_block s number c inside
+done_is s number inside line = of_first line
+    (λ c. done_by s (block_after (number + 1) inside (first_block number c))
+    ≡ done_for_block s number c inside)
+    (λ r begins. ap (done_by s) (spoilt_stays (number + 1) inside r))
+    (λ head. ap (done_by s) (comes (number + 1) inside (begun number head))
+    ∙ done_unless s (first_fault (number + 1) 0 inside)
+    (with_points (begun number head) (points_in (number + 1) inside)))
+
 -- a block has one reply
 pub block_replies : (o : Setup) (p : Progress) (head : Line) (inside : List Line) (last : Line)
     → IsBlock p head inside last → RepliesOnce o p head inside last
@@ -379,6 +405,9 @@ block_replies o p head inside last at =
     let same : after_line o (after_lines o q inside) last
     ≡ after_lines o p (head ∷ inside ++ last ∷ []) =
     sym (fold-append (after_line o) q inside (last ∷ [])) in
-    subst (λ x. HasOneReply p x (length inside + 2) (reply_to_block s number c inside)) same
-    (subst (λ r. HasOneReply p (after_line o (after_lines o q inside) last) (length inside + 2) r)
-    (reply_is s number inside head c at.begins) done)
+    subst (λ x. HasOneReply p x (length inside + 2) (reply_to_block s number c inside)
+    (done_for_block s number c inside)) same
+    (subst (λ h. HasOneReply p (after_line o (after_lines o q inside) last) (length inside + 2)
+    (reply_to_block s number c inside) h) (done_is s number inside head c at.begins)
+    (subst (λ r. HasOneReply p (after_line o (after_lines o q inside) last) (length inside + 2) r
+    (done_by s block)) (reply_is s number inside head c at.begins) done))

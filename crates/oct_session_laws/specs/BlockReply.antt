@@ -7,14 +7,15 @@ use Rattle.oct_script.specs.Lines.{Line}
 use Rattle.oct_script.specs.Replies.{text_of}
 use Rattle.oct_script.specs.declared.command.Command.{Command}
 use Rattle.oct_script.specs.declared.command.Command.TheVariants.{Scan, Beam}
+use Rattle.oct_script.specs.declared.command.ScanHead.{ScanHead}
 use Rattle.oct_script.specs.declared.reply.Refusal.{Refusal}
 use Rattle.oct_script.specs.declared.reply.Refusal.TheVariants.{TooManyPoints}
 use Rattle.oct_script.specs.declared.reply.Reply.{Reply}
 use Rattle.oct_script.specs.declared.reply.Reply.TheVariants.{Refused}
-use Rattle.oct_session.specs.Commands.{command_on}
-use Rattle.oct_session.specs.History.{State, state_after}
+use Rattle.oct_session.specs.Commands.{command_on, accepted}
+use Rattle.oct_session.specs.History.{History, State, Scanned, state_after}
 use Rattle.oct_session.specs.ScanBlock.{opens_block, is_end, block_reply}
-use Rattle.oct_session.specs.ScanSoFar.{ScanSoFar}
+use Rattle.oct_session.specs.ScanSoFar.{ScanSoFar, sighting_so_far}
 use Rattle.oct_session.specs.Session.{Progress, after_lines, next_command}
 use Rattle.oct_session.specs.Setup.{Setup}
 use Rattle.oct_session.specs.declared.block.Block.TheVariants.{Scanning}
@@ -77,29 +78,44 @@ abbrev pub reply_unless : Option Refusal → State → ScanSoFar → Option Repl
 reply_unless (Some refusal) s scan = Some (Refused refusal)
 reply_unless None s scan = block_reply s (Scanning scan)
 
+-- the scan of a block whose head is on the line of this number, with the points of the lines inside
+abbrev pub scan_in : ℕ → ScanHead → List Line → ScanSoFar
+scan_in number head inside =
+    record { line = number; head = head; points = points_in (number + 1) inside }
+
 -- the reply to a block in a state, by the command of its first line, which has this number, and the
 -- lines inside: the first line's own fault, else the first fault of a line inside, else what the
 -- scan of all points comes to
 abbrev pub reply_to_block : State → ℕ → Result Command Refusal → List Line → Option Reply
 reply_to_block s number (Err refusal) inside = Some (Refused refusal)
 reply_to_block s number (Ok (Scan head)) inside =
-    reply_unless (first_fault (number + 1) 0 inside) s (record {
-      line = number;
-      head = head;
-      points = points_in (number + 1) inside;
-    })
+    reply_unless (first_fault (number + 1) 0 inside) s (scan_in number head inside)
 reply_to_block s number (Ok other) inside = None
 
--- a block of so many lines has one reply, this one, and is closed behind them
-pub record HasOneReply (p q : Progress) (count : ℕ) (reply : Option Reply) : Type 0 where
+-- the scan of all points of a block
+abbrev pub scan_of_block : ℕ → Result Command Refusal → List Line → History
+scan_of_block number (Ok (Scan head)) inside =
+    Scanned (sighting_so_far (scan_in number head inside)) head.lazy ∷ []
+scan_of_block number other inside = []
+
+-- what is done for a block in a state: that scan, unless the reply is a refusal
+abbrev pub done_for_block : State → ℕ → Result Command Refusal → List Line → History
+done_for_block s number command inside =
+    accepted (reply_to_block s number command inside) (scan_of_block number command inside)
+
+-- a block of so many lines has one reply, this one, has done this, and is closed behind them
+pub record HasOneReply (p q : Progress) (count : ℕ) (reply : Option Reply) (actions : History)
+    : Type 0 where
   pub one : IsSome reply
   pub text : q.text ≡ p.text ++ text_of reply
+  pub history : q.history ≡ p.history ++ actions
   pub closed : q.block ≡ None
   pub running : q.has_quit ≡ false
   pub lines : q.line_count ≡ p.line_count + count
 
--- what a session says of a block
+-- what a session says of a block, and does for it
 abbrev pub RepliesOnce : Setup → Progress → Line → List Line → Line → Type 0
 RepliesOnce o p head inside last =
     HasOneReply p (after_lines o p (head ∷ inside ++ last ∷ [])) (length inside + 2)
     (reply_to_block (state_after o p.history) (p.line_count + 1) (next_command p head) inside)
+    (done_for_block (state_after o p.history) (p.line_count + 1) (next_command p head) inside)

@@ -90,8 +90,8 @@ pub fn saves_are_loaded(options: &Options)
 
 /// The block of a scan has one reply. It is the fault of its first line, where that has one, else
 /// the first fault of a line inside, in their order, of which one is a point too many; else that
-/// the quaternion is 0, and else what the map answers to the scan of all its points. A law, with
-/// nothing to compute.
+/// the quaternion is 0, and else what the map answers to the scan of all its points. Where it isn't
+/// a refusal that scan is done, and else nothing. A law, with nothing to compute.
 pub fn blocks_have_one_reply()
     ensures { (o : Setup) (p : Progress) (head : Line) (inside : List Line) (last : Line)
         → IsBlock p head inside last → RepliesOnce o p head inside last }

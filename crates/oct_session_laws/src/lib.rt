@@ -11,7 +11,7 @@
 //!   classes that a save of its name wrote (`specs/LoadedBack.antt`). Both take the options of a
 //!   session, and speak of its bytes, files and text as a caller of `serve` has them.
 //! - [`blocks_have_one_reply`]: the block of a scan has one reply, and the first of its faults
-//!   decides which (`specs/BlockReply.antt`).
+//!   decides which; it is done as a whole or not at all (`specs/BlockReply.antt`).
 //! - [`drills_sum_up`]: what a drill tells of its replies are sums over them (`specs/Sums.antt`).
 //! - [`faults_read_alike`]: a faulty file is refused with the same words by a `load` and by a task
 //!   over a file.
