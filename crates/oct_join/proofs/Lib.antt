@@ -3,3 +3,4 @@ pub mod Whole
 pub mod Walks
 pub mod Classes
 pub mod Closings
+pub mod Counting

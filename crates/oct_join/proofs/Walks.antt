@@ -467,7 +467,7 @@ product_fits codes unit code n is few =
     subst (λ (m : ℕ). codes + unit * m < 65536) (sym is) few in
     (omega (arith, all), omega (arith, all))
 
-ends : (es : Entries) (d n : ℕ) → n ≡ 0 → AreEntries d n es → es ≡ End
+pub ends : (es : Entries) (d n : ℕ) → n ≡ 0 → AreEntries d n es → es ≡ End
 ends End d n none are = refl
 ends (Plain c es) d zero none are = absurd are
 ends (Plain c es) d (suc n) none are = absurd (omega (arith, none))

@@ -1,3 +1,4 @@
 pub mod Merged
 pub mod Joined
 pub mod Sides
+pub mod Tabled

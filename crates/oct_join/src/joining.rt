@@ -65,7 +65,7 @@ fn close_map(code: u16, out: &mut Vec<u8>) -> Result<(), Memory>
 }
 
 /// The code of the whole map in a file with this node data.
-fn root_code(codes: &[u8]) -> u16
+pub(crate) fn root_code(codes: &[u8]) -> u16
     ensures { result ≡ (if nat_eq (length codes.now) 0 then 0 else 3) }
 {
     if codes.is_empty() { 0 } else { 3 }
@@ -132,7 +132,7 @@ fn join_block(
 
 /// Whether a block has a record in one of the files at least.
 #[inline(always)]
-fn is_parted(a: u16, b: u16) -> bool
+pub(crate) fn is_parted(a: u16, b: u16) -> bool
     ensures { IsTrue result ↔ ((a ≡ 3) ⊎ (b ≡ 3)) }
 {
     a == 3 || b == 3
@@ -140,7 +140,7 @@ fn is_parted(a: u16, b: u16) -> bool
 
 /// The codes of a block's children: those of its record, or its own for each.
 #[inline(always)]
-fn side_codes(code: u16, text: &[u8]) -> u16
+pub(crate) fn side_codes(code: u16, text: &[u8]) -> u16
     requires { (depth : ℕ) × (r : Entries) × (tail : List ℕ) × IsSide depth code r
         × (text.now ≡ side_text code r ++ tail) }
     ensures { (depth : ℕ) (r : Entries) (tail : List ℕ) → IsSide depth code r
@@ -163,7 +163,7 @@ fn eight_times(code: u16) -> u16
 
 /// How many bytes a block's own record has.
 #[inline(always)]
-fn record_bytes(code: u16) -> usize
+pub(crate) fn record_bytes(code: u16) -> usize
     ensures { result ≡ (if nat_eq code 3 then 2 else 0) }
 {
     if code == 3 { 2 } else { 0 }

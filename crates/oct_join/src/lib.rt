@@ -16,12 +16,19 @@
 //! it is taken off again, and the block is of that class. So what was appended for a block is its
 //! canonical data. Room for as many bytes as both files have is asked for once.
 //!
-//! The recursion is at most 16 deep. The program stands on it, for its task `merge` over two files.
+//! [`tabulate`] counts how many voxels of a box have which classes in the two files, by a walk of
+//! the same kind: a block of one class in each file is counted as a whole, and the records of a
+//! block that doesn't meet the box are passed over. It takes no memory.
+//!
+//! The recursions are at most 16 deep. The program stands on them, for its tasks `merge` and
+//! `table` over two files.
 #![tactic(auto)]
 
 mod codes;
 mod joining;
 mod laws;
+mod table;
 
 pub use joining::join;
 pub use laws::merged_classes_are_exact;
+pub use table::tabulate;
