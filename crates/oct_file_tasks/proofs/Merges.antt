@@ -3,24 +3,19 @@ use Rattle.std.proofs.Common.{◌≡◌, ℕ, ◌≤◌, ◌^◌, List, ◌++◌
 use Rattle.std.proofs.Common.{Ok, Err, inl, inr, sym, ◌∙◌, ap}
 use Rattle.std.proofs.Common.{le_trans}
 use Rattle.std.proofs.Math.Path.{fun_ext}
-use Rattle.std.specs.Prelude.{◌&&◌, ◌⊎◌, nat_eq, map}
+use Rattle.std.specs.Prelude.{◌⊎◌}
 use Rattle.oct_key.specs.Voxel.{Voxel, IsInMap}
-use Rattle.oct_key.specs.Block.{Cube, root_block, HoldsVoxel}
-use Rattle.oct_key.specs.Boxes.{Corners, is_in_box}
-use Rattle.oct_key.proofs.Blocks.{root_in_map}
-use Rattle.oct_key.proofs.Held.{held_in_map}
+use Rattle.oct_key.specs.Block.{Cube}
+use Rattle.oct_key.specs.Boxes.{Corners}
 use Rattle.oct_odds.specs.Odds.{Odds, default_odds}
 use Rattle.oct_odds.specs.Update.{class_of, Value}
 use Rattle.oct_tree.specs.Changes.{IsGrown}
 use Rattle.oct_tree.specs.Tree.{Tree, value_at}
-use Rattle.oct_values.specs.Blocks.{voxels_of}
 use Rattle.oct_values.specs.Classes.{Classes, classes_of}
-use Rattle.oct_values.proofs.Held.{all_held}
-use Rattle.oct_values.proofs.Sums.{All-follows, count_by-same}
 use Rattle.oct_merge.specs.declared.rule.Rule.{Rule}
 use Rattle.oct_join.specs.Merged.{merged_classes}
 use Rattle.oct_join.proofs.Classes.{class_merged}
-use Rattle.oct_merge.specs.Pairs.{pair_of, is_counted, pairs_in, places, pair_counts}
+use Rattle.oct_merge.specs.Pairs.{pair_counts}
 use Rattle.oct_bt.specs.Canonical.{canonical_data, canonical_size, node_total}
 use Rattle.oct_bt.specs.Classes.{value_for}
 use Rattle.oct_bt.specs.DataClasses.{data_classes}
@@ -83,45 +78,14 @@ joined_file rule pair file res codes nodes =
 
 -- ---- the table
 
--- the counts depend on the classes of the map's voxels alone
-same_pairs : (lo hi : Voxel) (a b c d : Classes) (n : ℕ) → ((k : Voxel) → IsInMap k → a k ≡ c k)
-    → ((k : Voxel) → IsInMap k → b k ≡ d k)
-    → pairs_in lo hi a b n root_block ≡ pairs_in lo hi c d n root_block
-unfolding pairs_in
-same_pairs lo hi a b c d n first second =
-    count_by-same (is_counted lo hi a b n) (is_counted lo hi c d n) (voxels_of root_block)
-    (All-follows (HoldsVoxel root_block) (λ k. is_counted lo hi a b n k ≡ is_counted lo hi c d n k)
-    (voxels_of root_block)
-    (λ k there. ap (λ class. is_in_box lo hi k && nat_eq (pair_of class (b k)) n)
-    (first k (held_in_map root_block k root_in_map there))
-    ∙ ap (λ class. is_in_box lo hi k && nat_eq (pair_of (c k) class) n)
-    (second k (held_in_map root_block k root_in_map there)))
-    (all_held root_block root_in_map))
-
-pub same_counts : (lo hi : Voxel) (a b c d : Classes) → ((k : Voxel) → IsInMap k → a k ≡ c k)
-    → ((k : Voxel) → IsInMap k → b k ≡ d k)
-    → pair_counts lo hi a b ≡ pair_counts lo hi c d
-unfolding pair_counts
-same_counts lo hi a b c d first second =
-    let same : (λ (n : ℕ). pairs_in lo hi a b n root_block)
-    ≡ (λ (n : ℕ). pairs_in lo hi c d n root_block) =
-    fun_ext (λ n. same_pairs lo hi a b c d n first second) in
-    ap (λ (f : ℕ → ℕ). map f places) same
-
--- the lines of what two such trees count
-pub rows_told : (pair : Pair) (box : Corners) (lo hi : Voxel) (a b : Tree) (counts : List ℕ)
-    → counts ≡ pair_counts lo hi (classes_of a.odds (value_at a)) (classes_of b.odds (value_at b))
-    → lo ≡ box.lo → hi ≡ box.hi
-    → ((k : Voxel) → IsInMap k → classes_of a.odds (value_at a) k ≡ data_classes pair.first.codes k)
-    → ((k : Voxel) → IsInMap k
-    → classes_of b.odds (value_at b) k ≡ data_classes pair.second.codes k)
-    → table_rows counts ≡ table_text pair box
-rows_told pair box lo hi a b counts exact at_lo at_hi first second =
-    ap table_rows (exact ∙ ap
-    (λ (l : Voxel). pair_counts l hi (classes_of a.odds (value_at a))
-    (classes_of b.odds (value_at b))) at_lo
-    ∙ ap (λ (h : Voxel). pair_counts box.lo h (classes_of a.odds (value_at a))
-    (classes_of b.odds (value_at b))) at_hi
-    ∙ same_counts box.lo box.hi (classes_of a.odds (value_at a)) (classes_of b.odds (value_at b))
-    (data_classes pair.first.codes) (data_classes pair.second.codes) first second)
+-- the lines of what is counted of two files
+pub rows_told : (pair : Pair) (box : Corners) (lo hi : Voxel) (counts : List ℕ)
+    → counts ≡ pair_counts lo hi (data_classes pair.first.codes) (data_classes pair.second.codes)
+    → lo ≡ box.lo → hi ≡ box.hi → table_rows counts ≡ table_text pair box
+rows_told pair box lo hi counts exact at_lo at_hi =
+    ap table_rows (exact
+    ∙ ap (λ (l : Voxel). pair_counts l hi (data_classes pair.first.codes)
+    (data_classes pair.second.codes)) at_lo
+    ∙ ap (λ (h : Voxel). pair_counts box.lo h (data_classes pair.first.codes)
+    (data_classes pair.second.codes)) at_hi)
     ∙ rows_are_table pair box

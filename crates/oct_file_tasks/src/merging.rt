@@ -12,7 +12,6 @@ ghost use Rattle.oct_file_tasks.specs.OverStore.{EndsOverStore};
 ghost use Rattle.oct_file_tasks.specs.Refusals.{box_between, refused};
 ghost use Rattle.oct_file_tasks.specs.TwoFiles.{loads_of, AreFit};
 
-use crate::file_tree::tree_of;
 use crate::pair_text::{no_pair_text, table_text};
 use crate::refusal::{Refusal, box_between, line_of};
 use crate::store_task::{PairTask, StoreTask};
@@ -20,9 +19,9 @@ use crate::two_files::{NoPair, Pair, load_pair};
 use oct_bt::rewrite;
 use oct_ending::{Status, status_written};
 use oct_io::{Sink, SinkFault, Store, StoreFault, write_all};
-use oct_join::join;
+use oct_join::{join, tabulate};
 use oct_key::{Point, Window};
-use oct_merge::{Rule, class_table};
+use oct_merge::Rule;
 use oct_num::Memory;
 use std::alloc::Global;
 
@@ -135,9 +134,7 @@ fn table_of(alloc: Global, pair: &Pair, zone: Window) -> Result<Vec<u8>, Memory>
     requires order { IsBox zone.lo zone.hi }
     ensures { IfOk result (λ text. text.items ≡ table_text pair.now zone) }
 {
-    let first = tree_of(alloc, &pair.first)?;
-    let second = tree_of(alloc, &pair.second)?;
-    let table = class_table(&first, &second, zone.lo(), zone.hi());
+    let table = tabulate(&pair.first, &pair.second, zone.lo(), zone.hi());
     table_text(alloc, &table)
 }
 

@@ -5,7 +5,6 @@ use Rattle.oct_file_tasks.proofs.merging.table_of.Goals as goal
 pub returns : goal.returns
 returns c =
     subst (λ (rows : List ℕ). IfOk c.table_text.result (λ text. text.items ≡ rows))
-    (rows_told c.args.pair.now c.args.zone c.lo.result c.hi.result c.in_ok-first.first
-    c.in_ok-second.second c.class_table-table.result.counts
-    c.class_table-table.ensures.exact c.lo.ensures c.hi.ensures c.in_ok-first.ensures.classes
-    c.in_ok-second.ensures.classes) c.table_text.ensures
+    (rows_told c.args.pair.now c.args.zone c.lo.result c.hi.result
+    c.tabulate-table.result.counts c.tabulate-table.ensures.exact c.lo.ensures c.hi.ensures)
+    c.table_text.ensures
