@@ -61,7 +61,8 @@ pub fn states_stay_sound(options: &Options)
 }
 
 /// A restore gives back what the snapshot of that name kept, and isn't refused, whatever stands
-/// between them: scans, edits, a clear, loads, other files, other log-odds. Its reply, in the text
+/// between them: scans, edits, a clear, loads, other files, other log-odds. No line between writes
+/// that file, and the snapshot has at most `2^30` bytes. Its reply, in the text
 /// of the session, has the number of groups of then; and where it is the last line, every voxel has
 /// the value that it had at the snapshot, and the session goes by the log-odds and the box of then.
 /// The files that are there at first are of bytes, which a store does not say of those that it
@@ -76,7 +77,8 @@ pub fn snapshots_are_restored(options: &Options)
 }
 
 /// A load gives back the classes that the save of that name wrote, and isn't refused, whatever
-/// stands between them: scans, edits, a clear, loads, other files, other log-odds. Its reply, in
+/// stands between them: scans, edits, a clear, loads, other files, other log-odds, as long as no
+/// line between writes that file. Its reply, in
 /// the text of the session, has the number of nodes of the file that was saved; and where it is the
 /// last line, each voxel has the class that it had at the save, with a value that is as sure of it
 /// as can be. A law, with nothing to compute.

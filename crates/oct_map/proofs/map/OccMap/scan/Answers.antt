@@ -1,5 +1,6 @@
 use Rattle.std.proofs.Common.{◌≡◌, ◌+◌, ◌||◌, ◌≤◌, length, Err, refl, sym, subst, ap, ◌∙◌, arith}
-use Rattle.std.proofs.Common.{rules}
+use Rattle.std.proofs.Common.{rules, ℤ, SFits, w32, to_z, of_z, to_z-of_z}
+use Rattle.oct_odds.specs.declared.event.Event.{Event}
 use Rattle.oct_odds.specs.declared.event.Event.TheVariants.{Add}
 use Rattle.oct_values.specs.Events.{Events}
 use Rattle.oct_arena.specs.Entries.{live, spare}
@@ -29,10 +30,17 @@ use Rattle.oct_map.proofs.Scans.{IsPrepared, prepared, room_for, made_few, event
 use Rattle.oct_map.proofs.Scans.{listed_point}
 use Rattle.oct_map.proofs.map.OccMap.scan.Goals as goal
 
+-- what a number adds that is handed on
+abbrev added : ℤ → Event
+added n = Add (to_z w32 (of_z w32 n))
+
+added_as : (n : ℤ) (event : Event) → SFits w32 n → Add n ≡ event → added n ≡ event
+added_as n event fits is = ap Add (to_z-of_z fits) ∙ is
+
 -- the update, and its events
 abbrev given : goal.After-drop-set-inside-2 → ListedUpdate
-given c = update_of c.bricks-bricks.result.now (Add c.odds_of_scan-hit.result.0)
-    (Add c.odds_of_scan-hit.result.1)
+given c = update_of c.bricks-bricks.result.now (added c.odds_of_scan-hit.result.0)
+    (added c.odds_of_scan-hit.result.1)
 
 abbrev update : goal.After-drop-set-inside-2 → Events
 update c = events_of (given c)
@@ -41,14 +49,14 @@ update c = events_of (given c)
 ready : (c : goal.After-drop-set-inside-2)
     → IsPrepared c.args.self.now (sighting_of c.args.scan.now)
     (hit_voxels c.bricks-bricks.result.now) (freed_voxels c.bricks-bricks.result.now)
-    (Add c.odds_of_scan-hit.result.0) (Add c.odds_of_scan-hit.result.1) c.from.result
+    (added c.odds_of_scan-hit.result.0) (added c.odds_of_scan-hit.result.1) c.from.result
 ready c =
     prepared c.args.self.now _ (sighting_of c.args.scan.now) (listed c.in_ok-set.set)
     (hit_voxels c.bricks-bricks.result.now) (freed_voxels c.bricks-bricks.result.now) c.res.result
-    c.window-window.result (Add c.odds_of_scan-hit.result.0) (Add c.odds_of_scan-hit.result.1) _
+    c.window-window.result (added c.odds_of_scan-hit.result.0) (added c.odds_of_scan-hit.result.1) _
     c.from.result
-    c.self.view_is c.res.ensures (search rules) c.odds.ensures c.odds_of_scan-hit.ensures.hit
-    c.odds_of_scan-hit.ensures.miss (search rules) (search rules) (search rules)
+    c.self.view_is c.res.ensures (search rules) c.odds.ensures (added_as c.odds_of_scan-hit.result.0 _ (search rules) c.odds_of_scan-hit.ensures.hit)
+    (added_as c.odds_of_scan-hit.result.1 _ (search rules) c.odds_of_scan-hit.ensures.miss) (search rules) (search rules) (search rules)
     c.in_ok-set.ensures.events c.in_ok-set.ensures.needed
 
 -- the map that making room left
@@ -123,10 +131,10 @@ pub touch_all-requires-clause-room : goal.touch_all-requires-clause-room
 touch_all-requires-clause-room c =
     let ready = prepared c.args.self.now _ (sighting_of c.args.scan.now) (listed c.in_ok-set.set)
     (hit_voxels c.bricks-bricks.result.now) (freed_voxels c.bricks-bricks.result.now) c.res.result
-    c.window-window.result (Add c.odds_of_scan-hit.result.0) (Add c.odds_of_scan-hit.result.1) _
+    c.window-window.result (added c.odds_of_scan-hit.result.0) (added c.odds_of_scan-hit.result.1) _
     c.from.result
-    c.self.view_is c.res.ensures (search rules) c.odds.ensures c.odds_of_scan-hit.ensures.hit
-    c.odds_of_scan-hit.ensures.miss (search rules) (search rules) (search rules)
+    c.self.view_is c.res.ensures (search rules) c.odds.ensures (added_as c.odds_of_scan-hit.result.0 _ (search rules) c.odds_of_scan-hit.ensures.hit)
+    (added_as c.odds_of_scan-hit.result.1 _ (search rules) c.odds_of_scan-hit.ensures.miss) (search rules) (search rules) (search rules)
     c.in_ok-set.ensures.events c.in_ok-set.ensures.needed in
     let room : c.from.result ≤ spare c.self-2.inside.tree.groups =
     subst (λ (m : Map). c.from.result ≤ spare m.tree.groups) (sym c.self-2.view_is)
