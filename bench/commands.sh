@@ -42,16 +42,16 @@ after_scans() {
 
 : >"$folder/nothing"
 python3 "$here/make_commands.py" edits >"$folder/edits"
-measure edits "$(count nothing)" "$(count edits)" 100000 2900
+measure edits "$(count nothing)" "$(count edits)" 100000 2250
 scans=$(count scans)
 after_scans gets
-measure gets "$scans" "$(count gets)" 20000 1700
+measure gets "$scans" "$(count gets)" 20000 1420
 after_scans list
-measure 'blocks of a list' "$scans" "$(count list)" 1000000 300
+measure 'blocks of a list' "$scans" "$(count list)" 1000000 220
 after_scans casts
-measure casts "$scans" "$(count casts)" 1000 3500
+measure casts "$scans" "$(count casts)" 1000 2950
 after_scans ignoring
-measure 'casts that ignore unknown voxels' "$scans" "$(count ignoring)" 1000 26000
+measure 'casts that ignore unknown voxels' "$scans" "$(count ignoring)" 1000 25000
 # The bytes that the script of this kind saved.
 saved() {
     awk '/^saved/ { print $2 }' "$folder/$1.replies"

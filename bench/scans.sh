@@ -5,7 +5,7 @@
 
 set -eu
 
-most_instructions=140000000
+most_instructions=105000000
 most_kilobytes=24576
 most_growth=4
 
