@@ -1,3 +1,4 @@
+//! Groups under ids: taken from a list of vacant entries, and put back in front of it.
 ghost use Rattle.std.specs.Prelude.{◌≡◌, ℕ, ◌+◌, ◌-◌, ◌*◌, ◌<◌, ◌≤◌, ◌^◌, [], ◌++◌, length};
 ghost use Rattle.std.specs.Prelude.{slice_set, Some, None, OnOk, OnErr, IsOk, max, pos};
 ghost use Rattle.oct_arena.specs.declared.node.Node.TheVariants.{Inner};

@@ -1,3 +1,4 @@
+//! Memory for 1,024 groups that never moves.
 ghost use Rattle.std.specs.Prelude.{◌≡◌, ◌+◌, ◌<◌, ◌≤◌, ◌^◌, length, replicate, slice_set, Some};
 ghost use Rattle.std.specs.Prelude.{None, IfOk};
 ghost use Rattle.oct_arena.specs.Entries.{entry, with_node};

@@ -1,3 +1,4 @@
+//! Eight nodes and the block that they divide, or a vacant entry that links the next one.
 ghost use Rattle.std.specs.Prelude.{◌≡◌, ◌≤◌, ◌↔◌, IsTrue, length, Some};
 ghost use Rattle.oct_key.specs.Block.{child_of};
 ghost use Rattle.oct_arena.specs.Entries.{node_of};

@@ -1,3 +1,4 @@
+//! A block packed into one number, so that its children are a few sums away.
 ghost use Rattle.std.specs.Prelude.{◌≡◌, ◌+◌, ◌*◌, ◌/◌, ◌%◌, ◌^◌, ◌≤◌};
 ghost use Rattle.oct_key.specs.Block.{child_of};
 ghost use Rattle.oct_key.specs.CubeOf.{cube_of};

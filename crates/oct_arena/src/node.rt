@@ -1,3 +1,4 @@
+//! What is known of a block: nothing, one value, or a group of its children.
 ghost use Rattle.std.specs.Prelude.{◌≡◌, ◌<◌, ◌+◌, ◌*◌, ◌/◌, ◌%◌, ◌^◌, ◌↔◌, IsTrue};
 ghost use Rattle.std.specs.Int.{cast_signed, cast_unsigned};
 ghost use Rattle.std.proofs.Common.{w32};

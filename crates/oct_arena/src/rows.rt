@@ -1,3 +1,4 @@
+//! The groups of all chunks, numbered through.
 ghost use Rattle.std.specs.Prelude.{◌≡◌, ◌<◌, ◌≤◌, ◌^◌, [], length, slice_set, Some, OnOk, OnErr};
 ghost use Rattle.oct_arena.specs.Entries.{entry, with_node};
 ghost use Rattle.oct_arena.specs.Chunks.{HasGrown};

@@ -1,3 +1,4 @@
+//! Sixty-four voxels side by side, as two masks.
 ghost use Rattle.std.specs.Prelude.{◌≡◌, ℕ, ◌-◌, bit_and, ◌*◌, ◌/◌, ◌%◌, ◌^◌, ◌<◌, ◌≤◌, ◌↔◌, ◌⊎◌};
 ghost use Rattle.oct_key.specs.Voxel.{Voxel};
 ghost use Rattle.oct_key.specs.Block.{child_index_of};

@@ -1,3 +1,4 @@
+//! Bricks sorted by their codes, those of one code joined.
 ghost use Rattle.std.specs.Prelude.{ℕ, ◌≤◌, ◌↔◌, All, Contains, IfOk, vec_len};
 ghost use Rattle.oct_brick.specs.Bricks.{scanned_codes, hit_codes, IsBrick, AreAscending};
 

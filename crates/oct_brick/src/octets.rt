@@ -1,3 +1,4 @@
+//! How many blocks of eight voxels a mask reaches.
 ghost use Rattle.std.specs.Prelude.{◌≡◌, ◌≤◌};
 ghost use Rattle.oct_brick.specs.Masks.{octet_count};
 

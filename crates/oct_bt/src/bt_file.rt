@@ -1,3 +1,4 @@
+//! What a file says once it was read: its resolution, its records and its number of nodes.
 ghost use Rattle.std.specs.Prelude.{◌≡◌, ◌↔◌, IsTrue, count_by};
 ghost use Rattle.oct_key.specs.Block.{root_block};
 ghost use Rattle.oct_odds.specs.declared.event.Class.TheVariants.{Free, Occupied};

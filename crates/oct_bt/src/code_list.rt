@@ -1,3 +1,4 @@
+//! The records of a file as the bytes that they stand in.
 ghost use Rattle.std.specs.Prelude.{◌≡◌, ◌<◌, ◌^◌, ◌++◌, [], ◌∷◌, length, OnErr, OnOk};
 
 use oct_num::Memory;

@@ -1,3 +1,5 @@
+//! What keeps bytes from being a file of classes, in their header or in their records.
+
 use oct_num::Memory;
 use thiserror::Error;
 

@@ -1,3 +1,4 @@
+//! Node data and the classes of voxels determine each other, and refusals have one cause each.
 ghost use Rattle.std.specs.Prelude.{◌≡◌, ◌≤◌, ◌<◌, ◌++◌, ◌↔◌, ℕ, List, length, take, Ok, Err, Some};
 ghost use Rattle.std.specs.Prelude.{◌+◌, ◌⊎◌, Result, drop, true};
 ghost use Rattle.std.specs.List.{All};

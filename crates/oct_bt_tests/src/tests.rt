@@ -1,3 +1,4 @@
+//! Files of few voxels, read in pieces, refused for each fault, and made trees.
 ghost use Rattle.std.specs.Prelude.{◌<◌};
 
 use oct_bt::{BtFault, BtFile, HeaderWord, Reader, fill, push_fault, write};

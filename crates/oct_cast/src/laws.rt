@@ -1,3 +1,4 @@
+//! What is computed along a segment is the first voxel that stops it.
 ghost use Rattle.std.specs.Prelude.{ℕ, Bool, IsSome};
 ghost use Rattle.oct_key.specs.Voxel.{IsResolution, key_at};
 ghost use Rattle.oct_key.specs.declared.point.Point.{Point};

@@ -1,3 +1,5 @@
+//! What stops a straight way, or that nothing does.
+
 use oct_key::Key;
 
 /// What a cast finds.

@@ -1,3 +1,4 @@
+//! The voxels of a segment, asked one after another until one stops it.
 ghost use Rattle.std.specs.Prelude.{◌≡◌, IsSome, Some, false};
 ghost use Rattle.oct_key.specs.Voxel.{Voxel, key_at};
 ghost use Rattle.oct_odds.specs.Odds.{odds_of};

@@ -1,3 +1,4 @@
+//! Casts past free, occupied and unknown voxels, in trees of one node, one group and two.
 ghost use Rattle.std.specs.Prelude.{◌≡◌, None};
 ghost use Rattle.oct_odds.specs.Odds.{odds_of, IsSmall};
 ghost use Rattle.oct_odds.specs.Update.{IsWithin};

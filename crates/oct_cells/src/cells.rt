@@ -1,3 +1,4 @@
+//! A block of memory, the cells in it, and the right to give it back.
 ghost use Rattle.std.specs.Prelude.{◌≡◌, ℕ, ◌<◌, List, Option, Some, None, length, replicate};
 ghost use Rattle.std.specs.Prelude.{slice_index_or, slice_set, IfOk, ⊤};
 ghost use Rattle.std.specs.Borrow.{sem};

@@ -1,3 +1,4 @@
+//! What voxels counted as before they changed, and which of them count as something else now.
 ghost use Rattle.std.specs.Prelude.{◌≡◌, ◌+◌, ◌-◌, ◌<◌, ◌≤◌, ◌++◌, ◌∷◌, [], length, max, IsOk};
 ghost use Rattle.std.specs.Prelude.{OnOk, OnErr, IfOk, map, vec_len, vec_capacity};
 ghost use Rattle.std.specs.BTreeMap.{IsOrdered, get};

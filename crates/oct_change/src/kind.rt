@@ -1,3 +1,4 @@
+//! In which of four ways a voxel's class may change.
 ghost use Rattle.std.specs.Prelude.{◌≡◌};
 ghost use Rattle.oct_change.specs.Changes.{kind_between};
 

@@ -1,3 +1,4 @@
+//! The voxels that a report names, as a list.
 ghost use Rattle.std.specs.Prelude.{◌≡◌, ◌++◌, ◌∷◌, [], OnErr, OnOk};
 
 use crate::kind::Change;

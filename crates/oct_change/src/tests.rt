@@ -1,3 +1,4 @@
+//! Reports of single edits, scans and boxes, and the room that is made for notes.
 ghost use Rattle.std.specs.Prelude.{◌≡◌, None};
 ghost use Rattle.oct_odds.specs.Odds.{odds_of, IsSmall};
 ghost use Rattle.oct_odds.specs.Update.{IsWithin};

@@ -1,3 +1,4 @@
+//! An event on each voxel of a box, block by block, and the groups that it may need.
 ghost use Rattle.std.specs.Prelude.{◌≡◌, ◌+◌, ◌^◌, ◌≤◌, ◌≤ℤ◌, ◌↔◌, IsTrue, IsSome, None, Some};
 ghost use Rattle.std.specs.Prelude.{false, ◌&&◌};
 ghost use Rattle.oct_key.specs.Voxel.{Voxel, IsInMap};

@@ -1,3 +1,4 @@
+//! The events of a scan on all its voxels, in one pass over the tree.
 ghost use Rattle.std.specs.Prelude.{◌≡◌, ◌+◌, ◌-◌, ◌*◌, ◌/◌, ◌%◌, ◌^◌, ◌==◌, true, bit_and, ◌≤◌};
 ghost use Rattle.std.specs.Prelude.{◌≤ℤ◌, ◌<◌, ◌⊎◌, [], All, Bool, IsTrue, IsSome, IfSome, IfNone};
 ghost use Rattle.std.specs.Prelude.{Some, None, false};

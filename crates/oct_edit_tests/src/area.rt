@@ -1,3 +1,4 @@
+//! Boxes of equal events, with the groups and values that they leave.
 ghost use Rattle.std.specs.Prelude.{◌≡◌, IfOk};
 ghost use Rattle.oct_odds.specs.Update.{IsSmallEvent};
 ghost use Rattle.oct_values.specs.Boxes as boxes;

@@ -1,3 +1,4 @@
+//! Scans of two bricks beside edits of their voxels one by one.
 ghost use Rattle.std.specs.Prelude.{◌≤◌, IfOk};
 ghost use Rattle.oct_odds.specs.Update.{IsSmallEvent};
 ghost use Rattle.oct_odds.specs.declared.event.Event.{Event};

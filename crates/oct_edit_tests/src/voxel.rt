@@ -1,3 +1,4 @@
+//! Edits of single voxels: eager and lazy ones, at the bounds, and what is pruned after them.
 ghost use Rattle.std.specs.Prelude.{IfOk};
 ghost use Rattle.oct_odds.specs.Update.{IsSmallEvent};
 ghost use Rattle.oct_tree.specs.Shape.{IsWellFormed};

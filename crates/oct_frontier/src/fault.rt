@@ -1,3 +1,4 @@
+//! Why a frontier isn't listed.
 ghost use Rattle.std.specs.Prelude.{◌≡◌};
 ghost use Rattle.oct_frontier.specs.declared.fault.FrontierFault.TheVariants.{Memory};
 

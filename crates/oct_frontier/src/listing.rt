@@ -1,3 +1,4 @@
+//! The free voxels of a box beside unknown ones, counted first and then listed.
 ghost use Rattle.std.specs.Prelude.{◌≡◌, ◌<◌, ◌≤◌, length, IsOk, IfOk, IfErr};
 ghost use Rattle.oct_key.specs.Block.{root_block};
 ghost use Rattle.oct_key.specs.Boxes.{IsBox};

@@ -1,3 +1,4 @@
+//! Frontiers of boxes, single voxels and whole maps, and limits on them.
 ghost use Rattle.std.specs.Prelude.{◌≡◌, ◌<◌, ◌≤◌, IfOk};
 ghost use Rattle.oct_odds.specs.Update.{IsSmallEvent};
 ghost use Rattle.oct_values.specs.Boxes as boxes;

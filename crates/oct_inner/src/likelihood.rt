@@ -1,3 +1,4 @@
+//! Every known voxel made certain, as one edit of the whole map.
 ghost use Rattle.std.specs.Prelude.{◌≡◌, ◌+◌, ◌≤◌, Some};
 ghost use Rattle.oct_key.specs.Values.{SameValues};
 ghost use Rattle.oct_odds.specs.declared.event.Event.{Event};

@@ -1,3 +1,4 @@
+//! Groups that say no more than one node, given back from the voxels up.
 ghost use Rattle.std.specs.Prelude.{◌≡◌, Some};
 ghost use Rattle.oct_key.specs.Block.{Cube};
 ghost use Rattle.oct_tree.specs.Tree.{IsPlace, block_in, value_at};

@@ -1,3 +1,4 @@
+//! Inner values made right again after lazy edits.
 ghost use Rattle.std.specs.Prelude.{◌≡◌, Some};
 ghost use Rattle.oct_key.specs.Block.{Cube};
 ghost use Rattle.oct_tree.specs.Tree.{IsPlace, block_in, value_at};

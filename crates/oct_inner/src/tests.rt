@@ -1,3 +1,4 @@
+//! Stale and unpruned trees before and after each pass.
 ghost use Rattle.std.specs.Prelude.{◌≡◌, ◌≤◌, Some, IfOk, IfSome};
 ghost use Rattle.oct_key.specs.Block.{Cube};
 ghost use Rattle.oct_odds.specs.Odds.{IsSmall};

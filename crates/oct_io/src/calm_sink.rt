@@ -1,3 +1,4 @@
+//! Bytes written to memory in short pieces without a failure.
 ghost use Rattle.std.specs.Prelude.{◌≡◌, ◌<◌, ◌≤◌, ◌++◌, [], Some, length, min, take, IfOk};
 ghost use Rattle.std.specs.Prelude.{IsOkUnless, OnErr};
 ghost use Rattle.oct_io.specs.Counts.{IsWriteCounted};

@@ -1,3 +1,4 @@
+//! Bytes in memory, read in short pieces without a failure.
 ghost use Rattle.std.specs.Prelude.{◌≡◌, ◌<◌, ◌≤◌, [], Some, drop, length, min, take, IfOk};
 
 use crate::file_bytes::FileBytes;

@@ -1,3 +1,4 @@
+//! Files in memory that load and save without a failure.
 ghost use Rattle.std.specs.Prelude.{◌≡◌, Some, IfOk, IsOkUnless, IsSome, OnErr, OnOk};
 ghost use Rattle.std.specs.Prelude.{option_copied};
 

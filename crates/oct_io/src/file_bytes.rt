@@ -1,3 +1,4 @@
+//! The bytes of a whole file.
 ghost use Rattle.std.specs.Prelude.{◌≡◌, ◌↔◌, ◌++◌, ◌∷◌, [], length, IfOk, IsTrue, OnErr, OnOk};
 
 use oct_num::Memory;

@@ -1,3 +1,4 @@
+//! The files of the current folder, where a save is whole or leaves the old bytes.
 ghost use Rattle.std.specs.Prelude.{◌≡◌, ◌↔◌, Some, None, Ok, Err, IfOk};
 ghost use Rattle.std.specs.IoError.{error_kind};
 ghost use Rattle.oct_io.specs.Counts.{IsAskCounted};

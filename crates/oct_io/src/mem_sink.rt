@@ -1,3 +1,4 @@
+//! Bytes written to memory, where chosen writes fail.
 ghost use Rattle.std.specs.Prelude.{◌≡◌, ◌<◌, ◌≤◌, ◌++◌, [], Some, Err, length, min, take};
 ghost use Rattle.std.specs.Prelude.{IfOk, OnErr, IsErrOf, true};
 ghost use Rattle.oct_io.specs.Counts.{IsWriteCounted};

@@ -1,3 +1,4 @@
+//! Bytes in memory, of which chosen reads fail.
 ghost use Rattle.std.specs.Prelude.{◌≡◌, ◌<◌, ◌≤◌, [], Some, drop, length, min, take};
 ghost use Rattle.std.specs.Prelude.{IfOk, OnErr, is_err};
 ghost use Rattle.oct_io.specs.Counts.{IsReadCounted};

@@ -1,3 +1,4 @@
+//! Files in memory, of which chosen loads and saves fail.
 ghost use Rattle.std.specs.Prelude.{◌≡◌, Some, Err, IfOk, IsErrOf, OnErr, OnOk, option_copied};
 ghost use Rattle.std.specs.Prelude.{true, IsSome};
 ghost use Rattle.oct_io.specs.Counts.{IsAskCounted};

@@ -1,3 +1,4 @@
+//! Where bytes go, and what a write promises.
 ghost use Rattle.std.specs.Prelude.{◌≡◌, ◌<◌, ◌≤◌, List, ℕ, Option, length, take, IfOk, OnErr};
 ghost use Rattle.std.specs.Prelude.{OnOk};
 ghost use Rattle.oct_io.specs.declared.sink.SinkFault.TheVariants.{Memory};

@@ -1,3 +1,4 @@
+//! Where bytes come from, and what a read promises.
 ghost use Rattle.std.specs.Prelude.{◌≡◌, ◌<◌, ◌≤◌, List, [], ℕ, Option, length, take, IfOk, IfSome};
 ghost use Rattle.std.specs.Prelude.{OnErr};
 ghost use Rattle.oct_io.specs.Counts.{IsEndCounted, IsReadCounted};

@@ -1,3 +1,4 @@
+//! A reader of std that a script or a file comes from.
 ghost use Rattle.std.specs.Prelude.{◌≡◌, ◌≤◌, None, length, IfOk};
 ghost use Rattle.std.specs.Io.KnownBytes.{ReadConsumes};
 ghost use Rattle.oct_io.specs.Counts.{IsReadCounted};

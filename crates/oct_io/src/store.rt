@@ -1,3 +1,4 @@
+//! Files by name: how they are loaded and saved, and what may go wrong.
 ghost use Rattle.std.specs.Prelude.{◌≡◌, ◌≤◌, ◌+◌, ℕ, Option, IfOk, IfSome, IsErrOf, OnErr, OnOk};
 ghost use Rattle.oct_io.specs.declared.store.StoreFault.TheVariants.{Memory};
 ghost use Rattle.oct_io.specs.Counts.{IsAskCounted};

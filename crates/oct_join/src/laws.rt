@@ -1,3 +1,4 @@
+//! Classes of files are joined as the values of maps are.
 ghost use Rattle.std.specs.Prelude.{◌≡◌};
 ghost use Rattle.oct_bt.specs.Classes.{value_for};
 ghost use Rattle.oct_merge.specs.declared.rule.Rule.{Rule};

@@ -1,3 +1,4 @@
+//! The cubes into which halving divides the map, and the way from one to its children.
 ghost use Rattle.std.specs.Prelude.{◌≡◌, ◌+◌, ◌^◌, ◌<◌, ◌≤◌, ◌↔◌};
 ghost use Rattle.oct_key.specs.Voxel.{Voxel, IsInMap};
 ghost use Rattle.oct_key.specs.Block.{block_of, child_of, child_index_of};

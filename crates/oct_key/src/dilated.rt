@@ -1,3 +1,4 @@
+//! A voxel's number on an axis, counted where its bits stand in a Morton code.
 ghost use Rattle.std.specs.Prelude.{◌≡◌, ◌+◌, ◌-◌, ◌^◌, ◌<◌};
 ghost use Rattle.oct_key.specs.Voxel.{IsInMap};
 ghost use Rattle.oct_key.specs.Morton.{gathered, morton_of};

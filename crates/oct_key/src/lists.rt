@@ -1,3 +1,4 @@
+//! Points and voxels in lists that grow at the end.
 ghost use Rattle.std.specs.Prelude.{◌≡◌, ◌++◌, ◌∷◌, [], OnErr, OnOk};
 
 use crate::point::{Key, Point};

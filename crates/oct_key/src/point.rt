@@ -1,3 +1,5 @@
+//! Places in nanometres, and places in voxels.
+
 /// A point, in nanometres.
 #[derive(Clone, Copy, Debug, PartialEq, Eq)]
 pub struct Point {

@@ -1,3 +1,4 @@
+//! The edge of a voxel, and the voxel that holds a point.
 ghost use Rattle.std.specs.Prelude.{◌≡◌, ℕ, pos, ◌≤ℤ◌, ◌↔◌, Some, IsOk, IfOk, IfSome, IfNone};
 ghost use Rattle.oct_key.specs.Voxel.{Voxel, IsInMap, Holds, IsResolution, axis_key, key_at};
 

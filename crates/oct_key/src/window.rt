@@ -1,3 +1,4 @@
+//! A box of voxels between two corners.
 ghost use Rattle.std.specs.Prelude.{◌≡◌, ◌↔◌, Some, IsTrue, IsSome, IfSome};
 ghost use Rattle.oct_key.specs.Boxes.{IsBox, IsInBox, Corners, is_in_box};
 

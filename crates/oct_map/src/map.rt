@@ -1,3 +1,4 @@
+//! The map that a robot keeps: edited, scanned into and asked by points, within its limits.
 ghost use Rattle.std.specs.Prelude.{◌≡◌, ℕ, ◌+◌, ◌^◌, ◌<◌, ◌≤◌, ◌⊎◌, ◌&&◌, nat_lt, pos, ◌≤ℤ◌, ◌<ℤ◌};
 ghost use Rattle.std.specs.Prelude.{false, IsTrue, [], All, Some, None, is_some, IsSome, IfSome};
 ghost use Rattle.std.specs.Prelude.{Err, IsOk, OnOk, OnErr, IfErr};

@@ -1,3 +1,4 @@
+//! Edits, scans, questions and refusals of a map of voxels of a tenth of a metre.
 ghost use Rattle.std.specs.Prelude.{◌≡◌, ◌^◌, ◌≤◌, None, All, IfOk};
 ghost use Rattle.oct_odds.specs.Update.{IsSmallEvent};
 ghost use Rattle.oct_pose.specs.Reach.{IsInReach};

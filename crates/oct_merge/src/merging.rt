@@ -1,3 +1,4 @@
+//! One walk down two trees, which joins what the second one knows into the first.
 ghost use Rattle.std.specs.Prelude.{◌≡◌, ◌+◌, ◌≤◌, ◌↔◌, IsTrue, IsSome, Some, None, false};
 ghost use Rattle.oct_key.specs.Voxel.{Voxel, IsInMap};
 ghost use Rattle.oct_key.specs.Block.{Cube, IsBlock, HoldsVoxel};

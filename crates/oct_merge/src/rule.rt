@@ -1,3 +1,4 @@
+//! Which of two maps decides a voxel that both know.
 ghost use Rattle.std.specs.Prelude.{◌≡◌, Some};
 ghost use Rattle.oct_merge.specs.Merged.{chosen, merged};
 

@@ -1,3 +1,4 @@
+//! How many voxels of a box have which pair of classes in two maps.
 ghost use Rattle.std.specs.Prelude.{◌≡◌, ℕ, ◌+◌, ◌-◌, ◌*◌, ◌^◌, ◌<◌, ◌≤◌, min, max, length};
 ghost use Rattle.std.specs.Prelude.{slice_index_or, if◌then◌else◌, nat_eq, ◌↔◌, IsTrue, None};
 ghost use Rattle.std.specs.List.{sum};

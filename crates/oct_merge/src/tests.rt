@@ -1,3 +1,4 @@
+//! Merges by each rule, their needs, and tables of classes, beside a plain merge voxel by voxel.
 ghost use Rattle.std.specs.Prelude.{◌≡◌, IfOk};
 ghost use Rattle.oct_odds.specs.Update.{IsSmallEvent};
 ghost use Rattle.oct_tree.specs.Shape.{IsWellFormed};

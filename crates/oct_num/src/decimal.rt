@@ -1,3 +1,4 @@
+//! Runs of decimal digits, and the numbers that they stand for.
 ghost use Rattle.std.specs.Prelude.{◌≡◌, ℕ, ◌+◌, ◌-◌, ◌*◌, ◌^◌, ◌<◌, ◌≤◌, nat_le, length, drop};
 ghost use Rattle.std.specs.Prelude.{take_while};
 ghost use Rattle.std.specs.List.{AllPass, prefix_len};

@@ -1,3 +1,4 @@
+//! Want of memory, as each call tells it that asked for some.
 ghost use Rattle.std.specs.Prelude.{◌≡◌};
 
 use std::alloc::{AllocError, AllocFailed};

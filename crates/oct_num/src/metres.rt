@@ -1,3 +1,4 @@
+//! Decimal metres read as nanometres, and the place of the first byte that is wrong.
 ghost use Rattle.std.specs.Prelude.{◌≡◌, ◌↔◌, ℕ, ◌+◌, ◌-◌, ◌*◌, ◌^◌, ◌<◌, ◌≤◌, ℤ, unsigned_abs};
 ghost use Rattle.std.specs.Prelude.{length, MatchResult, Ok, Err, IfOk, MatchOption, Some, None};
 ghost use Rattle.std.specs.Prelude.{IfSome, drop};

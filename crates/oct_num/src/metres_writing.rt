@@ -1,3 +1,4 @@
+//! Nanometres written as decimal metres, without zeros at the end.
 ghost use Rattle.std.specs.Prelude.{◌≡◌, ℕ, List, ◌+◌, ◌^◌, ◌<◌, ◌≤◌, ◌++◌, unsigned_abs, length};
 ghost use Rattle.std.specs.Prelude.{Ok, OnOk, OnErr};
 ghost use Rattle.std.specs.Int.{is_negative};

@@ -1,3 +1,4 @@
+//! The whole square root that is never too small.
 ghost use Rattle.std.specs.Prelude.{ℕ, ◌*◌, ◌^◌, ◌≤◌};
 
 /// The square root of `n`, rounded up: the least whole number whose square is at least `n`. So

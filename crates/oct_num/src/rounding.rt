@@ -1,3 +1,4 @@
+//! The whole number nearest to a fraction.
 ghost use Rattle.std.specs.Prelude.{◌≡◌, ◌^◌, ◌≤◌, pos, ◌≤ℤ◌, unsigned_abs};
 ghost use Rattle.oct_num.specs.Rounding.{half_up, IsNearest};
 

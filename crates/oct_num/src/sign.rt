@@ -1,3 +1,4 @@
+//! The minus before a number.
 ghost use Rattle.std.specs.Prelude.{◌≡◌, ◌^◌, ◌<◌, ◌≤◌, ◌&&◌, nat_lt, nat_eq, get_or, drop, length};
 ghost use Rattle.std.specs.Prelude.{unsigned_abs};
 ghost use Rattle.oct_num.specs.Sign.{signed_number, has_minus, without_minus};

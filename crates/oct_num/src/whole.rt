@@ -1,3 +1,4 @@
+//! Whole numbers read from decimal text and written as such.
 ghost use Rattle.std.specs.Prelude.{◌≡◌, ◌↔◌, ◌^◌, ◌<◌, ◌++◌, ℤ, unsigned_abs, length};
 ghost use Rattle.std.specs.Prelude.{OnOk, OnErr, Some, IfSome};
 ghost use Rattle.std.specs.Fmt.{signed_decimal};

@@ -1,3 +1,4 @@
+//! Which numbers make a model, and which of them is the first at fault.
 ghost use Rattle.std.specs.Prelude.{◌≡◌};
 ghost use Rattle.oct_odds.specs.Odds.{odds, is_small, first_bad_field};
 

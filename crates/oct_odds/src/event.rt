@@ -1,3 +1,5 @@
+//! What may happen to a voxel, and what it counts as.
+
 /// What happens to one voxel. Log-odds are in thousandths.
 #[derive(Clone, Copy, Debug, PartialEq, Eq)]
 pub enum Event {

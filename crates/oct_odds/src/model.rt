@@ -1,3 +1,4 @@
+//! The five numbers by which observations change how sure the map is of a voxel.
 ghost use Rattle.std.specs.Prelude.{◌≡◌, pos, neg_ℤ, ◌≤ℤ◌, ◌<ℤ◌, ◌↔◌, Some, None, IsOk, IfOk};
 ghost use Rattle.std.specs.Prelude.{IfErr};
 

@@ -1,3 +1,4 @@
+//! The place and the turn of a sensor, and the points of its frame in that of the map.
 ghost use Rattle.std.specs.Prelude.{◌≡◌, ◌↔◌, ◌*◌, ◌^◌, IsErr, IfOk};
 ghost use Rattle.oct_pose.specs.Reach.{IsInReach, IsNear, IsZero};
 

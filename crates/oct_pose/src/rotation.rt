@@ -1,3 +1,4 @@
+//! A point turned by a quaternion of whole numbers, with each coordinate rounded once.
 ghost use Rattle.std.specs.Prelude.{◌≡◌, ◌^◌, ◌*◌, ◌<◌, ◌≤◌, pos, ◌+ℤ◌, ◌-ℤ◌, ◌*ℤ◌, ◌≤ℤ◌};
 ghost use Rattle.std.specs.Prelude.{unsigned_abs};
 ghost use Rattle.oct_num.specs.Rounding.{half_up};

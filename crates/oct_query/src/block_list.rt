@@ -1,3 +1,4 @@
+//! The known blocks of a box in a list, each with its value.
 ghost use Rattle.std.specs.Prelude.{◌≡◌, ◌++◌, ◌∷◌, [], map, OnErr, OnOk};
 ghost use Rattle.oct_query.specs.Shown.{shown_as};
 

@@ -1,3 +1,4 @@
+//! What one block answers, from its own node or from the leaf that covers it.
 ghost use Rattle.std.specs.Prelude.{◌≡◌};
 ghost use Rattle.oct_key.specs.Voxel.{Voxel, IsInMap};
 ghost use Rattle.oct_key.specs.Block.{HoldsVoxel, lowest_voxel};

@@ -1,3 +1,4 @@
+//! Why blocks aren't listed.
 ghost use Rattle.std.specs.Prelude.{◌≡◌};
 ghost use Rattle.oct_query.specs.declared.fault.ListFault.TheVariants.{Memory};
 

@@ -1,3 +1,5 @@
+//! A block that is known, and how sure the map is of it.
+
 use oct_key::Block;
 
 /// A block and what it answers.

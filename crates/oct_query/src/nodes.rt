@@ -1,3 +1,4 @@
+//! How large a tree is, counted node by node.
 ghost use Rattle.std.specs.Prelude.{◌≡◌, ◌+◌, ◌-◌, ◌^◌, ◌≤◌, ◌↔◌, Some};
 ghost use Rattle.oct_key.specs.Block.{Cube};
 ghost use Rattle.oct_values.specs.Counts.{group_count, node_count};

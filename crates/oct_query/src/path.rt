@@ -1,3 +1,4 @@
+//! The nodes down to one voxel, kept for the next one that is asked.
 ghost use Rattle.std.specs.Prelude.{◌≡◌, ◌+◌, ◌≤◌};
 ghost use Rattle.oct_key.specs.Voxel.{IsInMap};
 ghost use Rattle.oct_key.specs.Block.{block_of};

@@ -1,3 +1,5 @@
+//! The size of a tree, in groups and in nodes.
+
 /// How many groups a tree has, and how many nodes that aren't absent, the root included.
 #[derive(Clone, Copy, Debug, PartialEq, Eq)]
 pub struct Counts {

@@ -1,3 +1,4 @@
+//! The computed voxels of a segment are those that it meets.
 ghost use Rattle.std.specs.Prelude.{ℕ, IsSome};
 ghost use Rattle.oct_key.specs.Voxel.{IsResolution, key_at};
 ghost use Rattle.oct_key.specs.declared.point.Point.{Point};

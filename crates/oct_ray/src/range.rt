@@ -1,3 +1,4 @@
+//! Where a beam that is too long is cut, never beyond the range.
 ghost use Rattle.std.specs.Prelude.{◌≡◌, ◌*◌, ◌/◌, ◌^◌, ◌<◌, ◌≤◌, pos, ◌≤ℤ◌, unsigned_abs};
 ghost use Rattle.oct_ray.specs.Range.{IsCutEnd, axis_distance, cut_coordinate, square_distance};
 

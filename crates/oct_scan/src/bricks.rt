@@ -1,3 +1,4 @@
+//! What a scan does to the map, as bricks in order.
 ghost use Rattle.std.specs.Prelude.{◌≡◌, ◌≢◌, ℕ, ◌+◌, ◌^◌, ◌<◌, ◌≤◌, pos, ◌≤ℤ◌, ◌<ℤ◌, ◌↔◌};
 ghost use Rattle.std.specs.Prelude.{Some, None, Err, List, length, All, Contains};
 ghost use Rattle.std.specs.Prelude.{IfOk, IfErr, IfSome, OnErr};

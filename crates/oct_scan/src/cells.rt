@@ -1,3 +1,4 @@
+//! Beams walked into bricks, whole or as far as they lie in a box.
 ghost use Rattle.std.specs.Prelude.{◌≡◌, ℕ, ◌/◌, ◌^◌, ◌<◌, ◌↔◌, ◌⊎◌, []};
 ghost use Rattle.std.specs.Prelude.{◌∷◌, length, map, if◌then◌else◌, All, Contains, IfOk};
 ghost use Rattle.std.specs.Prelude.{OnOk, OnErr, IsSome, IsTrue, Option, Some};

@@ -1,3 +1,4 @@
+//! The voxels of bricks one by one, the hit ones apart from the freed ones.
 ghost use Rattle.std.specs.Prelude.{◌≡◌, ◌++◌, ◌^◌, ◌<◌, length, map, All, IfOk, OnOk, OnErr};
 ghost use Rattle.oct_brick.specs.Masks.{codes_of};
 ghost use Rattle.oct_brick.specs.Bricks.{IsBrick};

@@ -1,3 +1,4 @@
+//! How many groups the voxels of bricks may need.
 ghost use Rattle.std.specs.Prelude.{◌≡◌, ◌^◌, ◌<◌, ◌≤◌, All, IfSome};
 ghost use Rattle.oct_brick.specs.Bricks.{IsBrick, AreAscending};
 ghost use Rattle.oct_scan.specs.Codes.{brick_count, bricks_added, new_bricks};

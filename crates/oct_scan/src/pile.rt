@@ -1,3 +1,4 @@
+//! The bricks that beams fill, with a table that mostly finds the one of a code again.
 ghost use Rattle.std.specs.Prelude.{◌≡◌, ℕ, ◌↔◌, ◌⊎◌, [], All, Contains, OnOk};
 ghost use Rattle.oct_brick.specs.Masks.{HasCode};
 ghost use Rattle.oct_brick.specs.Bricks.{scanned_codes, hit_codes, IsBrick};

@@ -1,3 +1,4 @@
+//! What a scan does to the map, as two lists of voxels.
 ghost use Rattle.std.specs.Prelude.{◌≡◌, ◌≢◌, ◌+◌, ◌^◌, ◌<◌, ◌≤◌, pos, ◌≤ℤ◌, ◌<ℤ◌, ◌↔◌};
 ghost use Rattle.std.specs.Prelude.{Some, None, Err, length, All, Contains};
 ghost use Rattle.std.specs.Prelude.{IfOk, IfErr, IfSome, OnErr};

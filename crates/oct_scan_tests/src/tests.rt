@@ -1,3 +1,4 @@
+//! The voxels that scans along one axis hit and free, and the scans that are refused.
 ghost use Rattle.std.specs.Prelude.{◌^◌, pos, ◌≤ℤ◌, ◌<ℤ◌, All, IfOk, IfSome};
 ghost use Rattle.oct_pose.specs.Reach.{IsInReach};
 

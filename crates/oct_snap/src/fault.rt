@@ -1,3 +1,5 @@
+//! Why bytes aren't a snapshot, and at which of them that shows.
+
 use thiserror::Error;
 
 /// What is wrong with a snapshot. Places count bytes from its start, from 0 on.

@@ -1,3 +1,4 @@
+//! What the bytes of a snapshot say, before a tree is made of them.
 ghost use Rattle.oct_odds.specs.Odds.{odds_of};
 ghost use Rattle.oct_snap.specs.Reading.{read_snapshot};
 ghost use Rattle.oct_snap.specs.Checked.{IsChecked};

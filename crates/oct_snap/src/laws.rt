@@ -1,3 +1,4 @@
+//! Values and their snapshots determine each other, and refusals have one cause each.
 ghost use Rattle.std.specs.Prelude.{◌≡◌, ◌+◌, ◌<◌, ◌++◌, ◌↔◌, ℕ, ◌⊎◌, List, Option, None, IfSome};
 ghost use Rattle.std.specs.Prelude.{length, drop, Result, Ok, Err};
 ghost use Rattle.std.specs.List.{All};

@@ -1,3 +1,5 @@
+//! Snapshots of small maps, written, read back, cut short and spoilt.
+
 use oct_io::{CalmSink, KeptList, MemSink, Sink, SinkFault};
 use oct_key::{Key, Res, Window};
 use oct_odds::OddsModel;

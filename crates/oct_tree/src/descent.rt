@@ -1,3 +1,4 @@
+//! A Morton code, read three bits at a time from the root down.
 ghost use Rattle.std.specs.Prelude.{◌≡◌, ℕ, ◌+◌, ◌*◌, ◌-◌, ◌/◌, ◌%◌, ◌^◌, ◌≤◌};
 ghost use Rattle.oct_tree.specs.Descents.{digits_from};
 

@@ -1,3 +1,5 @@
+//! The root, or a child of a group: where a node stands.
+
 use oct_arena::GroupId;
 
 /// Where a node of a tree stands.

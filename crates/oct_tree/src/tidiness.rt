@@ -1,3 +1,4 @@
+//! What a tree knows of its inner nodes, so that an edit can end its way up early.
 ghost use Rattle.std.specs.Prelude.{◌↔◌, IsTrue};
 
 /// What is known of the inner nodes of a tree, beside its links.

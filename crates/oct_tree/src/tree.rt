@@ -1,3 +1,4 @@
+//! The linked tree, and the calls that change one node, or one and its group.
 ghost use Rattle.std.specs.Prelude.{◌≡◌, ℕ, ◌+◌, ◌-◌, ◌<◌, ◌≤◌, ◌^◌, ◌↔◌, ◌++◌, [], length, max};
 ghost use Rattle.std.specs.Prelude.{Some, None, IsSome, IsTrue, IsOk, OnOk};
 ghost use Rattle.std.specs.Bool.{OnTrue, OnFalse};

@@ -1,3 +1,4 @@
+//! Lists and tests that count blocks, boxes and events agree with the words for them.
 ghost use Rattle.std.specs.Prelude.{◌≡◌, ◌+◌, ◌≤◌, ◌↔◌, IsTrue, Option, Some, count_by};
 ghost use Rattle.std.specs.List.{All, Contains};
 ghost use Rattle.oct_key.specs.Voxel.{Voxel, IsInMap};

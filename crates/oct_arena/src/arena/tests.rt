@@ -1,3 +1,4 @@
+//! Groups that are taken, split and given back under their ids.
 ghost use Rattle.std.specs.Prelude.{◌≤◌};
 ghost use Rattle.oct_arena.specs.Entries.{IsLive};
 

@@ -1,3 +1,4 @@
+//! Bricks of few voxels, joined, masked and counted.
 ghost use Rattle.std.specs.Prelude.{◌<◌, ◌≤◌, All, IfOk};
 ghost use Rattle.oct_brick.specs.Bricks.{IsBrick};
 

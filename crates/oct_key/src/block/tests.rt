@@ -1,3 +1,5 @@
+//! Blocks of each depth around a voxel, their children and their parents.
+
 use super::*;
 use crate::tests::expect_number;
 use std::process::Abort;

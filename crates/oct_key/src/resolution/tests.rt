@@ -1,3 +1,5 @@
+//! The smallest and the largest edge, and the voxels at the faces of the map, in their order.
+
 use super::*;
 use crate::tests::expect_found;
 use std::process::Abort;

@@ -1,3 +1,5 @@
+//! Which corners make a box, and which voxels lie in it.
+
 use super::*;
 use crate::tests::expect_found;
 use std::process::Abort;

@@ -1,3 +1,4 @@
+//! Events at and beyond the bounds, classes at the threshold, and fields at fault.
 ghost use Rattle.std.specs.Prelude.{IsTrue};
 ghost use Rattle.oct_odds.specs.Odds.{odds_of};
 ghost use Rattle.oct_odds.specs.Update.{IsSmallEvent, IsWithin};

@@ -1,3 +1,4 @@
+//! Turned and moved points, and the quaternion that turns nothing.
 ghost use Rattle.std.specs.Prelude.{◌↔◌, IsTrue};
 ghost use Rattle.oct_pose.specs.Reach.{IsInReach};
 

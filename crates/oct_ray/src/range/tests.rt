@@ -1,3 +1,4 @@
+//! Cuts of beams in each direction, up to the longest one.
 ghost use Rattle.std.specs.Prelude.{◌*◌, ◌^◌, ◌<◌, ◌≤◌, pos, ◌≤ℤ◌, unsigned_abs};
 ghost use Rattle.oct_ray.specs.Range.{square_distance};
 

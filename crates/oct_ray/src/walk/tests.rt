@@ -1,3 +1,4 @@
+//! Beams with the voxels that they meet, there and back, short and across the whole map.
 ghost use Rattle.std.specs.Prelude.{◌≤◌};
 
 use super::*;

@@ -1,3 +1,4 @@
+//! Splits, writes and collapses in trees of one and two groups.
 ghost use Rattle.oct_tree.specs.Tree.{IsPlace};
 
 use super::*;
