@@ -18,12 +18,6 @@ pub going : (stop : Option BtFault) (p : Progress) → is_some stop ≡ false �
 going None p h = refl
 going (Some fault) p h = absurd (false≢true (sym h))
 
--- one that has
-pub stopped : (start : ℕ) (stop : Option BtFault) (p : Progress) (byte : ℕ) → is_some stop ≡ true
-    → progress_by stop p ≡ after_byte start (progress_by stop p) byte
-stopped start None p byte h = absurd (false≢true h)
-stopped start (Some fault) p byte h = refl
-
 -- a value that isn't there
 pub none_of : (o : Option ℕ) → ((x : ℕ) → o ≡ Some x → ⊥) → o ≡ None
 none_of None h = refl

@@ -1,13 +1,12 @@
 -- The length that begins at an index of a text.
 use Rattle.std.proofs.Common.{◌≡◌, ◌⊎◌, ℕ, ◌+◌, ◌-◌, ◌*◌, ◌^◌, ◌<◌, ◌≤◌, ℤ, Bool, true, false, List}
-use Rattle.std.proofs.Common.{[], ◌∷◌, length, take, drop, get_or, nat_lt, nat_eq, ◌&&◌, Some, None}
-use Rattle.std.proofs.Common.{refl, sym, ap, ◌∙◌, arith, inl, inr, add-zero}
+use Rattle.std.proofs.Common.{[], ◌∷◌, length, drop, get_or, nat_lt, nat_eq, ◌&&◌, Some, None}
+use Rattle.std.proofs.Common.{refl, sym, ap, ◌∙◌, arith, inl, inr}
 use Rattle.std.proofs.Math.Nat.{mul-le-mul_right, one-le-pow}
 use Rattle.std.proofs.lemmas.Nat.{pow-add}
-use Rattle.std.proofs.lemmas.Bool.{cases_Bool, cases_lt, eqb-true, eqb-false, ltb-true, lt-ltb}
+use Rattle.std.proofs.lemmas.Bool.{cases_Bool, eqb-true, eqb-false, ltb-true, lt-ltb}
 use Rattle.std.proofs.lemmas.Bool.{le-ltb, ne_eqb, and_parts}
 use Rattle.std.proofs.lemmas.List.{drop-drop, drop_more}
-use Rattle.std.proofs.Math.Seq.{drop-length}
 use Rattle.std.specs.List.{prefix_len, take_while}
 use Rattle.oct_num.specs.Decimal.{is_digit, decimal_value}
 use Rattle.oct_num.specs.Sign.{signed_number, has_minus, without_minus}
@@ -30,74 +29,12 @@ byte_there text at byte there =
           ∙ ap (λ b. b ∷ drop (at + 1) text) (eqb-true (get_or text at 0) byte parts.1),
     )
 
--- the text from any other index on has no byte, or begins with another one
-byte_absent : (text : List ℕ) (at byte : ℕ) → HasAt text at byte ≡ false → at ≤ length text
-    → (drop at text ≡ []) ⊎ ((drop at text ≡ get_or text at 0 ∷ drop (at + 1) text)
-    × (nat_eq (get_or text at 0) byte ≡ false))
-byte_absent text at byte absent within = elim (cases_lt at (length text)) [
-  | inl more ↦ inr (drop_more text at 0 more, rw (lt-ltb at (length text) more) at absent)
-  | inr none ↦ inl (ap (λ n. drop n text) (let e : at ≡ length text = omega arith in e)
-      ∙ drop-length text)
-]
-
--- the sign at an index, and what stands behind it
-pub sign_there : (text : List ℕ) (from : ℕ) → HasAt text from 45 ≡ true
-    → (from < length text) × (true ≡ has_minus (drop from text))
-    × (drop (from + 1) text ≡ without_minus (drop from text))
-sign_there text from there =
-    let p = byte_there text from 45 there in (
-      p.0,
-      sym (ap has_minus p.1),
-      sym (ap without_minus p.1),
-    )
-
-pub sign_absent : (text : List ℕ) (from : ℕ) → HasAt text from 45 ≡ false → from ≤ length text
-    → (false ≡ has_minus (drop from text)) × (drop from text ≡ without_minus (drop from text))
-sign_absent text from absent within = elim (byte_absent text from 45 absent within) [
-  | inl none ↦ rw none (refl, refl)
-  | inr p ↦ rw (p.0, p.1) (refl, refl)
-]
-
 -- the digits after the point at an index, and what stands behind them
 pub fraction_there : (text : List ℕ) (point : ℕ) → HasAt text point 46 ≡ true
     → (point < length text)
     × (fraction_front (drop point text) ≡ take_while is_digit (drop (point + 1) text))
 fraction_there text point there =
     let p = byte_there text point 46 there in (p.0, ap fraction_front p.1)
-
-pub fraction_absent : (text : List ℕ) (point : ℕ) → HasAt text point 46 ≡ false
-    → point ≤ length text → fraction_front (drop point text) ≡ []
-fraction_absent text point absent within = elim (byte_absent text point 46 absent within) [
-  | inl none ↦ ap fraction_front none
-  | inr p ↦ ap fraction_front p.0 ∙ rw p.1 refl
-]
-
--- no digit after a point, or none there
-pub fraction_none : (text : List ℕ) (point whole n : ℕ) → fraction_front (drop point text) ≡ []
-    → n ≡ whole * 10 ^ 9 →
-    (length (fraction_front (drop point text)) ≤ 9)
-    × (n ≡ whole * 10 ^ 9 + decimal_value (fraction_front (drop point text))
-    * 10 ^ (9 - length (fraction_front (drop point text))))
-    × (drop point text ≡ fraction_rest (drop point text))
-fraction_none text point whole n none is = rw none (omega arith, is ∙ sym (add-zero _), refl)
-
--- no digit follows the point
-pub fraction_empty : (text : List ℕ) (point end digits : ℕ)
-    → fraction_front (drop point text) ≡ take_while is_digit (drop (point + 1) text)
-    → end ≡ point + 1 + prefix_len is_digit (drop (point + 1) text) → digits ≡ end - (point + 1)
-    → digits ≡ 0 → fraction_front (drop point text) ≡ []
-fraction_empty text point end digits there ends counted none =
-    let count : prefix_len is_digit (drop (point + 1) text) ≡ 0 =
-    omega (arith, ends, counted, none) in
-    there ∙ ap (λ n. take n (drop (point + 1) text)) count
-
--- more than nine digits follow it
-pub fraction_many : (text : List ℕ) (point end digits : ℕ)
-    → fraction_front (drop point text) ≡ take_while is_digit (drop (point + 1) text)
-    → end ≡ point + 1 + prefix_len is_digit (drop (point + 1) text) → digits ≡ end - (point + 1)
-    → 9 < digits → 9 < length (fraction_front (drop point text))
-fraction_many text point end digits there ends counted many =
-    rw there (omega (arith, front_count (drop (point + 1) text), ends, counted, many))
 
 -- the text of digits after a point is longer by the point
 text_longer : (digits : List ℕ) → (length digits ≡ 0 → ⊥)

@@ -189,10 +189,6 @@ extent_joined These Those (Some a) (Some b) f g = record {
 
 -- ---- the children of a block
 
-pub extent_start : (classes : Classes) (sought : Sought) (b : Cube)
-    → IsExtent (IsFoundInFirst classes sought b 0) None
-extent_start classes sought b = λ k (j, less, found). absurd (omega (arith, less))
-
 pub extent_next : (classes : Classes) (sought : Sought) (b c : Cube) (i : ℕ)
     (before here now : Option Corners)
     → IsExtent (IsFoundInFirst classes sought b i) before
