@@ -2,7 +2,7 @@
 use Rattle.std.proofs.Common.{◌≡◌, ℕ, suc, ◌+◌, ◌*◌, ◌^◌, ◌<◌, ◌≤◌, Bool, true, false, Option, Some}
 use Rattle.std.proofs.Common.{None, List, [], ◌∷◌, ◌++◌, length, refl, sym, subst, ◌∙◌, ap, arith}
 use Rattle.std.proofs.Common.{append_assoc, length-append}
-use Rattle.std.specs.Prelude.{Result, Ok, Err, OnOk, OnErr, codes, is_some, pos}
+use Rattle.std.specs.Prelude.{codes, is_some, pos}
 use Rattle.std.specs.List.{All, flat_map}
 use Rattle.std.specs.Fmt.{decimal}
 use Rattle.std.proofs.lemmas.Bool.{false≢true}
@@ -234,15 +234,6 @@ header_pieces nodes res first second last size metres a b c d e =
         append_assoc ((first_lines ++ size) ++ codes "\nres ") metres (codes "\ndata\n")
         ∙ append_assoc (first_lines ++ size) (codes "\nres ") (metres ++ codes "\ndata\n")
         ∙ append_assoc first_lines size (codes "\nres " ++ (metres ++ codes "\ndata\n"))
-
--- what follows of a result
-pub on_ok : {T E : Type 0} (r : Result T E) (P Q : Type 0) → (P → Q) → OnOk r P → OnOk r Q
-on_ok (Ok x) P Q f h = f h
-on_ok (Err e) P Q f h = h
-
-pub on_err : {T E : Type 0} (r : Result T E) (P Q : Type 0) → (P → Q) → OnErr r P → OnErr r Q
-on_err (Ok x) P Q f h = h
-on_err (Err e) P Q f h = f h
 
 -- the data that is written of a map of this mixture
 pub data_of_mixture : (c : Classes) (m n : Mixture) → IsMixtureOf c 16 root_block m → m ≡ n

@@ -1,6 +1,6 @@
 -- A file that is written again.
-use Rattle.std.proofs.Common.{◌≡◌, ℕ, inl, inr, List, [], ◌++◌, take, drop, Option, Result, Ok, Err}
-use Rattle.std.proofs.Common.{OnOk, OnErr, sym, subst, ◌∙◌, ap}
+use Rattle.std.proofs.Common.{◌≡◌, ℕ, inl, inr, List, [], ◌++◌, take, drop, Option}
+use Rattle.std.proofs.Common.{sym, subst, ◌∙◌, ap}
 use Rattle.oct_io.specs.Told.{appended}
 use Rattle.oct_io.specs.Taken.{IsCutOff, IsGathered, IsRefused, IsTaken}
 use Rattle.oct_io.proofs.Gathering.{gathered_first, gathered_push, refused_first}
@@ -24,16 +24,6 @@ canonical_again file classes accepted is =
     ap (λ (n : ℕ). header_text n file.res ++ file.codes)
     (sym (accepted_total file.nodes file.codes accepted))
     ∙ ap (λ (codes : List ℕ). header_text (node_total codes) file.res ++ codes) is
-
--- what holds of a success or of an error, and what follows from it
-pub on_ok_follows : {A B : Type 0} {P Q : Type 0} (r : Result A B) → (P → Q) → OnOk r P → OnOk r Q
-on_ok_follows (Ok x) f p = f p
-on_ok_follows (Err e) f p = tt
-
-pub on_err_follows : {A B : Type 0} {P Q : Type 0} (r : Result A B) → (P → Q) → OnErr r P
-    → OnErr r Q
-on_err_follows (Ok x) f p = tt
-on_err_follows (Err e) f p = f p
 
 -- the text of a file is its header's and its records'
 pub text_parts : (file : FileRead) (header records : List ℕ) (nodes res : ℕ)

@@ -1,7 +1,6 @@
 -- What the first other voxel of a block says of its children, and the codes of a record.
 use Rattle.std.proofs.Common.{◌≡◌, ◌≢◌, ℕ, suc, ◌+◌, ◌-◌, ◌*◌, ◌/◌, ◌%◌, ◌^◌, ◌<◌, ◌≤◌, Some}
 use Rattle.std.proofs.Common.{sym, subst, ap, arith}
-use Rattle.std.specs.Prelude.{Result, Ok, Err, OnErr}
 use Rattle.std.proofs.Math.Nat.{pow-suc, pow-le-pow_right}
 use Rattle.oct_key.specs.Block.{Cube, child_of}
 use Rattle.oct_odds.specs.declared.event.Class.{Class}
@@ -46,7 +45,3 @@ codes_few done codes code l few small =
     let most : 4 ^ (done + 1) ≤ 4 ^ 8 =
     pow-le-pow_right {n = 4} (omega arith) {i = done + 1} {j = 8} (omega arith) in
     (omega (arith, power, next, few, small), omega (arith, power, next, few, small, most))
-
-pub on_any_err : {T E : Type 0} (r : Result T E) (Q : Type 0) → Q → OnErr r Q
-on_any_err (Ok x) Q q = tt
-on_any_err (Err e) Q q = q

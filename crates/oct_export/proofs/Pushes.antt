@@ -1,7 +1,6 @@
 -- Texts that are pushed to a gather, one after the other.
 use Rattle.std.proofs.Common.{◌≡◌, ℕ, List, [], ◌++◌, take, drop, Option, refl, sym, ◌∙◌, ap, subst}
 use Rattle.std.proofs.Common.{append_assoc, append-nil}
-use Rattle.std.specs.Prelude.{Result, Ok, Err, OnOk, OnErr, IfOk}
 use Rattle.std.proofs.lemmas.List.{take-append-drop}
 use Rattle.oct_io.specs.Told.{appended}
 use Rattle.oct_io.specs.Taken.{IsCutOff}
@@ -113,26 +112,6 @@ pub cut_of_none : (t h : List ℕ) (w w' : Option (List ℕ)) → h ≡ [] → I
     → IsCutOff w w' t
 cut_of_none t h w w' none = subst (λ l. IsCutOff w w' (l ++ t) → IsCutOff w w' t) (sym none)
     (λ cut. cut)
-
--- ---- what holds of a result
-
-pub on_any_err : {T E : Type 0} (r : Result T E) (Q : Type 0) → Q → OnErr r Q
-on_any_err (Ok x) Q q = tt
-on_any_err (Err e) Q q = q
-
-pub on_ok_follows : {T E : Type 0} {P Q : Type 0} (r : Result T E) → (P → Q) → OnOk r P → OnOk r Q
-on_ok_follows (Ok x) f p = f p
-on_ok_follows (Err e) f p = tt
-
-pub on_err_follows : {T E : Type 0} {P Q : Type 0} (r : Result T E) → (P → Q) → OnErr r P
-    → OnErr r Q
-on_err_follows (Ok x) f p = tt
-on_err_follows (Err e) f p = f p
-
-pub if_ok_follows : {T E : Type 0} {P Q : T → Type 0} (r : Result T E) → ((x : T) → P x → Q x)
-    → IfOk r P → IfOk r Q
-if_ok_follows (Ok x) f p = f x p
-if_ok_follows (Err e) f p = tt
 
 pub cut_as : (t u h : List ℕ) (w w' : Option (List ℕ)) → IsCutOff w w' (h ++ t) → t ≡ u
     → IsCutOff w w' (h ++ u)

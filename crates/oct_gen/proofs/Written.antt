@@ -3,7 +3,6 @@ use Rattle.std.proofs.Common.{◌≡◌, ℕ, ◌+◌, ◌<◌, Option, Some, Li
 use Rattle.std.proofs.Common.{sym, ap, ◌∙◌, arith, append_assoc, length-append}
 use Rattle.std.proofs.lemmas.List.{take-append-drop, take-append-le}
 use Rattle.std.proofs.Math.Seq.{take-append-add}
-use Rattle.std.specs.Prelude.{Result, Ok, Err, OnErr}
 use Rattle.oct_io.specs.Told.{appended}
 use Rattle.oct_io.proofs.Appending.{appended_nil, appended_twice}
 
@@ -71,8 +70,3 @@ stopped_list text old now new left piece rest way parts some same =
     stopped text (Some old) (Some now) (Some new) left piece rest way parts some (ap Some same)
     in
     (n, less, some_same new (old ++ take n text) is)
-
--- what is so in any case is so after an error
-pub on_any_err : {A E : Type 0} (result : Result A E) (P : Type 0) → P → OnErr result P
-on_any_err (Ok x) P p = tt
-on_any_err (Err e) P p = p

@@ -2,7 +2,6 @@
 use Rattle.std.proofs.Common.{◌≡◌, ℕ, zero, suc, ◌+◌, ◌-◌, ◌*◌, ◌<◌, ◌≤◌, ◌⊎◌, inl, inr, List, []}
 use Rattle.std.proofs.Common.{◌∷◌, ◌++◌, length, take, drop, Option, refl, sym, ◌∙◌, ap, subst}
 use Rattle.std.proofs.Common.{arith, append_assoc, append-nil, length-append}
-use Rattle.std.specs.Prelude.{Result, Ok, Err, OnErr}
 use Rattle.std.proofs.Math.Seq.{take-add, take-append-add, drop-append-add}
 use Rattle.std.proofs.lemmas.List.{take-append-drop, drop-drop, length-drop}
 use Rattle.oct_io.specs.Gathered.{handed_on}
@@ -137,11 +136,6 @@ pushing_held all held rest old new p fits =
     some : (p.rounds ≡ 0) ⊎ (0 < length rest) → (p.rounds ≡ 0) ⊎ (0 < length (held ++ rest))
     some (inl none) = inl none
     some (inr l) = (let parts = length-append held rest in inr (omega (arith, parts, l)))
-
--- a fact holds of any error
-pub on_any_err : {A B : Type 0} (r : Result A B) (P : Type 0) → P → OnErr r P
-on_any_err (Ok x) P p = tt
-on_any_err (Err e) P p = p
 
 -- and the rest of all was handed on
 pub pushing_handed : (all held rest : List ℕ) (old new : Option (List ℕ))

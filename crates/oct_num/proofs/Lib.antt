@@ -12,3 +12,4 @@ pub mod NumberFronts
 pub mod Nearest
 pub mod Roots
 pub mod WholeLaw
+pub mod Results

@@ -1,7 +1,7 @@
 -- Which leaves meet a box.
 use Rattle.std.proofs.Common.{◌≡◌, ℕ, ◌+◌, ◌-◌, ◌*◌, ◌≤◌, ◌↔◌, Bool, true, false, min, max}
 use Rattle.std.proofs.Common.{List, [], ◌∷◌, refl, sym, ◌∙◌, ap, arith}
-use Rattle.std.specs.Prelude.{filter, Option, Some, None, IsSome, is_some, Result, Ok, Err, IfOk}
+use Rattle.std.specs.Prelude.{filter, Option, Some, None, IsSome, is_some}
 use Rattle.std.specs.List.{AllByRecursion}
 use Rattle.std.proofs.lemmas.Bool.{false≢true, false_from_ne_true}
 use Rattle.oct_key.specs.Voxel.{Voxel}
@@ -104,8 +104,3 @@ all_meet v =
 pub all_leaves : (v : Values) (lo hi : Voxel) (b : Cube) → b ≡ root_block
     → lo ≡ lowest_voxel b → hi ≡ highest_voxel b → leaves_met v lo hi ≡ leaves_of v
 all_leaves v lo hi b whole low high = rw (low, high) (rw whole (all_meet v))
-
-pub if_ok_follows : {T E : Type 0} {P Q : T → Type 0} (r : Result T E) → ((x : T) → P x → Q x)
-    → IfOk r P → IfOk r Q
-if_ok_follows (Ok x) f p = f x p
-if_ok_follows (Err e) f p = tt

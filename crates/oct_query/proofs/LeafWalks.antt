@@ -2,7 +2,7 @@
 use Rattle.std.proofs.Common.{◌≡◌, ℕ, zero, suc, ◌+◌, ◌-◌, ◌<◌, ◌≤◌, true, false, List, [], ◌∷◌}
 use Rattle.std.proofs.Common.{◌++◌, Some, None, inl, inr, refl, sym}
 use Rattle.std.proofs.Common.{subst, ◌∙◌, ap, arith, append_assoc, append-nil}
-use Rattle.std.specs.Prelude.{Result, Ok, Err, OnOk, OnErr, ⊤, not}
+use Rattle.std.specs.Prelude.{Result, OnOk, OnErr, ⊤, not}
 use Rattle.std.specs.Bool.{Decides}
 use Rattle.std.specs.List.{flat_map}
 use Rattle.std.specs.Option.{option_eq}
@@ -24,12 +24,6 @@ use Rattle.oct_values.proofs.Uniform.{uniform_exactly, uniform_of}
 use Rattle.oct_tree.proofs.Paths.{some_injective}
 use Rattle.oct_query.specs.Shown.{Shown}
 use Rattle.oct_query.specs.Leaves.{IsOneValue, own_leaf, leaves_below, block_leaves, that_meet}
-
--- ---- what follows where a call fails
-
-pub on_any_err : {T E : Type 0} (r : Result T E) (P : Type 0) → P → OnErr r P
-on_any_err (Ok x) P p = tt
-on_any_err (Err e) P p = p
 
 -- ---- the leaves of children
 

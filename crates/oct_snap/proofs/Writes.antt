@@ -2,7 +2,7 @@
 use Rattle.std.proofs.Common.{◌≡◌, ℕ, zero, suc, ◌+◌, ◌-◌, ◌*◌, ◌^◌, ◌<◌, ◌≤◌, Option, Some, None}
 use Rattle.std.proofs.Common.{List, [], ◌∷◌, ◌++◌, length, refl, sym, subst, ◌∙◌, ap, arith}
 use Rattle.std.proofs.Common.{append_assoc, append-nil, length-append}
-use Rattle.std.specs.Prelude.{Result, Ok, Err, OnOk, OnErr, IfOk, is_some}
+use Rattle.std.specs.Prelude.{is_some}
 use Rattle.std.specs.List.{flat_map}
 use Rattle.std.proofs.lemmas.Bool.{false≢true}
 use Rattle.std.proofs.Math.Nat.{pow-suc, pow-le-pow_right}
@@ -29,25 +29,6 @@ use Rattle.oct_snap.specs.Texts.{snap_text}
 use Rattle.oct_snap.specs.Common.{value_of_common}
 use Rattle.oct_snap.proofs.Places.{IsAbove}
 use Rattle.oct_snap.proofs.Commons.{leaf_common, common_of_each, common_exact}
-
--- ---- what follows of a result
-
-pub on_any_err : {T E : Type 0} (r : Result T E) (Q : Type 0) → Q → OnErr r Q
-on_any_err (Ok x) Q q = tt
-on_any_err (Err e) Q q = q
-
-pub on_any_ok : {T E : Type 0} (r : Result T E) (P Q : Type 0) → (P → Q) → OnOk r P → OnOk r Q
-on_any_ok (Ok x) P Q f h = f h
-on_any_ok (Err e) P Q f h = tt
-
-pub on_each_err : {T E : Type 0} (r : Result T E) (P Q : Type 0) → (P → Q) → OnErr r P → OnErr r Q
-on_each_err (Ok x) P Q f h = tt
-on_each_err (Err e) P Q f h = f h
-
-pub if_any_ok : {T E : Type 0} (r : Result T E) (P Q : T → Type 0) → ((x : T) → P x → Q x)
-    → IfOk r P → IfOk r Q
-if_any_ok (Ok x) P Q f h = f x h
-if_any_ok (Err e) P Q f h = tt
 
 -- ---- the texts of the first children
 

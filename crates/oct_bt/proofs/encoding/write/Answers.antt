@@ -1,7 +1,7 @@
 use Rattle.std.proofs.Common.{◌∙◌}
+use Rattle.oct_num.proofs.Results.{on_any_err}
 use Rattle.oct_io.proofs.Gathering.{gathered_whole, gathered_cut}
 use Rattle.oct_tree.specs.Classes.{classes_in}
-use Rattle.oct_bt.proofs.Writes.{on_any_err}
 use Rattle.oct_bt.proofs.Encodings.{sent_file, cut_header, cut_data}
 use Rattle.oct_bt.proofs.Injective.{data_tells_classes}
 use Rattle.oct_bt.proofs.encoding.write.Goals as goal

@@ -1,15 +1,16 @@
 use Rattle.std.proofs.Common.{refl, ◌∙◌}
+use Rattle.std.proofs.lemmas.Result.{on_err_weaker, on_ok_weaker}
+use Rattle.oct_num.proofs.Results.{on_any_err}
 use Rattle.oct_bt.specs.File.{file_text}
 use Rattle.oct_io.specs.Taken.{IsGathered}
 use Rattle.oct_io.proofs.Gathering.{gathered_whole, gathered_cut}
-use Rattle.oct_bt.proofs.Writes.{on_any_err}
-use Rattle.oct_bt.proofs.Rewrites.{on_ok_follows, on_err_follows, text_parts, two_pushed}
+use Rattle.oct_bt.proofs.Rewrites.{text_parts, two_pushed}
 use Rattle.oct_bt.proofs.Rewrites.{one_refused, two_refused}
 use Rattle.oct_bt.proofs.rewriting.rewrite.Goals as goal
 
 pub returns-clause-written : goal.returns-clause-written
 returns-clause-written g c =
-    on_ok_follows c.flush.result (λ wrote. gathered_whole _ _ _ _ _ all wrote) c.flush.ensures.ok
+    on_ok_weaker c.flush.result (λ wrote. gathered_whole _ _ _ _ _ all wrote) c.flush.ensures.ok
   where
     all : IsGathered (file_text c.args.file.now) (g.K.Sink.written c.args.sink.now)
         (g.K.Sink.written c.push-2.new.sink) c.push-2.new.self
@@ -22,7 +23,7 @@ returns-clause-written g c =
 
 pub returns-clause-cut : goal.returns-clause-cut
 returns-clause-cut g c =
-    on_err_follows c.flush.result (λ cut. gathered_cut _ _ _ _ _ all cut) c.flush.ensures.err
+    on_err_weaker c.flush.result (λ cut. gathered_cut _ _ _ _ _ all cut) c.flush.ensures.err
   where
     all : IsGathered (file_text c.args.file.now) (g.K.Sink.written c.args.sink.now)
         (g.K.Sink.written c.push-2.new.sink) c.push-2.new.self

@@ -1,12 +1,12 @@
 use Rattle.std.proofs.Common.{rules, ◌≡◌, ◌<◌, ◌-◌, ◌+◌, length, sym, ap, ◌∙◌, arith}
 use Rattle.std.proofs.Common.{subst}
+use Rattle.oct_num.proofs.Results.{on_any_err}
 use Rattle.oct_key.specs.Block.{child_of}
 use Rattle.oct_arena.specs.Nodes.{link_of}
 use Rattle.oct_tree.proofs.Paths.{some_injective, not_inner, place_block, slot_block}
 use Rattle.oct_bt.specs.Mixtures.{IsFirstOther}
 use Rattle.oct_tree.specs.Classes.{classes_in}
 use Rattle.oct_bt.proofs.Mixtures.{above, child_asked, never_leaf}
-use Rattle.oct_bt.proofs.Writes.{on_any_err}
 use Rattle.oct_bt.proofs.Parting.{sent_first, cut_first, last_part, sent_part, cut_part, sent_whole}
 use Rattle.oct_bt.proofs.writing.+write_block.Goals as goal
 

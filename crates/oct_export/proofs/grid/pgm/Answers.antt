@@ -1,8 +1,9 @@
 use Rattle.std.proofs.Common.{◌+◌, ◌-◌, ◌*◌, ◌++◌, [], ℕ, ap, ◌∙◌, arith, append-nil}
+use Rattle.oct_num.proofs.Results.{on_any_err}
 use Rattle.oct_tree.specs.Classes.{classes_in}
 use Rattle.oct_export.specs.Grids.{rows_of}
 use Rattle.oct_export.proofs.Pushes.{pushed_piece, pushed_more, second_cut, first_cut}
-use Rattle.oct_export.proofs.Pushes.{cut_of_none, pushed_whole, pushed_cut, on_any_err}
+use Rattle.oct_export.proofs.Pushes.{cut_of_none, pushed_whole, pushed_cut}
 use Rattle.oct_export.proofs.Rows.{pgm_parts, pgm_length, head_as}
 use Rattle.oct_export.proofs.grid.pgm.Goals as goal
 

@@ -1,6 +1,7 @@
 use Rattle.std.proofs.Common.{rules, ◌-◌, ◌∙◌, refl, arith}
+use Rattle.oct_num.proofs.Results.{on_any_err}
 use Rattle.oct_tree.specs.Classes.{classes_in}
-use Rattle.oct_export.proofs.Pushes.{pushed_start, pushed_more, pushed_as, on_any_err}
+use Rattle.oct_export.proofs.Pushes.{pushed_start, pushed_more, pushed_as}
 use Rattle.oct_export.proofs.Rows.{row_front, row_none, row_more, row_cut_off, row_whole}
 use Rattle.oct_export.proofs.grid.push_row.Goals as goal
 

@@ -1,7 +1,8 @@
 use Rattle.std.proofs.Common.{◌≡◌, ◌+◌, ◌-◌, ◌∙◌, refl, ap, arith}
+use Rattle.oct_num.proofs.Results.{on_any_err}
 use Rattle.oct_tree.specs.Classes.{classes_in}
 use Rattle.oct_export.specs.Grids.{rows_of}
-use Rattle.oct_export.proofs.Pushes.{pushed_start, pushed_more, second_cut, pushed_as, on_any_err}
+use Rattle.oct_export.proofs.Pushes.{pushed_start, pushed_more, second_cut, pushed_as}
 use Rattle.oct_export.proofs.Rows.{rows_none, rows_next, rows_cut}
 use Rattle.oct_export.proofs.grid.push_rows.Goals as goal
 

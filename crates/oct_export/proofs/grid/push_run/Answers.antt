@@ -1,7 +1,8 @@
 use Rattle.std.proofs.Common.{rules, ◌-◌, ◌∙◌, refl, arith}
 use Rattle.std.specs.Prelude.{replicate}
+use Rattle.oct_num.proofs.Results.{on_any_err}
 use Rattle.oct_export.proofs.Pushes.{pushed_start, pushed_piece, pushed_more, second_cut}
-use Rattle.oct_export.proofs.Pushes.{pushed_as, on_any_err}
+use Rattle.oct_export.proofs.Pushes.{pushed_as}
 use Rattle.oct_export.proofs.Runs.{run_piece, run_none, run_more, run_cut, run_whole}
 use Rattle.oct_export.proofs.grid.push_run.Goals as goal
 

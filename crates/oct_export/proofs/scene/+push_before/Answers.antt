@@ -1,9 +1,9 @@
 use Rattle.std.proofs.Common.{rules, ◌%◌, ◌^◌, ◌++◌, ℕ, List, length, refl, sym, ap, ◌∙◌}
+use Rattle.oct_num.proofs.Results.{on_any_err}
 use Rattle.oct_key.specs.Block.{Cube, parent_of}
 use Rattle.oct_key.specs.CubeOf.{cube_of}
 use Rattle.oct_export.specs.BoxTexts.{box_line}
 use Rattle.oct_export.proofs.Pushes.{pushed_start, pushed_more, second_cut, pushed_as, first_cut}
-use Rattle.oct_export.proofs.Pushes.{on_any_err}
 use Rattle.oct_export.proofs.Walks.{before_none, before_child_of, before_start, before_next}
 use Rattle.oct_export.proofs.Walks.{before_whole, above_cut, before_cut, bytes_more}
 use Rattle.oct_export.proofs.scene.+push_before.Goals as goal

@@ -1,5 +1,7 @@
 use Rattle.std.proofs.Common.{rules, ◌≡◌, ◌-◌, ◌+◌, ◌%◌, ◌^◌, ℕ, List, None, Some, length, refl}
 use Rattle.std.proofs.Common.{sym, ap, ◌∙◌, arith}
+use Rattle.std.proofs.lemmas.Result.{IfOk-weaker, on_err_weaker, on_ok_weaker}
+use Rattle.oct_num.proofs.Results.{on_any_err}
 use Rattle.oct_key.specs.Block.{Cube}
 use Rattle.oct_key.specs.CubeOf.{cube_of}
 use Rattle.oct_key.proofs.Blocks.{block_in_map, depth_child_of}
@@ -12,8 +14,7 @@ use Rattle.oct_export.proofs.Places.{above}
 use Rattle.oct_export.proofs.Boxes.{leaf_full, first_full}
 use Rattle.oct_export.proofs.Counts.{leaf_class, full_next, full_of_all}
 use Rattle.oct_export.proofs.Pushes.{pushed_start, pushed_more, pushed_three, second_cut}
-use Rattle.oct_export.proofs.Pushes.{pushed_as, cut_as, on_any_err, on_ok_follows, on_err_follows}
-use Rattle.oct_export.proofs.Pushes.{if_ok_follows}
+use Rattle.oct_export.proofs.Pushes.{pushed_as, cut_as}
 use Rattle.oct_export.proofs.Walks.{found_before, found_none, found_whole, bytes_next, leaf_text}
 use Rattle.oct_export.proofs.Walks.{walk_next, walk_cut, walk_due}
 use Rattle.oct_export.proofs.scene.+push_boxes.Goals as goal
@@ -23,7 +24,7 @@ returns-in_default-clause-full g t c =
     let none : link_of c.node-node.result ≡ None =
     not_inner c.node-node.result c.in_default.not-Inner in
     let ok = block_in_map c.args.block in
-    if_ok_follows c.push_leaf.result (λ w p. p ∙ leaf_full (classes_in c.args.tree.now)
+    IfOk-weaker c.push_leaf.result _ _ (λ w p. p ∙ leaf_full (classes_in c.args.tree.now)
     (cube_of c.args.block) c.class_of_node.result c.is_occupied-full.result ok
     (leaf_class c.args.tree.now (cube_of c.args.block)
     (value_of c.node-node.result) c.class_of_node.result ok
@@ -36,7 +37,7 @@ returns-in_default-clause-bytes g t c =
     let none : link_of c.node-node.result ≡ None =
     not_inner c.node-node.result c.in_default.not-Inner in
     let ok = block_in_map c.args.block in
-    if_ok_follows c.push_leaf.result (λ w p. p ∙ ap (λ (l : List ℕ). length l % 2 ^ 64)
+    IfOk-weaker c.push_leaf.result _ _ (λ w p. p ∙ ap (λ (l : List ℕ). length l % 2 ^ 64)
     (leaf_text (classes_in c.args.tree.now) _ _ c.args.levels (cube_of c.args.block)
     c.class_of_node.result c.is_occupied-full.result ok
     (leaf_class c.args.tree.now (cube_of c.args.block)
@@ -51,7 +52,7 @@ returns-in_default-clause-pushed g t c =
     let none : link_of c.node-node.result ≡ None =
     not_inner c.node-node.result c.in_default.not-Inner in
     let ok = block_in_map c.args.block in
-    on_ok_follows c.push_leaf.result
+    on_ok_weaker c.push_leaf.result
     (λ p. pushed_as _ _ _ _ _ _ p
     (leaf_text (classes_in c.args.tree.now) _ _ c.args.levels (cube_of c.args.block)
     c.class_of_node.result c.is_occupied-full.result ok
@@ -67,7 +68,7 @@ returns-in_default-clause-cut g t c =
     let none : link_of c.node-node.result ≡ None =
     not_inner c.node-node.result c.in_default.not-Inner in
     let ok = block_in_map c.args.block in
-    on_err_follows c.push_leaf.result
+    on_err_weaker c.push_leaf.result
     (λ p. cut_as _ _ _ _ _ p
     (leaf_text (classes_in c.args.tree.now) _ _ c.args.levels (cube_of c.args.block)
     c.class_of_node.result c.is_occupied-full.result ok

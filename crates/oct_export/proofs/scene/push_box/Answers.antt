@@ -1,6 +1,7 @@
 use Rattle.std.proofs.Common.{◌++◌, List, subst, ◌∙◌}
+use Rattle.oct_num.proofs.Results.{on_any_err}
 use Rattle.oct_io.specs.Taken.{IsCutOff}
-use Rattle.oct_export.proofs.Pushes.{pushed_piece, pushed_as, on_any_err}
+use Rattle.oct_export.proofs.Pushes.{pushed_piece, pushed_as}
 use Rattle.oct_export.proofs.scene.push_box.Goals as goal
 
 pub returns-in_err-push-clause-cut : goal.returns-in_err-push-clause-cut

@@ -1,7 +1,8 @@
 use Rattle.std.proofs.Common.{refl, ◌∙◌}
+use Rattle.oct_num.proofs.Results.{on_any_err}
 use Rattle.oct_key.specs.CubeOf.{cube_of}
 use Rattle.oct_export.specs.Boxes.{blocks_before}
-use Rattle.oct_export.proofs.Pushes.{pushed_start, pushed_as, cut_as, on_any_err}
+use Rattle.oct_export.proofs.Pushes.{pushed_start, pushed_as, cut_as}
 use Rattle.oct_export.proofs.Walks.{leaf_waits, leaf_tells}
 use Rattle.oct_export.proofs.scene.push_leaf.Goals as goal
 

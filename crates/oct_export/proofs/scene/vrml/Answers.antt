@@ -1,9 +1,9 @@
 use Rattle.std.proofs.Common.{rules, Some, length, refl, sym, ap}
+use Rattle.oct_num.proofs.Results.{on_any_err}
 use Rattle.oct_key.specs.CubeOf.{cube_of}
 use Rattle.oct_tree.specs.Classes.{classes_in}
 use Rattle.oct_export.proofs.Pushes.{pushed_piece, pushed_three, third_cut, second_cut}
 use Rattle.oct_export.proofs.Pushes.{first_cut, cut_of_none, pushed_whole, pushed_cut}
-use Rattle.oct_export.proofs.Pushes.{on_any_err}
 use Rattle.oct_export.proofs.Sizes.{scene_parts, scene_begins, scene_length}
 use Rattle.oct_export.proofs.scene.vrml.Goals as goal
 

@@ -1,5 +1,6 @@
+use Rattle.oct_num.proofs.Results.{on_any_err}
 use Rattle.oct_gen.specs.Script.{script_of}
-use Rattle.oct_gen.proofs.Written.{stopped_list, on_any_err}
+use Rattle.oct_gen.proofs.Written.{stopped_list}
 use Rattle.oct_gen.proofs.writing.gen_script.Goals as goal
 
 pub returns-in_err-extend_from_slice-clause-err : goal.returns-in_err-extend_from_slice-clause-err

@@ -1,6 +1,7 @@
 use Rattle.std.proofs.Common.{◌∙◌}
+use Rattle.oct_num.proofs.Results.{on_any_err}
 use Rattle.oct_gen.specs.Script.{script_of}
-use Rattle.oct_gen.proofs.Written.{went_on, cut_off, parts_of, on_any_err}
+use Rattle.oct_gen.proofs.Written.{went_on, cut_off, parts_of}
 use Rattle.oct_gen.proofs.writing.generate.Goals as goal
 
 pub loop-script-preserved : goal.loop-script-preserved

@@ -1,6 +1,7 @@
 use Rattle.std.proofs.Common.{◌≡◌, ℕ, ◌++◌, ◌-◌, ◌+◌, None, refl, sym, ap, ◌∙◌, arith}
 use Rattle.std.proofs.Common.{append-nil}
 use Rattle.std.specs.Prelude.{is_some}
+use Rattle.oct_num.proofs.Results.{on_any_err}
 use Rattle.oct_key.specs.Block.{Cube, child_of}
 use Rattle.oct_key.specs.CubeOf.{cube_of}
 use Rattle.oct_key.proofs.Blocks.{block_in_map}
@@ -11,7 +12,7 @@ use Rattle.oct_tree.proofs.Links.{place_in_map}
 use Rattle.oct_tree.proofs.Paths.{not_inner}
 use Rattle.oct_query.specs.Leaves.{that_meet}
 use Rattle.oct_query.proofs.Above.{above, child_slot}
-use Rattle.oct_query.proofs.LeafWalks.{on_any_err, all_of_node, first_leaves, pushed_one}
+use Rattle.oct_query.proofs.LeafWalks.{all_of_node, first_leaves, pushed_one}
 use Rattle.oct_query.proofs.LeafWalks.{meets_several, listed_none, listed_next, some_in_child}
 use Rattle.oct_query.proofs.LeafWalks.{listed_unknown}
 use Rattle.oct_query.proofs.LeafBoxes.{none_meet}

@@ -1,8 +1,9 @@
 use Rattle.std.proofs.Common.{◌≡◌, ◌∙◌, subst, sym}
+use Rattle.std.proofs.lemmas.Result.{IfOk-weaker}
 use Rattle.oct_key.specs.CubeOf.{cube_of}
 use Rattle.oct_tree.specs.Tree.{value_at}
 use Rattle.oct_query.specs.Leaves.{IsLeafList, leaves_met, leaves_of}
-use Rattle.oct_query.proofs.LeafBoxes.{all_leaves, if_ok_follows}
+use Rattle.oct_query.proofs.LeafBoxes.{all_leaves}
 use Rattle.oct_query.proofs.LeafLists.{leaf_list}
 use Rattle.oct_query.proofs.leaf_list.leaves.Goals as goal
 
@@ -17,10 +18,10 @@ whole c =
 
 pub returns-clause-exact : goal.returns-clause-exact
 returns-clause-exact c =
-    if_ok_follows c.leaves_in.result (λ list is. is ∙ whole c) c.leaves_in.ensures.exact
+    IfOk-weaker c.leaves_in.result _ _ (λ list is. is ∙ whole c) c.leaves_in.ensures.exact
 
 pub returns-clause-leaves : goal.returns-clause-leaves
 returns-clause-leaves c =
-    if_ok_follows c.leaves_in.result
+    IfOk-weaker c.leaves_in.result _ _
     (λ list is. subst (IsLeafList (value_at c.args.tree.now)) (sym (is ∙ whole c))
     (leaf_list (value_at c.args.tree.now))) c.leaves_in.ensures.exact

@@ -8,9 +8,9 @@ use Rattle.oct_key.proofs.Blocks.{block_in_map}
 use Rattle.oct_tree.specs.Tree.{reach, value_at}
 use Rattle.oct_values.specs.Depths.{depth_value}
 use Rattle.std.proofs.lemmas.Int.{to_z-of_z}
+use Rattle.oct_num.proofs.Results.{on_any_err}
 use Rattle.oct_query.proofs.RowSteps.{stored_answer, shown_known, shown_unknown, shown_with}
 use Rattle.oct_query.proofs.RowSteps.{on_done, one_isnt_none}
-use Rattle.oct_query.proofs.LeafWalks.{on_any_err}
 use Rattle.oct_query.proofs.listing.list_block.Goals as goal
 
 pub returns-in-Some : goal.returns-in-Some

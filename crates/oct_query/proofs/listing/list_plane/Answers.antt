@@ -1,11 +1,11 @@
 use Rattle.std.proofs.Common.{◌≡◌, ◌-◌, ◌≤◌, ◌++◌, ◌∙◌, ap, rules}
 use Rattle.std.specs.List.{filter_map}
+use Rattle.oct_num.proofs.Results.{on_any_err}
 use Rattle.oct_tree.specs.Tree.{value_at}
 use Rattle.oct_query.specs.Listed.{shown}
 use Rattle.oct_query.specs.Rows.{row_blocks, plane_blocks}
 use Rattle.oct_query.proofs.RowSteps.{plane_none, plane_more, found_none, found_more}
 use Rattle.oct_query.proofs.RowSteps.{none_within}
-use Rattle.oct_query.proofs.LeafWalks.{on_any_err}
 use Rattle.oct_query.proofs.listing.list_plane.Goals as goal
 
 pub loop-y-init : goal.loop-y-init

@@ -1,12 +1,12 @@
 use Rattle.std.proofs.Common.{◌≡◌, ◌-◌, ◌≤◌, ◌++◌, ◌∷◌, [], ◌∙◌, ap, rules}
 use Rattle.std.specs.List.{filter_map}
+use Rattle.oct_num.proofs.Results.{on_any_err}
 use Rattle.oct_key.specs.Order.{block_numbered}
 use Rattle.oct_tree.specs.Tree.{value_at}
 use Rattle.oct_query.specs.Listed.{shown}
 use Rattle.oct_query.specs.Rows.{row_blocks}
 use Rattle.oct_query.proofs.RowSteps.{row_none, row_more, found_none, found_more}
 use Rattle.oct_query.proofs.RowSteps.{none_within}
-use Rattle.oct_query.proofs.LeafWalks.{on_any_err}
 use Rattle.oct_query.proofs.listing.list_row.Goals as goal
 
 pub loop-z-init : goal.loop-z-init

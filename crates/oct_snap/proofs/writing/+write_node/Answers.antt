@@ -1,4 +1,6 @@
 use Rattle.std.proofs.Common.{rules, ◌≡◌, ◌<◌, ◌-◌, ◌+◌, ℕ, sym, ap, ◌∙◌, arith, subst, length}
+use Rattle.std.proofs.lemmas.Result.{IfOk-weaker, on_ok_weaker, on_err_weaker}
+use Rattle.oct_num.proofs.Results.{on_any_err}
 use Rattle.oct_key.specs.Block.{child_of}
 use Rattle.oct_io.specs.Taken.{IsTaken, IsRefused}
 use Rattle.oct_arena.specs.Nodes.{link_of}
@@ -8,7 +10,7 @@ use Rattle.oct_tree.proofs.Paths.{not_inner, place_block, slot_block}
 use Rattle.oct_snap.specs.Common.{value_of_common}
 use Rattle.oct_snap.specs.Nodes.{whole_text}
 use Rattle.oct_snap.proofs.Places.{above, child_asked}
-use Rattle.oct_snap.proofs.Writes.{on_any_err, on_any_ok, on_each_err, if_any_ok, node_of_one}
+use Rattle.oct_snap.proofs.Writes.{node_of_one}
 use Rattle.oct_snap.proofs.Writes.{whole_fits, never_leaf, before_none, cut_first, cut_child}
 use Rattle.oct_snap.proofs.Writes.{sent_child, sent_all, long_child, long_all, before_short}
 use Rattle.oct_snap.proofs.Writes.{node_short}
@@ -16,7 +18,7 @@ use Rattle.oct_snap.proofs.writing.+write_node.Goals as goal
 
 pub returns-in-Value-clause-length : goal.returns-in-Value-clause-length
 returns-in-Value-clause-length g t c =
-    if_any_ok c.write_whole.result (λ (bytes : ℕ). bytes ≡ length (whole_text c.in-Value.value)) _
+    IfOk-weaker c.write_whole.result (λ (bytes : ℕ). bytes ≡ length (whole_text c.in-Value.value)) _
     (λ bytes is b at. is ∙ ap length (sym
     (node_of_one (16 - c.args.depth)
     (value_at c.args.tree.now) b c.in-Value.value
@@ -26,15 +28,13 @@ returns-in-Value-clause-length g t c =
 
 pub returns-in-Value-clause-short : goal.returns-in-Value-clause-short
 returns-in-Value-clause-short g t c =
-    if_any_ok c.write_whole.result (λ (bytes : ℕ). bytes ≡ length (whole_text c.in-Value.value)) _
+    IfOk-weaker c.write_whole.result (λ (bytes : ℕ). bytes ≡ length (whole_text c.in-Value.value)) _
     (λ bytes is. whole_fits (16 - c.args.depth) bytes c.in-Value.value is)
     c.write_whole.ensures.length
 
 pub returns-in-Value-clause-written : goal.returns-in-Value-clause-written
 returns-in-Value-clause-written g t c =
-    on_any_ok c.write_whole.result (IsTaken (whole_text c.in-Value.value)
-    (g.K.Sink.written c.args.sink.now) c.args.gather.now (g.K.Sink.written c.write_whole.new.sink)
-    c.write_whole.new.gather) _
+    on_ok_weaker c.write_whole.result
     (λ is b at. subst
     (λ t. IsTaken t (g.K.Sink.written c.args.sink.now) c.args.gather.now
     (g.K.Sink.written c.write_whole.new.sink) c.write_whole.new.gather) (sym
@@ -46,9 +46,7 @@ returns-in-Value-clause-written g t c =
 
 pub returns-in-Value-clause-cut : goal.returns-in-Value-clause-cut
 returns-in-Value-clause-cut g t c =
-    on_each_err c.write_whole.result (IsRefused (whole_text c.in-Value.value)
-    (g.K.Sink.written c.args.sink.now) c.args.gather.now (g.K.Sink.written c.write_whole.new.sink))
-    _
+    on_err_weaker c.write_whole.result
     (λ is b at. subst
     (λ t. IsRefused t (g.K.Sink.written c.args.sink.now) c.args.gather.now
     (g.K.Sink.written c.write_whole.new.sink)) (sym

@@ -1,10 +1,11 @@
 use Rattle.std.proofs.Common.{ℕ, refl, ap, ◌∙◌}
+use Rattle.oct_num.proofs.Results.{on_any_err}
 use Rattle.oct_key.specs.Block.{root_block}
 use Rattle.oct_odds.specs.Odds.{Odds, odds_of}
 use Rattle.oct_tree.specs.Tree.{value_at}
 use Rattle.oct_snap.specs.Texts.{head_bytes}
 use Rattle.oct_io.proofs.Gathering.{gathered_whole, gathered_cut}
-use Rattle.oct_snap.proofs.Writes.{on_any_err, cut_fields, cut_nodes, sent_snap, long_snap}
+use Rattle.oct_snap.proofs.Writes.{cut_fields, cut_nodes, sent_snap, long_snap}
 use Rattle.oct_snap.proofs.writing.write.Goals as goal
 
 pub returns-in_err-push-clause-cut : goal.returns-in_err-push-clause-cut

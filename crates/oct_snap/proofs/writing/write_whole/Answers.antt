@@ -1,8 +1,8 @@
 use Rattle.std.proofs.Common.{rules, ◌≡◌, ◌++◌, List, ℕ, [], ◌∷◌, sym, subst}
+use Rattle.oct_num.proofs.Results.{on_any_err}
 use Rattle.oct_io.specs.Taken.{IsCutOff, IsRefused}
 use Rattle.oct_io.proofs.Gathering.{gathered_refused}
 use Rattle.oct_snap.specs.Nodes.{whole_text}
-use Rattle.oct_snap.proofs.Writes.{on_any_err}
 use Rattle.oct_snap.proofs.writing.write_whole.Goals as goal
 
 pub returns-in_err-push-clause-cut : goal.returns-in_err-push-clause-cut

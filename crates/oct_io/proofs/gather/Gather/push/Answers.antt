@@ -1,8 +1,8 @@
 use Rattle.std.proofs.Common.{rules, ◌≡◌, ◌<◌, ◌≤◌, ◌+◌, ◌++◌, length, take, refl, ap, subst, ◌∙◌}
+use Rattle.oct_num.proofs.Results.{on_any_err}
 use Rattle.oct_io.specs.Told.{appended}
 use Rattle.oct_io.proofs.Gathering.{pushing_first, pushing_next, pushing_long, pushing_cut}
 use Rattle.oct_io.proofs.Gathering.{pushing_handed, pushing_held, gathered_push, gathered_refused}
-use Rattle.oct_io.proofs.Gathering.{on_any_err}
 use Rattle.oct_io.proofs.gather.Gather.push.Goals as goal
 
 pub loop-rest-init : goal.loop-rest-init
