@@ -1,5 +1,5 @@
 -- What a text begins with stays where appending fails.
-use Rattle.std.proofs.Common.{◌≡◌, ℕ, List, ◌++◌, length, take, drop, Result, Ok, Err, OnErr, sym}
+use Rattle.std.proofs.Common.{◌≡◌, ℕ, List, ◌++◌, length, take, drop, sym}
 use Rattle.std.proofs.Common.{ap, ◌∙◌, append_assoc}
 use Rattle.std.proofs.lemmas.List.{take-append-drop}
 use Rattle.std.proofs.Math.Seq.{take-append_seam}
@@ -13,8 +13,3 @@ begun_kept n m begun more old new many most was kept =
     ∙ append_assoc begun more (drop m new) in
     ap (λ i. take i new) many ∙ ap (take (length begun)) whole
     ∙ take-append_seam begun (more ++ drop m new)
-
--- what holds after any error holds after this one
-pub on_any_err : {A E : Type 0} {P : Type 0} (r : Result A E) → P → OnErr r P
-on_any_err (Ok a) p = tt
-on_any_err (Err e) p = p

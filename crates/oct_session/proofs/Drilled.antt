@@ -189,11 +189,6 @@ summary_built scans tally groups nodes bytes z a b c d e ez ea eb ec ed ee =
     (line_of_two (codes "groups ") groups (codes " nodes ") nodes) (codes "bt ") (decimal bytes)
     (codes "\n") ez ea eb ec ed ee
 
--- nothing was written where memory ran out before
-pub on_any_err : {T E : Type 0} (r : Result T E) (A : Type 0) → A → OnErr r A
-on_any_err (Ok done) A a = tt
-on_any_err (Err fault) A a = a
-
 -- a stop that is passed on
 pub passed_stop : {T : Type 0} (r : Result T Stop) (stop : Stop) → IsErrAnd r (λ x. x ≡ stop)
     → stop ≡ Memory → IfErr r (λ x. x ≡ Memory)

@@ -1,4 +1,5 @@
-use Rattle.oct_session.proofs.Drilled.{on_any_err, summary_unwritten}
+use Rattle.oct_num.proofs.Results.{on_any_err}
+use Rattle.oct_session.proofs.Drilled.{summary_unwritten}
 use Rattle.oct_session.proofs.drilling.write_summary.Goals as goal
 
 pub returns-in_err-text-clause-err : goal.returns-in_err-text-clause-err
