@@ -25,8 +25,8 @@
 //! at the first one too many, and a second one lists them into room for exactly that many, which
 //! std sorts in place and the list takes over.
 //!
-//! It stands on `oct_tree`, and on `oct_values` for what classes are; `oct_edit` makes the maps of
-//! its tests. `oct_tasks` stands on this crate, for its task `frontier`.
+//! It stands on `oct_tree`, and on `oct_values` for what classes are. `oct_file_tasks` stands on
+//! this crate, for its task `frontier`; its tests are `oct_frontier_tests`.
 #![tactic(auto)]
 
 mod fault;
@@ -37,6 +37,3 @@ mod walk;
 
 pub use fault::FrontierFault;
 pub use listing::frontier;
-
-#[cfg(test)]
-mod tests;

@@ -5,8 +5,8 @@ ghost use Rattle.oct_values.specs.Boxes as boxes;
 ghost use Rattle.oct_key.specs.Boxes.{IsBox};
 ghost use Rattle.oct_tree.specs.Shape.{IsWellFormed};
 
-use super::*;
 use oct_edit::{box_need, touch_box};
+use oct_frontier::{FrontierFault, frontier};
 use oct_key::{Key, KeyList, Res};
 use oct_odds::{Class, Event, OddsModel};
 use oct_tree::OccTree;
