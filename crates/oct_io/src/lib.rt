@@ -31,23 +31,26 @@
 //!   caller are stated as records of `specs/Counts.antt`.
 //! - A save that runs out of memory leaves all files as they were.
 //!
-//! There are three forms of each. [`CalmSource`], [`CalmSink`] and [`CalmStore`] live in memory,
-//! tell all that they hold and never fault; the tests and the proofs about whole programs run on
-//! them. [`MemSource`], [`MemSink`] and [`MemStore`] are the same, but that the calls of some
-//! numbers, counted from 1 on, fail: a test that lets call 1, 2, 3 and so on fail sees what each
-//! fault leaves. [`StdSource`], [`StdSink`] and [`FolderStore`] are the edge to the system: a few
-//! lines each over a reader, a writer and the files of the current folder. What the system does is
-//! told by no contract, so of these it is proved that they are safe, count their faults, pass on
-//! what a reader or writer of std tells, and that an error of opening counts as a missing file
-//! exactly where it says so (`unopened`). That a load opens the file and gives its bytes is tested.
+//! [`StdSource`], [`StdSink`] and [`FolderStore`] are the edge to the system: a few lines each over
+//! a reader, a writer and the files of the current folder. What the system does is told by no
+//! contract, so of these it is proved that they are safe, count their faults, pass on what a reader
+//! or writer of std tells, and that an error of opening counts as a missing file exactly where it
+//! says so (`unopened`). That a load opens the file and gives its bytes is tested. [`CalmSource`],
+//! [`CalmSink`] and [`CalmStore`] live in memory, tell all that they hold and never fault; the
+//! proofs about whole programs run on them.
 //!
-//! [`FileBytes`] is a list of bytes, and [`KeptList`] one of whole numbers. The definitions that
-//! contracts cite are in `specs/`: `Told` for the bytes and the counts, `Files` for files by name,
-//! `Loaded` for the answers of a load, `Failing` for calls that fail by their numbers. Laws of
-//! appending are in `proofs/Appending.antt`.
+//! [`FileBytes`] is a list of bytes. The definitions that contracts cite are in `specs/`: `Told`
+//! for the bytes and the counts, `Files` for files by name, `Loaded` for the answers of a load.
+//! Laws of appending are in `proofs/Appending.antt`.
 //!
 //! The files of maps (`oct_bt`, `oct_snap`, `oct_convert`, `oct_export`), the generator of scripts,
 //! sessions and the program stand on this crate.
+//!
+//! # For tests
+//!
+//! [`MemSource`], [`MemSink`] and [`MemStore`] are forms in memory whose calls of some numbers,
+//! counted from 1 on ([`KeptList`]), fail: a test that lets call 1, 2, 3 and so on fail sees what
+//! each fault leaves. `specs/Failing.antt` says which calls these are.
 
 #![tactic(auto)]
 
