@@ -11,3 +11,4 @@ pub mod Order
 pub mod Triples
 pub mod InOrder
 pub mod Boxes
+pub mod ChildCodes
