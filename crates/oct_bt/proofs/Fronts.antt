@@ -7,7 +7,7 @@ use Rattle.std.proofs.lemmas.Bool.{leb-true, leb-false, le-leb, and_parts, false
 use Rattle.std.proofs.lemmas.List.Elements.{All-take}
 use Rattle.std.specs.List.{All, slice_split, find, starts_with}
 use Rattle.std.proofs.Math.Seq.{take-append-add}
-use Rattle.std.proofs.lemmas.List.{take_all, take-append-le, take-append-drop, length-take}
+use Rattle.std.proofs.lemmas.List.{take-append-le, take-append-drop, length-take}
 use Rattle.std.proofs.lemmas.List.{length-drop}
 use Rattle.std.proofs.lemmas.List.Sums.{fold-append}
 use Rattle.std.proofs.lemmas.List.Splits.{slice_split_none, slice_split_at}
@@ -21,7 +21,7 @@ use Rattle.oct_values.specs.Classes.{Classes}
 use Rattle.oct_bt.specs.declared.fault.BtFault.TheVariants.{NotOctomap, MissingField}
 use Rattle.oct_bt.specs.declared.fault.HeaderWord.TheVariants.{Data}
 use Rattle.oct_bt.specs.Canonical.{canonical_data, canonical_size}
-use Rattle.oct_bt.specs.Header.{is_line_feed, is_data_line, first_line_fault, head_of, header_of}
+use Rattle.oct_bt.specs.Header.{is_line_feed, is_data_line, first_line_fault, header_of}
 use Rattle.oct_bt.specs.Header.{header_at, data_line, lines_from, unless_faulty}
 use Rattle.oct_bt.specs.File.{text_of_lines, header_lines, header_text, bt_text, reading}
 use Rattle.oct_bt.specs.File.{after_header, file_with, front_fault}
@@ -29,14 +29,10 @@ use Rattle.oct_bt.proofs.FilesBack.{HeaderTexts, header_texts, after_written}
 use Rattle.oct_bt.proofs.Sizes.{accepted_few}
 use Rattle.oct_bt.proofs.Standing.{canonical_accepted, canonical_reads}
 use Rattle.oct_bt.proofs.WrittenHeaders.{IsFieldText, no_feeds, size_name, res_name}
+use Rattle.oct_bt.proofs.HeadSteps.{whole_head}
+use Rattle.oct_bt.proofs.Walks.{stays_stopped}
 
 -- ---- node data
-
--- a reading that has stopped stays so
-stopped_stays : (start : ℕ) (fault : BtFault) (bytes : List ℕ)
-    → fold (after_byte start) (Stopped fault) bytes ≡ Stopped fault
-stopped_stays start fault [] = refl
-stopped_stays start fault (b ∷ bytes) = stopped_stays start fault bytes
 
 fault_is_none : (start size total : ℕ) (fault : BtFault) (whole : List ℕ)
     → judged start size total (Stopped fault) ≡ Ok whole → ⊥
@@ -48,10 +44,10 @@ under_way : (start size total n : ℕ) (p : Progress) (b : ℕ) (more whole : Li
     → judged start size n p ≡ Err (Truncated (start + n))
 under_way start size total n (Stopped fault) b more whole ends =
     absurd (fault_is_none start size total fault whole (ap (judged start size total)
-    (sym (stopped_stays start fault more)) ∙ ends))
+    (sym (stays_stopped start fault more)) ∙ ends))
 under_way start size total n (Reads [] half records) b more whole ends =
     absurd (fault_is_none start size total _ whole (ap (judged start size total)
-    (sym (stopped_stays start _ more)) ∙ ends))
+    (sym (stays_stopped start _ more)) ∙ ends))
 under_way start size total n (Reads (depth ∷ others) half records) b more whole ends = refl
 
 -- a front of node data that is accepted is truncated where it ends
@@ -206,17 +202,13 @@ no_data d e ds es front s r f =
         rw (size_name d ds s, res_name e es r) refl
     by_count (suc (suc (suc (suc (suc (suc (suc m))))))) few = absurd (omega (arith, few))
 
--- a front of a file that is short enough to be looked at whole
-head_is_all : (front : List ℕ) → length front ≤ 65536 → head_of front ≡ front
-head_is_all front few = take_all 65536 front few
-
 -- one that isn't begun as these files are
 pub front_unmarked : (front : List ℕ) (fault : BtFault) → length front ≤ 65536
     → first_line_fault front ≡ Some fault → reading front ≡ Err fault
 unfolding reading header_of
 front_unmarked front fault few mark =
     ap (λ head. after_header front (unless_faulty (first_line_fault head)
-    (header_at head (data_line head)))) (head_is_all front few)
+    (header_at head (data_line head)))) (whole_head front few)
     ∙ ap (λ m. after_header front (unless_faulty m (header_at front (data_line front)))) mark
 
 -- one without a data line
@@ -226,7 +218,7 @@ unfolding reading header_of
 front_unended front few mark line =
     let short : nat_lt (length front) 65536 ≡ true = le-leb (suc (length front)) 65536 few in
     ap (λ head. after_header front (unless_faulty (first_line_fault head)
-    (header_at head (data_line head)))) (head_is_all front (omega (arith, few)))
+    (header_at head (data_line head)))) (whole_head front (omega (arith, few)))
     ∙ ap (λ m. after_header front (unless_faulty m (header_at front (data_line front)))) mark
     ∙ ap (λ l. after_header front (header_at front l)) line
     ∙ rw short refl

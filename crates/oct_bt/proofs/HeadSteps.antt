@@ -26,6 +26,7 @@ use Rattle.oct_bt.specs.Reading.{file_progress}
 use Rattle.std.proofs.lemmas.List.Folds.{find-append}
 use Rattle.std.specs.Option.{option_or}
 use Rattle.oct_bt.proofs.Headers.{joined_parts, some_part, split_joined, first_part, mark_first}
+use Rattle.oct_bt.proofs.Headers.{take_one}
 use Rattle.oct_bt.proofs.Headers.{mark_stays, data_line_stays, header_stays}
 
 -- ---- parts between line feeds, when a byte comes
@@ -334,9 +335,6 @@ found_last : (xs : List HeaderLine) (l : HeaderLine) → find is_data_line xs �
 found_last xs l none = find-append is_data_line xs (l ∷ [])
     ∙ ap (λ o. option_or o (cond (is_data_line l) (Some l) None)) none
 
-take_one : (n : ℕ) (x : HeaderLine) (xs : List HeaderLine) → take (1 + n) (x ∷ xs) ≡ x ∷ take n xs
-take_one n x xs = (let e : 1 + n ≡ suc n = omega arith in ap (λ (n : ℕ). take n (x ∷ xs)) e)
-
 all_before : (xs : List HeaderLine) (l : HeaderLine) → find is_data_line xs ≡ None
     → is_data_line l ≡ true
     → take_while (λ line. not (is_data_line line)) (xs ++ l ∷ []) ≡ xs
@@ -473,7 +471,7 @@ short_step file b short none =
                 ∙ sym (ap (progress_at (file ++ b ∷ []) (file ++ b ∷ [])) line))
 
 -- the head of a file that is no longer than that, and of one that is
-whole_head : (file : List ℕ) → length file ≤ 65536 → head_of file ≡ file
+pub whole_head : (file : List ℕ) → length file ≤ 65536 → head_of file ≡ file
 whole_head file short = take_all_of file 65536 short
   where
     take_all_of : (xs : List ℕ) (n : ℕ) → length xs ≤ n → take n xs ≡ xs

@@ -2,7 +2,7 @@
 use Rattle.std.proofs.Common.{◌≡◌, ◌≢◌, ℕ, zero, suc, ◌+◌, ◌-◌, ◌*◌, ◌/◌, ◌%◌, ◌^◌, ◌<◌, ◌≤◌}
 use Rattle.std.proofs.Common.{Option, Some, None, inl, inr, refl, sym, subst, ◌∙◌, ap, arith}
 use Rattle.std.specs.Prelude.{is_some}
-use Rattle.std.proofs.Math.Nat.{pow-suc, pow-le-pow_right}
+use Rattle.std.proofs.Math.Nat.{pow-suc, pow-le-pow_right, one-le-pow}
 use Rattle.std.proofs.lemmas.Bool.{false≢true, cases_lt}
 use Rattle.oct_key.specs.Voxel.{Voxel, IsInMap}
 use Rattle.oct_key.specs.Block.{Cube, IsBlock, HoldsVoxel, child_of, lowest_voxel}
@@ -54,11 +54,6 @@ before_first : (c : Classes) (x : Class) (h : ℕ) (b : Cube) → IsPureBefore c
 before_first c x zero b = tt
 before_first c x (suc h) b = ((λ i less. absurd (omega arith)), before_first c x h (child_of b 0))
 
-some_power : (h : ℕ) → 0 < 8 ^ h
-some_power zero = omega arith
-some_power (suc h) =
-    (let power = pow-suc 8 h in let more = some_power h in omega (arith, power, more))
-
 -- a block of another class differs at its first voxel
 pub other_leaf : (c : Classes) (x y : Class) (h : ℕ) (b : Cube) → b.depth + h ≡ 16 → IsBlock b
     → class_of_block c b ≡ Some y → y ≢ x
@@ -67,7 +62,7 @@ other_leaf c x y h b all ok is ne = record {
   before = before_first c x h b;
   other = λ same. ne (sym (class_of_each c b y (voxel_on h b 0) ok is (voxel_held h b 0 all))
       ∙ same);
-  short = some_power h;
+  short = one-le-pow h 8 (omega arith);
 }
 
 -- the children before this one are all of one class

@@ -34,7 +34,7 @@ class_kept Free = refl
 class_kept Occupied = refl
 
 -- files of one node data and one resolution are one text
-same_text : (res : ℕ) (c e : Classes) → canonical_data c ≡ canonical_data e
+pub same_text : (res : ℕ) (c e : Classes) → canonical_data c ≡ canonical_data e
     → bt_text res c ≡ bt_text res e
 unfolding bt_text canonical_size
 same_text res c e same = ap (λ (data' : List ℕ). header_text (node_total data') res ++ data') same

@@ -4,8 +4,8 @@ use Rattle.std.proofs.Common.{cond, List, [], ◌∷◌, ◌++◌, length, inl, 
 use Rattle.std.proofs.Common.{ap, arith, append_assoc, append-nil, length-append}
 use Rattle.std.specs.Prelude.{◌⊎◌, ◌&&◌, ◌||◌, not, nat_eq}
 use Rattle.std.specs.List.{filter, flat_map}
-use Rattle.std.proofs.Math.Nat.{pow-suc}
-use Rattle.std.proofs.lemmas.Bool.{false≢true, cases_lt, eq-eqb, ne_eqb}
+use Rattle.std.proofs.Math.Nat.{pow-suc, one-le-pow}
+use Rattle.std.proofs.lemmas.Bool.{false≢true, cases_lt, eq-eqb, ne_eqb, and_parts}
 use Rattle.std.proofs.lemmas.List.Elements.{filter-append}
 use Rattle.oct_key.specs.Voxel.{Voxel}
 use Rattle.oct_key.specs.Block.{Cube, IsBlock, HoldsVoxel, child_of, child_index_of, parent_of}
@@ -57,16 +57,12 @@ unfoldable pub first_full : Classes → Cube → ℕ → Bool
 first_full c b zero = true
 first_full c b (suc i) = first_full c b i && is_full c (child_of b i)
 
-and_true : (p q : Bool) → (p && q) ≡ true → (p ≡ true) × (q ≡ true)
-and_true true q h = (refl, h)
-and_true false q h = absurd (false≢true h)
-
 first_each : (c : Classes) (b : Cube) (n i : ℕ) → first_full c b n ≡ true → i < n
     → is_full c (child_of b i) ≡ true
 unfolding first_full
 first_each c b zero i h l = absurd (omega arith)
 first_each c b (suc n) i h l =
-    let (before, here) = and_true (first_full c b n) (is_full c (child_of b n)) h in
+    let (before, here) = and_parts (first_full c b n) (is_full c (child_of b n)) h in
     elim (cases_lt i n) [
       | inl less ↦ first_each c b n i before less
       | inr last ↦ (let same : n ≡ i = omega (arith, l, last) in
@@ -141,7 +137,7 @@ pub first_of_full : (c : Classes) (h : ℕ) (b : Cube) (n : ℕ) → first_full 
 unfolding first_boxes children_before first_full
 first_of_full c h b zero full = refl
 first_of_full c h b (suc n) full =
-    let (before, here) = and_true (first_full c b n) (is_full c (child_of b n)) full in
+    let (before, here) = and_parts (first_full c b n) (is_full c (child_of b n)) full in
     ap (λ l. l ++ boxes_below c h (child_of b n)) (first_of_full c h b n before)
     ∙ ap (λ l. children_before b n ++ l) (boxes_of_full c h (child_of b n) here)
 
@@ -199,11 +195,6 @@ leaf_boxes c b class false ok all to from =
 
 -- ---- how many there are
 
-some_power : (h : ℕ) → 0 < 8 ^ h
-some_power zero = omega arith
-some_power (suc h) =
-    (let power = pow-suc 8 h in let more = some_power h in omega (arith, power, more))
-
 mutual_few : (c : Classes) (h : ℕ) → ((b : Cube) → length (boxes_below c h b) ≤ 8 ^ h)
     → (b : Cube) (n : ℕ) → length (first_boxes c h b n) ≤ n * 8 ^ h
 unfolding first_boxes
@@ -226,7 +217,7 @@ boxes_few c (suc h) b = by (mutual_few c h (λ b. boxes_few c h b) b 8) (is_full
     by : length (first_boxes c h b 8) ≤ 8 * 8 ^ h → (t : Bool) → is_full c b ≡ t
         → length (boxes_below c (suc h) b) ≤ 8 ^ suc h
     by few true is =
-        (let one = ap length (boxes_of_full c (suc h) b is) in let some = some_power (suc h) in
+        (let one = ap length (boxes_of_full c (suc h) b is) in let some = one-le-pow (suc h) 8 (omega arith) in
         omega (arith, one, some))
     by few false is =
         (let parts = ap length (boxes_of_parts c h b is) in let power = pow-suc 8 h in

@@ -5,7 +5,7 @@ use Rattle.std.proofs.Common.{append-nil, length-append}
 use Rattle.std.specs.Prelude.{codes, nat_lt, pos}
 use Rattle.std.specs.Fmt.{decimal}
 use Rattle.std.specs.Int.{abs_diff, is_negative}
-use Rattle.std.proofs.Math.Nat.{pow-suc}
+use Rattle.std.proofs.Math.Nat.{pow-suc, one-le-pow}
 use Rattle.oct_key.specs.Voxel.{IsResolution}
 use Rattle.oct_key.specs.Block.{Cube, IsBlock, side, child_of, root_block}
 use Rattle.oct_key.proofs.Blocks.{child_in_map, depth_child_of, root_in_map}
@@ -20,7 +20,7 @@ use Rattle.oct_export.specs.BoxTexts.{box_lines, vrml_text}
 use Rattle.oct_export.proofs.Lines.{whole_short, sign_short, faces_few, faces_is, apart_fits}
 use Rattle.oct_export.proofs.Lines.{size_fits}
 use Rattle.oct_export.proofs.Boxes.{first_boxes, boxes_of_full, boxes_of_parts, boxes_of_root}
-use Rattle.oct_export.proofs.Walks.{lines_append, bytes_next}
+use Rattle.oct_export.proofs.Walks.{lines_append, bytes_next, lines_due}
 
 fraction_length : (l : List ℕ) → length (fraction_text l) ≤ length l + 1
 fraction_length [] = omega arith
@@ -98,11 +98,6 @@ line_short edge b res ok =
     (codes " children [ Shape { geometry Box { size ") (codes " } } ] }\n")
     (omega arith) (omega arith) (omega arith) (omega arith)
 
-some_power : (h : ℕ) → 0 < 8 ^ h
-some_power zero = omega arith
-some_power (suc h) =
-    (let power = pow-suc 8 h in let more = some_power h in omega (arith, power, more))
-
 first_short : (c : Classes) (edge h : ℕ) (b : Cube)
     → ((i : ℕ) → length (box_lines edge (boxes_below c h (child_of b i))) ≤ 256 * 8 ^ h)
     → (n : ℕ) → length (box_lines edge (first_boxes c h b n)) ≤ n * (256 * 8 ^ h)
@@ -144,7 +139,7 @@ lines_short c edge (suc h) b res ok d =
     by few true is =
         (let one = lines_of_one edge b res ok in let same =
         ap (λ (l : List Cube). length (box_lines edge l)) (boxes_of_full c (suc h) b is) in
-        let some = some_power (suc h) in omega (arith, one, same, some))
+        let some = one-le-pow (suc h) 8 (omega arith) in omega (arith, one, same, some))
     by few false is =
         (let same = ap (λ (l : List Cube). length (box_lines edge l)) (boxes_of_parts c h b is) in
         let power = pow-suc 8 h in omega (arith, few, same, power))
@@ -169,11 +164,6 @@ boxes_parts c full is = by full is ∙ sym (boxes_of_root c)
         → boxes_found c 0 root_block ++ cond t (root_block ∷ []) [] ≡ boxes_below c 16 root_block
     by true full = rw (sym full) (sym (boxes_of_full c 16 root_block (sym full)))
     by false part = rw (sym part) (append-nil (boxes_below c 16 root_block))
-
-lines_due : (edge : ℕ) (b : Cube) (t : Bool) → box_lines edge (cond t (b ∷ []) [])
-    ≡ cond t (box_line edge b) []
-lines_due edge b true = append-nil (box_line edge b)
-lines_due edge b false = refl
 
 pub scene_parts : (c : Classes) (edge res : ℕ) (head : List ℕ) (a b : Cube) (full : Bool)
     → head ≡ codes "#VRML V2.0 utf8\n"

@@ -92,7 +92,7 @@ pub lines_append : (edge : ℕ) (xs ys : List Cube) → box_lines edge (xs ++ ys
     ≡ box_lines edge xs ++ box_lines edge ys
 lines_append edge xs ys = flat_map-append (box_line edge) xs ys
 
-lines_due : (edge : ℕ) (b : Cube) (t : Bool) → box_lines edge (cond t (b ∷ []) [])
+pub lines_due : (edge : ℕ) (b : Cube) (t : Bool) → box_lines edge (cond t (b ∷ []) [])
     ≡ cond t (box_line edge b) []
 lines_due edge b true = append-nil (box_line edge b)
 lines_due edge b false = refl

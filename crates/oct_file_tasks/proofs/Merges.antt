@@ -2,13 +2,11 @@
 use Rattle.std.proofs.Common.{◌≡◌, ℕ, ◌≤◌, ◌^◌, List, ◌++◌, length}
 use Rattle.std.proofs.Common.{Ok, Err, inl, inr, sym, ◌∙◌, ap}
 use Rattle.std.proofs.Common.{le_trans}
-use Rattle.std.proofs.Math.Path.{fun_ext}
 use Rattle.std.specs.Prelude.{◌⊎◌}
+use Rattle.oct_convert.proofs.Canonicals.{same_text}
 use Rattle.oct_key.specs.Voxel.{Voxel, IsInMap}
-use Rattle.oct_key.specs.Block.{Cube}
 use Rattle.oct_key.specs.Boxes.{Corners}
 use Rattle.oct_odds.specs.Odds.{Odds, default_odds}
-use Rattle.oct_odds.specs.Update.{class_of, Value}
 use Rattle.oct_tree.specs.Changes.{IsGrown}
 use Rattle.oct_tree.specs.Tree.{Tree, value_at}
 use Rattle.oct_values.specs.Classes.{Classes, classes_of}
@@ -16,7 +14,7 @@ use Rattle.oct_merge.specs.declared.rule.Rule.{Rule}
 use Rattle.oct_join.specs.Merged.{merged_classes}
 use Rattle.oct_join.proofs.Classes.{class_merged}
 use Rattle.oct_merge.specs.Pairs.{pair_counts}
-use Rattle.oct_bt.specs.Canonical.{canonical_data, canonical_size, node_total}
+use Rattle.oct_bt.specs.Canonical.{canonical_data, canonical_size}
 use Rattle.oct_bt.specs.Classes.{value_for}
 use Rattle.oct_bt.specs.DataClasses.{data_classes}
 use Rattle.oct_bt.specs.File.{FileRead, bt_text, file_text, header_text, reading}
@@ -50,12 +48,6 @@ filled_values s t u file odds grown accepted values k in_map =
     ∙ ap (λ (o : Odds). value_for o (data_classes file.codes k)) (grown.odds ∙ odds)
 
 -- ---- the file
-
--- files of one node data and one resolution are one text
-same_text : (res : ℕ) (c e : Classes) → canonical_data c ≡ canonical_data e
-    → bt_text res c ≡ bt_text res e
-unfolding bt_text canonical_size
-same_text res c e same = ap (λ (data' : List ℕ). header_text (node_total data') res ++ data') same
 
 -- the file of the joined records is that of the merged values
 pub joined_file : (rule : Rule) (pair : Pair) (file : FileRead) → file.res ≡ pair.first.res

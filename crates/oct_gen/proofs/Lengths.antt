@@ -1,6 +1,6 @@
 -- How long a script can be.
-use Rattle.std.proofs.Common.{ℕ, zero, suc, ◌+◌, ◌*◌, ◌/◌, ◌%◌, ◌^◌, ◌<◌, ◌≤◌, ℤ, pos, negsuc}
-use Rattle.std.proofs.Common.{◌*ℤ◌, unsigned_abs, Bool, true, false, cond, nat_eq, List, []}
+use Rattle.std.proofs.Common.{ℕ, ◌+◌, ◌*◌, ◌/◌, ◌%◌, ◌^◌, ◌<◌, ◌≤◌, ℤ, pos, negsuc}
+use Rattle.std.proofs.Common.{◌*ℤ◌, unsigned_abs, Bool, true, false, List, []}
 use Rattle.std.proofs.Common.{◌∷◌, ◌++◌, length, get_or, subst, arith}
 use Rattle.std.specs.Prelude.{codes}
 use Rattle.std.specs.List.{flat_map, range_with_len, sum_by}
@@ -16,6 +16,7 @@ use Rattle.std.specs.Int.{is_negative}
 use Rattle.oct_num.specs.Form.{fraction_text}
 use Rattle.oct_num.specs.MetresText.{leading_digits, metres_text}
 use Rattle.oct_num.specs.Sign.{sign_text}
+use Rattle.oct_num.proofs.MetresWriting.{leading_few}
 use Rattle.oct_gen.specs.Draws.{draw, drawn_within}
 use Rattle.oct_gen.specs.Script.{length_text, point_text, scan_line, point_line, points_text}
 use Rattle.oct_gen.specs.Script.{scan_text, scans_text, header_line, script_of}
@@ -28,17 +29,6 @@ fraction_short : (digits : List ℕ) → length (fraction_text digits) ≤ lengt
 fraction_short [] = omega arith
 fraction_short (digit ∷ digits) = omega arith
 
-digits_short : (places n : ℕ) → length (leading_digits places n) ≤ places
-unfolding leading_digits
-digits_short zero n = omega arith
-digits_short (suc places) n =
-    elim (nat_eq n 0) as
-    (λ b. length (cond b [] ((48 + n / 10 ^ places) ∷ leading_digits places (n % 10 ^ places)))
-    ≤ suc places) [
-      | true ↦ omega arith
-      | false ↦ (let rest = digits_short places (n % 10 ^ places) in omega (arith, rest))
-    ]
-
 -- a length below ten metres
 metres_short : (nm : ℤ) → unsigned_abs nm < 10 ^ 10 → length (metres_text nm) ≤ 12
 unfolding metres_text
@@ -48,7 +38,7 @@ metres_short nm small =
     let b = length-decimal-le 1 (unsigned_abs nm / 10 ^ 9) (omega arith) (omega (arith, whole))
     (omega (arith, whole)) in
     let c = fraction_short (leading_digits 9 (unsigned_abs nm % 10 ^ 9)) in
-    let d = digits_short 9 (unsigned_abs nm % 10 ^ 9) in
+    let d = leading_few 9 (unsigned_abs nm % 10 ^ 9) in
     let e = length-append (sign_text (is_negative nm))
     (decimal (unsigned_abs nm / 10 ^ 9)
     ++ fraction_text (leading_digits 9 (unsigned_abs nm % 10 ^ 9))) in

@@ -8,6 +8,7 @@ use Rattle.oct_key.specs.Block.{Cube, block_of, child_index_of}
 use Rattle.oct_key.specs.Morton.{interleaved, gathered, morton_of, code_prefix}
 use Rattle.oct_key.proofs.Blocks.{same_cube, quotient_below}
 use Rattle.oct_key.proofs.Spreads.{spread}
+use Rattle.oct_key.proofs.SameVoxels.{same_voxel}
 
 -- this many interleaved bits are as many digits of 0 to 7
 pub interleaved_below : (n x y z : ℕ) → interleaved n x y z < 8 ^ n
@@ -143,12 +144,6 @@ pub morton_below : (k : Voxel) → morton_of k < 2 ^ 48
 unfolding morton_of
 morton_below k = interleaved_below 16 k.x k.y k.z
 
-same_key : (a b : Voxel) → a.x ≡ b.x → a.y ≡ b.y → a.z ≡ b.z → a ≡ b
-same_key a b x y z =
-    let key : ℕ → ℕ → ℕ → Voxel = λ x y z. record { x = x; y = y; z = z } in
-    let e : key a.x a.y a.z ≡ key b.x b.y b.z = rw (x, y, z) refl in
-    e
-
 -- voxels of the map of the same code are one
 pub morton_injective : (a b : Voxel) → IsInMap a → IsInMap b → morton_of a ≡ morton_of b → a ≡ b
 unfolding morton_of
@@ -156,7 +151,7 @@ morton_injective a b on_a on_b e =
     let parts =
     interleaved_injective 16 a.x a.y a.z b.x b.y b.z on_a.x on_a.y on_a.z on_b.x on_b.y on_b.z
     e in
-    same_key a b parts.0 parts.1 parts.2
+    same_voxel a b parts.0 parts.1 parts.2
 
 -- the voxel that is gathered from a code has it
 pub morton_of_gathered : (m x y z : ℕ) → m < 2 ^ 48 → x ≡ gathered 16 m → y ≡ gathered 16 (m / 2)

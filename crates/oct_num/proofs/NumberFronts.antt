@@ -11,6 +11,7 @@ use Rattle.oct_num.specs.Decimal.{is_digit, decimal_value, AreDigits}
 use Rattle.oct_num.specs.Whole.{natural_of}
 use Rattle.oct_num.proofs.DigitRuns.{step_fits, front_digits}
 use Rattle.oct_num.proofs.WholeLaw.{natural_read, natural_is}
+use Rattle.oct_num.proofs.FormReading.{run_all}
 
 -- the first i bytes are digits, and this is the number of those before them and of theirs, where
 -- they are at most eighteen
@@ -101,12 +102,6 @@ read_number front text from at value onward within stops read before h few =
     let fits : before + (at - from) ≤ 18 = omega (arith, count, few) in
     rw (← count) (read.number before h fits, read.small before h fits)
 
--- all bytes are digits
-all_read : (text : List ℕ) → AllPass is_digit text → prefix_len is_digit text ≡ length text
-all_read text all =
-    prefix_len_is is_digit text (length text) 0 (omega arith) (λ k h. all k 0 h)
-    (λ h. absurd (omega arith))
-
 -- a number of one to eighteen digits that has no other bytes
 pub natural_found : (text : List ℕ) (count value : ℕ) → count ≡ 0 + prefix_len is_digit text
     → (count ≡ 0 → ⊥) → count ≤ 18 → length text ≤ count
@@ -133,7 +128,7 @@ natural_missing text count counted wrong = by_cases (natural_of text) refl
     by_cases None same = sym same
     by_cases (Some n) same =
         let is = natural_is text n same in
-        let all : count ≡ length text = omega (arith, counted, all_read text is.are_digits.all) in
+        let all : count ≡ length text = omega (arith, counted, run_all text is.are_digits.all) in
         absurd (elim wrong [
           | inl none ↦ omega (arith, none, all, is.are_digits.some)
           | inr more ↦ elim more [

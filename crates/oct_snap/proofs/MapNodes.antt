@@ -2,7 +2,7 @@
 use Rattle.std.proofs.Common.{◌≡◌, ℕ, zero, suc, ◌+◌, ◌<◌, ◌≤◌, Option, Some, None, refl, sym}
 use Rattle.std.proofs.Common.{subst, ◌∙◌, ap, arith}
 use Rattle.std.specs.Prelude.{Bool, true, false, ◌&&◌, is_some}
-use Rattle.std.proofs.lemmas.Bool.{false≢true}
+use Rattle.std.proofs.lemmas.Bool.{false≢true, and_parts}
 use Rattle.oct_key.specs.Voxel.{Voxel, IsInMap}
 use Rattle.oct_key.specs.Values.{Values}
 use Rattle.oct_key.specs.Block.{Cube, IsBlock, HoldsVoxel, child_of, child_index_of, lowest_voxel}
@@ -61,16 +61,12 @@ row_value o h d f k each m (suc n) (suc j) few lj =
     ∙ row_value o h d f k each (suc m) n j (omega (arith, few)) (omega (arith, lj))
     ∙ (let e : suc m + j ≡ m + suc j = omega arith in ap (λ (i : ℕ). value_in d (f i) 0 k) e)
 
-both_true : (a b : Bool) → (a && b) ≡ true → (a ≡ true) × (b ≡ true)
-both_true true b e = (refl, e)
-both_true false b e = absurd (false≢true e)
-
 one_all : (o : Odds) (h : ℕ) (v : Value) (a : Nodes) → AreNodes o h 1 a → are_all v a ≡ true
     → kind_of a ≡ Some v
 unfolding are_all
 one_all o h v End is all = absurd is
 one_all o h v (Whole w End) (within, is) all =
-    ap Some (sym (is_same_value_exact v w (both_true (is_same_value v w) true all).0))
+    ap Some (sym (is_same_value_exact v w (and_parts (is_same_value v w) true all).0))
 one_all o h v (Whole w (Whole x a)) (within, is) all = absurd is
 one_all o zero v (Whole w (Parted i a)) (within, is) all = absurd is
 one_all o (suc h) v (Whole w (Parted i a)) (within, is) all = absurd is
@@ -83,12 +79,12 @@ row_all : (o : Odds) (h : ℕ) (f : ℕ → Nodes) (v : Value) → ((i : ℕ) �
 unfolding row_from
 row_all o h f v each m zero j few lj all = absurd (omega (arith, lj))
 row_all o h f v each m (suc n) zero few lj all =
-    (let both = both_true (are_all v (f m)) (are_all v (row_from f (suc m) n))
+    (let both = and_parts (are_all v (f m)) (are_all v (row_from f (suc m) n))
     (sym (all_joined v (f m) (row_from f (suc m) n)) ∙ all) in
     let e : m + 0 ≡ m = omega arith in
     ap (λ (i : ℕ). kind_of (f i)) e ∙ one_all o h v (f m) (each m (omega (arith, few))) both.0)
 row_all o h f v each m (suc n) (suc j) few lj all =
-    (let both = both_true (are_all v (f m)) (are_all v (row_from f (suc m) n))
+    (let both = and_parts (are_all v (f m)) (are_all v (row_from f (suc m) n))
     (sym (all_joined v (f m) (row_from f (suc m) n)) ∙ all) in
     let e : m + suc j ≡ suc m + j = omega arith in
     ap (λ (i : ℕ). kind_of (f i)) e ∙ row_all o h f v each (suc m) n j (omega (arith, few))

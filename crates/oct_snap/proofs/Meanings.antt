@@ -3,7 +3,7 @@ use Rattle.std.proofs.Common.{◌≡◌, ℕ, zero, suc, ◌+◌, ◌<◌, ◌�
 use Rattle.std.proofs.Common.{◌++◌, refl, sym, subst, ◌∙◌, ap, arith, append-nil}
 use Rattle.std.specs.Prelude.{Bool, true, false, ◌&&◌, is_some, Ok}
 use Rattle.std.specs.List.{All, flat_map}
-use Rattle.std.proofs.lemmas.Bool.{false≢true}
+use Rattle.std.proofs.lemmas.Bool.{false≢true, and_parts}
 use Rattle.oct_key.specs.Voxel.{Voxel, IsInMap}
 use Rattle.oct_key.specs.Values.{Values}
 use Rattle.oct_key.specs.Block.{Cube, IsBlock, HoldsVoxel, child_of, child_index_of, root_block}
@@ -114,15 +114,11 @@ row_is o values (suc h) d b each m (suc n) (Parted i row) few (inner, varied, ar
       alike = λ w all. absurd (false≢true (ap is_some (one.kind ∙ all m (omega arith))));
     }
 
-both_true : (a b : Bool) → (a && b) ≡ true → (a ≡ true) × (b ≡ true)
-both_true true b e = (refl, e)
-both_true false b e = absurd (false≢true e)
-
 alike_row : (row : Nodes) (v : Value) → are_all v row ≡ true → are_alike row ≡ false → ⊥
 unfolding are_all are_alike
 alike_row End v all varied = false≢true (sym varied)
 alike_row (Whole w row) v all varied =
-    let (same, rest) = both_true (is_same_value v w) (are_all v row) all in
+    let (same, rest) = and_parts (is_same_value v w) (are_all v row) all in
     false≢true (sym varied ∙ ap (λ (x : Value). are_all x row) (sym (is_same_value_exact v w same))
     ∙ rest)
 alike_row (Parted i row) v all varied = false≢true all

@@ -5,7 +5,7 @@ use Rattle.std.proofs.Common.{append_assoc, append-nil, length-append}
 use Rattle.std.specs.Prelude.{is_some}
 use Rattle.std.specs.List.{flat_map}
 use Rattle.std.proofs.lemmas.Bool.{false≢true}
-use Rattle.std.proofs.Math.Nat.{pow-suc, pow-le-pow_right}
+use Rattle.std.proofs.Math.Nat.{pow-suc, pow-le-pow_right, one-le-pow}
 use Rattle.oct_key.specs.Values.{Values}
 use Rattle.oct_key.specs.Boxes.{Corners}
 use Rattle.oct_key.specs.Voxel.{Voxel, IsInMap}
@@ -74,11 +74,6 @@ texts_short f m (suc n) h =
 
 -- ---- the length of a node
 
-some_power : (h : ℕ) → 0 < 8 ^ h
-some_power zero = omega arith
-some_power (suc h) =
-    (let power = pow-suc 8 h in let more = some_power h in omega (arith, power, more))
-
 whole_short : (v : Value) → length (whole_text v) ≤ 5
 whole_short None = omega arith
 whole_short (Some n) = omega arith
@@ -87,19 +82,19 @@ node_by_short : (h : ℕ) (texts : ℕ → List ℕ) (o : Option Value)
     → ((i : ℕ) → length (texts i) < 6 * 8 ^ h)
     → length (text_with o (flat_map texts child_numbers)) < 6 * 8 ^ suc h
 node_by_short h texts (Some v) each =
-    (let few = whole_short v in let power = pow-suc 8 h in let more = some_power h in
+    (let few = whole_short v in let power = pow-suc 8 h in let more = one-le-pow h 8 (omega arith) in
     omega (arith, few, power, more))
 node_by_short h texts None each =
     let all : length (flat_map texts child_numbers) ≡ length (first_texts texts 8) =
     ap length (all_texts texts) in
     let few = texts_short texts (6 * 8 ^ h - 1) 8 (λ i. (let one = each i in omega (arith, one))) in
     let power = pow-suc 8 h in
-    let more = some_power h in
+    let more = one-le-pow h 8 (omega arith) in
     omega (arith, all, few, power, more)
 
 pub whole_fits : (h n : ℕ) (v : Value) → n ≡ length (whole_text v) → n < 6 * 8 ^ h
 whole_fits h n v is =
-    (let few = whole_short v in let more = some_power h in omega (arith, few, more, is))
+    (let few = whole_short v in let more = one-le-pow h 8 (omega arith) in omega (arith, few, more, is))
 
 pub node_short : (h : ℕ) (values : Values) (b : Cube) → length (node_text h values b) < 6 * 8 ^ h
 unfolding node_text

@@ -17,7 +17,7 @@ use Rattle.oct_values.specs.Events.{event_at, updated}
 use Rattle.oct_values.specs.Needs.{is_reached, event_need}
 use Rattle.oct_values.specs.Counts.{group_count}
 use Rattle.oct_values.proofs.Sums.{All-follows, sum_by-each_le, sum_by-turned}
-use Rattle.oct_values.proofs.Listed.{all_above_voxels, block_listed_once}
+use Rattle.oct_values.proofs.Listed.{all_above_voxels, block_listed_once, counted}
 use Rattle.oct_values.proofs.Reached.{reached_exactly}
 use Rattle.oct_values.proofs.Kept.{groups_after_events}
 
@@ -46,10 +46,6 @@ all_of_depths f (suc n) h =
     let here = h n (omega arith) in
     let rest = all_of_depths f n (λ d l. h d (omega arith)) in
     omega (arith, all, here, rest)
-
--- a test that passes counts one
-counted : (test : Bool) → test ≡ true → cond {A = ℕ} test 1 0 ≡ 1
-counted test passes = rw passes refl
 
 -- at how many depths the block around the voxel is this one
 abbrev times_around : Voxel → Cube → ℕ

@@ -46,11 +46,11 @@ unfolding blocks_below
 sum_of_no_blocks f b = refl
 
 -- a test that fails counts nothing
-uncounted : (test : Bool) → (test ≡ true → ⊥) → cond {A = ℕ} test 1 0 ≡ 0
+pub uncounted : (test : Bool) → (test ≡ true → ⊥) → cond {A = ℕ} test 1 0 ≡ 0
 uncounted true fails = absurd (fails refl)
 uncounted false fails = refl
 
-counted : (test : Bool) → test ≡ true → cond {A = ℕ} test 1 0 ≡ 1
+pub counted : (test : Bool) → test ≡ true → cond {A = ℕ} test 1 0 ≡ 1
 counted test passes = rw passes refl
 
 -- a block that doesn't lie in this one isn't counted
