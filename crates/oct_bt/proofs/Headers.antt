@@ -153,7 +153,8 @@ find_stays : (p : HeaderLine → Bool) (xs ys : List HeaderLine) (l : HeaderLine
     → find p (xs ++ ys) ≡ Some l
 find_stays p xs ys l h = find-append p xs ys ∙ ap (λ o. option_or o (find p ys)) h
 
-pub take_one : (n : ℕ) (x : HeaderLine) (xs : List HeaderLine) → take (1 + n) (x ∷ xs) ≡ x ∷ take n xs
+pub take_one : (n : ℕ) (x : HeaderLine) (xs : List HeaderLine)
+    → take (1 + n) (x ∷ xs) ≡ x ∷ take n xs
 take_one n x xs = (let e : 1 + n ≡ suc n = omega arith in ap (λ (n : ℕ). take n (x ∷ xs)) e)
 
 before_stays : (p : HeaderLine → Bool) (xs ys : List HeaderLine) (l : HeaderLine)

@@ -177,10 +177,11 @@ pub record IsAbove (d : ℕ) (b : Cube) : Type 0 where
   pub next : 16 - d ≡ suc (16 - (d + 1))
   pub child : (i : ℕ) → (child_of b i).depth + (16 - (d + 1)) ≡ 16
 
-pub above : (t : Tree) (p : Place) (d : ℕ) (id : GroupId) (b : Cube) → IsLinked t → IsPlace t p
+pub linked_above : (t : Tree) (p : Place) (d : ℕ) (id : GroupId) (b : Cube) → IsLinked t
+    → IsPlace t p
     → ((b : Cube) → block_in t p ≡ Some b → b.depth ≡ d) → link_of (node_in t p) ≡ Some id.number
     → block_in t p ≡ Some b → IsAbove d b
-above t p d id b l place deep link at =
+linked_above t p d id b l place deep link at =
     let (ok, low) = inner_block t p id b l place link at in
     let same = deep b at in
     record {

@@ -36,10 +36,10 @@ abbrev IsGoingOn : Progress → Type 0
 IsGoingOn (Reads pending half records) = ⊤
 IsGoingOn (Stopped fault) = IsOfFile fault
 
-either : {A : Type 0} (P : A → Type 0) (test : Bool) (x y : A) → P x → P y
+holds_of_either : {A : Type 0} (P : A → Type 0) (test : Bool) (x y : A) → P x → P y
     → P (if test then x else y)
-either P true x y one other = one
-either P false x y one other = other
+holds_of_either P true x y one other = one
+holds_of_either P false x y one other = other
 
 -- ---- node data
 
@@ -49,7 +49,7 @@ more_read start (Stopped fault) byte on = on
 more_read start (Reads [] half records) byte on = tt
 more_read start (Reads (depth ∷ others) None records) byte on = tt
 more_read start (Reads (depth ∷ others) (Some first) records) byte on =
-    either IsGoingOn (nat_eq depth 15 && nat_lt 0 (records_in first byte))
+    holds_of_either IsGoingOn (nat_eq depth 15 && nat_lt 0 (records_in first byte))
     (Stopped (TooDeep (start + length records)))
     (Reads (replicate (records_in first byte) (suc depth) ++ others) None
     (records ++ first ∷ byte ∷ [])) tt tt
@@ -69,7 +69,7 @@ judged_told : (start size total : ℕ) (p : Progress) → IsGoingOn p
 judged_told start size total (Stopped fault) on = on
 judged_told start size total (Reads (depth ∷ others) half records) on = tt
 judged_told start size total (Reads [] half records) on =
-    either IsTold (nat_eq size (node_total records)) (Ok records)
+    holds_of_either IsTold (nat_eq size (node_total records)) (Ok records)
     (Err (SizeMismatch size (node_total records))) tt tt
 
 nodes_told : (start size : ℕ) (bytes : List ℕ) → IsTold (read_nodes start size bytes)
@@ -98,7 +98,7 @@ id_told start (Some true) res size = res_told start res size
 
 header_at_told : (head : List ℕ) (line : Option HeaderLine) → IsTold (header_at head line)
 header_at_told head None =
-    either IsOfFile (nat_lt (length head) 65536) (MissingField Data) HeaderTooLong tt tt
+    holds_of_either IsOfFile (nat_lt (length head) 65536) (MissingField Data) HeaderTooLong tt tt
 header_at_told head (Some line) =
     id_told line.after (head_fields head).id (head_fields head).res (head_fields head).size
 
@@ -109,10 +109,11 @@ marked_told (Some fault) header mark told = mark
 
 mark_told : (text : List ℕ) → IsMarked (first_line_fault text)
 mark_told text =
-    either IsMarked (starts_with nat_eq text (codes "# Octomap OcTree binary file")) None
+    holds_of_either IsMarked (starts_with nat_eq text (codes "# Octomap OcTree binary file")) None
     (if starts_with nat_eq text (codes "# Octomap OcTree file") then Some FloatTree
     else Some NotOctomap) tt
-    (either IsMarked (starts_with nat_eq text (codes "# Octomap OcTree file")) (Some FloatTree)
+    (holds_of_either IsMarked (starts_with nat_eq text (codes "# Octomap OcTree file")) (Some
+    FloatTree)
     (Some NotOctomap) tt tt)
 
 header_told : (head : List ℕ) → IsTold (header_of head)

@@ -19,9 +19,9 @@ going None p h = refl
 going (Some fault) p h = absurd (false≢true (sym h))
 
 -- a value that isn't there
-pub none_of : (o : Option ℕ) → ((x : ℕ) → o ≡ Some x → ⊥) → o ≡ None
-none_of None h = refl
-none_of (Some x) h = absurd (h x refl)
+pub never_some : (o : Option ℕ) → ((x : ℕ) → o ≡ Some x → ⊥) → o ≡ None
+never_some None h = refl
+never_some (Some x) h = absurd (h x refl)
 
 -- a byte where no record is to come
 pub byte_trails : (start : ℕ) (stop : Option BtFault) (path : List ℕ) (half : Option ℕ)

@@ -56,14 +56,14 @@ in_child class classes h b i = count_by (λ k. is_same_class (classes k) class)
 
 -- where a record is said to give the children of a block the classes of its entries, it gives the
 -- block those
-by_children : (class : Class) (d h : ℕ) (b : Cube) (r : Entries) → b.depth ≡ d → d + h ≡ 15
+volume_by_children : (class : Class) (d h : ℕ) (b : Cube) (r : Entries) → b.depth ≡ d → d + h ≡ 15
     → IsBlock b
     → ((f : ℕ → ℕ) → ((i : ℕ) → i < 8 → f i ≡ in_child class (λ k. class_in d r i k) h b i)
     → sum_from 0 8 f ≡ class_voxels class d r)
     → count_by (λ k. is_same_class (class_by d r k) class) (voxels_below (suc h) b)
     ≡ class_voxels class d r
 unfolding voxels_below in_child
-by_children class d h b r deep high ok sums =
+volume_by_children class d h b r deep high ok sums =
     sum_by-flat_map (λ k. cond {A = ℕ} (is_same_class (class_by d r k) class) 1 0)
     (λ i. voxels_below h (child_of b i)) child_numbers
     ∙ whole_sum (in_child class (class_by d r) h b)
@@ -118,7 +118,7 @@ entries_sum class (Record r es) d (suc n) i (suc h) b f deep high ok few (low, i
     let in_map : IsBlock (child_of b (i + 0)) = child_in_map b (i + 0) ok (omega (arith, deep, low))
     in
     let first : f i ≡ class_voxels class (suc d) r = ap f (sym at) ∙ each 0 (omega arith)
-    ∙ by_children class (suc d) h (child_of b (i + 0)) r below more in_map
+    ∙ volume_by_children class (suc d) h (child_of b (i + 0)) r below more in_map
     (λ g inside. entries_sum class r (suc d) 8 0 h (child_of b (i + 0)) g below more in_map
     (omega arith) inner
     (λ j l. (let same : j ≡ 0 + j = omega arith in
@@ -136,7 +136,7 @@ root_sum : (class : Class) (r : Entries) → IsRecord 0 r
     → count_by (λ k. is_same_class (class_by 0 r k) class) (voxels_of root_block)
     ≡ class_voxels class 0 r
 root_sum class r is =
-    by_children class 0 15 root_block r refl refl root_in_map
+    volume_by_children class 0 15 root_block r refl refl root_in_map
     (λ f each. entries_sum class r 0 8 0 15 root_block f refl refl root_in_map (omega arith) is
     (λ j l. (let same : j ≡ 0 + j = omega arith in
     ap f (sym same) ∙ each j l ∙ ap (in_child class (λ k. class_in 0 r j k) 15 root_block) same)))

@@ -171,12 +171,12 @@ header_length size res =
 abbrev lines_in : List ℕ → List ℕ → List ℕ → List (List ℕ) → List HeaderLine
 lines_in size res p ps = drop 1 (lines_from 0 (header_lines size res ++ (p ∷ ps)))
 
-found : (d e : ℕ) (ds es p : List ℕ) (ps : List (List ℕ)) → IsFieldText (d ∷ ds)
+data_line_found : (d e : ℕ) (ds es p : List ℕ) (ps : List (List ℕ)) → IsFieldText (d ∷ ds)
     → IsFieldText (e ∷ es)
     → find is_data_line (lines_in (d ∷ ds) (e ∷ es) p ps)
     ≡ Some (record { name = codes "data"; value = []; after = header_length (d ∷ ds) (e ∷ es) })
 unfolding lines_from
-found d e ds es p ps s r = rw (size_name d ds s, res_name e es r) refl
+data_line_found d e ds es p ps s r = rw (size_name d ds s, res_name e es r) refl
 
 found_fields : (d e : ℕ) (ds es p : List ℕ) (ps : List (List ℕ)) → IsFieldText (d ∷ ds)
     → IsFieldText (e ∷ es)
@@ -216,10 +216,10 @@ file_lines size res rest s r few =
           ∙ ap (λ t. drop 1 (lines_from 0 (header_lines size res ++ t))) parts,
     )
 
-begins : (size res rest : List ℕ)
+first_line_faultless : (size res rest : List ℕ)
     → first_line_fault (head_of (text_of_lines (header_lines size res) ++ rest)) ≡ None
 unfolding text_of_lines
-begins size res rest = refl
+first_line_faultless size res rest = refl
 
 -- a header that is written is read, whatever follows it
 pub header_written : (d e : ℕ) (ds es rest : List ℕ) (n edge : ℕ) → IsFieldText (d ∷ ds)
@@ -232,8 +232,8 @@ unfolding header_of
 header_written d e ds es rest n edge s r few number resolution =
     let (p, ps, lines) = file_lines (d ∷ ds) (e ∷ es) rest s r few in
     by_head (head_of (text_of_lines (header_lines (d ∷ ds) (e ∷ es)) ++ rest))
-    (begins (d ∷ ds) (e ∷ es) rest)
-    (ap (find is_data_line) lines ∙ found d e ds es p ps s r)
+    (first_line_faultless (d ∷ ds) (e ∷ es) rest)
+    (ap (find is_data_line) lines ∙ data_line_found d e ds es p ps s r)
     (ap (λ ls. fields_of (take_while (λ line. not (is_data_line line)) ls)) lines
     ∙ found_fields d e ds es p ps s r)
   where

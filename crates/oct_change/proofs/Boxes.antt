@@ -27,10 +27,10 @@ below_start now P from to size old spare same none = record {
   room = (let nothing : to - from ≡ 0 = omega arith in rw nothing (omega arith));
 }
 
-pub one_more : (from to size before between after : ℕ) → from ≤ to
+pub room_one_more : (from to size before between after : ℕ) → from ≤ to
     → before ≡ between + (to - from) * size → between ≡ after + size
     → before ≡ after + (to + 1 - from) * size
-one_more from to size before between after low total here =
+room_one_more from to size before between after low total here =
     let next : to + 1 - from ≡ (to - from) + 1 = omega arith in
     rw next (omega (arith, total, here))
 
@@ -58,7 +58,7 @@ row_step now x y low z old mid new before between after f g room = record {
             (arith, height),
       )));
   low = (let start = f.low in omega arith);
-  room = one_more low z 1 before between after f.low f.room room;
+  room = room_one_more low z 1 before between after f.low f.room room;
 }
 
 -- of a plane the rows below one
@@ -81,7 +81,7 @@ plane_step now x y size lo hi old mid new before between after f g room = record
       (λ k (ex, ey, (low, high)). (let start = f.low in
       (ex, omega (arith, start, ey), omega (arith, ey), low, high)));
   low = (let start = f.low in omega arith);
-  room = one_more lo.y y size before between after f.low f.room room;
+  room = room_one_more lo.y y size before between after f.low f.room room;
 }
 
 -- of a box the planes below one
@@ -106,5 +106,5 @@ box_step now x size lo hi old mid new before between after most f g room = recor
         omega (arith, ex),
       )));
   low = (let start = f.low in omega arith);
-  room = one_more lo.x x size before between after f.low f.room room;
+  room = room_one_more lo.x x size before between after f.low f.room room;
 }

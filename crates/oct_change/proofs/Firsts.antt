@@ -32,9 +32,9 @@ or_some : {A : Type 0} (o p : Option A) → is_some o ≡ true → option_or o p
 or_some None p h = absurd (false≢true h)
 or_some (Some x) p h = refl
 
-none_of : {A : Type 0} (o : Option A) → is_some o ≡ false → o ≡ None
-none_of None h = refl
-none_of (Some x) h = absurd (true≢false h)
+none_unless_some : {A : Type 0} (o : Option A) → is_some o ≡ false → o ≡ None
+none_unless_some None h = refl
+none_unless_some (Some x) h = absurd (true≢false h)
 
 -- a voxel that isn't noted yet takes its note
 pub first_put : (notes : List Note) (i : ℕ) (d : Note) (m n : BTreeMap Voxel Class)
@@ -55,7 +55,7 @@ first_put notes i d m n l so_far absent put k =
         refl in
         let none : first_noted (take i notes) k ≡ None = sym (so_far k)
         ∙ ap (get key_cmp m) (sym (is_same_voxel_exact (get_or notes i d).key k e))
-        ∙ none_of _ absent in
+        ∙ none_unless_some _ absent in
         rw (none, here) refl)
     by_test false e =
         (let here : first_noted (get_or notes i d ∷ []) k ≡ None = rw e refl in

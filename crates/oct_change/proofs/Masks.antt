@@ -93,14 +93,14 @@ pub record HasNotedFirst (now : Classes) (bricks : List Brick) (i : ℕ) (old ne
   pub noted : HasNoted now (IsOf (take i bricks)) old new
   pub room : before ≡ after + voxel_count (take i bricks)
 
-none_of : (k : Voxel) → Contains {X = Voxel} [] k → ⊥
-none_of k h = contains_none k h
+nothing_contained : (k : Voxel) → Contains {X = Voxel} [] k → ⊥
+nothing_contained k h = contains_none k h
 
 pub first_start : (now : Classes) (bricks : List Brick) (old : List Note) (spare : ℕ)
     → HasNotedFirst now bricks 0 old old spare spare
 first_start now bricks old spare = record {
   noted = noted_none now (IsOf (take 0 bricks)) old
-      (λ k h. elim h [ inl a ↦ none_of k a | inr b ↦ none_of k b ]);
+      (λ k h. elim h [ inl a ↦ nothing_contained k a | inr b ↦ nothing_contained k b ]);
   room = omega arith;
 }
 

@@ -69,10 +69,11 @@ filled_text s t u file res odds grown accepted values kept_res kept_odds =
     (filled_classes s t u file odds grown accepted values kept_odds))
 
 -- a file whose node data is canonical, written again, is the canonical one
-again : (file : FileRead) → IsAccepted file.nodes file.codes → is_canonical file.codes ≡ true
+canonical_written_again : (file : FileRead) → IsAccepted file.nodes file.codes
+    → is_canonical file.codes ≡ true
     → file_text file ≡ canonical_text file
 unfolding is_canonical
-again file accepted is = canonical_again file (data_classes file.codes) accepted
+canonical_written_again file accepted is = canonical_again file (data_classes file.codes) accepted
     ((bytes_eq-Decides file.codes (canonical_data (data_classes file.codes))).0 is)
 
 -- no canonical file is empty
@@ -99,6 +100,6 @@ pub sends_again : {T : Type 0} (r : Result T SinkFault) (file : FileRead)
     → OnErr r (IsCutOff old new (file_text file))
     → Sends (canonical_text file) old new r
 sends_again (Ok t) file old new accepted test done cut =
-    done ∙ ap (appended old) (again file accepted test)
+    done ∙ ap (appended old) (canonical_written_again file accepted test)
 sends_again (Err fault) file old new accepted test done cut =
-    subst (IsCutOff old new) (again file accepted test) cut
+    subst (IsCutOff old new) (canonical_written_again file accepted test) cut

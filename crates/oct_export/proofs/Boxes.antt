@@ -217,7 +217,8 @@ boxes_few c (suc h) b = by (mutual_few c h (λ b. boxes_few c h b) b 8) (is_full
     by : length (first_boxes c h b 8) ≤ 8 * 8 ^ h → (t : Bool) → is_full c b ≡ t
         → length (boxes_below c (suc h) b) ≤ 8 ^ suc h
     by few true is =
-        (let one = ap length (boxes_of_full c (suc h) b is) in let some = one-le-pow (suc h) 8 (omega arith) in
+        (let one = ap length (boxes_of_full c (suc h) b is) in let some = one-le-pow (suc h) 8
+        (omega arith) in
         omega (arith, one, some))
     by few false is =
         (let parts = ap length (boxes_of_parts c h b is) in let power = pow-suc 8 h in

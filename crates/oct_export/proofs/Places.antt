@@ -17,9 +17,9 @@ pub record IsAbove (b : Cube) : Type 0 where
   pub next : 16 - b.depth ≡ suc (16 - (b.depth + 1))
   pub child : (i : ℕ) → 16 - (child_of b i).depth ≡ 16 - (b.depth + 1)
 
-pub above : (t : Tree) (p : Place) (id : GroupId) (b : Cube) → IsLinked t → IsPlace t p
+pub linked_above : (t : Tree) (p : Place) (id : GroupId) (b : Cube) → IsLinked t → IsPlace t p
     → link_of (node_in t p) ≡ Some id.number → block_in t p ≡ Some b → IsAbove b
-above t p id b l place link at =
+linked_above t p id b l place link at =
     let ok = place_in_map t l p b place at in
     let low = (l.homes id.number b (linked_block t l p id.number b link at)).1 in
     record {
@@ -37,7 +37,7 @@ pub child_asked : (t : Tree) (p : Place) (d i : ℕ) (id : GroupId) → IsLinked
     × (d + 1 ≤ 16)
 child_asked t p d i id l place deep link li =
     let (a, at) = place_block t p place in
-    let over = above t p id a l place link at in
+    let over = linked_above t p id a l place link at in
     let same = deep a at in
     let low = over.low in (
       slot_place t l p place id i link li,

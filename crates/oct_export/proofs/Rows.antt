@@ -127,12 +127,12 @@ rows_append c lo hi n m =
     first : 0 + n ≡ n
     first = omega arith
 
-one_more : (c : Classes) (lo hi : Voxel) (n m : ℕ)
+rows_one_more : (c : Classes) (lo hi : Voxel) (n m : ℕ)
     → flat_map (λ k. row_of c lo hi (hi.y - k)) (numbers_from n (suc m))
     ≡ row_of c lo hi (hi.y - n) ++ flat_map (λ k. row_of c lo hi (hi.y - k))
     (numbers_from (n + 1) m)
 unfolding numbers_from
-one_more c lo hi n m = refl
+rows_one_more c lo hi n m = refl
 
 pub rows_next : (c : Classes) (lo hi : Voxel) (n : ℕ)
     → rows_of c lo hi n ++ row_of c lo hi (hi.y - n) ≡ rows_of c lo hi (n + 1)
@@ -148,7 +148,7 @@ pub rows_cut : (c : Classes) (lo hi : Voxel) (n all : ℕ) → n < all
 rows_cut c lo hi n all few =
     let parts : n + suc (all - n - 1) ≡ all = omega (arith, few) in (
       flat_map (λ k. row_of c lo hi (hi.y - k)) (numbers_from (n + 1) (all - n - 1)),
-      ap (λ (l : List ℕ). rows_of c lo hi n ++ l) (sym (one_more c lo hi n (all - n - 1)))
+      ap (λ (l : List ℕ). rows_of c lo hi n ++ l) (sym (rows_one_more c lo hi n (all - n - 1)))
           ∙ sym (rows_append c lo hi n (suc (all - n - 1))) ∙ ap (rows_of c lo hi) parts,
     )
 

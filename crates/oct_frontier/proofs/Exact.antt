@@ -49,8 +49,8 @@ listed_in_map k there = held_in_map root_block k root_in_map
 in_order_in_map : (k : Voxel) → Contains voxels_in_order k → IsInMap k
 in_order_in_map k there = All-contains IsInMap voxels_in_order k in_order_inside there
 
-once : (k : Voxel) → IsInMap k → times k (voxels_of root_block) ≡ 1
-once k v = listed_once root_block k root_in_map (root_holds k v)
+voxel_listed_once : (k : Voxel) → IsInMap k → times k (voxels_of root_block) ≡ 1
+voxel_listed_once k v = listed_once root_block k root_in_map (root_holds k v)
 
 -- as many are found as there are
 pub found_count : (t : Tree) (lo hi : Voxel)
@@ -61,7 +61,7 @@ found_count t lo hi =
     ∙ same_count (asked (classes_in t) lo hi) (voxels_of root_block) voxels_in_order
     (λ k there. times_rising voxels_in_order k in_order_sorted
     (in_order_all k (listed_in_map k there)))
-    (λ k there. once k (in_order_in_map k there))
+    (λ k there. voxel_listed_once k (in_order_in_map k there))
     ∙ sym (length-filter (asked (classes_in t) lo hi) voxels_in_order)
 
 sorted_step : (q : Voxel) (ks : List Voxel) → IsStrictlySortedBy key_cmp (q ∷ ks)
@@ -95,7 +95,7 @@ found_sorted t lo hi ks moved sorted =
     few : (k : Voxel) → Contains ks k → times k ks ≤ 1
     few k there =
         let listed = (kept_from test (voxels_of root_block) k (back k there)).0 in
-        let all = once k (listed_in_map k listed) in
+        let all = voxel_listed_once k (listed_in_map k listed) in
         let kept = times_kept test k (voxels_of root_block) in
         let same = sum_by-IsPermutation (λ v. cond (is_same_voxel k v) 1 0)
         (filter test (voxels_of root_block)) ks moved in

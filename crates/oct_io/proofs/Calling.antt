@@ -4,13 +4,13 @@ use Rattle.std.specs.Prelude.{Bool, cond, IsTrue}
 use Rattle.oct_io.specs.Failing.{is_to_fail, failed_within}
 use Rattle.oct_io.specs.Told.{Rose}
 
-one_more : (n : ℕ) → n + 1 ≡ suc n
-one_more n = omega arith
+add_one_is_suc : (n : ℕ) → n + 1 ≡ suc n
+add_one_is_suc n = omega arith
 
 one_call : (fails : List ℕ) (count : ℕ) → failed_within fails (count + 1)
     ≡ failed_within fails count + cond (is_to_fail fails (count + 1)) 1 0
 unfolding failed_within
-one_call fails count = rw (one_more count) refl
+one_call fails count = rw (add_one_is_suc count) refl
 
 -- one call more failed
 pub call_rose : (fails : List ℕ) (count : ℕ) (b : Bool) → b ≡ is_to_fail fails (count + 1)

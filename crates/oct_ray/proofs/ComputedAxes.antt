@@ -13,7 +13,7 @@ use Rattle.oct_ray.specs.Segment.{IsWalkAlong}
 use Rattle.oct_ray.specs.Met.{height_of, rising_axis, falling_axis, axis_between, axis_of, met_by}
 use Rattle.oct_ray.proofs.MapFaces.{on_map_with_key}
 use Rattle.oct_ray.proofs.Segments.{keys_walk}
-use Rattle.oct_ray.proofs.Starts.{IsMade, made_set, split}
+use Rattle.oct_ray.proofs.Starts.{IsMade, made_set, quotient_and_rest}
 
 -- a greater number has no smaller quotient, and a quotient of what is below the
 -- map's upper face is below 65536
@@ -29,7 +29,7 @@ rising_is : (edge a b : ℕ) → 0 < edge → a ≤ b → IsRisingAxis edge a b 
 rising_is edge a b positive l = record {
   rises = refl;
   first =
-      λ lt. let rest = split a edge positive in rw (ne_eqb a b (λ e. omega arith))
+      λ lt. let rest = quotient_and_rest a edge positive in rw (ne_eqb a b (λ e. omega arith))
       (omega (arith, rest.1));
   beyond = λ e. rw (eq-eqb a b e) refl;
   span = refl;
@@ -101,7 +101,7 @@ falling_room edge a b range la lb l =
     let rises = div_rises edge b a positive (omega arith) in
     let few = div_few edge a positive la in
     let all = crossings_few edge (a / edge - b / edge) (omega arith) in
-    let rest = split a edge positive in
+    let rest = quotient_and_rest a edge positive in
     record {
       spans = omega arith;
       few = omega arith;

@@ -80,8 +80,8 @@ first_visit x y z r = record {
 }
 
 -- at the end an axis has no crossing left
-at_last : (a : Axis) (s : Moment) → IsDueAfter a s → IsAt a a.crossings (place 1 1)
-at_last a s d = record {
+no_crossing_left : (a : Axis) (s : Moment) → IsDueAfter a s → IsAt a a.crossings (place 1 1)
+no_crossing_left a s d = record {
   within = omega arith;
   past = λ i e. d.ends i (omega arith);
   still = λ h. absurd (omega arith);
@@ -101,9 +101,9 @@ last_visit x y z r = record {
   i = x.crossings;
   j = y.crossings;
   h = z.crossings;
-  at_x = at_last x (place 0 1) r.timed_x;
-  at_y = at_last y (place 0 1) r.timed_y;
-  at_z = at_last z (place 0 1) r.timed_z;
+  at_x = no_crossing_left x (place 0 1) r.timed_x;
+  at_y = no_crossing_left y (place 0 1) r.timed_y;
+  at_z = no_crossing_left z (place 0 1) r.timed_z;
   key_is = refl;
 }
 

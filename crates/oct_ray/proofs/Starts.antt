@@ -35,8 +35,9 @@ move_down : (o e : ℤ) (a b u : ℕ) → IsDifference o a u → IsDifference e 
     → IsDifference (e -ℤ o) 0 (a - b)
 move_down o e a b u h k l = record { same = omega (arith, ints, h.same, k.same) }
 
-pub split : (a edge : ℕ) → 0 < edge → ((a / edge) * edge + a % edge ≡ a) × (a % edge < edge)
-split a edge h = omega arith
+pub quotient_and_rest : (a edge : ℕ) → 0 < edge
+    → ((a / edge) * edge + a % edge ≡ a) × (a % edge < edge)
+quotient_and_rest a edge h = omega arith
 
 -- an axis that the code makes is laid as it says, where it rises, and where it falls
 laid_up : (edge a b : ℕ) (x : Axis) → HasRoom x → IsAxisBetween edge a b x → a ≤ b
@@ -44,8 +45,8 @@ laid_up : (edge a b : ℕ) (x : Axis) → HasRoom x → IsAxisBetween edge a b x
 laid_up edge a b x ix l h =
     let u = l.up h in
     let pe : 0 < edge = omega (arith, ix.edges, l.edges) in
-    let sa = split a edge pe in
-    let sb = split b edge pe in
+    let sa = quotient_and_rest a edge pe in
+    let sb = quotient_and_rest b edge pe in
     let e0 : x.key * edge ≡ (a / edge) * edge = ap (λ (n : ℕ). n * edge) l.key in
     let e1 : (x.key + x.crossings) * edge ≡ (b / edge) * edge = ap (λ (n : ℕ). n * edge) u.last in
     let lt : 0 < x.crossings → a < b = λ p. elim (cases_lt a b) [
@@ -68,8 +69,8 @@ laid_down : (edge a b : ℕ) (x : Axis) → HasRoom x → IsAxisBetween edge a b
 laid_down edge a b x ix l h =
     let u = l.down h in
     let pe : 0 < edge = omega (arith, ix.edges, l.edges) in
-    let sa = split a edge pe in
-    let sb = split b edge pe in
+    let sa = quotient_and_rest a edge pe in
+    let sb = quotient_and_rest b edge pe in
     let e0 : x.key * edge ≡ (a / edge) * edge = ap (λ (n : ℕ). n * edge) l.key in
     let e1 : (b / edge + x.crossings) * edge ≡ x.key * edge = ap (λ (n : ℕ). n * edge) u.last in
     let e2 : x.crossings * x.edge ≡ x.crossings * edge = ap (λ (n : ℕ). x.crossings * n) l.edges in
@@ -86,7 +87,7 @@ laid_from : (edge : ℕ) (o e : ℤ) (a b : ℕ) (x : Axis) → o ≡ (pos a -�
     → e ≡ (pos b -ℤ pos (32768 * edge)) → HasRoom x → IsAxisBetween edge a b x → IsLaid edge o e x
 laid_from edge o e a b x ho he ix l =
     let pe : 0 < edge = omega (arith, ix.edges, l.edges) in
-    let sa = split a edge pe in
+    let sa = quotient_and_rest a edge pe in
     let da = height_diff edge a o ho in
     let de = height_diff edge b e he in
     let e0 : x.key * edge ≡ (a / edge) * edge = ap (λ (n : ℕ). n * edge) l.key in

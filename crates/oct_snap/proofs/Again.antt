@@ -67,13 +67,14 @@ old_fields o bytes h is = by_length (nat_lt (length bytes) 16) refl is
     by_length false e is = by_res (not_less (length bytes) 16 e) (is_resolution (res_at bytes)) is
 
 -- and the newer one has its own
-by_magic : (o : Odds) (bytes : List ℕ) (old : Bool) → starts_with nat_eq bytes (codes "OCTSNAP1")
+fields_by_magic : (o : Odds) (bytes : List ℕ) (old : Bool)
+    → starts_with nat_eq bytes (codes "OCTSNAP1")
     ≡ old
     → read_fields o bytes ≡ cond {A = Read} old (read_res o bytes true)
     (cond {A = Read} (starts_with nat_eq bytes (codes "OCTSNAP2")) (read_res o bytes false)
     (Err BadMagic))
 unfolding read_fields
-by_magic o bytes old is = ap (λ (b : Bool). cond {A = Read} b (read_res o bytes true)
+fields_by_magic o bytes old is = ap (λ (b : Bool). cond {A = Read} b (read_res o bytes true)
     (cond {A = Read} (starts_with nat_eq bytes (codes "OCTSNAP2")) (read_res o bytes false)
     (Err BadMagic))) is
 
@@ -84,8 +85,8 @@ fields_again o bytes h is = by (starts_with nat_eq bytes (codes "OCTSNAP1")) ref
     by : (old : Bool) → starts_with nat_eq bytes (codes "OCTSNAP1") ≡ old → read_fields h.odds bytes
         ≡ read_fields o bytes
     by true e = ap (λ (p : Odds). read_fields p bytes)
-        (old_fields o bytes h (sym (by_magic o bytes true e) ∙ is)).odds
-    by false e = by_magic h.odds bytes false e ∙ sym (by_magic o bytes false e)
+        (old_fields o bytes h (sym (fields_by_magic o bytes true e) ∙ is)).odds
+    by false e = fields_by_magic h.odds bytes false e ∙ sym (fields_by_magic o bytes false e)
 
 pub read_again : (o : Odds) (bytes : List ℕ) (s : Snapshot) → read_snapshot o bytes ≡ Ok s
     → read_snapshot s.head.odds bytes ≡ Ok s
@@ -194,8 +195,8 @@ read_as o bytes s is = by (starts_with nat_eq bytes (codes "OCTSNAP1")) refl
         ⊎ IsNewFile bytes s.head
     by true e = inl (record {
       magic = e;
-      fields = old_fields o bytes s.head (sym (by_magic o bytes true e) ∙ read);
+      fields = old_fields o bytes s.head (sym (fields_by_magic o bytes true e) ∙ read);
     })
     by false e =
         inr (by_new (starts_with nat_eq bytes (codes "OCTSNAP2")) refl
-        (sym (by_magic o bytes false e) ∙ read))
+        (sym (fields_by_magic o bytes false e) ∙ read))

@@ -20,14 +20,16 @@ small_at a b c d (suc (suc zero)) (p, q, r, t) = r
 small_at a b c d (suc (suc (suc zero))) (p, q, r, t) = t
 small_at a b c d (suc (suc (suc (suc i)))) s = omega arith
 
-below : (a b c d : ℕ) → AreBytes a b c d → from_be_bytes w32 (a ∷ b ∷ c ∷ d ∷ []) < 2 ^ 32
-below a b c d s = (let (p, q, r, t) = s in omega (arith, p, q, r, t))
+four_bytes_below : (a b c d : ℕ) → AreBytes a b c d
+    → from_be_bytes w32 (a ∷ b ∷ c ∷ d ∷ []) < 2 ^ 32
+four_bytes_below a b c d s = (let (p, q, r, t) = s in omega (arith, p, q, r, t))
 
 -- the bytes of the number that four bytes make are these
 pub bytes_back : (a b c d : ℕ) → AreBytes a b c d → number_bytes (number_of (a ∷ b ∷ c ∷ d ∷ []))
     ≡ a ∷ b ∷ c ∷ d ∷ []
 bytes_back a b c d s =
-    ap (to_be_bytes w32) (of_z-to_z w32 (from_be_bytes w32 (a ∷ b ∷ c ∷ d ∷ [])) (below a b c d s))
+    ap (to_be_bytes w32) (of_z-to_z w32 (from_be_bytes w32 (a ∷ b ∷ c ∷ d ∷ [])) (four_bytes_below a
+    b c d s))
     ∙ be_bytes_4 (a ∷ b ∷ c ∷ d ∷ [])
     (from_be_bytes w32 (a ∷ b ∷ c ∷ d ∷ [])) refl (λ i. small_at a b c d i s) refl
 

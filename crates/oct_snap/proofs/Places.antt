@@ -18,10 +18,11 @@ pub record IsAbove (d : ℕ) (b : Cube) : Type 0 where
   pub next : 16 - d ≡ suc (16 - (d + 1))
   pub child : (i : ℕ) → (child_of b i).depth + (16 - (d + 1)) ≡ 16
 
-pub above : (t : Tree) (p : Place) (d : ℕ) (id : GroupId) (b : Cube) → IsLinked t → IsPlace t p
+pub linked_above : (t : Tree) (p : Place) (d : ℕ) (id : GroupId) (b : Cube) → IsLinked t
+    → IsPlace t p
     → ((b : Cube) → block_in t p ≡ Some b → b.depth ≡ d) → link_of (node_in t p) ≡ Some id.number
     → block_in t p ≡ Some b → IsAbove d b
-above t p d id b l place deep link at =
+linked_above t p d id b l place deep link at =
     let ok = place_in_map t l p b place at in
     let low = (l.homes id.number b (linked_block t l p id.number b link at)).1 in
     let same = deep b at in
@@ -41,7 +42,7 @@ pub child_asked : (t : Tree) (p : Place) (d i : ℕ) (id : GroupId) → IsLinked
     × (d + 1 ≤ 16)
 child_asked t p d i id l place deep link li =
     let (a, at) = place_block t p place in
-    let over = above t p d id a l place deep link at in
+    let over = linked_above t p d id a l place deep link at in
     let same = over.depth in
     let low = over.low in (
       slot_place t l p place id i link li,

@@ -82,7 +82,8 @@ node_by_short : (h : ℕ) (texts : ℕ → List ℕ) (o : Option Value)
     → ((i : ℕ) → length (texts i) < 6 * 8 ^ h)
     → length (text_with o (flat_map texts child_numbers)) < 6 * 8 ^ suc h
 node_by_short h texts (Some v) each =
-    (let few = whole_short v in let power = pow-suc 8 h in let more = one-le-pow h 8 (omega arith) in
+    (let few = whole_short v in let power = pow-suc 8 h in let more = one-le-pow h 8 (omega arith)
+    in
     omega (arith, few, power, more))
 node_by_short h texts None each =
     let all : length (flat_map texts child_numbers) ≡ length (first_texts texts 8) =
@@ -94,7 +95,12 @@ node_by_short h texts None each =
 
 pub whole_fits : (h n : ℕ) (v : Value) → n ≡ length (whole_text v) → n < 6 * 8 ^ h
 whole_fits h n v is =
-    (let few = whole_short v in let more = one-le-pow h 8 (omega arith) in omega (arith, few, more, is))
+    (let few = whole_short v in let more = one-le-pow h 8 (omega arith) in omega (
+      arith,
+      few,
+      more,
+      is,
+    ))
 
 pub node_short : (h : ℕ) (values : Values) (b : Cube) → length (node_text h values b) < 6 * 8 ^ h
 unfolding node_text

@@ -6,7 +6,7 @@ use Rattle.oct_tree.proofs.Paths.{not_inner, place_block, slot_block}
 use Rattle.oct_tree.specs.declared.place.Place.TheVariants.{Slot}
 use Rattle.oct_bt.specs.Counts.{IsBlockCount}
 use Rattle.oct_tree.specs.Classes.{classes_in}
-use Rattle.oct_bt.proofs.Mixtures.{class_of_leaf, above, child_asked}
+use Rattle.oct_bt.proofs.Mixtures.{class_of_leaf, linked_above, child_asked}
 use Rattle.oct_bt.proofs.Counts.{AreTallied, tallied_first, tallied_small}
 use Rattle.oct_bt.proofs.Adding.{kind_first, kind_next, kind_all, counted_next, counted_several}
 use Rattle.oct_bt.proofs.Adding.{counted_one, no_link}
@@ -55,7 +55,8 @@ count_at-child-requires t c =
 pub overflow_add-nodes : goal.overflow_add-nodes
 overflow_add-nodes t c =
     let (b, at) = place_block c.args.tree.now c.args.p c.requires.place in
-    let a = (above c.args.tree.now c.args.p c.args.depth c.in-Inner.id b c.in-Inner.ensures.linked
+    let a = (linked_above c.args.tree.now c.args.p c.args.depth c.in-Inner.id b
+    c.in-Inner.ensures.linked
     c.requires.place c.requires.block
     (ap link_of (sym c.in-Inner.ensures.exact)) at) in
     let one : IsBlockCount (classes_in c.args.tree.now) (16 - (c.args.depth + 1))
@@ -106,7 +107,8 @@ overflow_add-nodes t c =
 pub overflow_add-known : goal.overflow_add-known
 overflow_add-known t c =
     let (b, at) = place_block c.args.tree.now c.args.p c.requires.place in
-    let a = (above c.args.tree.now c.args.p c.args.depth c.in-Inner.id b c.in-Inner.ensures.linked
+    let a = (linked_above c.args.tree.now c.args.p c.args.depth c.in-Inner.id b
+    c.in-Inner.ensures.linked
     c.requires.place c.requires.block
     (ap link_of (sym c.in-Inner.ensures.exact)) at) in
     let one : IsBlockCount (classes_in c.args.tree.now) (16 - (c.args.depth + 1))
@@ -157,7 +159,8 @@ overflow_add-known t c =
 pub overflow_add-records : goal.overflow_add-records
 overflow_add-records t c =
     let (b, at) = place_block c.args.tree.now c.args.p c.requires.place in
-    let a = (above c.args.tree.now c.args.p c.args.depth c.in-Inner.id b c.in-Inner.ensures.linked
+    let a = (linked_above c.args.tree.now c.args.p c.args.depth c.in-Inner.id b
+    c.in-Inner.ensures.linked
     c.requires.place c.requires.block
     (ap link_of (sym c.in-Inner.ensures.exact)) at) in
     let one : IsBlockCount (classes_in c.args.tree.now) (16 - (c.args.depth + 1))
@@ -207,7 +210,8 @@ overflow_add-records t c =
 
 pub loop-done-preserved : goal.loop-done-preserved
 loop-done-preserved t c = λ b at.
-    (let a = (above c.args.tree.now c.args.p c.args.depth c.in-Inner.id b c.in-Inner.ensures.linked
+    (let a = (linked_above c.args.tree.now c.args.p c.args.depth c.in-Inner.id b
+    c.in-Inner.ensures.linked
     c.requires.place c.requires.block
     (ap link_of (sym c.in-Inner.ensures.exact)) at) in
     let one : IsBlockCount (classes_in c.args.tree.now) (16 - (c.args.depth + 1))
@@ -257,7 +261,7 @@ pub returns-then-is_several-clause-counted : goal.returns-then-is_several-clause
 returns-then-is_several-clause-counted t c = λ b at.
     counted_several (classes_in c.args.tree.now) c.args.depth b c.loop-done.done c.loop-done.known
     c.loop-done.records c.loop-done.kind (omega arith)
-    (above c.args.tree.now c.args.p c.args.depth c.in-Inner.id b c.in-Inner.ensures.linked
+    (linked_above c.args.tree.now c.args.p c.args.depth c.in-Inner.id b c.in-Inner.ensures.linked
     c.requires.place c.requires.block
     (ap link_of (sym c.in-Inner.ensures.exact)) at)
     (c.loop-done.invariant b at).0 (c.loop-done.invariant b at).1
@@ -268,7 +272,7 @@ returns-clause-counted t c = λ b at.
     counted_one (classes_in c.args.tree.now) (16 - c.args.depth) b c.loop-done.kind
     (kind_all (classes_in c.args.tree.now) c.args.depth b c.loop-done.done c.loop-done.kind
     (omega arith)
-    (above c.args.tree.now c.args.p c.args.depth c.in-Inner.id b c.in-Inner.ensures.linked
+    (linked_above c.args.tree.now c.args.p c.args.depth c.in-Inner.id b c.in-Inner.ensures.linked
     c.requires.place c.requires.block
     (ap link_of (sym c.in-Inner.ensures.exact)) at)
     (c.loop-done.invariant b at).0)

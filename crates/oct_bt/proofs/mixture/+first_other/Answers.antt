@@ -7,7 +7,8 @@ use Rattle.oct_tree.proofs.Paths.{not_inner, place_block, slot_block}
 use Rattle.oct_tree.proofs.Links.{place_in_map}
 use Rattle.oct_bt.specs.Mixtures.{IsFirstOther}
 use Rattle.oct_tree.specs.Classes.{classes_in}
-use Rattle.oct_bt.proofs.Mixtures.{class_of_leaf, other_leaf, child_asked, above, searched_all}
+use Rattle.oct_bt.proofs.Mixtures.{class_of_leaf, other_leaf, child_asked, linked_above}
+use Rattle.oct_bt.proofs.Mixtures.{searched_all}
 use Rattle.oct_bt.proofs.Mixtures.{searched_pure, searched_other, way_fits}
 use Rattle.oct_bt.proofs.mixture.+first_other.Goals as goal
 
@@ -88,7 +89,7 @@ returns-in-Some-clause-searched t c = λ b at.
     (sym c.from.ensures)
     (searched_other (classes_in c.args.tree.now) c.args.class c.args.depth b c.loop-i.i
     c.in-Some.way
-    (above c.args.tree.now c.args.p c.args.depth c.in-Inner.id b c.in-Inner.ensures.linked
+    (linked_above c.args.tree.now c.args.p c.args.depth c.in-Inner.id b c.in-Inner.ensures.linked
     c.requires.place c.requires.block
     (ap link_of (sym c.in-Inner.ensures.exact)) at) (omega arith) (c.loop-i.invariant b at)
     (c.in-Some.ensures.searched (child_of b c.loop-i.i)
@@ -98,6 +99,6 @@ returns-in-Some-clause-searched t c = λ b at.
 pub returns-clause-searched : goal.returns-clause-searched
 returns-clause-searched t c = λ b at.
     searched_all (classes_in c.args.tree.now) c.args.class c.args.depth b c.loop-i.i
-    (above c.args.tree.now c.args.p c.args.depth c.in-Inner.id b c.in-Inner.ensures.linked
+    (linked_above c.args.tree.now c.args.p c.args.depth c.in-Inner.id b c.in-Inner.ensures.linked
     c.requires.place c.requires.block
     (ap link_of (sym c.in-Inner.ensures.exact)) at) (omega arith) (c.loop-i.invariant b at)

@@ -5,7 +5,8 @@ use Rattle.oct_arena.specs.Nodes.{link_of, value_of}
 use Rattle.oct_tree.proofs.Paths.{not_inner, place_block, slot_block}
 use Rattle.oct_bt.specs.Mixtures.{IsFirstOther}
 use Rattle.oct_tree.specs.Classes.{classes_in}
-use Rattle.oct_bt.proofs.Mixtures.{class_of_leaf, pure_next, child_asked, above, searched_all}
+use Rattle.oct_bt.proofs.Mixtures.{class_of_leaf, pure_next, child_asked, linked_above}
+use Rattle.oct_bt.proofs.Mixtures.{searched_all}
 use Rattle.oct_bt.proofs.Mixtures.{searched_pure, searched_other, first_mixed, way_fits}
 use Rattle.oct_bt.proofs.mixture.+mixture_at.Goals as goal
 
@@ -42,7 +43,7 @@ overflow_mul-result t c =
 pub returns-in-Mixed-clause-mixture : goal.returns-in-Mixed-clause-mixture
 returns-in-Mixed-clause-mixture t c = λ b at.
     first_mixed (classes_in c.args.tree.now) c.in-Mixed.first c.args.depth b c.in-Mixed.way
-    (above c.args.tree.now c.args.p c.args.depth c.in-Inner.id b c.in-Inner.ensures.linked
+    (linked_above c.args.tree.now c.args.p c.args.depth c.in-Inner.id b c.in-Inner.ensures.linked
     c.requires.place c.requires.block
     (ap link_of (sym c.in-Inner.ensures.exact)) at)
     (c.in-Mixed.ensures.mixture (child_of b 0)
@@ -115,7 +116,7 @@ returns-in-Some-clause-mixture t c = λ b at. (
       (sym c.from.ensures)
       (searched_other (classes_in c.args.tree.now) c.in-Pure.first c.args.depth b c.loop-i.i
       c.in-Some.way
-      (above c.args.tree.now c.args.p c.args.depth c.in-Inner.id b c.in-Inner.ensures.linked
+      (linked_above c.args.tree.now c.args.p c.args.depth c.in-Inner.id b c.in-Inner.ensures.linked
       c.requires.place c.requires.block
       (ap link_of (sym c.in-Inner.ensures.exact)) at) (omega arith) (c.loop-i.invariant b at)
       (c.in-Some.ensures.searched (child_of b c.loop-i.i)
@@ -126,6 +127,6 @@ returns-in-Some-clause-mixture t c = λ b at. (
 pub returns-clause-mixture : goal.returns-clause-mixture
 returns-clause-mixture t c = λ b at.
     searched_all (classes_in c.args.tree.now) c.in-Pure.first c.args.depth b c.loop-i.i
-    (above c.args.tree.now c.args.p c.args.depth c.in-Inner.id b c.in-Inner.ensures.linked
+    (linked_above c.args.tree.now c.args.p c.args.depth c.in-Inner.id b c.in-Inner.ensures.linked
     c.requires.place c.requires.block
     (ap link_of (sym c.in-Inner.ensures.exact)) at) (omega arith) (c.loop-i.invariant b at)

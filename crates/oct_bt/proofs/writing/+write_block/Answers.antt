@@ -6,7 +6,7 @@ use Rattle.oct_arena.specs.Nodes.{link_of}
 use Rattle.oct_tree.proofs.Paths.{some_injective, not_inner, place_block, slot_block}
 use Rattle.oct_bt.specs.Mixtures.{IsFirstOther}
 use Rattle.oct_tree.specs.Classes.{classes_in}
-use Rattle.oct_bt.proofs.Mixtures.{above, child_asked, never_leaf}
+use Rattle.oct_bt.proofs.Mixtures.{linked_above, child_asked, never_leaf}
 use Rattle.oct_bt.proofs.Parting.{sent_first, cut_first, last_part, sent_part, cut_part, sent_whole}
 use Rattle.oct_bt.proofs.writing.+write_block.Goals as goal
 
@@ -21,7 +21,8 @@ unreachable-requires g t c =
 pub read_record-codes-requires-clause-levels : goal.read_record-codes-requires-clause-levels
 read_record-codes-requires-clause-levels g t c =
     let (b, at) = place_block c.args.tree.now c.args.p c.requires.place in
-    let a = (above c.args.tree.now c.args.p c.args.depth c.in-Inner.id b c.in-Inner.ensures.linked
+    let a = (linked_above c.args.tree.now c.args.p c.args.depth c.in-Inner.id b
+    c.in-Inner.ensures.linked
     c.requires.place c.requires.block
     (ap link_of (sym c.in-Inner.ensures.exact)) at) in
     let low = a.low in

@@ -4,7 +4,7 @@ use Rattle.oct_arena.specs.Nodes.{value_of}
 use Rattle.oct_tree.specs.declared.place.Place.TheVariants.{Slot}
 use Rattle.oct_tree.proofs.Paths.{not_inner, slot_block}
 use Rattle.oct_tree.specs.Classes.{classes_in}
-use Rattle.oct_bt.proofs.Mixtures.{above, child_asked, class_of_leaf}
+use Rattle.oct_bt.proofs.Mixtures.{linked_above, child_asked, class_of_leaf}
 use Rattle.oct_bt.proofs.Writes.{child_before, child_with}
 use Rattle.oct_bt.proofs.writing.child_mixture.Goals as goal
 
@@ -30,7 +30,8 @@ returns-in_default c = λ b at.
 pub returns-then-i-at : goal.returns-then-i-at
 returns-then-i-at c = λ b at.
     child_before (classes_in c.args.tree.now) c.args.class c.args.depth b c.args.i c.args.way
-    (above c.args.tree.now c.args.p c.args.depth c.args.id b c.requires.linked c.requires.place
+    (linked_above c.args.tree.now c.args.p c.args.depth c.args.id b c.requires.linked
+    c.requires.place
     c.requires.block c.requires.link at)
     (c.requires.mixed b at) (omega arith)
 
@@ -38,7 +39,8 @@ pub returns-then-way-gt0 : goal.returns-then-way-gt0
 returns-then-way-gt0 c = λ b at. (
   omega arith,
   child_with (classes_in c.args.tree.now) c.args.class c.args.depth b c.args.i c.args.way
-      (above c.args.tree.now c.args.p c.args.depth c.args.id b c.requires.linked c.requires.place
+      (linked_above c.args.tree.now c.args.p c.args.depth c.args.id b c.requires.linked
+      c.requires.place
       c.requires.block c.requires.link at)
       (c.requires.mixed b at) (omega arith),
 )

@@ -4,7 +4,7 @@ use Rattle.oct_key.specs.Block.{child_of}
 use Rattle.oct_bt.specs.Mixtures.{class_of_mixture, IsMixtureOf}
 use Rattle.oct_tree.specs.Classes.{classes_in}
 use Rattle.oct_bt.specs.Canonical.{block_code}
-use Rattle.oct_bt.proofs.Mixtures.{above}
+use Rattle.oct_bt.proofs.Mixtures.{linked_above}
 use Rattle.oct_bt.proofs.Writes.{codes_few}
 use Rattle.oct_bt.proofs.Parting.{IsRecordFrom, record_first, record_pure, record_mixed, record_all}
 use Rattle.oct_bt.proofs.Parting.{push_long}
@@ -62,7 +62,7 @@ loop-done-preserved c = record {
         (record_mixed (classes_in c.args.tree.now) c.args.depth b c.loop-done.done c.code_of.result
         c.loop-done.codes c.loop-done.parts.items _ _
         c.loop-done-test.true
-        (above c.args.tree.now c.args.p c.args.depth c.args.id b c.requires.linked
+        (linked_above c.args.tree.now c.args.p c.args.depth c.args.id b c.requires.linked
         c.requires.place c.requires.block c.requires.link at)
         (subst (IsMixtureOf (classes_in c.args.tree.now) _ (child_of b (7 - c.loop-done.done)))
         w.in-Mixed.is (c.child_mixture-mixture.ensures b at)) refl
@@ -78,7 +78,7 @@ loop-done-preserved c = record {
         (record_pure (classes_in c.args.tree.now) c.args.depth b c.loop-done.done c.code_of.result
         c.loop-done.codes c.loop-done.parts.items
         c.child_mixture-mixture.result c.loop-done-test.true
-        (above c.args.tree.now c.args.p c.args.depth c.args.id b c.requires.linked
+        (linked_above c.args.tree.now c.args.p c.args.depth c.args.id b c.requires.linked
         c.requires.place c.requires.block c.requires.link at)
         (c.child_mixture-mixture.ensures b at) c.code_of.ensures.code w.in_default.not-Mixed
         (c.loop-done.invariant.parts b at)))
@@ -88,5 +88,6 @@ loop-done-preserved c = record {
 pub returns : goal.returns
 returns c = λ b at. record_all (classes_in c.args.tree.now) c.args.depth b c.loop-done.done
     c.loop-done.codes c.loop-done.parts.items (omega arith)
-    (above c.args.tree.now c.args.p c.args.depth c.args.id b c.requires.linked c.requires.place
+    (linked_above c.args.tree.now c.args.p c.args.depth c.args.id b c.requires.linked
+    c.requires.place
     c.requires.block c.requires.link at) (c.loop-done.invariant.parts b at)

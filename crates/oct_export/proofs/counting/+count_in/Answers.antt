@@ -4,7 +4,7 @@ use Rattle.oct_arena.specs.Nodes.{link_of, value_of}
 use Rattle.oct_tree.proofs.Links.{place_in_map}
 use Rattle.oct_tree.proofs.Paths.{not_inner, place_block, slot_block}
 use Rattle.oct_tree.specs.Classes.{classes_in}
-use Rattle.oct_export.proofs.Places.{above, child_asked}
+use Rattle.oct_export.proofs.Places.{linked_above, child_asked}
 use Rattle.oct_export.proofs.Boxes.{leaf_full, first_full, first_boxes}
 use Rattle.oct_export.proofs.Counts.{leaf_class, leaf_count, full_next, count_next, count_fits}
 use Rattle.oct_export.proofs.Counts.{full_of_all, one_box, count_of_all}
@@ -51,7 +51,7 @@ pub overflow_add-boxes : goal.overflow_add-boxes
 overflow_add-boxes t c =
     let (b, at) = place_block c.args.tree.now c.args.p c.requires.place in
     let link = ap link_of (sym c.in-Inner.ensures.exact) in
-    let a = above c.args.tree.now c.args.p c.in-Inner.id b c.in-Inner.ensures.linked
+    let a = linked_above c.args.tree.now c.args.p c.in-Inner.id b c.in-Inner.ensures.linked
     c.requires.place link at in
     let fits : c.loop-i.boxes + c.count_in-child.result.boxes < 18446744073709551616 =
     count_fits (classes_in c.args.tree.now) b (c.loop-i.i + 1)
@@ -76,7 +76,8 @@ loop-i-preserved t c =
           c.are_both-full.ensures;
       boxes = λ b at. count_next (classes_in c.args.tree.now) b c.loop-i.i c.loop-i.boxes
           c.count_in-child.result.boxes
-          (above c.args.tree.now c.args.p c.in-Inner.id b c.in-Inner.ensures.linked c.requires.place
+          (linked_above c.args.tree.now c.args.p c.in-Inner.id b c.in-Inner.ensures.linked
+          c.requires.place
           link at) (c.loop-i.invariant.boxes b at)
           (c.count_in-child.ensures.boxes (child_of b c.loop-i.i)
           (slot_block c.args.tree.now c.in-Inner.ensures.linked c.args.p c.in-Inner.id
@@ -88,11 +89,13 @@ returns-then-full t c =
     let link = ap link_of (sym c.in-Inner.ensures.exact) in
     record {
       full = λ b at. full_of_all (classes_in c.args.tree.now) b c.loop-i.i c.loop-i.full
-          (above c.args.tree.now c.args.p c.in-Inner.id b c.in-Inner.ensures.linked c.requires.place
+          (linked_above c.args.tree.now c.args.p c.in-Inner.id b c.in-Inner.ensures.linked
+          c.requires.place
           link at) (omega arith) (c.loop-i.invariant.full b at);
       boxes = λ b at. one_box (classes_in c.args.tree.now) b
           (sym (full_of_all (classes_in c.args.tree.now) b c.loop-i.i c.loop-i.full
-          (above c.args.tree.now c.args.p c.in-Inner.id b c.in-Inner.ensures.linked c.requires.place
+          (linked_above c.args.tree.now c.args.p c.in-Inner.id b c.in-Inner.ensures.linked
+          c.requires.place
           link at) (omega arith) (c.loop-i.invariant.full b at)) ∙ c.if-full.true);
       linked = c.in-Inner.ensures.linked;
     }
@@ -102,13 +105,16 @@ returns t c =
     let link = ap link_of (sym c.in-Inner.ensures.exact) in
     record {
       full = λ b at. full_of_all (classes_in c.args.tree.now) b c.loop-i.i c.loop-i.full
-          (above c.args.tree.now c.args.p c.in-Inner.id b c.in-Inner.ensures.linked c.requires.place
+          (linked_above c.args.tree.now c.args.p c.in-Inner.id b c.in-Inner.ensures.linked
+          c.requires.place
           link at) (omega arith) (c.loop-i.invariant.full b at);
       boxes = λ b at. count_of_all (classes_in c.args.tree.now) b c.loop-i.i c.loop-i.boxes
-          (above c.args.tree.now c.args.p c.in-Inner.id b c.in-Inner.ensures.linked c.requires.place
+          (linked_above c.args.tree.now c.args.p c.in-Inner.id b c.in-Inner.ensures.linked
+          c.requires.place
           link at) (omega arith)
           (sym (full_of_all (classes_in c.args.tree.now) b c.loop-i.i c.loop-i.full
-          (above c.args.tree.now c.args.p c.in-Inner.id b c.in-Inner.ensures.linked c.requires.place
+          (linked_above c.args.tree.now c.args.p c.in-Inner.id b c.in-Inner.ensures.linked
+          c.requires.place
           link at) (omega arith) (c.loop-i.invariant.full b at)) ∙ c.if-full.false)
           (c.loop-i.invariant.boxes b at);
       linked = c.in-Inner.ensures.linked;

@@ -10,7 +10,7 @@ use Rattle.oct_tree.proofs.Paths.{not_inner, slot_place, slot_block}
 use Rattle.oct_tree.specs.Classes.{classes_in}
 use Rattle.oct_export.specs.Boxes.{is_full}
 use Rattle.oct_export.specs.BoxTexts.{box_lines}
-use Rattle.oct_export.proofs.Places.{above}
+use Rattle.oct_export.proofs.Places.{linked_above}
 use Rattle.oct_export.proofs.Boxes.{leaf_full, first_full}
 use Rattle.oct_export.proofs.Counts.{leaf_class, full_next, full_of_all}
 use Rattle.oct_export.proofs.Pushes.{pushed_start, pushed_more, pushed_three, second_cut}
@@ -95,14 +95,14 @@ loop-i-init g t c = record {
 
 pub child-child-requires-clause-depth : goal.child-child-requires-clause-depth
 child-child-requires-clause-depth g t c =
-    let low = (above c.args.tree.now c.args.p c.in-Inner.id (cube_of c.args.block)
+    let low = (linked_above c.args.tree.now c.args.p c.in-Inner.id (cube_of c.args.block)
     c.in-Inner.ensures.linked c.requires.place (ap link_of (sym c.in-Inner.ensures.exact))
     c.requires.block).low in
     omega (arith, low)
 
 pub waited-above-requires : goal.waited-above-requires
 waited-above-requires g t c =
-    let low = (above c.args.tree.now c.args.p c.in-Inner.id (cube_of c.args.block)
+    let low = (linked_above c.args.tree.now c.args.p c.in-Inner.id (cube_of c.args.block)
     c.in-Inner.ensures.linked c.requires.place (ap link_of (sym c.in-Inner.ensures.exact))
     c.requires.block).low in
     omega (arith, low, c.requires.levels)
@@ -110,7 +110,7 @@ waited-above-requires g t c =
 pub push_boxes-requires : goal.push_boxes-requires
 push_boxes-requires g t c κs within =
     let link = ap link_of (sym c.in-Inner.ensures.exact) in
-    let low = (above c.args.tree.now c.args.p c.in-Inner.id (cube_of c.args.block)
+    let low = (linked_above c.args.tree.now c.args.p c.in-Inner.id (cube_of c.args.block)
     c.in-Inner.ensures.linked c.requires.place link c.requires.block).low in
     let deep = ap (λ (b : Cube). b.depth) c.child-child.ensures.exact
     ∙ depth_child_of (cube_of c.args.block) c.loop-i.i in (
@@ -132,7 +132,7 @@ push_boxes-requires g t c κs within =
 
 pub returns-in_err-found-clause-cut : goal.returns-in_err-found-clause-cut
 returns-in_err-found-clause-cut g t c =
-    let a = above c.args.tree.now c.args.p c.in-Inner.id (cube_of c.args.block)
+    let a = linked_above c.args.tree.now c.args.p c.in-Inner.id (cube_of c.args.block)
     c.in-Inner.ensures.linked c.requires.place (ap link_of (sym c.in-Inner.ensures.exact))
     c.requires.block in
     let (rest, is) =
@@ -149,7 +149,7 @@ returns-in_err-found-clause-cut g t c =
 
 pub returns-in_err-line-clause-cut : goal.returns-in_err-line-clause-cut
 returns-in_err-line-clause-cut g t c =
-    let a = above c.args.tree.now c.args.p c.in-Inner.id (cube_of c.args.block)
+    let a = linked_above c.args.tree.now c.args.p c.in-Inner.id (cube_of c.args.block)
     c.in-Inner.ensures.linked c.requires.place (ap link_of (sym c.in-Inner.ensures.exact))
     c.requires.block in
     let (rest, is) =
@@ -169,7 +169,7 @@ returns-in_err-line-clause-cut g t c =
 
 pub loop-i-preserved : goal.loop-i-preserved
 loop-i-preserved g t c =
-    let a = above c.args.tree.now c.args.p c.in-Inner.id (cube_of c.args.block)
+    let a = linked_above c.args.tree.now c.args.p c.in-Inner.id (cube_of c.args.block)
     c.in-Inner.ensures.linked c.requires.place (ap link_of (sym c.in-Inner.ensures.exact))
     c.requires.block in
     let next = walk_next (classes_in c.args.tree.now) c.args.tree.now.res
@@ -199,13 +199,14 @@ loop-i-preserved g t c =
 pub returns-clause-full : goal.returns-clause-full
 returns-clause-full g t c =
     full_of_all (classes_in c.args.tree.now) (cube_of c.args.block) c.loop-i.i c.loop-i.full
-    (above c.args.tree.now c.args.p c.in-Inner.id (cube_of c.args.block) c.in-Inner.ensures.linked
+    (linked_above c.args.tree.now c.args.p c.in-Inner.id (cube_of c.args.block)
+    c.in-Inner.ensures.linked
     c.requires.place (ap link_of (sym c.in-Inner.ensures.exact)) c.requires.block)
     (omega arith) c.loop-i.invariant.full
 
 pub returns-clause-bytes : goal.returns-clause-bytes
 returns-clause-bytes g t c =
-    let a = above c.args.tree.now c.args.p c.in-Inner.id (cube_of c.args.block)
+    let a = linked_above c.args.tree.now c.args.p c.in-Inner.id (cube_of c.args.block)
     c.in-Inner.ensures.linked c.requires.place (ap link_of (sym c.in-Inner.ensures.exact))
     c.requires.block in
     c.loop-i.invariant.bytes ∙ ap (λ (l : List ℕ). length l % 2 ^ 64)
@@ -214,7 +215,7 @@ returns-clause-bytes g t c =
 
 pub returns-clause-pushed : goal.returns-clause-pushed
 returns-clause-pushed g t c =
-    let a = above c.args.tree.now c.args.p c.in-Inner.id (cube_of c.args.block)
+    let a = linked_above c.args.tree.now c.args.p c.in-Inner.id (cube_of c.args.block)
     c.in-Inner.ensures.linked c.requires.place (ap link_of (sym c.in-Inner.ensures.exact))
     c.requires.block in
     pushed_as _ _ _ _ _ _ c.loop-i.invariant.pushed

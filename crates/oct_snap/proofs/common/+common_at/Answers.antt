@@ -4,7 +4,7 @@ use Rattle.oct_arena.specs.Nodes.{link_of, value_of}
 use Rattle.oct_tree.specs.Tree.{value_at}
 use Rattle.oct_tree.proofs.Paths.{not_inner, slot_block}
 use Rattle.oct_snap.specs.Common.{value_of_common}
-use Rattle.oct_snap.proofs.Places.{above, child_asked}
+use Rattle.oct_snap.proofs.Places.{linked_above, child_asked}
 use Rattle.oct_snap.proofs.Commons.{leaf_is, several_up, common_first, common_other, common_all}
 use Rattle.oct_snap.proofs.Commons.{common_next}
 use Rattle.oct_snap.proofs.common.+common_at.Goals as goal
@@ -30,7 +30,8 @@ common_at-first-requires t c =
 
 pub returns-then-is_same-clause-common : goal.returns-then-is_same-clause-common
 returns-then-is_same-clause-common t c = λ b at.
-    (let a = above c.args.tree.now c.args.p c.args.depth c.in-Inner.id b c.in-Inner.ensures.linked
+    (let a = linked_above c.args.tree.now c.args.p c.args.depth c.in-Inner.id b
+    c.in-Inner.ensures.linked
     c.requires.place c.requires.block
     (ap link_of (sym c.in-Inner.ensures.exact)) at in
     sym (several_up (value_at c.args.tree.now) b 0 a.ok a.low (omega arith)
@@ -64,7 +65,8 @@ loop-i-preserved t c =
 
 pub returns-then-not-is_same-clause-common : goal.returns-then-not-is_same-clause-common
 returns-then-not-is_same-clause-common t c = λ b at.
-    (let a = above c.args.tree.now c.args.p c.args.depth c.in-Inner.id b c.in-Inner.ensures.linked
+    (let a = linked_above c.args.tree.now c.args.p c.args.depth c.in-Inner.id b
+    c.in-Inner.ensures.linked
     c.requires.place c.requires.block
     (ap link_of (sym c.in-Inner.ensures.exact)) at in
     common_other (value_at c.args.tree.now) b c.common_at-first.result c.common_at.result c.loop-i.i
@@ -78,7 +80,8 @@ returns-then-not-is_same-clause-common t c = λ b at.
 
 pub returns-clause-common : goal.returns-clause-common
 returns-clause-common t c = λ b at.
-    (let a = above c.args.tree.now c.args.p c.args.depth c.in-Inner.id b c.in-Inner.ensures.linked
+    (let a = linked_above c.args.tree.now c.args.p c.args.depth c.in-Inner.id b
+    c.in-Inner.ensures.linked
     c.requires.place c.requires.block
     (ap link_of (sym c.in-Inner.ensures.exact)) at in
     common_all (value_at c.args.tree.now) b c.common_at-first.result c.loop-i.i a.ok a.low

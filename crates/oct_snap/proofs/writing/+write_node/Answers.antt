@@ -9,7 +9,7 @@ use Rattle.oct_tree.proofs.Links.{place_in_map}
 use Rattle.oct_tree.proofs.Paths.{not_inner, place_block, slot_block}
 use Rattle.oct_snap.specs.Common.{value_of_common}
 use Rattle.oct_snap.specs.Nodes.{whole_text}
-use Rattle.oct_snap.proofs.Places.{above, child_asked}
+use Rattle.oct_snap.proofs.Places.{linked_above, child_asked}
 use Rattle.oct_snap.proofs.Writes.{node_of_one}
 use Rattle.oct_snap.proofs.Writes.{whole_fits, never_leaf, before_none, cut_first, cut_child}
 use Rattle.oct_snap.proofs.Writes.{sent_child, sent_all, long_child, long_all, before_short}
@@ -66,7 +66,7 @@ unreachable-requires g t c =
 pub returns-in_err-push-clause-cut : goal.returns-in_err-push-clause-cut
 returns-in_err-push-clause-cut g t c = on_any_err c.from_residual.result _ (λ b at.
     cut_first (value_at c.args.tree.now) c.args.depth b c.common_at.result _ _ _
-    (above c.args.tree.now c.args.p c.args.depth c.in-Inner.id b c.in-Inner.ensures.linked
+    (linked_above c.args.tree.now c.args.p c.args.depth c.in-Inner.id b c.in-Inner.ensures.linked
     c.requires.place c.requires.block
     (ap link_of (sym c.in-Inner.ensures.exact)) at)
     (c.common_at.ensures.common b at) c.in_default.not-Value c.in_err-push.ensures.refused)
@@ -93,7 +93,7 @@ write_node-requires g t c κs within =
 pub returns-in_err-bytes-clause-cut : goal.returns-in_err-bytes-clause-cut
 returns-in_err-bytes-clause-cut g t c = on_any_err c.from_residual-in_err-bytes.result _ (λ b at.
     cut_child (value_at c.args.tree.now) c.args.depth b c.common_at.result c.loop-i.i _ _ _ _ _
-    (above c.args.tree.now c.args.p c.args.depth c.in-Inner.id b c.in-Inner.ensures.linked
+    (linked_above c.args.tree.now c.args.p c.args.depth c.in-Inner.id b c.in-Inner.ensures.linked
     c.requires.place c.requires.block
     (ap link_of (sym c.in-Inner.ensures.exact)) at)
     (c.common_at.ensures.common b at) c.in_default.not-Value (omega arith)
@@ -135,7 +135,7 @@ pub returns-clause-length : goal.returns-clause-length
 returns-clause-length g t c =
     λ b at. long_all (value_at c.args.tree.now) c.args.depth b c.common_at.result c.loop-i.i
     c.loop-i.bytes
-    (above c.args.tree.now c.args.p c.args.depth c.in-Inner.id b c.in-Inner.ensures.linked
+    (linked_above c.args.tree.now c.args.p c.args.depth c.in-Inner.id b c.in-Inner.ensures.linked
     c.requires.place c.requires.block
     (ap link_of (sym c.in-Inner.ensures.exact)) at)
     (c.common_at.ensures.common b at) c.in_default.not-Value (omega arith)
@@ -146,7 +146,7 @@ returns-clause-short g t c =
     let (b, at) = place_block c.args.tree.now c.args.p c.requires.place in
     let long = long_all (value_at c.args.tree.now) c.args.depth b c.common_at.result c.loop-i.i
     c.loop-i.bytes
-    (above c.args.tree.now c.args.p c.args.depth c.in-Inner.id b c.in-Inner.ensures.linked
+    (linked_above c.args.tree.now c.args.p c.args.depth c.in-Inner.id b c.in-Inner.ensures.linked
     c.requires.place c.requires.block
     (ap link_of (sym c.in-Inner.ensures.exact)) at)
     (c.common_at.ensures.common b at) c.in_default.not-Value (omega arith)
@@ -157,7 +157,7 @@ returns-clause-short g t c =
 pub returns-clause-written : goal.returns-clause-written
 returns-clause-written g t c =
     λ b at. sent_all (value_at c.args.tree.now) c.args.depth b c.common_at.result c.loop-i.i _ _ _ _
-    (above c.args.tree.now c.args.p c.args.depth c.in-Inner.id b c.in-Inner.ensures.linked
+    (linked_above c.args.tree.now c.args.p c.args.depth c.in-Inner.id b c.in-Inner.ensures.linked
     c.requires.place c.requires.block
     (ap link_of (sym c.in-Inner.ensures.exact)) at)
     (c.common_at.ensures.common b at) c.in_default.not-Value (omega arith)

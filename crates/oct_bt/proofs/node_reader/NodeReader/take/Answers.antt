@@ -4,7 +4,7 @@ use Rattle.std.specs.Prelude.{is_some, replicate}
 use Rattle.oct_bt.specs.NodeData.{Reading, Reads, Stopped, after_byte, progress_by, records_in}
 use Rattle.oct_bt.specs.Path.{pending_at, without_next}
 use Rattle.oct_bt.specs.declared.fault.BtFault.TheVariants.{TooDeep, TrailingBytes}
-use Rattle.oct_bt.proofs.Steps.{byte_trails, byte_begins, byte_deep, byte_ends, none_of}
+use Rattle.oct_bt.proofs.Steps.{byte_trails, byte_begins, byte_deep, byte_ends, never_some}
 use Rattle.oct_bt.proofs.Endings.{reached_next}
 use Rattle.oct_bt.proofs.node_reader.NodeReader.take.Goals as goal
 
@@ -25,7 +25,7 @@ returns-in_default-clause-taken c =
     let going_on : is_some c.self.inside.stop ≡ false = sym c.is_some.ensures ∙ c.if-is_some.false
     in
     let some : 0 < length c.self.inside.path.items = search rules in
-    let none : c.self.inside.half ≡ None = none_of c.self.inside.half c.in_default.not-Some in
+    let none : c.self.inside.half ≡ None = never_some c.self.inside.half c.in_default.not-Some in
     subst (λ (r : Reading). progress_by c.self.inside.stop
     (Reads (pending_at 0 c.self.inside.path.items)
     (Some c.args.byte) c.self.inside.records)
@@ -112,7 +112,7 @@ invariant_of-self-in_default c =
     let going_on : is_some c.self.inside.stop ≡ false = sym c.is_some.ensures ∙ c.if-is_some.false
     in
     let some : 0 < length c.self.inside.path.items = search rules in
-    let none : c.self.inside.half ≡ None = none_of c.self.inside.half c.in_default.not-Some in
+    let none : c.self.inside.half ≡ None = never_some c.self.inside.half c.in_default.not-Some in
     let small : c.args.byte < 256 = search rules in
     let (topped, low, reached) = c.self.invariant in (
       topped,
