@@ -1,4 +1,5 @@
 pub mod Records
+pub mod Masks
 pub mod Whole
 pub mod Walks
 pub mod Classes

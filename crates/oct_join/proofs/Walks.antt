@@ -4,6 +4,7 @@ use Rattle.std.proofs.Common.{false, Option, Some, None, List, [], ◌∷◌, �
 use Rattle.std.proofs.Common.{append_assoc, append-nil, length-append, inl, inr, refl, sym, subst}
 use Rattle.std.proofs.Common.{◌∙◌, ap, arith}
 use Rattle.std.specs.Prelude.{nat_eq, ◌⊎◌, ◌↔◌, IsTrue, if◌then◌else◌}
+use Rattle.std.proofs.lemmas.List.{length-drop}
 use Rattle.oct_odds.specs.declared.event.Class.{Class}
 use Rattle.oct_odds.specs.declared.event.Class.TheVariants.{Unknown, Free, Occupied}
 use Rattle.oct_bt.specs.Canonical.{block_code, data_of_child}
@@ -11,11 +12,15 @@ use Rattle.oct_bt.specs.Records.{Entries, End, Plain, Record, AreEntries, IsReco
 use Rattle.oct_bt.specs.Records.{codes_of, code_bytes, bodies_of, flat}
 use Rattle.oct_bt.proofs.Fills.{drop_front, drop_more}
 use Rattle.oct_bt.proofs.Texts.{class_code_below}
+use Rattle.oct_merge.specs.declared.rule.Rule.{Rule}
 use Rattle.oct_join.specs.Joined.{one_class, child_before, closed, recoded, joined, alike}
+use Rattle.oct_join.specs.Joined.{threes, merged_codes}
+use Rattle.oct_join.specs.Merged.{merged_class}
 use Rattle.oct_join.specs.Sides.{IsSide, side_text, IsJoined}
 use Rattle.oct_join.specs.declared.joining.Part.{Part}
 use Rattle.oct_join.proofs.Records.{alike_one, alike_are, alike_codes, alike_bodies}
 use Rattle.oct_join.proofs.Records.{joined_are}
+use Rattle.oct_join.proofs.Masks.{leaves_text, leaves_merged, leaves_bare}
 
 -- ---- one side
 
@@ -451,6 +456,16 @@ not_parted false l o when is =
     false_is : IsTrue false → ⊥
     false_is no' = cc
 
+pub is_one : (test : Bool) (l o : ℕ) → (IsTrue test ↔ ((l ≡ 3) ⊎ (o ≡ 3))) → test ≡ true
+    → (l ≡ 3) ⊎ (o ≡ 3)
+is_one false l o when is = absurd (cc)
+is_one true l o when is = when.0 refl
+
+pub both_none : (test : Bool) (l o : ℕ) → (IsTrue test ↔ ((l ≡ 0) × (o ≡ 0))) → test ≡ true
+    → (l ≡ 0) × (o ≡ 0)
+both_none false l o when is = absurd (cc)
+both_none true l o when is = when.0 refl
+
 -- ---- what fits in a text
 
 pub fits_text : (m : ℕ) (piece text tail : List ℕ) → m ≤ length piece → text ≡ piece ++ tail
@@ -575,3 +590,68 @@ pub long_whole : (old later now : List ℕ) → now ≡ old ++ (0 ∷ 0 ∷ late
 long_whole old later now is =
     (let long : length now ≡ length old + length (0 ∷ 0 ∷ later) =
     ap length is ∙ length-append old (0 ∷ 0 ∷ later) in omega (arith, long))
+
+-- ---- where neither record has children with records
+
+record_long : (code : ℕ) (r : Entries) → bodies_of r ≡ []
+    → (if nat_eq code 3 then 2 else 0) ≡ length (side_text code r)
+record_long code r none = by_test (nat_eq code 3)
+  where
+    by_test : (t : Bool) → (if t then 2 else 0) ≡ length (if t then flat r else [])
+    by_test true = sym (ap (λ t. length (code_bytes (codes_of r) ++ t)) none)
+    by_test false = refl
+
+pub leaves_joined : (rule : Rule) (d a b : ℕ) (r s : Entries) (old new : List ℕ) (part : Part)
+    (left other codes : ℕ) → IsSide d a r → IsSide d b s → left ≡ codes_of r → other ≡ codes_of s
+    → threes 8 left ≡ 0 → threes 8 other ≡ 0 → codes ≡ merged_codes 8 rule left other
+    → part.code ≡ block_code (one_class codes)
+    → new ≡ old ++ data_of_child (one_class codes) (code_bytes codes)
+    → part.first ≡ (if nat_eq a 3 then 2 else 0) → part.second ≡ (if nat_eq b 3 then 2 else 0)
+    → IsJoined (merged_class rule) a b r s old new part
+leaves_joined rule d a b r s old new part left other codes side_a side_b left_is other_is none none'
+    is code text one two =
+    let bare : threes 8 (codes_of r) ≡ 0 = ap (threes 8) (sym left_is) ∙ none in
+    let bare' : threes 8 (codes_of s) ≡ 0 = ap (threes 8) (sym other_is) ∙ none' in
+    let made : codes ≡ codes_of (joined (merged_class rule) r s) =
+    is ∙ ap (λ (m : ℕ). merged_codes 8 rule m other) left_is
+    ∙ ap (merged_codes 8 rule (codes_of r)) other_is
+    ∙ leaves_merged rule r s d 8 side_a.0 side_b.0 bare bare' in
+    let nothing = leaves_bare (merged_class rule) r s d 8 side_a.0 side_b.0 bare bare' in
+    record {
+      code = code ∙ ap (λ (n : ℕ). block_code (one_class n)) made;
+      text = text ∙ ap (λ (n : ℕ). old ++ data_of_child (one_class n) (code_bytes n)) made
+          ∙ ap (λ (t : List ℕ). old
+          ++ data_of_child (one_class (codes_of (joined (merged_class rule) r s)))
+          (code_bytes (codes_of (joined (merged_class rule) r s)) ++ t)) (sym nothing);
+      first = one ∙ record_long a r (leaves_text r d 8 side_a.0 bare);
+      second = two ∙ record_long b s (leaves_text s d 8 side_b.0 bare');
+    }
+
+-- a block that has a record has at least its bytes
+pub two_read : (a b at to : ℕ) → (a ≡ 3) ⊎ (b ≡ 3) → at ≡ (if nat_eq a 3 then 2 else 0)
+    → to ≡ (if nat_eq b 3 then 2 else 0) → 2 ≤ at + to
+two_read a b at to (inl three) one two =
+    (let here : at ≡ 2 = one ∙ ap (λ (n : ℕ). if nat_eq n 3 then 2 else 0) three in
+    omega (arith, here))
+two_read a b at to (inr three) one two =
+    (let here : to ≡ 2 = two ∙ ap (λ (n : ℕ). if nat_eq n 3 then 2 else 0) three in
+    omega (arith, here))
+
+pub two_long : (d a b : ℕ) (first second : List ℕ) (r s : Entries) (p q : List ℕ)
+    → (a ≡ 3) ⊎ (b ≡ 3) → first ≡ side_text a r ++ p → second ≡ side_text b s ++ q
+    → 2 ≤ length first + length second
+two_long d a b first second r s p q (inl three) one two =
+    (let long = long_side d a first r p three one in omega (arith, long))
+two_long d a b first second r s p q (inr three) one two =
+    (let long = long_side d b second s q three two in omega (arith, long))
+
+-- there is room for what is left of both texts
+pub room_next : (old now room room_now at to : ℕ) (first second later others : List ℕ)
+    → now ≤ old + at + to → room_now ≡ room → old + length first + length second ≤ room
+    → at ≤ length first → to ≤ length second → later ≡ drop at first → others ≡ drop to second
+    → now + length later + length others ≤ room_now
+room_next old now room room_now at to first second later others few same fits within within' is
+    is' =
+    let one : length later ≡ length first - at = ap length is ∙ length-drop at first in
+    let two : length others ≡ length second - to = ap length is' ∙ length-drop to second in
+    omega (arith, few, same, fits, within, within', one, two)

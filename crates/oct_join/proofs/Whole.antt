@@ -1,5 +1,5 @@
 -- The node data of a merged map.
-use Rattle.std.proofs.Common.{◌≡◌, ℕ, ◌+◌, ◌*◌, ◌/◌, ◌%◌, Bool, true, false, inl}
+use Rattle.std.proofs.Common.{◌≡◌, ℕ, ◌+◌, ◌*◌, ◌/◌, ◌%◌, ◌<◌, ◌≤◌, Bool, true, false, inl}
 use Rattle.std.proofs.Common.{inr, Option, Some, None, List, [], ◌∷◌, ◌++◌, length, refl, sym}
 use Rattle.std.proofs.Common.{subst}
 use Rattle.std.proofs.Common.{◌∙◌, ap, arith, eqb-true, append-nil}
@@ -215,6 +215,38 @@ root_of size bytes code accepted is = by_data (data_classed size bytes accepted)
               ∙ sym (ap (λ (n : ℕ). side_text n r ++ []) three);
           gives = gives';
         })
+
+unknown_all : (size : ℕ) (bytes : List ℕ) → IsAccepted size bytes → length bytes ≡ 0
+    → (k : Voxel) → IsInMap k → data_classes bytes k ≡ Unknown
+unknown_all size bytes accepted none = by_data (data_classed size bytes accepted)
+  where
+    by_data : IsDataOf (data_classes bytes) bytes
+        → (k : Voxel) → IsInMap k → data_classes bytes k ≡ Unknown
+    by_data (inl (empty, all)) = all
+    by_data (inr (r, formed, text', gives')) =
+        (let long : length bytes ≡ length (flat r) = ap length text' in
+        absurd (omega (arith, long, none)))
+
+-- two files without records
+pub none_joined : (rule : Rule) (n m : ℕ) (first second : List ℕ) → IsAccepted n first
+    → IsAccepted m second → length first ≡ 0 → length second ≡ 0
+    → [] ≡ canonical_data (merged_classes rule (data_classes first) (data_classes second))
+unfolding is_canonical_data
+none_joined rule n m first second accepted accepted' none none' =
+    (canonical_data_exactly (merged_classes rule (data_classes first) (data_classes second)) []
+    (inl (
+      refl,
+      λ k ok.
+          ap (λ c. merged_class rule c (data_classes second k)) (unknown_all n first accepted none k ok)
+          ∙ unknown_all m second accepted' none' k ok,
+    ))).0 refl
+
+-- while the whole map is of one class nothing is written yet
+pub root_room : (o : Option Class) (code room : ℕ) (text new : List ℕ) → code ≡ block_code o
+    → code < 3 → new ≡ data_of_child o text → 2 ≤ room → length new + 2 ≤ room
+root_room None code room text new is few at wide = absurd (omega (arith, is, few))
+root_room (Some c) code room text new is few at wide =
+    (let none : length new ≡ 0 = ap length at in omega (arith, none, wide))
 
 -- what the whole map has come to is the canonical data of its merged classes
 pub joined_data : (rule : Rule) (first second : List ℕ) (a b : ℕ) (new : List ℕ) (part : Part)

@@ -1,12 +1,17 @@
 //! The codes of blocks: 0, 1 and 2 for the classes, and 3 for a record.
-ghost use Rattle.std.specs.Prelude.{◌≡◌};
+ghost use Rattle.std.specs.Prelude.{◌≡◌, ◌≤◌};
 ghost use Rattle.oct_odds.specs.declared.event.Class.{Class};
 ghost use Rattle.oct_bt.specs.Records.{class_code};
-ghost use Rattle.oct_join.specs.Joined.{one_class};
-ghost use Rattle.oct_join.specs.Merged.{merged_class};
+ghost use Rattle.oct_join.specs.Joined.{merged_codes, one_class, threes};
 
 use oct_merge::Rule;
 use oct_odds::Class;
+
+/// The codes of eight leaves that are all free.
+pub(crate) const FREE_LEAVES: u16 = 0x5555;
+
+/// The codes of eight leaves that are all occupied.
+pub(crate) const OCCUPIED_LEAVES: u16 = 0xaaaa;
 
 /// The code of a class.
 #[inline(always)]
@@ -28,27 +33,38 @@ pub(crate) fn one_class(codes: u16) -> Option<Class>
     if codes == 0 {
         return Some(Class::Unknown);
     }
-    if codes == 0x5555 {
+    if codes == FREE_LEAVES {
         return Some(Class::Free);
     }
-    if codes == 0xaaaa {
+    if codes == OCCUPIED_LEAVES {
         return Some(Class::Occupied);
     }
     None
 }
 
-/// The code of the class that a rule makes of two, by their codes.
+/// A 1 in the place of each of eight codes.
+const ONES: u16 = 0x5555;
+
+/// A 1 in the place of each of eight codes that is 3.
 #[inline(always)]
-pub(crate) fn merged_code(rule: Rule, a: u16, b: u16) -> u16
-    ensures { (x y : Class) → a ≡ class_code x → b ≡ class_code y
-        → result ≡ class_code (merged_class rule x y) }
+pub(crate) fn threes(codes: u16) -> u16
+    ensures exact { result ≡ threes 8 codes }
+    ensures few { result ≤ 21845 }
 {
-    if a == 0 || b == 0 {
-        return a.max(b);
-    }
+    codes & (codes / 2) & ONES
+}
+
+/// The codes of the classes that a rule makes of eight pairs, by their codes. Where one of a pair
+/// is 3, some number stands in its place.
+#[inline(always)]
+pub(crate) fn merged_codes(rule: Rule, a: u16, b: u16) -> u16
+    ensures { result ≡ merged_codes 8 rule a b }
+{
+    let either = a | b;
+    let both = threes(either);
     match rule {
-        Rule::Greatest => a.max(b),
-        Rule::Least => a.min(b),
-        Rule::First => a,
+        Rule::Greatest => either - both,
+        Rule::Least => either - 2 * both,
+        Rule::First => either - (b & (3 * both)),
     }
 }

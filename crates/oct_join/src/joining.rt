@@ -1,67 +1,103 @@
 //! The records of two files, side by side.
 ghost use Rattle.std.specs.Prelude.{◌≡◌, ◌⊎◌, ◌↔◌, ◌+◌, ◌*◌, ◌≤◌, ◌<◌, ◌∷◌, ◌++◌, ℕ, List, length};
-ghost use Rattle.std.specs.Prelude.{IsTrue, IfOk, OnOk, Option, nat_eq, if◌then◌else◌};
+ghost use Rattle.std.specs.Prelude.{IsTrue, IfOk, OnErr, Option, nat_eq, if◌then◌else◌};
+ghost use Rattle.std.specs.Prelude.{vec_len, vec_capacity};
 ghost use Rattle.oct_bt.specs.Canonical.{block_code, canonical_data, canonical_size, data_of_child};
 ghost use Rattle.oct_bt.specs.DataClasses.{data_classes};
 ghost use Rattle.oct_bt.specs.NodeData.{IsAccepted};
 ghost use Rattle.oct_bt.specs.Records.{Entries, code_bytes, codes_of};
 ghost use Rattle.oct_odds.specs.declared.event.Class.{Class};
-ghost use Rattle.oct_join.specs.Joined.{one_class};
+ghost use Rattle.oct_join.specs.Joined.{one_class, threes};
 ghost use Rattle.oct_join.specs.Merged.{merged_class, merged_classes};
 ghost use Rattle.oct_join.specs.Sides.{IsSide, side_text, IsJoined, root_text};
 
-use crate::codes::{class_code, merged_code, one_class};
+use crate::codes::{FREE_LEAVES, OCCUPIED_LEAVES, class_code, merged_codes, one_class, threes};
 use oct_bt::BtFile;
 use oct_merge::Rule;
 use oct_num::Memory;
 use std::alloc::Global;
 
 /// The file of the merged map of two files, with the resolution of the first. Its node data is the
-/// canonical one. Each record of both is read once, and memory is asked for once.
+/// canonical one. Each record of both is read once. Memory is asked for once, for as many bytes as
+/// both have, and not at all where both have none.
 pub fn join(alloc: Global, rule: Rule, first: &BtFile, second: &BtFile) -> Result<BtFile, Memory>
     ensures res { IfOk result (λ file. file.res ≡ first.now.res) }
     ensures codes { IfOk result (λ file. file.codes ≡ canonical_data
         (merged_classes rule (data_classes first.now.codes) (data_classes second.now.codes))) }
     ensures nodes { IfOk result (λ file. file.nodes ≡ canonical_size
         (merged_classes rule (data_classes first.now.codes) (data_classes second.now.codes))) }
+    ensures memory { OnErr result (0 < length first.now.codes + length second.now.codes) }
+{
+    let records = join_codes(alloc, rule, first, second)?;
+    Ok(BtFile::of_records(first.res(), records))
+}
+
+/// The canonical node data of the merged map of two files, in room for as many bytes as both have.
+pub fn join_codes(
+    alloc: Global,
+    rule: Rule,
+    first: &BtFile,
+    second: &BtFile,
+) -> Result<Vec<u8>, Memory>
+    ensures codes { IfOk result (λ records. records.items ≡ canonical_data
+        (merged_classes rule (data_classes first.now.codes) (data_classes second.now.codes))) }
+    ensures room { IfOk result (λ records. vec_capacity records
+        ≤ length first.now.codes + length second.now.codes) }
+    ensures memory { OnErr result (0 < length first.now.codes + length second.now.codes) }
 {
     let mine = first.codes().as_slice();
     let theirs = second.codes().as_slice();
-    let records = join_records(alloc, rule, mine, theirs)?;
-    Ok(BtFile::of_records(first.res(), records))
+    join_records(alloc, rule, mine, theirs)
 }
 
 /// The canonical node data of the merged map.
 fn join_records(alloc: Global, rule: Rule, first: &[u8], second: &[u8]) -> Result<Vec<u8>, Memory>
     requires first { (n : ℕ) × IsAccepted n first.now }
     requires second { (n : ℕ) × IsAccepted n second.now }
-    ensures { IfOk result (λ records. records.items ≡ canonical_data
+    ensures codes { IfOk result (λ records. records.items ≡ canonical_data
         (merged_classes rule (data_classes first.now) (data_classes second.now))) }
+    ensures room { IfOk result (λ records. vec_capacity records
+        ≤ length first.now + length second.now) }
+    ensures memory { OnErr result (0 < length first.now + length second.now) }
 {
-    let room = first.len().saturating_add(second.len());
-    let mut records = Vec::with_capacity(alloc, room)?;
+    if first.is_empty() && second.is_empty() {
+        return Ok(Vec::new(alloc));
+    }
+    let mut records = Vec::with_capacity(alloc, first.len() + second.len())?;
     let a = root_code(first);
     let b = root_code(second);
-    let map = join_block(0, rule, a, first, b, second, &mut records)?;
-    close_map(map.code, &mut records)?;
+    let map = join_block(0, rule, a, first, b, second, &mut records);
+    close_map(map.code, &mut records);
     Ok(records)
 }
 
 /// Writes the record of the whole map where it is of one known class: it alone keeps eight equal
 /// leaves.
-fn close_map(code: u16, out: &mut Vec<u8>) -> Result<(), Memory>
-    ensures { OnOk result ((o : Option Class) (text : List ℕ) → code ≡ block_code o
-        → out.old.items ≡ data_of_child o text → out.new.items ≡ root_text o text) }
+fn close_map(code: u16, out: &mut Vec<u8>)
+    requires room { 0 < code → code < 3 → vec_len out.old + 2 ≤ vec_capacity out.old }
+    ensures text { (o : Option Class) (text : List ℕ) → code ≡ block_code o
+        → out.old.items ≡ data_of_child o text → out.new.items ≡ root_text o text }
+    ensures room { vec_capacity out.new ≡ vec_capacity out.old }
 {
     if code == 1 {
-        out.extend_from_slice(&[0x55, 0x55])?;
-        return Ok(());
+        push_record(FREE_LEAVES, out);
+        return;
     }
     if code == 2 {
-        out.extend_from_slice(&[0xaa, 0xaa])?;
-        return Ok(());
+        push_record(OCCUPIED_LEAVES, out);
     }
-    Ok(())
+}
+
+/// Appends the two bytes of a record, for which there is room.
+#[inline(always)]
+fn push_record(codes: u16, out: &mut Vec<u8>)
+    requires room { vec_len out.old + 2 ≤ vec_capacity out.old }
+    ensures text { out.new.items ≡ out.old.items ++ code_bytes codes }
+    ensures long { vec_len out.new ≡ vec_len out.old + 2 }
+    ensures room { vec_capacity out.new ≡ vec_capacity out.old }
+{
+    out.push_reserved((codes % 256) as u8);
+    out.push_reserved((codes / 256) as u8);
 }
 
 /// The code of the whole map in a file with this node data.
@@ -80,7 +116,7 @@ struct Part {
 }
 
 /// Joins a block that has these codes in the two files, and where a code is 3 its record at the
-/// front of the text.
+/// front of the text. There is room for as many bytes as are left of both.
 fn join_block(
     depth: u8,
     rule: Rule,
@@ -89,45 +125,86 @@ fn join_block(
     b: u16,
     second: &[u8],
     out: &mut Vec<u8>,
-) -> Result<Part, Memory>
+) -> Part
     requires levels { depth ≤ 15 }
+    requires parted { (a ≡ 3) ⊎ (b ≡ 3) }
     requires first { (r : Entries) × (tail : List ℕ) × IsSide depth a r
         × (first.now ≡ side_text a r ++ tail) }
     requires second { (s : Entries) × (tail : List ℕ) × IsSide depth b s
         × (second.now ≡ side_text b s ++ tail) }
-    ensures { IfOk result (λ part. (r s : Entries) (p q : List ℕ) → IsSide depth a r
+    requires room { vec_len out.old + length first.now + length second.now
+        ≤ vec_capacity out.old }
+    ensures joined { (r s : Entries) (p q : List ℕ) → IsSide depth a r
         → first.now ≡ side_text a r ++ p → IsSide depth b s → second.now ≡ side_text b s ++ q
-        → IsJoined (merged_class rule) a b r s out.old.items out.new.items part) }
+        → IsJoined (merged_class rule) a b r s out.old.items out.new.items result }
+    ensures few { vec_len out.new ≤ vec_len out.old + result.first + result.second }
+    ensures room { vec_capacity out.new ≡ vec_capacity out.old }
 {
-    let start = out.len();
-    out.extend_from_slice(&[0, 0])?;
     let mut left = side_codes(a, first);
     let mut other = side_codes(b, second);
     let mut at = record_bytes(a);
     let mut to = record_bytes(b);
+    let mut plain = merged_codes(rule, left, other);
+    if are_leaves(left, other) {
+        let code = close_leaves(plain, out);
+        return Part {
+            code,
+            first: at,
+            second: to,
+        };
+    }
+    let start = out.len();
+    push_record(0, out);
     let mut codes: u32 = 0;
     let mut unit: u32 = 1;
     for _ in 0u8..8 {
         if is_parted(left % 4, other % 4) {
             let (_, later) = first.split_at(at);
             let (_, others) = second.split_at(to);
-            let part = join_block(depth + 1, rule, left % 4, later, other % 4, others, out)?;
+            let part = join_block(depth + 1, rule, left % 4, later, other % 4, others, out);
             at += part.first;
             to += part.second;
             codes += unit * u32::from(part.code);
         } else {
-            codes += unit * u32::from(merged_code(rule, left % 4, other % 4));
+            codes += unit * u32::from(plain % 4);
         }
         unit *= 4;
         left /= 4;
         other /= 4;
+        plain /= 4;
     }
     let code = close(codes as u16, start, out);
-    Ok(Part {
+    Part {
         code,
         first: at,
         second: to,
-    })
+    }
+}
+
+/// Whether neither of two records has children with records of their own.
+#[inline(always)]
+fn are_leaves(a: u16, b: u16) -> bool
+    ensures { IsTrue result ↔ ((threes 8 a ≡ 0) × (threes 8 b ≡ 0)) }
+{
+    threes(a) == 0 && threes(b) == 0
+}
+
+/// Closes a block whose children have these codes and no records: appends its record, where they
+/// aren't all of one class.
+#[inline(always)]
+fn close_leaves(codes: u16, out: &mut Vec<u8>) -> u16
+    requires room { vec_len out.old + 2 ≤ vec_capacity out.old }
+    ensures code { result ≡ block_code (one_class codes) }
+    ensures text { out.new.items
+        ≡ out.old.items ++ data_of_child (one_class codes) (code_bytes codes) }
+    ensures few { vec_len out.new ≤ vec_len out.old + 2 }
+    ensures room { vec_capacity out.new ≡ vec_capacity out.old }
+{
+    if let Some(class) = one_class(codes) {
+        return class_code(class);
+    }
+    push_record(codes, out);
+    3
 }
 
 /// Whether a block has a record in one of the files at least.
@@ -178,6 +255,8 @@ fn close(codes: u16, start: usize, out: &mut Vec<u8>) -> u16
     ensures text { (before later : List ℕ) → out.old.items ≡ before ++ (0 ∷ 0 ∷ later)
         → length before ≡ start
         → out.new.items ≡ before ++ data_of_child (one_class codes) (code_bytes codes ++ later) }
+    ensures few { vec_len out.new ≤ vec_len out.old }
+    ensures room { vec_capacity out.new ≡ vec_capacity out.old }
 {
     match one_class(codes) {
         Some(class) => {

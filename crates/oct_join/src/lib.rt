@@ -11,10 +11,12 @@
 //!
 //! It is one recursion over blocks, with the code of the block in each file and the text from its
 //! record on. Both texts are read side by side, each byte once. A block of one class stands for
-//! eight children of it, and reads nothing. A record's place is kept free, its children are
-//! appended after it, and then the record is written there; where all eight came out as one class,
-//! it is taken off again, and the block is of that class. So what was appended for a block is its
-//! canonical data. Room for as many bytes as both files have is asked for once.
+//! eight children of it, and reads nothing. Where no child has a record, the eight codes are merged
+//! at once, by masks. Else a record's place is kept free, its children are appended after it, and
+//! then the record is written there; where all eight came out as one class, it is taken off again,
+//! and the block is of that class. So what was appended for a block is its canonical data. Room for
+//! as many bytes as both files have is asked for once, which [`join_codes`] promises, and none is
+//! where both have no record.
 //!
 //! [`tabulate`] counts how many voxels of a box have which classes in the two files, by a walk of
 //! the same kind: a block of one class in each file is counted as a whole, and the records of a
@@ -29,6 +31,6 @@ mod joining;
 mod laws;
 mod table;
 
-pub use joining::join;
+pub use joining::{join, join_codes};
 pub use laws::merged_classes_are_exact;
 pub use table::tabulate;
