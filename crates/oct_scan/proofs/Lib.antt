@@ -14,6 +14,7 @@ pub mod Settling
 pub mod Settled
 pub mod Tests
 pub mod Faults
+pub mod MetCounts
 pub mod Totals
 pub mod Ends
 pub mod Taking

@@ -27,7 +27,8 @@
 //!   session: `scan_outcome` gives each voxel its event or none, `hit_count` and `free_count` count
 //!   over the whole map, and `scan_fault` is why the scan is refused, or none.
 //!   [`outcomes_are_exact`] says that these tests and this fault mean what the words above mean,
-//!   and both calls say what they answer in both.
+//!   and both calls say what they answer in both. [`counts_stay_within`]: a scan that isn't refused
+//!   hits, and frees, no more voxels than its beams may meet.
 //! - Where a beam is cut is computed by `cut_end`, and [`cut_ends_are_exact`] says that this is the
 //!   one point of the rule (`IsCutEnd` of `oct_ray`).
 //! - A scan is refused for its origin, for the first beam that ends outside the map, or for the
@@ -69,6 +70,6 @@ mod update;
 
 pub use bricks::{UpdateBricks, update_bricks};
 pub use fault::ScanFault;
-pub use laws::{cut_ends_are_exact, outcomes_are_exact};
+pub use laws::{counts_stay_within, cut_ends_are_exact, outcomes_are_exact};
 pub use scan::{Scan, ScanOdds};
 pub use update::{UpdateSet, update_set};
