@@ -1,7 +1,7 @@
 //! The map that a robot keeps: edited, scanned into and asked by points, within its limits.
 ghost use Rattle.std.specs.Prelude.{◌≡◌, ℕ, ◌+◌, ◌^◌, ◌<◌, ◌≤◌, ◌⊎◌, ◌&&◌, nat_lt, pos, ◌≤ℤ◌, ◌<ℤ◌};
 ghost use Rattle.std.specs.Prelude.{false, IsTrue, [], All, Some, None, is_some, IsSome, IfSome};
-ghost use Rattle.std.specs.Prelude.{Err, IsOk, OnOk, OnErr, IfErr};
+ghost use Rattle.std.specs.Prelude.{Ok, Err, IsOk, OnOk, OnErr, IfErr};
 ghost use Rattle.oct_key.specs.Voxel.{Voxel, IsInMap, key_at};
 ghost use Rattle.oct_key.specs.Values.{SameValues};
 ghost use Rattle.oct_odds.specs.Odds.{odds_of};
@@ -20,8 +20,7 @@ ghost use Rattle.oct_edit.specs.Edits.{IsTidyAlong};
 ghost use Rattle.oct_inner.specs.Changes.{IsSameButInner, IsShrunk};
 ghost use Rattle.oct_pose.specs.Reach.{IsInReach};
 ghost use Rattle.oct_scan.specs.Beam.{IsTrust, sighting_of};
-ghost use Rattle.oct_scan.specs.Answer.{TakesMemory};
-ghost use Rattle.oct_scan.specs.Outcome.{scan_fault, hit_count, free_count};
+ghost use Rattle.oct_scan.specs.Outcome.{scan_fault, hit_count, free_count, TakesMemory};
 ghost use Rattle.oct_map.specs.declared.fault.MapFault.{MapFault};
 ghost use Rattle.oct_map.specs.Answers.{room_answer, edit_answer, edit_need, box_answer, box_fault};
 ghost use Rattle.oct_map.specs.Answers.{most_noted, limit_answer, scan_answer, get_answer};
@@ -296,7 +295,7 @@ impl OccMap {
         ensures answer { IsAnswerOrMemory (scan_answer (ground_of self.old) (values_of self.old)
             (sighting_of scan.now)) result }
         ensures memory { result ≡ Err MapFault.Memory
-            → TakesMemory self.old.tree.res (sighting_of scan.now) }
+            → TakesMemory self.old.tree.res (sighting_of scan.now) self.old.max_cells }
         ensures edited { OnOk result (IsMapEdited self.old self.new
             (outcome_in self.old (sighting_of scan.now))
             (scan_need self.old (sighting_of scan.now)) lazy) }
@@ -369,8 +368,11 @@ impl OccMap {
     pub fn list(&self, lo: Point, hi: Point, depth: u32) -> Result<BlockList, MapFault>
         ensures answer { IsAnswerOrMemory (list_answer (ground_of self.now) self.now.is_stale
             (values_of self.now) lo hi depth) result }
-        ensures memory { result ≡ Err MapFault.Memory → IsOk (list_answer (ground_of self.now)
-            self.now.is_stale (values_of self.now) lo hi depth) }
+        ensures memory { result ≡ Err MapFault.Memory
+            → IsOk (list_answer (ground_of self.now) self.now.is_stale (values_of self.now) lo hi
+            depth)
+            × (list_answer (ground_of self.now) self.now.is_stale (values_of self.now) lo hi depth
+            ≡ Ok [] → ⊥) }
         ensures map { IsMap self.now }
     {
         let Some(first) = self.tree.res().key_of(lo) else {

@@ -1,13 +1,11 @@
--- When a scan takes memory: its origin lies in the map, and its first beam ends there.
-use Rattle.std.proofs.Common.{◌≡◌, ◌≢◌, ℕ, suc, ◌+◌, ◌*◌, ◌<◌, ◌≤◌, ◌↔◌, inl, inr, Bool, true}
-use Rattle.std.proofs.Common.{false, not, List, [], ◌∷◌, ◌++◌, map, length, take, get_or, Option}
-use Rattle.std.proofs.Common.{Some, None, refl, sym, subst, ◌∙◌, ap, arith}
-use Rattle.std.specs.Prelude.{cond, nat_lt, is_none, IsSome, IsNone}
+-- That a scan has a point.
+use Rattle.std.proofs.Common.{ℕ, ◌+◌, ◌*◌, ◌<◌, ◌≤◌, ◌↔◌, inl, inr, List, [], ◌∷◌, length, Option}
+use Rattle.std.proofs.Common.{arith}
 use Rattle.std.specs.Int.{w64, trailing_zeros}
-use Rattle.std.specs.List.{All, Any, Contains, position, position_or_len}
+use Rattle.std.specs.List.{All, Any, Contains}
 use Rattle.std.proofs.lemmas.List.{length-map}
 use Rattle.std.proofs.lemmas.List.Elements.{All-head}
-use Rattle.oct_key.specs.Voxel.{Voxel, key_at}
+use Rattle.oct_key.specs.Voxel.{Voxel}
 use Rattle.oct_key.specs.Block.{Cube, HoldsVoxel}
 use Rattle.oct_key.specs.Boxes.{Corners, IsInWindow}
 use Rattle.oct_key.specs.declared.point.Point.{Point}
@@ -20,59 +18,8 @@ use Rattle.oct_brick.proofs.BrickCodes.{by_listed}
 use Rattle.oct_brick.proofs.Lists.{contains_here, contains_map}
 use Rattle.oct_scan.specs.declared.beam.Beam.{Beam}
 use Rattle.oct_scan.specs.Beam.{beam_to, beams_of, Sighting}
-use Rattle.oct_scan.specs.Answer.{IsInside, BeginsInside, TakesMemory}
 use Rattle.oct_scan.specs.Gathered.{HoldGathered}
 use Rattle.oct_scan.specs.Scanned.{IsHit, IsFreed, IsScanned, IsNeed}
-use Rattle.oct_scan.proofs.OutsideEnds.{made_more, all_inside_more}
-
--- a test that fails of the first element finds it nowhere at first
-not_first : {X : Type 0} (p : X → Bool) (x : X) (xs : List X) → p x ≡ false
-    → position p (x ∷ xs) ≢ Some 0
-not_first p x xs fails e =
-    let n : ℕ = position_or_len p xs in
-    let later : position p (x ∷ xs) ≡ cond (nat_lt (1 + n) (length (x ∷ xs))) (Some (1 + n)) None =
-    rw fails refl in
-    not_zero (nat_lt (1 + n) (length (x ∷ xs))) (1 + n) (omega arith) (sym later ∙ e)
-  where
-    not_zero : (b : Bool) (n : ℕ) → 0 < n → ◌≡◌ {A = Option ℕ} (cond b (Some n) None) (Some 0) → ⊥
-    not_zero true n some e = (let zero : n ≡ 0 = cc in omega (arith, some, zero))
-    not_zero false n some e = absurd (let h : ⊥ = cc in h)
-
--- where the beams so far end inside, and one more, the first one does
-pub begins_inside : (edge : ℕ) (scan : Sighting) (points : List Point) (items : List Beam) (i : ℕ)
-    (b : Beam) (d : Point) → points ≡ scan.points → i < length points
-    → items ≡ map (beam_to scan) (take i points) → All (λ b. IsSome (key_at edge b.end)) items
-    → b ≡ beam_to scan (get_or points i d) → IsSome (key_at edge b.end) → BeginsInside edge scan
-begins_inside edge scan points items i b d same l made all is one =
-    subst (λ ps. (0 < length ps)
-    × (position (λ b. is_none (key_at edge b.end)) (map (beam_to scan) ps) ≢ Some 0)) same
-    (first points l (subst (All (λ b. IsSome (key_at edge b.end)))
-    (made_more scan points items (items ++ b ∷ []) i b d l made refl is)
-    (all_inside_more edge items (items ++ b ∷ []) b refl all one)))
-  where
-    first : (ps : List Point) → i < length ps
-        → All (λ b. IsSome (key_at edge b.end)) (map (beam_to scan) (take (i + 1) ps))
-        → (0 < length ps) × (position (λ b. is_none (key_at edge b.end)) (map (beam_to scan) ps) ≢
-        Some 0)
-    first [] l all = absurd (omega (arith, l))
-    first (p ∷ ps) l all =
-        let next : i + 1 ≡ suc i = omega arith in
-        let inside : IsSome (key_at edge (beam_to scan p).end) =
-        All-head (λ b. IsSome (key_at edge b.end)) (beam_to scan p) (map (beam_to scan) (take i ps))
-        (subst (λ n. All (λ b. IsSome (key_at edge b.end)) (map (beam_to scan) (take n (p ∷ ps))))
-        next all) in (
-          omega arith,
-          not_first (λ b. is_none (key_at edge b.end)) (beam_to scan p)
-              (map (beam_to scan) ps) (ap not inside),
-        )
-
--- a scan that is inside takes memory where it has a point
-pub takes_inside : (edge : ℕ) (scan : Sighting) → IsInside edge scan → 0 < length scan.points
-    → TakesMemory edge scan
-takes_inside edge scan (origin, ends) some = (origin, (some, λ e. not_none (subst IsNone e ends)))
-  where
-    not_none : IsNone {T = ℕ} (Some 0) → ⊥
-    not_none h = absurd (let e : ⊥ = cc in e)
 
 -- a beam is one to a point
 pub points_of : (scan : Sighting) → 0 < length (beams_of scan) → 0 < length scan.points

@@ -10,8 +10,9 @@ ghost use Rattle.oct_values.specs.Needs.{event_need};
 ghost use Rattle.oct_pose.specs.Reach.{IsInReach};
 ghost use Rattle.oct_scan.specs.Beam.{origin_of, beams_of, sighting_of};
 ghost use Rattle.oct_scan.specs.Scanned.{IsHit, IsFreed, IsNeed};
-ghost use Rattle.oct_scan.specs.Answer.{IsInside, MeetAtMost, IsRefusedFor, TakesMemory};
+ghost use Rattle.oct_scan.specs.Answer.{IsInside, MeetAtMost, IsRefusedFor};
 ghost use Rattle.oct_scan.specs.Outcome.{scan_outcome, hit_count, free_count, scan_fault};
+ghost use Rattle.oct_scan.specs.Outcome.{TakesMemory};
 ghost use Rattle.oct_brick.specs.Bricks.{IsBrick, AreAscending};
 ghost use Rattle.oct_brick.specs.Voxels.{hit_voxels, freed_voxels};
 ghost use Rattle.oct_scan.specs.Gathered.{HoldCodes};
@@ -117,9 +118,8 @@ pub fn update_bricks(
     ensures within { IfOk result (λ _. MeetAtMost res (origin_of (sighting_of scan.now))
         (beams_of (sighting_of scan.now)) max_cells) }
     ensures refused { IfErr result (IsRefusedFor res (sighting_of scan.now) max_cells) }
-    ensures memory { result ≡ Err ScanFault.Memory → TakesMemory res (sighting_of scan.now) }
-    ensures spared { result ≡ Err ScanFault.Memory →
-        scan_fault res (sighting_of scan.now) max_cells ≡ None }
+    ensures memory { result ≡ Err ScanFault.Memory →
+        TakesMemory res (sighting_of scan.now) max_cells }
 
     ensures events { IfOk result (λ set. (hit miss : Event) (k : Voxel) → IsInMap k →
         scan_events (hit_voxels set.bricks) hit (freed_voxels set.bricks) miss k ≡

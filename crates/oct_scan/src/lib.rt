@@ -34,8 +34,7 @@
 //! - A scan is refused for its origin, for the first beam that ends outside the map, or for the
 //!   first beam with which the voxels met exceed the limit, in this order and exactly then. No
 //!   refusal looks at the box, and a voxel that is met counts where it lies outside too. Memory
-//!   runs out only where some is taken: the scan has a point (`TakesMemory`) and isn't refused
-//!   (`spared`). So a refused scan takes none.
+//!   runs out only where some is taken: the scan isn't refused, and has a point (`TakesMemory`).
 //!
 //! A scan is judged first. A beam meets no more voxels than one and the faces between the voxels of
 //! its ends, which are counted at once; only where the sum of these exceeds the limit are the

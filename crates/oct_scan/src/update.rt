@@ -10,8 +10,9 @@ ghost use Rattle.oct_values.specs.Needs.{event_need};
 ghost use Rattle.oct_pose.specs.Reach.{IsInReach};
 ghost use Rattle.oct_scan.specs.Beam.{origin_of, beams_of, sighting_of};
 ghost use Rattle.oct_scan.specs.Scanned.{IsHit, IsFreed, IsNeed};
-ghost use Rattle.oct_scan.specs.Answer.{IsInside, MeetAtMost, IsRefusedFor, TakesMemory};
+ghost use Rattle.oct_scan.specs.Answer.{IsInside, MeetAtMost, IsRefusedFor};
 ghost use Rattle.oct_scan.specs.Outcome.{scan_outcome, hit_count, free_count, scan_fault};
+ghost use Rattle.oct_scan.specs.Outcome.{TakesMemory};
 ghost use Rattle.oct_brick.specs.Bricks.{IsBrick};
 ghost use Rattle.oct_brick.specs.Voxels.{hit_voxels, freed_voxels};
 
@@ -94,9 +95,8 @@ pub fn update_set(
     ensures within { IfOk result (λ _. MeetAtMost res (origin_of (sighting_of scan.now))
         (beams_of (sighting_of scan.now)) max_cells) }
     ensures refused { IfErr result (IsRefusedFor res (sighting_of scan.now) max_cells) }
-    ensures memory { result ≡ Err ScanFault.Memory → TakesMemory res (sighting_of scan.now) }
-    ensures spared { result ≡ Err ScanFault.Memory →
-        scan_fault res (sighting_of scan.now) max_cells ≡ None }
+    ensures memory { result ≡ Err ScanFault.Memory →
+        TakesMemory res (sighting_of scan.now) max_cells }
 
     ensures events { IfOk result (λ set. (hit miss : Event) (k : Voxel) → IsInMap k →
         scan_events set.hits hit set.frees miss k ≡

@@ -1,6 +1,6 @@
 use Rattle.std.proofs.Common.{ap, ◌∙◌, sym, arith, length, rules}
 use Rattle.oct_scan.specs.Beam.{sighting_of}
-use Rattle.oct_scan.proofs.Taking.{takes_inside, bricks_point}
+use Rattle.oct_scan.proofs.Taking.{bricks_point}
 use Rattle.oct_scan.proofs.update.update_set.Goals as goal
 
 pub returns-clause-hits : goal.returns-clause-hits
@@ -41,8 +41,9 @@ returns-clause-needed c = λ hit miss. c.in_ok-set.ensures.need
     ∙ c.in_ok-update.ensures.needed hit miss
 
 pub returns-in_err-set-clause-memory : goal.returns-in_err-set-clause-memory
-returns-in_err-set-clause-memory c _ =
-    takes_inside c.args.res (sighting_of c.args.scan.now) c.in_ok-update.ensures.inside
-    (bricks_point c.args.res c.args.window (sighting_of c.args.scan.now)
-    c.in_ok-update.update.bricks c.in_ok-update.ensures.bricks c.in_ok-update.ensures.hits
-    c.in_ok-update.ensures.frees (search rules))
+returns-in_err-set-clause-memory c _ = (
+  c.in_ok-update.ensures.accepted,
+  bricks_point c.args.res c.args.window (sighting_of c.args.scan.now)
+      c.in_ok-update.update.bricks c.in_ok-update.ensures.bricks c.in_ok-update.ensures.hits
+      c.in_ok-update.ensures.frees (search rules),
+)

@@ -1,11 +1,11 @@
-use Rattle.std.proofs.Common.{◌≡◌, ℕ, ◌+◌, ◌<◌, ◌≤◌, Some, Err, IfErr, false, inl, inr, sym, ◌∙◌}
+use Rattle.std.proofs.Common.{◌≡◌, ℕ, ◌+◌, ◌≤◌, Some, Err, IfErr, false, inl, inr, sym, ◌∙◌}
 use Rattle.std.proofs.Common.{ap, subst, rules}
 use Rattle.std.specs.Prelude.{is_some}
 use Rattle.std.proofs.lemmas.Bool.{false≢true}
 use Rattle.oct_key.specs.Voxel.{key_at}
 use Rattle.oct_key.specs.Boxes.{IsInBox}
 use Rattle.oct_values.specs.Boxes.{box_events}
-use Rattle.oct_arena.specs.Entries.{live, spare}
+use Rattle.oct_arena.specs.Entries.{live}
 use Rattle.oct_map.specs.Map.{Map, IsMap, values_of}
 use Rattle.oct_map.specs.Answers.{room_answer, IsAnswerOrMemory}
 use Rattle.oct_map.specs.Outcome.{corner_events, corner_need, corner_volume}

@@ -12,8 +12,7 @@ use Rattle.oct_edit.specs.Listed.{ListedUpdate, update_of}
 use Rattle.oct_scan.specs.Update.{listed}
 use Rattle.oct_edit.specs.Scan.{events_of}
 use Rattle.oct_scan.specs.Beam.{sighting_of}
-use Rattle.oct_scan.specs.Answer.{TakesMemory}
-use Rattle.oct_scan.proofs.Taking.{need_point, takes_inside}
+use Rattle.oct_scan.proofs.Taking.{need_point}
 use Rattle.oct_map.specs.Map.{Map, IsMap}
 use Rattle.oct_map.specs.Edits.{outcome_in, scan_need, IsMapRefused, ReservesFew, IsReadied}
 use Rattle.oct_map.proofs.Rooms.{lacks_need}
@@ -26,8 +25,8 @@ use Rattle.oct_map.proofs.Edits.{refused_room, refused_notes, remarked}
 use Rattle.oct_map.proofs.Marks.{marked_edit, marked_room, readied_mark, noted_few}
 use Rattle.oct_map.proofs.Marks.{same_few, few_after, scan_asked, asked_scan, reserved_remarked}
 use Rattle.oct_map.proofs.Marks.{lacks_notes, lacks_some}
-use Rattle.oct_map.proofs.Scans.{IsPrepared, prepared, room_for, made_few, event_back, same_need_in}
-use Rattle.oct_map.proofs.Scans.{listed_point}
+use Rattle.oct_map.proofs.Scans.{IsPrepared, accepted_in, prepared, room_for, made_few, event_back}
+use Rattle.oct_map.proofs.Scans.{listed_point, same_need_in}
 use Rattle.oct_map.proofs.map.OccMap.scan.Goals as goal
 
 -- what a number adds that is handed on
@@ -334,10 +333,12 @@ returns-in_err-make_room-clause-memory c e =
     let some = lacks_need c.args.self.now c.from.result
     (subst IsMap c.self.view_is c.self.invariant) few in
     let point = need_point c.res.result c.window-window.result (sighting_of c.args.scan.now)
-    c.in_ok-set.set.need c.in_ok-set.ensures.need (omega (arith, need, some)) in
-    subst (λ n. TakesMemory n (sighting_of c.args.scan.now))
-    (c.res.ensures ∙ ap (λ (m : Map). m.tree.res) c.self.view_is)
-    (takes_inside c.res.result (sighting_of c.args.scan.now) c.in_ok-set.ensures.inside point)
+    c.in_ok-set.set.need c.in_ok-set.ensures.need (omega (arith, need, some)) in (
+      accepted_in c.args.self.now (sighting_of c.args.scan.now) c.res.result _
+          (c.res.ensures ∙ ap (λ (m : Map). m.tree.res) c.self.view_is)
+          (ap (λ (m : Map). m.max_cells) c.self.view_is) c.in_ok-set.ensures.accepted,
+      point,
+    )
 
 pub returns-in_err-reserve-clause-memory : goal.returns-in_err-reserve-clause-memory
 returns-in_err-reserve-clause-memory c _ =
@@ -351,7 +352,9 @@ returns-in_err-reserve-clause-memory c _ =
     c.free_count.ensures ∙ c.in_ok-set.ensures.frees_counted in
     let point = listed_point c.res.result c.window-window.result (sighting_of c.args.scan.now)
     (hit_voxels c.in_ok-set.set.bricks) (freed_voxels c.in_ok-set.set.bricks)
-    c.in_ok-set.ensures.hits c.in_ok-set.ensures.frees (omega (arith, some, hits, frees)) in
-    subst (λ n. TakesMemory n (sighting_of c.args.scan.now))
-    (c.res.ensures ∙ ap (λ (m : Map). m.tree.res) c.self.view_is)
-    (takes_inside c.res.result (sighting_of c.args.scan.now) c.in_ok-set.ensures.inside point)
+    c.in_ok-set.ensures.hits c.in_ok-set.ensures.frees (omega (arith, some, hits, frees)) in (
+      accepted_in c.args.self.now (sighting_of c.args.scan.now) c.res.result _
+          (c.res.ensures ∙ ap (λ (m : Map). m.tree.res) c.self.view_is)
+          (ap (λ (m : Map). m.max_cells) c.self.view_is) c.in_ok-set.ensures.accepted,
+      point,
+    )
