@@ -13,9 +13,8 @@ use Rattle.oct_map.specs.declared.done.ScanDone.{ScanDone}
 use Rattle.oct_map.specs.declared.fault.MapFault.{MapFault}
 use Rattle.oct_map.specs.declared.fault.MapFault.TheVariants as fault
 use Rattle.oct_pose.specs.Reach.{IsInReach}
-use Rattle.oct_scan.specs.Answer.{TakesMemory}
 use Rattle.oct_scan.specs.Beam.{IsTrust, Sighting, sighting_of}
-use Rattle.oct_scan.specs.Outcome.{free_count, hit_count, scan_fault}
+use Rattle.oct_scan.specs.Outcome.{free_count, hit_count, scan_fault, TakesMemory}
 use Rattle.oct_scan.specs.declared.scan.Scan.{Scan}
 use Rattle.octofix.specs.Codes.{of_map}
 use Rattle.octofix.specs.Sightings.{sighting_from}
@@ -45,7 +44,7 @@ IsRead seen points (Err refused) =
 pub record IsMapScan (s : Sighting) (lazy : Bool) (m n : Map) (done : Result ScanDone MapFault)
     : Type 0 where
   pub answer : IsAnswerOrMemory (scan_answer (ground_of m) (values_of m) s) done
-  pub memory : done ≡ Err fault.Memory → TakesMemory m.tree.res s
+  pub memory : done ≡ Err fault.Memory → TakesMemory m.tree.res s m.max_cells
   pub edited : OnOk done (IsMapEdited m n (outcome_in m s) (scan_need m s) lazy)
   pub refused : IfErr done (λ fault. IsMapRefused m n fault (scan_need m s))
   pub reserved : ReservesFew m n (scan_need m s)

@@ -1,8 +1,8 @@
 //! What has changed since the mark.
-ghost use Rattle.std.specs.Prelude.{◌≡◌, length, map, IsOk};
+ghost use Rattle.std.specs.Prelude.{◌≡◌, length, map, Some};
 ghost use Rattle.octofix.specs.Asked.{asked};
 ghost use Rattle.octofix.specs.Buffers.{IsListTold, filled, room_code};
-ghost use Rattle.octofix.specs.Changes.{change_told, changes_in, kind_number};
+ghost use Rattle.octofix.specs.Changes.{HasNotes, change_told, changes_in, kind_number};
 
 use crate::handle::Octofix;
 use crate::refusal::{DONE, Refusal, SMALL_BUFFER};
@@ -52,7 +52,7 @@ fn put_changes(found: &[Change], changes: &mut [ChangedVoxel], count: &mut usize
 
 /// Tells the changes since the mark.
 fn changes(map: &OccMap, changes: &mut [ChangedVoxel], count: &mut usize) -> u32
-    ensures { IsListTold (changes_in map.now) (IsOk (changes_in map.now)) result
+    ensures { IsListTold (changes_in map.now) (HasNotes (Some map.now)) result
         changes.old changes.new count.old count.new }
 {
     match map.changes() {
@@ -70,8 +70,7 @@ pub extern "C" fn octofix_changes(
 ) -> u32
     ensures same { map.new ≡ map.old }
     ensures told { IsListTold (asked map.old.slot.map changes_in)
-        (IsOk (asked map.old.slot.map changes_in)) result changed.old changed.new
-        count.old count.new }
+        (HasNotes map.old.slot.map) result changed.old changed.new count.old count.new }
 {
     match map.map_mut() {
         Ok(map) => changes(map, changed, count),

@@ -1,8 +1,6 @@
 //! Files of maps and snapshots, as bytes.
-ghost use Rattle.std.specs.Prelude.{◌≡◌, ◌≢◌, ◌⊎◌, ◌≤◌, ⊤, length, IfOk, IsSome, None, Ok, Err};
+ghost use Rattle.std.specs.Prelude.{◌≡◌, ◌≢◌, ◌≤◌, ⊤, length, IfOk, IsSome, None, Ok};
 ghost use Rattle.std.specs.Prelude.{OnOk, OnErr};
-ghost use Rattle.oct_bt.specs.File.{reading};
-ghost use Rattle.oct_bt.specs.declared.fault.BtFault.{BtFault};
 ghost use Rattle.octofix.specs.Asked.{IsAnswered, IsReached, asked};
 ghost use Rattle.octofix.specs.Buffers.{HasFit, IsListTold, filled, room_code};
 ghost use Rattle.octofix.specs.Changed.{Left};
@@ -13,7 +11,7 @@ use crate::answers::{code_of, details_of};
 use crate::handle::Octofix;
 use crate::refusal::{DONE, MEMORY, Refusal, SMALL_BUFFER};
 use crate::types::Details;
-use oct_bt::{BtFault, BtFile, Reader};
+use oct_bt::{BtFault, read_classes};
 use oct_io::{CalmSink, Sink, SinkFault};
 use oct_map::{MapFault, OccMap};
 use oct_num::Memory;
@@ -124,22 +122,13 @@ fn snapshot(alloc: Global, map: &OccMap, bytes: &mut [u8], len: &mut usize) -> u
     }
 }
 
-/// The file of classes that these bytes are, or what is wrong with them.
-fn read(alloc: Global, bytes: &[u8]) -> Result<BtFile, BtFault>
-    ensures { (result ≡ reading bytes.now) ⊎ (result ≡ Err BtFault.Memory) }
-{
-    let mut reader = Reader::new(alloc);
-    reader.feed(bytes)?;
-    reader.finish()
-}
-
 /// Gives each voxel the value of its class in the binary file of these bytes.
 fn load(alloc: Global, map: &mut OccMap, bytes: &[u8]) -> Result<(), Refusal>
     ensures answer { IsReached (loading bytes.now map.old) ⊤ result }
     ensures loaded { OnOk result (IsLoadedFrom bytes.now map.old map.new) }
     ensures refused { OnErr result (map.new ≡ map.old) }
 {
-    let file = match read(alloc, bytes) {
+    let file = match read_classes(alloc, bytes) {
         Ok(file) => file,
         Err(BtFault::Memory) => return Err(Refusal::Map(MapFault::Memory)),
         Err(fault) => return Err(Refusal::File(fault)),

@@ -57,7 +57,8 @@ fn blocks_between(
     depth: u32,
 ) -> Result<BlockList, MapFault>
     ensures answer { IsAnswerOrMemory (listed low.now high.now depth map.now) result }
-    ensures memory { result ≡ Err MapFault.Memory → IsOk (listed low.now high.now depth map.now) }
+    ensures memory { result ≡ Err MapFault.Memory → IsOk (listed low.now high.now depth map.now)
+        × (listed low.now high.now depth map.now ≡ Ok [] → ⊥) }
 {
     map.list(low.point(), high.point(), depth)
 }
@@ -109,7 +110,7 @@ fn list(
     details: &mut Details,
 ) -> u32
     ensures told { IsListTold (blocks_between low.now high.now depth map.now)
-        (IsOk (blocks_between low.now high.now depth map.now)) result
+        (IsSomeList (blocks_between low.now high.now depth map.now)) result
         blocks.old blocks.new count.old count.new }
     ensures details { details.new
         ≡ answer_details (blocks_between low.now high.now depth map.now) }
@@ -159,7 +160,7 @@ pub extern "C" fn octofix_list(
 ) -> u32
     ensures same { map.new ≡ map.old }
     ensures told { IsListTold (asked map.old.slot.map (blocks_between low.now high.now depth))
-        (IsOk (asked map.old.slot.map (blocks_between low.now high.now depth))) result
+        (IsSomeList (asked map.old.slot.map (blocks_between low.now high.now depth))) result
         blocks.old blocks.new count.old count.new }
     ensures details { details.new
         ≡ answer_details (asked map.old.slot.map (blocks_between low.now high.now depth)) }

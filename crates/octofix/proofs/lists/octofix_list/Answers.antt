@@ -1,6 +1,6 @@
-use Rattle.std.specs.Prelude.{IsOk}
 use Rattle.octofix.proofs.Tellings.{closed_told}
 use Rattle.octofix.specs.Asked.{asked}
+use Rattle.octofix.specs.Buffers.{IsSomeList}
 use Rattle.octofix.specs.Lists.{blocks_between}
 use Rattle.octofix.proofs.lists.octofix_list.Goals as goal
 
@@ -8,6 +8,6 @@ pub returns-in-Err-clause-told : goal.returns-in-Err-clause-told
 returns-in-Err-clause-told c =
     let handle = c.args.map.now.slot.map in
     let answer = (blocks_between c.args.low.now c.args.high.now c.args.depth) in
-    closed_told handle answer (IsOk (asked handle answer)) c.in-Err.refusal c.tell.result
+    closed_told handle answer (IsSomeList (asked handle answer)) c.in-Err.refusal c.tell.result
     c.args.blocks.now c.args.count.now c.in-Err.ensures.closed.1 c.in-Err.ensures.closed.0
     c.tell.ensures.code
