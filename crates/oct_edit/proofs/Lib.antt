@@ -30,6 +30,7 @@ pub mod BrickGaps
 pub mod Planting
 pub mod PlantedVoxels
 pub mod PlantedBricks
+pub mod BrickOctets
 pub mod Ways
 pub mod Wholes
 pub mod Leaves

@@ -1,9 +1,7 @@
 -- The block of a brick of which nothing was known: what stands in its group.
-use Rattle.std.proofs.Common.{◌≡◌, ℕ, ◌+◌, ◌<◌, ◌≤◌, sym, subst, ◌∙◌, ap, arith, inl, inr, refl, Some}
-use Rattle.std.proofs.Common.{None, false, true, ◌≤ℤ◌, [], ◌∷◌, bit_and}
-use Rattle.std.specs.Int.{bit_not, w64}
-use Rattle.oct_odds.specs.Odds.{Odds}
-use Rattle.std.specs.Prelude.{◌⊎◌, ℤ, Bool, Option, IfSome, IfNone, is_some}
+use Rattle.std.proofs.Common.{◌≡◌, ℕ, ◌<◌, ◌≤◌, sym, subst, ◌∙◌, ap, arith, inl, inr, refl, Some}
+use Rattle.std.proofs.Common.{None, false, true, ◌≤ℤ◌, []}
+use Rattle.std.specs.Prelude.{◌⊎◌, ℤ, Bool}
 use Rattle.oct_key.specs.Voxel.{Voxel, IsInMap}
 use Rattle.oct_key.specs.Block.{Cube, IsBlock, HoldsVoxel, child_of, child_index_of, lowest_voxel}
 use Rattle.oct_key.proofs.Blocks.{child_index_below, child_in_map, child_holds, depth_child_of}
@@ -19,35 +17,22 @@ use Rattle.oct_values.proofs.Reached.{reached_exactly}
 use Rattle.oct_arena.specs.declared.node.GroupId.{GroupId}
 use Rattle.oct_arena.specs.declared.node.Node.{Node}
 use Rattle.oct_arena.specs.declared.node.Node.TheVariants.{Absent, Leaf, Inner}
-use Rattle.oct_arena.specs.Entries.{home_at, spare}
+use Rattle.oct_arena.specs.Entries.{home_at}
 use Rattle.oct_arena.specs.Nodes.{link_of, value_of, stored_in}
 use Rattle.oct_tree.specs.declared.place.Place.{Place}
 use Rattle.oct_tree.specs.declared.place.Place.TheVariants.{Slot}
 use Rattle.oct_tree.specs.Nodes.{IsCollapsible, IsGreatest}
 use Rattle.oct_tree.specs.Tree.{Tree, IsLinked, IsPlace, node_in, block_in, value_at}
 use Rattle.oct_tree.proofs.Paths.{some_injective, some_not_none, slot_place, slot_block}
-use Rattle.oct_tree.proofs.Paths.{place_block}
 use Rattle.oct_tree.specs.Changes.{IsSplit, IsSameOutside}
-use Rattle.oct_edit.specs.Listed.{ListedUpdate, update_of}
-use Rattle.oct_edit.specs.Steps.{IsClosedAt, IsTouched, IsEntered, IsClosed}
+use Rattle.oct_edit.specs.Listed.{ListedUpdate}
+use Rattle.oct_edit.specs.Steps.{IsClosedAt, IsTouched}
 use Rattle.oct_edit.specs.Scan.{events_of}
-use Rattle.oct_edit.specs.Parts.{IsUpdateIn, need_in}
-use Rattle.oct_edit.specs.declared.scan.BrickUpdate.{BrickUpdate}
-use Rattle.oct_edit.specs.Bricks.{listed_one, HasGap, IsPlain, IsBrickOpened}
-use Rattle.oct_edit.proofs.Frames.{place_after}
-use Rattle.oct_brick.specs.declared.brick.Brick.{Brick}
-use Rattle.oct_edit.proofs.BrickParts.{IsWithin}
-use Rattle.oct_edit.proofs.BrickWays.{IsAtOctet, octet_index, octet_below, octet_next, part_of}
-use Rattle.oct_edit.proofs.BrickWays.{part_is}
-use Rattle.oct_edit.proofs.Shares.{first_not_done}
-use Rattle.oct_edit.proofs.PlantedVoxels.{no_hits, still_freed, within_after}
+use Rattle.oct_edit.specs.Parts.{IsUpdateIn}
+use Rattle.oct_edit.specs.Bricks.{HasGap}
 use Rattle.oct_edit.proofs.UnderWay.{IsTouchedBelow, IsUnderWay}
-use Rattle.oct_edit.proofs.Expansions.{TakesSome}
-use Rattle.oct_edit.proofs.Needs.{sum_below_le, need_of_children, entered_spare}
-use Rattle.oct_edit.proofs.Updates.{needs, way_end}
 use Rattle.oct_edit.proofs.UpdateEnds.{covered}
 use Rattle.oct_edit.proofs.Planting.{closed_here, voxel_stored, no_more, planted_pure}
-use Rattle.oct_edit.proofs.Planting.{fresh_slot}
 
 -- what is known of the voxels of a block of depth 14 whose octets were edited: they have one value,
 -- or none, and before the edit the group had no group below it
@@ -250,177 +235,3 @@ planted_brick t s w p b id m u rest l ls ok e map deep absent sp same out inside
       one = one;
     })
     mj hj known mk hk unknown)
-
--- the group was split to the value
-pub opened_split : (plain : Option ℤ) (m v : ℤ) (t s : Tree) (p : Place) (id : GroupId)
-    → plain ≡ Some m → v ≡ m → IsLinked s → IsSplit t s p id v
-    → SameValues (value_at t) (value_at s)
-    → ((b : Cube) → block_in t p ≡ Some b → IsSameOutside t s b) → IsBrickOpened t s p plain id
-opened_split plain m v t s p id is same l sp values out =
-    subst (λ (o : Option ℤ). IsBrickOpened t s p o id) (sym is) (record {
-      linked = l;
-      entered = tt;
-      split = subst (IsSplit t s p id) same sp;
-      values = values;
-      outside = out;
-    })
-
--- or it was entered
-pub opened_entered : (plain : Option ℤ) (t s : Tree) (p : Place) (id : GroupId) → plain ≡ None
-    → IsPlace t p → ((b : Cube) → block_in t p ≡ Some b → IsEntered t s p b id)
-    → IsBrickOpened t s p plain id
-opened_entered plain t s p id is ok entered =
-    subst (λ (o : Option ℤ). IsBrickOpened t s p o id) (sym is) (record {
-      linked = (let (b, e) = place_block t p ok in let at = entered b e in at.linked);
-      entered = entered;
-      split = tt;
-      values = tt;
-      outside = tt;
-    })
-
-pub absent_at : (plain : Option ℤ) (m : ℤ) (t : Tree) (p : Place) → plain ≡ Some m
-    → IfSome plain (λ _. node_in t p ≡ Absent) → node_in t p ≡ Absent
-absent_at plain m t p is h =
-    subst (λ (o : Option ℤ). IfSome o (λ _. node_in t p ≡ Absent)) is h
-
--- the place stays where it was, and links the group, which took one entry at most
-pub opened_place : (plain : Option ℤ) (t s : Tree) (p : Place) (b : Cube) (id : GroupId)
-    → IsLinked t → IsPlace t p → block_in t p ≡ Some b → IsBrickOpened t s p plain id
-    → IsPlace s p × (block_in s p ≡ Some b)
-opened_place None t s p b id l ok e h = (let entered = h.entered b e in
-    (entered.place, entered.block))
-opened_place (Some m) t s p b id l ok e h =
-    place_after t s p b b l ok e (h.outside b e) (lies_in_self b)
-
-pub opened_link : (plain : Option ℤ) (t s : Tree) (p : Place) (b : Cube) (id : GroupId)
-    → block_in t p ≡ Some b → IsBrickOpened t s p plain id
-    → link_of (node_in s p) ≡ Some id.number
-opened_link None t s p b id e h = (let entered = h.entered b e in ap link_of entered.link.1)
-opened_link (Some m) t s p b id e h = (let sp = h.split in ap link_of sp.link)
-
-pub opened_spare : (plain : Option ℤ) (t s : Tree) (p : Place) (b : Cube) (id : GroupId)
-    → block_in t p ≡ Some b → IsBrickOpened t s p plain id → spare t.groups ≤ spare s.groups + 1
-opened_spare None t s p b id e h = entered_spare t s p b id (h.entered b e)
-opened_spare (Some m) t s p b id e h =
-    (let sp = h.split in let one = sp.spare in omega (arith, one))
-
-pub opened_room : (plain : Option ℤ) (t s : Tree) (p : Place) (b : Cube) (id : GroupId) (n : ℕ)
-    → block_in t p ≡ Some b → IsBrickOpened t s p plain id → n ≤ spare t.groups
-    → n ≤ spare s.groups + 1
-opened_room plain t s p b id n e h enough =
-    (let one = opened_spare plain t s p b id e h in omega (arith, one, enough))
-
--- the room after the group is closed, or left as it is
-pub closed_spare : (plain : Option ℤ) (w z : Tree) (p : Place) (b : Cube) (lazy : Bool)
-    → block_in w p ≡ Some b
-    → IfNone plain ((b : Cube) → block_in w p ≡ Some b → IsClosed w z b lazy)
-    → IfSome plain (λ _. z ≡ w) → spare w.groups ≤ spare z.groups
-closed_spare None w z p b lazy e closed kept = (let h = closed b e in h.spare)
-closed_spare (Some m) w z p b lazy e closed kept =
-    (let same : spare w.groups ≡ spare z.groups = ap (λ (x : Tree). spare x.groups) (sym kept) in
-    omega (arith, same))
-
--- what holds where there is no value
-pub given_none : {A : Type 0} (plain : Option ℤ) → A → IfNone plain A
-given_none None a = a
-given_none (Some m) a = tt
-
-pub known_some : (A : Type 0) (plain : Option ℤ) → is_some plain ≡ true → IfNone plain A
-known_some A None h = absurd (false≢true h)
-known_some A (Some m) h = tt
-
--- a brick's update is done, once its octets are and its group is closed, where that is needed
-pub brick_end : (plain : Option ℤ) (t s w z : Tree) (p : Place) (b : Cube) (id : GroupId)
-    (update : BrickUpdate) (rest : ListedUpdate) (lazy : Bool)
-    → IsLinked t → IsPlace t p → block_in t p ≡ Some b → IsBlock b → b.depth ≡ 14
-    → IsUpdateIn b (listed_one update)
-    → IfNone plain (TakesSome t.odds (listed_one update) (value_of (node_in t p)))
-    → IsBrickOpened t s p plain id
-    → IsUnderWay s w p b (listed_one update) rest lazy → rest.hits ≡ [] → rest.frees ≡ []
-    → IfSome plain (IsPlain t p update)
-    → IfSome plain (λ _. (a : Cube) → a.depth ≡ 14 → IsUpdateIn a (listed_one update)
-    → HasGap a (listed_one update))
-    → IfSome plain (λ _. lazy ≡ false)
-    → IfNone plain ((a : Cube) → block_in w p ≡ Some a → IsClosed w z a lazy)
-    → IfSome plain (λ _. z ≡ w)
-    → IsTouched t z b (events_of (listed_one update)) lazy
-brick_end None t s w z p b id update rest lazy l ok e map deep inside takes opened way hits frees _ _
-    _ closed _ =
-    way_end t s w z p b id (listed_one update) rest lazy l ok e (omega (arith, deep)) inside takes
-    (opened.entered b e) way hits frees (closed b way.done.block)
-brick_end (Some m) t s w z p b id update rest lazy l ok e map deep inside takes opened way hits frees
-    plain gap eager _ kept =
-    subst (λ x. IsTouched t x b (events_of (listed_one update)) lazy) (sym kept)
-    (subst (IsTouched t w b (events_of (listed_one update))) (sym eager)
-    (planted_brick t s w p b id m (listed_one update) rest l opened.linked ok e map deep plain.absent
-    opened.split opened.values (opened.outside b e) inside (no_hits update.brick plain.freed)
-    plain.value (gap b deep inside)
-    (subst (IsUnderWay s w p b (listed_one update) rest) eager way) hits frees))
-
--- and its room
-pub brick_spared : (t s w z : Tree) (p : Place) (b : Cube) (u rest : ListedUpdate) (lazy : Bool)
-    → IsBlock b → b.depth ≤ 15 → IsUpdateIn b u → spare t.groups ≤ spare s.groups + 1
-    → IsUnderWay s w p b u rest lazy → spare w.groups ≤ spare z.groups
-    → spare t.groups ≤ spare z.groups + need_in (events_of u) b
-brick_spared t s w z p b u rest lazy ok low inside one way after =
-    let whole = need_of_children (events_of u) b ok low inside.some in
-    let all = sum_below_le (needs u b) way.next 8 way.few in
-    let before = way.room in
-    omega (arith, whole, all, one, before, after)
-
--- the part of the misses in an octet that wasn't edited yet is plain too
-pub octet_plain : (plain : Option ℤ) (t s w : Tree) (p : Place) (b : Cube) (id : GroupId)
-    (update rest part : BrickUpdate) (x : ℕ) (lazy : Bool)
-    → IsLinked t → IsPlace t p → block_in t p ≡ Some b → IsBlock b → IsBrickOpened t s p plain id
-    → IsAtOctet s w p b (listed_one update) update.brick rest.brick rest.hit rest.miss x lazy
-    → IsWithin rest.brick x part.brick → part.miss ≡ rest.miss → IfSome plain (IsPlain t p update)
-    → IfSome plain (λ _. lazy ≡ false) → IfSome plain (λ _. rest.brick.hits ≡ 0)
-    → IfSome plain (IsPlain w (Slot id (octet_index rest.brick)) part)
-octet_plain None t s w p b id update rest part x lazy l ok e map opened h within miss plain eager
-    freed = tt
-octet_plain (Some m) t s w p b id update rest part x lazy l ok e map opened h within miss plain
-    eager freed =
-    let i : ℕ = octet_index rest.brick in
-    let few : i < 8 = octet_below rest.brick update.brick i h.rest h.some refl in
-    let deep = h.deep in
-    let sp = opened.split in
-    let after = opened_place (Some m) t s p b id l ok e opened in
-    let left : Brick = part_of rest.brick (bit_not w64 x) in
-    let round =
-    octet_next s w p b (listed_one update) update.brick rest.brick part.brick left rest.hit rest.miss x
-    lazy h within (part_is rest.brick (bit_not w64 x)) in
-    let up =
-    first_not_done b h.way.next i (listed_one update).hits (listed_one update).frees
-    (update_of (rest.brick ∷ []) rest.hit rest.miss).hits
-    (update_of (rest.brick ∷ []) rest.hit rest.miss).frees h.way.hits h.way.frees round.first in
-    let odds : w.odds ≡ t.odds = h.way.done.apart.outside.odds ∙ sp.odds in
-    record {
-      absent =
-          fresh_slot t s w p b id m h.way.next i (events_of (listed_one update)) opened.linked
-          after.0 after.1 map (omega (arith, deep)) sp
-          (subst (IsTouchedBelow s w p b h.way.next (events_of (listed_one update))) eager
-          h.way.done)
-          up few
-          ∙ plain.absent;
-      freed = still_freed rest.brick.hits part.brick.hits x within.hits freed;
-      value =
-          plain.value ∙ ap (λ (o : Odds). applied o update.miss None) (sym odds)
-          ∙ ap (λ event. applied w.odds event None) (sym (miss ∙ h.way.miss));
-      within = within_after t.odds w.odds m odds plain.within;
-    }
-
--- and none of what is left is hit
-pub rest_freed : (plain : Option ℤ) (m part x : ℕ) → part ≡ bit_and m x
-    → IfSome plain (λ _. m ≡ 0) → IfSome plain (λ _. part ≡ 0)
-rest_freed None m part x is none = tt
-rest_freed (Some v) m part x is none = still_freed m part x is none
-
-pub plain_freed : (plain : Option ℤ) (t : Tree) (p : Place) (update : BrickUpdate)
-    → IfSome plain (IsPlain t p update) → IfSome plain (λ _. update.brick.hits ≡ 0)
-plain_freed None t p update h = tt
-plain_freed (Some m) t p update h = h.freed
-
-pub absent_of : (plain : Option ℤ) (t : Tree) (p : Place) (update : BrickUpdate)
-    → IfSome plain (IsPlain t p update) → IfSome plain (λ _. node_in t p ≡ Absent)
-absent_of None t p update h = tt
-absent_of (Some m) t p update h = h.absent

@@ -1,11 +1,11 @@
--- The voxels of an octet of which nothing was known, one by one.
+-- The voxels of an octet none of which is hit, one by one.
 use Rattle.std.proofs.Common.{◌≡◌, ℕ, ◌<◌, ◌==◌, [], ◌∷◌, map, refl, sym, subst, ◌∙◌, ap, arith}
-use Rattle.std.proofs.Common.{Some, None, Bool, false, bit_and}
+use Rattle.std.proofs.Common.{Some, None, Bool, false, bit_and, inl, inr}
 use Rattle.std.specs.Prelude.{ℤ, if◌then◌else◌, Option, IfSome}
 use Rattle.std.specs.Int.{bit_not, w64}
 use Rattle.std.proofs.lemmas.Nat.{and_le_l}
 use Rattle.oct_key.specs.Voxel.{Voxel, IsInMap}
-use Rattle.oct_key.specs.Block.{Cube, IsBlock, block_of}
+use Rattle.oct_key.specs.Block.{Cube, IsBlock, HoldsVoxel, block_of}
 use Rattle.oct_odds.specs.Odds.{Odds}
 use Rattle.oct_odds.specs.Update.{applied, IsWithin}
 use Rattle.oct_odds.specs.declared.event.Event.{Event}
@@ -25,11 +25,12 @@ use Rattle.oct_edit.specs.Scan.{events_of}
 use Rattle.oct_edit.specs.Steps.{IsTouched}
 use Rattle.oct_edit.proofs.Frames.{place_after}
 use Rattle.oct_edit.proofs.Voxels.{touched_voxel}
-use Rattle.oct_edit.proofs.Shares.{first_not_done}
+use Rattle.oct_edit.proofs.Shares.{first_not_done, none_not_some}
+use Rattle.oct_edit.specs.Bricks.{FillsBlock}
 use Rattle.oct_edit.proofs.Updates.{way_slot}
 use Rattle.oct_edit.proofs.BrickRest.{rests_none}
 use Rattle.oct_edit.proofs.BrickWays.{IsAtVoxel, voxel_index, voxel_next, part_of, part_is}
-use Rattle.oct_edit.proofs.Planting.{fresh_slot}
+use Rattle.oct_edit.proofs.Planting.{fresh_slot, miss_or_none}
 
 -- a mask without a bit has none in another mask
 none_within : (m x : ℕ) → m ≡ 0 → bit_and m x ≡ 0
@@ -48,6 +49,16 @@ no_hits b none = rests_none (λ b. b.hits) b b.hits refl (rw none refl)
 
 pub within_after : (o a : Odds) (v : ℤ) → a ≡ o → IsWithin o (Some v) → IsWithin a (Some v)
 within_after o a v same h = subst (λ p. IsWithin p (Some v)) (sym same) h
+
+-- where nothing is hit, each voxel of a block that an update fills has the miss
+pub all_missed : (b : Cube) (r : Brick) (hit miss : Event) → r.hits ≡ 0
+    → FillsBlock b (update_of (r ∷ []) hit miss) → (k : Voxel) → IsInMap k → HoldsVoxel b k
+    → events_of (update_of (r ∷ []) hit miss) k ≡ Some miss
+all_missed b r hit miss freed full k v held =
+    elim (miss_or_none (update_of (r ∷ []) hit miss) k (no_hits r freed)) [
+      | inl none ↦ absurd (none_not_some _ none (full k v held))
+      | inr is ↦ is
+    ]
 
 -- a voxel of it that is set to the value takes the miss
 pub voxel_planted : (t s w z : Tree) (p : Place) (b : Cube) (id : GroupId) (m : ℤ)

@@ -1,27 +1,23 @@
 -- How bricks go down the tree: the working words of their proof, and what an update of bricks
 -- stands for.
 use Rattle.std.specs.Prelude.{◌≡◌, ℕ, ◌+◌, ◌-◌, ◌*◌, ◌/◌, ◌%◌, ◌^◌, ◌≤◌, ◌==◌, if◌then◌else◌}
-use Rattle.std.specs.Prelude.{bit_and, Bool, List, [], ◌∷◌, take, drop, ℤ, Option, Some, None}
-use Rattle.std.specs.Prelude.{IfSome, IfNone}
+use Rattle.std.specs.Prelude.{bit_and, Bool, List, [], ◌∷◌, take, drop, ℤ, Some, None, IsSome}
 use Rattle.std.specs.List.{All, Contains}
 use Rattle.oct_key.specs.Voxel.{Voxel, IsInMap}
 use Rattle.oct_key.specs.Block.{Cube, HoldsVoxel}
 use Rattle.oct_odds.specs.declared.event.Event.{Event}
 use Rattle.oct_odds.specs.declared.event.Event.TheVariants.{Add}
 use Rattle.oct_odds.specs.Update.{IsSmallEvent, IsWithin, applied}
-use Rattle.oct_key.specs.Values.{SameValues}
-use Rattle.oct_arena.specs.declared.node.GroupId.{GroupId}
 use Rattle.oct_arena.specs.declared.node.Node.TheVariants.{Absent}
 use Rattle.oct_arena.specs.Entries.{spare}
 use Rattle.oct_tree.specs.declared.place.Place.{Place}
-use Rattle.oct_tree.specs.Tree.{Tree, IsLinked, IsPlace, node_in, block_in, value_at}
-use Rattle.oct_tree.specs.Changes.{IsSplit, IsSameOutside}
+use Rattle.oct_tree.specs.Tree.{Tree, IsLinked, IsPlace, node_in, block_in}
 use Rattle.oct_brick.specs.Bricks.{IsBrick}
 use Rattle.oct_brick.specs.declared.brick.Brick.{Brick}
 use Rattle.oct_edit.specs.declared.scan.ScanUpdate.{ScanUpdate}
 use Rattle.oct_edit.specs.declared.scan.BrickUpdate.{BrickUpdate}
 use Rattle.oct_edit.specs.Listed.{ListedUpdate, update_of}
-use Rattle.oct_edit.specs.Steps.{IsTouched, IsEntered}
+use Rattle.oct_edit.specs.Steps.{IsTouched}
 use Rattle.oct_edit.specs.Scan.{events_of}
 use Rattle.oct_edit.specs.Parts.{IsUpdateIn, need_in}
 
@@ -85,6 +81,10 @@ pub record IsApplied (t u : Tree) (p : Place) (update : BrickUpdate) (lazy : Boo
 abbrev pub HasGap : Cube → ListedUpdate → Type 0
 HasGap b update = (k : Voxel) × IsInMap k × HoldsVoxel b k × (events_of update k ≡ None)
 
+-- each voxel of a block has an event of an update
+abbrev pub FillsBlock : Cube → ListedUpdate → Type 0
+FillsBlock b update = (k : Voxel) → IsInMap k → HoldsVoxel b k → IsSome (events_of update k)
+
 -- nothing is known at a place, none of the voxels of a brick's update is hit, and those that are
 -- freed come to have this value
 pub record IsPlain (t : Tree) (p : Place) (update : BrickUpdate) (m : ℤ) : Type 0 where
@@ -92,11 +92,3 @@ pub record IsPlain (t : Tree) (p : Place) (update : BrickUpdate) (m : ℤ) : Typ
   pub freed : update.brick.hits ≡ 0
   pub value : Some m ≡ applied t.odds update.miss None
   pub within : IsWithin t.odds (Some m)
-
--- the group under the place of a brick was opened: split to a value, where there is one, or entered
-pub record IsBrickOpened (t s : Tree) (p : Place) (plain : Option ℤ) (id : GroupId) : Type 0 where
-  pub linked : IsLinked s
-  pub entered : IfNone plain ((b : Cube) → block_in t p ≡ Some b → IsEntered t s p b id)
-  pub split : IfSome plain (λ m. IsSplit t s p id m)
-  pub values : IfSome plain (λ _. SameValues (value_at t) (value_at s))
-  pub outside : IfSome plain (λ _. (b : Cube) → block_in t p ≡ Some b → IsSameOutside t s b)

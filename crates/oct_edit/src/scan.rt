@@ -25,10 +25,10 @@ ghost use Rattle.oct_edit.specs.Parts.{IsUpdateIn, IsAtRest, IsFirstChild, need_
 ghost use Rattle.oct_edit.specs.Scan.{events_of, AreDisjoint};
 ghost use Rattle.oct_edit.specs.Bricks.{listed, listed_one, brick_child, event_of_bit, CanApply};
 ghost use Rattle.oct_edit.specs.Bricks.{IsApplied, AreAlike, AreCut, IsFirstBrick, HasGap};
-ghost use Rattle.oct_edit.specs.Bricks.{IsPlain, IsBrickOpened};
+ghost use Rattle.oct_edit.specs.Bricks.{FillsBlock, IsPlain};
 
 use crate::voxel::{apply_at, close, enter, note_eager, stays};
-use oct_arena::{GroupId, Node};
+use oct_arena::Node;
 use oct_brick::Brick;
 use oct_odds::{Event, OddsModel};
 use oct_tree::{OccTree, Place};
@@ -137,61 +137,50 @@ fn touch_brick(tree: &mut OccTree, p: Place, update: BrickUpdate, lazy: bool)
     requires { CanApply tree.old p 14 update }
     ensures { IsApplied tree.old tree.new p update lazy }
 {
-    let plain = update.plain_brick(tree, p, lazy);
-    if plain.is_none() && update.is_at_rest(tree, p) {
+    if let Some(value) = update.plain_brick(tree, p, lazy) {
+        plant_brick(tree, p, update, value);
         return;
     }
-    let id = open_brick(tree, p, plain);
+    if update.is_at_rest(tree, p) {
+        return;
+    }
+    let id = enter(tree, p);
     let mut rest = update;
     while rest.brick.scanned != 0 {
         let i = (rest.brick.scanned.trailing_zeros() / 8) as u8;
         let octet = octet_bits(i);
-        touch_octet(tree, Place::Slot(id, i), rest.within(octet), plain, lazy);
+        touch_octet(tree, Place::Slot(id, i), rest.within(octet), lazy);
         rest = rest.within(!octet);
     }
-    close_brick(tree, p, id, plain, lazy);
+    close(tree, p, id, lazy);
 }
 
-/// The group under the place of a brick. Where nothing is known of it, and its freed voxels get one
-/// value, it is made with that value over it.
+/// Applies the misses of a brick of which nothing is known, and of which something stays unknown:
+/// the freed voxels get this value, and so does the node over them.
 #[inline(always)]
-fn open_brick(tree: &mut OccTree, p: Place, plain: Option<i32>) -> GroupId
-    requires place { IsPlace tree.old p }
-    requires depth { (b : Cube) → block_in tree.old p ≡ Some b → b.depth ≤ 15 }
-    requires room { link_of (node_in tree.old p) ≡ None → 1 ≤ spare tree.old.groups }
-    requires absent { IfSome plain (λ _. node_in tree.old p ≡ Node.Absent) }
-    ensures { IsBrickOpened tree.old tree.new p plain result }
+fn plant_brick(tree: &mut OccTree, p: Place, update: BrickUpdate, value: i32)
+    requires can { CanApply tree.old p 14 update }
+    requires plain { IsPlain tree.old p update value }
+    requires gap { (b : Cube) → b.depth ≡ 14 → IsUpdateIn b (listed_one update)
+        → HasGap b (listed_one update) }
+    ensures { IsApplied tree.old tree.new p update false }
 {
-    match plain {
-        Some(value) => tree.split_to(p, value),
-        None => enter(tree, p),
+    let id = tree.split_to(p, value);
+    let mut rest = update;
+    while rest.brick.scanned != 0 {
+        let i = (rest.brick.scanned.trailing_zeros() / 8) as u8;
+        let octet = octet_bits(i);
+        plant_octet(tree, Place::Slot(id, i), rest.within(octet), value);
+        rest = rest.within(!octet);
     }
 }
 
-/// Closes that group, where it needs it.
-#[inline(always)]
-fn close_brick(tree: &mut OccTree, p: Place, id: GroupId, plain: Option<i32>, lazy: bool)
-    requires linked { IsLinked tree.old }
-    requires place { IsPlace tree.old p }
-    requires inner { link_of (node_in tree.old p) ≡ Some id.number }
-    ensures closed { IfNone plain
-        ((b : Cube) → block_in tree.old p ≡ Some b → IsClosed tree.old tree.new b lazy) }
-    ensures kept { IfSome plain (λ _. tree.new ≡ tree.old) }
-{
-    if plain.is_none() {
-        close(tree, p, id, lazy);
-    }
-}
-
-/// Applies the events of an octet of a brick, which is the block of the place. The value that its
-/// freed voxels get is there where it is known from the brick.
-fn touch_octet(tree: &mut OccTree, p: Place, update: BrickUpdate, plain: Option<i32>, lazy: bool)
-    requires can { CanApply tree.old p 15 update }
-    requires plain { IfSome plain (IsPlain tree.old p update) }
-    requires eager { IfSome plain (λ _. lazy ≡ false) }
+/// Applies the events of an octet of a brick, which is the block of the place.
+fn touch_octet(tree: &mut OccTree, p: Place, update: BrickUpdate, lazy: bool)
+    requires { CanApply tree.old p 15 update }
     ensures { IsApplied tree.old tree.new p update lazy }
 {
-    if let Some(value) = update.plain_octet(tree, p, plain, lazy) {
+    if let Some(value) = update.plain_value(tree, p, lazy) {
         plant_octet(tree, p, update, value);
         return;
     }
@@ -210,10 +199,24 @@ fn touch_octet(tree: &mut OccTree, p: Place, update: BrickUpdate, plain: Option<
     close(tree, p, id, lazy);
 }
 
-/// Applies the misses of an octet of which nothing is known, and of which something stays unknown:
-/// the freed voxels get this value, and so does the node over them.
+/// Applies the misses of an octet of which nothing is known: the freed voxels get this value. Where
+/// they are all, so does the octet as a whole.
 #[inline(always)]
 fn plant_octet(tree: &mut OccTree, p: Place, update: BrickUpdate, value: i32)
+    requires can { CanApply tree.old p 15 update }
+    requires plain { IsPlain tree.old p update value }
+    ensures { IsApplied tree.old tree.new p update false }
+{
+    if update.has_gap() {
+        plant_voxels(tree, p, update, value);
+    } else {
+        tree.set_place(p, Node::Leaf(value));
+    }
+}
+
+/// The same where something of the octet stays unknown: the node over it gets the value too.
+#[inline(always)]
+fn plant_voxels(tree: &mut OccTree, p: Place, update: BrickUpdate, value: i32)
     requires can { CanApply tree.old p 15 update }
     requires plain { IsPlain tree.old p update value }
     requires gap { (b : Cube) → b.depth ≡ 15 → IsUpdateIn b (listed_one update)
@@ -254,30 +257,8 @@ impl BrickUpdate {
         }
     }
 
-    /// The value that the freed voxels of an octet get, where its group can be made with it: where
-    /// some voxel stays unknown. It may be known from the brick.
-    #[inline(always)]
-    fn plain_octet(&self, tree: &OccTree, p: Place, plain: Option<i32>, lazy: bool) -> Option<i32>
-        requires place { IsPlace tree.now p }
-        requires brick { IsBrick self.now.brick }
-        requires miss { IsSmallEvent self.now.miss }
-        requires plain { IfSome plain (IsPlain tree.now p self.now) }
-        requires eager { IfSome plain (λ _. lazy ≡ false) }
-        ensures plain { IfSome result (IsPlain tree.now p self.now) }
-        ensures gap { IfSome result (λ _. (b : Cube) → b.depth ≡ 15
-            → IsUpdateIn b (listed_one self.now) → HasGap b (listed_one self.now)) }
-        ensures eager { IfSome result (λ _. lazy ≡ false) }
-    {
-        if !self.has_gap() {
-            return None;
-        }
-        if plain.is_some() {
-            return plain;
-        }
-        self.plain_value(tree, p, lazy)
-    }
-
-    /// The same of a whole brick.
+    /// The value that the freed voxels of a brick get, where its group can be made with it: where
+    /// some voxel stays unknown.
     #[inline(always)]
     fn plain_brick(&self, tree: &OccTree, p: Place, lazy: bool) -> Option<i32>
         requires place { IsPlace tree.now p }
@@ -319,8 +300,10 @@ impl BrickUpdate {
     #[inline(always)]
     fn has_gap(&self) -> bool
         requires { IsBrick self.now.brick }
-        ensures { IsTrue result → (b : Cube) → b.depth ≡ 15 → IsUpdateIn b (listed_one self.now)
-            → HasGap b (listed_one self.now) }
+        ensures some { IsTrue result → (b : Cube) → b.depth ≡ 15
+            → IsUpdateIn b (listed_one self.now) → HasGap b (listed_one self.now) }
+        ensures none { OnFalse result ((b : Cube) → b.depth ≡ 15
+            → IsUpdateIn b (listed_one self.now) → FillsBlock b (listed_one self.now)) }
     {
         let octet = octet_bits((self.brick.scanned.trailing_zeros() / 8) as u8);
         octet & !self.brick.scanned != 0

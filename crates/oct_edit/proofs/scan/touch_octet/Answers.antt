@@ -26,37 +26,37 @@ returns-in-Some c =
 pub returns-then-is_at_rest : goal.returns-then-is_at_rest
 returns-then-is_at_rest c = record {
   touched = λ b e.
-      let deep = c.requires.can.depth b e in
+      let deep = c.requires.depth b e in
       rest_touched c.args.tree.now c.args.p b (listed_one c.args.update) c.args.lazy
-      c.requires.can.linked c.requires.can.place e (omega (arith, deep)) (c.requires.can.inside b e)
+      c.requires.linked c.requires.place e (omega (arith, deep)) (c.requires.inside b e)
       c.if-is_at_rest.ensures.bounds (c.if-is_at_rest.ensures.rests refl);
   room = λ b e. omega arith;
 }
 
 pub enter-id-requires-clause-room : goal.enter-id-requires-clause-room
 enter-id-requires-clause-room c none =
-    let (b, e) = place_block c.args.tree.now c.args.p c.requires.can.place in
-    let deep = c.requires.can.depth b e in
-    need_some c.args.tree.now c.args.p b (listed_one c.args.update) c.requires.can.linked e
-    (omega (arith, deep)) (c.requires.can.inside b e) (c.requires.can.room b e)
+    let (b, e) = place_block c.args.tree.now c.args.p c.requires.place in
+    let deep = c.requires.depth b e in
+    need_some c.args.tree.now c.args.p b (listed_one c.args.update) c.requires.linked e
+    (omega (arith, deep)) (c.requires.inside b e) (c.requires.room b e)
 
 pub loop-rest-init : goal.loop-rest-init
 loop-rest-init c = record {
   way =
       λ b e. way_start c.args.tree.now c.enter-id.new.tree c.args.p b c.enter-id.result _
-      c.args.lazy (c.enter-id.ensures b e) (c.requires.can.inside b e);
-  rest = rest_of_brick c.args.update.brick c.requires.can.brick;
+      c.args.lazy (c.enter-id.ensures b e) (c.requires.inside b e);
+  rest = rest_of_brick c.args.update.brick c.requires.brick;
 }
 
 pub apply_bit-requires-clause-linked : goal.apply_bit-requires-clause-linked
 apply_bit-requires-clause-linked c =
-    (let (b, e) = place_block c.args.tree.now c.args.p c.requires.can.place in
+    (let (b, e) = place_block c.args.tree.now c.args.p c.requires.place in
     let way = c.loop-rest.invariant.way b e in
     way.done.linked)
 
 pub apply_bit-requires-clause-place : goal.apply_bit-requires-clause-place
 apply_bit-requires-clause-place c =
-    let (b, e) = place_block c.args.tree.now c.args.p c.requires.can.place in
+    let (b, e) = place_block c.args.tree.now c.args.p c.requires.place in
     let t = trailing_zeros w64 c.loop-rest.rest.brick.scanned in
     let few : t % 8 < 8 = omega arith in
     (way_place c.args.tree.now c.enter-id.new.tree c.loop-rest.tree c.args.p b c.enter-id.result
@@ -65,15 +65,15 @@ apply_bit-requires-clause-place c =
 
 pub apply_bit-requires-clause-plain : goal.apply_bit-requires-clause-plain
 apply_bit-requires-clause-plain c =
-    let (b, e) = place_block c.args.tree.now c.args.p c.requires.can.place in
+    let (b, e) = place_block c.args.tree.now c.args.p c.requires.place in
     let r = c.loop-rest.rest.brick in
     let h =
     voxel_at c.enter-id.new.tree c.loop-rest.tree c.args.p b (listed_one c.args.update)
     c.args.update.brick c.loop-rest.rest.brick c.loop-rest.rest.hit c.loop-rest.rest.miss
-    c.args.lazy (c.requires.can.depth b e) c.requires.can.brick c.loop-rest.invariant.rest
-    c.loop-rest-test.true (c.loop-rest.invariant.way b e) (c.requires.can.inside b e) in
+    c.args.lazy (c.requires.depth b e) c.requires.brick c.loop-rest.invariant.rest
+    c.loop-rest-test.true (c.loop-rest.invariant.way b e) (c.requires.inside b e) in
     let x : ℕ = 1 * 2 ^ trailing_zeros w64 r.scanned % 2 ^ 64 in
-    let deep = c.requires.can.depth b e in
+    let deep = c.requires.depth b e in
     let few : voxel_index r < 8 = omega arith in
     let place =
     way_place c.args.tree.now c.enter-id.new.tree c.loop-rest.tree c.args.p b c.enter-id.result
@@ -87,13 +87,13 @@ apply_bit-requires-clause-plain c =
 
 pub apply_bit-requires-clause-hit : goal.apply_bit-requires-clause-hit
 apply_bit-requires-clause-hit c =
-    let (b, e) = place_block c.args.tree.now c.args.p c.requires.can.place in
-    let way = c.loop-rest.invariant.way b e in subst IsSmallEvent (sym way.hit) c.requires.can.hit
+    let (b, e) = place_block c.args.tree.now c.args.p c.requires.place in
+    let way = c.loop-rest.invariant.way b e in subst IsSmallEvent (sym way.hit) c.requires.hit
 
 pub apply_bit-requires-clause-miss : goal.apply_bit-requires-clause-miss
 apply_bit-requires-clause-miss c =
-    let (b, e) = place_block c.args.tree.now c.args.p c.requires.can.place in
-    let way = c.loop-rest.invariant.way b e in subst IsSmallEvent (sym way.miss) c.requires.can.miss
+    let (b, e) = place_block c.args.tree.now c.args.p c.requires.place in
+    let way = c.loop-rest.invariant.way b e in subst IsSmallEvent (sym way.miss) c.requires.miss
 
 -- what is left of it
 left_over : (c : goal.After-within-rest)
@@ -108,14 +108,14 @@ left_over c = record {
 
 pub loop-rest-smaller : goal.loop-rest-smaller
 loop-rest-smaller c =
-    let (b, e) = place_block c.args.tree.now c.args.p c.requires.can.place in
+    let (b, e) = place_block c.args.tree.now c.args.p c.requires.place in
     let r = c.loop-rest.rest.brick in
     let x : ℕ = 1 * 2 ^ trailing_zeros w64 r.scanned % 2 ^ 64 in
     let h =
     voxel_at c.enter-id.new.tree c.loop-rest.tree c.args.p b (listed_one c.args.update)
     c.args.update.brick c.loop-rest.rest.brick c.loop-rest.rest.hit c.loop-rest.rest.miss
-    c.args.lazy (c.requires.can.depth b e) c.requires.can.brick c.loop-rest.invariant.rest
-    c.loop-rest-test.true (c.loop-rest.invariant.way b e) (c.requires.can.inside b e) in
+    c.args.lazy (c.requires.depth b e) c.requires.brick c.loop-rest.invariant.rest
+    c.loop-rest-test.true (c.loop-rest.invariant.way b e) (c.requires.inside b e) in
     rest_less b (voxel_index r) r c.within-rest.result.brick c.args.update.brick x (bit_not w64 x)
     c.loop-rest.invariant.rest h.some
     (voxel_masked c.enter-id.new.tree c.loop-rest.tree c.args.p b (listed_one c.args.update)
@@ -132,12 +132,12 @@ loop-rest-preserved c = record {
       b c.enter-id.result (listed_one c.args.update) c.args.update.brick r
       c.within-rest.result.brick c.loop-rest.rest.hit c.loop-rest.rest.miss c.within-rest.result.hit
       c.within-rest.result.miss (event_of_bit c.loop-rest.rest x) x c.args.lazy entered.linked
-      (place_in_map c.args.tree.now c.args.p b c.requires.can.linked e)
+      (place_in_map c.args.tree.now c.args.p b c.requires.linked e)
       (ap link_of entered.link.1)
       (voxel_at c.enter-id.new.tree c.loop-rest.tree c.args.p b (listed_one c.args.update)
       c.args.update.brick c.loop-rest.rest.brick c.loop-rest.rest.hit c.loop-rest.rest.miss
-      c.args.lazy (c.requires.can.depth b e) c.requires.can.brick c.loop-rest.invariant.rest
-      c.loop-rest-test.true (c.loop-rest.invariant.way b e) (c.requires.can.inside b e))
+      c.args.lazy (c.requires.depth b e) c.requires.brick c.loop-rest.invariant.rest
+      c.loop-rest-test.true (c.loop-rest.invariant.way b e) (c.requires.inside b e))
       (left_over c) c.within-rest.ensures.hit c.within-rest.ensures.miss refl
       c.apply_bit.ensures.spare c.apply_bit.ensures.touched;
   rest =
@@ -148,19 +148,19 @@ loop-rest-preserved c = record {
 
 pub close-requires-clause-linked : goal.close-requires-clause-linked
 close-requires-clause-linked c =
-    (let (b, e) = place_block c.args.tree.now c.args.p c.requires.can.place in
+    (let (b, e) = place_block c.args.tree.now c.args.p c.requires.place in
     let way = c.loop-rest.invariant.way b e in
     way.done.linked)
 
 pub close-requires-clause-place : goal.close-requires-clause-place
 close-requires-clause-place c =
-    (let (b, e) = place_block c.args.tree.now c.args.p c.requires.can.place in
+    (let (b, e) = place_block c.args.tree.now c.args.p c.requires.place in
     let way = c.loop-rest.invariant.way b e in
     way.done.place)
 
 pub close-requires-clause-inner : goal.close-requires-clause-inner
 close-requires-clause-inner c =
-    let (b, e) = place_block c.args.tree.now c.args.p c.requires.can.place in
+    let (b, e) = place_block c.args.tree.now c.args.p c.requires.place in
     (way_back c.args.tree.now c.enter-id.new.tree c.loop-rest.tree c.args.p b c.enter-id.result
     (listed_one c.args.update) (listed_one c.loop-rest.rest) c.args.lazy
     (c.enter-id.ensures b e) (c.loop-rest.invariant.way b e)).2
@@ -168,33 +168,33 @@ close-requires-clause-inner c =
 pub returns : goal.returns
 returns c = record {
   touched = λ b e.
-      let deep : b.depth ≡ 15 = c.requires.can.depth b e in
+      let deep : b.depth ≡ 15 = c.requires.depth b e in
       let way = c.loop-rest.invariant.way b e in
       let none =
       none_left c.args.update.brick c.loop-rest.rest.brick c.loop-rest.rest.hit
       c.loop-rest.rest.miss c.loop-rest.invariant.rest c.loop-rest-test.false in
       way_end c.args.tree.now c.enter-id.new.tree c.loop-rest.tree c.close.new.tree c.args.p b
       c.enter-id.result (listed_one c.args.update) (listed_one c.loop-rest.rest) c.args.lazy
-      c.requires.can.linked c.requires.can.place e (omega (arith, deep)) (c.requires.can.inside b e)
+      c.requires.linked c.requires.place e (omega (arith, deep)) (c.requires.inside b e)
       c.if-is_at_rest.ensures.takes (c.enter-id.ensures b e) way none.0 none.1
       (c.close.ensures b way.done.block);
   room = λ b e.
-      let deep : b.depth ≡ 15 = c.requires.can.depth b e in
+      let deep : b.depth ≡ 15 = c.requires.depth b e in
       let way = c.loop-rest.invariant.way b e in
       way_spared c.args.tree.now c.enter-id.new.tree c.loop-rest.tree c.close.new.tree c.args.p b
       c.enter-id.result (listed_one c.args.update) (listed_one c.loop-rest.rest) c.args.lazy
-      (place_in_map c.args.tree.now c.args.p b c.requires.can.linked e) (omega (arith, deep))
-      (c.requires.can.inside b e) (c.enter-id.ensures b e) way (c.close.ensures b way.done.block);
+      (place_in_map c.args.tree.now c.args.p b c.requires.linked e) (omega (arith, deep))
+      (c.requires.inside b e) (c.enter-id.ensures b e) way (c.close.ensures b way.done.block);
 }
 
 pub is_at_rest-requires-clause-apart : goal.is_at_rest-requires-clause-apart
 is_at_rest-requires-clause-apart c =
-    let (b, e) = place_block c.args.tree.now c.args.p c.requires.can.place in
-    let inside = c.requires.can.inside b e in
+    let (b, e) = place_block c.args.tree.now c.args.p c.requires.place in
+    let inside = c.requires.inside b e in
     inside.apart
 
 pub is_at_rest-requires-clause-some : goal.is_at_rest-requires-clause-some
 is_at_rest-requires-clause-some c =
-    let (b, e) = place_block c.args.tree.now c.args.p c.requires.can.place in
-    let some = (c.requires.can.inside b e).some in
+    let (b, e) = place_block c.args.tree.now c.args.p c.requires.place in
+    let some = (c.requires.inside b e).some in
     (some.voxel, some.in_map, some.event)

@@ -4,7 +4,7 @@ use Rattle.oct_tree.specs.Tree.{block_in}
 use Rattle.oct_edit.specs.Bricks.{listed_one}
 use Rattle.oct_edit.proofs.UnderWay.{IsUnderWay}
 use Rattle.oct_edit.proofs.BrickParts.{IsRest}
-use Rattle.oct_edit.proofs.scan.plant_octet.Given as goal
+use Rattle.oct_edit.proofs.scan.plant_brick.Given as goal
 
 abbrev pub invariant-loop-rest : goal.invariant-loop-rest
 invariant-loop-rest l = record {
