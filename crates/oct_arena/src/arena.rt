@@ -1,11 +1,13 @@
 //! Groups under ids: taken from a list of vacant entries, and put back in front of it.
 ghost use Rattle.std.specs.Prelude.{◌≡◌, ℕ, ◌+◌, ◌-◌, ◌*◌, ◌<◌, ◌≤◌, ◌^◌, [], ◌++◌, length};
 ghost use Rattle.std.specs.Prelude.{slice_set, Some, None, OnOk, OnErr, IsOk, max, pos};
+ghost use Rattle.std.specs.Prelude.{option_map};
 ghost use Rattle.oct_arena.specs.declared.node.Node.TheVariants.{Inner};
 ghost use Rattle.oct_key.specs.Block.{Cube};
 ghost use Rattle.oct_key.specs.CubeOf.{cube_of};
 ghost use Rattle.oct_arena.specs.Entries.{IsArena, IsLive, entry, node_at, home_at, with_node};
 ghost use Rattle.oct_arena.specs.Entries.{copies_under, spare, live, vacant};
+ghost use Rattle.oct_arena.specs.Nodes.{link_of};
 
 use crate::chunk::CHUNK;
 use crate::home::PackedBlock;
@@ -76,6 +78,7 @@ impl NodeArena {
     /// for n. The groups and their ids stay.
     ///
     /// `Memory` comes only where there wasn't room for n. Whole chunks were appended then, or none.
+    #[inline(always)]
     pub fn reserve(&mut self, n: u32) -> Result<(), Memory>
         requires { live self.old + n ≤ 2 ^ 31 }
         ensures room { OnOk result (n ≤ spare self.new) }
@@ -94,6 +97,7 @@ impl NodeArena {
 
     /// Appends a chunk of vacant entries at the end of the free list, or none where memory runs
     /// out.
+    #[inline(never)]
     fn grow(&mut self) -> Result<(), Memory>
         requires { length self.old < 2 ^ 31 }
         ensures ok { OnOk result (self.new ≡ self.old ++ vacant 1024) }
@@ -181,6 +185,17 @@ impl NodeArena {
         ensures arena { IsArena self.now }
     {
         self.rows.get(id.number() as usize).node(i)
+    }
+
+    /// The group that node i of the group links, if the node is Inner.
+    #[inline(always)]
+    pub fn link(&self, id: GroupId, i: u8) -> Option<GroupId>
+        requires live { IsLive self.now id.number }
+        requires index { i ≤ 7 }
+        ensures exact { option_map (λ g. g.number) result ≡ link_of (node_at self.now id.number i) }
+        ensures arena { IsArena self.now }
+    {
+        self.rows.get(id.number() as usize).link(i)
     }
 
     /// The group: its home and its nodes.

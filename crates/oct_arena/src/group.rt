@@ -1,9 +1,9 @@
 //! Eight nodes and the block that they divide, or a vacant entry that links the next one.
-ghost use Rattle.std.specs.Prelude.{◌≡◌, ◌≤◌, ◌↔◌, IsTrue, length, Some};
+ghost use Rattle.std.specs.Prelude.{◌≡◌, ◌≤◌, ◌↔◌, IsTrue, length, Some, option_map};
 ghost use Rattle.oct_key.specs.Block.{child_of};
 ghost use Rattle.oct_arena.specs.Entries.{node_of};
 ghost use Rattle.oct_arena.specs.Free.{linked_number};
-ghost use Rattle.oct_arena.specs.Nodes.{stored_in, IsRankOf};
+ghost use Rattle.oct_arena.specs.Nodes.{link_of, stored_in, IsRankOf};
 
 use crate::home::PackedBlock;
 use crate::node::{Group, GroupId, Node, PackedNode};
@@ -37,6 +37,15 @@ impl Group {
         ensures { result ≡ node_of (Some self.now) i }
     {
         self.nodes[i as usize].node()
+    }
+
+    /// The group that node i links, if it is Inner.
+    #[inline(always)]
+    pub(crate) fn link(&self, i: u8) -> Option<GroupId>
+        requires { i ≤ 7 }
+        ensures { option_map (λ g. g.number) result ≡ link_of (node_of (Some self.now) i) }
+    {
+        self.nodes[i as usize].link()
     }
 
     /// The block of node i, and the node as it lies.

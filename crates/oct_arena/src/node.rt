@@ -123,7 +123,8 @@ fn lower_half(bits: u64) -> i32
 }
 
 impl PackedNode {
-    ghost use Rattle.oct_arena.specs.Nodes.{stored_in, IsRankOf};
+    ghost use Rattle.std.specs.Prelude.{option_map};
+    ghost use Rattle.oct_arena.specs.Nodes.{link_of, stored_in, IsRankOf};
 
     pub(crate) fn new(node: Node) -> PackedNode
         ensures { result ≡ node }
@@ -149,6 +150,18 @@ impl PackedNode {
             ABSENT => Node::Absent,
             LEAF => Node::Leaf(value),
             link => Node::Inner(value, GroupId::new(link)),
+        }
+    }
+
+    /// The group that the node links, if it is Inner: the links of the others are greater.
+    #[inline(always)]
+    pub(crate) fn link(self) -> Option<GroupId>
+        ensures { option_map (λ g. g.number) result ≡ link_of self }
+    {
+        if self.bits < LEAF as u64 * LINK_UNIT {
+            Some(GroupId::new(upper_half(self.bits)))
+        } else {
+            None
         }
     }
 

@@ -149,6 +149,7 @@ impl OccTree {
     /// for n. All else stays.
     ///
     /// `Memory` comes only where there wasn't room for n, and then too the tree stays.
+    #[inline(always)]
     pub fn reserve(&mut self, n: u32) -> Result<(), Memory>
         requires { live self.old.groups + n ≤ 2 ^ 31 }
         ensures room { OnOk result (n ≤ spare self.new.groups) }

@@ -4,7 +4,7 @@ use Rattle.std.specs.Prelude.{slice_set}
 use Rattle.oct_key.specs.Block.{Cube}
 use Rattle.oct_arena.specs.declared.node.Node.{Node}
 use Rattle.oct_arena.specs.declared.node.Node.TheVariants.{Inner}
-use Rattle.oct_arena.specs.Entries.{entry, node_of, node_at, home_of, with_node, spare}
+use Rattle.oct_arena.specs.Entries.{entry, node_of, home_of, with_node, spare}
 use Rattle.oct_arena.specs.Free.{linked_number}
 use Rattle.oct_arena.proofs.Calls.{some_vacant, within, in_memory, arena}
 use Rattle.oct_arena.proofs.Splits.{HasSplit, has_split, with_copies}
