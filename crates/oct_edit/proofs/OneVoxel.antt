@@ -1,5 +1,7 @@
 -- What the whole edit of one voxel promises.
-use Rattle.std.proofs.Common.{◌≡◌, ◌≤◌, ◌≤ℤ◌, ◌+◌, ◌∙◌, subst, sym, inl, refl, Some, Bool, arith}
+use Rattle.std.proofs.Common.{◌≡◌, ◌≤◌, ◌≤ℤ◌, ◌+◌, ◌∙◌, subst, sym, inl, inr, refl, Some, Bool}
+use Rattle.std.proofs.Common.{arith}
+use Rattle.std.specs.Prelude.{IsTrue}
 use Rattle.oct_key.specs.Voxel.{Voxel, IsInMap}
 use Rattle.oct_key.specs.Block.{block_of, root_block}
 use Rattle.oct_key.proofs.Blocks.{block_of_root}
@@ -11,12 +13,13 @@ use Rattle.oct_tree.specs.Shape.{IsWellFormed}
 use Rattle.oct_edit.specs.Saturated.{IsSaturated, TakesFrom}
 use Rattle.oct_edit.specs.Edits.{IsEdited, IsEagerEdit, IsLazyEdit}
 use Rattle.oct_edit.specs.Steps.{IsTouched}
+use Rattle.oct_edit.specs.Touch.{HasTouched}
 use Rattle.oct_edit.proofs.Clamps.{saturated_values}
 use Rattle.oct_edit.proofs.Paths.{become_same}
 use Rattle.oct_edit.proofs.Takes.{takes_event}
 use Rattle.oct_edit.proofs.Voxels.{event_here, event_only}
 use Rattle.oct_tree.proofs.Paths.{some_injective}
-use Rattle.oct_edit.proofs.Wholes.{same_total}
+use Rattle.oct_edit.proofs.Wholes.{same_total, whole_edited, whole_eager, whole_lazy}
 
 -- the edit from the whole map on
 pub at_root : (t u : Tree) (k : Voxel) (event : Event) (lazy : Bool) → IsInMap k
@@ -79,3 +82,40 @@ pub sixteen_more : (t u : Tree) (k : Voxel) (event : Event) (lazy : Bool)
     → spare t.groups ≤ spare u.groups + 16 → live u.groups ≤ live t.groups + 16
 sixteen_more t u k event lazy r room =
     let total = same_total t.groups u.groups r.apart.outside.length in omega (arith, total, room)
+
+-- What an event on one voxel promises, whether the voxel is saturated or not.
+pub record IsVoxelEdit (t u : Tree) (k : Voxel) (event : Event) (lazy : Bool) : Type 0 where
+  pub edited : IsEdited t u (event_at (Some k) event)
+  pub eager : (IsTrue lazy → ⊥) → IsEagerEdit t u (event_at (Some k) event)
+  pub lazily : IsTrue lazy → IsLazyEdit t u (event_at (Some k) event)
+  pub saturated : IsSaturated t.odds event (value_at t k) → u ≡ t
+  pub groups : live u.groups ≤ live t.groups + 16
+  pub room : live u.groups + spare u.groups ≡ live t.groups + spare t.groups
+
+nothing_done : (t : Tree) (k : Voxel) (event : Event) (lazy : Bool) → IsWellFormed t
+    → t.odds.min ≤ℤ t.odds.max → IsSaturated t.odds event (value_at t k)
+    → IsVoxelEdit t t k event lazy
+nothing_done t k event lazy formed bounds full = record {
+  edited = saturated_edited t k event bounds full formed;
+  eager = λ _. saturated_eager t k event full;
+  lazily = λ _. saturated_lazy t k event full;
+  saturated = λ _. refl;
+  groups = omega arith;
+  room = refl;
+}
+
+pub voxel_edit : (t u : Tree) (k : Voxel) (event : Event) (lazy : Bool) → IsInMap k
+    → IsWellFormed t → HasTouched t u k event lazy → IsVoxelEdit t u k event lazy
+voxel_edit t u k event lazy v formed (inl left) =
+    subst (λ w. IsVoxelEdit t w k event lazy) (sym left.same)
+    (nothing_done t k event lazy formed left.bounds left.full)
+voxel_edit t u k event lazy v formed (inr done) =
+    let whole = at_root t u k event lazy v done.touched in
+    record {
+      edited = whole_edited t u (event_at (Some k) event) lazy whole formed;
+      eager = λ eager. whole_eager t u (event_at (Some k) event) lazy whole eager;
+      lazily = λ is. whole_lazy t u (event_at (Some k) event) lazy whole is;
+      saturated = λ full. absurd (done.takes full);
+      groups = sixteen_more t u k event lazy whole done.spare;
+      room = same_total t.groups u.groups done.touched.apart.outside.length;
+    }

@@ -1,6 +1,6 @@
 -- The way from the root of a tree to a voxel.
-use Rattle.std.specs.Prelude.{◌≡◌, ◌≢◌, ℕ, ◌+◌, ◌<◌, ◌≤◌, ℤ, ◌≤ℤ◌, ◌⊎◌, List, length, Some, None}
-use Rattle.std.specs.Prelude.{slice_index_or}
+use Rattle.std.specs.Prelude.{◌≡◌, ◌≢◌, ℕ, zero, suc, ◌+◌, ◌<◌, ◌≤◌, ℤ, ◌≤ℤ◌, ◌⊎◌, List, length}
+use Rattle.std.specs.Prelude.{Option, Some, None, slice_get}
 use Rattle.oct_key.specs.Voxel.{Voxel}
 use Rattle.oct_key.specs.Block.{block_of, child_index_of}
 use Rattle.oct_arena.specs.declared.node.GroupId.{GroupId}
@@ -11,25 +11,31 @@ use Rattle.oct_tree.specs.declared.place.Place.{Place}
 use Rattle.oct_tree.specs.declared.place.Place.TheVariants.{Root, Slot}
 use Rattle.oct_tree.specs.Tree.{Tree, IsPlace, node_in, block_in}
 
--- the place at a depth of a way
-abbrev pub place_on : List Place → ℕ → Place
-place_on places depth = slice_index_or places depth Root
+-- a slot of a group, or the root where there is none
+abbrev pub slot_of : Option GroupId → ℕ → Place
+slot_of None i = Root
+slot_of (Some id) i = Slot id i
 
--- The first places of a list are those of the blocks around a voxel, from the root to this depth:
--- each one but the last links a group, and the next one is a slot of it.
-pub record IsWayTo (t : Tree) (k : Voxel) (places : List Place) (depth : ℕ) : Type 0 where
+-- the place at a depth of the way to a voxel through these groups
+abbrev pub place_on : Voxel → List GroupId → ℕ → Place
+place_on k groups zero = Root
+place_on k groups (suc depth) = slot_of (slice_get groups depth) (child_index_of depth k)
+
+-- The way to a voxel down to this depth: each place but the last links a group, the one of the
+-- list, and all are those of the blocks around the voxel.
+pub record IsWayTo (t : Tree) (k : Voxel) (groups : List GroupId) (depth : ℕ) : Type 0 where
   pub few : depth ≤ 16
-  pub long : length places ≡ 17
-  pub at : (d : ℕ) → d ≤ depth
-      → IsPlace t (place_on places d) × (block_in t (place_on places d) ≡ Some (block_of d k))
+  pub long : length groups ≡ 16
+  pub at : (d : ℕ) → d ≤ depth → IsPlace t (place_on k groups d)
+      × (block_in t (place_on k groups d) ≡ Some (block_of d k))
   pub linked : (d : ℕ) → d < depth → (v : ℤ) × (id : GroupId)
-      × (node_in t (place_on places d) ≡ Inner v id)
-      × (place_on places (d + 1) ≡ Slot id (child_index_of d k))
+      × (node_in t (place_on k groups d) ≡ Inner v id)
+      × (place_on k groups (d + 1) ≡ Slot id (child_index_of d k))
 
--- and the last one is the voxel's, or links no group
-pub record IsWholeWay (t : Tree) (k : Voxel) (places : List Place) (depth : ℕ) : Type 0 where
-  pub way : IsWayTo t k places depth
-  pub ends : depth < 16 → link_of (node_in t (place_on places depth)) ≡ None
+-- and the last one links none
+pub record IsWholeWay (t : Tree) (k : Voxel) (groups : List GroupId) (depth : ℕ) : Type 0 where
+  pub way : IsWayTo t k groups depth
+  pub ends : link_of (node_in t (place_on k groups depth)) ≡ None
 
 -- A node of a group becomes an Inner one of a value that isn't above the greatest one, which stands
 -- over the group, and where it is below that one, it wasn't the node's before.

@@ -1,87 +1,102 @@
-//! An edit of one voxel along its way: the places from the root down to the first one that links no
-//! group. Above it no group has to be made, and in a tree that is known to be fresh and pruned none
+//! An edit of one voxel along its way: the groups from the root down to the first node that links
+//! none. Above it no group has to be made, and in a tree that is known to be fresh and pruned none
 //! has to be closed above a node that stays as it was, nor from a group on that keeps its greatest
 //! value.
 
-ghost use Rattle.std.specs.Prelude.{◌≡◌, ◌+◌, ◌≤◌, ◌≤ℤ◌, ◌↔◌, IsTrue, IsSome, Some};
+ghost use Rattle.std.specs.Prelude.{◌≡◌, ◌+◌, ◌≤◌, IsTrue, IsSome, Some, length, replicate};
 ghost use Rattle.oct_key.specs.Block.{Cube, block_of};
 ghost use Rattle.oct_odds.specs.Update.{IsSmallEvent};
 ghost use Rattle.oct_values.specs.Events.{event_at};
 ghost use Rattle.oct_arena.specs.Entries.{spare};
-ghost use Rattle.oct_arena.specs.Nodes.{link_of};
+ghost use Rattle.oct_arena.specs.Nodes.{link_of, value_of};
 ghost use Rattle.oct_tree.specs.Tree.{IsLinked, IsPlace, node_in, block_in, value_at};
-ghost use Rattle.oct_tree.specs.Shape.{IsFresh, IsPruned, IsWellFormed};
-ghost use Rattle.oct_edit.specs.Saturated.{IsSaturated, TakesFrom};
+ghost use Rattle.oct_tree.specs.Shape.{IsFresh, IsPruned};
+ghost use Rattle.oct_edit.specs.Saturated.{TakesFrom};
 ghost use Rattle.oct_edit.specs.Steps.{HasRoom, IsTouched, IsClosed};
-ghost use Rattle.oct_edit.specs.Way.{IsWholeWay, KeepsGreatest};
+ghost use Rattle.oct_edit.specs.Way.{IsWholeWay, KeepsGreatest, place_on};
 
-use crate::voxel::{VOXEL_DEPTH, close, is_same_value, note_eager, stays, touch_under};
-use oct_arena::Node;
-use oct_key::{Key, child_index};
+use crate::voxel::{close, is_same_value, touch_under};
+use oct_arena::{GroupId, Node};
+use oct_key::{Key, child_of_code, morton};
 use oct_odds::Event;
-use oct_tree::{OccTree, Place};
+use oct_tree::{Descent, OccTree, Place};
 
-/// The places from the root to a voxel, down to the first one that links no group.
+/// The groups from the root down to a voxel.
 #[derive(Drop)]
 pub(crate) struct Way {
-    // The place at each depth.
-    places: [Place; 17],
-    // The last of them.
+    // The group that is linked at each depth of the way.
+    groups: [GroupId; 16],
+    // The depth at which none is.
     depth: u8,
 }
 
-/// The way to the voxel.
-pub(crate) fn way_to(tree: &OccTree, k: Key) -> Way
-    ensures way { IsWholeWay tree.now k result.places result.depth }
-{
-    let mut places = [Place::Root; 17];
-    let mut p = Place::Root;
-    for depth in 0..VOXEL_DEPTH {
-        let Node::Inner(_, id) = tree.node(p) else {
-            return Way { places, depth };
-        };
-        p = Place::Slot(id, child_index(k, depth));
-        places[depth as usize + 1] = p;
-    }
-    Way {
-        places,
-        depth: VOXEL_DEPTH,
-    }
-}
-
 impl Way {
-    /// Whether the voxel takes nothing from the event.
-    pub(crate) fn is_saturated(&self, tree: &OccTree, k: Key, event: Event) -> bool
-        requires { IsWholeWay tree.now k self.now.places self.now.depth }
-        ensures saturated { IsTrue result ↔ IsSaturated tree.now.odds event (value_at tree.now k) }
-        ensures bounds { tree.now.odds.min ≤ℤ tree.now.odds.max }
+    /// The way that goes no further than to the root's group.
+    #[inline(always)]
+    pub(crate) fn new(first: GroupId) -> Way
+        ensures { result.groups ≡ replicate 16 first }
     {
-        let value = tree.node(self.places[self.depth as usize]).value();
-        stays(tree.odds(), event, value)
+        Way {
+            groups: [first; 16],
+            depth: 0,
+        }
     }
 
-    /// Applies the event to the voxel, which isn't saturated, and closes the groups of the way.
+    /// Goes down from the root's group to the first node that links none, and answers it.
+    #[inline(always)]
+    pub(crate) fn descend(&mut self, tree: &OccTree, first: GroupId, k: Key) -> Node
+        requires root { link_of tree.now.root ≡ Some first.number }
+        requires groups { self.old.groups ≡ replicate 16 first }
+        ensures way { IsWholeWay tree.now k self.new.groups self.new.depth }
+        ensures node { result ≡ node_in tree.now (place_on k self.new.groups self.new.depth) }
+        ensures value { value_of result ≡ value_at tree.now k }
+    {
+        let arena = tree.arena();
+        let mut steps = Descent::new(morton(k), 0);
+        let mut id = first;
+        let mut i = steps.step();
+        let mut depth = 1usize;
+        while let Some(next) = arena.link(id, i) {
+            self.groups[depth] = next;
+            depth += 1;
+            id = next;
+            i = steps.step();
+        }
+        self.depth = depth as u8;
+        arena.node(id, i)
+    }
+
+    /// The place at a depth of the way to the voxel.
+    #[inline(always)]
+    fn place(&self, k: Key, depth: u8) -> Place
+        requires long { length self.now.groups ≡ 16 }
+        requires depth { depth ≤ 16 }
+        ensures { result ≡ place_on k self.now.groups depth }
+    {
+        if depth == 0 {
+            return Place::Root;
+        }
+        let above = depth - 1;
+        Place::Slot(self.groups[above as usize], child_of_code(morton(k), above))
+    }
+
+    /// Applies the event to the voxel, which isn't saturated and at the end of whose way this node
+    /// stands, and closes the groups of the way.
     ///
-    /// Where the tree is known to be fresh and pruned, they are closed from below until a node
-    /// stays as it was, or a group keeps its greatest value.
-    pub(crate) fn touch(&self, tree: &mut OccTree, k: Key, event: Event, lazy: bool)
-        requires way { IsWholeWay tree.old k self.now.places self.now.depth }
-        requires formed { IsWellFormed tree.old }
-        requires room { HasRoom tree.old k 0 }
-        requires small { IsSmallEvent event }
-        requires takes { TakesFrom tree.old.odds (event_at (Some k) event) (value_at tree.old) k }
-        ensures touched { IsTouched tree.old tree.new (block_of 0 k) (event_at (Some k) event)
-            lazy }
-        ensures spare { spare tree.old.groups ≤ spare tree.new.groups + 16 }
-    {
-        let known = tree.tidiness();
-        self.touch_and_climb(tree, k, event, lazy, known.is_tidy());
-        note_eager(tree, known, lazy);
-    }
-
-    /// The same, for a tree that is tidy or not.
-    fn touch_and_climb(&self, tree: &mut OccTree, k: Key, event: Event, lazy: bool, tidy: bool)
-        requires way { IsWholeWay tree.old k self.now.places self.now.depth }
+    /// In a tidy tree, one that is fresh and pruned, they are closed from below until a node stays
+    /// as it was, or a group keeps its greatest value.
+    #[inline(always)]
+    pub(crate) fn touch(
+        &self,
+        tree: &mut OccTree,
+        k: Key,
+        node: Node,
+        event: Event,
+        lazy: bool,
+        tidy: bool,
+    )
+        requires way { IsWholeWay tree.old k self.now.groups self.now.depth }
+        requires node { node ≡ node_in tree.old (place_on k self.now.groups self.now.depth) }
         requires linked { IsLinked tree.old }
         requires room { HasRoom tree.old k 0 }
         requires small { IsSmallEvent event }
@@ -92,16 +107,16 @@ impl Way {
         ensures spare { spare tree.old.groups ≤ spare tree.new.groups + 16 }
     {
         let mut depth = self.depth;
-        let p = self.places[depth as usize];
-        let mut before = tree.node(p);
-        touch_under(tree, p, depth, k, event, lazy);
+        let p = self.place(k, depth);
+        touch_under(tree, p, node, depth, k, event, lazy);
+        let mut before = node;
         let mut now = tree.node(p);
         while depth > 0 {
             if tidy && is_same(before, now) {
                 return;
             }
             depth -= 1;
-            let q = self.places[depth as usize];
+            let q = self.place(k, depth);
             let over = tree.node(q);
             if tidy && keeps_greatest(over, before, now) {
                 return;

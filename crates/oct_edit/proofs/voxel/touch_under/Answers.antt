@@ -3,7 +3,8 @@ use Rattle.std.proofs.lemmas.Bool.{true≢false}
 use Rattle.std.proofs.lemmas.Int.{to_z-of_z}
 use mir.Syntax.{w32}
 use mir.Val.{SFits, to_z, of_z}
-use Rattle.oct_key.specs.Block.{block_of}
+use Rattle.oct_key.specs.Block.{block_of, child_of}
+use Rattle.oct_key.proofs.Blocks.{block_step}
 use Rattle.oct_odds.specs.Odds.{odds_of}
 use Rattle.oct_odds.specs.Update.{IsWithin}
 use Rattle.oct_arena.specs.Nodes.{link_of, value_of}
@@ -62,13 +63,17 @@ loop-level-preserved c =
       low = omega (arith, low);
       high = omega (arith, c.loop-level-test.true);
       chain = chain_more c.args.tree.now c.loop-level.tree c.split_to-id.new.self c.args.k
-          c.args.event c.args.lazy (node_in c.args.tree.now c.args.p) _ c.args.depth c.loop-level.q c.loop-level.level c.child_index.result c.split_to-id.result
+          c.args.event c.args.lazy (node_in c.args.tree.now c.args.p) _ c.args.depth
+          c.loop-level.q c.loop-level.level c.child_of_code.result c.split_to-id.result
           c.loop-level.invariant.chain (omega (arith, c.loop-level-test.true)) c.requires.voxel
           c.requires.plain
           (λ is. to_z-of_z w32 c.value_over-over.result fits ∙ c.value_over-over.ensures.lazily is
-          ∙ ap inherited_from (c.value-value.ensures.exact ∙ ap value_of c.node.ensures.exact)
+          ∙ ap inherited_from (c.value-value.ensures.exact ∙ ap value_of c.requires.node)
           ∙ plain_inherited (node_in c.args.tree.now c.args.p) c.requires.plain)
-          c.requires.takes (omega (arith, c.child_index.ensures.few)) c.child_index.ensures.step
+          c.requires.takes (omega (arith, c.child_of_code.ensures.few))
+          (block_step c.loop-level.level c.args.k c.loop-level-test.true
+          ∙ ap (child_of (block_of c.loop-level.level c.args.k)) (sym (c.child_of_code.ensures.exact
+          ∙ c.morton-code.ensures.child c.loop-level.level (omega (arith, c.loop-level-test.true)))))
           c.split_to-id.ensures.split c.split_to-id.ensures.values
           (c.split_to-id.ensures.outside (block_of c.loop-level.level c.args.k)
           c.loop-level.invariant.chain.block)
@@ -94,7 +99,7 @@ last : (c : goal.After-set_place)
     (to_z w32 (of_z w32 c.value_over-over.result)) c.args.lazy
 last c =
     let fits : SFits w32 c.value_over-over.result = search rules in
-    let read = c.value-value.ensures.exact ∙ ap value_of c.node.ensures.exact in
+    let read = c.value-value.ensures.exact ∙ ap value_of c.requires.node in
     subst (λ v. IsLast (node_in c.args.tree.now c.args.p) c.leaf.result v c.args.lazy)
     (sym (to_z-of_z w32 c.value_over-over.result fits))
     (leaf_last (node_in c.args.tree.now c.args.p) c.leaf.result c.value_over-over.result c.args.lazy
@@ -111,12 +116,14 @@ pub returns-clause-touched : goal.returns-clause-touched
 returns-clause-touched c =
     let high = c.loop-level.invariant.high in
     chain_ended c.args.tree.now c.loop-level.tree c.set_place.new.self c.args.k c.args.event
-    c.args.lazy (node_in c.args.tree.now c.args.p) _ c.args.depth c.loop-level.q c.loop-level.level c.leaf.result c.loop-level.invariant.chain
+    c.args.lazy (node_in c.args.tree.now c.args.p) _ c.args.depth c.loop-level.q
+    c.loop-level.level c.leaf.result c.loop-level.invariant.chain
     (omega (arith, high, c.loop-level-test.false)) c.requires.voxel c.set_place.ensures.linked
     c.leaf.ensures.plain c.set_place.ensures.written c.set_place.ensures.values
-    c.set_place.ensures.outside (c.leaf.ensures.value ∙ made_of _ c.args.tree.now.odds c.args.event c.value-value.result c.apply-new.result
+    c.set_place.ensures.outside (c.leaf.ensures.value
+    ∙ made_of _ c.args.tree.now.odds c.args.event c.value-value.result c.apply-new.result
     (node_in c.args.tree.now c.args.p) c.apply-new.ensures.exact c.odds.ensures
-    (c.value-value.ensures.exact ∙ ap value_of c.node.ensures.exact)) (last c)
+    (c.value-value.ensures.exact ∙ ap value_of c.requires.node)) (last c)
 
 pub returns-clause-spare : goal.returns-clause-spare
 returns-clause-spare c =
@@ -131,7 +138,7 @@ returns-then-leaves_block-clause-touched c =
     c.requires.linked c.requires.place c.requires.block c.requires.depth c.requires.voxel
     c.requires.plain (sym (made_of _ c.args.tree.now.odds c.args.event c.value-value.result c.apply-new.result
     (node_in c.args.tree.now c.args.p) c.apply-new.ensures.exact c.odds.ensures
-    (c.value-value.ensures.exact ∙ ap value_of c.node.ensures.exact))
+    (c.value-value.ensures.exact ∙ ap value_of c.requires.node))
     ∙ c.if-leaves_block.ensures.when.0
-    ∙ c.value-value.ensures.exact ∙ ap value_of c.node.ensures.exact)
-    (λ is. sym (c.value-value.ensures.exact ∙ ap value_of c.node.ensures.exact) ∙ c.if-leaves_block.ensures.when.1 is)
+    ∙ c.value-value.ensures.exact ∙ ap value_of c.requires.node)
+    (λ is. sym (c.value-value.ensures.exact ∙ ap value_of c.requires.node) ∙ c.if-leaves_block.ensures.when.1 is)
