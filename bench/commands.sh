@@ -42,7 +42,7 @@ after_scans() {
 
 : >"$folder/nothing"
 python3 "$here/make_commands.py" edits >"$folder/edits"
-measure edits "$(count nothing)" "$(count edits)" 100000 2250
+measure edits "$(count nothing)" "$(count edits)" 100000 1880
 scans=$(count scans)
 after_scans gets
 measure gets "$scans" "$(count gets)" 20000 1420
