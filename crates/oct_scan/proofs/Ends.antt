@@ -37,7 +37,3 @@ pub end_left : (end : Voxel) (ks : List Voxel) → length ks ≤ 1 → EndsAt en
 end_left end [] few e = absurd e
 end_left end (k ∷ []) few e = ap (λ v. v ∷ []) e
 end_left end (k ∷ l ∷ ks) few e = absurd (omega (arith, few))
-
-pub some_left : (ks : List Voxel) → ks ≢ [] → 1 ≤ length ks
-some_left [] some = absurd (some refl)
-some_left (k ∷ ks) some = omega arith

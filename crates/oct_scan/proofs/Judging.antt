@@ -4,7 +4,7 @@ use Rattle.std.proofs.Common.{take, get_or, false, Option, Some, None, refl, sym
 use Rattle.std.specs.Prelude.{is_none, IsSome, IsNone, min}
 use Rattle.std.specs.List.{All, Contains}
 use Rattle.std.proofs.lemmas.Bool.{cases_lt}
-use Rattle.std.proofs.lemmas.List.{take_all, length-map, take-map}
+use Rattle.std.proofs.lemmas.List.{length-map, take-map}
 use Rattle.std.proofs.lemmas.List.Elements.{Contains-get_or}
 use Rattle.std.proofs.Math.Nat.{le-min, min-eq_left}
 use Rattle.oct_brick.proofs.Lists.{contains_map, none_passed}
@@ -77,12 +77,7 @@ bound_more edge scan points i b d k l bound more next most range lt is key_o key
       omega (arith, le, few', counted, sum),
     )
 
--- the beams to all points are those of the scan
-pub beams_whole : (scan : Sighting) (points : List Point) (i : ℕ) → points ≡ scan.points
-    → length points ≤ i → beams_to scan points i ≡ beams_of scan
-beams_whole scan points i same l = ap (map (beam_to scan)) (take_all i points l ∙ same)
-
--- and those to the first ones the first of them
+-- the beams to the first points are the first of the scan's
 pub beams_first : (scan : Sighting) (points : List Point) (i : ℕ) → points ≡ scan.points
     → beams_to scan points i ≡ take i (beams_of scan)
 beams_first scan points i same =

@@ -1,22 +1,14 @@
 //! What a scan does to the map, as bricks in order.
-ghost use Rattle.std.specs.Prelude.{◌≡◌, ◌≢◌, ℕ, ◌+◌, ◌^◌, ◌<◌, ◌≤◌, pos, ◌≤ℤ◌, ◌<ℤ◌, ◌↔◌};
-ghost use Rattle.std.specs.Prelude.{Some, None, Err, List, length, All, Contains};
-ghost use Rattle.std.specs.Prelude.{IfOk, IfErr, IfSome, OnErr};
-ghost use Rattle.oct_key.specs.Voxel.{Voxel, IsInMap};
-ghost use Rattle.oct_key.specs.Boxes.{IsInWindow};
-ghost use Rattle.oct_odds.specs.declared.event.Event.{Event};
-ghost use Rattle.oct_values.specs.Events.{IsAscending, scan_events};
-ghost use Rattle.oct_values.specs.Needs.{event_need};
+ghost use Rattle.std.specs.Prelude.{◌≡◌, ℕ, ◌+◌, ◌^◌, ◌<◌, ◌≤◌, pos, ◌≤ℤ◌, ◌<ℤ◌, None, Err};
+ghost use Rattle.std.specs.Prelude.{List, length, All, Contains, IfOk, IfErr, IfSome, OnErr};
 ghost use Rattle.oct_pose.specs.Reach.{IsInReach};
-ghost use Rattle.oct_scan.specs.Beam.{origin_of, beams_of, sighting_of};
-ghost use Rattle.oct_scan.specs.Scanned.{IsHit, IsFreed, IsNeed};
-ghost use Rattle.oct_scan.specs.Answer.{IsInside, MeetAtMost, IsRefusedFor};
-ghost use Rattle.oct_scan.specs.Outcome.{scan_outcome, hit_count, free_count, scan_fault};
-ghost use Rattle.oct_scan.specs.Outcome.{TakesMemory};
 ghost use Rattle.oct_brick.specs.Bricks.{IsBrick, AreAscending};
 ghost use Rattle.oct_brick.specs.Voxels.{hit_voxels, freed_voxels};
+ghost use Rattle.oct_scan.specs.Beam.{sighting_of};
+ghost use Rattle.oct_scan.specs.Outcome.{scan_fault, TakesMemory};
 ghost use Rattle.oct_scan.specs.Gathered.{HoldCodes};
-ghost use Rattle.oct_scan.specs.Update.{IsSettled, listed};
+ghost use Rattle.oct_scan.specs.Update.{listed, IsSettled, IsMadeOfBricks, IsUpdateOf, IsOutcomeOf};
+ghost use Rattle.oct_scan.specs.Update.{IsWithinLimit, IsRefusal};
 
 use crate::beam::beams_of;
 use crate::cells::gather;
@@ -102,39 +94,18 @@ pub fn update_bricks(
     requires range { IfSome scan.now.range (λ r. (pos 0 ≤ℤ r) × (r <ℤ pos (10 ^ 16))) }
     requires max_cells { max_cells ≤ 2 ^ 27 }
 
-    ensures bricks { IfOk result (λ set. All IsBrick set.bricks) }
-    ensures ascend { IfOk result (λ set. AreAscending set.bricks) }
-    ensures hits_counted { IfOk result (λ set. set.hit_count ≡ length (hit_voxels set.bricks)) }
-    ensures frees_counted { IfOk result (λ set. set.free_count ≡ length (freed_voxels set.bricks)) }
-    ensures hits { IfOk result (λ set. (k : Voxel) → Contains (hit_voxels set.bricks) k ↔
-        (IsInWindow window k × IsHit res (sighting_of scan.now) k)) }
-    ensures frees { IfOk result (λ set. (k : Voxel) → Contains (freed_voxels set.bricks) k ↔
-        (IsInWindow window k × IsFreed res (sighting_of scan.now) k)) }
-    ensures hits_ascend { IfOk result (λ set. IsAscending (hit_voxels set.bricks)) }
-    ensures frees_ascend { IfOk result (λ set. IsAscending (freed_voxels set.bricks)) }
-    ensures need { IfOk result (λ set. IsNeed res window (sighting_of scan.now) set.need) }
+    ensures made { IfOk result IsMadeOfBricks }
+    ensures update { IfOk result (λ set. IsUpdateOf res window (sighting_of scan.now)
+        (listed set)) }
+    ensures outcome { IfOk result (λ set. IsOutcomeOf res window (sighting_of scan.now)
+        (listed set)) }
+    ensures few { IfOk result (λ set. set.hit_count + set.free_count ≤ max_cells) }
+    ensures limit { IfOk result (λ _. IsWithinLimit res (sighting_of scan.now) max_cells) }
+    ensures accepted { IfOk result (λ _. scan_fault res (sighting_of scan.now) max_cells ≡ None) }
 
-    ensures inside { IfOk result (λ _. IsInside res (sighting_of scan.now)) }
-    ensures within { IfOk result (λ _. MeetAtMost res (origin_of (sighting_of scan.now))
-        (beams_of (sighting_of scan.now)) max_cells) }
-    ensures refused { IfErr result (IsRefusedFor res (sighting_of scan.now) max_cells) }
+    ensures refused { IfErr result (IsRefusal res (sighting_of scan.now) max_cells) }
     ensures memory { result ≡ Err ScanFault.Memory →
         TakesMemory res (sighting_of scan.now) max_cells }
-
-    ensures events { IfOk result (λ set. (hit miss : Event) (k : Voxel) → IsInMap k →
-        scan_events (hit_voxels set.bricks) hit (freed_voxels set.bricks) miss k ≡
-        scan_outcome res window hit miss (sighting_of scan.now) k) }
-    ensures hit_count { IfOk result (λ set.
-        set.hit_count ≡ hit_count res window (sighting_of scan.now)) }
-    ensures free_count { IfOk result (λ set.
-        set.free_count ≡ free_count res window (sighting_of scan.now)) }
-    ensures few { IfOk result (λ set. set.hit_count + set.free_count ≤ max_cells) }
-    ensures needed { IfOk result (λ set. (hit miss : Event) →
-        set.need ≡ event_need (scan_outcome res window hit miss (sighting_of scan.now))) }
-
-    ensures accepted { IfOk result (λ _. scan_fault res (sighting_of scan.now) max_cells ≡ None) }
-    ensures fault { IfErr result (λ f. f ≢ ScanFault.Memory →
-        scan_fault res (sighting_of scan.now) max_cells ≡ Some f) }
 {
     let origin = scan.pose.t;
     let Some(start) = res.key_of(origin) else {
@@ -154,10 +125,7 @@ fn merge_update(alloc: Global, bricks: Vec<Brick>) -> Result<UpdateBricks, Memor
         HoldCodes bricks.items scanned hits →
         ((code : ℕ) → Contains hits code → Contains scanned code) →
         IsSettled scanned hits (listed set)) }
-    ensures bricks { IfOk result (λ set. All IsBrick set.bricks) }
-    ensures ascend { IfOk result (λ set. AreAscending set.bricks) }
-    ensures hits_counted { IfOk result (λ set. set.hit_count ≡ length (hit_voxels set.bricks)) }
-    ensures frees_counted { IfOk result (λ set. set.free_count ≡ length (freed_voxels set.bricks)) }
+    ensures made { IfOk result IsMadeOfBricks }
     ensures some { OnErr result (0 < length bricks.items) }
 {
     if bricks.is_empty() {

@@ -18,14 +18,15 @@
 //!
 //! - [`update_bricks`] answers exactly the voxels that are hit and exactly those that are freed, by
 //!   definitions that ask about one voxel and all beams (`IsHit`, `IsFreed`), as far as they lie in
-//!   the box, where one is handed in (`IsInWindow`), and how many of each there are. The voxels
-//!   come as bricks of `oct_brick`; [`update_set`] gives them as two lists that ascend by Morton
-//!   code, without repeats, and promises the same of these.
+//!   the box, where one is handed in (`IsInWindow`), and how many of each there are
+//!   (`IsUpdateOf`). The voxels come as bricks of `oct_brick` (`IsMadeOfBricks`); [`update_set`]
+//!   lists them as two lists that ascend by Morton code, without repeats, of which the same holds.
 //! - [`UpdateBricks::need`] is the number of blocks of depth 0 to 15 that hold such a voxel
 //!   (`IsNeed`): at most that many groups of a tree have to be made for them.
 //! - What a scan does is a function of its numbers as well, for whoever defines the answers of a
 //!   session: `scan_outcome` gives each voxel its event or none, `hit_count` and `free_count` count
-//!   over the whole map, and `scan_fault` is why the scan is refused, or none.
+//!   over the whole map (`IsOutcomeOf`), and `scan_fault` is why the scan is refused, or none
+//!   (`IsRefusal`).
 //!   [`outcomes_are_exact`] says that these tests and this fault mean what the words above mean,
 //!   and both calls say what they answer in both. [`counts_stay_within`]: a scan that isn't refused
 //!   hits, and frees, no more voxels than its beams may meet.
@@ -43,7 +44,7 @@
 //! own. The pile remembers in a table where bricks stand, so that mostly a brick is joined with
 //! that of its code, and memory follows the bricks that the beams touch. How a beam is walked is
 //! chosen by its ends: where both lie in the box, or no box stands, no voxel is tested; where both
-//! lie beyond it on one side, the voxels are only counted; else each is tested before it is kept.
+//! lie beyond it on one side, the beam is passed over; else each is tested before it is kept.
 //! The bricks are sorted by their codes, and those of one code joined. Of the sorted bricks each
 //! adds the blocks that don't hold the one before it, which the highest different bit of the two
 //! codes tells, and its own octets.
@@ -60,7 +61,6 @@ mod bricks;
 mod cells;
 mod fault;
 mod judge;
-mod keys;
 mod laws;
 mod need;
 mod pile;

@@ -1,26 +1,18 @@
 //! What a scan does to the map, as two lists of voxels.
-ghost use Rattle.std.specs.Prelude.{◌≡◌, ◌≢◌, ◌+◌, ◌^◌, ◌<◌, ◌≤◌, pos, ◌≤ℤ◌, ◌<ℤ◌, ◌↔◌};
-ghost use Rattle.std.specs.Prelude.{Some, None, Err, length, All, Contains};
-ghost use Rattle.std.specs.Prelude.{IfOk, IfErr, IfSome, OnErr};
-ghost use Rattle.oct_key.specs.Voxel.{Voxel, IsInMap};
-ghost use Rattle.oct_key.specs.Boxes.{IsInWindow};
-ghost use Rattle.oct_odds.specs.declared.event.Event.{Event};
-ghost use Rattle.oct_values.specs.Events.{IsAscending, scan_events};
-ghost use Rattle.oct_values.specs.Needs.{event_need};
+ghost use Rattle.std.specs.Prelude.{◌≡◌, ◌+◌, ◌++◌, ◌^◌, ◌<◌, ◌≤◌, pos, ◌≤ℤ◌, ◌<ℤ◌, None, Err};
+ghost use Rattle.std.specs.Prelude.{length, map, All, IfOk, IfErr, IfSome, OnOk, OnErr};
 ghost use Rattle.oct_pose.specs.Reach.{IsInReach};
-ghost use Rattle.oct_scan.specs.Beam.{origin_of, beams_of, sighting_of};
-ghost use Rattle.oct_scan.specs.Scanned.{IsHit, IsFreed, IsNeed};
-ghost use Rattle.oct_scan.specs.Answer.{IsInside, MeetAtMost, IsRefusedFor};
-ghost use Rattle.oct_scan.specs.Outcome.{scan_outcome, hit_count, free_count, scan_fault};
-ghost use Rattle.oct_scan.specs.Outcome.{TakesMemory};
+ghost use Rattle.oct_brick.specs.Masks.{codes_of};
 ghost use Rattle.oct_brick.specs.Bricks.{IsBrick};
-ghost use Rattle.oct_brick.specs.Voxels.{hit_voxels, freed_voxels};
+ghost use Rattle.oct_brick.specs.Voxels.{coded_voxel};
+ghost use Rattle.oct_scan.specs.Beam.{sighting_of};
+ghost use Rattle.oct_scan.specs.Outcome.{scan_fault, TakesMemory};
+ghost use Rattle.oct_scan.specs.Update.{listed, IsUpdateOf, IsOutcomeOf, IsWithinLimit, IsRefusal};
 
 use crate::bricks::{UpdateBricks, update_bricks};
 use crate::fault::ScanFault;
-use crate::keys::keys_of;
 use crate::scan::Scan;
-use oct_key::{KeyList, Res, Window};
+use oct_key::{KeyList, Res, Window, from_morton};
 use oct_num::Memory;
 use std::alloc::Global;
 use std::marker::Model;
@@ -83,35 +75,15 @@ pub fn update_set(
     requires range { IfSome scan.now.range (λ r. (pos 0 ≤ℤ r) × (r <ℤ pos (10 ^ 16))) }
     requires max_cells { max_cells ≤ 2 ^ 27 }
 
-    ensures hits { IfOk result (λ set. (k : Voxel) →
-        Contains set.hits k ↔ (IsInWindow window k × IsHit res (sighting_of scan.now) k)) }
-    ensures frees { IfOk result (λ set. (k : Voxel) →
-        Contains set.frees k ↔ (IsInWindow window k × IsFreed res (sighting_of scan.now) k)) }
-    ensures hits_ascend { IfOk result (λ set. IsAscending set.hits) }
-    ensures frees_ascend { IfOk result (λ set. IsAscending set.frees) }
-    ensures need { IfOk result (λ set. IsNeed res window (sighting_of scan.now) set.need) }
+    ensures update { IfOk result (IsUpdateOf res window (sighting_of scan.now)) }
+    ensures outcome { IfOk result (IsOutcomeOf res window (sighting_of scan.now)) }
+    ensures few { IfOk result (λ set. length set.hits + length set.frees ≤ max_cells) }
+    ensures limit { IfOk result (λ _. IsWithinLimit res (sighting_of scan.now) max_cells) }
+    ensures accepted { IfOk result (λ _. scan_fault res (sighting_of scan.now) max_cells ≡ None) }
 
-    ensures inside { IfOk result (λ _. IsInside res (sighting_of scan.now)) }
-    ensures within { IfOk result (λ _. MeetAtMost res (origin_of (sighting_of scan.now))
-        (beams_of (sighting_of scan.now)) max_cells) }
-    ensures refused { IfErr result (IsRefusedFor res (sighting_of scan.now) max_cells) }
+    ensures refused { IfErr result (IsRefusal res (sighting_of scan.now) max_cells) }
     ensures memory { result ≡ Err ScanFault.Memory →
         TakesMemory res (sighting_of scan.now) max_cells }
-
-    ensures events { IfOk result (λ set. (hit miss : Event) (k : Voxel) → IsInMap k →
-        scan_events set.hits hit set.frees miss k ≡
-        scan_outcome res window hit miss (sighting_of scan.now) k) }
-    ensures hit_count { IfOk result (λ set.
-        length set.hits ≡ hit_count res window (sighting_of scan.now)) }
-    ensures free_count { IfOk result (λ set.
-        length set.frees ≡ free_count res window (sighting_of scan.now)) }
-    ensures few { IfOk result (λ set. length set.hits + length set.frees ≤ max_cells) }
-    ensures needed { IfOk result (λ set. (hit miss : Event) →
-        set.need ≡ event_need (scan_outcome res window hit miss (sighting_of scan.now))) }
-
-    ensures accepted { IfOk result (λ _. scan_fault res (sighting_of scan.now) max_cells ≡ None) }
-    ensures fault { IfErr result (λ f. f ≢ ScanFault.Memory →
-        scan_fault res (sighting_of scan.now) max_cells ≡ Some f) }
 {
     let update = update_bricks(alloc, scan, res, max_cells, window)?;
     let set = list_voxels(alloc, &update)?;
@@ -121,15 +93,33 @@ pub fn update_set(
 /// The same update as lists.
 fn list_voxels(alloc: Global, update: &UpdateBricks) -> Result<UpdateSet, Memory>
     requires { All IsBrick update.now.bricks }
-    ensures hits { IfOk result (λ set. set.hits ≡ hit_voxels update.now.bricks) }
-    ensures frees { IfOk result (λ set. set.frees ≡ freed_voxels update.now.bricks) }
-    ensures need { IfOk result (λ set. set.need ≡ update.now.need) }
+    ensures same { IfOk result (λ set. set ≡ listed update.now) }
     ensures some { OnErr result (0 < length update.now.bricks) }
 {
-    let (hits, frees) = keys_of(alloc, update.bricks())?;
+    let mut hits = KeyList::new(alloc);
+    let mut frees = KeyList::new(alloc);
+    let bricks = update.bricks();
+    for &brick in bricks {
+        push_keys(&mut hits, brick.code, brick.hits)?;
+        push_keys(&mut frees, brick.code, brick.frees())?;
+    }
     Ok(UpdateSet {
         hits,
         frees,
         need: update.need(),
     })
+}
+
+/// Adds the voxels of a brick whose bits are set in a mask, in their order.
+fn push_keys(keys: &mut KeyList, code: u64, mask: u64) -> Result<(), Memory>
+    requires { code < 2 ^ 42 }
+    ensures { OnOk result (keys.new ≡ keys.old ++ map coded_voxel (codes_of code mask)) }
+{
+    let mut left = mask;
+    while left != 0 {
+        let place = left.trailing_zeros();
+        keys.push(from_morton((code << 6) + u64::from(place)))?;
+        left &= left - 1;
+    }
+    Ok(())
 }

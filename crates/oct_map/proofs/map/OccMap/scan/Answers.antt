@@ -56,7 +56,7 @@ ready c =
     c.from.result
     c.self.view_is c.res.ensures (search rules) c.odds.ensures (added_as c.odds_of_scan-hit.result.0 _ (search rules) c.odds_of_scan-hit.ensures.hit)
     (added_as c.odds_of_scan-hit.result.1 _ (search rules) c.odds_of_scan-hit.ensures.miss) (search rules) (search rules) (search rules)
-    c.in_ok-set.ensures.events c.in_ok-set.ensures.needed
+    c.in_ok-set.ensures.outcome.events c.in_ok-set.ensures.outcome.needed
 
 -- the map that making room left
 abbrev roomy : goal.After-drop-set-inside-2 → Map
@@ -101,7 +101,7 @@ counted c = (let need : c.from.result ≡ c.in_ok-set.set.need = search rules in
     need ∙ same_need_in c.args.self.now (sighting_of c.args.scan.now) c.in_ok-set.set.need
     c.res.result c.window-window.result
     (c.res.ensures ∙ ap (λ (m : Map). m.tree.res) c.self.view_is) (search rules)
-    c.in_ok-set.ensures.needed)
+    c.in_ok-set.ensures.outcome.needed)
 
 pub returns-in_err-make_room-clause-refused : goal.returns-in_err-make_room-clause-refused
 returns-in_err-make_room-clause-refused c =
@@ -120,11 +120,11 @@ returns-in_err-make_room-clause-reserved c =
 
 pub touch_all-requires-clause-bricks : goal.touch_all-requires-clause-bricks
 touch_all-requires-clause-bricks c =
-    subst (All IsBrick) (sym c.bricks-bricks.ensures) c.in_ok-set.ensures.bricks
+    subst (All IsBrick) (sym c.bricks-bricks.ensures) c.in_ok-set.ensures.made.bricks
 
 pub touch_all-requires-clause-ascend : goal.touch_all-requires-clause-ascend
 touch_all-requires-clause-ascend c =
-    subst AreAscending (sym c.bricks-bricks.ensures) c.in_ok-set.ensures.ascend
+    subst AreAscending (sym c.bricks-bricks.ensures) c.in_ok-set.ensures.made.ascend
 
 pub touch_all-requires-clause-room : goal.touch_all-requires-clause-room
 touch_all-requires-clause-room c =
@@ -134,7 +134,7 @@ touch_all-requires-clause-room c =
     c.from.result
     c.self.view_is c.res.ensures (search rules) c.odds.ensures (added_as c.odds_of_scan-hit.result.0 _ (search rules) c.odds_of_scan-hit.ensures.hit)
     (added_as c.odds_of_scan-hit.result.1 _ (search rules) c.odds_of_scan-hit.ensures.miss) (search rules) (search rules) (search rules)
-    c.in_ok-set.ensures.events c.in_ok-set.ensures.needed in
+    c.in_ok-set.ensures.outcome.events c.in_ok-set.ensures.outcome.needed in
     let room : c.from.result ≤ spare c.self-2.inside.tree.groups =
     subst (λ (m : Map). c.from.result ≤ spare m.tree.groups) (sym c.self-2.view_is)
     c.in_ok-make_room.ensures.room in
@@ -190,19 +190,21 @@ returns-clause-noted c =
     ∙ ap (λ (m : Map). m.tree.res) c.self.view_is in
     let box : c.window-window.result ≡ c.args.self.now.update_box = search rules in
     let hits : c.hit_count.result ≡ length (hit_voxels c.bricks-bricks.result.now) =
-    c.hit_count.ensures ∙ c.in_ok-set.ensures.hits_counted
+    c.hit_count.ensures ∙ c.in_ok-set.ensures.made.hits_counted
     ∙ ap (λ b. length (hit_voxels b)) (sym c.bricks-bricks.ensures) in
     let frees : c.free_count.result ≡ length (freed_voxels c.bricks-bricks.result.now) =
-    c.free_count.ensures ∙ c.in_ok-set.ensures.frees_counted
+    c.free_count.ensures ∙ c.in_ok-set.ensures.made.frees_counted
     ∙ ap (λ b. length (freed_voxels b)) (sym c.bricks-bricks.ensures) in
     let hit : c.hit_count.result
     ≡ hit_count c.args.self.now.tree.res c.args.self.now.update_box (sighting_of c.args.scan.now) =
-    c.hit_count.ensures ∙ c.in_ok-set.ensures.hit_count
+    c.hit_count.ensures ∙ c.in_ok-set.ensures.made.hits_counted
+    ∙ c.in_ok-set.ensures.outcome.hits_counted
     ∙ ap (λ r. hit_count r c.window-window.result (sighting_of c.args.scan.now)) edge
     ∙ ap (λ w. hit_count c.args.self.now.tree.res w (sighting_of c.args.scan.now)) box in
     let free : c.free_count.result
     ≡ free_count c.args.self.now.tree.res c.args.self.now.update_box (sighting_of c.args.scan.now) =
-    c.free_count.ensures ∙ c.in_ok-set.ensures.free_count
+    c.free_count.ensures ∙ c.in_ok-set.ensures.made.frees_counted
+    ∙ c.in_ok-set.ensures.outcome.frees_counted
     ∙ ap (λ r. free_count r c.window-window.result (sighting_of c.args.scan.now)) edge
     ∙ ap (λ w. free_count c.args.self.now.tree.res w (sighting_of c.args.scan.now)) box in
     let many : (length (hit_voxels c.bricks-bricks.result.now)
@@ -255,7 +257,7 @@ returns-in_err-reserve-clause-refused c =
     let counted : c.from.result ≡ scan_need c.args.self.now (sighting_of c.args.scan.now) = need
     ∙ same_need_in c.args.self.now (sighting_of c.args.scan.now) c.in_ok-set.set.need c.res.result
     c.window-window.result (c.res.ensures ∙ ap (λ (m : Map). m.tree.res) c.self.view_is)
-    (search rules) c.in_ok-set.ensures.needed in
+    (search rules) c.in_ok-set.ensures.outcome.needed in
     let map : Map = map_of c.self-2.inside.tree c.self-2.inside.is_stale c.self-2.inside.window
     c.self-2.inside.limits c.self-2.inside.mark in
     let ready : IsReadied c.args.self.now map c.from.result =
@@ -278,7 +280,7 @@ returns-in_err-reserve-clause-reserved c =
     let counted : c.from.result ≡ scan_need c.args.self.now (sighting_of c.args.scan.now) = need
     ∙ same_need_in c.args.self.now (sighting_of c.args.scan.now) c.in_ok-set.set.need c.res.result
     c.window-window.result (c.res.ensures ∙ ap (λ (m : Map). m.tree.res) c.self.view_is)
-    (search rules) c.in_ok-set.ensures.needed in
+    (search rules) c.in_ok-set.ensures.outcome.needed in
     let map : Map = map_of c.self-2.inside.tree c.self-2.inside.is_stale c.self-2.inside.window
     c.self-2.inside.limits c.self-2.inside.mark in
     let ready : IsReadied c.args.self.now map c.from.result =
@@ -310,15 +312,15 @@ returns-in_err-make_room-clause-noted c =
 
 pub note_bricks-requires-clause-bricks : goal.note_bricks-requires-clause-bricks
 note_bricks-requires-clause-bricks c =
-    subst (All IsBrick) (sym c.bricks-bricks.ensures) c.in_ok-set.ensures.bricks
+    subst (All IsBrick) (sym c.bricks-bricks.ensures) c.in_ok-set.ensures.made.bricks
 
 pub note_bricks-requires-clause-room : goal.note_bricks-requires-clause-room
 note_bricks-requires-clause-room c =
     let hits : c.hit_count.result ≡ length (hit_voxels c.bricks-bricks.result.now) =
-    c.hit_count.ensures ∙ c.in_ok-set.ensures.hits_counted
+    c.hit_count.ensures ∙ c.in_ok-set.ensures.made.hits_counted
     ∙ ap (λ b. length (hit_voxels b)) (sym c.bricks-bricks.ensures) in
     let frees : c.free_count.result ≡ length (freed_voxels c.bricks-bricks.result.now) =
-    c.free_count.ensures ∙ c.in_ok-set.ensures.frees_counted
+    c.free_count.ensures ∙ c.in_ok-set.ensures.made.frees_counted
     ∙ ap (λ b. length (freed_voxels b)) (sym c.bricks-bricks.ensures) in
     let counts : c.hit_count.result + c.free_count.result
     ≡ (length (hit_voxels c.bricks-bricks.result.now)
@@ -333,7 +335,7 @@ returns-in_err-make_room-clause-memory c e =
     let some = lacks_need c.args.self.now c.from.result
     (subst IsMap c.self.view_is c.self.invariant) few in
     let point = need_point c.res.result c.window-window.result (sighting_of c.args.scan.now)
-    c.in_ok-set.set.need c.in_ok-set.ensures.need (omega (arith, need, some)) in (
+    c.in_ok-set.set.need c.in_ok-set.ensures.update.need (omega (arith, need, some)) in (
       accepted_in c.args.self.now (sighting_of c.args.scan.now) c.res.result _
           (c.res.ensures ∙ ap (λ (m : Map). m.tree.res) c.self.view_is)
           (ap (λ (m : Map). m.max_cells) c.self.view_is) c.in_ok-set.ensures.accepted,
@@ -347,12 +349,12 @@ returns-in_err-reserve-clause-memory c _ =
     (c.hit_count.result + c.free_count.result) c.reserve.result refl c.in_err-reserve.was
     (λ room. (c.reserve.ensures.enough room).0)) in
     let hits : c.hit_count.result ≡ length (hit_voxels c.in_ok-set.set.bricks) = c.hit_count.ensures
-    ∙ c.in_ok-set.ensures.hits_counted in
+    ∙ c.in_ok-set.ensures.made.hits_counted in
     let frees : c.free_count.result ≡ length (freed_voxels c.in_ok-set.set.bricks) =
-    c.free_count.ensures ∙ c.in_ok-set.ensures.frees_counted in
+    c.free_count.ensures ∙ c.in_ok-set.ensures.made.frees_counted in
     let point = listed_point c.res.result c.window-window.result (sighting_of c.args.scan.now)
     (hit_voxels c.in_ok-set.set.bricks) (freed_voxels c.in_ok-set.set.bricks)
-    c.in_ok-set.ensures.hits c.in_ok-set.ensures.frees (omega (arith, some, hits, frees)) in (
+    c.in_ok-set.ensures.update.hits c.in_ok-set.ensures.update.frees (omega (arith, some, hits, frees)) in (
       accepted_in c.args.self.now (sighting_of c.args.scan.now) c.res.result _
           (c.res.ensures ∙ ap (λ (m : Map). m.tree.res) c.self.view_is)
           (ap (λ (m : Map). m.max_cells) c.self.view_is) c.in_ok-set.ensures.accepted,

@@ -1,7 +1,7 @@
 use Rattle.std.proofs.Common.{◌≡◌, take, map}
 use Rattle.oct_brick.specs.Bricks.{hit_codes, freed_codes}
 use Rattle.oct_brick.specs.Voxels.{coded_voxel}
-use Rattle.oct_scan.proofs.keys.keys_of.Given as goal
+use Rattle.oct_scan.proofs.update.list_voxels.Given as goal
 
 abbrev pub invariant-loop-brick : goal.invariant-loop-brick
 invariant-loop-brick l = record {

@@ -3,7 +3,7 @@ use Rattle.std.specs.Int.{w64, trailing_zeros}
 use Rattle.oct_brick.specs.Voxels.{coded_voxel}
 use Rattle.oct_scan.proofs.CodeLists.{voxel_is}
 use Rattle.oct_scan.proofs.Settling.{key_taken, keys_done, placed_code, placed_below, place_below}
-use Rattle.oct_scan.proofs.keys.push_keys.Goals as goal
+use Rattle.oct_scan.proofs.update.push_keys.Goals as goal
 
 pub loop-left-preserved : goal.loop-left-preserved
 loop-left-preserved c =
