@@ -18,7 +18,7 @@ ghost use Rattle.oct_join.specs.Tabled.{AreAtHand, IsTabled};
 use crate::joining::{is_parted, record_bytes, root_code, side_codes};
 use oct_bt::BtFile;
 use oct_key::{Block, Key};
-use oct_merge::ClassTable;
+use oct_merge::{ClassTable, shared_across};
 
 /// The table of the voxels of the box of two corners, both included, by their classes in two files.
 /// Each record of both is read once, blocks of one class in each are counted as a whole, and those
@@ -104,7 +104,7 @@ fn count_block(
             at += read.first;
             to += read.second;
         } else {
-            add(table, place_of(left % 4, other % 4), voxels);
+            table.add(place_of(left % 4, other % 4), voxels);
         }
         left /= 4;
         other /= 4;
@@ -152,18 +152,6 @@ fn side_length(depth: u8, code: u16, text: &[u8]) -> usize
         left /= 4;
     }
     at
-}
-
-/// Counts this many voxels at a place.
-#[inline(always)]
-fn add(table: &mut ClassTable, place: usize, voxels: u64)
-    requires place { place < 9 }
-    requires room { slice_index_or table.old.counts place 0 + voxels < 2 ^ 64 }
-    ensures counted { (n : ℕ) → n < 9 → slice_index_or table.new.counts n 0
-        ≡ slice_index_or table.old.counts n 0 + (if nat_eq place n then voxels else 0) }
-    ensures long { length table.new.counts ≡ length table.old.counts }
-{
-    table.counts[place] += voxels;
 }
 
 /// The place of two classes in a table, by their codes.
@@ -220,18 +208,4 @@ fn shared_halves(low: u16, high: u16, depth: u8, n: u16) -> Halves
         low: shared_across(low, high, depth, 2 * n),
         high: shared_across(low, high, depth, 2 * n + 1),
     }
-}
-
-/// How many voxels of a block of this depth and number on an axis have these numbers there.
-#[inline(always)]
-fn shared_across(low: u16, high: u16, depth: u8, n: u16) -> u64
-    requires { depth ≤ 16 }
-    ensures exact { result ≡ shared low (high + 1) (side depth) n }
-    ensures few { result ≤ 2 ^ 16 }
-{
-    let height = 16 - depth;
-    let first = u64::from(n) << height;
-    let end = first + (1u64 << height);
-    end.min(u64::from(high) + 1)
-        .saturating_sub(first.max(u64::from(low)))
 }

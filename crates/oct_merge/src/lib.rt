@@ -31,7 +31,9 @@
 //! the box. None takes memory, and how deep they call themselves is bounded by the depth of the
 //! trees.
 //!
-//! The program stands on it, for its tasks `merge` and `table` over two files.
+//! `oct_join` stands on it for the rules, and counts in the same table: [`ClassTable::add`] counts
+//! voxels at one of its places, and [`shared_across`] tells how many a block and a box have in
+//! common on an axis.
 #![tactic(auto)]
 
 mod merging;
@@ -45,4 +47,4 @@ mod walk;
 pub use merging::merge;
 pub use need::merge_need;
 pub use rule::Rule;
-pub use table::{ClassTable, class_table};
+pub use table::{ClassTable, class_table, shared_across};

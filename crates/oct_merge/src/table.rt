@@ -52,7 +52,8 @@ struct Zone {
 
 impl ClassTable {
     /// Counts this many voxels at a place.
-    fn add(&mut self, place: usize, voxels: u64)
+    #[inline(always)]
+    pub fn add(&mut self, place: usize, voxels: u64)
         requires place { place < 9 }
         requires room { slice_index_or self.old.counts place 0 + voxels < 2 ^ 64 }
         ensures counted { (n : ℕ) → n < 9 → slice_index_or self.new.counts n 0
@@ -147,7 +148,8 @@ fn shared_with(block: Block, zone: Zone) -> u64
 }
 
 /// How many voxels of a block of this depth and number on an axis have these numbers there.
-fn shared_across(low: u16, high: u16, depth: u8, n: u16) -> u64
+#[inline(always)]
+pub fn shared_across(low: u16, high: u16, depth: u8, n: u16) -> u64
     requires { depth ≤ 16 }
     ensures exact { result ≡ shared low (high + 1) (side depth) n }
     ensures few { result ≤ 2 ^ 16 }
