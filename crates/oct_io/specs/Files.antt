@@ -1,5 +1,7 @@
 -- Files by name, and what a save leaves of them.
-use Rattle.std.specs.Prelude.{◌≡◌, ◌≢◌, ℕ, List, Option, Some, None, if◌then◌else◌}
+use Rattle.std.specs.Prelude.{◌≡◌, ◌≢◌, ◌<◌, ℕ, List, Option, Some, None, IfSome}
+use Rattle.std.specs.Prelude.{if◌then◌else◌}
+use Rattle.std.specs.List.{All}
 use Rattle.std.specs.Str.{bytes_eq}
 
 -- the bytes of each name, or none where there is no such file
@@ -9,6 +11,10 @@ Files = List ℕ → Option (List ℕ)
 -- no name has a file
 abbrev pub no_files : Files
 no_files name = None
+
+-- the files consist of bytes
+abbrev pub AreBytes : Files → Type 0
+AreBytes files = (name : List ℕ) → IfSome (files name) (All (λ byte. byte < 256))
 
 -- the files with these bytes under this name, and with every other name as it was
 abbrev pub with_file : Files → List ℕ → List ℕ → Files

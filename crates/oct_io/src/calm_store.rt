@@ -1,6 +1,9 @@
 //! Files in memory that load and save without a failure.
 ghost use Rattle.std.specs.Prelude.{◌≡◌, Some, IfOk, IsOkUnless, IsSome, OnErr, OnOk};
-ghost use Rattle.std.specs.Prelude.{option_copied};
+ghost use Rattle.std.specs.Prelude.{option_copied, ◌<◌, All};
+ghost use Rattle.std.specs.BTreeMap.{get_by_text};
+ghost use Rattle.std.proofs.Props.{props};
+ghost use Rattle.oct_io.specs.Files.{AreBytes};
 
 use crate::file_bytes::FileBytes;
 use crate::store::{LARGEST_FILE, Loaded, Store, StoreFault};
@@ -12,6 +15,7 @@ use std::collections::BTreeMap;
 pub struct CalmStore {
     alloc: Global,
     files: BTreeMap<String, FileBytes>,
+    ghost bytes: { AreBytes (λ name. get_by_text files name) } by { Prim.hlevel props },
 }
 
 impl CalmStore {
@@ -39,6 +43,15 @@ impl CalmStore {
     }
 }
 
+/// Each byte is one, which no clause says of a slice: this walk reads them, and is compiled away.
+fn each_fits(bytes: &[u8])
+    ensures { All (λ byte. byte < 256) bytes.now }
+{
+    for byte in bytes {
+        let _ = *byte;
+    }
+}
+
 impl Store for CalmStore {
     ghost use Rattle.oct_io.specs.CalmFiles.{files_of};
     ghost use Rattle.oct_io.specs.Files.{KeepsOthers, with_file};
@@ -50,6 +63,8 @@ impl Store for CalmStore {
 
     // It counts none.
     ghost calls = { λ _. 0 };
+
+    ghost tells_bytes = { λ s. s.bytes };
 
     fn load(&mut self, alloc: Global, name: &str) -> Result<Loaded, StoreFault>
         ensures same { files_of self.new ≡ files_of self.old }
@@ -77,6 +92,7 @@ impl Store for CalmStore {
         ensures err { OnErr result (files_of self.new ≡ files_of self.old) }
         ensures calm { IsOkUnless result StoreFault.Memory }
     {
+        each_fits(bytes);
         let key = String::from_str(self.alloc, name)?;
         let value = FileBytes::from_slice(self.alloc, bytes)?;
         self.files.insert(key, value)?;

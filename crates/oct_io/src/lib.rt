@@ -30,6 +30,7 @@
 //!   caller can be held to meeting the end once, and to asking for a file once. The counts of a
 //!   caller are stated as records of `specs/Counts.antt`.
 //! - A save that runs out of memory leaves all files as they were.
+//! - What a store tells of its files are bytes, each below 256 (`tells_bytes`).
 //!
 //! [`StdSource`], [`StdSink`] and [`FolderStore`] are the edge to the system: a few lines each over
 //! a reader, a writer and the files of the current folder. What the system does is told by no

@@ -52,6 +52,8 @@ impl Store for MemStore {
 
     ghost calls = { λ s. s.calls.count };
 
+    ghost tells_bytes = { λ s. s.shelf.bytes };
+
     fn load(&mut self, alloc: Global, name: &str) -> Result<Loaded, StoreFault>
         ensures fails { IsErrOf result StoreFault.Failed → fails_next self.old.calls ≡ true }
         ensures fails_so { fails_next self.old.calls ≡ true → result ≡ Err StoreFault.Failed }

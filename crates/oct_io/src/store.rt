@@ -62,7 +62,7 @@ pub enum Loaded {
 
 /// Files by name.
 pub trait Store {
-    ghost use Rattle.oct_io.specs.Files.{Files, saved, KeepsOthers};
+    ghost use Rattle.oct_io.specs.Files.{Files, AreBytes, saved, KeepsOthers};
     ghost use Rattle.oct_io.specs.Loaded.{loaded_of, IsWithinLimit};
 
     /// The bytes of each name, where the store tells them.
@@ -92,6 +92,9 @@ pub trait Store {
         ensures unsaved { IsErrOf result StoreFault.Memory → files self.new ≡ files self.old }
         ensures counts { IsAskCounted result (faults self.old) (faults self.new) }
         ensures called { calls self.new ≤ calls self.old + 1 };
+
+    /// What a store tells of its files are bytes.
+    ghost tells_bytes: { (store : Self) → IfSome (files store) AreBytes };
 }
 
 #[cfg(test)]

@@ -1,6 +1,6 @@
 use Rattle.std.proofs.Common.{◌≡◌, string_bytes}
 use Rattle.std.proofs.lemmas.Result.{IfOk-at_ok}
-use Rattle.oct_io.proofs.Filing.{files_insert}
+use Rattle.oct_io.proofs.Filing.{files_insert, bytes_insert}
 use Rattle.oct_io.proofs.calm_store.CalmStoreStore.save.Goals as goal
 
 -- the key is the name and the value is a copy of the bytes
@@ -12,3 +12,14 @@ returns-clause-saved c =
     in
     files_insert c.args.self.now.files c.insert.new.self c.in_ok-key.key _ _ named
     (rw copied at c.in_ok-insert.ensures.updates)
+
+-- and the files are of bytes
+pub invariant_of-self : goal.invariant_of-self
+invariant_of-self c =
+    let copied = IfOk-at_ok (λ copy. copy ≡ c.args.bytes.now) c.in_ok-value.was c.from_slice.ensures
+    in
+    record {
+      bytes = bytes_insert c.insert.result c.args.self.now.files c.insert.new.self c.in_ok-key.key
+          c.in_ok-value.value c.insert.ensures.updates c.insert.ensures.err c.args.self.now.bytes
+          (rw copied c.each_fits.ensures);
+    }
