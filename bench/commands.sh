@@ -51,7 +51,7 @@ measure 'blocks of a list' "$scans" "$(count list)" 1000000 220
 after_scans casts
 measure casts "$scans" "$(count casts)" 1000 2950
 after_scans ignoring
-measure 'casts that ignore unknown voxels' "$scans" "$(count ignoring)" 1000 25000
+measure 'casts that ignore unknown voxels' "$scans" "$(count ignoring)" 1000 16300
 # The bytes that the script of this kind saved.
 saved() {
     awk '/^saved/ { print $2 }' "$folder/$1.replies"

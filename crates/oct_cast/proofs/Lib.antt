@@ -1,3 +1,4 @@
 pub mod Firsts
+pub mod Floors
 pub mod Ways
 pub mod Steps

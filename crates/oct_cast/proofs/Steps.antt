@@ -52,42 +52,33 @@ none_stops ignore class k e = by_test (stops ignore class) refl
         clash : {x : Cast} → ◌≡◌ {A = Option Cast} (Some x) None → ⊥
         clash q = cc
 
--- the answer at the first voxel, by its value: that one stops it, or the others say
-pub answer_first : (ignore : Bool) (odds own : Odds) (values : Values) (k : Voxel)
-    (ks walk : List Voxel) (value : Value) (found : Option Cast) → own ≡ odds
-    → walk ≡ k ∷ ks → value ≡ values k → found ≡ stop_at ignore (class_of own value) k
-    → unwrap_or found (cast_through ignore (classes_of odds values) ks) ≡ cast_through ignore
-    (classes_of odds values) walk
-answer_first ignore odds own values k ks walk value found same given is told =
-    ap (λ (o : Option Cast). unwrap_or o (cast_through ignore (classes_of odds values) ks))
-    (told ∙ ap (λ (o : Odds). stop_at ignore (class_of o value) k) same
-    ∙ ap (λ v. stop_at ignore (class_of odds v) k) is)
-    ∙ sym (cast_first ignore (classes_of odds values) k ks)
-    ∙ ap (cast_through ignore (classes_of odds values)) (sym given)
+-- the answer at the first voxel: that one stops it, or the others say
+pub answer_first : (ignore : Bool) (classes : Classes) (k : Voxel) (ks walk : List Voxel)
+    (found : Option Cast) → walk ≡ k ∷ ks → found ≡ stop_at ignore (classes k) k
+    → unwrap_or found (cast_through ignore classes ks) ≡ cast_through ignore classes walk
+answer_first ignore classes k ks walk found given told =
+    ap (λ (o : Option Cast). unwrap_or o (cast_through ignore classes ks)) told
+    ∙ sym (cast_first ignore classes k ks) ∙ ap (cast_through ignore classes) (sym given)
 
 -- where all voxels have its value, none of the others stops it
-pub answer_alike : (ignore : Bool) (odds own : Odds) (values : Values) (k : Voxel)
-    (ks walk : List Voxel) (value : Value) (found : Option Cast) → own ≡ odds
-    → walk ≡ k ∷ ks → ((q : Voxel) → values q ≡ value)
-    → found ≡ stop_at ignore (class_of own value) k
+pub answer_alike : (ignore : Bool) (odds : Odds) (values : Values) (k : Voxel)
+    (ks walk : List Voxel) (value : Value) (found : Option Cast) → walk ≡ k ∷ ks
+    → ((q : Voxel) → values q ≡ value) → found ≡ stop_at ignore (class_of odds value) k
     → unwrap_or found Clear ≡ cast_through ignore (classes_of odds values) walk
-answer_alike ignore odds own values k ks walk value found same given alike told =
+answer_alike ignore odds values k ks walk value found given alike told =
     by_found (stop_at ignore (class_of odds value) k) refl
   where
-    here : found ≡ stop_at ignore (class_of odds value) k
-    here = told ∙ ap (λ (o : Odds). stop_at ignore (class_of o value) k) same
-
     whole : unwrap_or found (cast_through ignore (classes_of odds values) ks) ≡ cast_through ignore
         (classes_of odds values) walk
-    whole = answer_first ignore odds own values k ks walk value found same given (sym (alike k))
-        told
+    whole = answer_first ignore (classes_of odds values) k ks walk found given
+        (told ∙ ap (λ v. stop_at ignore (class_of odds v) k) (sym (alike k)))
 
     by_found : (o : Option Cast) → stop_at ignore (class_of odds value) k ≡ o
         → unwrap_or found Clear ≡ cast_through ignore (classes_of odds values) walk
     by_found (Some x) e =
-        ap (λ (p : Option Cast). unwrap_or p Clear) (here ∙ e)
+        ap (λ (p : Option Cast). unwrap_or p Clear) (told ∙ e)
         ∙ sym (ap (λ (p : Option Cast). unwrap_or p
-        (cast_through ignore (classes_of odds values) ks)) (here ∙ e)) ∙ whole
+        (cast_through ignore (classes_of odds values) ks)) (told ∙ e)) ∙ whole
     by_found None e =
         (let pass : stops ignore (class_of odds value) ≡ false = none_stops ignore
         (class_of odds value) k e in
@@ -95,11 +86,3 @@ answer_alike ignore odds own values k ks walk value found same given alike told 
         cast_clear ignore (classes_of odds values) ks
         (λ q. ap (λ v. stops ignore (class_of odds v)) (alike q) ∙ pass) in
         ap (unwrap_or found) (sym clear) ∙ whole)
-
--- what is left of a walk says what the whole of it does, where a voxel is passed
-pub left_passed : (ignore : Bool) (classes : Classes) (k : Voxel) (ks walk whole : List Voxel)
-    → walk ≡ k ∷ ks → stops ignore (classes k) ≡ false
-    → cast_through ignore classes walk ≡ cast_through ignore classes whole
-    → cast_through ignore classes ks ≡ cast_through ignore classes whole
-left_passed ignore classes k ks walk whole given passed all =
-    sym (ap (cast_through ignore classes) given ∙ cast_passed ignore classes k ks passed) ∙ all

@@ -1,7 +1,9 @@
 -- How a way is shortened and gone on with, from one voxel to the next.
 use Rattle.std.proofs.Common.{◌≡◌, ◌≢◌, ℕ, ◌+◌, ◌-◌, ◌*◌, ◌/◌, ◌%◌, ◌^◌, ◌<◌, ◌≤◌, List}
 use Rattle.std.proofs.Common.{length, set, get_or, Some, None, sym, ap, subst, ◌∙◌, arith}
-use Rattle.std.proofs.Common.{inl, inr, ◌⊎◌}
+use Rattle.std.proofs.Common.{inl, inr, ◌⊎◌, Bool, Option, refl}
+use Rattle.std.specs.Prelude.{IfNone}
+use Rattle.std.specs.Option.{unwrap_or}
 use Rattle.std.proofs.Math.Nat.{div-div-eq-div-mul}
 use Rattle.std.proofs.lemmas.Nat.{pow-add}
 use Rattle.std.proofs.lemmas.Bool.{cases_eq}
@@ -13,16 +15,23 @@ use Rattle.oct_key.proofs.Blocks.{depth_block_of}
 use Rattle.oct_key.proofs.Nested.{same_above}
 use Rattle.oct_key.proofs.Interleavings.{morton_below, morton_injective, digit_of_morton}
 use Rattle.oct_key.proofs.Interleavings.{same_prefix}
+use Rattle.oct_odds.specs.Update.{Value, class_of}
 use Rattle.oct_arena.specs.declared.node.GroupId.{GroupId}
 use Rattle.oct_arena.specs.declared.node.Node.{Node}
 use Rattle.oct_arena.specs.Entries.{Groups, IsLive, node_at}
 use Rattle.oct_arena.specs.Nodes.{link_of, value_of}
+use Rattle.oct_tree.specs.Classes.{classes_in}
 use Rattle.oct_tree.specs.Tree.{Tree, IsLinked, reach, value_at}
 use Rattle.oct_tree.proofs.Paths.{reach_zero, reach_suc, reach_home, reach_live, step_linked}
 use Rattle.oct_tree.proofs.Paths.{value_at_last}
 use Rattle.oct_tree.proofs.Over.{same_reach}
+use Rattle.oct_ray.specs.Given.{HasGiven}
+use Rattle.oct_cast.specs.declared.outcome.Cast.{Cast}
+use Rattle.oct_cast.specs.Cast.{cast_through}
 use Rattle.oct_cast.specs.declared.way.Way.{Way}
-use Rattle.oct_cast.specs.Way.{IsCodeOf, AreLinked, LeadsTo}
+use Rattle.oct_cast.specs.Way.{IsCodeOf, AreLinked, IsFloor, IsLast, LeadsTo, HasPassed, stop_at}
+use Rattle.oct_cast.proofs.Floors.{stops_alike, passed, last_asked}
+use Rattle.oct_cast.proofs.Steps.{none_stops, answer_first}
 
 -- a code is below 2^48, and of one voxel
 pub code_below : (code : ℕ) (k : Voxel) → IsCodeOf code k → code < 2 ^ 48
@@ -130,12 +139,20 @@ under_step t gs groups code depth n id i m l same u link sixteen index node = re
         u.linked d g (omega arith) ∙ ap (λ (h : GroupId). Some h.number)
         (sym (get_or-set_other groups (depth + 1) d id g other))
 
--- where the node isn't Inner, the way is whole
+-- so it is the node over each voxel of the code at the way's end
+pub under_node : (t : Tree) (groups : List GroupId) (code depth end : ℕ) (n : Node)
+    → IsUnder t groups code depth n → end ≡ depth + 1 → (k : Voxel) → IsCodeOf code k
+    → n ≡ reach t end k
+under_node t groups code depth end n u end_is k c =
+    u.node ∙ ap (reach t (depth + 1)) (one_voxel code u.voxel k u.coded c)
+    ∙ ap (λ d. reach t d k) (sym end_is)
+
+-- where the node is the last, the way is whole
 pub under_leads : (t : Tree) (way : Way) (groups : List GroupId) (code depth : ℕ) (n : Node)
-    → IsUnder t groups code depth n → link_of n ≡ None → way.groups ≡ groups
+    → IsUnder t groups code depth n → IsLast way.floor n → way.groups ≡ groups
     → way.depth ≡ depth + 1 → way.height ≡ 3 * (15 - depth)
     → way.block ≡ code / 2 ^ (3 * (15 - depth)) → (k : Voxel) → IsCodeOf code k → LeadsTo t way k
-under_leads t way groups code depth n u none groups_are depth_is height_is block_is k c =
+under_leads t way groups code depth n u last groups_are depth_is height_is block_is k c =
     let same = one_voxel code u.voxel k u.coded c in
     let low = u.low in
     let level : 3 * (16 - way.depth) ≡ 3 * (15 - depth) = omega (arith, depth_is) in
@@ -147,18 +164,9 @@ under_leads t way groups code depth n u none groups_are depth_is height_is block
       linked = λ d g below. ap (λ q. link_of (reach t d q)) (sym same)
           ∙ u.linked d g (omega (arith, depth_is, below))
           ∙ ap (λ (gs : List GroupId). Some (get_or gs d g).number) (sym groups_are);
-      ends = ap (λ e. link_of (reach t e k)) depth_is
-          ∙ ap (λ q. link_of (reach t (depth + 1) q)) (sym same) ∙ ap link_of (sym u.node) ∙ none;
+      ends = subst (IsLast way.floor)
+          (under_node t groups code depth way.depth n u depth_is k c) last;
     }
-
-pub under_value : (t : Tree) (groups : List GroupId) (code depth : ℕ) (n : Node)
-    → IsUnder t groups code depth n → link_of n ≡ None
-    → (k : Voxel) → IsCodeOf code k → value_of n ≡ value_at t k
-under_value t groups code depth n u none k c =
-    let low = u.low in
-    ap value_of u.node ∙ sym (value_at_last t u.voxel (depth + 1) (omega arith)
-    (ap link_of (sym u.node) ∙ none))
-    ∙ ap (value_at t) (one_voxel code u.voxel k u.coded c)
 
 -- the block of depth 0 holds all voxels
 pub root_shared : (d a b : ℕ) → d ≡ 0 → a < 2 ^ 48 → b < 2 ^ 48 → code_prefix d a ≡ code_prefix d b
@@ -195,17 +203,76 @@ shared_linked t way k l code depth w c above shared d g below =
     (ap (λ e. block_of e l) rest ∙ block ∙ ap (λ e. block_of e k) (sym rest)) in
     ap link_of (same_reach t d l k (omega arith) here) ∙ w.linked d g (omega arith)
 
--- a voxel in the block of the node at the end has the same value
-pub over_value : (t : Tree) (way : Way) (k l : Voxel) (code : ℕ) → LeadsTo t way k
-    → IsCodeOf code l → code / 2 ^ way.height ≡ way.block → value_at t l ≡ value_at t k
-over_value t way k l code w c shared =
-    let block : block_of way.depth l ≡ block_of way.depth k =
-    (same_prefix way.depth l k w.deep c.0 w.on_map).0
+-- in the block of the node at the end one node is over all voxels
+over_node : (t : Tree) (way : Way) (k l : Voxel) (code : ℕ) → LeadsTo t way k
+    → IsCodeOf code l → code / 2 ^ way.height ≡ way.block
+    → reach t way.depth l ≡ reach t way.depth k
+over_node t way k l code w c shared =
+    same_reach t way.depth l k w.deep ((same_prefix way.depth l k w.deep c.0 w.on_map).0
     (ap (code_prefix way.depth) (sym c.1) ∙ ap (λ e. code / 2 ^ e) (sym w.height) ∙ shared
-    ∙ w.block) in
-    let reached = same_reach t way.depth l k w.deep block in
-    value_at_last t l way.depth w.deep (ap link_of reached ∙ w.ends) ∙ ap value_of reached
-    ∙ sym (value_at_last t k way.depth w.deep w.ends)
+    ∙ w.block))
+
+-- so where one of them was passed, none stops the cast
+pub over_passed : (t : Tree) (ignore : Bool) (way : Way) (l : Voxel) (code : ℕ)
+    → HasPassed t ignore way → IsCodeOf code l → code / 2 ^ way.height ≡ way.block
+    → stop_at ignore (classes_in t l) l ≡ None
+over_passed t ignore way l code p c shared =
+    let k = p.voxel in
+    passed ignore (classes_in t l) l
+    (stops_alike t ignore way.floor way.depth k l (reach t way.depth k) p.floor p.leads.deep
+    (over_node t way k l code p.leads c shared) refl p.leads.ends ∙ p.passed)
+
+-- what a cast asks at the end of a way it asks at the voxel
+pub asked_at_end : (t : Tree) (ignore : Bool) (way : Way) (k : Voxel) (n : Node) (value : Value)
+    (found : Option Cast) → IsFloor t ignore way.floor → LeadsTo t way k
+    → n ≡ reach t way.depth k → value ≡ value_of n
+    → found ≡ stop_at ignore (class_of t.odds value) k
+    → found ≡ stop_at ignore (classes_in t k) k
+asked_at_end t ignore way k n value found f w node is told =
+    told ∙ ap (λ v. stop_at ignore (class_of t.odds v) k) is
+    ∙ last_asked t ignore way.floor way.depth k n f w.deep node
+    (subst (IsLast way.floor) (sym node) w.ends)
+
+-- where that doesn't stop it, the voxel is passed
+pub passed_at_end : (t : Tree) (ignore : Bool) (way : Way) (k : Voxel) (found : Option Cast)
+    → IsFloor t ignore way.floor → LeadsTo t way k → found ≡ stop_at ignore (classes_in t k) k
+    → IfNone found (HasPassed t ignore way)
+passed_at_end t ignore way k None f w told = record {
+  floor = f;
+  voxel = k;
+  leads = w;
+  passed = none_stops ignore (classes_in t k) k (sym told);
+}
+passed_at_end t ignore way k (Some x) f w told = tt
+
+-- What a cast finds at the first voxel of a walk, to which a way was made.
+pub record IsAsked (t : Tree) (ignore : Bool) (way : Way) (walk rest : List Voxel)
+    (found : Option Cast) : Type 0 where
+  pub stops : (x : Cast) → found ≡ Some x → x ≡ cast_through ignore (classes_in t) walk
+  pub passes : found ≡ None → HasPassed t ignore way
+  pub left : found ≡ None
+      → cast_through ignore (classes_in t) rest ≡ cast_through ignore (classes_in t) walk
+
+pub asked_first : (t : Tree) (ignore : Bool) (code : ℕ) (walk rest : List Voxel) (way : Way)
+    (n : Node) (value : Value) (found : Option Cast) → HasGiven walk rest code
+    → IsFloor t ignore way.floor → ((k : Voxel) → IsCodeOf code k → LeadsTo t way k)
+    → ((k : Voxel) → IsCodeOf code k → n ≡ reach t way.depth k) → value ≡ value_of n
+    → ((k : Voxel) → IsCodeOf code k → found ≡ stop_at ignore (class_of t.odds value) k)
+    → IsAsked t ignore way walk rest found
+asked_first t ignore code walk rest way n value found given f leads node is told =
+    let k = given.voxel in
+    let coded : IsCodeOf code k = (given.on_map, given.coded) in
+    let asked = asked_at_end t ignore way k n value found f (leads k coded) (node k coded) is
+    (told k coded) in
+    let all = answer_first ignore (classes_in t) k rest walk found given.first asked in
+    record {
+      stops = λ x e. ap (λ (o : Option Cast). unwrap_or o
+          (cast_through ignore (classes_in t) rest)) (sym e) ∙ all;
+      passes = λ e. subst (λ (o : Option Cast). IfNone o (HasPassed t ignore way)) e
+          (passed_at_end t ignore way k found f (leads k coded) asked);
+      left = λ e. ap (λ (o : Option Cast). unwrap_or o
+          (cast_through ignore (classes_in t) rest)) (sym e) ∙ all;
+    }
 
 -- where the root isn't Inner, all voxels have its value
 pub root_value : (t : Tree) (n : Node) (k : Voxel) → t.root ≡ n → link_of n ≡ None

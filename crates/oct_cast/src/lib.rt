@@ -31,6 +31,10 @@
 //! to the block that holds both voxels, and down from there; mostly that is one group. Where the
 //! whole map is one node, the first voxel decides.
 //!
+//! In a tree that is known to be fresh no voxel is above the inner value of a block that holds it.
+//! So a cast that ignores unknown voxels passes a block as a whole, too, where that value is below
+//! the threshold, and looks at no group below it.
+//!
 //! A cast changes nothing, takes no memory and can't fail. The map stands on this crate, and cites
 //! `cast_along`.
 #![tactic(auto)]

@@ -1,17 +1,17 @@
 //! The way down a tree to a voxel, kept from one voxel to the next.
 ghost use Rattle.std.specs.Prelude.{◌≡◌, ◌≢◌, ◌+◌, ◌*◌, ◌-◌, ◌/◌, ◌^◌, ◌<◌, ◌≤◌, ◌↔◌, IsTrue};
-ghost use Rattle.std.specs.Prelude.{ℕ, Some};
+ghost use Rattle.std.specs.Prelude.{ℕ, Some, IfSome, IfNone};
 ghost use Rattle.oct_key.specs.Voxel.{Voxel};
 ghost use Rattle.oct_key.specs.Morton.{code_prefix};
-ghost use Rattle.oct_arena.specs.Nodes.{link_of, value_of};
-ghost use Rattle.oct_tree.specs.Tree.{value_at};
-ghost use Rattle.oct_cast.specs.Way.{IsCodeOf, AreLinked, LeadsTo};
+ghost use Rattle.oct_arena.specs.Nodes.{link_of};
+ghost use Rattle.oct_tree.specs.Tree.{reach};
+ghost use Rattle.oct_cast.specs.Way.{IsCodeOf, AreLinked, IsLast, LeadsTo};
 
 use oct_arena::{GroupId, Node};
 use oct_tree::{Descent, OccTree};
 
-/// The way down a tree to a voxel: through the groups that the nodes over it link, to the node that
-/// isn't Inner.
+/// The way down a tree to a voxel: through the groups that the nodes over it link, to the first
+/// node that isn't Inner, or whose value is below a floor.
 #[derive(Drop)]
 pub(crate) struct Way {
     /// The groups that are linked above the way's end, by their depths.
@@ -22,22 +22,27 @@ pub(crate) struct Way {
     pub(crate) height: u8,
     /// The bits before them, which they have in common.
     pub(crate) block: u64,
+    /// The value below which an Inner node is the last one.
+    pub(crate) floor: i32,
 }
 
 impl Way {
-    /// The way from the root, which links a group, to the voxel of a code, and the node at its end.
-    pub(crate) fn new(tree: &OccTree, id: GroupId, code: u64) -> (Way, Node)
+    /// The way from the root, which links a group, to the voxel of a code, with this floor, and the
+    /// node at its end.
+    pub(crate) fn new(tree: &OccTree, id: GroupId, code: u64, floor: i32) -> (Way, Node)
         requires root { link_of tree.now.root ≡ Some id.number }
         requires code { (k : Voxel) × IsCodeOf code k }
         ensures leads { (k : Voxel) → IsCodeOf code k → LeadsTo tree.now result.0 k }
-        ensures value { (k : Voxel) → IsCodeOf code k
-            → value_of result.1 ≡ value_at tree.now k }
+        ensures node { (k : Voxel) → IsCodeOf code k
+            → result.1 ≡ reach tree.now result.0.depth k }
+        ensures floor { result.0.floor ≡ floor }
     {
         let mut way = Way {
             groups: [id; 16],
             depth: 0,
             height: 48,
             block: 0,
+            floor,
         };
         let node = way.descend(tree, code);
         (way, node)
@@ -58,7 +63,8 @@ impl Way {
         requires code { (k : Voxel) × IsCodeOf code k }
         requires leaves { code / 2 ^ self.old.height ≢ self.old.block }
         ensures leads { (k : Voxel) → IsCodeOf code k → LeadsTo tree.now self.new k }
-        ensures value { (k : Voxel) → IsCodeOf code k → value_of result ≡ value_at tree.now k }
+        ensures node { (k : Voxel) → IsCodeOf code k → result ≡ reach tree.now self.new.depth k }
+        ensures floor { self.new.floor ≡ self.old.floor }
     {
         self.ascend(code);
         self.descend(tree, code)
@@ -77,6 +83,7 @@ impl Way {
         ensures before { (before : ℕ) → self.old.block ≡ code_prefix self.old.depth before
             → self.new.block ≡ code_prefix self.new.depth before }
         ensures groups { self.new.groups ≡ self.old.groups }
+        ensures floor { self.new.floor ≡ self.old.floor }
     {
         let mut here = code >> self.height;
         'up: while here != self.block {
@@ -93,20 +100,33 @@ impl Way {
         requires linked { (k : Voxel) × IsCodeOf code k
             × AreLinked tree.now self.old.groups (self.old.depth + 1) k }
         ensures leads { (k : Voxel) → IsCodeOf code k → LeadsTo tree.now self.new k }
-        ensures value { (k : Voxel) → IsCodeOf code k → value_of result ≡ value_at tree.now k }
+        ensures node { (k : Voxel) → IsCodeOf code k → result ≡ reach tree.now self.new.depth k }
+        ensures floor { self.new.floor ≡ self.old.floor }
     {
         let arena = tree.arena();
-        let mut depth = self.depth;
-        let mut way = Descent::new(code, depth);
-        let mut node = arena.node(self.groups[depth as usize], way.step());
-        while let Node::Inner(_, id) = node {
+        let mut depth = self.depth as usize;
+        let mut way = Descent::new(code, self.depth);
+        let mut node = arena.node(self.groups[depth], way.step());
+        while let Some(id) = group_on(node, self.floor) {
             depth += 1;
-            self.groups[depth as usize] = id;
+            self.groups[depth] = id;
             node = arena.node(id, way.step());
         }
+        let depth = depth as u8;
         self.depth = depth + 1;
         self.height = 3 * (15 - depth);
         self.block = code >> self.height;
         node
+    }
+}
+
+/// The group that a way goes on to: what the node links, unless the way ends at it.
+fn group_on(node: Node, floor: i32) -> Option<GroupId>
+    ensures on { IfSome result (λ id. link_of node ≡ Some id.number) }
+    ensures ends { IfNone result (IsLast floor node) }
+{
+    match node {
+        Node::Inner(most, id) if floor <= most => Some(id),
+        _ => None,
     }
 }

@@ -16,4 +16,5 @@ up-preserved c =
       before = λ b is. ap (λ n. n / 8) (c.up.invariant.before b is)
           ∙ prefix_up c.up.self.depth b some deep;
       groups = c.up.invariant.groups;
+      floor = c.up.invariant.floor;
     }

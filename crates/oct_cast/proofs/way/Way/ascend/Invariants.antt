@@ -9,6 +9,7 @@ invariant-up l = record {
   before : (before : ℕ) → l.initial.self.block ≡ code_prefix l.initial.self.depth before
       → l.self.block ≡ code_prefix l.self.depth before;
   groups : l.self.groups ≡ l.initial.self.groups;
+  floor : l.self.floor ≡ l.initial.self.floor;
 }
 
 abbrev pub decreases-up : goal.decreases-up
