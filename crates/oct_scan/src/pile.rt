@@ -12,8 +12,8 @@ use std::marker::Model;
 /// How many places a table has at first.
 const LEAST: usize = 1 << 10;
 
-/// How many it has at most: so many stay in the processor's nearer memory.
-const MOST: usize = 1 << 15;
+/// How many it has at most: a megabyte, with which bricks of a dense scan are seldom forgotten.
+const MOST: usize = 1 << 18;
 
 /// The bricks of the beams so far. A brick is joined with one of its code that is remembered, so
 /// that mostly there is one for each code.
