@@ -5,8 +5,8 @@
 
 set -eu
 
-most_instructions=105000000
-most_kilobytes=24576
+most_instructions=102000000
+most_kilobytes=18432
 most_growth=4
 
 here=$(CDPATH='' cd -- "$(dirname -- "$0")" && pwd)
