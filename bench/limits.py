@@ -119,7 +119,7 @@ def main():
         failed |= measure("a line of a gigabyte", session, 3, room / "line", 1)
         (room / "line").unlink()
         write_scan(room / "scan", 1_000_000, 1 << 26)
-        failed |= measure("a scan of a million points", session, 600, room / "scan")
+        failed |= measure("a scan of a million points", session, 70, room / "scan")
         failed |= measure("a list of a million blocks", session, 60,
                           f"{box(0)}list 0 0 0 9.9 9.9 9.9 16\n".encode())
         failed |= measure("a million changes", session, 50, f"track\n{box(0)}changes\n".encode())
