@@ -32,6 +32,7 @@ use Rattle.oct_ending.specs.declared.stop.Stop.{Stop}
 use Rattle.oct_ending.specs.declared.stop.Stop.TheVariants.{TooLong, ReadFault, WriteFault}
 use Rattle.oct_ending.specs.declared.stop.Stop.TheVariants.{Memory, StoreFault}
 use Rattle.oct_session.specs.declared.session.Session.{Session}
+use Rattle.oct_session.specs.Tally.{capped}
 use Rattle.oct_session.specs.declared.tally.Tally.{Tally}
 use Rattle.oct_session.proofs.Endings.{IsFirst, IsNew, serving_start, known_told}
 use Rattle.oct_session.proofs.Loading.{same_file}
@@ -57,7 +58,7 @@ known o told script = known_told o (Some told) script (inl refl)
 
 -- the session has done the script
 pub record HasDrilled (seed scans points : ℕ) (m : Map) (t : Session) : Type 0 where
-  pub tally : t.tally ≡ (drilled seed scans points).tally
+  pub tally : t.tally ≡ capped (drilled seed scans points).tally
   pub stands : StandsFor m (drilled_state seed scans points)
 
 through_drilled : (o : Setup) (told : Files) (seed scans points : ℕ) (after : Option (List ℕ))

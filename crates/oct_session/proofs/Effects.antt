@@ -34,7 +34,8 @@ use Rattle.oct_session.specs.Session.{Progress, Effect, effect, effect_of_comman
 use Rattle.oct_session.specs.Session.{effect_inside, effect_of, next_command, replied, silent}
 use Rattle.oct_session.specs.Session.{after_line}
 use Rattle.oct_session.specs.Setup.{Setup}
-use Rattle.oct_session.specs.Tally.{counted as count_reply}
+use Rattle.oct_session.specs.Tally.{capped, counted as count_reply}
+use Rattle.oct_session.specs.declared.tally.Tally.{Tally}
 use Rattle.oct_session.specs.Standing.{with_reply, KeepsStanding, HasAnswered, HasDone, HasObeyed}
 use Rattle.oct_session.specs.Standing.{HasScanned, HasWorked, FindsTold, TakesEffect, HasEffect}
 use Rattle.oct_session.specs.Standing.{HasFailed, IsHeard, StandsBeside, HasStoppedAt, IsInStep}
@@ -505,7 +506,8 @@ pub between_line : (o : Setup) (d e : Desk) (s t : Session) (p : Progress)
     → IsWorked s c d.map e.map d.store.files e.store.files block (Ok a) →
     Asks d e (asks_for (file_named c)) →
     t.line_count ≡ s.line_count + 1 → t.block ≡ block → t.refused ≡ (s.refused || is_refusal a)
-    → t.has_quit ≡ is_quit c → t.tally ≡ count_reply s.tally a →
+    → t.has_quit ≡ is_quit c
+    → ((u : Tally) → s.tally ≡ capped u → t.tally ≡ capped (count_reply u a)) →
     IsKnown (after_line o p s.line.line) → IsBetween o d s p
     → IsBetween o e t (after_line o p s.line.line)
 between_line o d e s t p c block a w asks counted is refused quit tally known at =
@@ -527,9 +529,10 @@ between_line o d e s t p c block a w asks counted is refused quit tally known at
             ∙ ap (λ (x : Progress). x.refused) (sym after);
         has_quit = quit ∙ ap is_quit (same_command s p c at.step w.read)
             ∙ ap (λ (x : Progress). x.has_quit) (sym after);
-        tally = tally ∙ ap (λ x. count_reply x a) at.step.tally
-            ∙ ap (count_reply p.tally) (told_line o d e.map e.store.files s p c block a w known at)
-            ∙ ap (λ (x : Progress). x.tally) (sym after);
+        tally = tally p.tally at.step.tally
+            ∙ ap (λ x. capped (count_reply p.tally x))
+            (told_line o d e.map e.store.files s p c block a w known at)
+            ∙ ap (λ (x : Progress). capped x.tally) (sym after);
       };
     }
 

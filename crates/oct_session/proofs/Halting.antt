@@ -27,7 +27,8 @@ use Rattle.oct_session.specs.Session.{Progress, effect_of, next_command, after_l
 use Rattle.oct_session.specs.Session.{ended, closed}
 use Rattle.oct_session.specs.ScanBlock.{end_reply}
 use Rattle.oct_session.specs.Setup.{Setup}
-use Rattle.oct_session.specs.Tally.{counted as count_reply}
+use Rattle.oct_session.specs.Tally.{capped, counted as count_reply}
+use Rattle.oct_session.specs.declared.tally.Tally.{Tally}
 use Rattle.oct_session.specs.Standing.{IsHeard, StandsBeside, HasStoppedAt, IsInStep}
 use Rattle.oct_session.specs.Standing.{HasReached, IsShort, IsCutBy}
 use Rattle.oct_ending.specs.Stops.{stop_of_sink, stop_of_store, status_of}
@@ -167,7 +168,8 @@ pub told_end : (w v u : Option (List ℕ)) (s t : Session) (p : Progress) (r : O
     → r ≡ end_reply s.block →
     text ≡ text_of r → u ≡ appended v text → t.line_count ≡ s.line_count → t.block ≡ None
     → t.refused ≡ (s.refused || is_refusal r) → t.has_quit ≡ s.has_quit →
-    t.tally ≡ count_reply s.tally r → IsInStep t (closed p) × (u ≡ appended w (closed p).text)
+    ((x : Tally) → s.tally ≡ capped x → t.tally ≡ capped (count_reply x r))
+    → IsInStep t (closed p) × (u ≡ appended w (closed p).text)
 told_end w v u s t p r text running at before is told written answered block refused quit tally =
     let same : r ≡ end_reply p.block = is ∙ ap end_reply at.block in
     subst (λ (x : Progress). IsInStep t x × (u ≡ appended w x.text))
@@ -178,7 +180,7 @@ told_end w v u s t p r text running at before is told written answered block ref
         refused = refused ∙ ap (λ b. b || is_refusal r) at.refused
             ∙ ap (λ x. p.refused || is_refusal x) same;
         has_quit = quit ∙ at.has_quit;
-        tally = tally ∙ ap (λ x. count_reply x r) at.tally ∙ ap (count_reply p.tally) same;
+        tally = tally p.tally at.tally ∙ ap (λ x. capped (count_reply p.tally x)) same;
       },
       written ∙ ap (λ x. appended x text) before ∙ appended_twice w p.text text
           ∙ ap (λ x. appended w (p.text ++ x)) (told ∙ ap text_of same),

@@ -10,8 +10,7 @@ use Rattle.oct_session.specs.Setup.{Setup}
 use Rattle.oct_ending.specs.Answer.{IsAnswered, answer_of}
 use Rattle.oct_ending.specs.declared.status.Status.{Status}
 use Rattle.oct_ending.specs.declared.status.Status.TheVariants.{Done, Refused, Usage, BadFile}
-use Rattle.oct_ending.specs.declared.status.Status.TheVariants.{TooLong, ReadFault, WriteFault}
-use Rattle.oct_ending.specs.declared.status.Status.TheVariants.{Memory, StoreFault}
+use Rattle.oct_ending.specs.declared.status.Status.TheVariants.{TooLong, ReadFault}
 
 -- the replies to the lines that end within these bytes
 abbrev pub replies_within : Setup → Option Files → List ℕ → List ℕ

@@ -15,6 +15,7 @@ use Rattle.oct_script.specs.Lines.{Line, ended_lines, IsReading}
 use Rattle.oct_ending.specs.declared.status.Status.{Status}
 use Rattle.oct_ending.specs.declared.stop.Stop.{Stop}
 use Rattle.oct_ending.specs.declared.stop.Stop.TheVariants.{TooLong, ReadFault}
+use Rattle.oct_session.specs.Tally.{capped}
 use Rattle.oct_session.specs.declared.session.Session.{Session}
 use Rattle.oct_io.specs.Taken.{HasTaken, IsGathered}
 use Rattle.oct_session.specs.Ending.{HasReplied, IsReadToEnd, MayEnd}
@@ -133,7 +134,7 @@ pub record IsInStep (session : Session) (p : Progress) : Type 0 where
   pub block : session.block ≡ p.block
   pub refused : session.refused ≡ p.refused
   pub has_quit : session.has_quit ≡ p.has_quit
-  pub tally : session.tally ≡ p.tally
+  pub tally : session.tally ≡ capped p.tally
 
 -- desk and session stand there
 pub record IsBetween (o : Setup) (d : Desk) (session : Session) (p : Progress) : Type 0 where

@@ -1,12 +1,8 @@
 -- What the replies of a session come to.
-use Rattle.std.specs.Prelude.{ℕ, ◌+◌, ◌-◌, ◌^◌, min, Option, Some}
+use Rattle.std.specs.Prelude.{◌+◌, ◌-◌, ◌^◌, min, Option, Some}
 use Rattle.oct_script.specs.declared.reply.Reply.{Reply}
 use Rattle.oct_script.specs.declared.reply.Reply.TheVariants.{Scanned, Refused}
 use Rattle.oct_session.specs.declared.tally.Tally.{Tally}
-
--- a sum, which stays at 2^64 - 1 where it would be more
-abbrev pub capped_sum : ℕ → ℕ → ℕ
-capped_sum a b = min (a + b) (2 ^ 64 - 1)
 
 -- before the first reply
 abbrev pub no_replies : Tally
@@ -16,10 +12,18 @@ no_replies = record { refused = 0; hits = 0; frees = 0 }
 -- that were done are summed up
 abbrev pub counted : Tally → Option Reply → Tally
 counted t (Some (Refused refusal)) =
-    record { refused = capped_sum t.refused 1; hits = t.hits; frees = t.frees }
+    record { refused = t.refused + 1; hits = t.hits; frees = t.frees }
 counted t (Some (Scanned done)) = record {
   refused = t.refused;
-  hits = capped_sum t.hits done.hits;
-  frees = capped_sum t.frees done.frees;
+  hits = t.hits + done.hits;
+  frees = t.frees + done.frees;
 }
 counted t _ = t
+
+-- working word: the numbers as a session keeps them, each at most 2^64 - 1
+abbrev pub capped : Tally → Tally
+capped t = record {
+  refused = min t.refused (2 ^ 64 - 1);
+  hits = min t.hits (2 ^ 64 - 1);
+  frees = min t.frees (2 ^ 64 - 1);
+}

@@ -1,6 +1,7 @@
 //! What the replies of a session come to.
 ghost use Rattle.std.specs.Prelude.{◌≡◌};
-ghost use Rattle.oct_session.specs.Tally.{counted, no_replies};
+ghost use Rattle.oct_session.specs.Tally.{capped, counted, no_replies};
+ghost use Rattle.oct_session.specs.declared.tally.Tally.{Tally as Sums};
 
 use oct_script::Reply;
 
@@ -29,7 +30,7 @@ impl Tally {
 
     /// Counts one reply more, if there is one.
     pub fn count(&mut self, reply: &Option<Reply>)
-        ensures { self.new ≡ counted self.old reply.now }
+        ensures { (t : Sums) → self.old ≡ capped t → self.new ≡ capped (counted t reply.now) }
     {
         match reply {
             Some(Reply::Refused(_)) => self.refused = self.refused.saturating_add(1),

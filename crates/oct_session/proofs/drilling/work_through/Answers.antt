@@ -1,10 +1,11 @@
-use Rattle.std.proofs.Common.{Some, Err, ap}
+use Rattle.std.proofs.Common.{Some, Err, ap, ◌∙◌}
 use Rattle.oct_io.specs.CalmFiles.{files_of}
 use Rattle.oct_session.specs.Leaving.{desk}
 use Rattle.oct_ending.specs.Shelf.{shelf}
 use Rattle.oct_session.proofs.Built.{zero_stays}
 use Rattle.oct_session.proofs.Drilled.{work_done, only_memory, passed_stop}
 use Rattle.oct_session.proofs.Endings.{begins, first}
+use Rattle.oct_session.proofs.FewCounted.{drill_low}
 use Rattle.oct_session.proofs.drilling.work_through.Goals as goal
 
 pub returns-in_err-read_all-clause-memory : goal.returns-in_err-read_all-clause-memory
@@ -40,6 +41,8 @@ returns-clause-tally c =
     (begins c.requires.unknown c.new-session.ensures.line c.new-session.ensures.counted
     c.new-session.ensures.block c.new-session.ensures.refused c.new-session.ensures.running
     c.new-session.ensures.tally) c.in_ok-read_all.ensures.done).tally
+    ∙ drill_low c.args.seed c.args.scans c.args.points c.ranges.seed.fits c.requires.few_scans
+    c.requires.few_points
 
 pub returns-clause-stands : goal.returns-clause-stands
 returns-clause-stands c =
