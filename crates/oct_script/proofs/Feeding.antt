@@ -1,12 +1,13 @@
 -- The line that is being read, with a piece of its script after it.
 use Rattle.std.proofs.Common.{◌≡◌, ℕ, ◌+◌, ◌-◌, ◌<◌, List, [], ◌∷◌, ◌++◌, length, take, drop, false}
-use Rattle.std.proofs.Common.{refl, sym, ap, ◌∙◌, arith, length-drop}
+use Rattle.std.proofs.Common.{◌≤◌, Bool, cond, subst, refl, sym, ap, ◌∙◌, arith, length-drop, length-take}
 use Rattle.std.proofs.lemmas.List.{take_all}
 use Rattle.std.proofs.lemmas.List.Sums.{prefix_len-le-length}
 use Rattle.std.specs.List.{prefix_len}
 use Rattle.oct_script.specs.Lines.{Line, LineSoFar, is_in_line, line_of, joined, ended, ended_lines}
-use Rattle.oct_script.specs.Lines.{rest_of, IsReading, HasJoined, HasEnded}
-use Rattle.oct_script.proofs.Cuts.{joined_piece, ended_piece, joined_line}
+use Rattle.oct_script.specs.Lines.{rest_of, IsReading, HasJoined, HasEnded, Text, Long}
+use Rattle.oct_script.specs.Lines.{trimmed, unread, whole}
+use Rattle.oct_script.proofs.Cuts.{joined_piece, ended_piece, joined_line, line_short}
 
 -- a piece in which no line ends
 pub piece_joins : (old new : LineSoFar) (piece front rest bytes : List ℕ) (count : ℕ) →
@@ -57,3 +58,25 @@ piece_ends old new whole piece front rest bytes count counted first behind some 
           ∙ ap (λ x. ended_lines bytes ++ x ∷ []) is;
       rest = ap (λ k. rest_of (bytes ++ take k piece)) size ∙ cut.1;
     }
+
+-- a line that stands whole in a piece
+pub piece_whole : (old : LineSoFar) (piece front text bytes : List ℕ) (count taken : ℕ) →
+    count ≡ prefix_len is_in_line piece → front ≡ take count piece → count < length piece
+    → count ≤ 4096 → text ≡ trimmed front → taken ≡ count + 1 → old ≡ unread → IsReading old bytes
+    → HasEnded (whole text) bytes (bytes ++ take taken piece)
+piece_whole old piece front text bytes count taken counted first more few is behind none at =
+    let left : length (drop count piece) ≡ length piece - count = length-drop count piece in
+    let short : length front ≤ 4096 = omega (arith, ap length first, length-take count piece) in
+    let line : whole text ≡ whole (trimmed front) = ap whole is in
+    subst (λ k. HasEnded (whole text) bytes (bytes ++ take k piece)) (sym behind)
+    (piece_ends old (whole text) (line_of front) piece front (drop count piece) bytes count counted
+    first refl (omega (arith, left, more))
+    (ap (λ (l : LineSoFar). joined l.line front) (sym none)) (ap (λ x. Text x) is
+    ∙ ap ended (sym (line_short front short))) at)
+
+-- a line of which nothing has come
+pub fresh_line : (overran has_ended : Bool) (kept : List ℕ) → overran ≡ false → length kept ≡ 0
+    → has_ended ≡ false →
+    record { line = cond overran Long (Text kept); has_ended = has_ended } ≡ unread
+fresh_line overran has_ended [] short none unended = rw (short, unended) refl
+fresh_line overran has_ended (b ∷ kept) short none unended = cc

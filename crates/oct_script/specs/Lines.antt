@@ -91,6 +91,10 @@ pub record LineSoFar : Type 0 where
 abbrev pub unread : LineSoFar
 unread = record { line = Text []; has_ended = false }
 
+-- a line of this text that has ended
+abbrev pub whole : List ℕ → LineSoFar
+whole text = record { line = Text text; has_ended = true }
+
 -- after these bytes, the line that is being read is the one after the last line feed
 pub record IsReading (reading : LineSoFar) (bytes : List ℕ) : Type 0 where
   pub line : reading.line ≡ line_of (rest_of bytes)

@@ -1,9 +1,10 @@
 //! Scripts: their lines, the commands that the lines ask for, and the texts of the replies.
 //!
 //! A script is bytes. [`Lines`] takes them in pieces, as they come, and holds the line that is
-//! being read; [`parse`] reads a line as a [`Command`], and [`parse_into`] puts it in a place;
-//! [`push_reply`] appends the text of a [`Reply`]. What a command does isn't known here, nor
-//! whether a scan is open: the caller says so.
+//! being read; a line that stands whole in a piece is found there ([`Lines::whole`]). [`parse`]
+//! reads a line as a [`Command`], and [`parse_into`] puts it in a place; [`push_reply`] appends the
+//! text of a [`Reply`]. What a command does isn't known here, nor whether a scan is open: the
+//! caller says so.
 //!
 //! ```text
 //! let command = parse(b"get 0.05 0 0 16", false)?;  // Command::Get { p, depth: 16 }
@@ -15,8 +16,9 @@
 //!
 //! - However a script is cut into pieces, [`Lines::feed`] ends exactly the lines that `ended_lines`
 //!   of `specs/Lines.antt` has, one after another, with one carriage return dropped before each
-//!   line feed. A line of more than 4,096 bytes is long, and of it nothing more is kept or known.
-//!   What remains at the end is the last line, where it has any byte.
+//!   line feed. So does [`Lines::whole`] with the lines that it finds. A line of more than 4,096
+//!   bytes is long, and of it nothing more is kept or known. What remains at the end is the last
+//!   line, where it has any byte.
 //! - [`parse`] answers what the grammar says, to the column: `grammar` in `specs/Grammar.antt` is a
 //!   table of forms, word by word, and `command_of` in `specs/Commands.antt` goes through a line's
 //!   words with the forms that may still stand. The first word that none of them takes is the
@@ -49,7 +51,7 @@ mod verbs;
 mod words;
 
 pub use command::{Command, Edit, ScanHead, ScanOdds, Syntax};
-pub use lines::{Fed, LONGEST_LINE, Lines};
+pub use lines::{Fed, LONGEST_LINE, Lines, ReadLine, WholeLine};
 pub use name::Name;
 pub use numbers::number_of;
 pub use parser::{opens_scan, parse, parse_into};

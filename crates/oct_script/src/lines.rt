@@ -1,9 +1,10 @@
 //! The line that is being read.
 ghost use Rattle.std.specs.Prelude.{◌≡◌, ◌+◌, ◌≤◌, List, ℕ, ◌++◌, [], ◌∷◌, length, take, nat_lt};
-ghost use Rattle.std.specs.Prelude.{not, ◌&&◌, if◌then◌else◌, true, false};
+ghost use Rattle.std.specs.Prelude.{not, ◌&&◌, if◌then◌else◌, true, false, nat_le, is_some, IfSome};
 ghost use Rattle.std.specs.List.{prefix_len};
 ghost use Rattle.oct_script.specs.Lines.{LineSoFar, Text, unread, is_long, ended, joined};
 ghost use Rattle.oct_script.specs.Lines.{is_in_line, has_bytes, last_line, rest_of, IsReading};
+ghost use Rattle.oct_script.specs.Lines.{trimmed, whole};
 ghost use Rattle.oct_script.specs.Lines.{HasJoined, HasEnded};
 
 use arrayvec::ArrayVec;
@@ -35,6 +36,64 @@ impl Model for Lines {
     } };
 }
 
+/// A line that was read: its text without its end, or nothing but that it is long.
+#[derive(Debug, Drop)]
+pub struct ReadLine<'a> {
+    /// Of a long line any text.
+    text: &'a [u8],
+    is_long: bool,
+}
+
+impl<'a> Model for ReadLine<'a> {
+    ghost use Rattle.std.specs.Prelude.{if◌then◌else◌, length, ◌≤◌};
+    ghost use Rattle.oct_script.specs.Lines.{Line, Text, Long};
+
+    ghost Value = { Line };
+
+    ghost view = { λ l. if l.is_long then Long else Text l.text.now };
+
+    ghost invariant = { λ l. length l.text.now ≤ 4096 };
+}
+
+impl<'a> ReadLine<'a> {
+    /// The line of this text, which mustn't be long.
+    pub fn new(text: &'a [u8]) -> Self
+        requires { length text.now ≤ LONGEST_LINE }
+        ensures { result ≡ Text text.now }
+    {
+        ReadLine {
+            text,
+            is_long: false,
+        }
+    }
+
+    /// The text of the line, which mustn't be long.
+    pub fn text(&self) -> &'a [u8]
+        requires { is_long self.now ≡ false }
+        ensures text { self.now ≡ Text result.now }
+        ensures few { length result.now ≤ LONGEST_LINE }
+    {
+        self.text
+    }
+
+    /// Whether the line is long: more than 4,096 bytes before its line feed, or in all where none
+    /// has come.
+    pub fn is_long(&self) -> bool
+        ensures { result ≡ is_long self.now }
+    {
+        self.is_long
+    }
+}
+
+/// A line that stands in a piece from its first byte to its end.
+#[derive(Clone, Copy, Debug)]
+pub struct WholeLine<'a> {
+    /// Its text, without its end.
+    pub text: &'a [u8],
+    /// How many bytes it has with its end.
+    pub taken: usize,
+}
+
 /// What was taken of a piece.
 #[derive(Clone, Copy, Debug, PartialEq, Eq)]
 pub struct Fed {
@@ -50,6 +109,17 @@ fn count_in_line(piece: &[u8]) -> usize
     ensures within { result ≤ length piece.now }
 {
     memchr(b'\n', piece).unwrap_or(piece.len())
+}
+
+/// A text without the carriage return at its end, if there is one.
+#[inline(always)]
+fn trimmed(text: &[u8]) -> &[u8]
+    ensures { result.now ≡ trimmed text.now }
+{
+    match text {
+        [front @ .., b'\r'] => front,
+        _ => text,
+    }
 }
 
 impl Lines {
@@ -99,6 +169,45 @@ impl Lines {
         Fed {
             taken: count + 1,
             ended: true,
+        }
+    }
+
+    /// The line that stands whole in a piece, which needn't be fed: nothing of it came before, it
+    /// ends in the piece, and it isn't long.
+    #[inline(always)]
+    pub fn whole<'a>(&self, piece: &'a [u8]) -> Option<WholeLine<'a>>
+        requires { self.now.has_ended ≡ false }
+        ensures some { let count = prefix_len is_in_line piece.now in is_some result
+            ≡ (not (has_bytes self.now.line) && nat_lt count (length piece.now)
+            && nat_le count LONGEST_LINE) }
+        ensures taken { IfSome result (λ w. w.taken ≡ prefix_len is_in_line piece.now + 1) }
+        ensures within { IfSome result (λ w. w.taken ≤ length piece.now) }
+        ensures few { IfSome result (λ w. length w.text.now ≤ LONGEST_LINE) }
+        ensures unread { IfSome result (λ w. self.now ≡ unread) }
+        ensures ends { IfSome result (λ w. (bytes : List ℕ) → IsReading self.now bytes
+            → HasEnded (whole w.text.now) bytes (bytes ++ take w.taken piece.now)) }
+    {
+        if self.overran || !self.bytes.is_empty() {
+            return None;
+        }
+        let count = count_in_line(piece);
+        if count > LONGEST_LINE || count == piece.len() {
+            return None;
+        }
+        let (front, _) = piece.split_at(count);
+        Some(WholeLine {
+            text: trimmed(front),
+            taken: count + 1,
+        })
+    }
+
+    /// The line that was fed.
+    pub fn read(&self) -> ReadLine<'_>
+        ensures { result ≡ self.now.line }
+    {
+        ReadLine {
+            text: self.bytes.as_slice(),
+            is_long: self.overran,
         }
     }
 

@@ -401,70 +401,77 @@ effect_before r m n f g number line c None opens new none is took =
     subst (λ x. HasEffect (λ files s. effect_opened files s c x) c m f n g new r) is took
 
 -- the command that was read is that of the next line
-pub same_command : (s : Session) (p : Progress) (c : Result Command Refusal) → IsInStep s p
-    → c ≡ command_on (is_some s.block) (s.line_count + 1) s.line.line
-    → c ≡ next_command p s.line.line
-same_command s p c at read =
-    read ∙ ap (λ n. command_on (is_some s.block) (n + 1) s.line.line) at.counted
-    ∙ ap (λ (b : Option Block). command_on (is_some b) (p.line_count + 1) s.line.line) at.block
+pub same_command : (s : Session) (line : Line) (p : Progress) (c : Result Command Refusal)
+    → IsInStep s p
+    → c ≡ command_on (is_some s.block) (s.line_count + 1) line
+    → c ≡ next_command p line
+same_command s line p c at read =
+    read ∙ ap (λ n. command_on (is_some s.block) (n + 1) line) at.counted
+    ∙ ap (λ (b : Option Block). command_on (is_some b) (p.line_count + 1) line) at.block
 
 -- and its effect that of the next line
-same_effect : (o : Setup) (s : Session) (p : Progress) (c : Result Command Refusal) → IsInStep s p
-    → c ≡ command_on (is_some s.block) (s.line_count + 1) s.line.line →
-    effect p.files (state_after o p.history) (s.line_count + 1) s.line.line c s.block
-    ≡ effect_of o p s.line.line
-same_effect o s p c at read =
-    ap (λ x. effect p.files (state_after o p.history) (s.line_count + 1) s.line.line x s.block)
-    (same_command s p c at read)
-    ∙ ap (λ n. effect p.files (state_after o p.history) (n + 1) s.line.line
-    (next_command p s.line.line) s.block) at.counted
-    ∙ ap (effect p.files (state_after o p.history) (p.line_count + 1) s.line.line
-    (next_command p s.line.line)) at.block
+same_effect : (o : Setup) (s : Session) (line : Line) (p : Progress) (c : Result Command Refusal)
+    → IsInStep s p
+    → c ≡ command_on (is_some s.block) (s.line_count + 1) line →
+    effect p.files (state_after o p.history) (s.line_count + 1) line c s.block
+    ≡ effect_of o p line
+same_effect o s line p c at read =
+    ap (λ x. effect p.files (state_after o p.history) (s.line_count + 1) line x s.block)
+    (same_command s line p c at read)
+    ∙ ap (λ n. effect p.files (state_after o p.history) (n + 1) line
+    (next_command p line) s.block) at.counted
+    ∙ ap (effect p.files (state_after o p.history) (p.line_count + 1) line
+    (next_command p line)) at.block
 
 -- what was read of a line, and what it did
-pub record IsWorked (s : Session) (c : Result Command Refusal) (m n : Map) (f g : Option Files)
+pub record IsWorked (s : Session) (line : Line) (c : Result Command Refusal) (m n : Map)
+    (f g : Option Files)
     (block : Option Block) (r : Result (Option Reply) StoreFault) : Type 0 where
   pub running : s.has_quit ≡ false
-  pub read : c ≡ command_on (is_some s.block) (s.line_count + 1) s.line.line
-  pub took : HasEffect (λ files q. effect files q (s.line_count + 1) s.line.line c s.block) c m f n
+  pub read : c ≡ command_on (is_some s.block) (s.line_count + 1) line
+  pub took : HasEffect (λ files q. effect files q (s.line_count + 1) line c s.block) c m f n
       g block r
 
 -- the file that the line names is told, if it names one
-finds_line : (o : Setup) (s : Session) (p : Progress) (c : Result Command Refusal)
+finds_line : (o : Setup) (s : Session) (line : Line) (p : Progress) (c : Result Command Refusal)
     → s.has_quit ≡ false → IsInStep s p
-    → c ≡ command_on (is_some s.block) (s.line_count + 1) s.line.line →
-    IsKnown (after_line o p s.line.line) → FindsTold (file_named c) p.files
-finds_line o s p c running at read known =
-    subst (λ x. FindsTold (file_named x) p.files) (sym (same_command s p c at read))
-    (line_finds_told o p s.line.line (sym at.has_quit ∙ running) known)
+    → c ≡ command_on (is_some s.block) (s.line_count + 1) line →
+    IsKnown (after_line o p line) → FindsTold (file_named c) p.files
+finds_line o s line p c running at read known =
+    subst (λ x. FindsTold (file_named x) p.files) (sym (same_command s line p c at read))
+    (line_finds_told o p line (sym at.has_quit ∙ running) known)
 
 -- the reply to the next line
-pub told_line : (o : Setup) (d : Desk) (n : Map) (g : Option Files) (s : Session) (p : Progress)
+pub told_line : (o : Setup) (d : Desk) (n : Map) (g : Option Files) (s : Session) (line : Line)
+    (p : Progress)
     (c : Result Command Refusal) (block : Option Block) (a : Option Reply)
-    → IsWorked s c d.map n d.store.files g block (Ok a) →
-    IsKnown (after_line o p s.line.line) → IsBetween o d s p → a ≡ (effect_of o p s.line.line).reply
-told_line o d n g s p c block a w known at =
-    (w.took p.files (state_after o p.history) (finds_line o s p c w.running at.step w.read known)
-    at.like).0 ∙ ap (λ (x : Effect). x.reply) (same_effect o s p c at.step w.read)
+    → IsWorked s line c d.map n d.store.files g block (Ok a) →
+    IsKnown (after_line o p line) → IsBetween o d s p → a ≡ (effect_of o p line).reply
+told_line o d n g s line p c block a w known at =
+    (w.took p.files (state_after o p.history)
+    (finds_line o s line p c w.running at.step w.read known)
+    at.like).0 ∙ ap (λ (x : Effect). x.reply) (same_effect o s line p c at.step w.read)
 
 -- the desk after the next line
-pub like_line : (o : Setup) (d e : Desk) (s : Session) (p : Progress) (c : Result Command Refusal)
+pub like_line : (o : Setup) (d e : Desk) (s : Session) (line : Line) (p : Progress)
+    (c : Result Command Refusal)
     (block : Option Block) (a : Option Reply)
-    → IsWorked s c d.map e.map d.store.files e.store.files block (Ok a) →
-    IsKnown (after_line o p s.line.line) → IsBetween o d s p
-    → IsLikeAfter o (after_line o p s.line.line) e
-like_line o d e s p c block a w known at =
-    let after : IsLike (stored p.files (effect_of o p s.line.line).saving)
-    (after_all (state_after o p.history) (effect_of o p s.line.line).added) e.map e.store.files =
+    → IsWorked s line c d.map e.map d.store.files e.store.files block (Ok a) →
+    IsKnown (after_line o p line) → IsBetween o d s p
+    → IsLikeAfter o (after_line o p line) e
+like_line o d e s line p c block a w known at =
+    let after : IsLike (stored p.files (effect_of o p line).saving)
+    (after_all (state_after o p.history) (effect_of o p line).added) e.map e.store.files =
     subst (λ (x : Effect). IsLike (stored p.files x.saving)
     (after_all (state_after o p.history) x.added) e.map e.store.files)
-    (same_effect o s p c at.step w.read)
-    (w.took p.files (state_after o p.history) (finds_line o s p c w.running at.step w.read known)
+    (same_effect o s line p c at.step w.read)
+    (w.took p.files (state_after o p.history)
+    (finds_line o s line p c w.running at.step w.read known)
     at.like).2 in
     subst (λ (x : Progress). IsLikeAfter o x e)
-    (sym (after_answered o p s.line.line (sym at.step.has_quit ∙ w.running)))
-    (subst (λ q. IsLike (stored p.files (effect_of o p s.line.line).saving) q e.map e.store.files)
-    (sym (state_more o p.history (effect_of o p s.line.line).added)) after)
+    (sym (after_answered o p line (sym at.step.has_quit ∙ w.running)))
+    (subst (λ q. IsLike (stored p.files (effect_of o p line).saving) q e.map e.store.files)
+    (sym (state_more o p.history (effect_of o p line).added)) after)
 
 -- how often the store was asked after a call, by how often it was before
 pub asked_more : {F : Type 0} (files : F → Option Files) (calls : F → ℕ) (home old new : F)
@@ -492,46 +499,47 @@ abbrev pub Asks : Desk → Desk → ℕ → Type 0
 Asks d e more = (k : ℕ) → HasAsked d k → HasAsked e (k + more)
 
 -- the store is asked once at most for each line that named a file
-asked_line : (o : Setup) (d e : Desk) (s : Session) (p : Progress) (c : Result Command Refusal)
-    → s.has_quit ≡ false → c ≡ command_on (is_some s.block) (s.line_count + 1) s.line.line →
+asked_line : (o : Setup) (d e : Desk) (s : Session) (line : Line) (p : Progress)
+    (c : Result Command Refusal)
+    → s.has_quit ≡ false → c ≡ command_on (is_some s.block) (s.line_count + 1) line →
     Asks d e (asks_for (file_named c)) → IsBetween o d s p
-    → HasAsked e (after_line o p s.line.line).asks
-asked_line o d e s p c running read asks at =
-    subst (HasAsked e) (ap (λ x. p.asks + asks_for (file_named x)) (same_command s p c at.step read)
-    ∙ sym (asks_next o p s.line.line (sym at.step.has_quit ∙ running))) (asks p.asks at.asked)
+    → HasAsked e (after_line o p line).asks
+asked_line o d e s line p c running read asks at =
+    subst (HasAsked e) (ap (λ x. p.asks + asks_for (file_named x))
+    (same_command s line p c at.step read)
+    ∙ sym (asks_next o p line (sym at.step.has_quit ∙ running))) (asks p.asks at.asked)
 
 -- desk and session after the next line
-pub between_line : (o : Setup) (d e : Desk) (s t : Session) (p : Progress)
+pub between_line : (o : Setup) (d e : Desk) (s t : Session) (line : Line) (p : Progress)
     (c : Result Command Refusal) (block : Option Block) (a : Option Reply)
-    → IsWorked s c d.map e.map d.store.files e.store.files block (Ok a) →
+    → IsWorked s line c d.map e.map d.store.files e.store.files block (Ok a) →
     Asks d e (asks_for (file_named c)) →
     t.line_count ≡ s.line_count + 1 → t.block ≡ block → t.refused ≡ (s.refused || is_refusal a)
     → t.has_quit ≡ is_quit c
     → ((u : Tally) → s.tally ≡ capped u → t.tally ≡ capped (count_reply u a)) →
-    IsKnown (after_line o p s.line.line) → IsBetween o d s p
-    → IsBetween o e t (after_line o p s.line.line)
-between_line o d e s t p c block a w asks counted is refused quit tally known at =
-    let line = s.line.line in
+    IsKnown (after_line o p line) → IsBetween o d s p
+    → IsBetween o e t (after_line o p line)
+between_line o d e s t line p c block a w asks counted is refused quit tally known at =
     let after = after_answered o p line (sym at.step.has_quit ∙ w.running) in
     record {
-      like = like_line o d e s p c block a w known at;
-      asked = asked_line o d e s p c w.running w.read asks at;
+      like = like_line o d e s line p c block a w known at;
+      asked = asked_line o d e s line p c w.running w.read asks at;
       step = record {
         counted = counted ∙ ap (λ k. k + 1) at.step.counted
             ∙ ap (λ (x : Progress). x.line_count) (sym after);
         block = is ∙ (w.took p.files (state_after o p.history)
-            (finds_line o s p c w.running at.step w.read known) at.like).1
-            ∙ ap (λ (x : Effect). x.block) (same_effect o s p c at.step w.read)
+            (finds_line o s line p c w.running at.step w.read known) at.like).1
+            ∙ ap (λ (x : Effect). x.block) (same_effect o s line p c at.step w.read)
             ∙ ap (λ (x : Progress). x.block) (sym after);
         refused = refused ∙ ap (λ b. b || is_refusal a) at.step.refused
             ∙ ap (λ x. p.refused || is_refusal x)
-            (told_line o d e.map e.store.files s p c block a w known at)
+            (told_line o d e.map e.store.files s line p c block a w known at)
             ∙ ap (λ (x : Progress). x.refused) (sym after);
-        has_quit = quit ∙ ap is_quit (same_command s p c at.step w.read)
+        has_quit = quit ∙ ap is_quit (same_command s line p c at.step w.read)
             ∙ ap (λ (x : Progress). x.has_quit) (sym after);
         tally = tally p.tally at.step.tally
             ∙ ap (λ x. capped (count_reply p.tally x))
-            (told_line o d e.map e.store.files s p c block a w known at)
+            (told_line o d e.map e.store.files s line p c block a w known at)
             ∙ ap (λ (x : Progress). capped x.tally) (sym after);
       };
     }
@@ -545,44 +553,48 @@ failed_beside o e p line store_fault.Memory running less = inr less
 
 -- where the command failed, nothing of the line is done, but for the file that it saves
 pub before_err : {T H : Type 0} (x : Result T StoreFault) (fault : StoreFault) (o : Setup)
-    (d e : H → Desk) (s : Session) (c : Result Command Refusal) (block : Option Block)
+    (d e : H → Desk) (s : Session) (line : Line) (c : Result Command Refusal) (block : Option Block)
     → IsErrAnd x (λ y. y ≡ fault) →
-    ((home : H) → IsWorked s c (d home).map (e home).map (d home).store.files (e home).store.files
+    ((home : H) → IsWorked s line c (d home).map (e home).map (d home).store.files
+    (e home).store.files
     block (Err fault)) → ((home : H) → Asks (d home) (e home) (asks_for (file_named c))) →
-    IfErr x (λ y. (home : H) (p : Progress) → IsKnown (after_line o p s.line.line)
-    → IsBetween o (d home) s p → HasStoppedAt o (e home) p s.line.line y)
-before_err (Ok x) fault o d e s c block same works asks = absurd same
-before_err (Err x) fault o d e s c block same works asks = λ home p known at.
+    IfErr x (λ y. (home : H) (p : Progress) → IsKnown (after_line o p line)
+    → IsBetween o (d home) s p → HasStoppedAt o (e home) p line y)
+before_err (Ok x) fault o d e s line c block same works asks = absurd same
+before_err (Err x) fault o d e s line c block same works asks = λ home p known at.
     let w = works home in
     let done = w.took p.files (state_after o p.history)
-    (finds_line o s p c w.running at.step w.read known) at.like in
-    let failed : HasFailed (next_command p s.line.line) p.files (state_after o p.history)
+    (finds_line o s line p c w.running at.step w.read known) at.like in
+    let failed : HasFailed (next_command p line) p.files (state_after o p.history)
     (e home).map (e home).store.files x =
     subst (λ y. HasFailed y p.files (state_after o p.history) (e home).map (e home).store.files x)
-    (same_command s p c at.step w.read)
+    (same_command s line p c at.step w.read)
     (subst (λ y. HasFailed c p.files (state_after o p.history) (e home).map (e home).store.files y)
     (sym same) done.1) in
     record {
-      heard = subst (λ (y : Effect). IsHeard y) (same_effect o s p c at.step w.read) done.0;
-      beside = failed_beside o (e home) p s.line.line x (sym at.step.has_quit ∙ w.running) failed;
-      asked = asked_line o (d home) (e home) s p c w.running w.read (asks home) at;
+      heard = subst (λ (y : Effect). IsHeard y) (same_effect o s line p c at.step w.read) done.0;
+      beside = failed_beside o (e home) p line x (sym at.step.has_quit ∙ w.running) failed;
+      asked = asked_line o (d home) (e home) s line p c w.running w.read (asks home) at;
     }
 
 -- where memory runs out for the reply, all of it is done
-pub after_err : {T H : Type 0} (x : Result T StoreFault) (o : Setup) (d e : H → Desk) (s : Session)
+pub after_err : {T H : Type 0} (x : Result T StoreFault) (o : Setup) (d e : H → Desk)
+    (s : Session) (line : Line)
     (c : Result Command Refusal) (block : Option Block) (a : Option Reply)
     → IsErrAnd x (λ y. y ≡ store_fault.Memory) →
-    ((home : H) → IsWorked s c (d home).map (e home).map (d home).store.files (e home).store.files
+    ((home : H) → IsWorked s line c (d home).map (e home).map (d home).store.files
+    (e home).store.files
     block (Ok a)) → ((home : H) → Asks (d home) (e home) (asks_for (file_named c))) → IsSome a →
-    IfErr x (λ y. (home : H) (p : Progress) → IsKnown (after_line o p s.line.line)
-    → IsBetween o (d home) s p → HasStoppedAt o (e home) p s.line.line y)
-after_err (Ok x) o d e s c block a memory works asks some = absurd memory
-after_err (Err x) o d e s c block a memory works asks some = λ home p known at.
+    IfErr x (λ y. (home : H) (p : Progress) → IsKnown (after_line o p line)
+    → IsBetween o (d home) s p → HasStoppedAt o (e home) p line y)
+after_err (Ok x) o d e s line c block a memory works asks some = absurd memory
+after_err (Err x) o d e s line c block a memory works asks some = λ home p known at.
     let w = works home in
     record {
       heard = inl (subst (λ (r : Option Reply). IsSome r)
-          (told_line o (d home) (e home).map (e home).store.files s p c block a w known at) some);
-      beside = subst (λ y. StandsBeside o (e home) p s.line.line y) (sym memory)
-          (inl (like_line o (d home) (e home) s p c block a w known at));
-      asked = asked_line o (d home) (e home) s p c w.running w.read (asks home) at;
+          (told_line o (d home) (e home).map
+          (e home).store.files s line p c block a w known at) some);
+      beside = subst (λ y. StandsBeside o (e home) p line y) (sym memory)
+          (inl (like_line o (d home) (e home) s line p c block a w known at));
+      asked = asked_line o (d home) (e home) s line p c w.running w.read (asks home) at;
     }

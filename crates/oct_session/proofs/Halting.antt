@@ -95,10 +95,10 @@ left_beside short o d p line store_fault.Failed torn = (refl, refl, torn.0, torn
 left_beside short o d p line store_fault.Memory some = inr (refl, refl, some)
 
 -- what a line writes
-text_line : (o : Setup) (s : Session) (p : Progress) → s.has_quit ≡ false → IsInStep s p
-    → (after_line o p s.line.line).text ≡ p.text ++ text_of (effect_of o p s.line.line).reply
-text_line o s p running at =
-    ap (λ (x : Progress). x.text) (after_answered o p s.line.line (sym at.has_quit ∙ running))
+text_line : (o : Setup) (s : Session) (line : Line) (p : Progress) → s.has_quit ≡ false
+    → IsInStep s p → (after_line o p line).text ≡ p.text ++ text_of (effect_of o p line).reply
+text_line o s line p running at =
+    ap (λ (x : Progress). x.text) (after_answered o p line (sym at.has_quit ∙ running))
 
 -- a line that is heard has a text, or a block is open after it
 heard_line : (o : Setup) (p : Progress) (line : Line) → p.has_quit ≡ false
@@ -110,19 +110,18 @@ heard_line o p line running (inr some) =
 
 -- a halt at a line of whose reply nothing was written
 pub halted_untold : {short : Type 0} (o : Setup) (w v : Option (List ℕ)) (d e : Desk) (s : Session)
-    (p : Progress)
-    (fault : StoreFault) → s.has_quit ≡ false → HasReached o w v d s p
-    → HasStoppedAt o e p s.line.line fault
-    → IsHaltedBy o p s.line.line [] w v e short (status_of (stop_of_store fault))
+    (line : Line) (p : Progress) (fault : StoreFault) → s.has_quit ≡ false → HasReached o w v d s p
+    → HasStoppedAt o e p line fault
+    → IsHaltedBy o p line [] w v e short (status_of (stop_of_store fault))
 unfolding cut_untold
-halted_untold {short} o w v d e s p fault running at stopped =
+halted_untold {short} o w v d e s line p fault running at stopped =
     record {
-      cut = cut_untold w v s p (after_line o p s.line.line)
-          (text_of (effect_of o p s.line.line).reply) running at.between.step at.written
-          (text_line o s p running at.between.step)
-          (heard_line o p s.line.line (sym at.between.step.has_quit ∙ running) stopped.heard);
-      done = none_ahead o (after_line o p s.line.line) (length (p.text ++ []));
-      has_left = left_beside short o e p s.line.line fault stopped.beside;
+      cut = cut_untold w v s p (after_line o p line)
+          (text_of (effect_of o p line).reply) running at.between.step at.written
+          (text_line o s line p running at.between.step)
+          (heard_line o p line (sym at.between.step.has_quit ∙ running) stopped.heard);
+      done = none_ahead o (after_line o p line) (length (p.text ++ []));
+      has_left = left_beside short o e p line fault stopped.beside;
       asked = stopped.asked;
     }
 

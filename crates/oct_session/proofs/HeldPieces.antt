@@ -1,6 +1,6 @@
 -- A piece of a script, line by line, with replies that are held.
 use Rattle.std.proofs.Common.{◌≡◌, ℕ, ◌+◌, List, [], ◌∷◌, ◌++◌, take, drop, Option}
-use Rattle.std.proofs.Common.{Result, Ok, Err, IfErr, IsErrAnd, Bool, true, false, cond, inl, refl}
+use Rattle.std.proofs.Common.{Result, Ok, Err, OnOk, IfErr, IsErrAnd, Bool, true, false, cond, inl, refl}
 use Rattle.std.proofs.Common.{sym, ap, subst, ◌∙◌, append-nil}
 use Rattle.oct_io.specs.Files.{Files}
 use Rattle.oct_io.specs.Taken.{IsCutOff}
@@ -8,7 +8,7 @@ use Rattle.oct_io.specs.Told.{Rose, appended}
 use Rattle.oct_io.proofs.Appending.{appended_twice}
 use Rattle.oct_io.specs.declared.sink.SinkFault.{SinkFault}
 use Rattle.oct_script.specs.Lines.{Line, unread, ended_lines, rest_of, all_lines, last_line}
-use Rattle.oct_script.specs.Lines.{IsReading, HasEnded, HasJoined}
+use Rattle.oct_script.specs.Lines.{LineSoFar, IsReading, HasEnded, HasJoined, Text, whole}
 use Rattle.oct_ending.specs.declared.stop.Stop.{Stop}
 use Rattle.oct_session.specs.declared.session.Session.{Session}
 use Rattle.oct_session.specs.Ending.{HasReplied, replies_within}
@@ -47,49 +47,51 @@ held_joined o v d s f piece running joins beside same files w bytes at =
 
 -- a piece up to a line feed, and the answer to the line that it ends
 pub held_ended : (o : Setup) (v u : Option (List ℕ)) (d e : Desk) (s f t : Session)
-    (piece : List ℕ) → s.has_quit ≡ false → ((bytes : List ℕ) → IsReading s.line bytes
-    → HasEnded f.line bytes (bytes ++ piece)) → IsBeside f s → f.text.items ≡ s.text.items
+    (reading : LineSoFar) (piece : List ℕ) → s.has_quit ≡ false → ((bytes : List ℕ)
+    → IsReading s.line bytes
+    → HasEnded reading bytes (bytes ++ piece)) → IsBeside f s → f.text.items ≡ s.text.items
     → ((files : Option Files) (lines : List Line) (w : Option (List ℕ))
-    → IsKnown (progress o files (lines ++ f.line.line ∷ [])) → HasHeld o files lines w v d f
-    → HasHeld o files (lines ++ f.line.line ∷ []) w u e t) → t.line ≡ unread
+    → IsKnown (progress o files (lines ++ reading.line ∷ [])) → HasHeld o files lines w v d f
+    → HasHeld o files (lines ++ reading.line ∷ []) w u e t) → t.line ≡ unread
     → TakesHeld o v u d e s t piece
-held_ended o v u d e s f t piece running ends beside same answers next files w bytes at =
-    let done : HasEnded f.line bytes (bytes ++ piece) = ends bytes (at.line running) in
+held_ended o v u d e s f t reading piece running ends beside same answers next files w bytes at =
+    let done : HasEnded reading bytes (bytes ++ piece) = ends bytes (at.line running) in
     record {
       reached = λ known.
-          let line : IsKnown (progress o files (ended_lines bytes ++ f.line.line ∷ [])) =
+          let line : IsKnown (progress o files (ended_lines bytes ++ reading.line ∷ [])) =
           subst (λ x. IsKnown (progress o files x)) done.lines known in
           subst (λ x. HasHeld o files x w u e t) (sym done.lines)
           (answers files (ended_lines bytes) w line
           (held_beside o files (ended_lines bytes) w v d s f beside same
-          (at.reached (known_before o files (ended_lines bytes) (f.line.line ∷ []) line))));
+          (at.reached (known_before o files (ended_lines bytes) (reading.line ∷ []) line))));
       line = λ goes_on. reads_next t.line (bytes ++ piece) next done.rest;
     }
 
 -- and a halt there
 pub held_halted : {short : Type 0} {T H : Type 0} (r : Result T Stop) (stop : Stop) (o : Setup)
-    (v u : Option (List ℕ)) (d e : H → Desk) (s f : Session) (piece : List ℕ) (k : ℕ)
+    (v u : Option (List ℕ)) (d e : H → Desk) (s f : Session) (reading : LineSoFar)
+    (piece : List ℕ) (k : ℕ)
     → IsErrAnd r (λ x. x ≡ stop) → s.has_quit ≡ false →
-    ((bytes : List ℕ) → IsReading s.line bytes → HasEnded f.line bytes (bytes ++ take k piece))
+    ((bytes : List ℕ) → IsReading s.line bytes → HasEnded reading bytes (bytes ++ take k piece))
     → IsBeside f s → f.text.items ≡ s.text.items →
     ((home : H) (files : Option Files) (lines : List Line) (w : Option (List ℕ))
-    → IsKnown (progress o files (lines ++ f.line.line ∷ [])) → HasHeld o files lines w v (d home) f
-    → IsHalted o files (lines ++ f.line.line ∷ []) w u (e home) short (status_of stop)) →
+    → IsKnown (progress o files (lines ++ reading.line ∷ [])) → HasHeld o files lines w v (d home) f
+    → IsHalted o files (lines ++ reading.line ∷ []) w u (e home) short (status_of stop)) →
     IfErr r (λ stop. (home : H)
     → HaltsHeld o v u (d home) (e home) s (λ bytes. ended_lines (bytes ++ piece)) short
     (status_of stop))
-held_halted {short} (Ok x) stop o v u d e s f piece k is running ends beside same halts = tt
-held_halted {short} (Err x) stop o v u d e s f piece k is running ends beside same halts =
+held_halted {short} (Ok x) stop o v u d e s f reading piece k is running ends beside same halts = tt
+held_halted {short} (Err x) stop o v u d e s f reading piece k is running ends beside same halts =
     λ home files w bytes at known.
-    let done : HasEnded f.line bytes (bytes ++ take k piece) = ends bytes (at.line running) in
+    let done : HasEnded reading bytes (bytes ++ take k piece) = ends bytes (at.line running) in
     let front : IsKnown (progress o files (ended_lines (bytes ++ take k piece))) =
     known_bytes o files (bytes ++ take k piece) (drop k piece)
     (subst (λ x. IsKnown (progress o files (ended_lines x))) (sym (parts bytes piece k)) known) in
-    let line : IsKnown (progress o files (ended_lines bytes ++ f.line.line ∷ [])) =
+    let line : IsKnown (progress o files (ended_lines bytes ++ reading.line ∷ [])) =
     subst (λ x. IsKnown (progress o files x)) done.lines front in
     let h = halts home files (ended_lines bytes) w line
     (held_beside o files (ended_lines bytes) w v (d home) s f beside same
-    (at.reached (known_before o files (ended_lines bytes) (f.line.line ∷ []) line))) in
+    (at.reached (known_before o files (ended_lines bytes) (reading.line ∷ []) line))) in
     let halted : IsHalted o files (ended_lines (bytes ++ take k piece)) w u (e home) short
     (status_of stop) =
     subst (λ x. IsHalted o files x w u (e home) short (status_of stop)) (sym done.lines) h in
@@ -99,6 +101,49 @@ held_halted {short} (Err x) stop o v u d e s f piece k is running ends beside sa
     (parts bytes piece k)
     (halted_bytes o files (bytes ++ take k piece) (drop k piece) w u (e home) (status_of stop)
     halted))
+
+-- a line that has ended
+abbrev pub over : Line → LineSoFar
+over line = record { line = line; has_ended = true }
+
+-- a line that stands whole in a piece, as it was read
+pub whole_read : (old : LineSoFar) (text piece : List ℕ) (line : Line) → line ≡ Text text
+    → ((bytes : List ℕ) → IsReading old bytes → HasEnded (whole text) bytes (bytes ++ piece))
+    → (bytes : List ℕ) → IsReading old bytes → HasEnded (over line) bytes (bytes ++ piece)
+whole_read old text piece line is ends bytes at =
+    subst (λ l. HasEnded (over l) bytes (bytes ++ piece)) (sym is) (ends bytes at)
+
+-- a line that was fed, answered by a session that has begun the next one
+pub fed_more : {T H : Type 0} (r : Result T Stop) (o : Setup) (v u : Option (List ℕ))
+    (d e : H → Desk) (s f t : Session) (line : Line) → line ≡ s.line.line → IsBeside f s
+    → f.text.items ≡ s.text.items →
+    OnOk r ((home : H) (files : Option Files) (lines : List Line) (w : Option (List ℕ))
+    → IsKnown (progress o files (lines ++ line ∷ [])) → HasHeld o files lines w v (d home) f
+    → HasHeld o files (lines ++ line ∷ []) w u (e home) t) →
+    OnOk r ((home : H) (files : Option Files) (lines : List Line) (w : Option (List ℕ))
+    → IsKnown (progress o files (lines ++ s.line.line ∷ [])) → HasHeld o files lines w v (d home) s
+    → HasHeld o files (lines ++ s.line.line ∷ []) w u (e home) t)
+fed_more (Err stop) o v u d e s f t line is beside same answers = tt
+fed_more (Ok x) o v u d e s f t line is beside same answers = λ home files lines w known at.
+    subst (λ x. HasHeld o files (lines ++ x ∷ []) w u (e home) t) is
+    (answers home files lines w (subst (λ x. IsKnown (progress o files (lines ++ x ∷ []))) (sym is)
+    known) (held_beside o files lines w v (d home) s f beside same at))
+
+-- and a halt there
+pub fed_halted : {T H : Type 0} (short : Type 0) (r : Result T Stop) (o : Setup)
+    (v u : Option (List ℕ)) (d e : H → Desk) (s f : Session) (line : Line) → line ≡ s.line.line
+    → IsBeside f s → f.text.items ≡ s.text.items →
+    IfErr r (λ stop. (home : H) (files : Option Files) (lines : List Line) (w : Option (List ℕ))
+    → IsKnown (progress o files (lines ++ line ∷ [])) → HasHeld o files lines w v (d home) f
+    → IsHalted o files (lines ++ line ∷ []) w u (e home) short (status_of stop)) →
+    IfErr r (λ stop. (home : H) (files : Option Files) (lines : List Line) (w : Option (List ℕ))
+    → IsKnown (progress o files (lines ++ s.line.line ∷ [])) → HasHeld o files lines w v (d home) s
+    → IsHalted o files (lines ++ s.line.line ∷ []) w u (e home) short (status_of stop))
+fed_halted short (Ok x) o v u d e s f line is beside same halts = tt
+fed_halted short (Err stop) o v u d e s f line is beside same halts = λ home files lines w known at.
+    subst (λ x. IsHalted o files (lines ++ x ∷ []) w u (e home) short (status_of stop)) is
+    (halts home files lines w (subst (λ x. IsKnown (progress o files (lines ++ x ∷ []))) (sym is)
+    known) (held_beside o files lines w v (d home) s f beside same at))
 
 -- a session that holds nothing
 pub held_first : (o : Setup) (files : Option Files) (w v : Option (List ℕ)) (d : Desk)

@@ -297,41 +297,41 @@ held_moved o files lines w v u d s f beside moved at = record {
 
 -- a line that is answered behind what is held
 pub held_more : {H : Type 0} (o : Setup) (v x : Option (List ℕ)) (d e : H → Desk)
-    (s f t : Session) → s.has_quit ≡ false → IsBeside f s → length s.text.items < 4096
-    → HasMoved v x s.text.items f.text.items → (f.text.items ≡ []) ⊎ NamesNoFile f.line.line
-    → ((home : H) (p : Progress) → IsKnown (after_line o p f.line.line) → IsBetween o (d home) f p
-    → t.text.items ≡ f.text.items ++ text_of (effect_of o p f.line.line).reply)
-    → ((home : H) (p : Progress) → IsKnown (after_line o p f.line.line) → IsBetween o (d home) f p
-    → IsBetween o (e home) t (after_line o p f.line.line))
+    (s f t : Session) (line : Line) → s.has_quit ≡ false → IsBeside f s → length s.text.items < 4096
+    → HasMoved v x s.text.items f.text.items → (f.text.items ≡ []) ⊎ NamesNoFile line
+    → ((home : H) (p : Progress) → IsKnown (after_line o p line) → IsBetween o (d home) f p
+    → t.text.items ≡ f.text.items ++ text_of (effect_of o p line).reply)
+    → ((home : H) (p : Progress) → IsKnown (after_line o p line) → IsBetween o (d home) f p
+    → IsBetween o (e home) t (after_line o p line))
     → (home : H) (files : Option Files) (lines : List Line) (w : Option (List ℕ))
-    → IsKnown (progress o files (lines ++ f.line.line ∷ [])) → HasHeld o files lines w v (d home) s
-    → HasHeld o files (lines ++ f.line.line ∷ []) w x (e home) t
-held_more o v x d e s f t running beside few moved clear text between home files lines w known at =
+    → IsKnown (progress o files (lines ++ line ∷ [])) → HasHeld o files lines w v (d home) s
+    → HasHeld o files (lines ++ line ∷ []) w x (e home) t
+held_more o v x d e s f t line running beside few moved clear text between home files lines w known at =
     let p : Progress = progress o files lines in
-    let push = progress_push o files lines f.line.line in
-    let line : IsKnown (after_line o p f.line.line) = subst IsKnown push known in
+    let push = progress_push o files lines line in
+    let told : IsKnown (after_line o p line) = subst IsKnown push known in
     let here = between_beside o (d home) s f p beside at.between in
-    let after : IsBetween o (e home) t (after_line o p f.line.line) = between home p line here in
+    let after : IsBetween o (e home) t (after_line o p line) = between home p told here in
     record {
       between = subst (λ (q : Progress). IsBetween o (e home) t q) (sym push) after;
-      holding = holding_more o files lines f.line.line w x f.text.items t.text.items
-          (text_of (effect_of o p f.line.line).reply) (sym at.between.step.has_quit ∙ running)
+      holding = holding_more o files lines line w x f.text.items t.text.items
+          (text_of (effect_of o p line).reply) (sym at.between.step.has_quit ∙ running)
           (holding_moved o files lines w v x s.text.items f.text.items at.holding moved)
-          refl (text home p line here) clear (moved_few v x s.text.items f.text.items moved few);
+          refl (text home p told here) clear (moved_few v x s.text.items f.text.items moved few);
     }
 
 -- a call that gives up when a part of what is held is written, before a line
 pub way_err : {short : Type 0} {T H : Type 0} (r : Result T Stop) (fault : SinkFault) (o : Setup)
-    (v u : Option (List ℕ)) (d : H → Desk) (s : Session)
+    (v u : Option (List ℕ)) (d : H → Desk) (s : Session) (line : Line)
     → IsErrAnd r (λ x. x ≡ stop_of_sink fault) → IsCutOff v u s.text.items → IsShort fault short →
     IfErr r (λ stop. (home : H) (files : Option Files) (lines : List Line) (w : Option (List ℕ))
-    → IsKnown (progress o files (lines ++ s.line.line ∷ [])) → HasHeld o files lines w v (d home) s
-    → IsHalted o files (lines ++ s.line.line ∷ []) w u (d home) short (status_of stop))
-way_err {short} (Ok y) fault o v u d s is cut ran = absurd is
-way_err {short} (Err y) fault o v u d s is cut ran = λ home files lines w known at.
-    subst (λ z. IsHalted o files (lines ++ s.line.line ∷ []) w u (d home) short (status_of z))
+    → IsKnown (progress o files (lines ++ line ∷ [])) → HasHeld o files lines w v (d home) s
+    → IsHalted o files (lines ++ line ∷ []) w u (d home) short (status_of stop))
+way_err {short} (Ok y) fault o v u d s line is cut ran = absurd is
+way_err {short} (Err y) fault o v u d s line is cut ran = λ home files lines w known at.
+    subst (λ z. IsHalted o files (lines ++ line ∷ []) w u (d home) short (status_of z))
     (sym is)
-    (holding_cut o files (lines ++ s.line.line ∷ []) lines (s.line.line ∷ []) w v u s.text.items
+    (holding_cut o files (lines ++ line ∷ []) lines (line ∷ []) w v u s.text.items
     (d home) fault refl at.holding cut at.between.like at.between.asked ran)
 
 -- the same, after some lines
@@ -396,27 +396,29 @@ failed_cut o files lines line w v u held d fault store_fault.Memory k running h 
 
 pub failed_err : {short : Type 0} {T H : Type 0} (r : Result T Stop) (fault : SinkFault)
     (own : StoreFault)
-    (o : Setup) (v x u : Option (List ℕ)) (d e : H → Desk) (s f : Session) (held : List ℕ)
+    (o : Setup) (v x u : Option (List ℕ)) (d e : H → Desk) (s f : Session) (line : Line)
+    (held : List ℕ)
     → IsErrAnd r (λ y. y ≡ stop_of_sink fault) → s.has_quit ≡ false → IsBeside f s
     → length s.text.items < 4096 → HasMoved v x s.text.items f.text.items
     → held ≡ f.text.items → IsCutOff x u held → IsShort fault short
-    → (f.text.items ≡ []) ⊎ NamesNoFile f.line.line
-    → ((home : H) (p : Progress) → IsKnown (after_line o p f.line.line) → IsBetween o (d home) f p
-    → HasStoppedAt o (e home) p f.line.line own) →
+    → (f.text.items ≡ []) ⊎ NamesNoFile line
+    → ((home : H) (p : Progress) → IsKnown (after_line o p line) → IsBetween o (d home) f p
+    → HasStoppedAt o (e home) p line own) →
     IfErr r (λ stop. (home : H) (files : Option Files) (lines : List Line) (w : Option (List ℕ))
-    → IsKnown (progress o files (lines ++ f.line.line ∷ [])) → HasHeld o files lines w v (d home) s
-    → IsHalted o files (lines ++ f.line.line ∷ []) w u (e home) short (status_of stop))
-failed_err {short} (Ok y) fault own o v x u d e s f held is running beside few moved kept cut ran
+    → IsKnown (progress o files (lines ++ line ∷ [])) → HasHeld o files lines w v (d home) s
+    → IsHalted o files (lines ++ line ∷ []) w u (e home) short (status_of stop))
+failed_err {short}
+    (Ok y) fault own o v x u d e s f line held is running beside few moved kept cut ran
     clear stopped = absurd is
-failed_err {short} (Err y) fault own o v x u d e s f held is running beside few moved kept
+failed_err {short} (Err y) fault own o v x u d e s f line held is running beside few moved kept
     (k, less, wrote)
     ran clear stopped = λ home files lines w known at.
     let p : Progress = progress o files lines in
-    let b = stopped home p (subst IsKnown (progress_push o files lines f.line.line) known)
+    let b = stopped home p (subst IsKnown (progress_push o files lines line) known)
     (between_beside o (d home) s f p beside at.between) in
-    subst (λ z. IsHalted o files (lines ++ f.line.line ∷ []) w u (e home) short (status_of z))
+    subst (λ z. IsHalted o files (lines ++ line ∷ []) w u (e home) short (status_of z))
     (sym is)
-    (failed_cut o files lines f.line.line w x u f.text.items (e home) fault own k
+    (failed_cut o files lines line w x u f.text.items (e home) fault own k
     (sym at.between.step.has_quit ∙ running)
     (holding_moved o files lines w v x s.text.items f.text.items at.holding moved)
     (subst (λ l. k < length l) kept less) (wrote ∙ ap (λ l. appended x (take k l)) kept) clear
@@ -424,24 +426,24 @@ failed_err {short} (Err y) fault own o v x u d e s f held is running beside few 
 
 -- a line that has failed, when all that was held is written
 pub own_halt : {short : Type 0} {H : Type 0} (stop : Stop) (fault : StoreFault) (o : Setup)
-    (v x u : Option (List ℕ)) (d e : H → Desk) (s f : Session) (held : List ℕ)
+    (v x u : Option (List ℕ)) (d e : H → Desk) (s f : Session) (line : Line) (held : List ℕ)
     → stop ≡ stop_of_store fault → s.has_quit ≡ false → IsBeside f s
     → HasMoved v x s.text.items f.text.items → held ≡ f.text.items → u ≡ appended x held
-    → ((home : H) (p : Progress) → IsKnown (after_line o p f.line.line) → IsBetween o (d home) f p
-    → HasStoppedAt o (e home) p f.line.line fault) →
+    → ((home : H) (p : Progress) → IsKnown (after_line o p line) → IsBetween o (d home) f p
+    → HasStoppedAt o (e home) p line fault) →
     (home : H) (files : Option Files) (lines : List Line) (w : Option (List ℕ))
-    → IsKnown (progress o files (lines ++ f.line.line ∷ [])) → HasHeld o files lines w v (d home) s
-    → IsHalted o files (lines ++ f.line.line ∷ []) w u (e home) short (status_of stop)
-own_halt {short} stop fault o v x u d e s f held is running beside moved kept wrote stopped
+    → IsKnown (progress o files (lines ++ line ∷ [])) → HasHeld o files lines w v (d home) s
+    → IsHalted o files (lines ++ line ∷ []) w u (e home) short (status_of stop)
+own_halt {short} stop fault o v x u d e s f line held is running beside moved kept wrote stopped
     home files lines w known at =
     let p : Progress = progress o files lines in
     let here = between_beside o (d home) s f p beside at.between in
-    subst (λ z. IsHalted o files (lines ++ f.line.line ∷ []) w u (e home) short (status_of z))
+    subst (λ z. IsHalted o files (lines ++ line ∷ []) w u (e home) short (status_of z))
     (sym is)
-    (halted_last o files lines f.line.line w u (e home) (status_of (stop_of_store fault))
-    (halted_untold o w u (d home) (e home) f p fault (beside.has_quit ∙ running) (record {
+    (halted_last o files lines line w u (e home) (status_of (stop_of_store fault))
+    (halted_untold o w u (d home) (e home) f line p fault (beside.has_quit ∙ running) (record {
       between = here;
       written = holding_whole o files lines w x u f.text.items
           (holding_moved o files lines w v x s.text.items f.text.items at.holding moved)
           (wrote ∙ ap (appended x) kept);
-    }) (stopped home p (subst IsKnown (progress_push o files lines f.line.line) known) here)))
+    }) (stopped home p (subst IsKnown (progress_push o files lines line) known) here)))

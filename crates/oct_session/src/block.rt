@@ -12,7 +12,7 @@ use oct_key::{Point, PointList};
 use oct_num::Memory;
 use oct_pose::{Pose, ZeroQuaternion};
 use oct_scan::{Scan, ScanOdds};
-use oct_script::{self as script, Command, Lines, Refusal, ScanHead, opens_scan};
+use oct_script::{self as script, Command, ReadLine, Refusal, ScanHead, opens_scan};
 use std::alloc::Global;
 use std::marker::Model;
 
@@ -164,8 +164,8 @@ impl Block {
 }
 
 /// Whether a line opens a block, whatever its other words are.
-fn opens_block(line: &Lines) -> bool
-    ensures { result ≡ opens_block line.now.line }
+fn opens_block(line: &ReadLine<'_>) -> bool
+    ensures { result ≡ opens_block line.now }
 {
     !line.is_long() && opens_scan(line.text())
 }
@@ -179,8 +179,8 @@ pub fn open_scan(alloc: Global, number: u64, head: ScanHead, block: &mut Option<
 }
 
 /// Spoils the block that is open, or the one that a faulty line opens.
-pub fn spoil(line: &Lines, refusal: Refusal, block: &mut Option<Block>)
-    ensures { (number : ℕ) → block.new ≡ spoilt_by number line.now.line refusal block.old }
+pub fn spoil(line: &ReadLine<'_>, refusal: Refusal, block: &mut Option<Block>)
+    ensures { (number : ℕ) → block.new ≡ spoilt_by number line.now refusal block.old }
 {
     match block.take() {
         Some(standing) => *block = Some(standing.spoilt(refusal)),

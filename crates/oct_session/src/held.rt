@@ -11,7 +11,7 @@ ghost use Rattle.oct_session.specs.Standing.{HasMoved, Adds};
 
 use oct_io::{Sink, SinkFault, write_all};
 use oct_num::Memory;
-use oct_script::{Lines, Reply, push_reply};
+use oct_script::{ReadLine, Reply, push_reply};
 
 /// As many bytes of replies as are written at once.
 pub const MOST_HELD: usize = 4096;
@@ -46,9 +46,9 @@ fn may_begin(first: u8, second: u8) -> bool
 }
 
 /// Whether a line may name a file, by its first two bytes alone.
-fn may_name_file(line: &Lines) -> bool
-    ensures clear { result ≡ false → NamesNoFile line.now.line }
-    ensures only { BeginsOther line.now.line → result ≡ false }
+fn may_name_file(line: &ReadLine<'_>) -> bool
+    ensures clear { result ≡ false → NamesNoFile line.now }
+    ensures only { BeginsOther line.now → result ≡ false }
 {
     if line.is_long() {
         return false;
@@ -75,11 +75,15 @@ pub fn flush<K: Sink>(text: &mut Vec<u8>, sink: &mut K) -> Result<(), SinkFault>
 }
 
 /// Writes the replies that are held, before a line that may name a file.
-pub fn make_way<K: Sink>(line: &Lines, text: &mut Vec<u8>, sink: &mut K) -> Result<(), SinkFault>
+pub fn make_way<K: Sink>(
+    line: &ReadLine<'_>,
+    text: &mut Vec<u8>,
+    sink: &mut K,
+) -> Result<(), SinkFault>
     ensures moved { OnOk result
         (HasMoved (K.written sink.old) (K.written sink.new) text.old.items text.new.items) }
-    ensures clear { OnOk result ((text.new.items ≡ []) ⊎ NamesNoFile line.now.line) }
-    ensures kept { BeginsOther line.now.line → text.new.items ≡ text.old.items }
+    ensures clear { OnOk result ((text.new.items ≡ []) ⊎ NamesNoFile line.now) }
+    ensures kept { BeginsOther line.now → text.new.items ≡ text.old.items }
     ensures err { OnErr result
         (IsCutOff (K.written sink.old) (K.written sink.new) text.old.items) }
     ensures adds { Adds (K.written sink.old) (K.written sink.new) }

@@ -54,17 +54,18 @@
 //!
 //! # How it works
 //!
-//! `service` reads pieces of at most 16 KiB and hands each to `session`, which feeds them line by
-//! line to `oct_script`. `held` appends the text of each reply to those that are held, and writes
-//! them at the end of the piece, before a line that may name a file, where 4,096 bytes are held,
-//! and where a line fails. Their room stays, so that a reply allocates only where more is held than
-//! ever before. `lines` says what a line does, inside a block and outside, and keeps a place for
-//! its command and for its reply, so that neither is moved from call to call; `block` keeps the
-//! head and the points of the scan that is being read, or its first fault; `commands` does each
-//! command and each scan on the map, and makes the map's answer a reply; `files` does the commands
-//! that name a file, on map and store. `options` holds what a session is set up with. `building`
-//! writes the file of a script's map in place of the replies, and `drilling` four lines about the
-//! session over a script that `oct_gen` makes; `tally` has what its replies come to.
+//! `service` reads pieces of at most 16 KiB and hands each to `session`, which has `oct_script`
+//! find the lines in them, and feeds it those alone that don't stand whole in a piece. `held`
+//! appends the text of each reply to those that are held, and writes them at the end of the piece,
+//! before a line that may name a file, where 4,096 bytes are held, and where a line fails. Their
+//! room stays, so that a reply allocates only where more is held than ever before. `lines` says
+//! what a line does, inside a block and outside, and keeps a place for its command and for its
+//! reply, so that neither is moved from call to call; `block` keeps the head and the points of the
+//! scan that is being read, or its first fault; `commands` does each command and each scan on the
+//! map, and makes the map's answer a reply; `files` does the commands that name a file, on map and
+//! store. `options` holds what a session is set up with. `building` writes the file of a script's
+//! map in place of the replies, and `drilling` four lines about the session over a script that
+//! `oct_gen` makes; `tally` has what its replies come to.
 //!
 //! # Who stands on it
 //!

@@ -16,7 +16,7 @@ use crate::files::{load, restore, save, snapshot};
 use oct_io::{Store, StoreFault};
 use oct_map::OccMap;
 use oct_num::Memory;
-use oct_script::{Command, Lines, Refusal, Reply, Syntax, parse_into};
+use oct_script::{Command, ReadLine, Refusal, Reply, Syntax, parse_into};
 use std::alloc::Global;
 
 /// Whether a command closes a block.
@@ -146,8 +146,13 @@ fn take_command<F: Store>(
 
 /// What a line does that isn't in the grammar: it spoils the block that is open, or the one that it
 /// opens, and is refused where it does neither.
-fn take_fault(line: &Lines, refusal: Refusal, block: &mut Option<Block>, reply: &mut Option<Reply>)
-    ensures block { (number : ℕ) → block.new ≡ spoilt_by number line.now.line refusal block.old }
+fn take_fault(
+    line: &ReadLine<'_>,
+    refusal: Refusal,
+    block: &mut Option<Block>,
+    reply: &mut Option<Reply>,
+)
+    ensures block { (number : ℕ) → block.new ≡ spoilt_by number line.now refusal block.old }
     ensures reply { reply.new ≡ spoilt_reply refusal block.new }
 {
     spoil(line, refusal, block);
@@ -159,14 +164,14 @@ fn take_fault(line: &Lines, refusal: Refusal, block: &mut Option<Block>, reply: 
 
 /// What a line does that leaves the grammar.
 fn take_misspelt(
-    line: &Lines,
+    line: &ReadLine<'_>,
     number: u64,
     syntax: Syntax,
     block: &mut Option<Block>,
     reply: &mut Option<Reply>,
 )
     ensures block { block.new
-        ≡ spoilt_by number line.now.line (Refusal.Syntax number syntax.column) block.old }
+        ≡ spoilt_by number line.now (Refusal.Syntax number syntax.column) block.old }
     ensures reply { reply.new ≡ spoilt_reply (Refusal.Syntax number syntax.column) block.new }
 {
     let refusal = Refusal::Syntax {
@@ -177,8 +182,8 @@ fn take_misspelt(
 }
 
 /// What a line does that is too long to be read.
-fn take_long(line: &Lines, number: u64, block: &mut Option<Block>, reply: &mut Option<Reply>)
-    ensures block { block.new ≡ spoilt_by number line.now.line (Refusal.LongLine number) block.old }
+fn take_long(line: &ReadLine<'_>, number: u64, block: &mut Option<Block>, reply: &mut Option<Reply>)
+    ensures block { block.new ≡ spoilt_by number line.now (Refusal.LongLine number) block.old }
     ensures reply { reply.new ≡ spoilt_reply (Refusal.LongLine number) block.new }
 {
     take_fault(line, Refusal::LongLine { line: number }, block, reply);
@@ -191,20 +196,20 @@ pub fn take_line<F: Store>(
     alloc: Global,
     map: &mut OccMap,
     store: &mut F,
-    line: &Lines,
+    line: &ReadLine<'_>,
     number: u64,
     block: &mut Option<Block>,
     reply: &mut Option<Reply>,
 ) -> Result<bool, StoreFault>
-    ensures effect { let command = command_on (is_some block.old) number line.now.line in
-        HasEffect (λ files s. effect files s number line.now.line command block.old)
+    ensures effect { let command = command_on (is_some block.old) number line.now in
+        HasEffect (λ files s. effect files s number line.now command block.old)
         command map.old (F.files store.old) map.new (F.files store.new)
         block.new (with_reply result reply.new) }
     ensures quits { IfOk result (λ quits. quits
-        ≡ is_quit (command_on (is_some block.old) number line.now.line)) }
+        ≡ is_quit (command_on (is_some block.old) number line.now)) }
     ensures stands { KeepsStanding map.old map.new }
     ensures asked { IsAsked (store.new ≡ store.old) (F.calls store.old) (F.calls store.new)
-        (asks_for (file_named (command_on (is_some block.old) number line.now.line))) }
+        (asks_for (file_named (command_on (is_some block.old) number line.now))) }
     ensures store_counts { IsAskCounted result (F.faults store.old) (F.faults store.new) }
 {
     if line.is_long() {

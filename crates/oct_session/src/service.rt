@@ -51,7 +51,8 @@ fn take_piece<K: Sink, F: Store>(
         (desk map.old (shelf F.files F.calls home store.old)) session.old bytes
         → StopsIn options.now files w (K.written sink.new)
         (desk map.new (shelf F.files F.calls home store.new))
-        session.new bytes piece.now room (Rose (K.shortages sink.old) (K.shortages sink.new)) stop) }
+        session.new bytes piece.now room
+        (Rose (K.shortages sink.old) (K.shortages sink.new)) stop) }
     ensures empty { OnOk result (session.new.text.items ≡ []) }
     ensures stands { KeepsStanding map.old map.new }
     ensures unended { OnOk result (session.new.line.has_ended ≡ false) }

@@ -28,8 +28,9 @@ use oct_ending::Stop;
 use oct_io::{Sink, SinkFault, Store, StoreFault};
 use oct_map::OccMap;
 use oct_num::Memory;
-use oct_script::{Lines, Reply};
+use oct_script::{Lines, ReadLine, Reply};
 use std::alloc::Global;
+use std::mem::replace;
 
 /// A session between two bytes of its script.
 #[derive(Drop)]
@@ -92,58 +93,106 @@ impl Session {
         }
     }
 
-    /// Does what the line that was read says, holds its reply, and begins the next line. After an
-    /// error what is held is as it was.
+    /// Does what a line says, and holds its reply. After an error what is held is as it was.
     fn answer<F: Store>(
         &mut self,
         options: &Options,
         map: &mut OccMap,
         store: &mut F,
+        line: &ReadLine<'_>,
     ) -> Result<(), StoreFault>
         requires few { self.old.line_count < 2 ^ 63 }
         requires running { self.old.has_quit ≡ false }
         ensures text { OnOk result ((home : F) (p : Progress)
-            → IsKnown (after_line options.now p self.old.line.line)
+            → IsKnown (after_line options.now p line.now)
             → IsBetween options.now (desk map.old (shelf F.files F.calls home store.old)) self.old p
             → self.new.text.items
-            ≡ self.old.text.items ++ text_of (effect_of options.now p self.old.line.line).reply) }
+            ≡ self.old.text.items ++ text_of (effect_of options.now p line.now).reply) }
         ensures kept { OnErr result (self.new.text.items ≡ self.old.text.items) }
         ensures asked { IsAsked (store.new ≡ store.old) (F.calls store.old) (F.calls store.new)
             (asks_for (file_named (command_on (is_some self.old.block) (self.old.line_count + 1)
-            self.old.line.line))) }
+            line.now))) }
         ensures between { OnOk result ((home : F) (p : Progress)
-            → IsKnown (after_line options.now p self.old.line.line)
+            → IsKnown (after_line options.now p line.now)
             → IsBetween options.now (desk map.old (shelf F.files F.calls home store.old)) self.old p
             → IsBetween options.now (desk map.new (shelf F.files F.calls home store.new)) self.new
-            (after_line options.now p self.old.line.line)) }
+            (after_line options.now p line.now)) }
         ensures err { IfErr result (λ fault. (home : F) (p : Progress)
-            → IsKnown (after_line options.now p self.old.line.line)
+            → IsKnown (after_line options.now p line.now)
             → IsBetween options.now (desk map.old (shelf F.files F.calls home store.old)) self.old p
             → HasStoppedAt options.now (desk map.new (shelf F.files F.calls home store.new)) p
-            self.old.line.line fault) }
+            line.now fault) }
         ensures stands { KeepsStanding map.old map.new }
-        ensures line { OnOk result (self.new.line ≡ unread) }
+        ensures line { self.new.line ≡ self.old.line }
         ensures counted { OnOk result (self.new.line_count ≡ self.old.line_count + 1) }
         ensures store_counts { IsAskCounted result (F.faults store.old) (F.faults store.new) }
     {
         let number = self.line_count + 1;
         let block = &mut self.block;
         let mut reply = None;
-        let has_quit = take_line(
-            self.alloc, map, store, &self.line, number, block, &mut reply,
-        )?;
+        let has_quit = take_line(self.alloc, map, store, line, number, block, &mut reply)?;
         tell(&mut self.text, &reply)?;
         self.refused |= is_refused(&reply);
         self.tally.count(&reply);
         self.has_quit = has_quit;
         self.line_count = number;
-        self.line.next();
         Ok(())
     }
 
-    /// Answers the line that was read, and holds its reply, with few others. What was held before
-    /// is written first where the line may name a file.
+    /// Answers a line, and holds its reply, with few others. What was held before is written first
+    /// where the line may name a file.
     fn respond<K: Sink, F: Store>(
+        &mut self,
+        options: &Options,
+        map: &mut OccMap,
+        store: &mut F,
+        line: &ReadLine<'_>,
+        sink: &mut K,
+    ) -> Result<(), Stop>
+        requires few { self.old.line_count < 2 ^ 63 }
+        requires held { length self.old.text.items < MOST_HELD }
+        requires running { self.old.has_quit ≡ false }
+        ensures ok { OnOk result ((home : F) (files : Option Files) (lines : List Line)
+            (w : Option (List ℕ))
+            → IsKnown (progress options.now files (lines ++ line.now ∷ []))
+            → HasHeld options.now files lines w (K.written sink.old)
+            (desk map.old (shelf F.files F.calls home store.old)) self.old
+            → HasHeld options.now files (lines ++ line.now ∷ []) w (K.written sink.new)
+            (desk map.new (shelf F.files F.calls home store.new)) self.new) }
+        ensures err { IfErr result (λ stop. (home : F) (files : Option Files) (lines : List Line)
+            (w : Option (List ℕ))
+            → IsKnown (progress options.now files (lines ++ line.now ∷ []))
+            → HasHeld options.now files lines w (K.written sink.old)
+            (desk map.old (shelf F.files F.calls home store.old)) self.old
+            → IsHalted options.now files (lines ++ line.now ∷ []) w (K.written sink.new)
+            (desk map.new (shelf F.files F.calls home store.new))
+            (Rose (K.shortages sink.old) (K.shortages sink.new)) (status_of stop)) }
+        ensures held { OnOk result (length self.new.text.items < MOST_HELD) }
+        ensures adds { Adds (K.written sink.old) (K.written sink.new) }
+        ensures stands { KeepsStanding map.old map.new }
+        ensures line { self.new.line ≡ self.old.line }
+        ensures counted { OnOk result (self.new.line_count ≡ self.old.line_count + 1) }
+        ensures only { IfErr result IsHalt }
+        ensures counts { IsStopCounted result (K.faults sink.old) (K.faults sink.new)
+            (K.shortages sink.old) (K.shortages sink.new)
+            (F.faults store.old) (F.faults store.new) }
+    {
+        make_way(line, &mut self.text, sink)?;
+        match self.answer(options, map, store, line) {
+            Ok(()) => {
+                hold_few(&mut self.text, sink)?;
+                Ok(())
+            }
+            Err(fault) => {
+                flush(&mut self.text, sink)?;
+                Err(Stop::from(fault))
+            }
+        }
+    }
+
+    /// Answers the line that was fed, as [`Session::respond`] does, and begins the next one.
+    #[inline(never)]
+    fn respond_fed<K: Sink, F: Store>(
         &mut self,
         options: &Options,
         map: &mut OccMap,
@@ -178,17 +227,8 @@ impl Session {
             (K.shortages sink.old) (K.shortages sink.new)
             (F.faults store.old) (F.faults store.new) }
     {
-        make_way(&self.line, &mut self.text, sink)?;
-        match self.answer(options, map, store) {
-            Ok(()) => {
-                hold_few(&mut self.text, sink)?;
-                Ok(())
-            }
-            Err(fault) => {
-                flush(&mut self.text, sink)?;
-                Err(Stop::from(fault))
-            }
-        }
+        let line = replace(&mut self.line, Lines::new());
+        self.respond(options, map, store, &line.read(), sink)
     }
 
     /// Takes the bytes up to and with the next line feed, answers the line that ends there, and
@@ -229,11 +269,16 @@ impl Session {
             (K.shortages sink.old) (K.shortages sink.new)
             (F.faults store.old) (F.faults store.new) }
     {
+        if let Some(whole) = self.line.whole(piece) {
+            let line = ReadLine::new(whole.text);
+            self.respond(options, map, store, &line, sink)?;
+            return Ok(whole.taken);
+        }
         let fed = self.line.feed(piece);
         if !fed.ended {
             return Ok(fed.taken);
         }
-        self.respond(options, map, store, sink)?;
+        self.respond_fed(options, map, store, sink)?;
         Ok(fed.taken)
     }
 
@@ -314,7 +359,7 @@ impl Session {
         if !self.line.has_rest() {
             return Ok(());
         }
-        self.respond(options, map, store, sink)?;
+        self.respond_fed(options, map, store, sink)?;
         flush(&mut self.text, sink)?;
         Ok(())
     }

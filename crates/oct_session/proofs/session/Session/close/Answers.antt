@@ -24,5 +24,6 @@ returns-clause-ok g c = λ w p at before.
     c.requires.running at before
     (c.end_reply-reply.ensures ∙ ap end_reply c.take.ensures.value)
     (c.in_ok-tell.ensures.ok ∙ ap (λ x. x ++ text_of c.end_reply-reply.result) c.requires.empty)
-    c.in_ok-flush.ensures.ok refl c.take.ensures.after (ap (λ b. c.args.self.now.refused || b) c.is_refused.ensures) refl
+    c.in_ok-flush.ensures.ok refl c.take.ensures.after (ap (λ b. c.args.self.now.refused || b)
+    c.is_refused.ensures) refl
     c.count.ensures

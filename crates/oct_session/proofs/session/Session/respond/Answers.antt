@@ -7,7 +7,7 @@ use Rattle.oct_session.proofs.session.Session.respond.Goals as goal
 
 pub returns-in_err-make_way-clause-err : goal.returns-in_err-make_way-clause-err
 returns-in_err-make_way-clause-err g c =
-    way_err _ _ c.args.options.now _ _ _ c.args.self.now c.from_residual.ensures.1
+    way_err _ _ c.args.options.now _ _ _ c.args.self.now _ c.from_residual.ensures.1
     c.in_err-make_way.ensures.err (λ e. (c.in_err-make_way.ensures.counts.memory (ap Err e)).1)
 
 pub returns-in_err-hold_few-in-Ok-clause-adds : goal.returns-in_err-hold_few-in-Ok-clause-adds
@@ -24,11 +24,11 @@ returns-in_ok-flush-in-Err-clause-adds g c =
 
 pub returns-in_ok-hold_few-in-Ok-clause-ok : goal.returns-in_ok-hold_few-in-Ok-clause-ok
 returns-in_ok-hold_few-in-Ok-clause-ok g c = λ home files lines w known at.
-    held_moved c.args.options.now files (lines ++ c.args.self.now.line.line ∷ []) w _ _ _
+    held_moved c.args.options.now files (lines ++ c.args.line.now ∷ []) w _ _ _
     c.answer.new.self _
     (record { counted = refl; block = refl; refused = refl; has_quit = refl; tally = refl })
     c.in_ok-hold_few-in-Ok.ensures.moved
-    (held_more c.args.options.now _ _ _ _ c.args.self.now _ c.answer.new.self c.requires.running
+    (held_more c.args.options.now _ _ _ _ c.args.self.now _ c.answer.new.self _ c.requires.running
     (record { counted = refl; block = refl; refused = refl; has_quit = refl; tally = refl })
     c.requires.held c.in_ok-make_way.ensures.moved c.in_ok-make_way.ensures.clear
     c.in-Ok.ensures.text c.in-Ok.ensures.between home files lines w known at)
@@ -36,18 +36,18 @@ returns-in_ok-hold_few-in-Ok-clause-ok g c = λ home files lines w known at.
 pub returns-in_err-hold_few-in-Ok-clause-err : goal.returns-in_err-hold_few-in-Ok-clause-err
 returns-in_err-hold_few-in-Ok-clause-err g c =
     more_err _ _ c.args.options.now _ _ _ _ _ c.args.self.now c.answer.new.self
-    c.args.self.now.line.line c.from_residual-in_err-hold_few-in-Ok.ensures.1
+    c.args.line.now c.from_residual-in_err-hold_few-in-Ok.ensures.1
     c.in_err-hold_few-in-Ok.ensures.err
     (λ e. rose_since _ _ _ c.in_ok-make_way.ensures.counts.stays.1
     (c.in_err-hold_few-in-Ok.ensures.counts.memory (ap Err e)).1)
-    (held_more c.args.options.now _ _ _ _ c.args.self.now _ c.answer.new.self c.requires.running
+    (held_more c.args.options.now _ _ _ _ c.args.self.now _ c.answer.new.self _ c.requires.running
     (record { counted = refl; block = refl; refused = refl; has_quit = refl; tally = refl })
     c.requires.held c.in_ok-make_way.ensures.moved c.in_ok-make_way.ensures.clear
     c.in-Ok.ensures.text c.in-Ok.ensures.between)
 
 pub returns-in_err-flush-in-Err-clause-err : goal.returns-in_err-flush-in-Err-clause-err
 returns-in_err-flush-in-Err-clause-err g c =
-    failed_err _ _ _ c.args.options.now _ _ _ _ _ c.args.self.now _ _
+    failed_err _ _ _ c.args.options.now _ _ _ _ _ c.args.self.now _ _ _
     c.from_residual-in_err-flush-in-Err.ensures.1 c.requires.running
     (record { counted = refl; block = refl; refused = refl; has_quit = refl; tally = refl })
     c.requires.held c.in_ok-make_way.ensures.moved c.in-Err.ensures.kept
@@ -61,7 +61,7 @@ returns-in_ok-flush-in-Err-clause-err g c = λ home files lines w known at.
     own_halt c.from.result _ c.args.options.now _ _ _
     (λ home. desk c.args.map.now (shelf g.F.Store.files g.F.Store.calls home c.args.store.now))
     (λ home. desk c.answer.new.map (shelf g.F.Store.files g.F.Store.calls home c.answer.new.store))
-    c.args.self.now _ _ c.from.ensures
+    c.args.self.now _ _ _ c.from.ensures
     c.requires.running
     (record { counted = refl; block = refl; refused = refl; has_quit = refl; tally = refl })
     c.in_ok-make_way.ensures.moved c.in-Err.ensures.kept c.in_ok-flush-in-Err.ensures.ok
