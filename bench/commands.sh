@@ -42,10 +42,10 @@ after_scans() {
 
 : >"$folder/nothing"
 python3 "$here/make_commands.py" edits >"$folder/edits"
-measure edits "$(count nothing)" "$(count edits)" 100000 1880
+measure edits "$(count nothing)" "$(count edits)" 100000 1840
 scans=$(count scans)
 after_scans gets
-measure gets "$scans" "$(count gets)" 20000 1420
+measure gets "$scans" "$(count gets)" 20000 1380
 after_scans list
 measure 'blocks of a list' "$scans" "$(count list)" 1000000 220
 after_scans casts
