@@ -1,6 +1,6 @@
 -- The command of a line, and the reply to it outside the block of a scan.
 use Rattle.std.specs.Prelude.{ℕ, ℤ, List, [], ◌∷◌, ⊤, Option, Some, None, is_some, Result, Ok, Err}
-use Rattle.std.specs.Prelude.{◌≡◌, Bool, true, false, if◌then◌else◌}
+use Rattle.std.specs.Prelude.{◌≡◌, Bool, true, false, if◌then◌else◌, option_map}
 use Rattle.oct_io.specs.Files.{Files, saved}
 use Rattle.oct_key.specs.Values.{Values}
 use Rattle.oct_odds.specs.Odds.{Odds}
@@ -141,30 +141,94 @@ action_of files s (Ok command.Track) = Tracked ∷ []
 action_of files s (Ok command.Untrack) = Untracked ∷ []
 action_of files s (Ok (command.Limit low high)) = Limited low high ∷ []
 action_of files s (Ok command.NoLimit) = Unlimited ∷ []
-action_of files s _ = []
+action_of files s (Ok Blank) = []
+action_of files s (Ok Quit) = []
+action_of files s (Ok (Scan head)) = []
+action_of files s (Ok (Beam p)) = []
+action_of files s (Ok End) = []
+action_of files s (Ok (Get p depth)) = []
+action_of files s (Ok (Cast origin end ignore)) = []
+action_of files s (Ok (command.List low high depth)) = []
+action_of files s (Ok command.Changes) = []
+action_of files s (Ok (Save name)) = []
+action_of files s (Ok (Snapshot name)) = []
+action_of files s (Err refusal) = []
 
 -- what is done where the reply isn't a refusal
 abbrev pub accepted : Option Reply → History → History
 accepted answer actions = if is_refusal answer then [] else actions
+
+-- what a command asks of the files, if it names one: that what some function makes of the state is
+-- put there under this name, or that what stands there under it is read
+pub data FileWork : Type 0 where
+  Puts : List ℕ → (State → List ℕ) → FileWork
+  Reads : List ℕ → FileWork
+
+-- of any other command the files hear nothing
+abbrev pub file_work : Command → Option FileWork
+file_work (Save name) = Some (Puts name classes_file)
+file_work (Load name) = Some (Reads name)
+file_work (Snapshot name) = Some (Puts name snapshot_file)
+file_work (Restore name) = Some (Reads name)
+file_work Blank = None
+file_work Quit = None
+file_work (Scan head) = None
+file_work (Beam p) = None
+file_work End = None
+file_work (Edit p edit lazy) = None
+file_work (Box low high edit) = None
+file_work (Get p depth) = None
+file_work (Cast origin end ignore) = None
+file_work Counts = None
+file_work Refresh = None
+file_work Prune = None
+file_work Clear = None
+file_work MaxLik = None
+file_work (command.List low high depth) = None
+file_work command.Track = None
+file_work command.Untrack = None
+file_work command.Changes = None
+file_work (command.Limit low high) = None
+file_work command.NoLimit = None
 
 -- the bytes that are put under a name
 pub record Saving : Type 0 where
   pub name : List ℕ
   pub bytes : List ℕ
 
+-- what is put there, if something is
+abbrev pub saving_by : State → Option FileWork → Option Saving
+saving_by s None = None
+saving_by s (Some (Puts name text)) = Some (record { name = name; bytes = text s })
+saving_by s (Some (Reads name)) = None
+
+-- the name of the file
+abbrev pub name_in : FileWork → List ℕ
+name_in (Puts name text) = name
+name_in (Reads name) = name
+
+-- the file that may change, if one may: to read one changes none
+abbrev pub changed_by : Option FileWork → Option (List ℕ)
+changed_by None = None
+changed_by (Some (Puts name text)) = Some name
+changed_by (Some (Reads name)) = None
+
+-- what a line asks of the files; a line that isn't in the grammar asks nothing
+abbrev pub asked_of : Result Command Refusal → Option FileWork
+asked_of (Ok command) = file_work command
+asked_of (Err refusal) = None
+
 -- what a command saves, if it saves anything
 abbrev pub saving_of : State → Result Command Refusal → Option Saving
-saving_of s (Ok (Save name)) = Some (record { name = name; bytes = classes_file s })
-saving_of s (Ok (Snapshot name)) = Some (record { name = name; bytes = snapshot_file s })
-saving_of s _ = None
+saving_of s command = saving_by s (asked_of command)
 
--- the file that a command names, if it names one; of any other command the files hear nothing
+-- the file that a command names, if it names one
 abbrev pub file_named : Result Command Refusal → Option (List ℕ)
-file_named (Ok (Save name)) = Some name
-file_named (Ok (Load name)) = Some name
-file_named (Ok (Snapshot name)) = Some name
-file_named (Ok (Restore name)) = Some name
-file_named _ = None
+file_named command = option_map name_in (asked_of command)
+
+-- the file that a command may change, if it may change one
+abbrev pub file_saved : Result Command Refusal → Option (List ℕ)
+file_saved command = changed_by (asked_of command)
 
 -- a line that names no file, inside the block of a scan or outside
 abbrev pub NamesNoFile : Line → Type 0
@@ -174,12 +238,6 @@ NamesNoFile line = (inside : Bool) (number : ℕ) → file_named (command_on ins
 abbrev pub asks_for : Option (List ℕ) → ℕ
 asks_for None = 0
 asks_for (Some name) = 1
-
--- the file that a command may change, if it may change one: a load and a restore change none
-abbrev pub file_saved : Result Command Refusal → Option (List ℕ)
-file_saved (Ok (Save name)) = Some name
-file_saved (Ok (Snapshot name)) = Some name
-file_saved _ = None
 
 -- what is saved where the reply isn't a refusal
 abbrev pub accepted_saving : Option Reply → Option Saving → Option Saving

@@ -89,7 +89,16 @@ base_by g (Limited low high) =
     record g { update_box = corner_box (key_at g.res low) (key_at g.res high) }
 base_by g Unlimited = record g { update_box = None }
 base_by g (Restored s) = ground_after g s.head
-base_by g _ = g
+base_by g (Edited p edit lazy) = g
+base_by g (Boxed low high edit) = g
+base_by g (Scanned sighting lazy) = g
+base_by g Refreshed = g
+base_by g Pruned = g
+base_by g Cleared = g
+base_by g Likened = g
+base_by g (Replaced classes) = g
+base_by g Tracked = g
+base_by g Untracked = g
 
 -- whether inner values may be out of date after a command: from a lazy edit or scan on they may,
 -- and from a refresh, a clear, maximum likelihood, a load or a restore on they are right
@@ -133,7 +142,14 @@ marked_by now marked (Replaced classes) = None
 marked_by now marked (Restored s) = None
 marked_by now marked Tracked = Some now
 marked_by now marked Untracked = None
-marked_by now marked _ = marked
+marked_by now marked (Edited p edit lazy) = marked
+marked_by now marked (Boxed low high edit) = marked
+marked_by now marked (Scanned sighting lazy) = marked
+marked_by now marked Refreshed = marked
+marked_by now marked Pruned = marked
+marked_by now marked Likened = marked
+marked_by now marked (Limited low high) = marked
+marked_by now marked Unlimited = marked
 
 -- what a session has between two commands: what the map's answers read beside the values, the value
 -- of each voxel, its class at the mark, where one stands, whether inner values may be out of date,
