@@ -18,7 +18,7 @@ use Rattle.oct_script.specs.declared.reply.Reply.{Reply}
 use Rattle.oct_session_laws.specs.BlockReply.{BeginsBlock, NoneEnds, IsBlock, points_of, points_in}
 use Rattle.oct_session_laws.specs.BlockReply.{line_fault, first_fault, reply_unless, reply_to_block}
 use Rattle.oct_session_laws.specs.BlockReply.{done_for_block, HasOneReply, RepliesOnce}
-use Rattle.oct_session.specs.Commands.{command_on, is_quit, accepted}
+use Rattle.oct_session.specs.Commands.{command_on, is_quit, accepted, stored}
 use Rattle.oct_session.specs.History.{History, State, Scanned, state_after}
 use Rattle.oct_session.specs.ScanBlock.{opened, opens_block, with_line, is_end}
 use Rattle.oct_session.specs.ScanBlock.{block_reply, block_action}
@@ -30,6 +30,7 @@ use Rattle.oct_session.specs.Setup.{Setup}
 use Rattle.oct_session.specs.declared.block.Block.{Block}
 use Rattle.oct_session.specs.declared.block.Block.TheVariants.{Scanning, Spoilt}
 use Rattle.oct_session_laws.proofs.Allowed.{AllAllow, Has, line_has}
+use Rattle.oct_session.proofs.Effects.{saves_none}
 use Rattle.oct_session.proofs.NonemptyReplies.{block_some}
 use Rattle.oct_session.proofs.Progresses.{after_answered}
 
@@ -162,6 +163,7 @@ comes number (line ∷ lines) scan = step_comes number line lines (comes (number
 -- a session in which nothing was said since p, whose block stands like this after so many lines
 record IsIn (p q : Progress) (count : ℕ) (block : Block) : Type 0 where
   history : q.history ≡ p.history
+  files : q.files ≡ p.files
   text : q.text ≡ p.text
   lines : q.line_count ≡ count
   inside : q.block ≡ Some block
@@ -169,12 +171,13 @@ record IsIn (p q : Progress) (count : ℕ) (block : Block) : Type 0 where
 
 -- a line without a reply of its own
 silent_in : (o : Setup) (p q : Progress) (line : Line) (count : ℕ) (block : Block)
-    → q.has_quit ≡ false → q.history ≡ p.history → q.text ≡ p.text → q.line_count ≡ count
-    → effect_of o q line ≡ silent block → is_quit (next_command q line) ≡ false
-    → IsIn p (after_line o q line) (count + 1) block
-silent_in o p q line count block runs history text lines is goes_on =
+    → q.has_quit ≡ false → q.history ≡ p.history → q.files ≡ p.files → q.text ≡ p.text
+    → q.line_count ≡ count → effect_of o q line ≡ silent block
+    → is_quit (next_command q line) ≡ false → IsIn p (after_line o q line) (count + 1) block
+silent_in o p q line count block runs history files text lines is goes_on =
     subst (λ x. IsIn p x (count + 1) block) (sym (after_answered o q line runs)) (record {
       history = ap (λ (e : Effect). q.history ++ e.added) is ∙ append-nil q.history ∙ history;
+      files = ap (λ (e : Effect). stored q.files e.saving) is ∙ files;
       text = ap (λ (e : Effect). q.text ++ text_of e.reply) is ∙ append-nil q.text ∙ text;
       lines = ap (λ n. n + 1) lines;
       inside = ap (λ (e : Effect). e.block) is;
@@ -242,7 +245,7 @@ first_in o p head runs outside begins =
     ap (λ block. effect p.files (state_after o p.history) number head c block) outside
     ∙ ap (λ block. effect_opened p.files (state_after o p.history) c block)
     (first_opens number head c begins) in
-    silent_in o p p head p.line_count (first_block number c) runs refl refl refl is
+    silent_in o p p head p.line_count (first_block number c) runs refl refl refl refl is
     (first_runs head c begins)
 
 -- ---- the lines inside
@@ -276,8 +279,8 @@ inner_in o p q line count block at goes_on =
     ∙ ap (λ b. cond b
     (replied (block_reply (state_after o q.history) block) (block_action block) None)
     (silent (with_line (count + 1) c block))) goes_on in
-    silent_in o p q line count (with_line (count + 1) c block) at.running at.history at.text
-    at.lines is
+    silent_in o p q line count (with_line (count + 1) c block) at.running at.history at.files
+    at.text at.lines is
     (ap is_quit (next_in p q line count block at) ∙ inside_runs (count + 1) line)
 
 all_in : (o : Setup) (p q : Progress) (lines : List Line) (count : ℕ) (block : Block)
@@ -338,6 +341,8 @@ last_done o p q inside line block at ends one =
           ∙ ap (λ text. text ++ text_of reply) at.text;
       history = ap (λ (e : Effect). q.history ++ e.added) is
           ∙ ap (λ h. h ++ actions) at.history;
+      files = ap (λ (e : Effect). stored q.files e.saving) is
+          ∙ ap (stored q.files) (saves_none reply None refl) ∙ at.files;
       closed = ap (λ (e : Effect). e.block) is;
       running = running;
       lines = lines;

@@ -1,7 +1,7 @@
 -- That the groups which the values of a session need are within its limit.
 use Rattle.std.proofs.Common.{◌≡◌, ◌≢◌, ℕ, ◌+◌, ◌≤◌, List, [], ◌∷◌, Bool, true, false, cond, not}
 use Rattle.std.proofs.Common.{◌⊎◌, Option, Some, None, Result, Ok, Err, inl, inr, refl, sym, subst}
-use Rattle.std.proofs.Common.{◌∙◌, arith, ◌&&◌, nat_lt, is_some, pos}
+use Rattle.std.proofs.Common.{arith, ◌&&◌, nat_lt, is_some, pos}
 use Rattle.std.specs.Prelude.{⊤, nat_eq}
 use Rattle.std.specs.List.{fold}
 use Rattle.std.specs.Option.{option_or}
@@ -53,10 +53,10 @@ use Rattle.oct_values.proofs.Listed.{all_above_voxels}
 use Rattle.oct_values.proofs.Sums.{All-follows, sum_by-each_le, sum_by-counted, sum_by-none}
 use Rattle.oct_values.proofs.Uniform.{uniform_of, same_group_count}
 use Rattle.oct_session.specs.Commands.{reply, action_of, accepted, edit_reply}
-use Rattle.oct_session.specs.History.{History, State, Action, Edited, Scanned, Refreshed, Pruned}
+use Rattle.oct_session.specs.History.{History, State, Edited, Scanned}
 use Rattle.oct_session.specs.History.{Cleared, Likened, Replaced, Restored, class_event, edit_event}
 use Rattle.oct_session.specs.History.{after, after_all, start_state, state_after, value_after}
-use Rattle.oct_session.specs.History.{Boxed, Tracked, Untracked, Limited, Unlimited}
+use Rattle.oct_session.specs.History.{Boxed, Limited}
 use Rattle.oct_session.specs.ScanBlock.{opened, with_line, is_end, is_zero, scan_reply, block_reply}
 use Rattle.oct_session.specs.ScanBlock.{block_action}
 use Rattle.oct_session.specs.ScanSoFar.{sighting_so_far}
@@ -75,6 +75,7 @@ use Rattle.oct_snap.specs.Nodes.{group_total}
 use Rattle.oct_snap.specs.Reading.{Snapshot, read_snapshot}
 use Rattle.oct_snap.specs.declared.fault.SnapFault.{SnapFault}
 use Rattle.oct_session.proofs.MapHistory.{state_more}
+use Rattle.oct_session.proofs.SameLimits.{limits_of}
 use Rattle.oct_session.proofs.NonemptyReplies.{fault_known}
 
 -- the groups that the values need are within the limit
@@ -399,26 +400,6 @@ session_fits o p [] fits = fits
 session_fits o p (line ∷ lines) fits =
     session_fits o (after_line o p line) lines (line_fits o p line fits)
 
--- no command changes the most groups
-action_most : (s : State) (a : Action) → (after s a).base.max_groups ≡ s.base.max_groups
-action_most s (Edited p e lazy) = refl
-action_most s (Boxed low high e) = refl
-action_most s (Scanned seen lazy) = refl
-action_most s Refreshed = refl
-action_most s Pruned = refl
-action_most s Cleared = refl
-action_most s Likened = refl
-action_most s (Replaced classes) = refl
-action_most s (Restored q) = refl
-action_most s Tracked = refl
-action_most s Untracked = refl
-action_most s (Limited low high) = refl
-action_most s Unlimited = refl
-
-history_most : (s : State) (h : History) → (after_all s h).base.max_groups ≡ s.base.max_groups
-history_most s [] = refl
-history_most s (a ∷ h) = history_most (after s a) h ∙ action_most s a
-
 -- the groups that a session's values need never exceed its limit
 pub groups_within : (o : Setup) (files : Option Files) (lines : List Line)
     → group_count (value_after o (progress o files lines).history) ≤ o.max_groups
@@ -426,5 +407,6 @@ groups_within o files lines =
     let begins : Fits (start_state o) = (let none = unknown_needs in omega (arith, none)) in
     let fits : Fits (state_after o (progress o files lines).history) =
     session_fits o (start files) lines begins in
-    let most = history_most (start_state o) (progress o files lines).history in
+    let limits = limits_of o (progress o files lines).history in
+    let most = limits.groups in
     omega (arith, fits, most)

@@ -2,13 +2,13 @@
 use Rattle.std.proofs.Common.{◌≡◌, ◌≢◌, ℕ, ◌+◌, ◌≤◌, ◌^◌, ◌++◌, List, [], ◌∷◌, length, Bool, true}
 use Rattle.std.proofs.Common.{false, cond, Option, Some, None, IsSome, Result, Ok, Err, refl, sym}
 use Rattle.std.proofs.Common.{ap, subst, ◌∙◌}
-use Rattle.std.specs.Prelude.{nat_eq, option_map, pos}
+use Rattle.std.specs.Prelude.{IfSome, nat_eq, option_map, pos}
 use Rattle.std.specs.List.{fold}
 use Rattle.std.specs.Str.{bytes_eq}
 use Rattle.std.proofs.lemmas.Bool.{eq-eqb, le-ltb, le-leb}
 use Rattle.std.proofs.lemmas.List.Sums.{fold-append}
 use Rattle.std.proofs.lemmas.Slice.Eq.{bytes_eq-Decides}
-use Rattle.oct_io.specs.Files.{Files}
+use Rattle.oct_io.specs.Files.{Files, AreBytes}
 use Rattle.oct_io.specs.Loaded.{loaded_of}
 use Rattle.oct_io.specs.declared.store.Loaded.{Loaded}
 use Rattle.oct_io.specs.declared.store.Loaded.TheVariants.{Bytes, TooLarge}
@@ -36,7 +36,7 @@ use Rattle.oct_values.proofs.Uniform.{same_group_count}
 use Rattle.oct_session.specs.Commands.{Saving, accepted, stored}
 use Rattle.oct_session.specs.FileCommands.{found_in, snapshot_file, restore_reply, restore_action}
 use Rattle.oct_session.specs.FileCommands.{snapshot_action, groups_reply}
-use Rattle.oct_session_laws.specs.GivenBack.{IsState, IsSetUp, AreBytes, IsNext, name_written}
+use Rattle.oct_session_laws.specs.GivenBack.{IsState, IsSetUp, IsNext, name_written}
 use Rattle.oct_session_laws.specs.GivenBack.{NoneWrites, AreSnapshotAndRestore, IsGivenBack}
 use Rattle.oct_session_laws.specs.GivenBack.{GivesBack, TwoLines, up_to_second, AreKeptApart}
 use Rattle.oct_session.specs.History.{State, Restored, value_event, after, after_all, state_after}
@@ -270,7 +270,7 @@ file_kept o files bytes name file t first second given written =
     (subst (λ (x : Progress). NoneWrites o name x t.between) pushed given.kept) written
 
 -- the law
-pub restore_gives_back : (o : Setup) → IsSetUp o → (files : Files) (bytes name : List ℕ)
+restore_gives_back : (o : Setup) → IsSetUp o → (files : Files) (bytes name : List ℕ)
     (t : TwoLines) → AreBytes files → AreSnapshotAndRestore o files bytes name t
     → GivesBack o files bytes t
 restore_gives_back o set files bytes name t small given =
@@ -289,3 +289,11 @@ restore_gives_back o set files bytes name t small given =
     (reply_of.Restored (group_count (value_after o p.history)))
     (IsGivenBack (state_after o p.history)) lines.script reads.running does in
     record { told = done.0; left = done.1 }
+
+-- for files that a store tells
+pub restores_told : (o : Setup) (told : Option Files) → IsSetUp o → IfSome told AreBytes
+    → IfSome told (λ files. (bytes name : List ℕ) (t : TwoLines)
+    → AreSnapshotAndRestore o files bytes name t → GivesBack o files bytes t)
+restores_told o None set small = tt
+restores_told o (Some files) set small =
+    λ bytes name t given. restore_gives_back o set files bytes name t small given

@@ -8,7 +8,7 @@ use Rattle.std.proofs.lemmas.Bool.{false≢true}
 use Rattle.oct_bt.specs.DataClasses.{data_classes}
 use Rattle.oct_bt.specs.File.{FileRead, bt_text, header_text, text_of_lines, reading}
 use Rattle.oct_bt.specs.declared.fault.BtFault.{BtFault}
-use Rattle.oct_io.specs.Files.{Files, with_file}
+use Rattle.oct_io.specs.Files.{Files, AreBytes, with_file}
 use Rattle.oct_io.specs.Loaded.{loaded_of}
 use Rattle.oct_io.specs.declared.store.Loaded.{Loaded}
 use Rattle.oct_io.specs.declared.store.Loaded.TheVariants.{Bytes, Missing, TooLarge}
@@ -18,7 +18,6 @@ use Rattle.oct_key.specs.declared.point.Point.{Point}
 use Rattle.oct_key.proofs.Boxes.{box_exactly}
 use Rattle.oct_key.proofs.Faces.{IsInMap-key_at}
 use Rattle.oct_map.specs.Answers.{box_answer_by, corner_fault}
-use Rattle.oct_map.specs.Ground.{Ground}
 use Rattle.oct_map.specs.Outcome.{corner_box}
 use Rattle.oct_map.specs.declared.fault.MapFault.{MapFault}
 use Rattle.oct_map.specs.declared.fault.MapFault.TheVariants as fault
@@ -40,10 +39,10 @@ use Rattle.oct_session.specs.Commands.{accepted_saving, stored}
 use Rattle.oct_session.specs.FileCommands.{found_in, snapshot_file, reading_reply, reading_action}
 use Rattle.oct_session.specs.FileCommands.{load_reply, load_action, snapshot_reply, snapshot_action}
 use Rattle.oct_session.specs.FileCommands.{restore_reply, restore_action}
-use Rattle.oct_session_laws.specs.GivenBack.{IsMapBox, IsState, IsSetUp, AreBytes}
+use Rattle.oct_session_laws.specs.GivenBack.{IsMapBox, IsState, IsSetUp}
 use Rattle.oct_session.specs.History.{History, State, Action, Edited, Boxed, Scanned, Refreshed}
 use Rattle.oct_session.specs.History.{Pruned, Cleared, Likened, Replaced, Restored, Tracked}
-use Rattle.oct_session.specs.History.{Untracked, Limited, Unlimited, after, after_all, start_state}
+use Rattle.oct_session.specs.History.{Untracked, Limited, Unlimited, after, after_all}
 use Rattle.oct_session.specs.History.{state_after}
 use Rattle.oct_session.specs.ScanBlock.{opened, with_line, is_end, block_reply, block_action}
 use Rattle.oct_session.specs.ScanSoFar.{sighting_so_far}
@@ -54,6 +53,7 @@ use Rattle.oct_session.specs.Setup.{Setup}
 use Rattle.oct_session.specs.declared.block.Block.{Block}
 use Rattle.oct_session.specs.declared.block.Block.TheVariants.{Scanning, Spoilt}
 use Rattle.oct_session.proofs.MapHistory.{state_more}
+use Rattle.oct_session.proofs.SameLimits.{limits_of}
 use Rattle.oct_session_laws.proofs.SnapshotFields.{snapshot_fine}
 use Rattle.oct_session_laws.proofs.StateActions.{start_is, edited_is, limited_is, restored_is}
 
@@ -340,39 +340,11 @@ effect_saving files s number line c (Some block) ok is =
       | false ↦ tt
     ]
 
--- ---- what no command changes
-
--- the resolution and the limits of a session
-abbrev SameLimits : Ground → Ground → Type 0
-SameLimits g h = (g.res ≡ h.res) × (g.max_groups ≡ h.max_groups)
-
-action_limits : (s : State) (a : Action) → SameLimits (after s a).base s.base
-action_limits s (Edited p e lazy) = (refl, refl)
-action_limits s (Boxed low high e) = (refl, refl)
-action_limits s (Scanned seen lazy) = (refl, refl)
-action_limits s Refreshed = (refl, refl)
-action_limits s Pruned = (refl, refl)
-action_limits s Cleared = (refl, refl)
-action_limits s Likened = (refl, refl)
-action_limits s (Replaced classes) = (refl, refl)
-action_limits s (Restored q) = (refl, refl)
-action_limits s Tracked = (refl, refl)
-action_limits s Untracked = (refl, refl)
-action_limits s (Limited low high) = (refl, refl)
-action_limits s Unlimited = (refl, refl)
-
-history_limits : (s : State) (h : History) → SameLimits (after_all s h).base s.base
-history_limits s [] = (refl, refl)
-history_limits s (a ∷ h) =
-    let more = history_limits (after s a) h in
-    let one = action_limits s a in
-    (more.0 ∙ one.0, more.1 ∙ one.1)
-
 pub res_of : (o : Setup) (h : History) → (state_after o h).base.res ≡ o.res
-res_of o h = (history_limits (start_state o) h).0
+res_of o h = (limits_of o h).res
 
 pub most_of : (o : Setup) (h : History) → (state_after o h).base.max_groups ≡ o.max_groups
-most_of o h = (history_limits (start_state o) h).1
+most_of o h = (limits_of o h).groups
 
 -- ---- lines
 

@@ -1,6 +1,6 @@
 -- The numbers of a tally are the sums over the replies.
-use Rattle.std.proofs.Common.{◌≡◌, ℕ, ◌+◌, ◌-◌, ◌^◌, min, List, [], ◌∷◌, ◌++◌, true, false}
-use Rattle.std.proofs.Common.{cond, Option, Some, None, refl, sym, ap, subst, ◌∙◌, arith}
+use Rattle.std.proofs.Common.{◌≡◌, ℕ, ◌+◌, List, [], ◌∷◌, ◌++◌, true, false}
+use Rattle.std.proofs.Common.{cond, Option, Some, None, refl, sym, subst, arith}
 use Rattle.std.proofs.Common.{append_assoc, append-nil}
 use Rattle.std.specs.Prelude.{sum_by}
 use Rattle.std.specs.List.{fold}
@@ -20,33 +20,24 @@ use Rattle.oct_session.specs.declared.tally.Tally.{Tally}
 use Rattle.oct_session_laws.specs.Sums.{reply_to, replies_to, reply_at_end, all_replies}
 use Rattle.oct_session_laws.specs.Sums.{drill_replies, hits_in, frees_in, refusals_in, IsSummed}
 
--- ---- one number
+-- ---- one reply
 
-capped : (s h n m : ℕ) → n ≡ min s m → min (n + h) m ≡ min (s + h) m
-capped s h n m is = grind (arith, is)
-
--- a reply that adds nothing
-kept : (f : Option Reply → ℕ) (rs : List (Option Reply)) (r : Option Reply) (n m : ℕ) → f r ≡ 0
-    → n ≡ min (sum_by f rs) m → n ≡ min (sum_by f (rs ++ r ∷ [])) m
-kept f rs r n m none is =
-    let push = sum_by_push f rs r in
-    let same : sum_by f rs ≡ sum_by f (rs ++ r ∷ []) = omega (arith, push, none) in
-    is ∙ ap (λ x. min x m) same
+-- one that adds nothing to a sum
+kept : (f : Option Reply → ℕ) (rs : List (Option Reply)) (r : Option Reply) (n : ℕ) → f r ≡ 0
+    → n ≡ sum_by f rs → n ≡ sum_by f (rs ++ r ∷ [])
+kept f rs r n none is = let push = sum_by_push f rs r in omega (arith, push, none, is)
 
 -- and one that does
-added : (f : Option Reply → ℕ) (rs : List (Option Reply)) (r : Option Reply) (n m : ℕ)
-    → n ≡ min (sum_by f rs) m → min (n + f r) m ≡ min (sum_by f (rs ++ r ∷ [])) m
-added f rs r n m is =
-    capped (sum_by f rs) (f r) n m is ∙ ap (λ x. min x m) (sym (sum_by_push f rs r))
-
--- ---- one reply
+added : (f : Option Reply → ℕ) (rs : List (Option Reply)) (r : Option Reply) (n : ℕ)
+    → n ≡ sum_by f rs → n + f r ≡ sum_by f (rs ++ r ∷ [])
+added f rs r n is = let push = sum_by_push f rs r in omega (arith, push, is)
 
 same_summed : (t : Tally) (rs : List (Option Reply)) (r : Option Reply) → refusals_in r ≡ 0
     → hits_in r ≡ 0 → frees_in r ≡ 0 → IsSummed t rs → IsSummed t (rs ++ r ∷ [])
 same_summed t rs r refusals hits frees is = record {
-  refused = kept refusals_in rs r t.refused (2 ^ 64 - 1) refusals is.refused;
-  hits = kept hits_in rs r t.hits (2 ^ 64 - 1) hits is.hits;
-  frees = kept frees_in rs r t.frees (2 ^ 64 - 1) frees is.frees;
+  refused = kept refusals_in rs r t.refused refusals is.refused;
+  hits = kept hits_in rs r t.hits hits is.hits;
+  frees = kept frees_in rs r t.frees frees is.frees;
 }
 
 reply_summed : (t : Tally) (rs : List (Option Reply)) (r : Option Reply) → IsSummed t rs
@@ -57,9 +48,9 @@ reply_summed t rs (Some (reply.Known v c)) is =
     same_summed t rs (Some (reply.Known v c)) refl refl refl is
 reply_summed t rs (Some reply.Unknown) is = same_summed t rs (Some reply.Unknown) refl refl refl is
 reply_summed t rs (Some (reply.Scanned done)) is = record {
-  refused = kept refusals_in rs (Some (reply.Scanned done)) t.refused (2 ^ 64 - 1) refl is.refused;
-  hits = added hits_in rs (Some (reply.Scanned done)) t.hits (2 ^ 64 - 1) is.hits;
-  frees = added frees_in rs (Some (reply.Scanned done)) t.frees (2 ^ 64 - 1) is.frees;
+  refused = kept refusals_in rs (Some (reply.Scanned done)) t.refused refl is.refused;
+  hits = added hits_in rs (Some (reply.Scanned done)) t.hits is.hits;
+  frees = added frees_in rs (Some (reply.Scanned done)) t.frees is.frees;
 }
 reply_summed t rs (Some (reply.Blocks b n)) is =
     same_summed t rs (Some (reply.Blocks b n)) refl refl refl is
@@ -76,9 +67,9 @@ reply_summed t rs (Some (reply.Loaded n)) is =
 reply_summed t rs (Some (reply.Restored n)) is =
     same_summed t rs (Some (reply.Restored n)) refl refl refl is
 reply_summed t rs (Some (reply.Refused refusal)) is = record {
-  refused = added refusals_in rs (Some (reply.Refused refusal)) t.refused (2 ^ 64 - 1) is.refused;
-  hits = kept hits_in rs (Some (reply.Refused refusal)) t.hits (2 ^ 64 - 1) refl is.hits;
-  frees = kept frees_in rs (Some (reply.Refused refusal)) t.frees (2 ^ 64 - 1) refl is.frees;
+  refused = added refusals_in rs (Some (reply.Refused refusal)) t.refused is.refused;
+  hits = kept hits_in rs (Some (reply.Refused refusal)) t.hits refl is.hits;
+  frees = kept frees_in rs (Some (reply.Refused refusal)) t.frees refl is.frees;
 }
 
 -- ---- lines
@@ -114,7 +105,8 @@ end_summed p rs is =
 
 session_summed : (o : Setup) (files : Option Files) (lines : List Line)
     → IsSummed (closed (progress o files lines)).tally (all_replies o files lines)
-session_summed o files lines = end_summed (progress o files lines) (replies_to o (start files) lines)
+session_summed o files lines =
+    end_summed (progress o files lines) (replies_to o (start files) lines)
     (lines_summed o (start files) lines [] (record { refused = refl; hits = refl; frees = refl }))
 
 -- the law

@@ -103,12 +103,14 @@ abbrev pub done_for_block : State → ℕ → Result Command Refusal → List Li
 done_for_block s number command inside =
     accepted (reply_to_block s number command inside) (scan_of_block number command inside)
 
--- a block of so many lines has one reply, this one, has done this, and is closed behind them
+-- a block of so many lines has one reply, this one, has done this, is closed behind them, and
+-- leaves the files as they were
 pub record HasOneReply (p q : Progress) (count : ℕ) (reply : Option Reply) (actions : History)
     : Type 0 where
   pub one : IsSome reply
   pub text : q.text ≡ p.text ++ text_of reply
   pub history : q.history ≡ p.history ++ actions
+  pub files : q.files ≡ p.files
   pub closed : q.block ≡ None
   pub running : q.has_quit ≡ false
   pub lines : q.line_count ≡ p.line_count + count

@@ -1,7 +1,6 @@
 -- What a snapshot keeps, and a restore of its name gives back, within one session.
-use Rattle.std.specs.Prelude.{◌≡◌, ◌≢◌, ◌≤◌, ◌<◌, ◌^◌, ℕ, List, [], ◌∷◌, ◌++◌, length, false, ⊤}
+use Rattle.std.specs.Prelude.{◌≡◌, ◌≢◌, ◌≤◌, ◌^◌, ℕ, List, [], ◌∷◌, ◌++◌, length, false, ⊤}
 use Rattle.std.specs.Prelude.{Option, Some, None, option_map, IfSome, Ok}
-use Rattle.std.specs.List.{All}
 use Rattle.oct_io.specs.Files.{Files}
 use Rattle.oct_key.specs.Boxes.{Corners, IsBox}
 use Rattle.oct_key.specs.Values.{SameValues}
@@ -40,10 +39,6 @@ pub record IsState (s : State) : Type 0 where
 pub record IsSetUp (o : Setup) : Type 0 where
   pub res : IsResolution o.res
   pub odds : IsSound o.odds
-
--- the files consist of bytes
-abbrev pub AreBytes : Files → Type 0
-AreBytes files = (name : List ℕ) → IfSome (files name) (All (λ byte. byte < 256))
 
 -- ---- two lines of a script
 

@@ -1,5 +1,5 @@
 -- What the replies of a session come to, as plain sums over them.
-use Rattle.std.specs.Prelude.{◌≡◌, ℕ, ◌-◌, ◌^◌, min, List, [], ◌∷◌, ◌++◌, Option, Some, None, sum_by}
+use Rattle.std.specs.Prelude.{◌≡◌, ℕ, List, [], ◌∷◌, ◌++◌, Option, Some, None, sum_by}
 use Rattle.std.specs.Prelude.{if◌then◌else◌}
 use Rattle.oct_gen.specs.Script.{script_of}
 use Rattle.oct_io.specs.Files.{Files, no_files}
@@ -50,8 +50,8 @@ abbrev pub refusals_in : Option Reply → ℕ
 refusals_in (Some (Refused refusal)) = 1
 refusals_in _ = 0
 
--- each number is the sum over these replies, or 2^64 - 1 where the sum is more
+-- each number is the sum over these replies
 pub record IsSummed (t : Tally) (replies : List (Option Reply)) : Type 0 where
-  pub refused : t.refused ≡ min (sum_by refusals_in replies) (2 ^ 64 - 1)
-  pub hits : t.hits ≡ min (sum_by hits_in replies) (2 ^ 64 - 1)
-  pub frees : t.frees ≡ min (sum_by frees_in replies) (2 ^ 64 - 1)
+  pub refused : t.refused ≡ sum_by refusals_in replies
+  pub hits : t.hits ≡ sum_by hits_in replies
+  pub frees : t.frees ≡ sum_by frees_in replies

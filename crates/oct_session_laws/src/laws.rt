@@ -9,7 +9,7 @@ ghost use Rattle.oct_script.specs.Lines.{Line};
 ghost use Rattle.oct_script.specs.Replies.{refusal_text};
 ghost use Rattle.oct_session_laws.specs.BlockReply.{IsBlock, RepliesOnce};
 ghost use Rattle.oct_session.specs.Refusals.{file_refusal};
-ghost use Rattle.oct_session_laws.specs.GivenBack.{IsSetUp, AreBytes, IsState};
+ghost use Rattle.oct_session_laws.specs.GivenBack.{IsSetUp, IsState};
 ghost use Rattle.oct_session_laws.specs.GivenBack.{TwoLines, AreSnapshotAndRestore, GivesBack};
 ghost use Rattle.oct_session_laws.specs.Sums.{IsSummed, drill_replies};
 ghost use Rattle.oct_session.specs.Drill.{drilled};
@@ -18,6 +18,7 @@ ghost use Rattle.oct_session.specs.History.{History, state_after, value_after, a
 ghost use Rattle.oct_session.specs.Session.{Progress, progress};
 ghost use Rattle.oct_session.specs.Setup.{Setup, IsLimited};
 
+use oct_io::Store;
 use oct_session::Options;
 
 /// The value of a voxel after a history is the fold of its own events, one after another, from
@@ -50,12 +51,13 @@ fn keep(options: &Options)
     options.res.nm();
 }
 
-/// Between any two lines of a session its log-odds make a model, the box to which scans are
-/// restricted lies in the map, and each known value lies within the bounds. A law, with nothing to
-/// compute.
-pub fn states_stay_sound(options: &Options)
-    ensures { (files : Option Files) (lines : List Line) → IfSome files AreBytes
-        → IsState (state_after options.now (progress options.now files lines).history) }
+/// Between any two lines of a session over the files of a store, its log-odds make a model, the box
+/// to which scans are restricted lies in the map, and each known value lies within the bounds. A
+/// law, with nothing to compute.
+pub fn states_stay_sound<F: Store>(options: &Options, store: &F)
+    ensures { (lines : List Line)
+        → IsState (state_after options.now
+        (progress options.now (F.files store.now) lines).history) }
 {
     keep(options);
 }
@@ -65,13 +67,11 @@ pub fn states_stay_sound(options: &Options)
 /// that file, and the snapshot has at most `2^30` bytes. Its reply, in the text
 /// of the session, has the number of groups of then; and where it is the last line, every voxel has
 /// the value that it had at the snapshot, and the session goes by the log-odds and the box of then.
-/// The files that are there at first are of bytes, which a store does not say of those that it
-/// tells: a file of other numbers could set a box that no snapshot can hold. A law, with nothing to
-/// compute.
-pub fn snapshots_are_restored(options: &Options)
-    ensures { (files : Files) (bytes name : List ℕ) (t : TwoLines) → AreBytes files
+/// The files that are there at first are those that a store tells. A law, with nothing to compute.
+pub fn snapshots_are_restored<F: Store>(options: &Options, store: &F)
+    ensures { IfSome (F.files store.now) (λ files. (bytes name : List ℕ) (t : TwoLines)
         → AreSnapshotAndRestore options.now files bytes name t
-        → GivesBack options.now files bytes t }
+        → GivesBack options.now files bytes t) }
 {
     keep(options);
 }
@@ -93,15 +93,15 @@ pub fn saves_are_loaded(options: &Options)
 /// The block of a scan has one reply. It is the fault of its first line, where that has one, else
 /// the first fault of a line inside, in their order, of which one is a point too many; else that
 /// the quaternion is 0, and else what the map answers to the scan of all its points. Where it isn't
-/// a refusal that scan is done, and else nothing. A law, with nothing to compute.
+/// a refusal that scan is done, and else nothing. The files stay as they were. A law, with nothing
+/// to compute.
 pub fn blocks_have_one_reply()
     ensures { (o : Setup) (p : Progress) (head : Line) (inside : List Line) (last : Line)
         → IsBlock p head inside last → RepliesOnce o p head inside last }
 {}
 
 /// What a drill tells of its replies are plain sums over them: how many were refused, how many
-/// voxels the scans hit, and how many they freed; or 2^64 - 1 where a sum is more. A law, with
-/// nothing to compute.
+/// voxels the scans hit, and how many they freed. A law, with nothing to compute.
 pub fn drills_sum_up()
     ensures { (seed scans points : ℕ)
         → IsSummed (drilled seed scans points).tally (drill_replies seed scans points) }

@@ -9,9 +9,11 @@
 //!   its name, the restore isn't refused and what was kept is given back, where no line between
 //!   them writes that file (`specs/GivenBack.antt`). [`saves_are_loaded`]: so does a load with the
 //!   classes that a save of its name wrote (`specs/LoadedBack.antt`). Both take the options of a
-//!   session, and speak of its bytes, files and text as a caller of `serve` has them.
+//!   session, the first one also its store, and speak of its bytes, files and text as a caller of
+//!   `serve` has them.
 //! - [`blocks_have_one_reply`]: the block of a scan has one reply, and the first of its faults
-//!   decides which; it is done as a whole or not at all (`specs/BlockReply.antt`).
+//!   decides which; it is done as a whole or not at all, and leaves the files as they were
+//!   (`specs/BlockReply.antt`).
 //! - [`drills_sum_up`]: what a drill tells of its replies are sums over them (`specs/Sums.antt`).
 //! - [`faults_read_alike`]: a faulty file is refused with the same words by a `load` and by a task
 //!   over a file.

@@ -1,5 +1,6 @@
-use Rattle.oct_session_laws.proofs.GivenBack.{restore_gives_back}
+use Rattle.oct_session_laws.proofs.GivenBack.{restores_told}
 use Rattle.oct_session_laws.proofs.laws.snapshots_are_restored.Goals as goal
 
 pub returns : goal.returns
-returns c = restore_gives_back _ c.keep.ensures.set_up
+returns g c = restores_told _ (g.F.Store.files c.args.store.now) c.keep.ensures.set_up
+    (g.met.F.Store.tells_bytes c.args.store.now)
