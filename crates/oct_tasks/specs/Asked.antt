@@ -1,5 +1,5 @@
 -- A task in the words of the definitions.
-use Rattle.oct_tasks.specs.Task.{Session, Build, Convert, Inspect, OverFile, OverStore, Generate}
+use Rattle.oct_tasks.specs.Task.{Session, Build, Convert, Inspect, OverFile, OverStore, Gen}
 use Rattle.oct_tasks.specs.Task.{Drill}
 use Rattle.oct_tasks.specs.Task as meant
 use Rattle.oct_tasks.specs.declared.task.Task.{Task}
@@ -13,5 +13,5 @@ asked (code.Convert max_bytes) = Convert max_bytes
 asked (code.Inspect max_bytes) = Inspect max_bytes
 asked (code.OverFile task max_bytes) = OverFile task max_bytes
 asked (code.OverStore task) = OverStore task
-asked (code.Generate load) = Generate load
-asked (code.Drill load) = Drill load
+asked (code.Gen seed scans points) = Gen seed scans points
+asked (code.Drill seed scans points) = Drill seed scans points

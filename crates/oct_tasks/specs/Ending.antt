@@ -18,18 +18,14 @@ use Rattle.oct_session.specs.Session as session_reading
 use Rattle.oct_ending.specs.declared.status.Status.{Status}
 use Rattle.oct_ending.specs.declared.status.Status.TheVariants.{Done, Usage}
 use Rattle.oct_tasks.specs.Task.{Task, Session, Build, Convert, Inspect, OverFile, OverStore}
-use Rattle.oct_tasks.specs.Task.{Generate, Drill}
+use Rattle.oct_tasks.specs.Task.{Gen, Drill}
 use Rattle.oct_file_tasks.specs.FileTasks.{over_file_answer}
 use Rattle.oct_file_tasks.specs.OverStore.{told_reply, EndsOverStore}
 use Rattle.oct_file_tasks.specs.TwoFiles.{loads_of}
-use Rattle.oct_tasks.specs.declared.task.Workload.{Workload}
 
 -- the answer of a task that writes the script of these numbers
-abbrev pub script_answer : Workload → Answer
-script_answer load = record {
-  text = script_of load.seed load.scans load.points;
-  status = Done;
-}
+abbrev pub script_answer : ℕ → ℕ → ℕ → Answer
+script_answer seed scans points = record { text = script_of seed scans points; status = Done }
 
 -- the answer to words that have no task
 abbrev pub usage : Answer
@@ -45,9 +41,10 @@ answer (Some (Inspect max_bytes)) files bytes = with_files files (inspect_answer
 answer (Some (OverFile task max_bytes)) files bytes =
     with_files files (over_file_answer task max_bytes bytes)
 answer (Some (OverStore task)) files bytes = with_files files (told_reply task files)
-answer (Some (Generate load)) files bytes = with_files files (script_answer load)
-answer (Some (Drill load)) files bytes =
-    with_files files (drill load.seed load.scans load.points)
+answer (Some (Gen seed scans points)) files bytes =
+    with_files files (script_answer seed scans points)
+answer (Some (Drill seed scans points)) files bytes =
+    with_files files (drill seed scans points)
 
 -- how a run may end whose words have no task, or one that reads nothing, whatever its source tells;
 -- of others nothing is said here
@@ -55,10 +52,10 @@ abbrev pub EndsAlone : Option Task → Option Files → Option (List ℕ) → Op
     → Type 0
 EndsAlone None files old new status = IsAnswered usage old new status
 EndsAlone (Some (OverStore task)) files old new status = EndsOverStore task files old new status
-EndsAlone (Some (Generate load)) files old new status =
-    EndsUnread (script_answer load) old new status
-EndsAlone (Some (Drill load)) files old new status =
-    EndsUnread (drill load.seed load.scans load.points) old new status
+EndsAlone (Some (Gen seed scans points)) files old new status =
+    EndsUnread (script_answer seed scans points) old new status
+EndsAlone (Some (Drill seed scans points)) files old new status =
+    EndsUnread (drill seed scans points) old new status
 EndsAlone _ files old new status = ⊤
 
 -- how a run over these bytes may end: as the session or the build may, or as the task over a file;
@@ -108,14 +105,14 @@ names_files task = has_script task
 abbrev pub has_input : Option Task → Bool
 has_input None = false
 has_input (Some (OverStore task)) = false
-has_input (Some (Generate load)) = false
-has_input (Some (Drill load)) = false
+has_input (Some (Gen seed scans points)) = false
+has_input (Some (Drill seed scans points)) = false
 has_input _ = true
 
 -- whether a task may take memory beside what its sink takes
 abbrev pub takes_memory : Option Task → Bool
 takes_memory None = false
-takes_memory (Some (Generate load)) = false
+takes_memory (Some (Gen seed scans points)) = false
 takes_memory _ = true
 
 -- what a run over these bytes and files leaves of the store: a session and a build leave its files

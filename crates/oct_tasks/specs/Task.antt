@@ -24,8 +24,8 @@ use Rattle.oct_tasks.specs.declared.task.Workload.{Workload}
 use Rattle.oct_tasks.specs.Words.{value_of, are_options}
 
 -- a task of the program: a session, the building of a map's file by a script, one over a file of at
--- most this many bytes, one over two files of the store, or the writing of a script that a number
--- makes, or of four lines about its session
+-- most this many bytes, one over two files of the store, or the writing of a script that a seed
+-- makes, of so many scans of so many points each, or of four lines about its session
 pub data Task : Type 0 where
   Session : Setup → Task
   Build : Setup → Task
@@ -33,8 +33,8 @@ pub data Task : Type 0 where
   Inspect : ℕ → Task
   OverFile : FileTask → ℕ → Task
   OverStore : StoreTask → Task
-  Generate : Workload → Task
-  Drill : Workload → Task
+  Gen : ℕ → ℕ → ℕ → Task
+  Drill : ℕ → ℕ → ℕ → Task
 
 -- a number in a range, both ends included
 abbrev pub within : ℕ → ℕ → Option ℤ → Option ℕ
@@ -210,6 +210,13 @@ workload_of (seed ∷ scans ∷ points ∷ []) =
     workload_from (count_of 0 (10 ^ 18) seed) (count_of 0 1000 scans) (count_of 0 100000 points)
 workload_of _ = None
 
+-- the writing of such a script, and of the four lines about its session
+abbrev pub gen_by : Workload → Task
+gen_by load = Gen load.seed load.scans load.points
+
+abbrev pub drill_by : Workload → Task
+drill_by load = Drill load.seed load.scans load.points
+
 -- the task of a command and the words after it
 abbrev pub task_by : Word → List Word → Option Task
 task_by command words =
@@ -223,8 +230,8 @@ task_by command words =
     else if bytes_eq command (codes "vrml") then option_map (OverFile Vrml) (file_bytes words)
     else if bytes_eq command (codes "merge") then option_map OverStore (merge_asked words)
     else if bytes_eq command (codes "table") then option_map OverStore (table_asked words)
-    else if bytes_eq command (codes "gen") then option_map Generate (workload_of words)
-    else if bytes_eq command (codes "drill") then option_map Drill (workload_of words)
+    else if bytes_eq command (codes "gen") then option_map gen_by (workload_of words)
+    else if bytes_eq command (codes "drill") then option_map drill_by (workload_of words)
     else None
 
 -- the task that the words ask for; words with another command have none
@@ -241,5 +248,5 @@ IsInRange (Convert max_bytes) = max_bytes ≤ 2 ^ 32
 IsInRange (Inspect max_bytes) = max_bytes ≤ 2 ^ 32
 IsInRange (OverFile task max_bytes) = max_bytes ≤ 2 ^ 32
 IsInRange (OverStore task) = ⊤
-IsInRange (Generate load) = (load.scans ≤ 1000) × (load.points ≤ 100000)
-IsInRange (Drill load) = (load.scans ≤ 1000) × (load.points ≤ 100000)
+IsInRange (Gen seed scans points) = (scans ≤ 1000) × (points ≤ 100000)
+IsInRange (Drill seed scans points) = (scans ≤ 1000) × (points ≤ 100000)

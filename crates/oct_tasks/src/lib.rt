@@ -61,4 +61,4 @@ mod task;
 mod words;
 
 pub use program::run;
-pub use task::{Task, Usage, Workload, read_words};
+pub use task::{Task, Usage, read_words};

@@ -151,11 +151,19 @@ fn perform<S: Source, K: Sink, F: Store>(
             answer_over_file(alloc, *task, *max_bytes, source, sink)
         }
         Task::OverStore(task) => do_over_store(alloc, task, sink, store),
-        Task::Generate(load) => {
-            let written = generate(load.seed, load.scans, load.points, sink);
+        Task::Gen {
+            seed,
+            scans,
+            points,
+        } => {
+            let written = generate(*seed, *scans, *points, sink);
             status_written(Status::Done, written)
         }
-        Task::Drill(load) => drill(alloc, load.seed, load.scans, load.points, sink),
+        Task::Drill {
+            seed,
+            scans,
+            points,
+        } => drill(alloc, *seed, *scans, *points, sink),
     }
 }
 

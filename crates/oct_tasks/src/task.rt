@@ -91,11 +91,11 @@ const POINTS: Range = Range {
 };
 
 /// A script that a number makes: of which seed, and of how many scans of how many points each.
-#[derive(Clone, Copy, Debug)]
-pub struct Workload {
-    pub seed: u64,
-    pub scans: u32,
-    pub points: u32,
+#[derive(Clone, Copy)]
+pub(crate) struct Workload {
+    pub(crate) seed: u64,
+    pub(crate) scans: u32,
+    pub(crate) points: u32,
 }
 
 /// Two points, and the most bytes of the file of which something is asked between them.
@@ -121,10 +121,10 @@ pub enum Task {
     OverFile { task: FileTask, max_bytes: u64 },
     /// Two files of the store, and what is asked of both to the output.
     OverStore(StoreTask),
-    /// A script that a number makes, to the output.
-    Generate(Workload),
+    /// The script that a seed makes, of this many scans of this many points each, to the output.
+    Gen { seed: u64, scans: u32, points: u32 },
     /// The session over such a script, and four lines about it to the output.
-    Drill(Workload),
+    Drill { seed: u64, scans: u32, points: u32 },
 }
 
 /// The words ask for no task.
@@ -389,6 +389,28 @@ fn read_workload(words: &[String]) -> Option<Workload>
     })
 }
 
+/// The task that writes such a script.
+fn gen_task(load: Workload) -> Task
+    ensures { result ≡ Task.Gen load.seed load.scans load.points }
+{
+    Task::Gen {
+        seed: load.seed,
+        scans: load.scans,
+        points: load.points,
+    }
+}
+
+/// The task that does such a script, and writes four lines about it.
+fn drill_task(load: Workload) -> Task
+    ensures { result ≡ Task.Drill load.seed load.scans load.points }
+{
+    Task::Drill {
+        seed: load.seed,
+        scans: load.scans,
+        points: load.points,
+    }
+}
+
 /// Reads the words after a command.
 fn read_task(command: &[u8], words: &[String]) -> Option<Task>
     ensures exact { option_map asked result ≡ task_by command.now (bytes_of words.now) }
@@ -421,9 +443,9 @@ fn read_task(command: &[u8], words: &[String]) -> Option<Task>
     } else if command == b"table".as_slice() {
         Some(Task::OverStore(read_table(words)?))
     } else if command == b"gen".as_slice() {
-        Some(Task::Generate(read_workload(words)?))
+        Some(gen_task(read_workload(words)?))
     } else if command == b"drill".as_slice() {
-        Some(Task::Drill(read_workload(words)?))
+        Some(drill_task(read_workload(words)?))
     } else {
         None
     }
