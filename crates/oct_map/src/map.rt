@@ -1,7 +1,8 @@
 //! The map that a robot keeps: edited, scanned into and asked by points, within its limits.
 ghost use Rattle.std.specs.Prelude.{◌≡◌, ℕ, ◌+◌, ◌^◌, ◌<◌, ◌≤◌, ◌⊎◌, ◌&&◌, nat_lt, pos, ◌≤ℤ◌, ◌<ℤ◌};
 ghost use Rattle.std.specs.Prelude.{false, IsTrue, [], All, Some, None, is_some, IsSome, IfSome};
-ghost use Rattle.std.specs.Prelude.{Ok, Err, IsOk, OnOk, OnErr, IfErr};
+ghost use Rattle.std.specs.Prelude.{Ok, Err, IsOk, OnOk, OnErr, IfOk, IfErr};
+ghost use Rattle.oct_key.specs.CubeOf.{cube_of};
 ghost use Rattle.oct_key.specs.Voxel.{Voxel, IsInMap, key_at};
 ghost use Rattle.oct_key.specs.Values.{SameValues};
 ghost use Rattle.oct_odds.specs.Odds.{odds_of};
@@ -18,10 +19,12 @@ ghost use Rattle.oct_tree.specs.Shape.{IsFresh, IsPruned};
 ghost use Rattle.oct_edit.specs.Saturated.{IsSaturated};
 ghost use Rattle.oct_edit.specs.Edits.{IsTidyAlong};
 ghost use Rattle.oct_inner.specs.Changes.{IsSameButInner, IsShrunk};
+ghost use Rattle.oct_query.specs.Paths.{ArePathsOf};
 ghost use Rattle.oct_pose.specs.Reach.{IsInReach};
 ghost use Rattle.oct_scan.specs.Beam.{IsTrust, sighting_of};
 ghost use Rattle.oct_scan.specs.Outcome.{scan_fault, hit_count, free_count, TakesMemory};
 ghost use Rattle.oct_map.specs.declared.fault.MapFault.{MapFault};
+ghost use Rattle.oct_map.specs.Asked.{IsToAsk};
 ghost use Rattle.oct_map.specs.Answers.{room_answer, edit_answer, edit_need, box_answer, box_fault};
 ghost use Rattle.oct_map.specs.Answers.{most_noted, limit_answer, scan_answer, get_answer};
 ghost use Rattle.oct_map.specs.Answers.{IsAnswerOrMemory};
@@ -47,7 +50,7 @@ use oct_edit::{ScanUpdate, box_need, touch, touch_all, touch_box};
 use oct_inner::{maximum_likelihood, prune, refresh};
 use oct_key::{Block, Key, Point, Res, Window};
 use oct_odds::{Event, OddsModel};
-use oct_query::{BlockList, Counts, counts, list, query};
+use oct_query::{BlockList, Counts, Paths, counts, list, query};
 use oct_scan::{Scan, ScanOdds, update_bricks};
 use oct_tree::OccTree;
 use std::alloc::Global;
@@ -345,6 +348,38 @@ impl OccMap {
             ≡ get_answer (ground_of self.now) self.now.is_stale (values_of self.now) p depth }
         ensures map { IsMap self.now }
     {
+        let block = self.block_to_ask(p, depth)?;
+        Ok(query(self.tree(), block))
+    }
+
+    /// Paths for [`get_by`](OccMap::get_by), as long as the map doesn't change.
+    pub fn paths(&self) -> Paths
+        ensures paths { ArePathsOf self.now.tree result }
+        ensures map { IsMap self.now }
+    {
+        Paths::new(self.tree())
+    }
+
+    /// The same as [`get`](OccMap::get), by paths that are kept. Where one point after another is
+    /// asked for, it goes down only from where their ways part.
+    pub fn get_by(&self, paths: &mut Paths, p: Point, depth: u32) -> Result<Option<i32>, MapFault>
+        requires paths { ArePathsOf self.now.tree paths.old }
+        ensures answer { result
+            ≡ get_answer (ground_of self.now) self.now.is_stale (values_of self.now) p depth }
+        ensures paths { ArePathsOf self.now.tree paths.new }
+        ensures map { IsMap self.now }
+    {
+        let block = self.block_to_ask(p, depth)?;
+        Ok(paths.query(self.tree(), block))
+    }
+
+    /// The block of that depth around the point, where the map answers for it, or why it doesn't.
+    fn block_to_ask(&self, p: Point, depth: u32) -> Result<Block, MapFault>
+        ensures ok { IfOk result (λ block. IsToAsk self.now p depth (cube_of block)) }
+        ensures err { IfErr result (λ fault. Err fault
+            ≡ get_answer (ground_of self.now) self.now.is_stale (values_of self.now) p depth) }
+        ensures map { IsMap self.now }
+    {
         let Some(k) = self.tree.res().key_of(p) else {
             return Err(MapFault::Outside { point: 1 });
         };
@@ -354,7 +389,7 @@ impl OccMap {
         if self.is_stale && depth < VOXEL_DEPTH {
             return Err(MapFault::Stale);
         }
-        Ok(query(&self.tree, Block::of(k, depth as u8)))
+        Ok(Block::of(k, depth as u8))
     }
 
     /// The blocks of that depth that meet the box whose corners hold the two points, both included,

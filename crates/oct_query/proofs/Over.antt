@@ -1,6 +1,6 @@
 -- What the node over a block answers for it.
-use Rattle.std.proofs.Common.{◌≡◌, ℕ, zero, suc, ◌+◌, ◌<◌, ◌≤◌, Some, None, refl, sym, ◌∙◌, subst}
-use Rattle.std.proofs.Common.{arith}
+use Rattle.std.proofs.Common.{◌≡◌, ℕ, zero, suc, ◌+◌, ◌-◌, ◌<◌, ◌≤◌, Some, None, refl, sym, ◌∙◌, ap}
+use Rattle.std.proofs.Common.{arith, subst}
 use Rattle.std.specs.Prelude.{ℤ, ◌≤ℤ◌}
 use Rattle.std.proofs.lemmas.Int.{ints}
 use Rattle.oct_key.specs.Voxel.{Voxel}
@@ -15,9 +15,9 @@ use Rattle.oct_arena.specs.declared.node.Node.TheVariants.{Absent, Leaf, Inner}
 use Rattle.oct_arena.specs.Entries.{node_at}
 use Rattle.oct_tree.specs.Nodes.{IsGreatest}
 use Rattle.oct_arena.specs.Nodes.{stored_in}
-use Rattle.oct_tree.specs.Tree.{IsOver, Tree, IsLinked, value_at}
+use Rattle.oct_tree.specs.Tree.{IsOver, Tree, IsLinked, reach, value_at}
 use Rattle.oct_tree.specs.Shape.{IsFresh}
-use Rattle.oct_tree.proofs.Over.{over_child, over_value, over_home, reach_place}
+use Rattle.oct_tree.proofs.Over.{over_child, over_value, over_home, over_lowest, reach_place}
 use Rattle.oct_tree.proofs.Paths.{some_injective}
 
 -- a known voxel is at most the answer of its block
@@ -87,3 +87,24 @@ answer_over_voxel t l b (Leaf v) ok d over =
 answer_over_voxel t l b (Inner v id) ok d over =
     let low = (l.homes id.number b (over_home t b (Inner v id) id.number l ok over refl)).1 in
     absurd (omega arith)
+
+-- what the node over the first voxel of a block answers for the block
+pub record IsAnswer (t : Tree) (b : Cube) (answer : Value) : Type 0 where
+  pub node : (k : Voxel) → HoldsVoxel b k → answer ≡ stored_in (reach t b.depth k)
+  pub fresh : IsFresh t → IsLargestIn (value_at t) b answer
+  pub voxel : b.depth ≡ 16 → IsLargestIn (value_at t) b answer
+
+pub answered : (t : Tree) (b : Cube) (k : Voxel) (n : Node) (answer : Value) → IsLinked t
+    → IsBlock b → k ≡ lowest_voxel b → n ≡ reach t b.depth k → answer ≡ stored_in n
+    → IsAnswer t b answer
+answered t b k n answer linked ok lowest is answers =
+    let same : n ≡ reach t b.depth (lowest_voxel b) = is ∙ ap (reach t b.depth) lowest in
+    let over : IsOver t b n = subst (IsOver t b) (sym same) (over_lowest t b ok) in
+    let levels = ok.depth in
+    record {
+      node = λ k held. answers ∙ ap stored_in (sym (over k held));
+      fresh = λ fresh. subst (IsLargestIn (value_at t) b) (sym answers)
+          (answer_over t fresh (16 - b.depth) b n ok (omega (arith, levels)) over);
+      voxel = λ deep. subst (IsLargestIn (value_at t) b) (sym answers)
+          (answer_over_voxel t linked b n ok deep over);
+    }

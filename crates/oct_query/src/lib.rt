@@ -10,12 +10,17 @@
 //!
 //! ```text
 //! let value = query(&tree, Block::of(key, 15));     // the largest of eight voxels, or None
+//! let value = paths.query(&tree, Block::of(key, 15));     // the same, by paths that are kept
 //! let Counts { groups, nodes } = counts(&tree);
 //! for found in list(alloc, &tree, lo, hi, 15, 1_000_000)?.as_slice() { .. }
 //! for leaf in leaves(alloc, &tree)?.as_slice() { .. }
 //! for leaf in leaves_in(alloc, &tree, lo, hi)?.as_slice() { .. }
 //! let window = bounds(&tree, Sought::Occupied);     // None where no voxel is occupied
 //! ```
+//!
+//! [`Paths`] answer the same to many questions, and go down only from where the ways to this block
+//! and to an earlier one part. They keep eight ways, so that points on both sides of a border of
+//! great blocks, as the origin has it, don't part at the root.
 //!
 //! [`counts`] answers how many groups there are and how many nodes aren't absent. The promise is a
 //! law over all trees: no tree of these values has fewer groups than there are blocks of depth 0 to
@@ -61,6 +66,7 @@ mod leaf_list;
 mod listing;
 mod nodes;
 mod path;
+mod paths;
 mod sought;
 mod totals;
 
@@ -73,6 +79,7 @@ pub use laws::{groups_are_needed, leaves_are_leaf_nodes, pruned_is_least};
 pub use leaf_list::{leaves, leaves_in};
 pub use listing::list;
 pub use nodes::counts;
+pub use paths::Paths;
 pub use sought::Sought;
 pub use totals::Counts;
 

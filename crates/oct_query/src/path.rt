@@ -11,7 +11,7 @@ use oct_tree::OccTree;
 
 /// The nodes on the path from the root to a voxel, down to a depth. A caller that asks for one
 /// voxel after another goes up only to where the paths part.
-#[derive(Drop)]
+#[derive(Clone, Copy)]
 pub(crate) struct Path {
     nodes: [Node; 17],
     key: Key,
@@ -38,13 +38,14 @@ impl Path {
         ensures path { IsPathOf tree.now self.new }
     {
         let from = self.shared(k, depth);
+        let mut node = self.nodes[from as usize];
         for level in from..depth {
-            let node = tree.child_node(self.nodes[level as usize], child_index(k, level));
+            node = tree.child_node(node, child_index(k, level));
             self.nodes[level as usize + 1] = node;
         }
         self.key = k;
         self.depth = depth;
-        self.nodes[depth as usize]
+        node
     }
 
     /// A depth of at most `most`, down to which this path and that to the voxel are the same.

@@ -1,5 +1,6 @@
 //! What is known at points.
 ghost use Rattle.std.specs.Prelude.{◌≡◌, length};
+ghost use Rattle.oct_query.specs.Paths.{ArePathsOf};
 ghost use Rattle.octofix.specs.Asked.{asked};
 ghost use Rattle.octofix.specs.Buffers.{list_code, list_left};
 ghost use Rattle.octofix.specs.Queries.{answer_told, answers_at, value_at, value_code, value_left};
@@ -8,6 +9,7 @@ use crate::handle::Octofix;
 use crate::refusal::{DONE, Refusal, SMALL_BUFFER, UNKNOWN};
 use crate::types::{PointAnswer, PointNm};
 use oct_map::OccMap;
+use oct_query::Paths;
 
 /// Tells the value at a point.
 fn get(map: &OccMap, point: &PointNm, depth: u32, value: &mut i32) -> u32
@@ -24,11 +26,13 @@ fn get(map: &OccMap, point: &PointNm, depth: u32, value: &mut i32) -> u32
     }
 }
 
-/// What a point of many is answered.
-fn answer_at(map: &OccMap, point: &PointNm, depth: u32) -> PointAnswer
-    ensures { result ≡ answer_told (value_at depth point.now map.now) }
+/// What a point of many is answered, by the paths to those before it.
+fn answer_at(map: &OccMap, paths: &mut Paths, point: &PointNm, depth: u32) -> PointAnswer
+    requires { ArePathsOf map.now.tree paths.old }
+    ensures answer { result ≡ answer_told (value_at depth point.now map.now) }
+    ensures paths { ArePathsOf map.now.tree paths.new }
 {
-    match map.get(point.point(), depth) {
+    match map.get_by(paths, point.point(), depth) {
         Ok(Some(value)) => PointAnswer { value, code: DONE },
         Ok(None) => PointAnswer {
             value: 0,
@@ -51,8 +55,9 @@ fn get_all(map: &OccMap, points: &[PointNm], depth: u32, answers: &mut [PointAns
     if answers.len() < points.len() {
         return SMALL_BUFFER;
     }
+    let mut paths = map.paths();
     for (i, point) in points.iter().enumerate() {
-        answers[i] = answer_at(map, point, depth);
+        answers[i] = answer_at(map, &mut paths, point, depth);
     }
     DONE
 }

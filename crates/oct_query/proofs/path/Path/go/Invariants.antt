@@ -5,6 +5,8 @@ use Rattle.oct_tree.specs.Tree.{reach}
 use Rattle.oct_query.proofs.path.Path.go.Given as goal
 
 abbrev pub invariant-loop-level : goal.invariant-loop-level
-invariant-loop-level l =
-    (length l.self.nodes ≡ 17)
-    × ((j : ℕ) (d : Node) → j ≤ l.level → slice_index_or l.self.nodes j d ≡ reach l.tree j l.k)
+invariant-loop-level l = record {
+  room : length l.self.nodes ≡ 17;
+  nodes : (j : ℕ) (d : Node) → j ≤ l.level → slice_index_or l.self.nodes j d ≡ reach l.tree j l.k;
+  node : l.node ≡ reach l.tree l.level l.k;
+}
