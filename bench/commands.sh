@@ -45,11 +45,11 @@ python3 "$here/make_commands.py" edits >"$folder/edits"
 measure edits "$(count nothing)" "$(count edits)" 100000 1840
 scans=$(count scans)
 after_scans gets
-measure gets "$scans" "$(count gets)" 20000 1380
+measure gets "$scans" "$(count gets)" 20000 1340
 after_scans list
-measure 'blocks of a list' "$scans" "$(count list)" 1000000 220
+measure 'blocks of a list' "$scans" "$(count list)" 1000000 210
 after_scans casts
-measure casts "$scans" "$(count casts)" 1000 2950
+measure casts "$scans" "$(count casts)" 1000 2840
 after_scans ignoring
 measure 'casts that ignore unknown voxels' "$scans" "$(count ignoring)" 1000 16300
 # The bytes that the script of this kind saved.
