@@ -5,7 +5,7 @@ use Rattle.std.proofs.Common.{le_trans}
 use Rattle.std.specs.Prelude.{◌⊎◌}
 use Rattle.oct_convert.proofs.Canonicals.{same_text}
 use Rattle.oct_key.specs.Voxel.{Voxel, IsInMap}
-use Rattle.oct_key.specs.Boxes.{Corners}
+use Rattle.oct_key.specs.Boxes.{Window}
 use Rattle.oct_odds.specs.Odds.{Odds, default_odds}
 use Rattle.oct_tree.specs.Changes.{IsGrown}
 use Rattle.oct_tree.specs.Tree.{Tree, value_at}
@@ -71,7 +71,7 @@ joined_file rule pair file res codes nodes =
 -- ---- the table
 
 -- the lines of what is counted of two files
-pub rows_told : (pair : Pair) (box : Corners) (lo hi : Voxel) (counts : List ℕ)
+pub rows_told : (pair : Pair) (box : Window) (lo hi : Voxel) (counts : List ℕ)
     → counts ≡ pair_counts lo hi (data_classes pair.first.codes) (data_classes pair.second.codes)
     → lo ≡ box.lo → hi ≡ box.hi → table_rows counts ≡ table_text pair box
 rows_told pair box lo hi counts exact at_lo at_hi =

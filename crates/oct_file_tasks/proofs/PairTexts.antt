@@ -2,7 +2,7 @@
 use Rattle.std.proofs.Common.{◌≡◌, ℕ, ◌<◌, List, [], ◌++◌, length, Result, Ok, Err, sym, ◌∙◌, ap}
 use Rattle.std.proofs.Common.{append_assoc, append-nil, zero-lt-suc}
 use Rattle.oct_bt.specs.File.{bt_text, header_text, text_of_lines}
-use Rattle.oct_key.specs.Boxes.{Corners}
+use Rattle.oct_key.specs.Boxes.{Window}
 use Rattle.oct_odds.specs.declared.event.Class.{Class}
 use Rattle.oct_odds.specs.declared.event.Class.TheVariants.{Unknown, Free, Occupied}
 use Rattle.oct_merge.specs.declared.rule.Rule.{Rule}
@@ -24,7 +24,7 @@ pub some_merged : (rule : Rule) (pair : Pair) → 0 < length (merged_text rule p
 unfolding merged_text bt_text header_text text_of_lines
 some_merged rule pair = zero-lt-suc _
 
-pub some_table : (pair : Pair) (box : Corners) → 0 < length (table_text pair box)
+pub some_table : (pair : Pair) (box : Window) → 0 < length (table_text pair box)
 unfolding table_text
 some_table pair box = zero-lt-suc _
 
@@ -36,7 +36,7 @@ some_line (no.OtherResolution first second) = zero-lt-suc _
 pub some_refusal : (why : Refusal) → 0 < length (refused why).text
 some_refusal why = zero-lt-suc _
 
-some_table_reply : (pair : Pair) (box : Result Corners Refusal)
+some_table_reply : (pair : Pair) (box : Result Window Refusal)
     → 0 < length (table_reply pair box).text
 some_table_reply pair (Ok box) = some_table pair box
 some_table_reply pair (Err why) = some_refusal why
@@ -63,7 +63,7 @@ nine a b c d e f g h i =
     ∙ ap (λ l. (a ++ (b ++ (c ++ []))) ++ ((d ++ (e ++ (f ++ []))) ++ (l ++ []))) (three g h i)
 
 -- the nine lines of the counts are the table
-pub rows_are_table : (pair : Pair) (box : Corners)
+pub rows_are_table : (pair : Pair) (box : Window)
     → table_rows (pair_counts box.lo box.hi (data_classes pair.first.codes)
     (data_classes pair.second.codes)) ≡ table_text pair box
 unfolding table_text pair_counts

@@ -4,7 +4,7 @@ use Rattle.std.proofs.Common.{sym, ap, subst, ◌∙◌, arith, length-append, z
 use Rattle.std.specs.Prelude.{codes, decimal, nat_lt}
 use Rattle.std.specs.List.{flat_map}
 use Rattle.std.proofs.lemmas.Bool.{lt-ltb, le-ltb}
-use Rattle.oct_key.specs.Boxes.{Corners}
+use Rattle.oct_key.specs.Boxes.{Window}
 use Rattle.oct_key.specs.Voxel.{Voxel, IsInMap}
 use Rattle.oct_export.specs.Boxes.{boxes_of}
 use Rattle.oct_export.specs.BoxTexts.{vrml_text}
@@ -43,7 +43,7 @@ some_list voxels =
     (record { text = listing voxels; status = Done }) (some_refusal TooManyFrontiers)
     (some_listing voxels)
 
-pub some_grid : (c : Classes) (box : Corners) → 0 < length (grid_reply c box).text
+pub some_grid : (c : Classes) (box : Window) → 0 < length (grid_reply c box).text
 unfolding grid_reply pgm_text grid_head
 some_grid c box =
     some_of_two (nat_lt 67108864 (column_count box)) (refused (WideGrid (column_count box)))
@@ -68,18 +68,18 @@ few_enough : (voxels : List Voxel) → length voxels ≤ 1000000
     → list_reply voxels ≡ record { text = listing voxels; status = Done }
 few_enough voxels few = rw (le-ltb 1000000 (length voxels) few) refl
 
-pub list_refused : (c d : Classes) (low high : Voxel) → ((k : Voxel) → IsInMap k → c k ≡ d k)
-    → 1000000 < length (frontier_between c low high)
-    → list_reply (frontier_between d low high) ≡ refused TooManyFrontiers
-list_refused c d low high same more = ap list_reply (sym (same_frontier c d low high same))
-    ∙ too_many (frontier_between c low high) more
+pub list_refused : (c d : Classes) (lo hi : Voxel) → ((k : Voxel) → IsInMap k → c k ≡ d k)
+    → 1000000 < length (frontier_between c lo hi)
+    → list_reply (frontier_between d lo hi) ≡ refused TooManyFrontiers
+list_refused c d lo hi same more = ap list_reply (sym (same_frontier c d lo hi same))
+    ∙ too_many (frontier_between c lo hi) more
 
-pub list_told : (c d : Classes) (low high : Voxel) (slice keys : List Voxel)
+pub list_told : (c d : Classes) (lo hi : Voxel) (slice keys : List Voxel)
     → ((k : Voxel) → IsInMap k → c k ≡ d k) → slice ≡ keys
-    → keys ≡ frontier_between c low high → length keys ≤ 1000000
-    → list_reply (frontier_between d low high) ≡ record { text = listing slice; status = Done }
-list_told c d low high slice keys same is exact few =
-    ap list_reply (sym (exact ∙ same_frontier c d low high same)) ∙ few_enough keys few
+    → keys ≡ frontier_between c lo hi → length keys ≤ 1000000
+    → list_reply (frontier_between d lo hi) ≡ record { text = listing slice; status = Done }
+list_told c d lo hi slice keys same is exact few =
+    ap list_reply (sym (exact ∙ same_frontier c d lo hi same)) ∙ few_enough keys few
     ∙ ap told (sym is)
   where
     told : List Voxel → Answer
@@ -87,7 +87,7 @@ list_told c d low high slice keys same is exact few =
 
 -- ---- a grid
 
-pub grid_refused : (c : Classes) (box : Corners) (count : ℕ) → count ≡ column_count box
+pub grid_refused : (c : Classes) (box : Window) (count : ℕ) → count ≡ column_count box
     → 67108864 < count → grid_reply c box ≡ refused (WideGrid count)
 unfolding grid_reply
 grid_refused c box count is more =
@@ -96,7 +96,7 @@ grid_refused c box count is more =
     (lt-ltb 67108864 (column_count box) (subst (λ n. 67108864 < n) is more))
     ∙ ap (λ n. refused (WideGrid n)) (sym is)
 
-pub grid_told : (c : Classes) (box : Corners) (count : ℕ) → count ≡ column_count box
+pub grid_told : (c : Classes) (box : Window) (count : ℕ) → count ≡ column_count box
     → count ≤ 67108864
     → grid_reply c box ≡ record { text = pgm_text c box.lo box.hi; status = Done }
 unfolding grid_reply

@@ -8,7 +8,7 @@ use Rattle.oct_bt.specs.File.{FileRead, bt_text}
 use Rattle.oct_convert.specs.Answers.{refusal_line}
 use Rattle.oct_io.specs.Files.{Files}
 use Rattle.oct_key.specs.Block.{root_block}
-use Rattle.oct_key.specs.Boxes.{Corners}
+use Rattle.oct_key.specs.Boxes.{Window}
 use Rattle.oct_key.specs.Values.{Values}
 use Rattle.oct_merge.specs.declared.rule.Rule.{Rule}
 use Rattle.oct_merge.specs.Merged.{merged}
@@ -82,13 +82,13 @@ abbrev pub classes : List Class
 classes = Unknown ∷ Free ∷ Occupied ∷ []
 
 -- how many voxels of a box have these classes in two maps
-abbrev pub class_count : Pair → Corners → Class → Class → ℕ
+abbrev pub class_count : Pair → Window → Class → Class → ℕ
 class_count pair box first second =
     pairs_in box.lo box.hi (data_classes pair.first.codes) (data_classes pair.second.codes)
     (pair_of first second) root_block
 
 -- nine lines: for each class in the first map one for each class in the second
-unfoldable pub table_text : Pair → Corners → List ℕ
+unfoldable pub table_text : Pair → Window → List ℕ
 table_text pair box = flat_map (λ first. flat_map
     (λ second. table_line first second (class_count pair box first second)) classes) classes
 
@@ -107,7 +107,7 @@ table_rows counts = table_row Unknown 0 counts ++ table_row Free 3 counts
 -- ---- replies
 
 -- the reply that is a table, or the refusal of its points
-abbrev pub table_reply : Pair → Result Corners asked.Refusal → Answer
+abbrev pub table_reply : Pair → Result Window asked.Refusal → Answer
 table_reply pair (Ok box) = record { text = table_text pair box; status = Done }
 table_reply pair (Err why) = refused why
 

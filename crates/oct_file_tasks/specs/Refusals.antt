@@ -2,7 +2,7 @@
 use Rattle.std.specs.Prelude.{ℕ, ◌++◌, codes, decimal, List, Option, Some, None, Result, Ok, Err}
 use Rattle.std.specs.Prelude.{if◌then◌else◌}
 use Rattle.oct_key.specs.declared.point.Point.{Point}
-use Rattle.oct_key.specs.Boxes.{Corners, is_box}
+use Rattle.oct_key.specs.Boxes.{Window, is_box}
 use Rattle.oct_key.specs.Voxel.{Voxel, key_at}
 use Rattle.oct_script.specs.Replies as replies
 use Rattle.oct_script.specs.declared.reply.Refusal.TheVariants as script
@@ -30,17 +30,17 @@ refused refusal = record {
 }
 
 -- the box of two voxels, where both are there and are corners
-abbrev pub box_from : Option Voxel → Option Voxel → Result Corners Refusal
+abbrev pub box_from : Option Voxel → Option Voxel → Result Window Refusal
 box_from None hi = Err (Outside 1)
 box_from (Some lo) None = Err (Outside 2)
 box_from (Some lo) (Some hi) = if is_box lo hi then Ok (record { lo = lo; hi = hi }) else Err BadBox
 
 -- the box between two points, at a resolution in nanometres: that of their voxels, where both lie
 -- in the map and are corners
-unfoldable pub box_between : ℕ → Point → Point → Result Corners Refusal
+unfoldable pub box_between : ℕ → Point → Point → Result Window Refusal
 box_between edge lo hi = box_from (key_at edge lo) (key_at edge hi)
 
 -- the reply to what is asked of a box, or the refusal for which there is none
-abbrev pub reply_in : (Corners → Answer) → Result Corners Refusal → Answer
+abbrev pub reply_in : (Window → Answer) → Result Window Refusal → Answer
 reply_in reply (Ok corners) = reply corners
 reply_in reply (Err refusal) = refused refusal

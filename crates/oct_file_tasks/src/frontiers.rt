@@ -45,7 +45,7 @@ pub fn list_frontier<K: Sink>(
     ensures ended { IsOfReply result }
 {
     match box_between(file.res(), lo, hi) {
-        Ok(corners) => list_between(alloc, file, corners.lo(), corners.hi(), sink),
+        Ok(window) => list_between(alloc, file, window.lo(), window.hi(), sink),
         Err(refusal) => send_refusal(alloc, refusal, sink),
     }
 }

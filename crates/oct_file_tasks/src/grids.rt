@@ -40,7 +40,7 @@ pub fn project<K: Sink>(alloc: Global, file: &BtFile, lo: Point, hi: Point, sink
     ensures ended { IsOfReply result }
 {
     match box_between(file.res(), lo, hi) {
-        Ok(corners) => project_between(alloc, file, corners.lo(), corners.hi(), sink),
+        Ok(window) => project_between(alloc, file, window.lo(), window.hi(), sink),
         Err(refusal) => send_refusal(alloc, refusal, sink),
     }
 }

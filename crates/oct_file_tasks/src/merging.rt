@@ -103,7 +103,7 @@ fn answer_table<K: Sink>(alloc: Global, pair: &Pair, lo: Point, hi: Point, sink:
     ensures ended { IsOfReply result }
 {
     match box_between(pair.first.res(), lo, hi) {
-        Ok(zone) => status_written(Status::Done, write_table(alloc, pair, zone, sink)),
+        Ok(window) => status_written(Status::Done, write_table(alloc, pair, window, sink)),
         Err(why) => status_written(Status::Refused, write_refusal(alloc, why, sink)),
     }
 }
@@ -129,12 +129,12 @@ fn write_merged<K: Sink>(
 }
 
 /// The table of the voxels of a box in two maps.
-fn table_of(alloc: Global, pair: &Pair, zone: Window) -> Result<Vec<u8>, Memory>
+fn table_of(alloc: Global, pair: &Pair, window: Window) -> Result<Vec<u8>, Memory>
     requires fit { AreFit pair.now }
-    requires order { IsBox zone.lo zone.hi }
-    ensures { IfOk result (λ text. text.items ≡ table_text pair.now zone) }
+    requires order { IsBox window.lo window.hi }
+    ensures { IfOk result (λ text. text.items ≡ table_text pair.now window) }
 {
-    let table = tabulate(&pair.first, &pair.second, zone.lo(), zone.hi());
+    let table = tabulate(&pair.first, &pair.second, window.lo(), window.hi());
     table_text(alloc, &table)
 }
 
@@ -142,19 +142,19 @@ fn table_of(alloc: Global, pair: &Pair, zone: Window) -> Result<Vec<u8>, Memory>
 fn write_table<K: Sink>(
     alloc: Global,
     pair: &Pair,
-    zone: Window,
+    window: Window,
     sink: &mut K,
 ) -> Result<(), SinkFault>
     requires fit { AreFit pair.now }
-    requires order { IsBox zone.lo zone.hi }
+    requires order { IsBox window.lo window.hi }
     ensures written { OnOk result
-        (K.written sink.new ≡ appended (K.written sink.old) (table_text pair.now zone)) }
+        (K.written sink.new ≡ appended (K.written sink.old) (table_text pair.now window)) }
     ensures cut { OnErr result
-        (IsCutOff (K.written sink.old) (K.written sink.new) (table_text pair.now zone)) }
+        (IsCutOff (K.written sink.old) (K.written sink.new) (table_text pair.now window)) }
     ensures sink_counts { IsMakingCounted result (K.faults sink.old) (K.faults sink.new)
         (K.shortages sink.old) (K.shortages sink.new) }
 {
-    let text = table_of(alloc, pair, zone)?;
+    let text = table_of(alloc, pair, window)?;
     write_all(sink, &text)
 }
 

@@ -3,7 +3,7 @@ use Rattle.std.proofs.Common.{◌≡◌, ℕ, ◌↔◌, Bool, true, Option, Som
 use Rattle.std.specs.Prelude.{◌&&◌, nat_le, IsTrue}
 use Rattle.std.proofs.lemmas.Bool.{and_parts, le-leb, leb-true}
 use Rattle.oct_key.specs.Voxel.{Voxel}
-use Rattle.oct_key.specs.Boxes.{IsBetween, IsInBox, IsBox, Corners, IsInWindow, is_between}
+use Rattle.oct_key.specs.Boxes.{IsBetween, IsInBox, IsBox, Window, IsInWindow, is_between}
 use Rattle.oct_key.specs.Boxes.{is_in_box, is_box, is_in_window}
 
 both : (a b : Bool) → a ≡ true → b ≡ true → (a && b) ≡ true
@@ -57,7 +57,7 @@ box_exactly lo hi = (to, from)
         both _ _ (both _ _ (le-leb lo.x hi.x h.x) (le-leb lo.y hi.y h.y)) (le-leb lo.z hi.z h.z)
 
 -- the test of a voxel where a box may stand
-pub in_window_exactly : (window : Option Corners) (k : Voxel)
+pub in_window_exactly : (window : Option Window) (k : Voxel)
     → IsTrue (is_in_window window k) ↔ IsInWindow window k
 in_window_exactly None k = (λ h. tt, λ h. refl)
 in_window_exactly (Some box) k = in_box_exactly box.lo box.hi k

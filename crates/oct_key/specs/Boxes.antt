@@ -1,4 +1,4 @@
--- Boxes of voxels, by two corners.
+-- Boxes of voxels, each by its two corners.
 use Rattle.std.specs.Prelude.{ℕ, ◌≤◌, Bool, true, ◌&&◌, nat_le, Option, Some, None, ⊤}
 use Rattle.oct_key.specs.Voxel.{Voxel}
 
@@ -30,17 +30,17 @@ is_between low high n = nat_le low n && nat_le n high
 abbrev pub is_in_box : Voxel → Voxel → Voxel → Bool
 is_in_box lo hi k = is_between lo.x hi.x k.x && is_between lo.y hi.y k.y && is_between lo.z hi.z k.z
 
--- the two corners of a box
-pub record Corners : Type 0 where
+-- a box of voxels, by its two corners
+pub record Window : Type 0 where
   pub lo : Voxel
   pub hi : Voxel
 
 -- a voxel lies in the box, or no box stands
-abbrev pub IsInWindow : Option Corners → Voxel → Type 0
+abbrev pub IsInWindow : Option Window → Voxel → Type 0
 IsInWindow None k = ⊤
 IsInWindow (Some box) k = IsInBox box.lo box.hi k
 
 -- whether a voxel lies in the box, or no box stands
-abbrev pub is_in_window : Option Corners → Voxel → Bool
+abbrev pub is_in_window : Option Window → Voxel → Bool
 is_in_window None k = true
 is_in_window (Some box) k = is_in_box box.lo box.hi k

@@ -1,6 +1,6 @@
 //! A box of voxels between two corners.
 ghost use Rattle.std.specs.Prelude.{◌≡◌, ◌↔◌, Some, IsTrue, IsSome, IfSome};
-ghost use Rattle.oct_key.specs.Boxes.{IsBox, IsInBox, Corners, is_in_box};
+ghost use Rattle.oct_key.specs.Boxes.{IsBox, IsInBox, Window, is_in_box};
 
 use crate::point::Key;
 use std::marker::Model;
@@ -14,7 +14,7 @@ pub struct Window {
 }
 
 impl Model for Window {
-    ghost use Rattle.oct_key.specs.Boxes.{Corners, IsBox};
+    ghost use Rattle.oct_key.specs.Boxes.{Window as Corners, IsBox};
 
     ghost Value = { Corners };
 

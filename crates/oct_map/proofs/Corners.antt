@@ -13,50 +13,50 @@ use Rattle.oct_map.specs.Outcome.{corner_events, corner_need, corner_volume}
 use Rattle.oct_map.proofs.Edits.{SameEvents}
 
 -- corners of a box have no fault, and need what the box does
-pub corners_right : (has_mark : Bool) (a b : Option Voxel) (low high : Voxel) → a ≡ Some low
-    → b ≡ Some high → is_box low high ≡ true
-    → (has_mark && nat_lt most_noted (box_volume low high)) ≡ false → box_fault has_mark a b ≡ None
-corners_right has_mark a b low high ea eb order narrow = rw (ea, eb) (rw (order, narrow) refl)
+pub corners_right : (has_mark : Bool) (a b : Option Voxel) (lo hi : Voxel) → a ≡ Some lo
+    → b ≡ Some hi → is_box lo hi ≡ true
+    → (has_mark && nat_lt most_noted (box_volume lo hi)) ≡ false → box_fault has_mark a b ≡ None
+corners_right has_mark a b lo hi ea eb order narrow = rw (ea, eb) (rw (order, narrow) refl)
 
-pub corners_need : (a b : Option Voxel) (low high : Voxel) → a ≡ Some low → b ≡ Some high
-    → corner_need a b ≡ box_need low high
-corners_need a b low high ea eb = rw (ea, eb) refl
+pub corners_need : (a b : Option Voxel) (lo hi : Voxel) → a ≡ Some lo → b ≡ Some hi
+    → corner_need a b ≡ box_need lo hi
+corners_need a b lo hi ea eb = rw (ea, eb) refl
 
-pub corners_events : (a b : Option Voxel) (low high : Voxel) (event : Event) → a ≡ Some low
-    → b ≡ Some high
-    → SameEvents (box_events low high event) (corner_events a b event)
-corners_events a b low high event ea eb k v = rw (ea, eb) refl
+pub corners_events : (a b : Option Voxel) (lo hi : Voxel) (event : Event) → a ≡ Some lo
+    → b ≡ Some hi
+    → SameEvents (box_events lo hi event) (corner_events a b event)
+corners_events a b lo hi event ea eb k v = rw (ea, eb) refl
 
 -- then the answer is that of the room
-pub corners_volume : (a b : Option Voxel) (low high : Voxel) → a ≡ Some low → b ≡ Some high
-    → corner_volume a b ≡ box_volume low high
-corners_volume a b low high ea eb = rw (ea, eb) refl
+pub corners_volume : (a b : Option Voxel) (lo hi : Voxel) → a ≡ Some lo → b ≡ Some hi
+    → corner_volume a b ≡ box_volume lo hi
+corners_volume a b lo hi ea eb = rw (ea, eb) refl
 
 pub corners_answer : (has_mark : Bool) (most need : ℕ) (values : Values) (a b : Option Voxel)
-    (low high : Voxel) (result : Result ⊤ MapFault)
-    → a ≡ Some low → b ≡ Some high → is_box low high ≡ true
-    → (has_mark && nat_lt most_noted (box_volume low high)) ≡ false → need ≡ box_need low high
+    (lo hi : Voxel) (result : Result ⊤ MapFault)
+    → a ≡ Some lo → b ≡ Some hi → is_box lo hi ≡ true
+    → (has_mark && nat_lt most_noted (box_volume lo hi)) ≡ false → need ≡ box_need lo hi
     → IsAnswerOrMemory (room_answer most values need) result
     → IsAnswerOrMemory (box_answer_by (box_fault has_mark a b)
     (room_answer most values (corner_need a b))) result
-corners_answer has_mark most need values a b low high result ea eb order narrow counted answer =
+corners_answer has_mark most need values a b lo hi result ea eb order narrow counted answer =
     rw (
-      corners_right has_mark a b low high ea eb order narrow,
-      corners_need a b low high ea eb
+      corners_right has_mark a b lo hi ea eb order narrow,
+      corners_need a b lo hi ea eb
           ∙ sym counted,
     ) answer
 
 -- and where there is room it is no fault
 pub corners_ok : (has_mark : Bool) (most need : ℕ) (values : Values) (a b : Option Voxel)
-    (low high : Voxel)
-    → a ≡ Some low → b ≡ Some high → is_box low high ≡ true
-    → (has_mark && nat_lt most_noted (box_volume low high)) ≡ false → need ≡ box_need low high
+    (lo hi : Voxel)
+    → a ≡ Some lo → b ≡ Some hi → is_box lo hi ≡ true
+    → (has_mark && nat_lt most_noted (box_volume lo hi)) ≡ false → need ≡ box_need lo hi
     → IsOk (room_answer most values need)
     → IsOk (box_answer_by (box_fault has_mark a b) (room_answer most values (corner_need a b)))
-corners_ok has_mark most need values a b low high ea eb order narrow counted room =
+corners_ok has_mark most need values a b lo hi ea eb order narrow counted room =
     rw (
-      corners_right has_mark a b low high ea eb order narrow,
-      corners_need a b low high ea eb
+      corners_right has_mark a b lo hi ea eb order narrow,
+      corners_need a b lo hi ea eb
           ∙ sym counted,
     ) room
 

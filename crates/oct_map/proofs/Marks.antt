@@ -260,10 +260,10 @@ box_asked lo hi event k some = by_test (is_in_box lo hi k) refl
     by_test true e = (in_box_exactly lo hi k).0 e
     by_test false e = absurd (false≢true (let h = rw e at some in h))
 
-pub asked_box : (a b : Option Voxel) (low high : Voxel) (event : Event) (k : Voxel)
-    → a ≡ Some low → b ≡ Some high → IsInBox low high k → IsSome (corner_events a b event k)
-asked_box a b low high event k ea eb inside =
-    (let there = (in_box_exactly low high k).1 inside in rw (ea, eb) (rw there refl))
+pub asked_box : (a b : Option Voxel) (lo hi : Voxel) (event : Event) (k : Voxel)
+    → a ≡ Some lo → b ≡ Some hi → IsInBox lo hi k → IsSome (corner_events a b event k)
+asked_box a b lo hi event k ea eb inside =
+    (let there = (in_box_exactly lo hi k).1 inside in rw (ea, eb) (rw there refl))
 
 -- those of a scan are hit or freed
 pub scan_asked : (u : ListedUpdate) (k : Voxel) → IsSome (events_of u k)

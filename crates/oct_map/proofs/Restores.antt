@@ -4,7 +4,7 @@ use Rattle.std.proofs.Common.{refl, sym, ◌∙◌, ap, subst, arith, cond}
 use Rattle.std.specs.Prelude.{Bool, not, Option, Result, max, pos, nat_eq, nat_lt}
 use Rattle.std.proofs.Math.Nat.{max-eq_right}
 use Rattle.std.proofs.lemmas.Bool.{false≢true, eq-eqb, le-ltb, lt-ltb}
-use Rattle.oct_key.specs.Boxes.{Corners}
+use Rattle.oct_key.specs.Boxes.{Window}
 use Rattle.oct_key.specs.Values.{SameValues}
 use Rattle.oct_odds.specs.Odds.{Odds, odds_of}
 use Rattle.oct_arena.specs.Entries.{live, spare}
@@ -166,7 +166,7 @@ restored_right m n s info a t u i empty odds res grown few enough values pruned 
     none = (let all = live_spare a.groups in let no_entries = ap length empty in
         omega (arith, all, no_entries))
 
-    ground_is : (r q : ℕ) (o p : Odds) (b w : Option Corners) (g h c d : ℕ) → r ≡ q → o ≡ p → b ≡ w
+    ground_is : (r q : ℕ) (o p : Odds) (b w : Option Window) (g h c d : ℕ) → r ≡ q → o ≡ p → b ≡ w
         → g ≡ h → c ≡ d
         → ◌≡◌ {A = Ground} (record
         { res = r; odds = o; update_box = b; max_groups = g; max_cells = c })

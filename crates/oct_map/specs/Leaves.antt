@@ -13,10 +13,10 @@ use Rattle.oct_map.specs.Ground.{Ground}
 -- the leaves that meet the box of two voxels, or of points outside the map
 abbrev pub leaves_in_answer_at : Values → Option Voxel → Option Voxel
     → Result (List Shown) MapFault
-leaves_in_answer_at values None high = Err (Outside 1)
-leaves_in_answer_at values (Some low) None = Err (Outside 2)
-leaves_in_answer_at values (Some low) (Some high) =
-    if is_box low high then Ok (leaves_met values low high) else Err BadBox
+leaves_in_answer_at values None hi = Err (Outside 1)
+leaves_in_answer_at values (Some lo) None = Err (Outside 2)
+leaves_in_answer_at values (Some lo) (Some hi) =
+    if is_box lo hi then Ok (leaves_met values lo hi) else Err BadBox
 
 -- the leaves that meet the box whose corners are the voxels that hold two points
 abbrev pub leaves_in_answer : Ground → Values → Point → Point → Result (List Shown) MapFault

@@ -23,20 +23,20 @@ blocks_answer count blocks = if nat_lt list_most count then Err (TooManyBlocks c
 -- the answer to a list of the blocks of a depth in the box of two voxels; the inner values of a
 -- stale map aren't asked
 abbrev pub box_blocks_answer : Bool → Values → ℕ → Voxel → Voxel → Result (List Shown) MapFault
-box_blocks_answer is_stale values depth low high =
+box_blocks_answer is_stale values depth lo hi =
     if nat_lt 16 depth then Err BadDepth
-    else if is_box low high then
+    else if is_box lo hi then
     (if is_stale && nat_lt depth 16 then Err Stale
-    else blocks_answer (length (met_blocks low high depth)) (listed_blocks values low high depth))
+    else blocks_answer (length (met_blocks lo hi depth)) (listed_blocks values lo hi depth))
     else Err BadBox
 
 -- the answer to a list between two voxels, or points outside the map
 abbrev pub list_answer_at : Bool → Values → ℕ → Option Voxel → Option Voxel
     → Result (List Shown) MapFault
-list_answer_at is_stale values depth None high = Err (Outside 1)
-list_answer_at is_stale values depth (Some low) None = Err (Outside 2)
-list_answer_at is_stale values depth (Some low) (Some high) =
-    box_blocks_answer is_stale values depth low high
+list_answer_at is_stale values depth None hi = Err (Outside 1)
+list_answer_at is_stale values depth (Some lo) None = Err (Outside 2)
+list_answer_at is_stale values depth (Some lo) (Some hi) =
+    box_blocks_answer is_stale values depth lo hi
 
 -- the answer to a list of the blocks of a depth in the box whose corners are the voxels that hold
 -- two points

@@ -1,7 +1,7 @@
 -- What a map answers to a snapshot that is to take its place, and what the snapshot leaves.
 use Rattle.std.specs.Prelude.{◌≡◌, ℕ, ◌+◌, ◌≤◌, nat_lt, nat_eq, pos, false, Option, None, Result}
 use Rattle.std.specs.Prelude.{Ok, Err, if◌then◌else◌}
-use Rattle.oct_key.specs.Boxes.{Corners}
+use Rattle.oct_key.specs.Boxes.{Window}
 use Rattle.oct_key.specs.Values.{SameValues}
 use Rattle.oct_arena.specs.Entries.{live}
 use Rattle.oct_tree.specs.Shape.{IsPruned}
@@ -30,7 +30,7 @@ restore_answer g (Ok s) =
 
 -- the update box after a snapshot of this version: its own, or none where it has none; one of
 -- version 1 leaves the box that stood
-abbrev pub box_after : Option Corners → ℕ → Option Corners → Option Corners
+abbrev pub box_after : Option Window → ℕ → Option Window → Option Window
 box_after standing version own = if nat_eq version 1 then standing else own
 
 -- what answers read beside the values after a snapshot

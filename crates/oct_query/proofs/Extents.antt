@@ -9,7 +9,7 @@ use Rattle.std.proofs.lemmas.Nat.{pow_pos, pow-add}
 use Rattle.oct_key.specs.Voxel.{Voxel}
 use Rattle.oct_key.specs.Block.{Cube, IsBlock, HoldsVoxel, child_of, child_index_of, side}
 use Rattle.oct_key.specs.Block.{lowest_voxel, root_block}
-use Rattle.oct_key.specs.Boxes.{IsInBox, IsBetween, Corners}
+use Rattle.oct_key.specs.Boxes.{IsInBox, IsBetween, Window}
 use Rattle.oct_key.proofs.Blocks.{child_index_below, lowest_held, root_holds, root_in_map}
 use Rattle.oct_key.proofs.Held.{held_by_parent, held_by_child, held_in_map}
 use Rattle.oct_odds.specs.declared.event.Class.{Class}
@@ -23,7 +23,7 @@ abbrev pub IsFoundInFirst : Classes → Sought → Cube → ℕ → Voxel → Ty
 IsFoundInFirst classes sought b n k = (j : ℕ) × (j < n) × IsFoundIn classes sought (child_of b j) k
 
 -- the same voxels have the same extent
-pub extent_same : (These Those : Voxel → Type 0) (o : Option Corners)
+pub extent_same : (These Those : Voxel → Type 0) (o : Option Window)
     → ((k : Voxel) → These k → Those k) → ((k : Voxel) → Those k → These k) → IsExtent These o
     → IsExtent Those o
 extent_same These Those None to from e = λ k those. e k (from k those)
@@ -97,7 +97,7 @@ pub extent_of_none : (classes : Classes) (sought : Sought) (b : Cube)
 extent_of_none classes sought b none = λ k (held, is). false≢true (sym (none k held) ∙ is)
 
 pub extent_of_block : (classes : Classes) (sought : Sought) (b : Cube) (class : Class) (t : Bool)
-    (o : Option Corners) → IsBlock b
+    (o : Option Window) → IsBlock b
     → ((k : Voxel) → HoldsVoxel b k → classes k ≡ class) → t ≡ is_sought sought class
     → (t ≡ false → o ≡ None)
     → (t ≡ true → o ≡ Some (record { lo = lowest_voxel b; hi = highest_voxel b }))
@@ -115,7 +115,7 @@ extent_of_block classes sought b class false o ok all is none some =
 abbrev Either : (Voxel → Type 0) → (Voxel → Type 0) → Voxel → Type 0
 Either These Those k = These k ⊎ Those k
 
-wider_first : (a b : Corners) (k : Voxel) → IsInBox a.lo a.hi k
+wider_first : (a b : Window) (k : Voxel) → IsInBox a.lo a.hi k
     → IsInBox (lower a.lo b.lo) (higher a.hi b.hi) k
 wider_first a b k h = record {
   x = axis a.lo.x a.hi.x b.lo.x b.hi.x k.x h.x;
@@ -129,7 +129,7 @@ wider_first a b k h = record {
         let most = le-max_left ah bh in
         (omega (arith, least, low), omega (arith, most, high)))
 
-wider_second : (a b : Corners) (k : Voxel) → IsInBox b.lo b.hi k
+wider_second : (a b : Window) (k : Voxel) → IsInBox b.lo b.hi k
     → IsInBox (lower a.lo b.lo) (higher a.hi b.hi) k
 wider_second a b k h = record {
   x = axis a.lo.x a.hi.x b.lo.x b.hi.x k.x h.x;
@@ -165,7 +165,7 @@ higher_in lo hi a b f g = record {
     axis l h m n f g = (let most = le-max_left m n in
         (omega (arith, most, f.0), max-le f.1 g.1))
 
-pub extent_joined : (These Those : Voxel → Type 0) (a b : Option Corners) → IsExtent These a
+pub extent_joined : (These Those : Voxel → Type 0) (a b : Option Window) → IsExtent These a
     → IsExtent Those b → IsExtent (Either These Those) (joined a b)
 extent_joined These Those None None f g = λ k either. elim either [
   | inl these ↦ f k these
@@ -190,7 +190,7 @@ extent_joined These Those (Some a) (Some b) f g = record {
 -- ---- the children of a block
 
 pub extent_next : (classes : Classes) (sought : Sought) (b c : Cube) (i : ℕ)
-    (before here now : Option Corners)
+    (before here now : Option Window)
     → IsExtent (IsFoundInFirst classes sought b i) before
     → IsExtent (IsFoundIn classes sought c) here → c ≡ child_of b i → now ≡ joined before here
     → IsExtent (IsFoundInFirst classes sought b (i + 1)) now
@@ -217,7 +217,7 @@ extent_next classes sought b c i before here now first next child is =
           (ap (child_of b) e ∙ sym child) found))
     ]
 
-pub extent_whole : (classes : Classes) (sought : Sought) (b : Cube) (n : ℕ) (o : Option Corners)
+pub extent_whole : (classes : Classes) (sought : Sought) (b : Cube) (n : ℕ) (o : Option Window)
     → b.depth < 16 → n ≡ 8 → IsExtent (IsFoundInFirst classes sought b n) o
     → IsExtent (IsFoundIn classes sought b) o
 extent_whole classes sought b n o low end first =
@@ -227,7 +227,7 @@ extent_whole classes sought b n o low end first =
     (child_index_of b.depth k, omega (arith, end, less), (held_by_child b k low held, is)))) first
 
 -- the voxels of the map are those of its block
-pub extent_of_map : (classes : Classes) (sought : Sought) (b : Cube) (o : Option Corners)
+pub extent_of_map : (classes : Classes) (sought : Sought) (b : Cube) (o : Option Window)
     → b ≡ root_block → IsExtent (IsFoundIn classes sought b) o
     → IsExtent (IsFound classes sought) o
 extent_of_map classes sought b o root first =

@@ -7,7 +7,7 @@ use Rattle.std.proofs.lemmas.Bool.{false≢true, false_from_ne_true}
 use Rattle.oct_key.specs.Voxel.{Voxel}
 use Rattle.oct_key.specs.Values.{Values}
 use Rattle.oct_key.specs.Block.{Cube, IsBlock, HoldsNumber, lowest_voxel, root_block, side}
-use Rattle.oct_key.specs.Boxes.{IsBox, IsBetween, Corners}
+use Rattle.oct_key.specs.Boxes.{IsBox, IsBetween, Window}
 use Rattle.oct_key.proofs.Blocks.{lowest_held, root_in_map}
 use Rattle.oct_values.specs.Boxes.{MeetsBox, is_met_by}
 use Rattle.oct_values.proofs.Boxes.{met_by_voxels}
@@ -49,7 +49,7 @@ meets_shared lo hi b = (to, from)
     }
 
 -- so the test for a box of what they share is that of the block
-pub met_exactly : (lo hi first last : Voxel) (b : Cube) (o : Option Corners) (r : Bool) → IsBlock b
+pub met_exactly : (lo hi first last : Voxel) (b : Cube) (o : Option Window) (r : Bool) → IsBlock b
     → first ≡ higher lo (lowest_voxel b) → last ≡ lower hi (highest_voxel b)
     → IsSome o ↔ IsBox first last → r ≡ is_some o → r ≡ is_met_by lo hi b
 met_exactly lo hi first last b None r ok low high accepted is =

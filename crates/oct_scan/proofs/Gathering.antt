@@ -9,7 +9,7 @@ use Rattle.std.proofs.lemmas.List.Elements.{Contains-append_left, Contains-appen
 use Rattle.std.proofs.lemmas.List.Elements.{Contains-append_cases}
 use Rattle.std.proofs.lemmas.List.{length-append, length-map, length_push, take_more}
 use Rattle.oct_key.specs.Voxel.{Voxel, IsInMap}
-use Rattle.oct_key.specs.Boxes.{Corners, IsInWindow, is_in_window}
+use Rattle.oct_key.specs.Boxes.{Window, IsInWindow, is_in_window}
 use Rattle.oct_key.specs.Morton.{morton_of}
 use Rattle.oct_key.proofs.Boxes.{in_window_exactly}
 use Rattle.oct_key.specs.declared.point.Point.{Point}
@@ -26,7 +26,7 @@ use Rattle.oct_scan.proofs.Kept.{kept_from, kept_listed, kept_few}
 
 -- the codes of the voxels in the box that a beam meets, of this many in all, have come to those
 -- that are there
-pub record IsBeamAdded (edge : ℕ) (window : Option Corners) (o : Point) (b : Beam) (met : ℕ)
+pub record IsBeamAdded (edge : ℕ) (window : Option Window) (o : Point) (b : Beam) (met : ℕ)
     (scanned scanned' hits hits' : List ℕ) : Type 0 where
   pub front : List Voxel
   pub end : Voxel
@@ -75,7 +75,7 @@ end_there false m code w e = subst (λ c. Contains (m ∷ []) c) e (contains_her
 
 -- a beam says something of the voxel where it ends where it isn't cut and that voxel lies in the
 -- box
-pub not_mute : (window : Option Corners) (b : Beam) (k : Voxel) → is_mute window b k ≡ false
+pub not_mute : (window : Option Window) (b : Beam) (k : Voxel) → is_mute window b k ≡ false
     → (b.is_cut ≡ false) × IsInWindow window k
 not_mute window b k h = by_tests b.is_cut (is_in_window window k) refl h
   where
@@ -85,14 +85,14 @@ not_mute window b k h = by_tests b.is_cut (is_in_window window k) refl h
     by_tests false true e h = (refl, (in_window_exactly window k).0 e)
     by_tests false false e h = absurd (let f : ⊥ = cc in f)
 
-pub says : (window : Option Corners) (b : Beam) (k : Voxel) → b.is_cut ≡ false → IsInWindow window k
+pub says : (window : Option Window) (b : Beam) (k : Voxel) → b.is_cut ≡ false → IsInWindow window k
     → is_mute window b k ≡ false
 says window b k whole within =
     let test : is_in_window window k ≡ true = (in_window_exactly window k).1 within in
     rw (whole, test) refl
 
 -- the codes that come with a beam are those that it marks
-added_marks : (edge : ℕ) (window : Option Corners) (o : Point) (b : Beam) (met : ℕ)
+added_marks : (edge : ℕ) (window : Option Window) (o : Point) (b : Beam) (met : ℕ)
     (s s' h h' : List ℕ) (a : IsBeamAdded edge window o b met s s' h h') (code : ℕ)
     → Contains (map morton_of (kept window a.front) ++ end_codes window b a.end) code
     → IsMarked edge window o code b
@@ -127,7 +127,7 @@ added_marks edge window o b met s s' h h' a code m =
           }
     ]
 
-added_marked : (edge : ℕ) (window : Option Corners) (o : Point) (b : Beam) (met : ℕ)
+added_marked : (edge : ℕ) (window : Option Window) (o : Point) (b : Beam) (met : ℕ)
     (s s' h h' : List ℕ) (a : IsBeamAdded edge window o b met s s' h h') (code : ℕ)
     → IsMarked edge window o code b
     → Contains (map morton_of (kept window a.front) ++ end_codes window b a.end) code
@@ -145,7 +145,7 @@ added_marked edge window o b met s s' h h' a code m =
           (subst (IsInWindow window) (sym e) m.within)) (ap morton_of e ∙ sym m.coded))
     ]
 
-added_ends : (edge : ℕ) (window : Option Corners) (o : Point) (b : Beam) (met : ℕ)
+added_ends : (edge : ℕ) (window : Option Window) (o : Point) (b : Beam) (met : ℕ)
     (s s' h h' : List ℕ) (a : IsBeamAdded edge window o b met s s' h h') (code : ℕ)
     → Contains (end_codes window b a.end) code → IsEnd edge window code b
 added_ends edge window o b met s s' h h' a code m =
@@ -161,7 +161,7 @@ added_ends edge window o b met s s' h h' a code m =
       whole = said.0;
     }
 
-added_ended : (edge : ℕ) (window : Option Corners) (o : Point) (b : Beam) (met : ℕ)
+added_ended : (edge : ℕ) (window : Option Window) (o : Point) (b : Beam) (met : ℕ)
     (s s' h h' : List ℕ) (a : IsBeamAdded edge window o b met s s' h h') (code : ℕ)
     → IsEnd edge window code b → Contains (end_codes window b a.end) code
 added_ended edge window o b met s s' h h' a code m =
@@ -187,7 +187,7 @@ grown_from P bs b s t code old new h = elim (Contains-push_cases bs b h.0 h.1) [
   | inr e ↦ Contains-append_right s t code (new (subst P (sym e) h.2))
 ]
 
-pub gathered_none : (edge : ℕ) (window : Option Corners) (o : Point)
+pub gathered_none : (edge : ℕ) (window : Option Window) (o : Point)
     → AreGathered edge window o [] [] []
 gathered_none edge window o = record {
   marks = λ code. (λ h. absurd (contains_none code h), λ h. absurd (contains_none h.0 h.1));
@@ -197,7 +197,7 @@ gathered_none edge window o = record {
 }
 
 -- after one beam more, the codes are those of one beam more
-pub gathered_more : (edge : ℕ) (window : Option Corners) (o : Point) (bs : List Beam) (b : Beam)
+pub gathered_more : (edge : ℕ) (window : Option Window) (o : Point) (bs : List Beam) (b : Beam)
     (met : ℕ) (s s' h h' : List ℕ) → AreGathered edge window o bs s h
     → IsBeamAdded edge window o b met s s' h h' → AreGathered edge window o (bs ++ b ∷ []) s' h'
 gathered_more edge window o bs b met s s' h h' g a =
@@ -247,7 +247,7 @@ few_end true m = omega arith
 few_end false m = omega arith
 
 -- no more codes come than voxels are met
-pub few_more : (edge : ℕ) (window : Option Corners) (o : Point) (b : Beam) (met : ℕ)
+pub few_more : (edge : ℕ) (window : Option Window) (o : Point) (b : Beam) (met : ℕ)
     (s s' h h' : List ℕ) → IsBeamAdded edge window o b met s s' h h' → length s' ≤ length s + met
 few_more edge window o b met s s' h h' a =
     let front : List ℕ = map morton_of (kept window a.front) in
@@ -265,21 +265,21 @@ few_more edge window o b met s s' h h' a =
     )
 
 -- the codes that beams mark are codes of the map
-pub gathered_below : (edge : ℕ) (window : Option Corners) (o : Point) (bs : List Beam)
+pub gathered_below : (edge : ℕ) (window : Option Window) (o : Point) (bs : List Beam)
     (s h : List ℕ) → AreGathered edge window o bs s h → All (λ c. c < 2 ^ 48) s
 gathered_below edge window o bs s h g =
     all_contained (λ c. c < 2 ^ 48) s
     (λ c m. let r = ((g.marks c).0 m).2 in
     subst (λ n. n < 2 ^ 48) (sym r.coded) (morton_below r.voxel))
 
-pub hits_below : (edge : ℕ) (window : Option Corners) (o : Point) (bs : List Beam) (s h : List ℕ)
+pub hits_below : (edge : ℕ) (window : Option Window) (o : Point) (bs : List Beam) (s h : List ℕ)
     → AreGathered edge window o bs s h → All (λ c. c < 2 ^ 48) h
 hits_below edge window o bs s h g =
     all_contained (λ c. c < 2 ^ 48) h
     (λ c m. All-contains (λ c. c < 2 ^ 48) s c (gathered_below edge window o bs s h g) (g.part c m))
 
 -- the same for the beams of a list, one after the other
-pub gathered_next : (edge : ℕ) (window : Option Corners) (o : Point) (bs : List Beam) (i : ℕ)
+pub gathered_next : (edge : ℕ) (window : Option Window) (o : Point) (bs : List Beam) (i : ℕ)
     (d : Beam) (met : ℕ) (s s' h h' : List ℕ) → i < length bs
     → AreGathered edge window o (take i bs) s h
     → IsBeamAdded edge window o (get_or bs i d) met s s' h h'

@@ -8,7 +8,7 @@ use Rattle.std.proofs.lemmas.List.Elements.{All-contains, Contains-push, Contain
 use Rattle.std.proofs.lemmas.List.Elements.{Contains-append_left, Contains-append_right}
 use Rattle.std.proofs.lemmas.List.Elements.{Contains-append_cases}
 use Rattle.oct_key.specs.Voxel.{Voxel, IsInMap, key_at}
-use Rattle.oct_key.specs.Boxes.{Corners}
+use Rattle.oct_key.specs.Boxes.{Window}
 use Rattle.oct_key.specs.Morton.{morton_of}
 use Rattle.oct_key.specs.declared.point.Point.{Point}
 use Rattle.oct_key.proofs.Interleavings.{morton_injective}
@@ -176,7 +176,7 @@ way_all end old walk bs bs' b ks none pushed h c = (
 )
 
 -- the codes that are kept of a walk but that of its last voxel are those kept of the voxels before
-front_codes : (window : Option Corners) (front : List Voxel) (k : Voxel) (c : ℕ)
+front_codes : (window : Option Window) (front : List Voxel) (k : Voxel) (c : ℕ)
     → AllPairs (λ a b. a ≢ b) (front ++ k ∷ []) → All IsInMap (front ++ k ∷ [])
     → ToCome (morton_of k) (kept window (front ++ k ∷ [])) c
     ↔ Contains (map morton_of (kept window front)) c
@@ -204,7 +204,7 @@ front_codes window front k c once on_map = (
 )
 
 -- a walk whose codes were marked, and whose end was added, is a beam held
-pub beam_held : (edge : ℕ) (window : Option Corners) (o : Point) (b : Beam) (met end : ℕ)
+pub beam_held : (edge : ℕ) (window : Option Window) (o : Point) (b : Beam) (met end : ℕ)
     (mute : Bool) (old mid new : List Brick) (walk : List Voxel) (k : Voxel)
     → IsWalkAlong edge o b.end walk → slice_get walk (length walk - 1) ≡ key_at edge b.end
     → key_at edge b.end ≡ Some k → All IsInMap walk → met ≡ length walk → end ≡ morton_of k
@@ -269,7 +269,7 @@ beam_held edge window o b met end mute old mid new walk k along last ended on_ma
       );
     }
 
-pub held_none : (edge : ℕ) (window : Option Corners) (o : Point)
+pub held_none : (edge : ℕ) (window : Option Window) (o : Point)
     → HoldGathered edge window o [] [] 0
 held_none edge window o = record {
   scanned = [];
@@ -290,7 +290,7 @@ grown s t A B same more c = (
 )
 
 -- after one beam more, bricks hold what is gathered along one beam more
-pub held_next : (edge : ℕ) (window : Option Corners) (o : Point) (bs : List Beam) (i : ℕ) (d : Beam)
+pub held_next : (edge : ℕ) (window : Option Window) (o : Point) (bs : List Beam) (i : ℕ) (d : Beam)
     (met total : ℕ) (bricks bricks' : List Brick) → i < length bs
     → HoldGathered edge window o (take i bs) bricks total
     → IsBeamHeld edge window o (get_or bs i d) met bricks bricks'
@@ -346,12 +346,12 @@ current_brick b h fits some = record {
   part = none_hit b h.unhit;
 }
 
-pub all_none : (edge : ℕ) (window : Option Corners) (o : Point)
+pub all_none : (edge : ℕ) (window : Option Window) (o : Point)
     → HoldAllGathered edge window o [] []
 all_none edge window o = record { total = 0; met = refl; all = held_none edge window o }
 
 -- the same, with how many voxels are met
-pub all_next : (edge : ℕ) (window : Option Corners) (o : Point) (bs : List Beam) (i : ℕ) (d : Beam)
+pub all_next : (edge : ℕ) (window : Option Window) (o : Point) (bs : List Beam) (i : ℕ) (d : Beam)
     (met : ℕ) (bricks bricks' : List Brick) → i < length bs
     → HoldAllGathered edge window o (take i bs) bricks
     → IsBeamHeld edge window o (get_or bs i d) met bricks bricks'

@@ -6,7 +6,7 @@ use Rattle.std.proofs.lemmas.Bool.{cases_Bool}
 use Rattle.std.proofs.lemmas.List.Elements.{All-contains, All-filter, filter_passes}
 use Rattle.std.proofs.lemmas.List.Sums.{length-filter, count_by-le-length}
 use Rattle.oct_key.specs.Voxel.{Voxel}
-use Rattle.oct_key.specs.Boxes.{Corners, IsInBox, IsInWindow, is_in_box}
+use Rattle.oct_key.specs.Boxes.{Window, IsInBox, IsInWindow, is_in_box}
 use Rattle.oct_key.proofs.Boxes.{in_box_exactly}
 use Rattle.oct_brick.proofs.Lists.{contains_none, contains_here, contains_later, contains_cases}
 use Rattle.oct_brick.proofs.Lists.{all_contained}
@@ -60,19 +60,19 @@ none_passed p (x ∷ xs) h = without_first p x xs (h x (contains_here x xs))
     ∙ none_passed p xs (λ y m. h y (contains_later x y xs m))
 
 -- what is kept lies in the list and in the box, and all that does is kept
-pub kept_from : (window : Option Corners) (ks : List Voxel) (k : Voxel)
+pub kept_from : (window : Option Window) (ks : List Voxel) (k : Voxel)
     → Contains (kept window ks) k → Contains ks k × IsInWindow window k
 kept_from None ks k h = (h, tt)
 kept_from (Some box) ks k h = let r = passed_from (is_in_box box.lo box.hi) ks k h in
     (r.0, (in_box_exactly box.lo box.hi k).0 r.1)
 
-pub kept_listed : (window : Option Corners) (ks : List Voxel) (k : Voxel) → Contains ks k
+pub kept_listed : (window : Option Window) (ks : List Voxel) (k : Voxel) → Contains ks k
     → IsInWindow window k → Contains (kept window ks) k
 kept_listed None ks k h within = h
 kept_listed (Some box) ks k h within =
     passed_listed (is_in_box box.lo box.hi) ks k h ((in_box_exactly box.lo box.hi k).1 within)
 
-pub kept_few : (window : Option Corners) (ks : List Voxel) → length (kept window ks) ≤ length ks
+pub kept_few : (window : Option Window) (ks : List Voxel) → length (kept window ks) ≤ length ks
 kept_few None ks = omega arith
 kept_few (Some box) ks =
     omega (
@@ -82,24 +82,24 @@ kept_few (Some box) ks =
     )
 
 -- one voxel after the other
-pub kept_first : (box : Corners) (k : Voxel) (ks : List Voxel) → is_in_box box.lo box.hi k ≡ true
+pub kept_first : (box : Window) (k : Voxel) (ks : List Voxel) → is_in_box box.lo box.hi k ≡ true
     → kept (Some box) (k ∷ ks) ≡ k ∷ kept (Some box) ks
 kept_first box k ks h = with_first (is_in_box box.lo box.hi) k ks h
 
-pub kept_without : (box : Corners) (k : Voxel) (ks : List Voxel) → is_in_box box.lo box.hi k ≡ false
+pub kept_without : (box : Window) (k : Voxel) (ks : List Voxel) → is_in_box box.lo box.hi k ≡ false
     → kept (Some box) (k ∷ ks) ≡ kept (Some box) ks
 kept_without box k ks h = without_first (is_in_box box.lo box.hi) k ks h
 
-pub kept_nothing : (box : Corners) (ks : List Voxel) → ks ≡ [] → kept (Some box) ks ≡ []
+pub kept_nothing : (box : Window) (ks : List Voxel) → ks ≡ [] → kept (Some box) ks ≡ []
 kept_nothing box ks none = ap (λ l. kept (Some box) l) none
 
 -- a list in the box, and one outside
-pub kept_all : (box : Corners) (ks : List Voxel)
+pub kept_all : (box : Window) (ks : List Voxel)
     → ((k : Voxel) → Contains ks k → IsInBox box.lo box.hi k) → kept (Some box) ks ≡ ks
 kept_all box ks h = all_passed (is_in_box box.lo box.hi) ks
     (λ k m. (in_box_exactly box.lo box.hi k).1 (h k m))
 
-pub kept_none : (box : Corners) (ks : List Voxel)
+pub kept_none : (box : Window) (ks : List Voxel)
     → ((k : Voxel) → Contains ks k → IsInBox box.lo box.hi k → ⊥) → kept (Some box) ks ≡ []
 kept_none box ks h = none_passed (is_in_box box.lo box.hi) ks
     (λ k m. elim (cases_Bool (is_in_box box.lo box.hi k)) [

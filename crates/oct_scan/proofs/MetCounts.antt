@@ -10,7 +10,7 @@ use Rattle.std.proofs.lemmas.List.Concat.{length-flat_map}
 use Rattle.std.proofs.lemmas.List.Elements.{Contains-append_left, Contains-append_right}
 use Rattle.std.proofs.lemmas.List.Sums.{sum_by-cons, sum_by-le}
 use Rattle.oct_key.specs.Block.{HoldsVoxel, root_block}
-use Rattle.oct_key.specs.Boxes.{Corners, is_in_window}
+use Rattle.oct_key.specs.Boxes.{Window, is_in_window}
 use Rattle.oct_key.specs.Values.{is_same_voxel}
 use Rattle.oct_key.specs.Voxel.{Voxel, HoldsOnAxis, IsResolution, key_at}
 use Rattle.oct_key.specs.declared.point.Point.{Point}
@@ -151,7 +151,7 @@ freed_there edge scan k range inside freed =
 -- ---- the counts of a scan
 
 -- no more voxels of a box pass a test than the beams may meet, where each such voxel is met
-counted_few : (edge most : ℕ) (window : Option Corners) (scan : Sighting) (test : Voxel → Bool)
+counted_few : (edge most : ℕ) (window : Option Window) (scan : Sighting) (test : Voxel → Bool)
     → ((k : Voxel) → test k ≡ true
     → Contains (all_met edge (origin_of scan) (beams_of scan)) k)
     → cells_of edge (origin_of scan) (beams_of scan) ≤ most
@@ -165,7 +165,7 @@ counted_few edge most window scan test there few =
     omega (arith, passing, long, few)
 
 -- a scan without a fault hits no more voxels than its beams may meet
-pub hits_few : (edge most : ℕ) (window : Option Corners) (scan : Sighting) → IsResolution edge
+pub hits_few : (edge most : ℕ) (window : Option Window) (scan : Sighting) → IsResolution edge
     → scan_fault edge scan most ≡ None → hit_count edge window scan ≤ most
 unfolding hit_count
 hits_few edge most window scan range none =
@@ -174,7 +174,7 @@ hits_few edge most window scan range none =
     (λ k h. hit_there edge scan k range inside h) few
 
 -- and frees no more
-pub frees_few : (edge most : ℕ) (window : Option Corners) (scan : Sighting) → IsResolution edge
+pub frees_few : (edge most : ℕ) (window : Option Window) (scan : Sighting) → IsResolution edge
     → scan_fault edge scan most ≡ None → free_count edge window scan ≤ most
 unfolding free_count
 frees_few edge most window scan range none =

@@ -4,7 +4,7 @@ use Rattle.std.proofs.Common.{List, [], ◌∷◌, map, sym, subst, ◌∙◌, a
 use Rattle.std.specs.Prelude.{min, max, Result, Ok, Err, OnOk}
 use Rattle.std.specs.List.{Contains}
 use Rattle.oct_key.specs.Voxel.{Voxel, IsInMap}
-use Rattle.oct_key.specs.Boxes.{Corners, IsBetween, IsInBox, is_in_box}
+use Rattle.oct_key.specs.Boxes.{Window, IsBetween, IsInBox, is_in_box}
 use Rattle.oct_key.specs.Morton.{morton_of}
 use Rattle.oct_brick.specs.declared.brick.Brick.{Brick}
 use Rattle.oct_brick.specs.Bricks.{scanned_codes}
@@ -14,20 +14,20 @@ use Rattle.oct_scan.proofs.Kept.{kept_first, kept_without}
 use Rattle.oct_scan.proofs.Holding.{IsOnWay, way_passed, way_marked}
 
 -- the voxel of a code is tested where the voxel that was given is
-pub tested : (box : Corners) (code : ℕ) (k key : Voxel) (test : Bool) → IsInMap k
+pub tested : (box : Window) (code : ℕ) (k key : Voxel) (test : Bool) → IsInMap k
     → code ≡ morton_of k → ((l : Voxel) → IsInMap l → morton_of l ≡ code → l ≡ key)
     → test ≡ is_in_box box.lo box.hi key → is_in_box box.lo box.hi k ≡ test
 tested box code k key test on_map coded only is =
     ap (λ l. is_in_box box.lo box.hi l) (only k on_map (sym coded)) ∙ sym is
 
 -- what is left of a walk, with a voxel of the box before it, or with one outside
-left_with : (box : Corners) (k : Voxel) (ks ks' : List Voxel) → ks ≡ k ∷ ks'
+left_with : (box : Window) (k : Voxel) (ks ks' : List Voxel) → ks ≡ k ∷ ks'
     → is_in_box box.lo box.hi k ≡ true → kept (Some box) ks ≡ k ∷ kept (Some box) ks'
 left_with box k ks ks' first inside = ap (λ l. kept (Some box) l) first
     ∙ kept_first box k ks' inside
 
 pub way_outside : (end : ℕ) (old : List Brick) (walk : List Voxel) (bs : List Brick) (b : Brick)
-    (box : Corners) (ks ks' : List Voxel) (k : Voxel) → ks ≡ k ∷ ks'
+    (box : Window) (ks ks' : List Voxel) (k : Voxel) → ks ≡ k ∷ ks'
     → is_in_box box.lo box.hi k ≡ false → IsOnWay end old walk bs b (kept (Some box) ks)
     → IsOnWay end old walk bs b (kept (Some box) ks')
 way_outside end old walk bs b box ks ks' k first outside h =
@@ -35,7 +35,7 @@ way_outside end old walk bs b box ks ks' k first outside h =
     (ap (λ l. kept (Some box) l) first ∙ kept_without box k ks' outside) h
 
 pub way_ended : (end : ℕ) (old : List Brick) (walk : List Voxel) (bs : List Brick) (b : Brick)
-    (box : Corners) (ks ks' : List Voxel) (k : Voxel) (code : ℕ) → ks ≡ k ∷ ks'
+    (box : Window) (ks ks' : List Voxel) (k : Voxel) (code : ℕ) → ks ≡ k ∷ ks'
     → is_in_box box.lo box.hi k ≡ true → code ≡ morton_of k → code ≡ end
     → IsOnWay end old walk bs b (kept (Some box) ks)
     → IsOnWay end old walk bs b (kept (Some box) ks')
@@ -44,7 +44,7 @@ way_ended end old walk bs b box ks ks' k code first inside coded same h =
     (left_with box k ks ks' first inside) coded same h
 
 pub way_added : (end : ℕ) (old : List Brick) (walk : List Voxel) (bs bs' : List Brick)
-    (b b' : Brick) (box : Corners) (ks ks' : List Voxel) (k : Voxel) (code : ℕ) → ks ≡ k ∷ ks'
+    (b b' : Brick) (box : Window) (ks ks' : List Voxel) (k : Voxel) (code : ℕ) → ks ≡ k ∷ ks'
     → is_in_box box.lo box.hi k ≡ true → code ≡ morton_of k → code ≢ end
     → ((c : ℕ) → IsHeld bs' b' c ↔ (IsHeld bs b c ⊎ (code ≡ c)))
     → IsOnWay end old walk bs b (kept (Some box) ks)
@@ -54,7 +54,7 @@ way_added end old walk bs bs' b b' box ks ks' k code first inside coded other ma
     (left_with box k ks ks' first inside) coded other marked h
 
 -- what lies in the box that two voxels of a box span lies in that box
-pub spanned_inside : (box : Corners) (a b k : Voxel) → IsInBox box.lo box.hi a
+pub spanned_inside : (box : Window) (a b k : Voxel) → IsInBox box.lo box.hi a
     → IsInBox box.lo box.hi b → IsSpanned a b k → IsInBox box.lo box.hi k
 spanned_inside box a b k first last h = record {
   x = on_axis box.lo.x box.hi.x a.x b.x k.x first.x last.x h.x;
@@ -73,7 +73,7 @@ AreAdded old new ks end = (c : ℕ)
     ↔ (Contains (scanned_codes old) c ⊎ (Contains (map morton_of ks) c × (end ≢ c)))
 
 -- what is added in one box is what is added in another, where both keep the same
-added_so : (window window' : Option Corners) (end end' : ℕ) (walk : List Voxel)
+added_so : (window window' : Option Window) (end end' : ℕ) (walk : List Voxel)
     (old new : List Brick) → kept window' walk ≡ kept window walk → end ≡ end'
     → IsWayAdded window end walk old new → IsWayAdded window' end' walk old new
 added_so window window' end end' walk old new same is h = record {
@@ -83,7 +83,7 @@ added_so window window' end end' walk old new same is h = record {
   bricks = h.bricks;
 }
 
-pub added_as : {X E : Type 0} (r : Result X E) (window window' : Option Corners) (end end' : ℕ)
+pub added_as : {X E : Type 0} (r : Result X E) (window window' : Option Window) (end end' : ℕ)
     (walk : List Voxel) (old new : List Brick) → kept window' walk ≡ kept window walk
     → end ≡ end' → OnOk r (IsWayAdded window end walk old new)
     → OnOk r (IsWayAdded window' end' walk old new)

@@ -6,7 +6,7 @@ use Rattle.std.specs.List.Sorted.{IsStrictlyIncreasing}
 use Rattle.std.proofs.lemmas.List.{length-map}
 use Rattle.std.proofs.lemmas.List.Elements.{All-contains}
 use Rattle.oct_key.specs.Voxel.{Voxel, IsInMap}
-use Rattle.oct_key.specs.Boxes.{Corners, IsInWindow}
+use Rattle.oct_key.specs.Boxes.{Window, IsInWindow}
 use Rattle.oct_key.specs.Morton.{morton_of}
 use Rattle.oct_key.proofs.Blocks.{block_of_held, held_by_block_of}
 use Rattle.oct_key.proofs.Faces.{IsInMap-key_at}
@@ -19,7 +19,7 @@ use Rattle.oct_brick.specs.Voxels.{coded_voxel}
 use Rattle.oct_scan.specs.Codes.{difference, block_count}
 use Rattle.oct_scan.specs.Gathered.{IsMarked, IsEnd, AreGathered}
 use Rattle.oct_values.specs.Events.{IsAscending}
-use Rattle.oct_scan.specs.Update.{Update, IsSettled, IsUpdateOf}
+use Rattle.oct_scan.specs.Update.{UpdateSet, IsSettled, IsUpdateOf}
 use Rattle.oct_brick.proofs.Lists.{all_contained, contains_tells}
 use Rattle.oct_scan.proofs.CodeLists.{IsPart, difference_from, difference_listed, difference_rises}
 use Rattle.oct_scan.proofs.CodeLists.{difference_long, no_longer, increasing_from, rises_from}
@@ -29,25 +29,25 @@ use Rattle.oct_scan.proofs.Counts.{AreCounted, count_blocks_of}
 use Rattle.oct_scan.proofs.Gathering.{gathered_below, hits_below}
 
 -- what was gathered along the beams of a scan, and what was made of it
-pub record IsUpdate (edge : ℕ) (window : Option Corners) (scan : Sighting) (scanned hits : List ℕ)
-    (u : Update) : Type 0 where
+pub record IsGatheredUpdate (edge : ℕ) (window : Option Window) (scan : Sighting)
+    (scanned hits : List ℕ) (u : UpdateSet) : Type 0 where
   pub gathered : AreGathered edge window (origin_of scan) (beams_of scan) scanned hits
   pub settled : IsSettled scanned hits u
 
 -- an update of beams that are those of a scan
-pub is_update : (edge : ℕ) (window : Option Corners) (scan : Sighting) (bs : List Beam)
-    (s h : List ℕ) (u : Update) → bs ≡ beams_of scan
+pub gathered_update : (edge : ℕ) (window : Option Window) (scan : Sighting) (bs : List Beam)
+    (s h : List ℕ) (u : UpdateSet) → bs ≡ beams_of scan
     → AreGathered edge window (origin_of scan) bs s h → IsSettled s h u
-    → IsUpdate edge window scan s h u
-is_update edge window scan bs s h u same g settled =
+    → IsGatheredUpdate edge window scan s h u
+gathered_update edge window scan bs s h u same g settled =
     record {
       gathered = subst (λ bs. AreGathered edge window (origin_of scan) bs s h) same g;
       settled = settled;
     }
 
 -- what an update says that was made so
-module _ (edge : ℕ) (window : Option Corners) (scan : Sighting) (s h : List ℕ) (u : Update)
-    (a : IsUpdate edge window scan s h u) where
+module _ (edge : ℕ) (window : Option Window) (scan : Sighting) (s h : List ℕ) (u : UpdateSet)
+    (a : IsGatheredUpdate edge window scan s h u) where
   codes_below : All (λ c. c < 2 ^ 48) a.settled.codes
   codes_below =
       same_bound s a.settled.codes (2 ^ 48) a.settled.same_codes

@@ -20,7 +20,7 @@ use Rattle.oct_brick.proofs.Lists.{pairs_nil}
 use Rattle.oct_brick.specs.Voxels.{coded_voxel}
 use Rattle.oct_scan.specs.Codes.{difference, brick_count, bricks_after}
 use Rattle.oct_scan.specs.Gathered.{HoldCodes}
-use Rattle.oct_scan.specs.Update.{Update, IsSettled}
+use Rattle.oct_scan.specs.Update.{UpdateSet, IsSettled}
 use Rattle.oct_scan.proofs.CodeLists.{IsPart, difference_from, difference_listed, difference_rises}
 use Rattle.oct_scan.proofs.CodeLists.{increasing_from}
 use Rattle.oct_scan.proofs.BrickCounts.{brick_count_is}
@@ -43,7 +43,7 @@ freed_is bs apart bricks part =
     ))
 
 -- the update of merged bricks is that of the codes
-pub settled : (bricks merged : List Brick) (s h : List ℕ) (u : Update) → HoldCodes bricks s h
+pub settled : (bricks merged : List Brick) (s h : List ℕ) (u : UpdateSet) → HoldCodes bricks s h
     → IsPart h s → ((c : ℕ) → Contains (scanned_codes bricks) c ↔ Contains (scanned_codes merged) c)
     → ((c : ℕ) → Contains (hit_codes bricks) c ↔ Contains (hit_codes merged) c) → All IsBrick merged
     → AreAscending merged → u.hits ≡ map coded_voxel (hit_codes merged)

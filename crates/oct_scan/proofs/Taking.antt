@@ -7,7 +7,7 @@ use Rattle.std.proofs.lemmas.List.{length-map}
 use Rattle.std.proofs.lemmas.List.Elements.{All-head}
 use Rattle.oct_key.specs.Voxel.{Voxel}
 use Rattle.oct_key.specs.Block.{Cube, HoldsVoxel}
-use Rattle.oct_key.specs.Boxes.{Corners, IsInWindow}
+use Rattle.oct_key.specs.Boxes.{Window, IsInWindow}
 use Rattle.oct_key.specs.declared.point.Point.{Point}
 use Rattle.oct_brick.specs.declared.brick.Brick.{Brick}
 use Rattle.oct_brick.specs.Masks.{HasCode}
@@ -29,13 +29,13 @@ any_point : (scan : Sighting) (P : Beam → Type 0) → Any P (beams_of scan) �
 any_point scan P (k, b, l, is, holds) = points_of scan (omega (arith, l))
 
 -- so that a scan that changes a voxel has a point
-pub scanned_point : (edge : ℕ) (window : Option Corners) (scan : Sighting) (k : Voxel)
+pub scanned_point : (edge : ℕ) (window : Option Window) (scan : Sighting) (k : Voxel)
     → IsScanned edge window scan k → 0 < length scan.points
 scanned_point edge window scan k (within, inl hit) = any_point scan _ hit
 scanned_point edge window scan k (within, inr freed) = any_point scan _ freed.1
 
 -- and so has one that may need a group
-pub need_point : (edge : ℕ) (window : Option Corners) (scan : Sighting) (need : ℕ)
+pub need_point : (edge : ℕ) (window : Option Window) (scan : Sighting) (need : ℕ)
     → IsNeed edge window scan need → 0 < need → 0 < length scan.points
 need_point edge window scan need is some =
     block is.blocks (omega (arith, is.counted, some)) (λ b h. (is.listed b).0 h)
@@ -56,7 +56,7 @@ brick_code b is = (
 )
 
 -- bricks that were gathered are those of beams
-pub gathered_some : (edge : ℕ) (window : Option Corners) (o : Point) (beams : List Beam)
+pub gathered_some : (edge : ℕ) (window : Option Window) (o : Point) (beams : List Beam)
     (bricks : List Brick) (most : ℕ) → HoldGathered edge window o beams bricks most
     → All IsBrick bricks → 0 < length bricks → 0 < length beams
 gathered_some edge window o beams [] most held all some = absurd (omega (arith, some))
@@ -69,7 +69,7 @@ gathered_some edge window o beams (b ∷ bs) most held all some =
     omega (arith, l)
 
 -- and bricks of the voxels that a scan changes are those of points
-pub bricks_point : (edge : ℕ) (window : Option Corners) (scan : Sighting) (bricks : List Brick)
+pub bricks_point : (edge : ℕ) (window : Option Window) (scan : Sighting) (bricks : List Brick)
     → All IsBrick bricks → ((k : Voxel)
     → Contains (hit_voxels bricks) k ↔ (IsInWindow window k × IsHit edge scan k))
     → ((k : Voxel) → Contains (freed_voxels bricks) k ↔ (IsInWindow window k × IsFreed edge scan k))

@@ -4,7 +4,7 @@ use Rattle.std.specs.Prelude.{if◌then◌else◌, Option, Some, None, min, max}
 use Rattle.std.specs.List.{filter}
 use Rattle.std.specs.Prelude.{List, [], ◌∷◌, ◌++◌, map, length, All, Contains}
 use Rattle.oct_key.specs.Voxel.{Voxel, IsInMap}
-use Rattle.oct_key.specs.Boxes.{Corners, IsInBox, IsInWindow, is_in_box, is_in_window}
+use Rattle.oct_key.specs.Boxes.{Window, IsInBox, IsInWindow, is_in_box, is_in_window}
 use Rattle.oct_key.specs.Morton.{morton_of}
 use Rattle.oct_key.specs.declared.point.Point.{Point}
 use Rattle.oct_ray.specs.Segment.{Meets, IsWalkAlong}
@@ -16,7 +16,7 @@ use Rattle.oct_scan.specs.Scanned.{EndsIn}
 use Rattle.oct_scan.specs.Answer.{MeetInAll}
 
 -- a code of a voxel in the box that the beam meets, but not that of a cut end
-pub record IsMarked (edge : ℕ) (window : Option Corners) (o : Point) (code : ℕ)
+pub record IsMarked (edge : ℕ) (window : Option Window) (o : Point) (code : ℕ)
     (b : Beam) : Type 0 where
   pub voxel : Voxel
   pub coded : code ≡ morton_of voxel
@@ -26,7 +26,7 @@ pub record IsMarked (edge : ℕ) (window : Option Corners) (o : Point) (code : �
   pub whole : EndsIn edge voxel b → b.is_cut ≡ false
 
 -- the code of a voxel that the beam hits
-pub record IsEnd (edge : ℕ) (window : Option Corners) (code : ℕ) (b : Beam) : Type 0 where
+pub record IsEnd (edge : ℕ) (window : Option Window) (code : ℕ) (b : Beam) : Type 0 where
   pub voxel : Voxel
   pub coded : code ≡ morton_of voxel
   pub on_map : IsInMap voxel
@@ -39,7 +39,7 @@ abbrev pub SomeBeam : (Beam → Type 0) → List Beam → Type 0
 SomeBeam P bs = (b : Beam) × Contains bs b × P b
 
 -- these are the codes that the beams mark, and those that they hit
-pub record AreGathered (edge : ℕ) (window : Option Corners) (o : Point) (bs : List Beam)
+pub record AreGathered (edge : ℕ) (window : Option Window) (o : Point) (bs : List Beam)
     (scanned hits : List ℕ) : Type 0 where
   pub marks : (code : ℕ) → Contains scanned code ↔ SomeBeam (IsMarked edge window o code) bs
   pub ends : (code : ℕ) → Contains hits code ↔ SomeBeam (IsEnd edge window code) bs
@@ -59,13 +59,13 @@ EndsAt end (k ∷ []) = k ≡ end
 EndsAt end (k ∷ l ∷ ks) = (k ≢ end) × EndsAt end (l ∷ ks)
 
 -- the voxels of a list that lie in the box, where one stands
-abbrev pub kept : Option Corners → List Voxel → List Voxel
+abbrev pub kept : Option Window → List Voxel → List Voxel
 kept None ks = ks
 kept (Some box) ks = filter (is_in_box box.lo box.hi) ks
 
 -- the voxels of the walk in the box, but that of the end, were added to the bricks, and none of
 -- them as hit
-pub record IsWayAdded (window : Option Corners) (end : ℕ) (walk : List Voxel)
+pub record IsWayAdded (window : Option Window) (end : ℕ) (walk : List Voxel)
     (old new : List Brick) : Type 0 where
   pub scanned : (code : ℕ) → Contains (scanned_codes new) code ↔
       (Contains (scanned_codes old) code
@@ -75,11 +75,11 @@ pub record IsWayAdded (window : Option Corners) (end : ℕ) (walk : List Voxel)
 
 -- whether a beam says nothing of the voxel where it ends: it is cut there, or that voxel lies
 -- outside the box
-abbrev pub is_mute : Option Corners → Beam → Voxel → Bool
+abbrev pub is_mute : Option Window → Beam → Voxel → Bool
 is_mute window b end = b.is_cut || not (is_in_window window end)
 
 -- the code of the last voxel, but not where the beam says nothing of it
-abbrev pub end_codes : Option Corners → Beam → Voxel → List ℕ
+abbrev pub end_codes : Option Window → Beam → Voxel → List ℕ
 end_codes window b end = if is_mute window b end then [] else morton_of end ∷ []
 
 -- bricks change the voxels of the one list of codes, and hit those of the other
@@ -89,7 +89,7 @@ pub record HoldCodes (bricks : List Brick) (scanned hits : List ℕ) : Type 0 wh
 
 -- bricks change and hit the voxels that the beams mark and hit, of which there are at most this
 -- many
-pub record HoldGathered (edge : ℕ) (window : Option Corners) (o : Point) (bs : List Beam)
+pub record HoldGathered (edge : ℕ) (window : Option Window) (o : Point) (bs : List Beam)
     (bricks : List Brick) (most : ℕ) : Type 0 where
   pub scanned : List ℕ
   pub hits : List ℕ
@@ -98,14 +98,14 @@ pub record HoldGathered (edge : ℕ) (window : Option Corners) (o : Point) (bs :
   pub held : HoldCodes bricks scanned hits
 
 -- the same, where all these beams together meet so many voxels
-pub record HoldAllGathered (edge : ℕ) (window : Option Corners) (o : Point) (bs : List Beam)
+pub record HoldAllGathered (edge : ℕ) (window : Option Window) (o : Point) (bs : List Beam)
     (bricks : List Brick) : Type 0 where
   pub total : ℕ
   pub met : MeetInAll edge o bs total
   pub all : HoldGathered edge window o bs bricks total
 
 -- the voxels in the box that a beam meets, of this many in all, have come to those of bricks
-pub record IsBeamHeld (edge : ℕ) (window : Option Corners) (o : Point) (b : Beam) (met : ℕ)
+pub record IsBeamHeld (edge : ℕ) (window : Option Window) (o : Point) (b : Beam) (met : ℕ)
     (bricks bricks' : List Brick) : Type 0 where
   pub front : List Voxel
   pub end : Voxel

@@ -33,9 +33,9 @@ pub struct UpdateBricks {
 }
 
 impl Model for UpdateBricks {
-    ghost use Rattle.oct_scan.specs.Update.{BrickUpdate};
+    ghost use Rattle.oct_scan.specs.Update.{UpdateBricks as Bricks};
 
-    ghost Value = { BrickUpdate };
+    ghost Value = { Bricks };
 
     ghost view = { λ set. record {
       bricks = set.bricks.items;

@@ -27,9 +27,9 @@ pub struct UpdateSet {
 }
 
 impl Model for UpdateSet {
-    ghost use Rattle.oct_scan.specs.Update.{Update};
+    ghost use Rattle.oct_scan.specs.Update.{UpdateSet as Lists};
 
-    ghost Value = { Update };
+    ghost Value = { Lists };
 
     ghost view = { λ set. record { hits = set.hits; frees = set.frees; need = set.need } };
 }

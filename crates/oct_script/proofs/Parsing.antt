@@ -232,7 +232,7 @@ points_one f end words =
 listings : (end : ℕ) (words : List PlacedWord) → command_by listing end words ≡ listing_in end words
 unfolding listing_in
 listings end words =
-    points_one (λ low high. Depth (λ depth. Ends (command.List low high depth))) end words
+    points_one (λ lo hi. Depth (λ depth. Ends (command.List lo hi depth))) end words
     ∙ then_same (points_in end words) _ _ (λ r.
     place_one Depth depth_of depth_place _ end r.2
     ∙ then_same (number_in depth_of end r.2) _ _
@@ -241,7 +241,7 @@ listings end words =
 limits : (end : ℕ) (words : List PlacedWord) → command_by limit end words ≡ limit_in end words
 unfolding limit_in
 limits end words =
-    points_one (λ low high. Ends (command.Limit low high)) end words
+    points_one (λ lo hi. Ends (command.Limit lo hi)) end words
     ∙ then_same (points_in end words) _ _ (λ r. ends (command.Limit r.0 r.1) end r.2)
 
 casts : (end : ℕ) (words : List PlacedWord) → command_by cast end words ≡ cast_in end words
@@ -306,11 +306,11 @@ points_five : (f g h i j : Point → Point → Form) (end : ℕ) (words : List P
     r.0 r.1 ∷ []) end r.2)
 unfolding points_in
 points_five f g h i j end words =
-    point_five (λ low. point (f low)) (λ low. point (g low)) (λ low. point (h low))
-    (λ low. point (i low)) (λ low. point (j low)) end words
-    ∙ then_then (point_in end words) _ _ _ (λ low.
-    point_five (f low.0) (g low.0) (h low.0) (i low.0) (j low.0) end low.1
-    ∙ then_then (point_in end low.1) _ _ _ (λ high. refl))
+    point_five (λ lo. point (f lo)) (λ lo. point (g lo)) (λ lo. point (h lo))
+    (λ lo. point (i lo)) (λ lo. point (j lo)) end words
+    ∙ then_then (point_in end words) _ _ _ (λ lo.
+    point_five (f lo.0) (g lo.0) (h lo.0) (i lo.0) (j lo.0) end lo.1
+    ∙ then_then (point_in end lo.1) _ _ _ (λ hi. refl))
 
 -- the words after the word of an edit, by the row that has it, if one does
 abbrev by_row : Option Row → ℕ → ℕ → List PlacedWord → Result Command Syntax

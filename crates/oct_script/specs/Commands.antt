@@ -100,9 +100,9 @@ pub record IsOwnOdds (odds : ScanOdds) : Type 0 where
 -- and its own log-odds are such as it may have
 abbrev pub IsSmallCommand : Command → Type 0
 IsSmallCommand (command.Edit p e lazy) = IsSmallEdit e
-IsSmallCommand (command.Box low high e) = IsSmallEdit e
+IsSmallCommand (command.Box lo hi e) = IsSmallEdit e
 IsSmallCommand (Get p depth) = depth < 10000000
-IsSmallCommand (command.List low high depth) = depth < 10000000
+IsSmallCommand (command.List lo hi depth) = depth < 10000000
 IsSmallCommand (Scan head) = IsInReach head.t × IsRange head.range × IfSome head.odds IsOwnOdds
 IsSmallCommand (Beam p) = IsInReach p
 IsSmallCommand _ = ⊤

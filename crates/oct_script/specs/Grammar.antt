@@ -157,12 +157,12 @@ number_edit e =
 
 -- an edit that is one word, for each voxel of a box
 abbrev pub word_on_box : Word → Edit → Form
-word_on_box word e = two_points (λ low high. Exactly word (Ends (command.Box low high e)))
+word_on_box word e = two_points (λ lo hi. Exactly word (Ends (command.Box lo hi e)))
 
 -- an edit that is a word and an N, for each voxel of a box
 abbrev pub number_on_box : Word → (ℤ → Edit) → Form
 number_on_box word e =
-    two_points (λ low high. Exactly word (Number (λ n. Ends (command.Box low high (e n)))))
+    two_points (λ lo hi. Exactly word (Number (λ n. Ends (command.Box lo hi (e n)))))
 
 -- X Y Z X Y Z and an edit
 abbrev pub box : List Form
@@ -180,11 +180,11 @@ query = point (λ p. Depth (λ depth. Ends (command.Get p depth))) ∷ []
 
 -- X Y Z X Y Z D
 abbrev pub listing : List Form
-listing = two_points (λ low high. Depth (λ depth. Ends (command.List low high depth))) ∷ []
+listing = two_points (λ lo hi. Depth (λ depth. Ends (command.List lo hi depth))) ∷ []
 
 -- X Y Z X Y Z
 abbrev pub limit : List Form
-limit = two_points (λ low high. Ends (command.Limit low high)) ∷ []
+limit = two_points (λ lo hi. Ends (command.Limit lo hi)) ∷ []
 
 -- X Y Z X Y Z [ignore]
 abbrev pub cast : List Form

@@ -247,13 +247,9 @@ fn read_box(words: &mut Words<'_>, command: &mut Command) -> Result<(), Syntax>
     ensures exact { IsRead result command.new (box_in words.old.end words.old.words) }
     ensures small { OnOk result (IsSmallCommand command.new) }
 {
-    let (low, high) = read_points(words)?;
+    let (lo, hi) = read_points(words)?;
     let e = read_edit_word(words)?;
-    *command = Command::Box {
-        lo: low,
-        hi: high,
-        e,
-    };
+    *command = Command::Box { lo, hi, e };
     Ok(())
 }
 
@@ -289,14 +285,10 @@ fn read_listing(words: &mut Words<'_>, command: &mut Command) -> Result<(), Synt
     ensures exact { IsRead result command.new (listing_in words.old.end words.old.words) }
     ensures small { OnOk result (IsSmallCommand command.new) }
 {
-    let (low, high) = read_points(words)?;
+    let (lo, hi) = read_points(words)?;
     let depth = read_depth(words)?;
     read_end(words)?;
-    *command = Command::List {
-        lo: low,
-        hi: high,
-        depth,
-    };
+    *command = Command::List { lo, hi, depth };
     Ok(())
 }
 
@@ -306,9 +298,9 @@ fn read_limit(words: &mut Words<'_>, command: &mut Command) -> Result<(), Syntax
     ensures exact { IsRead result command.new (limit_in words.old.end words.old.words) }
     ensures small { OnOk result (IsSmallCommand command.new) }
 {
-    let (low, high) = read_points(words)?;
+    let (lo, hi) = read_points(words)?;
     read_end(words)?;
-    *command = Command::Limit { lo: low, hi: high };
+    *command = Command::Limit { lo, hi };
     Ok(())
 }
 

@@ -126,8 +126,8 @@ macro_rules! edit {
 
 /// An edit of the box from the origin to a point.
 macro_rules! on_box {
-    ($high:expr, $e:expr) => {
-        Command::Box { lo: ORIGIN, hi: $high, e: $e }
+    ($hi:expr, $e:expr) => {
+        Command::Box { lo: ORIGIN, hi: $hi, e: $e }
     };
 }
 
@@ -147,8 +147,8 @@ macro_rules! cast {
 
 /// A list of the blocks of a depth in a box.
 macro_rules! list {
-    ($low:expr, $high:expr, $depth:expr) => {
-        Command::List { lo: $low, hi: $high, depth: $depth }
+    ($lo:expr, $hi:expr, $depth:expr) => {
+        Command::List { lo: $lo, hi: $hi, depth: $depth }
     };
 }
 

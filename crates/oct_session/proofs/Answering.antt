@@ -63,16 +63,16 @@ same_standing (Some c) None now same = absurd same
 same_standing (Some c) (Some held) now same = refl
 
 -- a map's answer to an edit of a box
-pub same_box : (m : Map) (s : State) (low high : Point) → StandsFor m s
-    → box_answer (ground_of m) (is_some m.mark) (values_of m) low high
-    ≡ box_answer s.base (is_some s.marked) s.values low high
-same_box m s low high at =
-    ap (λ g. box_answer g (is_some m.mark) (values_of m) low high) at.base
-    ∙ ap (λ t. box_answer s.base t (values_of m) low high)
+pub same_box : (m : Map) (s : State) (lo hi : Point) → StandsFor m s
+    → box_answer (ground_of m) (is_some m.mark) (values_of m) lo hi
+    ≡ box_answer s.base (is_some s.marked) s.values lo hi
+same_box m s lo hi at =
+    ap (λ g. box_answer g (is_some m.mark) (values_of m) lo hi) at.base
+    ∙ ap (λ t. box_answer s.base t (values_of m) lo hi)
     (same_standing s.marked m.mark (classes_in m) at.marked)
-    ∙ ap (box_answer_by (box_fault (is_some s.marked) (key_at s.base.res low)
-    (key_at s.base.res high)))
-    (sym (same_room s.base.max_groups (corner_need (key_at s.base.res low) (key_at s.base.res high))
+    ∙ ap (box_answer_by (box_fault (is_some s.marked) (key_at s.base.res lo)
+    (key_at s.base.res hi)))
+    (sym (same_room s.base.max_groups (corner_need (key_at s.base.res lo) (key_at s.base.res hi))
     s.values (values_of m) at.values))
 
 -- a block's answer, for two maps' values that are one

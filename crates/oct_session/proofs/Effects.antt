@@ -16,8 +16,8 @@ use Rattle.oct_script.specs.declared.reply.Refusal.TheVariants as refusal_of
 use Rattle.oct_script.specs.Commands.{command_of}
 use Rattle.oct_script.specs.Lines.{Line, Text, Long, is_long}
 use Rattle.oct_script.specs.Replies.{is_refusal}
-use Rattle.oct_session.specs.declared.block.Block.{Block}
-use Rattle.oct_session.specs.declared.block.Block.TheVariants.{Scanning, Spoilt}
+use Rattle.oct_session.specs.declared.scan_block.ScanBlock.{ScanBlock}
+use Rattle.oct_session.specs.declared.scan_block.ScanBlock.TheVariants.{Scanning, Spoilt}
 use Rattle.oct_session.specs.declared.session.Session.{Session}
 use Rattle.oct_session.specs.Commands.{Saving, numbered, command_on, is_quit, reply, action_of}
 use Rattle.oct_session.specs.Commands.{saving_of, file_named, asks_for, accepted, accepted_saving}
@@ -50,7 +50,7 @@ saves_none r saving none =
     elim (is_refusal r) as (λ b. cond b None saving ≡ None) [ true ↦ refl | false ↦ none ]
 
 -- a line inside a block saves nothing
-inside_saves : (s : State) (number : ℕ) (c : Result Command Refusal) (block : Block)
+inside_saves : (s : State) (number : ℕ) (c : Result Command Refusal) (block : ScanBlock)
     → (effect_inside s number c block).saving ≡ None
 inside_saves s number c block =
     elim (is_end c) as (λ b.
@@ -104,7 +104,7 @@ some_obeyed r m n c done =
     some_done r m n (λ s. reply None s c) (λ s. action_of None s c) (done None)
 
 -- and so does one that has worked on a line
-pub some_worked : {E : Type 0} (r : Result (Option Reply) E) (m n : Map) (block : Option Block)
+pub some_worked : {E : Type 0} (r : Result (Option Reply) E) (m n : Map) (block : Option ScanBlock)
     (e : State → Effect) → HasWorked e m n block r → KeepsStanding m n
 some_worked (Ok a) m n block e done =
     λ o some. some_more o m n some (e (state_after o some.0)).added
@@ -113,7 +113,7 @@ some_worked (Err x) m n block e done = λ o some. (some.0, (done (state_after o 
 
 -- a line that closes its block was answered, and done unless it is refused
 pub effect_closed : {E : Type 0} (r : Result (Option Reply) E) (m n : Map) (number : ℕ)
-    (c : Result Command Refusal) (inner : Block) (block : Option Block) → is_end c ≡ true
+    (c : Result Command Refusal) (inner : ScanBlock) (block : Option ScanBlock) → is_end c ≡ true
     → block ≡ None →
     HasScanned m n inner r → HasWorked (λ s. effect_inside s number c inner) m n block r
 effect_closed (Ok a) m n number c inner block end none done = λ s at. let took = done s at in
@@ -127,9 +127,9 @@ effect_closed (Err x) m n number c inner block end none done = λ s at. let kept
 
 -- a line that closes the block that was open
 pub effect_taken : {E : Type 0} (r : Result (Option Reply) E) (m n : Map) (number : ℕ)
-    (c : Result Command Refusal) (old taken new : Option Block) (standing : Block) → is_end c ≡ true
-    → new ≡ None → taken ≡ old → taken ≡ Some standing →
-    HasScanned m n standing r → (first : Block) → old ≡ Some first
+    (c : Result Command Refusal) (old taken new : Option ScanBlock) (standing : ScanBlock)
+    → is_end c ≡ true → new ≡ None → taken ≡ old → taken ≡ Some standing →
+    HasScanned m n standing r → (first : ScanBlock) → old ≡ Some first
     → HasWorked (λ s. effect_inside s number c first) m n new r
 effect_taken r m n number c old taken new standing end none took is done first was =
     let same : standing ≡ first = cc in
@@ -137,8 +137,9 @@ effect_taken r m n number c old taken new standing end none took is done first w
 
 -- a line in a block, with the files that stand by
 pub inside_done : (m n : Map) (f : Option Files) (number : ℕ) (line : Line)
-    (c : Result Command Refusal) (old new : Option Block) (a : Option Reply) → is_some old ≡ true →
-    ((first : Block) → old ≡ Some first → (s : State) → StandsFor m s →
+    (c : Result Command Refusal) (old new : Option ScanBlock) (a : Option Reply)
+    → is_some old ≡ true →
+    ((first : ScanBlock) → old ≡ Some first → (s : State) → StandsFor m s →
     (a ≡ (effect_inside s number c first).reply) × (new ≡ (effect_inside s number c first).block)
     × StandsFor n (after_all s (effect_inside s number c first).added)) →
     TakesEffect (λ files s. effect files s number line c old) c m f n f new a
@@ -155,10 +156,10 @@ inside_done m n f number line c (Some first) new a some worked = λ files s find
     )
 
 pub inside_failed : (r : Result (Option Reply) StoreFault) (m n : Map) (f : Option Files)
-    (number : ℕ) (line : Line) (c : Result Command Refusal) (old new : Option Block)
+    (number : ℕ) (line : Line) (c : Result Command Refusal) (old new : Option ScanBlock)
     → is_some old ≡ true →
     IsErrAnd r (λ x. x ≡ store_fault.Memory)
-    → ((first : Block) → old ≡ Some first → (s : State) → StandsFor m s
+    → ((first : ScanBlock) → old ≡ Some first → (s : State) → StandsFor m s
     → IsHeard (effect_inside s number c first) × StandsFor n s) →
     HasEffect (λ files s. effect files s number line c old) c m f n f new r
 inside_failed (Ok x) m n f number line c old new some memory kept = absurd memory
@@ -172,8 +173,9 @@ inside_failed (Err x) m n f number line c (Some first) new some memory kept = λ
 
 -- a map on which a line in a block was done stands for some history, as before
 pub some_inside : {E : Type 0} (r : Result (Option Reply) E) (m n : Map) (number : ℕ)
-    (c : Result Command Refusal) (old new : Option Block) → is_some old ≡ true →
-    ((first : Block) → old ≡ Some first → HasWorked (λ s. effect_inside s number c first) m n new r)
+    (c : Result Command Refusal) (old new : Option ScanBlock) → is_some old ≡ true →
+    ((first : ScanBlock) → old ≡ Some first
+    → HasWorked (λ s. effect_inside s number c first) m n new r)
     → KeepsStanding m n
 some_inside r m n number c None new some works = cc
 some_inside r m n number c (Some first) new some works =
@@ -184,7 +186,7 @@ saves_not : (c : Result Command Refusal) → file_named c ≡ None → (s : Stat
 saves_not (Err refusal) none s = refl
 saves_not (Ok command.Blank) none s = refl
 saves_not (Ok (command.Edit p e lazy)) none s = refl
-saves_not (Ok (command.Box low high e)) none s = refl
+saves_not (Ok (command.Box lo hi e)) none s = refl
 saves_not (Ok (command.Scan head)) none s = refl
 saves_not (Ok (command.Beam p)) none s = refl
 saves_not (Ok command.End) none s = refl
@@ -200,8 +202,8 @@ saves_not (Ok (command.Save name)) none s = cc
 saves_not (Ok (command.Load name)) none s = refl
 saves_not (Ok (command.Snapshot name)) none s = cc
 saves_not (Ok (command.Restore name)) none s = refl
-saves_not (Ok (command.List low high depth)) none s = refl
-saves_not (Ok (command.Limit low high)) none s = refl
+saves_not (Ok (command.List lo hi depth)) none s = refl
+saves_not (Ok (command.Limit lo hi)) none s = refl
 saves_not (Ok command.Track) none s = refl
 saves_not (Ok command.Untrack) none s = refl
 saves_not (Ok command.Changes) none s = refl
@@ -215,7 +217,7 @@ pub names_not : (c : Command) → ((name : List ℕ) → c ≡ command.Save name
     file_named (Ok c) ≡ None
 names_not command.Blank save load snapshot restore = refl
 names_not (command.Edit p e lazy) save load snapshot restore = refl
-names_not (command.Box low high e) save load snapshot restore = refl
+names_not (command.Box lo hi e) save load snapshot restore = refl
 names_not (command.Scan head) save load snapshot restore = refl
 names_not (command.Beam p) save load snapshot restore = refl
 names_not command.End save load snapshot restore = refl
@@ -231,8 +233,8 @@ names_not (command.Save name) save load snapshot restore = absurd (save name ref
 names_not (command.Load name) save load snapshot restore = absurd (load name refl)
 names_not (command.Snapshot name) save load snapshot restore = absurd (snapshot name refl)
 names_not (command.Restore name) save load snapshot restore = absurd (restore name refl)
-names_not (command.List low high depth) save load snapshot restore = refl
-names_not (command.Limit low high) save load snapshot restore = refl
+names_not (command.List lo hi depth) save load snapshot restore = refl
+names_not (command.Limit lo hi) save load snapshot restore = refl
 names_not command.Track save load snapshot restore = refl
 names_not command.Untrack save load snapshot restore = refl
 names_not command.Changes save load snapshot restore = refl
@@ -277,7 +279,7 @@ effect_read r m n f g c read is took =
 
 -- a line outside a block that opens none
 pub effect_outside : (r : Result (Option Reply) StoreFault) (m n : Map) (f g : Option Files)
-    (c : Result Command Refusal) (opened block : Option Block) → is_some opened ≡ false
+    (c : Result Command Refusal) (opened block : Option ScanBlock) → is_some opened ≡ false
     → block ≡ None →
     HasEffect (λ files s. effect_of_command files s c) c m f n g None r
     → HasEffect (λ files s. effect_opened files s c opened) c m f n g block r
@@ -287,7 +289,7 @@ effect_outside r m n f g c None block none closed took =
 
 -- a line that opens a block
 pub effect_opens : (m : Map) (f : Option Files) (c : Result Command Refusal)
-    (opened block : Option Block) → is_some opened ≡ true → block ≡ opened →
+    (opened block : Option ScanBlock) → is_some opened ≡ true → block ≡ opened →
     TakesEffect (λ files s. effect_opened files s c opened) c m f m f block None
 effect_opens m f c (Some inner) block some is = λ files s finds at. (refl, is, at)
 effect_opens m f c None block some is = cc
@@ -297,7 +299,7 @@ pub opens_none : (number : ℕ) (line : Line) (c : Command)
     → ((head : ScanHead) → c ≡ command.Scan head → ⊥) → is_some (opened number line (Ok c)) ≡ false
 opens_none number line command.Blank not_scan = refl
 opens_none number line (command.Edit p e lazy) not_scan = refl
-opens_none number line (command.Box low high e) not_scan = refl
+opens_none number line (command.Box lo hi e) not_scan = refl
 opens_none number line (command.Scan head) not_scan = absurd (not_scan head refl)
 opens_none number line (command.Beam p) not_scan = refl
 opens_none number line command.End not_scan = refl
@@ -313,8 +315,8 @@ opens_none number line (command.Save name) not_scan = refl
 opens_none number line (command.Load name) not_scan = refl
 opens_none number line (command.Snapshot name) not_scan = refl
 opens_none number line (command.Restore name) not_scan = refl
-opens_none number line (command.List low high depth) not_scan = refl
-opens_none number line (command.Limit low high) not_scan = refl
+opens_none number line (command.List lo hi depth) not_scan = refl
+opens_none number line (command.Limit lo hi) not_scan = refl
 opens_none number line command.Track not_scan = refl
 opens_none number line command.Untrack not_scan = refl
 opens_none number line command.Changes not_scan = refl
@@ -322,7 +324,7 @@ opens_none number line command.NoLimit not_scan = refl
 
 -- the head of a scan opens its block
 pub scan_opens : (m : Map) (f : Option Files) (number : ℕ) (line : Line) (c : Command)
-    (head : ScanHead) (block : Option Block) → c ≡ command.Scan head
+    (head : ScanHead) (block : Option ScanBlock) → c ≡ command.Scan head
     → block ≡ Some (Scanning (begun number head)) →
     TakesEffect (λ files s. effect_opened files s (Ok c) (opened number line (Ok c))) (Ok c) m f m f
     block None
@@ -333,8 +335,8 @@ scan_opens m f number line c head block is opens =
     opens)
 
 -- a line that isn't in the grammar, where no block is open
-fault_before : (m : Map) (f : Option Files) (refusal : Refusal) (opens : Bool) (new : Option Block)
-    (a : Option Reply) → new ≡ cond opens (Some (Spoilt refusal)) None
+fault_before : (m : Map) (f : Option Files) (refusal : Refusal) (opens : Bool)
+    (new : Option ScanBlock) (a : Option Reply) → new ≡ cond opens (Some (Spoilt refusal)) None
     → a ≡ spoilt_reply refusal new →
     TakesEffect (λ files s. effect_opened files s (Err refusal)
     (cond opens (Some (Spoilt refusal)) None)) (Err refusal) m f m f new a
@@ -345,7 +347,7 @@ fault_before m f refusal false new a is told =
 
 -- such a line, wherever it stands
 pub fault_taken : (m : Map) (f : Option Files) (number : ℕ) (line : Line) (refusal : Refusal)
-    (old new : Option Block) (a : Option Reply) → new ≡ spoilt_by number line refusal old
+    (old new : Option ScanBlock) (a : Option Reply) → new ≡ spoilt_by number line refusal old
     → a ≡ spoilt_reply refusal new →
     TakesEffect (λ files s. effect files s number line (Err refusal) old) (Err refusal) m f m f new
     a
@@ -356,7 +358,7 @@ fault_taken m f number line refusal (Some block) new a is told =
 
 -- the effect of a line on the command that was read of it
 pub taken_as : (r : Result (Option Reply) StoreFault) (m n : Map) (f g : Option Files) (number : ℕ)
-    (line : Line) (c read : Result Command Refusal) (old new : Option Block) → c ≡ read →
+    (line : Line) (c read : Result Command Refusal) (old new : Option ScanBlock) → c ≡ read →
     HasEffect (λ files s. effect files s number line read old) read m f n g new r
     → HasEffect (λ files s. effect files s number line c old) c m f n g new r
 taken_as r m n f g number line c read old new is took =
@@ -366,7 +368,7 @@ taken_as r m n f g number line c read old new is took =
 -- a line that failed, and whose fault was passed on
 pub still_failed : {A : Type 0} (r : Result A StoreFault) (a : Option Reply)
     (e : Option Files → State → Effect) (c : Result Command Refusal) (x : StoreFault) (m n : Map)
-    (f g : Option Files) (block : Option Block) → IsErrAnd r (λ y. y ≡ x) →
+    (f g : Option Files) (block : Option ScanBlock) → IsErrAnd r (λ y. y ≡ x) →
     HasEffect e c m f n g block (Err x) → HasEffect e c m f n g block (with_reply r a)
 still_failed (Ok y) a e c x m n f g block same took = absurd same
 still_failed (Err y) a e c x m n f g block same took =
@@ -392,7 +394,7 @@ long_in inside number Long long = refl
 
 -- the effect of a line where no block is inner
 pub effect_before : (r : Result (Option Reply) StoreFault) (m n : Map) (f g : Option Files)
-    (number : ℕ) (line : Line) (c : Result Command Refusal) (old opens new : Option Block)
+    (number : ℕ) (line : Line) (c : Result Command Refusal) (old opens new : Option ScanBlock)
     → is_some old ≡ false → opens ≡ opened number line c →
     HasEffect (λ files s. effect_opened files s c opens) c m f n g new r
     → HasEffect (λ files s. effect files s number line c old) c m f n g new r
@@ -407,7 +409,7 @@ pub same_command : (s : Session) (line : Line) (p : Progress) (c : Result Comman
     → c ≡ next_command p line
 same_command s line p c at read =
     read ∙ ap (λ n. command_on (is_some s.block) (n + 1) line) at.counted
-    ∙ ap (λ (b : Option Block). command_on (is_some b) (p.line_count + 1) line) at.block
+    ∙ ap (λ (b : Option ScanBlock). command_on (is_some b) (p.line_count + 1) line) at.block
 
 -- and its effect that of the next line
 same_effect : (o : Setup) (s : Session) (line : Line) (p : Progress) (c : Result Command Refusal)
@@ -426,7 +428,7 @@ same_effect o s line p c at read =
 -- what was read of a line, and what it did
 pub record IsWorked (s : Session) (line : Line) (c : Result Command Refusal) (m n : Map)
     (f g : Option Files)
-    (block : Option Block) (r : Result (Option Reply) StoreFault) : Type 0 where
+    (block : Option ScanBlock) (r : Result (Option Reply) StoreFault) : Type 0 where
   pub running : s.has_quit ≡ false
   pub read : c ≡ command_on (is_some s.block) (s.line_count + 1) line
   pub took : HasEffect (λ files q. effect files q (s.line_count + 1) line c s.block) c m f n
@@ -444,7 +446,7 @@ finds_line o s line p c running at read known =
 -- the reply to the next line
 pub told_line : (o : Setup) (d : Desk) (n : Map) (g : Option Files) (s : Session) (line : Line)
     (p : Progress)
-    (c : Result Command Refusal) (block : Option Block) (a : Option Reply)
+    (c : Result Command Refusal) (block : Option ScanBlock) (a : Option Reply)
     → IsWorked s line c d.map n d.store.files g block (Ok a) →
     IsKnown (after_line o p line) → IsBetween o d s p → a ≡ (effect_of o p line).reply
 told_line o d n g s line p c block a w known at =
@@ -455,7 +457,7 @@ told_line o d n g s line p c block a w known at =
 -- the desk after the next line
 pub like_line : (o : Setup) (d e : Desk) (s : Session) (line : Line) (p : Progress)
     (c : Result Command Refusal)
-    (block : Option Block) (a : Option Reply)
+    (block : Option ScanBlock) (a : Option Reply)
     → IsWorked s line c d.map e.map d.store.files e.store.files block (Ok a) →
     IsKnown (after_line o p line) → IsBetween o d s p
     → IsLikeAfter o (after_line o p line) e
@@ -511,7 +513,7 @@ asked_line o d e s line p c running read asks at =
 
 -- desk and session after the next line
 pub between_line : (o : Setup) (d e : Desk) (s t : Session) (line : Line) (p : Progress)
-    (c : Result Command Refusal) (block : Option Block) (a : Option Reply)
+    (c : Result Command Refusal) (block : Option ScanBlock) (a : Option Reply)
     → IsWorked s line c d.map e.map d.store.files e.store.files block (Ok a) →
     Asks d e (asks_for (file_named c)) →
     t.line_count ≡ s.line_count + 1 → t.block ≡ block → t.refused ≡ (s.refused || is_refusal a)
@@ -553,8 +555,8 @@ failed_beside o e p line store_fault.Memory running less = inr less
 
 -- where the command failed, nothing of the line is done, but for the file that it saves
 pub before_err : {T H : Type 0} (x : Result T StoreFault) (fault : StoreFault) (o : Setup)
-    (d e : H → Desk) (s : Session) (line : Line) (c : Result Command Refusal) (block : Option Block)
-    → IsErrAnd x (λ y. y ≡ fault) →
+    (d e : H → Desk) (s : Session) (line : Line) (c : Result Command Refusal)
+    (block : Option ScanBlock) → IsErrAnd x (λ y. y ≡ fault) →
     ((home : H) → IsWorked s line c (d home).map (e home).map (d home).store.files
     (e home).store.files
     block (Err fault)) → ((home : H) → Asks (d home) (e home) (asks_for (file_named c))) →
@@ -580,7 +582,7 @@ before_err (Err x) fault o d e s line c block same works asks = λ home p known 
 -- where memory runs out for the reply, all of it is done
 pub after_err : {T H : Type 0} (x : Result T StoreFault) (o : Setup) (d e : H → Desk)
     (s : Session) (line : Line)
-    (c : Result Command Refusal) (block : Option Block) (a : Option Reply)
+    (c : Result Command Refusal) (block : Option ScanBlock) (a : Option Reply)
     → IsErrAnd x (λ y. y ≡ store_fault.Memory) →
     ((home : H) → IsWorked s line c (d home).map (e home).map (d home).store.files
     (e home).store.files

@@ -62,8 +62,8 @@ use Rattle.oct_session.specs.Session.{ended as ended_after, closed, next_command
 use Rattle.oct_session.specs.Session.{is_too_long}
 use Rattle.oct_session.specs.Setup.{Setup}
 use Rattle.oct_session.specs.Tally.{counted, capped}
-use Rattle.oct_session.specs.declared.block.Block.{Block}
-use Rattle.oct_session.specs.declared.block.Block.TheVariants.{Scanning, Spoilt}
+use Rattle.oct_session.specs.declared.scan_block.ScanBlock.{ScanBlock}
+use Rattle.oct_session.specs.declared.scan_block.ScanBlock.TheVariants.{Scanning, Spoilt}
 use Rattle.oct_session.specs.declared.tally.Tally.{Tally}
 use Rattle.oct_session.proofs.SameLimits.{limits_of}
 
@@ -137,8 +137,8 @@ command_few most files s (Err refusal) = tt
 command_few most files s (Ok command.Blank) = tt
 command_few most files s (Ok (command.Edit p e lazy)) =
     edit_few most (edit_answer s.base s.values p)
-command_few most files s (Ok (command.Box low high e)) =
-    edit_few most (box_answer s.base (is_some s.marked) s.values low high)
+command_few most files s (Ok (command.Box lo hi e)) =
+    edit_few most (box_answer s.base (is_some s.marked) s.values lo hi)
 command_few most files s (Ok (command.Scan head)) = tt
 command_few most files s (Ok (command.Beam p)) = tt
 command_few most files s (Ok command.End) = tt
@@ -158,14 +158,14 @@ command_few most files s (Ok (command.Load name)) =
 command_few most files s (Ok (command.Snapshot name)) = tt
 command_few most files s (Ok (command.Restore name)) =
     restore_few most s.base (found_in files name)
-command_few most files s (Ok (command.List low high depth)) =
-    list_few most s.base.odds.thr (list_answer s.base s.is_stale s.values low high depth)
+command_few most files s (Ok (command.List lo hi depth)) =
+    list_few most s.base.odds.thr (list_answer s.base s.is_stale s.values lo hi depth)
 command_few most files s (Ok command.Track) = tt
 command_few most files s (Ok command.Untrack) = tt
 command_few most files s (Ok command.Changes) =
     changes_few most (changes_answer s.marked (classes_of s.base.odds s.values))
-command_few most files s (Ok (command.Limit low high)) =
-    edit_few most (limit_answer s.base low high)
+command_few most files s (Ok (command.Limit lo hi)) =
+    edit_few most (limit_answer s.base lo hi)
 command_few most files s (Ok command.NoLimit) = tt
 
 -- a scan that is done meets no more voxels than it may
@@ -179,7 +179,7 @@ scan_few s seen None (Ok done) ok is = (
   frees_few s.base.res s.base.max_cells s.base.update_box seen ok is,
 )
 
-block_few : (s : State) (block : Block) → IsResolution s.base.res
+block_few : (s : State) (block : ScanBlock) → IsResolution s.base.res
     → HasFewCells s.base.max_cells (block_reply s block)
 block_few s (Spoilt refusal) ok = tt
 block_few s (Scanning scan) ok =
@@ -194,12 +194,12 @@ block_few s (Scanning scan) ok =
     ]
 
 opened_few : (most : ℕ) (files : Option Files) (s : State) (c : Result Command Refusal)
-    (block : Option Block) → HasFewCells most (effect_opened files s c block).reply
+    (block : Option ScanBlock) → HasFewCells most (effect_opened files s c block).reply
 opened_few most files s c None = command_few most files s c
 opened_few most files s c (Some block) = tt
 
 effect_few : (files : Option Files) (s : State) (number : ℕ) (line : Line)
-    (c : Result Command Refusal) (block : Option Block) → IsResolution s.base.res
+    (c : Result Command Refusal) (block : Option ScanBlock) → IsResolution s.base.res
     → HasFewCells s.base.max_cells (effect files s number line c block).reply
 effect_few files s number line c None ok =
     opened_few s.base.max_cells files s c (opened number line c)
@@ -289,7 +289,7 @@ lines_few o p (line ∷ rest) lines ok few =
     subst (λ n. IsFew o.max_cells n (after_lines o (after_line o p line) rest).tally) same
     (lines_few o (after_line o p line) rest (lines + 1) ok (line_few o p line lines ok few))
 
-end_few : (most : ℕ) (block : Option Block) → HasFewCells most (end_reply block)
+end_few : (most : ℕ) (block : Option ScanBlock) → HasFewCells most (end_reply block)
 end_few most None = tt
 end_few most (Some block) = tt
 

@@ -14,7 +14,7 @@ use Rattle.oct_odds.specs.Odds.{Odds}
 use Rattle.oct_odds.specs.Update.{Value, IsWithin, class_of}
 use Rattle.oct_bt.specs.Classes.{value_for}
 use Rattle.oct_bt.specs.DataClasses.{data_classes}
-use Rattle.oct_key.specs.Boxes.{Corners}
+use Rattle.oct_key.specs.Boxes.{Window}
 use Rattle.oct_change.specs.Held.{Held}
 use Rattle.oct_map.specs.Ground.{Ground}
 use Rattle.oct_map.specs.Map.{Map, IsMap, ground_of, values_of}
@@ -111,17 +111,17 @@ stands_edited m n s p e lazy event is values stale pruned setup at =
     (same_mark_trans s.marked (marked_of m) (marked_of n) at.marked setup.mark) at
 
 -- the map after an edit of a box
-pub stands_boxed : (m n : Map) (s : State) (low high : Point) (e : Edit) (event : Event)
+pub stands_boxed : (m n : Map) (s : State) (lo hi : Point) (e : Edit) (event : Event)
     → event ≡ edit_event m.tree.odds e →
     SameValues (updated m.tree.odds
-    (corner_events (key_at m.tree.res low) (key_at m.tree.res high) event) (values_of m))
+    (corner_events (key_at m.tree.res lo) (key_at m.tree.res hi) event) (values_of m))
     (values_of n) → n.is_stale ≡ m.is_stale →
     (IsPruned m.tree → IsPruned n.tree) → Keeps m n → StandsFor m s
-    → StandsFor n (after s (Boxed low high e))
-stands_boxed m n s low high e event is values stale pruned setup at =
-    stands_done m n s (Boxed low high e)
-    (corner_events (key_at m.tree.res low) (key_at m.tree.res high) event)
-    (ap (corner_events (key_at m.tree.res low) (key_at m.tree.res high)) is) values stale
+    → StandsFor n (after s (Boxed lo hi e))
+stands_boxed m n s lo hi e event is values stale pruned setup at =
+    stands_done m n s (Boxed lo hi e)
+    (corner_events (key_at m.tree.res lo) (key_at m.tree.res hi) event)
+    (ap (corner_events (key_at m.tree.res lo) (key_at m.tree.res hi)) is) values stale
     (λ was before now. pruned (before now)) (λ g. refl) setup.ground
     (same_mark_trans s.marked (marked_of m) (marked_of n) at.marked setup.mark) at
 
@@ -271,7 +271,7 @@ stands_untracked m n s exact at =
     (subst (λ (t : Map). SameMark None (marked_of t)) (sym exact) tt) at
 
 -- the map after an action that is about its update box alone
-stands_boxing : (m n : Map) (s : State) (a : Action) (x : Option Corners)
+stands_boxing : (m n : Map) (s : State) (a : Action) (x : Option Window)
     → n ≡ record m { update_box = x } → (λ k. None) ≡ command_event (ground_of m) a
     → m.is_stale ≡ is_stale_by m.is_stale a →
     ((was : Bool) → is_pruned_by was a ≡ was) → ((g : Ground) → (base_by g a).odds ≡ g.odds)
@@ -288,12 +288,12 @@ stands_boxing m n s a x exact nothing stale pruned odds base mark at =
     (marked_of t)) (sym exact) mark) at
 
 -- the map after a limit
-pub stands_limited : (m n : Map) (s : State) (low high : Point)
-    → n ≡ record m { update_box = corner_box (key_at m.tree.res low) (key_at m.tree.res high) }
-    → StandsFor m s → StandsFor n (after s (Limited low high))
-stands_limited m n s low high exact at =
-    stands_boxing m n s (Limited low high)
-    (corner_box (key_at m.tree.res low) (key_at m.tree.res high)) exact refl refl (λ was. refl)
+pub stands_limited : (m n : Map) (s : State) (lo hi : Point)
+    → n ≡ record m { update_box = corner_box (key_at m.tree.res lo) (key_at m.tree.res hi) }
+    → StandsFor m s → StandsFor n (after s (Limited lo hi))
+stands_limited m n s lo hi exact at =
+    stands_boxing m n s (Limited lo hi)
+    (corner_box (key_at m.tree.res lo) (key_at m.tree.res hi)) exact refl refl (λ was. refl)
     (λ g. refl) refl at.marked at
 
 -- the map after the end of a limit

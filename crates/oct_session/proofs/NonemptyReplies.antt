@@ -36,7 +36,7 @@ use Rattle.oct_session.specs.Commands.{edit_reply, list_reply, changes_reply}
 use Rattle.oct_session.specs.History.{State}
 use Rattle.oct_session.specs.ScanBlock.{is_zero, scan_reply, block_reply}
 use Rattle.oct_session.specs.ScanSoFar.{ScanSoFar, sighting_so_far}
-use Rattle.oct_session.specs.declared.block.Block.TheVariants.{Scanning}
+use Rattle.oct_session.specs.declared.scan_block.ScanBlock.TheVariants.{Scanning}
 use Rattle.std.specs.Fmt.{signed_decimal}
 use Rattle.oct_values.specs.Classes.{Classes}
 use Rattle.oct_map.specs.Lists.{list_most, list_answer, list_answer_at}
@@ -120,37 +120,37 @@ wide_some false count room some = some
 corners_some : (marked : Bool) (a b : Option Voxel) (room : Result ⊤ MapFault)
     → IsSome (edit_reply room) → IsSome (edit_reply (box_answer_by (box_fault marked a b) room))
 corners_some marked None b room some = refl
-corners_some marked (Some low) None room some = refl
-corners_some marked (Some low) (Some high) room some =
-    elim (is_box low high) as
+corners_some marked (Some lo) None room some = refl
+corners_some marked (Some lo) (Some hi) room some =
+    elim (is_box lo hi) as
     (λ t. IsSome (edit_reply
     (box_answer_by (option_or (cond {A = Option MapFault} t None (Some map_fault.BadBox))
-    (wide_fault marked (Some low) (Some high))) room))) [
-      | true ↦ wide_some (marked && nat_lt most_noted (box_volume low high)) (box_volume low high)
+    (wide_fault marked (Some lo) (Some hi))) room))) [
+      | true ↦ wide_some (marked && nat_lt most_noted (box_volume lo hi)) (box_volume lo hi)
           room some
       | false ↦ refl
     ]
 
 -- an edit of a box has a reply
-pub box_some : (g : Ground) (marked : Bool) (values : Values) (low high : Point)
-    → IsSome (edit_reply (box_answer g marked values low high))
-box_some g marked values low high =
-    corners_some marked (key_at g.res low) (key_at g.res high) _
-    (room_some g.max_groups values (corner_need (key_at g.res low) (key_at g.res high)))
+pub box_some : (g : Ground) (marked : Bool) (values : Values) (lo hi : Point)
+    → IsSome (edit_reply (box_answer g marked values lo hi))
+box_some g marked values lo hi =
+    corners_some marked (key_at g.res lo) (key_at g.res hi) _
+    (room_some g.max_groups values (corner_need (key_at g.res lo) (key_at g.res hi)))
 
 limit_some_at : (a b : Option Voxel)
     → IsSome (edit_reply (box_answer_by (corner_fault a b) (Ok tt)))
 limit_some_at None b = refl
-limit_some_at (Some low) None = refl
-limit_some_at (Some low) (Some high) =
-    elim (is_box low high) as
+limit_some_at (Some lo) None = refl
+limit_some_at (Some lo) (Some hi) =
+    elim (is_box lo hi) as
     (λ t. IsSome (edit_reply
     (box_answer_by (cond {A = Option MapFault} t None (Some map_fault.BadBox)) (Ok tt))))
     [ true ↦ refl | false ↦ refl ]
 
 -- a limit has a reply
-pub limit_some : (g : Ground) (low high : Point) → IsSome (edit_reply (limit_answer g low high))
-limit_some g low high = limit_some_at (key_at g.res low) (key_at g.res high)
+pub limit_some : (g : Ground) (lo hi : Point) → IsSome (edit_reply (limit_answer g lo hi))
+limit_some g lo hi = limit_some_at (key_at g.res lo) (key_at g.res hi)
 
 list_some_by : (threshold : ℤ) (deep box stale many : Bool) (count : ℕ) (blocks : List Shown) →
     IsSome (list_reply threshold
@@ -166,17 +166,17 @@ list_some_by threshold false true false false count blocks = refl
 list_some_at : (threshold : ℤ) (stale : Bool) (values : Values) (depth : ℕ) (a b : Option Voxel)
     → IsSome (list_reply threshold (list_answer_at stale values depth a b))
 list_some_at threshold stale values depth None b = refl
-list_some_at threshold stale values depth (Some low) None = refl
-list_some_at threshold stale values depth (Some low) (Some high) =
-    list_some_by threshold (nat_lt 16 depth) (is_box low high) (stale && nat_lt depth 16)
-    (nat_lt list_most (length (met_blocks low high depth))) (length (met_blocks low high depth))
-    (listed_blocks values low high depth)
+list_some_at threshold stale values depth (Some lo) None = refl
+list_some_at threshold stale values depth (Some lo) (Some hi) =
+    list_some_by threshold (nat_lt 16 depth) (is_box lo hi) (stale && nat_lt depth 16)
+    (nat_lt list_most (length (met_blocks lo hi depth))) (length (met_blocks lo hi depth))
+    (listed_blocks values lo hi depth)
 
 -- a list has a reply
-pub list_some : (threshold : ℤ) (g : Ground) (stale : Bool) (values : Values) (low high : Point)
-    (depth : ℕ) → IsSome (list_reply threshold (list_answer g stale values low high depth))
-list_some threshold g stale values low high depth =
-    list_some_at threshold stale values depth (key_at g.res low) (key_at g.res high)
+pub list_some : (threshold : ℤ) (g : Ground) (stale : Bool) (values : Values) (lo hi : Point)
+    (depth : ℕ) → IsSome (list_reply threshold (list_answer g stale values lo hi depth))
+list_some threshold g stale values lo hi depth =
+    list_some_at threshold stale values depth (key_at g.res lo) (key_at g.res hi)
 
 -- so has what has changed
 pub changes_some : (marked : Option Classes) (now : Classes)

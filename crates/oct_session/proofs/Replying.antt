@@ -52,7 +52,7 @@ use Rattle.oct_session.specs.Leaving.{StandsFor}
 use Rattle.oct_session.specs.ScanBlock.{is_zero, scan_reply, block_reply, block_action}
 use Rattle.oct_session.specs.ScanSoFar.{ScanSoFar, sighting_so_far}
 use Rattle.oct_session.specs.Standing.{HasAnswered, HasObeyed, HasScanned}
-use Rattle.oct_session.specs.declared.block.Block.TheVariants.{Scanning}
+use Rattle.oct_session.specs.declared.scan_block.ScanBlock.TheVariants.{Scanning}
 use Rattle.oct_session.proofs.Answering.{same_edit, same_get, same_cast, same_scan, same_box}
 use Rattle.oct_session.proofs.Answering.{same_list, same_changed}
 use Rattle.oct_session.proofs.NonemptyReplies.{edit_some, block_some, box_some, list_some}
@@ -147,39 +147,39 @@ edit_refused (Err x) m n p e lazy f is some answer values stale pruned setup =
     λ files q at. (edit_some q.base q.values p, stands_same m n q values stale pruned setup at)
 
 -- an edit of a box that the map did
-pub box_done : (m n : Map) (low high : Point) (e : Edit) (event : Event)
+pub box_done : (m n : Map) (lo hi : Point) (e : Edit) (event : Event)
     → event ≡ edit_event m.tree.odds e →
-    IsAnswerOrMemory (box_answer (ground_of m) (is_some m.mark) (values_of m) low high) (Ok tt) →
+    IsAnswerOrMemory (box_answer (ground_of m) (is_some m.mark) (values_of m) lo hi) (Ok tt) →
     SameValues (updated m.tree.odds
-    (corner_events (key_at m.tree.res low) (key_at m.tree.res high) event) (values_of m))
+    (corner_events (key_at m.tree.res lo) (key_at m.tree.res hi) event) (values_of m))
     (values_of n) → n.is_stale ≡ (m.is_stale || false) →
     (IsPruned m.tree → IsPruned n.tree) → Keeps m n
-    → Obeys m n (Ok (command.Box low high e)) (Some reply_of.Ok)
-box_done m n low high e event is (inl answer) values stale pruned setup = λ files q at. (
-  ap edit_reply (answer ∙ same_box m q low high at),
-  stands_boxed m n q low high e event is values (stale ∙ or-false m.is_stale) pruned setup at,
+    → Obeys m n (Ok (command.Box lo hi e)) (Some reply_of.Ok)
+box_done m n lo hi e event is (inl answer) values stale pruned setup = λ files q at. (
+  ap edit_reply (answer ∙ same_box m q lo hi at),
+  stands_boxed m n q lo hi e event is values (stale ∙ or-false m.is_stale) pruned setup at,
 )
-box_done m n low high e event is (inr memory) values stale pruned setup = cc
+box_done m n lo hi e event is (inr memory) values stale pruned setup = cc
 
 -- an edit of a box that the map refused
-pub box_refused : {E : Type 0} (r : Result (Option Reply) E) (m n : Map) (low high : Point)
+pub box_refused : {E : Type 0} (r : Result (Option Reply) E) (m n : Map) (lo hi : Point)
     (e : Edit) (f : MapFault) →
     IfOk r (λ a. a ≡ fault_reply f) → IfOk r IsSome
-    → IsAnswerOrMemory (box_answer (ground_of m) (is_some m.mark) (values_of m) low high) (Err f) →
+    → IsAnswerOrMemory (box_answer (ground_of m) (is_some m.mark) (values_of m) lo hi) (Err f) →
     SameValues (values_of m) (values_of n) → n.is_stale ≡ m.is_stale
     → (IsPruned m.tree → IsPruned n.tree) → Keeps m n
-    → HasObeyed m n (Ok (command.Box low high e)) r
-box_refused (Ok a) m n low high e f is some (inl answer) values stale pruned setup = λ files q at. (
-  is ∙ ap edit_reply (answer ∙ same_box m q low high at),
-  stands_kept n q (accepted a (action_of files q (Ok (command.Box low high e))))
-      (ap (λ b. cond b [] (action_of files q (Ok (command.Box low high e)))) (refuses f a some is))
+    → HasObeyed m n (Ok (command.Box lo hi e)) r
+box_refused (Ok a) m n lo hi e f is some (inl answer) values stale pruned setup = λ files q at. (
+  is ∙ ap edit_reply (answer ∙ same_box m q lo hi at),
+  stands_kept n q (accepted a (action_of files q (Ok (command.Box lo hi e))))
+      (ap (λ b. cond b [] (action_of files q (Ok (command.Box lo hi e)))) (refuses f a some is))
       (stands_same m n q values stale pruned setup at),
 )
-box_refused (Ok a) m n low high e f is some (inr memory) values stale pruned setup =
+box_refused (Ok a) m n lo hi e f is some (inr memory) values stale pruned setup =
     absurd (no_reply f a some is cc)
-box_refused (Err x) m n low high e f is some answer values stale pruned setup =
+box_refused (Err x) m n lo hi e f is some answer values stale pruned setup =
     λ files q at. (
-      box_some q.base (is_some q.marked) q.values low high,
+      box_some q.base (is_some q.marked) q.values lo hi,
       stands_same m n q values stale pruned setup at,
     )
 
@@ -314,54 +314,54 @@ pub no_limit_done : (m n : Map) → n ≡ record m { update_box = None }
 no_limit_done m n exact = λ files q at. (refl, stands_unlimited m n q exact at)
 
 -- a limit that the map took
-pub limit_done : (m n : Map) (low high : Point)
-    → n ≡ record m { update_box = corner_box (key_at m.tree.res low) (key_at m.tree.res high) } →
-    ◌≡◌ {A = Result ⊤ MapFault} (Ok tt) (limit_answer (ground_of m) low high)
-    → Obeys m n (Ok (command.Limit low high)) (Some reply_of.Ok)
-limit_done m n low high exact answer = λ files q at. (
-  ap edit_reply (answer ∙ ap (λ g. limit_answer g low high) at.base),
-  stands_limited m n q low high exact at,
+pub limit_done : (m n : Map) (lo hi : Point)
+    → n ≡ record m { update_box = corner_box (key_at m.tree.res lo) (key_at m.tree.res hi) } →
+    ◌≡◌ {A = Result ⊤ MapFault} (Ok tt) (limit_answer (ground_of m) lo hi)
+    → Obeys m n (Ok (command.Limit lo hi)) (Some reply_of.Ok)
+limit_done m n lo hi exact answer = λ files q at. (
+  ap edit_reply (answer ∙ ap (λ g. limit_answer g lo hi) at.base),
+  stands_limited m n q lo hi exact at,
 )
 
 -- a limit that the map refused
-pub limit_refused : {E : Type 0} (r : Result (Option Reply) E) (m n : Map) (low high : Point)
+pub limit_refused : {E : Type 0} (r : Result (Option Reply) E) (m n : Map) (lo hi : Point)
     (f : MapFault) → IfOk r (λ a. a ≡ fault_reply f) → IfOk r IsSome → n ≡ m →
-    ◌≡◌ {A = Result ⊤ MapFault} (Err f) (limit_answer (ground_of m) low high)
-    → HasObeyed m n (Ok (command.Limit low high)) r
-limit_refused (Ok a) m n low high f is some same answer = λ files q at. (
-  is ∙ ap edit_reply (answer ∙ ap (λ g. limit_answer g low high) at.base),
-  stands_kept n q (accepted a (action_of files q (Ok (command.Limit low high))))
-      (ap (λ b. cond b [] (action_of files q (Ok (command.Limit low high)))) (refuses f a some is))
+    ◌≡◌ {A = Result ⊤ MapFault} (Err f) (limit_answer (ground_of m) lo hi)
+    → HasObeyed m n (Ok (command.Limit lo hi)) r
+limit_refused (Ok a) m n lo hi f is some same answer = λ files q at. (
+  is ∙ ap edit_reply (answer ∙ ap (λ g. limit_answer g lo hi) at.base),
+  stands_kept n q (accepted a (action_of files q (Ok (command.Limit lo hi))))
+      (ap (λ b. cond b [] (action_of files q (Ok (command.Limit lo hi)))) (refuses f a some is))
       (subst (λ (t : Map). StandsFor t q) (sym same) at),
 )
-limit_refused (Err x) m n low high f is some same answer =
-    λ files q at. (limit_some q.base low high, subst (λ (t : Map). StandsFor t q) (sym same) at)
+limit_refused (Err x) m n lo hi f is some same answer =
+    λ files q at. (limit_some q.base lo hi, subst (λ (t : Map). StandsFor t q) (sym same) at)
 
 -- a list that the map answered
-pub list_done : (m : Map) (low high : Point) (depth : ℕ) (blocks : List Shown) (threshold : ℤ)
+pub list_done : (m : Map) (lo hi : Point) (depth : ℕ) (blocks : List Shown) (threshold : ℤ)
     → threshold ≡ m.tree.odds.thr →
-    IsAnswerOrMemory (list_answer (ground_of m) m.is_stale (values_of m) low high depth) (Ok blocks)
-    → Obeys m m (Ok (command.List low high depth)) (Some (reply_of.Blocks blocks threshold))
-list_done m low high depth blocks threshold is (inl answer) = λ files q at. (
+    IsAnswerOrMemory (list_answer (ground_of m) m.is_stale (values_of m) lo hi depth) (Ok blocks)
+    → Obeys m m (Ok (command.List lo hi depth)) (Some (reply_of.Blocks blocks threshold))
+list_done m lo hi depth blocks threshold is (inl answer) = λ files q at. (
   ap (λ t. Some (reply_of.Blocks blocks t)) (is ∙ ap (λ (g : Ground). g.odds.thr) at.base)
-      ∙ ap (list_reply q.base.odds.thr) (answer ∙ same_list m q low high depth at),
+      ∙ ap (list_reply q.base.odds.thr) (answer ∙ same_list m q lo hi depth at),
   stands_kept m q (accepted (Some (reply_of.Blocks blocks threshold)) [])
       (accepted_none (Some (reply_of.Blocks blocks threshold)) [] refl) at,
 )
-list_done m low high depth blocks threshold is (inr memory) = cc
+list_done m lo hi depth blocks threshold is (inr memory) = cc
 
 -- a list that the map refused
-pub list_refused : {E : Type 0} (r : Result (Option Reply) E) (m : Map) (low high : Point)
+pub list_refused : {E : Type 0} (r : Result (Option Reply) E) (m : Map) (lo hi : Point)
     (depth : ℕ) (f : MapFault) → IfOk r (λ a. a ≡ fault_reply f) → IfOk r IsSome →
-    IsAnswerOrMemory (list_answer (ground_of m) m.is_stale (values_of m) low high depth) (Err f)
-    → HasObeyed m m (Ok (command.List low high depth)) r
-list_refused (Ok a) m low high depth f is some (inl answer) = λ files q at. (
-  is ∙ ap (list_reply q.base.odds.thr) (answer ∙ same_list m q low high depth at),
+    IsAnswerOrMemory (list_answer (ground_of m) m.is_stale (values_of m) lo hi depth) (Err f)
+    → HasObeyed m m (Ok (command.List lo hi depth)) r
+list_refused (Ok a) m lo hi depth f is some (inl answer) = λ files q at. (
+  is ∙ ap (list_reply q.base.odds.thr) (answer ∙ same_list m q lo hi depth at),
   stands_kept m q (accepted a []) (accepted_none a [] refl) at,
 )
-list_refused (Ok a) m low high depth f is some (inr memory) = absurd (no_reply f a some is cc)
-list_refused (Err x) m low high depth f is some answer =
-    λ files q at. (list_some q.base.odds.thr q.base q.is_stale q.values low high depth, at)
+list_refused (Ok a) m lo hi depth f is some (inr memory) = absurd (no_reply f a some is cc)
+list_refused (Err x) m lo hi depth f is some answer =
+    λ files q at. (list_some q.base.odds.thr q.base q.is_stale q.values lo hi depth, at)
 
 -- what has changed, as the map answered it
 pub changes_done : (m : Map) (changes : List Change)

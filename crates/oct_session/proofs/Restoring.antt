@@ -6,7 +6,7 @@ use Rattle.std.specs.Prelude.{pos, nat_eq, nat_lt}
 use Rattle.std.specs.List.{flat_map}
 use Rattle.oct_bt.proofs.Canonicals.{child_height, child_is_block, flat_map-same}
 use Rattle.oct_key.specs.Block.{Cube, IsBlock, child_of, lowest_voxel, root_block}
-use Rattle.oct_key.specs.Boxes.{Corners}
+use Rattle.oct_key.specs.Boxes.{Window}
 use Rattle.oct_key.specs.Values.{Values, SameValues}
 use Rattle.oct_key.proofs.Blocks.{lowest_held, root_in_map}
 use Rattle.oct_key.proofs.Held.{held_in_map}
@@ -142,7 +142,7 @@ same_node v w (suc h) d b is all ok same =
     ap (λ c. text_with c (flat_map (λ i. node_text h v (child_of b i)) child_numbers))
     (same_common v w b ok same) ∙ ap (text_with (common_value w b)) nodes
 
-same_snapshot : (res : ℕ) (odds : Odds) (window : Option Corners) (v w : Values) → SameValues v w
+same_snapshot : (res : ℕ) (odds : Odds) (window : Option Window) (v w : Values) → SameValues v w
     → snap_text res odds window v ≡ snap_text res odds window w
 unfolding snap_text
 same_snapshot res odds window v w same =

@@ -18,7 +18,7 @@ same_limits g = record { res = refl; groups = refl; cells = refl }
 
 action_limits : (s : State) (a : Action) → HasLimitsOf s.base (after s a).base
 action_limits s (Edited p e lazy) = same_limits s.base
-action_limits s (Boxed low high e) = same_limits s.base
+action_limits s (Boxed lo hi e) = same_limits s.base
 action_limits s (Scanned seen lazy) = same_limits s.base
 action_limits s Refreshed = same_limits s.base
 action_limits s Pruned = same_limits s.base
@@ -28,7 +28,7 @@ action_limits s (Replaced classes) = same_limits s.base
 action_limits s (Restored q) = record { res = refl; groups = refl; cells = refl }
 action_limits s Tracked = same_limits s.base
 action_limits s Untracked = same_limits s.base
-action_limits s (Limited low high) = record { res = refl; groups = refl; cells = refl }
+action_limits s (Limited lo hi) = record { res = refl; groups = refl; cells = refl }
 action_limits s Unlimited = record { res = refl; groups = refl; cells = refl }
 
 history_limits : (s : State) (h : History) → HasLimitsOf s.base (after_all s h).base

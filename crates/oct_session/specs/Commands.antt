@@ -101,8 +101,8 @@ reply files s (Ok (Scan head)) = None
 reply files s (Ok (Beam p)) = None
 reply files s (Ok End) = None
 reply files s (Ok (Edit p edit lazy)) = edit_reply (edit_answer s.base s.values p)
-reply files s (Ok (Box low high edit)) =
-    edit_reply (box_answer s.base (is_some s.marked) s.values low high)
+reply files s (Ok (Box lo hi edit)) =
+    edit_reply (box_answer s.base (is_some s.marked) s.values lo hi)
 reply files s (Ok (Get p depth)) =
     get_reply s.base.odds (get_answer s.base s.is_stale s.values p depth)
 reply files s (Ok (Cast origin end ignore)) =
@@ -116,20 +116,20 @@ reply files s (Ok (Save name)) = save_reply (classes_file s)
 reply files s (Ok (Load name)) = load_reply s.base (found_in files name)
 reply files s (Ok (Snapshot name)) = save_reply (snapshot_file s)
 reply files s (Ok (Restore name)) = restore_reply s.base (found_in files name)
-reply files s (Ok (command.List low high depth)) =
-    list_reply s.base.odds.thr (list_answer s.base s.is_stale s.values low high depth)
+reply files s (Ok (command.List lo hi depth)) =
+    list_reply s.base.odds.thr (list_answer s.base s.is_stale s.values lo hi depth)
 reply files s (Ok command.Track) = Some Ok
 reply files s (Ok command.Untrack) = Some Ok
 reply files s (Ok command.Changes) =
     changes_reply (changes_answer s.marked (classes_of s.base.odds s.values))
-reply files s (Ok (command.Limit low high)) = edit_reply (limit_answer s.base low high)
+reply files s (Ok (command.Limit lo hi)) = edit_reply (limit_answer s.base lo hi)
 reply files s (Ok command.NoLimit) = Some Ok
 
 -- what a command does, if it does anything that later replies or the map may depend on; to count is
 -- to prune first
 abbrev pub action_of : Option Files → State → Result Command Refusal → History
 action_of files s (Ok (Edit p edit lazy)) = Edited p edit lazy ∷ []
-action_of files s (Ok (Box low high edit)) = Boxed low high edit ∷ []
+action_of files s (Ok (Box lo hi edit)) = Boxed lo hi edit ∷ []
 action_of files s (Ok Refresh) = Refreshed ∷ []
 action_of files s (Ok Counts) = Pruned ∷ []
 action_of files s (Ok Prune) = Pruned ∷ []
@@ -139,7 +139,7 @@ action_of files s (Ok (Load name)) = load_action (found_in files name)
 action_of files s (Ok (Restore name)) = restore_action s.base (found_in files name)
 action_of files s (Ok command.Track) = Tracked ∷ []
 action_of files s (Ok command.Untrack) = Untracked ∷ []
-action_of files s (Ok (command.Limit low high)) = Limited low high ∷ []
+action_of files s (Ok (command.Limit lo hi)) = Limited lo hi ∷ []
 action_of files s (Ok command.NoLimit) = Unlimited ∷ []
 action_of files s (Ok Blank) = []
 action_of files s (Ok Quit) = []
@@ -148,7 +148,7 @@ action_of files s (Ok (Beam p)) = []
 action_of files s (Ok End) = []
 action_of files s (Ok (Get p depth)) = []
 action_of files s (Ok (Cast origin end ignore)) = []
-action_of files s (Ok (command.List low high depth)) = []
+action_of files s (Ok (command.List lo hi depth)) = []
 action_of files s (Ok command.Changes) = []
 action_of files s (Ok (Save name)) = []
 action_of files s (Ok (Snapshot name)) = []
@@ -176,7 +176,7 @@ file_work (Scan head) = None
 file_work (Beam p) = None
 file_work End = None
 file_work (Edit p edit lazy) = None
-file_work (Box low high edit) = None
+file_work (Box lo hi edit) = None
 file_work (Get p depth) = None
 file_work (Cast origin end ignore) = None
 file_work Counts = None
@@ -184,11 +184,11 @@ file_work Refresh = None
 file_work Prune = None
 file_work Clear = None
 file_work MaxLik = None
-file_work (command.List low high depth) = None
+file_work (command.List lo hi depth) = None
 file_work command.Track = None
 file_work command.Untrack = None
 file_work command.Changes = None
-file_work (command.Limit low high) = None
+file_work (command.Limit lo hi) = None
 file_work command.NoLimit = None
 
 -- the bytes that are put under a name

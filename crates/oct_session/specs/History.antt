@@ -67,8 +67,8 @@ value_event (Some value) = event.Set value
 -- what a command does to each voxel, by what the map's answers read: an event, or nothing
 abbrev pub command_event : Ground → Action → Events
 command_event g (Edited p edit lazy) = event_at (key_at g.res p) (edit_event g.odds edit)
-command_event g (Boxed low high edit) =
-    corner_events (key_at g.res low) (key_at g.res high) (edit_event g.odds edit)
+command_event g (Boxed lo hi edit) =
+    corner_events (key_at g.res lo) (key_at g.res hi) (edit_event g.odds edit)
 command_event g (Scanned sighting lazy) = outcome_of g sighting
 command_event g Refreshed = λ k. None
 command_event g Pruned = λ k. None
@@ -78,19 +78,19 @@ command_event g (Replaced classes) = λ k. Some (class_event g.odds (classes k))
 command_event g (Restored s) = λ k. Some (value_event (snapshot.values_of s k))
 command_event g Tracked = λ k. None
 command_event g Untracked = λ k. None
-command_event g (Limited low high) = λ k. None
+command_event g (Limited lo hi) = λ k. None
 command_event g Unlimited = λ k. None
 
 -- what the map's answers read beside the values after a command: a limit sets the box to which
 -- scans are restricted, its end takes the box away, a restore takes log-odds and box from a
 -- snapshot that has them, and no command changes anything else of it
 abbrev pub base_by : Ground → Action → Ground
-base_by g (Limited low high) =
-    record g { update_box = corner_box (key_at g.res low) (key_at g.res high) }
+base_by g (Limited lo hi) =
+    record g { update_box = corner_box (key_at g.res lo) (key_at g.res hi) }
 base_by g Unlimited = record g { update_box = None }
 base_by g (Restored s) = ground_after g s.head
 base_by g (Edited p edit lazy) = g
-base_by g (Boxed low high edit) = g
+base_by g (Boxed lo hi edit) = g
 base_by g (Scanned sighting lazy) = g
 base_by g Refreshed = g
 base_by g Pruned = g
@@ -104,7 +104,7 @@ base_by g Untracked = g
 -- and from a refresh, a clear, maximum likelihood, a load or a restore on they are right
 abbrev pub is_stale_by : Bool → Action → Bool
 is_stale_by is_stale (Edited p edit lazy) = is_stale || lazy
-is_stale_by is_stale (Boxed low high edit) = is_stale
+is_stale_by is_stale (Boxed lo hi edit) = is_stale
 is_stale_by is_stale (Scanned sighting lazy) = is_stale || lazy
 is_stale_by is_stale Refreshed = false
 is_stale_by is_stale Pruned = is_stale
@@ -114,14 +114,14 @@ is_stale_by is_stale (Replaced classes) = false
 is_stale_by is_stale (Restored s) = false
 is_stale_by is_stale Tracked = is_stale
 is_stale_by is_stale Untracked = is_stale
-is_stale_by is_stale (Limited low high) = is_stale
+is_stale_by is_stale (Limited lo hi) = is_stale
 is_stale_by is_stale Unlimited = is_stale
 
 -- whether the map is pruned after a command: from a prune, a clear, maximum likelihood, a load or a
 -- restore on it is, and from a lazy edit or scan on it may not be
 abbrev pub is_pruned_by : Bool → Action → Bool
 is_pruned_by is_pruned (Edited p edit lazy) = is_pruned && not lazy
-is_pruned_by is_pruned (Boxed low high edit) = is_pruned
+is_pruned_by is_pruned (Boxed lo hi edit) = is_pruned
 is_pruned_by is_pruned (Scanned sighting lazy) = is_pruned && not lazy
 is_pruned_by is_pruned Refreshed = is_pruned
 is_pruned_by is_pruned Pruned = true
@@ -131,7 +131,7 @@ is_pruned_by is_pruned (Replaced classes) = true
 is_pruned_by is_pruned (Restored s) = true
 is_pruned_by is_pruned Tracked = is_pruned
 is_pruned_by is_pruned Untracked = is_pruned
-is_pruned_by is_pruned (Limited low high) = is_pruned
+is_pruned_by is_pruned (Limited lo hi) = is_pruned
 is_pruned_by is_pruned Unlimited = is_pruned
 
 -- the classes at the mark after a command, by the classes before it: a mark that is set has these,
@@ -143,12 +143,12 @@ marked_by now marked (Restored s) = None
 marked_by now marked Tracked = Some now
 marked_by now marked Untracked = None
 marked_by now marked (Edited p edit lazy) = marked
-marked_by now marked (Boxed low high edit) = marked
+marked_by now marked (Boxed lo hi edit) = marked
 marked_by now marked (Scanned sighting lazy) = marked
 marked_by now marked Refreshed = marked
 marked_by now marked Pruned = marked
 marked_by now marked Likened = marked
-marked_by now marked (Limited low high) = marked
+marked_by now marked (Limited lo hi) = marked
 marked_by now marked Unlimited = marked
 
 -- what a session has between two commands: what the map's answers read beside the values, the value

@@ -18,8 +18,8 @@ use Rattle.oct_script.specs.Lines.{Line, Text, Long}
 use Rattle.oct_session.specs.Refusals.{fault_reply}
 use Rattle.oct_session.specs.History.{History, State, Scanned}
 use Rattle.oct_session.specs.ScanSoFar.{ScanSoFar, begun, sighting_so_far}
-use Rattle.oct_session.specs.declared.block.Block.{Block}
-use Rattle.oct_session.specs.declared.block.Block.TheVariants.{Scanning, Spoilt}
+use Rattle.oct_session.specs.declared.scan_block.ScanBlock.{ScanBlock}
+use Rattle.oct_session.specs.declared.scan_block.ScanBlock.TheVariants.{Scanning, Spoilt}
 
 -- a line that opens a block, whatever its other words are; a long line opens none
 abbrev pub opens_block : Line → Bool
@@ -28,14 +28,14 @@ opens_block Long = false
 
 -- the block that a line outside a block opens, if it opens one: a head begins its scan, and a
 -- faulty head spoils its block
-abbrev pub opened : ℕ → Line → Result Command Refusal → Option Block
+abbrev pub opened : ℕ → Line → Result Command Refusal → Option ScanBlock
 opened number line (Ok (Scan head)) = Some (Scanning (begun number head))
 opened number line (Ok _) = None
 opened number line (Err refusal) = if opens_block line then Some (Spoilt refusal) else None
 
 -- the block with one point more, which is on the line of this number; a scan has at most 1,000,000
 -- points
-abbrev pub with_point : ℕ → Point → ScanSoFar → Block
+abbrev pub with_point : ℕ → Point → ScanSoFar → ScanBlock
 with_point number p scan =
     if nat_le 1000000 (length scan.points)
     then Spoilt (refusal.TooManyPoints number)
@@ -43,7 +43,7 @@ with_point number p scan =
 
 -- the block with one line more, which is the line of this number and doesn't end it: the first
 -- fault spoils it, and stays
-abbrev pub with_line : ℕ → Result Command Refusal → Block → Block
+abbrev pub with_line : ℕ → Result Command Refusal → ScanBlock → ScanBlock
 with_line number command (Spoilt first) = Spoilt first
 with_line number (Err refusal) (Scanning scan) = Spoilt refusal
 with_line number (Ok (Beam p)) (Scanning scan) = with_point number p scan
@@ -51,12 +51,12 @@ with_line number (Ok _) (Scanning scan) = Scanning scan
 
 -- the block that is open after a line that isn't in the grammar: the one that was open, or the one
 -- that the line opens
-abbrev pub spoilt_by : ℕ → Line → Refusal → Option Block → Option Block
+abbrev pub spoilt_by : ℕ → Line → Refusal → Option ScanBlock → Option ScanBlock
 spoilt_by number line refusal None = opened number line (Err refusal)
 spoilt_by number line refusal (Some block) = Some (with_line number (Err refusal) block)
 
 -- the reply to such a line, which has none where a block is open after it
-abbrev pub spoilt_reply : Refusal → Option Block → Option Reply
+abbrev pub spoilt_reply : Refusal → Option ScanBlock → Option Reply
 spoilt_reply refusal None = Some (reply_of.Refused refusal)
 spoilt_reply refusal (Some block) = None
 
@@ -76,7 +76,7 @@ scan_reply (Ok done) = Some (reply_of.Scanned (record { hits = done.hits; frees 
 scan_reply (Err fault) = fault_reply fault
 
 -- the reply to a block that its `end` closes in a state, by the map's answer in that state
-abbrev pub block_reply : State → Block → Option Reply
+abbrev pub block_reply : State → ScanBlock → Option Reply
 block_reply s (Spoilt refusal) = Some (reply_of.Refused refusal)
 block_reply s (Scanning scan) =
     if is_zero scan.head
@@ -84,16 +84,16 @@ block_reply s (Scanning scan) =
     else scan_reply (scan_answer s.base s.values (sighting_so_far scan))
 
 -- what a block does, if it does anything
-abbrev pub block_action : Block → History
+abbrev pub block_action : ScanBlock → History
 block_action (Spoilt refusal) = []
 block_action (Scanning scan) = Scanned (sighting_so_far scan) scan.head.lazy ∷ []
 
 -- why a block is refused that is open at the end of the script
-abbrev pub end_refusal : Block → Refusal
+abbrev pub end_refusal : ScanBlock → Refusal
 end_refusal (Spoilt refusal) = refusal
 end_refusal (Scanning scan) = refusal.OpenScan scan.line
 
 -- the reply at the end of the script, if a block is open there
-abbrev pub end_reply : Option Block → Option Reply
+abbrev pub end_reply : Option ScanBlock → Option Reply
 end_reply None = None
 end_reply (Some block) = Some (reply_of.Refused (end_refusal block))

@@ -16,7 +16,7 @@ use Rattle.oct_session.specs.ScanBlock.{opened, with_line, is_end, block_reply, 
 use Rattle.oct_session.specs.ScanBlock.{end_reply}
 use Rattle.oct_session.specs.Setup.{Setup}
 use Rattle.oct_session.specs.Tally.{counted, no_replies}
-use Rattle.oct_session.specs.declared.block.Block.{Block}
+use Rattle.oct_session.specs.declared.scan_block.ScanBlock.{ScanBlock}
 use Rattle.oct_ending.specs.Answer.{Outcome}
 use Rattle.oct_ending.specs.declared.status.Status.{Status}
 use Rattle.oct_session.specs.declared.tally.Tally.{Tally}
@@ -28,7 +28,7 @@ pub record Effect : Type 0 where
   pub reply : Option Reply
   pub added : History
   pub saving : Option Saving
-  pub block : Option Block
+  pub block : Option ScanBlock
 
 -- what a reply, actions and a saving come to, where these are done unless the reply is a refusal
 abbrev pub replied : Option Reply → History → Option Saving → Effect
@@ -40,7 +40,7 @@ replied answer actions saving = record {
 }
 
 -- a line inside a block or before one has no reply of its own
-abbrev pub silent : Block → Effect
+abbrev pub silent : ScanBlock → Effect
 silent block = record { reply = None; added = []; saving = None; block = Some block }
 
 -- what a line's command does outside a block, over these files and in a state
@@ -49,19 +49,19 @@ effect_of_command files s command =
     replied (reply files s command) (action_of files s command) (saving_of s command)
 
 -- what a line does outside a block, by the block that it opens
-abbrev pub effect_opened : Option Files → State → Result Command Refusal → Option Block → Effect
+abbrev pub effect_opened : Option Files → State → Result Command Refusal → Option ScanBlock → Effect
 effect_opened files s command None = effect_of_command files s command
 effect_opened files s command (Some block) = silent block
 
 -- what a line does inside a block, by whether it closes it
-abbrev pub effect_inside : State → ℕ → Result Command Refusal → Block → Effect
+abbrev pub effect_inside : State → ℕ → Result Command Refusal → ScanBlock → Effect
 effect_inside s number command block =
     if is_end command
     then replied (block_reply s block) (block_action block) None
     else silent (with_line number command block)
 
 -- what the line of this number does over these files and in a state, where a block is open or none
-abbrev pub effect : Option Files → State → ℕ → Line → Result Command Refusal → Option Block
+abbrev pub effect : Option Files → State → ℕ → Line → Result Command Refusal → Option ScanBlock
     → Effect
 effect files s number line command None =
     effect_opened files s command (opened number line command)
@@ -75,7 +75,7 @@ pub record Progress : Type 0 where
   pub files : Option Files
   pub asks : ℕ
   pub line_count : ℕ
-  pub block : Option Block
+  pub block : Option ScanBlock
   pub refused : Bool
   pub has_quit : Bool
   pub tally : Tally

@@ -31,7 +31,7 @@ use Rattle.oct_session.specs.Commands.{reply, action_of, accepted, stored, file_
 use Rattle.oct_session.specs.ScanBlock.{block_reply, block_action}
 use Rattle.oct_session.specs.Setup.{Setup}
 use Rattle.oct_ending.specs.Stops.{status_of}
-use Rattle.oct_session.specs.declared.block.Block.{Block}
+use Rattle.oct_session.specs.declared.scan_block.ScanBlock.{ScanBlock}
 
 -- a map that stands for some history stands for some history afterwards
 abbrev pub KeepsStanding : Map → Map → Type 0
@@ -63,7 +63,7 @@ HasObeyed old new command result = (files : Option Files)
     → HasDone (λ s. reply files s command) (λ s. action_of files s command) old new result
 
 -- a block that its `end` has closed was answered and done, or memory ran out
-abbrev pub HasScanned : {E : Type 0} → Map → Map → Block → Result (Option Reply) E → Type 0
+abbrev pub HasScanned : {E : Type 0} → Map → Map → ScanBlock → Result (Option Reply) E → Type 0
 HasScanned old new block result =
     HasDone (λ s. block_reply s block) (λ s. block_action block) old new result
 
@@ -73,7 +73,7 @@ IsHeard effect = IsSome effect.reply ⊎ IsSome effect.block
 
 -- a line inside a block had its effect on a map that stood for some state, or memory ran out, for a
 -- line that is heard, and nothing was done
-abbrev pub HasWorked : {E : Type 0} → (State → Effect) → Map → Map → Option Block
+abbrev pub HasWorked : {E : Type 0} → (State → Effect) → Map → Map → Option ScanBlock
     → Result (Option Reply) E → Type 0
 HasWorked effect old new block (Ok answer) = (s : State) → StandsFor old s
     → (answer ≡ (effect s).reply) × (block ≡ (effect s).block)
@@ -88,7 +88,7 @@ FindsTold named files = (named ≡ None) ⊎ IsSome files
 -- a line with this command had its effect on a map and files that were as some state and some files
 -- are: this is the reply, and this the block that is open after it
 abbrev pub TakesEffect : (Option Files → State → Effect) → Result Command Refusal → Map
-    → Option Files → Map → Option Files → Option Block → Option Reply → Type 0
+    → Option Files → Map → Option Files → Option ScanBlock → Option Reply → Type 0
 TakesEffect effect command old told new untold block answer =
     (files : Option Files) (s : State) → FindsTold (file_named command) files
     → IsLike files s old told
@@ -105,7 +105,8 @@ HasFailed command files s map told store_fault.Memory = IsLike files s map told
 
 -- a line had its effect, or it failed, and is heard
 abbrev pub HasEffect : (Option Files → State → Effect) → Result Command Refusal → Map
-    → Option Files → Map → Option Files → Option Block → Result (Option Reply) StoreFault → Type 0
+    → Option Files → Map → Option Files → Option ScanBlock → Result (Option Reply) StoreFault
+    → Type 0
 HasEffect effect command old told new untold block (Ok answer) =
     TakesEffect effect command old told new untold block answer
 HasEffect effect command old told new untold block (Err fault) =

@@ -9,7 +9,7 @@ ghost use Rattle.oct_session.specs.Commands.{file_named, value_reply};
 ghost use Rattle.oct_session.specs.Refusals.{refusal_of, fault_reply};
 ghost use Rattle.oct_session.specs.Standing.{with_reply, HasObeyed, HasScanned};
 
-use crate::block::{Block, PendingScan};
+use crate::scan_block::{PendingScan, ScanBlock};
 use oct_key::Point;
 use oct_map::{MapFault, OccMap};
 use oct_num::Memory;
@@ -107,17 +107,17 @@ fn edit(
 /// Does an edit of each voxel of a box, and answers it.
 fn edit_box(
     map: &mut OccMap,
-    low: Point,
-    high: Point,
+    lo: Point,
+    hi: Point,
     e: Edit,
     reply: &mut Option<Reply>,
 ) -> Result<(), Memory>
     requires { IsSmallEdit e }
-    ensures { HasObeyed map.old map.new (Ok (Command.Box low high e))
+    ensures { HasObeyed map.old map.new (Ok (Command.Box lo hi e))
         (with_reply result reply.new) }
 {
     let event = event_of(&map.tree().odds(), e);
-    match map.edit_box(low, high, event) {
+    match map.edit_box(lo, hi, event) {
         Ok(()) => {
             *reply = Some(Reply::Ok);
             Ok(())
@@ -162,15 +162,15 @@ fn cast(
 /// Asks for the known blocks of a depth in a box, and answers them.
 fn list(
     map: &OccMap,
-    low: Point,
-    high: Point,
+    lo: Point,
+    hi: Point,
     depth: u32,
     reply: &mut Option<Reply>,
 ) -> Result<(), Memory>
-    ensures { HasObeyed map.now map.now (Ok (Command.List low high depth))
+    ensures { HasObeyed map.now map.now (Ok (Command.List lo hi depth))
         (with_reply result reply.new) }
 {
-    match map.list(low, high, depth) {
+    match map.list(lo, hi, depth) {
         Ok(blocks) => {
             *reply = Some(Reply::Blocks {
                 blocks,
@@ -196,11 +196,11 @@ fn changes(map: &OccMap, reply: &mut Option<Reply>) -> Result<(), Memory>
 }
 
 /// Limits scans to a box, and answers it.
-fn limit(map: &mut OccMap, low: Point, high: Point, reply: &mut Option<Reply>) -> Result<(), Memory>
-    ensures { HasObeyed map.old map.new (Ok (Command.Limit low high))
+fn limit(map: &mut OccMap, lo: Point, hi: Point, reply: &mut Option<Reply>) -> Result<(), Memory>
+    ensures { HasObeyed map.old map.new (Ok (Command.Limit lo hi))
         (with_reply result reply.new) }
 {
-    match map.limit(low, high) {
+    match map.limit(lo, hi) {
         Ok(()) => {
             *reply = Some(Reply::Ok);
             Ok(())
@@ -319,7 +319,8 @@ pub fn obey(map: &mut OccMap, command: &Command, reply: &mut Option<Reply>) -> R
 
 /// Does a scan whose points have all been read, and answers it.
 fn scan(map: &mut OccMap, pending: PendingScan, reply: &mut Option<Reply>) -> Result<(), Memory>
-    ensures { HasScanned map.old map.new (Block.Scanning pending) (with_reply result reply.new) }
+    ensures { HasScanned map.old map.new (ScanBlock.Scanning pending)
+        (with_reply result reply.new) }
 {
     let lazy = pending.is_lazy();
     let Ok(scan) = pending.into_scan() else {
@@ -340,14 +341,14 @@ fn scan(map: &mut OccMap, pending: PendingScan, reply: &mut Option<Reply>) -> Re
 
 /// Does what a block says that its `end` has closed, and puts its one reply in its place. Without
 /// memory nothing was done.
-pub fn finish(map: &mut OccMap, block: Block, reply: &mut Option<Reply>) -> Result<(), Memory>
+pub fn finish(map: &mut OccMap, block: ScanBlock, reply: &mut Option<Reply>) -> Result<(), Memory>
     ensures { HasScanned map.old map.new block (with_reply result reply.new) }
 {
     match block {
-        Block::Spoilt(refusal) => {
+        ScanBlock::Spoilt(refusal) => {
             *reply = Some(Reply::Refused(refusal));
             Ok(())
         }
-        Block::Scanning(pending) => scan(map, pending, reply),
+        ScanBlock::Scanning(pending) => scan(map, pending, reply),
     }
 }

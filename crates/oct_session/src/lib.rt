@@ -76,7 +76,6 @@
 //! `oct_values` for voxels, their values and what events make of them.
 #![tactic(auto)]
 
-mod block;
 mod building;
 mod commands;
 mod drilling;
@@ -84,6 +83,7 @@ mod files;
 mod held;
 mod lines;
 mod options;
+mod scan_block;
 mod service;
 mod session;
 mod tally;

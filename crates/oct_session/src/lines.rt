@@ -10,9 +10,9 @@ ghost use Rattle.oct_session.specs.Session.{effect_of_command, effect_opened, ef
 ghost use Rattle.oct_session.specs.Session.{effect};
 ghost use Rattle.oct_session.specs.Standing.{with_reply, HasEffect, HasWorked, KeepsStanding};
 
-use crate::block::{Block, open_scan, spoil};
 use crate::commands::{finish, obey};
 use crate::files::{load, restore, save, snapshot};
+use crate::scan_block::{ScanBlock, open_scan, spoil};
 use oct_io::{Store, StoreFault};
 use oct_map::OccMap;
 use oct_num::Memory;
@@ -69,7 +69,7 @@ fn outside<F: Store>(
     store: &mut F,
     number: u64,
     command: &Command,
-    block: &mut Option<Block>,
+    block: &mut Option<ScanBlock>,
     reply: &mut Option<Reply>,
 ) -> Result<(), StoreFault>
     requires small { IsSmallCommand command.now }
@@ -98,11 +98,11 @@ fn inside(
     map: &mut OccMap,
     number: u64,
     command: &Command,
-    block: &mut Option<Block>,
+    block: &mut Option<ScanBlock>,
     reply: &mut Option<Reply>,
 ) -> Result<(), Memory>
     requires { IsSmallCommand command.now }
-    ensures { (first : Block) → block.old ≡ Some first
+    ensures { (first : ScanBlock) → block.old ≡ Some first
         → HasWorked (λ s. effect_inside s number (Ok command.now) first) map.old map.new block.new
         (with_reply result reply.new) }
 {
@@ -124,7 +124,7 @@ fn take_command<F: Store>(
     store: &mut F,
     number: u64,
     command: &Command,
-    block: &mut Option<Block>,
+    block: &mut Option<ScanBlock>,
     reply: &mut Option<Reply>,
 ) -> Result<(), StoreFault>
     requires { IsSmallCommand command.now }
@@ -149,7 +149,7 @@ fn take_command<F: Store>(
 fn take_fault(
     line: &ReadLine<'_>,
     refusal: Refusal,
-    block: &mut Option<Block>,
+    block: &mut Option<ScanBlock>,
     reply: &mut Option<Reply>,
 )
     ensures block { (number : ℕ) → block.new ≡ spoilt_by number line.now refusal block.old }
@@ -167,7 +167,7 @@ fn take_misspelt(
     line: &ReadLine<'_>,
     number: u64,
     syntax: Syntax,
-    block: &mut Option<Block>,
+    block: &mut Option<ScanBlock>,
     reply: &mut Option<Reply>,
 )
     ensures block { block.new
@@ -182,7 +182,12 @@ fn take_misspelt(
 }
 
 /// What a line does that is too long to be read.
-fn take_long(line: &ReadLine<'_>, number: u64, block: &mut Option<Block>, reply: &mut Option<Reply>)
+fn take_long(
+    line: &ReadLine<'_>,
+    number: u64,
+    block: &mut Option<ScanBlock>,
+    reply: &mut Option<Reply>,
+)
     ensures block { block.new ≡ spoilt_by number line.now (Refusal.LongLine number) block.old }
     ensures reply { reply.new ≡ spoilt_reply (Refusal.LongLine number) block.new }
 {
@@ -198,7 +203,7 @@ pub fn take_line<F: Store>(
     store: &mut F,
     line: &ReadLine<'_>,
     number: u64,
-    block: &mut Option<Block>,
+    block: &mut Option<ScanBlock>,
     reply: &mut Option<Reply>,
 ) -> Result<bool, StoreFault>
     ensures effect { let command = command_on (is_some block.old) number line.now in

@@ -19,10 +19,10 @@ ghost use Rattle.oct_session.specs.Standing.{HasReached, HasHeld, IsAt, Adds, Ta
 ghost use Rattle.oct_session.specs.Standing.{IsCutBy};
 ghost use Rattle.oct_session.specs.Standing.{Halts, HaltsHeld, StopsAtEnd};
 
-use crate::block::Block;
 use crate::held::{MOST_HELD, flush, hold_few, make_way, tell};
 use crate::lines::take_line;
 use crate::options::Options;
+use crate::scan_block::ScanBlock;
 use crate::tally::Tally;
 use oct_ending::Stop;
 use oct_io::{Sink, SinkFault, Store, StoreFault};
@@ -40,7 +40,7 @@ pub struct Session {
     /// The line that is being read.
     pub line: Lines,
     /// The block that is open, if one is.
-    pub block: Option<Block>,
+    pub block: Option<ScanBlock>,
     /// How many lines have been taken in.
     pub line_count: u64,
     /// Whether a reply was a refusal.
@@ -61,7 +61,7 @@ fn is_refused(reply: &Option<Reply>) -> bool
 }
 
 /// The reply at the end of the script, if a block is open there.
-fn end_reply(block: Option<Block>) -> Option<Reply>
+fn end_reply(block: Option<ScanBlock>) -> Option<Reply>
     ensures { result ≡ end_reply block }
 {
     match block {

@@ -27,8 +27,8 @@ use Rattle.oct_session.specs.Session.{Progress, Effect, effect, effect_inside, e
 use Rattle.oct_session.specs.Session.{effect_of, next_command, after_line, after_lines}
 use Rattle.oct_session.specs.Session.{replied, silent}
 use Rattle.oct_session.specs.Setup.{Setup}
-use Rattle.oct_session.specs.declared.block.Block.{Block}
-use Rattle.oct_session.specs.declared.block.Block.TheVariants.{Scanning, Spoilt}
+use Rattle.oct_session.specs.declared.scan_block.ScanBlock.{ScanBlock}
+use Rattle.oct_session.specs.declared.scan_block.ScanBlock.TheVariants.{Scanning, Spoilt}
 use Rattle.oct_session_laws.proofs.Allowed.{AllAllow, Has, line_has}
 use Rattle.oct_session.proofs.Effects.{saves_none}
 use Rattle.oct_session.proofs.NonemptyReplies.{block_some}
@@ -67,12 +67,12 @@ inside_runs = on_line (λ c. is_quit c ≡ false) (λ r. refl) refl (λ p. refl)
 -- ---- the block after lines inside it
 
 -- a scan, unless a line of its block was at fault
-abbrev block_without : Option Refusal → ScanSoFar → Block
+abbrev block_without : Option Refusal → ScanSoFar → ScanBlock
 block_without (Some refusal) scan = Spoilt refusal
 block_without None scan = Scanning scan
 
 -- the block after these lines, of which the first has this number
-unfoldable block_after : ℕ → List Line → Block → Block
+unfoldable block_after : ℕ → List Line → ScanBlock → ScanBlock
 block_after number [] block = block
 block_after number (line ∷ lines) block =
     block_after (number + 1) lines (with_line number (command_on true number line) block)
@@ -161,7 +161,7 @@ comes number (line ∷ lines) scan = step_comes number line lines (comes (number
 -- ---- a session inside a block
 
 -- a session in which nothing was said since p, whose block stands like this after so many lines
-record IsIn (p q : Progress) (count : ℕ) (block : Block) : Type 0 where
+record IsIn (p q : Progress) (count : ℕ) (block : ScanBlock) : Type 0 where
   history : q.history ≡ p.history
   files : q.files ≡ p.files
   text : q.text ≡ p.text
@@ -170,7 +170,7 @@ record IsIn (p q : Progress) (count : ℕ) (block : Block) : Type 0 where
   running : q.has_quit ≡ false
 
 -- a line without a reply of its own
-silent_in : (o : Setup) (p q : Progress) (line : Line) (count : ℕ) (block : Block)
+silent_in : (o : Setup) (p q : Progress) (line : Line) (count : ℕ) (block : ScanBlock)
     → q.has_quit ≡ false → q.history ≡ p.history → q.files ≡ p.files → q.text ≡ p.text
     → q.line_count ≡ count → effect_of o q line ≡ silent block
     → is_quit (next_command q line) ≡ false → IsIn p (after_line o q line) (count + 1) block
@@ -187,7 +187,7 @@ silent_in o p q line count block runs history files text lines is goes_on =
 -- ---- the first line
 
 -- the block that the first line begins
-abbrev first_block : ℕ → Result Command Refusal → Block
+abbrev first_block : ℕ → Result Command Refusal → ScanBlock
 first_block number (Ok (command.Scan head)) = Scanning (begun number head)
 first_block number (Ok other) = Spoilt (TooManyPoints number)
 first_block number (Err refusal) = Spoilt refusal
@@ -228,7 +228,7 @@ first_opens : (number : ℕ) (line : Line) (c : Result Command Refusal) → Begi
     → opened number line c ≡ Some (first_block number c)
 first_opens number line = of_first line
     (λ c. opened number line c ≡ Some (first_block number c))
-    (λ r begins. ap (λ b. cond {A = Option Block} b (Some (Spoilt r)) None) begins)
+    (λ r begins. ap (λ b. cond {A = Option ScanBlock} b (Some (Spoilt r)) None) begins)
     (λ head. refl)
 
 first_runs : (line : Line) (c : Result Command Refusal) → BeginsBlock c line → is_quit c ≡ false
@@ -251,13 +251,13 @@ first_in o p head runs outside begins =
 -- ---- the lines inside
 
 -- the command of a line inside, and what it does
-next_in : (p q : Progress) (line : Line) (count : ℕ) (block : Block) → IsIn p q count block
+next_in : (p q : Progress) (line : Line) (count : ℕ) (block : ScanBlock) → IsIn p q count block
     → next_command q line ≡ command_on true (count + 1) line
 next_in p q line count block at =
     ap (λ b. command_on (is_some b) (q.line_count + 1) line) at.inside
     ∙ ap (λ n. command_on true (n + 1) line) at.lines
 
-effect_in : (o : Setup) (p q : Progress) (line : Line) (count : ℕ) (block : Block)
+effect_in : (o : Setup) (p q : Progress) (line : Line) (count : ℕ) (block : ScanBlock)
     → IsIn p q count block →
     effect_of o q line
     ≡ effect_inside (state_after o q.history) (count + 1) (command_on true (count + 1) line) block
@@ -268,7 +268,7 @@ effect_in o p q line count block at =
     ∙ ap (λ b. effect q.files (state_after o q.history) (q.line_count + 1) line c b) at.inside
     ∙ ap (λ n. effect_inside (state_after o q.history) (n + 1) c block) at.lines
 
-inner_in : (o : Setup) (p q : Progress) (line : Line) (count : ℕ) (block : Block)
+inner_in : (o : Setup) (p q : Progress) (line : Line) (count : ℕ) (block : ScanBlock)
     → IsIn p q count block → is_end (command_on true (count + 1) line) ≡ false →
     IsIn p (after_line o q line) (count + 1)
     (with_line (count + 1) (command_on true (count + 1) line) block)
@@ -283,7 +283,7 @@ inner_in o p q line count block at goes_on =
     at.text at.lines is
     (ap is_quit (next_in p q line count block at) ∙ inside_runs (count + 1) line)
 
-all_in : (o : Setup) (p q : Progress) (lines : List Line) (count : ℕ) (block : Block)
+all_in : (o : Setup) (p q : Progress) (lines : List Line) (count : ℕ) (block : ScanBlock)
     → IsIn p q count block → NoneEnds (count + 1) lines →
     IsIn p (after_lines o q lines) (count + length lines) (block_after (count + 1) lines block)
 unfolding NoneEnds block_after
@@ -306,7 +306,7 @@ end_runs : (c : Result Command Refusal) → Has IsInside c → is_end c ≡ true
 end_runs = of_inside (λ c. is_end c ≡ true → is_quit c ≡ false) (λ r ends. refl) (λ ends. refl)
     (λ p ends. refl) (λ ends. refl)
 
-last_done : (o : Setup) (p q : Progress) (inside : List Line) (line : Line) (block : Block)
+last_done : (o : Setup) (p q : Progress) (inside : List Line) (line : Line) (block : ScanBlock)
     → IsIn p q (p.line_count + 1 + length inside) block
     → is_end (command_on true (p.line_count + 1 + length inside + 1) line) ≡ true
     → IsSome (block_reply (state_after o p.history) block) →
@@ -350,7 +350,7 @@ last_done o p q inside line block at ends one =
 
 -- ---- all of it
 
-some_reply : (s : State) (block : Block) → IsSome (block_reply s block)
+some_reply : (s : State) (block : ScanBlock) → IsSome (block_reply s block)
 some_reply s (Spoilt r) = refl
 some_reply s (Scanning scan) = block_some s scan
 
@@ -372,7 +372,7 @@ reply_is s number inside line = of_first line
     (with_points (begun number head) (points_in (number + 1) inside)))
 
 -- what a block comes to, where it does what its reply says
-abbrev done_by : State → Block → History
+abbrev done_by : State → ScanBlock → History
 done_by s block = accepted (block_reply s block) (block_action block)
 
 done_unless : (s : State) (f : Option Refusal) (scan : ScanSoFar)
@@ -401,7 +401,7 @@ block_replies o p head inside last at =
     let c : Result Command Refusal = next_command p head in
     let s : State = state_after o p.history in
     let q : Progress = after_line o p head in
-    let block : Block = block_after (number + 1) inside (first_block number c) in
+    let block : ScanBlock = block_after (number + 1) inside (first_block number c) in
     let inner : IsIn p (after_lines o q inside) (number + length inside) block =
     all_in o p q inside number (first_block number c)
     (first_in o p head at.running at.outside at.begins) at.inner in

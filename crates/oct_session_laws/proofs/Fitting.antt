@@ -64,8 +64,8 @@ use Rattle.oct_session.specs.Session.{Progress, Effect, effect, effect_of, effec
 use Rattle.oct_session.specs.Session.{next_command, answered, after_line, start, progress, replied}
 use Rattle.oct_session.specs.Session.{silent}
 use Rattle.oct_session.specs.Setup.{Setup}
-use Rattle.oct_session.specs.declared.block.Block.{Block}
-use Rattle.oct_session.specs.declared.block.Block.TheVariants.{Scanning, Spoilt}
+use Rattle.oct_session.specs.declared.scan_block.ScanBlock.{ScanBlock}
+use Rattle.oct_session.specs.declared.scan_block.ScanBlock.TheVariants.{Scanning, Spoilt}
 use Rattle.oct_session.specs.FileCommands.{found_in, nodes_reply, reading_reply, reading_action}
 use Rattle.oct_session.specs.FileCommands.{load_reply, load_action, groups_reply, snapshot_reply}
 use Rattle.oct_session.specs.FileCommands.{snapshot_action, restore_reply, restore_action}
@@ -146,11 +146,11 @@ edit_fits_at s p e lazy (Some k) is fits = elim (room_cases s.base.max_groups s.
       (sym full) fits
 ]
 
-box_room_fits : (s : State) (low high : Point) (e : Edit) (a b : Voxel)
-    → key_at s.base.res low ≡ Some a → key_at s.base.res high ≡ Some b → Fits s →
+box_room_fits : (s : State) (lo hi : Point) (e : Edit) (a b : Voxel)
+    → key_at s.base.res lo ≡ Some a → key_at s.base.res hi ≡ Some b → Fits s →
     Fits (after_all s (accepted (edit_reply (room_answer s.base.max_groups s.values (box_need a b)))
-    (Boxed low high e ∷ [])))
-box_room_fits s low high e a b is_low is_high fits =
+    (Boxed lo hi e ∷ [])))
+box_room_fits s lo hi e a b is_low is_high fits =
     elim (room_cases s.base.max_groups s.values (box_need a b)) [
       | inl (room, few) ↦ (
           let event : Event = edit_event s.base.odds e in
@@ -158,39 +158,39 @@ box_room_fits s low high e a b is_low is_high fits =
           let here : group_count (updated s.base.odds (corner_events (Some a) (Some b) event) s.values)
           ≤ s.base.max_groups = omega (arith, grows, few) in
           let at_low : group_count
-          (updated s.base.odds (corner_events (key_at s.base.res low) (Some b) event) s.values)
+          (updated s.base.odds (corner_events (key_at s.base.res lo) (Some b) event) s.values)
           ≤ s.base.max_groups =
           subst (λ x. group_count (updated s.base.odds (corner_events x (Some b) event) s.values)
           ≤ s.base.max_groups) (sym is_low) here in
-          let after : Fits (after_all s (Boxed low high e ∷ [])) =
-          subst (λ x. group_count (updated s.base.odds (corner_events (key_at s.base.res low) x event)
+          let after : Fits (after_all s (Boxed lo hi e ∷ [])) =
+          subst (λ x. group_count (updated s.base.odds (corner_events (key_at s.base.res lo) x event)
           s.values) ≤ s.base.max_groups) (sym is_high) at_low in
-          subst (λ r. Fits (after_all s (accepted (edit_reply r) (Boxed low high e ∷ [])))) (sym room)
+          subst (λ r. Fits (after_all s (accepted (edit_reply r) (Boxed lo hi e ∷ [])))) (sym room)
           after)
-      | inr full ↦ subst (λ r. Fits (after_all s (accepted (edit_reply r) (Boxed low high e ∷ []))))
+      | inr full ↦ subst (λ r. Fits (after_all s (accepted (edit_reply r) (Boxed lo hi e ∷ []))))
           (sym full) fits
     ]
 
-box_fits_at : (s : State) (low high : Point) (e : Edit) (a b : Option Voxel)
-    → key_at s.base.res low ≡ a → key_at s.base.res high ≡ b → Fits s →
+box_fits_at : (s : State) (lo hi : Point) (e : Edit) (a b : Option Voxel)
+    → key_at s.base.res lo ≡ a → key_at s.base.res hi ≡ b → Fits s →
     Fits (after_all s (accepted
     (edit_reply (box_answer_by (box_fault (is_some s.marked) a b)
-    (room_answer s.base.max_groups s.values (corner_need a b)))) (Boxed low high e ∷ [])))
-box_fits_at s low high e None b is_low is_high fits = fits
-box_fits_at s low high e (Some a) None is_low is_high fits = fits
-box_fits_at s low high e (Some a) (Some b) is_low is_high fits = elim (is_box a b)
+    (room_answer s.base.max_groups s.values (corner_need a b)))) (Boxed lo hi e ∷ [])))
+box_fits_at s lo hi e None b is_low is_high fits = fits
+box_fits_at s lo hi e (Some a) None is_low is_high fits = fits
+box_fits_at s lo hi e (Some a) (Some b) is_low is_high fits = elim (is_box a b)
     as (λ t. Fits (after_all s
     (accepted (edit_reply (box_answer_by
     (option_or (cond {A = Option MapFault} t None (Some fault.BadBox))
     (wide_fault (is_some s.marked) (Some a) (Some b)))
-    (room_answer s.base.max_groups s.values (box_need a b)))) (Boxed low high e ∷ [])))) [
+    (room_answer s.base.max_groups s.values (box_need a b)))) (Boxed lo hi e ∷ [])))) [
       | true ↦ elim (is_some s.marked && nat_lt most_noted (box_volume a b))
           as (λ t. Fits (after_all s
           (accepted (edit_reply (box_answer_by
           (cond {A = Option MapFault} t (Some (fault.WideWhileTracked (box_volume a b))) None)
-          (room_answer s.base.max_groups s.values (box_need a b)))) (Boxed low high e ∷ [])))) [
+          (room_answer s.base.max_groups s.values (box_need a b)))) (Boxed lo hi e ∷ [])))) [
             | true ↦ fits
-            | false ↦ box_room_fits s low high e a b is_low is_high fits
+            | false ↦ box_room_fits s lo hi e a b is_low is_high fits
           ]
       | false ↦ fits
     ]
@@ -299,8 +299,8 @@ command_fits files s (Err refusal) fits = fits
 command_fits files s (Ok command.Blank) fits = fits
 command_fits files s (Ok (command.Edit p e lazy)) fits =
     edit_fits_at s p e lazy (key_at s.base.res p) refl fits
-command_fits files s (Ok (command.Box low high e)) fits =
-    box_fits_at s low high e (key_at s.base.res low) (key_at s.base.res high) refl refl fits
+command_fits files s (Ok (command.Box lo hi e)) fits =
+    box_fits_at s lo hi e (key_at s.base.res lo) (key_at s.base.res hi) refl refl fits
 command_fits files s (Ok (command.Scan head)) fits = fits
 command_fits files s (Ok (command.Beam p)) fits = fits
 command_fits files s (Ok command.End) fits = fits
@@ -318,14 +318,14 @@ command_fits files s (Ok (command.Save name)) fits = fits
 command_fits files s (Ok (command.Load name)) fits = load_fits s (found_in files name) fits
 command_fits files s (Ok (command.Snapshot name)) fits = fits
 command_fits files s (Ok (command.Restore name)) fits = restore_fits s (found_in files name) fits
-command_fits files s (Ok (command.List low high depth)) fits =
-    none_fits s (reply files s (Ok (command.List low high depth))) fits
+command_fits files s (Ok (command.List lo hi depth)) fits =
+    none_fits s (reply files s (Ok (command.List lo hi depth))) fits
 command_fits files s (Ok command.Track) fits = fits
 command_fits files s (Ok command.Untrack) fits = fits
 command_fits files s (Ok command.Changes) fits =
     none_fits s (reply files s (Ok command.Changes)) fits
-command_fits files s (Ok (command.Limit low high)) fits =
-    either_fits s (edit_reply (limit_answer s.base low high)) (Limited low high ∷ []) fits fits
+command_fits files s (Ok (command.Limit lo hi)) fits =
+    either_fits s (edit_reply (limit_answer s.base lo hi)) (Limited lo hi ∷ []) fits fits
 command_fits files s (Ok command.NoLimit) fits = fits
 
 -- the scan's own fault, and room for it
@@ -351,7 +351,7 @@ scan_fits_by s seen lazy None known fits =
           (Scanned seen lazy ∷ [])))) (sym full) fits
     ]
 
-block_fits : (s : State) (block : Block) → Fits s
+block_fits : (s : State) (block : ScanBlock) → Fits s
     → Fits (after_all s (accepted (block_reply s block) (block_action block)))
 block_fits s (Spoilt refusal) fits = fits
 block_fits s (Scanning scan) fits = elim (is_zero scan.head)
@@ -366,13 +366,13 @@ block_fits s (Scanning scan) fits = elim (is_zero scan.head)
           (fault_known s.base.res (sighting_so_far scan) s.base.max_cells) fits
     ]
 
-opened_fits : (files : Option Files) (s : State) (c : Result Command Refusal) (block : Option Block)
-    → Fits s → Fits (after_all s (effect_opened files s c block).added)
+opened_fits : (files : Option Files) (s : State) (c : Result Command Refusal)
+    (block : Option ScanBlock) → Fits s → Fits (after_all s (effect_opened files s c block).added)
 opened_fits files s c None fits = command_fits files s c fits
 opened_fits files s c (Some block) fits = fits
 
 effect_fits : (files : Option Files) (s : State) (number : ℕ) (line : Line)
-    (c : Result Command Refusal) (block : Option Block) → Fits s
+    (c : Result Command Refusal) (block : Option ScanBlock) → Fits s
     → Fits (after_all s (effect files s number line c block).added)
 effect_fits files s number line c None fits = opened_fits files s c (opened number line c) fits
 effect_fits files s number line c (Some block) fits =

@@ -12,7 +12,7 @@ use Rattle.oct_io.specs.Files.{Files, AreBytes}
 use Rattle.oct_io.specs.Loaded.{loaded_of}
 use Rattle.oct_io.specs.declared.store.Loaded.{Loaded}
 use Rattle.oct_io.specs.declared.store.Loaded.TheVariants.{Bytes, TooLarge}
-use Rattle.oct_key.specs.Boxes.{Corners}
+use Rattle.oct_key.specs.Boxes.{Window}
 use Rattle.oct_key.specs.Values.{SameValues}
 use Rattle.oct_key.specs.Voxel.{IsResolution}
 use Rattle.oct_map.specs.Restores.{restore_answer, restored_room}
@@ -44,7 +44,7 @@ use Rattle.oct_session.specs.History.{value_after}
 use Rattle.oct_session.specs.Session.{Progress, Effect, effect, effect_of, next_command, answered}
 use Rattle.oct_session.specs.Session.{after_line, start, progress}
 use Rattle.oct_session.specs.Setup.{Setup}
-use Rattle.oct_session.specs.declared.block.Block.{Block}
+use Rattle.oct_session.specs.declared.scan_block.ScanBlock.{ScanBlock}
 use Rattle.oct_session_laws.proofs.Fitting.{groups_within}
 use Rattle.oct_session.proofs.MapHistory.{state_more}
 use Rattle.oct_session.proofs.Progresses.{progress_push, after_answered, told_fold}
@@ -109,7 +109,7 @@ pub effect_next : (o : Setup) (p : Progress) (line : Line) (c : Command) → IsN
     → effect_of o p line ≡ effect p.files (state_after o p.history) (p.line_count + 1) line (Ok c)
     None
 effect_next o p line c next =
-    ap (λ (b : Option Block). effect p.files (state_after o p.history) (p.line_count + 1) line
+    ap (λ (b : Option ScanBlock). effect p.files (state_after o p.history) (p.line_count + 1) line
     (next_command p line) b) next.outside
     ∙ ap (λ (r : Result Command Refusal). effect p.files (state_after o p.history)
     (p.line_count + 1) line r None) next.reads
@@ -192,7 +192,7 @@ state_back s t q is back = record {
       (back.values k low)
       ∙ restored_value s.base.odds (s.values k) (t.values k) (is.values k low);
   odds = back.odds;
-  update_box = ap (λ n. cond {A = Option Corners} (nat_eq n 1) t.base.update_box q.head.window)
+  update_box = ap (λ n. cond {A = Option Window} (nat_eq n 1) t.base.update_box q.head.window)
       back.version ∙ back.window;
 }
 

@@ -28,8 +28,8 @@ use Rattle.oct_session.specs.Session.{Progress, Effect, effect, effect_of, effec
 use Rattle.oct_session.specs.Session.{next_command, answered, after_line, start, progress, replied}
 use Rattle.oct_session.specs.Session.{silent}
 use Rattle.oct_session.specs.Setup.{Setup}
-use Rattle.oct_session.specs.declared.block.Block.{Block}
-use Rattle.oct_session.specs.declared.block.Block.TheVariants.{Scanning, Spoilt}
+use Rattle.oct_session.specs.declared.scan_block.ScanBlock.{ScanBlock}
+use Rattle.oct_session.specs.declared.scan_block.ScanBlock.TheVariants.{Scanning, Spoilt}
 use Rattle.oct_session.proofs.MapHistory.{state_more}
 use Rattle.oct_session_laws.proofs.SnapshotFields.{snapshot_fine}
 
@@ -48,7 +48,7 @@ AreFine (a ∷ h) = IsFine a × AreFine h
 
 action_kept : (s : State) (a : Action) → IsFine a → IsModel s → IsModel (after s a)
 action_kept s (Edited p e lazy) fine is = is
-action_kept s (Boxed low high e) fine is = is
+action_kept s (Boxed lo hi e) fine is = is
 action_kept s (Scanned seen lazy) fine is = is
 action_kept s Refreshed fine is = is
 action_kept s Pruned fine is = is
@@ -58,7 +58,7 @@ action_kept s (Replaced classes) fine is = is
 action_kept s (Restored q) fine is = fine
 action_kept s Tracked fine is = is
 action_kept s Untracked fine is = is
-action_kept s (Limited low high) fine is = is
+action_kept s (Limited lo hi) fine is = is
 action_kept s Unlimited fine is = is
 
 actions_kept : (s : State) (h : History) → AreFine h → IsModel s → IsModel (after_all s h)
@@ -96,7 +96,7 @@ command_fine : (files : Option Files) (s : State) (c : Result Command Refusal) �
 command_fine files s (Err refusal) is = tt
 command_fine files s (Ok command.Blank) is = tt
 command_fine files s (Ok (command.Edit p e lazy)) is = (tt, tt)
-command_fine files s (Ok (command.Box low high e)) is = (tt, tt)
+command_fine files s (Ok (command.Box lo hi e)) is = (tt, tt)
 command_fine files s (Ok (command.Scan head)) is = tt
 command_fine files s (Ok (command.Beam p)) is = tt
 command_fine files s (Ok command.End) is = tt
@@ -112,29 +112,29 @@ command_fine files s (Ok (command.Save name)) is = tt
 command_fine files s (Ok (command.Load name)) is = load_fine (found_in files name)
 command_fine files s (Ok (command.Snapshot name)) is = tt
 command_fine files s (Ok (command.Restore name)) is = restore_fine s (found_in files name) is
-command_fine files s (Ok (command.List low high depth)) is = tt
+command_fine files s (Ok (command.List lo hi depth)) is = tt
 command_fine files s (Ok command.Track) is = (tt, tt)
 command_fine files s (Ok command.Untrack) is = (tt, tt)
 command_fine files s (Ok command.Changes) is = tt
-command_fine files s (Ok (command.Limit low high)) is = (tt, tt)
+command_fine files s (Ok (command.Limit lo hi)) is = (tt, tt)
 command_fine files s (Ok command.NoLimit) is = (tt, tt)
 
 accepted_fine : (r : Option Reply) (h : History) → AreFine h → AreFine (accepted r h)
 accepted_fine r h fine =
     elim (is_refusal r) as (λ b. AreFine (cond {A = History} b [] h)) [ true ↦ tt | false ↦ fine ]
 
-block_fine : (block : Block) → AreFine (block_action block)
+block_fine : (block : ScanBlock) → AreFine (block_action block)
 block_fine (Spoilt refusal) = tt
 block_fine (Scanning scan) = (tt, tt)
 
 opened_fine : (files : Option Files) (s : State) (c : Result Command Refusal)
-    (block : Option Block) → IsModel s → AreFine (effect_opened files s c block).added
+    (block : Option ScanBlock) → IsModel s → AreFine (effect_opened files s c block).added
 opened_fine files s c None is =
     accepted_fine (reply files s c) (action_of files s c) (command_fine files s c is)
 opened_fine files s c (Some block) is = tt
 
 effect_fine : (files : Option Files) (s : State) (number : ℕ) (line : Line)
-    (c : Result Command Refusal) (block : Option Block) → IsModel s
+    (c : Result Command Refusal) (block : Option ScanBlock) → IsModel s
     → AreFine (effect files s number line c block).added
 effect_fine files s number line c None is = opened_fine files s c (opened number line c) is
 effect_fine files s number line c (Some block) is =

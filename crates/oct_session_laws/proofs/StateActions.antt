@@ -3,7 +3,7 @@ use Rattle.std.proofs.Common.{◌≡◌, ℤ, ◌≤ℤ◌, ◌<ℤ◌, Bool, tr
 use Rattle.std.proofs.Common.{sym, ap, subst, arith}
 use Rattle.std.specs.Prelude.{int_lt, IfSome}
 use Rattle.std.proofs.lemmas.Int.{ints}
-use Rattle.oct_key.specs.Boxes.{Corners}
+use Rattle.oct_key.specs.Boxes.{Window}
 use Rattle.oct_bt.specs.Classes.{value_for}
 use Rattle.oct_map.specs.Ground.{Ground}
 use Rattle.oct_odds.specs.Odds.{Odds, IsSound}
@@ -104,13 +104,13 @@ same_ground s a odds box is =
     let sound : IsSound (base_by s.base a).odds = subst IsSound (sym odds) is.odds in
     record {
       odds = sound;
-      update_box = subst (λ (w : Option Corners). IfSome w IsMapBox) (sym box) is.update_box;
+      update_box = subst (λ (w : Option Window). IfSome w IsMapBox) (sym box) is.update_box;
       values = λ k low. event_within (base_by s.base a).odds sound (command_event s.base a k)
           (s.values k) (subst (λ (o : Odds). IsWithin o (s.values k)) (sym odds) (is.values k low));
     }
 
 -- after a limit to a box of the map
-pub limited_is : (s : State) (a : Action) (w : Option Corners)
+pub limited_is : (s : State) (a : Action) (w : Option Window)
     → base_by s.base a ≡ record s.base { update_box = w } → IfSome w IsMapBox → IsState s
     → IsState (after s a)
 limited_is s a w base ok is =

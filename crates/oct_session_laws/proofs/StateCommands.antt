@@ -12,7 +12,7 @@ use Rattle.oct_io.specs.Files.{Files, AreBytes, with_file}
 use Rattle.oct_io.specs.Loaded.{loaded_of}
 use Rattle.oct_io.specs.declared.store.Loaded.{Loaded}
 use Rattle.oct_io.specs.declared.store.Loaded.TheVariants.{Bytes, Missing, TooLarge}
-use Rattle.oct_key.specs.Boxes.{Corners, is_box}
+use Rattle.oct_key.specs.Boxes.{Window, is_box}
 use Rattle.oct_key.specs.Voxel.{Voxel, IsResolution, key_at}
 use Rattle.oct_key.specs.declared.point.Point.{Point}
 use Rattle.oct_key.proofs.Boxes.{box_exactly}
@@ -50,8 +50,8 @@ use Rattle.oct_session.specs.Session.{Progress, Effect, effect, effect_of, effec
 use Rattle.oct_session.specs.Session.{next_command, answered, after_line, start, progress, replied}
 use Rattle.oct_session.specs.Session.{silent}
 use Rattle.oct_session.specs.Setup.{Setup}
-use Rattle.oct_session.specs.declared.block.Block.{Block}
-use Rattle.oct_session.specs.declared.block.Block.TheVariants.{Scanning, Spoilt}
+use Rattle.oct_session.specs.declared.scan_block.ScanBlock.{ScanBlock}
+use Rattle.oct_session.specs.declared.scan_block.ScanBlock.TheVariants.{Scanning, Spoilt}
 use Rattle.oct_session.proofs.MapHistory.{state_more}
 use Rattle.oct_session.proofs.SameLimits.{limits_of}
 use Rattle.oct_session_laws.proofs.SnapshotFields.{snapshot_fine}
@@ -91,7 +91,7 @@ snapshot_good s ok is = λ o q sound read.
     (let (t, back, res, version, odds, window, same) = text_back o s.base.res s.base.odds
     s.base.update_box s.values ok is.odds is.update_box is.values in
     let one : t ≡ q = same_snapshot t q (sym back ∙ read) in
-    subst (λ (w : Option Corners). IfSome w IsMapBox)
+    subst (λ (w : Option Window). IfSome w IsMapBox)
     (sym window ∙ ap (λ (x : Snapshot). x.head.window) one) is.update_box)
 
 saved_good : (files : Files) (name bytes other : List ℕ) → IsGoodFile bytes
@@ -136,32 +136,32 @@ either_is s r actions is done =
     [ true ↦ is | false ↦ done ]
 
 -- the box whose corners hold two points
-corners_in_map : (res : ℕ) (low high : Point) (a b : Voxel) → key_at res low ≡ Some a
-    → key_at res high ≡ Some b → is_box a b ≡ true → IfSome (corner_box (Some a) (Some b)) IsMapBox
-corners_in_map res low high a b is_low is_high box =
-    (IsInMap-key_at res low a is_low, IsInMap-key_at res high b is_high, (box_exactly a b).0 box)
+corners_in_map : (res : ℕ) (lo hi : Point) (a b : Voxel) → key_at res lo ≡ Some a
+    → key_at res hi ≡ Some b → is_box a b ≡ true → IfSome (corner_box (Some a) (Some b)) IsMapBox
+corners_in_map res lo hi a b is_low is_high box =
+    (IsInMap-key_at res lo a is_low, IsInMap-key_at res hi b is_high, (box_exactly a b).0 box)
 
-limit_is_at : (s : State) (low high : Point) (a b : Option Voxel) → key_at s.base.res low ≡ a
-    → key_at s.base.res high ≡ b → IsState s →
+limit_is_at : (s : State) (lo hi : Point) (a b : Option Voxel) → key_at s.base.res lo ≡ a
+    → key_at s.base.res hi ≡ b → IsState s →
     IsState (after_all s (accepted (edit_reply (box_answer_by (corner_fault a b) (Ok tt)))
-    (Limited low high ∷ [])))
-limit_is_at s low high None b is_low is_high is = is
-limit_is_at s low high (Some a) None is_low is_high is = is
-limit_is_at s low high (Some a) (Some b) is_low is_high is = by_box (is_box a b) refl
+    (Limited lo hi ∷ [])))
+limit_is_at s lo hi None b is_low is_high is = is
+limit_is_at s lo hi (Some a) None is_low is_high is = is
+limit_is_at s lo hi (Some a) (Some b) is_low is_high is = by_box (is_box a b) refl
   where
-    limited : is_box a b ≡ true → IsState (after s (Limited low high))
+    limited : is_box a b ≡ true → IsState (after s (Limited lo hi))
     limited box =
-        limited_is s (Limited low high)
-        (corner_box (key_at s.base.res low) (key_at s.base.res high)) refl
-        (subst (λ (x : Option Voxel). IfSome (corner_box x (key_at s.base.res high)) IsMapBox)
+        limited_is s (Limited lo hi)
+        (corner_box (key_at s.base.res lo) (key_at s.base.res hi)) refl
+        (subst (λ (x : Option Voxel). IfSome (corner_box x (key_at s.base.res hi)) IsMapBox)
         (sym is_low)
         (subst (λ (x : Option Voxel). IfSome (corner_box (Some a) x) IsMapBox) (sym is_high)
-        (corners_in_map s.base.res low high a b is_low is_high box))) is
+        (corners_in_map s.base.res lo hi a b is_low is_high box))) is
 
     by_box : (t : Bool) → is_box a b ≡ t
         → IsState (after_all s (accepted
         (edit_reply (box_answer_by (cond {A = Option MapFault} t None (Some fault.BadBox)) (Ok tt)))
-        (Limited low high ∷ [])))
+        (Limited lo hi ∷ [])))
     by_box true box = limited box
     by_box false box = is
 
@@ -181,8 +181,8 @@ load_is s (Some TooLarge) is = is
 load_is s (Some (Bytes bytes)) is = reading_is s (reading bytes) is
 
 -- the box that stands after a snapshot
-box_stands : (standing own : Option Corners) (b : Bool) → IfSome standing IsMapBox
-    → IfSome own IsMapBox → IfSome (cond {A = Option Corners} b standing own) IsMapBox
+box_stands : (standing own : Option Window) (b : Bool) → IfSome standing IsMapBox
+    → IfSome own IsMapBox → IfSome (cond {A = Option Window} b standing own) IsMapBox
 box_stands standing own true old new = old
 box_stands standing own false old new = new
 
@@ -226,9 +226,9 @@ command_is files s (Ok command.Blank) good is = is
 command_is files s (Ok (command.Edit p e lazy)) good is =
     one_is files s (Ok (command.Edit p e lazy)) (Edited p e lazy) refl is
     (edited_is s (Edited p e lazy) refl is)
-command_is files s (Ok (command.Box low high e)) good is =
-    one_is files s (Ok (command.Box low high e)) (Boxed low high e) refl is
-    (edited_is s (Boxed low high e) refl is)
+command_is files s (Ok (command.Box lo hi e)) good is =
+    one_is files s (Ok (command.Box lo hi e)) (Boxed lo hi e) refl is
+    (edited_is s (Boxed lo hi e) refl is)
 command_is files s (Ok (command.Scan head)) good is = is
 command_is files s (Ok (command.Beam p)) good is = is
 command_is files s (Ok command.End) good is = is
@@ -247,29 +247,29 @@ command_is files s (Ok (command.Load name)) good is = load_is s (found_in files 
 command_is files s (Ok (command.Snapshot name)) good is = is
 command_is files s (Ok (command.Restore name)) good is =
     restore_is s (found_in files name) (found_good files name good) is
-command_is files s (Ok (command.List low high depth)) good is =
-    none_is files s (Ok (command.List low high depth)) refl is
+command_is files s (Ok (command.List lo hi depth)) good is =
+    none_is files s (Ok (command.List lo hi depth)) refl is
 command_is files s (Ok command.Track) good is = edited_is s Tracked refl is
 command_is files s (Ok command.Untrack) good is = edited_is s Untracked refl is
 command_is files s (Ok command.Changes) good is = none_is files s (Ok command.Changes) refl is
-command_is files s (Ok (command.Limit low high)) good is =
-    limit_is_at s low high (key_at s.base.res low) (key_at s.base.res high) refl refl is
+command_is files s (Ok (command.Limit lo hi)) good is =
+    limit_is_at s lo hi (key_at s.base.res lo) (key_at s.base.res hi) refl refl is
 command_is files s (Ok command.NoLimit) good is = limited_is s Unlimited None refl tt is
 
-block_is : (s : State) (block : Block) → IsState s
+block_is : (s : State) (block : ScanBlock) → IsState s
     → IsState (after_all s (accepted (block_reply s block) (block_action block)))
 block_is s (Spoilt refusal) is = is
 block_is s (Scanning scan) is =
     either_is s (block_reply s (Scanning scan)) (block_action (Scanning scan)) is
     (edited_is s (Scanned (sighting_so_far scan) scan.head.lazy) refl is)
 
-opened_is : (files : Option Files) (s : State) (c : Result Command Refusal) (block : Option Block)
-    → AreGood files → IsState s → IsState (after_all s (effect_opened files s c block).added)
+opened_is : (files : Option Files) (s : State) (c : Result Command Refusal)
+    (block : Option ScanBlock) → AreGood files → IsState s → IsState (after_all s (effect_opened files s c block).added)
 opened_is files s c None good is = command_is files s c good is
 opened_is files s c (Some block) good is = is
 
 effect_is : (files : Option Files) (s : State) (number : ℕ) (line : Line)
-    (c : Result Command Refusal) (block : Option Block) → AreGood files → IsState s
+    (c : Result Command Refusal) (block : Option ScanBlock) → AreGood files → IsState s
     → IsState (after_all s (effect files s number line c block).added)
 effect_is files s number line c None good is = opened_is files s c (opened number line c) good is
 effect_is files s number line c (Some block) good is =
@@ -296,7 +296,7 @@ saving_good : (s : State) (c : Result Command Refusal) → IsResolution s.base.r
 saving_good s (Err refusal) ok is = tt
 saving_good s (Ok command.Blank) ok is = tt
 saving_good s (Ok (command.Edit p e lazy)) ok is = tt
-saving_good s (Ok (command.Box low high e)) ok is = tt
+saving_good s (Ok (command.Box lo hi e)) ok is = tt
 saving_good s (Ok (command.Scan head)) ok is = tt
 saving_good s (Ok (command.Beam p)) ok is = tt
 saving_good s (Ok command.End) ok is = tt
@@ -313,22 +313,22 @@ saving_good s (Ok (command.Save name)) ok is =
 saving_good s (Ok (command.Load name)) ok is = tt
 saving_good s (Ok (command.Snapshot name)) ok is = snapshot_good s ok is
 saving_good s (Ok (command.Restore name)) ok is = tt
-saving_good s (Ok (command.List low high depth)) ok is = tt
+saving_good s (Ok (command.List lo hi depth)) ok is = tt
 saving_good s (Ok command.Track) ok is = tt
 saving_good s (Ok command.Untrack) ok is = tt
 saving_good s (Ok command.Changes) ok is = tt
-saving_good s (Ok (command.Limit low high)) ok is = tt
+saving_good s (Ok (command.Limit lo hi)) ok is = tt
 saving_good s (Ok command.NoLimit) ok is = tt
 
 opened_saving : (files : Option Files) (s : State) (c : Result Command Refusal)
-    (block : Option Block) → IsResolution s.base.res → IsState s
+    (block : Option ScanBlock) → IsResolution s.base.res → IsState s
     → IsGoodSaving (effect_opened files s c block).saving
 opened_saving files s c None ok is =
     kept_saving (reply files s c) (saving_of s c) (saving_good s c ok is)
 opened_saving files s c (Some block) ok is = tt
 
 effect_saving : (files : Option Files) (s : State) (number : ℕ) (line : Line)
-    (c : Result Command Refusal) (block : Option Block) → IsResolution s.base.res → IsState s
+    (c : Result Command Refusal) (block : Option ScanBlock) → IsResolution s.base.res → IsState s
     → IsGoodSaving (effect files s number line c block).saving
 effect_saving files s number line c None ok is =
     opened_saving files s c (opened number line c) ok is

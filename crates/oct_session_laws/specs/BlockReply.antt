@@ -18,7 +18,7 @@ use Rattle.oct_session.specs.ScanBlock.{opens_block, is_end, block_reply}
 use Rattle.oct_session.specs.ScanSoFar.{ScanSoFar, sighting_so_far}
 use Rattle.oct_session.specs.Session.{Progress, after_lines, next_command}
 use Rattle.oct_session.specs.Setup.{Setup}
-use Rattle.oct_session.specs.declared.block.Block.TheVariants.{Scanning}
+use Rattle.oct_session.specs.declared.scan_block.ScanBlock.TheVariants.{Scanning}
 
 -- ---- the lines of a block
 

@@ -2,7 +2,7 @@
 use Rattle.std.specs.Prelude.{◌≡◌, ◌≢◌, ◌≤◌, ◌^◌, ℕ, List, [], ◌∷◌, ◌++◌, length, false, ⊤}
 use Rattle.std.specs.Prelude.{Option, Some, None, option_map, IfSome, Ok}
 use Rattle.oct_io.specs.Files.{Files}
-use Rattle.oct_key.specs.Boxes.{Corners, IsBox}
+use Rattle.oct_key.specs.Boxes.{Window, IsBox}
 use Rattle.oct_key.specs.Values.{SameValues}
 use Rattle.oct_key.specs.Voxel.{Voxel, IsInMap, IsResolution}
 use Rattle.oct_odds.specs.Odds.{IsSound}
@@ -24,7 +24,7 @@ use Rattle.oct_session.specs.Setup.{Setup}
 -- ---- what holds between any two lines
 
 -- two corners of a box of the map
-abbrev pub IsMapBox : Corners → Type 0
+abbrev pub IsMapBox : Window → Type 0
 IsMapBox box = IsInMap box.lo × IsInMap box.hi × IsBox box.lo box.hi
 
 -- a state that a session may have: the log-odds in force make a model, the box to which scans are

@@ -5,7 +5,7 @@ use Rattle.std.specs.Prelude.{Option, ◌⊎◌, Bool, true, false, nat_lt, nat_
 use Rattle.std.specs.Prelude.{Result, Ok, Err, is_ok}
 use Rattle.std.specs.List.{starts_with}
 use Rattle.std.proofs.lemmas.Bool.{false≢true}
-use Rattle.oct_key.specs.Boxes.{Corners, is_box}
+use Rattle.oct_key.specs.Boxes.{Window, is_box}
 use Rattle.oct_odds.specs.Odds.{Odds, first_bad_field}
 use Rattle.oct_odds.specs.declared.model.OddsField.{OddsField}
 use Rattle.oct_snap.specs.declared.fault.SnapFault.{SnapFault}
@@ -95,7 +95,7 @@ read_again o bytes s is =
     ap (with_fields bytes) (fields_again o bytes s.head (whole_read o bytes s is).fields) ∙ is
 
 -- the box of the newer version, and where the nodes begin
-abbrev pub IsBoxAt : List ℕ → Option Corners → ℕ → Type 0
+abbrev pub IsBoxAt : List ℕ → Option Window → ℕ → Type 0
 IsBoxAt bytes None start = (slice_index bytes 36 ≡ 0) × (start ≡ 37)
 IsBoxAt bytes (Some w) start = (slice_index bytes 36 ≡ 1) × (49 ≤ length bytes)
     × (w.lo ≡ voxel_at bytes 37) × (w.hi ≡ voxel_at bytes 43) × (start ≡ 49)

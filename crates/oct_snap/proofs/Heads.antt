@@ -1,7 +1,7 @@
 -- The fields before the nodes, piece by piece.
 use Rattle.std.proofs.Common.{◌≡◌, ℕ, Option, Some, List, [], ◌∷◌, ◌++◌, sym, ◌∙◌, ap, append_assoc}
 use Rattle.oct_key.specs.Voxel.{Voxel}
-use Rattle.oct_key.specs.Boxes.{Corners}
+use Rattle.oct_key.specs.Boxes.{Window}
 use Rattle.oct_snap.specs.Texts.{voxel_bytes, window_bytes}
 
 pub five_put : (old n1 n2 n3 n4 n5 x1 x2 x3 x4 x5 y1 y2 y3 y4 y5 : List ℕ) → n1 ≡ old ++ x1
@@ -14,8 +14,8 @@ five_put old n1 n2 n3 n4 n5 x1 x2 x3 x4 x5 y1 y2 y3 y4 y5 a b c d e p q r s t =
     ∙ append_assoc (old ++ y1) y2 (y3 ++ (y4 ++ y5))
     ∙ append_assoc old y1 (y2 ++ (y3 ++ (y4 ++ y5))))
 
-pub window_put : (old n1 n2 n3 : List ℕ) (lo hi : Voxel) (corners : Corners)
-    (window : Option Corners) → n1 ≡ old ++ (1 ∷ []) → n2 ≡ n1 ++ voxel_bytes lo
+pub window_put : (old n1 n2 n3 : List ℕ) (lo hi : Voxel) (corners : Window)
+    (window : Option Window) → n1 ≡ old ++ (1 ∷ []) → n2 ≡ n1 ++ voxel_bytes lo
     → n3 ≡ n2 ++ voxel_bytes hi → lo ≡ corners.lo → hi ≡ corners.hi → window ≡ Some corners
     → n3 ≡ old ++ window_bytes window
 window_put old n1 n2 n3 lo hi corners window a b c low high is =
@@ -24,7 +24,7 @@ window_put old n1 n2 n3 lo hi corners window a b c low high is =
     ∙ append_assoc old (1 ∷ []) (voxel_bytes lo ++ voxel_bytes hi)
     ∙ ap (λ (k : Voxel). old ++ (1 ∷ (voxel_bytes k ++ voxel_bytes hi))) low
     ∙ ap (λ (k : Voxel). old ++ (1 ∷ (voxel_bytes corners.lo ++ voxel_bytes k))) high
-    ∙ ap (λ (w : Option Corners). old ++ window_bytes w) (sym is)
+    ∙ ap (λ (w : Option Window). old ++ window_bytes w) (sym is)
 
 pub head_put : (n0 n1 n2 n3 n4 m x r o w : List ℕ) → n0 ≡ [] → n1 ≡ n0 ++ m → n2 ≡ n1 ++ x
     → n3 ≡ n2 ++ o → n4 ≡ n3 ++ w → x ≡ r

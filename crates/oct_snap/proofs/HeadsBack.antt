@@ -7,7 +7,7 @@ use Rattle.std.proofs.lemmas.Nat.{from_be_bytes-to_be_bytes_2, from_be_bytes-to_
 use mir.Val.{SFits}
 use mir.Syntax.{w32}
 use Rattle.oct_key.specs.Voxel.{Voxel, IsInMap}
-use Rattle.oct_key.specs.Boxes.{Corners, IsBox, is_box}
+use Rattle.oct_key.specs.Boxes.{Window, IsBox, is_box}
 use Rattle.oct_key.proofs.Boxes.{box_exactly}
 use Rattle.oct_odds.specs.Odds.{Odds, odds, IsSound, IsSmall, first_bad_field}
 use Rattle.oct_odds.proofs.Soundness.{none_from_sound}
@@ -56,7 +56,7 @@ voxel_is : (a b c : ℕ) (k : Voxel) → a ≡ k.x → b ≡ k.y → c ≡ k.z
     → ◌≡◌ {A = Voxel} (record { x = a; y = b; z = c }) k
 voxel_is a b c k x y z = rw (x, y, z) refl
 
-low_back : (res : ℕ) (o : Odds) (w : Corners) (rest : List ℕ) → IsInMap w.lo
+low_back : (res : ℕ) (o : Odds) (w : Window) (rest : List ℕ) → IsInMap w.lo
     → voxel_at (file_of (res_bytes res ++ (odds_bytes o ++ (1 ∷ (voxel_bytes w.lo ++ rest))))) 37
     ≡ w.lo
 low_back res o w rest ok =
@@ -65,7 +65,7 @@ low_back res o w rest ok =
     (from_be_bytes-to_be_bytes_2 w.lo.y (omega (arith, y)))
     (from_be_bytes-to_be_bytes_2 w.lo.z (omega (arith, z)))
 
-high_back : (res : ℕ) (o : Odds) (w : Corners) (rest : List ℕ) → IsInMap w.hi
+high_back : (res : ℕ) (o : Odds) (w : Window) (rest : List ℕ) → IsInMap w.hi
     → voxel_at (file_of
     (res_bytes res ++ (odds_bytes o ++ (1 ∷ (voxel_bytes w.lo ++ (voxel_bytes w.hi ++ rest))))))
     43 ≡ w.hi
@@ -120,7 +120,7 @@ four_joined a b c d e = append_assoc a (b ++ (c ++ d)) e ∙ ap (λ (t : List �
     ∙ ap (λ (t : List ℕ). b ++ t) (append_assoc c d e))
 
 -- the fields are read, and the rest of the text stands after them
-pub record IsHeadBack (o : Odds) (res : ℕ) (odds : Odds) (window : Option Corners)
+pub record IsHeadBack (o : Odds) (res : ℕ) (odds : Odds) (window : Option Window)
     (text : List ℕ) : Type 0 where
   pub start : ℕ
   pub read : read_fields o (head_bytes res odds window ++ text)
@@ -142,7 +142,7 @@ none_back o res odds text ok few sound =
       behind = ap (drop 37) is;
     }
 
-box_read : (res : ℕ) (odds : Odds) (w : Corners) (file rest : List ℕ)
+box_read : (res : ℕ) (odds : Odds) (w : Window) (file rest : List ℕ)
     → file ≡ file_of
     (res_bytes res ++ (odds_bytes odds ++ (1 ∷ (voxel_bytes w.lo ++ (voxel_bytes w.hi ++ rest)))))
     → 49 ≤ length file → IsInMap w.lo → IsInMap w.hi → IsBox w.lo w.hi
@@ -162,7 +162,7 @@ box_read res odds w file rest is many low high box =
     (fields res 2 odds (Some (record { lo = k; hi = voxel_at file 43 })) 49)) lo
     ∙ ap (λ (k : Voxel). Ok (fields res 2 odds (Some (record { lo = w.lo; hi = k })) 49)) hi
 
-some_back : (o : Odds) (res : ℕ) (odds : Odds) (w : Corners) (text : List ℕ) → is_resolution res
+some_back : (o : Odds) (res : ℕ) (odds : Odds) (w : Window) (text : List ℕ) → is_resolution res
     ≡ true → res < 2 ^ 64 → IsSound odds
     → IsInMap w.lo → IsInMap w.hi → IsBox w.lo w.hi → IsHeadBack o res odds (Some w) text
 some_back o res odds w text ok few sound low high box =
@@ -186,7 +186,7 @@ some_back o res odds w text ok few sound low high box =
 resolution : (res : ℕ) → 100000 ≤ res → res ≤ 100000000000 → is_resolution res ≡ true
 resolution res least most = grind (arith, least, most)
 
-pub head_back : (o : Odds) (res : ℕ) (odds : Odds) (window : Option Corners) (text : List ℕ)
+pub head_back : (o : Odds) (res : ℕ) (odds : Odds) (window : Option Window) (text : List ℕ)
     → (100000 ≤ res) × (res ≤ 100000000000)
     → IsSound odds → IfSome window (λ w. IsInMap w.lo × IsInMap w.hi × IsBox w.lo w.hi)
     → IsHeadBack o res odds window text

@@ -4,7 +4,7 @@ use Rattle.std.proofs.Common.{sym, ◌∙◌, ap}
 use Rattle.std.specs.Prelude.{IfSome, codes, Ok}
 use Rattle.oct_key.specs.Voxel.{Voxel, IsInMap}
 use Rattle.oct_key.specs.Values.{Values}
-use Rattle.oct_key.specs.Boxes.{Corners, IsBox}
+use Rattle.oct_key.specs.Boxes.{Window, IsBox}
 use Rattle.oct_odds.specs.Odds.{Odds, IsSound}
 use Rattle.oct_odds.specs.Update.{IsWithin}
 use Rattle.oct_snap.specs.Texts.{res_bytes, head_bytes, map_text, snap_text, old_text}
@@ -33,7 +33,7 @@ behind_fields o h file values read behind sound within =
       are.value,
     )
 
-pub text_back : (o : Odds) (res : ℕ) (odds : Odds) (window : Option Corners) (values : Values)
+pub text_back : (o : Odds) (res : ℕ) (odds : Odds) (window : Option Window) (values : Values)
     → (100000 ≤ res) × (res ≤ 100000000000)
     → IsSound odds → IfSome window (λ w. IsInMap w.lo × IsInMap w.hi × IsBox w.lo w.hi)
     → ((k : Voxel) → IsInMap k → IsWithin odds (values k))

@@ -10,7 +10,7 @@ use Rattle.std.proofs.lemmas.Nat.{be_bytes_2, be_bytes_8}
 use Rattle.std.proofs.lemmas.Slice.Eq.{starts_is}
 use Rattle.oct_key.specs.Voxel.{Voxel, IsInMap}
 use Rattle.oct_key.specs.Values.{Values}
-use Rattle.oct_key.specs.Boxes.{Corners}
+use Rattle.oct_key.specs.Boxes.{Window}
 use Rattle.oct_odds.specs.Odds.{Odds}
 use Rattle.oct_snap.specs.Nodes.{Nodes, number_bytes, value_in}
 use Rattle.oct_snap.specs.Texts.{odds_bytes, axis_bytes, voxel_bytes, window_bytes, res_bytes}
@@ -143,14 +143,14 @@ magic_there bytes magic is =
 
 -- ---- the box
 
-corners_are : (w : Corners) (lo hi : Voxel) (rest : List ℕ) → w.lo ≡ lo → w.hi ≡ hi
+corners_are : (w : Window) (lo hi : Voxel) (rest : List ℕ) → w.lo ≡ lo → w.hi ≡ hi
     → 1 ∷ (voxel_bytes lo ++ (voxel_bytes hi ++ rest)) ≡ window_bytes (Some w) ++ rest
 corners_are w lo hi rest low high =
     ap (λ (k : Voxel). 1 ∷ (voxel_bytes k ++ (voxel_bytes hi ++ rest))) (sym low)
     ∙ ap (λ (k : Voxel). 1 ∷ (voxel_bytes w.lo ++ (voxel_bytes k ++ rest))) (sym high)
     ∙ ap (λ (t : List ℕ). 1 ∷ t) (sym (append_assoc (voxel_bytes w.lo) (voxel_bytes w.hi) rest))
 
-window_there : (bytes : List ℕ) (window : Option Corners) (start : ℕ) → AreSmall bytes
+window_there : (bytes : List ℕ) (window : Option Window) (start : ℕ) → AreSmall bytes
     → 37 ≤ length bytes → IsBoxAt bytes window start
     → drop 36 bytes ≡ window_bytes window ++ drop start bytes
 window_there bytes None start small inside (first, at) =

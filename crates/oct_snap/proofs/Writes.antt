@@ -7,7 +7,7 @@ use Rattle.std.specs.List.{flat_map}
 use Rattle.std.proofs.lemmas.Bool.{false≢true}
 use Rattle.std.proofs.Math.Nat.{pow-suc, pow-le-pow_right, one-le-pow}
 use Rattle.oct_key.specs.Values.{Values}
-use Rattle.oct_key.specs.Boxes.{Corners}
+use Rattle.oct_key.specs.Boxes.{Window}
 use Rattle.oct_key.specs.Voxel.{Voxel, IsInMap}
 use Rattle.oct_key.specs.Block.{Cube, IsBlock, HoldsVoxel, child_of, lowest_voxel}
 use Rattle.oct_key.proofs.Blocks.{lowest_held}
@@ -248,7 +248,7 @@ before_short values d b i n li e =
 holds_nothing : (old : Option (List ℕ)) (held : List ℕ) → held ≡ [] → IsGathered [] old old held
 holds_nothing old held none = subst (IsGathered [] old old) (sym none) (gathered_first old)
 
-pub cut_fields : (res : ℕ) (o : Odds) (window : Option Corners) (values : Values)
+pub cut_fields : (res : ℕ) (o : Odds) (window : Option Window) (values : Values)
     (old new : Option (List ℕ)) (none head : List ℕ)
     → none ≡ [] → head ≡ head_bytes res o window → IsRefused head old none new
     → IsCutOff old new (snap_text res o window values)
@@ -257,7 +257,7 @@ cut_fields res o window values old new none head empty is cut =
     subst (IsCutOff old new) (ap (λ (t : List ℕ). t ++ map_text values) is)
     (refused_first head (map_text values) old new none cut [] old (holds_nothing old none empty))
 
-pub cut_nodes : (res : ℕ) (o : Odds) (window : Option Corners) (values : Values)
+pub cut_nodes : (res : ℕ) (o : Odds) (window : Option Window) (values : Values)
     (old out new : Option (List ℕ)) (none held head : List ℕ)
     → none ≡ [] → head ≡ head_bytes res o window → IsTaken head old none out held
     → IsRefused (map_text values) out held new
@@ -268,7 +268,7 @@ cut_nodes res o window values old out new none held head empty is sent cut =
     (refused_second head (map_text values) old out new none held sent cut [] old
     (holds_nothing old none empty))
 
-pub sent_snap : (res : ℕ) (o : Odds) (window : Option Corners) (values : Values)
+pub sent_snap : (res : ℕ) (o : Odds) (window : Option Window) (values : Values)
     (old out new : Option (List ℕ)) (none held left head : List ℕ)
     → none ≡ [] → head ≡ head_bytes res o window → IsTaken head old none out held
     → IsTaken (map_text values) out held new left
@@ -279,7 +279,7 @@ sent_snap res o window values old out new none held left head empty is sent afte
     (taken_more head (map_text values) old out new none held left sent after [] old
     (holds_nothing old none empty))
 
-pub long_snap : (res : ℕ) (o : Odds) (window : Option Corners) (values : Values) (head : List ℕ)
+pub long_snap : (res : ℕ) (o : Odds) (window : Option Window) (values : Values) (head : List ℕ)
     (n m : ℕ)
     → head ≡ head_bytes res o window → n ≡ length head → m ≡ length (map_text values)
     → n + m ≡ length (snap_text res o window values)

@@ -6,7 +6,7 @@ use Rattle.std.specs.Int.{w16, w32, w64, cast_signed, from_be_bytes}
 use Rattle.std.specs.List.{starts_with}
 use Rattle.oct_key.specs.Voxel.{Voxel}
 use Rattle.oct_key.specs.Values.{Values}
-use Rattle.oct_key.specs.Boxes.{Corners, is_box}
+use Rattle.oct_key.specs.Boxes.{Window, is_box}
 use Rattle.oct_odds.specs.Odds.{Odds, odds, first_bad_field}
 use Rattle.oct_odds.specs.declared.model.OddsField.{OddsField}
 use Rattle.oct_odds.specs.declared.model.OddsField.TheVariants.{Hit, Miss, Min, Max, Thr}
@@ -96,11 +96,11 @@ pub record Fields : Type 0 where
   pub res : ℕ
   pub version : ℕ
   pub odds : Odds
-  pub window : Option Corners
+  pub window : Option Window
   pub start : ℕ
 
 -- these five as one
-abbrev pub fields : ℕ → ℕ → Odds → Option Corners → ℕ → Fields
+abbrev pub fields : ℕ → ℕ → Odds → Option Window → ℕ → Fields
 fields res version o window start =
     record { res = res; version = version; odds = o; window = window; start = start }
 

@@ -4,7 +4,7 @@ use Rattle.std.specs.List.{flat_map}
 use Rattle.std.specs.Int.{w16, w64, to_be_bytes}
 use Rattle.oct_key.specs.Voxel.{Voxel}
 use Rattle.oct_key.specs.Values.{Values}
-use Rattle.oct_key.specs.Boxes.{Corners}
+use Rattle.oct_key.specs.Boxes.{Window}
 use Rattle.oct_key.specs.Block.{Cube, child_of, lowest_voxel, root_block}
 use Rattle.oct_odds.specs.Odds.{Odds}
 use Rattle.oct_odds.specs.Update.{Value}
@@ -48,7 +48,7 @@ abbrev pub voxel_bytes : Voxel → List ℕ
 voxel_bytes k = axis_bytes k.x ++ (axis_bytes k.y ++ axis_bytes k.z)
 
 -- whether there is a box, and its corners
-abbrev pub window_bytes : Option Corners → List ℕ
+abbrev pub window_bytes : Option Window → List ℕ
 window_bytes None = 0 ∷ []
 window_bytes (Some w) = 1 ∷ (voxel_bytes w.lo ++ voxel_bytes w.hi)
 
@@ -57,12 +57,12 @@ abbrev pub res_bytes : ℕ → List ℕ
 res_bytes res = to_be_bytes w64 res
 
 -- the fields before the nodes
-abbrev pub head_bytes : ℕ → Odds → Option Corners → List ℕ
+abbrev pub head_bytes : ℕ → Odds → Option Window → List ℕ
 head_bytes res odds window =
     codes "OCTSNAP2" ++ (res_bytes res ++ (odds_bytes odds ++ window_bytes window))
 
 -- the snapshot of values at a resolution, with their log-odds and the box, if there is one
-unfoldable pub snap_text : ℕ → Odds → Option Corners → Values → List ℕ
+unfoldable pub snap_text : ℕ → Odds → Option Window → Values → List ℕ
 snap_text res odds window values = head_bytes res odds window ++ map_text values
 
 -- the older form, without log-odds and box

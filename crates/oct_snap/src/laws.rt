@@ -4,7 +4,7 @@ ghost use Rattle.std.specs.Prelude.{length, drop, Result, Ok, Err};
 ghost use Rattle.std.specs.List.{All};
 ghost use Rattle.oct_odds.specs.Odds.{Odds, IsSound};
 ghost use Rattle.oct_odds.specs.Update.{IsWithin};
-ghost use Rattle.oct_key.specs.Boxes.{Corners, IsBox};
+ghost use Rattle.oct_key.specs.Boxes.{Window, IsBox};
 ghost use Rattle.oct_key.specs.Voxel.{Voxel, IsInMap, IsResolution};
 ghost use Rattle.oct_key.specs.Values.{Values, SameValues};
 ghost use Rattle.oct_snap.specs.Nodes.{Nodes, AreNodes, text_of, value_in, group_total};
@@ -52,7 +52,7 @@ pub fn groups_are_needed()
 /// The text of every map of values within the bounds of its log-odds is accepted, and says what it
 /// is the text of; the older form is, where they are within the bounds that it is read with.
 pub fn texts_are_accepted()
-    ensures current { (o : Odds) (res : ℕ) (odds : Odds) (window : Option Corners) (values : Values)
+    ensures current { (o : Odds) (res : ℕ) (odds : Odds) (window : Option Window) (values : Values)
         → IsResolution res → IsSound odds
         → IfSome window (λ w. IsInMap w.lo × IsInMap w.hi × IsBox w.lo w.hi)
         → ((k : Voxel) → IsInMap k → IsWithin odds (values k))

@@ -1,6 +1,6 @@
 -- The box to which scans are restricted, and the mark, by calls on a handle.
 use Rattle.std.specs.Prelude.{ℕ, [], ⊤, Option, Some, None, Result, Ok, Err}
-use Rattle.oct_key.specs.Boxes.{Corners}
+use Rattle.oct_key.specs.Boxes.{Window}
 use Rattle.oct_key.specs.Voxel.{key_at}
 use Rattle.oct_key.specs.declared.point.Point.{Point}
 use Rattle.oct_map.specs.Answers.{limit_answer}
@@ -17,7 +17,7 @@ abbrev pub limiting : Point → Point → Map → Result ⊤ Refusal
 limiting lo hi m = of_map (limit_answer (ground_of m) lo hi)
 
 -- the map that is restricted to this box, where that isn't refused
-abbrev pub limited_by : Result ⊤ MapFault → Option Corners → Map → Map
+abbrev pub limited_by : Result ⊤ MapFault → Option Window → Map → Map
 limited_by (Ok done) corners m = record m { update_box = corners }
 limited_by (Err fault) corners m = m
 
@@ -37,13 +37,13 @@ abbrev pub untracked : Map → Map
 untracked m = record m { mark = None }
 
 -- the code of a question for the box
-abbrev pub window_code : Result (Option Corners) Refusal → ℕ
+abbrev pub window_code : Result (Option Window) Refusal → ℕ
 window_code (Ok (Some corners)) = 0
 window_code (Ok None) = 44
 window_code (Err refusal) = refusal_code refusal
 
 -- what stands in the place for the box afterwards
-abbrev pub window_left : VoxelBox → Result (Option Corners) Refusal → VoxelBox
+abbrev pub window_left : VoxelBox → Result (Option Window) Refusal → VoxelBox
 window_left old (Ok (Some corners)) = box_told corners
 window_left old (Ok None) = old
 window_left old (Err refusal) = old

@@ -1,5 +1,5 @@
 -- Points and voxels as C passes and reads them.
-use Rattle.oct_key.specs.Boxes.{Corners}
+use Rattle.oct_key.specs.Boxes.{Window}
 use Rattle.oct_key.specs.declared.point.Key.{Key}
 use Rattle.oct_key.specs.declared.point.Point.{Point}
 use Rattle.octofix.specs.declared.types.PointNm.{PointNm}
@@ -15,5 +15,5 @@ abbrev pub key_told : Key → VoxelKey
 key_told k = record { x = k.x; y = k.y; z = k.z }
 
 -- the same box
-abbrev pub box_told : Corners → VoxelBox
+abbrev pub box_told : Window → VoxelBox
 box_told corners = record { low = key_told corners.lo; high = key_told corners.hi }

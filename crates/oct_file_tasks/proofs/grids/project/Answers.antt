@@ -13,7 +13,7 @@ returns-in-Ok-clause-ends g c = λ most bytes left to_end.
     (ap (λ lo. grid_reply (data_classes c.args.file.now.codes)
     (record { lo = lo; hi = c.hi.result })) c.lo.ensures
     ∙ ap (λ hi. grid_reply (data_classes c.args.file.now.codes)
-    (record { lo = c.in-Ok.corners.lo; hi = hi })) c.hi.ensures
+    (record { lo = c.in-Ok.window.lo; hi = hi })) c.hi.ensures
     ∙ ap (reply_in (grid_reply (data_classes c.args.file.now.codes)))
     (c.in-Ok.ensures ∙ ap (λ edge. box_between edge c.args.lo c.args.hi) c.res.ensures))
     (c.project_between.ensures.ends most bytes left to_end)

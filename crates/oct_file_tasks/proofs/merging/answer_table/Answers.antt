@@ -9,7 +9,7 @@ pub returns-in-Ok-clause-ends : goal.returns-in-Ok-clause-ends
 returns-in-Ok-clause-ends g c =
     reply_ends c.write_table.result
     (table_reply c.args.pair.now (box_between c.args.pair.now.first.res c.args.lo c.args.hi))
-    (table_text c.args.pair.now c.in-Ok.zone) Done _ _ _
+    (table_text c.args.pair.now c.in-Ok.window) Done _ _ _
     (inl refl) c.status_written.ensures
     (ap (λ res. table_reply c.args.pair.now (box_between res c.args.lo c.args.hi))
     (sym c.res.ensures) ∙ ap (table_reply c.args.pair.now) (sym c.in-Ok.ensures))

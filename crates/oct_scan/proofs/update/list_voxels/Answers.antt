@@ -4,15 +4,15 @@ use Rattle.oct_key.specs.Voxel.{Voxel}
 use Rattle.oct_brick.specs.declared.brick.Brick.{Brick}
 use Rattle.oct_brick.specs.Bricks.{hit_codes, freed_codes}
 use Rattle.oct_brick.specs.Voxels.{coded_voxel}
-use Rattle.oct_scan.specs.Update.{Update, BrickUpdate, listed}
+use Rattle.oct_scan.specs.Update.{UpdateSet, UpdateBricks, listed}
 use Rattle.oct_scan.proofs.update.list_voxels.Goals as goal
 
 -- these lists and this need
-abbrev update_from : List Voxel → List Voxel → ℕ → Update
+abbrev update_from : List Voxel → List Voxel → ℕ → UpdateSet
 update_from hits frees need = record { hits = hits; frees = frees; need = need }
 
 -- the lists of all bricks are those of the update
-all_listed : (u : BrickUpdate) (bs : List Brick) (i need : ℕ) (hits frees : List Voxel)
+all_listed : (u : UpdateBricks) (bs : List Brick) (i need : ℕ) (hits frees : List Voxel)
     → bs ≡ u.bricks → length bs ≤ i → hits ≡ map coded_voxel (hit_codes (take i bs))
     → frees ≡ map coded_voxel (freed_codes (take i bs)) → need ≡ u.need
     → update_from hits frees need ≡ listed u

@@ -1,6 +1,6 @@
 use Rattle.std.proofs.Common.{ap, sym, subst, arith, length, rules}
 use Rattle.oct_scan.specs.Beam.{sighting_of}
-use Rattle.oct_scan.specs.Update.{Update, IsUpdateOf, IsOutcomeOf}
+use Rattle.oct_scan.specs.Update.{UpdateSet, IsUpdateOf, IsOutcomeOf}
 use Rattle.oct_scan.proofs.Taking.{bricks_point}
 use Rattle.oct_scan.proofs.update.update_set.Goals as goal
 
@@ -17,8 +17,8 @@ returns-clause-outcome c =
 pub returns-clause-few : goal.returns-clause-few
 returns-clause-few c =
     let made = c.in_ok-update.ensures.made in
-    let hits = ap (λ (u : Update). length u.hits) c.in_ok-set.ensures.same in
-    let frees = ap (λ (u : Update). length u.frees) c.in_ok-set.ensures.same in
+    let hits = ap (λ (u : UpdateSet). length u.hits) c.in_ok-set.ensures.same in
+    let frees = ap (λ (u : UpdateSet). length u.frees) c.in_ok-set.ensures.same in
     omega (arith, hits, frees, made.hits_counted, made.frees_counted, c.in_ok-update.ensures.few)
 
 pub returns-in_err-set-clause-memory : goal.returns-in_err-set-clause-memory

@@ -11,7 +11,7 @@ use Rattle.oct_session.proofs.commands.list.Goals as goal
 pub returns-in-Ok : goal.returns-in-Ok
 returns-in-Ok c =
     let fits : SFits w32 c.odds.result.thr = search rules in
-    list_done c.args.map.now c.args.low c.args.high c.args.depth c.in-Ok.blocks
+    list_done c.args.map.now c.args.lo c.args.hi c.args.depth c.in-Ok.blocks
     (to_z w32 (of_z w32 c.odds.result.thr))
     (to_z-of_z w32 c.odds.result.thr fits
     ∙ ap (λ (o : Odds). o.thr) (c.odds.ensures ∙ ap (λ (t : Tree). t.odds) c.tree.ensures.exact))
@@ -19,6 +19,6 @@ returns-in-Ok c =
 
 pub returns-in-Err : goal.returns-in-Err
 returns-in-Err c =
-    list_refused (with_reply c.refuse.result c.refuse.new.reply) c.args.map.now c.args.low
-    c.args.high c.args.depth c.in-Err.fault c.refuse.ensures.ok c.refuse.ensures.some
+    list_refused (with_reply c.refuse.result c.refuse.new.reply) c.args.map.now c.args.lo
+    c.args.hi c.args.depth c.in-Err.fault c.refuse.ensures.ok c.refuse.ensures.some
     c.in-Err.ensures.answer

@@ -44,7 +44,7 @@ impl Model for PendingScan {
 
 /// The block of a scan, between two of its lines.
 #[derive(Drop)]
-pub enum Block {
+pub enum ScanBlock {
     /// No line of it was wrong so far.
     Scanning(PendingScan),
     /// The first of its lines that was wrong is refused for this, and the block with it.
@@ -87,26 +87,26 @@ impl PendingScan {
     }
 
     /// The block with one point more, which is on the line of this number.
-    fn with_point(mut self, number: u64, p: Point) -> Result<Block, Memory>
+    fn with_point(mut self, number: u64, p: Point) -> Result<ScanBlock, Memory>
         requires { IsInReach p }
         ensures { IfOk result (λ block. block ≡ with_point number p self) }
     {
         if self.points.as_slice().len() >= MOST_POINTS {
-            return Ok(Block::Spoilt(Refusal::TooManyPoints { line: number }));
+            return Ok(ScanBlock::Spoilt(Refusal::TooManyPoints { line: number }));
         }
         self.points.push(p)?;
-        Ok(Block::Scanning(self))
+        Ok(ScanBlock::Scanning(self))
     }
 
     /// The block with one command more, which is on the line of this number.
-    fn with_command(self, number: u64, command: Command) -> Result<Block, Memory>
+    fn with_command(self, number: u64, command: Command) -> Result<ScanBlock, Memory>
         requires { IsSmallCommand command }
         ensures { IfOk result
-            (λ block. block ≡ with_line number (Ok command) (Block.Scanning self)) }
+            (λ block. block ≡ with_line number (Ok command) (ScanBlock.Scanning self)) }
     {
         match command {
             Command::Beam(p) => self.with_point(number, p),
-            _ => Ok(Block::Scanning(self)),
+            _ => Ok(ScanBlock::Scanning(self)),
         }
     }
 
@@ -130,25 +130,25 @@ impl PendingScan {
     }
 }
 
-impl Block {
+impl ScanBlock {
     /// The block with one command more, which is on the line of this number and doesn't close it.
-    pub fn with_command(self, number: u64, command: Command) -> Result<Block, Memory>
+    pub fn with_command(self, number: u64, command: Command) -> Result<ScanBlock, Memory>
         requires { IsSmallCommand command }
         ensures { IfOk result (λ block. block ≡ with_line number (Ok command) self) }
     {
         match self {
-            Block::Spoilt(first) => Ok(Block::Spoilt(first)),
-            Block::Scanning(scan) => scan.with_command(number, command),
+            ScanBlock::Spoilt(first) => Ok(ScanBlock::Spoilt(first)),
+            ScanBlock::Scanning(scan) => scan.with_command(number, command),
         }
     }
 
     /// The block with a line more that is refused for this.
-    fn spoilt(self, refusal: Refusal) -> Block
+    fn spoilt(self, refusal: Refusal) -> ScanBlock
         ensures { (number : ℕ) → result ≡ with_line number (Err refusal) self }
     {
         match self {
-            Block::Spoilt(first) => Block::Spoilt(first),
-            Block::Scanning(_) => Block::Spoilt(refusal),
+            ScanBlock::Spoilt(first) => ScanBlock::Spoilt(first),
+            ScanBlock::Scanning(_) => ScanBlock::Spoilt(refusal),
         }
     }
 
@@ -157,8 +157,8 @@ impl Block {
         ensures { result ≡ end_refusal self.now }
     {
         match self {
-            Block::Spoilt(refusal) => *refusal,
-            Block::Scanning(scan) => Refusal::OpenScan { line: scan.line },
+            ScanBlock::Spoilt(refusal) => *refusal,
+            ScanBlock::Scanning(scan) => Refusal::OpenScan { line: scan.line },
         }
     }
 }
@@ -171,22 +171,22 @@ fn opens_block(line: &ReadLine<'_>) -> bool
 }
 
 /// Opens the block of a scan with this head.
-pub fn open_scan(alloc: Global, number: u64, head: ScanHead, block: &mut Option<Block>)
+pub fn open_scan(alloc: Global, number: u64, head: ScanHead, block: &mut Option<ScanBlock>)
     requires { IsSmallCommand (Command.Scan head) }
-    ensures { block.new ≡ Some (Block.Scanning (begun number head)) }
+    ensures { block.new ≡ Some (ScanBlock.Scanning (begun number head)) }
 {
-    *block = Some(Block::Scanning(PendingScan::new(alloc, number, head)));
+    *block = Some(ScanBlock::Scanning(PendingScan::new(alloc, number, head)));
 }
 
 /// Spoils the block that is open, or the one that a faulty line opens.
-pub fn spoil(line: &ReadLine<'_>, refusal: Refusal, block: &mut Option<Block>)
+pub fn spoil(line: &ReadLine<'_>, refusal: Refusal, block: &mut Option<ScanBlock>)
     ensures { (number : ℕ) → block.new ≡ spoilt_by number line.now refusal block.old }
 {
     match block.take() {
         Some(standing) => *block = Some(standing.spoilt(refusal)),
         None => {
             if opens_block(line) {
-                *block = Some(Block::Spoilt(refusal));
+                *block = Some(ScanBlock::Spoilt(refusal));
             }
         }
     }

@@ -1,6 +1,6 @@
 use Rattle.std.proofs.Common.{rules, ◌≡◌}
 use Rattle.oct_session.proofs.ZeroQuaternion.{not_zero}
-use Rattle.oct_session.proofs.block.PendingScan.into_scan.Goals as goal
+use Rattle.oct_session.proofs.scan_block.PendingScan.into_scan.Goals as goal
 
 pub returns-clause-zero : goal.returns-clause-zero
 returns-clause-zero c =
