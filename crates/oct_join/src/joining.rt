@@ -18,8 +18,8 @@ use oct_num::Memory;
 use std::alloc::Global;
 
 /// The file of the merged map of two files, with the resolution of the first. Its node data is the
-/// canonical one. Each record of both is read once. Memory is asked for once, for as many bytes as
-/// both have, and not at all where both have none.
+/// canonical one. Each record of both is read once. It fails only for want of memory, and only
+/// where one of them has a record.
 pub fn join(alloc: Global, rule: Rule, first: &BtFile, second: &BtFile) -> Result<BtFile, Memory>
     ensures res { IfOk result (λ file. file.res ≡ first.now.res) }
     ensures codes { IfOk result (λ file. file.codes ≡ canonical_data

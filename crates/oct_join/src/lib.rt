@@ -14,9 +14,8 @@
 //! eight children of it, and reads nothing. Where no child has a record, the eight codes are merged
 //! at once, by masks. Else a record's place is kept free, its children are appended after it, and
 //! then the record is written there; where all eight came out as one class, it is taken off again,
-//! and the block is of that class. So what was appended for a block is its canonical data. Room for
-//! as many bytes as both files have is asked for once, which [`join_codes`] promises, and none is
-//! where both have no record.
+//! and the block is of that class. So what was appended for a block is its canonical data. The list
+//! has room for no more bytes than both files have, which [`join_codes`] promises.
 //!
 //! [`tabulate`] counts how many voxels of a box have which classes in the two files, by a walk of
 //! the same kind: a block of one class in each file is counted as a whole, and the records of a

@@ -18,9 +18,9 @@
 //! let window = bounds(&tree, Sought::Occupied);     // None where no voxel is occupied
 //! ```
 //!
-//! [`Paths`] answer the same to many questions, and go down only from where the ways to this block
-//! and to an earlier one part. They keep eight ways, so that points on both sides of a border of
-//! great blocks, as the origin has it, don't part at the root.
+//! [`Paths`] answer the same to many questions. They keep eight ways, and points on both sides of a
+//! border of great blocks, as the origin has it, have different ones. A question goes down only from
+//! where the way to its block and to the last one that had the same of the eight part.
 //!
 //! [`counts`] answers how many groups there are and how many nodes aren't absent. The promise is a
 //! law over all trees: no tree of these values has fewer groups than there are blocks of depth 0 to

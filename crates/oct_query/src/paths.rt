@@ -38,7 +38,7 @@ impl Paths {
     }
 
     /// What the tree holds for the block, as [`query`](crate::query) answers it. Goes down from
-    /// where the ways part to this block and to the one that was asked for before.
+    /// where the ways part to this block and to the last one that had the same of the eight paths.
     pub fn query(&mut self, tree: &OccTree, b: Block) -> Option<i32>
         requires paths { ArePathsOf tree.now self.old }
         ensures node { (k : Voxel) → HoldsVoxel (cube_of b) k

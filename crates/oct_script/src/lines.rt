@@ -1,4 +1,5 @@
-//! The line that is being read.
+//! Lines of a script that comes in pieces: the one that is being read, and those that stand whole
+//! in a piece.
 ghost use Rattle.std.specs.Prelude.{◌≡◌, ◌+◌, ◌≤◌, List, ℕ, ◌++◌, [], ◌∷◌, length, take, nat_lt};
 ghost use Rattle.std.specs.Prelude.{not, ◌&&◌, if◌then◌else◌, true, false, nat_le, is_some, IfSome};
 ghost use Rattle.std.specs.List.{prefix_len};
