@@ -78,10 +78,6 @@ threes_few n a =
     let two = and_le_r a (a / 2) in
     omega (arith, one, two)
 
-pub threes_within : (n a : ℕ) → threes n a ≤ ones n
-unfolding threes
-threes_within n a = and_le_r (bit_and a (a / 2)) (ones n)
-
 -- what a rule makes of two codes
 abbrev pub merged_code : Rule → ℕ → ℕ → ℕ
 merged_code Greatest x y = bit_or x y - three (bit_or x y)

@@ -277,15 +277,3 @@ pub canonical_nodes : (c : Classes) (bytes : List ℕ) → bytes ≡ canonical_d
     → node_total bytes ≡ canonical_size c
 unfolding canonical_size
 canonical_nodes c bytes is = ap node_total is
-
--- the same data by other words for the two files
-pub same_merged : (rule : Rule) (first second mine theirs bytes : List ℕ) → mine ≡ first
-    → theirs ≡ second
-    → bytes ≡ canonical_data (merged_classes rule (data_classes mine) (data_classes theirs))
-    → bytes ≡ canonical_data (merged_classes rule (data_classes first) (data_classes second))
-same_merged rule first second mine theirs bytes one two is =
-    is
-    ∙ ap (λ (t : List ℕ). canonical_data (merged_classes rule (data_classes t)
-    (data_classes theirs))) one
-    ∙ ap (λ (t : List ℕ). canonical_data (merged_classes rule (data_classes first)
-    (data_classes t))) two

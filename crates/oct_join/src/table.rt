@@ -1,6 +1,6 @@
 //! How many voxels of a box have which classes in two files.
-ghost use Rattle.std.specs.Prelude.{◌≡◌, ◌+◌, ◌*◌, ◌^◌, ◌<◌, ◌≤◌, ◌∷◌, ◌++◌, ℕ, List, [], length};
-ghost use Rattle.std.specs.Prelude.{slice_index_or, if◌then◌else◌, nat_eq};
+ghost use Rattle.std.specs.Prelude.{◌≡◌, ◌+◌, ◌*◌, ◌^◌, ◌<◌, ◌≤◌, ◌++◌, ℕ, List, length};
+ghost use Rattle.std.specs.Prelude.{slice_index_or};
 ghost use Rattle.std.specs.List.{sum};
 ghost use Rattle.oct_key.specs.Block.{child_of, side};
 ghost use Rattle.oct_key.specs.Boxes.{IsBox};
@@ -11,7 +11,7 @@ ghost use Rattle.oct_merge.specs.Shared.{shared, shared_in};
 ghost use Rattle.oct_odds.specs.declared.event.Class.{Class};
 ghost use Rattle.oct_bt.specs.DataClasses.{data_classes};
 ghost use Rattle.oct_bt.specs.NodeData.{IsAccepted};
-ghost use Rattle.oct_bt.specs.Records.{Entries, IsRecord, class_code, flat};
+ghost use Rattle.oct_bt.specs.Records.{Entries, class_code};
 ghost use Rattle.oct_join.specs.Sides.{IsSide, side_text};
 ghost use Rattle.oct_join.specs.Tabled.{AreAtHand, IsTabled};
 

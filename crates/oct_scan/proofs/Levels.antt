@@ -1,9 +1,8 @@
 -- On which levels two Morton codes differ.
 use Rattle.std.proofs.Common.{◌≡◌, ◌≢◌, ℕ, zero, suc, ◌+◌, ◌*◌, ◌/◌, ◌%◌, ◌^◌, ◌<◌, ◌≤◌, ◌⊎◌, inl}
 use Rattle.std.proofs.Common.{inr, refl, sym, ◌∙◌, ap, arith, bit_xor}
-use Rattle.std.proofs.Math.Nat.{div-div-eq-div-mul, pow-succ', pow-le-pow_right}
+use Rattle.std.proofs.Math.Nat.{div-div-eq-div-mul, pow-succ'}
 use Rattle.std.proofs.lemmas.Nat.{xor_shr, pow_pos}
-use Rattle.std.proofs.lemmas.Bool.{cases_lt}
 use Rattle.std.proofs.lemmas.Nat.Bits.{bit_at_xor, bit_at-zero, bit_at-lt, same_from_bits}
 use Rattle.std.specs.Int.{bit_at}
 use Rattle.std.proofs.lemmas.Bool.Decides.{eqb_tells}
@@ -102,12 +101,4 @@ levels_few zero a b = omega (arith, levels_none a b)
 levels_few (suc n) a b = elim (top_tells a b) [
   | inl e ↦ omega (arith, levels_same_top n a b e)
   | inr e ↦ omega (arith, levels_other_top n a b e, levels_few n (a / 8) (b / 8))
-]
-
--- a power of two below 2^48 has a small exponent
-small_power : (r x : ℕ) → 2 ^ r ≤ x → x < 2 ^ 48 → r < 48
-small_power r x low high = elim (cases_lt r 48) [
-  | inl l ↦ l
-  | inr l ↦ absurd (let grows : 2 ^ 48 ≤ 2 ^ r = pow-le-pow_right (omega arith) l in
-      omega (arith, grows))
 ]
