@@ -142,16 +142,15 @@ fn join_block(
 {
     let mut left = side_codes(a, first);
     let mut other = side_codes(b, second);
-    let mut at = record_bytes(a);
-    let mut to = record_bytes(b);
+    let mut read = Part {
+        code: 0,
+        first: record_bytes(a),
+        second: record_bytes(b),
+    };
     let mut plain = merged_codes(rule, left, other);
     if are_leaves(left, other) {
         let code = close_leaves(plain, out);
-        return Part {
-            code,
-            first: at,
-            second: to,
-        };
+        return Part { code, ..read };
     }
     let start = out.len();
     push_record(0, out);
@@ -159,11 +158,11 @@ fn join_block(
     let mut unit: u32 = 1;
     for _ in 0u8..8 {
         if is_parted(left % 4, other % 4) {
-            let (_, later) = first.split_at(at);
-            let (_, others) = second.split_at(to);
+            let (_, later) = first.split_at(read.first);
+            let (_, others) = second.split_at(read.second);
             let part = join_block(depth + 1, rule, left % 4, later, other % 4, others, out);
-            at += part.first;
-            to += part.second;
+            read.first += part.first;
+            read.second += part.second;
             codes += unit * u32::from(part.code);
         } else {
             codes += unit * u32::from(plain % 4);
@@ -174,11 +173,7 @@ fn join_block(
         plain /= 4;
     }
     let code = close(codes as u16, start, out);
-    Part {
-        code,
-        first: at,
-        second: to,
-    }
+    Part { code, ..read }
 }
 
 /// Whether neither of two records has children with records of their own.

@@ -1,6 +1,7 @@
 use Rattle.std.proofs.Common.{rules, ◌≡◌, ◌+◌, ◌*◌, ◌%◌, ◌<◌, ◌≤◌, ℕ, length}
 use Rattle.std.proofs.Common.{refl, ◌∙◌, ap, arith}
 use Rattle.std.specs.Prelude.{vec_len, vec_capacity}
+use Rattle.oct_join.specs.declared.joining.Part.{Part}
 use Rattle.oct_join.specs.Merged.{merged_class}
 use Rattle.oct_join.proofs.Masks.{merged_first, merged_here, merged_step}
 use Rattle.oct_join.proofs.Walks.{joining_first, joining_next, joining_all, joined_whole}
@@ -17,12 +18,12 @@ returns-then-are_leaves-clause-joined t c = λ r s p q side_a is_a side_b is_b.
     (c.side_codes-left.ensures c.args.depth r p side_a is_a)
     (c.side_codes-other.ensures c.args.depth s q side_b is_b) none.0 none.1
     c.merged_codes-plain.ensures c.close_leaves-code.ensures.code c.close_leaves-code.ensures.text
-    c.record_bytes-at.ensures c.record_bytes-to.ensures)
+    c.record_bytes.ensures c.record_bytes-2.ensures)
 
 pub returns-then-are_leaves-clause-few : goal.returns-then-are_leaves-clause-few
 returns-then-are_leaves-clause-few t c =
-    let two = two_read _ _ _ _ c.requires.parted c.record_bytes-at.ensures
-    c.record_bytes-to.ensures in
+    let two = two_read _ _ _ _ c.requires.parted c.record_bytes.ensures
+    c.record_bytes-2.ensures in
     let few = c.close_leaves-code.ensures.few in
     omega (arith, two, few)
 
@@ -47,13 +48,13 @@ loop-init t c = record {
   joined = λ r s p q side_a is_a side_b is_b.
       joining_first (merged_class c.args.rule) c.args.depth c.args.a c.args.b c.args.first.now
       c.args.second.now r s p q c.args.out.now.items _ _ _ _ _ side_a is_a side_b is_b
-      c.record_bytes-at.ensures c.record_bytes-to.ensures
+      c.record_bytes.ensures c.record_bytes-2.ensures
       (c.side_codes-left.ensures c.args.depth r p side_a is_a)
       (c.side_codes-other.ensures c.args.depth s q side_b is_b) c.push_record.ensures.text;
   merged = merged_first _ _ _ _ c.merged_codes-plain.ensures;
   few =
-      (let two = two_read _ _ _ _ c.requires.parted c.record_bytes-at.ensures
-      c.record_bytes-to.ensures in
+      (let two = two_read _ _ _ _ c.requires.parted c.record_bytes.ensures
+      c.record_bytes-2.ensures in
       let long = c.push_record.ensures.long in
       omega (arith, two, long));
   room = c.push_record.ensures.room;
@@ -87,8 +88,8 @@ join_block-part-requires t c =
     x.other_low in
     let fits = fits_text _ _ c.args.first.now p x.within is_a in
     let fits' = fits_text _ _ c.args.second.now q x.other_within is_b in
-    let within : c.loop.at ≤ length c.args.first.now = omega (arith, fits) in
-    let within' : c.loop.to ≤ length c.args.second.now = omega (arith, fits') in (
+    let within : c.loop.read.first ≤ length c.args.first.now = omega (arith, fits) in
+    let within' : c.loop.read.second ≤ length c.args.second.now = omega (arith, fits') in (
       search rules,
       (
         omega (arith, low),
@@ -107,8 +108,8 @@ join_block-part-requires t c =
       ),
     )
 
-pub overflow_add-at : goal.overflow_add-at
-overflow_add-at t c =
+pub overflow_add-read : goal.overflow_add-read
+overflow_add-read t c =
     let (r, p, side_a, is_a) = c.requires.first in
     let (s, q, side_b, is_b) = c.requires.second in
     let x = joining_next _ _ _ _ _ _ _ _ _ _ _ _ _ _ _ _ _ _ _ c.loop-test.true
@@ -118,12 +119,12 @@ overflow_add-at t c =
     let fits = fits_text _ _ c.args.first.now p x.within is_a in
     let took = j.first in
     let most : length c.args.first.now < 18446744073709551616 = search rules in
-    let sum : c.loop.at + c.join_block-part.result.first < 18446744073709551616 =
+    let sum : c.loop.read.first + c.join_block-part.result.first < 18446744073709551616 =
     omega (arith, fits, took, most) in
     search rules
 
-pub overflow_add-to : goal.overflow_add-to
-overflow_add-to t c =
+pub overflow_add-read-then-is_parted : goal.overflow_add-read-then-is_parted
+overflow_add-read-then-is_parted t c =
     let (r, p, side_a, is_a) = c.requires.first in
     let (s, q, side_b, is_b) = c.requires.second in
     let x = joining_next _ _ _ _ _ _ _ _ _ _ _ _ _ _ _ _ _ _ _ c.loop-test.true
@@ -133,7 +134,7 @@ overflow_add-to t c =
     let fits = fits_text _ _ c.args.second.now q x.other_within is_b in
     let took = j.second in
     let most : length c.args.second.now < 18446744073709551616 = search rules in
-    let sum : c.loop.to + c.join_block-part.result.second < 18446744073709551616 =
+    let sum : c.loop.read.second + c.join_block-part.result.second < 18446744073709551616 =
     omega (arith, fits, took, most) in
     search rules
 
@@ -210,7 +211,8 @@ loop-preserved t c = record {
       elim c.if-is_parted.branch [
         | then-is_parted w ↦
             same_joining _ _ _ _ _ _ _ _ _ _ _ _ _ _ _ _ _ _ _ _ _ _ _
-            (ap (λ v. v.items) w.out-is) w.at-is w.to-is
+            (ap (λ v. v.items) w.out-is) (ap (λ (r : Part). r.first) w.read-is)
+            (ap (λ (r : Part). r.second) w.read-is)
             (w.codes-is ∙ ap (λ (n : ℕ). c.loop.codes + c.loop.unit * n) w.from.ensures)
             (x.step _ w.join_block-part.result
             (w.join_block-part.ensures.joined x.r' x.s' x.p' x.q' x.side
@@ -219,7 +221,8 @@ loop-preserved t c = record {
         | else-is_parted w ↦
             (let (no_a, no_b) = not_parted _ _ _ c.is_parted.ensures w.if-is_parted.false in
             same_joining _ _ _ _ _ _ _ _ _ _ _ _ _ _ _ _ _ _ _ _ _ _ _
-            (ap (λ v. v.items) w.out-is) w.at-is w.to-is
+            (ap (λ v. v.items) w.out-is) (ap (λ (r : Part). r.first) w.read-is)
+            (ap (λ (r : Part). r.second) w.read-is)
             (w.codes-is ∙ ap (λ (n : ℕ). c.loop.codes + c.loop.unit * n)
             w.from-else-is_parted.ensures)
             (leaf_next _ _ _ _ _ _ _ _ _ _ _ _ _ _ _ _ _ _ _ (c.loop.plain % 4) x no_a no_b
@@ -231,14 +234,14 @@ loop-preserved t c = record {
         (let before = c.loop.invariant.few in
         let more = w.join_block-part.ensures.few in
         let long = ap vec_len w.out-is in
-        let at = w.at-is in
-        let to = w.to-is in
+        let at = ap (λ (r : Part). r.first) w.read-is in
+        let to = ap (λ (r : Part). r.second) w.read-is in
         omega (arith, before, more, long, at, to))
     | else-is_parted w ↦
         (let before = c.loop.invariant.few in
         let long = ap vec_len w.out-is in
-        let at = w.at-is in
-        let to = w.to-is in
+        let at = ap (λ (r : Part). r.first) w.read-is in
+        let to = ap (λ (r : Part). r.second) w.read-is in
         omega (arith, before, long, at, to))
   ];
   room = elim c.if-is_parted.branch [
@@ -272,7 +275,7 @@ returns-clause-joined t c = λ r s p q side_a is_a side_b is_b.
     (c.loop.invariant.joined r s p q side_a is_a side_b is_b) in
     let start : length c.args.out.now.items ≡ c.len-start.result = search rules in
     joined_whole (merged_class c.args.rule) c.args.a c.args.b r s c.args.out.now.items
-    c.loop.out.items c.close-code.new.out.items c.loop.at c.loop.to c.loop.codes _ all
+    c.loop.out.items c.close-code.new.out.items c.loop.read.first c.loop.read.second c.loop.codes _ all
     c.close-code.ensures.code refl refl
     (λ later is. c.close-code.ensures.text c.args.out.now.items later is start))
 
