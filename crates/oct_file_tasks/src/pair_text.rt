@@ -16,8 +16,8 @@ use oct_odds::Class;
 use oct_script::{Refusal, Reply, push_reply};
 use std::alloc::Global;
 
-/// Appends the line of a refusal.
-fn push_refusal(text: &mut Vec<u8>, why: Refusal) -> Result<(), Memory>
+/// Appends the line of a refusal that a script's line has too.
+pub(crate) fn push_refusal(text: &mut Vec<u8>, why: Refusal) -> Result<(), Memory>
     ensures { OnOk result (text.new.items ≡ text.old.items ++ line_of why) }
 {
     push_reply(text, &Reply::Refused(why))

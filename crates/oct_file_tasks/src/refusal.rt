@@ -1,10 +1,12 @@
 //! Why what is asked of a file is refused.
-ghost use Rattle.std.specs.Prelude.{◌≡◌, ◌++◌, decimal, IfOk, OnOk};
-ghost use Rattle.oct_file_tasks.specs.Refusals.{refusal_text, refused, box_between};
+ghost use Rattle.std.specs.Prelude.{◌≡◌, ◌++◌, codes, decimal, IfOk, OnOk};
+ghost use Rattle.oct_file_tasks.specs.Refusals.{refused, box_between};
 
+use crate::pair_text::push_refusal;
 use itoa::Buffer;
 use oct_key::{Point, Res, Window};
 use oct_num::Memory;
+use oct_script as script;
 use std::alloc::Global;
 
 /// Why what is asked of a file is refused.
@@ -22,27 +24,40 @@ pub enum Refusal {
     TooManyBoxes { count: u64 },
 }
 
-/// Appends a field that is a number, after its name and what stands before that.
-fn push_count(line: &mut Vec<u8>, name: &[u8], count: u64) -> Result<(), Memory>
-    ensures { OnOk result (line.new.items ≡ line.old.items ++ (name.now ++ decimal count)) }
+/// Appends the line of a refusal that no line of a script has, by its number and its name.
+fn push_named(line: &mut Vec<u8>, name: &[u8]) -> Result<(), Memory>
+    ensures { OnOk result
+        (line.new.items ≡ line.old.items ++ (codes "refused " ++ name.now ++ codes "\n")) }
 {
+    line.extend_from_slice(b"refused ")?;
     line.extend_from_slice(name)?;
-    line.extend_from_slice(Buffer::new().format(count).as_bytes())?;
+    line.extend_from_slice(b"\n")?;
     Ok(())
 }
 
-/// Appends a refusal by its number, its name and its fields.
-fn push_refusal(line: &mut Vec<u8>, refusal: Refusal) -> Result<(), Memory>
-    ensures { OnOk result (line.new.items ≡ line.old.items ++ refusal_text refusal) }
+/// The same with a number behind them.
+fn push_counted(line: &mut Vec<u8>, name: &[u8], count: u64) -> Result<(), Memory>
+    ensures { OnOk result (line.new.items
+        ≡ line.old.items ++ (codes "refused " ++ (name.now ++ decimal count) ++ codes "\n")) }
+{
+    line.extend_from_slice(b"refused ")?;
+    line.extend_from_slice(name)?;
+    line.extend_from_slice(Buffer::new().format(count).as_bytes())?;
+    line.extend_from_slice(b"\n")?;
+    Ok(())
+}
+
+/// Appends the line of a refusal: that of a script, where a script's line is refused so too.
+fn push_line(line: &mut Vec<u8>, refusal: Refusal) -> Result<(), Memory>
+    ensures { OnOk result (line.new.items ≡ line.old.items ++ (refused refusal).text) }
 {
     match refusal {
-        Refusal::Outside { point } => push_count(line, b"24 Outside point ", u64::from(point))?,
-        Refusal::BadBox => line.extend_from_slice(b"26 BadBox")?,
-        Refusal::TooManyFrontiers => line.extend_from_slice(b"37 TooManyFrontiers")?,
-        Refusal::WideGrid { count } => push_count(line, b"38 WideGrid count ", count)?,
-        Refusal::TooManyBoxes { count } => push_count(line, b"39 TooManyBoxes count ", count)?,
+        Refusal::Outside { point } => push_refusal(line, script::Refusal::Outside { point }),
+        Refusal::BadBox => push_refusal(line, script::Refusal::BadBox),
+        Refusal::TooManyFrontiers => push_named(line, b"37 TooManyFrontiers"),
+        Refusal::WideGrid { count } => push_counted(line, b"38 WideGrid count ", count),
+        Refusal::TooManyBoxes { count } => push_counted(line, b"39 TooManyBoxes count ", count),
     }
-    Ok(())
 }
 
 /// The line of a refusal.
@@ -50,9 +65,7 @@ pub fn line_of(alloc: Global, refusal: Refusal) -> Result<Vec<u8>, Memory>
     ensures { IfOk result (λ line. line.items ≡ (refused refusal).text) }
 {
     let mut line = Vec::new(alloc);
-    line.extend_from_slice(b"refused ")?;
-    push_refusal(&mut line, refusal)?;
-    line.extend_from_slice(b"\n")?;
+    push_line(&mut line, refusal)?;
     Ok(line)
 }
 
