@@ -3,6 +3,7 @@ use Rattle.std.specs.Prelude.{◌≡◌, ◌≤◌, ◌++◌, ℕ, nat_lt, List,
 use Rattle.std.specs.Prelude.{Err, if◌then◌else◌}
 use Rattle.octofix.specs.Asked.{IsReached}
 use Rattle.octofix.specs.Codes.{refusal_code}
+use Rattle.octofix.specs.Numbers as code
 use Rattle.octofix.specs.declared.refusal.Refusal.{Refusal}
 
 -- the buffer with these elements at its front, and all behind them as it was
@@ -16,7 +17,7 @@ filled buffer items =
 
 -- the code of putting so many elements into a buffer of this length
 abbrev pub room_code : ℕ → ℕ → ℕ
-room_code room count = if nat_lt room count then 46 else 0
+room_code room count = if nat_lt room count then code.small_buffer else code.done
 
 -- the code of a list for a buffer of this length
 abbrev pub list_code : {A : Type 0} → ℕ → Result (List A) Refusal → ℕ

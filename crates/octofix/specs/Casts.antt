@@ -5,6 +5,7 @@ use Rattle.oct_cast.specs.declared.outcome.Cast.TheVariants.{Hit, Unknown, Clear
 use Rattle.oct_map.specs.Casts.{cast_answer}
 use Rattle.oct_map.specs.Map.{Map, ground_of, values_of}
 use Rattle.octofix.specs.Codes.{of_map, refusal_code}
+use Rattle.octofix.specs.Numbers as code
 use Rattle.octofix.specs.Points.{key_told, point_of}
 use Rattle.octofix.specs.declared.refusal.Refusal.{Refusal}
 use Rattle.octofix.specs.declared.types.CastStop.{CastStop}
@@ -19,9 +20,9 @@ cast_between o e ignore m =
 
 -- its code
 abbrev pub cast_code : Result Cast Refusal → ℕ
-cast_code (Ok (Hit k)) = 0
-cast_code (Ok (Unknown k)) = 42
-cast_code (Ok Clear) = 43
+cast_code (Ok (Hit k)) = code.done
+cast_code (Ok (Unknown k)) = code.unknown
+cast_code (Ok Clear) = code.clear
 cast_code (Err refusal) = refusal_code refusal
 
 -- what is left of a key: it is written only where a voxel stops the way
@@ -31,6 +32,7 @@ key_left old (Ok (Unknown k)) = key_told k
 key_left old (Ok Clear) = old
 key_left old (Err refusal) = old
 
+-- the key in the answer to a segment that no voxel stops
 abbrev pub no_key : VoxelKey
 no_key = record { x = 0; y = 0; z = 0 }
 

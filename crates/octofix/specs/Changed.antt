@@ -5,6 +5,7 @@ use Rattle.oct_map.specs.declared.fault.MapFault.{MapFault}
 use Rattle.octofix.specs.Codes.{answer_code, answer_details, answer_value, of_map}
 use Rattle.octofix.specs.HandleLends.{open_with}
 use Rattle.octofix.specs.Handles.{Handle}
+use Rattle.octofix.specs.Numbers as code
 use Rattle.octofix.specs.declared.refusal.Refusal.{Refusal}
 use Rattle.octofix.specs.declared.refusal.Refusal.TheVariants as refusal
 use Rattle.octofix.specs.declared.types.Details.{Details}
@@ -15,6 +16,7 @@ abbrev pub LeftFrom : Option Map → Handle → Handle → (Map → Map → Type
 LeftFrom None h n R = n ≡ h
 LeftFrom (Some m) h n R = (u : Map) × (n ≡ open_with h u) × R m u
 
+-- the same by the two handles
 abbrev pub Left : Handle → Handle → (Map → Map → Type 0) → Type 0
 Left h = LeftFrom h.slot.map h
 
@@ -23,13 +25,14 @@ abbrev pub changed_from : Option Map → (Map → Map) → Handle → Handle
 changed_from None f h = h
 changed_from (Some m) f h = open_with h (f m)
 
+-- the handle after a call that makes this of each map
 abbrev pub changed : (Map → Map) → Handle → Handle
 changed f h = changed_from h.slot.map f h
 
 -- the code of a call that is done wherever there is a map
 abbrev pub open_code : Option Map → ℕ
-open_code None = 40
-open_code (Some m) = 0
+open_code None = code.closed
+open_code (Some m) = code.done
 
 -- the answer is that there is no map, and the handle stays, or what the call makes of the map is
 -- so, with this answer
@@ -38,6 +41,7 @@ abbrev pub DoneFrom : {A : Type 0} → Option Map → Handle → Handle
 DoneFrom None h n R answer = (n ≡ h) × (answer ≡ Err refusal.Closed)
 DoneFrom (Some m) h n R answer = (u : Map) × (n ≡ open_with h u) × R m u answer
 
+-- the same by the two handles
 abbrev pub IsDone : {A : Type 0} → Handle → Handle
     → (Map → Map → Result A Refusal → Type 0) → Result A Refusal → Type 0
 IsDone h = DoneFrom h.slot.map h

@@ -8,6 +8,7 @@ use Rattle.oct_map.specs.declared.fault.MapFault.{MapFault}
 use Rattle.oct_map.specs.declared.fault.MapFault.TheVariants as fault
 use Rattle.oct_odds.specs.declared.model.OddsField.{OddsField}
 use Rattle.oct_odds.specs.declared.model.OddsField.TheVariants as field
+use Rattle.octofix.specs.Numbers as code
 use Rattle.octofix.specs.declared.refusal.Refusal.{Refusal}
 use Rattle.octofix.specs.declared.refusal.Refusal.TheVariants as refusal
 use Rattle.octofix.specs.declared.types.Details.{Details}
@@ -30,7 +31,7 @@ map_code fault.BadBox = 26
 map_code (fault.WideWhileTracked count) = 27
 map_code fault.NotTracked = 28
 map_code (fault.OtherResolution file map) = 35
-map_code fault.Memory = 45
+map_code fault.Memory = code.memory
 
 -- what faults of a file answer
 abbrev pub file_code : BtFault → ℕ
@@ -44,28 +45,30 @@ file_code (bt.TooDeep at) = 16
 file_code (bt.Truncated at) = 17
 file_code (bt.TrailingBytes at) = 18
 file_code (bt.SizeMismatch said found) = 19
-file_code bt.Memory = 45
+file_code bt.Memory = code.memory
 
 -- what each refusal answers
 abbrev pub refusal_code : Refusal → ℕ
-refusal_code refusal.Closed = 40
-refusal_code refusal.Open = 41
-refusal_code (refusal.BadArgument index) = 47
+refusal_code refusal.Closed = code.closed
+refusal_code refusal.Open = code.open_already
+refusal_code (refusal.BadArgument index) = code.bad_argument
 refusal_code refusal.BadResolution = 3
 refusal_code (refusal.BadModel which) = 4
 refusal_code refusal.ZeroQuaternion = 5
 refusal_code (refusal.Map fault) = map_code fault
 refusal_code (refusal.File fault) = file_code fault
 
+-- two numbers that a refusal names
 abbrev pub details : ℕ → ℕ → Details
 details first second = record { first = first; second = second }
 
+-- what a refusal names that names nothing
 abbrev pub no_details : Details
 no_details = details 0 0
 
 -- the number, or the greatest one of 64 bits where it is greater
-abbrev pub few : ℕ → ℕ
-few n = min n (2 ^ 64 - 1)
+abbrev pub in_64_bits : ℕ → ℕ
+in_64_bits n = min n (2 ^ 64 - 1)
 
 -- what refusals of the map name
 abbrev pub map_details : MapFault → Details
@@ -75,7 +78,7 @@ map_details (fault.TooManyBlocks count) = details count 0
 map_details (fault.Truncated at) = details at 0
 map_details (fault.TrailingBytes at) = details at 0
 map_details (fault.BadSnapshot at) = details at 0
-map_details (fault.Full groups need) = details groups (few need)
+map_details (fault.Full groups need) = details groups (in_64_bits need)
 map_details (fault.Outside point) = details point 0
 map_details (fault.WideWhileTracked count) = details count 0
 map_details (fault.OtherResolution file map) = details (unsigned_abs file) (unsigned_abs map)
@@ -87,12 +90,14 @@ map_details fault.BadBox = no_details
 map_details fault.NotTracked = no_details
 map_details fault.Memory = no_details
 
+-- the number of a line of a header
 abbrev pub word_number : HeaderWord → ℕ
 word_number word.Id = 0
 word_number word.Res = 1
 word_number word.Size = 2
 word_number word.Data = 3
 
+-- the number of one of the five log-odds
 abbrev pub field_number : OddsField → ℕ
 field_number field.Hit = 0
 field_number field.Miss = 1
@@ -132,12 +137,12 @@ refusal_at index other = other
 
 -- the code of an answer: 0 exactly where it is no refusal
 abbrev pub answer_code : {A : Type 0} → Result A Refusal → ℕ
-answer_code (Ok done) = 0
+answer_code (Ok value) = code.done
 answer_code (Err refusal) = refusal_code refusal
 
 -- what it names
 abbrev pub answer_details : {A : Type 0} → Result A Refusal → Details
-answer_details (Ok done) = no_details
+answer_details (Ok value) = no_details
 answer_details (Err refusal) = refusal_details refusal
 
 -- what stands in the place for a value afterwards

@@ -26,6 +26,7 @@ abbrev pub limited : Point → Point → Map → Map
 limited lo hi m = limited_by (limit_answer (ground_of m) lo hi)
     (corner_box (key_at m.tree.res lo) (key_at m.tree.res hi)) m
 
+-- the map whose scans no box restricts
 abbrev pub unlimited : Map → Map
 unlimited m = record m { update_box = None }
 
@@ -33,6 +34,7 @@ unlimited m = record m { update_box = None }
 abbrev pub tracked : Map → Map
 tracked m = record m { mark = Some (record { notes = []; spare = 0 }) }
 
+-- the map without a mark
 abbrev pub untracked : Map → Map
 untracked m = record m { mark = None }
 

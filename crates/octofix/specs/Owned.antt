@@ -9,6 +9,7 @@ use Rattle.std.specs.Global.{Global}
 use Rattle.std_heap.specs.contracts.GlobalAllocator.TheImpl.{ghosts}
 use Rattle.oct_map.specs.contracts.map.OccMap.{the_row}
 
+-- the map behind the pointer, with the right to give its memory back, or nothing
 abbrev pub slot_owns : Global → Ptr → Option the_row.Denot → Fml
 slot_owns alloc at (Some map) = box_owns (ghosts.dealloc_token alloc) the_row at map
 slot_owns alloc at None = ftrue

@@ -3,6 +3,7 @@ use Rattle.std.specs.Prelude.{ℕ, ℤ, pos, List, map, Option, Some, None, Resu
 use Rattle.oct_map.specs.Answers.{get_answer}
 use Rattle.oct_map.specs.Map.{Map, ground_of, values_of}
 use Rattle.octofix.specs.Codes.{of_map, refusal_code}
+use Rattle.octofix.specs.Numbers as code
 use Rattle.octofix.specs.Points.{point_of}
 use Rattle.octofix.specs.declared.refusal.Refusal.{Refusal}
 use Rattle.octofix.specs.declared.types.PointAnswer.{PointAnswer}
@@ -14,8 +15,8 @@ value_at depth p m = of_map (get_answer (ground_of m) m.is_stale (values_of m) (
 
 -- its code
 abbrev pub value_code : Result (Option ℤ) Refusal → ℕ
-value_code (Ok (Some value)) = 0
-value_code (Ok None) = 42
+value_code (Ok (Some value)) = code.done
+value_code (Ok None) = code.unknown
 value_code (Err refusal) = refusal_code refusal
 
 -- what is left of a value: it is written only where one is known

@@ -72,6 +72,7 @@ IsScanOf (Ok s) points lazy m n answer =
     ⊎ ((done : Result ScanDone MapFault) × IsMapScan s lazy m n done
     × (answer ≡ counted_told (of_map done)))
 
+-- the same by what C passes
 abbrev pub IsScan : PoseNm → List PointNm → ScanOptions → Map → Map → Result Counted Refusal
     → Type 0
 IsScan pose points options =

@@ -13,13 +13,15 @@ use Rattle.octofix.specs.declared.types.LogOdds.{LogOdds}
 use Rattle.octofix.specs.declared.types.MapLimits.{MapLimits}
 use Rattle.octofix.specs.declared.types.Settings.{Settings}
 
--- log-odds as C passes them, and as it reads them
+-- log-odds as C passes them
 abbrev pub odds_from : LogOdds → Odds
 odds_from o = odds o.hit o.miss o.min o.max o.thr
 
+-- log-odds as C reads them
 abbrev pub odds_told : Odds → LogOdds
 odds_told o = record { hit = o.hit; miss = o.miss; min = o.min; max = o.max; thr = o.thr }
 
+-- what a map goes by, and how it stands
 abbrev pub settings_in : Map → Settings
 settings_in m = record {
   res = pos m.tree.res;

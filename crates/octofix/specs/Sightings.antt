@@ -14,10 +14,11 @@ use Rattle.octofix.specs.declared.types.PointNm.{PointNm}
 use Rattle.octofix.specs.declared.types.PoseNm.{PoseNm}
 use Rattle.octofix.specs.declared.types.ScanOptions.{ScanOptions}
 
--- a coordinate that isn't too far away, and a point that isn't
+-- a coordinate that isn't too far away, or a range that isn't too long
 abbrev pub is_near : ℤ → Bool
 is_near c = nat_lt (unsigned_abs c) (10 ^ 16)
 
+-- a point none of whose coordinates is too far away
 abbrev pub is_in_reach : Point → Bool
 is_in_reach p = is_near p.x && (is_near p.y && is_near p.z)
 
@@ -31,6 +32,7 @@ abbrev pub points_by : Option ℕ → List PointNm → Result (List Point) Refus
 points_by None points = Ok (map point_of points)
 points_by (Some index) points = Err (refusal.BadArgument index)
 
+-- the points as C passes them, or the first that is too far away
 abbrev pub points_from : List PointNm → Result (List Point) Refusal
 points_from points = points_by (first_far 0 points) points
 
@@ -44,7 +46,7 @@ range_from r =
     if int_lt r (pos 0) then Ok None
     else if is_near r then Ok (Some r) else Err (refusal.BadArgument 0)
 
--- the quaternion turns
+-- all four numbers of the quaternion are 0: it stands for no turn
 abbrev pub is_zero : PoseNm → Bool
 is_zero pose =
     (nat_eq (unsigned_abs pose.w) 0 && nat_eq (unsigned_abs pose.x) 0)

@@ -4,10 +4,11 @@
 //! a struct of a pointer and a flag, of which all zeros are a handle without a map. A call takes a
 //! pointer to it and plain numbers, and answers a code: 0 where all was done, else the number of
 //! the refusal, as a session's replies have it, or one of the library's own from 40 on
-//! ([`refusal`]). Lengths are whole nanometres, log-odds whole thousandths.
+//! ([`refusal`]). A slice is a pointer and a count in C. Lengths are whole nanometres, log-odds
+//! whole thousandths.
 //!
 //! ```text
-//! octofix map = {0};
+//! octofix_map map = {0};
 //! octofix_details why;
 //! octofix_open(&map, 100000000, &odds, &limits, &why);          // voxels of 0.1 m
 //! octofix_edit(&map, &point, OCTOFIX_ADD, 850, false, &why);

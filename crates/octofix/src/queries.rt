@@ -62,7 +62,8 @@ fn get_all(map: &OccMap, points: &[PointNm], depth: u32, answers: &mut [PointAns
     DONE
 }
 
-/// The largest known value among the voxels of the block of that depth around the point.
+/// The largest known value among the voxels of the block of that depth around the point. The value
+/// is written only where one is known; unknown space has a code of its own (`UNKNOWN`).
 #[unsafe(no_mangle)]
 pub extern "C" fn octofix_get(
     map: &mut Octofix,

@@ -1,6 +1,6 @@
 //! Why a call is refused: its code, and the two numbers that it names.
 ghost use Rattle.std.specs.Prelude.{◌≡◌, ◌≢◌, ◌≤◌};
-ghost use Rattle.octofix.specs.Codes.{few, field_number};
+ghost use Rattle.octofix.specs.Codes.{field_number, in_64_bits};
 ghost use Rattle.octofix.specs.Codes.{file_code, file_details, map_code, map_details};
 ghost use Rattle.octofix.specs.Codes.{refusal_at, refusal_code, refusal_details, word_number};
 ghost use Rattle.octofix.specs.Codes.{details, no_details};
@@ -218,7 +218,7 @@ fn map_details(fault: MapFault) -> Details
         MapFault::Truncated { at } => Details::one(at),
         MapFault::TrailingBytes { at } => Details::one(at),
         MapFault::BadSnapshot { at } => Details::one(at),
-        MapFault::Full { groups, need } => Details::two(groups, few(need)),
+        MapFault::Full { groups, need } => Details::two(groups, in_64_bits(need)),
         MapFault::Outside { point } => Details::one(u64::from(point)),
         MapFault::WideWhileTracked { count } => Details::one(count),
         MapFault::OtherResolution { file, session } => {
@@ -229,8 +229,8 @@ fn map_details(fault: MapFault) -> Details
 }
 
 /// The number, or the greatest one of 64 bits where it is greater.
-fn few(number: u128) -> u64
-    ensures { result ≡ few number }
+fn in_64_bits(number: u128) -> u64
+    ensures { result ≡ in_64_bits number }
 {
     u64::try_from(number).unwrap_or(u64::MAX)
 }
