@@ -8,6 +8,7 @@ use Rattle.oct_map.specs.Map.{Map, ground_of}
 use Rattle.oct_map.specs.Outcome.{corner_box}
 use Rattle.oct_map.specs.declared.fault.MapFault.{MapFault}
 use Rattle.octofix.specs.Codes.{of_map, refusal_code}
+use Rattle.octofix.specs.Numbers as code
 use Rattle.octofix.specs.Points.{box_told}
 use Rattle.octofix.specs.declared.refusal.Refusal.{Refusal}
 use Rattle.octofix.specs.declared.types.VoxelBox.{VoxelBox}
@@ -40,8 +41,8 @@ untracked m = record m { mark = None }
 
 -- the code of a question for the box
 abbrev pub window_code : Result (Option Window) Refusal → ℕ
-window_code (Ok (Some corners)) = 0
-window_code (Ok None) = 44
+window_code (Ok (Some window)) = code.done
+window_code (Ok None) = code.none
 window_code (Err refusal) = refusal_code refusal
 
 -- what stands in the place for the box afterwards
