@@ -33,7 +33,7 @@ STRUCTS = {"PointNm": "point", "VoxelKey": "key", "VoxelBox": "box", "SegmentNm"
 HANDLES = {"Octofix": "octofix_map", "Shared": "const octofix_map"}
 # A clause that says so of a handle that a call takes as one that it may change: it is the same
 # afterwards, with its map and the place where that stands.
-SAME = re.compile(r"\{\s*map\.new\s*≡\s*map\.old\s*\}")
+SAME = re.compile(r"\{\s*handle\.new\s*≡\s*handle\.old\s*\}")
 
 
 class Differs(Exception):
@@ -156,7 +156,8 @@ def check_names(mine, theirs):
             # the length of a row has a name of its own in C
             if one is None and came not in ("count", "room", "length"):
                 raise Differs(f"{name} takes the length of a row, and not {came}")
-            if one is not None and {came, one} not in ({one}, {"length", "len"}):
+            # a handle is called a map in C
+            if one is not None and {came, one} not in ({one}, {"length", "len"}, {"map", "handle"}):
                 raise Differs(f"{name} takes {one}, and not {came}")
 
 

@@ -47,11 +47,11 @@ fn bounds(map: &OccMap, sought: u32, corners: &mut VoxelBox) -> u32
 
 /// The least box that holds all known voxels (0), or all occupied ones (1).
 #[unsafe(no_mangle)]
-pub extern "C" fn octofix_bounds(map: &mut Octofix, sought: u32, corners: &mut VoxelBox) -> u32
-    ensures same { map.new ≡ map.old }
-    ensures told { IsBoundsTold map.old.slot.map sought result corners.old corners.new }
+pub extern "C" fn octofix_bounds(handle: &mut Octofix, sought: u32, corners: &mut VoxelBox) -> u32
+    ensures same { handle.new ≡ handle.old }
+    ensures told { IsBoundsTold handle.old.slot.map sought result corners.old corners.new }
 {
-    match map.map_mut() {
+    match handle.map_mut() {
         Ok(map) => bounds(map, sought, corners),
         Err(refusal) => refusal.code(),
     }

@@ -104,23 +104,24 @@ fn cast_all(
 /// unknown one where these aren't ignored.
 #[unsafe(no_mangle)]
 pub extern "C" fn octofix_cast(
-    map: &mut Octofix,
+    handle: &mut Octofix,
     origin: &PointNm,
     end: &PointNm,
     ignore_unknown: bool,
     key: &mut VoxelKey,
     details: &mut Details,
 ) -> u32
-    ensures same { map.new ≡ map.old }
+    ensures same { handle.new ≡ handle.old }
     ensures code { result
-        ≡ cast_code (asked map.old.slot.map (cast_between origin.now end.now ignore_unknown)) }
+        ≡ cast_code (asked handle.old.slot.map (cast_between origin.now end.now ignore_unknown)) }
     ensures key { key.new
         ≡ key_left key.old
-        (asked map.old.slot.map (cast_between origin.now end.now ignore_unknown)) }
+        (asked handle.old.slot.map (cast_between origin.now end.now ignore_unknown)) }
     ensures details { details.new
-        ≡ answer_details (asked map.old.slot.map (cast_between origin.now end.now ignore_unknown)) }
+        ≡ answer_details
+        (asked handle.old.slot.map (cast_between origin.now end.now ignore_unknown)) }
 {
-    match map.map_mut() {
+    match handle.map_mut() {
         Ok(map) => cast(map, origin, end, ignore_unknown, key, details),
         Err(refusal) => refusal.tell(details),
     }
@@ -129,19 +130,20 @@ pub extern "C" fn octofix_cast(
 /// The same of many segments, each with a code of its own.
 #[unsafe(no_mangle)]
 pub extern "C" fn octofix_cast_all(
-    map: &mut Octofix,
+    handle: &mut Octofix,
     segments: &[SegmentNm],
     ignore_unknown: bool,
     stops: &mut [CastStop],
 ) -> u32
-    ensures same { map.new ≡ map.old }
+    ensures same { handle.new ≡ handle.old }
     ensures code { result
         ≡ list_code (length stops.old)
-        (asked map.old.slot.map (stops_along segments.now ignore_unknown)) }
+        (asked handle.old.slot.map (stops_along segments.now ignore_unknown)) }
     ensures stops { stops.new
-        ≡ list_left stops.old (asked map.old.slot.map (stops_along segments.now ignore_unknown)) }
+        ≡ list_left stops.old
+        (asked handle.old.slot.map (stops_along segments.now ignore_unknown)) }
 {
-    match map.map_mut() {
+    match handle.map_mut() {
         Ok(map) => cast_all(map, segments, ignore_unknown, stops),
         Err(refusal) => refusal.code(),
     }

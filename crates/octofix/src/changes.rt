@@ -64,15 +64,15 @@ fn changes(map: &OccMap, changes: &mut [ChangedVoxel], count: &mut usize) -> u32
 /// The voxels whose class isn't the one that they had at the mark, by ascending x, y and z.
 #[unsafe(no_mangle)]
 pub extern "C" fn octofix_changes(
-    map: &mut Octofix,
+    handle: &mut Octofix,
     changed: &mut [ChangedVoxel],
     count: &mut usize,
 ) -> u32
-    ensures same { map.new ≡ map.old }
-    ensures told { IsListTold (asked map.old.slot.map changes_in)
-        (HasNotes map.old.slot.map) result changed.old changed.new count.old count.new }
+    ensures same { handle.new ≡ handle.old }
+    ensures told { IsListTold (asked handle.old.slot.map changes_in)
+        (HasNotes handle.old.slot.map) result changed.old changed.new count.old count.new }
 {
-    match map.map_mut() {
+    match handle.map_mut() {
         Ok(map) => changes(map, changed, count),
         Err(refusal) => refusal.code(),
     }

@@ -70,14 +70,14 @@ fn edit_open(handle: &mut Octofix, edit: PointEdit, lazy: bool) -> Result<(), Re
 /// map, where the map is full, and where memory runs out.
 #[unsafe(no_mangle)]
 pub extern "C" fn octofix_edit(
-    map: &mut Octofix,
+    handle: &mut Octofix,
     point: &PointNm,
     event: u32,
     number: i32,
     lazy: bool,
     details: &mut Details,
 ) -> u32
-    ensures { IsTold map.old map.new
+    ensures { IsTold handle.old handle.new
         (IsPointEdit (record { point = point.now; event = event; number = number }) lazy)
         result details.new }
 {
@@ -86,7 +86,7 @@ pub extern "C" fn octofix_edit(
         event,
         number,
     };
-    let answer = edit_open(map, edit, lazy);
+    let answer = edit_open(handle, edit, lazy);
     *details = details_of(&answer);
     code_of(&answer)
 }
@@ -115,18 +115,18 @@ fn edit_box(
 /// a mark stands, where the map is full, and where memory runs out.
 #[unsafe(no_mangle)]
 pub extern "C" fn octofix_edit_box(
-    map: &mut Octofix,
+    handle: &mut Octofix,
     low: &PointNm,
     high: &PointNm,
     event: u32,
     number: i32,
     details: &mut Details,
 ) -> u32
-    ensures { IsTold map.old map.new
+    ensures { IsTold handle.old handle.new
         (IsAsked (event_of event number) (IsBoxEdit (point_of low.now) (point_of high.now)))
         result details.new }
 {
-    let answer = edit_box(map, *low, *high, event, number);
+    let answer = edit_box(handle, *low, *high, event, number);
     *details = details_of(&answer);
     code_of(&answer)
 }
@@ -170,17 +170,17 @@ fn edit_all(
 /// refused, and tells how many were done.
 #[unsafe(no_mangle)]
 pub extern "C" fn octofix_edit_all(
-    map: &mut Octofix,
+    handle: &mut Octofix,
     edits: &[PointEdit],
     lazy: bool,
     done: &mut usize,
     details: &mut Details,
 ) -> u32
-    ensures told { IsTold map.old map.new
+    ensures told { IsTold handle.old handle.new
         (λ m n. AreEdits edits.now 0 lazy m n done.new) result details.new }
-    ensures none { map.old.slot.map ≡ None → done.new ≡ 0 }
+    ensures none { handle.old.slot.map ≡ None → done.new ≡ 0 }
 {
-    let answer = edit_all(map, edits, lazy, done);
+    let answer = edit_all(handle, edits, lazy, done);
     *details = details_of(&answer);
     code_of(&answer)
 }

@@ -152,16 +152,16 @@ fn restore(map: &mut OccMap, bytes: &[u8]) -> Result<u64, Refusal>
 #[unsafe(no_mangle)]
 pub extern "C" fn octofix_save(
     alloc: Global,
-    map: &mut Octofix,
+    handle: &mut Octofix,
     bytes: &mut [u8],
     len: &mut usize,
 ) -> u32
-    ensures same { map.new ≡ map.old }
-    ensures told { IsListTold (asked map.old.slot.map (λ m. Ok (file_of m)))
-        (HasFit (length bytes.old) (asked map.old.slot.map (λ m. Ok (file_of m))))
+    ensures same { handle.new ≡ handle.old }
+    ensures told { IsListTold (asked handle.old.slot.map (λ m. Ok (file_of m)))
+        (HasFit (length bytes.old) (asked handle.old.slot.map (λ m. Ok (file_of m))))
         result bytes.old bytes.new len.old len.new }
 {
-    match map.map_mut() {
+    match handle.map_mut() {
         Ok(map) => save(alloc, map, bytes, len),
         Err(refusal) => refusal.code(),
     }
@@ -172,16 +172,16 @@ pub extern "C" fn octofix_save(
 #[unsafe(no_mangle)]
 pub extern "C" fn octofix_snapshot(
     alloc: Global,
-    map: &mut Octofix,
+    handle: &mut Octofix,
     bytes: &mut [u8],
     len: &mut usize,
 ) -> u32
-    ensures same { map.new ≡ map.old }
-    ensures told { IsListTold (asked map.old.slot.map (λ m. Ok (snapshot_of m)))
-        (HasFit (length bytes.old) (asked map.old.slot.map (λ m. Ok (snapshot_of m))))
+    ensures same { handle.new ≡ handle.old }
+    ensures told { IsListTold (asked handle.old.slot.map (λ m. Ok (snapshot_of m)))
+        (HasFit (length bytes.old) (asked handle.old.slot.map (λ m. Ok (snapshot_of m))))
         result bytes.old bytes.new len.old len.new }
 {
-    match map.map_mut() {
+    match handle.map_mut() {
         Ok(map) => snapshot(alloc, map, bytes, len),
         Err(refusal) => refusal.code(),
     }
@@ -203,17 +203,17 @@ fn load_into(alloc: Global, handle: &mut Octofix, bytes: &[u8]) -> Result<(), Re
 #[unsafe(no_mangle)]
 pub extern "C" fn octofix_load(
     alloc: Global,
-    map: &mut Octofix,
+    handle: &mut Octofix,
     bytes: &[u8],
     details: &mut Details,
 ) -> u32
-    ensures answer { IsAnswered (asked map.old.slot.map (loading bytes.now))
-        (IsSome map.old.slot.map) result details.new }
+    ensures answer { IsAnswered (asked handle.old.slot.map (loading bytes.now))
+        (IsSome handle.old.slot.map) result details.new }
     ensures loaded { result ≡ DONE
-        → Left map.old map.new (IsLoadedFrom bytes.now) }
-    ensures refused { result ≢ DONE → map.new ≡ map.old }
+        → Left handle.old handle.new (IsLoadedFrom bytes.now) }
+    ensures refused { result ≢ DONE → handle.new ≡ handle.old }
 {
-    let answer = load_into(alloc, map, bytes);
+    let answer = load_into(alloc, handle, bytes);
     *details = details_of(&answer);
     code_of(&answer)
 }
@@ -231,14 +231,14 @@ fn restore_into(handle: &mut Octofix, bytes: &[u8]) -> Result<u64, Refusal>
 
 /// Makes the map that of the snapshot of these bytes. Where that is refused it stays as it was.
 #[unsafe(no_mangle)]
-pub extern "C" fn octofix_restore(map: &mut Octofix, bytes: &[u8], details: &mut Details) -> u32
-    ensures answer { IsAnswered (asked map.old.slot.map (restoring bytes.now))
-        (NeedsGroups (asked map.old.slot.map (restoring bytes.now))) result details.new }
+pub extern "C" fn octofix_restore(handle: &mut Octofix, bytes: &[u8], details: &mut Details) -> u32
+    ensures answer { IsAnswered (asked handle.old.slot.map (restoring bytes.now))
+        (NeedsGroups (asked handle.old.slot.map (restoring bytes.now))) result details.new }
     ensures restored { result ≡ DONE
-        → Left map.old map.new (IsRestoredFrom bytes.now) }
-    ensures refused { result ≢ DONE → map.new ≡ map.old }
+        → Left handle.old handle.new (IsRestoredFrom bytes.now) }
+    ensures refused { result ≢ DONE → handle.new ≡ handle.old }
 {
-    let answer = restore_into(map, bytes);
+    let answer = restore_into(handle, bytes);
     *details = details_of(&answer);
     code_of(&answer)
 }

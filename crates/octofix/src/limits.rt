@@ -30,18 +30,19 @@ fn limit(handle: &mut Octofix, low: PointNm, high: PointNm) -> Result<(), Refusa
 /// the first lies beyond the second. The box that stood stays then.
 #[unsafe(no_mangle)]
 pub extern "C" fn octofix_limit(
-    map: &mut Octofix,
+    handle: &mut Octofix,
     low: &PointNm,
     high: &PointNm,
     details: &mut Details,
 ) -> u32
     ensures code { result ≡ answer_code
-        (asked map.old.slot.map (limiting (point_of low.now) (point_of high.now))) }
+        (asked handle.old.slot.map (limiting (point_of low.now) (point_of high.now))) }
     ensures details { details.new ≡ answer_details
-        (asked map.old.slot.map (limiting (point_of low.now) (point_of high.now))) }
-    ensures limited { map.new ≡ changed (limited (point_of low.now) (point_of high.now)) map.old }
+        (asked handle.old.slot.map (limiting (point_of low.now) (point_of high.now))) }
+    ensures limited { handle.new
+        ≡ changed (limited (point_of low.now) (point_of high.now)) handle.old }
 {
-    let answer = limit(map, *low, *high);
+    let answer = limit(handle, *low, *high);
     *details = details_of(&answer);
     code_of(&answer)
 }
@@ -57,11 +58,11 @@ fn no_limit(handle: &mut Octofix) -> Result<(), Refusal>
 
 /// Takes the box away to which scans are restricted, where one stands.
 #[unsafe(no_mangle)]
-pub extern "C" fn octofix_no_limit(map: &mut Octofix) -> u32
-    ensures code { result ≡ open_code map.old.slot.map }
-    ensures exact { map.new ≡ changed unlimited map.old }
+pub extern "C" fn octofix_no_limit(handle: &mut Octofix) -> u32
+    ensures code { result ≡ open_code handle.old.slot.map }
+    ensures exact { handle.new ≡ changed unlimited handle.old }
 {
-    code_of(&no_limit(map))
+    code_of(&no_limit(handle))
 }
 
 /// The box of the map of a handle.
@@ -74,13 +75,13 @@ fn window(handle: &mut Octofix) -> Result<Option<Window>, Refusal>
 
 /// Tells the box to which scans are restricted, where one stands.
 #[unsafe(no_mangle)]
-pub extern "C" fn octofix_window(map: &mut Octofix, window: &mut VoxelBox) -> u32
-    ensures same { map.new ≡ map.old }
-    ensures code { result ≡ window_code (asked map.old.slot.map (λ m. Ok m.update_box)) }
+pub extern "C" fn octofix_window(handle: &mut Octofix, window: &mut VoxelBox) -> u32
+    ensures same { handle.new ≡ handle.old }
+    ensures code { result ≡ window_code (asked handle.old.slot.map (λ m. Ok m.update_box)) }
     ensures window { window.new
-        ≡ window_left window.old (asked map.old.slot.map (λ m. Ok m.update_box)) }
+        ≡ window_left window.old (asked handle.old.slot.map (λ m. Ok m.update_box)) }
 {
-    match self::window(map) {
+    match self::window(handle) {
         Ok(found) => tell_box(found, window),
         Err(refusal) => refusal.code(),
     }
@@ -97,11 +98,11 @@ fn track(handle: &mut Octofix) -> Result<(), Refusal>
 
 /// Sets the mark at this moment, in place of an earlier one.
 #[unsafe(no_mangle)]
-pub extern "C" fn octofix_track(map: &mut Octofix) -> u32
-    ensures code { result ≡ open_code map.old.slot.map }
-    ensures exact { map.new ≡ changed tracked map.old }
+pub extern "C" fn octofix_track(handle: &mut Octofix) -> u32
+    ensures code { result ≡ open_code handle.old.slot.map }
+    ensures exact { handle.new ≡ changed tracked handle.old }
 {
-    code_of(&track(map))
+    code_of(&track(handle))
 }
 
 /// Takes the mark of the map of a handle away.
@@ -115,9 +116,9 @@ fn untrack(handle: &mut Octofix) -> Result<(), Refusal>
 
 /// Takes the mark away, where one stands.
 #[unsafe(no_mangle)]
-pub extern "C" fn octofix_untrack(map: &mut Octofix) -> u32
-    ensures code { result ≡ open_code map.old.slot.map }
-    ensures exact { map.new ≡ changed untracked map.old }
+pub extern "C" fn octofix_untrack(handle: &mut Octofix) -> u32
+    ensures code { result ≡ open_code handle.old.slot.map }
+    ensures exact { handle.new ≡ changed untracked handle.old }
 {
-    code_of(&untrack(map))
+    code_of(&untrack(handle))
 }

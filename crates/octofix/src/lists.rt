@@ -150,7 +150,7 @@ fn leaves_in(
 /// The known blocks of a depth that meet the box between two points, by ascending x, y and z.
 #[unsafe(no_mangle)]
 pub extern "C" fn octofix_list(
-    map: &mut Octofix,
+    handle: &mut Octofix,
     low: &PointNm,
     high: &PointNm,
     depth: u32,
@@ -158,14 +158,14 @@ pub extern "C" fn octofix_list(
     count: &mut usize,
     details: &mut Details,
 ) -> u32
-    ensures same { map.new ≡ map.old }
-    ensures told { IsListTold (asked map.old.slot.map (blocks_between low.now high.now depth))
-        (IsSomeList (asked map.old.slot.map (blocks_between low.now high.now depth))) result
+    ensures same { handle.new ≡ handle.old }
+    ensures told { IsListTold (asked handle.old.slot.map (blocks_between low.now high.now depth))
+        (IsSomeList (asked handle.old.slot.map (blocks_between low.now high.now depth))) result
         blocks.old blocks.new count.old count.new }
     ensures details { details.new
-        ≡ answer_details (asked map.old.slot.map (blocks_between low.now high.now depth)) }
+        ≡ answer_details (asked handle.old.slot.map (blocks_between low.now high.now depth)) }
 {
-    match map.map_mut() {
+    match handle.map_mut() {
         Ok(map) => list(map, low, high, depth, blocks, count, details),
         Err(refusal) => refusal.tell(details),
     }
@@ -175,16 +175,16 @@ pub extern "C" fn octofix_list(
 /// order of the Morton codes of their first voxels.
 #[unsafe(no_mangle)]
 pub extern "C" fn octofix_leaves(
-    map: &mut Octofix,
+    handle: &mut Octofix,
     blocks: &mut [KnownBlock],
     count: &mut usize,
 ) -> u32
-    ensures same { map.new ≡ map.old }
-    ensures told { IsListTold (asked map.old.slot.map leaves_told)
-        (IsSomeList (asked map.old.slot.map leaves_told)) result blocks.old blocks.new
+    ensures same { handle.new ≡ handle.old }
+    ensures told { IsListTold (asked handle.old.slot.map leaves_told)
+        (IsSomeList (asked handle.old.slot.map leaves_told)) result blocks.old blocks.new
         count.old count.new }
 {
-    match map.map_mut() {
+    match handle.map_mut() {
         Ok(map) => leaves(map, blocks, count),
         Err(refusal) => refusal.code(),
     }
@@ -193,21 +193,21 @@ pub extern "C" fn octofix_leaves(
 /// The leaves of the map that meet the box between two points, in the same order.
 #[unsafe(no_mangle)]
 pub extern "C" fn octofix_leaves_in(
-    map: &mut Octofix,
+    handle: &mut Octofix,
     low: &PointNm,
     high: &PointNm,
     blocks: &mut [KnownBlock],
     count: &mut usize,
     details: &mut Details,
 ) -> u32
-    ensures same { map.new ≡ map.old }
-    ensures told { IsListTold (asked map.old.slot.map (leaves_between low.now high.now))
-        (IsSomeList (asked map.old.slot.map (leaves_between low.now high.now))) result
+    ensures same { handle.new ≡ handle.old }
+    ensures told { IsListTold (asked handle.old.slot.map (leaves_between low.now high.now))
+        (IsSomeList (asked handle.old.slot.map (leaves_between low.now high.now))) result
         blocks.old blocks.new count.old count.new }
     ensures details { details.new
-        ≡ answer_details (asked map.old.slot.map (leaves_between low.now high.now)) }
+        ≡ answer_details (asked handle.old.slot.map (leaves_between low.now high.now)) }
 {
-    match map.map_mut() {
+    match handle.map_mut() {
         Ok(map) => leaves_in(map, low, high, blocks, count, details),
         Err(refusal) => refusal.tell(details),
     }

@@ -113,18 +113,18 @@ fn open(
 #[unsafe(no_mangle)]
 pub extern "C" fn octofix_open(
     alloc: Global,
-    map: &mut Octofix,
+    handle: &mut Octofix,
     res: i64,
     odds: &LogOdds,
     limits: &MapLimits,
     details: &mut Details,
 ) -> u32
-    ensures answer { IsAnswered (opening map.old.slot.map res odds.now limits.now)
-        (IsOk (opening map.old.slot.map res odds.now limits.now)) result details.new }
-    ensures new { result ≡ DONE → IsNew map.new.slot.map res odds.now limits.now }
-    ensures refused { result ≢ DONE → map.new ≡ map.old }
+    ensures answer { IsAnswered (opening handle.old.slot.map res odds.now limits.now)
+        (IsOk (opening handle.old.slot.map res odds.now limits.now)) result details.new }
+    ensures new { result ≡ DONE → IsNew handle.new.slot.map res odds.now limits.now }
+    ensures refused { result ≢ DONE → handle.new ≡ handle.old }
 {
-    let answer = open(alloc, map, res, *odds, *limits);
+    let answer = open(alloc, handle, res, *odds, *limits);
     *details = details_of(&answer);
     code_of(&answer)
 }
@@ -144,12 +144,12 @@ fn close(alloc: Global, handle: &mut Octofix) -> Result<(), Refusal>
 
 /// Takes the map out of the handle, and gives all its memory back. Refused where there is none.
 #[unsafe(no_mangle)]
-pub extern "C" fn octofix_close(alloc: Global, map: &mut Octofix) -> u32
-    ensures code { result ≡ open_code map.old.slot.map }
-    ensures none { map.new.slot.map ≡ None }
-    ensures refused { result ≢ DONE → map.new ≡ map.old }
+pub extern "C" fn octofix_close(alloc: Global, handle: &mut Octofix) -> u32
+    ensures code { result ≡ open_code handle.old.slot.map }
+    ensures none { handle.new.slot.map ≡ None }
+    ensures refused { result ≢ DONE → handle.new ≡ handle.old }
 {
-    code_of(&close(alloc, map))
+    code_of(&close(alloc, handle))
 }
 
 /// What the map of a handle goes by, and how it stands.
@@ -169,13 +169,13 @@ fn settings(handle: &mut Octofix) -> Result<Settings, Refusal>
 
 /// Tells what the map goes by, and how it stands.
 #[unsafe(no_mangle)]
-pub extern "C" fn octofix_settings_of(map: &mut Octofix, settings: &mut Settings) -> u32
-    ensures same { map.new ≡ map.old }
-    ensures code { result ≡ open_code map.old.slot.map }
+pub extern "C" fn octofix_settings_of(handle: &mut Octofix, settings: &mut Settings) -> u32
+    ensures same { handle.new ≡ handle.old }
+    ensures code { result ≡ open_code handle.old.slot.map }
     ensures settings { settings.new
-        ≡ answer_value settings.old (asked map.old.slot.map (λ m. Ok (settings_in m))) }
+        ≡ answer_value settings.old (asked handle.old.slot.map (λ m. Ok (settings_in m))) }
 {
-    let answer = self::settings(map);
+    let answer = self::settings(handle);
     tell(&answer, settings)
 }
 
@@ -189,12 +189,12 @@ fn memory(handle: &mut Octofix) -> Result<u64, Refusal>
 
 /// Tells the bytes that the map has taken.
 #[unsafe(no_mangle)]
-pub extern "C" fn octofix_memory(map: &mut Octofix, bytes: &mut u64) -> u32
-    ensures same { map.new ≡ map.old }
-    ensures code { result ≡ open_code map.old.slot.map }
+pub extern "C" fn octofix_memory(handle: &mut Octofix, bytes: &mut u64) -> u32
+    ensures same { handle.new ≡ handle.old }
+    ensures code { result ≡ open_code handle.old.slot.map }
     ensures bytes { bytes.new
-        ≡ answer_value bytes.old (asked map.old.slot.map (λ m. Ok (bytes_of m))) }
+        ≡ answer_value bytes.old (asked handle.old.slot.map (λ m. Ok (bytes_of m))) }
 {
-    let answer = memory(map);
+    let answer = memory(handle);
     tell(&answer, bytes)
 }

@@ -66,17 +66,17 @@ fn get_all(map: &OccMap, points: &[PointNm], depth: u32, answers: &mut [PointAns
 /// is written only where one is known; unknown space has a code of its own (`UNKNOWN`).
 #[unsafe(no_mangle)]
 pub extern "C" fn octofix_get(
-    map: &mut Octofix,
+    handle: &mut Octofix,
     point: &PointNm,
     depth: u32,
     value: &mut i32,
 ) -> u32
-    ensures same { map.new ≡ map.old }
-    ensures code { result ≡ value_code (asked map.old.slot.map (value_at depth point.now)) }
+    ensures same { handle.new ≡ handle.old }
+    ensures code { result ≡ value_code (asked handle.old.slot.map (value_at depth point.now)) }
     ensures value { value.new
-        ≡ value_left value.old (asked map.old.slot.map (value_at depth point.now)) }
+        ≡ value_left value.old (asked handle.old.slot.map (value_at depth point.now)) }
 {
-    match map.map_mut() {
+    match handle.map_mut() {
         Ok(map) => get(map, point, depth, value),
         Err(refusal) => refusal.code(),
     }
@@ -85,18 +85,19 @@ pub extern "C" fn octofix_get(
 /// The same of many points, each with a code of its own.
 #[unsafe(no_mangle)]
 pub extern "C" fn octofix_get_all(
-    map: &mut Octofix,
+    handle: &mut Octofix,
     points: &[PointNm],
     depth: u32,
     answers: &mut [PointAnswer],
 ) -> u32
-    ensures same { map.new ≡ map.old }
+    ensures same { handle.new ≡ handle.old }
     ensures code { result
-        ≡ list_code (length answers.old) (asked map.old.slot.map (answers_at depth points.now)) }
+        ≡ list_code (length answers.old)
+        (asked handle.old.slot.map (answers_at depth points.now)) }
     ensures answers { answers.new
-        ≡ list_left answers.old (asked map.old.slot.map (answers_at depth points.now)) }
+        ≡ list_left answers.old (asked handle.old.slot.map (answers_at depth points.now)) }
 {
-    match map.map_mut() {
+    match handle.map_mut() {
         Ok(map) => get_all(map, points, depth, answers),
         Err(refusal) => refusal.code(),
     }

@@ -152,17 +152,17 @@ fn scan(
 #[unsafe(no_mangle)]
 pub extern "C" fn octofix_scan(
     alloc: Global,
-    map: &mut Octofix,
+    handle: &mut Octofix,
     pose: &PoseNm,
     points: &[PointNm],
     options: &ScanOptions,
     counted: &mut Counted,
     details: &mut Details,
 ) -> u32
-    ensures { IsValueTold map.old map.new
+    ensures { IsValueTold handle.old handle.new
         (IsScan pose.now points.now options.now) result details.new counted.old counted.new }
 {
-    let answer = scan(alloc, map, *pose, points, *options);
+    let answer = scan(alloc, handle, *pose, points, *options);
     *details = details_of(&answer);
     tell(&answer, counted)
 }

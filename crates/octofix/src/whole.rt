@@ -22,11 +22,11 @@ fn refresh(handle: &mut Octofix) -> Result<(), Refusal>
 
 /// Makes the inner values those of the voxels again, after lazy edits and scans.
 #[unsafe(no_mangle)]
-pub extern "C" fn octofix_refresh(map: &mut Octofix) -> u32
-    ensures code { result ≡ open_code map.old.slot.map }
-    ensures refreshed { Left map.old map.new IsRefreshed }
+pub extern "C" fn octofix_refresh(handle: &mut Octofix) -> u32
+    ensures code { result ≡ open_code handle.old.slot.map }
+    ensures refreshed { Left handle.old handle.new IsRefreshed }
 {
-    code_of(&refresh(map))
+    code_of(&refresh(handle))
 }
 
 /// Prunes the map of a handle.
@@ -40,11 +40,11 @@ fn prune(handle: &mut Octofix) -> Result<(), Refusal>
 
 /// Gives back the groups that the values don't need.
 #[unsafe(no_mangle)]
-pub extern "C" fn octofix_prune(map: &mut Octofix) -> u32
-    ensures code { result ≡ open_code map.old.slot.map }
-    ensures pruned { Left map.old map.new IsPrunedBy }
+pub extern "C" fn octofix_prune(handle: &mut Octofix) -> u32
+    ensures code { result ≡ open_code handle.old.slot.map }
+    ensures pruned { Left handle.old handle.new IsPrunedBy }
 {
-    code_of(&prune(map))
+    code_of(&prune(handle))
 }
 
 /// Clears the map of a handle.
@@ -58,11 +58,11 @@ fn clear(handle: &mut Octofix) -> Result<(), Refusal>
 
 /// Makes each voxel unknown, without a mark, and gives the memory of the map back.
 #[unsafe(no_mangle)]
-pub extern "C" fn octofix_clear(map: &mut Octofix) -> u32
-    ensures code { result ≡ open_code map.old.slot.map }
-    ensures cleared { map.new ≡ changed cleared map.old }
+pub extern "C" fn octofix_clear(handle: &mut Octofix) -> u32
+    ensures code { result ≡ open_code handle.old.slot.map }
+    ensures cleared { handle.new ≡ changed cleared handle.old }
 {
-    code_of(&clear(map))
+    code_of(&clear(handle))
 }
 
 /// Makes the map of a handle as sure as it can be.
@@ -76,11 +76,11 @@ fn max_likelihood(handle: &mut Octofix) -> Result<(), Refusal>
 
 /// Gives each occupied voxel the upper bound of the log-odds, and each free one the lower.
 #[unsafe(no_mangle)]
-pub extern "C" fn octofix_max_likelihood(map: &mut Octofix) -> u32
-    ensures code { result ≡ open_code map.old.slot.map }
-    ensures surest { Left map.old map.new IsSurest }
+pub extern "C" fn octofix_max_likelihood(handle: &mut Octofix) -> u32
+    ensures code { result ≡ open_code handle.old.slot.map }
+    ensures surest { Left handle.old handle.new IsSurest }
 {
-    code_of(&max_likelihood(map))
+    code_of(&max_likelihood(handle))
 }
 
 /// Prunes the map of a handle, and counts its groups and nodes.
@@ -97,12 +97,12 @@ fn counts(handle: &mut Octofix) -> Result<TreeCounts, Refusal>
 
 /// Prunes the map, and tells how many groups and nodes it has: the least that its values need.
 #[unsafe(no_mangle)]
-pub extern "C" fn octofix_counts_of(map: &mut Octofix, counts: &mut TreeCounts) -> u32
-    ensures code { result ≡ open_code map.old.slot.map }
+pub extern "C" fn octofix_counts_of(handle: &mut Octofix, counts: &mut TreeCounts) -> u32
+    ensures code { result ≡ open_code handle.old.slot.map }
     ensures counts { counts.new
-        ≡ answer_value counts.old (asked map.old.slot.map (λ m. Ok (counts_in m))) }
-    ensures pruned { Left map.old map.new IsTrimmed }
+        ≡ answer_value counts.old (asked handle.old.slot.map (λ m. Ok (counts_in m))) }
+    ensures pruned { Left handle.old handle.new IsTrimmed }
 {
-    let answer = self::counts(map);
+    let answer = self::counts(handle);
     tell(&answer, counts)
 }
