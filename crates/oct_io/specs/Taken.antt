@@ -19,12 +19,12 @@ abbrev pub before : List ℕ → Option (List ℕ) → Option (List ℕ)
 before bytes None = None
 before bytes (Some left) = Some (bytes ++ left)
 
--- of a text a part was written, and not all of it
+-- a prefix of the text was written, and not all of it
 abbrev pub IsCutOff : Option (List ℕ) → Option (List ℕ) → List ℕ → Type 0
 IsCutOff old new text =
     (count : ℕ) × (count < length text) × (new ≡ appended old (take count text))
 
--- a front of the text was written, and the rest of it is held
+-- a prefix of the text was written, and the rest of it is held
 pub record IsGathered (text : List ℕ) (old new : Option (List ℕ)) (held : List ℕ) : Type 0 where
   pub front : List ℕ
   pub written : new ≡ appended old front
@@ -35,7 +35,7 @@ abbrev pub IsTaken : List ℕ → Option (List ℕ) → List ℕ → Option (Lis
 IsTaken piece old held new held' = (text : List ℕ) (start : Option (List ℕ))
     → IsGathered text start old held → IsGathered (text ++ piece) start new held'
 
--- a piece wasn't: of the text with the piece after it a part was written, and not all of it
+-- a piece wasn't: of the text with the piece after it a prefix was written, and not all of it
 abbrev pub IsRefused : List ℕ → Option (List ℕ) → List ℕ → Option (List ℕ) → Type 0
 IsRefused piece old held new = (text : List ℕ) (start : Option (List ℕ))
     → IsGathered text start old held → IsCutOff start new (text ++ piece)
