@@ -210,10 +210,11 @@ workload_of (seed ∷ scans ∷ points ∷ []) =
     workload_from (count_of 0 (10 ^ 18) seed) (count_of 0 1000 scans) (count_of 0 100000 points)
 workload_of _ = None
 
--- the writing of such a script, and of the four lines about its session
+-- the writing of such a script
 abbrev pub gen_by : Workload → Task
 gen_by load = Gen load.seed load.scans load.points
 
+-- the writing of the four lines about its session
 abbrev pub drill_by : Workload → Task
 drill_by load = Drill load.seed load.scans load.points
 

@@ -23,15 +23,15 @@ use oct_map::OccMap;
 use oct_session::{Options, build, drill, serve};
 use std::alloc::Global;
 
-/// Does what the words ask for, which don't have the program's own name.
+/// Does what the words of the command line ask for; the program's own name isn't among them.
 ///
 /// The replies to a script are those of the plain fold over each single voxel: the clause `answer`
 /// says, status by status, what is written, what is left of the input, and that both are those of
 /// the answer to the task on these bytes and the files of the store; the clause `leaves` says which
 /// files then stand there. They speak wherever source and sink tell their bytes, as those in memory
 /// do, and the store its files, or no line names one. Of a task that reads nothing `made` says what
-/// is written, whatever the source tells. A fault comes only where the count of that object rose in
-/// this call.
+/// is written, whatever the source tells. A status names a fault of source, sink or store only
+/// where that one's count of faults rose in this call.
 pub fn run<S: Source, K: Sink, F: Store>(
     alloc: Global,
     words: &[String],
