@@ -73,6 +73,7 @@ const VOXEL_DEPTH: u32 = 16;
 pub struct OccMap {
     tree: OccTree,
     is_stale: bool,
+    /// The update box: what `limit` sets, and none where scans aren't restricted.
     window: Option<Window>,
     limits: Limits,
     mark: Mark,
@@ -343,6 +344,9 @@ impl OccMap {
 
     /// The largest known value among the voxels of the block of that depth around the point, or
     /// `None` where all of them are unknown.
+    ///
+    /// It is refused for a point outside the map, then for a depth above 16, and then on a stale
+    /// map for a depth below 16.
     pub fn get(&self, p: Point, depth: u32) -> Result<Option<i32>, MapFault>
         ensures answer { result
             ≡ get_answer (ground_of self.now) self.now.is_stale (values_of self.now) p depth }
