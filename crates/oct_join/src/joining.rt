@@ -45,9 +45,9 @@ pub fn join_codes(
         ≤ length first.now.codes + length second.now.codes) }
     ensures memory { OnErr result (0 < length first.now.codes + length second.now.codes) }
 {
-    let mine = first.codes().as_slice();
-    let theirs = second.codes().as_slice();
-    join_records(alloc, rule, mine, theirs)
+    let first = first.codes().as_slice();
+    let second = second.codes().as_slice();
+    join_records(alloc, rule, first, second)
 }
 
 /// The canonical node data of the merged map.
@@ -140,16 +140,16 @@ fn join_block(
     ensures few { vec_len out.new ≤ vec_len out.old + result.first + result.second }
     ensures room { vec_capacity out.new ≡ vec_capacity out.old }
 {
-    let mut left = side_codes(a, first);
-    let mut other = side_codes(b, second);
+    let mut first_codes = side_codes(a, first);
+    let mut second_codes = side_codes(b, second);
     let mut read = Part {
         code: 0,
         first: record_bytes(a),
         second: record_bytes(b),
     };
-    let mut plain = merged_codes(rule, left, other);
-    if are_leaves(left, other) {
-        let code = close_leaves(plain, out);
+    let mut merged = merged_codes(rule, first_codes, second_codes);
+    if are_leaves(first_codes, second_codes) {
+        let code = close_leaves(merged, out);
         return Part { code, ..read };
     }
     let start = out.len();
@@ -157,20 +157,21 @@ fn join_block(
     let mut codes: u32 = 0;
     let mut unit: u32 = 1;
     for _ in 0u8..8 {
-        if is_parted(left % 4, other % 4) {
-            let (_, later) = first.split_at(read.first);
-            let (_, others) = second.split_at(read.second);
-            let part = join_block(depth + 1, rule, left % 4, later, other % 4, others, out);
+        if is_parted(first_codes % 4, second_codes % 4) {
+            let (_, first_rest) = first.split_at(read.first);
+            let (_, second_rest) = second.split_at(read.second);
+            let (a, b) = (first_codes % 4, second_codes % 4);
+            let part = join_block(depth + 1, rule, a, first_rest, b, second_rest, out);
             read.first += part.first;
             read.second += part.second;
             codes += unit * u32::from(part.code);
         } else {
-            codes += unit * u32::from(plain % 4);
+            codes += unit * u32::from(merged % 4);
         }
         unit *= 4;
-        left /= 4;
-        other /= 4;
-        plain /= 4;
+        first_codes /= 4;
+        second_codes /= 4;
+        merged /= 4;
     }
     let code = close(codes as u16, start, out);
     Part { code, ..read }

@@ -15,9 +15,9 @@ pub returns-then-are_leaves-clause-joined : goal.returns-then-are_leaves-clause-
 returns-then-are_leaves-clause-joined t c = λ r s p q side_a is_a side_b is_b.
     (let none = both_none _ _ _ c.are_leaves.ensures c.if-are_leaves.true in
     leaves_joined c.args.rule c.args.depth c.args.a c.args.b r s _ _ _ _ _ _ side_a side_b
-    (c.side_codes-left.ensures c.args.depth r p side_a is_a)
-    (c.side_codes-other.ensures c.args.depth s q side_b is_b) none.0 none.1
-    c.merged_codes-plain.ensures c.close_leaves-code.ensures.code c.close_leaves-code.ensures.text
+    (c.side_codes-first_codes.ensures c.args.depth r p side_a is_a)
+    (c.side_codes-second_codes.ensures c.args.depth s q side_b is_b) none.0 none.1
+    c.merged_codes-merged.ensures c.close_leaves-code.ensures.code c.close_leaves-code.ensures.text
     c.record_bytes.ensures c.record_bytes-2.ensures)
 
 pub returns-then-are_leaves-clause-few : goal.returns-then-are_leaves-clause-few
@@ -49,9 +49,9 @@ loop-init t c = record {
       joining_first (merged_class c.args.rule) c.args.depth c.args.a c.args.b c.args.first.now
       c.args.second.now r s p q c.args.out.now.items _ _ _ _ _ side_a is_a side_b is_b
       c.record_bytes.ensures c.record_bytes-2.ensures
-      (c.side_codes-left.ensures c.args.depth r p side_a is_a)
-      (c.side_codes-other.ensures c.args.depth s q side_b is_b) c.push_record.ensures.text;
-  merged = merged_first _ _ _ _ c.merged_codes-plain.ensures;
+      (c.side_codes-first_codes.ensures c.args.depth r p side_a is_a)
+      (c.side_codes-second_codes.ensures c.args.depth s q side_b is_b) c.push_record.ensures.text;
+  merged = merged_first _ _ _ _ c.merged_codes-merged.ensures;
   few =
       (let two = two_read _ _ _ _ c.requires.parted c.record_bytes.ensures
       c.record_bytes-2.ensures in
@@ -174,9 +174,9 @@ overflow_mul-codes-else-is_parted t c =
     (c.loop.invariant.joined r s p q side_a is_a side_b is_b) in
     let (no_a, no_b) = not_parted _ _ _ c.is_parted.ensures c.if-is_parted.false in
     let few = made_fits _ _ _ _ _ _ _ _ _ _ _ _ _ _ _ _ _ _ _ side_a side_b
-    (leaf_next _ _ _ _ _ _ _ _ _ _ _ _ _ _ _ _ _ _ _ (c.loop.plain % 4) x no_a no_b
+    (leaf_next _ _ _ _ _ _ _ _ _ _ _ _ _ _ _ _ _ _ _ (c.loop.merged % 4) x no_a no_b
     (merged_here _ _ _ _ _ c.loop-test.true c.loop.invariant.merged)) in
-    let fits = (product_fits c.loop.codes c.loop.unit (c.loop.plain % 4)
+    let fits = (product_fits c.loop.codes c.loop.unit (c.loop.merged % 4)
     c.from-else-is_parted.result c.from-else-is_parted.ensures few).0 in
     search rules
 
@@ -188,9 +188,9 @@ overflow_add-codes-else-is_parted t c =
     (c.loop.invariant.joined r s p q side_a is_a side_b is_b) in
     let (no_a, no_b) = not_parted _ _ _ c.is_parted.ensures c.if-is_parted.false in
     let few = made_fits _ _ _ _ _ _ _ _ _ _ _ _ _ _ _ _ _ _ _ side_a side_b
-    (leaf_next _ _ _ _ _ _ _ _ _ _ _ _ _ _ _ _ _ _ _ (c.loop.plain % 4) x no_a no_b
+    (leaf_next _ _ _ _ _ _ _ _ _ _ _ _ _ _ _ _ _ _ _ (c.loop.merged % 4) x no_a no_b
     (merged_here _ _ _ _ _ c.loop-test.true c.loop.invariant.merged)) in
-    let fits = (product_fits c.loop.codes c.loop.unit (c.loop.plain % 4)
+    let fits = (product_fits c.loop.codes c.loop.unit (c.loop.merged % 4)
     c.from-else-is_parted.result c.from-else-is_parted.ensures few).1 in
     search rules
 
@@ -225,7 +225,7 @@ loop-preserved t c = record {
             (ap (λ (r : Part). r.second) w.read-is)
             (w.codes-is ∙ ap (λ (n : ℕ). c.loop.codes + c.loop.unit * n)
             w.from-else-is_parted.ensures)
-            (leaf_next _ _ _ _ _ _ _ _ _ _ _ _ _ _ _ _ _ _ _ (c.loop.plain % 4) x no_a no_b
+            (leaf_next _ _ _ _ _ _ _ _ _ _ _ _ _ _ _ _ _ _ _ (c.loop.merged % 4) x no_a no_b
             (merged_here _ _ _ _ _ c.loop-test.true c.loop.invariant.merged)))
       ]);
   merged = merged_step _ _ _ _ _ c.loop-test.true c.loop.invariant.merged;

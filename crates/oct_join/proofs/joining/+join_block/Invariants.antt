@@ -15,8 +15,8 @@ invariant-loop l = record {
   joined : (r s : Entries) (p q : List ℕ) → IsSide l.depth l.a r
       → l.first ≡ side_text l.a r ++ p → IsSide l.depth l.b s → l.second ≡ side_text l.b s ++ q
       → IsJoining (merged_class l.rule) l.depth l.a l.b l.first l.second r s p q l.fn.out.items
-      l.out.items l.read.first l.read.second l.left l.other l.codes l.unit l.counter;
-  merged : AreMerged l.rule l.left l.other l.plain l.counter;
+      l.out.items l.read.first l.read.second l.first_codes l.second_codes l.codes l.unit l.counter;
+  merged : AreMerged l.rule l.first_codes l.second_codes l.merged l.counter;
   few : vec_len l.out ≤ vec_len l.fn.out + l.read.first + l.read.second;
   room : vec_capacity l.out ≡ vec_capacity l.fn.out;
 }

@@ -9,16 +9,16 @@ pub returns-clause-codes : goal.returns-clause-codes
 returns-clause-codes c =
     subst (λ (t : List ℕ). IfOk c.join_records.result (λ records. records.items ≡ canonical_data
     (merged_classes c.args.rule (data_classes c.args.first.now.codes) (data_classes t))))
-    (c.as_slice-theirs.ensures ∙ c.codes-2.ensures.codes)
+    (c.as_slice-second.ensures ∙ c.codes-2.ensures.codes)
     (subst (λ (t : List ℕ). IfOk c.join_records.result (λ records. records.items ≡ canonical_data
-    (merged_classes c.args.rule (data_classes t) (data_classes c.as_slice-theirs.result.now))))
-    (c.as_slice-mine.ensures ∙ c.codes.ensures.codes) c.join_records.ensures.codes)
+    (merged_classes c.args.rule (data_classes t) (data_classes c.as_slice-second.result.now))))
+    (c.as_slice-first.ensures ∙ c.codes.ensures.codes) c.join_records.ensures.codes)
 
 pub returns-clause-room : goal.returns-clause-room
 returns-clause-room c =
     subst (λ (t : List ℕ). IfOk c.join_records.result (λ records. vec_capacity records
     ≤ length c.args.first.now.codes + length t))
-    (c.as_slice-theirs.ensures ∙ c.codes-2.ensures.codes)
+    (c.as_slice-second.ensures ∙ c.codes-2.ensures.codes)
     (subst (λ (t : List ℕ). IfOk c.join_records.result (λ records. vec_capacity records
-    ≤ length t + length c.as_slice-theirs.result.now))
-    (c.as_slice-mine.ensures ∙ c.codes.ensures.codes) c.join_records.ensures.room)
+    ≤ length t + length c.as_slice-second.result.now))
+    (c.as_slice-first.ensures ∙ c.codes.ensures.codes) c.join_records.ensures.room)
