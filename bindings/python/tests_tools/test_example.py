@@ -1,4 +1,4 @@
-"""The lines of docs/TOOLS.md, on the clouds of examples/flat_clouds.py, with voxels of 0.1 m."""
+"""The lines of README.md, on the clouds of examples/flat_clouds.py, with voxels of 0.1 m."""
 
 import json
 import subprocess
