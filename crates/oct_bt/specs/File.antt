@@ -41,8 +41,8 @@ bt_text res classes = header_text (canonical_size classes) res ++ canonical_data
 
 -- ---- what is read
 
--- a file that was read: the nanometres of its resolution, the bytes of its records, two for each,
--- and the number of its nodes
+-- a file that was read: the nanometres of its resolution, the bytes of its records, two for each
+-- with a code of two bits for each child, and the number of its nodes
 pub record FileRead : Type 0 where
   pub res : ℕ
   pub codes : List ℕ
