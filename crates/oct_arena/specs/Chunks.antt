@@ -1,5 +1,5 @@
 -- The memory of an arena: chunks of 1,024 groups, one after another.
-use Rattle.std.specs.Prelude.{◌≡◌, ℕ, ◌+◌, ◌<◌, List, [], ◌∷◌, ◌++◌, length, Option, Some, suc}
+use Rattle.std.specs.Prelude.{◌≡◌, ℕ, ◌+◌, ◌<◌, List, [], ◌∷◌, ◌++◌, length, Option, Some, suc, ⊤}
 use Rattle.oct_arena.specs.declared.node.Group.{Group}
 use Rattle.oct_arena.specs.declared.chunk.Chunk.TheInside.{Inside}
 use Rattle.oct_arena.specs.Entries.{Groups, entry, node_of}
@@ -21,7 +21,7 @@ joined (c ∷ cs) = c ++ joined cs
 
 -- each chunk has 1,024 groups
 abbrev pub AllFull : List Groups → Type 0
-AllFull [] = Unit {0}
+AllFull [] = ⊤
 AllFull (c ∷ cs) = (length c ≡ 1024) × AllFull cs
 
 -- a group of eight nodes whose memory links that entry

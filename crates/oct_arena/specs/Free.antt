@@ -1,5 +1,5 @@
 -- The free list of an arena, which is threaded through the memory of its vacant groups.
-use Rattle.std.specs.Prelude.{◌≡◌, ℕ, zero, suc, ◌<◌, List, [], ◌∷◌, length, None, slice_set}
+use Rattle.std.specs.Prelude.{◌≡◌, ℕ, zero, suc, ◌<◌, List, [], ◌∷◌, length, None, slice_set, ⊤}
 use Rattle.oct_arena.specs.declared.node.Node.{Node}
 use Rattle.oct_arena.specs.declared.node.Node.TheVariants.{Absent, Leaf, Inner}
 use Rattle.oct_arena.specs.Entries.{Groups, IsArena, IsLive, node_at}
@@ -30,17 +30,17 @@ without memory (i ∷ is) = slice_set (without memory is) i None
 
 -- i is none of them
 abbrev pub IsNotIn : ℕ → List ℕ → Type 0
-IsNotIn i [] = Unit {0}
+IsNotIn i [] = ⊤
 IsNotIn i (j ∷ js) = (i ≡ j → ⊥) × IsNotIn i js
 
 -- each of them is below n, and none stands twice
 abbrev pub AreOnce : List ℕ → ℕ → Type 0
-AreOnce [] n = Unit {0}
+AreOnce [] n = ⊤
 AreOnce (i ∷ is) n = (i < n) × IsNotIn i is × AreOnce is n
 
 -- tail is the last of them, where there is one
 abbrev pub EndsAt : List ℕ → ℕ → Type 0
-EndsAt [] tail = Unit {0}
+EndsAt [] tail = ⊤
 EndsAt (i ∷ []) tail = i ≡ tail
 EndsAt (i ∷ j ∷ js) tail = EndsAt (j ∷ js) tail
 

@@ -1,5 +1,5 @@
 -- Why a session stops, and the status that it then has.
-use Rattle.std.specs.Prelude.{Result, Ok, Err}
+use Rattle.std.specs.Prelude.{Result, Ok, Err, ⊤}
 use Rattle.oct_io.specs.declared.sink.SinkFault.{SinkFault}
 use Rattle.oct_io.specs.declared.sink.SinkFault.TheVariants as sink_fault
 use Rattle.oct_io.specs.declared.store.StoreFault.{StoreFault}
@@ -37,4 +37,4 @@ status_written whole (Err sink_fault.Memory) = status.Memory
 abbrev pub IsHalt : Stop → Type 0
 IsHalt stop.TooLong = ⊥
 IsHalt stop.ReadFault = ⊥
-IsHalt _ = Unit {0}
+IsHalt _ = ⊤

@@ -1,4 +1,5 @@
 -- Whether the whole answer was given, by the status.
+use Rattle.std.specs.Prelude.{⊤}
 use Rattle.oct_ending.specs.declared.status.Status.{Status}
 use Rattle.oct_ending.specs.declared.status.Status.TheVariants.{ReadFault, WriteFault, Memory}
 use Rattle.oct_ending.specs.declared.status.Status.TheVariants.{StoreFault}
@@ -9,4 +10,4 @@ IsWhole ReadFault = ⊥
 IsWhole WriteFault = ⊥
 IsWhole Memory = ⊥
 IsWhole StoreFault = ⊥
-IsWhole _ = Unit {0}
+IsWhole _ = ⊤

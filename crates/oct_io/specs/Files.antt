@@ -1,6 +1,6 @@
 -- Files by name, and what a save leaves of them.
 use Rattle.std.specs.Prelude.{◌≡◌, ◌≢◌, ◌<◌, ℕ, List, Option, Some, None, IfSome}
-use Rattle.std.specs.Prelude.{if◌then◌else◌}
+use Rattle.std.specs.Prelude.{if◌then◌else◌, ⊤}
 use Rattle.std.specs.List.{All}
 use Rattle.std.specs.Str.{bytes_eq}
 
@@ -27,7 +27,7 @@ saved (Some files) name bytes = Some (with_file files name bytes)
 
 -- every name but this one has what it had, and files that are told stay told
 abbrev pub KeepsOthers : Option Files → Option Files → List ℕ → Type 0
-KeepsOthers None None name = Unit {0}
+KeepsOthers None None name = ⊤
 KeepsOthers None (Some new) name = ⊥
 KeepsOthers (Some old) None name = ⊥
 KeepsOthers (Some old) (Some new) name = (other : List ℕ) → other ≢ name → new other ≡ old other

@@ -1,5 +1,6 @@
 -- What a load answers, and its limit.
 use Rattle.std.specs.Prelude.{◌≤◌, ◌^◌, ℕ, List, length, nat_le, Option, Some, None, if◌then◌else◌}
+use Rattle.std.specs.Prelude.{⊤}
 use Rattle.oct_io.specs.declared.store.Loaded.{Loaded}
 use Rattle.oct_io.specs.declared.store.Loaded.TheVariants.{Bytes, Missing, TooLarge}
 
@@ -11,5 +12,5 @@ loaded_of (Some bytes) = if nat_le (length bytes) (2 ^ 30) then Bytes bytes else
 -- the bytes that were loaded, if any, are at most 2^30
 abbrev pub IsWithinLimit : Loaded → Type 0
 IsWithinLimit (Bytes bytes) = length bytes ≤ 2 ^ 30
-IsWithinLimit Missing = Unit {0}
-IsWithinLimit TooLarge = Unit {0}
+IsWithinLimit Missing = ⊤
+IsWithinLimit TooLarge = ⊤

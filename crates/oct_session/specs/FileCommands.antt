@@ -110,4 +110,4 @@ pub record IsOther (a b : ℕ) : Type 0 where
 -- file
 abbrev pub BeginsOther : Line → Type 0
 BeginsOther (Text (a ∷ b ∷ rest)) = IsOther a b
-BeginsOther _ = Unit {0}
+BeginsOther _ = ⊤
