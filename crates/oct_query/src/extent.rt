@@ -1,10 +1,7 @@
 //! The least box around the known space of a tree, or around its occupied space.
 ghost use Rattle.std.specs.Prelude.{◌≡◌, ◌+◌, ◌*◌, ◌^◌, ◌<◌, ◌-◌, ◌≤◌, Bool, Some, None};
 ghost use Rattle.oct_key.specs.Block.{lowest_voxel, side};
-ghost use Rattle.oct_key.specs.Voxel.{IsInMap};
 ghost use Rattle.oct_key.specs.CubeOf.{cube_of};
-ghost use Rattle.oct_arena.specs.Nodes.{link_of, value_of};
-ghost use Rattle.oct_odds.specs.Update.{class_of};
 ghost use Rattle.oct_tree.specs.Tree.{IsLinked, IsPlace, block_in};
 ghost use Rattle.oct_tree.specs.Classes.{classes_in};
 ghost use Rattle.oct_query.specs.Extent.{IsExtent, IsFound, IsFoundIn, is_sought, joined, lower};

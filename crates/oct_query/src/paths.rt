@@ -1,5 +1,5 @@
 //! Paths that are kept, for many questions.
-ghost use Rattle.std.specs.Prelude.{◌≡◌, ◌<◌, ◌≤◌};
+ghost use Rattle.std.specs.Prelude.{◌≡◌, ◌<◌};
 ghost use Rattle.oct_key.specs.Voxel.{Voxel};
 ghost use Rattle.oct_key.specs.Block.{HoldsVoxel};
 ghost use Rattle.oct_key.specs.CubeOf.{cube_of};
@@ -7,7 +7,7 @@ ghost use Rattle.oct_values.specs.Depths.{IsLargestIn};
 ghost use Rattle.oct_arena.specs.Nodes.{stored_in};
 ghost use Rattle.oct_tree.specs.Tree.{IsLinked, reach, value_at};
 ghost use Rattle.oct_tree.specs.Shape.{IsFresh};
-ghost use Rattle.oct_query.specs.Paths.{ArePathsOf, IsPathOf};
+ghost use Rattle.oct_query.specs.Paths.{ArePathsOf};
 
 use crate::depths::lowest_voxel;
 use crate::path::Path;

@@ -23,7 +23,7 @@ use Rattle.oct_scan.specs.Gathered.{HoldGathered, HoldAllGathered, IsBeamHeld, I
 use Rattle.oct_scan.specs.Gathered.{IsCurrent}
 use Rattle.oct_scan.specs.Gathered.{end_codes, is_mute, kept}
 use Rattle.oct_brick.proofs.Lists.{contains_none, contains_here, contains_later, contains_cases}
-use Rattle.oct_brick.proofs.Lists.{contains_map, contains_from_map, all_contained}
+use Rattle.oct_brick.proofs.Lists.{contains_map, contains_from_map}
 use Rattle.oct_scan.proofs.Kept.{kept_from, kept_listed}
 use Rattle.oct_scan.proofs.Gathering.{IsBeamAdded, ends_with, once_last, gathered_none}
 use Rattle.oct_scan.proofs.Gathering.{gathered_next, few_more, met_next}
@@ -45,14 +45,6 @@ pub kept_scanned : (bs : List Brick) (b : Brick) → b.scanned ≡ 0 → (c : �
     → Contains (scanned_codes bs) c ↔ IsHeld bs b c
 kept_scanned bs b none c =
     (λ h. inl h, λ h. elim h [ inl k ↦ k | inr k ↦ absurd (none_of b.scanned b.code c none k) ])
-
-pub pushed_bricks : (bs bs' : List Brick) (b : Brick) → bs' ≡ bs ++ b ∷ [] → All IsBrick bs
-    → IsBrick b → All IsBrick bs'
-pushed_bricks bs bs' b e h p =
-    subst (All IsBrick) (sym e)
-    (all_contained IsBrick (bs ++ b ∷ [])
-    (λ x k. elim (Contains-push_cases bs b x k)
-    [ inl m ↦ All-contains IsBrick bs x h m | inr s ↦ subst IsBrick s p ]))
 
 -- the end of a beam that isn't cut is a brick more, with one code
 end_code : (t : Bool) (end c : ℕ) → t ≡ false → (Contains (cond t [] (end ∷ [])) c) ↔ (end ≡ c)

@@ -1,6 +1,6 @@
 //! Whether a scan stays in the map and within its limit, before it takes memory.
 ghost use Rattle.std.specs.Prelude.{◌≡◌, ◌≢◌, ◌+◌, ◌*◌, ◌^◌, ◌≤◌, length, pos, ◌≤ℤ◌, Some, All};
-ghost use Rattle.std.specs.Prelude.{IfSome, IfOk, IfErr, OnOk, IsSome, IsNone};
+ghost use Rattle.std.specs.Prelude.{IfSome, IfOk, IfErr, OnOk, IsNone};
 ghost use Rattle.std.specs.Int.{abs_diff};
 ghost use Rattle.oct_key.specs.Voxel.{key_at};
 ghost use Rattle.oct_pose.specs.Reach.{IsInReach};

@@ -1,9 +1,9 @@
 -- Edits one after another.
-use Rattle.std.proofs.Common.{ℕ, ◌+◌, ◌<◌, ◌≤◌, List, length, drop, get_or, refl, sym}
+use Rattle.std.proofs.Common.{ℕ, ◌+◌, ◌<◌, List, length, drop, get_or, refl, sym}
 use Rattle.std.proofs.Common.{subst}
 use Rattle.std.proofs.Common.{inl, inr, Bool}
 use Rattle.std.specs.Prelude.{⊤, Result, Ok, Err}
-use Rattle.std.proofs.lemmas.List.{drop_all, drop_more}
+use Rattle.std.proofs.lemmas.List.{drop_more}
 use Rattle.oct_map.specs.Map.{Map}
 use Rattle.octofix.specs.Codes.{refusal_at}
 use Rattle.octofix.specs.Edits.{AreEdits, IsPointEdit}

@@ -1,14 +1,13 @@
 -- What is true of the map of a handle, as that of the handle.
 use Rattle.std.proofs.Common.{◌≡◌, ℕ, refl, sym, subst}
-use Rattle.std.specs.Prelude.{Some, None, Result, Ok, Err}
+use Rattle.std.specs.Prelude.{Some, Result, Ok}
 use Rattle.oct_map.specs.Map.{Map}
 use Rattle.oct_map.specs.declared.fault.MapFault.{MapFault}
-use Rattle.octofix.specs.Changed.{DoneFrom, IsAsked, IsDone, IsTold, Left, LeftFrom}
+use Rattle.octofix.specs.Changed.{DoneFrom, IsAsked, IsDone, IsTold}
 use Rattle.octofix.specs.Codes.{answer_code, answer_details, of_map}
 use Rattle.octofix.specs.HandleLends.{open_with}
 use Rattle.octofix.specs.Handles.{Handle}
 use Rattle.octofix.specs.declared.refusal.Refusal.{Refusal}
-use Rattle.octofix.specs.declared.refusal.Refusal.TheVariants as refusal
 use Rattle.octofix.specs.declared.types.Details.{Details}
 
 -- what a call answers and leaves where there was a map

@@ -7,7 +7,7 @@ ghost use Rattle.octofix.specs.Limits.{limited, limiting, tracked, unlimited, un
 ghost use Rattle.octofix.specs.Limits.{window_code, window_left};
 ghost use Rattle.octofix.specs.Points.{point_of};
 
-use crate::answers::{code_of, details_of, tell};
+use crate::answers::{code_of, details_of};
 use crate::bounds::tell_box;
 use crate::handle::Octofix;
 use crate::refusal::Refusal;
