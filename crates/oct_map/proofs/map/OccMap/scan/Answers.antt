@@ -27,6 +27,7 @@ use Rattle.oct_map.proofs.Marks.{same_few, few_after, scan_asked, asked_scan, re
 use Rattle.oct_map.proofs.Marks.{lacks_notes, lacks_some}
 use Rattle.oct_map.proofs.Scans.{IsPrepared, accepted_in, prepared, room_for, made_few, event_back}
 use Rattle.oct_map.proofs.Scans.{listed_point, same_need_in}
+use Rattle.oct_map.proofs.map.OccMap.scan.Goals.{After-from, After-reserve}
 use Rattle.oct_map.proofs.map.OccMap.scan.Goals as goal
 
 -- what a number adds that is handed on
@@ -54,8 +55,10 @@ ready c =
     (hit_voxels c.bricks-bricks.result.now) (freed_voxels c.bricks-bricks.result.now) c.res.result
     c.window-window.result (added c.odds_of_scan-hit.result.0) (added c.odds_of_scan-hit.result.1) _
     c.from.result
-    c.self.view_is c.res.ensures (search rules) c.odds.ensures (added_as c.odds_of_scan-hit.result.0 _ (search rules) c.odds_of_scan-hit.ensures.hit)
-    (added_as c.odds_of_scan-hit.result.1 _ (search rules) c.odds_of_scan-hit.ensures.miss) (search rules) (search rules) (search rules)
+    c.self.view_is c.res.ensures (search rules) c.odds.ensures
+    (added_as c.odds_of_scan-hit.result.0 _ (search rules) c.odds_of_scan-hit.ensures.hit)
+    (added_as c.odds_of_scan-hit.result.1 _ (search rules) c.odds_of_scan-hit.ensures.miss)
+    (search rules) (search rules) (search rules)
     c.in_ok-set.ensures.outcome.events c.in_ok-set.ensures.outcome.needed
 
 -- the map that making room left
@@ -95,7 +98,7 @@ scanned c =
     c.touch_all.ensures.edited c.touch_all.ensures.eager
 
 -- the need that was counted is that of the scan in the map
-counted : (c : goal.After-drop-set-inside)
+counted : (c : After-from)
     → c.from.result ≡ scan_need c.args.self.now (sighting_of c.args.scan.now)
 counted c = (let need : c.from.result ≡ c.in_ok-set.set.need = search rules in
     need ∙ same_need_in c.args.self.now (sighting_of c.args.scan.now) c.in_ok-set.set.need
@@ -103,19 +106,34 @@ counted c = (let need : c.from.result ≡ c.in_ok-set.set.need = search rules in
     (c.res.ensures ∙ ap (λ (m : Map). m.tree.res) c.self.view_is) (search rules)
     c.in_ok-set.ensures.outcome.needed)
 
+-- the map that making room left, and the same with room for notes
+abbrev room_made : After-reserve → Map
+room_made c = map_of c.self-2.inside.tree c.self-2.inside.is_stale c.self-2.inside.window
+    c.self-2.inside.limits c.self-2.inside.mark
+
+abbrev noting : After-reserve → Map
+noting c = record (room_made c) { mark = c.reserve.new.self }
+
+readied : (c : After-reserve) → IsReadied c.args.self.now (room_made c) c.from.result
+readied c =
+    subst (λ (m : Map). IsReadied c.args.self.now m c.from.result) (sym c.self-2.view_is)
+    c.make_room.ensures.readied
+
 pub returns-in_err-make_room-clause-refused : goal.returns-in_err-make_room-clause-refused
 returns-in_err-make_room-clause-refused c =
     if_err c.from_residual-in_err-make_room.result
     (λ fault. IsMapRefused c.args.self.now c.make_room.new.self fault
     (scan_need c.args.self.now (sighting_of c.args.scan.now))) (λ fault e.
     let is : c.make_room.result ≡ Err fault = search (rules, e) in
-    subst (IsMapRefused c.args.self.now c.make_room.new.self fault) (counted c)
+    subst (IsMapRefused c.args.self.now c.make_room.new.self fault)
+    (counted (goal.at.returns-in_err-make_room-clause-refused c).After-from)
     (refused_room c.args.self.now c.make_room.new.self fault c.from.result c.make_room.result is
     c.make_room.ensures.readied c.make_room.ensures.full))
 
 pub returns-in_err-make_room-clause-reserved : goal.returns-in_err-make_room-clause-reserved
 returns-in_err-make_room-clause-reserved c =
-    subst (ReservesFew c.args.self.now c.make_room.new.self) (counted c)
+    subst (ReservesFew c.args.self.now c.make_room.new.self)
+    (counted (goal.at.returns-in_err-make_room-clause-reserved c).After-from)
     c.make_room.ensures.readied.reserved
 
 pub touch_all-requires-clause-bricks : goal.touch_all-requires-clause-bricks
@@ -132,8 +150,10 @@ touch_all-requires-clause-room c =
     (hit_voxels c.bricks-bricks.result.now) (freed_voxels c.bricks-bricks.result.now) c.res.result
     c.window-window.result (added c.odds_of_scan-hit.result.0) (added c.odds_of_scan-hit.result.1) _
     c.from.result
-    c.self.view_is c.res.ensures (search rules) c.odds.ensures (added_as c.odds_of_scan-hit.result.0 _ (search rules) c.odds_of_scan-hit.ensures.hit)
-    (added_as c.odds_of_scan-hit.result.1 _ (search rules) c.odds_of_scan-hit.ensures.miss) (search rules) (search rules) (search rules)
+    c.self.view_is c.res.ensures (search rules) c.odds.ensures
+    (added_as c.odds_of_scan-hit.result.0 _ (search rules) c.odds_of_scan-hit.ensures.hit)
+    (added_as c.odds_of_scan-hit.result.1 _ (search rules) c.odds_of_scan-hit.ensures.miss)
+    (search rules) (search rules) (search rules)
     c.in_ok-set.ensures.outcome.events c.in_ok-set.ensures.outcome.needed in
     let room : c.from.result ≤ spare c.self-2.inside.tree.groups =
     subst (λ (m : Map). c.from.result ≤ spare m.tree.groups) (sym c.self-2.view_is)
@@ -236,12 +256,8 @@ returns-clause-noted c =
 
 pub returns-in_err-reserve-clause-mark : goal.returns-in_err-reserve-clause-mark
 returns-in_err-reserve-clause-mark c =
-    let map : Map = map_of c.self-2.inside.tree c.self-2.inside.is_stale c.self-2.inside.window
-    c.self-2.inside.limits c.self-2.inside.mark in
-    let ready : IsReadied c.args.self.now map c.from.result =
-    subst (λ (m : Map). IsReadied c.args.self.now m c.from.result) (sym c.self-2.view_is)
-    c.make_room.ensures.readied in
-    marked_room c.args.self.now map c.reserve.new.self c.from.result ready
+    let r = (goal.at.returns-in_err-reserve-clause-mark c).After-reserve in
+    marked_room c.args.self.now (room_made r) c.reserve.new.self c.from.result (readied r)
     c.in_err-reserve.ensures.err
 
 pub returns-in_err-reserve-clause-noted : goal.returns-in_err-reserve-clause-noted
@@ -253,43 +269,22 @@ returns-in_err-reserve-clause-noted c =
 
 pub returns-in_err-reserve-clause-refused : goal.returns-in_err-reserve-clause-refused
 returns-in_err-reserve-clause-refused c =
-    let need : c.from.result ≡ c.in_ok-set.set.need = search rules in
-    let counted : c.from.result ≡ scan_need c.args.self.now (sighting_of c.args.scan.now) = need
-    ∙ same_need_in c.args.self.now (sighting_of c.args.scan.now) c.in_ok-set.set.need c.res.result
-    c.window-window.result (c.res.ensures ∙ ap (λ (m : Map). m.tree.res) c.self.view_is)
-    (search rules) c.in_ok-set.ensures.outcome.needed in
-    let map : Map = map_of c.self-2.inside.tree c.self-2.inside.is_stale c.self-2.inside.window
-    c.self-2.inside.limits c.self-2.inside.mark in
-    let ready : IsReadied c.args.self.now map c.from.result =
-    subst (λ (m : Map). IsReadied c.args.self.now m c.from.result) (sym c.self-2.view_is)
-    c.make_room.ensures.readied in
+    let need = counted (goal.at.returns-in_err-reserve-clause-refused c).After-from in
+    let r = (goal.at.returns-in_err-reserve-clause-refused c).After-reserve in
     if_err c.from_residual-in_err-reserve.result
-    (λ fault. IsMapRefused c.args.self.now
-    (map_of c.self-2.inside.tree c.self-2.inside.is_stale c.self-2.inside.window
-    c.self-2.inside.limits c.reserve.new.self) fault
+    (λ fault. IsMapRefused c.args.self.now (noting r) fault
     (scan_need c.args.self.now (sighting_of c.args.scan.now)))
-    (λ fault e. subst (IsMapRefused c.args.self.now
-    (map_of c.self-2.inside.tree c.self-2.inside.is_stale c.self-2.inside.window
-    c.self-2.inside.limits c.reserve.new.self) fault) counted
-    (refused_notes c.args.self.now map c.reserve.new.self fault c.from.result (search (rules, e))
-    ready c.in_err-reserve.ensures.err))
+    (λ fault e. subst (IsMapRefused c.args.self.now (noting r) fault) need
+    (refused_notes c.args.self.now (room_made r) c.reserve.new.self fault c.from.result
+    (search (rules, e)) (readied r) c.in_err-reserve.ensures.err))
 
 pub returns-in_err-reserve-clause-reserved : goal.returns-in_err-reserve-clause-reserved
 returns-in_err-reserve-clause-reserved c =
-    let need : c.from.result ≡ c.in_ok-set.set.need = search rules in
-    let counted : c.from.result ≡ scan_need c.args.self.now (sighting_of c.args.scan.now) = need
-    ∙ same_need_in c.args.self.now (sighting_of c.args.scan.now) c.in_ok-set.set.need c.res.result
-    c.window-window.result (c.res.ensures ∙ ap (λ (m : Map). m.tree.res) c.self.view_is)
-    (search rules) c.in_ok-set.ensures.outcome.needed in
-    let map : Map = map_of c.self-2.inside.tree c.self-2.inside.is_stale c.self-2.inside.window
-    c.self-2.inside.limits c.self-2.inside.mark in
-    let ready : IsReadied c.args.self.now map c.from.result =
-    subst (λ (m : Map). IsReadied c.args.self.now m c.from.result) (sym c.self-2.view_is)
-    c.make_room.ensures.readied in
-    subst (ReservesFew c.args.self.now
-    (map_of c.self-2.inside.tree c.self-2.inside.is_stale c.self-2.inside.window
-    c.self-2.inside.limits c.reserve.new.self)) counted
-    (reserved_remarked c.args.self.now map c.reserve.new.self c.from.result ready.reserved)
+    let need = counted (goal.at.returns-in_err-reserve-clause-reserved c).After-from in
+    let r = (goal.at.returns-in_err-reserve-clause-reserved c).After-reserve in
+    subst (ReservesFew c.args.self.now (noting r)) need
+    (reserved_remarked c.args.self.now (room_made r) c.reserve.new.self c.from.result
+    (readied r).reserved)
 
 pub invariant_of-self : goal.invariant_of-self
 invariant_of-self c =
@@ -354,7 +349,8 @@ returns-in_err-reserve-clause-memory c _ =
     c.free_count.ensures ∙ c.in_ok-set.ensures.made.frees_counted in
     let point = listed_point c.res.result c.window-window.result (sighting_of c.args.scan.now)
     (hit_voxels c.in_ok-set.set.bricks) (freed_voxels c.in_ok-set.set.bricks)
-    c.in_ok-set.ensures.update.hits c.in_ok-set.ensures.update.frees (omega (arith, some, hits, frees)) in (
+    c.in_ok-set.ensures.update.hits c.in_ok-set.ensures.update.frees
+    (omega (arith, some, hits, frees)) in (
       accepted_in c.args.self.now (sighting_of c.args.scan.now) c.res.result _
           (c.res.ensures ∙ ap (λ (m : Map). m.tree.res) c.self.view_is)
           (ap (λ (m : Map). m.max_cells) c.self.view_is) c.in_ok-set.ensures.accepted,
