@@ -18,11 +18,10 @@ use Rattle.oct_tree.specs.Changes.{IsSplit, IsSameOutside}
 use Rattle.oct_brick.specs.declared.brick.Brick.{Brick}
 use Rattle.oct_edit.specs.declared.scan.BrickUpdate.{BrickUpdate}
 use Rattle.oct_edit.specs.Listed.{update_of}
-use Rattle.oct_edit.specs.Bricks.{listed_one, CanApply, IsApplied, IsPlain}
+use Rattle.oct_edit.specs.Bricks.{listed_one, CanApply, IsApplied, IsPlain, IsPart}
 use Rattle.oct_edit.specs.Parts.{IsUpdateIn, need_in}
 use Rattle.oct_edit.specs.Scan.{events_of}
 use Rattle.oct_edit.proofs.UnderWay.{IsUnderWay}
-use Rattle.oct_edit.proofs.BrickParts.{IsWithin}
 use Rattle.oct_edit.proofs.BrickRounds.{part_brick}
 use Rattle.oct_edit.proofs.BrickWays.{IsAtOctet, octet_index, octet_below, octet_next, octet_masked}
 use Rattle.oct_edit.proofs.BrickWays.{octet_inside, octet_room, octet_step, part_of, part_is}
@@ -32,12 +31,6 @@ use Rattle.oct_edit.proofs.Planting.{fresh_slot}
 use Rattle.oct_edit.proofs.PlantedVoxels.{still_freed, within_after}
 use Rattle.oct_edit.proofs.Shares.{first_not_done}
 use Rattle.oct_edit.proofs.Updates.{way_slot, at_block}
-
--- the part of a brick's update in an octet, which is its first one left
-pub record IsPart (rest part : BrickUpdate) (x : ℕ) : Type 0 where
-  pub brick : IsWithin rest.brick x part.brick
-  pub hit : part.hit ≡ rest.hit
-  pub miss : part.miss ≡ rest.miss
 
 -- some octets of a brick are done, and another one is next
 abbrev pub IsNext : Tree → Tree → Place → Cube → BrickUpdate → BrickUpdate → ℕ → Bool → Type 0

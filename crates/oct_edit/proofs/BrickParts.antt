@@ -34,7 +34,7 @@ use Rattle.oct_brick.proofs.BrickCodes.{by_rises}
 use Rattle.oct_brick.proofs.Merging.{same_default}
 use Rattle.oct_brick.proofs.Rising.{Rises, same_rising}
 use Rattle.oct_brick.proofs.CodedVoxels.{coded_voxel-IsInMap, morton_of-coded_voxel}
-use Rattle.oct_edit.specs.Bricks.{brick_child, AreCut}
+use Rattle.oct_edit.specs.Bricks.{brick_child, AreCut, IsMasked}
 use Rattle.oct_edit.specs.Parts.{AreIn, IsFirstChild}
 use Rattle.oct_edit.proofs.Keys.{IsParted, prefix_above, quotient_rises}
 
@@ -313,24 +313,19 @@ pub record IsRest (whole rest : Brick) : Type 0 where
   pub hits_fit : rest.hits < 2 ^ 64
   pub part : (c : ℕ) → HasCode rest.code rest.hits c → HasCode rest.code rest.scanned c
 
--- a brick's part within a mask, and what the part has
-pub record IsWithin (whole : Brick) (mask : ℕ) (part : Brick) : Type 0 where
-  pub code : part.code ≡ whole.code
-  pub scanned : part.scanned ≡ bit_and whole.scanned mask
-  pub hits : part.hits ≡ bit_and whole.hits mask
-
+-- what a brick's part within a mask has
 has_within : (b m part x c : ℕ) → part ≡ bit_and m x
     → HasCode b part c ↔ (HasCode b m c × HasCode b x c)
 has_within b m part x c e =
     subst (λ y. HasCode b y c ↔ (HasCode b m c × HasCode b x c)) (sym e) (and_both b m x c)
 
-pub hits_within : (r p : Brick) (x c : ℕ) → IsWithin r x p
+pub hits_within : (r p : Brick) (x c : ℕ) → IsMasked r x p
     → HasCode p.code p.hits c ↔ (HasCode r.code r.hits c × HasCode r.code x c)
 hits_within r p x c h =
     subst (λ b. HasCode b p.hits c ↔ (HasCode r.code r.hits c × HasCode r.code x c)) (sym h.code)
     (has_within r.code r.hits p.hits x c h.hits)
 
-pub scanned_within : (r p : Brick) (x c : ℕ) → IsWithin r x p
+pub scanned_within : (r p : Brick) (x c : ℕ) → IsMasked r x p
     → HasCode p.code p.scanned c ↔ (HasCode r.code r.scanned c × HasCode r.code x c)
 scanned_within r p x c h =
     subst (λ b. HasCode b p.scanned c ↔ (HasCode r.code r.scanned c × HasCode r.code x c))
@@ -339,7 +334,7 @@ scanned_within r p x c h =
 pub below_within : (m part x : ℕ) → m < 2 ^ 64 → part ≡ bit_and m x → part < 2 ^ 64
 below_within m part x l e = omega (arith, l, e, and_le_l m x)
 
-pub frees_within : (r p : Brick) (x c : ℕ) → r.hits < 2 ^ 64 → IsWithin r x p
+pub frees_within : (r p : Brick) (x c : ℕ) → r.hits < 2 ^ 64 → IsMasked r x p
     → HasCode p.code (frees_of p) c ↔ (HasCode r.code (frees_of r) c × HasCode r.code x c)
 frees_within r p x c l h =
     let part = and_not p.code p.scanned p.hits c (below_within r.hits p.hits x l h.hits) in

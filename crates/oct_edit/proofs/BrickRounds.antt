@@ -30,12 +30,13 @@ use Rattle.oct_brick.proofs.CodedVoxels.{coded_voxel-IsInMap, morton_of-coded_vo
 use Rattle.std.proofs.lemmas.List.Kept.{AllPairs-cons}
 use Rattle.std.proofs.lemmas.List.Elements.{All-contains}
 use Rattle.oct_edit.specs.Listed.{ListedUpdate, update_of}
+use Rattle.oct_edit.specs.Bricks.{IsMasked}
 use Rattle.oct_edit.specs.Parts.{AreIn, IsFirstChild}
 use Rattle.oct_edit.specs.Scan.{events_of}
 use Rattle.oct_edit.proofs.Shares.{hit_event, miss_event}
 use Rattle.oct_edit.proofs.Keys.{IsParted, unlisted}
 use Rattle.oct_edit.proofs.BrickParts.{digit, code_is_listed, from_codes, parted_codes, first_codes}
-use Rattle.oct_edit.proofs.BrickParts.{IsRest, IsWithin, hits_within, scanned_within, frees_within}
+use Rattle.oct_edit.proofs.BrickParts.{IsRest, hits_within, scanned_within, frees_within}
 use Rattle.oct_edit.proofs.BrickParts.{below_within, halves}
 
 apart_one : (r : Brick) → AreAscending (r ∷ [])
@@ -110,8 +111,8 @@ pub record IsChildMask (b : Cube) (i : ℕ) (r : Brick) (x : ℕ) : Type 0 where
 
 pub mask_round : (b : Cube) (i : ℕ) (r p q w : Brick) (x y : ℕ) (hit miss : Event) → b.depth ≤ 15
     → w.code < 2 ^ 42 → IsRest w r → 0 < r.scanned → AreIn b (hit_voxels (r ∷ []))
-    → AreIn b (freed_voxels (r ∷ [])) → IsChildMask b i r x → IsWithin r x p → y ≡ bit_not w64 x
-    → IsWithin r y q
+    → AreIn b (freed_voxels (r ∷ [])) → IsChildMask b i r x → IsMasked r x p → y ≡ bit_not w64 x
+    → IsMasked r y q
     → IsRound b i (update_of (r ∷ []) hit miss) (update_of (p ∷ []) hit miss)
     (update_of (q ∷ []) hit miss)
 mask_round b i r p q w x y hit miss low small rest some in_hits in_frees mask part is later =
@@ -225,7 +226,7 @@ voxel_mask b i r w x deep small rest some in_hits in_frees is mask fits =
 
 -- what is left is less
 pub rest_less : (b : Cube) (i : ℕ) (r q w : Brick) (x y : ℕ) → IsRest w r → 0 < r.scanned
-    → IsChildMask b i r x → y ≡ bit_not w64 x → IsWithin r y q → q.scanned < r.scanned
+    → IsChildMask b i r x → y ≡ bit_not w64 x → IsMasked r y q → q.scanned < r.scanned
 rest_less b i r q w x y rest some mask is later =
     let c0 : ℕ = 64 * r.code + trailing_zeros w64 r.scanned in
     let has : HasCode r.code r.scanned c0 = some_code r.code r.scanned some rest.fits in
@@ -239,7 +240,7 @@ rest_less b i r q w x y rest some mask is later =
     omega (arith, le, ne)
 
 -- the rest and the part are of the brick
-pub rest_within : (r q w : Brick) (y : ℕ) → IsRest w r → IsWithin r y q → IsRest w q
+pub rest_within : (r q w : Brick) (y : ℕ) → IsRest w r → IsMasked r y q → IsRest w q
 rest_within r q w y rest later = record {
   code = later.code ∙ rest.code;
   fits = below_within r.scanned q.scanned y rest.fits later.scanned;
@@ -250,7 +251,7 @@ rest_within r q w y rest later = record {
 }
 
 pub part_brick : (b : Cube) (i : ℕ) (r p w : Brick) (x : ℕ) → w.code < 2 ^ 42 → IsRest w r
-    → 0 < r.scanned → IsChildMask b i r x → IsWithin r x p → IsBrick p
+    → 0 < r.scanned → IsChildMask b i r x → IsMasked r x p → IsBrick p
 part_brick b i r p w x small rest some mask part =
     let q = rest_within r p w x rest part in
     let c0 : ℕ = 64 * r.code + trailing_zeros w64 r.scanned in
@@ -333,7 +334,7 @@ unlisted_by f p c small below out =
 
 -- the event of the part that is one voxel
 pub part_event : (r p w : Brick) (x t c : ℕ) (hit miss event : Event) → w.code < 2 ^ 42 → IsRest w r
-    → IsWithin r x p → x ≡ 2 ^ t → c % 64 ≡ t → HasCode r.code r.scanned c → HasCode r.code x c
+    → IsMasked r x p → x ≡ 2 ^ t → c % 64 ≡ t → HasCode r.code r.scanned c → HasCode r.code x c
     → event ≡ (if bit_and r.hits x == 0 then miss else hit)
     → events_of (update_of (p ∷ []) hit miss) (coded_voxel c) ≡ Some event
 part_event r p w x t c hit miss event small rest part mask place has there is =

@@ -27,8 +27,9 @@ use Rattle.oct_brick.specs.declared.brick.Brick.{Brick}
 use Rattle.oct_brick.specs.Bricks.{IsBrick}
 use Rattle.oct_brick.specs.Voxels.{coded_voxel, hit_voxels, freed_voxels}
 use Rattle.oct_edit.specs.Listed.{ListedUpdate, update_of}
+use Rattle.oct_edit.specs.Bricks.{IsMasked}
 use Rattle.oct_edit.specs.Parts.{AreIn, IsUpdateIn, need_in}
-use Rattle.oct_edit.proofs.BrickParts.{IsRest, IsWithin}
+use Rattle.oct_edit.proofs.BrickParts.{IsRest}
 use Rattle.oct_edit.proofs.BrickRounds.{IsRound, IsChildMask, mask_round, octet_mask, voxel_mask}
 use Rattle.oct_edit.proofs.BrickRounds.{part_event}
 
@@ -36,7 +37,7 @@ use Rattle.oct_edit.proofs.BrickRounds.{part_event}
 abbrev pub part_of : Brick → ℕ → Brick
 part_of r x = record { code = r.code; scanned = bit_and r.scanned x; hits = bit_and r.hits x }
 
-pub part_is : (r : Brick) (x : ℕ) → IsWithin r x (part_of r x)
+pub part_is : (r : Brick) (x : ℕ) → IsMasked r x (part_of r x)
 part_is r x = record { code = refl; scanned = refl; hits = refl }
 
 -- the bit of the first voxel, as it is made
@@ -58,7 +59,7 @@ octet_below r w i rest some is =
 pub voxel_round : (b : Cube) (i : ℕ) (r q w : Brick) (x : ℕ) (hit miss : Event) → b.depth ≡ 15
     → IsBrick w → IsRest w r → 0 < r.scanned → AreIn b (hit_voxels (r ∷ []))
     → AreIn b (freed_voxels (r ∷ [])) → i ≡ trailing_zeros w64 r.scanned % 8
-    → x ≡ 2 ^ trailing_zeros w64 r.scanned → x < 2 ^ 64 → IsWithin r (bit_not w64 x) q
+    → x ≡ 2 ^ trailing_zeros w64 r.scanned → x < 2 ^ 64 → IsMasked r (bit_not w64 x) q
     → IsRound b i (update_of (r ∷ []) hit miss) (update_of (part_of r x ∷ []) hit miss)
     (update_of (q ∷ []) hit miss)
 voxel_round b i r q w x hit miss deep brick rest some in_hits in_frees is mask fits later =
@@ -71,7 +72,7 @@ voxel_round b i r q w x hit miss deep brick rest some in_hits in_frees is mask f
 pub octet_round : (b : Cube) (i : ℕ) (r p q w : Brick) (x : ℕ) (hit miss : Event) → b.depth ≡ 14
     → IsBrick w → IsRest w r → 0 < r.scanned → AreIn b (hit_voxels (r ∷ []))
     → AreIn b (freed_voxels (r ∷ [])) → i ≡ trailing_zeros w64 r.scanned / 8
-    → x ≡ 2 ^ (8 * i + 8) - 2 ^ (8 * i) → x < 2 ^ 64 → IsWithin r x p → IsWithin r (bit_not w64 x) q
+    → x ≡ 2 ^ (8 * i + 8) - 2 ^ (8 * i) → x < 2 ^ 64 → IsMasked r x p → IsMasked r (bit_not w64 x) q
     → IsRound b i (update_of (r ∷ []) hit miss) (update_of (p ∷ []) hit miss)
     (update_of (q ∷ []) hit miss)
 octet_round b i r p q w x hit miss deep brick rest some in_hits in_frees is mask fits part later =
@@ -100,7 +101,7 @@ voxel_index r = trailing_zeros w64 r.scanned % 8
 
 pub voxel_next : (s w : Tree) (p : Place) (b : Cube) (u : ListedUpdate) (whole r q : Brick)
     (hit miss : Event) (x : ℕ) (lazy : Bool)
-    → IsAtVoxel s w p b u whole r hit miss x lazy → IsWithin r (bit_not w64 x) q
+    → IsAtVoxel s w p b u whole r hit miss x lazy → IsMasked r (bit_not w64 x) q
     → IsRound b (voxel_index r) (update_of (r ∷ []) hit miss)
     (update_of (part_of r x ∷ []) hit miss) (update_of (q ∷ []) hit miss)
 voxel_next s w p b u whole r q hit miss x lazy h later =
@@ -148,7 +149,7 @@ pub voxel_step : (s w z : Tree) (p : Place) (b : Cube) (id : GroupId) (u : Liste
     (whole r q : Brick) (hit miss hit' miss' event : Event) (x : ℕ) (lazy : Bool)
     → IsLinked s → IsBlock b → link_of (node_in s p) ≡ Some id.number
     → IsAtVoxel s w p b u whole r hit miss x lazy
-    → IsWithin r (bit_not w64 x) q → hit' ≡ hit → miss' ≡ miss
+    → IsMasked r (bit_not w64 x) q → hit' ≡ hit → miss' ≡ miss
     → event ≡ (if bit_and r.hits x == 0 then miss else hit)
     → spare z.groups ≡ spare w.groups
     → ((k : Voxel) (lazy : Bool) → IsInMap k → block_in w (Slot id (voxel_index r))
@@ -244,7 +245,7 @@ octet_masked s w p b u whole r hit miss x lazy h =
 
 pub octet_next : (s w : Tree) (p : Place) (b : Cube) (u : ListedUpdate) (whole r part q : Brick)
     (hit miss : Event) (x : ℕ) (lazy : Bool)
-    → IsAtOctet s w p b u whole r hit miss x lazy → IsWithin r x part → IsWithin r (bit_not w64 x) q
+    → IsAtOctet s w p b u whole r hit miss x lazy → IsMasked r x part → IsMasked r (bit_not w64 x) q
     → IsRound b (octet_index r) (update_of (r ∷ []) hit miss) (update_of (part ∷ []) hit miss)
     (update_of (q ∷ []) hit miss)
 octet_next s w p b u whole r part q hit miss x lazy h within later =
@@ -254,7 +255,7 @@ octet_next s w p b u whole r part q hit miss x lazy h within later =
 -- the part lies in the octet's block
 pub octet_inside : (s w : Tree) (p : Place) (b : Cube) (u : ListedUpdate) (whole r part : Brick)
     (hit miss hit' miss' : Event) (x : ℕ) (lazy : Bool)
-    → IsAtOctet s w p b u whole r hit miss x lazy → IsWithin r x part
+    → IsAtOctet s w p b u whole r hit miss x lazy → IsMasked r x part
     → IsUpdateIn (child_of b (octet_index r)) (update_of (part ∷ []) hit' miss')
 octet_inside s w p b u whole r part hit miss hit' miss' x lazy h within =
     let rest : Brick = part_of r (bit_not w64 x) in
@@ -269,7 +270,7 @@ octet_inside s w p b u whole r part hit miss hit' miss' x lazy h within =
 pub octet_room : (s w : Tree) (p : Place) (b : Cube) (u : ListedUpdate) (whole r part : Brick)
     (hit miss hit' miss' : Event) (x : ℕ) (lazy : Bool)
     → IsBlock b → IsUpdateIn b u → need_in (events_of u) b ≤ spare s.groups + 1
-    → IsAtOctet s w p b u whole r hit miss x lazy → IsWithin r x part → hit' ≡ hit → miss' ≡ miss
+    → IsAtOctet s w p b u whole r hit miss x lazy → IsMasked r x part → hit' ≡ hit → miss' ≡ miss
     → need_in (events_of (update_of (part ∷ []) hit' miss')) (child_of b (octet_index r))
     ≤ spare w.groups
 octet_room s w p b u whole r part hit miss hit' miss' x lazy ok inside enough h within same_hit
@@ -285,8 +286,8 @@ octet_room s w p b u whole r part hit miss hit' miss' x lazy ok inside enough h 
 -- after the octet's update, one octet more is done
 pub octet_step : (s w z : Tree) (p : Place) (b : Cube) (u : ListedUpdate) (whole r part q : Brick)
     (hit miss hit' miss' hit'' miss'' : Event) (x : ℕ) (lazy : Bool)
-    → IsLinked s → IsBlock b → IsAtOctet s w p b u whole r hit miss x lazy → IsWithin r x part
-    → IsWithin r (bit_not w64 x) q → hit' ≡ hit → miss' ≡ miss → hit'' ≡ hit → miss'' ≡ miss
+    → IsLinked s → IsBlock b → IsAtOctet s w p b u whole r hit miss x lazy → IsMasked r x part
+    → IsMasked r (bit_not w64 x) q → hit' ≡ hit → miss' ≡ miss → hit'' ≡ hit → miss'' ≡ miss
     → IsTouched w z (child_of b (octet_index r)) (events_of (update_of (part ∷ []) hit' miss')) lazy
     → spare w.groups
     ≤ spare z.groups

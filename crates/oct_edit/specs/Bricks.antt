@@ -77,6 +77,18 @@ pub record IsApplied (t u : Tree) (p : Place) (update : BrickUpdate) (lazy : Boo
   pub room : (b : Cube) → block_in t p ≡ Some b
       → spare t.groups ≤ spare u.groups + need_in (events_of (listed_one update)) b
 
+-- the part of a brick whose voxels' bits are set in a mask
+pub record IsMasked (whole : Brick) (mask : ℕ) (part : Brick) : Type 0 where
+  pub code : part.code ≡ whole.code
+  pub scanned : part.scanned ≡ bit_and whole.scanned mask
+  pub hits : part.hits ≡ bit_and whole.hits mask
+
+-- the part of a brick's update within a mask, by the same events
+pub record IsPart (whole part : BrickUpdate) (mask : ℕ) : Type 0 where
+  pub brick : IsMasked whole.brick mask part.brick
+  pub hit : part.hit ≡ whole.hit
+  pub miss : part.miss ≡ whole.miss
+
 -- some voxel of a block has no event of an update
 abbrev pub HasGap : Cube → ListedUpdate → Type 0
 HasGap b update = (k : Voxel) × IsInMap k × HoldsVoxel b k × (events_of update k ≡ None)

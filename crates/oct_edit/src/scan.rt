@@ -1,5 +1,5 @@
 //! The events of a scan on all its voxels, in one pass over the tree.
-ghost use Rattle.std.specs.Prelude.{◌≡◌, ◌+◌, ◌-◌, ◌*◌, ◌/◌, ◌%◌, ◌^◌, ◌==◌, true, bit_and, ◌≤◌};
+ghost use Rattle.std.specs.Prelude.{◌≡◌, ◌+◌, ◌-◌, ◌*◌, ◌/◌, ◌%◌, ◌^◌, ◌==◌, true, ◌≤◌};
 ghost use Rattle.std.specs.Prelude.{◌≤ℤ◌, ◌<◌, ◌⊎◌, [], All, Bool, IsTrue, IsSome, IfSome, IfNone};
 ghost use Rattle.std.specs.Prelude.{Some, None, false};
 ghost use Rattle.std.specs.Bool.{OnTrue, OnFalse};
@@ -25,7 +25,7 @@ ghost use Rattle.oct_edit.specs.Parts.{IsUpdateIn, IsAtRest, IsFirstChild, need_
 ghost use Rattle.oct_edit.specs.Scan.{events_of, AreDisjoint};
 ghost use Rattle.oct_edit.specs.Bricks.{listed, listed_one, brick_child, event_of_bit, CanApply};
 ghost use Rattle.oct_edit.specs.Bricks.{IsApplied, AreAlike, AreCut, IsFirstBrick, HasGap};
-ghost use Rattle.oct_edit.specs.Bricks.{FillsBlock, IsPlain};
+ghost use Rattle.oct_edit.specs.Bricks.{FillsBlock, IsPlain, IsPart};
 
 use crate::voxel::{apply_at, close, enter, note_eager, stays};
 use oct_arena::Node;
@@ -245,11 +245,7 @@ fn octet_bits(i: u8) -> u64
 impl BrickUpdate {
     /// The part of the voxels whose bits are set in a mask.
     fn within(self, mask: u64) -> BrickUpdate
-        ensures code { result.brick.code ≡ self.brick.code }
-        ensures scanned { result.brick.scanned ≡ bit_and self.brick.scanned mask }
-        ensures hits { result.brick.hits ≡ bit_and self.brick.hits mask }
-        ensures hit { result.hit ≡ self.hit }
-        ensures miss { result.miss ≡ self.miss }
+        ensures { IsPart self result mask }
     {
         BrickUpdate {
             brick: self.brick.within(mask),

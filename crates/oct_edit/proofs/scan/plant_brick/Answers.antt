@@ -10,11 +10,12 @@ use Rattle.oct_edit.specs.Bricks.{listed_one, IsPlain}
 use Rattle.oct_edit.proofs.Needs.{place_in_map}
 use Rattle.oct_edit.proofs.BrickRounds.{rest_of_brick, rest_within, rest_less, none_left}
 use Rattle.oct_edit.proofs.BrickWays.{octet_index, octet_at, octet_few, octet_masked}
-use Rattle.oct_edit.proofs.BrickOctets.{IsPart, IsNext, octet_can, octet_done, octet_plain}
+use Rattle.oct_edit.proofs.BrickOctets.{IsNext, octet_can, octet_done, octet_plain}
 use Rattle.oct_edit.proofs.Planting.{planted_start, planted_spared}
 use Rattle.oct_edit.proofs.PlantedBricks.{planted_brick}
 use Rattle.oct_edit.proofs.PlantedVoxels.{no_hits, still_freed}
 use Rattle.oct_edit.proofs.Updates.{need_some}
+use Rattle.oct_edit.proofs.scan.plant_brick.Goals.{After-within}
 use Rattle.oct_edit.proofs.scan.plant_brick.Goals as goal
 
 pub split_to-id-requires-clause-place : goal.split_to-id-requires-clause-place
@@ -49,7 +50,7 @@ octet_bits-octet-requires c =
     c.loop-rest-test.true
 
 -- the octet that is next
-next : (c : goal.After-within) (b : Cube) → block_in c.args.tree.now c.args.p ≡ Some b
+next : (c : After-within) (b : Cube) → block_in c.args.tree.now c.args.p ≡ Some b
     → IsNext c.split_to-id.new.self c.loop-rest.tree c.args.p b c.args.update c.loop-rest.rest
     c.octet_bits-octet.result false
 next c b e =
@@ -59,18 +60,6 @@ next c b e =
     c.loop-rest.invariant.rest c.loop-rest-test.true (c.loop-rest.invariant.way b e)
     (c.requires.can.inside b e) c.octet_bits-octet.ensures (search rules)
 
--- its part of the update
-part : (c : goal.After-within) → IsPart c.loop-rest.rest c.within.result c.octet_bits-octet.result
-part c = record {
-  brick = record {
-    code = c.within.ensures.code;
-    scanned = c.within.ensures.scanned;
-    hits = c.within.ensures.hits;
-  };
-  hit = c.within.ensures.hit;
-  miss = c.within.ensures.miss;
-}
-
 pub plant_octet-requires-clause-can : goal.plant_octet-requires-clause-can
 plant_octet-requires-clause-can c =
     let (b, e) = place_block c.args.tree.now c.args.p c.requires.can.place in
@@ -78,7 +67,7 @@ plant_octet-requires-clause-can c =
     octet_can c.args.tree.now c.split_to-id.new.self c.loop-rest.tree c.args.p b
     c.split_to-id.result c.args.update c.loop-rest.rest c.within.result c.octet_bits-octet.result
     false c.requires.can e (ap link_of c.split_to-id.ensures.split.link) (omega (arith, one))
-    (next c b e) (part c)
+    (next c b e) c.within.ensures
 
 pub plant_octet-requires-clause-plain : goal.plant_octet-requires-clause-plain
 plant_octet-requires-clause-plain c =
@@ -91,31 +80,20 @@ plant_octet-requires-clause-plain c =
     c.args.value c.requires.can e c.split_to-id.ensures.linked
     (subst (IsSplit c.args.tree.now c.split_to-id.new.self c.args.p c.split_to-id.result) same
     c.split_to-id.ensures.split)
-    (c.split_to-id.ensures.outside b e) (next c b e) (part c) c.requires.plain
+    (c.split_to-id.ensures.outside b e) (next c b e) c.within.ensures c.requires.plain
     c.loop-rest.invariant.freed)
 
 pub loop-rest-smaller : goal.loop-rest-smaller
 loop-rest-smaller c =
     let (b, e) = place_block c.args.tree.now c.args.p c.requires.can.place in
-    let at : IsNext c.split_to-id.new.self c.loop-rest.tree c.args.p b c.args.update
-    c.loop-rest.rest c.octet_bits-octet.result false =
-    octet_at c.split_to-id.new.self c.loop-rest.tree c.args.p b (listed_one c.args.update)
-    c.args.update.brick c.loop-rest.rest.brick c.loop-rest.rest.hit c.loop-rest.rest.miss
-    c.octet_bits-octet.result false (c.requires.can.depth b e) c.requires.can.brick
-    c.loop-rest.invariant.rest c.loop-rest-test.true (c.loop-rest.invariant.way b e)
-    (c.requires.can.inside b e) c.octet_bits-octet.ensures (search rules) in
+    let at = next (goal.at.loop-rest-smaller c).After-within b e in
     rest_less b (octet_index c.loop-rest.rest.brick) c.loop-rest.rest.brick
     c.within-rest.result.brick c.args.update.brick c.octet_bits-octet.result
     (bit_not w64 c.octet_bits-octet.result) c.loop-rest.invariant.rest at.some
     (octet_masked c.split_to-id.new.self c.loop-rest.tree c.args.p b (listed_one c.args.update)
     c.args.update.brick c.loop-rest.rest.brick c.loop-rest.rest.hit c.loop-rest.rest.miss
     c.octet_bits-octet.result false at)
-    refl
-    (record {
-      code = c.within-rest.ensures.code;
-      scanned = c.within-rest.ensures.scanned;
-      hits = c.within-rest.ensures.hits;
-    })
+    refl c.within-rest.ensures.brick
 
 pub loop-rest-preserved : goal.loop-rest-preserved
 loop-rest-preserved c = record {
@@ -124,41 +102,15 @@ loop-rest-preserved c = record {
       c.args.p b c.split_to-id.result c.args.update c.loop-rest.rest c.within.result
       c.within-rest.result c.octet_bits-octet.result false c.requires.can e
       c.split_to-id.ensures.linked (ap link_of c.split_to-id.ensures.split.link)
-      (octet_at c.split_to-id.new.self c.loop-rest.tree c.args.p b (listed_one c.args.update)
-      c.args.update.brick c.loop-rest.rest.brick c.loop-rest.rest.hit c.loop-rest.rest.miss
-      c.octet_bits-octet.result false (c.requires.can.depth b e) c.requires.can.brick
-      c.loop-rest.invariant.rest c.loop-rest-test.true (c.loop-rest.invariant.way b e)
-      (c.requires.can.inside b e) c.octet_bits-octet.ensures (search rules))
-      (record {
-        brick = record {
-          code = c.within.ensures.code;
-          scanned = c.within.ensures.scanned;
-          hits = c.within.ensures.hits;
-        };
-        hit = c.within.ensures.hit;
-        miss = c.within.ensures.miss;
-      })
-      (record {
-        brick = record {
-          code = c.within-rest.ensures.code;
-          scanned = c.within-rest.ensures.scanned;
-          hits = c.within-rest.ensures.hits;
-        };
-        hit = c.within-rest.ensures.hit;
-        miss = c.within-rest.ensures.miss;
-      })
-      c.plant_octet.ensures;
+      (next (goal.at.loop-rest-preserved c).After-within b e) c.within.ensures
+      c.within-rest.ensures c.plant_octet.ensures;
   rest =
       rest_within c.loop-rest.rest.brick c.within-rest.result.brick c.args.update.brick
       (bit_not w64 c.octet_bits-octet.result) c.loop-rest.invariant.rest
-      (record {
-        code = c.within-rest.ensures.code;
-        scanned = c.within-rest.ensures.scanned;
-        hits = c.within-rest.ensures.hits;
-      });
+      c.within-rest.ensures.brick;
   freed =
       still_freed c.loop-rest.rest.brick.hits c.within-rest.result.brick.hits _
-      c.within-rest.ensures.hits c.loop-rest.invariant.freed;
+      c.within-rest.ensures.brick.hits c.loop-rest.invariant.freed;
 }
 
 pub returns : goal.returns

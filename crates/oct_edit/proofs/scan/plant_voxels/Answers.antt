@@ -1,6 +1,6 @@
-use Rattle.std.proofs.Common.{◌≡◌, ℕ, ◌+◌, ◌*◌, ◌^◌, ◌%◌, ◌<◌, [], ◌∷◌, refl, sym, subst, ◌∙◌, ap}
+use Rattle.std.proofs.Common.{◌≡◌, ℕ, ◌+◌, ◌<◌, [], ◌∷◌, refl, sym, subst, ◌∙◌, ap}
 use Rattle.std.proofs.Common.{arith, rules, false, Some, SFits, w32, to_z, of_z, to_z-of_z}
-use Rattle.std.specs.Int.{bit_not, w64, trailing_zeros}
+use Rattle.std.specs.Int.{bit_not, w64}
 use Rattle.oct_key.specs.Block.{Cube, child_of}
 use Rattle.oct_key.proofs.Blocks.{depth_child_of}
 use Rattle.oct_odds.specs.Update.{IsWithin as IsValueWithin}
@@ -14,14 +14,14 @@ use Rattle.oct_edit.specs.Listed.{update_of}
 use Rattle.oct_edit.specs.Bricks.{listed_one}
 use Rattle.oct_edit.proofs.Needs.{place_in_map}
 use Rattle.oct_edit.proofs.UpdateEnds.{one_plain}
-use Rattle.oct_edit.proofs.BrickParts.{IsWithin}
 use Rattle.oct_edit.proofs.BrickRounds.{rest_of_brick, rest_within, rest_less, none_left}
 use Rattle.oct_edit.proofs.BrickWays.{part_of, voxel_index, voxel_at, voxel_masked, voxel_inside}
-use Rattle.oct_edit.proofs.BrickWays.{voxel_step, IsAtVoxel}
+use Rattle.oct_edit.proofs.BrickWays.{voxel_step, IsAtVoxel, bit_of}
 use Rattle.oct_edit.proofs.Updates.{way_slot, need_some}
 use Rattle.oct_edit.proofs.Planting.{planted_start, planted_octet, planted_spared}
 use Rattle.oct_edit.proofs.PlantedVoxels.{voxel_planted, no_hits, still_freed, freed_event}
 use Rattle.oct_edit.proofs.PlantedVoxels.{within_after}
+use Rattle.oct_edit.proofs.scan.plant_voxels.Goals.{In-loop-rest}
 use Rattle.oct_edit.proofs.scan.plant_voxels.Goals as goal
 
 pub split_to-id-requires-clause-place : goal.split_to-id-requires-clause-place
@@ -50,6 +50,17 @@ loop-rest-init c = record {
   freed = c.requires.plain.freed;
 }
 
+-- the first voxel of what is left
+first : (c : In-loop-rest) (b : Cube) → block_in c.args.tree.now c.args.p ≡ Some b
+    → IsAtVoxel c.split_to-id.new.self c.loop-rest.tree c.args.p b (listed_one c.args.update)
+    c.args.update.brick c.loop-rest.rest.brick c.loop-rest.rest.hit c.loop-rest.rest.miss
+    (bit_of c.loop-rest.rest.brick) false
+first c b e =
+    voxel_at c.split_to-id.new.self c.loop-rest.tree c.args.p b (listed_one c.args.update)
+    c.args.update.brick c.loop-rest.rest.brick c.loop-rest.rest.hit c.loop-rest.rest.miss
+    false (c.requires.can.depth b e) c.requires.can.brick c.loop-rest.invariant.rest
+    c.loop-rest-test.true (c.loop-rest.invariant.way b e) (c.requires.can.inside b e)
+
 pub set_place-requires-clause-place : goal.set_place-requires-clause-place
 set_place-requires-clause-place c =
     let (b, e) = place_block c.args.tree.now c.args.p c.requires.can.place in
@@ -62,12 +73,8 @@ pub set_place-requires-clause-before : goal.set_place-requires-clause-before
 set_place-requires-clause-before c =
     let (b, e) = place_block c.args.tree.now c.args.p c.requires.can.place in
     let r = c.loop-rest.rest.brick in
-    let h =
-    voxel_at c.split_to-id.new.self c.loop-rest.tree c.args.p b (listed_one c.args.update)
-    c.args.update.brick c.loop-rest.rest.brick c.loop-rest.rest.hit c.loop-rest.rest.miss
-    false (c.requires.can.depth b e) c.requires.can.brick c.loop-rest.invariant.rest
-    c.loop-rest-test.true (c.loop-rest.invariant.way b e) (c.requires.can.inside b e) in
-    let x : ℕ = 1 * 2 ^ trailing_zeros w64 r.scanned % 2 ^ 64 in
+    let h = first (goal.at.set_place-requires-clause-before c).In-loop-rest b e in
+    let x = bit_of r in
     let deep = c.requires.can.depth b e in
     let few : voxel_index r < 8 = omega arith in
     let place =
@@ -90,56 +97,34 @@ set_place-requires-clause-within c =
     (within_after _ _ c.args.value
     (way.done.apart.outside.odds ∙ c.split_to-id.ensures.split.odds) c.requires.plain.within)
 
--- what is left of it
-left_over : (c : goal.After-within-rest)
-    → IsWithin c.loop-rest.rest.brick
-    (bit_not w64 (1 * 2 ^ trailing_zeros w64 c.loop-rest.rest.brick.scanned % 2 ^ 64))
-    c.within-rest.result.brick
-left_over c = record {
-  code = c.within-rest.ensures.code;
-  scanned = c.within-rest.ensures.scanned;
-  hits = c.within-rest.ensures.hits;
-}
-
--- the first voxel of what is left
-first : (c : goal.After-within-rest) (b : Cube) → block_in c.args.tree.now c.args.p ≡ Some b
-    → IsAtVoxel c.split_to-id.new.self c.loop-rest.tree c.args.p b (listed_one c.args.update)
-    c.args.update.brick c.loop-rest.rest.brick c.loop-rest.rest.hit c.loop-rest.rest.miss
-    (1 * 2 ^ trailing_zeros w64 c.loop-rest.rest.brick.scanned % 2 ^ 64) false
-first c b e =
-    voxel_at c.split_to-id.new.self c.loop-rest.tree c.args.p b (listed_one c.args.update)
-    c.args.update.brick c.loop-rest.rest.brick c.loop-rest.rest.hit c.loop-rest.rest.miss
-    false (c.requires.can.depth b e) c.requires.can.brick c.loop-rest.invariant.rest
-    c.loop-rest-test.true (c.loop-rest.invariant.way b e) (c.requires.can.inside b e)
-
 pub loop-rest-smaller : goal.loop-rest-smaller
 loop-rest-smaller c =
     let (b, e) = place_block c.args.tree.now c.args.p c.requires.can.place in
     let r = c.loop-rest.rest.brick in
-    let x : ℕ = 1 * 2 ^ trailing_zeros w64 r.scanned % 2 ^ 64 in
-    let h = first c b e in
+    let x = bit_of r in
+    let h = first (goal.at.loop-rest-smaller c).In-loop-rest b e in
     rest_less b (voxel_index r) r c.within-rest.result.brick c.args.update.brick x (bit_not w64 x)
     c.loop-rest.invariant.rest h.some
     (voxel_masked c.split_to-id.new.self c.loop-rest.tree c.args.p b (listed_one c.args.update)
     c.args.update.brick r c.loop-rest.rest.hit c.loop-rest.rest.miss x false h)
-    refl (left_over c)
+    refl c.within-rest.ensures.brick
 
 pub loop-rest-preserved : goal.loop-rest-preserved
 loop-rest-preserved c = record {
   way = λ b e.
       let r = c.loop-rest.rest.brick in
-      let x : ℕ = 1 * 2 ^ trailing_zeros w64 r.scanned % 2 ^ 64 in
+      let x = bit_of r in
       let fits : SFits w32 c.args.value = search rules in
       let same : to_z w32 (of_z w32 c.args.value) ≡ c.args.value = to_z-of_z fits in
       let ok = place_in_map c.args.tree.now c.args.p b c.requires.can.linked e in
-      let h = first c b e in
+      let h = first (goal.at.loop-rest-preserved c).In-loop-rest b e in
       let slot = Slot c.split_to-id.result (voxel_index r) in
       voxel_step c.split_to-id.new.self c.loop-rest.tree c.set_place.new.self c.args.p
       b c.split_to-id.result (listed_one c.args.update) c.args.update.brick r
       c.within-rest.result.brick c.loop-rest.rest.hit c.loop-rest.rest.miss c.within-rest.result.hit
       c.within-rest.result.miss c.loop-rest.rest.miss x false c.split_to-id.ensures.linked ok
-      (ap link_of c.split_to-id.ensures.split.link) h (left_over c) c.within-rest.ensures.hit
-      c.within-rest.ensures.miss
+      (ap link_of c.split_to-id.ensures.split.link) h c.within-rest.ensures.brick
+      c.within-rest.ensures.hit c.within-rest.ensures.miss
       (freed_event r x c.loop-rest.rest.hit c.loop-rest.rest.miss c.loop-rest.invariant.freed)
       c.set_place.ensures.written.spare
       (voxel_planted c.args.tree.now c.split_to-id.new.self c.loop-rest.tree c.set_place.new.self
@@ -156,11 +141,11 @@ loop-rest-preserved c = record {
       c.set_place.ensures.outside);
   rest =
       rest_within c.loop-rest.rest.brick c.within-rest.result.brick c.args.update.brick
-      (bit_not w64 (1 * 2 ^ trailing_zeros w64 c.loop-rest.rest.brick.scanned % 2 ^ 64))
-      c.loop-rest.invariant.rest (left_over c);
+      (bit_not w64 (bit_of c.loop-rest.rest.brick))
+      c.loop-rest.invariant.rest c.within-rest.ensures.brick;
   freed =
       still_freed c.loop-rest.rest.brick.hits c.within-rest.result.brick.hits _
-      c.within-rest.ensures.hits c.loop-rest.invariant.freed;
+      c.within-rest.ensures.brick.hits c.loop-rest.invariant.freed;
 }
 
 pub returns : goal.returns

@@ -1,14 +1,17 @@
-use Rattle.std.proofs.Common.{◌≡◌, refl, sym, subst, ap, arith, rules}
+use Rattle.std.proofs.Common.{◌≡◌, Some, refl, sym, subst, ap, arith, rules}
 use Rattle.std.specs.Int.{bit_not, w64}
+use Rattle.oct_key.specs.Block.{Cube}
 use Rattle.oct_arena.specs.Nodes.{link_of}
+use Rattle.oct_tree.specs.Tree.{block_in}
 use Rattle.oct_tree.proofs.Paths.{place_block}
 use Rattle.oct_edit.specs.Bricks.{listed_one, IsApplied}
 use Rattle.oct_edit.proofs.Needs.{place_in_map, entered_spare}
 use Rattle.oct_edit.proofs.UpdateEnds.{rest_touched}
 use Rattle.oct_edit.proofs.BrickRounds.{rest_of_brick, rest_within, rest_less, none_left}
 use Rattle.oct_edit.proofs.BrickWays.{octet_index, octet_at, octet_few, octet_masked}
-use Rattle.oct_edit.proofs.BrickOctets.{octet_can, octet_done}
+use Rattle.oct_edit.proofs.BrickOctets.{IsNext, octet_can, octet_done}
 use Rattle.oct_edit.proofs.Updates.{way_start, way_back, way_end, way_spared, need_some}
+use Rattle.oct_edit.proofs.scan.touch_brick.Goals.{After-within}
 use Rattle.oct_edit.proofs.scan.touch_brick.Goals as goal
 
 pub returns-in-Some : goal.returns-in-Some
@@ -46,6 +49,17 @@ octet_bits-octet-requires c =
     octet_few c.loop-rest.rest.brick c.args.update.brick c.loop-rest.invariant.rest
     c.loop-rest-test.true
 
+-- the octet that is next
+next : (c : After-within) (b : Cube) → block_in c.args.tree.now c.args.p ≡ Some b
+    → IsNext c.enter-id.new.tree c.loop-rest.tree c.args.p b c.args.update c.loop-rest.rest
+    c.octet_bits-octet.result c.args.lazy
+next c b e =
+    octet_at c.enter-id.new.tree c.loop-rest.tree c.args.p b (listed_one c.args.update)
+    c.args.update.brick c.loop-rest.rest.brick c.loop-rest.rest.hit c.loop-rest.rest.miss
+    c.octet_bits-octet.result c.args.lazy (c.requires.depth b e) c.requires.brick
+    c.loop-rest.invariant.rest c.loop-rest-test.true (c.loop-rest.invariant.way b e)
+    (c.requires.inside b e) c.octet_bits-octet.ensures (search rules)
+
 pub touch_octet-requires : goal.touch_octet-requires
 touch_octet-requires c =
     let (b, e) = place_block c.args.tree.now c.args.p c.requires.place in
@@ -54,42 +68,19 @@ touch_octet-requires c =
     c.args.update c.loop-rest.rest c.within.result c.octet_bits-octet.result c.args.lazy
     c.requires e (ap link_of entered.link.1)
     (entered_spare c.args.tree.now c.enter-id.new.tree c.args.p b c.enter-id.result entered)
-    (octet_at c.enter-id.new.tree c.loop-rest.tree c.args.p b (listed_one c.args.update)
-    c.args.update.brick c.loop-rest.rest.brick c.loop-rest.rest.hit c.loop-rest.rest.miss
-    c.octet_bits-octet.result c.args.lazy (c.requires.depth b e) c.requires.brick
-    c.loop-rest.invariant.rest c.loop-rest-test.true (c.loop-rest.invariant.way b e)
-    (c.requires.inside b e) c.octet_bits-octet.ensures (search rules))
-    (record {
-      brick = record {
-        code = c.within.ensures.code;
-        scanned = c.within.ensures.scanned;
-        hits = c.within.ensures.hits;
-      };
-      hit = c.within.ensures.hit;
-      miss = c.within.ensures.miss;
-    })
+    (next c b e) c.within.ensures
 
 pub loop-rest-smaller : goal.loop-rest-smaller
 loop-rest-smaller c =
     let (b, e) = place_block c.args.tree.now c.args.p c.requires.place in
-    let at =
-    octet_at c.enter-id.new.tree c.loop-rest.tree c.args.p b (listed_one c.args.update)
-    c.args.update.brick c.loop-rest.rest.brick c.loop-rest.rest.hit c.loop-rest.rest.miss
-    c.octet_bits-octet.result c.args.lazy (c.requires.depth b e) c.requires.brick
-    c.loop-rest.invariant.rest c.loop-rest-test.true (c.loop-rest.invariant.way b e)
-    (c.requires.inside b e) c.octet_bits-octet.ensures (search rules) in
+    let at = next (goal.at.loop-rest-smaller c).After-within b e in
     rest_less b (octet_index c.loop-rest.rest.brick) c.loop-rest.rest.brick
     c.within-rest.result.brick c.args.update.brick c.octet_bits-octet.result
     (bit_not w64 c.octet_bits-octet.result) c.loop-rest.invariant.rest at.some
     (octet_masked c.enter-id.new.tree c.loop-rest.tree c.args.p b (listed_one c.args.update)
     c.args.update.brick c.loop-rest.rest.brick c.loop-rest.rest.hit c.loop-rest.rest.miss
     c.octet_bits-octet.result c.args.lazy at)
-    refl
-    (record {
-      code = c.within-rest.ensures.code;
-      scanned = c.within-rest.ensures.scanned;
-      hits = c.within-rest.ensures.hits;
-    })
+    refl c.within-rest.ensures.brick
 
 pub loop-rest-preserved : goal.loop-rest-preserved
 loop-rest-preserved c = record {
@@ -99,38 +90,12 @@ loop-rest-preserved c = record {
       c.args.p b c.enter-id.result c.args.update c.loop-rest.rest c.within.result
       c.within-rest.result c.octet_bits-octet.result c.args.lazy c.requires e entered.linked
       (ap link_of entered.link.1)
-      (octet_at c.enter-id.new.tree c.loop-rest.tree c.args.p b (listed_one c.args.update)
-      c.args.update.brick c.loop-rest.rest.brick c.loop-rest.rest.hit c.loop-rest.rest.miss
-      c.octet_bits-octet.result c.args.lazy (c.requires.depth b e) c.requires.brick
-      c.loop-rest.invariant.rest c.loop-rest-test.true (c.loop-rest.invariant.way b e)
-      (c.requires.inside b e) c.octet_bits-octet.ensures (search rules))
-      (record {
-        brick = record {
-          code = c.within.ensures.code;
-          scanned = c.within.ensures.scanned;
-          hits = c.within.ensures.hits;
-        };
-        hit = c.within.ensures.hit;
-        miss = c.within.ensures.miss;
-      })
-      (record {
-        brick = record {
-          code = c.within-rest.ensures.code;
-          scanned = c.within-rest.ensures.scanned;
-          hits = c.within-rest.ensures.hits;
-        };
-        hit = c.within-rest.ensures.hit;
-        miss = c.within-rest.ensures.miss;
-      })
-      c.touch_octet.ensures;
+      (next (goal.at.loop-rest-preserved c).After-within b e) c.within.ensures
+      c.within-rest.ensures c.touch_octet.ensures;
   rest =
       rest_within c.loop-rest.rest.brick c.within-rest.result.brick c.args.update.brick
       (bit_not w64 c.octet_bits-octet.result) c.loop-rest.invariant.rest
-      (record {
-        code = c.within-rest.ensures.code;
-        scanned = c.within-rest.ensures.scanned;
-        hits = c.within-rest.ensures.hits;
-      });
+      c.within-rest.ensures.brick;
 }
 
 pub close-requires-clause-linked : goal.close-requires-clause-linked

@@ -1,21 +1,21 @@
-use Rattle.std.proofs.Common.{◌≡◌, ℕ, ◌+◌, ◌*◌, ◌^◌, ◌%◌, ◌<◌, [], ◌∷◌, refl, sym, subst, ◌∙◌, ap}
-use Rattle.std.proofs.Common.{arith}
-use Rattle.std.specs.Int.{bit_not, w64, trailing_zeros}
-use Rattle.oct_key.specs.Block.{child_of}
+use Rattle.std.proofs.Common.{◌≡◌, ℕ, ◌+◌, ◌<◌, [], ◌∷◌, Some, refl, sym, subst, ◌∙◌, ap, arith}
+use Rattle.std.specs.Int.{bit_not, w64}
+use Rattle.oct_key.specs.Block.{Cube, child_of}
 use Rattle.oct_key.proofs.Blocks.{depth_child_of}
 use Rattle.oct_arena.specs.Nodes.{link_of}
 use Rattle.oct_tree.specs.declared.place.Place.TheVariants.{Slot}
+use Rattle.oct_tree.specs.Tree.{block_in}
 use Rattle.oct_tree.proofs.Paths.{place_block}
 use Rattle.oct_odds.specs.Update.{IsSmallEvent}
 use Rattle.oct_edit.specs.Listed.{update_of}
 use Rattle.oct_edit.specs.Bricks.{listed_one, event_of_bit, IsApplied}
 use Rattle.oct_edit.proofs.Needs.{place_in_map}
 use Rattle.oct_edit.proofs.UpdateEnds.{one_plain, rest_touched}
-use Rattle.oct_edit.proofs.BrickParts.{IsWithin}
 use Rattle.oct_edit.proofs.BrickRounds.{rest_of_brick, rest_within, rest_less, none_left}
 use Rattle.oct_edit.proofs.BrickWays.{part_of, voxel_index, voxel_at, voxel_masked, voxel_inside}
-use Rattle.oct_edit.proofs.BrickWays.{voxel_step}
+use Rattle.oct_edit.proofs.BrickWays.{voxel_step, IsAtVoxel, bit_of}
 use Rattle.oct_edit.proofs.Updates.{way_start, way_place, way_back, way_end, way_spared, need_some}
+use Rattle.oct_edit.proofs.scan.touch_octet.Goals.{In-loop-rest}
 use Rattle.oct_edit.proofs.scan.touch_octet.Goals as goal
 
 pub returns-in-Some : goal.returns-in-Some
@@ -48,6 +48,17 @@ loop-rest-init c = record {
   rest = rest_of_brick c.args.update.brick c.requires.brick;
 }
 
+-- the first voxel of what is left
+first : (c : In-loop-rest) (b : Cube) → block_in c.args.tree.now c.args.p ≡ Some b
+    → IsAtVoxel c.enter-id.new.tree c.loop-rest.tree c.args.p b (listed_one c.args.update)
+    c.args.update.brick c.loop-rest.rest.brick c.loop-rest.rest.hit c.loop-rest.rest.miss
+    (bit_of c.loop-rest.rest.brick) c.args.lazy
+first c b e =
+    voxel_at c.enter-id.new.tree c.loop-rest.tree c.args.p b (listed_one c.args.update)
+    c.args.update.brick c.loop-rest.rest.brick c.loop-rest.rest.hit c.loop-rest.rest.miss
+    c.args.lazy (c.requires.depth b e) c.requires.brick c.loop-rest.invariant.rest
+    c.loop-rest-test.true (c.loop-rest.invariant.way b e) (c.requires.inside b e)
+
 pub apply_bit-requires-clause-linked : goal.apply_bit-requires-clause-linked
 apply_bit-requires-clause-linked c =
     (let (b, e) = place_block c.args.tree.now c.args.p c.requires.place in
@@ -57,22 +68,17 @@ apply_bit-requires-clause-linked c =
 pub apply_bit-requires-clause-place : goal.apply_bit-requires-clause-place
 apply_bit-requires-clause-place c =
     let (b, e) = place_block c.args.tree.now c.args.p c.requires.place in
-    let t = trailing_zeros w64 c.loop-rest.rest.brick.scanned in
-    let few : t % 8 < 8 = omega arith in
+    let few : voxel_index c.loop-rest.rest.brick < 8 = omega arith in
     (way_place c.args.tree.now c.enter-id.new.tree c.loop-rest.tree c.args.p b c.enter-id.result
-    (t % 8) (listed_one c.args.update) (listed_one c.loop-rest.rest) c.args.lazy few
-    (c.enter-id.ensures b e) (c.loop-rest.invariant.way b e)).0
+    (voxel_index c.loop-rest.rest.brick) (listed_one c.args.update) (listed_one c.loop-rest.rest)
+    c.args.lazy few (c.enter-id.ensures b e) (c.loop-rest.invariant.way b e)).0
 
 pub apply_bit-requires-clause-plain : goal.apply_bit-requires-clause-plain
 apply_bit-requires-clause-plain c =
     let (b, e) = place_block c.args.tree.now c.args.p c.requires.place in
     let r = c.loop-rest.rest.brick in
-    let h =
-    voxel_at c.enter-id.new.tree c.loop-rest.tree c.args.p b (listed_one c.args.update)
-    c.args.update.brick c.loop-rest.rest.brick c.loop-rest.rest.hit c.loop-rest.rest.miss
-    c.args.lazy (c.requires.depth b e) c.requires.brick c.loop-rest.invariant.rest
-    c.loop-rest-test.true (c.loop-rest.invariant.way b e) (c.requires.inside b e) in
-    let x : ℕ = 1 * 2 ^ trailing_zeros w64 r.scanned % 2 ^ 64 in
+    let h = first (goal.at.apply_bit-requires-clause-plain c).In-loop-rest b e in
+    let x = bit_of r in
     let deep = c.requires.depth b e in
     let few : voxel_index r < 8 = omega arith in
     let place =
@@ -95,38 +101,23 @@ apply_bit-requires-clause-miss c =
     let (b, e) = place_block c.args.tree.now c.args.p c.requires.place in
     let way = c.loop-rest.invariant.way b e in subst IsSmallEvent (sym way.miss) c.requires.miss
 
--- what is left of it
-left_over : (c : goal.After-within-rest)
-    → IsWithin c.loop-rest.rest.brick
-    (bit_not w64 (1 * 2 ^ trailing_zeros w64 c.loop-rest.rest.brick.scanned % 2 ^ 64))
-    c.within-rest.result.brick
-left_over c = record {
-  code = c.within-rest.ensures.code;
-  scanned = c.within-rest.ensures.scanned;
-  hits = c.within-rest.ensures.hits;
-}
-
 pub loop-rest-smaller : goal.loop-rest-smaller
 loop-rest-smaller c =
     let (b, e) = place_block c.args.tree.now c.args.p c.requires.place in
     let r = c.loop-rest.rest.brick in
-    let x : ℕ = 1 * 2 ^ trailing_zeros w64 r.scanned % 2 ^ 64 in
-    let h =
-    voxel_at c.enter-id.new.tree c.loop-rest.tree c.args.p b (listed_one c.args.update)
-    c.args.update.brick c.loop-rest.rest.brick c.loop-rest.rest.hit c.loop-rest.rest.miss
-    c.args.lazy (c.requires.depth b e) c.requires.brick c.loop-rest.invariant.rest
-    c.loop-rest-test.true (c.loop-rest.invariant.way b e) (c.requires.inside b e) in
+    let x = bit_of r in
+    let h = first (goal.at.loop-rest-smaller c).In-loop-rest b e in
     rest_less b (voxel_index r) r c.within-rest.result.brick c.args.update.brick x (bit_not w64 x)
     c.loop-rest.invariant.rest h.some
     (voxel_masked c.enter-id.new.tree c.loop-rest.tree c.args.p b (listed_one c.args.update)
     c.args.update.brick r c.loop-rest.rest.hit c.loop-rest.rest.miss x c.args.lazy h)
-    refl (left_over c)
+    refl c.within-rest.ensures.brick
 
 pub loop-rest-preserved : goal.loop-rest-preserved
 loop-rest-preserved c = record {
   way = λ b e.
       let r = c.loop-rest.rest.brick in
-      let x : ℕ = 1 * 2 ^ trailing_zeros w64 r.scanned % 2 ^ 64 in
+      let x = bit_of r in
       let entered = c.enter-id.ensures b e in
       voxel_step c.enter-id.new.tree c.loop-rest.tree c.apply_bit.new.tree c.args.p
       b c.enter-id.result (listed_one c.args.update) c.args.update.brick r
@@ -134,16 +125,13 @@ loop-rest-preserved c = record {
       c.within-rest.result.miss (event_of_bit c.loop-rest.rest x) x c.args.lazy entered.linked
       (place_in_map c.args.tree.now c.args.p b c.requires.linked e)
       (ap link_of entered.link.1)
-      (voxel_at c.enter-id.new.tree c.loop-rest.tree c.args.p b (listed_one c.args.update)
-      c.args.update.brick c.loop-rest.rest.brick c.loop-rest.rest.hit c.loop-rest.rest.miss
-      c.args.lazy (c.requires.depth b e) c.requires.brick c.loop-rest.invariant.rest
-      c.loop-rest-test.true (c.loop-rest.invariant.way b e) (c.requires.inside b e))
-      (left_over c) c.within-rest.ensures.hit c.within-rest.ensures.miss refl
+      (first (goal.at.loop-rest-preserved c).In-loop-rest b e)
+      c.within-rest.ensures.brick c.within-rest.ensures.hit c.within-rest.ensures.miss refl
       c.apply_bit.ensures.spare c.apply_bit.ensures.touched;
   rest =
       rest_within c.loop-rest.rest.brick c.within-rest.result.brick c.args.update.brick
-      (bit_not w64 (1 * 2 ^ trailing_zeros w64 c.loop-rest.rest.brick.scanned % 2 ^ 64))
-      c.loop-rest.invariant.rest (left_over c);
+      (bit_not w64 (bit_of c.loop-rest.rest.brick))
+      c.loop-rest.invariant.rest c.within-rest.ensures.brick;
 }
 
 pub close-requires-clause-linked : goal.close-requires-clause-linked
