@@ -9,8 +9,8 @@ use Rattle.oct_key.specs.Block.{block_of}
 use Rattle.oct_key.proofs.Blocks.{depth_child_of, child_holds, root_holds}
 use Rattle.oct_odds.specs.declared.event.Event.{Event}
 use Rattle.oct_values.specs.Blocks.{blocks_below}
-use Rattle.oct_key.specs.Boxes.{IsInBox, IsBox, is_in_box}
-use Rattle.oct_values.specs.Boxes.{MeetsBox, LiesInBox, is_cut_by, box_events, box_need}
+use Rattle.oct_key.specs.Boxes.{IsInBox, IsBox, is_in_box, MeetsBox, LiesInBox}
+use Rattle.oct_values.specs.Boxes.{is_cut_by, box_events, box_need}
 use Rattle.oct_key.proofs.Boxes.{in_box_exactly}
 use Rattle.oct_values.proofs.Boxes.{cut_exactly}
 use Rattle.oct_key.proofs.Held.{held_in_map, only_voxel}

@@ -1,13 +1,12 @@
 //! An event on each voxel of a box, block by block, and the groups that it may need.
 ghost use Rattle.std.specs.Prelude.{◌≡◌, ◌+◌, ◌^◌, ◌≤◌, ◌≤ℤ◌, ◌↔◌, IsTrue, IsSome, None, Some};
-ghost use Rattle.std.specs.Prelude.{false, ◌&&◌};
+ghost use Rattle.std.specs.Prelude.{false};
 ghost use Rattle.oct_key.specs.Voxel.{Voxel, IsInMap};
 ghost use Rattle.oct_key.specs.CubeOf.{cube_of};
 ghost use Rattle.oct_odds.specs.Update.{IsSmallEvent};
+ghost use Rattle.oct_key.specs.Boxes.{IsBox, MeetsBox, LiesInBox};
 ghost use Rattle.oct_values.specs.Boxes as boxes;
-ghost use Rattle.oct_key.specs.Boxes.{IsBox};
-ghost use Rattle.oct_values.specs.Boxes.{MeetsBox, LiesInBox, MeetsSpan, LiesInSpan, box_events};
-ghost use Rattle.oct_values.specs.Boxes.{met_on, within_on, cut_at};
+ghost use Rattle.oct_values.specs.Boxes.{box_events, met_on, within_on, cut_at};
 ghost use Rattle.oct_arena.specs.Entries.{live, spare};
 ghost use Rattle.oct_arena.specs.Nodes.{link_of, value_of};
 ghost use Rattle.oct_tree.specs.Tree.{IsLinked, IsPlace, node_in, block_in};
@@ -19,7 +18,7 @@ ghost use Rattle.oct_edit.specs.Areas.{cut_in};
 
 use crate::voxel::{VOXEL_DEPTH, apply_at, close, enter, stays};
 use oct_arena::Node;
-use oct_key::{Block, Key};
+use oct_key::{Block, Key, Window};
 use oct_odds::Event;
 use oct_tree::{OccTree, Place};
 
@@ -94,36 +93,38 @@ pub fn touch_box(tree: &mut OccTree, lo: Key, hi: Key, event: Event)
     ensures room { live tree.new.groups + spare tree.new.groups
         ≡ live tree.old.groups + spare tree.old.groups }
 {
+    let window = Window::of(lo, hi);
     let known = tree.tidiness();
-    touch_part(tree, Place::Root, Block::whole_map(), lo, hi, event);
+    touch_part(tree, Place::Root, Block::whole_map(), &window, event);
     tree.note(known);
 }
 
 /// Applies the event to the voxels of the box in the block of the place, which holds some, and
 /// closes the groups from there on.
-fn touch_part(tree: &mut OccTree, p: Place, block: Block, lo: Key, hi: Key, event: Event)
+fn touch_part(tree: &mut OccTree, p: Place, block: Block, window: &Window, event: Event)
     requires linked { IsLinked tree.old }
     requires place { IsPlace tree.old p }
     requires block { block_in tree.old p ≡ Some (cube_of block) }
-    requires order { IsBox lo hi }
-    requires meets { MeetsBox lo hi (cube_of block) }
-    requires room { cut_in lo hi (cube_of block) ≤ spare tree.old.groups }
+    requires meets { MeetsBox window.now.lo window.now.hi (cube_of block) }
+    requires room { cut_in window.now.lo window.now.hi (cube_of block) ≤ spare tree.old.groups }
     requires small { IsSmallEvent event }
-    ensures touched { IsTouched tree.old tree.new (cube_of block) (box_events lo hi event) false }
-    ensures room { spare tree.old.groups ≤ spare tree.new.groups + cut_in lo hi (cube_of block) }
+    ensures touched { IsTouched tree.old tree.new (cube_of block)
+        (box_events window.now.lo window.now.hi event) false }
+    ensures room { spare tree.old.groups
+        ≤ spare tree.new.groups + cut_in window.now.lo window.now.hi (cube_of block) }
 {
     if takes_nothing(tree, p, event) {
         return;
     }
-    if is_whole(tree, p, block, lo, hi) {
+    if is_whole(tree, p, block, window) {
         apply_at(tree, p, event);
         return;
     }
     let id = enter(tree, p);
     for i in 0..8 {
         let child = block.child(i);
-        if meets(child, lo, hi) {
-            touch_part(tree, Place::Slot(id, i), child, lo, hi, event);
+        if window.meets(child) {
+            touch_part(tree, Place::Slot(id, i), child, window, event);
         }
     }
     close(tree, p, id, false);
@@ -140,12 +141,12 @@ fn takes_nothing(tree: &OccTree, p: Place, event: Event) -> bool
 }
 
 /// Whether the place links no group, and its block lies in the box.
-fn is_whole(tree: &OccTree, p: Place, block: Block, lo: Key, hi: Key) -> bool
+fn is_whole(tree: &OccTree, p: Place, block: Block, window: &Window) -> bool
     requires { IsPlace tree.now p }
-    ensures { IsTrue result
-        ↔ ((link_of (node_in tree.now p) ≡ None) × LiesInBox lo hi (cube_of block)) }
+    ensures { IsTrue result ↔ ((link_of (node_in tree.now p) ≡ None)
+        × LiesInBox window.now.lo window.now.hi (cube_of block)) }
 {
-    is_plain(tree.node(p)) && lies_in(block, lo, hi)
+    is_plain(tree.node(p)) && window.covers(block)
 }
 
 /// Whether the node links no group.
@@ -156,54 +157,4 @@ fn is_plain(node: Node) -> bool
         Node::Inner(_, _) => false,
         _ => true,
     }
-}
-
-/// Whether some voxel of the block lies in the box.
-fn meets(block: Block, lo: Key, hi: Key) -> bool
-    requires { IsBox lo hi }
-    ensures { IsTrue result ↔ MeetsBox lo hi (cube_of block) }
-{
-    let x = meets_across(lo.x, hi.x, block.depth, block.x);
-    let y = meets_across(lo.y, hi.y, block.depth, block.y);
-    let z = meets_across(lo.z, hi.z, block.depth, block.z);
-    on_each(x, y, z)
-}
-
-/// Whether each voxel of the block lies in the box.
-fn lies_in(block: Block, lo: Key, hi: Key) -> bool
-    ensures { IsTrue result ↔ LiesInBox lo hi (cube_of block) }
-{
-    let x = lies_across(lo.x, hi.x, block.depth, block.x);
-    let y = lies_across(lo.y, hi.y, block.depth, block.y);
-    let z = lies_across(lo.z, hi.z, block.depth, block.z);
-    on_each(x, y, z)
-}
-
-/// Whether something holds on each axis.
-fn on_each(x: bool, y: bool, z: bool) -> bool
-    ensures { result ≡ (x && y && z) }
-{
-    x && y && z
-}
-
-/// Whether a block of this depth and number on an axis has voxels of these numbers there.
-fn meets_across(low: u16, high: u16, depth: u8, n: u16) -> bool
-    requires { depth ≤ 16 }
-    ensures { IsTrue result ↔ MeetsSpan low high depth n }
-{
-    let height = 16 - depth;
-    let first = u32::from(low) >> height;
-    let last = u32::from(high) >> height;
-    first <= u32::from(n) && u32::from(n) <= last
-}
-
-/// Whether a block of this depth and number on an axis has voxels of these numbers alone there.
-fn lies_across(low: u16, high: u16, depth: u8, n: u16) -> bool
-    requires { depth ≤ 16 }
-    ensures { IsTrue result ↔ LiesInSpan low high depth n }
-{
-    let height = 16 - depth;
-    let first = (u32::from(low) + ((1u32 << height) - 1)) >> height;
-    let end = (u32::from(high) + 1) >> height;
-    first <= u32::from(n) && u32::from(n) < end
 }

@@ -13,7 +13,7 @@ use Rattle.std.proofs.lemmas.List.Folds.{Any-from_list_any, list_any-from_Any}
 use Rattle.std.proofs.lemmas.List.Elements.{All-contains, filter-append}
 use Rattle.oct_key.specs.Voxel.{Voxel, IsInMap}
 use Rattle.oct_key.specs.Block.{Cube, IsBlock, HoldsVoxel, child_of, lowest_voxel}
-use Rattle.oct_key.specs.Boxes.{IsInBox, is_in_box}
+use Rattle.oct_key.specs.Boxes.{IsInBox, is_in_box, MeetsBox}
 use Rattle.oct_key.specs.Order.{voxels_in_order}
 use Rattle.oct_key.proofs.Boxes.{in_box_exactly}
 use Rattle.oct_key.proofs.Blocks.{depth_child_of}
@@ -25,7 +25,6 @@ use Rattle.oct_odds.specs.Odds.{Odds}
 use Rattle.oct_odds.specs.Update.{Value, class_of}
 use Rattle.oct_tree.specs.Tree.{Tree, value_at}
 use Rattle.oct_values.specs.Blocks.{voxels_below, voxels_of, child_numbers}
-use Rattle.oct_values.specs.Boxes.{MeetsBox}
 use Rattle.oct_values.specs.Classes.{Classes, is_same_class}
 use Rattle.oct_values.proofs.Alike.{is_same_class_refl, is_same_class_exact}
 use Rattle.oct_values.proofs.Held.{all_held}

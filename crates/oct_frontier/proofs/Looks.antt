@@ -4,7 +4,7 @@ use Rattle.std.proofs.Common.{refl, sym, ap, subst, ◌∙◌, arith}
 use Rattle.std.specs.Prelude.{IsTrue, ◌&&◌}
 use Rattle.oct_key.specs.Voxel.{Voxel}
 use Rattle.oct_key.specs.Block.{Cube, IsBlock, block_of, child_of, lowest_voxel, side}
-use Rattle.oct_key.specs.Boxes.{IsBetween, IsBox}
+use Rattle.oct_key.specs.Boxes.{IsBetween, IsBox, MeetsBox, MeetsSpan}
 use Rattle.oct_key.specs.CubeOf.{cube_of}
 use Rattle.oct_key.specs.declared.block.Block.{Block}
 use Rattle.oct_key.proofs.Blocks.{block_in_map, child_in_map, lowest_held, lowest_in_map}
@@ -16,8 +16,7 @@ use Rattle.oct_arena.specs.declared.node.Node.TheVariants.{Absent, Leaf, Inner}
 use Rattle.oct_arena.specs.Nodes.{link_of, value_of}
 use Rattle.oct_tree.specs.Tree.{Tree, value_at}
 use Rattle.oct_tree.proofs.Over.{over_value, over_home}
-use Rattle.oct_values.specs.Boxes.{MeetsBox, MeetsSpan}
-use Rattle.oct_values.proofs.Cuts.{meets_each, meets_by_division}
+use Rattle.oct_key.proofs.BoxBlocks.{meets_each, meets_by_division}
 use Rattle.oct_frontier.specs.declared.patch.Sides.{Sides}
 use Rattle.oct_frontier.specs.declared.patch.Patch.{Patch}
 use Rattle.oct_frontier.specs.Found.{found_in}

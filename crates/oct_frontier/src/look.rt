@@ -1,12 +1,11 @@
 //! What a child of a block has of the frontier, at one look.
 ghost use Rattle.std.specs.Prelude.{◌≡◌, ◌≤◌, IsTrue, ◌↔◌, ◌&&◌};
 ghost use Rattle.oct_key.specs.Block.{child_of, lowest_voxel};
-ghost use Rattle.oct_key.specs.Boxes.{IsBetween, IsBox};
+ghost use Rattle.oct_key.specs.Boxes.{IsBetween, IsBox, MeetsBox};
 ghost use Rattle.oct_key.specs.CubeOf.{cube_of};
 ghost use Rattle.oct_odds.specs.Update.{class_of};
 ghost use Rattle.oct_odds.specs.declared.event.Class.TheVariants.{Free};
 ghost use Rattle.oct_arena.specs.Nodes.{value_of};
-ghost use Rattle.oct_values.specs.Boxes.{MeetsBox};
 ghost use Rattle.oct_frontier.specs.Found.{IsLookAt};
 ghost use Rattle.oct_frontier.specs.Patches.{IsOpen, IsPatchOf};
 

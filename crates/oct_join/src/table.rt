@@ -2,10 +2,10 @@
 ghost use Rattle.std.specs.Prelude.{◌≡◌, ◌+◌, ◌*◌, ◌^◌, ◌<◌, ◌≤◌, ◌++◌, ℕ, List, length};
 ghost use Rattle.std.specs.Prelude.{slice_index_or};
 ghost use Rattle.std.specs.List.{sum};
+ghost use Rattle.oct_key.specs.Voxel.{IsInMap};
 ghost use Rattle.oct_key.specs.Block.{child_of, side};
-ghost use Rattle.oct_key.specs.Boxes.{IsBox};
+ghost use Rattle.oct_key.specs.Boxes.{IsBox, box_volume};
 ghost use Rattle.oct_key.specs.CubeOf.{cube_of};
-ghost use Rattle.oct_values.specs.Boxes.{box_volume};
 ghost use Rattle.oct_merge.specs.Pairs.{pair_of, pair_counts};
 ghost use Rattle.oct_merge.specs.Shared.{shared, shared_in};
 ghost use Rattle.oct_odds.specs.declared.event.Class.{Class};
@@ -17,7 +17,7 @@ ghost use Rattle.oct_join.specs.Tabled.{AreAtHand, IsTabled};
 
 use crate::joining::{is_parted, record_bytes, root_code, side_codes};
 use oct_bt::BtFile;
-use oct_key::{Block, Key};
+use oct_key::{Block, Key, Window};
 use oct_merge::{ClassTable, shared_across};
 
 /// The table of the voxels of the box of two corners, both included, by their classes in two files.
@@ -31,14 +31,7 @@ pub fn tabulate(first: &BtFile, second: &BtFile, lo: Key, hi: Key) -> ClassTable
 {
     let mine = first.codes().as_slice();
     let theirs = second.codes().as_slice();
-    tabulate_records(mine, theirs, Zone { lo, hi })
-}
-
-/// The box of voxels that are counted, by its two corners.
-#[derive(Clone, Copy)]
-struct Zone {
-    lo: Key,
-    hi: Key,
+    tabulate_records(mine, theirs, Window::of(lo, hi))
 }
 
 /// How many bytes of each text were read.
@@ -49,18 +42,18 @@ struct Read {
 }
 
 /// The table of the voxels of a box by their classes in two texts of node data.
-fn tabulate_records(first: &[u8], second: &[u8], zone: Zone) -> ClassTable
+fn tabulate_records(first: &[u8], second: &[u8], window: Window) -> ClassTable
     requires first { (n : ℕ) × IsAccepted n first.now }
     requires second { (n : ℕ) × IsAccepted n second.now }
-    requires order { IsBox zone.lo zone.hi }
-    ensures exact { result.counts ≡ pair_counts zone.lo zone.hi
+    requires in_map { IsInMap window.hi }
+    ensures exact { result.counts ≡ pair_counts window.lo window.hi
         (data_classes first.now) (data_classes second.now) }
-    ensures all { sum result.counts ≡ box_volume zone.lo zone.hi }
+    ensures all { sum result.counts ≡ box_volume window.lo window.hi }
 {
     let mut table = ClassTable { counts: [0; 9] };
     let a = root_code(first);
     let b = root_code(second);
-    count_block(&mut table, zone, Block::whole_map(), a, first, b, second);
+    count_block(&mut table, window, Block::whole_map(), a, first, b, second);
     table
 }
 
@@ -68,7 +61,7 @@ fn tabulate_records(first: &[u8], second: &[u8], zone: Zone) -> ClassTable
 /// is 3 its record at the front of the text.
 fn count_block(
     table: &mut ClassTable,
-    zone: Zone,
+    window: Window,
     block: Block,
     a: u16,
     first: &[u8],
@@ -76,20 +69,20 @@ fn count_block(
     second: &[u8],
 ) -> Read
     requires levels { block.depth ≤ 15 }
-    requires sides { AreAtHand zone.lo zone.hi (cube_of block) a b first.now second.now
-        table.old.counts }
+    requires sides { AreAtHand window.lo window.hi (cube_of block) a b first.now
+        second.now table.old.counts }
     ensures counted { (r s : Entries) (p q : List ℕ) → IsSide block.depth a r
         → first.now ≡ side_text a r ++ p → IsSide block.depth b s
         → second.now ≡ side_text b s ++ q
-        → IsTabled zone.lo zone.hi (cube_of block) a b r s table.old.counts table.new.counts
-        result }
+        → IsTabled window.lo window.hi (cube_of block) a b r s table.old.counts
+        table.new.counts result }
     ensures long { length table.new.counts ≡ length table.old.counts }
 {
     let mut left = side_codes(a, first);
     let mut other = side_codes(b, second);
     let mut at = record_bytes(a);
     let mut to = record_bytes(b);
-    let shares = shares_of(block, zone);
+    let shares = shares_of(block, window);
     for i in 0u8..8 {
         let voxels = shares[usize::from(i)];
         if is_parted(left % 4, other % 4) {
@@ -99,7 +92,7 @@ fn count_block(
                 pass_over(block.depth + 1, left % 4, later, other % 4, others)
             } else {
                 let child = block.child(i);
-                count_block(table, zone, child, left % 4, later, other % 4, others)
+                count_block(table, window, child, left % 4, later, other % 4, others)
             };
             at += read.first;
             to += read.second;
@@ -166,15 +159,17 @@ fn place_of(a: u16, b: u16) -> usize
 }
 
 /// How many voxels of each child of a block lie in the box.
-fn shares_of(block: Block, zone: Zone) -> [u64; 8]
+fn shares_of(block: Block, window: Window) -> [u64; 8]
     requires { block.depth ≤ 15 }
     ensures { (i : ℕ) → i < 8 → slice_index_or result i 0
-        ≡ shared_in zone.lo zone.hi (child_of (cube_of block) i) }
+        ≡ shared_in window.lo window.hi (child_of (cube_of block) i) }
 {
     let depth = block.depth + 1;
-    let x = shared_halves(zone.lo.x, zone.hi.x, depth, block.x);
-    let y = shared_halves(zone.lo.y, zone.hi.y, depth, block.y);
-    let z = shared_halves(zone.lo.z, zone.hi.z, depth, block.z);
+    let lo = window.lo();
+    let hi = window.hi();
+    let x = shared_halves(lo.x, hi.x, depth, block.x);
+    let y = shared_halves(lo.y, hi.y, depth, block.y);
+    let z = shared_halves(lo.z, hi.z, depth, block.z);
     [
         x.low * y.low * z.low,
         x.high * y.low * z.low,

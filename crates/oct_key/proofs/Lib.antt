@@ -11,4 +11,5 @@ pub mod Order
 pub mod Triples
 pub mod InOrder
 pub mod Boxes
+pub mod BoxBlocks
 pub mod ChildCodes

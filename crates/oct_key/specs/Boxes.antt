@@ -1,6 +1,8 @@
 -- Boxes of voxels, each by its two corners.
-use Rattle.std.specs.Prelude.{ℕ, ◌≤◌, Bool, true, ◌&&◌, nat_le, Option, Some, None, ⊤}
+use Rattle.std.specs.Prelude.{ℕ, ◌<◌, ◌≤◌, ◌+◌, ◌-◌, ◌*◌, Bool, true, ◌&&◌, nat_le, Option, Some}
+use Rattle.std.specs.Prelude.{None, ⊤}
 use Rattle.oct_key.specs.Voxel.{Voxel}
+use Rattle.oct_key.specs.Block.{Cube, HoldsVoxel, side}
 
 -- a number lies between two others, both included
 abbrev pub IsBetween : ℕ → ℕ → ℕ → Type 0
@@ -44,3 +46,23 @@ IsInWindow (Some box) k = IsInBox box.lo box.hi k
 abbrev pub is_in_window : Option Window → Voxel → Bool
 is_in_window None k = true
 is_in_window (Some box) k = is_in_box box.lo box.hi k
+
+-- a block meets a box: some voxel of it lies in the box
+abbrev pub MeetsBox : Voxel → Voxel → Cube → Type 0
+MeetsBox lo hi b = (k : Voxel) × HoldsVoxel b k × IsInBox lo hi k
+
+-- a block lies in a box: each voxel of it does
+abbrev pub LiesInBox : Voxel → Voxel → Cube → Type 0
+LiesInBox lo hi b = (k : Voxel) → HoldsVoxel b k → IsInBox lo hi k
+
+-- how many voxels there are in the box of two corners
+abbrev pub box_volume : Voxel → Voxel → ℕ
+box_volume lo hi = (hi.x + 1 - lo.x) * ((hi.y + 1 - lo.y) * (hi.z + 1 - lo.z))
+
+-- on an axis, some voxels of a block of this depth and number lie between two numbers
+abbrev pub MeetsSpan : ℕ → ℕ → ℕ → ℕ → Type 0
+MeetsSpan low high depth n = (low < (n + 1) * side depth) × (n * side depth ≤ high)
+
+-- on an axis, all of them do
+abbrev pub LiesInSpan : ℕ → ℕ → ℕ → ℕ → Type 0
+LiesInSpan low high depth n = (low ≤ n * side depth) × ((n + 1) * side depth ≤ high + 1)

@@ -33,8 +33,9 @@
 //!   z: [`orders_are_whole`] says that each stands there once, and no other does.
 //! - [`Dilated`] is a number whose bits stand where its axis has them in a code. It is counted up
 //!   and down as it stands, and [`morton_of_axes`] makes the code of three of them.
-//! - A [`Window`] is a box of voxels by two corners, both included, of which on no axis the first
-//!   is beyond the second. [`Window::holds`] says which voxels lie in it.
+//! - A [`Window`] is a box of voxels, by its two corners, both included, of which on no axis the
+//!   first is beyond the second. [`Window::holds`] says which voxels lie in it,
+//!   [`Window::meets`] of which blocks some voxel does, and [`Window::covers`] of which each one.
 //! - [`PointList`] and [`KeyList`] keep what they are given, in order.
 //!
 //! A block is a cube of 2^(16 - depth) voxels on each axis: depth 0 is the whole map, and each
@@ -43,10 +44,10 @@
 //!
 //! No call but `push` of a list allocates, and none touches anything but its arguments. The crates
 //! of a map stand on this one, and cite its definitions: `Voxel`, `Values` and `SameValues` for
-//! what a map means, `key_at` and `Holds` for where a point lies, `IsInBox` for the voxels of a
-//! box, `morton_of` for the order of voxels along the Z-order curve (Morton 1966), `key_cmp` and
-//! `voxels_in_order` for the one by x, y and z, and `block_of`, `child_of`, `HoldsVoxel` and
-//! `LiesIn` for the blocks.
+//! what a map means, `key_at` and `Holds` for where a point lies, `IsInBox`, `MeetsBox` and
+//! `LiesInBox` for the voxels and blocks of a box, `morton_of` for the order of voxels along the
+//! Z-order curve (Morton 1966), `key_cmp` and `voxels_in_order` for the one by x, y and z, and
+//! `block_of`, `child_of`, `HoldsVoxel` and `LiesIn` for the blocks.
 
 #![tactic(auto)]
 

@@ -4,8 +4,8 @@ use Rattle.std.specs.Prelude.{Result, IsOk, ⊤, nat_lt, ◌||◌, ◌&&◌}
 use Rattle.oct_key.specs.Voxel.{Voxel}
 use Rattle.oct_key.specs.Values.{Values}
 use Rattle.oct_odds.specs.declared.event.Event.{Event}
-use Rattle.oct_key.specs.Boxes.{is_box}
-use Rattle.oct_values.specs.Boxes.{box_events, box_need, box_volume}
+use Rattle.oct_key.specs.Boxes.{is_box, box_volume}
+use Rattle.oct_values.specs.Boxes.{box_events, box_need}
 use Rattle.oct_map.specs.declared.fault.MapFault.{MapFault}
 use Rattle.oct_map.specs.Answers.{room_answer, box_fault, most_noted, box_answer_by}
 use Rattle.oct_map.specs.Answers.{IsAnswerOrMemory}

@@ -9,9 +9,6 @@ ghost use Rattle.oct_odds.specs.Odds.{odds_of};
 ghost use Rattle.oct_odds.specs.Update.{IsSmallEvent};
 ghost use Rattle.oct_odds.specs.declared.event.Event.{Event};
 ghost use Rattle.oct_values.specs.Events.{event_at, updated};
-ghost use Rattle.oct_key.specs.Boxes as boxes;
-ghost use Rattle.oct_key.specs.Boxes.{IsBox};
-ghost use Rattle.oct_values.specs.Boxes.{box_volume};
 ghost use Rattle.oct_values.specs.Counts.{group_count, node_count};
 ghost use Rattle.oct_arena.specs.declared.node.Node.{Node};
 ghost use Rattle.oct_arena.specs.Entries.{live, spare};
@@ -227,10 +224,10 @@ impl OccMap {
         let Some(high) = self.tree.res().key_of(hi) else {
             return Err(MapFault::Outside { point: 2 });
         };
-        if !is_box(low, high) {
+        let Some(window) = Window::new(low, high) else {
             return Err(MapFault::BadBox);
-        }
-        let count = volume(low, high);
+        };
+        let count = window.volume();
         if self.is_too_wide(count) {
             return Err(MapFault::WideWhileTracked { count });
         }
@@ -423,7 +420,7 @@ impl OccMap {
         if depth > VOXEL_DEPTH {
             return Err(MapFault::BadDepth);
         }
-        if !is_box(first, last) {
+        if Window::new(first, last).is_none() {
             return Err(MapFault::BadBox);
         }
         if self.is_stale() && depth < VOXEL_DEPTH {
@@ -613,21 +610,4 @@ fn odds_of_scan(model: OddsModel, own: Option<ScanOdds>) -> (i32, i32)
         Some(own) => (own.hit, own.miss),
         None => (model.hit, model.miss),
     }
-}
-
-/// Whether the voxels are the corners of a box: on no axis the first is beyond the second.
-fn is_box(lo: Key, hi: Key) -> bool
-    ensures exact { result ≡ boxes.is_box lo hi }
-    ensures order { IsTrue result → IsBox lo hi }
-{
-    Window::new(lo, hi).is_some()
-}
-
-/// How many voxels there are in the box of two corners.
-fn volume(lo: Key, hi: Key) -> u64
-    requires { IsBox lo hi }
-    ensures { result ≡ box_volume lo hi }
-{
-    let along = |low: u16, high: u16| u64::from(high) + 1 - u64::from(low);
-    along(lo.x, hi.x) * (along(lo.y, hi.y) * along(lo.z, hi.z))
 }

@@ -7,10 +7,9 @@ use Rattle.std.proofs.lemmas.Bool.{cases_lt, le-leb, lt-leb}
 use Rattle.std.proofs.lemmas.List.Sums.{sum_by-cons}
 use Rattle.oct_key.specs.Voxel.{Voxel, IsInMap}
 use Rattle.oct_key.specs.Block.{Cube, side, child_of, lowest_voxel, root_block}
-use Rattle.oct_key.specs.Boxes.{is_between, is_in_box}
+use Rattle.oct_key.specs.Boxes.{is_between, is_in_box, box_volume}
 use Rattle.oct_key.proofs.Held.{child_depths}
 use Rattle.oct_values.specs.Blocks.{child_numbers, voxels_below, voxels_of}
-use Rattle.oct_values.specs.Boxes.{box_volume}
 use Rattle.oct_values.proofs.Axes.{on_axis, both_count}
 use Rattle.oct_values.proofs.Eights.{sum_by-flat_map, sum_of_eight, same_eight}
 use Rattle.oct_merge.specs.Shared.{shared, shared_in}

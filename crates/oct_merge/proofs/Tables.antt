@@ -10,13 +10,12 @@ use Rattle.std.proofs.lemmas.List.Sums.{sum-map}
 use Rattle.std.proofs.lemmas.Grind.{same_number_lists}
 use Rattle.oct_key.specs.Voxel.{Voxel, IsInMap}
 use Rattle.oct_key.specs.Block.{Cube, IsBlock, HoldsVoxel, child_of, root_block}
-use Rattle.oct_key.specs.Boxes.{is_in_box}
+use Rattle.oct_key.specs.Boxes.{is_in_box, box_volume}
 use Rattle.oct_key.proofs.Blocks.{depth_child_of, root_in_map}
 use Rattle.oct_odds.specs.Update.{class_of}
 use Rattle.oct_odds.specs.declared.event.Class.{Class}
 use Rattle.oct_odds.specs.declared.event.Class.TheVariants.{Unknown, Free, Occupied}
 use Rattle.oct_values.specs.Blocks.{child_numbers, voxels_below, voxels_of}
-use Rattle.oct_values.specs.Boxes.{box_volume}
 use Rattle.oct_values.specs.Classes.{Classes, classes_of}
 use Rattle.oct_values.proofs.Axes.{sum_below, sum_below_none, sum_below_next}
 use Rattle.oct_values.proofs.Eights.{sum_by-flat_map, same_eight}

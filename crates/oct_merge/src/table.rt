@@ -3,10 +3,9 @@ ghost use Rattle.std.specs.Prelude.{◌≡◌, ℕ, ◌+◌, ◌-◌, ◌*◌, �
 ghost use Rattle.std.specs.Prelude.{slice_index_or, if◌then◌else◌, nat_eq, ◌↔◌, IsTrue, None};
 ghost use Rattle.std.specs.List.{sum};
 ghost use Rattle.oct_key.specs.Block.{side};
-ghost use Rattle.oct_key.specs.Boxes.{IsBox};
+ghost use Rattle.oct_key.specs.Boxes.{IsBox, box_volume};
 ghost use Rattle.oct_key.specs.CubeOf.{cube_of};
 ghost use Rattle.oct_odds.specs.Update.{class_of};
-ghost use Rattle.oct_values.specs.Boxes.{box_volume};
 ghost use Rattle.oct_values.specs.Classes.{classes_of};
 ghost use Rattle.oct_tree.specs.Tree.{IsOver, IsLinked, value_at};
 ghost use Rattle.oct_tree.specs.Shape.{IsWellFormed};
@@ -16,7 +15,7 @@ ghost use Rattle.oct_merge.specs.Shared.{shared, shared_in};
 
 use crate::walk::is_plain;
 use oct_arena::Node;
-use oct_key::{Block, Key};
+use oct_key::{Block, Key, Window};
 use oct_odds::Class;
 use oct_tree::OccTree;
 
@@ -39,15 +38,9 @@ pub fn class_table(a: &OccTree, b: &OccTree, lo: Key, hi: Key) -> ClassTable
 {
     let mut table = ClassTable { counts: [0; 9] };
     let map = Block::whole_map();
-    count_part(&mut table, a, b, a.root(), b.root(), map, Zone { lo, hi });
+    let window = Window::of(lo, hi);
+    count_part(&mut table, a, b, a.root(), b.root(), map, window);
     table
-}
-
-/// The box of voxels that are counted, by its two corners.
-#[derive(Clone, Copy)]
-struct Zone {
-    lo: Key,
-    hi: Key,
 }
 
 impl ClassTable {
@@ -72,22 +65,22 @@ fn count_part(
     first: Node,
     second: Node,
     block: Block,
-    zone: Zone,
+    window: Window,
 )
     requires a { IsLinked a.now }
     requires b { IsLinked b.now }
     requires first { IsOver a.now (cube_of block) first }
     requires second { IsOver b.now (cube_of block) second }
     requires room { (n : ℕ) → n < 9 → slice_index_or table.old.counts n 0
-        + pairs_in zone.lo zone.hi (classes_of a.now.odds (value_at a.now))
+        + pairs_in window.lo window.hi (classes_of a.now.odds (value_at a.now))
         (classes_of b.now.odds (value_at b.now)) n (cube_of block) < 2 ^ 64 }
     ensures counted { (n : ℕ) → n < 9 → slice_index_or table.new.counts n 0
         ≡ slice_index_or table.old.counts n 0
-        + pairs_in zone.lo zone.hi (classes_of a.now.odds (value_at a.now))
+        + pairs_in window.lo window.hi (classes_of a.now.odds (value_at a.now))
         (classes_of b.now.odds (value_at b.now)) n (cube_of block) }
     ensures long { length table.new.counts ≡ length table.old.counts }
 {
-    let voxels = shared_with(block, zone);
+    let voxels = shared_with(block, window);
     if voxels == 0 {
         return;
     }
@@ -99,7 +92,7 @@ fn count_part(
     for i in 0..8 {
         let child = a.child_node(first, i);
         let other = b.child_node(second, i);
-        count_part(table, a, b, child, other, block.child(i), zone);
+        count_part(table, a, b, child, other, block.child(i), window);
     }
 }
 
@@ -138,12 +131,14 @@ fn number_of(class: Class) -> usize
 }
 
 /// How many voxels of the block lie in the box.
-fn shared_with(block: Block, zone: Zone) -> u64
-    ensures { result ≡ shared_in zone.lo zone.hi (cube_of block) }
+fn shared_with(block: Block, window: Window) -> u64
+    ensures { result ≡ shared_in window.lo window.hi (cube_of block) }
 {
-    let x = shared_across(zone.lo.x, zone.hi.x, block.depth, block.x);
-    let y = shared_across(zone.lo.y, zone.hi.y, block.depth, block.y);
-    let z = shared_across(zone.lo.z, zone.hi.z, block.depth, block.z);
+    let lo = window.lo();
+    let hi = window.hi();
+    let x = shared_across(lo.x, hi.x, block.depth, block.x);
+    let y = shared_across(lo.y, hi.y, block.depth, block.y);
+    let z = shared_across(lo.z, hi.z, block.depth, block.z);
     x * y * z
 }
 

@@ -51,7 +51,7 @@ some_side d n =
     mul-le-mul_right (2 ^ (16 - d)) (omega arith) in omega (arith, some, grow))
 
 -- the last number of a block on an axis is one of its own
-last_held : (d n : ℕ)
+pub last_held : (d n : ℕ)
     → (n * side d ≤ (n + 1) * side d - 1) × ((n + 1) * side d - 1 < (n + 1) * side d)
 last_held d n =
     let some : 0 < 2 ^ (16 - d) = pow_pos (16 - d) in

@@ -1,64 +1,35 @@
 -- Which leaves meet a box.
-use Rattle.std.proofs.Common.{◌≡◌, ℕ, ◌+◌, ◌-◌, ◌*◌, ◌≤◌, ◌↔◌, Bool, true, false, min, max}
+use Rattle.std.proofs.Common.{◌≡◌, ℕ, ◌+◌, ◌-◌, ◌*◌, ◌≤◌, ◌↔◌, Bool, true, false}
 use Rattle.std.proofs.Common.{List, [], ◌∷◌, refl, sym, ◌∙◌, ap, arith}
-use Rattle.std.specs.Prelude.{filter, Option, Some, None, IsSome, is_some}
+use Rattle.std.specs.Prelude.{filter, IsTrue}
 use Rattle.std.specs.List.{AllByRecursion}
 use Rattle.std.proofs.lemmas.Bool.{false≢true, false_from_ne_true}
 use Rattle.oct_key.specs.Voxel.{Voxel}
 use Rattle.oct_key.specs.Values.{Values}
-use Rattle.oct_key.specs.Block.{Cube, IsBlock, HoldsNumber, lowest_voxel, root_block, side}
-use Rattle.oct_key.specs.Boxes.{IsBox, IsBetween, Window}
+use Rattle.oct_key.specs.Block.{Cube, IsBlock, lowest_voxel, root_block, side}
+use Rattle.oct_key.specs.Boxes.{IsBox, MeetsBox}
 use Rattle.oct_key.proofs.Blocks.{lowest_held, root_in_map}
-use Rattle.oct_values.specs.Boxes.{MeetsBox, is_met_by}
+use Rattle.oct_values.specs.Boxes.{is_met_by}
 use Rattle.oct_values.proofs.Boxes.{met_by_voxels}
-use Rattle.oct_query.specs.Extent.{lower, higher, highest_voxel}
+use Rattle.oct_query.specs.Extent.{highest_voxel}
 use Rattle.oct_query.specs.Leaves.{block_leaves, leaves_met, leaves_of, that_meet}
-use Rattle.oct_query.proofs.Extents.{held_in_box, some_side}
+use Rattle.oct_query.proofs.Extents.{held_in_box, last_held}
 use Rattle.oct_query.proofs.LeafLists.{IsLeafIn, all_mapped, leaves_are}
 
--- a block meets a box where what they share is a box
-meets_shared : (lo hi : Voxel) (b : Cube)
-    → IsBox (higher lo (lowest_voxel b)) (lower hi (highest_voxel b)) ↔ MeetsBox lo hi b
-meets_shared lo hi b = (to, from)
+-- the test of the code is that of the block
+pub met_exactly : (lo hi : Voxel) (b : Cube) (r : Bool) → IsBlock b → IsTrue r ↔ MeetsBox lo hi b
+    → r ≡ is_met_by lo hi b
+met_exactly lo hi b true ok told = sym ((met_by_voxels lo hi b ok).1 (told.0 refl))
+met_exactly lo hi b false ok told =
+    sym (false_from_ne_true (is_met_by lo hi b)
+    (λ met. false≢true (told.1 ((met_by_voxels lo hi b ok).0 met))))
+
+-- the voxels of a block make a box
+pub box_of_block : (b : Cube) → IsBox (lowest_voxel b) (highest_voxel b)
+box_of_block b = record { x = axis b.x; y = axis b.y; z = axis b.z }
   where
-    shared : (d n low high : ℕ) → max low (n * side d) ≤ min high ((n + 1) * side d - 1)
-        → HoldsNumber d n (max low (n * side d)) × IsBetween low high (max low (n * side d))
-    shared d n low high h =
-        (let some = some_side d n in
-        ((omega arith, omega (arith, some, h)), (omega arith, omega (arith, h))))
-
-    to : IsBox (higher lo (lowest_voxel b)) (lower hi (highest_voxel b)) → MeetsBox lo hi b
-    to box =
-        let x = shared b.depth b.x lo.x hi.x box.x in
-        let y = shared b.depth b.y lo.y hi.y box.y in
-        let z = shared b.depth b.z lo.z hi.z box.z in (
-          higher lo (lowest_voxel b),
-          record { x = x.0; y = y.0; z = z.0 },
-          record { x = x.1; y = y.1; z = z.1 },
-        )
-
-    order : (d n low high v : ℕ) → HoldsNumber d n v → IsBetween low high v
-        → max low (n * side d) ≤ min high ((n + 1) * side d - 1)
-    order d n low high v (from, below) (more, less) = omega (arith, from, below, more, less)
-
-    from : MeetsBox lo hi b → IsBox (higher lo (lowest_voxel b)) (lower hi (highest_voxel b))
-    from (k, held, inside) = record {
-      x = order b.depth b.x lo.x hi.x k.x held.x inside.x;
-      y = order b.depth b.y lo.y hi.y k.y held.y inside.y;
-      z = order b.depth b.z lo.z hi.z k.z held.z inside.z;
-    }
-
--- so the test for a box of what they share is that of the block
-pub met_exactly : (lo hi first last : Voxel) (b : Cube) (o : Option Window) (r : Bool) → IsBlock b
-    → first ≡ higher lo (lowest_voxel b) → last ≡ lower hi (highest_voxel b)
-    → IsSome o ↔ IsBox first last → r ≡ is_some o → r ≡ is_met_by lo hi b
-met_exactly lo hi first last b None r ok low high accepted is =
-    is ∙ sym (false_from_ne_true (is_met_by lo hi b)
-    (λ met. false≢true (accepted.1 (rw (low, high)
-    ((meets_shared lo hi b).1 ((met_by_voxels lo hi b ok).0 met))))))
-met_exactly lo hi first last b (Some box) r ok low high accepted is =
-    is ∙ sym ((met_by_voxels lo hi b ok).1
-    ((meets_shared lo hi b).0 (rw (low, high) at accepted.0 refl)))
+    axis : (n : ℕ) → n * side b.depth ≤ (n + 1) * side b.depth - 1
+    axis n = (last_held b.depth n).0
 
 -- ---- filters
 

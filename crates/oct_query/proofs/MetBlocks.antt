@@ -19,10 +19,10 @@ use Rattle.oct_key.proofs.OneOrder.{one_order, on_first, on_rest}
 use Rattle.oct_key.proofs.Triples.{IsAmong, all_triples, triples_sorted, in_triples}
 use Rattle.oct_key.proofs.InOrder.{all_mapped, contains_mapped, sorted_blocks, blocks_sorted}
 use Rattle.oct_key.proofs.InOrder.{blocks_all, blocks_inside}
-use Rattle.oct_key.specs.Boxes.{IsBox}
-use Rattle.oct_values.specs.Boxes.{MeetsSpan, is_met_by, met_on, met_at}
-use Rattle.oct_values.proofs.Boxes.{MeetsSpans, meets_exactly, met_by_voxels}
-use Rattle.oct_values.proofs.Cuts.{meets_by_division}
+use Rattle.oct_key.specs.Boxes.{IsBox, MeetsSpan}
+use Rattle.oct_key.proofs.BoxBlocks.{MeetsSpans, meets_exactly, meets_by_division}
+use Rattle.oct_values.specs.Boxes.{is_met_by, met_on, met_at}
+use Rattle.oct_values.proofs.Boxes.{met_by_voxels}
 use Rattle.oct_query.specs.Listed.{met_blocks}
 
 -- the blocks of this many planes, from one on

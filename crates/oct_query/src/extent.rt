@@ -111,7 +111,7 @@ fn joined(a: Option<Window>, b: Option<Window>) -> Option<Window>
 }
 
 /// The voxel with the lower number of two on each axis.
-pub(crate) fn lower(a: Key, b: Key) -> Key
+fn lower(a: Key, b: Key) -> Key
     ensures { result ≡ lower a b }
 {
     Key {
@@ -122,7 +122,7 @@ pub(crate) fn lower(a: Key, b: Key) -> Key
 }
 
 /// The voxel with the higher number of two on each axis.
-pub(crate) fn higher(a: Key, b: Key) -> Key
+fn higher(a: Key, b: Key) -> Key
     ensures { result ≡ higher a b }
 {
     Key {

@@ -2,17 +2,16 @@
 ghost use Rattle.std.specs.Prelude.{◌≡◌, ◌++◌, [], Some, IsSome, IfOk, OnOk, OnErr};
 ghost use Rattle.oct_arena.specs.Nodes.{link_of};
 ghost use Rattle.oct_key.specs.CubeOf.{cube_of};
-ghost use Rattle.oct_values.specs.Boxes.{is_met_by};
 ghost use Rattle.oct_tree.specs.Tree.{IsLinked, IsPlace, block_in, node_in, value_at};
 ghost use Rattle.oct_query.specs.Leaves.{IsLeafList, IsOneValue, block_leaves, leaves_met};
 ghost use Rattle.oct_query.specs.Leaves.{leaves_of, own_leaf, that_meet};
 
 use crate::block_list::BlockList;
 use crate::depths::lowest_voxel;
-use crate::extent::{higher, highest_voxel, lower};
+use crate::extent::highest_voxel;
 use crate::found::Found;
 use oct_arena::Node;
-use oct_key::{Block, Key, Window};
+use oct_key::{Block, Window};
 use oct_num::Memory;
 use oct_tree::{OccTree, Place};
 use std::alloc::Global;
@@ -30,22 +29,25 @@ pub fn leaves(alloc: Global, tree: &OccTree) -> Result<BlockList, Memory>
     ensures linked { IsLinked tree.now }
 {
     let whole = Block::whole_map();
-    leaves_in(alloc, tree, lowest_voxel(whole), highest_voxel(whole))
+    let window = Window::of(lowest_voxel(whole), highest_voxel(whole));
+    leaves_in(alloc, tree, &window)
 }
 
-/// The leaves of the map whose blocks meet the box of the two corners, both included, in the same
-/// order. Each is a leaf of the whole map, and may reach beyond the box.
+/// The leaves of the map whose blocks meet the box, in the same order. Each is a leaf of the whole
+/// map, and may reach beyond the box.
 ///
 /// Blocks that don't meet the box are looked at only to tell whether they are part of a greater
 /// one, as far as the first two values that differ, and not at all where the tree is known to be
 /// pruned. Memory is asked for only where some leaf meets the box.
-pub fn leaves_in(alloc: Global, tree: &OccTree, lo: Key, hi: Key) -> Result<BlockList, Memory>
-    ensures exact { IfOk result (λ list. list ≡ leaves_met (value_at tree.now) lo hi) }
-    ensures memory { OnErr result (leaves_met (value_at tree.now) lo hi ≡ [] → ⊥) }
+pub fn leaves_in(alloc: Global, tree: &OccTree, window: &Window) -> Result<BlockList, Memory>
+    ensures exact { IfOk result
+        (λ list. list ≡ leaves_met (value_at tree.now) window.now.lo window.now.hi) }
+    ensures memory { OnErr result
+        (leaves_met (value_at tree.now) window.now.lo window.now.hi ≡ [] → ⊥) }
     ensures linked { IsLinked tree.now }
 {
     let mut found = BlockList::new(alloc);
-    push_leaves(tree, Place::Root, Block::whole_map(), lo, hi, &mut found)?;
+    push_leaves(tree, Place::Root, Block::whole_map(), window, &mut found)?;
     Ok(found)
 }
 
@@ -55,20 +57,19 @@ fn push_leaves(
     tree: &OccTree,
     p: Place,
     block: Block,
-    lo: Key,
-    hi: Key,
+    window: &Window,
     found: &mut BlockList,
 ) -> Result<(), Memory>
     requires place { IsPlace tree.now p }
     requires block { block_in tree.now p ≡ Some (cube_of block) }
-    ensures listed { OnOk result (found.new
-        ≡ found.old ++ that_meet lo hi (block_leaves (value_at tree.now) (cube_of block))) }
-    ensures memory { OnErr result
-        (that_meet lo hi (block_leaves (value_at tree.now) (cube_of block)) ≡ [] → ⊥) }
+    ensures listed { OnOk result (found.new ≡ found.old ++ that_meet window.now.lo window.now.hi
+        (block_leaves (value_at tree.now) (cube_of block))) }
+    ensures memory { OnErr result (that_meet window.now.lo window.now.hi
+        (block_leaves (value_at tree.now) (cube_of block)) ≡ [] → ⊥) }
     ensures linked { IsLinked tree.now }
 {
     let node = tree.node(p);
-    if !meets(block, lo, hi) {
+    if !window.meets(block) {
         return Ok(());
     }
     let Node::Inner(_, id) = node else {
@@ -82,7 +83,7 @@ fn push_leaves(
         if let Node::Absent = tree.node(slot) {
             continue;
         }
-        push_leaves(tree, slot, block.child(i), lo, hi, found)?;
+        push_leaves(tree, slot, block.child(i), window, found)?;
     }
     Ok(())
 }
@@ -133,13 +134,4 @@ fn one_value(tree: &OccTree, p: Place, block: Block) -> Option<Option<i32>>
         }
     }
     Some(first)
-}
-
-/// Whether some voxel of the block lies in the box: whether what they share is a box.
-fn meets(block: Block, lo: Key, hi: Key) -> bool
-    ensures { result ≡ is_met_by lo hi (cube_of block) }
-{
-    let first = higher(lo, lowest_voxel(block));
-    let last = lower(hi, highest_voxel(block));
-    Window::new(first, last).is_some()
 }

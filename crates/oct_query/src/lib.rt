@@ -14,7 +14,7 @@
 //! let Counts { groups, nodes } = counts(&tree);
 //! for found in list(alloc, &tree, lo, hi, 15, 1_000_000)?.as_slice() { .. }
 //! for leaf in leaves(alloc, &tree)?.as_slice() { .. }
-//! for leaf in leaves_in(alloc, &tree, lo, hi)?.as_slice() { .. }
+//! for leaf in leaves_in(alloc, &tree, &window)?.as_slice() { .. }
 //! let window = bounds(&tree, Sought::Occupied);     // None where no voxel is occupied
 //! ```
 //!

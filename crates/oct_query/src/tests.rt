@@ -275,7 +275,10 @@ fn expect_leaves_in(
     want: &[Found],
 ) {
     let ((x, y, z), (u, v, w)) = corners;
-    match leaves_in(alloc, tree, Key { x, y, z }, Key { x: u, y: v, z: w }) {
+    let Some(window) = Window::new(Key { x, y, z }, Key { x: u, y: v, z: w }) else {
+        panic!(rt; "no box");
+    };
+    match leaves_in(alloc, tree, &window) {
         Ok(list) => assert_eq!(rt; list.as_slice(), want),
         Err(_) => panic!(rt; "out of memory"),
     }

@@ -9,7 +9,6 @@ use Rattle.oct_key.specs.Voxel.{Voxel, key_at}
 use Rattle.oct_cast.specs.declared.outcome.Cast.{Cast}
 use Rattle.oct_cast.specs.declared.outcome.Cast.TheVariants as cast
 use Rattle.std.specs.Option.{option_or}
-use Rattle.oct_values.specs.Boxes.{box_volume}
 use Rattle.oct_map.specs.Answers.{edit_answer, edit_answer_at, edit_need, is_full, room_answer}
 use Rattle.oct_map.specs.Answers.{scan_answer_by, box_answer, box_answer_by, box_fault, wide_fault}
 use Rattle.oct_map.specs.Answers.{most_noted, limit_answer, corner_fault}
@@ -24,7 +23,7 @@ use Rattle.oct_scan.specs.Outcome.{scan_fault, point_fault, cells_fault, first_e
 use Rattle.oct_scan.specs.declared.fault.ScanFault.{ScanFault}
 use Rattle.oct_scan.specs.declared.fault.ScanFault.TheVariants as scan_fault_of
 use Rattle.oct_script.specs.declared.reply.Refusal.TheVariants as refusal
-use Rattle.oct_key.specs.Boxes.{is_box}
+use Rattle.oct_key.specs.Boxes.{is_box, box_volume}
 use Rattle.oct_values.specs.Counts.{group_count}
 use Rattle.oct_script.specs.declared.reply.Reply.{Reply}
 use Rattle.oct_script.specs.declared.reply.Reply.TheVariants as reply_of

@@ -43,8 +43,8 @@ use Rattle.oct_script.specs.declared.reply.Refusal.TheVariants as refusal
 use Rattle.oct_script.specs.declared.reply.Reply.{Reply}
 use Rattle.oct_script.specs.declared.reply.Reply.TheVariants as reply_of
 use Rattle.oct_values.specs.Blocks.{blocks_above_voxels}
-use Rattle.oct_key.specs.Boxes.{is_box}
-use Rattle.oct_values.specs.Boxes.{box_need, box_volume}
+use Rattle.oct_key.specs.Boxes.{is_box, box_volume}
+use Rattle.oct_values.specs.Boxes.{box_need}
 use Rattle.oct_values.specs.Counts.{is_uniform, group_count}
 use Rattle.oct_values.specs.Events.{event_at, after_event, updated}
 use Rattle.oct_values.proofs.Around.{groups_after_edit}

@@ -1,7 +1,7 @@
 -- How many blocks meet a box and don't lie in it, depth by depth.
 use Rattle.std.proofs.Common.{◌≡◌, ℕ, zero, suc, ◌+◌, ◌-◌, ◌*◌, ◌/◌, ◌^◌, ◌<◌, ◌≤◌, ◌↔◌, Bool, true}
 use Rattle.std.proofs.Common.{false, cond, refl, sym, ◌∙◌, ap, arith, pow_pos}
-use Rattle.std.specs.Prelude.{◌&&◌, nat_le, nat_lt, count_by, IsTrue}
+use Rattle.std.specs.Prelude.{nat_le, nat_lt, count_by}
 use Rattle.std.proofs.Math.Nat.{le-div_iff_mul-le, div-lt_iff_lt-mul, div-mul-le_self, mul-le-mul}
 use Rattle.std.proofs.Math.Nat.{pow-le-pow_right}
 use Rattle.std.proofs.lemmas.Bool.{true≢false, and_parts, le-leb, leb-true, lt-ltb, ltb-true}
@@ -10,15 +10,16 @@ use Rattle.oct_key.specs.Voxel.{Voxel, IsInMap}
 use Rattle.oct_key.specs.Block.{Cube, IsBlock, side, lowest_voxel, root_block}
 use Rattle.oct_key.proofs.Blocks.{lowest_held, quotient_below}
 use Rattle.oct_values.specs.Blocks.{blocks_above_voxels}
-use Rattle.oct_key.specs.Boxes.{IsBox}
-use Rattle.oct_values.specs.Boxes.{MeetsBox, LiesInBox, MeetsSpan, LiesInSpan, is_cut_by, box_need}
+use Rattle.oct_key.specs.Boxes.{IsBox, MeetsBox, LiesInBox, MeetsSpan, LiesInSpan}
+use Rattle.oct_key.proofs.BoxBlocks.{meets_exactly, lies_exactly, three, three_pass}
+use Rattle.oct_values.specs.Boxes.{is_cut_by, box_need}
 use Rattle.oct_values.specs.Boxes.{met_on, within_on, cut_at}
 use Rattle.oct_values.proofs.Listed.{all_above_voxels}
 use Rattle.oct_values.proofs.Sums.{All-follows, sum_by-same, sum_by-plus}
 use Rattle.oct_values.proofs.Axes.{AxisTest, on_axis, passes, level, sum_below, sum_below-same}
 use Rattle.oct_values.proofs.Axes.{count_by_levels}
 use Rattle.oct_values.proofs.Spans.{is_in_span, span_of_depth}
-use Rattle.oct_values.proofs.Boxes.{meets_exactly, lies_exactly, cut_exactly}
+use Rattle.oct_values.proofs.Boxes.{cut_exactly}
 
 -- the first and the last of the blocks of a depth that meet a span of
 -- numbers, and of those that lie in it
@@ -74,12 +75,6 @@ meets_by lo hi b = passes (met_test lo.x hi.x) (met_test lo.y hi.y) (met_test lo
 
 abbrev lies_by : Voxel → Voxel → Cube → Bool
 lies_by lo hi b = passes (within_test lo.x hi.x) (within_test lo.y hi.y) (within_test lo.z hi.z) b
-
-three : (a b c : Bool) → (a && b && c) ≡ true → (a ≡ true) × (b ≡ true) × (c ≡ true)
-three a b c h = (let z = and_parts (a && b) c h in let y = and_parts a b z.0 in (y.0, y.1, z.1))
-
-three_pass : (a b c : Bool) → a ≡ true → b ≡ true → c ≡ true → (a && b && c) ≡ true
-three_pass a b c x y z = rw (x, y, z) refl
 
 meets_by_exactly : (lo hi : Voxel) (b : Cube) → IsBox lo hi
     → (meets_by lo hi b ≡ true) ↔ MeetsBox lo hi b
@@ -285,43 +280,3 @@ met_few low high d h l =
     let below = quotient_below d high (omega arith) h in
     let power : 2 ^ d ≤ 2 ^ 15 = pow-le-pow_right (omega arith) l in
     omega (arith, below, power)
-
--- on an axis, whether a block has voxels among these numbers, by division
-pub meets_by_division : (low high depth n : ℕ)
-    → ((low / side depth ≤ n) × (n ≤ high / side depth)) ↔ MeetsSpan low high depth n
-meets_by_division low high depth n =
-    let some : 0 < 2 ^ (16 - depth) = pow_pos (16 - depth) in (
-      λ (a, b). ((div-lt_iff_lt-mul some).0 (omega (arith, a)), (le-div_iff_mul-le some).0 b),
-      λ (a, b). (let c = (div-lt_iff_lt-mul some).1 a in
-          (omega (arith, c), (le-div_iff_mul-le some).1 b)),
-    )
-
--- three tests, one for each axis
-pub meets_each : (lo hi : Voxel) (b : Cube) (x y z : Bool) → IsBox lo hi
-    → IsTrue x ↔ MeetsSpan lo.x hi.x b.depth b.x → IsTrue y ↔ MeetsSpan lo.y hi.y b.depth b.y
-    → IsTrue z ↔ MeetsSpan lo.z hi.z b.depth b.z → IsTrue (x && y && z) ↔ MeetsBox lo hi b
-meets_each lo hi b x y z box ex ey ez = (
-  λ h. (let (hx, hy, hz) = three x y z h in
-      (meets_exactly lo hi b box).1 (record { x = ex.0 hx; y = ey.0 hy; z = ez.0 hz })),
-  λ m. (let h = (meets_exactly lo hi b box).0 m in
-      three_pass x y z (ex.1 h.x) (ey.1 h.y) (ez.1 h.z)),
-)
-
-pub lies_each : (lo hi : Voxel) (b : Cube) (x y z : Bool)
-    → IsTrue x ↔ LiesInSpan lo.x hi.x b.depth b.x → IsTrue y ↔ LiesInSpan lo.y hi.y b.depth b.y
-    → IsTrue z ↔ LiesInSpan lo.z hi.z b.depth b.z → IsTrue (x && y && z) ↔ LiesInBox lo hi b
-lies_each lo hi b x y z ex ey ez = (
-  λ h. (let (hx, hy, hz) = three x y z h in
-      (lies_exactly lo hi b).1 (record { x = ex.0 hx; y = ey.0 hy; z = ez.0 hz })),
-  λ m. (let h = (lies_exactly lo hi b).0 m in three_pass x y z (ex.1 h.x) (ey.1 h.y) (ez.1 h.z)),
-)
-
--- the second of two tests on an axis
-pub meets_second : (low high depth n m h : ℕ) → m ≡ n → h ≡ high → low / side depth ≤ n
-    → IsTrue (nat_le m (h / side depth)) ↔ MeetsSpan low high depth n
-meets_second low high depth n m h em eh first =
-    rw (em, eh) (
-      λ t. (meets_by_division low high depth n).0 (first, leb-true n (high / side depth) t),
-      λ s.
-          le-leb n (high / side depth) ((meets_by_division low high depth n).1 s).1,
-    )

@@ -1,10 +1,10 @@
 -- Boxes of voxels: an event on each voxel of one, and how many groups may have to be made for it.
-use Rattle.std.specs.Prelude.{ℕ, ◌≤◌, ◌<◌, ◌+◌, ◌-◌, ◌*◌, ◌/◌, Bool, ◌&&◌, not, Some, None}
+use Rattle.std.specs.Prelude.{ℕ, ◌+◌, ◌-◌, ◌*◌, ◌/◌, Bool, ◌&&◌, not, Some, None}
 use Rattle.std.specs.Prelude.{count_by, if◌then◌else◌}
 use Rattle.std.specs.List.{list_all, list_any}
 use Rattle.oct_key.specs.Voxel.{Voxel}
-use Rattle.oct_key.specs.Block.{Cube, HoldsVoxel, side}
-use Rattle.oct_key.specs.Boxes.{IsInBox, is_in_box}
+use Rattle.oct_key.specs.Block.{Cube, side}
+use Rattle.oct_key.specs.Boxes.{is_in_box}
 use Rattle.oct_odds.specs.declared.event.Event.{Event}
 use Rattle.oct_values.specs.Blocks.{voxels_of, blocks_above_voxels}
 use Rattle.oct_values.specs.Events.{Events}
@@ -12,14 +12,6 @@ use Rattle.oct_values.specs.Events.{Events}
 -- an event on each voxel of a box, and nothing elsewhere
 abbrev pub box_events : Voxel → Voxel → Event → Events
 box_events lo hi event k = if is_in_box lo hi k then Some event else None
-
--- a block meets a box: some voxel of it lies in the box
-abbrev pub MeetsBox : Voxel → Voxel → Cube → Type 0
-MeetsBox lo hi b = (k : Voxel) × HoldsVoxel b k × IsInBox lo hi k
-
--- a block lies in a box: each voxel of it does
-abbrev pub LiesInBox : Voxel → Voxel → Cube → Type 0
-LiesInBox lo hi b = (k : Voxel) → HoldsVoxel b k → IsInBox lo hi k
 
 -- whether a block meets a box
 unfoldable pub is_met_by : Voxel → Voxel → Cube → Bool
@@ -33,14 +25,6 @@ is_cut_by lo hi b = is_met_by lo hi b && not (list_all (is_in_box lo hi) (voxels
 -- most have to be made for it
 unfoldable pub box_need : Voxel → Voxel → ℕ
 box_need lo hi = count_by (is_cut_by lo hi) blocks_above_voxels
-
--- on an axis, some voxels of a block of this depth and number lie between two numbers
-abbrev pub MeetsSpan : ℕ → ℕ → ℕ → ℕ → Type 0
-MeetsSpan low high depth n = (low < (n + 1) * side depth) × (n * side depth ≤ high)
-
--- on an axis, all of them do
-abbrev pub LiesInSpan : ℕ → ℕ → ℕ → ℕ → Type 0
-LiesInSpan low high depth n = (low ≤ n * side depth) × ((n + 1) * side depth ≤ high + 1)
 
 -- on an axis, how many blocks of a depth have voxels between two numbers
 abbrev pub met_on : ℕ → ℕ → ℕ → ℕ
@@ -58,7 +42,3 @@ met_at lo hi depth = met_on depth lo.x hi.x * met_on depth lo.y hi.y * met_on de
 unfoldable pub cut_at : Voxel → Voxel → ℕ → ℕ
 cut_at lo hi depth = met_at lo hi depth
     - within_on depth lo.x hi.x * within_on depth lo.y hi.y * within_on depth lo.z hi.z
-
--- how many voxels there are in the box of two corners
-abbrev pub box_volume : Voxel → Voxel → ℕ
-box_volume lo hi = (hi.x + 1 - lo.x) * ((hi.y + 1 - lo.y) * (hi.z + 1 - lo.z))

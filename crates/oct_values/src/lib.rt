@@ -40,11 +40,10 @@
 //! - Events make no more groups needed than `event_need` and `box_need` say
 //!   ([`events_make_few_groups`]).
 //!
-//! No law here ties `uniform_answer`, `is_listed` and `box_volume` to other words; of
-//! `class_of_block` a law of `oct_bt` does. Working words of the definitions above are
-//! `child_numbers`, `voxels_below`, `blocks_below`, `larger`, `IsLargestKnown`, `is_uniform_by`,
-//! `is_same_value`, `is_same_class`, `known_children`, `needed_nodes`, `met_on`, `within_on`,
-//! `met_at`, `cut_at`, `MeetsSpan` and `LiesInSpan`.
+//! No law here ties `uniform_answer` and `is_listed` to other words; of `class_of_block` a law of
+//! `oct_bt` does. Working words of the definitions above are `child_numbers`, `voxels_below`,
+//! `blocks_below`, `larger`, `IsLargestKnown`, `is_uniform_by`, `is_same_value`, `is_same_class`,
+//! `known_children`, `needed_nodes`, `met_on`, `within_on`, `met_at` and `cut_at`.
 //!
 //! Scans, the tree's edits and queries, the map, files and the session are held against these
 //! words.

@@ -1,7 +1,7 @@
-//! Which corners make a box, and which voxels lie in it.
+//! Which corners make a box, which voxels lie in it, and which blocks it meets and covers.
 
 use super::*;
-use crate::tests::expect_found;
+use crate::tests::{expect_found, expect_number};
 use std::process::Abort;
 
 /// The voxel of these three numbers.
@@ -72,6 +72,49 @@ fn expect_all_held(rt: &impl Abort, window: &Window, cases: &[((u16, u16, u16), 
 fn a_box_holds_its_corners_and_what_lies_between(rt: HostRuntime) {
     match Window::new(key((10, 20, 30)), key((12, 20, 35))) {
         Some(window) => expect_all_held(&rt, &window, VOXELS),
+        None => panic!(rt; "no box"),
+    }
+}
+
+/// The depths of blocks and a voxel in each, and whether the box from (8, 8, 8) to (11, 11, 12)
+/// meets and covers them.
+const BLOCKS: &[(u8, (u16, u16, u16), bool, bool)] = &[
+    (0, (0, 0, 0), true, false),
+    (13, (8, 8, 8), true, false),
+    (14, (8, 8, 8), true, true),
+    (14, (11, 8, 12), true, false),
+    (14, (7, 8, 8), false, false),
+    (14, (8, 12, 8), false, false),
+    (15, (10, 10, 10), true, true),
+    (15, (10, 10, 13), true, false),
+    (15, (10, 10, 14), false, false),
+    (16, (11, 11, 12), true, true),
+    (16, (11, 11, 13), false, false),
+    (16, (11, 7, 12), false, false),
+];
+
+/// Expects whether a box meets and covers a block of a depth.
+fn expect_block(rt: &impl Abort, window: &Window, depth: u8, k: Key, meets: bool, covers: bool) {
+    assert!(rt; depth <= 16);
+    let block = Block::of(k, depth);
+    assert_eq!(rt; window.meets(block), meets);
+    assert_eq!(rt; window.covers(block), covers);
+}
+
+/// Expects that a box meets and covers the blocks of a table.
+fn expect_blocks(rt: &impl Abort, window: &Window, cases: &[(u8, (u16, u16, u16), bool, bool)]) {
+    for (depth, k, meets, covers) in cases {
+        expect_block(rt, window, *depth, key(*k), *meets, *covers);
+    }
+}
+
+#[test]
+fn a_box_meets_blocks_and_covers_some(rt: HostRuntime) {
+    match Window::new(key((8, 8, 8)), key((11, 11, 12))) {
+        Some(window) => {
+            expect_blocks(&rt, &window, BLOCKS);
+            expect_number(&rt, window.volume(), 80);
+        }
         None => panic!(rt; "no box"),
     }
 }

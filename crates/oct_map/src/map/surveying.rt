@@ -8,7 +8,7 @@ ghost use Rattle.oct_map.specs.Leaves.{leaves_in_answer};
 ghost use Rattle.oct_map.specs.Marks.{classes_in};
 ghost use Rattle.oct_map.specs.Memory.{memory_of};
 
-use super::{OccMap, is_box};
+use super::OccMap;
 use crate::fault::MapFault;
 use crate::limits::Limits;
 use oct_arena::Group;
@@ -62,10 +62,10 @@ impl OccMap {
         let Some(high) = self.tree.res().key_of(hi) else {
             return Err(MapFault::Outside { point: 2 });
         };
-        if !is_box(low, high) {
+        let Some(window) = Window::new(low, high) else {
             return Err(MapFault::BadBox);
-        }
-        Ok(leaves_in(self.alloc, &self.tree, low, high)?)
+        };
+        Ok(leaves_in(self.alloc, &self.tree, &window)?)
     }
 
     /// The least box of voxels that holds every known voxel of the map, or every occupied one, or

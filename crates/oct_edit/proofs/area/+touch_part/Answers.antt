@@ -3,7 +3,8 @@ use Rattle.std.proofs.lemmas.Bool.{false≢true}
 use Rattle.oct_key.specs.Block.{Cube}
 use Rattle.oct_key.specs.CubeOf.{cube_of}
 use Rattle.oct_key.proofs.Blocks.{block_in_map, depth_child_of}
-use Rattle.oct_values.specs.Boxes.{MeetsBox, box_events}
+use Rattle.oct_key.specs.Boxes.{MeetsBox}
+use Rattle.oct_values.specs.Boxes.{box_events}
 use Rattle.oct_arena.specs.Entries.{spare}
 use Rattle.oct_tree.proofs.Paths.{some_injective}
 use Rattle.oct_edit.specs.Areas.{cut_in}
@@ -16,65 +17,71 @@ use Rattle.oct_edit.proofs.area.+touch_part.Goals.{then-meets, else-meets}
 
 pub returns-then-takes_nothing-clause-touched : goal.returns-then-takes_nothing-clause-touched
 returns-then-takes_nothing-clause-touched t c =
-    area_still c.args.tree.now c.args.p (cube_of c.args.block) c.args.lo c.args.hi c.args.event
-    c.requires.linked c.requires.place c.requires.block (block_in_map c.args.block)
-    c.takes_nothing.ensures.bounds (c.takes_nothing.ensures.saturated.0 c.if-takes_nothing.true)
+    area_still c.args.tree.now c.args.p (cube_of c.args.block) c.args.window.now.lo
+    c.args.window.now.hi c.args.event c.requires.linked c.requires.place c.requires.block
+    (block_in_map c.args.block) c.takes_nothing.ensures.bounds (c.takes_nothing.ensures.saturated.0
+    c.if-takes_nothing.true)
 
 pub returns-then-is_whole-clause-touched : goal.returns-then-is_whole-clause-touched
 returns-then-is_whole-clause-touched t c =
     let whole = c.is_whole.ensures.0 c.if-is_whole.true in
-    c.apply_at.ensures.whole (cube_of c.args.block) (box_events c.args.lo c.args.hi c.args.event)
+    c.apply_at.ensures.whole (cube_of c.args.block) (box_events c.args.window.now.lo
+    c.args.window.now.hi c.args.event)
     (block_in_map c.args.block) c.requires.block
-    (λ k v held. event_in_box c.args.lo c.args.hi c.args.event k (whole.1 k held))
+    (λ k v held. event_in_box c.args.window.now.lo c.args.window.now.hi c.args.event k
+    (whole.1 k held))
 
 pub enter-id-requires-clause-depth : goal.enter-id-requires-clause-depth
 enter-id-requires-clause-depth t c b e =
     let deep : c.args.block.depth ≤ 15 =
-    part_low c.args.tree.now c.args.p (cube_of c.args.block) c.args.lo c.args.hi
-    c.is_whole.result c.requires.linked (block_in_map c.args.block) c.requires.block
-    c.requires.meets c.if-is_whole.false c.is_whole.ensures in
+    part_low c.args.tree.now c.args.p (cube_of c.args.block) c.args.window.now.lo
+    c.args.window.now.hi c.is_whole.result c.requires.linked (block_in_map c.args.block)
+    c.requires.block c.requires.meets c.if-is_whole.false c.is_whole.ensures in
     subst (λ (a : Cube). a.depth ≤ 15) (some_injective (sym c.requires.block ∙ e)) deep
 
 pub enter-id-requires-clause-room : goal.enter-id-requires-clause-room
 enter-id-requires-clause-room t c none =
     let deep : c.args.block.depth ≤ 15 =
-    part_low c.args.tree.now c.args.p (cube_of c.args.block) c.args.lo c.args.hi
-    c.is_whole.result c.requires.linked (block_in_map c.args.block) c.requires.block
-    c.requires.meets c.if-is_whole.false c.is_whole.ensures in
-    part_room c.args.tree.now c.args.p (cube_of c.args.block) c.args.lo c.args.hi c.is_whole.result
+    part_low c.args.tree.now c.args.p (cube_of c.args.block) c.args.window.now.lo
+    c.args.window.now.hi c.is_whole.result c.requires.linked (block_in_map c.args.block)
+    c.requires.block c.requires.meets c.if-is_whole.false c.is_whole.ensures in
+    part_room c.args.tree.now c.args.p (cube_of c.args.block) c.args.window.now.lo
+    c.args.window.now.hi c.is_whole.result
     (block_in_map c.args.block) deep c.requires.meets c.if-is_whole.false c.is_whole.ensures
     c.requires.room none
 
 pub loop-i-init : goal.loop-i-init
 loop-i-init t c =
     area_start c.args.tree.now c.enter-id.new.tree c.args.p (cube_of c.args.block) c.enter-id.result
-    c.args.lo c.args.hi c.args.event (c.enter-id.ensures (cube_of c.args.block) c.requires.block)
+    c.args.window.now.lo c.args.window.now.hi c.args.event (c.enter-id.ensures
+    (cube_of c.args.block) c.requires.block)
 
 pub child-child-requires-clause-depth : goal.child-child-requires-clause-depth
 child-child-requires-clause-depth t c =
-    part_low c.args.tree.now c.args.p (cube_of c.args.block) c.args.lo c.args.hi c.is_whole.result
-    c.requires.linked (block_in_map c.args.block) c.requires.block c.requires.meets
-    c.if-is_whole.false c.is_whole.ensures
+    part_low c.args.tree.now c.args.p (cube_of c.args.block) c.args.window.now.lo
+    c.args.window.now.hi c.is_whole.result c.requires.linked (block_in_map c.args.block)
+    c.requires.block c.requires.meets c.if-is_whole.false c.is_whole.ensures
 
 pub touch_part-requires : goal.touch_part-requires
 touch_part-requires t c =
     let deep : c.args.block.depth ≤ 15 =
-    part_low c.args.tree.now c.args.p (cube_of c.args.block) c.args.lo c.args.hi
-    c.is_whole.result c.requires.linked (block_in_map c.args.block) c.requires.block
-    c.requires.meets c.if-is_whole.false c.is_whole.ensures in
+    part_low c.args.tree.now c.args.p (cube_of c.args.block) c.args.window.now.lo
+    c.args.window.now.hi c.is_whole.result c.requires.linked (block_in_map c.args.block)
+    c.requires.block c.requires.meets c.if-is_whole.false c.is_whole.ensures in
     let few : c.loop-i.i < 8 = omega arith in
     let entered = c.enter-id.ensures (cube_of c.args.block) c.requires.block in
     let taken =
     part_entered c.args.tree.now c.enter-id.new.tree c.args.p (cube_of c.args.block)
-    c.enter-id.result c.args.lo c.args.hi c.is_whole.result (block_in_map c.args.block)
-    c.requires.meets c.if-is_whole.false c.is_whole.ensures entered in
+    c.enter-id.result c.args.window.now.lo c.args.window.now.hi c.is_whole.result
+    (block_in_map c.args.block) c.requires.meets c.if-is_whole.false c.is_whole.ensures entered in
     let place =
     area_place c.args.tree.now c.enter-id.new.tree c.loop-i.tree c.args.p (cube_of c.args.block)
-    c.enter-id.result c.loop-i.i c.loop-i.i c.args.lo c.args.hi c.args.event few entered
-    c.loop-i.invariant in
+    c.enter-id.result c.loop-i.i c.loop-i.i c.args.window.now.lo c.args.window.now.hi c.args.event
+    few entered c.loop-i.invariant in
     let room =
     area_room c.args.tree.now c.enter-id.new.tree c.loop-i.tree c.args.p (cube_of c.args.block)
-    c.loop-i.i c.args.lo c.args.hi c.args.event deep few c.requires.room taken c.loop-i.invariant in
+    c.loop-i.i c.args.window.now.lo c.args.window.now.hi c.args.event deep few c.requires.room taken
+    c.loop-i.invariant in
     let child = c.child-child.ensures.exact in
     let level : c.child-child.result.depth ≡ c.args.block.depth + 1 =
     ap (λ (a : Cube). a.depth) child ∙ depth_child_of (cube_of c.args.block) c.loop-i.i in
@@ -87,14 +94,11 @@ touch_part-requires t c =
           (
             place.1 ∙ ap Some (sym child),
             (
-              c.requires.order,
+              c.meets.ensures.0 c.if-meets.true,
               (
-                c.meets.ensures.0 c.if-meets.true,
-                (
-                  subst (λ a. cut_in c.args.lo c.args.hi a ≤ spare c.loop-i.tree.groups) (sym child)
-                      room,
-                  c.requires.small,
-                ),
+                subst (λ a. cut_in c.args.window.now.lo c.args.window.now.hi a
+                    ≤ spare c.loop-i.tree.groups) (sym child) room,
+                c.requires.small,
               ),
             ),
           ),
@@ -105,34 +109,36 @@ touch_part-requires t c =
 pub loop-i-preserved : goal.loop-i-preserved
 loop-i-preserved t c =
     let deep : c.args.block.depth ≤ 15 =
-    part_low c.args.tree.now c.args.p (cube_of c.args.block) c.args.lo c.args.hi
-    c.is_whole.result c.requires.linked (block_in_map c.args.block) c.requires.block
-    c.requires.meets c.if-is_whole.false c.is_whole.ensures in
+    part_low c.args.tree.now c.args.p (cube_of c.args.block) c.args.window.now.lo
+    c.args.window.now.hi c.is_whole.result c.requires.linked (block_in_map c.args.block)
+    c.requires.block c.requires.meets c.if-is_whole.false c.is_whole.ensures in
     let few : c.loop-i.i < 8 = omega arith in
     let entered = c.enter-id.ensures (cube_of c.args.block) c.requires.block in
     let child = c.child-child.ensures.exact in
     elim c.if-meets.branch [
       | then-meets w ↦ subst (λ x. IsAreaUnderWay c.enter-id.new.tree x c.args.p
-          (cube_of c.args.block) c.args.lo c.args.hi c.args.event (c.loop-i.i + 1))
+          (cube_of c.args.block) c.args.window.now.lo c.args.window.now.hi c.args.event
+          (c.loop-i.i + 1))
           (sym w.tree-is)
           (area_step c.enter-id.new.tree c.loop-i.tree w.touch_part.new.tree c.args.p
-          (cube_of c.args.block) c.loop-i.i c.args.lo c.args.hi c.args.event entered.linked deep
-          few c.loop-i.invariant
+          (cube_of c.args.block) c.loop-i.i c.args.window.now.lo c.args.window.now.hi c.args.event
+          entered.linked deep few c.loop-i.invariant
           (subst (λ a. IsTouched c.loop-i.tree w.touch_part.new.tree a
-          (box_events c.args.lo c.args.hi c.args.event) false)
+          (box_events c.args.window.now.lo c.args.window.now.hi c.args.event) false)
           child w.touch_part.ensures.touched)
           (subst (λ a. spare c.loop-i.tree.groups ≤ spare w.touch_part.new.tree.groups + cut_in
-          c.args.lo c.args.hi a)
+          c.args.window.now.lo c.args.window.now.hi a)
           child w.touch_part.ensures.room))
       | else-meets w ↦ subst (λ x. IsAreaUnderWay c.enter-id.new.tree x c.args.p
-          (cube_of c.args.block) c.args.lo c.args.hi c.args.event (c.loop-i.i + 1))
+          (cube_of c.args.block) c.args.window.now.lo c.args.window.now.hi c.args.event
+          (c.loop-i.i + 1))
           (sym w.tree-is)
           (area_skip c.enter-id.new.tree c.loop-i.tree c.args.p (cube_of c.args.block) c.loop-i.i
-          c.args.lo c.args.hi c.args.event deep few
+          c.args.window.now.lo c.args.window.now.hi c.args.event deep few
           (λ meets. false≢true
           (sym w.if-meets.false
           ∙ c.meets.ensures.1
-          (subst (MeetsBox c.args.lo c.args.hi) (sym child) meets)))
+          (subst (MeetsBox c.args.window.now.lo c.args.window.now.hi) (sym child) meets)))
           c.loop-i.invariant)
     ]
 
@@ -145,20 +151,20 @@ close-requires-clause-place t c = c.loop-i.invariant.done.place
 pub close-requires-clause-inner : goal.close-requires-clause-inner
 close-requires-clause-inner t c =
     (area_back c.args.tree.now c.enter-id.new.tree c.loop-i.tree c.args.p (cube_of c.args.block)
-    c.enter-id.result c.loop-i.i c.args.lo c.args.hi c.args.event
+    c.enter-id.result c.loop-i.i c.args.window.now.lo c.args.window.now.hi c.args.event
     (c.enter-id.ensures (cube_of c.args.block) c.requires.block) c.loop-i.invariant).2
 
 pub returns-clause-touched : goal.returns-clause-touched
 returns-clause-touched t c =
     let deep : c.args.block.depth ≤ 15 =
-    part_low c.args.tree.now c.args.p (cube_of c.args.block) c.args.lo c.args.hi
-    c.is_whole.result c.requires.linked (block_in_map c.args.block) c.requires.block
-    c.requires.meets c.if-is_whole.false c.is_whole.ensures in
+    part_low c.args.tree.now c.args.p (cube_of c.args.block) c.args.window.now.lo
+    c.args.window.now.hi c.is_whole.result c.requires.linked (block_in_map c.args.block)
+    c.requires.block c.requires.meets c.if-is_whole.false c.is_whole.ensures in
     let last : c.loop-i.i ≡ 8 = omega arith in
     area_end c.args.tree.now c.enter-id.new.tree c.loop-i.tree c.close.new.tree c.args.p
-    (cube_of c.args.block) c.enter-id.result c.loop-i.i c.args.lo c.args.hi c.args.event last
-    c.requires.linked c.requires.place c.requires.block (block_in_map c.args.block) deep
-    c.requires.meets
+    (cube_of c.args.block) c.enter-id.result c.loop-i.i c.args.window.now.lo c.args.window.now.hi
+    c.args.event last c.requires.linked c.requires.place c.requires.block
+    (block_in_map c.args.block) deep c.requires.meets
     (λ h. false≢true (sym c.if-takes_nothing.false ∙ c.takes_nothing.ensures.saturated.1 h))
     (c.enter-id.ensures (cube_of c.args.block) c.requires.block) c.loop-i.invariant
     (c.close.ensures (cube_of c.args.block) c.loop-i.invariant.done.block)
@@ -166,15 +172,16 @@ returns-clause-touched t c =
 pub returns-clause-room : goal.returns-clause-room
 returns-clause-room t c =
     let deep : c.args.block.depth ≤ 15 =
-    part_low c.args.tree.now c.args.p (cube_of c.args.block) c.args.lo c.args.hi
-    c.is_whole.result c.requires.linked (block_in_map c.args.block) c.requires.block
-    c.requires.meets c.if-is_whole.false c.is_whole.ensures in
+    part_low c.args.tree.now c.args.p (cube_of c.args.block) c.args.window.now.lo
+    c.args.window.now.hi c.is_whole.result c.requires.linked (block_in_map c.args.block)
+    c.requires.block c.requires.meets c.if-is_whole.false c.is_whole.ensures in
     let last : c.loop-i.i ≡ 8 = omega arith in
     let taken =
     part_entered c.args.tree.now c.enter-id.new.tree c.args.p (cube_of c.args.block)
-    c.enter-id.result c.args.lo c.args.hi c.is_whole.result (block_in_map c.args.block)
-    c.requires.meets c.if-is_whole.false c.is_whole.ensures
+    c.enter-id.result c.args.window.now.lo c.args.window.now.hi c.is_whole.result
+    (block_in_map c.args.block) c.requires.meets c.if-is_whole.false c.is_whole.ensures
     (c.enter-id.ensures (cube_of c.args.block) c.requires.block) in
     area_spared c.args.tree.now c.enter-id.new.tree c.loop-i.tree c.close.new.tree c.args.p
-    (cube_of c.args.block) c.loop-i.i c.args.lo c.args.hi c.args.event last deep taken
-    c.loop-i.invariant (c.close.ensures (cube_of c.args.block) c.loop-i.invariant.done.block)
+    (cube_of c.args.block) c.loop-i.i c.args.window.now.lo c.args.window.now.hi c.args.event last
+    deep taken c.loop-i.invariant (c.close.ensures (cube_of c.args.block)
+    c.loop-i.invariant.done.block)

@@ -6,7 +6,7 @@ pub returns-then-is_plain : goal.returns-then-is_plain
 returns-then-is_plain c = (
   λ h. (
     ap link_of (sym c.node.ensures.exact) ∙ c.is_plain.ensures.0 c.if-is_plain.true,
-    c.lies_in.ensures.0 h,
+    c.covers.ensures.0 h,
   ),
-  λ h. c.lies_in.ensures.1 h.1,
+  λ h. c.covers.ensures.1 h.1,
 )

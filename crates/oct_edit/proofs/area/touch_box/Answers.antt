@@ -1,7 +1,9 @@
 use Rattle.std.proofs.Common.{◌+◌, ◌≤◌, sym, subst, false, rules}
 use Rattle.oct_key.specs.Voxel.{IsInMap}
 use Rattle.oct_key.specs.Block.{root_block}
-use Rattle.oct_values.specs.Boxes.{MeetsBox, box_events}
+use Rattle.oct_key.specs.CubeOf.{cube_of}
+use Rattle.oct_key.specs.Boxes.{MeetsBox, Window}
+use Rattle.oct_values.specs.Boxes.{box_events}
 use Rattle.oct_arena.specs.Entries.{spare}
 use Rattle.oct_tree.specs.Tree.{Tree}
 use Rattle.oct_edit.specs.Areas.{cut_in}
@@ -14,14 +16,18 @@ use Rattle.oct_edit.proofs.area.touch_box.Goals as goal
 pub touch_part-requires-clause-meets : goal.touch_part-requires-clause-meets
 touch_part-requires-clause-meets c =
     let v : IsInMap c.args.lo = search rules in
-    subst (MeetsBox c.args.lo c.args.hi) (sym c.whole_map.ensures)
-    (root_meets c.args.lo c.args.hi v c.requires.order)
+    subst (λ (w : Window). MeetsBox w.lo w.hi (cube_of c.whole_map.result))
+    (sym c.of-window.ensures)
+    (subst (MeetsBox c.args.lo c.args.hi) (sym c.whole_map.ensures)
+    (root_meets c.args.lo c.args.hi v c.requires.order))
 
 pub touch_part-requires-clause-room : goal.touch_part-requires-clause-room
 touch_part-requires-clause-room c =
-    subst (λ b. cut_in c.args.lo c.args.hi b ≤ spare c.args.tree.now.groups)
+    subst (λ (w : Window). cut_in w.lo w.hi (cube_of c.whole_map.result)
+    ≤ spare c.args.tree.now.groups) (sym c.of-window.ensures)
+    (subst (λ b. cut_in c.args.lo c.args.hi b ≤ spare c.args.tree.now.groups)
     (sym c.whole_map.ensures)
-    (area_need c.args.lo c.args.hi (spare c.args.tree.now.groups) c.requires.room)
+    (area_need c.args.lo c.args.hi (spare c.args.tree.now.groups) c.requires.room))
 
 pub note-requires : goal.note-requires
 note-requires c =
@@ -29,7 +35,10 @@ note-requires c =
     false c.tidiness-known.result
     (subst (λ b. IsTouched c.args.tree.now c.touch_part.new.tree b
     (box_events c.args.lo c.args.hi c.args.event) false)
-    c.whole_map.ensures c.touch_part.ensures.touched)
+    c.whole_map.ensures
+    (subst (λ (w : Window). IsTouched c.args.tree.now c.touch_part.new.tree
+    (cube_of c.whole_map.result) (box_events w.lo w.hi c.args.event) false)
+    c.of-window.ensures c.touch_part.ensures.touched))
     (λ h. false≢true h) c.tidiness-known.ensures.so
 
 -- the edit within the whole map
@@ -42,7 +51,10 @@ touched c =
     (sym c.note.ensures.same)
     (subst (λ b. IsTouched c.args.tree.now c.touch_part.new.tree b
     (box_events c.args.lo c.args.hi c.args.event) false)
-    c.whole_map.ensures c.touch_part.ensures.touched)
+    c.whole_map.ensures
+    (subst (λ (w : Window). IsTouched c.args.tree.now c.touch_part.new.tree
+    (cube_of c.whole_map.result) (box_events w.lo w.hi c.args.event) false)
+    c.of-window.ensures c.touch_part.ensures.touched))
 
 pub returns-clause-edited : goal.returns-clause-edited
 returns-clause-edited c =
@@ -71,4 +83,7 @@ returns-clause-groups c =
     (sym c.note.ensures.same)
     (subst (λ b. spare c.args.tree.now.groups ≤ spare c.touch_part.new.tree.groups + cut_in
     c.args.lo c.args.hi b)
-    c.whole_map.ensures c.touch_part.ensures.room))
+    c.whole_map.ensures
+    (subst (λ (w : Window). spare c.args.tree.now.groups ≤ spare c.touch_part.new.tree.groups
+    + cut_in w.lo w.hi (cube_of c.whole_map.result)) c.of-window.ensures
+    c.touch_part.ensures.room)))

@@ -15,7 +15,8 @@ use Rattle.oct_join.proofs.table.+count_block.Goals.{else-voxels-eq0, else-is_pa
 
 pub loop-i-init : goal.loop-i-init
 loop-i-init t c = record {
-  counted = λ r s p q side_a is_a side_b is_b. counting_first c.args.zone.lo c.args.zone.hi
+  counted = λ r s p q side_a is_a side_b is_b. counting_first c.args.window.lo
+      c.args.window.hi
       (cube_of c.args.block) c.args.a c.args.b c.args.first.now c.args.second.now r s p q
       c.args.table.now.counts _ _ _ _
       (ahead_first c.args.block.depth c.args.a c.args.first.now _ _ r p side_a is_a

@@ -13,7 +13,7 @@ invariant-loop-i l = record {
   counted : (r s : Entries) (p q : List ℕ) → IsSide l.block.depth l.a r
       → l.first ≡ side_text l.a r ++ p → IsSide l.block.depth l.b s
       → l.second ≡ side_text l.b s ++ q
-      → IsCounting l.zone.lo l.zone.hi (cube_of l.block) l.a l.b l.first l.second r s p q
+      → IsCounting l.window.lo l.window.hi (cube_of l.block) l.a l.b l.first l.second r s p q
       l.fn.table.counts l.table.counts l.at l.to l.left l.other l.i;
   long : length l.table.counts ≡ length l.fn.table.counts;
 }

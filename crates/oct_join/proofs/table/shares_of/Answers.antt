@@ -1,13 +1,14 @@
-use Rattle.std.proofs.Common.{◌*◌, ◌<◌, rules}
+use Rattle.std.proofs.Common.{◌*◌, ◌<◌, sym, rules}
 use Rattle.oct_key.specs.CubeOf.{cube_of}
 use Rattle.oct_join.proofs.Counting.{shares_are, product_small}
 use Rattle.oct_join.proofs.table.shares_of.Goals as goal
 
 pub returns : goal.returns
 returns c i l =
-    shares_are c.args.zone.lo c.args.zone.hi (cube_of c.args.block) _ _ _ _ _ _ i l
+    rw (sym c.lo-lo.ensures, sym c.hi-hi.ensures)
+    (shares_are c.lo-lo.result c.hi-hi.result (cube_of c.args.block) _ _ _ _ _ _ i l
     c.shared_halves-x.ensures.low c.shared_halves-x.ensures.high c.shared_halves-y.ensures.low
-    c.shared_halves-y.ensures.high c.shared_halves-z.ensures.low c.shared_halves-z.ensures.high
+    c.shared_halves-y.ensures.high c.shared_halves-z.ensures.low c.shared_halves-z.ensures.high)
 
 pub overflow_mul-result-2 : goal.overflow_mul-result-2
 overflow_mul-result-2 c =

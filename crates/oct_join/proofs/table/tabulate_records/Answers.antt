@@ -1,5 +1,4 @@
-use Rattle.std.proofs.Common.{rules, refl, ◌∙◌}
-use Rattle.oct_key.specs.Voxel.{IsInMap}
+use Rattle.std.proofs.Common.{refl, ◌∙◌}
 use Rattle.oct_key.specs.CubeOf.{cube_of}
 use Rattle.oct_bt.specs.DataClasses.{data_classes}
 use Rattle.oct_merge.proofs.Tables.{table_total}
@@ -13,9 +12,9 @@ count_block-requires-clause-sides c =
     let (m, accepted') = c.requires.second in
     let x = root_of n c.args.first.now c.root_code-a.result accepted c.root_code-a.ensures in
     let y = root_of m c.args.second.now c.root_code-b.result accepted' c.root_code-b.ensures in
-    let v : IsInMap c.args.zone.hi = search rules in
-    root_hand c.args.zone.lo c.args.zone.hi (cube_of c.whole_map.result) c.args.first.now
-    c.args.second.now c.root_code-a.result c.root_code-b.result v c.whole_map.ensures x y
+    root_hand c.args.window.lo c.args.window.hi (cube_of c.whole_map.result)
+    c.args.first.now c.args.second.now c.root_code-a.result c.root_code-b.result c.requires.in_map
+    c.whole_map.ensures x y
 
 pub returns-clause-exact : goal.returns-clause-exact
 returns-clause-exact c =
@@ -23,12 +22,13 @@ returns-clause-exact c =
     let (m, accepted') = c.requires.second in
     let x = root_of n c.args.first.now c.root_code-a.result accepted c.root_code-a.ensures in
     let y = root_of m c.args.second.now c.root_code-b.result accepted' c.root_code-b.ensures in
-    root_table c.args.zone.lo c.args.zone.hi (cube_of c.whole_map.result) c.args.first.now
-    c.args.second.now c.count_block.new.table.counts c.root_code-a.result c.root_code-b.result _
-    c.whole_map.ensures x y (c.count_block.ensures.long ∙ refl) c.count_block.ensures.counted
+    root_table c.args.window.lo c.args.window.hi (cube_of c.whole_map.result)
+    c.args.first.now c.args.second.now c.count_block.new.table.counts c.root_code-a.result
+    c.root_code-b.result _ c.whole_map.ensures x y (c.count_block.ensures.long ∙ refl)
+    c.count_block.ensures.counted
 
 pub returns-clause-all : goal.returns-clause-all
 returns-clause-all c =
-    let v : IsInMap c.args.zone.hi = search rules in
-    table_total c.args.zone.lo c.args.zone.hi (data_classes c.args.first.now)
-    (data_classes c.args.second.now) c.count_block.new.table.counts v (returns-clause-exact c)
+    table_total c.args.window.lo c.args.window.hi (data_classes c.args.first.now)
+    (data_classes c.args.second.now) c.count_block.new.table.counts c.requires.in_map
+    (returns-clause-exact c)

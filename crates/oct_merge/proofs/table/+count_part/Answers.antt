@@ -13,7 +13,7 @@ use Rattle.oct_merge.proofs.table.+count_part.Goals as goal
 
 pub returns-then-voxels-eq0-clause-counted : goal.returns-then-voxels-eq0-clause-counted
 returns-then-voxels-eq0-clause-counted t c n l =
-    counted_none c.args.zone.lo c.args.zone.hi
+    counted_none c.args.window.lo c.args.window.hi
     (classes_of c.args.a.now.odds (value_at c.args.a.now))
     (classes_of c.args.b.now.odds (value_at c.args.b.now)) n (cube_of c.args.block)
     c.shared_with-voxels.result _ (block_in_map c.args.block) c.shared_with-voxels.ensures
@@ -23,7 +23,7 @@ pub add-requires-clause-room : goal.add-requires-clause-room
 add-requires-clause-room t c =
     let plain = c.are_plain.ensures.0 c.if-are_plain.true in
     counted_room _ c.shared_with-voxels.result c.place_of-place.result _
-    (counted_plain c.args.zone.lo c.args.zone.hi c.args.a.now c.args.b.now
+    (counted_plain c.args.window.lo c.args.window.hi c.args.a.now c.args.b.now
     c.place_of-place.result (cube_of c.args.block) c.args.first c.args.second c.class_under.result
     c.class_under-then-are_plain.result c.place_of-place.result c.shared_with-voxels.result
     (block_in_map c.args.block) c.requires.first c.requires.second plain.0 plain.1
@@ -36,7 +36,7 @@ returns-then-are_plain-clause-counted t c n l =
     let plain = c.are_plain.ensures.0 c.if-are_plain.true in
     c.add.ensures.counted n l
     ∙ ap (λ m. slice_index_or c.args.table.now.counts n 0 + m)
-    (sym (counted_plain c.args.zone.lo c.args.zone.hi c.args.a.now c.args.b.now n
+    (sym (counted_plain c.args.window.lo c.args.window.hi c.args.a.now c.args.b.now n
     (cube_of c.args.block) c.args.first c.args.second c.class_under.result
     c.class_under-then-are_plain.result c.place_of-place.result c.shared_with-voxels.result
     (block_in_map c.args.block) c.requires.first c.requires.second plain.0 plain.1
@@ -47,7 +47,7 @@ pub loop-i-init : goal.loop-i-init
 loop-i-init t c = record {
   counted =
       λ n l. child_first
-      (λ j. pairs_in c.args.zone.lo c.args.zone.hi
+      (λ j. pairs_in c.args.window.lo c.args.window.hi
       (classes_of c.args.a.now.odds (value_at c.args.a.now))
       (classes_of c.args.b.now.odds (value_at c.args.b.now)) n
       (child_of (cube_of c.args.block) j))
@@ -101,11 +101,12 @@ count_part-requires t c =
             mine,
             (
               theirs,
-              λ n l. subst (λ a. slice_index_or c.loop-i.table.counts n 0 + pairs_in c.args.zone.lo
-                  c.args.zone.hi (classes_of c.args.a.now.odds (value_at c.args.a.now))
+              λ n l. subst (λ a. slice_index_or c.loop-i.table.counts n 0 + pairs_in
+                  c.args.window.lo
+                  c.args.window.hi (classes_of c.args.a.now.odds (value_at c.args.a.now))
                   (classes_of c.args.b.now.odds (value_at c.args.b.now)) n a < 2 ^ 64)
                   (sym child)
-                  (child_room c.args.zone.lo c.args.zone.hi
+                  (child_room c.args.window.lo c.args.window.hi
                   (classes_of c.args.a.now.odds (value_at c.args.a.now))
                   (classes_of c.args.b.now.odds (value_at c.args.b.now)) n c.loop-i.i
                   (cube_of c.args.block) _ _ low few (c.requires.room n l)
@@ -120,14 +121,14 @@ pub loop-i-preserved : goal.loop-i-preserved
 loop-i-preserved t c = record {
   counted =
       λ n l. child_next
-      (λ j. pairs_in c.args.zone.lo c.args.zone.hi
+      (λ j. pairs_in c.args.window.lo c.args.window.hi
       (classes_of c.args.a.now.odds (value_at c.args.a.now))
       (classes_of c.args.b.now.odds (value_at c.args.b.now)) n
       (child_of (cube_of c.args.block) j))
       _ _ _ c.loop-i.i (c.loop-i.invariant.counted n l)
       (c.count_part.ensures.counted n l
-      ∙ ap (λ a. slice_index_or c.loop-i.table.counts n 0 + pairs_in c.args.zone.lo
-      c.args.zone.hi (classes_of c.args.a.now.odds (value_at c.args.a.now))
+      ∙ ap (λ a. slice_index_or c.loop-i.table.counts n 0 + pairs_in c.args.window.lo
+      c.args.window.hi (classes_of c.args.a.now.odds (value_at c.args.a.now))
       (classes_of c.args.b.now.odds (value_at c.args.b.now)) n a)
       c.child.ensures.exact);
   long = c.count_part.ensures.long ∙ c.loop-i.invariant.long;
@@ -140,6 +141,7 @@ returns-clause-counted t c n l =
     c.are_plain.result c.requires.a c.requires.b (block_in_map c.args.block)
     c.requires.first c.requires.second c.if-are_plain.false c.are_plain.ensures in
     let last : c.loop-i.i ≡ 8 = omega arith in
-    child_last c.args.zone.lo c.args.zone.hi (classes_of c.args.a.now.odds (value_at c.args.a.now))
+    child_last c.args.window.lo c.args.window.hi (classes_of c.args.a.now.odds
+    (value_at c.args.a.now))
     (classes_of c.args.b.now.odds (value_at c.args.b.now)) n c.loop-i.i (cube_of c.args.block) _
     _ low last (c.loop-i.invariant.counted n l)

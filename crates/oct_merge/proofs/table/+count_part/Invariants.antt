@@ -15,7 +15,7 @@ invariant-loop-i l = record {
   counted : (n : ℕ) → n < 9
       → slice_index_or l.table.counts n 0 ≡ slice_index_or l.fn.table.counts n 0
       + sum_below
-      (λ j. pairs_in l.fn.zone.lo l.fn.zone.hi (classes_of l.a.odds (value_at l.a))
+      (λ j. pairs_in l.fn.window.lo l.fn.window.hi (classes_of l.a.odds (value_at l.a))
       (classes_of l.b.odds (value_at l.b)) n (child_of (cube_of l.fn.block) j))
       l.i;
   long : length l.table.counts ≡ length l.fn.table.counts;

@@ -12,6 +12,6 @@ abbrev pub invariant-loop-i : goal.invariant-loop-i
 invariant-loop-i l = record {
   listed : l.found
       ≡ l.fn.found
-      ++ that_meet l.lo l.hi
+      ++ that_meet l.window.lo l.window.hi
       (first_leaves (value_at l.tree) (16 - (l.block.depth + 1)) (cube_of l.block) l.i);
 }

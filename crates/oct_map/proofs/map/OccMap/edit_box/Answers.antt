@@ -1,9 +1,10 @@
 use Rattle.std.proofs.Common.{◌≡◌, ℕ, ◌+◌, ◌≤◌, Option, Some, Err, Bool, true, false, inl, inr}
-use Rattle.std.proofs.Common.{sym, ◌∙◌, ap, subst, rules}
+use Rattle.std.proofs.Common.{refl, sym, ◌∙◌, ap, subst, rules}
 use Rattle.std.specs.Prelude.{is_some}
 use Rattle.std.proofs.lemmas.Bool.{false≢true}
 use Rattle.oct_key.specs.Voxel.{Voxel, key_at}
-use Rattle.oct_key.specs.Boxes.{is_box, IsInBox}
+use Rattle.oct_key.specs.Boxes.{is_box, IsInBox, Window, box_volume}
+use Rattle.oct_key.proofs.Boxes.{box_exactly}
 use Rattle.oct_values.specs.Boxes.{box_events}
 use Rattle.oct_values.specs.Events.{Events}
 use Rattle.oct_arena.specs.Entries.{live}
@@ -55,13 +56,18 @@ counted c =
     c.box_need.ensures.exact
     ∙ sym (corners_need _ _ c.in-Some.low c.in-Some-key_of.high (low c) (high c))
 
+voxels : (c : After-box_need)
+    → c.volume-count.result ≡ box_volume c.in-Some.low c.in-Some-key_of.high
+voxels c =
+    c.volume-count.ensures ∙ ap (λ (w : Window). box_volume w.lo w.hi) c.in-Some-new.ensures.corners
+
 many : (c : After-box_need) → c.volume-count.result ≡ corner_volume (first c) (second c)
 many c =
-    c.volume-count.ensures
+    voxels c
     ∙ sym (corners_volume _ _ c.in-Some.low c.in-Some-key_of.high (low c) (high c))
 
 order : (c : After-box_need) → is_box c.in-Some.low c.in-Some-key_of.high ≡ true
-order c = sym c.is_box.ensures.exact ∙ c.if-not-is_box.false
+order c = (box_exactly _ _).1 (c.in-Some-new.ensures.accepted.0 refl)
 
 -- the events at them, which are those of the box
 abbrev events : After-box_need → Events
@@ -174,7 +180,8 @@ returns-clause-path c k v event =
 
 pub note_box-requires-clause-room : goal.note_box-requires-clause-room
 note_box-requires-clause-room c =
-    subst (HasRoomForNotes c.reserve.new.self) c.volume-count.ensures c.in_ok-reserve.ensures.room
+    subst (HasRoomForNotes c.reserve.new.self)
+    (voxels (goal.at.note_box-requires-clause-room c).After-box_need) c.in_ok-reserve.ensures.room
 
 pub returns-clause-mark : goal.returns-clause-mark
 returns-clause-mark c =
@@ -199,7 +206,7 @@ returns-clause-noted c =
     c.volume-count.result c.self-2.inside.mark c.reserve.new.self c.note_box.new.self (events n)
     c.reserve.ensures.kept c.reserve.ensures.made (λ there. (c.reserve.ensures.enough there).1)
     (subst (λ n. HasMarked (classes_in (roomy r)) (IsInBox c.in-Some.low c.in-Some-key_of.high) n
-    c.reserve.new.self c.note_box.new.self) (sym c.volume-count.ensures) c.note_box.ensures)
+    c.reserve.new.self c.note_box.new.self) (sym (voxels n)) c.note_box.ensures)
     (λ q v e. asked_box (first n) (second n) c.in-Some.low c.in-Some-key_of.high c.args.event q
     (low n) (high n) e)))
 
