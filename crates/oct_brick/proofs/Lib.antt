@@ -3,6 +3,7 @@ pub mod Bits
 pub mod MaskCodes
 pub mod BrickCodes
 pub mod Merging
+pub mod Keyed
 pub mod OctetCounts
 pub mod Rising
 pub mod CodedVoxels

@@ -13,6 +13,7 @@ use Rattle.oct_brick.specs.Masks.{HasCode}
 use Rattle.oct_brick.specs.declared.brick.Brick.{Brick}
 use Rattle.oct_brick.specs.Bricks.{IsBrick, AreAscending, scanned_codes, hit_codes, freed_codes}
 use Rattle.oct_brick.specs.Bricks.{frees_of}
+use Rattle.oct_brick.specs.Merge.{IsJoined, HasAdded}
 use Rattle.oct_brick.proofs.Bits.{and_not}
 use Rattle.oct_brick.proofs.Lists.{contains_none, contains_cases, all_contained, pairs_nil}
 use Rattle.oct_brick.proofs.Lists.{pairs_head, pairs_tail, pairs_append}
@@ -35,12 +36,13 @@ IsBelowNext i all merged =
     (b : Brick) → Contains merged b → (j : ℕ) (d : Brick) → i ≤ j → j < length all
     → b.code ≤ (get_or all j d).code
 
--- the codes of bricks in another order
-pub permuted : (f : Brick → ℕ) (xs ys : List Brick) (c : ℕ) → IsPermutation xs ys
-    → Contains (codes_by f xs) c → Contains (codes_by f ys) c
-permuted f xs ys c moved h =
+-- the codes of bricks that another list has too
+pub carried : (f : Brick → ℕ) (xs ys : List Brick) (c : ℕ)
+    → ((b : Brick) → Contains xs b → Contains ys b) → Contains (codes_by f xs) c
+    → Contains (codes_by f ys) c
+carried f xs ys c within h =
     (let r = by_tells f xs c h in
-    by_listed f ys c r.0 (Contains-permutation xs ys r.0 moved r.1) r.2)
+    by_listed f ys c r.0 (within r.0 r.1) r.2)
 
 -- one brick more
 pub pushed_has : (f : Brick → ℕ) (bs : List Brick) (b : Brick) (c : ℕ)
@@ -125,7 +127,7 @@ pairs_last R (z ∷ xs) y p x h = elim (contains_cases z x xs h) [
   | inr k ↦ pairs_last R xs y (pairs_tail R z (xs ++ y ∷ []) p) x k
 ]
 
-all_push : {X : Type 0} (P : X → Type 0) (xs : List X) (y : X) → All P xs → P y
+pub all_push : {X : Type 0} (P : X → Type 0) (xs : List X) (y : X) → All P xs → P y
     → All P (xs ++ y ∷ [])
 all_push P xs y h p =
     all_contained P (xs ++ y ∷ []) (λ x k. elim (Contains-push_cases xs y x k) [
@@ -188,15 +190,6 @@ split_last {X} (x ∷ y ∷ ys) d l =
       ap (λ l. x ∷ l) r.1 ∙ ap (λ (n : ℕ). x ∷ r.0 ++ get_or (x ∷ y ∷ ys) n d ∷ []) (sym same),
       omega (arith, r.2),
     )
-
--- what joining two bricks of one code gives
-pub record IsJoined (last b j : Brick) : Type 0 where
-  pub code : j.code ≡ b.code
-  pub scanned : (c : ℕ)
-      → HasCode j.code j.scanned c ↔ (HasCode last.code last.scanned c ⊎ HasCode b.code b.scanned c)
-  pub hits : (c : ℕ)
-      → HasCode j.code j.hits c ↔ (HasCode last.code last.hits c ⊎ HasCode b.code b.hits c)
-  pub brick : IsBrick last → IsBrick b → IsBrick j
 
 -- this many bricks of a list in order were taken
 pub record HasTaken (i : ℕ) (all ms : List Brick) : Type 0 where
@@ -313,47 +306,59 @@ taken_join all ms ms' i d e j l bricks up some same joined is h =
           omega (arith, n, f, s, some));
     })
 
--- the same, with what is known of the last one as the code reads it
-pub taken_last : (all ms ms' : List Brick) (i count : ℕ) (d read last j : Brick) → i < length all
-    → All IsBrick all → IsNonDecreasingBy (λ b. b.code) all → 0 < count → count ≡ length ms
-    → read ≡ get_or ms (count - 1) read → read.code ≡ (get_or all i d).code
-    → last ≡ get_or ms (count - 1) last → IsJoined last (get_or all i d) j
-    → ms' ≡ set ms (count - 1) j → HasTaken i all ms → HasTaken (i + 1) all ms'
-taken_last all ms ms' i count d read last j l bricks up some size is_read code is_last joined is h =
-    let here : ℕ = count - 1 in
-    let same : here ≡ length ms - 1 = ap (λ (n : ℕ). n - 1) size in
-    let within : here < length ms = omega (arith, some, size, same) in
-    let at_last : get_or ms (length ms - 1) last ≡ last =
-    sym (is_last ∙ ap (λ (n : ℕ). get_or ms n last) same) in
-    let one : read ≡ last = is_read ∙ same_default ms here last read within ∙ sym is_last in
-    let code' : (get_or ms (length ms - 1) last).code ≡ (get_or all i d).code =
-    ap (λ (b : Brick). b.code) at_last ∙ sym (ap (λ (b : Brick). b.code) one) ∙ code in
-    taken_join all ms ms' i d last j l bricks up (omega (arith, some, size)) code'
-    (subst (λ b. IsJoined b (get_or all i d) j) (sym at_last) joined)
-    (is ∙ ap (λ (n : ℕ). set ms n j) same) h
-
--- and the last one's code where it is another
-pub other_last : (all ms : List Brick) (i count : ℕ) (d d' read : Brick) → count ≡ length ms
-    → read ≡ get_or ms (count - 1) read → read.code ≢ (get_or all i d).code → 0 < length ms
-    → (get_or ms (length ms - 1) d').code ≢ (get_or all i d).code
-other_last all ms i count d d' read size is_read ne some = λ e.
+-- the last one takes it up, with what is known of that one as the code reads it
+pub joined_last : (ms ms' : List Brick) (count : ℕ) (read last b j : Brick) → 0 < count
+    → count ≡ length ms → read ≡ get_or ms (count - 1) read → read.code ≡ b.code
+    → last ≡ get_or ms (count - 1) last → IsJoined last b j → ms' ≡ set ms (count - 1) j
+    → HasAdded b ms ms'
+joined_last ms ms' count read last b j some size is_read code is_last both is =
     let same : count - 1 ≡ length ms - 1 = ap (λ (n : ℕ). n - 1) size in
-    let within : length ms - 1 < length ms = omega (arith, some) in
-    let one : read ≡ get_or ms (length ms - 1) d' =
-    is_read ∙ ap (λ (n : ℕ). get_or ms n read) same
-    ∙ same_default ms (length ms - 1) d' read within in
-    ne (ap (λ (b : Brick). b.code) one ∙ e)
+    let within : count - 1 < length ms = omega (arith, some, size) in
+    let one : read ≡ last =
+    is_read ∙ same_default ms (count - 1) last read within ∙ sym is_last in
+    inr (record {
+      last = last;
+      joined = j;
+      some = omega (arith, some, size);
+      is_last = is_last ∙ ap (λ (n : ℕ). get_or ms n last) same;
+      same = sym (ap (λ (a : Brick). a.code) one) ∙ code;
+      both = both;
+      is = is ∙ ap (λ (n : ℕ). set ms n j) same;
+    })
+
+-- the next one is added, in either way
+pub taken_added : (all ms ms' : List Brick) (i : ℕ) (d b : Brick) → i < length all
+    → All IsBrick all → IsNonDecreasingBy (λ b. b.code) all → b ≡ get_or all i d
+    → HasAdded b ms ms' → HasTaken i all ms → HasTaken (i + 1) all ms'
+taken_added all ms ms' i d b l bricks up e (inl h) t =
+    taken_push all ms ms' i d l bricks up
+    (λ some k. h.other d some (k ∙ sym (ap (λ (a : Brick). a.code) e)))
+    (h.is ∙ ap (λ (a : Brick). ms ++ a ∷ []) e) t
+taken_added all ms ms' i d b l bricks up e (inr h) t =
+    taken_join all ms ms' i d h.last h.joined l bricks up h.some
+    (sym (ap (λ (a : Brick). a.code) h.is_last) ∙ h.same ∙ ap (λ (a : Brick). a.code) e)
+    (subst (λ a. IsJoined a (get_or all i d) h.joined) h.is_last
+    (subst (λ a. IsJoined h.last a h.joined) e h.both))
+    h.is t
 
 -- what the whole list gives
-pub taken_all : (f : Brick → ℕ) (bricks all ms : List Brick) (i : ℕ) → IsPermutation bricks all
+pub taken_all : (f : Brick → ℕ) (bricks all ms : List Brick) (i : ℕ)
+    → ((b : Brick) → Contains bricks b → Contains all b)
+    → ((b : Brick) → Contains all b → Contains bricks b)
     → length all ≤ i → HasSame f (take i all) ms → HasSame f bricks ms
-taken_all f bricks all ms i moved l same =
+taken_all f bricks all ms i there back l same =
     let whole : take i all ≡ all = take_all i all l in
     λ c. (
-      λ h. (subst (λ xs. HasSame f xs ms) whole same c).0 (permuted f bricks all c moved h),
-      λ h. permuted f all bricks c (IsPermutation-sym bricks all moved)
-          ((subst (λ xs. HasSame f xs ms) whole same c).1 h),
+      λ h. (subst (λ xs. HasSame f xs ms) whole same c).0 (carried f bricks all c there h),
+      λ h. carried f all bricks c back ((subst (λ xs. HasSame f xs ms) whole same c).1 h),
     )
+
+-- a list of the same bricks in another order
+pub taken_permuted : (f : Brick → ℕ) (bricks all ms : List Brick) (i : ℕ)
+    → IsPermutation bricks all → length all ≤ i → HasSame f (take i all) ms → HasSame f bricks ms
+taken_permuted f bricks all ms i moved =
+    taken_all f bricks all ms i (λ b. Contains-permutation bricks all b moved)
+    (λ b. Contains-permutation all bricks b (IsPermutation-sym bricks all moved))
 
 -- of bricks in order, one has a code
 pub same_member : (bs : List Brick) (a b : Brick) → AreAscending bs → Contains bs a → Contains bs b

@@ -1,8 +1,11 @@
-//! Bricks sorted by their codes, those of one code joined.
-ghost use Rattle.std.specs.Prelude.{ℕ, ◌≤◌, ◌↔◌, All, Contains, IfOk, vec_len};
+//! Bricks in the order of their codes, those of one code joined.
+ghost use Rattle.std.specs.Prelude.{ℕ, ◌≤◌, ◌↔◌, All, Contains, IfOk, OnOk, length, vec_len};
+ghost use Rattle.std.specs.List.Sorted.{IsNonDecreasing};
 ghost use Rattle.oct_brick.specs.Bricks.{scanned_codes, hit_codes, IsBrick, AreAscending};
+ghost use Rattle.oct_brick.specs.Merge.{AreKeys, HasAdded};
 
 use crate::brick::Brick;
+use crate::keys::{MOST_KEYED, sorted_keys};
 use oct_num::Memory;
 use std::alloc::Global;
 
@@ -17,18 +20,65 @@ pub fn merge_bricks(alloc: Global, bricks: Vec<Brick>) -> Result<Vec<Brick>, Mem
     ensures ascend { IfOk result (λ merged. AreAscending merged.items) }
     ensures few { IfOk result (λ merged. vec_len merged ≤ vec_len bricks) }
 {
-    let mut bricks = bricks;
-    bricks.sort_unstable_by_key(|brick| brick.code);
-    let mut merged: Vec<Brick> = Vec::new(alloc);
-    for &brick in &bricks {
-        let count = merged.len();
-        if count > 0 && merged[count - 1].code == brick.code {
-            merged[count - 1] = merged[count - 1].joined(brick);
-        } else {
-            merged.push(brick)?;
-        }
+    if bricks.len() as u64 > MOST_KEYED {
+        return merge_many(alloc, bricks);
+    }
+    let keys = sorted_keys(alloc, &bricks)?;
+    merge_by_keys(alloc, &bricks, &keys)
+}
+
+/// The same by the keys of all bricks, in order.
+fn merge_by_keys(alloc: Global, bricks: &[Brick], keys: &[u64]) -> Result<Vec<Brick>, Memory>
+    requires bricks { All IsBrick bricks.now }
+    requires keys { AreKeys (length bricks.now) bricks.now keys.now }
+    requires order { IsNonDecreasing keys.now }
+    ensures scanned { IfOk result (λ merged. (c : ℕ) →
+        Contains (scanned_codes bricks.now) c ↔ Contains (scanned_codes merged.items) c) }
+    ensures hits { IfOk result (λ merged. (c : ℕ) →
+        Contains (hit_codes bricks.now) c ↔ Contains (hit_codes merged.items) c) }
+    ensures bricks { IfOk result (λ merged. All IsBrick merged.items) }
+    ensures ascend { IfOk result (λ merged. AreAscending merged.items) }
+    ensures few { IfOk result (λ merged. vec_len merged ≤ length bricks.now) }
+{
+    let mut merged = Vec::new(alloc);
+    for &key in keys {
+        add(&mut merged, bricks[(key % MOST_KEYED) as usize])?;
     }
     Ok(merged)
+}
+
+/// The same for bricks that are too many for keys.
+fn merge_many(alloc: Global, bricks: Vec<Brick>) -> Result<Vec<Brick>, Memory>
+    requires { All IsBrick bricks.items }
+    ensures scanned { IfOk result (λ merged. (c : ℕ) →
+        Contains (scanned_codes bricks.items) c ↔ Contains (scanned_codes merged.items) c) }
+    ensures hits { IfOk result (λ merged. (c : ℕ) →
+        Contains (hit_codes bricks.items) c ↔ Contains (hit_codes merged.items) c) }
+    ensures bricks { IfOk result (λ merged. All IsBrick merged.items) }
+    ensures ascend { IfOk result (λ merged. AreAscending merged.items) }
+    ensures few { IfOk result (λ merged. vec_len merged ≤ vec_len bricks) }
+{
+    let mut bricks = bricks;
+    bricks.sort_unstable_by_key(|brick| brick.code);
+    let mut merged = Vec::new(alloc);
+    for &brick in &bricks {
+        add(&mut merged, brick)?;
+    }
+    Ok(merged)
+}
+
+/// Adds a brick to a list, or joins it to the last one, where that has its code.
+#[inline(always)]
+fn add(merged: &mut Vec<Brick>, brick: Brick) -> Result<(), Memory>
+    ensures { OnOk result (HasAdded brick merged.old.items merged.new.items) }
+{
+    let count = merged.len();
+    if count > 0 && merged[count - 1].code == brick.code {
+        merged[count - 1] = merged[count - 1].joined(brick);
+    } else {
+        merged.push(brick)?;
+    }
+    Ok(())
 }
 
 #[cfg(test)]

@@ -79,10 +79,23 @@ fn expect_merged(
     Ok(())
 }
 
+/// The same without keys, as it is done for more bricks than have them.
+fn expect_many_merged(
+    rt: &impl Abort,
+    alloc: Global,
+    changes: &[(u64, bool)],
+    want: &[Brick],
+) -> Result<(), Memory> {
+    let bricks = merge_many(alloc, bricks_of(alloc, changes)?)?;
+    assert_eq!(rt; bricks.as_slice(), want);
+    Ok(())
+}
+
 #[test]
 fn puts_bricks_in_order_and_joins_those_of_one_code(rt: HostRuntime) -> Result<(), Fail> {
     expect_merged(&rt, rt.alloc(), CHANGES, MERGED)?;
     expect_merged(&rt, rt.alloc(), &[], &[])?;
+    expect_many_merged(&rt, rt.alloc(), CHANGES, MERGED)?;
     Ok(())
 }
 
