@@ -1,16 +1,14 @@
 -- Packing and unpacking undo each other.
 use Rattle.std.proofs.Common.{◌≡◌, ℕ, ◌+◌, ◌/◌, ◌%◌, ◌^◌, ◌<◌, ◌≤◌, ◌⊎◌, ℤ, refl, sym, ◌∙◌, ap}
-use Rattle.std.proofs.Common.{arith, inl, inr, w32, List, [], ◌∷◌, length, get_or, Some, None}
-use Rattle.std.specs.Prelude.{Bool, true, false, ◌*◌, ◌==◌, if◌then◌else◌}
+use Rattle.std.proofs.Common.{arith, inl, inr, w32, List, [], ◌∷◌, length, get_or}
 use Rattle.std.specs.Int.{cast_signed}
 use Rattle.std.proofs.lemmas.Bool.{cases_lt}
 use Rattle.oct_arena.specs.declared.node.Node.{Node}
-use Rattle.oct_arena.specs.declared.node.Node.TheVariants.{Absent, Leaf, Inner}
+use Rattle.oct_arena.specs.declared.node.Node.TheVariants.{Inner}
 use Rattle.oct_arena.specs.declared.node.GroupId.{GroupId}
 use Rattle.oct_arena.proofs.Ids.{same_ids}
 use Rattle.oct_arena.specs.declared.node.PackedNode.TheInside.{Inside}
-use Rattle.oct_arena.specs.Nodes.{link_of}
-use Rattle.oct_arena.specs.Packing.{linked, leaf_link, node_of_bits, bits_of, IsPacked}
+use Rattle.oct_arena.specs.Packing.{linked, node_of_bits, bits_of, IsPacked}
 use Rattle.oct_arena.specs.Packing.{packed-unpacked}
 
 linked_inner : (id : GroupId) (c : (id.number < 2 ^ 31 + 1023) ⊎ (2 ^ 31 + 1023 ≤ id.number))
@@ -28,34 +26,6 @@ pub is_inner : (bits : ℕ) (id : GroupId) (v : ℤ) → bits / 2 ^ 32 ≡ id.nu
     → v ≡ cast_signed w32 (bits % 2 ^ 32) → node_of_bits bits ≡ Inner v id
 is_inner bits id v e f =
     parts bits id.number v e f ∙ linked_inner id (cases_lt id.number (2 ^ 31 + 1023)) v
-
--- the bits below those of a leaf have the number of a group
-pub small_link : (bits : ℕ) → IsPacked bits → bits < 2 ^ 32 * leaf_link
-    → bits / 2 ^ 32 < 2 ^ 31 + 1023
-small_link bits (inl (inl small)) low = small
-small_link bits (inl (inr leaf)) low = absurd (omega arith)
-small_link bits (inr absent) low = absurd (omega arith)
-
--- which is that of the group that the node links
-pub links_group : (bits : ℕ) (id : GroupId) → bits / 2 ^ 32 ≡ id.number
-    → link_of (node_of_bits bits) ≡ Some id.number
-links_group bits id e = ap link_of (is_inner bits id (cast_signed w32 (bits % 2 ^ 32)) e refl)
-
-plain_either : (is_leaf : Bool) (v : ℤ)
-    → link_of (if is_leaf then Leaf v else Absent) ≡ None
-plain_either true v = refl
-plain_either false v = refl
-
-plain_linked : (link : ℕ) (c : (link < 2 ^ 31 + 1023) ⊎ (2 ^ 31 + 1023 ≤ link)) (v : ℤ)
-    → leaf_link ≤ link → link_of (linked link c v) ≡ None
-plain_linked link (inl small) v high = absurd (omega arith)
-plain_linked link (inr large) v high = plain_either (link == leaf_link) v
-
--- the other ones link none
-pub links_none : (bits : ℕ) → 2 ^ 32 * leaf_link ≤ bits → link_of (node_of_bits bits) ≡ None
-links_none bits high =
-    plain_linked (bits / 2 ^ 32) (cases_lt (bits / 2 ^ 32) (2 ^ 31 + 1023))
-    (cast_signed w32 (bits % 2 ^ 32)) (omega arith)
 
 -- one node has one pattern of bits
 pub same_bits : (p q : Inside) → IsPacked p.bits → IsPacked q.bits
