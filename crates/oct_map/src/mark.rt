@@ -78,6 +78,7 @@ impl Mark {
 
     /// Makes room for n notes, where a mark stands. The first note of each voxel stays, and where
     /// memory runs out all of them do.
+    #[inline(always)]
     pub(crate) fn reserve(&mut self, n: u64) -> Result<(), Memory>
         ensures room { OnOk result (HasRoomForNotes self.new n) }
         ensures enough { HasRoomForNotes self.old n → IsOk result × (self.new ≡ self.old) }
