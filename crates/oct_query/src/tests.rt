@@ -6,7 +6,7 @@ ghost use Rattle.oct_arena.specs.Nodes.{link_of, value_of};
 
 use super::*;
 use oct_arena::Node;
-use oct_key::{Block, Key, Res};
+use oct_key::{Block, Key, Res, Window};
 use oct_odds::{Event, OddsModel};
 use oct_tree::{OccTree, Place};
 use std::alloc::Global;
