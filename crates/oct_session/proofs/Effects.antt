@@ -1,5 +1,5 @@
 -- What a line does, and where desk and session then stand.
-use Rattle.std.proofs.Common.{◌≡◌, ℕ, ◌+◌, ◌≤◌, List, ◌++◌, ◌||◌, Bool, true, false, cond, is_some}
+use Rattle.std.proofs.Common.{◌≡◌, ℕ, ◌+◌, ◌≤◌, List, [], ◌∷◌, ◌++◌, ◌||◌, Bool, true, false, cond, is_some}
 use Rattle.std.proofs.Common.{IsSome, IsErr, Some, None, refl, Option, Result, Ok, Err, IfErr}
 use Rattle.std.proofs.Common.{OnErr, IsErrAnd, inl, inr, sym, ap, subst, ◌∙◌, arith}
 use Rattle.oct_io.specs.Files.{Files}
@@ -7,10 +7,9 @@ use Rattle.oct_io.specs.declared.store.StoreFault.{StoreFault}
 use Rattle.oct_io.specs.declared.store.StoreFault.TheVariants as store_fault
 use Rattle.oct_map.specs.Map.{Map}
 use Rattle.oct_script.specs.declared.command.Command.{Command}
-use Rattle.oct_script.specs.declared.command.Command.TheVariants as command
+use Rattle.oct_script.specs.declared.command.ScanHead.{ScanHead}
 use Rattle.oct_script.specs.declared.reply.Refusal.{Refusal}
 use Rattle.oct_script.specs.declared.reply.Reply.{Reply}
-use Rattle.oct_script.specs.declared.command.ScanHead.{ScanHead}
 use Rattle.oct_script.specs.declared.command.Syntax.{Syntax}
 use Rattle.oct_script.specs.declared.reply.Refusal.TheVariants as refusal_of
 use Rattle.oct_script.specs.Commands.{command_of}
@@ -18,25 +17,33 @@ use Rattle.oct_script.specs.Lines.{Line, Text, Long, is_long}
 use Rattle.oct_script.specs.Replies.{is_refusal}
 use Rattle.oct_session.specs.declared.scan_block.ScanBlock.{ScanBlock}
 use Rattle.oct_session.specs.declared.scan_block.ScanBlock.TheVariants.{Scanning, Spoilt}
+use Rattle.oct_session.specs.declared.kinds.FileVerb.{FileVerb}
+use Rattle.oct_session.specs.Kinds.{Kind, Nothing, Opens, Orders, Asks as AsksMap, Names, kind_of}
+use Rattle.oct_session.specs.Kinds.{left_of, rest_seen}
+use Rattle.oct_session.specs.declared.kinds.Rest as lent
+use Rattle.oct_session.specs.declared.kinds.Rest.TheVariants as rest
 use Rattle.oct_session.specs.declared.session.Session.{Session}
-use Rattle.oct_session.specs.Commands.{Saving, numbered, command_on, is_quit, reply, action_of}
-use Rattle.oct_session.specs.Commands.{saving_of, file_named, asks_for, accepted, accepted_saving}
-use Rattle.oct_session.specs.Commands.{stored}
-use Rattle.oct_session.specs.ScanBlock.{opens_block, opened, is_end, with_line, spoilt_by}
-use Rattle.oct_session.specs.ScanBlock.{spoilt_reply, block_reply, block_action}
+use Rattle.oct_session.specs.Commands.{FileWork, Saving, numbered, command_on, is_quit, asked_of}
+use Rattle.oct_session.specs.Commands.{kind_work, verb_work, named_in, file_named, asks_for}
+use Rattle.oct_session.specs.Commands.{map_reply, map_action, order_reply, order_action}
+use Rattle.oct_session.specs.Commands.{question_reply, question_action}
+use Rattle.oct_session.specs.Commands.{accepted, accepted_saving, stored}
+use Rattle.oct_session.specs.ScanBlock.{opens_block, opened, kind_opened, is_end, with_line}
+use Rattle.oct_session.specs.ScanBlock.{spoilt_by, spoilt_reply, block_reply, block_action}
 use Rattle.oct_session.specs.ScanSoFar.{begun}
 use Rattle.oct_session.specs.History.{History, State, after_all, state_after}
 use Rattle.oct_ending.specs.Counts.{IsAsked}
 use Rattle.oct_session.specs.Leaving.{StandsFor, StandsForSome, Desk, desk, HasAsked, IsLike}
 use Rattle.oct_ending.specs.Shelf.{shelf}
 use Rattle.oct_session.specs.Leaving.{IsLikeAfter, IsKnown}
-use Rattle.oct_session.specs.Session.{Progress, Effect, effect, effect_of_command, effect_opened}
+use Rattle.oct_session.specs.Session.{Progress, Effect, effect, effect_of_kind, unless_opened}
+use Rattle.oct_session.specs.Session.{effect_opened}
 use Rattle.oct_session.specs.Session.{effect_inside, effect_of, next_command, replied, silent}
 use Rattle.oct_session.specs.Session.{after_line}
 use Rattle.oct_session.specs.Setup.{Setup}
 use Rattle.oct_session.specs.Tally.{capped, counted as count_reply}
 use Rattle.oct_session.specs.declared.tally.Tally.{Tally}
-use Rattle.oct_session.specs.Standing.{with_reply, KeepsStanding, HasAnswered, HasDone, HasObeyed}
+use Rattle.oct_session.specs.Standing.{with_reply, KeepsStanding, HasAnswered, HasDone, HasUsed}
 use Rattle.oct_session.specs.Standing.{HasScanned, HasWorked, FindsTold, TakesEffect, HasEffect}
 use Rattle.oct_session.specs.Standing.{HasFailed, IsHeard, StandsBeside, HasStoppedAt, IsInStep}
 use Rattle.oct_session.specs.Standing.{IsBetween}
@@ -97,12 +104,6 @@ some_done (Ok a) m n reply actions done =
 some_done (Err x) m n reply actions done =
     λ o some. (some.0, (done (state_after o some.0) some.1).1)
 
--- and so does one that has obeyed a command
-pub some_obeyed : {E : Type 0} (r : Result (Option Reply) E) (m n : Map)
-    (c : Result Command Refusal) → HasObeyed m n c r → KeepsStanding m n
-some_obeyed r m n c done =
-    some_done r m n (λ s. reply None s c) (λ s. action_of None s c) (done None)
-
 -- and so does one that has worked on a line
 pub some_worked : {E : Type 0} (r : Result (Option Reply) E) (m n : Map) (block : Option ScanBlock)
     (e : State → Effect) → HasWorked e m n block r → KeepsStanding m n
@@ -127,8 +128,8 @@ effect_closed (Err x) m n number c inner block end none done = λ s at. let kept
 
 -- a line that closes the block that was open
 pub effect_taken : {E : Type 0} (r : Result (Option Reply) E) (m n : Map) (number : ℕ)
-    (c : Result Command Refusal) (old taken new : Option ScanBlock) (standing : ScanBlock)
-    → is_end c ≡ true → new ≡ None → taken ≡ old → taken ≡ Some standing →
+    (c : Result Command Refusal) (old taken new : Option ScanBlock) (standing : ScanBlock) → is_end c ≡ true
+    → new ≡ None → taken ≡ old → taken ≡ Some standing →
     HasScanned m n standing r → (first : ScanBlock) → old ≡ Some first
     → HasWorked (λ s. effect_inside s number c first) m n new r
 effect_taken r m n number c old taken new standing end none took is done first was =
@@ -137,12 +138,11 @@ effect_taken r m n number c old taken new standing end none took is done first w
 
 -- a line in a block, with the files that stand by
 pub inside_done : (m n : Map) (f : Option Files) (number : ℕ) (line : Line)
-    (c : Result Command Refusal) (old new : Option ScanBlock) (a : Option Reply)
-    → is_some old ≡ true →
+    (c : Result Command Refusal) (old new : Option ScanBlock) (a : Option Reply) → is_some old ≡ true →
     ((first : ScanBlock) → old ≡ Some first → (s : State) → StandsFor m s →
     (a ≡ (effect_inside s number c first).reply) × (new ≡ (effect_inside s number c first).block)
     × StandsFor n (after_all s (effect_inside s number c first).added)) →
-    TakesEffect (λ files s. effect files s number line c old) c m f n f new a
+    TakesEffect (λ files s. effect files s number line c old) (asked_of c) m f n f new a
 inside_done m n f number line c None new a some worked = cc
 inside_done m n f number line c (Some first) new a some worked = λ files s finds at.
     let took = worked first refl s at.stands in (
@@ -161,185 +161,213 @@ pub inside_failed : (r : Result (Option Reply) StoreFault) (m n : Map) (f : Opti
     IsErrAnd r (λ x. x ≡ store_fault.Memory)
     → ((first : ScanBlock) → old ≡ Some first → (s : State) → StandsFor m s
     → IsHeard (effect_inside s number c first) × StandsFor n s) →
-    HasEffect (λ files s. effect files s number line c old) c m f n f new r
+    HasEffect (λ files s. effect files s number line c old) (asked_of c) m f n f new r
 inside_failed (Ok x) m n f number line c old new some memory kept = absurd memory
 inside_failed (Err x) m n f number line c None new some memory kept = cc
 inside_failed (Err x) m n f number line c (Some first) new some memory kept = λ files s finds at.
     let done = kept first refl s at.stands in (
       done.0,
-      subst (λ y. HasFailed c files s n f y) (sym memory)
+      subst (λ y. HasFailed (asked_of c) files s n f y) (sym memory)
           (record { stands = done.1; told = at.told }),
     )
 
 -- a map on which a line in a block was done stands for some history, as before
 pub some_inside : {E : Type 0} (r : Result (Option Reply) E) (m n : Map) (number : ℕ)
     (c : Result Command Refusal) (old new : Option ScanBlock) → is_some old ≡ true →
-    ((first : ScanBlock) → old ≡ Some first
-    → HasWorked (λ s. effect_inside s number c first) m n new r)
+    ((first : ScanBlock) → old ≡ Some first → HasWorked (λ s. effect_inside s number c first) m n new r)
     → KeepsStanding m n
 some_inside r m n number c None new some works = cc
 some_inside r m n number c (Some first) new some works =
     some_worked r m n new (λ s. effect_inside s number c first) (works first refl)
 
--- a command that names no file saves none
-saves_not : (c : Result Command Refusal) → file_named c ≡ None → (s : State) → saving_of s c ≡ None
-saves_not (Err refusal) none s = refl
-saves_not (Ok command.Blank) none s = refl
-saves_not (Ok (command.Edit p e lazy)) none s = refl
-saves_not (Ok (command.Box lo hi e)) none s = refl
-saves_not (Ok (command.Scan head)) none s = refl
-saves_not (Ok (command.Beam p)) none s = refl
-saves_not (Ok command.End) none s = refl
-saves_not (Ok (command.Get p depth)) none s = refl
-saves_not (Ok (command.Cast o e ignore)) none s = refl
-saves_not (Ok command.Counts) none s = refl
-saves_not (Ok command.Refresh) none s = refl
-saves_not (Ok command.Prune) none s = refl
-saves_not (Ok command.Clear) none s = refl
-saves_not (Ok command.MaxLik) none s = refl
-saves_not (Ok command.Quit) none s = refl
-saves_not (Ok (command.Save name)) none s = cc
-saves_not (Ok (command.Load name)) none s = refl
-saves_not (Ok (command.Snapshot name)) none s = cc
-saves_not (Ok (command.Restore name)) none s = refl
-saves_not (Ok (command.List lo hi depth)) none s = refl
-saves_not (Ok (command.Limit lo hi)) none s = refl
-saves_not (Ok command.Track) none s = refl
-saves_not (Ok command.Untrack) none s = refl
-saves_not (Ok command.Changes) none s = refl
-saves_not (Ok command.NoLimit) none s = refl
-
--- a command that is none of those that name a file
-pub names_not : (c : Command) → ((name : List ℕ) → c ≡ command.Save name → ⊥)
-    → ((name : List ℕ) → c ≡ command.Load name → ⊥)
-    → ((name : List ℕ) → c ≡ command.Snapshot name → ⊥)
-    → ((name : List ℕ) → c ≡ command.Restore name → ⊥) →
-    file_named (Ok c) ≡ None
-names_not command.Blank save load snapshot restore = refl
-names_not (command.Edit p e lazy) save load snapshot restore = refl
-names_not (command.Box lo hi e) save load snapshot restore = refl
-names_not (command.Scan head) save load snapshot restore = refl
-names_not (command.Beam p) save load snapshot restore = refl
-names_not command.End save load snapshot restore = refl
-names_not (command.Get p depth) save load snapshot restore = refl
-names_not (command.Cast o e ignore) save load snapshot restore = refl
-names_not command.Counts save load snapshot restore = refl
-names_not command.Refresh save load snapshot restore = refl
-names_not command.Prune save load snapshot restore = refl
-names_not command.Clear save load snapshot restore = refl
-names_not command.MaxLik save load snapshot restore = refl
-names_not command.Quit save load snapshot restore = refl
-names_not (command.Save name) save load snapshot restore = absurd (save name refl)
-names_not (command.Load name) save load snapshot restore = absurd (load name refl)
-names_not (command.Snapshot name) save load snapshot restore = absurd (snapshot name refl)
-names_not (command.Restore name) save load snapshot restore = absurd (restore name refl)
-names_not (command.List lo hi depth) save load snapshot restore = refl
-names_not (command.Limit lo hi) save load snapshot restore = refl
-names_not command.Track save load snapshot restore = refl
-names_not command.Untrack save load snapshot restore = refl
-names_not command.Changes save load snapshot restore = refl
-names_not command.NoLimit save load snapshot restore = refl
-
--- a command that names no file, with the files that stand by
-pub command_done : (m n : Map) (f : Option Files) (c : Result Command Refusal) (a : Option Reply)
-    → file_named c ≡ None → ((files : Option Files)
-    → HasAnswered (λ s. reply files s c) (λ s. action_of files s c) m n a) →
-    TakesEffect (λ files s. effect_of_command files s c) c m f n f None a
-command_done m n f c a unnamed done = λ files s finds at.
-    let took = done files s at.stands in (
+-- what was answered and done on the map alone, with the files that stand by
+map_done : (m n : Map) (f : Option Files) (block : Option ScanBlock) (a : Option Reply)
+    (reply : State → Option Reply) (actions : State → History) → block ≡ None
+    → HasAnswered reply actions m n a →
+    TakesEffect (λ files s. replied (reply s) (actions s) None) None m f n f block a
+map_done m n f block a reply actions closed done = λ files s finds at.
+    let took = done s at.stands in (
       took.0,
-      refl,
+      closed,
       record {
-        stands = subst (λ x. StandsFor n (after_all s (accepted x (action_of files s c)))) took.0
-            took.1;
-        told = same_files f files (accepted_saving (reply files s c) (saving_of s c)) at.told
-            (saves_none (reply files s c) (saving_of s c) (saves_not c unnamed s));
+        stands = subst (λ x. StandsFor n (after_all s (accepted x (actions s)))) took.0 took.1;
+        told = same_files f files (accepted_saving (reply s) None) at.told
+            (saves_none (reply s) None refl);
       },
     )
 
-pub command_failed : (r : Result (Option Reply) StoreFault) (m n : Map) (f : Option Files)
-    (c : Result Command Refusal) → IsErrAnd r (λ x. x ≡ store_fault.Memory) →
-    ((files : Option Files) (s : State) → StandsFor m s → IsSome (reply files s c) × StandsFor n s)
-    → HasEffect (λ files s. effect_of_command files s c) c m f n f None r
-command_failed (Ok x) m n f c memory kept = absurd memory
-command_failed (Err x) m n f c memory kept = λ files s finds at.
-    let done = kept files s at.stands in (
+map_failed : (x : StoreFault) (m n : Map) (f : Option Files) (block : Option ScanBlock)
+    (reply : State → Option Reply) (actions : State → History) → x ≡ store_fault.Memory →
+    ((s : State) → StandsFor m s → IsSome (reply s) × StandsFor n s)
+    → HasEffect (λ files s. replied (reply s) (actions s) None) None m f n f block (Err x)
+map_failed x m n f block reply actions memory kept = λ files s finds at.
+    let done = kept s at.stands in (
       inl done.0,
-      subst (λ y. HasFailed c files s n f y) (sym memory)
+      subst (λ y. HasFailed None files s n f y) (sym memory)
           (record { stands = done.1; told = at.told }),
     )
 
--- the effect of a line on the command that was read
-pub effect_read : (r : Result (Option Reply) StoreFault) (m n : Map) (f g : Option Files)
-    (c read : Result Command Refusal) → c ≡ read →
-    HasEffect (λ files s. effect_of_command files s read) read m f n g None r
-    → HasEffect (λ files s. effect_of_command files s c) c m f n g None r
-effect_read r m n f g c read is took =
-    subst (λ x. HasEffect (λ files s. effect_of_command files s x) x m f n g None r) (sym is) took
+-- what comes of a command outside a block, by what does it
+abbrev KindEffect : ℕ → Kind → Option Files → State → Effect
+KindEffect number k files s = unless_opened (effect_of_kind files s k) (kind_opened number k)
 
--- a line outside a block that opens none
-pub effect_outside : (r : Result (Option Reply) StoreFault) (m n : Map) (f g : Option Files)
-    (c : Result Command Refusal) (opened block : Option ScanBlock) → is_some opened ≡ false
-    → block ≡ None →
-    HasEffect (λ files s. effect_of_command files s c) c m f n g None r
-    → HasEffect (λ files s. effect_opened files s c opened) c m f n g block r
-effect_outside r m n f g c (Some inner) block none closed took = cc
-effect_outside r m n f g c None block none closed took =
-    subst (λ x. HasEffect (λ files s. effect_of_command files s c) c m f n g x r) (sym closed) took
+-- the map's part in a command was done or answered
+abbrev pub HasPart : Kind → Map → Map → Option Reply → Type 0
+HasPart k m n a = HasAnswered (λ s. map_reply s k) (λ s. map_action k) m n a
 
--- a line that opens a block
-pub effect_opens : (m : Map) (f : Option Files) (c : Result Command Refusal)
-    (opened block : Option ScanBlock) → is_some opened ≡ true → block ≡ opened →
-    TakesEffect (λ files s. effect_opened files s c opened) c m f m f block None
-effect_opens m f c (Some inner) block some is = λ files s finds at. (refl, is, at)
-effect_opens m f c None block some is = cc
+-- so it was for what does a command, where it was for what was seen to do it
+pub part_as : (m n : Map) (k seen : Kind) (a : Option Reply) → seen ≡ k → HasPart seen m n a
+    → HasPart k m n a
+part_as m n k seen a is done = subst (λ x. HasPart x m n a) is done
 
--- only the head of a scan opens a block
-pub opens_none : (number : ℕ) (line : Line) (c : Command)
-    → ((head : ScanHead) → c ≡ command.Scan head → ⊥) → is_some (opened number line (Ok c)) ≡ false
-opens_none number line command.Blank not_scan = refl
-opens_none number line (command.Edit p e lazy) not_scan = refl
-opens_none number line (command.Box lo hi e) not_scan = refl
-opens_none number line (command.Scan head) not_scan = absurd (not_scan head refl)
-opens_none number line (command.Beam p) not_scan = refl
-opens_none number line command.End not_scan = refl
-opens_none number line (command.Get p depth) not_scan = refl
-opens_none number line (command.Cast o e ignore) not_scan = refl
-opens_none number line command.Counts not_scan = refl
-opens_none number line command.Refresh not_scan = refl
-opens_none number line command.Prune not_scan = refl
-opens_none number line command.Clear not_scan = refl
-opens_none number line command.MaxLik not_scan = refl
-opens_none number line command.Quit not_scan = refl
-opens_none number line (command.Save name) not_scan = refl
-opens_none number line (command.Load name) not_scan = refl
-opens_none number line (command.Snapshot name) not_scan = refl
-opens_none number line (command.Restore name) not_scan = refl
-opens_none number line (command.List lo hi depth) not_scan = refl
-opens_none number line (command.Limit lo hi) not_scan = refl
-opens_none number line command.Track not_scan = refl
-opens_none number line command.Untrack not_scan = refl
-opens_none number line command.Changes not_scan = refl
-opens_none number line command.NoLimit not_scan = refl
+pub done_as : {E : Type 0} (r : Result (Option Reply) E) (m n : Map) (k seen : Kind) → seen ≡ k
+    → HasDone (λ s. map_reply s seen) (λ s. map_action seen) m n r
+    → HasDone (λ s. map_reply s k) (λ s. map_action k) m n r
+done_as r m n k seen is done =
+    subst (λ x. HasDone (λ s. map_reply s x) (λ s. map_action x) m n r) is done
 
--- the head of a scan opens its block
-pub scan_opens : (m : Map) (f : Option Files) (number : ℕ) (line : Line) (c : Command)
-    (head : ScanHead) (block : Option ScanBlock) → c ≡ command.Scan head
-    → block ≡ Some (Scanning (begun number head)) →
-    TakesEffect (λ files s. effect_opened files s (Ok c) (opened number line (Ok c))) (Ok c) m f m f
-    block None
-scan_opens m f number line c head block is opens =
-    subst (λ x. TakesEffect (λ files s. effect_opened files s (Ok x) (opened number line (Ok x)))
-    (Ok x) m f m f block None) (sym is)
-    (effect_opens m f (Ok (command.Scan head)) (Some (Scanning (begun number head))) block refl
-    opens)
+-- what is left where the map has no part
+pub rest_left : (x : lent.Rest) → rest_seen x ≡ left_of (rest_seen x)
+rest_left rest.Nothing = refl
+rest_left (rest.Opens head) = refl
+rest_left (rest.Names verb name) = refl
+
+pub rest_still : (m : Map) (x : lent.Rest) → HasPart (rest_seen x) m m None
+rest_still m rest.Nothing = λ s at. (refl, at)
+rest_still m (rest.Opens head) = λ s at. (refl, at)
+rest_still m (rest.Names verb name) = λ s at. (refl, at)
+
+-- a part of which nothing is left
+pub part_done : (m n : Map) (f : Option Files) (number : ℕ) (k : Kind) (block : Option ScanBlock)
+    (a : Option Reply) → Nothing ≡ left_of k → block ≡ None → HasPart k m n a
+    → HasEffect (KindEffect number k) (kind_work k) m f n f block (Ok a)
+part_done m n f number Nothing block a is closed done =
+    map_done m n f block a (λ s. None) (λ s. []) closed done
+part_done m n f number (Orders o) block a is closed done =
+    map_done m n f block a (λ s. order_reply s o) (λ s. order_action o ∷ []) closed done
+part_done m n f number (AsksMap q) block a is closed done =
+    map_done m n f block a (λ s. question_reply s q) (λ s. question_action q) closed done
+part_done m n f number (Opens head) block a is closed done = cc
+part_done m n f number (Names v name) block a is closed done = cc
+
+none_failed : (m n : Map) (e : Option Files → State → Effect) (w : Option FileWork)
+    (f g : Option Files) (block : Option ScanBlock) (x : StoreFault) →
+    ((s : State) → StandsFor m s → IsSome (map_reply s Nothing) × StandsFor n s)
+    → HasEffect e w m f n g block (Err x)
+none_failed m n e w f g block x kept = λ files s finds at.
+    let some = (kept s at.stands).0 in cc
+
+part_stopped : (x : StoreFault) (m n : Map) (f : Option Files) (number : ℕ) (k : Kind)
+    (block : Option ScanBlock) → x ≡ store_fault.Memory →
+    ((s : State) → StandsFor m s → IsSome (map_reply s k) × StandsFor n s)
+    → HasEffect (KindEffect number k) (kind_work k) m f n f block (Err x)
+part_stopped x m n f number (Orders o) block memory kept =
+    map_failed x m n f block (λ s. order_reply s o) (λ s. order_action o ∷ []) memory kept
+part_stopped x m n f number (AsksMap q) block memory kept =
+    map_failed x m n f block (λ s. question_reply s q) (λ s. question_action q) memory kept
+part_stopped x m n f number Nothing block memory kept =
+    none_failed m n (KindEffect number Nothing) None f f block x kept
+part_stopped x m n f number (Opens head) block memory kept =
+    none_failed m n (KindEffect number (Opens head)) None f f block x kept
+part_stopped x m n f number (Names v name) block memory kept =
+    none_failed m n (KindEffect number (Names v name)) (Some (verb_work v name)) f f block x kept
+
+-- for which memory ran out
+pub part_failed : (r : Result (Option Reply) StoreFault) (m n : Map) (f : Option Files)
+    (number : ℕ) (k : Kind) (block : Option ScanBlock) → IsErrAnd r (λ x. x ≡ store_fault.Memory) →
+    ((s : State) → StandsFor m s → IsSome (map_reply s k) × StandsFor n s)
+    → HasEffect (KindEffect number k) (kind_work k) m f n f block r
+part_failed (Ok a) m n f number k block memory kept = absurd memory
+part_failed (Err x) m n f number k block memory kept =
+    part_stopped x m n f number k block memory kept
+
+-- a block that is left to be opened
+pub opens_all : (k : Kind) (head : ScanHead) → Opens head ≡ left_of k → Opens head ≡ k
+opens_all Nothing head is = cc
+opens_all (Opens other) head is = is
+opens_all (Orders o) head is = cc
+opens_all (AsksMap q) head is = cc
+opens_all (Names v name) head is = cc
+
+-- a file that is left to be used
+pub names_all : (k : Kind) (verb : FileVerb) (name : List ℕ) → Names verb name ≡ left_of k
+    → Names verb name ≡ k
+names_all Nothing verb name is = cc
+names_all (Opens head) verb name is = cc
+names_all (Orders o) verb name is = cc
+names_all (AsksMap q) verb name is = cc
+names_all (Names v other) verb name is = is
+
+-- a map that had no part stands for the same
+stands_still : (m n : Map) (a : Option Reply) → HasAnswered (λ s. None) (λ s. []) m n a
+    → (s : State) → StandsFor m s → StandsFor n s
+stands_still m n a done s at = let took = done s at in
+    subst (λ x. StandsFor n (after_all s (accepted x []))) took.0 took.1
+
+-- a block was opened
+pub head_opened : (m n : Map) (f : Option Files) (number : ℕ) (head : ScanHead)
+    (block : Option ScanBlock) (a : Option Reply) → block ≡ Some (Scanning (begun number head))
+    → HasPart (Opens head) m n a
+    → HasEffect (KindEffect number (Opens head)) None m f n f block (Ok a)
+head_opened m n f number head block a is done = λ files s finds at. (
+  (done s at.stands).0,
+  is,
+  record { stands = stands_still m n a done s at.stands; told = at.told },
+)
+
+-- a verb with the name of a file had its effect where no block is open
+verb_taken : (r : Result (Option Reply) StoreFault) (m l n : Map) (f g : Option Files)
+    (verb : FileVerb) (name : List ℕ) → ((s : State) → StandsFor m s → StandsFor l s)
+    → HasUsed verb name l f n g r → HasUsed verb name m f n g r
+verb_taken (Ok b) m l n f g verb name kept used = λ files s finds at.
+    used files s finds (record { stands = kept s at.stands; told = at.told })
+verb_taken (Err x) m l n f g verb name kept used = λ files s finds at.
+    used files s finds (record { stands = kept s at.stands; told = at.told })
+
+pub verb_used : (r : Result (Option Reply) StoreFault) (m l n : Map) (f g : Option Files)
+    (number : ℕ) (verb : FileVerb) (name : List ℕ) (block : Option ScanBlock) (a : Option Reply)
+    → block ≡ None → HasPart (Names verb name) m l a → HasUsed verb name l f n g r
+    → HasEffect (KindEffect number (Names verb name)) (Some (verb_work verb name)) m f n g block r
+verb_used r m l n f g number verb name block a closed done used =
+    subst (λ x. HasEffect (λ files s. effect_of_kind files s (Names verb name))
+    (Some (verb_work verb name)) m f n g x r) (sym closed)
+    (verb_taken r m l n f g verb name (stands_still m l a done) used)
+
+-- a map that had its part stands for some history, as before
+pub some_part : {E : Type 0} (r : Result (Option Reply) E) (m n : Map) (k : Kind)
+    → HasDone (λ s. map_reply s k) (λ s. map_action k) m n r → KeepsStanding m n
+some_part r m n k done = some_done r m n (λ s. map_reply s k) (λ s. map_action k) done
+
+-- and so it had where another verb was read that is the same
+pub used_as : (r : Result (Option Reply) StoreFault) (m n : Map) (f g : Option Files)
+    (verb read : FileVerb) (name : List ℕ) → verb ≡ read → HasUsed read name m f n g r
+    → HasUsed verb name m f n g r
+used_as r m n f g verb read name is used =
+    subst (λ x. HasUsed x name m f n g r) (sym is) used
+
+-- the effect of a command outside a block is that of what does it
+pub effect_by_kind : (r : Result (Option Reply) StoreFault) (m n : Map) (f g : Option Files)
+    (number : ℕ) (line : Line) (c : Command) (k : Kind) (block : Option ScanBlock) → k ≡ kind_of c →
+    HasEffect (KindEffect number k) (kind_work k) m f n g block r →
+    HasEffect (λ files s. effect_opened files s (Ok c) (opened number line (Ok c)))
+    (asked_of (Ok c)) m f n g block r
+effect_by_kind r m n f g number line c k block is took =
+    subst (λ x. HasEffect (KindEffect number x) (kind_work x) m f n g block r) is took
+
+-- a command that names a file asks the store once at most
+pub asked_once : (same : Type 0) (old new : ℕ) (c : Command) (verb : FileVerb) (name : List ℕ)
+    → Names verb name ≡ kind_of c → new ≤ old + 1
+    → IsAsked same old new (asks_for (file_named (Ok c)))
+asked_once same old new c verb name is few =
+    subst (λ x. IsAsked same old new (asks_for (named_in (kind_work x)))) is
+    (record { unasked = λ none. cc; few = few })
 
 -- a line that isn't in the grammar, where no block is open
-fault_before : (m : Map) (f : Option Files) (refusal : Refusal) (opens : Bool)
-    (new : Option ScanBlock) (a : Option Reply) → new ≡ cond opens (Some (Spoilt refusal)) None
+fault_before : (m : Map) (f : Option Files) (refusal : Refusal) (opens : Bool) (new : Option ScanBlock)
+    (a : Option Reply) → new ≡ cond opens (Some (Spoilt refusal)) None
     → a ≡ spoilt_reply refusal new →
     TakesEffect (λ files s. effect_opened files s (Err refusal)
-    (cond opens (Some (Spoilt refusal)) None)) (Err refusal) m f m f new a
+    (cond opens (Some (Spoilt refusal)) None)) None m f m f new a
 fault_before m f refusal true new a is told =
     λ files s finds at. (told ∙ ap (spoilt_reply refusal) is, is, at)
 fault_before m f refusal false new a is told =
@@ -349,8 +377,7 @@ fault_before m f refusal false new a is told =
 pub fault_taken : (m : Map) (f : Option Files) (number : ℕ) (line : Line) (refusal : Refusal)
     (old new : Option ScanBlock) (a : Option Reply) → new ≡ spoilt_by number line refusal old
     → a ≡ spoilt_reply refusal new →
-    TakesEffect (λ files s. effect files s number line (Err refusal) old) (Err refusal) m f m f new
-    a
+    TakesEffect (λ files s. effect files s number line (Err refusal) old) None m f m f new a
 fault_taken m f number line refusal None new a is told =
     fault_before m f refusal (opens_block line) new a is told
 fault_taken m f number line refusal (Some block) new a is told =
@@ -359,20 +386,20 @@ fault_taken m f number line refusal (Some block) new a is told =
 -- the effect of a line on the command that was read of it
 pub taken_as : (r : Result (Option Reply) StoreFault) (m n : Map) (f g : Option Files) (number : ℕ)
     (line : Line) (c read : Result Command Refusal) (old new : Option ScanBlock) → c ≡ read →
-    HasEffect (λ files s. effect files s number line read old) read m f n g new r
-    → HasEffect (λ files s. effect files s number line c old) c m f n g new r
+    HasEffect (λ files s. effect files s number line read old) (asked_of read) m f n g new r
+    → HasEffect (λ files s. effect files s number line c old) (asked_of c) m f n g new r
 taken_as r m n f g number line c read old new is took =
-    subst (λ x. HasEffect (λ files s. effect files s number line x old) x m f n g new r) (sym is)
-    took
+    subst (λ x. HasEffect (λ files s. effect files s number line x old) (asked_of x) m f n g new r)
+    (sym is) took
 
 -- a line that failed, and whose fault was passed on
 pub still_failed : {A : Type 0} (r : Result A StoreFault) (a : Option Reply)
-    (e : Option Files → State → Effect) (c : Result Command Refusal) (x : StoreFault) (m n : Map)
+    (e : Option Files → State → Effect) (w : Option FileWork) (x : StoreFault) (m n : Map)
     (f g : Option Files) (block : Option ScanBlock) → IsErrAnd r (λ y. y ≡ x) →
-    HasEffect e c m f n g block (Err x) → HasEffect e c m f n g block (with_reply r a)
-still_failed (Ok y) a e c x m n f g block same took = absurd same
-still_failed (Err y) a e c x m n f g block same took =
-    subst (λ z. HasEffect e c m f n g block (Err z)) (sym same) took
+    HasEffect e w m f n g block (Err x) → HasEffect e w m f n g block (with_reply r a)
+still_failed (Ok y) a e w x m n f g block same took = absurd same
+still_failed (Err y) a e w x m n f g block same took =
+    subst (λ z. HasEffect e w m f n g block (Err z)) (sym same) took
 
 -- the command of a line that was read, or why there is none
 pub read_in : (inside asked : Bool) (number : ℕ) (line : Line) (text : List ℕ) (c : Command)
@@ -396,11 +423,11 @@ long_in inside number Long long = refl
 pub effect_before : (r : Result (Option Reply) StoreFault) (m n : Map) (f g : Option Files)
     (number : ℕ) (line : Line) (c : Result Command Refusal) (old opens new : Option ScanBlock)
     → is_some old ≡ false → opens ≡ opened number line c →
-    HasEffect (λ files s. effect_opened files s c opens) c m f n g new r
-    → HasEffect (λ files s. effect files s number line c old) c m f n g new r
+    HasEffect (λ files s. effect_opened files s c opens) (asked_of c) m f n g new r
+    → HasEffect (λ files s. effect files s number line c old) (asked_of c) m f n g new r
 effect_before r m n f g number line c (Some inner) opens new none is took = cc
 effect_before r m n f g number line c None opens new none is took =
-    subst (λ x. HasEffect (λ files s. effect_opened files s c x) c m f n g new r) is took
+    subst (λ x. HasEffect (λ files s. effect_opened files s c x) (asked_of c) m f n g new r) is took
 
 -- the command that was read is that of the next line
 pub same_command : (s : Session) (line : Line) (p : Progress) (c : Result Command Refusal)
@@ -431,8 +458,8 @@ pub record IsWorked (s : Session) (line : Line) (c : Result Command Refusal) (m 
     (block : Option ScanBlock) (r : Result (Option Reply) StoreFault) : Type 0 where
   pub running : s.has_quit ≡ false
   pub read : c ≡ command_on (is_some s.block) (s.line_count + 1) line
-  pub took : HasEffect (λ files q. effect files q (s.line_count + 1) line c s.block) c m f n
-      g block r
+  pub took : HasEffect (λ files q. effect files q (s.line_count + 1) line c s.block) (asked_of c)
+      m f n g block r
 
 -- the file that the line names is told, if it names one
 finds_line : (o : Setup) (s : Session) (line : Line) (p : Progress) (c : Result Command Refusal)
@@ -547,7 +574,7 @@ between_line o d e s t line p c block a w asks counted is refused quit tally kno
     }
 
 failed_beside : (o : Setup) (e : Desk) (p : Progress) (line : Line) (fault : StoreFault)
-    → p.has_quit ≡ false → HasFailed (next_command p line) p.files (state_after o p.history) e.map
+    → p.has_quit ≡ false → HasFailed (asked_of (next_command p line)) p.files (state_after o p.history) e.map
     e.store.files fault → StandsBeside o e p line fault
 failed_beside o e p line store_fault.Failed running torn =
     (asks_more o p line running torn.0, torn.1)
@@ -555,8 +582,8 @@ failed_beside o e p line store_fault.Memory running less = inr less
 
 -- where the command failed, nothing of the line is done, but for the file that it saves
 pub before_err : {T H : Type 0} (x : Result T StoreFault) (fault : StoreFault) (o : Setup)
-    (d e : H → Desk) (s : Session) (line : Line) (c : Result Command Refusal)
-    (block : Option ScanBlock) → IsErrAnd x (λ y. y ≡ fault) →
+    (d e : H → Desk) (s : Session) (line : Line) (c : Result Command Refusal) (block : Option ScanBlock)
+    → IsErrAnd x (λ y. y ≡ fault) →
     ((home : H) → IsWorked s line c (d home).map (e home).map (d home).store.files
     (e home).store.files
     block (Err fault)) → ((home : H) → Asks (d home) (e home) (asks_for (file_named c))) →
@@ -567,11 +594,13 @@ before_err (Err x) fault o d e s line c block same works asks = λ home p known 
     let w = works home in
     let done = w.took p.files (state_after o p.history)
     (finds_line o s line p c w.running at.step w.read known) at.like in
-    let failed : HasFailed (next_command p line) p.files (state_after o p.history)
+    let failed : HasFailed (asked_of (next_command p line)) p.files (state_after o p.history)
     (e home).map (e home).store.files x =
-    subst (λ y. HasFailed y p.files (state_after o p.history) (e home).map (e home).store.files x)
+    subst (λ y. HasFailed (asked_of y) p.files (state_after o p.history) (e home).map
+    (e home).store.files x)
     (same_command s line p c at.step w.read)
-    (subst (λ y. HasFailed c p.files (state_after o p.history) (e home).map (e home).store.files y)
+    (subst (λ y. HasFailed (asked_of c) p.files (state_after o p.history) (e home).map
+    (e home).store.files y)
     (sym same) done.1) in
     record {
       heard = subst (λ (y : Effect). IsHeard y) (same_effect o s line p c at.step w.read) done.0;

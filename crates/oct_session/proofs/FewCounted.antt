@@ -2,7 +2,7 @@
 use Rattle.std.proofs.Common.{◌≡◌, ℕ, ℤ, ◌+◌, ◌-◌, ◌*◌, ◌^◌, ◌<◌, ◌≤◌, min, List, [], ◌∷◌}
 use Rattle.std.proofs.Common.{length, length-append, length-take, take, true, false, cond, Option}
 use Rattle.std.proofs.Common.{Some, None, Result, Ok, Err, refl, sym, subst, arith}
-use Rattle.std.specs.Prelude.{⊤, option_map, is_some, count_by}
+use Rattle.std.specs.Prelude.{⊤, option_map, count_by}
 use Rattle.std.proofs.lemmas.List.Splits.{length-slice_split}
 use Rattle.std.proofs.lemmas.List.Sums.{count_by-le-length}
 use Rattle.std.proofs.lemmas.List.{length-map}
@@ -18,8 +18,7 @@ use Rattle.oct_io.specs.Files.{Files, no_files}
 use Rattle.oct_io.specs.declared.store.Loaded.{Loaded}
 use Rattle.oct_io.specs.declared.store.Loaded.TheVariants.{Bytes, Missing, TooLarge}
 use Rattle.oct_key.specs.Voxel.{IsResolution}
-use Rattle.oct_map.specs.Answers.{edit_answer, box_answer, get_answer, limit_answer}
-use Rattle.oct_map.specs.Answers.{scan_answer_by, room_answer}
+use Rattle.oct_map.specs.Answers.{get_answer, scan_answer_by, room_answer}
 use Rattle.oct_map.specs.Casts.{cast_answer}
 use Rattle.oct_map.specs.Faults.{fault_of}
 use Rattle.oct_map.specs.Ground.{Ground}
@@ -41,13 +40,17 @@ use Rattle.oct_scan.proofs.MetCounts.{hits_few, frees_few}
 use Rattle.oct_script.specs.Lines.{Line, all_but_last, all_lines, ended_lines, is_line_feed}
 use Rattle.oct_script.specs.Lines.{last_line, line_of, ended, parts_of, rest_of}
 use Rattle.oct_script.specs.declared.command.Command.{Command}
-use Rattle.oct_script.specs.declared.command.Command.TheVariants as command
 use Rattle.oct_script.specs.declared.reply.Refusal.{Refusal}
 use Rattle.oct_script.specs.declared.reply.Refusal.TheVariants as refusal_of_script
 use Rattle.oct_script.specs.declared.reply.Reply.{Reply}
 use Rattle.oct_script.specs.declared.reply.Reply.TheVariants as reply_of
-use Rattle.oct_session.specs.Commands.{reply, edit_reply, get_reply, cast_reply}
-use Rattle.oct_session.specs.Commands.{list_reply, changes_reply}
+use Rattle.oct_session.specs.Commands.{reply, kind_reply, order_answer, question_reply, verb_reply}
+use Rattle.oct_session.specs.Commands.{edit_reply, get_reply, cast_reply, list_reply, changes_reply}
+use Rattle.oct_session.specs.declared.kinds.Question.{Question}
+use Rattle.oct_session.specs.declared.kinds.Question.TheVariants as question
+use Rattle.oct_session.specs.declared.kinds.FileVerb.{FileVerb}
+use Rattle.oct_session.specs.declared.kinds.FileVerb.TheVariants as verb
+use Rattle.oct_session.specs.Kinds.{Kind, kind_of, Nothing, Opens, Orders, Asks, Names}
 use Rattle.oct_session.specs.Drill.{drill_setup, drilled}
 use Rattle.oct_session.specs.FileCommands.{found_in, nodes_reply, reading_reply, load_reply}
 use Rattle.oct_session.specs.FileCommands.{groups_reply, restore_reply}
@@ -131,42 +134,36 @@ restore_few most g (Some TooLarge) = tt
 restore_few most g (Some (Bytes bytes)) =
     groups_few most (restore_answer g (read_snapshot g.odds bytes))
 
+question_few : (most : ℕ) (s : State) (q : Question) → HasFewCells most (question_reply s q)
+question_few most s (question.Get p depth) =
+    get_few most s.base.odds (get_answer s.base s.is_stale s.values p depth)
+question_few most s (question.List lo hi depth) =
+    list_few most s.base.odds.thr (list_answer s.base s.is_stale s.values lo hi depth)
+question_few most s (question.Cast o e ignore) =
+    cast_few most (cast_answer s.base s.values o e ignore)
+question_few most s question.Counts = tt
+question_few most s question.Changes =
+    changes_few most (changes_answer s.marked (classes_of s.base.odds s.values))
+
+verb_few : (most : ℕ) (files : Option Files) (s : State) (v : FileVerb) (name : List ℕ)
+    → HasFewCells most (verb_reply files s v name)
+verb_few most files s verb.Save name = tt
+verb_few most files s verb.Load name = load_few most s.base (found_in files name)
+verb_few most files s verb.Snapshot name = tt
+verb_few most files s verb.Restore name = restore_few most s.base (found_in files name)
+
+kind_few : (most : ℕ) (files : Option Files) (s : State) (k : Kind)
+    → HasFewCells most (kind_reply files s k)
+kind_few most files s Nothing = tt
+kind_few most files s (Opens head) = tt
+kind_few most files s (Orders o) = edit_few most (order_answer s o)
+kind_few most files s (Asks q) = question_few most s q
+kind_few most files s (Names v name) = verb_few most files s v name
+
 command_few : (most : ℕ) (files : Option Files) (s : State) (c : Result Command Refusal)
     → HasFewCells most (reply files s c)
 command_few most files s (Err refusal) = tt
-command_few most files s (Ok command.Blank) = tt
-command_few most files s (Ok (command.Edit p e lazy)) =
-    edit_few most (edit_answer s.base s.values p)
-command_few most files s (Ok (command.Box lo hi e)) =
-    edit_few most (box_answer s.base (is_some s.marked) s.values lo hi)
-command_few most files s (Ok (command.Scan head)) = tt
-command_few most files s (Ok (command.Beam p)) = tt
-command_few most files s (Ok command.End) = tt
-command_few most files s (Ok (command.Get p depth)) =
-    get_few most s.base.odds (get_answer s.base s.is_stale s.values p depth)
-command_few most files s (Ok (command.Cast o e ignore)) =
-    cast_few most (cast_answer s.base s.values o e ignore)
-command_few most files s (Ok command.Counts) = tt
-command_few most files s (Ok command.Refresh) = tt
-command_few most files s (Ok command.Prune) = tt
-command_few most files s (Ok command.Clear) = tt
-command_few most files s (Ok command.MaxLik) = tt
-command_few most files s (Ok command.Quit) = tt
-command_few most files s (Ok (command.Save name)) = tt
-command_few most files s (Ok (command.Load name)) =
-    load_few most s.base (found_in files name)
-command_few most files s (Ok (command.Snapshot name)) = tt
-command_few most files s (Ok (command.Restore name)) =
-    restore_few most s.base (found_in files name)
-command_few most files s (Ok (command.List lo hi depth)) =
-    list_few most s.base.odds.thr (list_answer s.base s.is_stale s.values lo hi depth)
-command_few most files s (Ok command.Track) = tt
-command_few most files s (Ok command.Untrack) = tt
-command_few most files s (Ok command.Changes) =
-    changes_few most (changes_answer s.marked (classes_of s.base.odds s.values))
-command_few most files s (Ok (command.Limit lo hi)) =
-    edit_few most (limit_answer s.base lo hi)
-command_few most files s (Ok command.NoLimit) = tt
+command_few most files s (Ok command) = kind_few most files s (kind_of command)
 
 -- a scan that is done meets no more voxels than it may
 scan_few : (s : State) (seen : Sighting) (own : Option ScanFault) (room : Result ⊤ MapFault)

@@ -23,11 +23,10 @@ use Rattle.oct_map.specs.Map.{Map, IsMap, ground_of, values_of}
 use Rattle.oct_map.specs.declared.fault.MapFault.{MapFault}
 use Rattle.oct_map.specs.declared.fault.MapFault.TheVariants as fault
 use Rattle.oct_odds.specs.Update.{class_of}
-use Rattle.oct_script.specs.declared.command.Command.{Command}
 use Rattle.oct_script.specs.declared.reply.Refusal.{Refusal}
 use Rattle.oct_script.specs.declared.reply.Reply.{Reply}
 use Rattle.oct_script.specs.declared.reply.Reply.TheVariants as reply_of
-use Rattle.oct_session.specs.Commands.{accepted, accepted_saving, file_named, file_saved}
+use Rattle.oct_session.specs.Commands.{FileWork, accepted, accepted_saving, changed_by, named_in}
 use Rattle.oct_session.specs.FileCommands.{found_in, nodes_reply, reading_reply, reading_action}
 use Rattle.oct_session.specs.FileCommands.{load_reply, classes_file, save_reply}
 use Rattle.oct_session.specs.History.{History, State, after_all}
@@ -115,46 +114,46 @@ bytes_unread (Err x) m bytes err = λ s at. (reading_some s.base bytes, at)
 
 -- ---- map and store
 
--- a command that names this file
-abbrev pub Names : Result Command Refusal → List ℕ → Type 0
-Names c name = file_named c ≡ Some name
+-- what is asked of the files names this one
+abbrev pub Names : Option FileWork → List ℕ → Type 0
+Names w name = named_in w ≡ Some name
 
 -- the file that it names is told
-finds_named : (c : Result Command Refusal) (name : List ℕ) (files : Option Files) → Names c name
-    → FindsTold (file_named c) files → FindsTold (Some name) files
-finds_named c name files named finds = subst (λ x. FindsTold x files) named finds
+finds_named : (w : Option FileWork) (name : List ℕ) (files : Option Files) → Names w name
+    → FindsTold (named_in w) files → FindsTold (Some name) files
+finds_named w name files named finds = subst (λ x. FindsTold x files) named finds
 
-names_some : (c : Result Command Refusal) (name : List ℕ) → Names c name → IsSome (file_named c)
-names_some c name named = subst (λ x. IsSome x) (sym named) refl
+names_some : (w : Option FileWork) (name : List ℕ) → Names w name → IsSome (named_in w)
+names_some w name named = subst (λ x. IsSome x) (sym named) refl
 
 -- a store that failed at a load leaves all files as they were
-same_failed : (c : Result Command Refusal) (name : List ℕ) (files : Option Files) (s : State)
-    (m : Map) (held : Option Files) (x : StoreFault) → Names c name → file_saved c ≡ None
-    → IsLike files s m held → HasFailed c files s m held x
-same_failed c name files s m held store_fault.Failed named none at = (
-  names_some c name named,
+same_failed : (w : Option FileWork) (name : List ℕ) (files : Option Files) (s : State)
+    (m : Map) (held : Option Files) (x : StoreFault) → Names w name → changed_by w ≡ None
+    → IsLike files s m held → HasFailed w files s m held x
+same_failed w name files s m held store_fault.Failed named none at = (
+  names_some w name named,
   record {
     stands = at.stands;
     others = subst (λ saved. KeepsUnsaved saved files held) (sym none)
         at.told;
   },
 )
-same_failed c name files s m held store_fault.Memory named none at = at
+same_failed w name files s m held store_fault.Memory named none at = at
 
 -- a store that failed at a save leaves all files but one, and all where memory ran out
-torn_failed : (c : Result Command Refusal) (name : List ℕ) (files : Option Files) (s : State)
-    (m : Map) (held : Option Files) (x : StoreFault) → Names c name → file_saved c ≡ Some name
+torn_failed : (w : Option FileWork) (name : List ℕ) (files : Option Files) (s : State)
+    (m : Map) (held : Option Files) (x : StoreFault) → Names w name → changed_by w ≡ Some name
     → StandsFor m s → KeepsOthers files held name →
-    (x ≡ store_fault.Memory → held ≡ files) → HasFailed c files s m held x
-torn_failed c name files s m held store_fault.Failed named saves at others same = (
-  names_some c name named,
+    (x ≡ store_fault.Memory → held ≡ files) → HasFailed w files s m held x
+torn_failed w name files s m held store_fault.Failed named saves at others same = (
+  names_some w name named,
   record {
     stands = at;
     others = subst (λ saved. KeepsUnsaved saved files held) (sym saves)
         others;
   },
 )
-torn_failed c name files s m held store_fault.Memory named saves at others same =
+torn_failed w name files s m held store_fault.Memory named saves at others same =
     record { stands = at; told = same refl }
 
 -- the file is told
@@ -184,16 +183,16 @@ finds_some reply some g None name (inr told) = cc
 finds_some reply some g (Some files) name finds = some g (loaded_of (files name))
 
 -- a file that was taken in, or refused
-pub load_done : (c : Result Command Refusal) (reply : Ground → Option Loaded → Option Reply)
+pub load_done : (w : Option FileWork) (reply : Ground → Option Loaded → Option Reply)
     (actions : Ground → Option Loaded → History) (m n : Map) (f g : Option Files)
-    (key name : List ℕ) (found : Loaded) (a : Option Reply) → Names c name → key ≡ name → g ≡ f →
+    (key name : List ℕ) (found : Loaded) (a : Option Reply) → Names w name → key ≡ name → g ≡ f →
     IfSome f (λ files. found ≡ loaded_of (files key)) →
     HasAnswered (λ s. reply s.base (Some found)) (λ s. actions s.base (Some found)) m n a
-    → TakesEffect (λ files s. loading_effect reply actions name files s) c m f n g None a
-load_done c reply actions m n f g key name found a named spelt same has done = λ files s finds at.
+    → TakesEffect (λ files s. loading_effect reply actions name files s) w m f n g None a
+load_done w reply actions m n f g key name found a named spelt same has done = λ files s finds at.
     let is = found_is f files name found at.told
     (subst (λ k. IfSome f (λ files. found ≡ loaded_of (files k))) spelt has)
-    (finds_named c name files named finds) in
+    (finds_named w name files named finds) in
     let took = done s at.stands in (
       took.0 ∙ ap (reply s.base) is,
       refl,
@@ -208,32 +207,32 @@ load_done c reply actions m n f g key name found a named spelt same has done = �
     )
 
 -- one that the store failed at
-pub load_failed : (c : Result Command Refusal) (reply : Ground → Option Loaded → Option Reply)
+pub load_failed : (w : Option FileWork) (reply : Ground → Option Loaded → Option Reply)
     (actions : Ground → Option Loaded → History) → AnswersAll reply
     → (r : Result (Option Reply) StoreFault) (m : Map) (f g : Option Files) (name : List ℕ)
-    → Names c name → file_saved c ≡ None → IsErr r → g ≡ f →
-    HasEffect (λ files s. loading_effect reply actions name files s) c m f m g None r
-load_failed c reply actions some (Ok x) m f g name named none err same = cc
-load_failed c reply actions some (Err x) m f g name named none err same = λ files s finds at. (
-  inl (finds_some reply some s.base files name (finds_named c name files named finds)),
-  same_failed c name files s m g x named none
+    → Names w name → changed_by w ≡ None → IsErr r → g ≡ f →
+    HasEffect (λ files s. loading_effect reply actions name files s) w m f m g None r
+load_failed w reply actions some (Ok x) m f g name named none err same = cc
+load_failed w reply actions some (Err x) m f g name named none err same = λ files s finds at. (
+  inl (finds_some reply some s.base files name (finds_named w name files named finds)),
+  same_failed w name files s m g x named none
       (record { stands = at.stands; told = same ∙ at.told }),
 )
 
 -- one that memory ran out for
-pub load_unfinished : (c : Result Command Refusal) (reply : Ground → Option Loaded → Option Reply)
+pub load_unfinished : (w : Option FileWork) (reply : Ground → Option Loaded → Option Reply)
     (actions : Ground → Option Loaded → History) → AnswersAll reply
     → (r : Result (Option Reply) StoreFault) (m n : Map) (f g : Option Files) (name : List ℕ)
-    (found : Loaded) → Names c name →
+    (found : Loaded) → Names w name →
     IsErrAnd r (λ x. x ≡ store_fault.Memory) → g ≡ f →
     ((s : State) → StandsFor m s → IsSome (reply s.base (Some found)) × StandsFor n s)
-    → HasEffect (λ files s. loading_effect reply actions name files s) c m f n g None r
-load_unfinished c reply actions some (Ok x) m n f g name found named memory same kept =
+    → HasEffect (λ files s. loading_effect reply actions name files s) w m f n g None r
+load_unfinished w reply actions some (Ok x) m n f g name found named memory same kept =
     absurd memory
-load_unfinished c reply actions some (Err x) m n f g name found named memory same kept =
+load_unfinished w reply actions some (Err x) m n f g name found named memory same kept =
     λ files s finds at. (
-      inl (finds_some reply some s.base files name (finds_named c name files named finds)),
-      subst (λ y. HasFailed c files s n g y) (sym memory)
+      inl (finds_some reply some s.base files name (finds_named w name files named finds)),
+      subst (λ y. HasFailed w files s n g y) (sym memory)
           (record { stands = (kept s at.stands).1; told = same ∙ at.told }),
     )
 
@@ -266,11 +265,11 @@ saving_effect file name s =
     replied (save_reply (file s)) [] (Some (record { name = name; bytes = file s }))
 
 -- a file that the store took
-pub save_done : (c : Result Command Refusal) (m : Map) (f g : Option Files)
+pub save_done : (w : Option FileWork) (m : Map) (f g : Option Files)
     (key name bytes : List ℕ) (n : ℕ) (file : State → List ℕ) → key ≡ name → IsFileOf m file bytes
     → n ≡ length bytes → g ≡ saved f key bytes →
-    TakesEffect (λ files s. saving_effect file name s) c m f m g None (Some (reply_of.Saved n))
-save_done c m f g key name bytes n file spelt is long told = λ files s finds at.
+    TakesEffect (λ files s. saving_effect file name s) w m f m g None (Some (reply_of.Saved n))
+save_done w m f g key name bytes n file spelt is long told = λ files s finds at.
     let same = is s at.stands in (
       ap (λ x. Some (reply_of.Saved x)) long ∙ ap save_reply same,
       refl,
@@ -282,29 +281,29 @@ save_done c m f g key name bytes n file spelt is long told = λ files s finds at
     )
 
 -- one that the store failed at
-pub save_failed : {A : Type 0} (c : Result Command Refusal) (r : Result (Option Reply) StoreFault)
+pub save_failed : {A : Type 0} (w : Option FileWork) (r : Result (Option Reply) StoreFault)
     (fault : StoreFault) (m : Map) (f g : Option Files) (key name : List ℕ) (file : State → List ℕ)
-    → Names c name → file_saved c ≡ Some name → key ≡ name → IsErrAnd r (λ x. x ≡ fault)
+    → Names w name → changed_by w ≡ Some name → key ≡ name → IsErrAnd r (λ x. x ≡ fault)
     → KeepsOthers f g key → (◌≡◌ {A = Result A StoreFault} (Err fault) (Err store_fault.Memory)
     → g ≡ f) →
-    HasEffect (λ files s. saving_effect file name s) c m f m g None r
-save_failed c (Ok x) fault m f g key name file named saves spelt is others same = absurd is
-save_failed c (Err x) fault m f g key name file named saves spelt is others same =
+    HasEffect (λ files s. saving_effect file name s) w m f m g None r
+save_failed w (Ok x) fault m f g key name file named saves spelt is others same = absurd is
+save_failed w (Err x) fault m f g key name file named saves spelt is others same =
     λ files s finds at. (
       inl refl,
-      torn_failed c name files s m g x named saves at.stands
+      torn_failed w name files s m g x named saves at.stands
           (subst (λ told. KeepsOthers told g name) at.told (subst (KeepsOthers f g) spelt others))
           (λ memory. same (ap Err (sym is ∙ memory)) ∙ at.told),
     )
 
 -- one that memory ran out for
-pub save_unwritten : (c : Result Command Refusal) (r : Result (Option Reply) StoreFault) (m : Map)
+pub save_unwritten : (w : Option FileWork) (r : Result (Option Reply) StoreFault) (m : Map)
     (f : Option Files) (name : List ℕ) (file : State → List ℕ)
     → IsErrAnd r (λ x. x ≡ store_fault.Memory) →
-    HasEffect (λ files s. saving_effect file name s) c m f m f None r
-save_unwritten c (Ok x) m f name file memory = absurd memory
-save_unwritten c (Err x) m f name file memory = λ files s finds at. (
+    HasEffect (λ files s. saving_effect file name s) w m f m f None r
+save_unwritten w (Ok x) m f name file memory = absurd memory
+save_unwritten w (Err x) m f name file memory = λ files s finds at. (
   inl refl,
-  subst (λ y. HasFailed c files s m f y) (sym memory)
+  subst (λ y. HasFailed w files s m f y) (sym memory)
       (record { stands = at.stands; told = at.told }),
 )

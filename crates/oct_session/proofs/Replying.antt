@@ -1,13 +1,11 @@
 -- What a command or a scan answers, and what the map then stands for.
 use Rattle.std.specs.Prelude.{⊤, List}
 use Rattle.std.proofs.Common.{◌≡◌, ℕ, ℤ, [], ◌||◌, ◌&&◌, nat_lt, Bool, true, false, cond, IsTrue}
-use Rattle.std.proofs.Common.{IsSome, Option, Some, None, Result, Ok, Err, IfOk, OnErr, inl, inr}
-use Rattle.std.proofs.Common.{refl, sym, ap, subst, ◌∙◌, is_some}
+use Rattle.std.proofs.Common.{IsSome, Option, Some, None, Result, Ok, Err, IfOk, IfErr, OnOk, OnErr}
+use Rattle.std.proofs.Common.{inl, inr, refl, sym, ap, subst, ◌∙◌, ◌∷◌, is_some}
 use Rattle.std.proofs.Math.Bool.{or-false}
-use Rattle.oct_io.specs.Files.{Files}
 use Rattle.oct_key.specs.declared.point.Point.{Point}
 use Rattle.oct_odds.specs.declared.event.Event.{Event}
-use Rattle.oct_odds.specs.declared.event.Event.TheVariants as event
 use Rattle.oct_odds.specs.Update.{Value}
 use Rattle.oct_map.specs.Answers.{edit_answer, scan_answer, get_answer, get_answer_at, block_answer}
 use Rattle.oct_map.specs.Answers.{IsAnswerOrMemory, box_answer, limit_answer}
@@ -17,11 +15,10 @@ use Rattle.oct_map.specs.Casts.{cast_answer, cast_answer_at}
 use Rattle.oct_values.specs.Classes.{classes_of}
 use Rattle.oct_map.specs.Ground.{Ground}
 use Rattle.oct_map.specs.Map.{Map, ground_of, values_of}
-use Rattle.oct_map.specs.Edits.{outcome_in}
+use Rattle.oct_map.specs.Edits.{IsMapEdited, IsMapRefused, outcome_in}
 use Rattle.oct_map.specs.Outcome.{corner_events, corner_box}
 use Rattle.oct_map.specs.Lists.{list_answer}
-use Rattle.oct_map.specs.Marks.{SameMark, marked_of, classes_in, changes_answer}
-use Rattle.oct_change.specs.Held.{Held}
+use Rattle.oct_map.specs.Marks.{marked_of, classes_in, changes_answer}
 use Rattle.oct_change.specs.declared.kind.Change.{Change}
 use Rattle.oct_query.specs.Shown.{Shown}
 use Rattle.oct_map.specs.declared.fault.MapFault.{MapFault}
@@ -37,40 +34,39 @@ use Rattle.oct_values.specs.Counts.{group_count, node_count}
 use Rattle.oct_values.specs.Depths.{depth_value}
 use Rattle.oct_values.specs.Events.{event_at, updated}
 use Rattle.oct_values.proofs.Uniform.{same_group_count, same_node_count}
-use Rattle.oct_script.specs.declared.command.Command.{Command}
-use Rattle.oct_script.specs.declared.command.Command.TheVariants as command
 use Rattle.oct_script.specs.declared.command.Edit.{Edit}
-use Rattle.oct_script.specs.declared.reply.Refusal.{Refusal}
 use Rattle.oct_script.specs.declared.reply.Reply.{Reply}
 use Rattle.oct_script.specs.declared.reply.Reply.TheVariants as reply_of
 use Rattle.oct_script.specs.Replies.{is_refusal}
-use Rattle.oct_session.specs.Commands.{reply, action_of, accepted, edit_reply, value_reply}
+use Rattle.oct_session.specs.Commands.{order_answer, order_reply, order_action, question_reply}
+use Rattle.oct_session.specs.Commands.{question_action, accepted, edit_reply, value_reply}
 use Rattle.oct_session.specs.Commands.{get_reply, cast_reply, list_reply, changes_reply}
+use Rattle.oct_session.specs.declared.kinds.Order.{Order}
+use Rattle.oct_session.specs.declared.kinds.Order.TheVariants as order
+use Rattle.oct_session.specs.declared.kinds.Question.{Question}
+use Rattle.oct_session.specs.declared.kinds.Question.TheVariants as question
 use Rattle.oct_session.specs.Refusals.{fault_reply}
 use Rattle.oct_session.specs.History.{History, State, Scanned, edit_event, after, after_all}
 use Rattle.oct_session.specs.Leaving.{StandsFor}
 use Rattle.oct_session.specs.ScanBlock.{is_zero, scan_reply, block_reply, block_action}
 use Rattle.oct_session.specs.ScanSoFar.{ScanSoFar, sighting_so_far}
-use Rattle.oct_session.specs.Standing.{HasAnswered, HasObeyed, HasScanned}
+use Rattle.oct_session.specs.Standing.{HasAnswered, HasCarriedOut, HasObeyed, HasTold, HasScanned}
 use Rattle.oct_session.specs.declared.scan_block.ScanBlock.TheVariants.{Scanning}
 use Rattle.oct_session.proofs.Answering.{same_edit, same_get, same_cast, same_scan, same_box}
 use Rattle.oct_session.proofs.Answering.{same_list, same_changed}
 use Rattle.oct_session.proofs.NonemptyReplies.{edit_some, block_some, box_some, list_some}
 use Rattle.oct_session.proofs.NonemptyReplies.{changes_some, limit_some}
 use Rattle.oct_session.proofs.MapHistory.{Keeps, stands_same, stands_edited, stands_scanned}
-use Rattle.oct_session.proofs.MapHistory.{stands_refreshed, stands_pruned, stands_cleared}
-use Rattle.oct_session.proofs.MapHistory.{stands_likened, stands_boxed, stands_tracked}
-use Rattle.oct_session.proofs.MapHistory.{stands_untracked, stands_limited, stands_unlimited}
+use Rattle.oct_session.proofs.MapHistory.{stands_pruned, stands_boxed, stands_limited}
 
 -- a command that does nothing that later replies may depend on
 accepted_none : (r : Option Reply) (actions : History) → actions ≡ [] → accepted r actions ≡ []
 accepted_none r actions none =
     elim (is_refusal r) as (λ b. cond b [] actions ≡ []) [ true ↦ refl | false ↦ none ]
 
--- a command was answered, and done on a map that stood for some history
-abbrev Obeys : Map → Map → Result Command Refusal → Option Reply → Type 0
-Obeys m n c r = (files : Option Files)
-    → HasAnswered (λ s. reply files s c) (λ s. action_of files s c) m n r
+-- a question was answered
+abbrev Tells : Map → Map → Question → Option Reply → Type 0
+Tells m n q r = HasAnswered (λ s. question_reply s q) (λ s. question_action q) m n r
 
 -- a scan whose points were all read was
 abbrev Scans : Map → Map → ScanSoFar → Option Reply → Type 0
@@ -82,10 +78,15 @@ stands_kept : (m : Map) (s : State) (more : History) → more ≡ [] → StandsF
     → StandsFor m (after_all s more)
 stands_kept m s more none at = subst (λ x. StandsFor m (after_all s x)) (sym none) at
 
--- what was done for the command that was read
-pub obeyed_as : {E : Type 0} (r : Result (Option Reply) E) (m n : Map)
-    (c read : Result Command Refusal) → c ≡ read → HasObeyed m n read r → HasObeyed m n c r
-obeyed_as r m n c read is done = subst (λ x. HasObeyed m n x r) (sym is) done
+-- what was done for the order that was read
+pub carried_as : (r : Result ⊤ MapFault) (m n : Map) (o read : Order) → o ≡ read
+    → HasCarriedOut m n read r → HasCarriedOut m n o r
+carried_as r m n o read is done = subst (λ x. HasCarriedOut m n x r) (sym is) done
+
+-- what was told for the question that was read
+pub told_as : {E : Type 0} (r : Result (Option Reply) E) (m n : Map) (q read : Question) → q ≡ read
+    → HasTold m n read r → HasTold m n q r
+told_as r m n q read is told = subst (λ x. HasTold m n x r) (sym is) told
 
 -- a reply to a refusal of the map is a refusal
 pub refuses : (f : MapFault) (r : Option Reply) → IsSome r → r ≡ fault_reply f → is_refusal r ≡ true
@@ -114,82 +115,89 @@ pub no_reply : (f : MapFault) (r : Option Reply) → IsSome r → r ≡ fault_re
 no_reply f r some is none = let absent : IsSome (fault_reply fault.Memory) =
     subst IsSome (is ∙ ap fault_reply none) some in cc
 
--- an edit that the map did
-pub edit_done : (m n : Map) (p : Point) (e : Edit) (lazy : Bool) (event : Event)
-    → event ≡ edit_event m.tree.odds e →
-    IsAnswerOrMemory (edit_answer (ground_of m) (values_of m) p) (Ok tt) →
-    SameValues (updated m.tree.odds (event_at (key_at m.tree.res p) event) (values_of m))
-    (values_of n) → n.is_stale ≡ (m.is_stale || lazy) →
-    ((IsTrue lazy → ⊥) → IsPruned m.tree → IsPruned n.tree) → Keeps m n
-    → Obeys m n (Ok (command.Edit p e lazy)) (Some reply_of.Ok)
-edit_done m n p e lazy event is (inl answer) values stale pruned setup = λ files q at. (
-  ap edit_reply (answer ∙ same_edit m q p at),
-  stands_edited m n q p e lazy event is values stale pruned setup at,
-)
-edit_done m n p e lazy event is (inr memory) values stale pruned setup = cc
+-- an order that the map carried out
+pub order_done : (m n : Map) (o : Order) → HasCarriedOut m n o (Ok tt)
+    → HasAnswered (λ s. order_reply s o) (λ s. order_action o ∷ []) m n (Some reply_of.Ok)
+order_done m n o done = λ s at. let was = done s at in (ap edit_reply was.0, was.1)
 
--- an edit that the map refused
-pub edit_refused : {E : Type 0} (r : Result (Option Reply) E) (m n : Map) (p : Point) (e : Edit)
-    (lazy : Bool) (f : MapFault) →
-    IfOk r (λ a. a ≡ fault_reply f) → IfOk r IsSome
-    → IsAnswerOrMemory (edit_answer (ground_of m) (values_of m) p) (Err f) →
-    SameValues (values_of m) (values_of n) → n.is_stale ≡ m.is_stale
-    → (IsPruned m.tree → IsPruned n.tree) → Keeps m n → HasObeyed m n (Ok (command.Edit p e lazy)) r
-edit_refused (Ok a) m n p e lazy f is some (inl answer) values stale pruned setup = λ files q at. (
-  is ∙ ap edit_reply (answer ∙ same_edit m q p at),
-  stands_kept n q (accepted a (action_of files q (Ok (command.Edit p e lazy))))
-      (ap (λ b. cond b [] (action_of files q (Ok (command.Edit p e lazy)))) (refuses f a some is))
-      (stands_same m n q values stale pruned setup at),
-)
-edit_refused (Ok a) m n p e lazy f is some (inr memory) values stale pruned setup =
-    absurd (no_reply f a some is cc)
-edit_refused (Err x) m n p e lazy f is some answer values stale pruned setup =
-    λ files q at. (edit_some q.base q.values p, stands_same m n q values stale pruned setup at)
+refused_so : (a : Option Reply) (r : Result ⊤ MapFault) (f : MapFault) → a ≡ fault_reply f
+    → IsSome a → IsAnswerOrMemory r (Err f) → a ≡ edit_reply r
+refused_so a r f is some (inl answer) = is ∙ ap edit_reply answer
+refused_so a r f is some (inr memory) = absurd (no_reply f a some is cc)
 
--- an edit of a box that the map did
-pub box_done : (m n : Map) (lo hi : Point) (e : Edit) (event : Event)
-    → event ≡ edit_event m.tree.odds e →
-    IsAnswerOrMemory (box_answer (ground_of m) (is_some m.mark) (values_of m) lo hi) (Ok tt) →
-    SameValues (updated m.tree.odds
-    (corner_events (key_at m.tree.res lo) (key_at m.tree.res hi) event) (values_of m))
-    (values_of n) → n.is_stale ≡ (m.is_stale || false) →
-    (IsPruned m.tree → IsPruned n.tree) → Keeps m n
-    → Obeys m n (Ok (command.Box lo hi e)) (Some reply_of.Ok)
-box_done m n lo hi e event is (inl answer) values stale pruned setup = λ files q at. (
-  ap edit_reply (answer ∙ same_box m q lo hi at),
-  stands_boxed m n q lo hi e event is values (stale ∙ or-false m.is_stale) pruned setup at,
+-- an order that the map refused
+pub order_refused : {E : Type 0} (r : Result (Option Reply) E) (m n : Map) (o : Order)
+    (f : MapFault) → IfOk r (λ a. a ≡ fault_reply f) → IfOk r IsSome → HasCarriedOut m n o (Err f)
+    → HasObeyed m n o r
+order_refused (Ok a) m n o f is some kept = λ s at. let was = kept s at in (
+  refused_so a (order_answer s o) f is some was.0,
+  stands_kept n s (accepted a (order_action o ∷ []))
+      (ap (λ b. cond b [] (order_action o ∷ [])) (refuses f a some is)) was.2,
 )
-box_done m n lo hi e event is (inr memory) values stale pruned setup = cc
+order_refused (Err x) m n o f is some kept = λ s at. let was = kept s at in (was.1, was.2)
 
--- an edit of a box that the map refused
-pub box_refused : {E : Type 0} (r : Result (Option Reply) E) (m n : Map) (lo hi : Point)
-    (e : Edit) (f : MapFault) →
-    IfOk r (λ a. a ≡ fault_reply f) → IfOk r IsSome
-    → IsAnswerOrMemory (box_answer (ground_of m) (is_some m.mark) (values_of m) lo hi) (Err f) →
-    SameValues (values_of m) (values_of n) → n.is_stale ≡ m.is_stale
-    → (IsPruned m.tree → IsPruned n.tree) → Keeps m n
-    → HasObeyed m n (Ok (command.Box lo hi e)) r
-box_refused (Ok a) m n lo hi e f is some (inl answer) values stale pruned setup = λ files q at. (
-  is ∙ ap edit_reply (answer ∙ same_box m q lo hi at),
-  stands_kept n q (accepted a (action_of files q (Ok (command.Box lo hi e))))
-      (ap (λ b. cond b [] (action_of files q (Ok (command.Box lo hi e)))) (refuses f a some is))
-      (stands_same m n q values stale pruned setup at),
+-- an edit, which the map did or refused
+pub edit_carried : (r : Result ⊤ MapFault) (m n : Map) (p : Point) (e : Edit) (lazy : Bool)
+    (event : Event) (need : ℕ) → event ≡ edit_event m.tree.odds e →
+    IsAnswerOrMemory (edit_answer (ground_of m) (values_of m) p) r →
+    OnOk r (IsMapEdited m n (event_at (key_at m.tree.res p) event) need lazy)
+    → IfErr r (λ f. IsMapRefused m n f need) → Keeps m n → HasCarriedOut m n (order.Edit p e lazy) r
+edit_carried (Ok done) m n p e lazy event need is (inl answer) edited refused setup = λ s at. (
+  answer ∙ same_edit m s p at,
+  stands_edited m n s p e lazy event is edited.values edited.stale
+      (λ eager. (edited.eager eager).pruned) setup at,
 )
-box_refused (Ok a) m n lo hi e f is some (inr memory) values stale pruned setup =
-    absurd (no_reply f a some is cc)
-box_refused (Err x) m n lo hi e f is some answer values stale pruned setup =
-    λ files q at. (
-      box_some q.base (is_some q.marked) q.values lo hi,
-      stands_same m n q values stale pruned setup at,
-    )
+edit_carried (Ok done) m n p e lazy event need is (inr memory) edited refused setup = cc
+edit_carried (Err f) m n p e lazy event need is answer edited refused setup = λ s at. (
+  subst (λ x. IsAnswerOrMemory x (Err f)) (same_edit m s p at) answer,
+  edit_some s.base s.values p,
+  stands_same m n s refused.values refused.stale refused.pruned setup at,
+)
+
+-- an edit of a box, which the map did or refused
+pub box_carried : (r : Result ⊤ MapFault) (m n : Map) (lo hi : Point) (e : Edit) (event : Event)
+    (need : ℕ) → event ≡ edit_event m.tree.odds e →
+    IsAnswerOrMemory (box_answer (ground_of m) (is_some m.mark) (values_of m) lo hi) r →
+    OnOk r (IsMapEdited m n
+    (corner_events (key_at m.tree.res lo) (key_at m.tree.res hi) event) need false)
+    → IfErr r (λ f. IsMapRefused m n f need) → Keeps m n → HasCarriedOut m n (order.Box lo hi e)
+    r
+box_carried (Ok done) m n lo hi e event need is (inl answer) edited refused setup = λ s at. (
+  answer ∙ same_box m s lo hi at,
+  stands_boxed m n s lo hi e event is edited.values (edited.stale ∙ or-false m.is_stale)
+      (edited.eager (λ lazy. cc)).pruned setup at,
+)
+box_carried (Ok done) m n lo hi e event need is (inr memory) edited refused setup = cc
+box_carried (Err f) m n lo hi e event need is answer edited refused setup = λ s at. (
+  subst (λ x. IsAnswerOrMemory x (Err f)) (same_box m s lo hi at) answer,
+  box_some s.base (is_some s.marked) s.values lo hi,
+  stands_same m n s refused.values refused.stale refused.pruned setup at,
+)
+
+-- a limit, which the map took or refused
+pub limit_carried : (r : Result ⊤ MapFault) (m n : Map) (lo hi : Point)
+    → r ≡ limit_answer (ground_of m) lo hi →
+    OnOk r (n ≡ record m {
+      update_box = corner_box (key_at m.tree.res lo) (key_at m.tree.res hi);
+    })
+    → OnErr r (n ≡ m) → HasCarriedOut m n (order.Limit lo hi) r
+limit_carried (Ok done) m n lo hi answer limited same = λ s at. (
+  answer ∙ ap (λ g. limit_answer g lo hi) at.base,
+  stands_limited m n s lo hi limited at,
+)
+limit_carried (Err f) m n lo hi answer limited same = λ s at. (
+  inl (answer ∙ ap (λ g. limit_answer g lo hi) at.base),
+  limit_some s.base lo hi,
+  subst (λ (t : Map). StandsFor t s) (sym same) at,
+)
 
 -- a query that the map answered
 pub query_done : (m : Map) (p : Point) (depth : ℕ) (value : Value) (shown : Reply)
     → shown ≡ value_reply m.tree.odds value →
     ◌≡◌ {A = Result Value MapFault} (Ok value)
     (get_answer (ground_of m) m.is_stale (values_of m) p depth)
-    → Obeys m m (Ok (command.Get p depth)) (Some shown)
-query_done m p depth value shown is answer = λ files q at. (
+    → Tells m m (question.Get p depth) (Some shown)
+query_done m p depth value shown is answer = λ q at. (
   ap Some is ∙ ap (λ (g : Ground). Some (value_reply g.odds value)) at.base
       ∙ ap (get_reply q.base.odds) (answer ∙ same_get m q p depth at),
   stands_kept m q (accepted (Some shown) []) (accepted_none (Some shown) [] refl) at,
@@ -220,8 +228,8 @@ pub query_refused : {E : Type 0} (r : Result (Option Reply) E) (m : Map) (p : Po
     (f : MapFault) → IfOk r (λ a. a ≡ fault_reply f) → OnErr r (f ≡ fault.Memory) →
     ◌≡◌ {A = Result Value MapFault} (Err f)
     (get_answer (ground_of m) m.is_stale (values_of m) p depth)
-    → HasObeyed m m (Ok (command.Get p depth)) r
-query_refused (Ok a) m p depth f is memory answer = λ files q at. (
+    → HasTold m m (question.Get p depth) r
+query_refused (Ok a) m p depth f is memory answer = λ q at. (
   is ∙ ap (get_reply q.base.odds) (answer ∙ same_get m q p depth at),
   stands_kept m q (accepted a []) (accepted_none a [] refl) at,
 )
@@ -233,8 +241,8 @@ query_refused (Err x) m p depth f is memory answer =
 pub cast_done : (m : Map) (o e : Point) (ignore : Bool) (found : Cast)
     → ◌≡◌ {A = Result Cast MapFault} (Ok found) (cast_answer (ground_of m) (values_of m) o e ignore)
     →
-    Obeys m m (Ok (command.Cast o e ignore)) (Some (reply_of.Casted found))
-cast_done m o e ignore found answer = λ files q at. (
+    Tells m m (question.Cast o e ignore) (Some (reply_of.Casted found))
+cast_done m o e ignore found answer = λ q at. (
   ap cast_reply (answer ∙ same_cast m q o e ignore at),
   stands_kept m q (accepted (Some (reply_of.Casted found)) [])
       (accepted_none (Some (reply_of.Casted found)) [] refl) at,
@@ -251,8 +259,8 @@ cast_calm (Some k) (Some l) found is = cc
 pub cast_refused : {E : Type 0} (r : Result (Option Reply) E) (m : Map) (o e : Point)
     (ignore : Bool) (f : MapFault) → IfOk r (λ a. a ≡ fault_reply f) → OnErr r (f ≡ fault.Memory) →
     ◌≡◌ {A = Result Cast MapFault} (Err f) (cast_answer (ground_of m) (values_of m) o e ignore)
-    → HasObeyed m m (Ok (command.Cast o e ignore)) r
-cast_refused (Ok a) m o e ignore f is memory answer = λ files q at. (
+    → HasTold m m (question.Cast o e ignore) r
+cast_refused (Ok a) m o e ignore f is memory answer = λ q at. (
   is ∙ ap cast_reply (answer ∙ same_cast m q o e ignore at),
   stands_kept m q (accepted a []) (accepted_none a [] refl) at,
 )
@@ -265,8 +273,8 @@ cast_refused (Err x) m o e ignore f is memory answer =
 pub counts_done : (m n : Map) (counts : Counts) → counts.groups ≡ group_count (values_of m)
     → counts.nodes ≡ node_count (values_of m) →
     SameValues (values_of m) (values_of n) → n.is_stale ≡ m.is_stale → IsPruned n.tree → Keeps m n
-    → Obeys m n (Ok command.Counts) (Some (reply_of.Counted counts))
-counts_done m n counts groups nodes values stale pruned setup = λ files q at.
+    → Tells m n question.Counts (Some (reply_of.Counted counts))
+counts_done m n counts groups nodes values stale pruned setup = λ q at.
     let g : counts.groups ≡ group_count q.values = groups
     ∙ sym (same_group_count q.values (values_of m) at.values) in
     let k : counts.nodes ≡ node_count q.values = nodes
@@ -276,73 +284,12 @@ counts_done m n counts groups nodes values stale pruned setup = λ files q at.
       stands_pruned m n q values stale pruned setup at,
     )
 
--- a refresh
-pub refresh_done : (m n : Map) → SameValues (values_of m) (values_of n) → n.is_stale ≡ false
-    → (IsPruned m.tree → IsPruned n.tree) → Keeps m n →
-    Obeys m n (Ok command.Refresh) (Some reply_of.Ok)
-refresh_done m n values fresh pruned setup =
-    λ files q at. (refl, stands_refreshed m n q values fresh pruned setup at)
-
--- a clear
-pub clear_done : (m n : Map) → ((k : Voxel) → values_of n k ≡ None) → n.is_stale ≡ false
-    → IsPruned n.tree → ground_of n ≡ ground_of m → n.mark ≡ None
-    → Obeys m n (Ok command.Clear) (Some reply_of.Ok)
-clear_done m n unknown fresh pruned setup none =
-    λ files q at. (refl, stands_cleared m n q unknown fresh pruned setup none at)
-
--- maximum likelihood
-pub likelihood_done : (m n : Map)
-    → SameValues (updated m.tree.odds (λ k. Some event.Likely) (values_of m)) (values_of n)
-    → n.is_stale ≡ false → IsPruned n.tree → Keeps m n →
-    Obeys m n (Ok command.MaxLik) (Some reply_of.Ok)
-likelihood_done m n values fresh pruned setup =
-    λ files q at. (refl, stands_likened m n q values fresh pruned setup at)
-
--- a mark that is set
-pub track_done : (m n : Map) (x : Option Held) → n ≡ record m { mark = x }
-    → SameMark (Some (classes_in m)) (marked_of n) → Obeys m n (Ok command.Track) (Some reply_of.Ok)
-track_done m n x exact mark = λ files q at. (refl, stands_tracked m n q x exact mark at)
-
--- a mark that is taken away
-pub untrack_done : (m n : Map) → n ≡ record m { mark = None }
-    → Obeys m n (Ok command.Untrack) (Some reply_of.Ok)
-untrack_done m n exact = λ files q at. (refl, stands_untracked m n q exact at)
-
--- the end of a limit
-pub no_limit_done : (m n : Map) → n ≡ record m { update_box = None }
-    → Obeys m n (Ok command.NoLimit) (Some reply_of.Ok)
-no_limit_done m n exact = λ files q at. (refl, stands_unlimited m n q exact at)
-
--- a limit that the map took
-pub limit_done : (m n : Map) (lo hi : Point)
-    → n ≡ record m { update_box = corner_box (key_at m.tree.res lo) (key_at m.tree.res hi) } →
-    ◌≡◌ {A = Result ⊤ MapFault} (Ok tt) (limit_answer (ground_of m) lo hi)
-    → Obeys m n (Ok (command.Limit lo hi)) (Some reply_of.Ok)
-limit_done m n lo hi exact answer = λ files q at. (
-  ap edit_reply (answer ∙ ap (λ g. limit_answer g lo hi) at.base),
-  stands_limited m n q lo hi exact at,
-)
-
--- a limit that the map refused
-pub limit_refused : {E : Type 0} (r : Result (Option Reply) E) (m n : Map) (lo hi : Point)
-    (f : MapFault) → IfOk r (λ a. a ≡ fault_reply f) → IfOk r IsSome → n ≡ m →
-    ◌≡◌ {A = Result ⊤ MapFault} (Err f) (limit_answer (ground_of m) lo hi)
-    → HasObeyed m n (Ok (command.Limit lo hi)) r
-limit_refused (Ok a) m n lo hi f is some same answer = λ files q at. (
-  is ∙ ap edit_reply (answer ∙ ap (λ g. limit_answer g lo hi) at.base),
-  stands_kept n q (accepted a (action_of files q (Ok (command.Limit lo hi))))
-      (ap (λ b. cond b [] (action_of files q (Ok (command.Limit lo hi)))) (refuses f a some is))
-      (subst (λ (t : Map). StandsFor t q) (sym same) at),
-)
-limit_refused (Err x) m n lo hi f is some same answer =
-    λ files q at. (limit_some q.base lo hi, subst (λ (t : Map). StandsFor t q) (sym same) at)
-
 -- a list that the map answered
 pub list_done : (m : Map) (lo hi : Point) (depth : ℕ) (blocks : List Shown) (threshold : ℤ)
     → threshold ≡ m.tree.odds.thr →
     IsAnswerOrMemory (list_answer (ground_of m) m.is_stale (values_of m) lo hi depth) (Ok blocks)
-    → Obeys m m (Ok (command.List lo hi depth)) (Some (reply_of.Blocks blocks threshold))
-list_done m lo hi depth blocks threshold is (inl answer) = λ files q at. (
+    → Tells m m (question.List lo hi depth) (Some (reply_of.Blocks blocks threshold))
+list_done m lo hi depth blocks threshold is (inl answer) = λ q at. (
   ap (λ t. Some (reply_of.Blocks blocks t)) (is ∙ ap (λ (g : Ground). g.odds.thr) at.base)
       ∙ ap (list_reply q.base.odds.thr) (answer ∙ same_list m q lo hi depth at),
   stands_kept m q (accepted (Some (reply_of.Blocks blocks threshold)) [])
@@ -354,20 +301,20 @@ list_done m lo hi depth blocks threshold is (inr memory) = cc
 pub list_refused : {E : Type 0} (r : Result (Option Reply) E) (m : Map) (lo hi : Point)
     (depth : ℕ) (f : MapFault) → IfOk r (λ a. a ≡ fault_reply f) → IfOk r IsSome →
     IsAnswerOrMemory (list_answer (ground_of m) m.is_stale (values_of m) lo hi depth) (Err f)
-    → HasObeyed m m (Ok (command.List lo hi depth)) r
-list_refused (Ok a) m lo hi depth f is some (inl answer) = λ files q at. (
+    → HasTold m m (question.List lo hi depth) r
+list_refused (Ok a) m lo hi depth f is some (inl answer) = λ q at. (
   is ∙ ap (list_reply q.base.odds.thr) (answer ∙ same_list m q lo hi depth at),
   stands_kept m q (accepted a []) (accepted_none a [] refl) at,
 )
 list_refused (Ok a) m lo hi depth f is some (inr memory) = absurd (no_reply f a some is cc)
 list_refused (Err x) m lo hi depth f is some answer =
-    λ files q at. (list_some q.base.odds.thr q.base q.is_stale q.values lo hi depth, at)
+    λ q at. (list_some q.base.odds.thr q.base q.is_stale q.values lo hi depth, at)
 
 -- what has changed, as the map answered it
 pub changes_done : (m : Map) (changes : List Change)
     → IsAnswerOrMemory (changes_answer (marked_of m) (classes_in m)) (Ok changes)
-    → Obeys m m (Ok command.Changes) (Some (reply_of.Changed changes))
-changes_done m changes (inl answer) = λ files q at. (
+    → Tells m m question.Changes (Some (reply_of.Changed changes))
+changes_done m changes (inl answer) = λ q at. (
   ap changes_reply (answer ∙ same_changed m q at),
   stands_kept m q (accepted (Some (reply_of.Changed changes)) [])
       (accepted_none (Some (reply_of.Changed changes)) [] refl) at,
@@ -378,14 +325,14 @@ changes_done m changes (inr memory) = cc
 pub changes_refused : {E : Type 0} (r : Result (Option Reply) E) (m : Map) (f : MapFault)
     → IfOk r (λ a. a ≡ fault_reply f) → IfOk r IsSome →
     IsAnswerOrMemory (changes_answer (marked_of m) (classes_in m)) (Err f)
-    → HasObeyed m m (Ok command.Changes) r
-changes_refused (Ok a) m f is some (inl answer) = λ files q at. (
+    → HasTold m m question.Changes r
+changes_refused (Ok a) m f is some (inl answer) = λ q at. (
   is ∙ ap changes_reply (answer ∙ same_changed m q at),
   stands_kept m q (accepted a []) (accepted_none a [] refl) at,
 )
 changes_refused (Ok a) m f is some (inr memory) = absurd (no_reply f a some is cc)
 changes_refused (Err x) m f is some answer =
-    λ files q at. (changes_some q.marked (classes_of q.base.odds q.values), at)
+    λ q at. (changes_some q.marked (classes_of q.base.odds q.values), at)
 
 -- the reply to a scan whose quaternion isn't 0
 scan_replied : (m : Map) (q : State) (scan : ScanSoFar) (s : Sighting)

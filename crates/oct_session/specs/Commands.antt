@@ -15,12 +15,7 @@ use Rattle.oct_map.specs.Marks.{changes_answer}
 use Rattle.oct_map.specs.declared.fault.MapFault.{MapFault}
 use Rattle.oct_query.specs.Shown.{Shown}
 use Rattle.oct_script.specs.declared.command.Command.{Command}
-use Rattle.oct_script.specs.declared.command.Command.TheVariants as command
-use Rattle.oct_script.specs.declared.command.Command.TheVariants.{Blank, Edit, Get, Cast, Counts}
-use Rattle.oct_script.specs.declared.command.Command.TheVariants.{Refresh, Prune, Clear, Quit}
-use Rattle.oct_script.specs.declared.command.Command.TheVariants.{MaxLik, Scan, Beam, End}
-use Rattle.oct_script.specs.declared.command.Command.TheVariants.{Box, Save, Load, Snapshot}
-use Rattle.oct_script.specs.declared.command.Command.TheVariants.{Restore}
+use Rattle.oct_script.specs.declared.command.Command.TheVariants.{Quit}
 use Rattle.oct_script.specs.declared.command.Syntax.{Syntax}
 use Rattle.oct_script.specs.declared.reply.Refusal.{Refusal}
 use Rattle.oct_script.specs.declared.reply.Refusal.TheVariants as refusal
@@ -33,10 +28,16 @@ use Rattle.oct_script.specs.Lines.{Line, Text, Long}
 use Rattle.oct_script.specs.Replies.{is_refusal}
 use Rattle.oct_session.specs.FileCommands.{found_in, load_reply, load_action, classes_file}
 use Rattle.oct_session.specs.FileCommands.{save_reply, restore_reply, restore_action, snapshot_file}
-use Rattle.oct_session.specs.History.{History, State, Edited, Refreshed, Pruned, Cleared, Likened}
-use Rattle.oct_session.specs.History.{Boxed}
+use Rattle.oct_session.specs.History.{History, State, Action, Edited, Boxed, Refreshed, Pruned}
+use Rattle.oct_session.specs.History.{Cleared, Likened, Tracked, Untracked, Limited, Unlimited}
 use Rattle.oct_session.specs.Refusals.{fault_reply}
-use Rattle.oct_session.specs.History.{Tracked, Untracked, Limited, Unlimited}
+use Rattle.oct_session.specs.declared.kinds.Order.{Order}
+use Rattle.oct_session.specs.declared.kinds.Order.TheVariants as order
+use Rattle.oct_session.specs.declared.kinds.Question.{Question}
+use Rattle.oct_session.specs.declared.kinds.Question.TheVariants as question
+use Rattle.oct_session.specs.declared.kinds.FileVerb.{FileVerb}
+use Rattle.oct_session.specs.declared.kinds.FileVerb.TheVariants as verb
+use Rattle.oct_session.specs.Kinds.{Kind, kind_of, Nothing, Opens, Orders, Asks, Names}
 use Rattle.oct_values.specs.Classes.{classes_of}
 
 -- the command that was read on the line of this number, or the refusal where the line isn't in the
@@ -90,68 +91,111 @@ changes_reply (Err fault) = fault_reply fault
 abbrev pub counts_reply : Values → Reply
 counts_reply values = Counted (record { groups = group_count values; nodes = node_count values })
 
--- the reply to a line's command over these files and in a state, outside the block of a scan, by
--- the map's answers in that state; a blank line has none, and neither has `quit`, nor a line of a
--- scan, whose block has one reply in all
-abbrev pub reply : Option Files → State → Result Command Refusal → Option Reply
-reply files s (Err refusal) = Some (Refused refusal)
-reply files s (Ok Blank) = None
-reply files s (Ok Quit) = None
-reply files s (Ok (Scan head)) = None
-reply files s (Ok (Beam p)) = None
-reply files s (Ok End) = None
-reply files s (Ok (Edit p edit lazy)) = edit_reply (edit_answer s.base s.values p)
-reply files s (Ok (Box lo hi edit)) =
-    edit_reply (box_answer s.base (is_some s.marked) s.values lo hi)
-reply files s (Ok (Get p depth)) =
-    get_reply s.base.odds (get_answer s.base s.is_stale s.values p depth)
-reply files s (Ok (Cast origin end ignore)) =
-    cast_reply (cast_answer s.base s.values origin end ignore)
-reply files s (Ok Counts) = Some (counts_reply s.values)
-reply files s (Ok Refresh) = Some Ok
-reply files s (Ok Prune) = Some Ok
-reply files s (Ok Clear) = Some Ok
-reply files s (Ok MaxLik) = Some Ok
-reply files s (Ok (Save name)) = save_reply (classes_file s)
-reply files s (Ok (Load name)) = load_reply s.base (found_in files name)
-reply files s (Ok (Snapshot name)) = save_reply (snapshot_file s)
-reply files s (Ok (Restore name)) = restore_reply s.base (found_in files name)
-reply files s (Ok (command.List lo hi depth)) =
-    list_reply s.base.odds.thr (list_answer s.base s.is_stale s.values lo hi depth)
-reply files s (Ok command.Track) = Some Ok
-reply files s (Ok command.Untrack) = Some Ok
-reply files s (Ok command.Changes) =
-    changes_reply (changes_answer s.marked (classes_of s.base.odds s.values))
-reply files s (Ok (command.Limit lo hi)) = edit_reply (limit_answer s.base lo hi)
-reply files s (Ok command.NoLimit) = Some Ok
+-- the map's answer to an order in a state
+abbrev pub order_answer : State → Order → Result ⊤ MapFault
+order_answer s (order.Edit p edit lazy) = edit_answer s.base s.values p
+order_answer s (order.Box lo hi edit) = box_answer s.base (is_some s.marked) s.values lo hi
+order_answer s (order.Limit lo hi) = limit_answer s.base lo hi
+order_answer s order.NoLimit = Ok tt
+order_answer s order.Refresh = Ok tt
+order_answer s order.Prune = Ok tt
+order_answer s order.Clear = Ok tt
+order_answer s order.MaxLik = Ok tt
+order_answer s order.Track = Ok tt
+order_answer s order.Untrack = Ok tt
 
--- what a command does, if it does anything that later replies or the map may depend on; to count is
--- to prune first
+-- the reply to it
+abbrev pub order_reply : State → Order → Option Reply
+order_reply s order = edit_reply (order_answer s order)
+
+-- what it does, where the map doesn't refuse it
+abbrev pub order_action : Order → Action
+order_action (order.Edit p edit lazy) = Edited p edit lazy
+order_action (order.Box lo hi edit) = Boxed lo hi edit
+order_action (order.Limit lo hi) = Limited lo hi
+order_action order.NoLimit = Unlimited
+order_action order.Refresh = Refreshed
+order_action order.Prune = Pruned
+order_action order.Clear = Cleared
+order_action order.MaxLik = Likened
+order_action order.Track = Tracked
+order_action order.Untrack = Untracked
+
+-- the reply to a question in a state, by the map's answer there
+abbrev pub question_reply : State → Question → Option Reply
+question_reply s (question.Get p depth) =
+    get_reply s.base.odds (get_answer s.base s.is_stale s.values p depth)
+question_reply s (question.List lo hi depth) =
+    list_reply s.base.odds.thr (list_answer s.base s.is_stale s.values lo hi depth)
+question_reply s (question.Cast origin end ignore) =
+    cast_reply (cast_answer s.base s.values origin end ignore)
+question_reply s question.Counts = Some (counts_reply s.values)
+question_reply s question.Changes =
+    changes_reply (changes_answer s.marked (classes_of s.base.odds s.values))
+
+-- what a question does that later replies or the map may depend on: to count is to prune first
+abbrev pub question_action : Question → History
+question_action (question.Get p depth) = []
+question_action (question.List lo hi depth) = []
+question_action (question.Cast origin end ignore) = []
+question_action question.Counts = Pruned ∷ []
+question_action question.Changes = []
+
+-- the reply to a verb with the name of a file, over these files and in a state
+abbrev pub verb_reply : Option Files → State → FileVerb → List ℕ → Option Reply
+verb_reply files s verb.Save name = save_reply (classes_file s)
+verb_reply files s verb.Load name = load_reply s.base (found_in files name)
+verb_reply files s verb.Snapshot name = save_reply (snapshot_file s)
+verb_reply files s verb.Restore name = restore_reply s.base (found_in files name)
+
+-- what it does
+abbrev pub verb_action : Option Files → State → FileVerb → List ℕ → History
+verb_action files s verb.Save name = []
+verb_action files s verb.Load name = load_action (found_in files name)
+verb_action files s verb.Snapshot name = []
+verb_action files s verb.Restore name = restore_action s.base (found_in files name)
+
+-- the reply to a command that the map does or answers
+abbrev pub map_reply : State → Kind → Option Reply
+map_reply s (Orders order) = order_reply s order
+map_reply s (Asks question) = question_reply s question
+map_reply s Nothing = None
+map_reply s (Opens head) = None
+map_reply s (Names verb name) = None
+
+-- what it does
+abbrev pub map_action : Kind → History
+map_action (Orders order) = order_action order ∷ []
+map_action (Asks question) = question_action question
+map_action Nothing = []
+map_action (Opens head) = []
+map_action (Names verb name) = []
+
+-- the reply to a command, by what does it, over these files and in a state; there is none where
+-- there is nothing to do, nor to the head of a scan, whose block has one reply in all
+abbrev pub kind_reply : Option Files → State → Kind → Option Reply
+kind_reply files s (Names verb name) = verb_reply files s verb name
+kind_reply files s (Orders order) = order_reply s order
+kind_reply files s (Asks question) = question_reply s question
+kind_reply files s Nothing = None
+kind_reply files s (Opens head) = None
+
+-- what it does
+abbrev pub kind_action : Option Files → State → Kind → History
+kind_action files s (Names verb name) = verb_action files s verb name
+kind_action files s (Orders order) = order_action order ∷ []
+kind_action files s (Asks question) = question_action question
+kind_action files s Nothing = []
+kind_action files s (Opens head) = []
+
+-- the reply to a line's command over these files and in a state, outside the block of a scan
+abbrev pub reply : Option Files → State → Result Command Refusal → Option Reply
+reply files s (Ok command) = kind_reply files s (kind_of command)
+reply files s (Err refusal) = Some (Refused refusal)
+
+-- what a command does, if it does anything
 abbrev pub action_of : Option Files → State → Result Command Refusal → History
-action_of files s (Ok (Edit p edit lazy)) = Edited p edit lazy ∷ []
-action_of files s (Ok (Box lo hi edit)) = Boxed lo hi edit ∷ []
-action_of files s (Ok Refresh) = Refreshed ∷ []
-action_of files s (Ok Counts) = Pruned ∷ []
-action_of files s (Ok Prune) = Pruned ∷ []
-action_of files s (Ok Clear) = Cleared ∷ []
-action_of files s (Ok MaxLik) = Likened ∷ []
-action_of files s (Ok (Load name)) = load_action (found_in files name)
-action_of files s (Ok (Restore name)) = restore_action s.base (found_in files name)
-action_of files s (Ok command.Track) = Tracked ∷ []
-action_of files s (Ok command.Untrack) = Untracked ∷ []
-action_of files s (Ok (command.Limit lo hi)) = Limited lo hi ∷ []
-action_of files s (Ok command.NoLimit) = Unlimited ∷ []
-action_of files s (Ok Blank) = []
-action_of files s (Ok Quit) = []
-action_of files s (Ok (Scan head)) = []
-action_of files s (Ok (Beam p)) = []
-action_of files s (Ok End) = []
-action_of files s (Ok (Get p depth)) = []
-action_of files s (Ok (Cast origin end ignore)) = []
-action_of files s (Ok (command.List lo hi depth)) = []
-action_of files s (Ok command.Changes) = []
-action_of files s (Ok (Save name)) = []
-action_of files s (Ok (Snapshot name)) = []
+action_of files s (Ok command) = kind_action files s (kind_of command)
 action_of files s (Err refusal) = []
 
 -- what is done where the reply isn't a refusal
@@ -164,32 +208,20 @@ pub data FileWork : Type 0 where
   Puts : List ℕ → (State → List ℕ) → FileWork
   Reads : List ℕ → FileWork
 
--- of any other command the files hear nothing
-abbrev pub file_work : Command → Option FileWork
-file_work (Save name) = Some (Puts name classes_file)
-file_work (Load name) = Some (Reads name)
-file_work (Snapshot name) = Some (Puts name snapshot_file)
-file_work (Restore name) = Some (Reads name)
-file_work Blank = None
-file_work Quit = None
-file_work (Scan head) = None
-file_work (Beam p) = None
-file_work End = None
-file_work (Edit p edit lazy) = None
-file_work (Box lo hi edit) = None
-file_work (Get p depth) = None
-file_work (Cast origin end ignore) = None
-file_work Counts = None
-file_work Refresh = None
-file_work Prune = None
-file_work Clear = None
-file_work MaxLik = None
-file_work (command.List lo hi depth) = None
-file_work command.Track = None
-file_work command.Untrack = None
-file_work command.Changes = None
-file_work (command.Limit lo hi) = None
-file_work command.NoLimit = None
+-- what a verb asks of them
+abbrev pub verb_work : FileVerb → List ℕ → FileWork
+verb_work verb.Save name = Puts name classes_file
+verb_work verb.Load name = Reads name
+verb_work verb.Snapshot name = Puts name snapshot_file
+verb_work verb.Restore name = Reads name
+
+-- what does any other command asks nothing of them
+abbrev pub kind_work : Kind → Option FileWork
+kind_work Nothing = None
+kind_work (Opens head) = None
+kind_work (Orders order) = None
+kind_work (Asks question) = None
+kind_work (Names verb name) = Some (verb_work verb name)
 
 -- the bytes that are put under a name
 pub record Saving : Type 0 where
@@ -215,16 +247,20 @@ changed_by (Some (Reads name)) = None
 
 -- what a line asks of the files; a line that isn't in the grammar asks nothing
 abbrev pub asked_of : Result Command Refusal → Option FileWork
-asked_of (Ok command) = file_work command
+asked_of (Ok command) = kind_work (kind_of command)
 asked_of (Err refusal) = None
 
 -- what a command saves, if it saves anything
 abbrev pub saving_of : State → Result Command Refusal → Option Saving
 saving_of s command = saving_by s (asked_of command)
 
+-- the file that is named, if one is
+abbrev pub named_in : Option FileWork → Option (List ℕ)
+named_in work = option_map name_in work
+
 -- the file that a command names, if it names one
 abbrev pub file_named : Result Command Refusal → Option (List ℕ)
-file_named command = option_map name_in (asked_of command)
+file_named command = named_in (asked_of command)
 
 -- the file that a command may change, if it may change one
 abbrev pub file_saved : Result Command Refusal → Option (List ℕ)

@@ -1,4 +1,5 @@
 pub mod Setup
+pub mod Kinds
 pub mod History
 pub mod Refusals
 pub mod FileCommands

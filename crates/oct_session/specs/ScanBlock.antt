@@ -7,7 +7,7 @@ use Rattle.oct_map.specs.declared.fault.MapFault.{MapFault}
 use Rattle.oct_map.specs.declared.done.ScanDone as map_done
 use Rattle.oct_key.specs.declared.point.Point.{Point}
 use Rattle.oct_script.specs.declared.command.Command.{Command}
-use Rattle.oct_script.specs.declared.command.Command.TheVariants.{Scan, Beam, End}
+use Rattle.oct_script.specs.declared.command.Command.TheVariants.{Beam, End}
 use Rattle.oct_script.specs.declared.command.ScanHead.{ScanHead}
 use Rattle.oct_script.specs.declared.reply.Refusal.{Refusal}
 use Rattle.oct_script.specs.declared.reply.Refusal.TheVariants as refusal
@@ -18,6 +18,7 @@ use Rattle.oct_script.specs.Lines.{Line, Text, Long}
 use Rattle.oct_session.specs.Refusals.{fault_reply}
 use Rattle.oct_session.specs.History.{History, State, Scanned}
 use Rattle.oct_session.specs.ScanSoFar.{ScanSoFar, begun, sighting_so_far}
+use Rattle.oct_session.specs.Kinds.{Kind, kind_of, Nothing, Opens, Orders, Asks, Names}
 use Rattle.oct_session.specs.declared.scan_block.ScanBlock.{ScanBlock}
 use Rattle.oct_session.specs.declared.scan_block.ScanBlock.TheVariants.{Scanning, Spoilt}
 
@@ -26,11 +27,18 @@ abbrev pub opens_block : Line → Bool
 opens_block (Text text) = opens_scan text
 opens_block Long = false
 
+-- the block that what does a command opens outside a block
+abbrev pub kind_opened : ℕ → Kind → Option ScanBlock
+kind_opened number (Opens head) = Some (Scanning (begun number head))
+kind_opened number Nothing = None
+kind_opened number (Orders order) = None
+kind_opened number (Asks question) = None
+kind_opened number (Names verb name) = None
+
 -- the block that a line outside a block opens, if it opens one: a head begins its scan, and a
 -- faulty head spoils its block
 abbrev pub opened : ℕ → Line → Result Command Refusal → Option ScanBlock
-opened number line (Ok (Scan head)) = Some (Scanning (begun number head))
-opened number line (Ok _) = None
+opened number line (Ok command) = kind_opened number (kind_of command)
 opened number line (Err refusal) = if opens_block line then Some (Spoilt refusal) else None
 
 -- the block with one point more, which is on the line of this number; a scan has at most 1,000,000

@@ -9,7 +9,7 @@ use Rattle.oct_script.specs.declared.reply.Reply.{Reply}
 use Rattle.oct_script.specs.Lines.{Line, ended_lines, all_lines}
 use Rattle.oct_script.specs.Replies.{text_of, is_refusal}
 use Rattle.oct_session.specs.Commands.{command_on, is_quit, reply, action_of, accepted, Saving}
-use Rattle.oct_session.specs.Commands.{saving_of}
+use Rattle.oct_session.specs.Commands.{saving_of, kind_reply, kind_action, kind_work, saving_by}
 use Rattle.oct_session.specs.Commands.{file_named, asks_for, accepted_saving, stored}
 use Rattle.oct_session.specs.History.{History, State, state_after}
 use Rattle.oct_session.specs.ScanBlock.{opened, with_line, is_end, block_reply, block_action}
@@ -17,6 +17,7 @@ use Rattle.oct_session.specs.ScanBlock.{end_reply}
 use Rattle.oct_session.specs.Setup.{Setup}
 use Rattle.oct_session.specs.Tally.{counted, no_replies}
 use Rattle.oct_session.specs.declared.scan_block.ScanBlock.{ScanBlock}
+use Rattle.oct_session.specs.Kinds.{Kind}
 use Rattle.oct_ending.specs.Answer.{Outcome}
 use Rattle.oct_ending.specs.declared.status.Status.{Status}
 use Rattle.oct_session.specs.declared.tally.Tally.{Tally}
@@ -43,15 +44,24 @@ replied answer actions saving = record {
 abbrev pub silent : ScanBlock → Effect
 silent block = record { reply = None; added = []; saving = None; block = Some block }
 
+-- what something does outside a block that does a command, over these files and in a state
+abbrev pub effect_of_kind : Option Files → State → Kind → Effect
+effect_of_kind files s kind =
+    replied (kind_reply files s kind) (kind_action files s kind) (saving_by s (kind_work kind))
+
 -- what a line's command does outside a block, over these files and in a state
 abbrev pub effect_of_command : Option Files → State → Result Command Refusal → Effect
 effect_of_command files s command =
     replied (reply files s command) (action_of files s command) (saving_of s command)
 
+-- what a line does that opens a block, or does this
+abbrev pub unless_opened : Effect → Option ScanBlock → Effect
+unless_opened effect None = effect
+unless_opened effect (Some block) = silent block
+
 -- what a line does outside a block, by the block that it opens
 abbrev pub effect_opened : Option Files → State → Result Command Refusal → Option ScanBlock → Effect
-effect_opened files s command None = effect_of_command files s command
-effect_opened files s command (Some block) = silent block
+effect_opened files s command opened = unless_opened (effect_of_command files s command) opened
 
 -- what a line does inside a block, by whether it closes it
 abbrev pub effect_inside : State → ℕ → Result Command Refusal → ScanBlock → Effect

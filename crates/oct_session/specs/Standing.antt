@@ -1,15 +1,15 @@
 -- The desk and the session at work: what they hold for the bytes that were taken.
-use Rattle.std.specs.Prelude.{◌≡◌, ℕ, ◌<◌, ◌⊎◌, List, [], ◌∷◌, ◌++◌, length, take, Option, None}
-use Rattle.std.specs.Prelude.{IsSome, Result, Ok, Err, false}
+use Rattle.std.specs.Prelude.{◌≡◌, ℕ, ◌<◌, ◌⊎◌, List, [], ◌∷◌, ◌++◌, length, take, Option, None, Some}
+use Rattle.std.specs.Prelude.{⊤, IsSome, Result, Ok, Err, false}
 use Rattle.oct_io.specs.Files.{Files}
 use Rattle.oct_io.specs.Told.{appended}
 use Rattle.oct_io.specs.declared.sink.SinkFault.{SinkFault}
 use Rattle.oct_io.specs.declared.sink.SinkFault.TheVariants as sink_fault
 use Rattle.oct_io.specs.declared.store.StoreFault.{StoreFault}
 use Rattle.oct_io.specs.declared.store.StoreFault.TheVariants as store_fault
+use Rattle.oct_map.specs.Answers.{IsAnswerOrMemory}
 use Rattle.oct_map.specs.Map.{Map}
-use Rattle.oct_script.specs.declared.command.Command.{Command}
-use Rattle.oct_script.specs.declared.reply.Refusal.{Refusal}
+use Rattle.oct_map.specs.declared.fault.MapFault.{MapFault}
 use Rattle.oct_script.specs.declared.reply.Reply.{Reply}
 use Rattle.oct_script.specs.Lines.{Line, ended_lines, IsReading}
 use Rattle.oct_ending.specs.declared.status.Status.{Status}
@@ -23,11 +23,18 @@ use Rattle.oct_session.specs.Leaving.{StandsFor, StandsForSome, Desk, HasAsked, 
 use Rattle.oct_session.specs.Leaving.{IsLikeAfter, IsTornAfter, IsCutBetween, IsAhead, IsKnown}
 use Rattle.oct_session.specs.Leaving.{IsHalted}
 use Rattle.oct_session.specs.Leaving.{IsHaltedAtEnd, Leaves}
-use Rattle.oct_session.specs.History.{History, State, after_all}
-use Rattle.oct_session.specs.Session.{Progress, Effect, effect_of, next_command, after_line}
+use Rattle.oct_session.specs.History.{History, State, after, after_all}
+use Rattle.oct_session.specs.Session.{Progress, Effect, effect_of, effect_of_kind, next_command}
+use Rattle.oct_session.specs.Session.{after_line}
 use Rattle.oct_session.specs.Session.{progress, closed}
 use Rattle.oct_session.specs.Session.{session, finished, last_progress}
-use Rattle.oct_session.specs.Commands.{reply, action_of, accepted, stored, file_named, file_saved}
+use Rattle.oct_session.specs.Commands.{FileWork, named_in, changed_by, accepted, stored, file_saved}
+use Rattle.oct_session.specs.Commands.{order_answer, order_reply, order_action, question_reply}
+use Rattle.oct_session.specs.Commands.{question_action, verb_work}
+use Rattle.oct_session.specs.declared.kinds.FileVerb.{FileVerb}
+use Rattle.oct_session.specs.Kinds.{Names}
+use Rattle.oct_session.specs.declared.kinds.Order.{Order}
+use Rattle.oct_session.specs.declared.kinds.Question.{Question}
 use Rattle.oct_session.specs.ScanBlock.{block_reply, block_action}
 use Rattle.oct_session.specs.Setup.{Setup}
 use Rattle.oct_ending.specs.Stops.{status_of}
@@ -56,11 +63,23 @@ HasDone reply actions old new (Ok answer) = HasAnswered reply actions old new an
 HasDone reply actions old new (Err fault) =
     (s : State) → StandsFor old s → IsSome (reply s) × StandsFor new s
 
--- a line's command outside a block, which names no file, was answered and done, or memory ran out
-abbrev pub HasObeyed : {E : Type 0} → Map → Map → Result Command Refusal
-    → Result (Option Reply) E → Type 0
-HasObeyed old new command result = (files : Option Files)
-    → HasDone (λ s. reply files s command) (λ s. action_of files s command) old new result
+-- the map did what it was to do, or it refused, or memory ran out
+abbrev pub HasCarriedOut : Map → Map → Order → Result ⊤ MapFault → Type 0
+HasCarriedOut old new order (Ok done) = (s : State) → StandsFor old s
+    → (Ok done ≡ order_answer s order) × StandsFor new (after s (order_action order))
+HasCarriedOut old new order (Err fault) = (s : State) → StandsFor old s
+    → IsAnswerOrMemory (order_answer s order) (Err fault) × IsSome (order_reply s order)
+    × StandsFor new s
+
+-- an order was answered and done, or memory ran out
+abbrev pub HasObeyed : {E : Type 0} → Map → Map → Order → Result (Option Reply) E → Type 0
+HasObeyed old new order result =
+    HasDone (λ s. order_reply s order) (λ s. order_action order ∷ []) old new result
+
+-- a question was answered, or memory ran out
+abbrev pub HasTold : {E : Type 0} → Map → Map → Question → Result (Option Reply) E → Type 0
+HasTold old new question result =
+    HasDone (λ s. question_reply s question) (λ s. question_action question) old new result
 
 -- a block that its `end` has closed was answered and done, or memory ran out
 abbrev pub HasScanned : {E : Type 0} → Map → Map → ScanBlock → Result (Option Reply) E → Type 0
@@ -85,34 +104,38 @@ HasWorked effect old new block (Err fault) =
 abbrev pub FindsTold : Option (List ℕ) → Option Files → Type 0
 FindsTold named files = (named ≡ None) ⊎ IsSome files
 
--- a line with this command had its effect on a map and files that were as some state and some files
--- are: this is the reply, and this the block that is open after it
-abbrev pub TakesEffect : (Option Files → State → Effect) → Result Command Refusal → Map
-    → Option Files → Map → Option Files → Option ScanBlock → Option Reply → Type 0
-TakesEffect effect command old told new untold block answer =
-    (files : Option Files) (s : State) → FindsTold (file_named command) files
-    → IsLike files s old told
+-- a line that asks this of the files had its effect on a map and files that were as some state and
+-- some files are: this is the reply, and this the block that is open after it
+abbrev pub TakesEffect : (Option Files → State → Effect) → Option FileWork → Map → Option Files
+    → Map → Option Files → Option ScanBlock → Option Reply → Type 0
+TakesEffect effect asked old told new untold block answer =
+    (files : Option Files) (s : State) → FindsTold (named_in asked) files → IsLike files s old told
     → (answer ≡ (effect files s).reply) × (block ≡ (effect files s).block)
     × IsLike (stored files (effect files s).saving) (after_all s (effect files s).added) new untold
 
 -- nothing of a line was done, but for the file that it saves where the store failed, which takes a
 -- line that names one
-abbrev pub HasFailed : Result Command Refusal → Option Files → State → Map → Option Files
-    → StoreFault → Type 0
-HasFailed command files s map told store_fault.Failed =
-    IsSome (file_named command) × IsTorn (file_saved command) files s map told
-HasFailed command files s map told store_fault.Memory = IsLike files s map told
+abbrev pub HasFailed : Option FileWork → Option Files → State → Map → Option Files → StoreFault
+    → Type 0
+HasFailed asked files s map told store_fault.Failed =
+    IsSome (named_in asked) × IsTorn (changed_by asked) files s map told
+HasFailed asked files s map told store_fault.Memory = IsLike files s map told
 
 -- a line had its effect, or it failed, and is heard
-abbrev pub HasEffect : (Option Files → State → Effect) → Result Command Refusal → Map
-    → Option Files → Map → Option Files → Option ScanBlock → Result (Option Reply) StoreFault
-    → Type 0
-HasEffect effect command old told new untold block (Ok answer) =
-    TakesEffect effect command old told new untold block answer
-HasEffect effect command old told new untold block (Err fault) =
-    (files : Option Files) (s : State) → FindsTold (file_named command) files
-    → IsLike files s old told
-    → IsHeard (effect files s) × HasFailed command files s new untold fault
+abbrev pub HasEffect : (Option Files → State → Effect) → Option FileWork → Map → Option Files → Map
+    → Option Files → Option ScanBlock → Result (Option Reply) StoreFault → Type 0
+HasEffect effect asked old told new untold block (Ok answer) =
+    TakesEffect effect asked old told new untold block answer
+HasEffect effect asked old told new untold block (Err fault) =
+    (files : Option Files) (s : State) → FindsTold (named_in asked) files → IsLike files s old told
+    → IsHeard (effect files s) × HasFailed asked files s new untold fault
+
+-- what a verb does with the file of this name had its effect, or it failed
+abbrev pub HasUsed : FileVerb → List ℕ → Map → Option Files → Map → Option Files
+    → Result (Option Reply) StoreFault → Type 0
+HasUsed verb name old told new untold result =
+    HasEffect (λ files s. effect_of_kind files s (Names verb name)) (Some (verb_work verb name)) old
+    told new untold None result
 
 -- the next line failed, or all of it was done and memory ran out for its reply
 abbrev pub StandsBeside : Setup → Desk → Progress → Line → StoreFault → Type 0

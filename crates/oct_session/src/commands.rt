@@ -1,15 +1,19 @@
 //! What commands do to the map, and what they answer.
-ghost use Rattle.std.specs.Prelude.{◌≡◌, OnErr, IfOk, Option, Some, None, IsSome, Ok};
+ghost use Rattle.std.specs.Prelude.{◌≡◌, OnErr, IfOk, Option, Some, IsSome};
 ghost use Rattle.oct_odds.specs.Odds.{odds_of};
 ghost use Rattle.oct_odds.specs.Update.{IsSmallEvent};
+ghost use Rattle.oct_map.specs.Map.{Map};
 ghost use Rattle.oct_map.specs.declared.fault.MapFault.{MapFault};
-ghost use Rattle.oct_script.specs.Commands.{IsSmallEdit, IsSmallCommand};
+ghost use Rattle.oct_script.specs.Commands.{IsSmallCommand, IsSmallEdit};
 ghost use Rattle.oct_session.specs.History.{edit_event};
-ghost use Rattle.oct_session.specs.Commands.{file_named, value_reply};
+ghost use Rattle.oct_session.specs.Commands.{map_action, map_reply, value_reply};
+ghost use Rattle.oct_session.specs.Kinds.{kind_of, IsSmallOrder};
 ghost use Rattle.oct_session.specs.Refusals.{refusal_of, fault_reply};
-ghost use Rattle.oct_session.specs.Standing.{with_reply, HasObeyed, HasScanned};
+ghost use Rattle.oct_session.specs.Standing.{with_reply, HasCarriedOut, HasDone, HasObeyed, HasTold};
+ghost use Rattle.oct_session.specs.Standing.{HasScanned};
 
-use crate::scan_block::{PendingScan, ScanBlock};
+use crate::scan_block::{ScanBlock, PendingScan};
+use crate::kinds::{Kind, Order, Question, kind_of};
 use oct_key::Point;
 use oct_map::{MapFault, OccMap};
 use oct_num::Memory;
@@ -83,19 +87,13 @@ pub fn refuse(fault: MapFault, reply: &mut Option<Reply>) -> Result<(), Memory>
     Ok(())
 }
 
-/// Does an edit of the voxel that holds a point, and answers it.
-fn edit(
-    map: &mut OccMap,
-    p: Point,
-    e: Edit,
-    lazy: bool,
-    reply: &mut Option<Reply>,
-) -> Result<(), Memory>
-    requires { IsSmallEdit e }
-    ensures { HasObeyed map.old map.new (Ok (Command.Edit p e lazy)) (with_reply result reply.new) }
+/// Answers `ok` to what the map has done, or why it refuses.
+#[inline(always)]
+fn say(done: Result<(), MapFault>, reply: &mut Option<Reply>) -> Result<(), Memory>
+    ensures { (old new : Map) (order : Order) → HasCarriedOut old new order done
+        → HasObeyed old new order (with_reply result reply.new) }
 {
-    let event = event_of(&map.tree().odds(), e);
-    match map.edit(p, event, lazy) {
+    match done {
         Ok(()) => {
             *reply = Some(Reply::Ok);
             Ok(())
@@ -104,31 +102,55 @@ fn edit(
     }
 }
 
-/// Does an edit of each voxel of a box, and answers it.
-fn edit_box(
-    map: &mut OccMap,
-    lo: Point,
-    hi: Point,
-    e: Edit,
-    reply: &mut Option<Reply>,
-) -> Result<(), Memory>
-    requires { IsSmallEdit e }
-    ensures { HasObeyed map.old map.new (Ok (Command.Box lo hi e))
-        (with_reply result reply.new) }
+/// Has the map do something, and puts its reply in its place. Without memory nothing was done.
+fn obey(map: &mut OccMap, order: Order, reply: &mut Option<Reply>) -> Result<(), Memory>
+    requires { IsSmallOrder order }
+    ensures { HasObeyed map.old map.new order (with_reply result reply.new) }
 {
-    let event = event_of(&map.tree().odds(), e);
-    match map.edit_box(lo, hi, event) {
-        Ok(()) => {
-            *reply = Some(Reply::Ok);
-            Ok(())
+    match order {
+        Order::Edit { p, e, lazy } => {
+            let event = event_of(&map.tree().odds(), e);
+            say(map.edit(p, event, lazy), reply)
         }
-        Err(fault) => refuse(fault, reply),
+        Order::Box { lo, hi, e } => {
+            let event = event_of(&map.tree().odds(), e);
+            say(map.edit_box(lo, hi, event), reply)
+        }
+        Order::Limit { lo, hi } => say(map.limit(lo, hi), reply),
+        Order::NoLimit => {
+            map.no_limit();
+            say(Ok(()), reply)
+        }
+        Order::Refresh => {
+            map.refresh();
+            say(Ok(()), reply)
+        }
+        Order::Prune => {
+            map.prune();
+            say(Ok(()), reply)
+        }
+        Order::Clear => {
+            map.clear();
+            say(Ok(()), reply)
+        }
+        Order::MaxLik => {
+            map.max_likelihood();
+            say(Ok(()), reply)
+        }
+        Order::Track => {
+            map.track();
+            say(Ok(()), reply)
+        }
+        Order::Untrack => {
+            map.untrack();
+            say(Ok(()), reply)
+        }
     }
 }
 
 /// Asks for the value of the block of that depth around a point, and answers it.
 fn query(map: &OccMap, p: Point, depth: u32, reply: &mut Option<Reply>) -> Result<(), Memory>
-    ensures { HasObeyed map.now map.now (Ok (Command.Get p depth)) (with_reply result reply.new) }
+    ensures { HasTold map.now map.now (Question.Get p depth) (with_reply result reply.new) }
 {
     match map.get(p, depth) {
         Ok(value) => {
@@ -147,7 +169,7 @@ fn cast(
     ignore_unknown: bool,
     reply: &mut Option<Reply>,
 ) -> Result<(), Memory>
-    ensures { HasObeyed map.now map.now (Ok (Command.Cast origin end ignore_unknown))
+    ensures { HasTold map.now map.now (Question.Cast origin end ignore_unknown)
         (with_reply result reply.new) }
 {
     match map.cast(origin, end, ignore_unknown) {
@@ -167,7 +189,7 @@ fn list(
     depth: u32,
     reply: &mut Option<Reply>,
 ) -> Result<(), Memory>
-    ensures { HasObeyed map.now map.now (Ok (Command.List lo hi depth))
+    ensures { HasTold map.now map.now (Question.List lo hi depth)
         (with_reply result reply.new) }
 {
     match map.list(lo, hi, depth) {
@@ -184,7 +206,7 @@ fn list(
 
 /// Asks what has changed since the mark, and answers it.
 fn changes(map: &OccMap, reply: &mut Option<Reply>) -> Result<(), Memory>
-    ensures { HasObeyed map.now map.now (Ok Command.Changes) (with_reply result reply.new) }
+    ensures { HasTold map.now map.now Question.Changes (with_reply result reply.new) }
 {
     match map.changes() {
         Ok(changes) => {
@@ -195,132 +217,49 @@ fn changes(map: &OccMap, reply: &mut Option<Reply>) -> Result<(), Memory>
     }
 }
 
-/// Limits scans to a box, and answers it.
-fn limit(map: &mut OccMap, lo: Point, hi: Point, reply: &mut Option<Reply>) -> Result<(), Memory>
-    ensures { HasObeyed map.old map.new (Ok (Command.Limit lo hi))
-        (with_reply result reply.new) }
-{
-    match map.limit(lo, hi) {
-        Ok(()) => {
-            *reply = Some(Reply::Ok);
-            Ok(())
-        }
-        Err(fault) => refuse(fault, reply),
-    }
-}
-
 /// Counts the groups and nodes that the values need, and answers it.
 fn count(map: &mut OccMap, reply: &mut Option<Reply>) -> Result<(), Memory>
-    ensures { HasObeyed map.old map.new (Ok Command.Counts) (with_reply result reply.new) }
+    ensures { HasTold map.old map.new Question.Counts (with_reply result reply.new) }
 {
     let counts = map.counts();
     *reply = Some(Reply::Counted(counts));
     Ok(())
 }
 
-/// Makes inner values right again, and answers it.
-fn refresh(map: &mut OccMap, reply: &mut Option<Reply>) -> Result<(), Memory>
-    ensures { HasObeyed map.old map.new (Ok Command.Refresh) (with_reply result reply.new) }
+/// Asks the map something, and puts its reply in its place. Without memory nothing was done.
+fn ask(map: &mut OccMap, question: Question, reply: &mut Option<Reply>) -> Result<(), Memory>
+    ensures { HasTold map.old map.new question (with_reply result reply.new) }
 {
-    map.refresh();
-    *reply = Some(Reply::Ok);
-    Ok(())
+    match question {
+        Question::Get { p, depth } => query(map, p, depth, reply),
+        Question::List { lo, hi, depth } => list(map, lo, hi, depth, reply),
+        Question::Cast { o, e, ignore } => cast(map, o, e, ignore, reply),
+        Question::Counts => count(map, reply),
+        Question::Changes => changes(map, reply),
+    }
 }
 
-/// Gives back the groups that the values don't need, and answers it.
-fn prune(map: &mut OccMap, reply: &mut Option<Reply>) -> Result<(), Memory>
-    ensures { HasObeyed map.old map.new (Ok Command.Prune) (with_reply result reply.new) }
+/// Has the map do or answer what a command asks of it outside a block, and puts the reply in its
+/// place. Without memory nothing was done.
+#[inline(never)]
+pub fn by_map(map: &mut OccMap, command: &Command, reply: &mut Option<Reply>) -> Result<(), Memory>
+    requires { IsSmallCommand command.now }
+    ensures { HasDone (λ s. map_reply s (kind_of command.now))
+        (λ s. map_action (kind_of command.now)) map.old map.new (with_reply result reply.new) }
 {
-    map.prune();
-    *reply = Some(Reply::Ok);
-    Ok(())
-}
-
-/// Makes each voxel unknown, and answers it.
-fn clear(map: &mut OccMap, reply: &mut Option<Reply>) -> Result<(), Memory>
-    ensures { HasObeyed map.old map.new (Ok Command.Clear) (with_reply result reply.new) }
-{
-    map.clear();
-    *reply = Some(Reply::Ok);
-    Ok(())
-}
-
-/// Makes each known voxel as sure as it can be, and answers it.
-fn max_likelihood(map: &mut OccMap, reply: &mut Option<Reply>) -> Result<(), Memory>
-    ensures { HasObeyed map.old map.new (Ok Command.MaxLik) (with_reply result reply.new) }
-{
-    map.max_likelihood();
-    *reply = Some(Reply::Ok);
-    Ok(())
-}
-
-/// Sets the mark, and answers it.
-fn track(map: &mut OccMap, reply: &mut Option<Reply>) -> Result<(), Memory>
-    ensures { HasObeyed map.old map.new (Ok Command.Track) (with_reply result reply.new) }
-{
-    map.track();
-    *reply = Some(Reply::Ok);
-    Ok(())
-}
-
-/// Takes the mark away, and answers it.
-fn untrack(map: &mut OccMap, reply: &mut Option<Reply>) -> Result<(), Memory>
-    ensures { HasObeyed map.old map.new (Ok Command.Untrack) (with_reply result reply.new) }
-{
-    map.untrack();
-    *reply = Some(Reply::Ok);
-    Ok(())
-}
-
-/// Ends the limit of scans, and answers it.
-fn no_limit(map: &mut OccMap, reply: &mut Option<Reply>) -> Result<(), Memory>
-    ensures { HasObeyed map.old map.new (Ok Command.NoLimit) (with_reply result reply.new) }
-{
-    map.no_limit();
-    *reply = Some(Reply::Ok);
-    Ok(())
-}
-
-/// Does what a command says that names no file, and puts its reply in its place. Without memory
-/// nothing was done.
-pub fn obey(map: &mut OccMap, command: &Command, reply: &mut Option<Reply>) -> Result<(), Memory>
-    requires small { IsSmallCommand command.now }
-    requires unnamed { file_named (Ok command.now) ≡ None }
-    ensures { HasObeyed map.old map.new (Ok command.now) (with_reply result reply.new) }
-{
-    match command {
-        Command::Edit { p, e, lazy } => edit(map, *p, *e, *lazy, reply),
-        Command::Get { p, depth } => query(map, *p, *depth, reply),
-        Command::Cast { o, e, ignore } => cast(map, *o, *e, *ignore, reply),
-        Command::Box { lo, hi, e } => edit_box(map, *lo, *hi, *e, reply),
-        Command::List { lo, hi, depth } => list(map, *lo, *hi, *depth, reply),
-        Command::Limit { lo, hi } => limit(map, *lo, *hi, reply),
-        Command::NoLimit => no_limit(map, reply),
-        Command::Counts => count(map, reply),
-        Command::Refresh => refresh(map, reply),
-        Command::Prune => prune(map, reply),
-        Command::Clear => clear(map, reply),
-        Command::MaxLik => max_likelihood(map, reply),
-        Command::Track => track(map, reply),
-        Command::Untrack => untrack(map, reply),
-        Command::Changes => changes(map, reply),
-        Command::Blank | Command::Quit => {
+    match kind_of(command) {
+        Kind::Orders(order) => obey(map, order, reply),
+        Kind::Asks(question) => ask(map, question, reply),
+        Kind::Rests(_) => {
             *reply = None;
             Ok(())
         }
-        Command::Scan(_) | Command::Beam(_) | Command::End => {
-            *reply = None;
-            Ok(())
-        }
-        Command::Save(_) | Command::Load(_) => unreachable!(),
-        Command::Snapshot(_) | Command::Restore(_) => unreachable!(),
     }
 }
 
 /// Does a scan whose points have all been read, and answers it.
 fn scan(map: &mut OccMap, pending: PendingScan, reply: &mut Option<Reply>) -> Result<(), Memory>
-    ensures { HasScanned map.old map.new (ScanBlock.Scanning pending)
-        (with_reply result reply.new) }
+    ensures { HasScanned map.old map.new (ScanBlock.Scanning pending) (with_reply result reply.new) }
 {
     let lazy = pending.is_lazy();
     let Ok(scan) = pending.into_scan() else {

@@ -8,16 +8,15 @@ ghost use Rattle.oct_io.specs.Counts.{IsAskCounted};
 ghost use Rattle.oct_map.specs.Map.{values_of};
 ghost use Rattle.oct_snap.specs.Reading.{read_snapshot};
 ghost use Rattle.oct_snap.specs.Texts.{snap_text};
-ghost use Rattle.oct_script.specs.declared.command.Command.{Command};
 ghost use Rattle.oct_session.specs.FileCommands.{load_action, load_reply, reading_action};
 ghost use Rattle.oct_session.specs.FileCommands.{reading_reply};
 ghost use Rattle.oct_session.specs.FileCommands.{restore_action, restore_reply, snapshot_action};
 ghost use Rattle.oct_session.specs.FileCommands.{snapshot_reply};
 ghost use Rattle.oct_session.specs.Refusals.{file_refusal, word_of};
-ghost use Rattle.oct_session.specs.Session.{effect_of_command};
-ghost use Rattle.oct_session.specs.Standing.{with_reply, HasDone, HasEffect, KeepsStanding};
+ghost use Rattle.oct_session.specs.Standing.{with_reply, HasDone, HasUsed, KeepsStanding};
 
 use crate::commands::refuse;
+use crate::kinds::FileVerb;
 use oct_bt::{BtFault, BtFile, read_classes, write};
 use oct_io::{CalmSink, Loaded, Store, StoreFault};
 use oct_map::OccMap;
@@ -42,16 +41,15 @@ fn write_classes(alloc: Global, map: &OccMap) -> Result<CalmSink, Memory>
 }
 
 /// Puts the file of the map's classes under a name of the store, and answers its length.
-pub fn save<F: Store>(
+fn save<F: Store>(
     alloc: Global,
     map: &OccMap,
     store: &mut F,
     name: &Name,
     reply: &mut Option<Reply>,
 ) -> Result<(), StoreFault>
-    ensures effect { HasEffect (λ files s. effect_of_command files s (Ok (Command.Save name.now)))
-        (Ok (Command.Save name.now)) map.now (F.files store.old) map.now
-        (F.files store.new) None (with_reply result reply.new) }
+    ensures effect { HasUsed FileVerb.Save name.now map.now (F.files store.old) map.now
+        (F.files store.new) (with_reply result reply.new) }
     ensures store_counts { IsAskCounted result (F.faults store.old) (F.faults store.new) }
     ensures called { F.calls store.new ≤ F.calls store.old + 1 }
 {
@@ -156,16 +154,15 @@ fn take_in(
 }
 
 /// Loads the file of this name of the store, and answers it.
-pub fn load<F: Store>(
+fn load<F: Store>(
     alloc: Global,
     map: &mut OccMap,
     store: &mut F,
     name: &Name,
     reply: &mut Option<Reply>,
 ) -> Result<(), StoreFault>
-    ensures effect { HasEffect (λ files s. effect_of_command files s (Ok (Command.Load name.now)))
-        (Ok (Command.Load name.now)) map.old (F.files store.old) map.new
-        (F.files store.new) None (with_reply result reply.new) }
+    ensures effect { HasUsed FileVerb.Load name.now map.old (F.files store.old) map.new
+        (F.files store.new) (with_reply result reply.new) }
     ensures stands { KeepsStanding map.old map.new }
     ensures store_counts { IsAskCounted result (F.faults store.old) (F.faults store.new) }
     ensures called { F.calls store.new ≤ F.calls store.old + 1 }
@@ -188,17 +185,15 @@ fn write_snapshot(alloc: Global, map: &OccMap) -> Result<CalmSink, Memory>
 }
 
 /// Puts the snapshot of the map under a name of the store, and answers its length.
-pub fn snapshot<F: Store>(
+fn snapshot<F: Store>(
     alloc: Global,
     map: &OccMap,
     store: &mut F,
     name: &Name,
     reply: &mut Option<Reply>,
 ) -> Result<(), StoreFault>
-    ensures effect { HasEffect
-        (λ files s. effect_of_command files s (Ok (Command.Snapshot name.now)))
-        (Ok (Command.Snapshot name.now)) map.now (F.files store.old) map.now
-        (F.files store.new) None (with_reply result reply.new) }
+    ensures effect { HasUsed FileVerb.Snapshot name.now map.now (F.files store.old) map.now
+        (F.files store.new) (with_reply result reply.new) }
     ensures store_counts { IsAskCounted result (F.faults store.old) (F.faults store.new) }
     ensures called { F.calls store.new ≤ F.calls store.old + 1 }
 {
@@ -243,17 +238,15 @@ fn take_back(map: &mut OccMap, loaded: Loaded, reply: &mut Option<Reply>) -> Res
 }
 
 /// Restores the snapshot of this name of the store, and answers it.
-pub fn restore<F: Store>(
+fn restore<F: Store>(
     alloc: Global,
     map: &mut OccMap,
     store: &mut F,
     name: &Name,
     reply: &mut Option<Reply>,
 ) -> Result<(), StoreFault>
-    ensures effect { HasEffect
-        (λ files s. effect_of_command files s (Ok (Command.Restore name.now)))
-        (Ok (Command.Restore name.now)) map.old (F.files store.old) map.new
-        (F.files store.new) None (with_reply result reply.new) }
+    ensures effect { HasUsed FileVerb.Restore name.now map.old (F.files store.old) map.new
+        (F.files store.new) (with_reply result reply.new) }
     ensures stands { KeepsStanding map.old map.new }
     ensures store_counts { IsAskCounted result (F.faults store.old) (F.faults store.new) }
     ensures called { F.calls store.new ≤ F.calls store.old + 1 }
@@ -261,4 +254,27 @@ pub fn restore<F: Store>(
     let loaded = store.load(alloc, name.as_str())?;
     take_back(map, loaded, reply)?;
     Ok(())
+}
+
+/// Does what a verb says with the file of this name of the store, and answers it.
+pub fn use_file<F: Store>(
+    alloc: Global,
+    map: &mut OccMap,
+    store: &mut F,
+    verb: FileVerb,
+    name: &Name,
+    reply: &mut Option<Reply>,
+) -> Result<(), StoreFault>
+    ensures effect { HasUsed verb name.now map.old (F.files store.old) map.new
+        (F.files store.new) (with_reply result reply.new) }
+    ensures stands { KeepsStanding map.old map.new }
+    ensures store_counts { IsAskCounted result (F.faults store.old) (F.faults store.new) }
+    ensures called { F.calls store.new ≤ F.calls store.old + 1 }
+{
+    match verb {
+        FileVerb::Save => save(alloc, map, store, name, reply),
+        FileVerb::Load => load(alloc, map, store, name, reply),
+        FileVerb::Snapshot => snapshot(alloc, map, store, name, reply),
+        FileVerb::Restore => restore(alloc, map, store, name, reply),
+    }
 }

@@ -60,10 +60,11 @@
 //! before a line that may name a file, where 4,096 bytes are held, and where a line fails. Their
 //! room stays, so that a reply allocates only where more is held than ever before. `lines` says
 //! what a line does, inside a block and outside, and keeps a place for its command and for its
-//! reply, so that neither is moved from call to call; `block` keeps the head and the points of the
-//! scan that is being read, or its first fault; `commands` does each command and each scan on the
-//! map, and makes the map's answer a reply; `files` does the commands that name a file, on map and
-//! store. `options` holds what a session is set up with. `building` writes the file of a script's
+//! reply, so that neither is moved from call to call; `kinds` tells the commands apart, once, by
+//! what does them; `block` keeps the head and the points of the scan that is being read, or its
+//! first fault; `commands` has the map do what it's ordered, answer what it's asked and take in
+//! scans, makes replies of what it says, and tells what is left to be done; `files` does what a
+//! verb says with a file, on map and store. `options` holds what a session is set up with. `building` writes the file of a script's
 //! map in place of the replies, and `drilling` four lines about the session over a script that
 //! `oct_gen` makes; `tally` has what its replies come to.
 //!
@@ -76,14 +77,15 @@
 //! `oct_values` for voxels, their values and what events make of them.
 #![tactic(auto)]
 
+mod scan_block;
 mod building;
 mod commands;
 mod drilling;
 mod files;
 mod held;
+mod kinds;
 mod lines;
 mod options;
-mod scan_block;
 mod service;
 mod session;
 mod tally;

@@ -4,15 +4,16 @@ ghost use Rattle.oct_io.specs.Counts.{IsAskCounted};
 ghost use Rattle.oct_script.specs.Commands.{IsSmallCommand};
 ghost use Rattle.oct_script.specs.Lines.{Line};
 ghost use Rattle.oct_ending.specs.Counts.{IsAsked};
-ghost use Rattle.oct_session.specs.Commands.{asks_for, command_on, file_named, is_quit};
+ghost use Rattle.oct_session.specs.Commands.{asked_of, asks_for, command_on, file_named, is_quit};
 ghost use Rattle.oct_session.specs.ScanBlock.{is_end, opened, spoilt_by, spoilt_reply};
-ghost use Rattle.oct_session.specs.Session.{effect_of_command, effect_opened, effect_inside};
+ghost use Rattle.oct_session.specs.Session.{effect_opened, effect_inside};
 ghost use Rattle.oct_session.specs.Session.{effect};
 ghost use Rattle.oct_session.specs.Standing.{with_reply, HasEffect, HasWorked, KeepsStanding};
 
-use crate::commands::{finish, obey};
-use crate::files::{load, restore, save, snapshot};
 use crate::scan_block::{ScanBlock, open_scan, spoil};
+use crate::commands::{by_map, finish};
+use crate::files::use_file;
+use crate::kinds::{Rest, rest_of};
 use oct_io::{Store, StoreFault};
 use oct_map::OccMap;
 use oct_num::Memory;
@@ -33,35 +34,6 @@ fn is_quit(command: &Command) -> bool
     matches!(command, Command::Quit)
 }
 
-/// Does what a command outside a block says, and puts its reply in its place.
-fn perform<F: Store>(
-    alloc: Global,
-    map: &mut OccMap,
-    store: &mut F,
-    command: &Command,
-    reply: &mut Option<Reply>,
-) -> Result<(), StoreFault>
-    requires { IsSmallCommand command.now }
-    ensures effect { HasEffect (λ files s. effect_of_command files s (Ok command.now))
-        (Ok command.now) map.old (F.files store.old) map.new (F.files store.new)
-        None (with_reply result reply.new) }
-    ensures stands { KeepsStanding map.old map.new }
-    ensures asked { IsAsked (store.new ≡ store.old) (F.calls store.old) (F.calls store.new)
-        (asks_for (file_named (Ok command.now))) }
-    ensures store_counts { IsAskCounted result (F.faults store.old) (F.faults store.new) }
-{
-    match command {
-        Command::Save(name) => save(alloc, map, store, name, reply),
-        Command::Load(name) => load(alloc, map, store, name, reply),
-        Command::Snapshot(name) => snapshot(alloc, map, store, name, reply),
-        Command::Restore(name) => restore(alloc, map, store, name, reply),
-        _ => {
-            obey(map, command, reply)?;
-            Ok(())
-        }
-    }
-}
-
 /// What a command does outside a block.
 fn outside<F: Store>(
     alloc: Global,
@@ -76,20 +48,21 @@ fn outside<F: Store>(
     requires closed { block.old ≡ None }
     ensures effect { (line : Line) → HasEffect
         (λ files s. effect_opened files s (Ok command.now) (opened number line (Ok command.now)))
-        (Ok command.now) map.old (F.files store.old) map.new (F.files store.new)
+        (asked_of (Ok command.now)) map.old (F.files store.old) map.new (F.files store.new)
         block.new (with_reply result reply.new) }
     ensures stands { KeepsStanding map.old map.new }
     ensures asked { IsAsked (store.new ≡ store.old) (F.calls store.old) (F.calls store.new)
         (asks_for (file_named (Ok command.now))) }
     ensures store_counts { IsAskCounted result (F.faults store.old) (F.faults store.new) }
 {
-    match command {
-        Command::Scan(head) => {
-            open_scan(alloc, number, *head, block);
-            *reply = None;
+    by_map(map, command, reply)?;
+    match rest_of(command) {
+        Rest::Nothing => Ok(()),
+        Rest::Opens(head) => {
+            open_scan(alloc, number, head, block);
             Ok(())
         }
-        _ => perform(alloc, map, store, command, reply),
+        Rest::Names(verb, name) => use_file(alloc, map, store, verb, name, reply),
     }
 }
 
@@ -130,7 +103,7 @@ fn take_command<F: Store>(
     requires { IsSmallCommand command.now }
     ensures effect { (line : Line) → HasEffect
         (λ files s. effect files s number line (Ok command.now) block.old)
-        (Ok command.now) map.old (F.files store.old) map.new (F.files store.new)
+        (asked_of (Ok command.now)) map.old (F.files store.old) map.new (F.files store.new)
         block.new (with_reply result reply.new) }
     ensures stands { KeepsStanding map.old map.new }
     ensures asked { IsAsked (store.new ≡ store.old) (F.calls store.old) (F.calls store.new)
@@ -182,12 +155,7 @@ fn take_misspelt(
 }
 
 /// What a line does that is too long to be read.
-fn take_long(
-    line: &ReadLine<'_>,
-    number: u64,
-    block: &mut Option<ScanBlock>,
-    reply: &mut Option<Reply>,
-)
+fn take_long(line: &ReadLine<'_>, number: u64, block: &mut Option<ScanBlock>, reply: &mut Option<Reply>)
     ensures block { block.new ≡ spoilt_by number line.now (Refusal.LongLine number) block.old }
     ensures reply { reply.new ≡ spoilt_reply (Refusal.LongLine number) block.new }
 {
@@ -208,7 +176,7 @@ pub fn take_line<F: Store>(
 ) -> Result<bool, StoreFault>
     ensures effect { let command = command_on (is_some block.old) number line.now in
         HasEffect (λ files s. effect files s number line.now command block.old)
-        command map.old (F.files store.old) map.new (F.files store.new)
+        (asked_of command) map.old (F.files store.old) map.new (F.files store.new)
         block.new (with_reply result reply.new) }
     ensures quits { IfOk result (λ quits. quits
         ≡ is_quit (command_on (is_some block.old) number line.now)) }

@@ -7,6 +7,7 @@ ghost use Rattle.oct_script.specs.Commands.{IsOwnOdds, IsRange, IsSmallCommand};
 ghost use Rattle.oct_session.specs.ScanSoFar.{begun, sighting_so_far, trust_of};
 ghost use Rattle.oct_session.specs.ScanBlock.{opens_block, with_point, with_line, spoilt_by};
 ghost use Rattle.oct_session.specs.ScanBlock.{is_zero, end_refusal};
+ghost use Rattle.oct_session.specs.Kinds.{IsSmallHead};
 
 use oct_key::{Point, PointList};
 use oct_num::Memory;
@@ -171,11 +172,11 @@ fn opens_block(line: &ReadLine<'_>) -> bool
 }
 
 /// Opens the block of a scan with this head.
-pub fn open_scan(alloc: Global, number: u64, head: ScanHead, block: &mut Option<ScanBlock>)
-    requires { IsSmallCommand (Command.Scan head) }
-    ensures { block.new ≡ Some (ScanBlock.Scanning (begun number head)) }
+pub fn open_scan(alloc: Global, number: u64, head: &ScanHead, block: &mut Option<ScanBlock>)
+    requires { IsSmallHead head.now }
+    ensures { block.new ≡ Some (ScanBlock.Scanning (begun number head.now)) }
 {
-    *block = Some(ScanBlock::Scanning(PendingScan::new(alloc, number, head)));
+    *block = Some(ScanBlock::Scanning(PendingScan::new(alloc, number, *head)));
 }
 
 /// Spoils the block that is open, or the one that a faulty line opens.

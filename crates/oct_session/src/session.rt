@@ -19,10 +19,10 @@ ghost use Rattle.oct_session.specs.Standing.{HasReached, HasHeld, IsAt, Adds, Ta
 ghost use Rattle.oct_session.specs.Standing.{IsCutBy};
 ghost use Rattle.oct_session.specs.Standing.{Halts, HaltsHeld, StopsAtEnd};
 
+use crate::scan_block::ScanBlock;
 use crate::held::{MOST_HELD, flush, hold_few, make_way, tell};
 use crate::lines::take_line;
 use crate::options::Options;
-use crate::scan_block::ScanBlock;
 use crate::tally::Tally;
 use oct_ending::Stop;
 use oct_io::{Sink, SinkFault, Store, StoreFault};

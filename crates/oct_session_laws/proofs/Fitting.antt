@@ -19,7 +19,7 @@ use Rattle.oct_key.specs.Values.{Values}
 use Rattle.oct_key.specs.declared.point.Point.{Point}
 use Rattle.oct_key.proofs.Faces.{IsInMap-key_at}
 use Rattle.oct_map.specs.Answers.{edit_answer_at, edit_need, room_answer, scan_answer_by, is_full}
-use Rattle.oct_map.specs.Answers.{box_answer_by, box_fault, wide_fault, most_noted, limit_answer}
+use Rattle.oct_map.specs.Answers.{box_answer_by, box_fault, wide_fault, most_noted}
 use Rattle.oct_map.specs.Outcome.{outcome_of, need_of, done_of, corner_need, corner_events}
 use Rattle.oct_map.specs.declared.fault.MapFault.{MapFault}
 use Rattle.oct_map.specs.declared.fault.MapFault.TheVariants as fault
@@ -36,7 +36,6 @@ use Rattle.oct_scan.specs.declared.fault.ScanFault.TheVariants as scan_fault_of
 use Rattle.oct_script.specs.Lines.{Line}
 use Rattle.oct_script.specs.Replies.{is_refusal}
 use Rattle.oct_script.specs.declared.command.Command.{Command}
-use Rattle.oct_script.specs.declared.command.Command.TheVariants as command
 use Rattle.oct_script.specs.declared.command.Edit.{Edit}
 use Rattle.oct_script.specs.declared.reply.Refusal.{Refusal}
 use Rattle.oct_script.specs.declared.reply.Refusal.TheVariants as refusal
@@ -52,7 +51,16 @@ use Rattle.oct_values.proofs.Kept.{groups_after_events, groups_after_all, groups
 use Rattle.oct_values.proofs.Listed.{all_above_voxels}
 use Rattle.oct_values.proofs.Sums.{All-follows, sum_by-each_le, sum_by-counted, sum_by-none}
 use Rattle.oct_values.proofs.Uniform.{uniform_of, same_group_count}
-use Rattle.oct_session.specs.Commands.{reply, action_of, accepted, edit_reply}
+use Rattle.oct_session.specs.Commands.{reply, action_of, accepted, edit_reply, kind_reply}
+use Rattle.oct_session.specs.Commands.{kind_action, order_reply, order_action, question_reply}
+use Rattle.oct_session.specs.Commands.{question_action, verb_reply, verb_action}
+use Rattle.oct_session.specs.declared.kinds.Order.{Order}
+use Rattle.oct_session.specs.declared.kinds.Order.TheVariants as order
+use Rattle.oct_session.specs.declared.kinds.Question.{Question}
+use Rattle.oct_session.specs.declared.kinds.Question.TheVariants as question
+use Rattle.oct_session.specs.declared.kinds.FileVerb.{FileVerb}
+use Rattle.oct_session.specs.declared.kinds.FileVerb.TheVariants as verb
+use Rattle.oct_session.specs.Kinds.{Kind, kind_of, Nothing, Opens, Orders, Asks, Names}
 use Rattle.oct_session.specs.History.{History, State, Edited, Scanned}
 use Rattle.oct_session.specs.History.{Cleared, Likened, Replaced, Restored, class_event, edit_event}
 use Rattle.oct_session.specs.History.{after, after_all, start_state, state_after, value_after}
@@ -293,40 +301,49 @@ either_fits s r actions fits done =
     elim (is_refusal r) as (λ b. Fits (after_all s (cond {A = History} b [] actions)))
     [ true ↦ fits | false ↦ done ]
 
+order_fits : (s : State) (o : Order) → Fits s
+    → Fits (after_all s (accepted (order_reply s o) (order_action o ∷ [])))
+order_fits s (order.Edit p e lazy) fits =
+    edit_fits_at s p e lazy (key_at s.base.res p) refl fits
+order_fits s (order.Box lo hi e) fits =
+    box_fits_at s lo hi e (key_at s.base.res lo) (key_at s.base.res hi) refl refl fits
+order_fits s (order.Limit lo hi) fits =
+    either_fits s (order_reply s (order.Limit lo hi)) (Limited lo hi ∷ []) fits fits
+order_fits s order.NoLimit fits = fits
+order_fits s order.Refresh fits = fits
+order_fits s order.Prune fits = fits
+order_fits s order.Clear fits = clear_fits s
+order_fits s order.MaxLik fits = likely_fits s fits
+order_fits s order.Track fits = fits
+order_fits s order.Untrack fits = fits
+
+question_fits : (s : State) (q : Question) → Fits s → Fits (after_all s (question_action q))
+question_fits s (question.Get p depth) fits = fits
+question_fits s (question.List lo hi depth) fits = fits
+question_fits s (question.Cast o e ignore) fits = fits
+question_fits s question.Counts fits = fits
+question_fits s question.Changes fits = fits
+
+verb_fits : (files : Option Files) (s : State) (v : FileVerb) (name : List ℕ) → Fits s
+    → Fits (after_all s (accepted (verb_reply files s v name) (verb_action files s v name)))
+verb_fits files s verb.Save name fits = fits
+verb_fits files s verb.Load name fits = load_fits s (found_in files name) fits
+verb_fits files s verb.Snapshot name fits = fits
+verb_fits files s verb.Restore name fits = restore_fits s (found_in files name) fits
+
+kind_fits : (files : Option Files) (s : State) (k : Kind) → Fits s
+    → Fits (after_all s (accepted (kind_reply files s k) (kind_action files s k)))
+kind_fits files s Nothing fits = fits
+kind_fits files s (Opens head) fits = fits
+kind_fits files s (Orders o) fits = order_fits s o fits
+kind_fits files s (Asks q) fits =
+    either_fits s (question_reply s q) (question_action q) fits (question_fits s q fits)
+kind_fits files s (Names v name) fits = verb_fits files s v name fits
+
 command_fits : (files : Option Files) (s : State) (c : Result Command Refusal) → Fits s
     → Fits (after_all s (accepted (reply files s c) (action_of files s c)))
 command_fits files s (Err refusal) fits = fits
-command_fits files s (Ok command.Blank) fits = fits
-command_fits files s (Ok (command.Edit p e lazy)) fits =
-    edit_fits_at s p e lazy (key_at s.base.res p) refl fits
-command_fits files s (Ok (command.Box lo hi e)) fits =
-    box_fits_at s lo hi e (key_at s.base.res lo) (key_at s.base.res hi) refl refl fits
-command_fits files s (Ok (command.Scan head)) fits = fits
-command_fits files s (Ok (command.Beam p)) fits = fits
-command_fits files s (Ok command.End) fits = fits
-command_fits files s (Ok (command.Get p depth)) fits =
-    none_fits s (reply files s (Ok (command.Get p depth))) fits
-command_fits files s (Ok (command.Cast o e ignore)) fits =
-    none_fits s (reply files s (Ok (command.Cast o e ignore))) fits
-command_fits files s (Ok command.Counts) fits = fits
-command_fits files s (Ok command.Refresh) fits = fits
-command_fits files s (Ok command.Prune) fits = fits
-command_fits files s (Ok command.Clear) fits = clear_fits s
-command_fits files s (Ok command.MaxLik) fits = likely_fits s fits
-command_fits files s (Ok command.Quit) fits = fits
-command_fits files s (Ok (command.Save name)) fits = fits
-command_fits files s (Ok (command.Load name)) fits = load_fits s (found_in files name) fits
-command_fits files s (Ok (command.Snapshot name)) fits = fits
-command_fits files s (Ok (command.Restore name)) fits = restore_fits s (found_in files name) fits
-command_fits files s (Ok (command.List lo hi depth)) fits =
-    none_fits s (reply files s (Ok (command.List lo hi depth))) fits
-command_fits files s (Ok command.Track) fits = fits
-command_fits files s (Ok command.Untrack) fits = fits
-command_fits files s (Ok command.Changes) fits =
-    none_fits s (reply files s (Ok command.Changes)) fits
-command_fits files s (Ok (command.Limit lo hi)) fits =
-    either_fits s (edit_reply (limit_answer s.base lo hi)) (Limited lo hi ∷ []) fits fits
-command_fits files s (Ok command.NoLimit) fits = fits
+command_fits files s (Ok command) fits = kind_fits files s (kind_of command) fits
 
 -- the scan's own fault, and room for it
 scan_fits_by : (s : State) (seen : Sighting) (lazy : Bool) (own : Option ScanFault)
@@ -366,8 +383,8 @@ block_fits s (Scanning scan) fits = elim (is_zero scan.head)
           (fault_known s.base.res (sighting_so_far scan) s.base.max_cells) fits
     ]
 
-opened_fits : (files : Option Files) (s : State) (c : Result Command Refusal)
-    (block : Option ScanBlock) → Fits s → Fits (after_all s (effect_opened files s c block).added)
+opened_fits : (files : Option Files) (s : State) (c : Result Command Refusal) (block : Option ScanBlock)
+    → Fits s → Fits (after_all s (effect_opened files s c block).added)
 opened_fits files s c None fits = command_fits files s c fits
 opened_fits files s c (Some block) fits = fits
 

@@ -12,12 +12,19 @@ use Rattle.oct_odds.specs.Odds.{Odds, IsSound}
 use Rattle.oct_script.specs.Lines.{Line}
 use Rattle.oct_script.specs.Replies.{is_refusal}
 use Rattle.oct_script.specs.declared.command.Command.{Command}
-use Rattle.oct_script.specs.declared.command.Command.TheVariants as command
 use Rattle.oct_script.specs.declared.reply.Refusal.{Refusal}
 use Rattle.oct_script.specs.declared.reply.Reply.{Reply}
 use Rattle.oct_snap.specs.Reading.{Snapshot, read_snapshot}
 use Rattle.oct_snap.specs.declared.fault.SnapFault.{SnapFault}
-use Rattle.oct_session.specs.Commands.{reply, action_of, accepted}
+use Rattle.oct_session.specs.Commands.{reply, action_of, accepted, kind_action, order_action}
+use Rattle.oct_session.specs.Commands.{question_action, verb_action}
+use Rattle.oct_session.specs.declared.kinds.Order.{Order}
+use Rattle.oct_session.specs.declared.kinds.Order.TheVariants as order
+use Rattle.oct_session.specs.declared.kinds.Question.{Question}
+use Rattle.oct_session.specs.declared.kinds.Question.TheVariants as question
+use Rattle.oct_session.specs.declared.kinds.FileVerb.{FileVerb}
+use Rattle.oct_session.specs.declared.kinds.FileVerb.TheVariants as verb
+use Rattle.oct_session.specs.Kinds.{Kind, kind_of, Nothing, Opens, Orders, Asks, Names}
 use Rattle.oct_session.specs.FileCommands.{found_in, load_action, reading_action, restore_action}
 use Rattle.oct_session.specs.FileCommands.{snapshot_action}
 use Rattle.oct_session.specs.History.{History, State, Action, Edited, Boxed, Scanned, Refreshed}
@@ -91,33 +98,44 @@ restore_fine s (Some TooLarge) is = tt
 restore_fine s (Some (Bytes bytes)) is =
     snapshot_are_fine s.base.odds bytes (read_snapshot s.base.odds bytes) is refl
 
+order_fine : (o : Order) → IsFine (order_action o)
+order_fine (order.Edit p e lazy) = tt
+order_fine (order.Box lo hi e) = tt
+order_fine (order.Limit lo hi) = tt
+order_fine order.NoLimit = tt
+order_fine order.Refresh = tt
+order_fine order.Prune = tt
+order_fine order.Clear = tt
+order_fine order.MaxLik = tt
+order_fine order.Track = tt
+order_fine order.Untrack = tt
+
+question_fine : (q : Question) → AreFine (question_action q)
+question_fine (question.Get p depth) = tt
+question_fine (question.List lo hi depth) = tt
+question_fine (question.Cast o e ignore) = tt
+question_fine question.Counts = (tt, tt)
+question_fine question.Changes = tt
+
+verb_fine : (files : Option Files) (s : State) (v : FileVerb) (name : List ℕ) → IsModel s
+    → AreFine (verb_action files s v name)
+verb_fine files s verb.Save name is = tt
+verb_fine files s verb.Load name is = load_fine (found_in files name)
+verb_fine files s verb.Snapshot name is = tt
+verb_fine files s verb.Restore name is = restore_fine s (found_in files name) is
+
+kind_fine : (files : Option Files) (s : State) (k : Kind) → IsModel s
+    → AreFine (kind_action files s k)
+kind_fine files s Nothing is = tt
+kind_fine files s (Opens head) is = tt
+kind_fine files s (Orders o) is = (order_fine o, tt)
+kind_fine files s (Asks q) is = question_fine q
+kind_fine files s (Names v name) is = verb_fine files s v name is
+
 command_fine : (files : Option Files) (s : State) (c : Result Command Refusal) → IsModel s
     → AreFine (action_of files s c)
 command_fine files s (Err refusal) is = tt
-command_fine files s (Ok command.Blank) is = tt
-command_fine files s (Ok (command.Edit p e lazy)) is = (tt, tt)
-command_fine files s (Ok (command.Box lo hi e)) is = (tt, tt)
-command_fine files s (Ok (command.Scan head)) is = tt
-command_fine files s (Ok (command.Beam p)) is = tt
-command_fine files s (Ok command.End) is = tt
-command_fine files s (Ok (command.Get p depth)) is = tt
-command_fine files s (Ok (command.Cast o e ignore)) is = tt
-command_fine files s (Ok command.Counts) is = (tt, tt)
-command_fine files s (Ok command.Refresh) is = (tt, tt)
-command_fine files s (Ok command.Prune) is = (tt, tt)
-command_fine files s (Ok command.Clear) is = (tt, tt)
-command_fine files s (Ok command.MaxLik) is = (tt, tt)
-command_fine files s (Ok command.Quit) is = tt
-command_fine files s (Ok (command.Save name)) is = tt
-command_fine files s (Ok (command.Load name)) is = load_fine (found_in files name)
-command_fine files s (Ok (command.Snapshot name)) is = tt
-command_fine files s (Ok (command.Restore name)) is = restore_fine s (found_in files name) is
-command_fine files s (Ok (command.List lo hi depth)) is = tt
-command_fine files s (Ok command.Track) is = (tt, tt)
-command_fine files s (Ok command.Untrack) is = (tt, tt)
-command_fine files s (Ok command.Changes) is = tt
-command_fine files s (Ok (command.Limit lo hi)) is = (tt, tt)
-command_fine files s (Ok command.NoLimit) is = (tt, tt)
+command_fine files s (Ok command) is = kind_fine files s (kind_of command) is
 
 accepted_fine : (r : Option Reply) (h : History) → AreFine h → AreFine (accepted r h)
 accepted_fine r h fine =

@@ -25,7 +25,6 @@ use Rattle.oct_odds.specs.Odds.{Odds, IsSound}
 use Rattle.oct_script.specs.Lines.{Line}
 use Rattle.oct_script.specs.Replies.{is_refusal}
 use Rattle.oct_script.specs.declared.command.Command.{Command}
-use Rattle.oct_script.specs.declared.command.Command.TheVariants as command
 use Rattle.oct_script.specs.declared.reply.Refusal.{Refusal}
 use Rattle.oct_script.specs.declared.reply.Reply.{Reply}
 use Rattle.oct_snap.specs.Reading.{Snapshot, read_fields, read_snapshot}
@@ -35,14 +34,23 @@ use Rattle.oct_snap.proofs.TextsBack.{text_back}
 use Rattle.oct_snap.proofs.WholeFills.{same_snapshot}
 use Rattle.oct_values.specs.Classes.{Classes, classes_of}
 use Rattle.oct_session.specs.Commands.{reply, action_of, accepted, edit_reply, Saving, saving_of}
-use Rattle.oct_session.specs.Commands.{accepted_saving, stored}
+use Rattle.oct_session.specs.Commands.{accepted_saving, stored, kind_reply, kind_action, kind_work}
+use Rattle.oct_session.specs.Commands.{order_reply, order_action, question_reply, question_action}
+use Rattle.oct_session.specs.Commands.{verb_reply, verb_action, verb_work, saving_by}
+use Rattle.oct_session.specs.declared.kinds.Order.{Order}
+use Rattle.oct_session.specs.declared.kinds.Order.TheVariants as order
+use Rattle.oct_session.specs.declared.kinds.Question.{Question}
+use Rattle.oct_session.specs.declared.kinds.Question.TheVariants as question
+use Rattle.oct_session.specs.declared.kinds.FileVerb.{FileVerb}
+use Rattle.oct_session.specs.declared.kinds.FileVerb.TheVariants as verb
+use Rattle.oct_session.specs.Kinds.{Kind, kind_of, Nothing, Opens, Orders, Asks, Names}
 use Rattle.oct_session.specs.FileCommands.{found_in, snapshot_file, reading_reply, reading_action}
 use Rattle.oct_session.specs.FileCommands.{load_reply, load_action, snapshot_reply, snapshot_action}
 use Rattle.oct_session.specs.FileCommands.{restore_reply, restore_action}
 use Rattle.oct_session_laws.specs.GivenBack.{IsMapBox, IsState, IsSetUp}
 use Rattle.oct_session.specs.History.{History, State, Action, Edited, Boxed, Scanned, Refreshed}
 use Rattle.oct_session.specs.History.{Pruned, Cleared, Likened, Replaced, Restored, Tracked}
-use Rattle.oct_session.specs.History.{Untracked, Limited, Unlimited, after, after_all}
+use Rattle.oct_session.specs.History.{Untracked, Limited, Unlimited, base_by, after, after_all}
 use Rattle.oct_session.specs.History.{state_after}
 use Rattle.oct_session.specs.ScanBlock.{opened, with_line, is_end, block_reply, block_action}
 use Rattle.oct_session.specs.ScanSoFar.{sighting_so_far}
@@ -205,56 +213,56 @@ restore_is s (Some TooLarge) good is = is
 restore_is s (Some (Bytes bytes)) good is =
     snapshot_is s bytes (read_snapshot s.base.odds bytes) good refl is
 
--- an action that changes neither log-odds nor box
-one_is : (files : Option Files) (s : State) (c : Result Command Refusal) (a : Action)
-    → action_of files s c ≡ a ∷ [] → IsState s → IsState (after s a)
-    → IsState (after_all s (accepted (reply files s c) (action_of files s c)))
-one_is files s c a one is done =
-    either_is s (reply files s c) (action_of files s c) is
-    (subst (λ (h : History). IsState (after_all s h)) (sym one) done)
+-- an action that changes neither log-odds nor box was done or not
+one_is : (s : State) (r : Option Reply) (a : Action) → base_by s.base a ≡ s.base → IsState s
+    → IsState (after_all s (accepted r (a ∷ [])))
+one_is s r a same is = either_is s r (a ∷ []) is (edited_is s a same is)
 
-none_is : (files : Option Files) (s : State) (c : Result Command Refusal) → action_of files s c ≡ []
-    → IsState s → IsState (after_all s (accepted (reply files s c) (action_of files s c)))
-none_is files s c none is =
-    either_is s (reply files s c) (action_of files s c) is
-    (subst (λ (h : History). IsState (after_all s h)) (sym none) is)
+order_is : (s : State) (o : Order) → IsState s
+    → IsState (after_all s (accepted (order_reply s o) (order_action o ∷ [])))
+order_is s (order.Edit p e lazy) is =
+    one_is s (order_reply s (order.Edit p e lazy)) (Edited p e lazy) refl is
+order_is s (order.Box lo hi e) is =
+    one_is s (order_reply s (order.Box lo hi e)) (Boxed lo hi e) refl is
+order_is s (order.Limit lo hi) is =
+    limit_is_at s lo hi (key_at s.base.res lo) (key_at s.base.res hi) refl refl is
+order_is s order.NoLimit is = limited_is s Unlimited None refl tt is
+order_is s order.Refresh is = edited_is s Refreshed refl is
+order_is s order.Prune is = edited_is s Pruned refl is
+order_is s order.Clear is = edited_is s Cleared refl is
+order_is s order.MaxLik is = edited_is s Likened refl is
+order_is s order.Track is = edited_is s Tracked refl is
+order_is s order.Untrack is = edited_is s Untracked refl is
+
+question_is : (s : State) (q : Question) → IsState s → IsState (after_all s (question_action q))
+question_is s (question.Get p depth) is = is
+question_is s (question.List lo hi depth) is = is
+question_is s (question.Cast o e ignore) is = is
+question_is s question.Counts is = edited_is s Pruned refl is
+question_is s question.Changes is = is
+
+verb_is : (files : Option Files) (s : State) (v : FileVerb) (name : List ℕ) → AreGood files
+    → IsState s
+    → IsState (after_all s (accepted (verb_reply files s v name) (verb_action files s v name)))
+verb_is files s verb.Save name good is = is
+verb_is files s verb.Load name good is = load_is s (found_in files name) is
+verb_is files s verb.Snapshot name good is = is
+verb_is files s verb.Restore name good is =
+    restore_is s (found_in files name) (found_good files name good) is
+
+kind_is : (files : Option Files) (s : State) (k : Kind) → AreGood files → IsState s
+    → IsState (after_all s (accepted (kind_reply files s k) (kind_action files s k)))
+kind_is files s Nothing good is = is
+kind_is files s (Opens head) good is = is
+kind_is files s (Orders o) good is = order_is s o is
+kind_is files s (Asks q) good is =
+    either_is s (question_reply s q) (question_action q) is (question_is s q is)
+kind_is files s (Names v name) good is = verb_is files s v name good is
 
 command_is : (files : Option Files) (s : State) (c : Result Command Refusal) → AreGood files
     → IsState s → IsState (after_all s (accepted (reply files s c) (action_of files s c)))
 command_is files s (Err refusal) good is = is
-command_is files s (Ok command.Blank) good is = is
-command_is files s (Ok (command.Edit p e lazy)) good is =
-    one_is files s (Ok (command.Edit p e lazy)) (Edited p e lazy) refl is
-    (edited_is s (Edited p e lazy) refl is)
-command_is files s (Ok (command.Box lo hi e)) good is =
-    one_is files s (Ok (command.Box lo hi e)) (Boxed lo hi e) refl is
-    (edited_is s (Boxed lo hi e) refl is)
-command_is files s (Ok (command.Scan head)) good is = is
-command_is files s (Ok (command.Beam p)) good is = is
-command_is files s (Ok command.End) good is = is
-command_is files s (Ok (command.Get p depth)) good is =
-    none_is files s (Ok (command.Get p depth)) refl is
-command_is files s (Ok (command.Cast o e ignore)) good is =
-    none_is files s (Ok (command.Cast o e ignore)) refl is
-command_is files s (Ok command.Counts) good is = edited_is s Pruned refl is
-command_is files s (Ok command.Refresh) good is = edited_is s Refreshed refl is
-command_is files s (Ok command.Prune) good is = edited_is s Pruned refl is
-command_is files s (Ok command.Clear) good is = edited_is s Cleared refl is
-command_is files s (Ok command.MaxLik) good is = edited_is s Likened refl is
-command_is files s (Ok command.Quit) good is = is
-command_is files s (Ok (command.Save name)) good is = is
-command_is files s (Ok (command.Load name)) good is = load_is s (found_in files name) is
-command_is files s (Ok (command.Snapshot name)) good is = is
-command_is files s (Ok (command.Restore name)) good is =
-    restore_is s (found_in files name) (found_good files name good) is
-command_is files s (Ok (command.List lo hi depth)) good is =
-    none_is files s (Ok (command.List lo hi depth)) refl is
-command_is files s (Ok command.Track) good is = edited_is s Tracked refl is
-command_is files s (Ok command.Untrack) good is = edited_is s Untracked refl is
-command_is files s (Ok command.Changes) good is = none_is files s (Ok command.Changes) refl is
-command_is files s (Ok (command.Limit lo hi)) good is =
-    limit_is_at s lo hi (key_at s.base.res lo) (key_at s.base.res hi) refl refl is
-command_is files s (Ok command.NoLimit) good is = limited_is s Unlimited None refl tt is
+command_is files s (Ok command) good is = kind_is files s (kind_of command) good is
 
 block_is : (s : State) (block : ScanBlock) → IsState s
     → IsState (after_all s (accepted (block_reply s block) (block_action block)))
@@ -263,8 +271,8 @@ block_is s (Scanning scan) is =
     either_is s (block_reply s (Scanning scan)) (block_action (Scanning scan)) is
     (edited_is s (Scanned (sighting_so_far scan) scan.head.lazy) refl is)
 
-opened_is : (files : Option Files) (s : State) (c : Result Command Refusal)
-    (block : Option ScanBlock) → AreGood files → IsState s → IsState (after_all s (effect_opened files s c block).added)
+opened_is : (files : Option Files) (s : State) (c : Result Command Refusal) (block : Option ScanBlock)
+    → AreGood files → IsState s → IsState (after_all s (effect_opened files s c block).added)
 opened_is files s c None good is = command_is files s c good is
 opened_is files s c (Some block) good is = is
 
@@ -291,34 +299,25 @@ kept_saving r saving good =
     elim (is_refusal r) as (λ b. IsGoodSaving (cond {A = Option Saving} b None saving))
     [ true ↦ tt | false ↦ good ]
 
+verb_good : (s : State) (v : FileVerb) (name : List ℕ) → IsResolution s.base.res → IsState s
+    → IsGoodSaving (saving_by s (Some (verb_work v name)))
+verb_good s verb.Save name ok is = classes_good s.base.res (classes_of s.base.odds s.values)
+verb_good s verb.Load name ok is = tt
+verb_good s verb.Snapshot name ok is = snapshot_good s ok is
+verb_good s verb.Restore name ok is = tt
+
+kind_good : (s : State) (k : Kind) → IsResolution s.base.res → IsState s
+    → IsGoodSaving (saving_by s (kind_work k))
+kind_good s Nothing ok is = tt
+kind_good s (Opens head) ok is = tt
+kind_good s (Orders o) ok is = tt
+kind_good s (Asks q) ok is = tt
+kind_good s (Names v name) ok is = verb_good s v name ok is
+
 saving_good : (s : State) (c : Result Command Refusal) → IsResolution s.base.res → IsState s
     → IsGoodSaving (saving_of s c)
 saving_good s (Err refusal) ok is = tt
-saving_good s (Ok command.Blank) ok is = tt
-saving_good s (Ok (command.Edit p e lazy)) ok is = tt
-saving_good s (Ok (command.Box lo hi e)) ok is = tt
-saving_good s (Ok (command.Scan head)) ok is = tt
-saving_good s (Ok (command.Beam p)) ok is = tt
-saving_good s (Ok command.End) ok is = tt
-saving_good s (Ok (command.Get p depth)) ok is = tt
-saving_good s (Ok (command.Cast o e ignore)) ok is = tt
-saving_good s (Ok command.Counts) ok is = tt
-saving_good s (Ok command.Refresh) ok is = tt
-saving_good s (Ok command.Prune) ok is = tt
-saving_good s (Ok command.Clear) ok is = tt
-saving_good s (Ok command.MaxLik) ok is = tt
-saving_good s (Ok command.Quit) ok is = tt
-saving_good s (Ok (command.Save name)) ok is =
-    classes_good s.base.res (classes_of s.base.odds s.values)
-saving_good s (Ok (command.Load name)) ok is = tt
-saving_good s (Ok (command.Snapshot name)) ok is = snapshot_good s ok is
-saving_good s (Ok (command.Restore name)) ok is = tt
-saving_good s (Ok (command.List lo hi depth)) ok is = tt
-saving_good s (Ok command.Track) ok is = tt
-saving_good s (Ok command.Untrack) ok is = tt
-saving_good s (Ok command.Changes) ok is = tt
-saving_good s (Ok (command.Limit lo hi)) ok is = tt
-saving_good s (Ok command.NoLimit) ok is = tt
+saving_good s (Ok command) ok is = kind_good s (kind_of command) ok is
 
 opened_saving : (files : Option Files) (s : State) (c : Result Command Refusal)
     (block : Option ScanBlock) → IsResolution s.base.res → IsState s

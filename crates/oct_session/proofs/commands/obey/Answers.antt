@@ -1,79 +1,111 @@
-use Rattle.std.proofs.Common.{Ok, ap}
-use Rattle.oct_script.specs.declared.command.Command.TheVariants.{Edit, Get, Cast, Counts, Refresh}
-use Rattle.oct_script.specs.declared.command.Command.TheVariants.{Prune, Clear, MaxLik, Box}
-use Rattle.oct_script.specs.declared.command.Command.TheVariants.{List, Track, Untrack, Changes}
-use Rattle.oct_script.specs.declared.command.Command.TheVariants.{Limit, NoLimit}
-use Rattle.oct_session.specs.Standing.{with_reply}
-use Rattle.oct_session.proofs.Replying.{obeyed_as}
+use Rattle.std.proofs.Common.{Ok, refl, ap, ◌∙◌}
+use Rattle.oct_map.specs.Map.{Map}
+use Rattle.oct_tree.specs.Tree.{Tree}
+use Rattle.oct_session.specs.declared.kinds.Order.TheVariants.{Edit, Box, Limit, NoLimit, Refresh}
+use Rattle.oct_session.specs.declared.kinds.Order.TheVariants.{Prune, Clear, MaxLik, Track, Untrack}
+use Rattle.oct_session.specs.History.{edit_event}
+use Rattle.oct_session.proofs.MapHistory.{stands_refreshed, stands_pruned, stands_cleared}
+use Rattle.oct_session.proofs.MapHistory.{stands_likened, stands_tracked, stands_untracked}
+use Rattle.oct_session.proofs.MapHistory.{stands_unlimited}
+use Rattle.oct_session.proofs.Replying.{carried_as, edit_carried, box_carried, limit_carried}
 use Rattle.oct_session.proofs.commands.obey.Goals as goal
 
-pub returns-in-Counts : goal.returns-in-Counts
-returns-in-Counts c = obeyed_as (with_reply c.count.result c.count.new.reply) c.args.map.now
-    c.count.new.map (Ok c.args.command.now) (Ok Counts) (ap Ok c.in-Counts.is) c.count.ensures
-
-pub returns-in-Refresh : goal.returns-in-Refresh
-returns-in-Refresh c = obeyed_as (with_reply c.refresh.result c.refresh.new.reply) c.args.map.now
-    c.refresh.new.map (Ok c.args.command.now) (Ok Refresh) (ap Ok c.in-Refresh.is) c.refresh.ensures
-
 pub returns-in-Edit : goal.returns-in-Edit
-returns-in-Edit c = obeyed_as (with_reply c.edit.result c.edit.new.reply) c.args.map.now
-    c.edit.new.map (Ok c.args.command.now) (Ok (Edit c.in-Edit.p c.in-Edit.e c.in-Edit.lazy))
-    (ap Ok c.in-Edit.is) c.edit.ensures
+returns-in-Edit c =
+    c.say.ensures c.args.map.now c.edit.new.self c.args.order
+    (carried_as c.edit.result c.args.map.now c.edit.new.self c.args.order
+    (Edit c.in-Edit.p c.in-Edit.e c.in-Edit.lazy) c.in-Edit.is
+    (edit_carried c.edit.result c.args.map.now c.edit.new.self c.in-Edit.p c.in-Edit.e
+    c.in-Edit.lazy c.event_of-event.result _
+    (c.event_of-event.ensures.exact
+    ∙ ap (λ odds. edit_event odds c.in-Edit.e)
+    (c.odds.ensures ∙ ap (λ (t : Tree). t.odds) c.tree.ensures.exact))
+    c.edit.ensures.answer c.edit.ensures.edited c.edit.ensures.refused
+    (record { ground = c.edit.ensures.setup; mark = c.edit.ensures.mark })))
 
 pub returns-in-Box : goal.returns-in-Box
-returns-in-Box c = obeyed_as (with_reply c.edit_box.result c.edit_box.new.reply) c.args.map.now
-    c.edit_box.new.map (Ok c.args.command.now) (Ok (Box c.in-Box.lo c.in-Box.hi c.in-Box.e))
-    (ap Ok c.in-Box.is) c.edit_box.ensures
+returns-in-Box c =
+    c.say-in-Box.ensures c.args.map.now c.edit_box.new.self c.args.order
+    (carried_as c.edit_box.result c.args.map.now c.edit_box.new.self c.args.order
+    (Box c.in-Box.lo c.in-Box.hi c.in-Box.e) c.in-Box.is
+    (box_carried c.edit_box.result c.args.map.now c.edit_box.new.self c.in-Box.lo c.in-Box.hi
+    c.in-Box.e c.event_of-event-in-Box.result _
+    (c.event_of-event-in-Box.ensures.exact
+    ∙ ap (λ odds. edit_event odds c.in-Box.e)
+    (c.odds-in-Box.ensures ∙ ap (λ (t : Tree). t.odds) c.tree-in-Box.ensures.exact))
+    c.edit_box.ensures.answer c.edit_box.ensures.edited c.edit_box.ensures.refused
+    (record { ground = c.edit_box.ensures.setup; mark = c.edit_box.ensures.mark })))
+
+pub returns-in-Limit : goal.returns-in-Limit
+returns-in-Limit c =
+    c.say-in-Limit.ensures c.args.map.now c.limit.new.self c.args.order
+    (carried_as c.limit.result c.args.map.now c.limit.new.self c.args.order
+    (Limit c.in-Limit.lo c.in-Limit.hi) c.in-Limit.is
+    (limit_carried c.limit.result c.args.map.now c.limit.new.self c.in-Limit.lo c.in-Limit.hi
+    c.limit.ensures.answer c.limit.ensures.limited c.limit.ensures.refused))
+
+pub returns-in-NoLimit : goal.returns-in-NoLimit
+returns-in-NoLimit c =
+    c.say-in-NoLimit.ensures c.args.map.now c.no_limit.new.self c.args.order
+    (carried_as (Ok tt) c.args.map.now c.no_limit.new.self c.args.order NoLimit c.in-NoLimit.is
+    (λ s at. (refl, stands_unlimited c.args.map.now c.no_limit.new.self s c.no_limit.ensures.exact at)))
+
+pub returns-in-Refresh : goal.returns-in-Refresh
+returns-in-Refresh c =
+    let fresh = c.refresh.ensures in
+    c.say-in-Refresh.ensures c.args.map.now c.refresh.new.self c.args.order
+    (carried_as (Ok tt) c.args.map.now c.refresh.new.self c.args.order Refresh c.in-Refresh.is
+    (λ s at. (
+      refl,
+      stands_refreshed c.args.map.now c.refresh.new.self s fresh.values fresh.stale
+          fresh.pruned (record { ground = fresh.setup; mark = fresh.mark }) at,
+    )))
+
+pub returns-in-Prune : goal.returns-in-Prune
+returns-in-Prune c =
+    let pruned = c.prune.ensures in
+    c.say-in-Prune.ensures c.args.map.now c.prune.new.self c.args.order
+    (carried_as (Ok tt) c.args.map.now c.prune.new.self c.args.order Prune c.in-Prune.is
+    (λ s at. (
+      refl,
+      stands_pruned c.args.map.now c.prune.new.self s pruned.values pruned.stale
+          pruned.pruned (record { ground = pruned.setup; mark = pruned.mark }) at,
+    )))
 
 pub returns-in-Clear : goal.returns-in-Clear
-returns-in-Clear c = obeyed_as (with_reply c.clear.result c.clear.new.reply) c.args.map.now
-    c.clear.new.map (Ok c.args.command.now) (Ok Clear) (ap Ok c.in-Clear.is) c.clear.ensures
+returns-in-Clear c =
+    let cleared = c.clear.ensures in
+    c.say-in-Clear.ensures c.args.map.now c.clear.new.self c.args.order
+    (carried_as (Ok tt) c.args.map.now c.clear.new.self c.args.order Clear c.in-Clear.is
+    (λ s at. (
+      refl,
+      stands_cleared c.args.map.now c.clear.new.self s cleared.unknown cleared.stale
+          cleared.pruned cleared.setup (ap (λ (m : Map). m.mark) cleared.exact) at,
+    )))
 
 pub returns-in-MaxLik : goal.returns-in-MaxLik
 returns-in-MaxLik c =
-    obeyed_as (with_reply c.max_likelihood.result c.max_likelihood.new.reply) c.args.map.now
-    c.max_likelihood.new.map (Ok c.args.command.now) (Ok MaxLik)
-    (ap Ok c.in-MaxLik.is) c.max_likelihood.ensures
-
-pub returns-in-Get : goal.returns-in-Get
-returns-in-Get c = obeyed_as (with_reply c.query.result c.query.new.reply) c.args.map.now
-    c.args.map.now (Ok c.args.command.now) (Ok (Get c.in-Get.p c.in-Get.depth)) (ap Ok c.in-Get.is)
-    c.query.ensures
-
-pub returns-in-Cast : goal.returns-in-Cast
-returns-in-Cast c =
-    obeyed_as (with_reply c.cast.result c.cast.new.reply) c.args.map.now c.args.map.now
-    (Ok c.args.command.now) (Ok (Cast c.in-Cast.o c.in-Cast.e c.in-Cast.ignore))
-    (ap Ok c.in-Cast.is) c.cast.ensures
-
-pub returns-in-List : goal.returns-in-List
-returns-in-List c =
-    obeyed_as (with_reply c.list.result c.list.new.reply) c.args.map.now c.args.map.now
-    (Ok c.args.command.now) (Ok (List c.in-List.lo c.in-List.hi c.in-List.depth))
-    (ap Ok c.in-List.is) c.list.ensures
+    let likened = c.max_likelihood.ensures in
+    c.say-in-MaxLik.ensures c.args.map.now c.max_likelihood.new.self c.args.order
+    (carried_as (Ok tt) c.args.map.now c.max_likelihood.new.self c.args.order MaxLik c.in-MaxLik.is
+    (λ s at. (
+      refl,
+      stands_likened c.args.map.now c.max_likelihood.new.self s likened.values
+          likened.stale likened.pruned (record { ground = likened.setup; mark = likened.mark }) at,
+    )))
 
 pub returns-in-Track : goal.returns-in-Track
-returns-in-Track c = obeyed_as (with_reply c.track.result c.track.new.reply) c.args.map.now
-    c.track.new.map (Ok c.args.command.now) (Ok Track) (ap Ok c.in-Track.is) c.track.ensures
+returns-in-Track c =
+    c.say-in-Track.ensures c.args.map.now c.track.new.self c.args.order
+    (carried_as (Ok tt) c.args.map.now c.track.new.self c.args.order Track c.in-Track.is
+    (λ s at. (
+      refl,
+      stands_tracked c.args.map.now c.track.new.self s _ c.track.ensures.exact
+          c.track.ensures.marked at,
+    )))
 
 pub returns-in-Untrack : goal.returns-in-Untrack
-returns-in-Untrack c = obeyed_as (with_reply c.untrack.result c.untrack.new.reply) c.args.map.now
-    c.untrack.new.map (Ok c.args.command.now) (Ok Untrack) (ap Ok c.in-Untrack.is) c.untrack.ensures
-
-pub returns-in-Changes : goal.returns-in-Changes
-returns-in-Changes c = obeyed_as (with_reply c.changes.result c.changes.new.reply) c.args.map.now
-    c.args.map.now (Ok c.args.command.now) (Ok Changes) (ap Ok c.in-Changes.is) c.changes.ensures
-
-pub returns-in-Limit : goal.returns-in-Limit
-returns-in-Limit c = obeyed_as (with_reply c.limit.result c.limit.new.reply) c.args.map.now
-    c.limit.new.map (Ok c.args.command.now) (Ok (Limit c.in-Limit.lo c.in-Limit.hi))
-    (ap Ok c.in-Limit.is) c.limit.ensures
-
-pub returns-in-NoLimit : goal.returns-in-NoLimit
-returns-in-NoLimit c = obeyed_as (with_reply c.no_limit.result c.no_limit.new.reply) c.args.map.now
-    c.no_limit.new.map (Ok c.args.command.now) (Ok NoLimit) (ap Ok c.in-NoLimit.is)
-    c.no_limit.ensures
-
-pub returns-in-Prune : goal.returns-in-Prune
-returns-in-Prune c = obeyed_as (with_reply c.prune.result c.prune.new.reply) c.args.map.now
-    c.prune.new.map (Ok c.args.command.now) (Ok Prune) (ap Ok c.in-Prune.is) c.prune.ensures
+returns-in-Untrack c =
+    c.say-in-Untrack.ensures c.args.map.now c.untrack.new.self c.args.order
+    (carried_as (Ok tt) c.args.map.now c.untrack.new.self c.args.order Untrack c.in-Untrack.is
+    (λ s at. (refl, stands_untracked c.args.map.now c.untrack.new.self s c.untrack.ensures.exact at)))

@@ -1,7 +1,7 @@
-use Rattle.std.proofs.Common.{Ok, refl, ◌∙◌}
+use Rattle.std.proofs.Common.{Some, refl, ◌∙◌}
 use Rattle.oct_session.specs.FileCommands.{classes_file}
 use Rattle.oct_io.specs.declared.store.StoreFault.TheVariants as store_fault
-use Rattle.oct_script.specs.declared.command.Command.TheVariants.{Save}
+use Rattle.oct_session.specs.Commands.{Puts}
 use Rattle.oct_session.specs.Standing.{with_reply}
 use Rattle.oct_session.proofs.Effects.{failed_for}
 use Rattle.oct_session.proofs.Loading.{classes_saved, save_done, save_failed, save_unwritten}
@@ -9,13 +9,13 @@ use Rattle.oct_session.proofs.files.save.Goals as goal
 
 pub returns-in_err-file-clause-effect : goal.returns-in_err-file-clause-effect
 returns-in_err-file-clause-effect g c =
-    save_unwritten (Ok (Save c.args.name.now)) (with_reply c.from_residual.result c.args.reply.now)
+    save_unwritten (Some (Puts c.args.name.now classes_file)) (with_reply c.from_residual.result c.args.reply.now)
     c.args.map.now _ c.args.name.now classes_file
     (failed_for _ c.args.reply.now store_fault.Memory c.from_residual.ensures.1)
 
 pub returns-in_err-save-clause-effect : goal.returns-in_err-save-clause-effect
 returns-in_err-save-clause-effect g c =
-    save_failed (Ok (Save c.args.name.now))
+    save_failed (Some (Puts c.args.name.now classes_file))
     (with_reply c.from_residual-in_err-save.result c.args.reply.now) _ c.args.map.now _ _
     c.as_str.result.now c.args.name.now classes_file refl refl c.as_str.ensures
     (failed_for _ c.args.reply.now _ c.from_residual-in_err-save.ensures.1)
@@ -23,7 +23,7 @@ returns-in_err-save-clause-effect g c =
 
 pub returns-clause-effect : goal.returns-clause-effect
 returns-clause-effect g c =
-    save_done (Ok (Save c.args.name.now)) c.args.map.now _ _ c.as_str.result.now c.args.name.now
+    save_done (Some (Puts c.args.name.now classes_file)) c.args.map.now _ _ c.as_str.result.now c.args.name.now
     c.written-bytes.result.now _ classes_file c.as_str.ensures
     (classes_saved c.args.map.now c.written-bytes.result.now
     (c.written-bytes.ensures ∙ c.in_ok-file.ensures)) refl c.in_ok-save.ensures.saved

@@ -1,6 +1,6 @@
 use Rattle.std.proofs.Common.{◌≡◌, Ok, Err, is_some, sym, ap, subst, ◌∙◌}
 use Rattle.oct_script.specs.declared.reply.Refusal.TheVariants as refusal
-use Rattle.oct_session.specs.Commands.{asks_for, file_named, is_quit}
+use Rattle.oct_session.specs.Commands.{asked_of, asks_for, file_named, is_quit}
 use Rattle.oct_ending.specs.Counts.{IsAsked}
 use Rattle.oct_session.specs.Session.{effect}
 use Rattle.oct_session.specs.Standing.{with_reply}
@@ -53,7 +53,7 @@ returns-in_err-take_command-in-Ok-clause-effect g c =
     (still_failed c.from_residual.result c.take_command.new.reply
     (λ files s. effect files s c.args.number c.args.line.now (Ok c.parse_into.new.command)
     c.args.block.now)
-    (Ok c.parse_into.new.command) _ c.args.map.now c.take_command.new.map _ _
+    (asked_of (Ok c.parse_into.new.command)) _ c.args.map.now c.take_command.new.map _ _
     c.take_command.new.block c.from_residual.ensures.1
     (c.in_err-take_command-in-Ok.ensures.effect c.args.line.now))
 

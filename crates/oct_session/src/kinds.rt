@@ -1,0 +1,128 @@
+//! Commands by what does them.
+ghost use Rattle.std.specs.Prelude.{◌≡◌};
+ghost use Rattle.oct_script.specs.Commands.{IsSmallCommand};
+ghost use Rattle.oct_session.specs.Kinds.{kind_of, kind_seen, left_of, rest_seen, IsSmallKind};
+
+use oct_key::Point;
+use oct_script::{Command, Edit, Name, ScanHead};
+
+/// What the map is to do, and answers with `ok`, unless it refuses.
+#[derive(Clone, Copy)]
+pub enum Order {
+    Edit { p: Point, e: Edit, lazy: bool },
+    Box { lo: Point, hi: Point, e: Edit },
+    Limit { lo: Point, hi: Point },
+    NoLimit,
+    Refresh,
+    Prune,
+    Clear,
+    MaxLik,
+    Track,
+    Untrack,
+}
+
+/// What the map is asked.
+#[derive(Clone, Copy)]
+pub enum Question {
+    Get { p: Point, depth: u32 },
+    List { lo: Point, hi: Point, depth: u32 },
+    Cast { o: Point, e: Point, ignore: bool },
+    Counts,
+    Changes,
+}
+
+/// What is done with a file.
+#[derive(Clone, Copy)]
+pub enum FileVerb {
+    Save,
+    Load,
+    Snapshot,
+    Restore,
+}
+
+/// What is left of a command once the map has had its part in it.
+#[derive(Clone, Copy)]
+pub enum Rest<'a> {
+    /// Nothing, if there ever was something to do.
+    Nothing,
+    /// It opens the block of a scan.
+    Opens(&'a ScanHead),
+    /// It names a file.
+    Names(FileVerb, &'a Name),
+}
+
+/// A command outside the block of a scan, by what does it.
+#[derive(Clone, Copy)]
+pub enum Kind<'a> {
+    /// The map does it.
+    Orders(Order),
+    /// The map answers it.
+    Asks(Question),
+    /// The map has no part in it.
+    Rests(Rest<'a>),
+}
+
+/// What does a command outside the block of a scan.
+#[inline(always)]
+pub fn kind_of(command: &Command) -> Kind<'_>
+    requires { IsSmallCommand command.now }
+    ensures exact { kind_seen result ≡ kind_of command.now }
+    ensures small { IsSmallKind (kind_seen result) }
+{
+    match command {
+        Command::Blank | Command::Quit => Kind::Rests(Rest::Nothing),
+        Command::Beam(_) | Command::End => Kind::Rests(Rest::Nothing),
+        Command::Scan(head) => Kind::Rests(Rest::Opens(head)),
+        Command::Edit { p, e, lazy } => Kind::Orders(Order::Edit {
+            p: *p,
+            e: *e,
+            lazy: *lazy,
+        }),
+        Command::Box { lo, hi, e } => Kind::Orders(Order::Box {
+            lo: *lo,
+            hi: *hi,
+            e: *e,
+        }),
+        Command::Limit { lo, hi } => Kind::Orders(Order::Limit { lo: *lo, hi: *hi }),
+        Command::NoLimit => Kind::Orders(Order::NoLimit),
+        Command::Refresh => Kind::Orders(Order::Refresh),
+        Command::Prune => Kind::Orders(Order::Prune),
+        Command::Clear => Kind::Orders(Order::Clear),
+        Command::MaxLik => Kind::Orders(Order::MaxLik),
+        Command::Track => Kind::Orders(Order::Track),
+        Command::Untrack => Kind::Orders(Order::Untrack),
+        Command::Get { p, depth } => Kind::Asks(Question::Get {
+            p: *p,
+            depth: *depth,
+        }),
+        Command::List { lo, hi, depth } => Kind::Asks(Question::List {
+            lo: *lo,
+            hi: *hi,
+            depth: *depth,
+        }),
+        Command::Cast { o, e, ignore } => Kind::Asks(Question::Cast {
+            o: *o,
+            e: *e,
+            ignore: *ignore,
+        }),
+        Command::Counts => Kind::Asks(Question::Counts),
+        Command::Changes => Kind::Asks(Question::Changes),
+        Command::Save(name) => Kind::Rests(Rest::Names(FileVerb::Save, name)),
+        Command::Load(name) => Kind::Rests(Rest::Names(FileVerb::Load, name)),
+        Command::Snapshot(name) => Kind::Rests(Rest::Names(FileVerb::Snapshot, name)),
+        Command::Restore(name) => Kind::Rests(Rest::Names(FileVerb::Restore, name)),
+    }
+}
+
+/// What is left of a command once the map has had its part in it.
+#[inline(always)]
+pub fn rest_of(command: &Command) -> Rest<'_>
+    requires { IsSmallCommand command.now }
+    ensures exact { rest_seen result ≡ left_of (kind_of command.now) }
+    ensures small { IsSmallKind (rest_seen result) }
+{
+    match kind_of(command) {
+        Kind::Orders(_) | Kind::Asks(_) => Rest::Nothing,
+        Kind::Rests(rest) => rest,
+    }
+}
