@@ -31,7 +31,8 @@ ghost use Rattle.oct_map.specs.Notes.{LacksNotes, NotesFew};
 ghost use Rattle.oct_map.specs.Marks.{KeepsMark};
 ghost use Rattle.oct_map.specs.Lists.{list_answer};
 ghost use Rattle.oct_map.specs.Edits.{outcome_in, scan_need, IsMapEdited, IsMapRefused, IsRoomy};
-ghost use Rattle.oct_map.specs.Edits.{IsReadied, LacksEntries, ReservesFew, entries_of};
+ghost use Rattle.oct_map.specs.Edits.{IsReadied, KeepsAllElse, LacksEntries, ReservesFew};
+ghost use Rattle.oct_map.specs.Edits.{entries_of};
 ghost use Rattle.oct_map.specs.Edits.{fitted_groups};
 
 mod loading;
@@ -576,12 +577,7 @@ impl OccMap {
         ensures shrunk { IsShrunk self.old.tree self.new.tree }
         ensures groups { live self.new.tree.groups ≡ fitted_groups self.old need }
         ensures full { OnErr result (IsPruned self.new.tree) }
-        ensures notes { self.new.mark ≡ self.old.mark }
-        ensures values { SameValues (values_of self.old) (values_of self.new) }
-        ensures stale { self.new.is_stale ≡ self.old.is_stale }
-        ensures pruned { IsPruned self.old.tree → IsPruned self.new.tree }
-        ensures fresh { IsFresh self.old.tree → IsFresh self.new.tree }
-        ensures setup { ground_of self.new ≡ ground_of self.old }
+        ensures keeps { KeepsAllElse self.old self.new }
         ensures map { IsMap self.new }
     {
         let most = u128::from(self.limits.max_groups);

@@ -9,7 +9,7 @@ use Rattle.oct_io.specs.Told.{appended, Rose}
 use Rattle.oct_io.proofs.Appending.{appended_nil}
 use Rattle.oct_session.specs.Building as built
 use Rattle.oct_session.specs.Building.{last_state, text_built, build, has_ended, EndsWriting}
-use Rattle.oct_session.specs.Building.{IsHaltedBehind}
+use Rattle.oct_session.specs.Building.{HasBuiltAs}
 use Rattle.oct_session.specs.Ending as script
 use Rattle.oct_ending.specs.Answer.{IsAnswered, answer_of}
 use Rattle.oct_session.specs.Ending.{IsReadToEnd}
@@ -122,43 +122,55 @@ abbrev EndsSilent : Setup → Option Files → Option (List ℕ) → Option (Lis
     → Type 0
 EndsSilent o files left after d ended =
     IfSome left (λ bytes. ReadsTold o files bytes
-    → script.MayEnd o files bytes after None None ended)
-    × IfSome left (λ bytes. ReadsTold o files bytes
-    → lent.Leaves o files bytes after None None d (Rose 0 0) ended)
+    → lent.HasEndedAs o files bytes after None None d (Rose 0 0) ended)
 
--- a build whose script has ended: what was written, and what is left
-written_ends : (o : Setup) (files : Option Files) (bytes : List ℕ) (left v u : Option (List ℕ))
-    (d : Desk) (ended result : Status) → has_ended ended ≡ true
-    → script.MayEnd o files bytes left None None ended
-    → lent.Leaves o files bytes left None None d (Rose 0 0) ended →
-    EndsWriting (bt_text d.map.tree.res (classes_in d.map.tree)) v u ended result
+-- how a build ended
+abbrev BuildEnds : Setup → Option Files → Option (List ℕ) → Option (List ℕ) → Option (List ℕ)
+    → Option (List ℕ) → Desk → Status → Type 0
+BuildEnds o files left after v u d result =
+    IfSome left (λ bytes. ReadsTold o files bytes
+    → HasBuiltAs o files bytes after v u d result)
+
+-- a script that has ended was answered whole
+whole_ended : (ended : Status) → has_ended ended ≡ true → IsWhole ended
+whole_ended status.Done over = tt
+whole_ended status.Refused over = tt
+whole_ended status.Usage over = tt
+whole_ended status.BadFile over = tt
+whole_ended status.TooLong over = tt
+whole_ended status.ReadFault over = cc
+whole_ended status.WriteFault over = cc
+whole_ended status.Memory over = cc
+whole_ended status.StoreFault over = cc
+
+-- a build that ends so beside its script, which was answered whole where the build was
+built_as : (o : Setup) (files : Option Files) (bytes : List ℕ) (left v u : Option (List ℕ))
+    (d : Desk) (ended result : Status) → (IsWhole result → IsWhole ended)
+    → lent.HasEndedAs o files bytes left None None d (Rose 0 0) ended
     → built.MayEnd o files bytes left v u result × built.Leaves o files bytes left d result
-written_ends o files bytes left v u d ended result over ends leaves writes =
-    let done = has_done o files bytes left d ended over ends leaves in
-    build_ends o files bytes left v u d ended result
+    → HasBuiltAs o files bytes left v u d result
+built_as o files bytes left v u d ended result whole at both = record {
+  answer = both.0;
+  leaves = both.1;
+  asked = at.asked;
+  files_told = λ all. at.files_told (whole all) ∙ sym (files_of_build o files bytes);
+}
+
+-- a build whose script has ended
+pub written_ends : (o : Setup) (files : Option Files) (left after v u : Option (List ℕ))
+    (d : Desk) (ended result : Status) → has_ended ended ≡ true
+    → EndsSilent o files left after d ended →
+    EndsWriting (bt_text d.map.tree.res (classes_in d.map.tree)) v u ended result
+    → BuildEnds o files left after v u d result
+written_ends o files None after v u d ended result over served writes = tt
+written_ends o files (Some bytes) after v u d ended result over served writes = λ told.
+    let at = served told in
+    let done = has_done o files bytes after d ended over at.answer at.leaves in
+    built_as o files bytes after v u d ended result (λ all. whole_ended ended over) at
+    (build_ends o files bytes after v u d ended result
     (bt_text d.map.tree.res (classes_in d.map.tree)) over done
     (same_file d.map (last_state o files bytes) done.like.stands
-    ∙ sym (text_of_build o files bytes ended over done.same)) writes
-
-pub written_answer : (o : Setup) (files : Option Files) (left after v u : Option (List ℕ))
-    (d : Desk) (ended result : Status) → has_ended ended ≡ true
-    → EndsSilent o files left after d ended →
-    EndsWriting (bt_text d.map.tree.res (classes_in d.map.tree)) v u ended result
-    → IfSome left (λ bytes. ReadsTold o files bytes → built.MayEnd o files bytes after v u result)
-written_answer o files None after v u d ended result over served writes = tt
-written_answer o files (Some bytes) after v u d ended result over served writes =
-    λ told. (written_ends o files bytes after v u d ended result over (served.0 told)
-    (served.1 told) writes).0
-
-pub written_leaves : (o : Setup) (files : Option Files) (left after v u : Option (List ℕ))
-    (d : Desk) (ended result : Status) → has_ended ended ≡ true
-    → EndsSilent o files left after d ended →
-    EndsWriting (bt_text d.map.tree.res (classes_in d.map.tree)) v u ended result
-    → IfSome left (λ bytes. ReadsTold o files bytes → built.Leaves o files bytes after d result)
-written_leaves o files None after v u d ended result over served writes = tt
-written_leaves o files (Some bytes) after v u d ended result over served writes =
-    λ told. (written_ends o files bytes after v u d ended result over (served.0 told)
-    (served.1 told) writes).1
+    ∙ sym (text_of_build o files bytes ended over done.same)) writes)
 
 -- nothing is written where the script is too long
 answered_long : (o : Setup) (files : Option Files) (bytes : List ℕ) (v u : Option (List ℕ))
@@ -202,8 +214,8 @@ calm_halted : (o : Setup) (files : Option Files) (bytes : List ℕ) (d : Desk) (
     → ((saved : Option (List ℕ)) (p q : Progress) (told : List ℕ) (ahead : List Line)
     → lent.HasLeft o saved p q told ahead d (Rose 0 0) status
     → lent.HasLeft o saved p q told ahead d ⊥ status)
-    → lent.HasHalted o files bytes None None d (Rose 0 0) status
-    → lent.HasHalted o files bytes None None d ⊥ status
+    → lent.IsHaltedIn o files bytes None None d (Rose 0 0) status
+    → lent.IsHaltedIn o files bytes None None d ⊥ status
 calm_halted o files bytes d status left (inl h) = inl (record {
   before = h.before;
   line = h.line;
@@ -247,43 +259,11 @@ stopped_ends o files bytes left v u d status.StoreFault going calm unwritten end
 )
 
 -- a build whose script hasn't ended
-pub stopped_answer : (o : Setup) (files : Option Files) (left after v u : Option (List ℕ))
+pub unwritten_ends : (o : Setup) (files : Option Files) (left after v u : Option (List ℕ))
     (d : Desk) (ended : Status) → has_ended ended ≡ false → (ended ≡ status.WriteFault → ⊥) → u ≡ v
-    → EndsSilent o files left after d ended →
-    IfSome left (λ bytes. ReadsTold o files bytes → built.MayEnd o files bytes after v u ended)
-stopped_answer o files None after v u d ended going calm unwritten served = tt
-stopped_answer o files (Some bytes) after v u d ended going calm unwritten served =
-    λ told. (stopped_ends o files bytes after v u d ended going calm unwritten (served.0 told)
-    (served.1 told)).0
-
-pub stopped_leaves : (o : Setup) (files : Option Files) (left after v u : Option (List ℕ))
-    (d : Desk) (ended : Status) → has_ended ended ≡ false → (ended ≡ status.WriteFault → ⊥) → u ≡ v
-    → EndsSilent o files left after d ended →
-    IfSome left (λ bytes. ReadsTold o files bytes → built.Leaves o files bytes after d ended)
-stopped_leaves o files None after v u d ended going calm unwritten served = tt
-stopped_leaves o files (Some bytes) after v u d ended going calm unwritten served =
-    λ told. (stopped_ends o files bytes after v u d ended going calm unwritten (served.0 told)
-    (served.1 told)).1
-
--- a script that has ended was answered whole
-pub whole_ended : (ended : Status) → has_ended ended ≡ true → IsWhole ended
-whole_ended status.Done over = tt
-whole_ended status.Refused over = tt
-whole_ended status.Usage over = tt
-whole_ended status.BadFile over = tt
-whole_ended status.TooLong over = tt
-whole_ended status.ReadFault over = cc
-whole_ended status.WriteFault over = cc
-whole_ended status.Memory over = cc
-whole_ended status.StoreFault over = cc
-
--- the files of a build are those of its script
-pub files_built : (o : Setup) (files : Option Files) (left : Option (List ℕ)) (told : Option Files)
-    (ended result : Status) → (IsWhole result → IsWhole ended) →
-    IfSome left (λ bytes. ReadsTold o files bytes → IsWhole ended
-    → told ≡ (session o files bytes).files)
-    → IfSome left (λ bytes. ReadsTold o files bytes → IsWhole result
-    → told ≡ (build o files bytes).files)
-files_built o files None told ended result whole is = tt
-files_built o files (Some bytes) told ended result whole is = λ reads done. is reads (whole done)
-    ∙ sym (files_of_build o files bytes)
+    → EndsSilent o files left after d ended → BuildEnds o files left after v u d ended
+unwritten_ends o files None after v u d ended going calm unwritten served = tt
+unwritten_ends o files (Some bytes) after v u d ended going calm unwritten served = λ told.
+    let at = served told in
+    built_as o files bytes after v u d ended ended (λ all. all) at
+    (stopped_ends o files bytes after v u d ended going calm unwritten at.answer at.leaves)

@@ -25,7 +25,7 @@ use Rattle.oct_session.specs.Leaving.{StandsFor, Desk, desk, IsKnown}
 use Rattle.oct_ending.specs.Shelf.{Shelf}
 use Rattle.oct_session.specs.Session.{last_progress, status_at_end}
 use Rattle.oct_session.specs.Setup.{Setup}
-use Rattle.oct_session.specs.Standing.{HasServed, IsThrough, HasEndedAs}
+use Rattle.oct_session.specs.Standing.{seated, HasServed, IsThrough, Finishes, Ends}
 use Rattle.oct_ending.specs.Stops.{status_of, status_written}
 use Rattle.oct_ending.specs.declared.status.Status.{Status}
 use Rattle.oct_ending.specs.declared.stop.Stop.{Stop}
@@ -46,15 +46,17 @@ script_fits seed scans points a b c =
     omega (arith, short, most)
 
 -- a session that begins on the script
-begun : (o : Setup) (told : Files) (script : List ℕ) (left : Option (List ℕ)) (m : Map) (k : Shelf)
+script_begins : (o : Setup) (told : Files) (script : List ℕ) (left : Option (List ℕ)) (m : Map)
+    (k : Shelf)
     (s : Session) → o ≡ drill_setup → left ≡ Some script → IsFirst (Some told) k
     → IsNew drill_setup m s → HasServed o (Some told) script left None None (desk m k) s 0
-begun o told script left m k s is reads first new =
+script_begins o told script left m k s is reads first new =
     subst (λ x. HasServed o (Some told) script x None None (desk m k) s 0) (sym reads)
     (serving_start o (Some told) script None m k s first (subst (λ x. IsNew x m s) (sym is) new))
 
-known : (o : Setup) (told : Files) (script : List ℕ) → IsKnown (last_progress o (Some told) script)
-known o told script = known_told o (Some told) script (inl refl)
+script_known : (o : Setup) (told : Files) (script : List ℕ)
+    → IsKnown (last_progress o (Some told) script)
+script_known o told script = known_told o (Some told) script (inl refl)
 
 -- the session has done the script
 pub record HasDrilled (seed scans points : ℕ) (m : Map) (t : Session) : Type 0 where
@@ -74,56 +76,50 @@ through_drilled o told seed scans points after d t is none through =
     record { tally = at.reached.between.step.tally; stands = at.reached.between.like.stands }
 
 pub work_done : {H : Type 0} (o : Setup) (told : Files) (seed scans points : ℕ)
-    (left after : Option (List ℕ)) (m : Map) (k : H → Shelf) (e : H → Desk) (home : H)
+    (left after : Option (List ℕ)) (m : Map) (k : H → Shelf) (e : H → Desk) (first : H)
     (s t : Session) →
     o ≡ drill_setup → told ≡ no_files → left ≡ Some (script_of seed scans points)
-    → IsFirst (Some told) (k home) → IsNew drill_setup m s →
-    ((home : H) (files : Option Files) (bytes : List ℕ) (w : Option (List ℕ))
-    → HasServed o files bytes left w None (desk m (k home)) s 0
-    → IsKnown (last_progress o files bytes) → IsThrough o files bytes after w None (e home) t) →
-    HasDrilled seed scans points (e home).map t
-work_done o told seed scans points left after m k e home s t is none reads at new does =
-    through_drilled o told seed scans points after (e home) t is none
-    (does home (Some told) (script_of seed scans points) None
-    (begun o told (script_of seed scans points) left m (k home) s is reads at new)
-    (known o told (script_of seed scans points)))
+    → IsFirst (Some told) (k first) → IsNew drill_setup m s →
+    Finishes o left after (seated (λ first. desk m (k first)) None) (seated e None) s t 0 →
+    HasDrilled seed scans points (e first).map t
+work_done o told seed scans points left after m k e first s t is none reads at new does =
+    through_drilled o told seed scans points after (e first) t is none
+    (does first (Some told) (script_of seed scans points) None
+    (script_begins o told (script_of seed scans points) left m (k first) s is reads at new)
+    (script_known o told (script_of seed scans points)))
 
 -- the session stops only where memory runs out
 pub only_memory : {H : Type 0} (short : Type 0) (r : Result (Unit {0}) Stop) (o : Setup)
     (told : Files)
     (seed scans points : ℕ) (left after : Option (List ℕ)) (m : Map) (k : H → Shelf) (e : H → Desk)
-    (home : H) (s : Session) →
-    o ≡ drill_setup → left ≡ Some (script_of seed scans points) → IsFirst (Some told) (k home)
+    (first : H) (s : Session) →
+    o ≡ drill_setup → left ≡ Some (script_of seed scans points) → IsFirst (Some told) (k first)
     → IsNew drill_setup m s → seed < 2 ^ 64 → scans ≤ 1000 → points ≤ 100000 →
-    IfErr r (λ stop. (home : H) (files : Option Files) (bytes : List ℕ) (w : Option (List ℕ))
-    → HasServed o files bytes left w None (desk m (k home)) s 0
-    → IsKnown (last_progress o files bytes) →
-    HasEndedAs o files bytes after w None (e home) short (status_of stop)) →
+    IfErr r (λ stop. Ends o left after (seated (λ first. desk m (k first)) None) (seated e None) s 0
+    short (status_of stop)) →
     (IsErrOf r ReadFault → ⊥) → (IsErrOf r WriteFault → ⊥) → (IsErrOf r StoreFault → ⊥)
     → IfErr r (λ stop. stop ≡ Memory)
-only_memory short (Ok done) o told seed scans points left after m k e home s is reads at new a b c
+only_memory short (Ok done) o told seed scans points left after m k e first s is reads at new a b c
     stops
     unread unwritten unstored = tt
-only_memory short (Err TooLong) o told seed scans points left after m k e home s is reads at new a b
-    c
-    stops unread unwritten unstored =
+only_memory short (Err TooLong) o told seed scans points left after m k e first s is reads at new a
+    b c stops unread unwritten unstored =
     let script = script_of seed scans points in
-    let ended = stops home (Some told) script None
-    (begun o told script left m (k home) s is reads at new) (known o told script) in
+    let ended = stops first (Some told) script None
+    (script_begins o told script left m (k first) s is reads at new) (script_known o told script) in
     let most : o.max_bytes ≡ 2 ^ 40 = ap (λ (x : Setup). x.max_bytes) is in
     let few = script_fits seed scans points a b c in
     let long : o.max_bytes + 1 ≤ length script = ended.answer.1.within in
     absurd (omega (arith, most, few, long))
-only_memory short (Err ReadFault) o told seed scans points left after m k e home s is reads at new a
-    b c
-    stops unread unwritten unstored = absurd (unread refl)
-only_memory short (Err WriteFault) o told seed scans points left after m k e home s is reads at new
+only_memory short (Err ReadFault) o told seed scans points left after m k e first s is reads at new
+    a b c stops unread unwritten unstored = absurd (unread refl)
+only_memory short (Err WriteFault) o told seed scans points left after m k e first s is reads at new
     a b c
     stops unread unwritten unstored = absurd (unwritten refl)
-only_memory short (Err Memory) o told seed scans points left after m k e home s is reads at new a b
+only_memory short (Err Memory) o told seed scans points left after m k e first s is reads at new a b
     c
     stops unread unwritten unstored = refl
-only_memory short (Err StoreFault) o told seed scans points left after m k e home s is reads at new
+only_memory short (Err StoreFault) o told seed scans points left after m k e first s is reads at new
     a b c
     stops unread unwritten unstored = absurd (unstored refl)
 

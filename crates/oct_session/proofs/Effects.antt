@@ -45,8 +45,8 @@ use Rattle.oct_session.specs.Tally.{capped, counted as count_reply}
 use Rattle.oct_session.specs.declared.tally.Tally.{Tally}
 use Rattle.oct_session.specs.Standing.{with_reply, KeepsStanding, HasAnswered, HasDone, HasUsed}
 use Rattle.oct_session.specs.Standing.{HasScanned, HasWorked, FindsTold, TakesEffect, HasEffect}
-use Rattle.oct_session.specs.Standing.{HasFailed, IsHeard, StandsBeside, HasStoppedAt, IsInStep}
-use Rattle.oct_session.specs.Standing.{IsBetween}
+use Rattle.oct_session.specs.Standing.{HasFailed, IsHeard, StandsBeside, IsInStep}
+use Rattle.oct_session.specs.Standing.{IsBetween, FailsLine}
 use Rattle.oct_session.proofs.MapHistory.{state_more}
 use Rattle.oct_session.proofs.Progresses.{after_answered, asks_next, asks_more, line_finds_told}
 
@@ -89,28 +89,30 @@ pub same_files : (told files : Option Files) (saving : Option Saving) → told �
 same_files told files saving is none = is ∙ ap (stored files) (sym none)
 
 -- a map that stands for some history after more commands
-pub some_more : (o : Setup) (m n : Map) (some : StandsForSome o m) (more : History)
+pub stands_after_more : (o : Setup) (m n : Map) (some : StandsForSome o m) (more : History)
     → StandsFor n (after_all (state_after o some.0) more) → StandsForSome o n
-some_more o m n some more at =
+stands_after_more o m n some more at =
     (some.0 ++ more, subst (StandsFor n) (sym (state_more o some.0 more)) at)
 
 -- a map on which something was done stands for some history, as before
-pub some_done : {E : Type 0} (r : Result (Option Reply) E) (m n : Map)
+pub stands_where_done : {E : Type 0} (r : Result (Option Reply) E) (m n : Map)
     (reply : State → Option Reply) (actions : State → History) → HasDone reply actions m n r
     → KeepsStanding m n
-some_done (Ok a) m n reply actions done =
-    λ o some. some_more o m n some (accepted a (actions (state_after o some.0)))
+stands_where_done (Ok a) m n reply actions done =
+    λ o some. stands_after_more o m n some (accepted a (actions (state_after o some.0)))
     (done (state_after o some.0) some.1).1
-some_done (Err x) m n reply actions done =
+stands_where_done (Err x) m n reply actions done =
     λ o some. (some.0, (done (state_after o some.0) some.1).1)
 
 -- and so does one that has worked on a line
-pub some_worked : {E : Type 0} (r : Result (Option Reply) E) (m n : Map) (block : Option ScanBlock)
+pub stands_where_worked : {E : Type 0} (r : Result (Option Reply) E) (m n : Map)
+    (block : Option ScanBlock)
     (e : State → Effect) → HasWorked e m n block r → KeepsStanding m n
-some_worked (Ok a) m n block e done =
-    λ o some. some_more o m n some (e (state_after o some.0)).added
+stands_where_worked (Ok a) m n block e done =
+    λ o some. stands_after_more o m n some (e (state_after o some.0)).added
     (done (state_after o some.0) some.1).2
-some_worked (Err x) m n block e done = λ o some. (some.0, (done (state_after o some.0) some.1).1)
+stands_where_worked (Err x) m n block e done = λ o some.
+    (some.0, (done (state_after o some.0) some.1).1)
 
 -- a line that closes its block was answered, and done unless it is refused
 pub effect_closed : {E : Type 0} (r : Result (Option Reply) E) (m n : Map) (number : ℕ)
@@ -172,13 +174,13 @@ inside_failed (Err x) m n f number line c (Some first) new some memory kept = λ
     )
 
 -- a map on which a line in a block was done stands for some history, as before
-pub some_inside : {E : Type 0} (r : Result (Option Reply) E) (m n : Map) (number : ℕ)
+pub stands_inside : {E : Type 0} (r : Result (Option Reply) E) (m n : Map) (number : ℕ)
     (c : Result Command Refusal) (old new : Option ScanBlock) → is_some old ≡ true →
     ((first : ScanBlock) → old ≡ Some first → HasWorked (λ s. effect_inside s number c first) m n new r)
     → KeepsStanding m n
-some_inside r m n number c None new some works = cc
-some_inside r m n number c (Some first) new some works =
-    some_worked r m n new (λ s. effect_inside s number c first) (works first refl)
+stands_inside r m n number c None new some works = cc
+stands_inside r m n number c (Some first) new some works =
+    stands_where_worked r m n new (λ s. effect_inside s number c first) (works first refl)
 
 -- what was answered and done on the map alone, with the files that stand by
 map_done : (m n : Map) (f : Option Files) (block : Option ScanBlock) (a : Option Reply)
@@ -336,7 +338,7 @@ verb_used r m l n f g number verb name block a closed done used =
 -- a map that had its part stands for some history, as before
 pub some_part : {E : Type 0} (r : Result (Option Reply) E) (m n : Map) (k : Kind)
     → HasDone (λ s. map_reply s k) (λ s. map_action k) m n r → KeepsStanding m n
-some_part r m n k done = some_done r m n (λ s. map_reply s k) (λ s. map_action k) done
+some_part r m n k done = stands_where_done r m n (λ s. map_reply s k) (λ s. map_action k) done
 
 -- and so it had where another verb was read that is the same
 pub used_as : (r : Result (Option Reply) StoreFault) (m n : Map) (f g : Option Files)
@@ -384,40 +386,41 @@ fault_taken m f number line refusal (Some block) new a is told =
     λ files s finds at. (told ∙ ap (spoilt_reply refusal) is, is, at)
 
 -- the effect of a line on the command that was read of it
-pub taken_as : (r : Result (Option Reply) StoreFault) (m n : Map) (f g : Option Files) (number : ℕ)
+pub effect_as_read : (r : Result (Option Reply) StoreFault) (m n : Map) (f g : Option Files)
+    (number : ℕ)
     (line : Line) (c read : Result Command Refusal) (old new : Option ScanBlock) → c ≡ read →
     HasEffect (λ files s. effect files s number line read old) (asked_of read) m f n g new r
     → HasEffect (λ files s. effect files s number line c old) (asked_of c) m f n g new r
-taken_as r m n f g number line c read old new is took =
+effect_as_read r m n f g number line c read old new is took =
     subst (λ x. HasEffect (λ files s. effect files s number line x old) (asked_of x) m f n g new r)
     (sym is) took
 
 -- a line that failed, and whose fault was passed on
-pub still_failed : {A : Type 0} (r : Result A StoreFault) (a : Option Reply)
+pub failed_passed_on : {A : Type 0} (r : Result A StoreFault) (a : Option Reply)
     (e : Option Files → State → Effect) (w : Option FileWork) (x : StoreFault) (m n : Map)
     (f g : Option Files) (block : Option ScanBlock) → IsErrAnd r (λ y. y ≡ x) →
     HasEffect e w m f n g block (Err x) → HasEffect e w m f n g block (with_reply r a)
-still_failed (Ok y) a e w x m n f g block same took = absurd same
-still_failed (Err y) a e w x m n f g block same took =
+failed_passed_on (Ok y) a e w x m n f g block same took = absurd same
+failed_passed_on (Err y) a e w x m n f g block same took =
     subst (λ z. HasEffect e w m f n g block (Err z)) (sym same) took
 
 -- the command of a line that was read, or why there is none
-pub read_in : (inside asked : Bool) (number : ℕ) (line : Line) (text : List ℕ) (c : Command)
+pub command_read : (inside asked : Bool) (number : ℕ) (line : Line) (text : List ℕ) (c : Command)
     → asked ≡ inside → line ≡ Text text → command_of asked text ≡ Ok c
     → command_on inside number line ≡ Ok c
-read_in inside asked number line text c same is read = ap (command_on inside number) is
+command_read inside asked number line text c same is read = ap (command_on inside number) is
     ∙ ap (λ b. numbered number (command_of b text)) (sym same) ∙ ap (numbered number) read
 
-pub misspelt_in : (inside asked : Bool) (number : ℕ) (line : Line) (text : List ℕ) (s : Syntax)
+pub command_misspelt : (inside asked : Bool) (number : ℕ) (line : Line) (text : List ℕ) (s : Syntax)
     → asked ≡ inside → line ≡ Text text → command_of asked text ≡ Err s
     → command_on inside number line ≡ Err (refusal_of.Syntax number s.column)
-misspelt_in inside asked number line text s same is read = ap (command_on inside number) is
+command_misspelt inside asked number line text s same is read = ap (command_on inside number) is
     ∙ ap (λ b. numbered number (command_of b text)) (sym same) ∙ ap (numbered number) read
 
-pub long_in : (inside : Bool) (number : ℕ) (line : Line) → is_long line ≡ true
+pub command_long : (inside : Bool) (number : ℕ) (line : Line) → is_long line ≡ true
     → command_on inside number line ≡ Err (refusal_of.LongLine number)
-long_in inside number (Text text) long = cc
-long_in inside number Long long = refl
+command_long inside number (Text text) long = cc
+command_long inside number Long long = refl
 
 -- the effect of a line where no block is inner
 pub effect_before : (r : Result (Option Reply) StoreFault) (m n : Map) (f g : Option Files)
@@ -503,11 +506,11 @@ like_line o d e s line p c block a w known at =
     (sym (state_more o p.history (effect_of o p line).added)) after)
 
 -- how often the store was asked after a call, by how often it was before
-pub asked_more : {F : Type 0} (files : F → Option Files) (calls : F → ℕ) (home old new : F)
+pub asked_more : {F : Type 0} (files : F → Option Files) (calls : F → ℕ) (first old new : F)
     (m n : Map) (k more : ℕ) → IsAsked (new ≡ old) (calls old) (calls new) more
-    → HasAsked (desk m (shelf files calls home old)) k →
-    HasAsked (desk n (shelf files calls home new)) (k + more)
-asked_more files calls home old new m n k more step at =
+    → HasAsked (desk m (shelf files calls first old)) k →
+    HasAsked (desk n (shelf files calls first new)) (k + more)
+asked_more files calls first old new m n k more step at =
     record {
       unasked = λ none. step.unasked (omega (arith, none))
           ∙ at.unasked (omega (arith, none));
@@ -581,51 +584,49 @@ failed_beside o e p line store_fault.Failed running torn =
 failed_beside o e p line store_fault.Memory running less = inr less
 
 -- where the command failed, nothing of the line is done, but for the file that it saves
-pub before_err : {T H : Type 0} (x : Result T StoreFault) (fault : StoreFault) (o : Setup)
+pub command_fails_line : {T H : Type 0} (x : Result T StoreFault) (fault : StoreFault) (o : Setup)
     (d e : H → Desk) (s : Session) (line : Line) (c : Result Command Refusal) (block : Option ScanBlock)
     → IsErrAnd x (λ y. y ≡ fault) →
-    ((home : H) → IsWorked s line c (d home).map (e home).map (d home).store.files
-    (e home).store.files
-    block (Err fault)) → ((home : H) → Asks (d home) (e home) (asks_for (file_named c))) →
-    IfErr x (λ y. (home : H) (p : Progress) → IsKnown (after_line o p line)
-    → IsBetween o (d home) s p → HasStoppedAt o (e home) p line y)
-before_err (Ok x) fault o d e s line c block same works asks = absurd same
-before_err (Err x) fault o d e s line c block same works asks = λ home p known at.
-    let w = works home in
+    ((first : H) → IsWorked s line c (d first).map (e first).map (d first).store.files
+    (e first).store.files
+    block (Err fault)) → ((first : H) → Asks (d first) (e first) (asks_for (file_named c))) →
+    IfErr x (FailsLine o d e s line)
+command_fails_line (Ok x) fault o d e s line c block same works asks = absurd same
+command_fails_line (Err x) fault o d e s line c block same works asks = λ first p known at.
+    let w = works first in
     let done = w.took p.files (state_after o p.history)
     (finds_line o s line p c w.running at.step w.read known) at.like in
     let failed : HasFailed (asked_of (next_command p line)) p.files (state_after o p.history)
-    (e home).map (e home).store.files x =
-    subst (λ y. HasFailed (asked_of y) p.files (state_after o p.history) (e home).map
-    (e home).store.files x)
+    (e first).map (e first).store.files x =
+    subst (λ y. HasFailed (asked_of y) p.files (state_after o p.history) (e first).map
+    (e first).store.files x)
     (same_command s line p c at.step w.read)
-    (subst (λ y. HasFailed (asked_of c) p.files (state_after o p.history) (e home).map
-    (e home).store.files y)
+    (subst (λ y. HasFailed (asked_of c) p.files (state_after o p.history) (e first).map
+    (e first).store.files y)
     (sym same) done.1) in
     record {
       heard = subst (λ (y : Effect). IsHeard y) (same_effect o s line p c at.step w.read) done.0;
-      beside = failed_beside o (e home) p line x (sym at.step.has_quit ∙ w.running) failed;
-      asked = asked_line o (d home) (e home) s line p c w.running w.read (asks home) at;
+      beside = failed_beside o (e first) p line x (sym at.step.has_quit ∙ w.running) failed;
+      asked = asked_line o (d first) (e first) s line p c w.running w.read (asks first) at;
     }
 
 -- where memory runs out for the reply, all of it is done
-pub after_err : {T H : Type 0} (x : Result T StoreFault) (o : Setup) (d e : H → Desk)
+pub reply_fails_line : {T H : Type 0} (x : Result T StoreFault) (o : Setup) (d e : H → Desk)
     (s : Session) (line : Line)
     (c : Result Command Refusal) (block : Option ScanBlock) (a : Option Reply)
     → IsErrAnd x (λ y. y ≡ store_fault.Memory) →
-    ((home : H) → IsWorked s line c (d home).map (e home).map (d home).store.files
-    (e home).store.files
-    block (Ok a)) → ((home : H) → Asks (d home) (e home) (asks_for (file_named c))) → IsSome a →
-    IfErr x (λ y. (home : H) (p : Progress) → IsKnown (after_line o p line)
-    → IsBetween o (d home) s p → HasStoppedAt o (e home) p line y)
-after_err (Ok x) o d e s line c block a memory works asks some = absurd memory
-after_err (Err x) o d e s line c block a memory works asks some = λ home p known at.
-    let w = works home in
+    ((first : H) → IsWorked s line c (d first).map (e first).map (d first).store.files
+    (e first).store.files
+    block (Ok a)) → ((first : H) → Asks (d first) (e first) (asks_for (file_named c))) → IsSome a →
+    IfErr x (FailsLine o d e s line)
+reply_fails_line (Ok x) o d e s line c block a memory works asks some = absurd memory
+reply_fails_line (Err x) o d e s line c block a memory works asks some = λ first p known at.
+    let w = works first in
     record {
       heard = inl (subst (λ (r : Option Reply). IsSome r)
-          (told_line o (d home) (e home).map
-          (e home).store.files s line p c block a w known at) some);
-      beside = subst (λ y. StandsBeside o (e home) p line y) (sym memory)
-          (inl (like_line o (d home) (e home) s line p c block a w known at));
-      asked = asked_line o (d home) (e home) s line p c w.running w.read (asks home) at;
+          (told_line o (d first) (e first).map
+          (e first).store.files s line p c block a w known at) some);
+      beside = subst (λ y. StandsBeside o (e first) p line y) (sym memory)
+          (inl (like_line o (d first) (e first) s line p c block a w known at));
+      asked = asked_line o (d first) (e first) s line p c w.running w.read (asks first) at;
     }

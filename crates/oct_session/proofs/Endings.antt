@@ -20,28 +20,29 @@ use Rattle.oct_ending.specs.declared.stop.Stop.TheVariants.{TooLong, ReadFault, 
 use Rattle.oct_ending.specs.declared.stop.Stop.TheVariants.{Memory, StoreFault as StoreStop}
 use Rattle.oct_session.specs.declared.session.Session.{Session}
 use Rattle.oct_io.specs.Taken.{HasTaken, IsBegun}
-use Rattle.oct_session.specs.Ending.{HasStopped, IsReadToEnd, replies_within}
+use Rattle.oct_session.specs.Ending.{HasHaltFault, IsReadToEnd, replies_within}
 use Rattle.oct_session.specs.Ending.{has_quit_within}
 use Rattle.oct_ending.specs.Answer.{Outcome}
 use Rattle.oct_ending.specs.Counts.{IsAsked}
 use Rattle.oct_session.specs.Leaving.{StandsFor, Desk, desk, HasAsked, IsLikeAfter}
 use Rattle.oct_ending.specs.Shelf.{Shelf, shelf}
-use Rattle.oct_session.specs.Leaving.{IsKnown, IsHalted, HasHalted}
+use Rattle.oct_session.specs.Leaving.{IsKnown, IsHalted, IsHaltedIn, HasEndedAs}
 use Rattle.oct_session.specs.History.{start_state}
 use Rattle.oct_session.specs.Session.{Progress, start, progress, lines_of, last_progress}
-use Rattle.oct_session.specs.Session.{session, finished, cut_short, closed, is_too_long}
+use Rattle.oct_session.specs.Session.{session, finished, overlong, closed, is_too_long}
 use Rattle.oct_session.specs.Session.{status_at_end, ReadsTold}
 use Rattle.oct_session.specs.Setup.{Setup}
 use Rattle.oct_session.specs.Tally.{no_replies}
-use Rattle.oct_session.specs.Standing.{Takes, IsHaltedBehind, StopsAtEnd, HasReached, IsAt}
-use Rattle.oct_session.specs.Standing.{HasServed, IsThrough, HasEndedAs, StopsIn}
+use Rattle.oct_session.specs.Standing.{seated, Takes, IsHaltedBehind, IsHaltedLast, HasReached}
+use Rattle.oct_session.specs.Standing.{IsAt, Reaches, HaltsAtEnd, HasServed, IsThrough, StopsIn}
 use Rattle.oct_ending.specs.Stops.{status_of, IsHalt}
 use Rattle.oct_session.proofs.Progresses.{progress_grows, progress_behind_quit, no_quit_before}
 use Rattle.oct_session.proofs.Progresses.{replied_first, known_before, known_bytes, asks_before}
 use Rattle.oct_session.proofs.Progresses.{told_fold}
 use Rattle.oct_session.proofs.Effects.{asked_most}
 use Rattle.oct_session.proofs.Halting.{halted_more, halted_begun, halted_asked, between_begun}
-use Rattle.oct_session.proofs.Halting.{closed_quit, closed_asks, closed_grows, unclosed}
+use Rattle.oct_session.proofs.Halting.{closed_quit, closed_asks, closed_files, closed_grows}
+use Rattle.oct_session.proofs.Halting.{like_unclosed}
 use Rattle.oct_session.proofs.Prefixes.{begun_more, begun_whole}
 
 -- the lines of a script that isn't too long
@@ -70,33 +71,33 @@ session_whole o files bytes short = rw short refl
 
 -- the session of a script that is too long
 pub session_long : (o : Setup) (files : Option Files) (bytes : List ℕ) → o.max_bytes < length bytes
-    → session o files bytes ≡ cut_short (last_progress o files bytes)
+    → session o files bytes ≡ overlong (last_progress o files bytes)
 unfolding session
 session_long o files bytes more = rw (lt-ltb o.max_bytes (length bytes) more) refl
 
-cut_text : (p : Progress) → (cut_short p).text ≡ p.text
-cut_text p = elim p.has_quit as
+overlong_text : (p : Progress) → (overlong p).text ≡ p.text
+overlong_text p = elim p.has_quit as
     (λ v. (cond v (finished p)
     (record { text = p.text; files = p.files; status = status.TooLong })).text ≡ p.text)
     [ true ↦ refl | false ↦ refl ]
 
-pub cut_files : (p : Progress) → (cut_short p).files ≡ p.files
-cut_files p = elim p.has_quit as
+pub overlong_files : (p : Progress) → (overlong p).files ≡ p.files
+overlong_files p = elim p.has_quit as
     (λ v. (cond v (finished p)
     (record { text = p.text; files = p.files; status = status.TooLong })).files ≡ p.files)
     [ true ↦ refl | false ↦ refl ]
 
-cut_quit : (p : Progress) → p.has_quit ≡ true → cut_short p ≡ finished p
-cut_quit p quit = rw quit refl
+overlong_quit : (p : Progress) → p.has_quit ≡ true → overlong p ≡ finished p
+overlong_quit p quit = rw quit refl
 
-cut_status : (p : Progress) → p.has_quit ≡ false → (cut_short p).status ≡ status.TooLong
-cut_status p running = rw running refl
+overlong_status : (p : Progress) → p.has_quit ≡ false → (overlong p).status ≡ status.TooLong
+overlong_status p running = rw running refl
 
 -- what the session of a script that is too long writes are the replies to its lines
 text_long : (o : Setup) (files : Option Files) (bytes : List ℕ) → o.max_bytes < length bytes
     → (session o files bytes).text ≡ (last_progress o files bytes).text
 text_long o files bytes more = ap (λ (a : Outcome). a.text) (session_long o files bytes more)
-    ∙ cut_text (last_progress o files bytes)
+    ∙ overlong_text (last_progress o files bytes)
 
 -- what a session writes begins with the replies to its lines
 session_text : (o : Setup) (files : Option Files) (bytes : List ℕ)
@@ -167,7 +168,7 @@ session_quit : (o : Setup) (files : Option Files) (bytes : List ℕ)
     → (last_progress o files bytes).has_quit ≡ true
     → session o files bytes ≡ finished (closed (last_progress o files bytes))
 session_quit o files bytes quit = elim (cases_lt o.max_bytes (length bytes)) [
-  | inl more ↦ session_long o files bytes more ∙ cut_quit (last_progress o files bytes) quit
+  | inl more ↦ session_long o files bytes more ∙ overlong_quit (last_progress o files bytes) quit
       ∙ ap finished (sym (closed_quit (last_progress o files bytes) quit))
   | inr small ↦ session_short o files bytes small
 ]
@@ -208,31 +209,56 @@ halted_session : {short : Type 0} (o : Setup) (files : Option Files) (bytes fron
     (old new : Option (List ℕ)) (d : Desk) (status : Status) → bytes ≡ front ++ back
     → length front ≤ o.max_bytes →
     IsHalted o files (ended_lines front) old new d short status
-    → HasHalted o files bytes old new d short status
+    → IsHaltedIn o files bytes old new d short status
 halted_session {short} o files bytes front back old new d status parts few halted =
     let s = lines_within o bytes front back parts few in
     inl (subst (λ x. IsHalted o files x old new d short status) (sym s.1)
     (halted_more o files (ended_lines front) s.0 old new d status halted))
 
+-- the files of the answer are those after the last line
+pub session_files : (o : Setup) (files : Option Files) (bytes : List ℕ)
+    → (session o files bytes).files ≡ (last_progress o files bytes).files
+session_files o files bytes = elim (cases_lt o.max_bytes (length bytes)) [
+  | inl more ↦ ap (λ (a : Outcome). a.files) (session_long o files bytes more)
+      ∙ overlong_files (last_progress o files bytes)
+  | inr few ↦ ap (λ (a : Outcome). a.files) (session_short o files bytes few)
+      ∙ closed_files (last_progress o files bytes)
+]
+
 halted_as : {short : Type 0} (o : Setup) (files : Option Files) (bytes : List ℕ)
     (left w u : Option (List ℕ))
-    (d : Desk) (stop : Stop) → IsHalt stop → HasHalted o files bytes w u d short (status_of stop) →
-    IsBegun (session o files bytes).text w u → HasStopped o files bytes left w u
+    (d : Desk) (stop : Stop) → IsHalt stop → IsHaltedIn o files bytes w u d short (status_of stop) →
+    IsBegun (session o files bytes).text w u → HasHaltFault o files bytes left w u
     → HasAsked d (last_progress o files bytes).asks
     → HasEndedAs o files bytes left w u d short (status_of stop)
 halted_as o files bytes left w u d WriteFault only halted begun input asked =
-    record { answer = (begun, input); leaves = halted; asked = asked }
+    record {
+      answer = (begun, input);
+      leaves = halted;
+      asked = asked;
+      files_told = λ all. absurd all;
+    }
 halted_as o files bytes left w u d Memory only halted begun input asked =
-    record { answer = (begun, input); leaves = halted; asked = asked }
+    record {
+      answer = (begun, input);
+      leaves = halted;
+      asked = asked;
+      files_told = λ all. absurd all;
+    }
 halted_as o files bytes left w u d StoreStop only halted begun input asked =
-    record { answer = (begun, input); leaves = halted; asked = asked }
+    record {
+      answer = (begun, input);
+      leaves = halted;
+      asked = asked;
+      files_told = λ all. absurd all;
+    }
 halted_as o files bytes left w u d TooLong only halted begun input asked = absurd only
 halted_as o files bytes left w u d ReadFault only halted begun input asked = absurd only
 
 -- what a session that was halted has written is a prefix of the whole answer
 halted_text : {short : Type 0} (o : Setup) (files : Option Files) (bytes : List ℕ)
     (w u : Option (List ℕ)) (d : Desk)
-    (status : Status) → HasHalted o files bytes w u d short status
+    (status : Status) → IsHaltedIn o files bytes w u d short status
     → IsBegun (session o files bytes).text w u
 halted_text o files bytes w u d status (inl halted) = let s = session_text o files bytes in
     begun_more _ _ s.0 w u s.1 (halted_begun o files (lines_of o bytes) w u d status halted)
@@ -245,7 +271,7 @@ halted_text o files bytes w u d status (inr end) =
 -- the store was asked once at most for each line that names a file
 halted_asks : {short : Type 0} (o : Setup) (files : Option Files) (bytes : List ℕ)
     (w u : Option (List ℕ)) (d : Desk)
-    (status : Status) → HasHalted o files bytes w u d short status
+    (status : Status) → IsHaltedIn o files bytes w u d short status
     → HasAsked d (last_progress o files bytes).asks
 halted_asks o files bytes w u d status (inl halted) =
     halted_asked o files (lines_of o bytes) w u d status halted
@@ -255,8 +281,8 @@ halted_asks o files bytes w u d status (inr end) =
 -- how a session ends that was halted by its sink or its store, or because memory ran out
 halted_ends : {short : Type 0} (o : Setup) (files : Option Files) (bytes : List ℕ)
     (left w u : Option (List ℕ))
-    (d : Desk) (stop : Stop) → IsHalt stop → HasHalted o files bytes w u d short (status_of stop) →
-    HasStopped o files bytes left w u → HasEndedAs o files bytes left w u d short (status_of stop)
+    (d : Desk) (stop : Stop) → IsHalt stop → IsHaltedIn o files bytes w u d short (status_of stop) →
+    HasHaltFault o files bytes left w u → HasEndedAs o files bytes left w u d short (status_of stop)
 halted_ends o files bytes left w u d stop only halted input =
     halted_as o files bytes left w u d stop only halted
     (halted_text o files bytes w u d (status_of stop) halted) input
@@ -273,10 +299,11 @@ pub record IsNew (o : Setup) (m : Map) (s : Session) : Type 0 where
   pub tally : s.tally ≡ no_replies
 
 -- a new session with the map that it is lent
-pub begins : {o : Setup} {m : Map} {s : Session} → StandsFor m (start_state o) → s.line ≡ unread
+pub new_session : {o : Setup} {m : Map} {s : Session} → StandsFor m (start_state o)
+    → s.line ≡ unread
     → s.line_count ≡ 0 → s.block ≡ None → s.refused ≡ false → s.has_quit ≡ false
     → s.tally ≡ no_replies → IsNew o m s
-begins stands line counted block refused running tally =
+new_session stands line counted block refused running tally =
     record {
       stands = stands;
       line = line;
@@ -292,9 +319,9 @@ pub record IsFirst (files : Option Files) (k : Shelf) : Type 0 where
   pub told : k.files ≡ files
   pub asked : IsAsked k.same k.first_calls k.calls 0
 
-pub first : {F : Type 0} (files : F → Option Files) (calls : F → ℕ) (home : F)
-    → IsFirst (files home) (shelf files calls home home)
-first files calls home =
+pub nothing_asked : {F : Type 0} (files : F → Option Files) (calls : F → ℕ) (first : F)
+    → IsFirst (files first) (shelf files calls first first)
+nothing_asked files calls first =
     record { told = refl; asked = record { unasked = λ none. refl; few = omega arith } }
 
 -- before the first read
@@ -361,20 +388,22 @@ pub record IsRead (o : Setup) (buffer piece : List ℕ) (left after : Option (Li
   pub len : length piece ≡ n
 
 -- a read whose bytes were all taken
-pub serving_more : (o : Setup) (files : Option Files) (bytes buffer piece : List ℕ)
-    (left after w v u : Option (List ℕ)) (d e : Desk) (s t : Session) (taken n room : ℕ)
-    → IsRead o buffer piece left after taken n room → length piece ≤ room →
-    (Takes o v u d e s t (take room piece)) →
-    HasServed o files bytes left w v d s taken → HasServed o files bytes after w u e t (taken + n)
-serving_more o files bytes buffer piece left after w v u d e s t taken n room read fits goes at =
+pub serving_more : {H : Type 0} (o : Setup) (files : Option Files) (bytes buffer piece : List ℕ)
+    (left after w v u : Option (List ℕ)) (d e : H → Desk) (first : H) (s t : Session)
+    (taken n room : ℕ) → IsRead o buffer piece left after taken n room → length piece ≤ room
+    → Takes o (seated d v) (seated e u) s t (take room piece)
+    → HasServed o files bytes left w v (d first) s taken
+    → HasServed o files bytes after w u (e first) t (taken + n)
+serving_more o files bytes buffer piece left after w v u d e first s t taken n room read fits goes
+    at =
     let p : piece ≡ take n (drop taken bytes) =
     piece_is bytes buffer piece left taken n at.input read.same read.is in
     let whole : take room piece ≡ take n (drop taken bytes) = take_all room piece fits ∙ p in
     record {
       input = taken_more bytes left after taken n at.input read.moved read.enough;
-      at = subst (λ x. IsAt o files w u e t x)
+      at = subst (λ x. IsAt o files w u (e first) t x)
           (ap (λ x. take taken bytes ++ x) whole ∙ sym (take-add taken n bytes))
-          (goes files w (take taken bytes) at.at);
+          (goes first files w (take taken bytes) at.at);
     }
 
 -- the input failed
@@ -406,6 +435,7 @@ ends_read_fault o files bytes left after w v d s taken same few running at known
       asked = asked_most d _ _
           (asks_within o files bytes (take taken bytes) (drop taken bytes) parts size)
           reached.between.asked;
+      files_told = λ all. absurd all;
     }
 
 -- a script within a read: what was taken before, what of the piece may be taken, and what is after
@@ -446,14 +476,14 @@ counted bytes piece taken n room most few size within is =
     ∙ take-append-add (take taken bytes) piece room
 
 -- a `quit` line in what a read gave
-pub serving_quit : (o : Setup) (files : Option Files) (bytes buffer piece : List ℕ)
-    (left after w v u : Option (List ℕ)) (d e : Desk) (s t : Session) (taken n room : ℕ)
-    → IsRead o buffer piece left after taken n room → s.has_quit ≡ false → t.has_quit ≡ true →
-    (Takes o v u d e s t (take room piece)) →
-    HasServed o files bytes left w v d s taken → IsKnown (last_progress o files bytes)
-    → IsThrough o files bytes after w u e t
-serving_quit o files bytes buffer piece left after w v u d e s t taken n room read running quit goes
-    at known =
+pub serving_quit : {H : Type 0} (o : Setup) (files : Option Files) (bytes buffer piece : List ℕ)
+    (left after w v u : Option (List ℕ)) (d e : H → Desk) (first : H) (s t : Session)
+    (taken n room : ℕ) → IsRead o buffer piece left after taken n room → s.has_quit ≡ false
+    → t.has_quit ≡ true → Takes o (seated d v) (seated e u) s t (take room piece)
+    → HasServed o files bytes left w v (d first) s taken → IsKnown (last_progress o files bytes)
+    → IsThrough o files bytes after w u (e first) t
+serving_quit o files bytes buffer piece left after w v u d e first s t taken n room read running
+    quit goes at known =
     let p : piece ≡ take n (drop taken bytes) =
     piece_is bytes buffer piece left taken n at.input read.same read.is in
     let front : List ℕ = take taken bytes ++ take room piece in
@@ -462,14 +492,14 @@ serving_quit o files bytes buffer piece left after w v u d e s t taken n room re
     let few = few_within bytes piece taken room o.max_bytes read.few read.size in
     let known_front : IsKnown (progress o files (ended_lines front)) =
     known_within o files bytes front back parts few known in
-    let reached = (goes files w (take taken bytes) at.at).reached known_front in
+    let reached = (goes first files w (take taken bytes) at.at).reached known_front in
     let before = at.at.reached
     (known_bytes o files (take taken bytes) (take room piece) known_front) in
     let ends : has_quit_within o files front ≡ true = sym reached.between.step.has_quit ∙ quit in
     let last : last_progress o files bytes ≡ progress o files (ended_lines front) =
     last_quit o files bytes front back parts few ends in
     record {
-      reached = subst (λ x. HasReached o w u e t x)
+      reached = subst (λ x. HasReached o w u (e first) t x)
           (sym (closed_quit (last_progress o files bytes)
           (ap (λ (x : Progress). x.has_quit) last ∙ ends) ∙ last)) reached;
       whole = session_quit o files bytes (ap (λ (x : Progress). x.has_quit) last ∙ ends);
@@ -544,42 +574,42 @@ stops_long o files bytes buffer piece left after w u d t taken n room read more 
         record {
           written = reached.written ∙ ap (appended w) (sym (text_long o files bytes long));
           same_status = ap (λ (a : Outcome). a.status) (session_long o files bytes long)
-              ∙ cut_status (last_progress o files bytes)
+              ∙ overlong_status (last_progress o files bytes)
               (sym reached.between.step.has_quit ∙ running);
         },
         subst (λ x. HasTaken x bytes after) all k,
       );
       leaves = reached.between.like;
       asked = reached.between.asked;
+      files_told = λ all. reached.between.like.told ∙ sym (session_files o files bytes);
     }
 
 -- a stop within what a read gave
-pub ends_stop : {short : Type 0} (o : Setup) (files : Option Files) (bytes buffer piece : List ℕ)
-    (left after w v u : Option (List ℕ)) (d e : Desk) (s t : Session) (taken n room : ℕ)
-    (stop : Stop) → IsRead o buffer piece left after taken n room →
-    ((files : Option Files) (w : Option (List ℕ)) (bytes : List ℕ) → IsAt o files w v d s bytes
-    → StopsIn o files w u e t bytes piece room short stop) →
-    HasServed o files bytes left w v d s taken → IsKnown (last_progress o files bytes)
-    → HasEndedAs o files bytes after w u e short (status_of stop)
-ends_stop o files bytes buffer piece left after w v u d e s t taken n room TooLong read stops at
-    known =
-    let p = stops files w (take taken bytes) at.at in
-    stops_long o files bytes buffer piece left after w u e t taken n room read p.0 p.1 at.input p.2
-    known
-ends_stop o files bytes buffer piece left after w v u d e s t taken n room WriteFault read stops at
-    known =
-    stops_halted o files bytes buffer piece left after w u e taken n room WriteFault tt read
-    at.input (stops files w (take taken bytes) at.at) known
-ends_stop o files bytes buffer piece left after w v u d e s t taken n room Memory read stops at
-    known =
-    stops_halted o files bytes buffer piece left after w u e taken n room Memory tt read at.input
-    (stops files w (take taken bytes) at.at) known
-ends_stop o files bytes buffer piece left after w v u d e s t taken n room StoreStop read stops at
-    known =
-    stops_halted o files bytes buffer piece left after w u e taken n room StoreStop tt read at.input
-    (stops files w (take taken bytes) at.at) known
-ends_stop o files bytes buffer piece left after w v u d e s t taken n room ReadFault read stops at
-    known = absurd (stops files w (take taken bytes) at.at)
+pub ends_stop : {short H : Type 0} (o : Setup) (files : Option Files)
+    (bytes buffer piece : List ℕ) (left after w v u : Option (List ℕ)) (d e : H → Desk) (first : H)
+    (s t : Session) (taken n room : ℕ) (stop : Stop) → IsRead o buffer piece left after taken n room
+    → StopsIn o (seated d v) (seated e u) s t piece room short stop
+    → HasServed o files bytes left w v (d first) s taken → IsKnown (last_progress o files bytes)
+    → HasEndedAs o files bytes after w u (e first) short (status_of stop)
+ends_stop o files bytes buffer piece left after w v u d e first s t taken n room
+    TooLong read stops at known =
+    let p = stops first files w (take taken bytes) at.at in
+    stops_long o files bytes buffer piece left after w u (e first) t taken n room read p.0 p.1
+    at.input p.2 known
+ends_stop o files bytes buffer piece left after w v u d e first s t taken n room
+    WriteFault read stops at known =
+    stops_halted o files bytes buffer piece left after w u (e first) taken n room WriteFault tt read
+    at.input (stops first files w (take taken bytes) at.at) known
+ends_stop o files bytes buffer piece left after w v u d e first s t taken n room
+    Memory read stops at known =
+    stops_halted o files bytes buffer piece left after w u (e first) taken n room Memory tt read
+    at.input (stops first files w (take taken bytes) at.at) known
+ends_stop o files bytes buffer piece left after w v u d e first s t taken n room
+    StoreStop read stops at known =
+    stops_halted o files bytes buffer piece left after w u (e first) taken n room StoreStop tt read
+    at.input (stops first files w (take taken bytes) at.at) known
+ends_stop o files bytes buffer piece left after w v u d e first s t taken n room
+    ReadFault read stops at known = absurd (stops first files w (take taken bytes) at.at)
 
 -- where nothing is left, all bytes were taken
 all_taken : (bytes : List ℕ) (left : Option (List ℕ)) (taken : ℕ) → HasTaken taken bytes left
@@ -590,14 +620,13 @@ all_taken bytes left taken input none =
     omega (arith, ap length e, length-drop taken bytes, input.within)
 
 -- the end of the input
-pub through_end : (o : Setup) (files : Option Files) (bytes : List ℕ) (left w v u : Option (List ℕ))
-    (d e : Desk) (s t : Session) (taken : ℕ) → taken ≤ o.max_bytes → IfSome left (λ l. l ≡ []) →
-    ((files : Option Files) (w : Option (List ℕ)) (bytes : List ℕ) → IsAt o files w v d s bytes
-    → IsKnown (progress o files (all_lines bytes))
-    → HasReached o w u e t (closed (progress o files (all_lines bytes)))) →
-    HasServed o files bytes left w v d s taken → IsKnown (last_progress o files bytes)
-    → IsThrough o files bytes left w u e t
-through_end o files bytes left w v u d e s t taken few none goes at known =
+pub through_end : {H : Type 0} (o : Setup) (files : Option Files) (bytes : List ℕ)
+    (left w v u : Option (List ℕ)) (d e : H → Desk) (first : H) (s t : Session) (taken : ℕ)
+    → taken ≤ o.max_bytes → IfSome left (λ l. l ≡ [])
+    → Reaches o (seated d v) (seated e u) s t closed
+    → HasServed o files bytes left w v (d first) s taken → IsKnown (last_progress o files bytes)
+    → IsThrough o files bytes left w u (e first) t
+through_end o files bytes left w v u d e first s t taken few none goes at known =
     let size : length bytes ≡ taken = all_taken bytes left taken at.input none in
     let whole : take taken bytes ≡ bytes = take_all taken bytes (omega arith) in
     let short : length bytes ≤ o.max_bytes = omega arith in
@@ -606,8 +635,8 @@ through_end o files bytes left w v u d e s t taken few none goes at known =
     let rest : drop taken bytes ≡ [] =
     subst (λ (x : Option (List ℕ)). IfSome x (λ l. l ≡ [])) at.input.rest none in
     record {
-      reached = subst (λ x. HasReached o w u e t (closed (progress o files x))) lines
-          (goes files w (take taken bytes) at.at
+      reached = subst (λ x. HasReached o w u (e first) t (closed (progress o files x))) lines
+          (goes first files w (take taken bytes) at.at
           (subst (λ x. IsKnown (progress o files x)) (sym lines) known));
       whole = session_short o files bytes short;
       end = record {
@@ -623,34 +652,31 @@ through_end o files bytes left w v u d e s t taken few none goes at known =
 stopped_end : {short : Type 0} (o : Setup) (files : Option Files) (front bytes : List ℕ)
     (w u : Option (List ℕ))
     (d : Desk) (status : Status) → length bytes ≤ o.max_bytes
-    → StopsAtEnd o files front (lines_of o bytes) w u d short status
-    → HasHalted o files bytes w u d short status
+    → IsHaltedLast o files front (lines_of o bytes) w u d short status
+    → IsHaltedIn o files bytes w u d short status
 stopped_end o files front bytes w u d status few (inl halted, replied) = inl halted
 stopped_end o files front bytes w u d status few (inr end, replied) =
     inr (le-ltb o.max_bytes (length bytes) few, end)
 
 -- a stop in the answer to the last line
-pub ends_last : {short : Type 0} (o : Setup) (files : Option Files) (bytes : List ℕ)
-    (left w v u : Option (List ℕ))
-    (d e : Desk) (s : Session) (taken : ℕ) (stop : Stop) → taken ≤ o.max_bytes
-    → IfSome left (λ l. l ≡ []) → IsHalt stop →
-    ((files : Option Files) (w : Option (List ℕ)) (bytes : List ℕ) → IsAt o files w v d s bytes
-    → IsKnown (progress o files (all_lines bytes))
-    → StopsAtEnd o files bytes (all_lines bytes) w u e short (status_of stop)) →
-    HasServed o files bytes left w v d s taken → IsKnown (last_progress o files bytes)
-    → HasEndedAs o files bytes left w u e short (status_of stop)
-ends_last {short} o files bytes left w v u d e s taken stop few none only halts at known =
+pub ends_last : {short H : Type 0} (o : Setup) (files : Option Files) (bytes : List ℕ)
+    (left w v u : Option (List ℕ)) (d e : H → Desk) (first : H) (s : Session) (taken : ℕ)
+    (stop : Stop) → taken ≤ o.max_bytes → IfSome left (λ l. l ≡ []) → IsHalt stop
+    → HaltsAtEnd o (seated d v) (seated e u) s short (status_of stop)
+    → HasServed o files bytes left w v (d first) s taken → IsKnown (last_progress o files bytes)
+    → HasEndedAs o files bytes left w u (e first) short (status_of stop)
+ends_last {short} {H} o files bytes left w v u d e first s taken stop few none only halts at known =
     let size : length bytes ≡ taken = all_taken bytes left taken at.input none in
     let whole : take taken bytes ≡ bytes = take_all taken bytes (omega arith) in
     let within : length bytes ≤ o.max_bytes = omega arith in
     let lines : all_lines (take taken bytes) ≡ lines_of o bytes = ap all_lines whole
     ∙ sym (lines_short o bytes within) in
-    let halted = halts files w (take taken bytes) at.at
+    let halted = halts first files w (take taken bytes) at.at
     (subst (λ x. IsKnown (progress o files x)) (sym lines) known) in
-    halted_ends o files bytes left w u e stop only
-    (stopped_end o files (take taken bytes) bytes w u e (status_of stop) within
-    (subst (λ x. StopsAtEnd o files (take taken bytes) x w u e short (status_of stop)) lines
-    halted))
+    halted_ends o files bytes left w u (e first) stop only
+    (stopped_end o files (take taken bytes) bytes w u (e first) (status_of stop) within
+    (subst (λ x. IsHaltedLast o files (take taken bytes) x w u (e first) short (status_of stop))
+    lines halted))
     (record {
       taken = taken;
       few = omega arith;
@@ -671,6 +697,7 @@ ended_as {short} o files bytes left w v d true status is same written end like a
       answer = (record { written = written; same_status = same }, end);
       leaves = like;
       asked = asked;
+      files_told = λ all. like.told ∙ sym (session_files o files bytes);
     })
 ended_as {short} o files bytes left w v d false status is same written end like asked =
     subst (HasEndedAs o files bytes left w v d short) (sym is)
@@ -678,6 +705,7 @@ ended_as {short} o files bytes left w v d false status is same written end like 
       answer = (record { written = written; same_status = same }, end);
       leaves = like;
       asked = asked;
+      files_told = λ all. like.told ∙ sym (session_files o files bytes);
     })
 
 -- the whole script was answered
@@ -691,5 +719,5 @@ ends_through o files bytes left w v d s status is through =
     ∙ ap status_at_end (sym through.reached.between.step.refused))
     (through.reached.written ∙ ap (λ (a : Outcome). appended w a.text) (sym through.whole))
     through.end
-    (unclosed o d (last_progress o files bytes) through.reached.between.like)
+    (like_unclosed o d (last_progress o files bytes) through.reached.between.like)
     (subst (HasAsked d) (closed_asks (last_progress o files bytes)) through.reached.between.asked)

@@ -29,7 +29,7 @@ use Rattle.oct_session.specs.ScanBlock.{end_reply}
 use Rattle.oct_session.specs.Setup.{Setup}
 use Rattle.oct_session.specs.Tally.{capped, counted as count_reply}
 use Rattle.oct_session.specs.declared.tally.Tally.{Tally}
-use Rattle.oct_session.specs.Standing.{IsHeard, StandsBeside, HasStoppedAt, IsInStep}
+use Rattle.oct_session.specs.Standing.{IsHeard, StandsBeside, HasFailedAt, IsInStep}
 use Rattle.oct_session.specs.Standing.{HasReached, IsShort, IsCutBy}
 use Rattle.oct_ending.specs.Stops.{stop_of_sink, stop_of_store, status_of}
 use Rattle.oct_session.proofs.Effects.{asked_most}
@@ -111,7 +111,7 @@ heard_line o p line running (inr some) =
 -- a halt at a line of whose reply nothing was written
 pub halted_untold : {short : Type 0} (o : Setup) (w v : Option (List ℕ)) (d e : Desk) (s : Session)
     (line : Line) (p : Progress) (fault : StoreFault) → s.has_quit ≡ false → HasReached o w v d s p
-    → HasStoppedAt o e p line fault
+    → HasFailedAt o e p line fault
     → IsHaltedBy o p line [] w v e short (status_of (stop_of_store fault))
 unfolding cut_untold
 halted_untold {short} o w v d e s line p fault running at stopped =
@@ -134,9 +134,10 @@ pub closed_quit : (p : Progress) → p.has_quit ≡ true → closed p ≡ p
 closed_quit p quit = rw quit refl
 
 -- what stands at the end of a script stood before it
-pub unclosed : (o : Setup) (d : Desk) (p : Progress) → IsLikeAfter o (closed p) d
+pub like_unclosed : (o : Setup) (d : Desk) (p : Progress) → IsLikeAfter o (closed p) d
     → IsLikeAfter o p d
-unclosed o d p = elim p.has_quit as (λ v. IsLikeAfter o (cond v p (ended p)) d → IsLikeAfter o p d)
+like_unclosed o d p = elim p.has_quit as
+    (λ v. IsLikeAfter o (cond v p (ended p)) d → IsLikeAfter o p d)
     [ true ↦ (λ at. at) | false ↦ (λ at. at) ]
 
 pub closed_files : (p : Progress) → (closed p).files ≡ p.files
@@ -162,14 +163,15 @@ like_closed o d p at = elim p.has_quit as (λ v. IsLikeAfter o (cond v p (ended 
     [ true ↦ at | false ↦ at ]
 
 -- the end of the script, answered whole
-pub told_end : (w v u : Option (List ℕ)) (s t : Session) (p : Progress) (r : Option Reply)
+pub closing_told : (w v u : Option (List ℕ)) (s t : Session) (p : Progress) (r : Option Reply)
     (text : List ℕ) → s.has_quit ≡ false → IsInStep s p → v ≡ appended w p.text
     → r ≡ end_reply s.block →
     text ≡ text_of r → u ≡ appended v text → t.line_count ≡ s.line_count → t.block ≡ None
     → t.refused ≡ (s.refused || is_refusal r) → t.has_quit ≡ s.has_quit →
     ((x : Tally) → s.tally ≡ capped x → t.tally ≡ capped (count_reply x r))
     → IsInStep t (closed p) × (u ≡ appended w (closed p).text)
-told_end w v u s t p r text running at before is told written answered block refused quit tally =
+closing_told w v u s t p r text running at before is told written answered block refused quit
+    tally =
     let same : r ≡ end_reply p.block = is ∙ ap end_reply at.block in
     subst (λ (x : Progress). IsInStep t x × (u ≡ appended w x.text))
     (sym (closed_ended p (sym at.has_quit ∙ running))) (
@@ -213,27 +215,28 @@ text_end s p r running at is =
     ∙ ap (λ x. p.text ++ text_of x) (sym (is ∙ ap end_reply at.block))
 
 -- a call that gives up before anything of the end's reply is written
-pub end_untold : {T : Type 0} (short : Type 0) (result : Result T SinkFault) (v : Option (List ℕ))
+pub closing_untold : {T : Type 0} (short : Type 0) (result : Result T SinkFault)
+    (v : Option (List ℕ))
     (s : Session) (r : Option Reply) → s.has_quit ≡ false → r ≡ end_reply s.block → IsSome r →
     IfErr result (λ fault. (w : Option (List ℕ)) (p : Progress) → IsInStep s p
     → v ≡ appended w p.text → IsCutBy p (closed p) w v short fault)
 unfolding cut_untold
-end_untold short (Ok x) v s r running is some = tt
-end_untold short (Err x) v s r running is some = λ w p at before. record {
+closing_untold short (Ok x) v s r running is some = tt
+closing_untold short (Err x) v s r running is some = λ w p at before. record {
   cut = cut_untold w v s p (closed p) (text_of r) running at before (text_end s p r running at is)
       (inl (text_some r some));
   by = inl refl;
 }
 
 -- a call that gives up when a part of it is written
-pub end_part : {T short : Type 0} (result : Result T SinkFault) (fault : SinkFault)
+pub closing_cut : {T short : Type 0} (result : Result T SinkFault) (fault : SinkFault)
     (v u : Option (List ℕ)) (s : Session) (r : Option Reply) (text : List ℕ) (k : ℕ)
     → IsErrAnd result (λ x. x ≡ fault) → IsShort fault short → s.has_quit ≡ false
     → r ≡ end_reply s.block → text ≡ text_of r → k < length text → u ≡ appended v (take k text) →
     IfErr result (λ fault. (w : Option (List ℕ)) (p : Progress) → IsInStep s p
     → v ≡ appended w p.text → IsCutBy p (closed p) w u short fault)
-end_part (Ok x) fault v u s r text k same ran running is told less written = tt
-end_part (Err x) fault v u s r text k same ran running is told less written = λ w p at before.
+closing_cut (Ok x) fault v u s r text k same ran running is told less written = tt
+closing_cut (Err x) fault v u s r text k same ran running is told less written = λ w p at before.
     record {
       cut = cut_part w v u s p (closed p) text k running at before
           (text_end s p r running at is ∙ ap (λ y. p.text ++ y) (sym told)) less written;

@@ -15,8 +15,9 @@ use Rattle.oct_session.specs.Ending.{HasReplied, replies_within}
 use Rattle.oct_session.specs.Leaving.{Desk, IsKnown, IsHalted}
 use Rattle.oct_session.specs.Session.{progress}
 use Rattle.oct_session.specs.Setup.{Setup}
-use Rattle.oct_session.specs.Standing.{IsHolding, HasHeld, IsHeldAt, TakesHeld, HaltsHeld, IsAt}
-use Rattle.oct_session.specs.Standing.{Adds, Halts, HasReached, IsShort}
+use Rattle.oct_session.specs.Standing.{seated, IsHolding, HasHeld, IsHeldAt, TakesHeld, HaltsHeld}
+use Rattle.oct_session.specs.Standing.{IsAt, Adds, Halts, HasReached, Reaches, IsShort, HoldsLine}
+use Rattle.oct_session.specs.Standing.{HaltsLine}
 use Rattle.oct_ending.specs.Stops.{stop_of_sink, status_of}
 use Rattle.oct_session.proofs.Halting.{halted_bytes}
 use Rattle.oct_session.proofs.Holding.{holding_none, holding_whole, held_cut, held_moved}
@@ -32,37 +33,36 @@ held_beside o files lines w v d s f beside same at =
     held_moved o files lines w v v d s f beside (inl (refl, same)) at
 
 -- a piece in which no line ends
-pub held_joined : (o : Setup) (v : Option (List ℕ)) (d : Desk) (s f : Session) (piece : List ℕ)
-    → s.has_quit ≡ false → ((bytes : List ℕ) → IsReading s.line bytes
+pub held_joined : {H : Type 0} (o : Setup) (v : Option (List ℕ)) (d : H → Desk) (s f : Session)
+    (piece : List ℕ) → s.has_quit ≡ false → ((bytes : List ℕ) → IsReading s.line bytes
     → HasJoined f.line bytes (bytes ++ piece)) → IsBeside f s → f.text.items ≡ s.text.items
-    → TakesHeld o v v d d s f piece
-held_joined o v d s f piece running joins beside same files w bytes at =
+    → TakesHeld o (seated d v) (seated d v) s f piece
+held_joined o v d s f piece running joins beside same first files w bytes at =
     let done : HasJoined f.line bytes (bytes ++ piece) = joins bytes (at.line running) in
     record {
-      reached = λ known. subst (λ x. HasHeld o files x w v d f) (sym done.lines)
-          (held_beside o files (ended_lines bytes) w v d s f beside same
+      reached = λ known. subst (λ x. HasHeld o files x w v (d first) f) (sym done.lines)
+          (held_beside o files (ended_lines bytes) w v (d first) s f beside same
           (at.reached (subst (λ x. IsKnown (progress o files x)) done.lines known)));
       line = λ goes_on. done.reads;
     }
 
 -- a piece up to a line feed, and the answer to the line that it ends
-pub held_ended : (o : Setup) (v u : Option (List ℕ)) (d e : Desk) (s f t : Session)
+pub held_ended : {H : Type 0} (o : Setup) (v u : Option (List ℕ)) (d e : H → Desk) (s f t : Session)
     (reading : LineSoFar) (piece : List ℕ) → s.has_quit ≡ false → ((bytes : List ℕ)
     → IsReading s.line bytes
     → HasEnded reading bytes (bytes ++ piece)) → IsBeside f s → f.text.items ≡ s.text.items
-    → ((files : Option Files) (lines : List Line) (w : Option (List ℕ))
-    → IsKnown (progress o files (lines ++ reading.line ∷ [])) → HasHeld o files lines w v d f
-    → HasHeld o files (lines ++ reading.line ∷ []) w u e t) → t.line ≡ unread
-    → TakesHeld o v u d e s t piece
-held_ended o v u d e s f t reading piece running ends beside same answers next files w bytes at =
+    → HoldsLine o (seated d v) (seated e u) f t reading.line → t.line ≡ unread
+    → TakesHeld o (seated d v) (seated e u) s t piece
+held_ended o v u d e s f t reading piece running ends beside same answers next first files w
+    bytes at =
     let done : HasEnded reading bytes (bytes ++ piece) = ends bytes (at.line running) in
     record {
       reached = λ known.
           let line : IsKnown (progress o files (ended_lines bytes ++ reading.line ∷ [])) =
           subst (λ x. IsKnown (progress o files x)) done.lines known in
-          subst (λ x. HasHeld o files x w u e t) (sym done.lines)
-          (answers files (ended_lines bytes) w line
-          (held_beside o files (ended_lines bytes) w v d s f beside same
+          subst (λ x. HasHeld o files x w u (e first) t) (sym done.lines)
+          (answers first files (ended_lines bytes) w line
+          (held_beside o files (ended_lines bytes) w v (d first) s f beside same
           (at.reached (known_before o files (ended_lines bytes) (reading.line ∷ []) line))));
       line = λ goes_on. reads_next t.line (bytes ++ piece) next done.rest;
     }
@@ -74,76 +74,66 @@ pub held_halted : {short : Type 0} {T H : Type 0} (r : Result T Stop) (stop : St
     → IsErrAnd r (λ x. x ≡ stop) → s.has_quit ≡ false →
     ((bytes : List ℕ) → IsReading s.line bytes → HasEnded reading bytes (bytes ++ take k piece))
     → IsBeside f s → f.text.items ≡ s.text.items →
-    ((home : H) (files : Option Files) (lines : List Line) (w : Option (List ℕ))
-    → IsKnown (progress o files (lines ++ reading.line ∷ [])) → HasHeld o files lines w v (d home) f
-    → IsHalted o files (lines ++ reading.line ∷ []) w u (e home) short (status_of stop)) →
-    IfErr r (λ stop. (home : H)
-    → HaltsHeld o v u (d home) (e home) s (λ bytes. ended_lines (bytes ++ piece)) short
-    (status_of stop))
+    HaltsLine o (seated d v) (seated e u) f reading.line short (status_of stop) →
+    IfErr r (λ stop. HaltsHeld o (seated d v) (seated e u) s
+    (λ bytes. ended_lines (bytes ++ piece)) short (status_of stop))
 held_halted {short} (Ok x) stop o v u d e s f reading piece k is running ends beside same halts = tt
 held_halted {short} (Err x) stop o v u d e s f reading piece k is running ends beside same halts =
-    λ home files w bytes at known.
+    λ first files w bytes at known.
     let done : HasEnded reading bytes (bytes ++ take k piece) = ends bytes (at.line running) in
     let front : IsKnown (progress o files (ended_lines (bytes ++ take k piece))) =
     known_bytes o files (bytes ++ take k piece) (drop k piece)
     (subst (λ x. IsKnown (progress o files (ended_lines x))) (sym (parts bytes piece k)) known) in
     let line : IsKnown (progress o files (ended_lines bytes ++ reading.line ∷ [])) =
     subst (λ x. IsKnown (progress o files x)) done.lines front in
-    let h = halts home files (ended_lines bytes) w line
-    (held_beside o files (ended_lines bytes) w v (d home) s f beside same
+    let h = halts first files (ended_lines bytes) w line
+    (held_beside o files (ended_lines bytes) w v (d first) s f beside same
     (at.reached (known_before o files (ended_lines bytes) (reading.line ∷ []) line))) in
-    let halted : IsHalted o files (ended_lines (bytes ++ take k piece)) w u (e home) short
+    let halted : IsHalted o files (ended_lines (bytes ++ take k piece)) w u (e first) short
     (status_of stop) =
-    subst (λ x. IsHalted o files x w u (e home) short (status_of stop)) (sym done.lines) h in
-    subst (λ y. IsHalted o files (ended_lines (bytes ++ piece)) w u (e home) short (status_of y))
+    subst (λ x. IsHalted o files x w u (e first) short (status_of stop)) (sym done.lines) h in
+    subst (λ y. IsHalted o files (ended_lines (bytes ++ piece)) w u (e first) short (status_of y))
     (sym is)
-    (subst (λ x. IsHalted o files (ended_lines x) w u (e home) short (status_of stop))
+    (subst (λ x. IsHalted o files (ended_lines x) w u (e first) short (status_of stop))
     (parts bytes piece k)
-    (halted_bytes o files (bytes ++ take k piece) (drop k piece) w u (e home) (status_of stop)
+    (halted_bytes o files (bytes ++ take k piece) (drop k piece) w u (e first) (status_of stop)
     halted))
 
 -- a line that has ended
-abbrev pub over : Line → LineSoFar
-over line = record { line = line; has_ended = true }
+abbrev pub ended_line : Line → LineSoFar
+ended_line line = record { line = line; has_ended = true }
 
 -- a line that stands whole in a piece, as it was read
 pub whole_read : (old : LineSoFar) (text piece : List ℕ) (line : Line) → line ≡ Text text
     → ((bytes : List ℕ) → IsReading old bytes → HasEnded (whole text) bytes (bytes ++ piece))
-    → (bytes : List ℕ) → IsReading old bytes → HasEnded (over line) bytes (bytes ++ piece)
+    → (bytes : List ℕ) → IsReading old bytes → HasEnded (ended_line line) bytes (bytes ++ piece)
 whole_read old text piece line is ends bytes at =
-    subst (λ l. HasEnded (over l) bytes (bytes ++ piece)) (sym is) (ends bytes at)
+    subst (λ l. HasEnded (ended_line l) bytes (bytes ++ piece)) (sym is) (ends bytes at)
 
 -- a line that was fed, answered by a session that has begun the next one
 pub fed_more : {T H : Type 0} (r : Result T Stop) (o : Setup) (v u : Option (List ℕ))
     (d e : H → Desk) (s f t : Session) (line : Line) → line ≡ s.line.line → IsBeside f s
     → f.text.items ≡ s.text.items →
-    OnOk r ((home : H) (files : Option Files) (lines : List Line) (w : Option (List ℕ))
-    → IsKnown (progress o files (lines ++ line ∷ [])) → HasHeld o files lines w v (d home) f
-    → HasHeld o files (lines ++ line ∷ []) w u (e home) t) →
-    OnOk r ((home : H) (files : Option Files) (lines : List Line) (w : Option (List ℕ))
-    → IsKnown (progress o files (lines ++ s.line.line ∷ [])) → HasHeld o files lines w v (d home) s
-    → HasHeld o files (lines ++ s.line.line ∷ []) w u (e home) t)
+    OnOk r (HoldsLine o (seated d v) (seated e u) f t line) →
+    OnOk r (HoldsLine o (seated d v) (seated e u) s t s.line.line)
 fed_more (Err stop) o v u d e s f t line is beside same answers = tt
-fed_more (Ok x) o v u d e s f t line is beside same answers = λ home files lines w known at.
-    subst (λ x. HasHeld o files (lines ++ x ∷ []) w u (e home) t) is
-    (answers home files lines w (subst (λ x. IsKnown (progress o files (lines ++ x ∷ []))) (sym is)
-    known) (held_beside o files lines w v (d home) s f beside same at))
+fed_more (Ok x) o v u d e s f t line is beside same answers = λ first files lines w known at.
+    subst (λ x. HasHeld o files (lines ++ x ∷ []) w u (e first) t) is
+    (answers first files lines w (subst (λ x. IsKnown (progress o files (lines ++ x ∷ []))) (sym is)
+    known) (held_beside o files lines w v (d first) s f beside same at))
 
 -- and a halt there
 pub fed_halted : {T H : Type 0} (short : Type 0) (r : Result T Stop) (o : Setup)
     (v u : Option (List ℕ)) (d e : H → Desk) (s f : Session) (line : Line) → line ≡ s.line.line
     → IsBeside f s → f.text.items ≡ s.text.items →
-    IfErr r (λ stop. (home : H) (files : Option Files) (lines : List Line) (w : Option (List ℕ))
-    → IsKnown (progress o files (lines ++ line ∷ [])) → HasHeld o files lines w v (d home) f
-    → IsHalted o files (lines ++ line ∷ []) w u (e home) short (status_of stop)) →
-    IfErr r (λ stop. (home : H) (files : Option Files) (lines : List Line) (w : Option (List ℕ))
-    → IsKnown (progress o files (lines ++ s.line.line ∷ [])) → HasHeld o files lines w v (d home) s
-    → IsHalted o files (lines ++ s.line.line ∷ []) w u (e home) short (status_of stop))
+    IfErr r (λ stop. HaltsLine o (seated d v) (seated e u) f line short (status_of stop)) →
+    IfErr r (λ stop. HaltsLine o (seated d v) (seated e u) s s.line.line short (status_of stop))
 fed_halted short (Ok x) o v u d e s f line is beside same halts = tt
-fed_halted short (Err stop) o v u d e s f line is beside same halts = λ home files lines w known at.
-    subst (λ x. IsHalted o files (lines ++ x ∷ []) w u (e home) short (status_of stop)) is
-    (halts home files lines w (subst (λ x. IsKnown (progress o files (lines ++ x ∷ []))) (sym is)
-    known) (held_beside o files lines w v (d home) s f beside same at))
+fed_halted short (Err stop) o v u d e s f line is beside same halts =
+    λ first files lines w known at.
+    subst (λ x. IsHalted o files (lines ++ x ∷ []) w u (e first) short (status_of stop)) is
+    (halts first files lines w (subst (λ x. IsKnown (progress o files (lines ++ x ∷ []))) (sym is)
+    known) (held_beside o files lines w v (d first) s f beside same at))
 
 -- a session that holds nothing
 pub held_first : (o : Setup) (files : Option Files) (w v : Option (List ℕ)) (d : Desk)
@@ -167,13 +157,14 @@ held_start o files w v d s bytes piece none at =
     (held_first o files w v d s bytes none at)
 
 -- a step more through a piece
-pub held_next : (o : Setup) (w v u : Option (List ℕ)) (d e : Desk) (s t : Session)
-    (files : Option Files) (bytes piece rest : List ℕ) (i k : ℕ) → rest ≡ drop i piece →
-    (TakesHeld o v u d e s t (take k rest)) → IsHeldAt o files w v d s (bytes ++ take i piece)
-    → IsHeldAt o files w u e t (bytes ++ take (i + k) piece)
-held_next o w v u d e s t files bytes piece rest i k is step at =
-    subst (λ x. IsHeldAt o files w u e t x) (sym (pieces bytes piece rest i k is))
-    (step files w (bytes ++ take i piece) at)
+pub held_next : {H : Type 0} (o : Setup) (w v u : Option (List ℕ)) (d e : H → Desk) (first : H)
+    (s t : Session) (files : Option Files) (bytes piece rest : List ℕ) (i k : ℕ)
+    → rest ≡ drop i piece → TakesHeld o (seated d v) (seated e u) s t (take k rest)
+    → IsHeldAt o files w v (d first) s (bytes ++ take i piece)
+    → IsHeldAt o files w u (e first) t (bytes ++ take (i + k) piece)
+held_next o w v u d e first s t files bytes piece rest i k is step at =
+    subst (λ x. IsHeldAt o files w u (e first) t x) (sym (pieces bytes piece rest i k is))
+    (step first files w (bytes ++ take i piece) at)
 
 -- all that was held is written
 pub held_written : (o : Setup) (files : Option Files) (w v u : Option (List ℕ)) (d : Desk)
@@ -202,29 +193,28 @@ replied_since o files w v u d s bytes known at (more, is) = record {
 pub held_within : {T H : Type 0} (r : Result T Stop) (stop : Stop) (o : Setup)
     (a v u : Option (List ℕ)) (c d e : H → Desk) (s t : Session) (piece rest : List ℕ)
     (i x y z : ℕ) → y ≡ x → IsErrAnd r (λ x. x ≡ stop) → rest ≡ drop i piece →
-    ((home : H) (files : Option Files) (w : Option (List ℕ)) (bytes : List ℕ)
-    → IsAt o files w a (c home) s bytes → IsHeldAt o files w v (d home) t (bytes ++ take i piece)) →
+    ((first : H) (files : Option Files) (w : Option (List ℕ)) (bytes : List ℕ)
+    → IsAt o files w a (c first) s bytes
+    → IsHeldAt o files w v (d first) t (bytes ++ take i piece)) →
     Adds a u →
-    ((home : H) → HaltsHeld o v u (d home) (e home) t (λ bytes. ended_lines (bytes ++ rest))
-    (Rose y z)
-    (status_of stop)) →
-    IfErr r (λ stop. (home : H)
-    → Halts o a u (c home) (e home) s (λ bytes. ended_lines (bytes ++ piece)) (Rose x z)
-    (status_of stop))
+    HaltsHeld o (seated d v) (seated e u) t (λ bytes. ended_lines (bytes ++ rest)) (Rose y z)
+    (status_of stop) →
+    IfErr r (λ stop. Halts o (seated c a) (seated e u) s (λ bytes. ended_lines (bytes ++ piece))
+    (Rose x z) (status_of stop))
 held_within (Ok f) stop o a v u c d e s t piece rest i x y z same is e' goes adds halts = tt
 held_within (Err f) stop o a v u c d e s t piece rest i x y z same is e' goes adds halts =
-    λ home files w bytes at known.
+    λ first files w bytes at known.
     let whole : (bytes ++ take i piece) ++ rest ≡ bytes ++ piece =
     ap (λ x. (bytes ++ take i piece) ++ x) e' ∙ parts bytes piece i in
-    let h = halts home files w (bytes ++ take i piece) (goes home files w bytes at)
+    let h = halts first files w (bytes ++ take i piece) (goes first files w bytes at)
     (subst (λ x. IsKnown (progress o files (ended_lines x))) (sym whole) known) in (
-      subst (λ f. IsHalted o files (ended_lines (bytes ++ piece)) w u (e home) (Rose x z)
+      subst (λ f. IsHalted o files (ended_lines (bytes ++ piece)) w u (e first) (Rose x z)
           (status_of f)) (sym is)
-          (subst (λ n. IsHalted o files (ended_lines (bytes ++ piece)) w u (e home) (Rose n z)
+          (subst (λ n. IsHalted o files (ended_lines (bytes ++ piece)) w u (e first) (Rose n z)
           (status_of stop)) same
-          (subst (λ l. IsHalted o files (ended_lines l) w u (e home) (Rose y z) (status_of stop))
+          (subst (λ l. IsHalted o files (ended_lines l) w u (e first) (Rose y z) (status_of stop))
           whole h)),
-      replied_since o files w a u (c home) s bytes (known_bytes o files bytes piece known) at adds,
+      replied_since o files w a u (c first) s bytes (known_bytes o files bytes piece known) at adds,
     )
 
 -- a halt where what is held is written, behind a front of a piece
@@ -232,29 +222,29 @@ pub held_unwritten : {short : Type 0} {T H : Type 0} (r : Result T Stop) (fault 
     (o : Setup)
     (a v u : Option (List ℕ)) (c d : H → Desk) (s t : Session) (piece : List ℕ) (i : ℕ)
     → IsErrAnd r (λ x. x ≡ stop_of_sink fault) →
-    ((home : H) (files : Option Files) (w : Option (List ℕ)) (bytes : List ℕ)
-    → IsAt o files w a (c home) s bytes → IsHeldAt o files w v (d home) t (bytes ++ take i piece)) →
+    ((first : H) (files : Option Files) (w : Option (List ℕ)) (bytes : List ℕ)
+    → IsAt o files w a (c first) s bytes
+    → IsHeldAt o files w v (d first) t (bytes ++ take i piece)) →
     Adds a u → IsCutOff v u t.text.items → IsShort fault short →
-    IfErr r (λ stop. (home : H)
-    → Halts o a u (c home) (d home) s (λ bytes. ended_lines (bytes ++ piece)) short
-    (status_of stop))
+    IfErr r (λ stop. Halts o (seated c a) (seated d u) s (λ bytes. ended_lines (bytes ++ piece))
+    short (status_of stop))
 held_unwritten {short} (Ok x) fault o a v u c d s t piece i is goes adds cut ran = tt
 held_unwritten {short} (Err x) fault o a v u c d s t piece i is goes adds cut ran =
-    λ home files w bytes at known.
+    λ first files w bytes at known.
     let front : List ℕ = bytes ++ take i piece in
     let whole : front ++ drop i piece ≡ bytes ++ piece = parts bytes piece i in
     let line : IsKnown (progress o files (ended_lines front)) =
     known_bytes o files front (drop i piece)
     (subst (λ x. IsKnown (progress o files (ended_lines x))) (sym whole) known) in
-    let h = held_cut o files (ended_lines front) w v u (d home) t fault cut ran
-    ((goes home files w bytes at).reached line) in (
-      subst (λ y. IsHalted o files (ended_lines (bytes ++ piece)) w u (d home) short (status_of y))
+    let h = held_cut o files (ended_lines front) w v u (d first) t fault cut ran
+    ((goes first files w bytes at).reached line) in (
+      subst (λ y. IsHalted o files (ended_lines (bytes ++ piece)) w u (d first) short (status_of y))
           (sym is)
-          (subst (λ x. IsHalted o files (ended_lines x) w u (d home) short
+          (subst (λ x. IsHalted o files (ended_lines x) w u (d first) short
           (status_of (stop_of_sink fault))) whole
-          (halted_bytes o files front (drop i piece) w u (d home)
+          (halted_bytes o files front (drop i piece) w u (d first)
           (status_of (stop_of_sink fault)) h)),
-      replied_since o files w a u (c home) s bytes (known_bytes o files bytes piece known) at adds,
+      replied_since o files w a u (c first) s bytes (known_bytes o files bytes piece known) at adds,
     )
 
 -- the last line, which lacks its line feed, answered, and what is held written
@@ -263,25 +253,20 @@ pub held_last : {H : Type 0} (o : Setup) (a v u : Option (List ℕ))
     s.text.items ≡ [] →
     ((bytes : List ℕ) → IsReading s.line bytes
     → last_line (rest_of bytes) ≡ cond has_rest (s.line.line ∷ []) []) →
-    ((home : H) (files : Option Files) (lines : List Line) (w : Option (List ℕ))
-    → IsKnown (progress o files (lines ++ s.line.line ∷ [])) → HasHeld o files lines w a (d home) s
-    → HasHeld o files (lines ++ s.line.line ∷ []) w v (e home) t) →
-    u ≡ appended v t.text.items → IsBeside f t →
-    (home : H) (files : Option Files) (w : Option (List ℕ)) (bytes : List ℕ)
-    → IsAt o files w a (d home) s bytes → IsKnown (progress o files (all_lines bytes))
-    → HasReached o w u (e home) f (progress o files (all_lines bytes))
+    HoldsLine o (seated d a) (seated e v) s t s.line.line → u ≡ appended v t.text.items
+    → IsBeside f t → Reaches o (seated d a) (seated e u) s f (λ p. p)
 held_last o a v u d e s t f has_rest running some none last answers wrote beside
-    home files w bytes at known =
+    first files w bytes at known =
     let lines : all_lines bytes ≡ ended_lines bytes ++ s.line.line ∷ [] =
     last_lines bytes s.line.line
     (standing s bytes has_rest true some (last bytes (at.line running))) in
     let line : IsKnown (progress o files (ended_lines bytes ++ s.line.line ∷ [])) =
     subst (λ x. IsKnown (progress o files x)) lines known in
-    let h = answers home files (ended_lines bytes) w line
-    ((held_first o files w a (d home) s bytes none at).reached
+    let h = answers first files (ended_lines bytes) w line
+    ((held_first o files w a (d first) s bytes none at).reached
     (known_before o files (ended_lines bytes) (s.line.line ∷ []) line)) in
-    subst (λ x. HasReached o w u (e home) f (progress o files x)) (sym lines) (record {
-      between = between_beside o (e home) t f
+    subst (λ x. HasReached o w u (e first) f (progress o files x)) (sym lines) (record {
+      between = between_beside o (e first) t f
           (progress o files (ended_lines bytes ++ s.line.line ∷ [])) beside h.between;
       written = holding_whole o files (ended_lines bytes ++ s.line.line ∷ []) w v u t.text.items
           h.holding wrote;
@@ -293,13 +278,11 @@ pub last_halted : {short : Type 0} {T H : Type 0} (r : Result T Stop) (stop : St
     → IsErrAnd r (λ x. x ≡ stop) → s.has_quit ≡ false → has_rest ≡ true → s.text.items ≡ [] →
     ((bytes : List ℕ) → IsReading s.line bytes
     → last_line (rest_of bytes) ≡ cond has_rest (s.line.line ∷ []) []) → Adds a u →
-    ((home : H) (files : Option Files) (lines : List Line) (w : Option (List ℕ))
-    → IsKnown (progress o files (lines ++ s.line.line ∷ [])) → HasHeld o files lines w a (d home) s
-    → IsHalted o files (lines ++ s.line.line ∷ []) w u (e home) short (status_of stop)) →
-    IfErr r (λ stop. (home : H) → Halts o a u (d home) (e home) s all_lines short (status_of stop))
+    HaltsLine o (seated d a) (seated e u) s s.line.line short (status_of stop) →
+    IfErr r (λ stop. Halts o (seated d a) (seated e u) s all_lines short (status_of stop))
 last_halted {short} (Ok x) stop o a u d e s has_rest is running some none last adds halts = tt
 last_halted {short} (Err x) stop o a u d e s has_rest is running some none last adds halts =
-    λ home files w bytes at known.
+    λ first files w bytes at known.
     let lines : all_lines bytes ≡ ended_lines bytes ++ s.line.line ∷ [] =
     last_lines bytes s.line.line
     (standing s bytes has_rest true some (last bytes (at.line running))) in
@@ -307,24 +290,19 @@ last_halted {short} (Err x) stop o a u d e s has_rest is running some none last 
     subst (λ x. IsKnown (progress o files x)) lines known in
     let before : IsKnown (progress o files (ended_lines bytes)) =
     known_before o files (ended_lines bytes) (s.line.line ∷ []) line in
-    let h = halts home files (ended_lines bytes) w line
-    ((held_first o files w a (d home) s bytes none at).reached before) in (
-      subst (λ y. IsHalted o files (all_lines bytes) w u (e home) short (status_of y)) (sym is)
-          (subst (λ y. IsHalted o files y w u (e home) short (status_of stop)) (sym lines) h),
-      replied_since o files w a u (d home) s bytes before at adds,
+    let h = halts first files (ended_lines bytes) w line
+    ((held_first o files w a (d first) s bytes none at).reached before) in (
+      subst (λ y. IsHalted o files (all_lines bytes) w u (e first) short (status_of y)) (sym is)
+          (subst (λ y. IsHalted o files y w u (e first) short (status_of stop)) (sym lines) h),
+      replied_since o files w a u (d first) s bytes before at adds,
     )
 
 -- what is held can't be written, behind the last line
 pub last_unwritten : {short : Type 0} {H : Type 0} (o : Setup) (a v u : Option (List ℕ))
     (fault : SinkFault)
     (d e : H → Desk) (s t : Session) (line : Line) → IsCutOff v u t.text.items
-    → IsShort fault short →
-    ((home : H) (files : Option Files) (lines : List Line) (w : Option (List ℕ))
-    → IsKnown (progress o files (lines ++ line ∷ [])) → HasHeld o files lines w a (d home) s
-    → HasHeld o files (lines ++ line ∷ []) w v (e home) t) →
-    (home : H) (files : Option Files) (lines : List Line) (w : Option (List ℕ))
-    → IsKnown (progress o files (lines ++ line ∷ [])) → HasHeld o files lines w a (d home) s
-    → IsHalted o files (lines ++ line ∷ []) w u (e home) short (status_of (stop_of_sink fault))
-last_unwritten o a v u fault d e s t line cut ran answers home files lines w known at =
-    held_cut o files (lines ++ line ∷ []) w v u (e home) t fault cut ran
-    (answers home files lines w known at)
+    → IsShort fault short → HoldsLine o (seated d a) (seated e v) s t line
+    → HaltsLine o (seated d a) (seated e u) s line short (status_of (stop_of_sink fault))
+last_unwritten o a v u fault d e s t line cut ran answers first files lines w known at =
+    held_cut o files (lines ++ line ∷ []) w v u (e first) t fault cut ran
+    (answers first files lines w known at)

@@ -24,8 +24,9 @@ use Rattle.oct_session.specs.Leaving.{Desk, HasAsked, IsAhead, IsHalted, IsKnown
 use Rattle.oct_session.specs.Session.{Progress, start, effect_of, next_command, after_line}
 use Rattle.oct_session.specs.Session.{after_lines, progress}
 use Rattle.oct_session.specs.Setup.{Setup}
-use Rattle.oct_session.specs.Standing.{IsBetween, IsUnwritten, IsHolding, HasHeld, HasMoved, Adds}
-use Rattle.oct_session.specs.Standing.{HasStoppedAt, StandsBeside, IsShort}
+use Rattle.oct_session.specs.Standing.{seated, IsBetween, IsUnwritten, IsHolding, HasHeld, HasMoved}
+use Rattle.oct_session.specs.Standing.{Adds, TakesLine, FailsLine, HoldsLine, HaltsLine}
+use Rattle.oct_session.specs.Standing.{StandsBeside, IsShort}
 use Rattle.oct_ending.specs.Stops.{stop_of_sink, stop_of_store, status_of}
 use Rattle.oct_session.proofs.Halting.{halted_last, halted_untold, left_all, none_ahead}
 use Rattle.oct_session.proofs.Pieces.{IsBeside}
@@ -299,40 +300,34 @@ held_moved o files lines w v u d s f beside moved at = record {
 pub held_more : {H : Type 0} (o : Setup) (v x : Option (List ℕ)) (d e : H → Desk)
     (s f t : Session) (line : Line) → s.has_quit ≡ false → IsBeside f s → length s.text.items < 4096
     → HasMoved v x s.text.items f.text.items → (f.text.items ≡ []) ⊎ NamesNoFile line
-    → ((home : H) (p : Progress) → IsKnown (after_line o p line) → IsBetween o (d home) f p
-    → t.text.items ≡ f.text.items ++ text_of (effect_of o p line).reply)
-    → ((home : H) (p : Progress) → IsKnown (after_line o p line) → IsBetween o (d home) f p
-    → IsBetween o (e home) t (after_line o p line))
-    → (home : H) (files : Option Files) (lines : List Line) (w : Option (List ℕ))
-    → IsKnown (progress o files (lines ++ line ∷ [])) → HasHeld o files lines w v (d home) s
-    → HasHeld o files (lines ++ line ∷ []) w x (e home) t
-held_more o v x d e s f t line running beside few moved clear text between home files lines w known at =
+    → TakesLine o d e f t line → HoldsLine o (seated d v) (seated e x) s t line
+held_more o v x d e s f t line running beside few moved clear takes first files lines w known at =
     let p : Progress = progress o files lines in
     let push = progress_push o files lines line in
     let told : IsKnown (after_line o p line) = subst IsKnown push known in
-    let here = between_beside o (d home) s f p beside at.between in
-    let after : IsBetween o (e home) t (after_line o p line) = between home p told here in
+    let here = between_beside o (d first) s f p beside at.between in
+    let after : IsBetween o (e first) t (after_line o p line) = takes.between first p told here in
     record {
-      between = subst (λ (q : Progress). IsBetween o (e home) t q) (sym push) after;
+      between = subst (λ (q : Progress). IsBetween o (e first) t q) (sym push) after;
       holding = holding_more o files lines line w x f.text.items t.text.items
           (text_of (effect_of o p line).reply) (sym at.between.step.has_quit ∙ running)
           (holding_moved o files lines w v x s.text.items f.text.items at.holding moved)
-          refl (text home p told here) clear (moved_few v x s.text.items f.text.items moved few);
+          refl (takes.text first p told here) clear
+          (moved_few v x s.text.items f.text.items moved few);
     }
 
 -- a call that gives up when a part of what is held is written, before a line
-pub way_err : {short : Type 0} {T H : Type 0} (r : Result T Stop) (fault : SinkFault) (o : Setup)
+pub halted_before_line : {short : Type 0} {T H : Type 0} (r : Result T Stop) (fault : SinkFault)
+    (o : Setup)
     (v u : Option (List ℕ)) (d : H → Desk) (s : Session) (line : Line)
     → IsErrAnd r (λ x. x ≡ stop_of_sink fault) → IsCutOff v u s.text.items → IsShort fault short →
-    IfErr r (λ stop. (home : H) (files : Option Files) (lines : List Line) (w : Option (List ℕ))
-    → IsKnown (progress o files (lines ++ line ∷ [])) → HasHeld o files lines w v (d home) s
-    → IsHalted o files (lines ++ line ∷ []) w u (d home) short (status_of stop))
-way_err {short} (Ok y) fault o v u d s line is cut ran = absurd is
-way_err {short} (Err y) fault o v u d s line is cut ran = λ home files lines w known at.
-    subst (λ z. IsHalted o files (lines ++ line ∷ []) w u (d home) short (status_of z))
+    IfErr r (λ stop. HaltsLine o (seated d v) (seated d u) s line short (status_of stop))
+halted_before_line {short} (Ok y) fault o v u d s line is cut ran = absurd is
+halted_before_line {short} (Err y) fault o v u d s line is cut ran = λ first files lines w known at.
+    subst (λ z. IsHalted o files (lines ++ line ∷ []) w u (d first) short (status_of z))
     (sym is)
     (holding_cut o files (lines ++ line ∷ []) lines (line ∷ []) w v u s.text.items
-    (d home) fault refl at.holding cut at.between.like at.between.asked ran)
+    (d first) fault refl at.holding cut at.between.like at.between.asked ran)
 
 -- the same, after some lines
 pub held_cut : {short : Type 0} (o : Setup) (files : Option Files) (lines : List Line)
@@ -344,20 +339,18 @@ held_cut o files lines w v u d s fault cut ran at =
     holding_cut o files lines lines [] w v u s.text.items d fault (sym (append-nil lines))
     at.holding cut at.between.like at.between.asked ran
 
-pub more_err : {short : Type 0} {T H : Type 0} (r : Result T Stop) (fault : SinkFault) (o : Setup)
+pub halted_behind_line : {short : Type 0} {T H : Type 0} (r : Result T Stop) (fault : SinkFault)
+    (o : Setup)
     (v x u : Option (List ℕ)) (d e : H → Desk) (s t : Session) (line : Line)
     → IsErrAnd r (λ y. y ≡ stop_of_sink fault) → IsCutOff x u t.text.items → IsShort fault short
-    → ((home : H) (files : Option Files) (lines : List Line) (w : Option (List ℕ))
-    → IsKnown (progress o files (lines ++ line ∷ [])) → HasHeld o files lines w v (d home) s
-    → HasHeld o files (lines ++ line ∷ []) w x (e home) t) →
-    IfErr r (λ stop. (home : H) (files : Option Files) (lines : List Line) (w : Option (List ℕ))
-    → IsKnown (progress o files (lines ++ line ∷ [])) → HasHeld o files lines w v (d home) s
-    → IsHalted o files (lines ++ line ∷ []) w u (e home) short (status_of stop))
-more_err {short} (Ok y) fault o v x u d e s t line is cut ran more = absurd is
-more_err {short} (Err y) fault o v x u d e s t line is cut ran more = λ home files lines w known at.
-    subst (λ z. IsHalted o files (lines ++ line ∷ []) w u (e home) short (status_of z)) (sym is)
-    (held_cut o files (lines ++ line ∷ []) w x u (e home) t fault cut ran
-    (more home files lines w known at))
+    → HoldsLine o (seated d v) (seated e x) s t line →
+    IfErr r (λ stop. HaltsLine o (seated d v) (seated e u) s line short (status_of stop))
+halted_behind_line {short} (Ok y) fault o v x u d e s t line is cut ran more = absurd is
+halted_behind_line {short} (Err y) fault o v x u d e s t line is cut ran more =
+    λ first files lines w known at.
+    subst (λ z. IsHalted o files (lines ++ line ∷ []) w u (e first) short (status_of z)) (sym is)
+    (held_cut o files (lines ++ line ∷ []) w x u (e first) t fault cut ran
+    (more first files lines w known at))
 
 -- a part of what is held was written behind a line that has failed: that line was done, with no
 -- room for its reply, or it wasn't
@@ -394,56 +387,51 @@ failed_cut o files lines line w v u held d fault store_fault.Memory k running h 
     (subst (HasAsked d) (clear_asks o (progress o files lines) line held k running less clear)
     asked) ran
 
-pub failed_err : {short : Type 0} {T H : Type 0} (r : Result T Stop) (fault : SinkFault)
+pub halted_with_failed : {short : Type 0} {T H : Type 0} (r : Result T Stop) (fault : SinkFault)
     (own : StoreFault)
     (o : Setup) (v x u : Option (List ℕ)) (d e : H → Desk) (s f : Session) (line : Line)
     (held : List ℕ)
     → IsErrAnd r (λ y. y ≡ stop_of_sink fault) → s.has_quit ≡ false → IsBeside f s
     → length s.text.items < 4096 → HasMoved v x s.text.items f.text.items
     → held ≡ f.text.items → IsCutOff x u held → IsShort fault short
-    → (f.text.items ≡ []) ⊎ NamesNoFile line
-    → ((home : H) (p : Progress) → IsKnown (after_line o p line) → IsBetween o (d home) f p
-    → HasStoppedAt o (e home) p line own) →
-    IfErr r (λ stop. (home : H) (files : Option Files) (lines : List Line) (w : Option (List ℕ))
-    → IsKnown (progress o files (lines ++ line ∷ [])) → HasHeld o files lines w v (d home) s
-    → IsHalted o files (lines ++ line ∷ []) w u (e home) short (status_of stop))
-failed_err {short}
+    → (f.text.items ≡ []) ⊎ NamesNoFile line → FailsLine o d e f line own →
+    IfErr r (λ stop. HaltsLine o (seated d v) (seated e u) s line short (status_of stop))
+halted_with_failed {short}
     (Ok y) fault own o v x u d e s f line held is running beside few moved kept cut ran
     clear stopped = absurd is
-failed_err {short} (Err y) fault own o v x u d e s f line held is running beside few moved kept
+halted_with_failed {short} (Err y) fault own o v x u d e s f line held is running beside few moved
+    kept
     (k, less, wrote)
-    ran clear stopped = λ home files lines w known at.
+    ran clear stopped = λ first files lines w known at.
     let p : Progress = progress o files lines in
-    let b = stopped home p (subst IsKnown (progress_push o files lines line) known)
-    (between_beside o (d home) s f p beside at.between) in
-    subst (λ z. IsHalted o files (lines ++ line ∷ []) w u (e home) short (status_of z))
+    let b = stopped first p (subst IsKnown (progress_push o files lines line) known)
+    (between_beside o (d first) s f p beside at.between) in
+    subst (λ z. IsHalted o files (lines ++ line ∷ []) w u (e first) short (status_of z))
     (sym is)
-    (failed_cut o files lines line w x u f.text.items (e home) fault own k
+    (failed_cut o files lines line w x u f.text.items (e first) fault own k
     (sym at.between.step.has_quit ∙ running)
     (holding_moved o files lines w v x s.text.items f.text.items at.holding moved)
     (subst (λ l. k < length l) kept less) (wrote ∙ ap (λ l. appended x (take k l)) kept) clear
     (moved_few v x s.text.items f.text.items moved few) b.beside b.asked ran)
 
 -- a line that has failed, when all that was held is written
-pub own_halt : {short : Type 0} {H : Type 0} (stop : Stop) (fault : StoreFault) (o : Setup)
+pub halted_by_failed : {short : Type 0} {H : Type 0} (stop : Stop) (fault : StoreFault) (o : Setup)
     (v x u : Option (List ℕ)) (d e : H → Desk) (s f : Session) (line : Line) (held : List ℕ)
     → stop ≡ stop_of_store fault → s.has_quit ≡ false → IsBeside f s
     → HasMoved v x s.text.items f.text.items → held ≡ f.text.items → u ≡ appended x held
-    → ((home : H) (p : Progress) → IsKnown (after_line o p line) → IsBetween o (d home) f p
-    → HasStoppedAt o (e home) p line fault) →
-    (home : H) (files : Option Files) (lines : List Line) (w : Option (List ℕ))
-    → IsKnown (progress o files (lines ++ line ∷ [])) → HasHeld o files lines w v (d home) s
-    → IsHalted o files (lines ++ line ∷ []) w u (e home) short (status_of stop)
-own_halt {short} stop fault o v x u d e s f line held is running beside moved kept wrote stopped
-    home files lines w known at =
+    → FailsLine o d e f line fault
+    → HaltsLine o (seated d v) (seated e u) s line short (status_of stop)
+halted_by_failed {short} stop fault o v x u d e s f line held is running beside moved kept wrote
+    stopped
+    first files lines w known at =
     let p : Progress = progress o files lines in
-    let here = between_beside o (d home) s f p beside at.between in
-    subst (λ z. IsHalted o files (lines ++ line ∷ []) w u (e home) short (status_of z))
+    let here = between_beside o (d first) s f p beside at.between in
+    subst (λ z. IsHalted o files (lines ++ line ∷ []) w u (e first) short (status_of z))
     (sym is)
-    (halted_last o files lines line w u (e home) (status_of (stop_of_store fault))
-    (halted_untold o w u (d home) (e home) f line p fault (beside.has_quit ∙ running) (record {
+    (halted_last o files lines line w u (e first) (status_of (stop_of_store fault))
+    (halted_untold o w u (d first) (e first) f line p fault (beside.has_quit ∙ running) (record {
       between = here;
       written = holding_whole o files lines w x u f.text.items
           (holding_moved o files lines w v x s.text.items f.text.items at.holding moved)
           (wrote ∙ ap (appended x) kept);
-    }) (stopped home p (subst IsKnown (progress_push o files lines line) known) here)))
+    }) (stopped first p (subst IsKnown (progress_push o files lines line) known) here)))

@@ -16,8 +16,9 @@ use Rattle.oct_session.specs.Session.{Progress, progress, closed}
 use Rattle.oct_session.specs.Setup.{Setup}
 use Rattle.oct_session.specs.Leaving.{Desk, IsKnown, IsHaltedBetween}
 use Rattle.oct_session.specs.Leaving.{IsHalted}
-use Rattle.oct_session.specs.Standing.{Takes, Halts, IsInStep, HasReached, IsAt, IsHaltedBehind}
-use Rattle.oct_session.specs.Standing.{StopsAtEnd, StopsIn, IsCutBy}
+use Rattle.oct_session.specs.Standing.{seated, Takes, Halts, IsInStep, HasReached, IsAt}
+use Rattle.oct_session.specs.Standing.{IsHaltedBehind, Reaches, HaltsAtEnd, IsStoppedIn, StopsIn}
+use Rattle.oct_session.specs.Standing.{IsCutBy}
 use Rattle.oct_ending.specs.Stops.{stop_of_sink, status_of, IsHalt}
 use Rattle.oct_session.proofs.Halting.{halted_closed, reached_closed}
 use Rattle.oct_session.proofs.Halting.{replied_between}
@@ -64,18 +65,19 @@ at_whole o files w v d s bytes piece i all at =
 -- a piece of which all may be taken
 pub fits_whole : {T E H : Type 0} (r : Result T E) (o : Setup) (v u : Option (List ℕ))
     (d e : H → Desk) (s t : Session) (piece : List ℕ) (room : ℕ) → length piece ≤ room →
-    OnOk r ((home : H) → Takes o v u (d home) (e home) s t piece)
-    → OnOk r ((home : H) → Takes o v u (d home) (e home) s t (take room piece))
+    OnOk r (Takes o (seated d v) (seated e u) s t piece)
+    → OnOk r (Takes o (seated d v) (seated e u) s t (take room piece))
 fits_whole r o v u d e s t piece room fits goes =
-    subst (λ x. OnOk r ((home : _) → Takes o v u (d home) (e home) s t x))
+    subst (λ x. OnOk r (Takes o (seated d v) (seated e u) s t x))
     (sym (take_all room piece fits)) goes
 
 -- a piece of which the front was taken
-pub at_front : (o : Setup) (v u : Option (List ℕ)) (d e : Desk) (s t : Session)
-    (piece front : List ℕ) (room : ℕ) → front ≡ take room piece → Takes o v u d e s t front
-    → Takes o v u d e s t (take room piece)
-at_front o v u d e s t piece front room is goes files w bytes at =
-    subst (λ x. IsAt o files w u e t (bytes ++ x)) is (goes files w bytes at)
+pub at_front : {H : Type 0} (o : Setup) (v u : Option (List ℕ)) (d e : H → Desk) (s t : Session)
+    (piece front : List ℕ) (room : ℕ) → front ≡ take room piece
+    → Takes o (seated d v) (seated e u) s t front
+    → Takes o (seated d v) (seated e u) s t (take room piece)
+at_front o v u d e s t piece front room is goes first files w bytes at =
+    subst (λ x. IsAt o files w u (e first) t (bytes ++ x)) is (goes first files w bytes at)
 
 -- a halt in what of a piece may be taken
 stopped_as : {short : Type 0} (o : Setup) (files : Option Files) (old new : Option (List ℕ))
@@ -84,7 +86,7 @@ stopped_as : {short : Type 0} (o : Setup) (files : Option Files) (old new : Opti
     (IsKnown (progress o files (ended_lines (bytes ++ take room piece)))
     → IsHaltedBehind o files bytes (ended_lines (bytes ++ take room piece)) old new d short
     (status_of stop)) →
-    StopsIn o files old new d s bytes piece room short stop
+    IsStoppedIn o files old new d s bytes piece room short stop
 stopped_as o files old new d s bytes piece room stop_as.TooLong halt halted = absurd halt
 stopped_as o files old new d s bytes piece room stop_as.ReadFault halt halted = absurd halt
 stopped_as o files old new d s bytes piece room stop_as.WriteFault halt halted = halted
@@ -95,32 +97,25 @@ stopped_as o files old new d s bytes piece room stop_as.StoreFault halt halted =
 pub stops_front : {short : Type 0} {T H : Type 0} (r : Result T Stop) (stop : Stop) (o : Setup)
     (v u : Option (List ℕ)) (d e : H → Desk) (s t : Session) (piece front : List ℕ) (room : ℕ)
     → IsErrAnd r (λ x. x ≡ stop) → front ≡ take room piece → IsHalt stop →
-    ((home : H) → Halts o v u (d home) (e home) s (λ bytes. ended_lines (bytes ++ front)) short
-    (status_of stop)) →
-    IfErr r (λ stop. (home : H) (files : Option Files) (w : Option (List ℕ)) (bytes : List ℕ)
-    → IsAt o files w v (d home) s bytes
-    → StopsIn o files w u (e home) t bytes piece room short stop)
+    Halts o (seated d v) (seated e u) s (λ bytes. ended_lines (bytes ++ front)) short
+    (status_of stop) → IfErr r (StopsIn o (seated d v) (seated e u) s t piece room short)
 stops_front {short} (Ok x) stop o v u d e s t piece front room is cut halt halts = tt
-stops_front {short} (Err x) stop o v u d e s t piece front room is cut halt halts = λ home files w
+stops_front {short} (Err x) stop o v u d e s t piece front room is cut halt halts = λ first files w
     bytes at.
-    subst (λ y. StopsIn o files w u (e home) t bytes piece room short y) (sym is)
-    (stopped_as o files w u (e home) t bytes piece room stop halt
+    subst (λ y. IsStoppedIn o files w u (e first) t bytes piece room short y) (sym is)
+    (stopped_as o files w u (e first) t bytes piece room stop halt
     (subst (λ y. IsKnown (progress o files (ended_lines (bytes ++ y)))
-    → IsHaltedBehind o files bytes (ended_lines (bytes ++ y)) w u (e home) short (status_of stop))
+    → IsHaltedBehind o files bytes (ended_lines (bytes ++ y)) w u (e first) short (status_of stop))
     cut
-    (halts home files w bytes at)))
+    (halts first files w bytes at)))
 
 -- a halt in a piece of which all may be taken
 pub stops_whole : {T H : Type 0} (short : Type 0) (r : Result T Stop) (o : Setup)
     (v u : Option (List ℕ))
     (d e : H → Desk) (s t : Session) (piece : List ℕ) (room : ℕ) → length piece ≤ room
     → IfErr r IsHalt →
-    IfErr r (λ stop. (home : H)
-    → Halts o v u (d home) (e home) s (λ bytes. ended_lines (bytes ++ piece)) short
-    (status_of stop)) →
-    IfErr r (λ stop. (home : H) (files : Option Files) (w : Option (List ℕ)) (bytes : List ℕ)
-    → IsAt o files w v (d home) s bytes
-    → StopsIn o files w u (e home) t bytes piece room short stop)
+    IfErr r (λ stop. Halts o (seated d v) (seated e u) s (λ bytes. ended_lines (bytes ++ piece))
+    short (status_of stop)) → IfErr r (StopsIn o (seated d v) (seated e u) s t piece room short)
 stops_whole {T} short (Ok x) o v u d e s t piece room fits halt halts = tt
 stops_whole {T} short (Err x) o v u d e s t piece room fits halt halts =
     let failed : Result T Stop = Err x in
@@ -154,44 +149,34 @@ pub standing : (s : Session) (bytes : List ℕ) (has_rest b : Bool) → has_rest
 standing s bytes has_rest b is last =
     subst (λ x. last_line (rest_of bytes) ≡ cond x (s.line.line ∷ []) []) is last
 
--- after the last line: the end of a script, answered whole, after a `quit` by nothing
-abbrev IsLast : {H : Type 0} → Setup → Option (List ℕ) → Option (List ℕ) → (H → Desk) → (H → Desk)
-    → Session → Session → Type 0
-IsLast {H} o a v c d s t = (home : H) (files : Option Files) (w : Option (List ℕ)) (bytes : List ℕ)
-    → IsAt o files w a (c home) s bytes → IsKnown (progress o files (all_lines bytes))
-    → HasReached o w v (d home) t (progress o files (all_lines bytes))
-
 -- the end of the script, after its last line
 pub end_closed : {H : Type 0} (o : Setup) (a v u : Option (List ℕ)) (c d : H → Desk)
-    (s t e : Session) → IsLast o a v c d s t →
+    (s t e : Session) → Reaches o (seated c a) (seated d v) s t (λ p. p) →
     ((w : Option (List ℕ)) (p : Progress) → IsInStep t p → v ≡ appended w p.text
     → IsInStep e (closed p) × (u ≡ appended w (closed p).text)) →
-    ((home : H) (files : Option Files) (w : Option (List ℕ)) (bytes : List ℕ)
-    → IsAt o files w a (c home) s bytes → IsKnown (progress o files (all_lines bytes))
-    → HasReached o w u (d home) e (closed (progress o files (all_lines bytes))))
-end_closed o a v u c d s t e goes closes = λ home files w bytes at known.
+    Reaches o (seated c a) (seated d u) s e closed
+end_closed o a v u c d s t e goes closes = λ first files w bytes at known.
     let p : Progress = progress o files (all_lines bytes) in
-    let reached = goes home files w bytes at known in
-    reached_closed o w v u (d home) t e p reached (closes w p reached.between.step reached.written)
+    let reached = goes first files w bytes at known in
+    reached_closed o w v u (d first) t e p reached (closes w p reached.between.step reached.written)
 
 -- a halt there
 pub end_stopped : {T H : Type 0} (r : Result T Stop) (fault : SinkFault) (o : Setup)
     (a v u : Option (List ℕ)) (c d : H → Desk) (s t : Session) (x y z : ℕ) → y ≡ x
-    → IsErrAnd r (λ x. x ≡ stop_of_sink fault) → IsLast o a v c d s t →
+    → IsErrAnd r (λ x. x ≡ stop_of_sink fault)
+    → Reaches o (seated c a) (seated d v) s t (λ p. p) →
     ((w : Option (List ℕ)) (p : Progress) → IsInStep t p → v ≡ appended w p.text
     → IsCutBy p (closed p) w u (Rose y z) fault) →
-    IfErr r (λ stop. (home : H) (files : Option Files) (w : Option (List ℕ)) (bytes : List ℕ)
-    → IsAt o files w a (c home) s bytes → IsKnown (progress o files (all_lines bytes)) →
-    StopsAtEnd o files bytes (all_lines bytes) w u (d home) (Rose x z) (status_of stop))
+    IfErr r (λ stop. HaltsAtEnd o (seated c a) (seated d u) s (Rose x z) (status_of stop))
 end_stopped (Ok f) fault o a v u c d s t x y z same is goes cuts = tt
-end_stopped (Err f) fault o a v u c d s t x y z same is goes cuts = λ home files w bytes at known.
+end_stopped (Err f) fault o a v u c d s t x y z same is goes cuts = λ first files w bytes at known.
     let p : Progress = progress o files (all_lines bytes) in
-    let reached = goes home files w bytes at known in
+    let reached = goes first files w bytes at known in
     let end = cuts w p reached.between.step reached.written in
-    let halted : IsHaltedBetween o None p (closed p) [] w u (d home) (Rose y z)
-    (status_of (stop_of_sink fault)) = halted_closed o w v u (d home) t p fault reached end in (
-      inr (subst (λ f. IsHaltedBetween o None p (closed p) [] w u (d home) (Rose x z) (status_of f))
-          (sym is) (subst (λ n. IsHaltedBetween o None p (closed p) [] w u (d home) (Rose n z)
+    let halted : IsHaltedBetween o None p (closed p) [] w u (d first) (Rose y z)
+    (status_of (stop_of_sink fault)) = halted_closed o w v u (d first) t p fault reached end in (
+      inr (subst (λ f. IsHaltedBetween o None p (closed p) [] w u (d first) (Rose x z)
+          (status_of f)) (sym is) (subst (λ n. IsHaltedBetween o None p (closed p) [] w u (d first) (Rose n z)
           (status_of (stop_of_sink fault))) same halted)),
       replied_between o files bytes p (closed p) w u
           (progress_grows o files (ended_lines bytes) (last_line (rest_of bytes))) end.cut,
@@ -200,14 +185,12 @@ end_stopped (Err f) fault o a v u c d s t x y z same is goes cuts = λ home file
 -- a halt at the last line is one of the stops at the end
 pub stopped_last : {short : Type 0} {T H : Type 0} (r : Result T Stop) (stop : Stop) (o : Setup)
     (v u : Option (List ℕ)) (d e : H → Desk) (s : Session) → IsErrAnd r (λ x. x ≡ stop) →
-    ((home : H) → Halts o v u (d home) (e home) s all_lines short (status_of stop)) →
-    IfErr r (λ stop. (home : H) (files : Option Files) (w : Option (List ℕ)) (bytes : List ℕ)
-    → IsAt o files w v (d home) s bytes → IsKnown (progress o files (all_lines bytes)) →
-    StopsAtEnd o files bytes (all_lines bytes) w u (e home) short (status_of stop))
+    Halts o (seated d v) (seated e u) s all_lines short (status_of stop) →
+    IfErr r (λ stop. HaltsAtEnd o (seated d v) (seated e u) s short (status_of stop))
 stopped_last {short} (Ok x) stop o v u d e s is halts = tt
-stopped_last {short} (Err x) stop o v u d e s is halts = λ home files w bytes at known.
-    let h = halts home files w bytes at known in (
-      inl (subst (λ y. IsHalted o files (all_lines bytes) w u (e home) short (status_of y)) (sym is)
-          h.0),
+stopped_last {short} (Err x) stop o v u d e s is halts = λ first files w bytes at known.
+    let h = halts first files w bytes at known in (
+      inl (subst (λ y. IsHalted o files (all_lines bytes) w u (e first) short (status_of y))
+          (sym is) h.0),
       h.1,
     )

@@ -8,14 +8,15 @@ use Rattle.oct_session.specs.Ending.{IsReadToEnd}
 use Rattle.oct_session.specs.FileCommands.{classes_file}
 use Rattle.oct_session.specs.History.{State, state_after}
 use Rattle.oct_session.specs.Leaving as lent
-use Rattle.oct_session.specs.Leaving.{Desk, IsLikeAfter}
+use Rattle.oct_session.specs.Leaving.{Desk, HasAsked, IsLikeAfter}
+use Rattle.oct_ending.specs.Whole.{IsWhole}
 use Rattle.oct_session.specs.Session.{last_progress, session}
 use Rattle.oct_session.specs.Setup.{Setup}
 use Rattle.oct_ending.specs.Answer.{Outcome, IsAnswered, answer_of}
 use Rattle.oct_ending.specs.declared.status.Status.{Status}
 use Rattle.oct_ending.specs.declared.status.Status.TheVariants.{Done, Refused}
 use Rattle.oct_ending.specs.declared.status.Status.TheVariants.{TooLong, WriteFault}
-use Rattle.oct_ending.specs.declared.status.Status.TheVariants.{Memory}
+use Rattle.oct_ending.specs.declared.status.Status.TheVariants.{ReadFault, Memory, StoreFault}
 
 -- the state after the last line of a script
 abbrev pub last_state : Setup → Option Files → List ℕ → State
@@ -48,8 +49,8 @@ EndsWriting text old new ended WriteFault = IsCutOff old new text
 EndsWriting text old new ended Memory = IsCutOff old new text
 EndsWriting text old new ended status = (status ≡ ended) × (new ≡ appended old text)
 
--- the script was read to its end, and a part of the text was written, and not all of it
-pub record IsHaltedBehind (o : Setup) (files : Option Files) (bytes : List ℕ)
+-- the script was read to its end, and its file is cut off
+pub record IsCutFile (o : Setup) (files : Option Files) (bytes : List ℕ)
     (left old new : Option (List ℕ)) : Type 0 where
   pub begun : IsCutOff old new (build o files bytes).text
   pub end : IsReadToEnd o files bytes left
@@ -72,9 +73,9 @@ MayEnd o files bytes left old new Refused =
 MayEnd o files bytes left old new TooLong =
     IsAnswered (answer_of (build o files bytes)) old new TooLong
     × IsStopped o files bytes left old new TooLong
-MayEnd o files bytes left old new WriteFault = IsHaltedBehind o files bytes left old new
+MayEnd o files bytes left old new WriteFault = IsCutFile o files bytes left old new
 MayEnd o files bytes left old new Memory =
-    IsStopped o files bytes left old new Memory ⊎ IsHaltedBehind o files bytes left old new
+    IsStopped o files bytes left old new Memory ⊎ IsCutFile o files bytes left old new
 MayEnd o files bytes left old new status = IsStopped o files bytes left old new status
 
 -- what a build over these bytes and files leaves of map and files: the same as the session, whose
@@ -84,3 +85,20 @@ Leaves o files bytes left d WriteFault = IsLikeAfter o (last_progress o files by
 Leaves o files bytes left d Memory = lent.Leaves o files bytes left None None d ⊥ Memory
     ⊎ IsLikeAfter o (last_progress o files bytes) d
 Leaves o files bytes left d status = lent.Leaves o files bytes left None None d ⊥ status
+
+-- how a build over these bytes and files may end, with this status: what is left of the input and
+-- what was written, what map and files then are, that the store was asked once at most for each
+-- line that names a file, and, where the whole answer was given, that the files are those of it
+pub record HasBuiltAs (o : Setup) (files : Option Files) (bytes : List ℕ)
+    (left old new : Option (List ℕ)) (d : Desk) (status : Status) : Type 0 where
+  pub answer : MayEnd o files bytes left old new status
+  pub leaves : Leaves o files bytes left d status
+  pub asked : HasAsked d (last_progress o files bytes).asks
+  pub files_told : IsWhole status → d.store.files ≡ (build o files bytes).files
+
+-- a sink stays as it was where the script hasn't ended by its end or its `quit`, for another reason
+-- than memory
+pub record IsUnasked (status : Status) (same : Type 0) : Type 0 where
+  pub too_long : status ≡ TooLong → same
+  pub unread : status ≡ ReadFault → same
+  pub unstored : status ≡ StoreFault → same

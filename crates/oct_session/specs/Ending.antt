@@ -1,4 +1,11 @@
 -- What a session writes, and how it may end.
+--
+-- Each word for an end has one meaning. A session has *ended* when it is over, with whatever status
+-- (`MayEnd`): it has *finished* where its script was read to its end or to a `quit`, and was
+-- *stopped* before that, because the script is *overlong*, because its reading failed, or because
+-- the session was *halted*, at a line, by its sink, its store or memory. A line has *failed* that
+-- halts it. A text is *cut off* of which a part was written and not all, and files are *torn* that
+-- are as they were but for the one that a save has left open.
 use Rattle.std.specs.Prelude.{◌≡◌, ◌⊎◌, ℕ, ◌+◌, ◌-◌, ◌≤◌, List, [], ◌++◌, take, Bool}
 use Rattle.std.specs.Prelude.{true, false, Option, Some}
 use Rattle.oct_io.specs.Files.{Files}
@@ -51,10 +58,11 @@ pub record HasReadFault (o : Setup) (files : Option Files) (bytes : List ℕ)
   pub no_quit : has_quit_within o files (take taken bytes) ≡ false
   pub written : new ≡ appended old (replies_within o files (take taken bytes))
 
--- writing failed, a file couldn't be read or written, or memory ran out: at most one byte more than
+-- the session was halted, since writing failed, a file couldn't be read or written, or memory ran
+-- out: at most one byte more than
 -- the limit was taken, and the lines that end within all but the last 16,384 of the bytes taken, as
 -- many as one read asks for, were answered
-pub record HasStopped (o : Setup) (files : Option Files) (bytes : List ℕ)
+pub record HasHaltFault (o : Setup) (files : Option Files) (bytes : List ℕ)
     (left old new : Option (List ℕ)) : Type 0 where
   pub taken : ℕ
   pub few : taken ≤ o.max_bytes + 1
@@ -77,4 +85,4 @@ MayEnd o files bytes left old new TooLong =
 MayEnd o files bytes left old new ReadFault =
     IsBegun (session o files bytes).text old new × HasReadFault o files bytes left old new
 MayEnd o files bytes left old new _ =
-    IsBegun (session o files bytes).text old new × HasStopped o files bytes left old new
+    IsBegun (session o files bytes).text old new × HasHaltFault o files bytes left old new

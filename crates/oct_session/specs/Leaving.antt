@@ -15,7 +15,9 @@ use Rattle.oct_ending.specs.Shelf.{Shelf}
 use Rattle.oct_io.specs.Taken.{HasTaken}
 use Rattle.oct_session.specs.History.{History, State, state_after}
 use Rattle.oct_session.specs.Session.{Progress, next_command, after_line, after_lines, progress}
-use Rattle.oct_session.specs.Session.{closed, is_too_long, lines_of, last_progress}
+use Rattle.oct_session.specs.Session.{closed, is_too_long, lines_of, last_progress, session}
+use Rattle.oct_session.specs.Ending.{MayEnd}
+use Rattle.oct_ending.specs.Whole.{IsWhole}
 use Rattle.oct_session.specs.Setup.{Setup}
 use Rattle.oct_ending.specs.declared.status.Status.{Status}
 use Rattle.oct_ending.specs.declared.status.Status.TheVariants.{Done, Refused, TooLong, ReadFault}
@@ -149,9 +151,9 @@ IsHaltedAtEnd o files lines old new d short status =
 
 -- the session was halted at one of its lines, or at the end of its script, which has one where it
 -- isn't too long
-abbrev pub HasHalted : Setup → Option Files → List ℕ → Option (List ℕ) → Option (List ℕ) → Desk
+abbrev pub IsHaltedIn : Setup → Option Files → List ℕ → Option (List ℕ) → Option (List ℕ) → Desk
     → Type 0 → Status → Type 0
-HasHalted o files bytes old new d short status =
+IsHaltedIn o files bytes old new d short status =
     IsHalted o files (lines_of o bytes) old new d short status
     ⊎ ((is_too_long o bytes ≡ false) × IsHaltedAtEnd o files (lines_of o bytes) old new d short
     status)
@@ -173,4 +175,14 @@ Leaves o files bytes left old new d short Done = IsLikeAfter o (last_progress o 
 Leaves o files bytes left old new d short Refused = IsLikeAfter o (last_progress o files bytes) d
 Leaves o files bytes left old new d short TooLong = IsLikeAfter o (last_progress o files bytes) d
 Leaves o files bytes left old new d short ReadFault = IsLikeTaken o files bytes left d
-Leaves o files bytes left old new d short status = HasHalted o files bytes old new d short status
+Leaves o files bytes left old new d short status = IsHaltedIn o files bytes old new d short status
+
+-- how a session over these bytes and files may end, with this status: what is left of the input and
+-- what was written, what map and files then are, that the store was asked once at most for each
+-- line that names a file, and, where the whole answer was given, that the files are those of it
+pub record HasEndedAs (o : Setup) (files : Option Files) (bytes : List ℕ)
+    (left old new : Option (List ℕ)) (d : Desk) (short : Type 0) (status : Status) : Type 0 where
+  pub answer : MayEnd o files bytes left old new status
+  pub leaves : Leaves o files bytes left old new d short status
+  pub asked : HasAsked d (last_progress o files bytes).asks
+  pub files_told : IsWhole status → d.store.files ≡ (session o files bytes).files

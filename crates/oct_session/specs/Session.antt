@@ -162,8 +162,8 @@ abbrev pub finished : Progress → Outcome
 finished p = record { text = p.text; files = p.files; status = status_at_end p.refused }
 
 -- what it leaves where the script has too many bytes, which doesn't matter after a `quit`
-abbrev pub cut_short : Progress → Outcome
-cut_short p =
+abbrev pub overlong : Progress → Outcome
+overlong p =
     if p.has_quit then finished p else record
     { text = p.text; files = p.files; status = status.TooLong }
 
@@ -184,7 +184,7 @@ last_progress o files bytes = progress o files (lines_of o bytes)
 -- what a session over a script and these files leaves
 unfoldable pub session : Setup → Option Files → List ℕ → Outcome
 session o files bytes =
-    if is_too_long o bytes then cut_short (last_progress o files bytes) else finished
+    if is_too_long o bytes then overlong (last_progress o files bytes) else finished
     (closed (last_progress o files bytes))
 
 -- all files that the session reads are told: the store tells its files, or no line names one

@@ -1,6 +1,6 @@
 -- The desk and the session at work: what they hold for the bytes that were taken.
-use Rattle.std.specs.Prelude.{◌≡◌, ℕ, ◌<◌, ◌⊎◌, List, [], ◌∷◌, ◌++◌, length, take, Option, None, Some}
-use Rattle.std.specs.Prelude.{⊤, IsSome, Result, Ok, Err, false}
+use Rattle.std.specs.Prelude.{◌≡◌, ℕ, ◌<◌, ◌⊎◌, List, [], ◌∷◌, ◌++◌, length, take, Option, None}
+use Rattle.std.specs.Prelude.{Some, ⊤, IsSome, Result, Ok, Err, false, ◌+◌, ◌^◌, ◌≤◌, IfSome, Bool}
 use Rattle.oct_io.specs.Files.{Files}
 use Rattle.oct_io.specs.Told.{appended}
 use Rattle.oct_io.specs.declared.sink.SinkFault.{SinkFault}
@@ -11,18 +11,21 @@ use Rattle.oct_map.specs.Answers.{IsAnswerOrMemory}
 use Rattle.oct_map.specs.Map.{Map}
 use Rattle.oct_map.specs.declared.fault.MapFault.{MapFault}
 use Rattle.oct_script.specs.declared.reply.Reply.{Reply}
-use Rattle.oct_script.specs.Lines.{Line, ended_lines, IsReading}
+use Rattle.oct_script.specs.Lines.{Line, ended_lines, all_lines, IsReading}
+use Rattle.oct_script.specs.Replies.{text_of}
+use Rattle.oct_ending.specs.Shelf.{shelf}
 use Rattle.oct_ending.specs.declared.status.Status.{Status}
 use Rattle.oct_ending.specs.declared.stop.Stop.{Stop}
 use Rattle.oct_ending.specs.declared.stop.Stop.TheVariants.{TooLong, ReadFault}
 use Rattle.oct_session.specs.Tally.{capped}
 use Rattle.oct_session.specs.declared.session.Session.{Session}
 use Rattle.oct_io.specs.Taken.{HasTaken, IsGathered}
-use Rattle.oct_session.specs.Ending.{HasReplied, IsReadToEnd, MayEnd}
-use Rattle.oct_session.specs.Leaving.{StandsFor, StandsForSome, Desk, HasAsked, IsLike, IsTorn}
+use Rattle.oct_session.specs.Ending.{HasReplied, IsReadToEnd}
+use Rattle.oct_session.specs.Leaving.{StandsFor, StandsForSome, Desk, desk, HasAsked, IsLike}
+use Rattle.oct_session.specs.Leaving.{IsTorn}
 use Rattle.oct_session.specs.Leaving.{IsLikeAfter, IsTornAfter, IsCutBetween, IsAhead, IsKnown}
 use Rattle.oct_session.specs.Leaving.{IsHalted}
-use Rattle.oct_session.specs.Leaving.{IsHaltedAtEnd, Leaves}
+use Rattle.oct_session.specs.Leaving.{IsHaltedAtEnd, HasEndedAs}
 use Rattle.oct_session.specs.History.{History, State, after, after_all}
 use Rattle.oct_session.specs.Session.{Progress, Effect, effect_of, effect_of_kind, next_command}
 use Rattle.oct_session.specs.Session.{after_line}
@@ -39,6 +42,29 @@ use Rattle.oct_session.specs.ScanBlock.{block_reply, block_action}
 use Rattle.oct_session.specs.Setup.{Setup}
 use Rattle.oct_ending.specs.Stops.{status_of}
 use Rattle.oct_session.specs.declared.scan_block.ScanBlock.{ScanBlock}
+
+-- ---- what lies before a session
+
+-- the desk of this map and this store, by the store that it began with
+abbrev pub desk_of : {F : Type 0} → (F → Option Files) → (F → ℕ) → Map → F → F → Desk
+desk_of files calls map store = λ first. desk map (shelf files calls first store)
+
+-- what lies before a session at one moment: its desk, by the store that it began with, and what was
+-- written
+pub record Seat (F : Type 0) : Type 1 where
+  pub desk : F → Desk
+  pub written : Option (List ℕ)
+
+-- the seat of this desk, where this was written
+abbrev pub seated : {F : Type 0} → (F → Desk) → Option (List ℕ) → Seat F
+seated desk written = record { desk = desk; written = written }
+
+-- the seat of this map, this store and this sink
+abbrev pub seat : {F K : Type 0} → (F → Option Files) → (F → ℕ) → (K → Option (List ℕ)) → Map → F
+    → K → Seat F
+seat files calls written map store sink = seated (desk_of files calls map store) (written sink)
+
+-- ---- what a line does
 
 -- a map that stands for some history stands for some history afterwards
 abbrev pub KeepsStanding : Map → Map → Type 0
@@ -146,7 +172,7 @@ StandsBeside o d p line store_fault.Memory =
 
 -- the same, of a line that is heard; the store was asked once at most for each line that named a
 -- file
-pub record HasStoppedAt (o : Setup) (d : Desk) (p : Progress) (line : Line) (fault : StoreFault)
+pub record HasFailedAt (o : Setup) (d : Desk) (p : Progress) (line : Line) (fault : StoreFault)
     : Type 0 where
   pub heard : IsHeard (effect_of o p line)
   pub beside : StandsBeside o d p line fault
@@ -203,6 +229,37 @@ pub record HasHeld (o : Setup) (files : Option Files) (lines : List Line)
   pub between : IsBetween o d session (progress o files lines)
   pub holding : IsHolding o files lines old new session.text.items
 
+-- wherever desk and session stood between two lines, they then stand behind the next one, if what
+-- it reads is known, and hold its reply behind the others
+pub record TakesLine {F : Type 0} (o : Setup) (d e : F → Desk) (s t : Session) (line : Line)
+    : Type 0 where
+  pub between : (first : F) (p : Progress) → IsKnown (after_line o p line)
+      → IsBetween o (d first) s p → IsBetween o (e first) t (after_line o p line)
+  pub text : (first : F) (p : Progress) → IsKnown (after_line o p line)
+      → IsBetween o (d first) s p
+      → t.text.items ≡ s.text.items ++ text_of (effect_of o p line).reply
+
+-- wherever they stood there, the next line failed
+abbrev pub FailsLine : {F : Type 0} → Setup → (F → Desk) → (F → Desk) → Session → Line
+    → StoreFault → Type 0
+FailsLine {F} o d e s line fault = (first : F) (p : Progress) → IsKnown (after_line o p line)
+    → IsBetween o (d first) s p → HasFailedAt o (e first) p line fault
+
+-- wherever the session held replies, it then holds them behind this line, if it is known
+abbrev pub HoldsLine : {F : Type 0} → Setup → Seat F → Seat F → Session → Session → Line → Type 0
+HoldsLine {F} o a b s t line = (first : F) (files : Option Files) (lines : List Line)
+    (w : Option (List ℕ)) → IsKnown (progress o files (lines ++ line ∷ []))
+    → HasHeld o files lines w a.written (a.desk first) s
+    → HasHeld o files (lines ++ line ∷ []) w b.written (b.desk first) t
+
+-- wherever the session held replies, it was then halted at this line or one before it
+abbrev pub HaltsLine : {F : Type 0} → Setup → Seat F → Seat F → Session → Line → Type 0 → Status
+    → Type 0
+HaltsLine {F} o a b s line short status = (first : F) (files : Option Files) (lines : List Line)
+    (w : Option (List ℕ)) → IsKnown (progress o files (lines ++ line ∷ []))
+    → HasHeld o files lines w a.written (a.desk first) s
+    → IsHalted o files (lines ++ line ∷ []) w b.written (b.desk first) short status
+
 -- what was held is held still, or was written whole
 abbrev pub HasMoved : Option (List ℕ) → Option (List ℕ) → List ℕ → List ℕ → Type 0
 HasMoved old new held rest =
@@ -220,18 +277,34 @@ pub record IsHeldAt (o : Setup) (files : Option Files) (old new : Option (List �
   pub line : session.has_quit ≡ false → IsReading session.line bytes
 
 -- wherever the session was, it was then given this piece more
-abbrev pub TakesHeld : Setup → Option (List ℕ) → Option (List ℕ) → Desk → Desk → Session → Session
-    → List ℕ → Type 0
-TakesHeld o v u d e s t piece = (files : Option Files) (w : Option (List ℕ)) (bytes : List ℕ)
-    → IsHeldAt o files w v d s bytes → IsHeldAt o files w u e t (bytes ++ piece)
+abbrev pub TakesHeld : {F : Type 0} → Setup → Seat F → Seat F → Session → Session → List ℕ → Type 0
+TakesHeld {F} o a b s t piece = (first : F) (files : Option Files) (w : Option (List ℕ))
+    (bytes : List ℕ) → IsHeldAt o files w a.written (a.desk first) s bytes
+    → IsHeldAt o files w b.written (b.desk first) t (bytes ++ piece)
 
 -- wherever the session was, it was then halted at one of these lines, if they are known
-abbrev pub HaltsHeld : Setup → Option (List ℕ) → Option (List ℕ) → Desk → Desk → Session
-    → (List ℕ → List Line) → Type 0 → Status → Type 0
-HaltsHeld o v u d e s lines short status = (files : Option Files) (w : Option (List ℕ))
-    (bytes : List ℕ)
-    → IsHeldAt o files w v d s bytes → IsKnown (progress o files (lines bytes))
-    → IsHalted o files (lines bytes) w u e short status
+abbrev pub HaltsHeld : {F : Type 0} → Setup → Seat F → Seat F → Session → (List ℕ → List Line)
+    → Type 0 → Status → Type 0
+HaltsHeld {F} o a b s lines short status = (first : F) (files : Option Files)
+    (w : Option (List ℕ)) (bytes : List ℕ)
+    → IsHeldAt o files w a.written (a.desk first) s bytes → IsKnown (progress o files (lines bytes))
+    → IsHalted o files (lines bytes) w b.written (b.desk first) short status
+
+-- the session rests between two pieces of its script: it holds no reply, the line that stands
+-- hasn't ended, and at most this many lines were taken in
+pub record IsResting (session : Session) (lines : ℕ) : Type 0 where
+  pub empty : session.text.items ≡ []
+  pub unended : session.line.has_ended ≡ false
+  pub counted : session.line_count ≤ lines
+
+-- a read gave this many bytes: none only where nothing is left of the input, whose end it met then
+-- alone; all that were read are within the limit, unless a `quit` came
+pub record HasRead (o : Setup) (has_quit : Bool) (after : Option (List ℕ))
+    (ends ends_after taken n : ℕ) : Type 0 where
+  pub end : n ≡ 0 → IfSome after (λ left. left ≡ [])
+  pub fits : has_quit ≡ false → taken + n ≤ o.max_bytes
+  pub small : taken + n ≤ 2 ^ 41
+  pub before : 0 < n → ends_after ≡ ends
 
 -- the session was given these bytes: the lines that end within them are answered, and, unless it
 -- has ended, the rest is kept
@@ -242,10 +315,10 @@ pub record IsAt (o : Setup) (files : Option Files) (old new : Option (List ℕ))
   pub line : session.has_quit ≡ false → IsReading session.line bytes
 
 -- wherever the session was, it was then given this piece more
-abbrev pub Takes : Setup → Option (List ℕ) → Option (List ℕ) → Desk → Desk → Session → Session
-    → List ℕ → Type 0
-Takes o v u d e s t piece = (files : Option Files) (w : Option (List ℕ)) (bytes : List ℕ)
-    → IsAt o files w v d s bytes → IsAt o files w u e t (bytes ++ piece)
+abbrev pub Takes : {F : Type 0} → Setup → Seat F → Seat F → Session → Session → List ℕ → Type 0
+Takes {F} o a b s t piece = (first : F) (files : Option Files) (w : Option (List ℕ))
+    (bytes : List ℕ) → IsAt o files w a.written (a.desk first) s bytes
+    → IsAt o files w b.written (b.desk first) t (bytes ++ piece)
 
 -- the session was halted at one of these lines, and the replies to the lines that end within these
 -- bytes were written
@@ -255,11 +328,21 @@ IsHaltedBehind o files bytes lines old new d short status =
     IsHalted o files lines old new d short status × HasReplied o files bytes old new
 
 -- wherever the session was, it was then halted at one of these lines, if they are known
-abbrev pub Halts : Setup → Option (List ℕ) → Option (List ℕ) → Desk → Desk → Session
-    → (List ℕ → List Line) → Type 0 → Status → Type 0
-Halts o v u d e s lines short status = (files : Option Files) (w : Option (List ℕ)) (bytes : List ℕ)
-    → IsAt o files w v d s bytes → IsKnown (progress o files (lines bytes))
-    → IsHaltedBehind o files bytes (lines bytes) w u e short status
+abbrev pub Halts : {F : Type 0} → Setup → Seat F → Seat F → Session → (List ℕ → List Line)
+    → Type 0 → Status → Type 0
+Halts {F} o a b s lines short status = (first : F) (files : Option Files) (w : Option (List ℕ))
+    (bytes : List ℕ)
+    → IsAt o files w a.written (a.desk first) s bytes → IsKnown (progress o files (lines bytes))
+    → IsHaltedBehind o files bytes (lines bytes) w b.written (b.desk first) short status
+
+-- wherever the session was where its script ends, it then stands behind its lines, and behind what
+-- is done after them
+abbrev pub Reaches : {F : Type 0} → Setup → Seat F → Seat F → Session → Session
+    → (Progress → Progress) → Type 0
+Reaches {F} o a b s t after = (first : F) (files : Option Files) (w : Option (List ℕ))
+    (bytes : List ℕ) → IsAt o files w a.written (a.desk first) s bytes
+    → IsKnown (progress o files (all_lines bytes))
+    → HasReached o w b.written (b.desk first) t (after (progress o files (all_lines bytes)))
 
 -- the session was given the bytes that were taken of its input
 pub record HasServed (o : Setup) (files : Option Files) (bytes : List ℕ)
@@ -276,12 +359,19 @@ pub record IsThrough (o : Setup) (files : Option Files) (bytes : List ℕ)
 
 -- the session was halted at one of the last lines, or at the end of the script after them, and the
 -- replies to the lines that end within these bytes were written
-abbrev pub StopsAtEnd : Setup → Option Files → List ℕ → List Line → Option (List ℕ)
+abbrev pub IsHaltedLast : Setup → Option Files → List ℕ → List Line → Option (List ℕ)
     → Option (List ℕ) → Desk → Type 0 → Status → Type 0
-StopsAtEnd o files bytes lines old new d short status =
+IsHaltedLast o files bytes lines old new d short status =
     (IsHalted o files lines old new d short status ⊎ IsHaltedAtEnd o files lines old new d short
     status)
     × HasReplied o files bytes old new
+
+-- wherever the session was where its script ends, it was then halted there
+abbrev pub HaltsAtEnd : {F : Type 0} → Setup → Seat F → Seat F → Session → Type 0 → Status → Type 0
+HaltsAtEnd {F} o a b s short status = (first : F) (files : Option Files) (w : Option (List ℕ))
+    (bytes : List ℕ) → IsAt o files w a.written (a.desk first) s bytes
+    → IsKnown (progress o files (all_lines bytes))
+    → IsHaltedLast o files bytes (all_lines bytes) w b.written (b.desk first) short status
 
 -- a fault of the sink is out of memory only where the sink ran short of it
 abbrev pub IsShort : SinkFault → Type 0 → Type 0
@@ -293,22 +383,45 @@ pub record IsCutBy (p q : Progress) (old new : Option (List ℕ)) (short : Type 
   pub cut : IsCutBetween p q old new
   pub by : (cut.told ≡ []) ⊎ IsShort fault short
 
--- how a session over these bytes may end, and what it then leaves of map and files; the store was
--- asked once at most for each line that names a file
-pub record HasEndedAs (o : Setup) (files : Option Files) (bytes : List ℕ)
-    (left old new : Option (List ℕ)) (d : Desk) (short : Type 0) (status : Status) : Type 0 where
-  pub answer : MayEnd o files bytes left old new status
-  pub leaves : Leaves o files bytes left old new d short status
-  pub asked : HasAsked d (last_progress o files bytes).asks
-
--- how a session that was given these bytes may stop in a piece, of which `room` bytes may be taken
-abbrev pub StopsIn : Setup → Option Files → Option (List ℕ) → Option (List ℕ) → Desk → Session
+-- a session that was given these bytes was stopped in a piece, of which `room` bytes may be taken
+abbrev pub IsStoppedIn : Setup → Option Files → Option (List ℕ) → Option (List ℕ) → Desk → Session
     → List ℕ → List ℕ → ℕ → Type 0 → Stop → Type 0
-StopsIn o files old new d session bytes piece room short TooLong =
+IsStoppedIn o files old new d session bytes piece room short TooLong =
     (room < length piece) × (session.has_quit ≡ false)
     × IsAt o files old new d session (bytes ++ take room piece)
-StopsIn o files old new d session bytes piece room short ReadFault = ⊥
-StopsIn o files old new d session bytes piece room short stop =
+IsStoppedIn o files old new d session bytes piece room short ReadFault = ⊥
+IsStoppedIn o files old new d session bytes piece room short stop =
     IsKnown (progress o files (ended_lines (bytes ++ take room piece)))
     → IsHaltedBehind o files bytes (ended_lines (bytes ++ take room piece)) old new d short
     (status_of stop)
+
+-- wherever the session was, it was then stopped in this piece, of which `room` bytes may be taken
+abbrev pub StopsIn : {F : Type 0} → Setup → Seat F → Seat F → Session → Session → List ℕ → ℕ
+    → Type 0 → Stop → Type 0
+StopsIn {F} o a b s t piece room short stop = (first : F) (files : Option Files)
+    (w : Option (List ℕ)) (bytes : List ℕ) → IsAt o files w a.written (a.desk first) s bytes
+    → IsStoppedIn o files w b.written (b.desk first) t bytes piece room short stop
+
+-- wherever the session was in its input, it was then given more bytes of it
+abbrev pub Serves : {F : Type 0} → Setup → Option (List ℕ) → Option (List ℕ) → Seat F → Seat F
+    → Session → Session → ℕ → ℕ → Type 0
+Serves {F} o left after a b s t taken more = (first : F) (files : Option Files) (bytes : List ℕ)
+    (w : Option (List ℕ)) → HasServed o files bytes left w a.written (a.desk first) s taken
+    → HasServed o files bytes after w b.written (b.desk first) t more
+
+-- wherever it was there, it was then through, if the whole session is known
+abbrev pub Finishes : {F : Type 0} → Setup → Option (List ℕ) → Option (List ℕ) → Seat F → Seat F
+    → Session → Session → ℕ → Type 0
+Finishes {F} o left after a b s t taken = (first : F) (files : Option Files) (bytes : List ℕ)
+    (w : Option (List ℕ)) → HasServed o files bytes left w a.written (a.desk first) s taken
+    → IsKnown (last_progress o files bytes)
+    → IsThrough o files bytes after w b.written (b.desk first) t
+
+-- wherever it was there, it then ended with this status, if the whole session is known
+abbrev pub Ends : {F : Type 0} → Setup → Option (List ℕ) → Option (List ℕ) → Seat F → Seat F
+    → Session → ℕ → Type 0 → Status → Type 0
+Ends {F} o left after a b s taken short status = (first : F) (files : Option Files)
+    (bytes : List ℕ) (w : Option (List ℕ))
+    → HasServed o files bytes left w a.written (a.desk first) s taken
+    → IsKnown (last_progress o files bytes)
+    → HasEndedAs o files bytes after w b.written (b.desk first) short status

@@ -3,14 +3,13 @@ ghost use Rattle.std.specs.Prelude.{◌≡◌, ◌≢◌, ◌⊎◌, IfSome, Non
 ghost use Rattle.oct_io.specs.Told.{Rose};
 ghost use Rattle.oct_bt.specs.File.{bt_text};
 ghost use Rattle.oct_tree.specs.Classes.{classes_in};
-ghost use Rattle.oct_ending.specs.Counts.{IsSourceCounted, IsSinkCounted, IsStoreCounted, IsAsked};
-ghost use Rattle.oct_session.specs.Building.{build as whole_build, has_ended, EndsWriting, MayEnd};
-ghost use Rattle.oct_session.specs.Building.{Leaves};
+ghost use Rattle.oct_ending.specs.Counts.{IsSourceCounted, IsSinkCounted, IsStoreCounted};
+ghost use Rattle.oct_session.specs.Building.{has_ended, EndsWriting, HasBuiltAs, IsUnasked};
 ghost use Rattle.oct_ending.specs.Whole.{IsWhole};
 ghost use Rattle.oct_session.specs.History.{start_state};
 ghost use Rattle.oct_session.specs.Leaving.{StandsFor, StandsForSome, desk};
 ghost use Rattle.oct_ending.specs.Shelf.{shelf};
-ghost use Rattle.oct_session.specs.Session.{last_progress, ReadsTold};
+ghost use Rattle.oct_session.specs.Session.{ReadsTold};
 
 use crate::options::Options;
 use crate::service::serve;
@@ -62,10 +61,10 @@ fn write_map<K: Sink>(map: &OccMap, ended: Status, sink: &mut K) -> Status
 /// Does a script on the map that it is lent, as [`serve`] does, and writes the file of the classes
 /// that the map then has, in place of the replies.
 ///
-/// Nothing is written before the script has ended, by its end or its `quit`. The clause `answer`
-/// says, status by status, what is written and what is left of the input, and the clause `leaves`
-/// what map and files then stand for; they speak where those of [`serve`] do. A fault comes only
-/// where the count of that object rose in this call.
+/// Nothing is written before the script has ended, by its end or its `quit`. The clause `ends`
+/// says, status by status, what is written and what is left of the input (`answer`), what map and
+/// files then stand for (`leaves`), and how often the store is asked (`asked`); it speaks where
+/// that of [`serve`] does. A fault comes only where the count of that object rose in this call.
 pub fn build<S: Source, K: Sink, F: Store>(
     alloc: Global,
     options: &Options,
@@ -75,30 +74,17 @@ pub fn build<S: Source, K: Sink, F: Store>(
     store: &mut F,
 ) -> Status
     requires { StandsFor map.old (start_state options.now) }
-    ensures answer { IfSome (S.left source.old) (λ bytes.
+    ensures ends { IfSome (S.left source.old) (λ bytes.
         ReadsTold options.now (F.files store.old) bytes
-        → MayEnd options.now (F.files store.old) bytes (S.left source.new) (K.written sink.old)
-        (K.written sink.new) result) }
-    ensures leaves { IfSome (S.left source.old) (λ bytes.
-        ReadsTold options.now (F.files store.old) bytes
-        → Leaves options.now (F.files store.old) bytes (S.left source.new)
+        → HasBuiltAs options.now (F.files store.old) bytes (S.left source.new)
+        (K.written sink.old) (K.written sink.new)
         (desk map.new (shelf F.files F.calls store.old store.new)) result) }
-    ensures files { IfSome (S.left source.old) (λ bytes.
-        ReadsTold options.now (F.files store.old) bytes → IsWhole result
-        → F.files store.new ≡ (whole_build options.now (F.files store.old) bytes).files) }
     ensures stands { StandsForSome options.now map.new }
     ensures usage { result ≢ Status.Usage }
     ensures bad_file { result ≢ Status.BadFile }
 
-    // The store is asked once at most for each line that names a file, and isn't touched where none
-    // does; nothing is asked of the sink before the script has ended.
-    ensures asked { IfSome (S.left source.old) (λ bytes.
-        ReadsTold options.now (F.files store.old) bytes
-        → IsAsked (store.new ≡ store.old) (F.calls store.old) (F.calls store.new)
-        (last_progress options.now (F.files store.old) bytes).asks) }
-    ensures too_long { result ≡ Status.TooLong → sink.new ≡ sink.old }
-    ensures unread { result ≡ Status.ReadFault → sink.new ≡ sink.old }
-    ensures unstored { result ≡ Status.StoreFault → sink.new ≡ sink.old }
+    // Nothing is asked of the sink before the script has ended.
+    ensures waits { IsUnasked result (sink.new ≡ sink.old) }
 
     // A fault is met once and ends the build: its count rises by one exactly where the status names
     // it, and no other count changes.

@@ -1,20 +1,17 @@
 //! The loop of a session: from the bytes of a source to the replies in a sink.
-ghost use Rattle.std.specs.Prelude.{◌≡◌, ◌≢◌, ℕ, ◌+◌, ◌^◌, ◌<◌, ◌≤◌, List, [], length, take, OnOk};
-ghost use Rattle.std.specs.Prelude.{IfOk, IfErr, IfSome, Option, Err, true, false};
-ghost use Rattle.oct_io.specs.Files.{Files};
+ghost use Rattle.std.specs.Prelude.{◌≡◌, ◌≢◌, ◌+◌, ◌^◌, ◌<◌, ◌≤◌, [], length, take, OnOk, IfOk};
+ghost use Rattle.std.specs.Prelude.{IfErr, IfSome, Err, true, false};
 ghost use Rattle.oct_io.specs.Told.{Rose};
 ghost use Rattle.oct_ending.specs.Counts.{IsSourceCounted, IsSinkCounted, IsStoreCounted};
 ghost use Rattle.oct_ending.specs.Counts.{IsStopCounted};
-ghost use Rattle.oct_ending.specs.Counts.{IsScriptCounted, IsAsked};
+ghost use Rattle.oct_ending.specs.Counts.{IsScriptCounted};
 ghost use Rattle.oct_session.specs.History.{start_state};
-ghost use Rattle.oct_session.specs.Session.{session as whole_session, status_at_end, last_progress};
-ghost use Rattle.oct_session.specs.Session.{ReadsTold};
-ghost use Rattle.oct_session.specs.Ending.{MayEnd};
+ghost use Rattle.oct_session.specs.Session.{status_at_end, ReadsTold};
 ghost use Rattle.oct_ending.specs.Whole.{IsWhole};
-ghost use Rattle.oct_session.specs.Leaving.{StandsFor, StandsForSome, desk, IsKnown, Leaves};
+ghost use Rattle.oct_session.specs.Leaving.{StandsFor, StandsForSome, desk, HasEndedAs};
 ghost use Rattle.oct_ending.specs.Shelf.{shelf};
-ghost use Rattle.oct_session.specs.Standing.{KeepsStanding, IsAt, Takes, HasServed, IsThrough};
-ghost use Rattle.oct_session.specs.Standing.{HasEndedAs, StopsIn};
+ghost use Rattle.oct_session.specs.Standing.{seat, KeepsStanding, Takes, StopsIn, Serves, Finishes};
+ghost use Rattle.oct_session.specs.Standing.{Ends, IsResting, HasRead};
 ghost use Rattle.oct_ending.specs.Stops.{status_of};
 
 use crate::options::Options;
@@ -40,24 +37,19 @@ fn take_piece<K: Sink, F: Store>(
     requires small { session.old.line_count + length piece.now < 2 ^ 63 }
     requires empty { session.old.text.items ≡ [] }
     requires unended { session.old.line.has_ended ≡ false }
-    ensures ok { OnOk result ((home : F)
-        → Takes options.now (K.written sink.old) (K.written sink.new)
-        (desk map.old (shelf F.files F.calls home store.old))
-        (desk map.new (shelf F.files F.calls home store.new))
+    ensures ok { OnOk result (Takes options.now
+        (seat F.files F.calls K.written map.old store.old sink.old)
+        (seat F.files F.calls K.written map.new store.new sink.new)
         session.old session.new (take room piece.now)) }
     ensures fits { OnOk result (session.new.has_quit ≡ false → length piece.now ≤ room) }
-    ensures stops { IfErr result (λ stop. (home : F) (files : Option Files) (w : Option (List ℕ))
-        (bytes : List ℕ) → IsAt options.now files w (K.written sink.old)
-        (desk map.old (shelf F.files F.calls home store.old)) session.old bytes
-        → StopsIn options.now files w (K.written sink.new)
-        (desk map.new (shelf F.files F.calls home store.new))
-        session.new bytes piece.now room
-        (Rose (K.shortages sink.old) (K.shortages sink.new)) stop) }
-    ensures empty { OnOk result (session.new.text.items ≡ []) }
+    ensures stops { IfErr result (StopsIn options.now
+        (seat F.files F.calls K.written map.old store.old sink.old)
+        (seat F.files F.calls K.written map.new store.new sink.new)
+        session.old session.new piece.now room
+        (Rose (K.shortages sink.old) (K.shortages sink.new))) }
+    ensures rests { OnOk result
+        (IsResting session.new (session.old.line_count + length piece.now)) }
     ensures stands { KeepsStanding map.old map.new }
-    ensures unended { OnOk result (session.new.line.has_ended ≡ false) }
-    ensures counted { OnOk result
-        (session.new.line_count ≤ session.old.line_count + length piece.now) }
     ensures counts { IsStopCounted result (K.faults sink.old) (K.faults sink.new)
         (K.shortages sink.old) (K.shortages sink.new)
         (F.faults store.old) (F.faults store.new) }
@@ -88,41 +80,27 @@ fn turn<S: Source, K: Sink, F: Store>(
     taken: u64,
 ) -> Result<usize, Stop>
     requires running { session.old.has_quit ≡ false }
-    requires empty { session.old.text.items ≡ [] }
-    requires unended { session.old.line.has_ended ≡ false }
-    requires small { session.old.line_count ≤ taken }
+    requires rests { IsResting session.old taken }
     requires few { taken ≤ options.now.max_bytes }
     requires whole { length buffer.old ≡ MOST_READ }
-    ensures goes { IfOk result (λ n. session.new.has_quit ≡ false → (home : F)
-        (files : Option Files) (bytes : List ℕ) (w : Option (List ℕ))
-        → HasServed options.now files bytes (S.left source.old) w (K.written sink.old)
-        (desk map.old (shelf F.files F.calls home store.old)) session.old taken
-        → HasServed options.now files bytes (S.left source.new) w (K.written sink.new)
-        (desk map.new (shelf F.files F.calls home store.new)) session.new (taken + n)) }
-    ensures quits { OnOk result (session.new.has_quit ≡ true → (home : F)
-        (files : Option Files) (bytes : List ℕ) (w : Option (List ℕ))
-        → HasServed options.now files bytes (S.left source.old) w (K.written sink.old)
-        (desk map.old (shelf F.files F.calls home store.old)) session.old taken
-        → IsKnown (last_progress options.now files bytes)
-        → IsThrough options.now files bytes (S.left source.new) w (K.written sink.new)
-        (desk map.new (shelf F.files F.calls home store.new)) session.new) }
-    ensures end { IfOk result (λ n. n ≡ 0 → IfSome (S.left source.new) (λ left. left ≡ [])) }
-    ensures stops { IfErr result (λ stop. (home : F)
-        (files : Option Files) (bytes : List ℕ) (w : Option (List ℕ))
-        → HasServed options.now files bytes (S.left source.old) w (K.written sink.old)
-        (desk map.old (shelf F.files F.calls home store.old)) session.old taken
-        → IsKnown (last_progress options.now files bytes)
-        → HasEndedAs options.now files bytes (S.left source.new) w (K.written sink.new)
-        (desk map.new (shelf F.files F.calls home store.new))
-        (Rose (K.shortages sink.old) (K.shortages sink.new)) (status_of stop)) }
-    ensures empty { OnOk result (session.new.text.items ≡ []) }
+    ensures goes { IfOk result (λ n. session.new.has_quit ≡ false
+        → Serves options.now (S.left source.old) (S.left source.new)
+        (seat F.files F.calls K.written map.old store.old sink.old)
+        (seat F.files F.calls K.written map.new store.new sink.new)
+        session.old session.new taken (taken + n)) }
+    ensures quits { OnOk result (session.new.has_quit ≡ true
+        → Finishes options.now (S.left source.old) (S.left source.new)
+        (seat F.files F.calls K.written map.old store.old sink.old)
+        (seat F.files F.calls K.written map.new store.new sink.new)
+        session.old session.new taken) }
+    ensures stops { IfErr result (λ stop. Ends options.now (S.left source.old) (S.left source.new)
+        (seat F.files F.calls K.written map.old store.old sink.old)
+        (seat F.files F.calls K.written map.new store.new sink.new)
+        session.old taken (Rose (K.shortages sink.old) (K.shortages sink.new)) (status_of stop)) }
+    ensures rests { IfOk result (λ n. IsResting session.new (taken + n)) }
+    ensures read { IfOk result (λ n. HasRead options.now session.new.has_quit (S.left source.new)
+        (S.ends source.old) (S.ends source.new) taken n) }
     ensures stands { KeepsStanding map.old map.new }
-    ensures fits { IfOk result
-        (λ n. session.new.has_quit ≡ false → taken + n ≤ options.now.max_bytes) }
-    ensures unended { OnOk result (session.new.line.has_ended ≡ false) }
-    ensures counted { IfOk result (λ n. session.new.line_count ≤ taken + n) }
-    ensures small { IfOk result (λ n. taken + n ≤ 2 ^ 41) }
-    ensures before { IfOk result (λ n. 0 < n → S.ends source.new ≡ S.ends source.old) }
     ensures source_counts { IsScriptCounted result (S.faults source.old) (S.faults source.new)
         (S.ends source.old) (S.ends source.new) }
     ensures counts { IsStopCounted result (K.faults sink.old) (K.faults sink.new)
@@ -145,25 +123,16 @@ pub(crate) fn read_all<S: Source, K: Sink, F: Store>(
     source: &mut S,
     sink: &mut K,
 ) -> Result<(), Stop>
-    requires none { session.old.line_count ≡ 0 }
     requires running { session.old.has_quit ≡ false }
-    requires empty { session.old.text.items ≡ [] }
-    requires unended { session.old.line.has_ended ≡ false }
-    ensures done { OnOk result ((home : F) (files : Option Files) (bytes : List ℕ)
-        (w : Option (List ℕ))
-        → HasServed options.now files bytes (S.left source.old) w (K.written sink.old)
-        (desk map.old (shelf F.files F.calls home store.old)) session.old 0
-        → IsKnown (last_progress options.now files bytes)
-        → IsThrough options.now files bytes (S.left source.new) w (K.written sink.new)
-        (desk map.new (shelf F.files F.calls home store.new)) session.new) }
-    ensures stops { IfErr result (λ stop. (home : F) (files : Option Files) (bytes : List ℕ)
-        (w : Option (List ℕ))
-        → HasServed options.now files bytes (S.left source.old) w (K.written sink.old)
-        (desk map.old (shelf F.files F.calls home store.old)) session.old 0
-        → IsKnown (last_progress options.now files bytes)
-        → HasEndedAs options.now files bytes (S.left source.new) w (K.written sink.new)
-        (desk map.new (shelf F.files F.calls home store.new))
-        (Rose (K.shortages sink.old) (K.shortages sink.new)) (status_of stop)) }
+    requires rests { IsResting session.old 0 }
+    ensures done { OnOk result (Finishes options.now (S.left source.old) (S.left source.new)
+        (seat F.files F.calls K.written map.old store.old sink.old)
+        (seat F.files F.calls K.written map.new store.new sink.new)
+        session.old session.new 0) }
+    ensures stops { IfErr result (λ stop. Ends options.now (S.left source.old) (S.left source.new)
+        (seat F.files F.calls K.written map.old store.old sink.old)
+        (seat F.files F.calls K.written map.new store.new sink.new)
+        session.old 0 (Rose (K.shortages sink.old) (K.shortages sink.new)) (status_of stop)) }
     ensures stands { KeepsStanding map.old map.new }
     ensures source_counts { IsScriptCounted result (S.faults source.old) (S.faults source.new)
         (S.ends source.old) (S.ends source.new) }
@@ -200,12 +169,13 @@ pub(crate) fn read_all<S: Source, K: Sink, F: Store>(
 /// the options say, in which each voxel is unknown and which isn't stale. Files are those of the
 /// store.
 ///
-/// The clause `answer` says, status by status, what is written and what is left of the input, and
-/// the clause `leaves` what map and files then stand for. They speak wherever the source tells its
-/// bytes and the sink what was written, as those in memory do, and the store its files, or no line
-/// names one; that the map stands for some history is said for any of them. A fault comes only
-/// where the count of that object rose in this call. Bytes after the line of `quit` have no effect,
-/// and those that one read gave with it may have been taken.
+/// The clause `ends` says, status by status, what is written and what is left of the input
+/// (`answer`), what map and files then stand for (`leaves`), and that the store is asked once at
+/// most for each line that names a file, and isn't touched where none does (`asked`). It speaks
+/// wherever the source tells its bytes and the sink what was written, as those in memory do, and
+/// the store its files, or no line names one; that the map stands for some history is said for any
+/// of them. A fault comes only where the count of that object rose in this call. Bytes after the
+/// line of `quit` have no effect, and those that one read gave with it may have been taken.
 pub fn serve<S: Source, K: Sink, F: Store>(
     alloc: Global,
     options: &Options,
@@ -215,28 +185,14 @@ pub fn serve<S: Source, K: Sink, F: Store>(
     store: &mut F,
 ) -> Status
     requires { StandsFor map.old (start_state options.now) }
-    ensures answer { IfSome (S.left source.old) (λ bytes.
+    ensures ends { IfSome (S.left source.old) (λ bytes.
         ReadsTold options.now (F.files store.old) bytes
-        → MayEnd options.now (F.files store.old) bytes (S.left source.new) (K.written sink.old)
-        (K.written sink.new) result) }
-    ensures leaves { IfSome (S.left source.old) (λ bytes.
-        ReadsTold options.now (F.files store.old) bytes
-        → Leaves options.now (F.files store.old) bytes (S.left source.new) (K.written sink.old)
+        → HasEndedAs options.now (F.files store.old) bytes (S.left source.new) (K.written sink.old)
         (K.written sink.new) (desk map.new (shelf F.files F.calls store.old store.new))
         (Rose (K.shortages sink.old) (K.shortages sink.new)) result) }
-    ensures files { IfSome (S.left source.old) (λ bytes.
-        ReadsTold options.now (F.files store.old) bytes → IsWhole result
-        → F.files store.new ≡ (whole_session options.now (F.files store.old) bytes).files) }
     ensures stands { StandsForSome options.now map.new }
     ensures usage { result ≢ Status.Usage }
     ensures bad_file { result ≢ Status.BadFile }
-
-    // The store is asked once at most for each line that names a file, and isn't touched where none
-    // does.
-    ensures asked { IfSome (S.left source.old) (λ bytes.
-        ReadsTold options.now (F.files store.old) bytes
-        → IsAsked (store.new ≡ store.old) (F.calls store.old) (F.calls store.new)
-        (last_progress options.now (F.files store.old) bytes).asks) }
 
     // A fault is met once and ends the session: its count rises by one exactly where the status
     // names it, and no other count changes. The end of the input is met once at most.

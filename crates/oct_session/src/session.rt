@@ -1,23 +1,20 @@
 //! A session between two bytes of its script, and what its lines do to it.
-ghost use Rattle.std.specs.Prelude.{◌≡◌, ℕ, ◌+◌, ◌^◌, ◌<◌, ◌≤◌, List, [], ◌∷◌, ◌++◌, length, take};
-ghost use Rattle.std.specs.Prelude.{OnOk, OnErr, IfOk, IfErr, Option, None, IsSome, is_some, false};
+ghost use Rattle.std.specs.Prelude.{◌≡◌, ℕ, ◌+◌, ◌^◌, ◌<◌, ◌≤◌, List, [], ◌++◌, length, take};
+ghost use Rattle.std.specs.Prelude.{OnOk, OnErr, IfOk, IfErr, Option, None, is_some, false};
 ghost use Rattle.oct_io.specs.Counts.{IsAskCounted, IsMakingCounted};
-ghost use Rattle.oct_io.specs.Files.{Files};
 ghost use Rattle.oct_io.specs.Told.{Rose, appended};
-ghost use Rattle.oct_script.specs.Lines.{Line, ended_lines, all_lines, unread};
-ghost use Rattle.oct_script.specs.Replies.{is_refusal, text_of};
+ghost use Rattle.oct_script.specs.Lines.{ended_lines, all_lines, unread};
+ghost use Rattle.oct_script.specs.Replies.{is_refusal};
 ghost use Rattle.oct_session.specs.Commands.{command_on, file_named, asks_for};
 ghost use Rattle.oct_ending.specs.Counts.{IsStopCounted, IsAsked};
 ghost use Rattle.oct_session.specs.ScanBlock.{end_reply};
-ghost use Rattle.oct_session.specs.Session.{Progress, effect_of, after_line, progress, closed};
+ghost use Rattle.oct_session.specs.Session.{Progress, closed};
 ghost use Rattle.oct_session.specs.Tally.{no_replies};
-ghost use Rattle.oct_session.specs.Leaving.{desk, IsKnown, IsHalted};
-ghost use Rattle.oct_ending.specs.Shelf.{shelf};
 ghost use Rattle.oct_ending.specs.Stops.{IsHalt, status_of};
-ghost use Rattle.oct_session.specs.Standing.{KeepsStanding, HasStoppedAt, IsInStep, IsBetween};
-ghost use Rattle.oct_session.specs.Standing.{HasReached, HasHeld, IsAt, Adds, Takes, TakesHeld};
-ghost use Rattle.oct_session.specs.Standing.{IsCutBy};
-ghost use Rattle.oct_session.specs.Standing.{Halts, HaltsHeld, StopsAtEnd};
+ghost use Rattle.oct_session.specs.Standing.{desk_of, seat, KeepsStanding, IsInStep, IsCutBy, Adds};
+ghost use Rattle.oct_session.specs.Standing.{TakesLine, FailsLine, HoldsLine, HaltsLine};
+ghost use Rattle.oct_session.specs.Standing.{TakesHeld, HaltsHeld, Takes, Halts, Reaches};
+ghost use Rattle.oct_session.specs.Standing.{HaltsAtEnd, IsResting};
 
 use crate::scan_block::ScanBlock;
 use crate::held::{MOST_HELD, flush, hold_few, make_way, tell};
@@ -103,25 +100,15 @@ impl Session {
     ) -> Result<(), StoreFault>
         requires few { self.old.line_count < 2 ^ 63 }
         requires running { self.old.has_quit ≡ false }
-        ensures text { OnOk result ((home : F) (p : Progress)
-            → IsKnown (after_line options.now p line.now)
-            → IsBetween options.now (desk map.old (shelf F.files F.calls home store.old)) self.old p
-            → self.new.text.items
-            ≡ self.old.text.items ++ text_of (effect_of options.now p line.now).reply) }
+        ensures ok { OnOk result (TakesLine options.now (desk_of F.files F.calls map.old store.old)
+            (desk_of F.files F.calls map.new store.new) self.old self.new line.now) }
+        ensures err { IfErr result (FailsLine options.now
+            (desk_of F.files F.calls map.old store.old)
+            (desk_of F.files F.calls map.new store.new) self.old line.now) }
         ensures kept { OnErr result (self.new.text.items ≡ self.old.text.items) }
         ensures asked { IsAsked (store.new ≡ store.old) (F.calls store.old) (F.calls store.new)
             (asks_for (file_named (command_on (is_some self.old.block) (self.old.line_count + 1)
             line.now))) }
-        ensures between { OnOk result ((home : F) (p : Progress)
-            → IsKnown (after_line options.now p line.now)
-            → IsBetween options.now (desk map.old (shelf F.files F.calls home store.old)) self.old p
-            → IsBetween options.now (desk map.new (shelf F.files F.calls home store.new)) self.new
-            (after_line options.now p line.now)) }
-        ensures err { IfErr result (λ fault. (home : F) (p : Progress)
-            → IsKnown (after_line options.now p line.now)
-            → IsBetween options.now (desk map.old (shelf F.files F.calls home store.old)) self.old p
-            → HasStoppedAt options.now (desk map.new (shelf F.files F.calls home store.new)) p
-            line.now fault) }
         ensures stands { KeepsStanding map.old map.new }
         ensures line { self.new.line ≡ self.old.line }
         ensures counted { OnOk result (self.new.line_count ≡ self.old.line_count + 1) }
@@ -152,20 +139,14 @@ impl Session {
         requires few { self.old.line_count < 2 ^ 63 }
         requires held { length self.old.text.items < MOST_HELD }
         requires running { self.old.has_quit ≡ false }
-        ensures ok { OnOk result ((home : F) (files : Option Files) (lines : List Line)
-            (w : Option (List ℕ))
-            → IsKnown (progress options.now files (lines ++ line.now ∷ []))
-            → HasHeld options.now files lines w (K.written sink.old)
-            (desk map.old (shelf F.files F.calls home store.old)) self.old
-            → HasHeld options.now files (lines ++ line.now ∷ []) w (K.written sink.new)
-            (desk map.new (shelf F.files F.calls home store.new)) self.new) }
-        ensures err { IfErr result (λ stop. (home : F) (files : Option Files) (lines : List Line)
-            (w : Option (List ℕ))
-            → IsKnown (progress options.now files (lines ++ line.now ∷ []))
-            → HasHeld options.now files lines w (K.written sink.old)
-            (desk map.old (shelf F.files F.calls home store.old)) self.old
-            → IsHalted options.now files (lines ++ line.now ∷ []) w (K.written sink.new)
-            (desk map.new (shelf F.files F.calls home store.new))
+        ensures ok { OnOk result (HoldsLine options.now
+            (seat F.files F.calls K.written map.old store.old sink.old)
+            (seat F.files F.calls K.written map.new store.new sink.new)
+            self.old self.new line.now) }
+        ensures err { IfErr result (λ stop. HaltsLine options.now
+            (seat F.files F.calls K.written map.old store.old sink.old)
+            (seat F.files F.calls K.written map.new store.new sink.new)
+            self.old line.now
             (Rose (K.shortages sink.old) (K.shortages sink.new)) (status_of stop)) }
         ensures held { OnOk result (length self.new.text.items < MOST_HELD) }
         ensures adds { Adds (K.written sink.old) (K.written sink.new) }
@@ -202,20 +183,14 @@ impl Session {
         requires few { self.old.line_count < 2 ^ 63 }
         requires held { length self.old.text.items < MOST_HELD }
         requires running { self.old.has_quit ≡ false }
-        ensures ok { OnOk result ((home : F) (files : Option Files) (lines : List Line)
-            (w : Option (List ℕ))
-            → IsKnown (progress options.now files (lines ++ self.old.line.line ∷ []))
-            → HasHeld options.now files lines w (K.written sink.old)
-            (desk map.old (shelf F.files F.calls home store.old)) self.old
-            → HasHeld options.now files (lines ++ self.old.line.line ∷ []) w (K.written sink.new)
-            (desk map.new (shelf F.files F.calls home store.new)) self.new) }
-        ensures err { IfErr result (λ stop. (home : F) (files : Option Files) (lines : List Line)
-            (w : Option (List ℕ))
-            → IsKnown (progress options.now files (lines ++ self.old.line.line ∷ []))
-            → HasHeld options.now files lines w (K.written sink.old)
-            (desk map.old (shelf F.files F.calls home store.old)) self.old
-            → IsHalted options.now files (lines ++ self.old.line.line ∷ []) w (K.written sink.new)
-            (desk map.new (shelf F.files F.calls home store.new))
+        ensures ok { OnOk result (HoldsLine options.now
+            (seat F.files F.calls K.written map.old store.old sink.old)
+            (seat F.files F.calls K.written map.new store.new sink.new)
+            self.old self.new self.old.line.line) }
+        ensures err { IfErr result (λ stop. HaltsLine options.now
+            (seat F.files F.calls K.written map.old store.old sink.old)
+            (seat F.files F.calls K.written map.new store.new sink.new)
+            self.old self.old.line.line
             (Rose (K.shortages sink.old) (K.shortages sink.new)) (status_of stop)) }
         ensures held { OnOk result (length self.new.text.items < MOST_HELD) }
         ensures adds { Adds (K.written sink.old) (K.written sink.new) }
@@ -246,15 +221,13 @@ impl Session {
         requires running { self.old.has_quit ≡ false }
         requires unended { self.old.line.has_ended ≡ false }
         requires some { 0 < length piece.now }
-        ensures ok { IfOk result (λ n. (home : F)
-            → TakesHeld options.now (K.written sink.old) (K.written sink.new)
-            (desk map.old (shelf F.files F.calls home store.old))
-            (desk map.new (shelf F.files F.calls home store.new))
+        ensures ok { IfOk result (λ n. TakesHeld options.now
+            (seat F.files F.calls K.written map.old store.old sink.old)
+            (seat F.files F.calls K.written map.new store.new sink.new)
             self.old self.new (take n piece.now)) }
-        ensures err { IfErr result (λ stop. (home : F)
-            → HaltsHeld options.now (K.written sink.old) (K.written sink.new)
-            (desk map.old (shelf F.files F.calls home store.old))
-            (desk map.new (shelf F.files F.calls home store.new))
+        ensures err { IfErr result (λ stop. HaltsHeld options.now
+            (seat F.files F.calls K.written map.old store.old sink.old)
+            (seat F.files F.calls K.written map.new store.new sink.new)
             self.old (λ bytes. ended_lines (bytes ++ piece.now))
             (Rose (K.shortages sink.old) (K.shortages sink.new)) (status_of stop)) }
         ensures held { OnOk result (length self.new.text.items < MOST_HELD) }
@@ -295,22 +268,18 @@ impl Session {
         requires few { self.old.line_count + length piece.now < 2 ^ 63 }
         requires empty { self.old.text.items ≡ [] }
         requires unended { self.old.line.has_ended ≡ false }
-        ensures ok { OnOk result ((home : F)
-            → Takes options.now (K.written sink.old) (K.written sink.new)
-            (desk map.old (shelf F.files F.calls home store.old))
-            (desk map.new (shelf F.files F.calls home store.new))
+        ensures ok { OnOk result (Takes options.now
+            (seat F.files F.calls K.written map.old store.old sink.old)
+            (seat F.files F.calls K.written map.new store.new sink.new)
             self.old self.new piece.now) }
-        ensures err { IfErr result (λ stop. (home : F)
-            → Halts options.now (K.written sink.old) (K.written sink.new)
-            (desk map.old (shelf F.files F.calls home store.old))
-            (desk map.new (shelf F.files F.calls home store.new))
+        ensures err { IfErr result (λ stop. Halts options.now
+            (seat F.files F.calls K.written map.old store.old sink.old)
+            (seat F.files F.calls K.written map.new store.new sink.new)
             self.old (λ bytes. ended_lines (bytes ++ piece.now))
             (Rose (K.shortages sink.old) (K.shortages sink.new)) (status_of stop)) }
-        ensures empty { OnOk result (self.new.text.items ≡ []) }
+        ensures rests { OnOk result
+            (IsResting self.new (self.old.line_count + length piece.now)) }
         ensures stands { KeepsStanding map.old map.new }
-        ensures unended { OnOk result (self.new.line.has_ended ≡ false) }
-        ensures counted { OnOk result
-            (self.new.line_count ≤ self.old.line_count + length piece.now) }
         ensures only { IfErr result IsHalt }
         ensures counts { IsStopCounted result (K.faults sink.old) (K.faults sink.new)
             (K.shortages sink.old) (K.shortages sink.new)
@@ -336,17 +305,13 @@ impl Session {
         requires few { self.old.line_count < 2 ^ 63 }
         requires empty { self.old.text.items ≡ [] }
         requires running { self.old.has_quit ≡ false }
-        ensures ok { OnOk result ((home : F) (files : Option Files) (w : Option (List ℕ))
-            (bytes : List ℕ) → IsAt options.now files w (K.written sink.old)
-            (desk map.old (shelf F.files F.calls home store.old)) self.old bytes
-            → IsKnown (progress options.now files (all_lines bytes))
-            → HasReached options.now w (K.written sink.new)
-            (desk map.new (shelf F.files F.calls home store.new)) self.new
-            (progress options.now files (all_lines bytes))) }
-        ensures err { IfErr result (λ stop. (home : F)
-            → Halts options.now (K.written sink.old) (K.written sink.new)
-            (desk map.old (shelf F.files F.calls home store.old))
-            (desk map.new (shelf F.files F.calls home store.new))
+        ensures ok { OnOk result (Reaches options.now
+            (seat F.files F.calls K.written map.old store.old sink.old)
+            (seat F.files F.calls K.written map.new store.new sink.new)
+            self.old self.new (λ p. p)) }
+        ensures err { IfErr result (λ stop. Halts options.now
+            (seat F.files F.calls K.written map.old store.old sink.old)
+            (seat F.files F.calls K.written map.new store.new sink.new)
             self.old all_lines (Rose (K.shortages sink.old) (K.shortages sink.new))
             (status_of stop)) }
         ensures empty { OnOk result (self.new.text.items ≡ []) }
@@ -398,21 +363,14 @@ impl Session {
         requires few { self.old.line_count < 2 ^ 63 }
         requires empty { self.old.text.items ≡ [] }
         requires running { self.old.has_quit ≡ false }
-        ensures ok { OnOk result ((home : F) (files : Option Files) (w : Option (List ℕ))
-            (bytes : List ℕ) → IsAt options.now files w (K.written sink.old)
-            (desk map.old (shelf F.files F.calls home store.old)) self.old bytes
-            → IsKnown (progress options.now files (all_lines bytes))
-            → HasReached options.now w (K.written sink.new)
-            (desk map.new (shelf F.files F.calls home store.new)) self.new
-            (closed (progress options.now files (all_lines bytes)))) }
-        ensures err { IfErr result (λ stop. (home : F) (files : Option Files)
-            (w : Option (List ℕ)) (bytes : List ℕ)
-            → IsAt options.now files w (K.written sink.old)
-            (desk map.old (shelf F.files F.calls home store.old)) self.old bytes
-            → IsKnown (progress options.now files (all_lines bytes))
-            → StopsAtEnd options.now files bytes (all_lines bytes) w (K.written sink.new)
-            (desk map.new (shelf F.files F.calls home store.new))
-            (Rose (K.shortages sink.old) (K.shortages sink.new)) (status_of stop)) }
+        ensures ok { OnOk result (Reaches options.now
+            (seat F.files F.calls K.written map.old store.old sink.old)
+            (seat F.files F.calls K.written map.new store.new sink.new)
+            self.old self.new closed) }
+        ensures err { IfErr result (λ stop. HaltsAtEnd options.now
+            (seat F.files F.calls K.written map.old store.old sink.old)
+            (seat F.files F.calls K.written map.new store.new sink.new)
+            self.old (Rose (K.shortages sink.old) (K.shortages sink.new)) (status_of stop)) }
         ensures stands { KeepsStanding map.old map.new }
         ensures only { IfErr result IsHalt }
         ensures counts { IsStopCounted result (K.faults sink.old) (K.faults sink.new)

@@ -2,13 +2,13 @@
 use Rattle.std.proofs.Common.{◌≡◌, ℕ, ◌+◌, List, [], ◌∷◌, ◌++◌, length, nat_le, true, false}
 use Rattle.std.proofs.Common.{cond, Option, Some, None, IsSome, is_some, Result, Ok, Err, ◌⊎◌}
 use Rattle.std.proofs.Common.{inl, inr, refl, sym, ap, subst, ◌∙◌, arith, append_assoc, append-nil}
-use Rattle.std.proofs.Common.{length-append}
+use Rattle.std.proofs.Common.{length-append, Bool, ◌||◌}
 use Rattle.std.specs.Option.{option_or}
 use Rattle.std.proofs.lemmas.List.Sums.{fold-append}
 use Rattle.oct_key.specs.declared.point.Point.{Point}
 use Rattle.oct_script.specs.Grammar.{forms_of}
 use Rattle.oct_script.specs.Lines.{Line}
-use Rattle.oct_script.specs.Replies.{text_of}
+use Rattle.oct_script.specs.Replies.{text_of, is_refusal}
 use Rattle.oct_script.specs.declared.command.Command.{Command}
 use Rattle.oct_script.specs.declared.command.Command.TheVariants as command
 use Rattle.oct_script.specs.declared.command.ScanHead.{ScanHead}
@@ -18,7 +18,8 @@ use Rattle.oct_script.specs.declared.reply.Reply.{Reply}
 use Rattle.oct_session_laws.specs.BlockReply.{BeginsBlock, NoneEnds, IsBlock, points_of, points_in}
 use Rattle.oct_session_laws.specs.BlockReply.{line_fault, first_fault, reply_unless, reply_to_block}
 use Rattle.oct_session_laws.specs.BlockReply.{done_for_block, HasOneReply, RepliesOnce}
-use Rattle.oct_session.specs.Commands.{command_on, is_quit, accepted, stored}
+use Rattle.oct_session.specs.Commands.{command_on, is_quit, accepted, stored, file_named, asks_for}
+use Rattle.oct_session.specs.Tally.{counted}
 use Rattle.oct_session.specs.History.{History, State, Scanned, state_after}
 use Rattle.oct_session.specs.ScanBlock.{opened, opens_block, with_line, is_end}
 use Rattle.oct_session.specs.ScanBlock.{block_reply, block_action}
@@ -60,6 +61,10 @@ on_line : (Q : Result Command Refusal → Type 0) → ((r : Refusal) → Q (Err 
 on_line Q wrong blank beam end number line =
     of_inside Q wrong blank beam end (command_on true number line)
     (line_has IsInside (inl refl) true inside_forms number line)
+
+-- it names no file, and doesn't end the session
+inside_unnamed : (number : ℕ) (line : Line) → file_named (command_on true number line) ≡ None
+inside_unnamed = on_line (λ c. file_named c ≡ None) (λ r. refl) refl (λ p. refl) refl
 
 inside_runs : (number : ℕ) (line : Line) → is_quit (command_on true number line) ≡ false
 inside_runs = on_line (λ c. is_quit c ≡ false) (λ r. refl) refl (λ p. refl) refl
@@ -164,21 +169,36 @@ comes number (line ∷ lines) scan = step_comes number line lines (comes (number
 record IsIn (p q : Progress) (count : ℕ) (block : ScanBlock) : Type 0 where
   history : q.history ≡ p.history
   files : q.files ≡ p.files
+  asks : q.asks ≡ p.asks
   text : q.text ≡ p.text
+  refused : q.refused ≡ p.refused
+  tally : q.tally ≡ p.tally
   lines : q.line_count ≡ count
   inside : q.block ≡ Some block
   running : q.has_quit ≡ false
 
--- a line without a reply of its own
+-- what is refused after a line without a reply
+refused_same : (b : Bool) → (b || false) ≡ b
+refused_same true = refl
+refused_same false = refl
+
+-- a line without a reply of its own, which names no file
 silent_in : (o : Setup) (p q : Progress) (line : Line) (count : ℕ) (block : ScanBlock)
-    → q.has_quit ≡ false → q.history ≡ p.history → q.files ≡ p.files → q.text ≡ p.text
-    → q.line_count ≡ count → effect_of o q line ≡ silent block
+    → q.has_quit ≡ false → q.history ≡ p.history → q.files ≡ p.files → q.asks ≡ p.asks
+    → q.text ≡ p.text → q.refused ≡ p.refused → q.tally ≡ p.tally → q.line_count ≡ count
+    → effect_of o q line ≡ silent block → file_named (next_command q line) ≡ None
     → is_quit (next_command q line) ≡ false → IsIn p (after_line o q line) (count + 1) block
-silent_in o p q line count block runs history files text lines is goes_on =
+silent_in o p q line count block runs history files asks text refused tally lines is unnamed
+    goes_on =
+    let none : asks_for (file_named (next_command q line)) ≡ 0 = ap asks_for unnamed in
     subst (λ x. IsIn p x (count + 1) block) (sym (after_answered o q line runs)) (record {
       history = ap (λ (e : Effect). q.history ++ e.added) is ∙ append-nil q.history ∙ history;
       files = ap (λ (e : Effect). stored q.files e.saving) is ∙ files;
+      asks = omega (arith, none, asks);
       text = ap (λ (e : Effect). q.text ++ text_of e.reply) is ∙ append-nil q.text ∙ text;
+      refused = ap (λ (e : Effect). q.refused || is_refusal e.reply) is
+          ∙ refused_same q.refused ∙ refused;
+      tally = ap (λ (e : Effect). counted q.tally e.reply) is ∙ tally;
       lines = ap (λ n. n + 1) lines;
       inside = ap (λ (e : Effect). e.block) is;
       running = goes_on;
@@ -234,6 +254,10 @@ first_opens number line = of_first line
 first_runs : (line : Line) (c : Result Command Refusal) → BeginsBlock c line → is_quit c ≡ false
 first_runs line = of_first line (λ c. is_quit c ≡ false) (λ r begins. refl) (λ head. refl)
 
+first_unnamed : (line : Line) (c : Result Command Refusal) → BeginsBlock c line
+    → file_named c ≡ None
+first_unnamed line = of_first line (λ c. file_named c ≡ None) (λ r begins. refl) (λ head. refl)
+
 first_in : (o : Setup) (p : Progress) (head : Line) → p.has_quit ≡ false → p.block ≡ None
     → BeginsBlock (next_command p head) head →
     IsIn p (after_line o p head) (p.line_count + 1)
@@ -245,8 +269,8 @@ first_in o p head runs outside begins =
     ap (λ block. effect p.files (state_after o p.history) number head c block) outside
     ∙ ap (λ block. effect_opened p.files (state_after o p.history) c block)
     (first_opens number head c begins) in
-    silent_in o p p head p.line_count (first_block number c) runs refl refl refl refl is
-    (first_runs head c begins)
+    silent_in o p p head p.line_count (first_block number c) runs refl refl refl refl refl refl
+    refl is (first_unnamed head c begins) (first_runs head c begins)
 
 -- ---- the lines inside
 
@@ -280,7 +304,8 @@ inner_in o p q line count block at goes_on =
     (replied (block_reply (state_after o q.history) block) (block_action block) None)
     (silent (with_line (count + 1) c block))) goes_on in
     silent_in o p q line count (with_line (count + 1) c block) at.running at.history at.files
-    at.text at.lines is
+    at.asks at.text at.refused at.tally at.lines is
+    (ap file_named (next_in p q line count block at) ∙ inside_unnamed (count + 1) line)
     (ap is_quit (next_in p q line count block at) ∙ inside_runs (count + 1) line)
 
 all_in : (o : Setup) (p q : Progress) (lines : List Line) (count : ℕ) (block : ScanBlock)
@@ -333,16 +358,24 @@ last_done o p q inside line block at ends one =
     let lines : q.line_count + 1 ≡ p.line_count + (length inside + 2) =
     omega (arith, at_lines) in
     let actions : History = accepted reply (block_action block) in
+    let none : asks_for (file_named (next_command q line)) ≡ 0 =
+    ap (λ x. asks_for (file_named x)) next ∙ ap asks_for (inside_unnamed (count + 1) line) in
+    let at_asks = at.asks in
     subst (λ x. HasOneReply p x (length inside + 2) reply actions)
     (sym (after_answered o q line at.running))
     (record {
       one = one;
       text = ap (λ (e : Effect). q.text ++ text_of e.reply) is
           ∙ ap (λ text. text ++ text_of reply) at.text;
+      refused = ap (λ (e : Effect). q.refused || is_refusal e.reply) is
+          ∙ ap (λ b. b || is_refusal reply) at.refused;
+      tally = ap (λ (e : Effect). counted q.tally e.reply) is
+          ∙ ap (λ t. counted t reply) at.tally;
       history = ap (λ (e : Effect). q.history ++ e.added) is
           ∙ ap (λ h. h ++ actions) at.history;
       files = ap (λ (e : Effect). stored q.files e.saving) is
           ∙ ap (stored q.files) (saves_none reply None refl) ∙ at.files;
+      asks = omega (arith, none, at_asks);
       closed = ap (λ (e : Effect). e.block) is;
       running = running;
       lines = lines;

@@ -10,7 +10,7 @@ use Rattle.oct_ending.specs.declared.status.Status.TheVariants.{TooLong}
 use Rattle.oct_session.specs.History.{State, state_after}
 use Rattle.oct_session.specs.ScanBlock.{end_reply}
 use Rattle.oct_session.specs.Session.{Progress, effect_of, after_line, progress, ended}
-use Rattle.oct_session.specs.Session.{closed, finished, cut_short, is_too_long, lines_of}
+use Rattle.oct_session.specs.Session.{closed, finished, overlong, is_too_long, lines_of}
 use Rattle.oct_session.specs.Session.{last_progress, session}
 use Rattle.oct_session.specs.Setup.{Setup}
 use Rattle.oct_session.proofs.Progresses.{progress_push, progress_grows, after_answered}
@@ -24,8 +24,8 @@ BeginsWith p a = (more : List ℕ) × (a.text ≡ p.text ++ more)
 nothing_behind : (text : List ℕ) → text ≡ text ++ []
 nothing_behind text = sym (append-nil text)
 
-cut_begins : (p : Progress) → BeginsWith p (cut_short p)
-cut_begins p = elim p.has_quit as (λ b. BeginsWith p (cond b (finished p)
+overlong_begins : (p : Progress) → BeginsWith p (overlong p)
+overlong_begins p = elim p.has_quit as (λ b. BeginsWith p (cond b (finished p)
     (record { text = p.text; files = p.files; status = TooLong }))) [
       | true ↦ ([], nothing_behind p.text)
       | false ↦ ([], nothing_behind p.text)
@@ -43,8 +43,8 @@ unfolding session
 session_begins o files bytes =
     let p : Progress = last_progress o files bytes in
     elim (is_too_long o bytes) as
-    (λ b. BeginsWith p (cond b (cut_short p) (finished (closed p))))
-    [ true ↦ cut_begins p | false ↦ whole_begins p ]
+    (λ b. BeginsWith p (cond b (overlong p) (finished (closed p))))
+    [ true ↦ overlong_begins p | false ↦ whole_begins p ]
 
 -- a line has this reply, and the state behind it is such
 pub record Does (o : Setup) (r : Progress) (line : Line) (reply : Reply) (P : State → Type 0)

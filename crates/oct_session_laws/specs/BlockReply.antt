@@ -1,10 +1,10 @@
 -- The block of a scan within a script: it has one reply, and the first of its faults decides which.
 use Rattle.std.specs.Prelude.{◌≡◌, IsSome, ℕ, ◌+◌, List, [], ◌∷◌, ◌++◌, length, nat_le, ⊤}
-use Rattle.std.specs.Prelude.{true, false, if◌then◌else◌, Option, Some, None, Result, Ok, Err}
+use Rattle.std.specs.Prelude.{true, false, if◌then◌else◌, Option, Some, None, Result, Ok, Err, ◌||◌}
 use Rattle.std.specs.Option.{option_or}
 use Rattle.oct_key.specs.declared.point.Point.{Point}
 use Rattle.oct_script.specs.Lines.{Line}
-use Rattle.oct_script.specs.Replies.{text_of}
+use Rattle.oct_script.specs.Replies.{text_of, is_refusal}
 use Rattle.oct_script.specs.declared.command.Command.{Command}
 use Rattle.oct_script.specs.declared.command.Command.TheVariants.{Scan, Beam}
 use Rattle.oct_script.specs.declared.command.ScanHead.{ScanHead}
@@ -18,6 +18,7 @@ use Rattle.oct_session.specs.ScanBlock.{opens_block, is_end, block_reply}
 use Rattle.oct_session.specs.ScanSoFar.{ScanSoFar, sighting_so_far}
 use Rattle.oct_session.specs.Session.{Progress, after_lines, next_command}
 use Rattle.oct_session.specs.Setup.{Setup}
+use Rattle.oct_session.specs.Tally.{counted}
 use Rattle.oct_session.specs.declared.scan_block.ScanBlock.TheVariants.{Scanning}
 
 -- ---- the lines of a block
@@ -103,14 +104,17 @@ abbrev pub done_for_block : State → ℕ → Result Command Refusal → List Li
 done_for_block s number command inside =
     accepted (reply_to_block s number command inside) (scan_of_block number command inside)
 
--- a block of so many lines has one reply, this one, has done this, is closed behind them, and
--- leaves the files as they were
+-- a block of so many lines has one reply, this one, which alone counts for its session, has done
+-- this, is closed behind them, leaves the files as they were, and asks the store for none
 pub record HasOneReply (p q : Progress) (count : ℕ) (reply : Option Reply) (actions : History)
     : Type 0 where
   pub one : IsSome reply
   pub text : q.text ≡ p.text ++ text_of reply
+  pub refused : q.refused ≡ (p.refused || is_refusal reply)
+  pub tally : q.tally ≡ counted p.tally reply
   pub history : q.history ≡ p.history ++ actions
   pub files : q.files ≡ p.files
+  pub asks : q.asks ≡ p.asks
   pub closed : q.block ≡ None
   pub running : q.has_quit ≡ false
   pub lines : q.line_count ≡ p.line_count + count

@@ -1,22 +1,25 @@
 -- What a run writes, and how it may end.
-use Rattle.std.specs.Prelude.{◌≡◌, ℕ, List, [], Option, Some, None, IsSome, Bool, true, false, ⊤}
+use Rattle.std.specs.Prelude.{◌≡◌, ◌≢◌, ℕ, List, [], Option, Some, None, IsSome, Bool, true, false, ⊤}
 use Rattle.oct_convert.specs.Answers.{convert_answer, inspect_answer}
 use Rattle.oct_convert.specs.Ending.{EndsOverFile}
 use Rattle.oct_ending.specs.Answer.{Answer, Outcome, with_files, IsAnswered, EndsUnread}
 use Rattle.oct_gen.specs.Script.{script_of}
 use Rattle.oct_io.specs.Files.{Files}
+use Rattle.oct_io.specs.Told.{Rose}
 use Rattle.oct_session.specs.Building.{build}
 use Rattle.oct_session.specs.Building as building
 use Rattle.oct_session.specs.Drill.{drill}
 use Rattle.oct_session.specs.Ending as session_ending
 use Rattle.oct_map.specs.Map.{Map}
 use Rattle.oct_ending.specs.Shelf.{Shelf}
+use Rattle.oct_ending.specs.Counts.{IsSourceCounted, IsSinkCounted, IsStoreCounted, IsAsked}
+use Rattle.oct_ending.specs.Whole.{IsWhole}
 use Rattle.oct_session.specs.Leaving.{desk}
 use Rattle.oct_session.specs.Leaving as session_leaving
 use Rattle.oct_session.specs.Session.{session, last_progress}
 use Rattle.oct_session.specs.Session as session_reading
 use Rattle.oct_ending.specs.declared.status.Status.{Status}
-use Rattle.oct_ending.specs.declared.status.Status.TheVariants.{Done, Usage}
+use Rattle.oct_ending.specs.declared.status.Status.TheVariants.{Done, Usage, Memory, StoreFault}
 use Rattle.oct_tasks.specs.Task.{Task, Session, Build, Convert, Inspect, OverFile, OverStore}
 use Rattle.oct_tasks.specs.Task.{Gen, Drill}
 use Rattle.oct_file_tasks.specs.FileTasks.{over_file_answer}
@@ -126,3 +129,35 @@ Leaves (Some (Build o)) files bytes left old new store short status =
     (map : Map) × building.Leaves o files bytes left (desk map store) status
 Leaves (Some (OverStore task)) files bytes left old new store short status = store.files ≡ files
 Leaves _ files bytes left old new store short status = store.same
+
+-- what a run over these bytes and files leaves of the store, that it asked it no more often than
+-- its task may, and, where the whole answer was given, that the files are those of it
+pub record LeavesStore (task : Option Task) (files : Option Files) (bytes : List ℕ)
+    (left old new : Option (List ℕ)) (store : Shelf) (short : Type 0) (status : Status)
+    : Type 0 where
+  pub leaves : Leaves task files bytes left old new store short status
+  pub asked : IsAsked store.same store.first_calls store.calls (asks_of task files bytes)
+  pub files_told : IsWhole status → store.files ≡ (answer task files bytes).files
+
+-- what a run has no need of is as it was: the store where no file is named, the input where it
+-- isn't read, and the output where the words have no task, or the store fails one without a script
+pub record KeepsUnneeded (task : Option Task) (status : Status) (source sink store : Type 0)
+    : Type 0 where
+  pub unused : names_files task ≡ false → store
+  pub unread : has_input task ≡ false → source
+  pub unwritten : status ≡ Usage → sink
+  pub unloaded : has_script task ≡ false → status ≡ StoreFault → sink
+
+-- a fault is met once and ends the run: its count rises by one exactly where the status names it,
+-- and no other count changes; the end of the input is met once at most; memory runs out in the sink
+-- alone where the task takes none; and where no count rose the whole answer comes, or memory ran
+-- out
+pub record IsRunCounted (task : Option Task) (status : Status)
+    (read_faults read_faults_after ends ends_after write_faults write_faults_after : ℕ)
+    (shortages shortages_after store_faults store_faults_after : ℕ) : Type 0 where
+  pub source_counts : IsSourceCounted status read_faults read_faults_after ends ends_after
+  pub sink_counts : IsSinkCounted status write_faults write_faults_after shortages shortages_after
+  pub store_counts : IsStoreCounted status store_faults store_faults_after
+  pub alone : takes_memory task ≡ false → status ≡ Memory → Rose shortages shortages_after
+  pub complete : ¬ Rose read_faults read_faults_after → ¬ Rose write_faults write_faults_after
+      → ¬ Rose store_faults store_faults_after → status ≢ Memory → IsWhole status

@@ -1,17 +1,14 @@
 //! The top call of the program.
-ghost use Rattle.std.specs.Prelude.{◌≡◌, ◌≢◌, IfSome, Some, None, false};
+ghost use Rattle.std.specs.Prelude.{◌≡◌, ◌≢◌, IfSome, Some, None};
 ghost use Rattle.oct_io.specs.Told.{Rose};
-ghost use Rattle.oct_ending.specs.Counts.{IsSourceCounted, IsSinkCounted, IsStoreCounted, IsAsked};
-ghost use Rattle.oct_ending.specs.Whole.{IsWhole};
 ghost use Rattle.oct_session.specs.History.{start_state};
 ghost use Rattle.oct_session.specs.Leaving.{StandsFor};
 ghost use Rattle.oct_ending.specs.Shelf.{shelf};
 ghost use Rattle.oct_tasks.specs.Words.{bytes_of};
 ghost use Rattle.oct_tasks.specs.Asked.{asked};
 ghost use Rattle.oct_tasks.specs.Task.{IsInRange, task_of};
-ghost use Rattle.oct_tasks.specs.Ending.{MayEnd, EndsAlone, Leaves, ReadsTold, asks_of};
-ghost use Rattle.oct_tasks.specs.Ending.{has_script, names_files, has_input, takes_memory};
-ghost use Rattle.oct_tasks.specs.Ending.{answer};
+ghost use Rattle.oct_tasks.specs.Ending.{MayEnd, EndsAlone, LeavesStore, ReadsTold};
+ghost use Rattle.oct_tasks.specs.Ending.{KeepsUnneeded, IsRunCounted};
 
 use crate::task::{Task, Usage, read_words};
 use oct_convert::{convert, inspect};
@@ -28,10 +25,12 @@ use std::alloc::Global;
 /// The replies to a script are those of the plain fold over each single voxel: the clause `answer`
 /// says, status by status, what is written, what is left of the input, and that both are those of
 /// the answer to the task on these bytes and the files of the store; the clause `leaves` says which
-/// files then stand there. They speak wherever source and sink tell their bytes, as those in memory
-/// do, and the store its files, or no line names one. Of a task that reads nothing `made` says what
-/// is written, whatever the source tells. A status names a fault of source, sink or store only
-/// where that one's count of faults rose in this call.
+/// files then stand there, and that the store is asked once at most for each line that names a
+/// file, and for each file that a word names, for the second only where the first is a map. They
+/// speak wherever source and sink tell their bytes, as those in memory do, and the store its files,
+/// or no line names one. Of a task that reads nothing `made` says what is written, whatever the
+/// source tells. A status names a fault of source, sink or store only where that one's count of
+/// faults rose in this call.
 pub fn run<S: Source, K: Sink, F: Store>(
     alloc: Global,
     words: &[String],
@@ -45,46 +44,19 @@ pub fn run<S: Source, K: Sink, F: Store>(
         (K.written sink.old) (K.written sink.new) result) }
     ensures leaves { IfSome (S.left source.old) (λ bytes.
         ReadsTold (task_of (bytes_of words.now)) (F.files store.old) bytes
-        → Leaves (task_of (bytes_of words.now)) (F.files store.old) bytes (S.left source.new)
+        → LeavesStore (task_of (bytes_of words.now)) (F.files store.old) bytes (S.left source.new)
         (K.written sink.old) (K.written sink.new) (shelf F.files F.calls store.old store.new)
         (Rose (K.shortages sink.old) (K.shortages sink.new)) result) }
-    ensures files { IfSome (S.left source.old) (λ bytes.
-        ReadsTold (task_of (bytes_of words.now)) (F.files store.old) bytes → IsWhole result
-        → F.files store.new
-        ≡ (answer (task_of (bytes_of words.now)) (F.files store.old) bytes).files) }
-
-    // The store is asked once at most for each line that names a file, and for each file that a
-    // word names, for the second only where the first is a map. Where there is none it isn't
-    // touched.
-    ensures asked { IfSome (S.left source.old) (λ bytes.
-        ReadsTold (task_of (bytes_of words.now)) (F.files store.old) bytes
-        → IsAsked (store.new ≡ store.old) (F.calls store.old) (F.calls store.new)
-        (asks_of (task_of (bytes_of words.now)) (F.files store.old) bytes)) }
-    ensures unused { names_files (task_of (bytes_of words.now)) ≡ false → store.new ≡ store.old }
-
-    // Words without a task read and write nothing, and to make a script nothing is read.
     ensures usage { task_of (bytes_of words.now) ≡ None → result ≡ Status.Usage }
     ensures only { result ≡ Status.Usage → task_of (bytes_of words.now) ≡ None }
-    ensures unread { has_input (task_of (bytes_of words.now)) ≡ false → source.new ≡ source.old }
-    ensures unwritten { result ≡ Status.Usage → sink.new ≡ sink.old }
-    ensures unloaded { has_script (task_of (bytes_of words.now)) ≡ false
-        → result ≡ Status.StoreFault → sink.new ≡ sink.old }
+    ensures untouched { KeepsUnneeded (task_of (bytes_of words.now)) result
+        (source.new ≡ source.old) (sink.new ≡ sink.old) (store.new ≡ store.old) }
     ensures made { EndsAlone (task_of (bytes_of words.now)) (F.files store.old)
         (K.written sink.old) (K.written sink.new) result }
-
-    // A fault is met once and ends the run: its count rises by one exactly where the status names
-    // it, and no other count changes. The end of the input is met once at most.
-    ensures source_counts { IsSourceCounted result (S.faults source.old) (S.faults source.new)
-        (S.ends source.old) (S.ends source.new) }
-    ensures sink_counts { IsSinkCounted result (K.faults sink.old) (K.faults sink.new)
-        (K.shortages sink.old) (K.shortages sink.new) }
-    ensures store_counts { IsStoreCounted result (F.faults store.old) (F.faults store.new) }
-    ensures alone { takes_memory (task_of (bytes_of words.now)) ≡ false → result ≡ Status.Memory
-        → Rose (K.shortages sink.old) (K.shortages sink.new) }
-    ensures complete { ¬ Rose (S.faults source.old) (S.faults source.new)
-        → ¬ Rose (K.faults sink.old) (K.faults sink.new)
-        → ¬ Rose (F.faults store.old) (F.faults store.new)
-        → result ≢ Status.Memory → IsWhole result }
+    ensures counts { IsRunCounted (task_of (bytes_of words.now)) result (S.faults source.old)
+        (S.faults source.new) (S.ends source.old) (S.ends source.new) (K.faults sink.old)
+        (K.faults sink.new) (K.shortages sink.old) (K.shortages sink.new) (F.faults store.old)
+        (F.faults store.new) }
 {
     match read_words(words) {
         Ok(task) => perform(alloc, &task, source, sink, store),
@@ -107,34 +79,18 @@ fn perform<S: Source, K: Sink, F: Store>(
         (K.written sink.old) (K.written sink.new) result) }
     ensures leaves { IfSome (S.left source.old) (λ bytes.
         ReadsTold (Some (asked task.now)) (F.files store.old) bytes
-        → Leaves (Some (asked task.now)) (F.files store.old) bytes (S.left source.new)
+        → LeavesStore (Some (asked task.now)) (F.files store.old) bytes (S.left source.new)
         (K.written sink.old) (K.written sink.new) (shelf F.files F.calls store.old store.new)
         (Rose (K.shortages sink.old) (K.shortages sink.new)) result) }
-    ensures files { IfSome (S.left source.old) (λ bytes.
-        ReadsTold (Some (asked task.now)) (F.files store.old) bytes → IsWhole result
-        → F.files store.new ≡ (answer (Some (asked task.now)) (F.files store.old) bytes).files) }
-    ensures asked { IfSome (S.left source.old) (λ bytes.
-        ReadsTold (Some (asked task.now)) (F.files store.old) bytes
-        → IsAsked (store.new ≡ store.old) (F.calls store.old) (F.calls store.new)
-        (asks_of (Some (asked task.now)) (F.files store.old) bytes)) }
-    ensures unused { names_files (Some (asked task.now)) ≡ false → store.new ≡ store.old }
     ensures usage { result ≢ Status.Usage }
-    ensures unloaded { has_script (Some (asked task.now)) ≡ false
-        → result ≡ Status.StoreFault → sink.new ≡ sink.old }
-    ensures unread { has_input (Some (asked task.now)) ≡ false → source.new ≡ source.old }
+    ensures untouched { KeepsUnneeded (Some (asked task.now)) result
+        (source.new ≡ source.old) (sink.new ≡ sink.old) (store.new ≡ store.old) }
     ensures made { EndsAlone (Some (asked task.now)) (F.files store.old)
         (K.written sink.old) (K.written sink.new) result }
-    ensures source_counts { IsSourceCounted result (S.faults source.old) (S.faults source.new)
-        (S.ends source.old) (S.ends source.new) }
-    ensures sink_counts { IsSinkCounted result (K.faults sink.old) (K.faults sink.new)
-        (K.shortages sink.old) (K.shortages sink.new) }
-    ensures store_counts { IsStoreCounted result (F.faults store.old) (F.faults store.new) }
-    ensures alone { takes_memory (Some (asked task.now)) ≡ false → result ≡ Status.Memory
-        → Rose (K.shortages sink.old) (K.shortages sink.new) }
-    ensures complete { ¬ Rose (S.faults source.old) (S.faults source.new)
-        → ¬ Rose (K.faults sink.old) (K.faults sink.new)
-        → ¬ Rose (F.faults store.old) (F.faults store.new)
-        → result ≢ Status.Memory → IsWhole result }
+    ensures counts { IsRunCounted (Some (asked task.now)) result (S.faults source.old)
+        (S.faults source.new) (S.ends source.old) (S.ends source.new) (K.faults sink.old)
+        (K.faults sink.new) (K.shortages sink.old) (K.shortages sink.new) (F.faults store.old)
+        (F.faults store.new) }
 {
     match task {
         Task::Session(options) => {

@@ -1,10 +1,10 @@
 use Rattle.std.proofs.Common.{Some, Err, ap, ◌∙◌}
 use Rattle.oct_io.specs.CalmFiles.{files_of}
-use Rattle.oct_session.specs.Leaving.{desk}
+use Rattle.oct_session.specs.Standing.{desk_of}
 use Rattle.oct_ending.specs.Shelf.{shelf}
 use Rattle.oct_session.proofs.Built.{zero_stays}
 use Rattle.oct_session.proofs.Drilled.{work_done, only_memory, passed_stop}
-use Rattle.oct_session.proofs.Endings.{begins, first}
+use Rattle.oct_session.proofs.Endings.{new_session, nothing_asked}
 use Rattle.oct_session.proofs.FewCounted.{drill_low}
 use Rattle.oct_session.proofs.drilling.work_through.Goals as goal
 
@@ -14,13 +14,13 @@ returns-in_err-read_all-clause-memory c =
     (only_memory _ (Err c.in_err-read_all.field-0.0) c.args.options.now
     (files_of c.new-store.result)
     c.args.seed c.args.scans c.args.points _ _ c.args.map.now
-    (λ home. shelf (λ x. Some (files_of x)) (λ x. 0) home c.new-store.result)
-    (λ home. desk c.read_all.new.map
-    (shelf (λ x. Some (files_of x)) (λ x. 0) home c.read_all.new.store)) c.new-store.result
+    (λ first. shelf (λ x. Some (files_of x)) (λ x. 0) first c.new-store.result)
+    (desk_of (λ x. Some (files_of x)) (λ x. 0) c.read_all.new.map c.read_all.new.store)
+    c.new-store.result
     c.new-session.result
     c.requires.setup (ap Some c.new-script.ensures)
-    (first (λ x. Some (files_of x)) (λ x. 0) c.new-store.result)
-    (begins c.requires.unknown c.new-session.ensures.line c.new-session.ensures.counted
+    (nothing_asked (λ x. Some (files_of x)) (λ x. 0) c.new-store.result)
+    (new_session c.requires.unknown c.new-session.ensures.line c.new-session.ensures.counted
     c.new-session.ensures.block c.new-session.ensures.refused c.new-session.ensures.running
     c.new-session.ensures.tally) c.ranges.seed.fits c.requires.few_scans c.requires.few_points
     c.in_err-read_all.ensures.stops
@@ -32,13 +32,13 @@ pub returns-clause-tally : goal.returns-clause-tally
 returns-clause-tally c =
     (work_done c.args.options.now (files_of c.new-store.result) c.args.seed c.args.scans
     c.args.points _ _ c.args.map.now
-    (λ home. shelf (λ x. Some (files_of x)) (λ x. 0) home c.new-store.result)
-    (λ home. desk c.read_all.new.map
-    (shelf (λ x. Some (files_of x)) (λ x. 0) home c.read_all.new.store)) c.new-store.result
+    (λ first. shelf (λ x. Some (files_of x)) (λ x. 0) first c.new-store.result)
+    (desk_of (λ x. Some (files_of x)) (λ x. 0) c.read_all.new.map c.read_all.new.store)
+    c.new-store.result
     c.new-session.result c.read_all.new.session
     c.requires.setup c.new-store.ensures (ap Some c.new-script.ensures)
-    (first (λ x. Some (files_of x)) (λ x. 0) c.new-store.result)
-    (begins c.requires.unknown c.new-session.ensures.line c.new-session.ensures.counted
+    (nothing_asked (λ x. Some (files_of x)) (λ x. 0) c.new-store.result)
+    (new_session c.requires.unknown c.new-session.ensures.line c.new-session.ensures.counted
     c.new-session.ensures.block c.new-session.ensures.refused c.new-session.ensures.running
     c.new-session.ensures.tally) c.in_ok-read_all.ensures.done).tally
     ∙ drill_low c.args.seed c.args.scans c.args.points c.ranges.seed.fits c.requires.few_scans
@@ -48,12 +48,12 @@ pub returns-clause-stands : goal.returns-clause-stands
 returns-clause-stands c =
     (work_done c.args.options.now (files_of c.new-store.result) c.args.seed c.args.scans
     c.args.points _ _ c.args.map.now
-    (λ home. shelf (λ x. Some (files_of x)) (λ x. 0) home c.new-store.result)
-    (λ home. desk c.read_all.new.map
-    (shelf (λ x. Some (files_of x)) (λ x. 0) home c.read_all.new.store)) c.new-store.result
+    (λ first. shelf (λ x. Some (files_of x)) (λ x. 0) first c.new-store.result)
+    (desk_of (λ x. Some (files_of x)) (λ x. 0) c.read_all.new.map c.read_all.new.store)
+    c.new-store.result
     c.new-session.result c.read_all.new.session
     c.requires.setup c.new-store.ensures (ap Some c.new-script.ensures)
-    (first (λ x. Some (files_of x)) (λ x. 0) c.new-store.result)
-    (begins c.requires.unknown c.new-session.ensures.line c.new-session.ensures.counted
+    (nothing_asked (λ x. Some (files_of x)) (λ x. 0) c.new-store.result)
+    (new_session c.requires.unknown c.new-session.ensures.line c.new-session.ensures.counted
     c.new-session.ensures.block c.new-session.ensures.refused c.new-session.ensures.running
     c.new-session.ensures.tally) c.in_ok-read_all.ensures.done).stands

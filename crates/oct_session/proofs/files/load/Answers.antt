@@ -3,7 +3,7 @@ use Rattle.oct_session.specs.FileCommands.{load_reply, load_action}
 use Rattle.oct_io.specs.declared.store.StoreFault.TheVariants as store_fault
 use Rattle.oct_session.specs.Commands.{Reads}
 use Rattle.oct_session.specs.Standing.{with_reply}
-use Rattle.oct_session.proofs.Effects.{some_done, failed_for, is_failed}
+use Rattle.oct_session.proofs.Effects.{stands_where_done, failed_for, is_failed}
 use Rattle.oct_session.proofs.Loading.{load_some, load_done, load_failed, load_unfinished}
 use Rattle.oct_session.proofs.files.load.Goals as goal
 
@@ -24,7 +24,8 @@ returns-in_err-take_in-clause-effect g c =
 
 pub returns-in_err-take_in-clause-stands : goal.returns-in_err-take_in-clause-stands
 returns-in_err-take_in-clause-stands g c =
-    some_done (with_reply c.take_in.result c.take_in.new.reply) c.args.map.now c.take_in.new.map
+    stands_where_done (with_reply c.take_in.result c.take_in.new.reply) c.args.map.now
+    c.take_in.new.map
     (λ s. load_reply s.base (Some c.in_ok-loaded.loaded))
     (λ s. load_action (Some c.in_ok-loaded.loaded)) c.take_in.ensures
 
@@ -37,6 +38,7 @@ returns-clause-effect g c =
 
 pub returns-clause-stands : goal.returns-clause-stands
 returns-clause-stands g c =
-    some_done (with_reply c.take_in.result c.take_in.new.reply) c.args.map.now c.take_in.new.map
+    stands_where_done (with_reply c.take_in.result c.take_in.new.reply) c.args.map.now
+    c.take_in.new.map
     (λ s. load_reply s.base (Some c.in_ok-loaded.loaded))
     (λ s. load_action (Some c.in_ok-loaded.loaded)) c.take_in.ensures

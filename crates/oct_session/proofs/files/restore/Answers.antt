@@ -3,7 +3,7 @@ use Rattle.oct_session.specs.FileCommands.{restore_reply, restore_action}
 use Rattle.oct_io.specs.declared.store.StoreFault.TheVariants as store_fault
 use Rattle.oct_session.specs.Commands.{Reads}
 use Rattle.oct_session.specs.Standing.{with_reply}
-use Rattle.oct_session.proofs.Effects.{some_done, failed_for, is_failed}
+use Rattle.oct_session.proofs.Effects.{stands_where_done, failed_for, is_failed}
 use Rattle.oct_session.proofs.Loading.{load_done, load_failed, load_unfinished}
 use Rattle.oct_session.proofs.Restoring.{restore_some}
 use Rattle.oct_session.proofs.files.restore.Goals as goal
@@ -25,7 +25,7 @@ returns-in_err-take_back-clause-effect g c =
 
 pub returns-in_err-take_back-clause-stands : goal.returns-in_err-take_back-clause-stands
 returns-in_err-take_back-clause-stands g c =
-    some_done (with_reply c.take_back.result c.take_back.new.reply) c.args.map.now
+    stands_where_done (with_reply c.take_back.result c.take_back.new.reply) c.args.map.now
     c.take_back.new.map (λ s. restore_reply s.base (Some c.in_ok-loaded.loaded))
     (λ s. restore_action s.base (Some c.in_ok-loaded.loaded)) c.take_back.ensures
 
@@ -38,6 +38,6 @@ returns-clause-effect g c =
 
 pub returns-clause-stands : goal.returns-clause-stands
 returns-clause-stands g c =
-    some_done (with_reply c.take_back.result c.take_back.new.reply) c.args.map.now
+    stands_where_done (with_reply c.take_back.result c.take_back.new.reply) c.args.map.now
     c.take_back.new.map (λ s. restore_reply s.base (Some c.in_ok-loaded.loaded))
     (λ s. restore_action s.base (Some c.in_ok-loaded.loaded)) c.take_back.ensures

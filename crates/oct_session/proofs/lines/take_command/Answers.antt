@@ -3,7 +3,7 @@ use Rattle.oct_io.specs.declared.store.StoreFault.TheVariants as store_fault
 use Rattle.oct_session.specs.ScanBlock.{opened}
 use Rattle.oct_session.specs.Standing.{with_reply}
 use Rattle.oct_session.proofs.Effects.{effect_before, failed_for, inside_done, inside_failed}
-use Rattle.oct_session.proofs.Effects.{some_inside}
+use Rattle.oct_session.proofs.Effects.{stands_inside}
 use Rattle.oct_session.proofs.lines.take_command.Goals as goal
 
 pub returns-in_err-inside-clause-effect : goal.returns-in_err-inside-clause-effect
@@ -17,7 +17,7 @@ returns-in_err-inside-clause-effect g c = λ line.
 
 pub returns-in_err-inside-clause-stands : goal.returns-in_err-inside-clause-stands
 returns-in_err-inside-clause-stands g c =
-    some_inside (with_reply c.inside.result c.inside.new.reply) c.args.map.now c.inside.new.map
+    stands_inside (with_reply c.inside.result c.inside.new.reply) c.args.map.now c.inside.new.map
     c.args.number (Ok c.args.command.now) c.args.block.now c.inside.new.block
     (sym c.is_some.ensures ∙ c.if-is_some.true) c.inside.ensures
 
@@ -29,7 +29,7 @@ returns-then-is_some-clause-effect g c = λ line.
 
 pub returns-then-is_some-clause-stands : goal.returns-then-is_some-clause-stands
 returns-then-is_some-clause-stands g c =
-    some_inside (with_reply c.inside.result c.inside.new.reply) c.args.map.now c.inside.new.map
+    stands_inside (with_reply c.inside.result c.inside.new.reply) c.args.map.now c.inside.new.map
     c.args.number (Ok c.args.command.now) c.args.block.now c.inside.new.block
     (sym c.is_some.ensures ∙ c.if-is_some.true) c.inside.ensures
 

@@ -4,16 +4,17 @@ use Rattle.oct_session.specs.Commands.{asked_of, asks_for, file_named, is_quit}
 use Rattle.oct_ending.specs.Counts.{IsAsked}
 use Rattle.oct_session.specs.Session.{effect}
 use Rattle.oct_session.specs.Standing.{with_reply}
-use Rattle.oct_session.proofs.Effects.{fault_taken, long_in, misspelt_in, read_in, still_failed}
-use Rattle.oct_session.proofs.Effects.{taken_as}
+use Rattle.oct_session.proofs.Effects.{fault_taken, command_long, command_misspelt, command_read}
+use Rattle.oct_session.proofs.Effects.{failed_passed_on}
+use Rattle.oct_session.proofs.Effects.{effect_as_read}
 use Rattle.oct_session.proofs.lines.take_line.Goals as goal
 
 pub returns-then-is_long-clause-effect : goal.returns-then-is_long-clause-effect
 returns-then-is_long-clause-effect g c =
-    taken_as (Ok c.take_long.new.reply) c.args.map.now c.args.map.now _ _ c.args.number
+    effect_as_read (Ok c.take_long.new.reply) c.args.map.now c.args.map.now _ _ c.args.number
     c.args.line.now _ (Err (refusal.LongLine c.args.number)) c.args.block.now
     c.take_long.new.block
-    (long_in (is_some c.args.block.now) c.args.number c.args.line.now
+    (command_long (is_some c.args.block.now) c.args.number c.args.line.now
     (sym c.is_long.ensures ∙ c.if-is_long.true))
     (fault_taken c.args.map.now _ c.args.number c.args.line.now
     (refusal.LongLine c.args.number) c.args.block.now c.take_long.new.block c.take_long.new.reply
@@ -21,15 +22,15 @@ returns-then-is_long-clause-effect g c =
 
 pub returns-then-is_long-clause-quits : goal.returns-then-is_long-clause-quits
 returns-then-is_long-clause-quits g c =
-    sym (ap is_quit (long_in (is_some c.args.block.now) c.args.number c.args.line.now
+    sym (ap is_quit (command_long (is_some c.args.block.now) c.args.number c.args.line.now
     (sym c.is_long.ensures ∙ c.if-is_long.true)))
 
 pub returns-in-Err-clause-effect : goal.returns-in-Err-clause-effect
 returns-in-Err-clause-effect g c =
-    taken_as (Ok c.take_misspelt.new.reply) c.args.map.now c.args.map.now _ _ c.args.number
+    effect_as_read (Ok c.take_misspelt.new.reply) c.args.map.now c.args.map.now _ _ c.args.number
     c.args.line.now _ (Err (refusal.Syntax c.args.number c.in-Err.syntax.column))
     c.args.block.now c.take_misspelt.new.block
-    (misspelt_in (is_some c.args.block.now) c.is_some.result c.args.number c.args.line.now
+    (command_misspelt (is_some c.args.block.now) c.is_some.result c.args.number c.args.line.now
     c.text.result.now c.in-Err.syntax c.is_some.ensures c.text.ensures.text c.in-Err.ensures.exact)
     (fault_taken c.args.map.now _ c.args.number c.args.line.now
     (refusal.Syntax c.args.number c.in-Err.syntax.column) c.args.block.now c.take_misspelt.new.block
@@ -37,20 +38,20 @@ returns-in-Err-clause-effect g c =
 
 pub returns-in-Err-clause-quits : goal.returns-in-Err-clause-quits
 returns-in-Err-clause-quits g c =
-    sym (ap is_quit (misspelt_in (is_some c.args.block.now) c.is_some.result c.args.number
+    sym (ap is_quit (command_misspelt (is_some c.args.block.now) c.is_some.result c.args.number
     c.args.line.now c.text.result.now c.in-Err.syntax c.is_some.ensures c.text.ensures.text
     c.in-Err.ensures.exact))
 
 pub returns-in_err-take_command-in-Ok-clause-effect
     : goal.returns-in_err-take_command-in-Ok-clause-effect
 returns-in_err-take_command-in-Ok-clause-effect g c =
-    taken_as (with_reply c.from_residual.result c.take_command.new.reply) c.args.map.now
+    effect_as_read (with_reply c.from_residual.result c.take_command.new.reply) c.args.map.now
     c.take_command.new.map _ _ c.args.number c.args.line.now _ (Ok c.parse_into.new.command)
     c.args.block.now c.take_command.new.block
-    (read_in (is_some c.args.block.now) c.is_some.result c.args.number c.args.line.now
+    (command_read (is_some c.args.block.now) c.is_some.result c.args.number c.args.line.now
     c.text.result.now c.parse_into.new.command c.is_some.ensures c.text.ensures.text
     c.in-Ok.ensures.exact)
-    (still_failed c.from_residual.result c.take_command.new.reply
+    (failed_passed_on c.from_residual.result c.take_command.new.reply
     (λ files s. effect files s c.args.number c.args.line.now (Ok c.parse_into.new.command)
     c.args.block.now)
     (asked_of (Ok c.parse_into.new.command)) _ c.args.map.now c.take_command.new.map _ _
@@ -63,7 +64,7 @@ returns-in_err-take_command-in-Ok-clause-asked g c =
     subst (λ n. IsAsked (c.take_command.new.store ≡ c.args.store.now)
     (g.F.Store.calls c.args.store.now) (g.F.Store.calls c.take_command.new.store) n)
     (ap (λ x. asks_for (file_named x))
-    (sym (read_in (is_some c.args.block.now) c.is_some.result c.args.number c.args.line.now
+    (sym (command_read (is_some c.args.block.now) c.is_some.result c.args.number c.args.line.now
     c.text.result.now c.parse_into.new.command c.is_some.ensures c.text.ensures.text
     c.in-Ok.ensures.exact)))
     c.take_command.ensures.asked
@@ -71,9 +72,10 @@ returns-in_err-take_command-in-Ok-clause-asked g c =
 pub returns-in_ok-take_command-in-Ok-clause-effect
     : goal.returns-in_ok-take_command-in-Ok-clause-effect
 returns-in_ok-take_command-in-Ok-clause-effect g c =
-    taken_as (Ok c.take_command.new.reply) c.args.map.now c.take_command.new.map _ _ c.args.number
+    effect_as_read (Ok c.take_command.new.reply) c.args.map.now c.take_command.new.map _ _
+    c.args.number
     c.args.line.now _ (Ok c.parse_into.new.command) c.args.block.now c.take_command.new.block
-    (read_in (is_some c.args.block.now) c.is_some.result c.args.number c.args.line.now
+    (command_read (is_some c.args.block.now) c.is_some.result c.args.number c.args.line.now
     c.text.result.now c.parse_into.new.command c.is_some.ensures c.text.ensures.text
     c.in-Ok.ensures.exact)
     (c.in_ok-take_command-in-Ok.ensures.effect c.args.line.now)
@@ -82,7 +84,7 @@ pub returns-in_ok-take_command-in-Ok-clause-quits
     : goal.returns-in_ok-take_command-in-Ok-clause-quits
 returns-in_ok-take_command-in-Ok-clause-quits g c =
     c.is_quit.ensures ∙ sym (ap is_quit
-    (read_in (is_some c.args.block.now) c.is_some.result c.args.number c.args.line.now
+    (command_read (is_some c.args.block.now) c.is_some.result c.args.number c.args.line.now
     c.text.result.now c.parse_into.new.command c.is_some.ensures c.text.ensures.text
     c.in-Ok.ensures.exact))
 
@@ -92,7 +94,7 @@ returns-in_ok-take_command-in-Ok-clause-asked g c =
     subst (λ n. IsAsked (c.take_command.new.store ≡ c.args.store.now)
     (g.F.Store.calls c.args.store.now) (g.F.Store.calls c.take_command.new.store) n)
     (ap (λ x. asks_for (file_named x))
-    (sym (read_in (is_some c.args.block.now) c.is_some.result c.args.number c.args.line.now
+    (sym (command_read (is_some c.args.block.now) c.is_some.result c.args.number c.args.line.now
     c.text.result.now c.parse_into.new.command c.is_some.ensures c.text.ensures.text
     c.in-Ok.ensures.exact)))
     c.take_command.ensures.asked

@@ -9,18 +9,18 @@ returns-then-piece-room-clause-ok g c =
     c.if-piece-room.true c.take.ensures.ok
 
 pub returns-then-session-clause-ok : goal.returns-then-session-clause-ok
-returns-then-session-clause-ok g c = λ home.
+returns-then-session-clause-ok g c =
     at_front c.args.options.now _ _ _ _ c.args.session.now c.take-2.new.self c.args.piece.now _
     c.args.room
-    c.split_at.ensures.front (c.in_ok-take.ensures.ok home)
+    c.split_at.ensures.front c.in_ok-take.ensures.ok
 
 pub returns-else-session-clause-stops : goal.returns-else-session-clause-stops
-returns-else-session-clause-stops g c = λ home files w bytes at. (
+returns-else-session-clause-stops g c = λ first files w bytes at. (
   omega (arith, c.if-piece-room.false),
   c.if-session.false,
   at_front c.args.options.now _ _ _ _ c.args.session.now c.take-2.new.self c.args.piece.now _
       c.args.room
-      c.split_at.ensures.front (c.in_ok-take.ensures.ok home) files w bytes at,
+      c.split_at.ensures.front c.in_ok-take.ensures.ok first files w bytes at,
 )
 
 pub returns-then-piece-room-clause-stops : goal.returns-then-piece-room-clause-stops

@@ -1,15 +1,15 @@
 use Rattle.std.proofs.Common.{◌-◌, ap, arith}
-use Rattle.oct_session.proofs.Serving.{fault_ends, stop_ends, goes_on, quits_in}
+use Rattle.oct_session.proofs.Serving.{stopped_by_source, stopped_in_piece, goes_on, quits_in}
 use Rattle.oct_session.proofs.service.turn.Goals as goal
 
 pub returns-in_err-count-clause-stops : goal.returns-in_err-count-clause-stops
 returns-in_err-count-clause-stops g c =
-    fault_ends _ _ c.args.options.now _ _ _ _ c.args.session.now c.args.taken
+    stopped_by_source _ _ c.args.options.now _ _ _ _ c.args.session.now c.args.taken
     c.from_residual.ensures.1 c.in_err-count.ensures.err c.requires.few c.requires.running
 
 pub returns-in_err-take_piece-clause-stops : goal.returns-in_err-take_piece-clause-stops
 returns-in_err-take_piece-clause-stops g c =
-    stop_ends _ _ _ c.args.options.now _ _ _ _ _ _ _ _ _ _ c.args.taken _ _
+    stopped_in_piece _ _ _ c.args.options.now _ _ _ _ _ _ _ _ _ _ c.args.taken _ _
     c.from_residual-in_err-take_piece.ensures.1
     (record {
       few = c.requires.few;

@@ -5,10 +5,10 @@ use Rattle.oct_session.proofs.Halting.{reached_quit}
 use Rattle.oct_session.proofs.session.Session.end.Goals as goal
 
 pub returns-then-self-clause-ok : goal.returns-then-self-clause-ok
-returns-then-self-clause-ok g c = λ home files w bytes at known.
+returns-then-self-clause-ok g c = λ first files w bytes at known.
     reached_quit c.args.options.now w _ _ c.respond_last.new.self
     (progress c.args.options.now files (all_lines bytes)) c.if-self.true
-    (c.in_ok-respond_last.ensures.ok home files w bytes at known)
+    (c.in_ok-respond_last.ensures.ok first files w bytes at known)
 
 pub returns-clause-ok : goal.returns-clause-ok
 returns-clause-ok g c =

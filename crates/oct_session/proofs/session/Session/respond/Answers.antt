@@ -1,13 +1,13 @@
 use Rattle.std.proofs.Common.{[], ◌∷◌, ◌++◌, Err, ap, refl}
-use Rattle.oct_session.specs.Leaving.{desk}
-use Rattle.oct_ending.specs.Shelf.{shelf}
-use Rattle.oct_session.proofs.Holding.{adds_more, held_moved, held_more, way_err, more_err}
-use Rattle.oct_session.proofs.Holding.{failed_err, own_halt, rose_since}
+use Rattle.oct_session.specs.Standing.{desk_of}
+use Rattle.oct_session.proofs.Holding.{adds_more, held_moved, held_more, halted_before_line}
+use Rattle.oct_session.proofs.Holding.{halted_behind_line}
+use Rattle.oct_session.proofs.Holding.{halted_with_failed, halted_by_failed, rose_since}
 use Rattle.oct_session.proofs.session.Session.respond.Goals as goal
 
 pub returns-in_err-make_way-clause-err : goal.returns-in_err-make_way-clause-err
 returns-in_err-make_way-clause-err g c =
-    way_err _ _ c.args.options.now _ _ _ c.args.self.now _ c.from_residual.ensures.1
+    halted_before_line _ _ c.args.options.now _ _ _ c.args.self.now _ c.from_residual.ensures.1
     c.in_err-make_way.ensures.err (λ e. (c.in_err-make_way.ensures.counts.memory (ap Err e)).1)
 
 pub returns-in_err-hold_few-in-Ok-clause-adds : goal.returns-in_err-hold_few-in-Ok-clause-adds
@@ -23,7 +23,7 @@ returns-in_ok-flush-in-Err-clause-adds g c =
     adds_more _ _ _ c.make_way.ensures.adds c.flush.ensures.adds
 
 pub returns-in_ok-hold_few-in-Ok-clause-ok : goal.returns-in_ok-hold_few-in-Ok-clause-ok
-returns-in_ok-hold_few-in-Ok-clause-ok g c = λ home files lines w known at.
+returns-in_ok-hold_few-in-Ok-clause-ok g c = λ first files lines w known at.
     held_moved c.args.options.now files (lines ++ c.args.line.now ∷ []) w _ _ _
     c.answer.new.self _
     (record { counted = refl; block = refl; refused = refl; has_quit = refl; tally = refl })
@@ -31,11 +31,11 @@ returns-in_ok-hold_few-in-Ok-clause-ok g c = λ home files lines w known at.
     (held_more c.args.options.now _ _ _ _ c.args.self.now _ c.answer.new.self _ c.requires.running
     (record { counted = refl; block = refl; refused = refl; has_quit = refl; tally = refl })
     c.requires.held c.in_ok-make_way.ensures.moved c.in_ok-make_way.ensures.clear
-    c.in-Ok.ensures.text c.in-Ok.ensures.between home files lines w known at)
+    c.in-Ok.ensures.ok first files lines w known at)
 
 pub returns-in_err-hold_few-in-Ok-clause-err : goal.returns-in_err-hold_few-in-Ok-clause-err
 returns-in_err-hold_few-in-Ok-clause-err g c =
-    more_err _ _ c.args.options.now _ _ _ _ _ c.args.self.now c.answer.new.self
+    halted_behind_line _ _ c.args.options.now _ _ _ _ _ c.args.self.now c.answer.new.self
     c.args.line.now c.from_residual-in_err-hold_few-in-Ok.ensures.1
     c.in_err-hold_few-in-Ok.ensures.err
     (λ e. rose_since _ _ _ c.in_ok-make_way.ensures.counts.stays.1
@@ -43,11 +43,11 @@ returns-in_err-hold_few-in-Ok-clause-err g c =
     (held_more c.args.options.now _ _ _ _ c.args.self.now _ c.answer.new.self _ c.requires.running
     (record { counted = refl; block = refl; refused = refl; has_quit = refl; tally = refl })
     c.requires.held c.in_ok-make_way.ensures.moved c.in_ok-make_way.ensures.clear
-    c.in-Ok.ensures.text c.in-Ok.ensures.between)
+    c.in-Ok.ensures.ok)
 
 pub returns-in_err-flush-in-Err-clause-err : goal.returns-in_err-flush-in-Err-clause-err
 returns-in_err-flush-in-Err-clause-err g c =
-    failed_err _ _ _ c.args.options.now _ _ _ _ _ c.args.self.now _ _ _
+    halted_with_failed _ _ _ c.args.options.now _ _ _ _ _ c.args.self.now _ _ _
     c.from_residual-in_err-flush-in-Err.ensures.1 c.requires.running
     (record { counted = refl; block = refl; refused = refl; has_quit = refl; tally = refl })
     c.requires.held c.in_ok-make_way.ensures.moved c.in-Err.ensures.kept
@@ -57,12 +57,12 @@ returns-in_err-flush-in-Err-clause-err g c =
     c.in_ok-make_way.ensures.clear c.in-Err.ensures.err
 
 pub returns-in_ok-flush-in-Err-clause-err : goal.returns-in_ok-flush-in-Err-clause-err
-returns-in_ok-flush-in-Err-clause-err g c = λ home files lines w known at.
-    own_halt c.from.result _ c.args.options.now _ _ _
-    (λ home. desk c.args.map.now (shelf g.F.Store.files g.F.Store.calls home c.args.store.now))
-    (λ home. desk c.answer.new.map (shelf g.F.Store.files g.F.Store.calls home c.answer.new.store))
+returns-in_ok-flush-in-Err-clause-err g c = λ first files lines w known at.
+    halted_by_failed c.from.result _ c.args.options.now _ _ _
+    (desk_of g.F.Store.files g.F.Store.calls c.args.map.now c.args.store.now)
+    (desk_of g.F.Store.files g.F.Store.calls c.answer.new.map c.answer.new.store)
     c.args.self.now _ _ _ c.from.ensures
     c.requires.running
     (record { counted = refl; block = refl; refused = refl; has_quit = refl; tally = refl })
     c.in_ok-make_way.ensures.moved c.in-Err.ensures.kept c.in_ok-flush-in-Err.ensures.ok
-    c.in-Err.ensures.err home files lines w known at
+    c.in-Err.ensures.err first files lines w known at

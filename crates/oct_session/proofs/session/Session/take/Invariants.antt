@@ -1,18 +1,16 @@
 use Rattle.std.proofs.Common.{◌≡◌, ℕ, ◌+◌, ◌-◌, ◌<◌, ◌≤◌, List, ◌++◌, Option, length, take, false}
 use Rattle.oct_io.specs.Files.{Files}
-use Rattle.oct_session.specs.Leaving.{desk}
-use Rattle.oct_ending.specs.Shelf.{shelf}
-use Rattle.oct_session.specs.Standing.{KeepsStanding, IsAt, IsHeldAt, Adds}
+use Rattle.oct_session.specs.Standing.{desk_of, KeepsStanding, IsAt, IsHeldAt, Adds}
 use Rattle.oct_session.proofs.session.Session.take.Given as goal
 
 abbrev pub invariant-loop-taken : goal.invariant-loop-taken
 invariant-loop-taken g l = record {
   within : l.taken ≤ length l.piece;
-  at : (home : _) (files : Option Files) (w : Option (List ℕ)) (bytes : List ℕ)
+  at : (first : _) (files : Option Files) (w : Option (List ℕ)) (bytes : List ℕ)
       → IsAt l.options files w (g.K.Sink.written l.fn.sink)
-      (desk l.fn.map (shelf g.F.Store.files g.F.Store.calls home l.fn.store)) l.fn.self bytes
+      (desk_of g.F.Store.files g.F.Store.calls l.fn.map l.fn.store first) l.fn.self bytes
       → IsHeldAt l.options files w (g.K.Sink.written l.sink)
-      (desk l.map (shelf g.F.Store.files g.F.Store.calls home l.store)) l.self
+      (desk_of g.F.Store.files g.F.Store.calls l.map l.store first) l.self
       (bytes ++ take l.taken l.piece);
   held : length l.self.text.items < 4096;
   adds : Adds (g.K.Sink.written l.fn.sink) (g.K.Sink.written l.sink);
