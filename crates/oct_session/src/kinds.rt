@@ -69,21 +69,13 @@ pub fn kind_of(command: &Command) -> Kind<'_>
     ensures exact { kind_seen result ≡ kind_of command.now }
     ensures small { IsSmallKind (kind_seen result) }
 {
-    match command {
+    match *command {
         Command::Blank | Command::Quit => Kind::Rests(Rest::Nothing),
         Command::Beam(_) | Command::End => Kind::Rests(Rest::Nothing),
-        Command::Scan(head) => Kind::Rests(Rest::Opens(head)),
-        Command::Edit { p, e, lazy } => Kind::Orders(Order::Edit {
-            p: *p,
-            e: *e,
-            lazy: *lazy,
-        }),
-        Command::Box { lo, hi, e } => Kind::Orders(Order::Box {
-            lo: *lo,
-            hi: *hi,
-            e: *e,
-        }),
-        Command::Limit { lo, hi } => Kind::Orders(Order::Limit { lo: *lo, hi: *hi }),
+        Command::Scan(ref head) => Kind::Rests(Rest::Opens(head)),
+        Command::Edit { p, e, lazy } => Kind::Orders(Order::Edit { p, e, lazy }),
+        Command::Box { lo, hi, e } => Kind::Orders(Order::Box { lo, hi, e }),
+        Command::Limit { lo, hi } => Kind::Orders(Order::Limit { lo, hi }),
         Command::NoLimit => Kind::Orders(Order::NoLimit),
         Command::Refresh => Kind::Orders(Order::Refresh),
         Command::Prune => Kind::Orders(Order::Prune),
@@ -91,26 +83,15 @@ pub fn kind_of(command: &Command) -> Kind<'_>
         Command::MaxLik => Kind::Orders(Order::MaxLik),
         Command::Track => Kind::Orders(Order::Track),
         Command::Untrack => Kind::Orders(Order::Untrack),
-        Command::Get { p, depth } => Kind::Asks(Question::Get {
-            p: *p,
-            depth: *depth,
-        }),
-        Command::List { lo, hi, depth } => Kind::Asks(Question::List {
-            lo: *lo,
-            hi: *hi,
-            depth: *depth,
-        }),
-        Command::Cast { o, e, ignore } => Kind::Asks(Question::Cast {
-            o: *o,
-            e: *e,
-            ignore: *ignore,
-        }),
+        Command::Get { p, depth } => Kind::Asks(Question::Get { p, depth }),
+        Command::List { lo, hi, depth } => Kind::Asks(Question::List { lo, hi, depth }),
+        Command::Cast { o, e, ignore } => Kind::Asks(Question::Cast { o, e, ignore }),
         Command::Counts => Kind::Asks(Question::Counts),
         Command::Changes => Kind::Asks(Question::Changes),
-        Command::Save(name) => Kind::Rests(Rest::Names(FileVerb::Save, name)),
-        Command::Load(name) => Kind::Rests(Rest::Names(FileVerb::Load, name)),
-        Command::Snapshot(name) => Kind::Rests(Rest::Names(FileVerb::Snapshot, name)),
-        Command::Restore(name) => Kind::Rests(Rest::Names(FileVerb::Restore, name)),
+        Command::Save(ref name) => Kind::Rests(Rest::Names(FileVerb::Save, name)),
+        Command::Load(ref name) => Kind::Rests(Rest::Names(FileVerb::Load, name)),
+        Command::Snapshot(ref name) => Kind::Rests(Rest::Names(FileVerb::Snapshot, name)),
+        Command::Restore(ref name) => Kind::Rests(Rest::Names(FileVerb::Restore, name)),
     }
 }
 
