@@ -3,180 +3,232 @@
 
     tools/build_proved.py CRATE JOBS LOG
 
-As many libraries as there are jobs are proved side by side, where they don't stand on each other,
-and first those with the heaviest chain of crates above them. Each has up to four jobs of its own,
-since half of what one takes is reading and writing, which a single job does. Then comes CRATE, with
-whatever this left open. What the kit says goes to LOG, and standard error has a line for each crate
-that is done. The kit's status for a program is that of the program, which it runs, so only a file
-out/CRATE, or out/libCRATE.a of a static library, says that there was a build.
+As many crates as there are jobs are proved side by side, where they don't stand on each other, and
+first those with the heaviest chain of crates above them. While there are enough of them each has
+one job, since with several it takes a quarter more of the processors; where there are fewer, each
+has up to four. What the kit says goes to LOG, and standard error has a line for each crate that is
+done. Ends with 0 where all is proved and CRATE is built, as out/CRATE, or out/libCRATE.a of a
+static library.
 
-The kit keeps every other rt out of the crates below the one that it builds. So each library is
-built in a folder of its own, which has the sources, and of the crates below what was built of them;
-then its out/ goes back to its crate. The kit takes what it finds there by the sums of all files.
+A library is built as `rt verdict` builds it: from nothing, and with its statements alone, without
+their proofs. That is a third of what `rt lib` writes, and a crate reads those of all crates below.
+They stand in the program's out/rlib, where no command of the kit builds or takes a library, with a
+sum of what each was made from. The next start takes them as long as that is the same.
 """
-import glob
+import hashlib
+import importlib.util
 import os
 import shutil
+import signal
 import subprocess
 import sys
-import tempfile
 import time
 from concurrent.futures import FIRST_COMPLETED, ThreadPoolExecutor, wait
 
 import crates
+from build_unproved import TARGET, kit_folder
 
-SOURCES = ("src", "specs", "proofs")
+PLACE = crates.ROOT / "crates/octomap_cli/out/rlib"
 MOST_JOBS = 4
 # The share of a crate's time that is left of it with so many jobs.
-WITH_JOBS = 0.6
+WITH_JOBS = 0.4
 # What reading a byte of the crates below costs, where proving one of its own costs 1.
-READING = 0.02
+READING = 0.006
 
 
 def say(text):
     print(f"octomap: {text}", file=sys.stderr, flush=True)
 
 
-def below(name, uses):
-    """All crates of the repository that this one stands on."""
-    return {it for lower in uses[name] for it in (lower, *below(lower, uses))}
+def load_rtlib():
+    """The module of the kit that has the words by which a crate is built."""
+    sys.dont_write_bytecode = True  # (the kit's folder stays as it is)
+    spec = importlib.util.spec_from_file_location("rtlib", kit_folder() / "bin/rtlib.py")
+    made = importlib.util.module_from_spec(spec)
+    spec.loader.exec_module(made)
+    return made
 
 
-def used_by(target):
-    """The crates that are needed for this one, and which of the repository's own each names."""
-    named = crates.named()
-    uses = {name: [it for it in named[name] if it in named] for name in named}
-    needed = {target, *below(target, uses)}
-    return {name: uses[name] for name in uses if name in needed}
-
-
-def size(name, *parts):
-    """The bytes of these parts of the crate."""
-    folders = [crates.ROOT / "crates" / name / it for it in parts]
-    return sum(it.stat().st_size for at in folders for it in at.rglob("*") if it.is_file())
-
-
-def weights_of(uses):
-    """For each crate about what its proof takes."""
-    read = {it: READING * size(it, *SOURCES) for it in uses}
-    own = {it: size(it, "src", "specs") for it in uses}
-    return {it: own[it] + sum(read[lower] for lower in below(it, uses)) for it in uses}
-
-
-def chains_of(uses, weights):
-    """For each crate the weight of the heaviest chain of crates that begins with it and goes up."""
-    found = {}
-    for name in reversed(sorted(uses, key=lambda it: len(below(it, uses)))):
-        found[name] = weights[name] + max((found[it] for it in uses if name in uses[it]), default=0)
-    return found
-
-
-def run(name, jobs, folder, log):
-    """Has the kit build a crate of the repository in this folder, and returns its status."""
-    words = ["rt", "run" if crates.is_program(name) else "lib", "--jobs", str(jobs)]
-    words += ["--", "session", "1"] * crates.is_program(name)
-    how = {"stdin": subprocess.DEVNULL, "stdout": subprocess.PIPE, "stderr": subprocess.STDOUT}
-    ran = subprocess.run(words, cwd=f"{folder}/crates/{name}", **how)
-    log.write(f"== {name}\n".encode() + ran.stdout)
-    log.flush()
-    return ran.returncode
-
-
-def link_or_copy(one, other):
+def text_of(file):
     try:
-        os.link(one, other)
-    except OSError:
-        shutil.copy2(one, other)
+        return file.read_text()
+    except FileNotFoundError:
+        return ""
 
 
-def lay_out(name, names, room):
-    """Makes the folder in which the library is built. Its own out/ moves there, as it stands."""
-    lines = crates.lines()
-    with open(f"{room}/crates.txt", "w") as file:
-        file.writelines(lines[it] for it in names)
-    for it in names:
-        for part in [*SOURCES, *([] if it == name else ["out/rlib"])]:
-            one = f"{crates.ROOT}/crates/{it}/{part}"
-            if os.path.isdir(one):
-                shutil.copytree(one, f"{room}/crates/{it}/{part}", copy_function=link_or_copy)
-    if os.path.isdir(f"{crates.ROOT}/crates/{name}/out"):
-        os.rename(f"{crates.ROOT}/crates/{name}/out", f"{room}/crates/{name}/out")
+class Work:
+    """The crates of a start, as the kit reads them, lowest first."""
 
+    def __init__(self, target, log):
+        self.kit, self.log = load_rtlib(), log
+        known = {}
+        top = self.kit.Crate(str(crates.ROOT / "crates" / target), str(crates.ROOT), known)
+        for it in known.values():
+            it.rlib = f"{PLACE}/{it.name}.rlib"
+        self.crates = {it.name: it for it in (*top.below(), top)}
+        self.uses = {name: [dep.name for dep in it.deps] for name, it in self.crates.items()}
+        # For each library that is built, what its stamp says: its sum, and a word of its own build.
+        self.stamps = {}
+        with open(f"{self.kit.KIT}/WHAT", "rb") as file:
+            self.what = file.read(), os.stat(self.kit.RATTLE).st_mtime_ns
 
-def build_apart(name, names, jobs, rooms, log):
-    """Builds a library in a folder of its own, and returns the kit's status."""
-    room = tempfile.mkdtemp(prefix=f"{name}-", dir=rooms)
-    try:
-        lay_out(name, names, room)
-        return run(name, jobs, room, log)
-    finally:
-        if os.path.isdir(f"{room}/crates/{name}/out"):
-            os.rename(f"{room}/crates/{name}/out", f"{crates.ROOT}/crates/{name}/out")
+    def sum_of(self, name):
+        """A sum of what the crate is made from, the very builds of the libraries below among it."""
+        crate = self.crates[name]
+        below = [self.stamps[it.name] for it in crate.below()]
+        found = hashlib.sha256(repr((self.what, crate.said, below)).encode())
+        for file in self.kit.files_of(crate.folder):
+            with open(file, "rb") as it:
+                found.update(repr((os.path.relpath(file, crate.folder), it.read())).encode())
+        return found.hexdigest()
+
+    def take_kept(self):
+        """Takes the libraries of earlier starts that are made from what stands here now."""
+        for name, crate in self.crates.items():
+            if crate.makes_rlib() and all(it in self.stamps for it in self.uses[name]):
+                stamp = text_of(PLACE / f"{name}.stamp")
+                if stamp.partition(" ")[0] == self.sum_of(name) and os.path.isdir(crate.rlib):
+                    self.stamps[name] = stamp
+
+    def call(self, name, words):
+        """Has the kit do this in the crate's folder, and returns its status."""
+        how = {"stdin": subprocess.DEVNULL, "stdout": subprocess.PIPE, "stderr": subprocess.STDOUT}
+        words, began = [*self.kit.guarded(), *words], time.monotonic()
+        with subprocess.Popen(words, cwd=self.crates[name].folder, **how) as ran:
+            said = ran.stdout.read()
+            _, status, used = os.wait4(ran.pid, 0)
+            ran.returncode = os.waitstatus_to_exitcode(status)
+        took = time.monotonic() - began, used.ru_utime + used.ru_stime
+        head = "== {}: {:.0f} s, {:.0f} s of the processors, status {}\n"
+        self.log.write(head.format(name, *took, ran.returncode).encode() + said)
+        self.log.flush()
+        return ran.returncode
+
+    def prove(self, name, jobs):
+        """Proves and builds the crate, once more with one job where the system killed it."""
+        crate = self.crates[name]
+        words, known = crate.words(["--jobs", str(jobs)]), self.kit.help_of("build")
+        if crate.makes_rlib():
+            words += ["--statements"] * ("--statements" in known) + ["-o", crate.rlib]
+        else:
+            words += ["--toolchain", f"{self.kit.KIT}/toolchain"]
+            words += ["--backend", "llvm"] * ("--backend" in known)
+            words += ["-o", f"out/lib{name}.a" if crate.is_static else f"out/{name}.o"]
+        status = self.call(name, [self.kit.RATTLE, "build", *words])
+        if status == -signal.SIGKILL and jobs > 1:
+            return self.prove(name, 1)
+        return status
+
+    def link(self, name):
+        kit = self.kit.KIT
+        words = ["--target", TARGET, "--toolchain", f"{kit}/toolchain", "-o", f"out/{name}"]
+        words += [f"out/{name}.o", f"{kit}/c/libos_c.a", f"{kit}/c/liblibc_c.a"]
+        return self.call(name, [f"{kit}/bin/rattle-link", *words])
+
+    def build(self, name, jobs):
+        """Builds the crate, over the libraries below it, and returns the kit's status."""
+        crate, stamp, sum = self.crates[name], PLACE / f"{name}.stamp", self.sum_of(name)
+        if not crate.makes_rlib():
+            os.makedirs(f"{crate.folder}/out", exist_ok=True)
+            return self.prove(name, jobs) or (crate.is_program and self.link(name))
+        stamp.unlink(missing_ok=True)
+        shutil.rmtree(crate.rlib, ignore_errors=True)
+        status = self.prove(name, jobs)
+        if not status and self.sum_of(name) != sum:
+            return say(f"a source of {name} was changed while it was proved") or 1
+        if not status:
+            self.stamps[name] = f"{sum} {os.urandom(8).hex()}"
+            stamp.write_text(self.stamps[name])
+        return status
 
 
 class Progress:
     """How much is proved, and about how long the rest will take."""
 
-    def __init__(self, uses, jobs):
-        self.weights = weights_of(uses)
-        self.chains = chains_of(uses, self.weights)
-        self.left, self.jobs, self.began = set(uses), min(jobs, MOST_JOBS), time.monotonic()
+    def __init__(self, work, jobs):
+        self.uses, self.below = work.uses, {}
+        for name, crate in work.crates.items():
+            self.below[name] = [it.name for it in crate.below()]
+        self.weights = self.weigh()
+        self.chains = self.chain()
+        self.left, self.jobs, self.began = set(self.uses), min(jobs, MOST_JOBS), time.monotonic()
+        self.left -= set(work.stamps)
+        self.all = sum(self.weights[it] for it in self.left)
+        if work.stamps:
+            say(f"{len(work.stamps)} of {len(self.uses)} crates are proved since an earlier start")
+
+    def size(self, name, *parts):
+        """The bytes of these parts of the crate, without tests."""
+        folder = crates.ROOT / "crates" / name
+        files = [it for at in parts for it in (folder / at).rglob("*") if it.is_file()]
+        return sum(it.stat().st_size for it in files if "tests" not in str(it.relative_to(folder)))
+
+    def weigh(self):
+        """For each crate about what its proof takes."""
+        read = {it: READING * self.size(it, "src", "specs", "proofs") for it in self.uses}
+        own = {it: self.size(it, "src", "specs") for it in self.uses}
+        return {it: own[it] + sum(read[lower] for lower in self.below[it]) for it in self.uses}
+
+    def chain(self):
+        """For each crate the weight of the heaviest chain that begins with it and goes up."""
+        found = {}
+        for name in reversed(self.uses):
+            above = [found[it] for it in self.uses if name in self.uses[it]]
+            found[name] = self.weights[name] + max(above, default=0)
+        return found
 
     def done(self, name):
         self.left.remove(name)
         gone = (time.monotonic() - self.began) / 60
-        times = f"; {gone:.0f} min gone, about {self.still(gone):.0f} left" if gone >= 1 else ""
-        say(f"{name} is proved, {len(self.weights) - len(self.left)} of {len(self.weights)}{times}")
+        tells = gone >= 1 and self.left
+        times = f"; {gone:.0f} min gone, about {self.still(gone):.0f} left" if tells else ""
+        say(f"{name} is proved, {len(self.uses) - len(self.left)} of {len(self.uses)}{times}")
 
     def still(self, gone):
         """Minutes: no less than the heaviest chain of crates takes, one after another."""
         rest = sum(self.weights[it] for it in self.left)
         chain = max(self.chains[it] for it in self.left)
-        done = sum(self.weights.values()) - rest
-        return gone * max(rest, chain * WITH_JOBS * self.jobs) / done
+        return gone * max(rest, chain * WITH_JOBS * self.jobs) / (self.all - rest)
 
 
-def build_libraries(uses, progress, jobs, rooms, log):
-    """Builds these side by side, and those above one that couldn't be built not at all."""
-    built, running = set(), {}
-    waiting = sorted(uses, key=lambda it: -progress.chains[it])
-    with ThreadPoolExecutor(jobs) as pool:
+def build_all(work, progress, at_once):
+    """Builds what is left, so many crates side by side, and returns whether all could be built.
+    What stands above one that couldn't isn't tried."""
+    running = {}
+    waiting = sorted(progress.left, key=lambda it: -progress.chains[it])
+    with ThreadPoolExecutor(at_once) as pool:
         while True:
-            ready = [it for it in waiting if built.issuperset(uses[it])]
-            for name in ready[: jobs - len(running)]:
+            ready = [it for it in waiting if all(low in work.stamps for low in work.uses[it])]
+            jobs = 1 if len(ready) + len(running) >= at_once else min(at_once, MOST_JOBS)
+            for name in ready[: at_once - len(running)]:
                 waiting.remove(name)
-                names = [it for it in uses if it == name or it in below(name, uses)]
-                words = name, names, min(jobs, MOST_JOBS), rooms, log
-                running[pool.submit(build_apart, *words)] = name
+                running[pool.submit(work.build, name, jobs)] = name
             if not running:
-                return
+                return not progress.left
             for it in wait(running, return_when=FIRST_COMPLETED).done:
                 name = running.pop(it)
-                if it.result() == 0:
-                    built.add(name)
-                    progress.done(name)
-                else:
+                if it.result():
                     say(f"{name} was not proved in this pass")
+                else:
+                    progress.done(name)
 
 
 def main(target, jobs, log):
-    uses, out = used_by(target), os.path.dirname(log)
-    for it in glob.glob(f"{out}/proving-*"):  # (what a killed build left)
-        shutil.rmtree(it, ignore_errors=True)
-    progress = Progress(uses, jobs)
-    libraries = {it: uses[it] for it in uses if it != target}
-    # (on the disk of the crates, so that an out/ moves by its name alone)
-    rooms = tempfile.mkdtemp(prefix="proving-", dir=out)
-    try:
-        with open(log, "ab") as file:
-            build_libraries(libraries, progress, jobs, rooms, file)
-            say(f"proving {target}, with what is left below it")
-            run(target, min(jobs, MOST_JOBS), crates.ROOT, file)
-    finally:
-        shutil.rmtree(rooms, ignore_errors=True)
+    # (what the kit runs ends with this process, which would wait for it at Ctrl-C)
+    signal.signal(signal.SIGINT, signal.SIG_DFL)
+    with open(log, "ab") as file:
+        work = Work(target, file)
+        PLACE.mkdir(parents=True, exist_ok=True)
+        work.kit.guarded()  # (before any thread runs)
+        work.kit.lock(work.crates.values())  # (keeps every rt out of these crates, till this ends)
+        work.take_kept()
+        progress = Progress(work, jobs)
+        # (what failed as memory didn't suffice is tried once more with nothing beside it)
+        is_built = build_all(work, progress, jobs) or build_all(work, progress, 1)
+    return 0 if is_built else 1
 
 
 if __name__ == "__main__":
     if len(sys.argv) != 4:
         sys.exit(__doc__)
-    main(sys.argv[1], int(sys.argv[2]), sys.argv[3])
+    sys.exit(main(sys.argv[1], int(sys.argv[2]), sys.argv[3]))
