@@ -89,8 +89,8 @@ pub record ReservesFew (m n : Map) (need : ℕ) : Type 0 where
       ⊎ ((entries_of n ≤ fitted_groups m need + need + 1023)
       × (entries_of n ≤ m.max_groups + 1023))
 
--- working word: what pruning leaves of a map beside its groups: ground, values, flag and mark are as
--- they were, inner values that are right stay right, and a pruned tree stays pruned
+-- working word: what pruning leaves of a map beside its groups: ground, values, flag and mark are
+-- as they were, inner values that are right stay right, and a pruned tree stays pruned
 pub record KeepsAllElse (m u : Map) : Type 0 where
   pub setup : ground_of u ≡ ground_of m
   pub values : SameValues (values_of m) (values_of u)
