@@ -85,12 +85,14 @@ impl Reader {
         }
     }
 
-    /// Takes a piece more, however the file is cut. After `Memory` every later call answers it.
+    /// Takes a piece more, however the file is cut. An empty one needs no memory. After `Memory`
+    /// every later call answers it.
     pub fn feed(&mut self, piece: &[u8]) -> Result<(), Memory>
         ensures reads { OnOk result ((text : List ℕ) → StandsFor self.old text
             → StandsFor self.new (text ++ piece.now)) }
         ensures spent { OnErr result (self.new ≡ Spent) }
         ensures stays { self.old ≡ Spent → IsErr result }
+        ensures empty { piece.now ≡ [] → OnErr result (self.old ≡ Spent) }
     {
         if self.is_spent() {
             return Err(Memory);
@@ -148,9 +150,11 @@ fn end_body(header: &Header, nodes: NodeReader) -> Result<BtFile, BtFault>
     Ok(BtFile::new(header.res(), codes, size))
 }
 
-/// The file of classes that these bytes are, or what is wrong with them.
+/// The file of classes that these bytes are, or what is wrong with them. Memory runs out only where
+/// there is a byte.
 pub fn read_classes(alloc: Global, bytes: &[u8]) -> Result<BtFile, BtFault>
-    ensures { (result ≡ reading bytes.now) ⊎ (result ≡ Err BtFault.Memory) }
+    ensures answer { (result ≡ reading bytes.now) ⊎ (result ≡ Err BtFault.Memory) }
+    ensures memory { result ≡ Err BtFault.Memory → bytes.now ≡ [] → ⊥ }
 {
     let mut reader = Reader::new(alloc);
     reader.feed(bytes)?;

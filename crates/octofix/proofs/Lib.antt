@@ -2,6 +2,7 @@ mod AsBox
 pub mod Chains
 pub mod Fronts
 pub mod Handles
+pub mod Loads
 pub mod Models
 pub mod Opened
 pub mod Reaches

@@ -1,5 +1,5 @@
 -- Files of maps, as bytes.
-use Rattle.std.specs.Prelude.{◌≡◌, ℕ, List, IfOk, ⊤, Result, Ok, Err}
+use Rattle.std.specs.Prelude.{◌≡◌, ℕ, List, [], IfOk, IsSome, ⊤, Option, Result, Ok, Err}
 use Rattle.oct_bt.specs.File.{FileRead, bt_text, reading}
 use Rattle.oct_bt.specs.Records.{record_total}
 use Rattle.oct_bt.specs.declared.fault.BtFault.{BtFault}
@@ -29,6 +29,10 @@ load_by m (Ok file) = of_map (load_answer (ground_of m) file.res (record_total f
 -- the answer to a file of these bytes
 abbrev pub loading : List ℕ → Map → Result ⊤ Refusal
 loading bytes m = load_by m (reading bytes)
+
+-- memory runs out for a file of these bytes only where there is a map, and a byte
+abbrev pub MayTakeMemory : Option Map → List ℕ → Type 0
+MayTakeMemory handle bytes = IsSome handle × (bytes ≡ [] → ⊥)
 
 -- the answer to a snapshot of these bytes: how many groups its values need
 abbrev pub restoring : List ℕ → Map → Result ℕ Refusal

@@ -1,11 +1,11 @@
 //! Files of maps and snapshots, as bytes.
-ghost use Rattle.std.specs.Prelude.{◌≡◌, ◌≢◌, ◌≤◌, ⊤, length, IfOk, IsSome, None, Ok};
+ghost use Rattle.std.specs.Prelude.{◌≡◌, ◌≢◌, ◌≤◌, [], length, IfOk, None, Ok};
 ghost use Rattle.std.specs.Prelude.{OnOk, OnErr};
 ghost use Rattle.octofix.specs.Asked.{IsAnswered, IsReached, asked};
 ghost use Rattle.octofix.specs.Buffers.{HasFit, IsListTold, filled, room_code};
 ghost use Rattle.octofix.specs.Changed.{Left};
-ghost use Rattle.octofix.specs.Files.{IsLoadedFrom, IsRestoredFrom, NeedsGroups, file_of, loading};
-ghost use Rattle.octofix.specs.Files.{restoring, snapshot_of};
+ghost use Rattle.octofix.specs.Files.{IsLoadedFrom, IsRestoredFrom, MayTakeMemory, NeedsGroups};
+ghost use Rattle.octofix.specs.Files.{file_of, loading, restoring, snapshot_of};
 
 use crate::answers::{code_of, details_of};
 use crate::handle::Octofix;
@@ -124,7 +124,7 @@ fn snapshot(alloc: Global, map: &OccMap, bytes: &mut [u8], len: &mut usize) -> u
 
 /// Gives each voxel the value of its class in the binary file of these bytes.
 fn load(alloc: Global, map: &mut OccMap, bytes: &[u8]) -> Result<(), Refusal>
-    ensures answer { IsReached (loading bytes.now map.old) ⊤ result }
+    ensures answer { IsReached (loading bytes.now map.old) (bytes.now ≡ [] → ⊥) result }
     ensures loaded { OnOk result (IsLoadedFrom bytes.now map.old map.new) }
     ensures refused { OnErr result (map.new ≡ map.old) }
 {
@@ -190,7 +190,7 @@ pub extern "C" fn octofix_snapshot(
 /// Loads into the map of a handle.
 fn load_into(alloc: Global, handle: &mut Octofix, bytes: &[u8]) -> Result<(), Refusal>
     ensures answer { IsReached (asked handle.old.slot.map (loading bytes.now))
-        (IsSome handle.old.slot.map) result }
+        (MayTakeMemory handle.old.slot.map bytes.now) result }
     ensures loaded { OnOk result
         (Left handle.old handle.new (IsLoadedFrom bytes.now)) }
     ensures refused { OnErr result (handle.new ≡ handle.old) }
@@ -208,7 +208,7 @@ pub extern "C" fn octofix_load(
     details: &mut Details,
 ) -> u32
     ensures answer { IsAnswered (asked handle.old.slot.map (loading bytes.now))
-        (IsSome handle.old.slot.map) result details.new }
+        (MayTakeMemory handle.old.slot.map bytes.now) result details.new }
     ensures loaded { result ≡ DONE
         → Left handle.old handle.new (IsLoadedFrom bytes.now) }
     ensures refused { result ≢ DONE → handle.new ≡ handle.old }

@@ -3,4 +3,5 @@ use Rattle.oct_file_tasks.proofs.two_files.judge.Goals as goal
 
 pub returns-in-Ok-clause-fit : goal.returns-in-Ok-clause-fit
 returns-in-Ok-clause-fit c =
-    fit_file c.in-Ok.file c.args.bytes.now c.in-Ok.ensures c.requires.few c.codes.ensures.accepted
+    fit_file c.in-Ok.file c.args.bytes.now c.in-Ok.ensures.answer c.requires.few
+    c.codes.ensures.accepted
