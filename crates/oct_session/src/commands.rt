@@ -12,8 +12,8 @@ ghost use Rattle.oct_session.specs.Refusals.{refusal_of, fault_reply};
 ghost use Rattle.oct_session.specs.Standing.{with_reply, HasCarriedOut, HasDone, HasObeyed, HasTold};
 ghost use Rattle.oct_session.specs.Standing.{HasScanned};
 
-use crate::scan_block::{ScanBlock, PendingScan};
 use crate::kinds::{Kind, Order, Question, kind_of};
+use crate::scan_block::{PendingScan, ScanBlock};
 use oct_key::Point;
 use oct_map::{MapFault, OccMap};
 use oct_num::Memory;

@@ -77,7 +77,6 @@
 //! `oct_values` for voxels, their values and what events make of them.
 #![tactic(auto)]
 
-mod scan_block;
 mod building;
 mod commands;
 mod drilling;
@@ -86,6 +85,7 @@ mod held;
 mod kinds;
 mod lines;
 mod options;
+mod scan_block;
 mod service;
 mod session;
 mod tally;

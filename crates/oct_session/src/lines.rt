@@ -10,10 +10,10 @@ ghost use Rattle.oct_session.specs.Session.{effect_opened, effect_inside};
 ghost use Rattle.oct_session.specs.Session.{effect};
 ghost use Rattle.oct_session.specs.Standing.{with_reply, HasEffect, HasWorked, KeepsStanding};
 
-use crate::scan_block::{ScanBlock, open_scan, spoil};
 use crate::commands::{by_map, finish};
 use crate::files::use_file;
 use crate::kinds::{Rest, rest_of};
+use crate::scan_block::{ScanBlock, open_scan, spoil};
 use oct_io::{Store, StoreFault};
 use oct_map::OccMap;
 use oct_num::Memory;
@@ -155,7 +155,12 @@ fn take_misspelt(
 }
 
 /// What a line does that is too long to be read.
-fn take_long(line: &ReadLine<'_>, number: u64, block: &mut Option<ScanBlock>, reply: &mut Option<Reply>)
+fn take_long(
+    line: &ReadLine<'_>,
+    number: u64,
+    block: &mut Option<ScanBlock>,
+    reply: &mut Option<Reply>,
+)
     ensures block { block.new ≡ spoilt_by number line.now (Refusal.LongLine number) block.old }
     ensures reply { reply.new ≡ spoilt_reply (Refusal.LongLine number) block.new }
 {

@@ -16,10 +16,10 @@ ghost use Rattle.oct_session.specs.Standing.{TakesLine, FailsLine, HoldsLine, Ha
 ghost use Rattle.oct_session.specs.Standing.{TakesHeld, HaltsHeld, Takes, Halts, Reaches};
 ghost use Rattle.oct_session.specs.Standing.{HaltsAtEnd, IsResting};
 
-use crate::scan_block::ScanBlock;
 use crate::held::{MOST_HELD, flush, hold_few, make_way, tell};
 use crate::lines::take_line;
 use crate::options::Options;
+use crate::scan_block::ScanBlock;
 use crate::tally::Tally;
 use oct_ending::Stop;
 use oct_io::{Sink, SinkFault, Store, StoreFault};
