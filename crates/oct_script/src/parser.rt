@@ -21,8 +21,7 @@ use crate::command::{Command, Edit, ScanHead, ScanOdds, Syntax};
 use crate::lines::LONGEST_LINE;
 use crate::name::Name;
 use crate::numbers::{component_of, depth_of, hit_of, miss_of, number_of, range_of};
-use crate::table::verb_of;
-use crate::verbs::{Single, Verb};
+use crate::verbs::{Single, Verb, verb_of};
 use crate::words::{WordAt, Words, first_word};
 use oct_key::Point;
 

@@ -1,7 +1,9 @@
-//! What the first words of lines begin.
-ghost use Rattle.std.specs.Prelude.{◌≡◌};
+//! The first words of lines, and what they begin.
+ghost use Rattle.std.specs.Prelude.{◌≡◌, map, bytes_eq, option_map};
+ghost use Rattle.std.specs.List.{find};
 ghost use Rattle.oct_script.specs.Commands.{IsSmallCommand};
-ghost use Rattle.oct_script.specs.Reading.{single_command};
+ghost use Rattle.oct_script.specs.Grammar.{rows_of};
+ghost use Rattle.oct_script.specs.Reading.{single_command, row_seen, forms_at, forms_of_verb};
 
 use crate::command::Command;
 
@@ -68,7 +70,73 @@ pub enum Verb {
 
 /// A first word, and what it begins.
 #[derive(Clone, Copy)]
-pub struct FirstWord {
-    pub word: &'static [u8],
-    pub verb: Verb,
+struct FirstWord {
+    word: &'static [u8],
+    verb: Verb,
+}
+
+/// The row of a first word.
+macro_rules! row {
+    ($word:literal, $verb:expr) => {
+        FirstWord { word: $word, verb: $verb }
+    };
+}
+
+/// The first words of lines outside the block of a scan.
+const OUTSIDE: [FirstWord; 25] = [
+    row!(b"get", Verb::Get),
+    row!(b"hit", Verb::Hit),
+    row!(b"miss", Verb::Miss),
+    row!(b"add", Verb::Add),
+    row!(b"set", Verb::Set),
+    row!(b"forget", Verb::Forget),
+    row!(b"counts", Verb::Alone(Single::Counts)),
+    row!(b"refresh", Verb::Alone(Single::Refresh)),
+    row!(b"prune", Verb::Alone(Single::Prune)),
+    row!(b"clear", Verb::Alone(Single::Clear)),
+    row!(b"maxlik", Verb::Alone(Single::MaxLik)),
+    row!(b"cast", Verb::Cast),
+    row!(b"box", Verb::Box),
+    row!(b"list", Verb::List),
+    row!(b"quit", Verb::Alone(Single::Quit)),
+    row!(b"scan", Verb::Scan),
+    row!(b"save", Verb::Save),
+    row!(b"load", Verb::Load),
+    row!(b"snapshot", Verb::Snapshot),
+    row!(b"restore", Verb::Restore),
+    row!(b"track", Verb::Alone(Single::Track)),
+    row!(b"untrack", Verb::Alone(Single::Untrack)),
+    row!(b"changes", Verb::Alone(Single::Changes)),
+    row!(b"limit", Verb::Limit),
+    row!(b"nolimit", Verb::Alone(Single::NoLimit)),
+];
+
+/// The first words of lines inside the block of a scan.
+const INSIDE: [FirstWord; 2] = [
+    row!(b"p", Verb::Beam),
+    row!(b"end", Verb::Alone(Single::End)),
+];
+
+/// The first words of lines inside the block of a scan, or outside.
+fn first_words(inside: bool) -> &'static [FirstWord]
+    ensures { map row_seen result.now ≡ rows_of inside }
+{
+    if inside { &INSIDE } else { &OUTSIDE }
+}
+
+/// The row of a word, if there is one.
+fn find_row<'a>(rows: &'a [FirstWord], word: &[u8]) -> Option<&'a FirstWord>
+    ensures { option_map (λ row. row.now) result
+        ≡ find (λ row. bytes_eq word.now row.word.now) rows.now }
+{
+    rows.iter().find(|row| word == row.word)
+}
+
+/// What a word begins as the first of a line inside the block of a scan, or outside.
+pub fn verb_of(word: &[u8], inside: bool) -> Option<&'static Verb>
+    ensures { forms_of_verb (option_map (λ verb. verb.now) result)
+        ≡ forms_at word.now (rows_of inside) }
+{
+    let row = find_row(first_words(inside), word)?;
+    Some(&row.verb)
 }

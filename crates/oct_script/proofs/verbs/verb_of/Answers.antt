@@ -1,6 +1,6 @@
 use Rattle.std.proofs.Common.{refl, Some}
 use Rattle.oct_script.proofs.FirstWords.{found}
-use Rattle.oct_script.proofs.table.verb_of.Goals as goal
+use Rattle.oct_script.proofs.verbs.verb_of.Goals as goal
 
 pub returns-in_err-row : goal.returns-in_err-row
 returns-in_err-row c =

@@ -2,7 +2,7 @@ use Rattle.std.proofs.Common.{rules, tests, bytes_eq}
 use Rattle.std.proofs.lemmas.Iterator.{YieldsList-from_slice}
 use Rattle.std.proofs.lemmas.Iterator.Search.{find_from_yields_List}
 use Rattle.oct_script.specs.declared.verbs.FirstWord.{FirstWord}
-use Rattle.oct_script.proofs.table.find_row.Goals as goal
+use Rattle.oct_script.proofs.verbs.find_row.Goals as goal
 
 pub returns : goal.returns
 returns c =
