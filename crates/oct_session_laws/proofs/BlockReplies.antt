@@ -219,29 +219,7 @@ of_first : (line : Line) (Q : Result Command Refusal → Type 0)
     → (c : Result Command Refusal) → BeginsBlock c line → Q c
 of_first line Q wrong scan (Err r) begins = wrong r begins
 of_first line Q wrong scan (Ok (command.Scan head)) begins = scan head
-of_first line Q wrong scan (Ok command.Blank) begins = absurd begins
-of_first line Q wrong scan (Ok (command.Edit p e lazy)) begins = absurd begins
-of_first line Q wrong scan (Ok (command.Box lo hi e)) begins = absurd begins
-of_first line Q wrong scan (Ok (command.Beam p)) begins = absurd begins
-of_first line Q wrong scan (Ok command.End) begins = absurd begins
-of_first line Q wrong scan (Ok (command.Get p depth)) begins = absurd begins
-of_first line Q wrong scan (Ok (command.List lo hi depth)) begins = absurd begins
-of_first line Q wrong scan (Ok (command.Cast o e ignore)) begins = absurd begins
-of_first line Q wrong scan (Ok command.Counts) begins = absurd begins
-of_first line Q wrong scan (Ok command.Refresh) begins = absurd begins
-of_first line Q wrong scan (Ok command.Prune) begins = absurd begins
-of_first line Q wrong scan (Ok command.Clear) begins = absurd begins
-of_first line Q wrong scan (Ok command.MaxLik) begins = absurd begins
-of_first line Q wrong scan (Ok command.Track) begins = absurd begins
-of_first line Q wrong scan (Ok command.Untrack) begins = absurd begins
-of_first line Q wrong scan (Ok command.Changes) begins = absurd begins
-of_first line Q wrong scan (Ok (command.Limit lo hi)) begins = absurd begins
-of_first line Q wrong scan (Ok command.NoLimit) begins = absurd begins
-of_first line Q wrong scan (Ok (command.Save name)) begins = absurd begins
-of_first line Q wrong scan (Ok (command.Load name)) begins = absurd begins
-of_first line Q wrong scan (Ok (command.Snapshot name)) begins = absurd begins
-of_first line Q wrong scan (Ok (command.Restore name)) begins = absurd begins
-of_first line Q wrong scan (Ok command.Quit) begins = absurd begins
+of_first line Q wrong scan (Ok other) begins = absurd begins
 
 -- such a line opens its block, and doesn't end the session
 first_opens : (number : ℕ) (line : Line) (c : Result Command Refusal) → BeginsBlock c line

@@ -61,10 +61,9 @@ use Rattle.oct_session.specs.declared.kinds.Question.TheVariants as question
 use Rattle.oct_session.specs.declared.kinds.FileVerb.{FileVerb}
 use Rattle.oct_session.specs.declared.kinds.FileVerb.TheVariants as verb
 use Rattle.oct_session.specs.Kinds.{Kind, kind_of, Nothing, Opens, Orders, Asks, Names}
-use Rattle.oct_session.specs.History.{History, State, Edited, Scanned}
-use Rattle.oct_session.specs.History.{Cleared, Likened, Replaced, Restored, class_event, edit_event}
-use Rattle.oct_session.specs.History.{after, after_all, start_state, state_after, value_after}
-use Rattle.oct_session.specs.History.{Boxed, Limited}
+use Rattle.oct_session.specs.History.{History, State, Edited, Scanned, Cleared, Likened, Replaced}
+use Rattle.oct_session.specs.History.{Restored, class_event, edit_event, after, after_all}
+use Rattle.oct_session.specs.History.{start_state, state_after, value_after, Boxed}
 use Rattle.oct_session.specs.ScanBlock.{opened, with_line, is_end, is_zero, scan_reply, block_reply}
 use Rattle.oct_session.specs.ScanBlock.{block_action}
 use Rattle.oct_session.specs.ScanSoFar.{sighting_so_far}
@@ -163,7 +162,8 @@ box_room_fits s lo hi e a b is_low is_high fits =
       | inl (room, few) ↦ (
           let event : Event = edit_event s.base.odds e in
           let grows = groups_after_box s.base.odds a b event s.values in
-          let here : group_count (updated s.base.odds (corner_events (Some a) (Some b) event) s.values)
+          let here : group_count
+          (updated s.base.odds (corner_events (Some a) (Some b) event) s.values)
           ≤ s.base.max_groups = omega (arith, grows, few) in
           let at_low : group_count
           (updated s.base.odds (corner_events (key_at s.base.res lo) (Some b) event) s.values)
@@ -171,8 +171,9 @@ box_room_fits s lo hi e a b is_low is_high fits =
           subst (λ x. group_count (updated s.base.odds (corner_events x (Some b) event) s.values)
           ≤ s.base.max_groups) (sym is_low) here in
           let after : Fits (after_all s (Boxed lo hi e ∷ [])) =
-          subst (λ x. group_count (updated s.base.odds (corner_events (key_at s.base.res lo) x event)
-          s.values) ≤ s.base.max_groups) (sym is_high) at_low in
+          subst (λ x. group_count
+          (updated s.base.odds (corner_events (key_at s.base.res lo) x event) s.values)
+          ≤ s.base.max_groups) (sym is_high) at_low in
           subst (λ r. Fits (after_all s (accepted (edit_reply r) (Boxed lo hi e ∷ [])))) (sym room)
           after)
       | inr full ↦ subst (λ r. Fits (after_all s (accepted (edit_reply r) (Boxed lo hi e ∷ []))))
@@ -301,28 +302,21 @@ either_fits s r actions fits done =
     elim (is_refusal r) as (λ b. Fits (after_all s (cond {A = History} b [] actions)))
     [ true ↦ fits | false ↦ done ]
 
+-- the last line is checked for each order that it covers: it changes no value
 order_fits : (s : State) (o : Order) → Fits s
     → Fits (after_all s (accepted (order_reply s o) (order_action o ∷ [])))
 order_fits s (order.Edit p e lazy) fits =
     edit_fits_at s p e lazy (key_at s.base.res p) refl fits
 order_fits s (order.Box lo hi e) fits =
     box_fits_at s lo hi e (key_at s.base.res lo) (key_at s.base.res hi) refl refl fits
-order_fits s (order.Limit lo hi) fits =
-    either_fits s (order_reply s (order.Limit lo hi)) (Limited lo hi ∷ []) fits fits
-order_fits s order.NoLimit fits = fits
-order_fits s order.Refresh fits = fits
-order_fits s order.Prune fits = fits
 order_fits s order.Clear fits = clear_fits s
 order_fits s order.MaxLik fits = likely_fits s fits
-order_fits s order.Track fits = fits
-order_fits s order.Untrack fits = fits
+order_fits s other fits =
+    either_fits s (order_reply s other) (order_action other ∷ []) fits fits
 
 question_fits : (s : State) (q : Question) → Fits s → Fits (after_all s (question_action q))
-question_fits s (question.Get p depth) fits = fits
-question_fits s (question.List lo hi depth) fits = fits
-question_fits s (question.Cast o e ignore) fits = fits
 question_fits s question.Counts fits = fits
-question_fits s question.Changes fits = fits
+question_fits s other fits = fits
 
 verb_fits : (files : Option Files) (s : State) (v : FileVerb) (name : List ℕ) → Fits s
     → Fits (after_all s (accepted (verb_reply files s v name) (verb_action files s v name)))
@@ -383,8 +377,9 @@ block_fits s (Scanning scan) fits = elim (is_zero scan.head)
           (fault_known s.base.res (sighting_so_far scan) s.base.max_cells) fits
     ]
 
-opened_fits : (files : Option Files) (s : State) (c : Result Command Refusal) (block : Option ScanBlock)
-    → Fits s → Fits (after_all s (effect_opened files s c block).added)
+opened_fits : (files : Option Files) (s : State) (c : Result Command Refusal)
+    (block : Option ScanBlock) → Fits s
+    → Fits (after_all s (effect_opened files s c block).added)
 opened_fits files s c None fits = command_fits files s c fits
 opened_fits files s c (Some block) fits = fits
 
@@ -406,8 +401,8 @@ line_fits o p line fits =
     elim p.has_quit as (λ v. Fits (state_after o (cond v p (answered o p line)).history)) [
       | true ↦ fits
       | false ↦ subst Fits (sym (state_more o p.history (effect_of o p line).added))
-          (effect_fits p.files (state_after o p.history) (p.line_count + 1) line (next_command p line)
-          p.block fits)
+          (effect_fits p.files (state_after o p.history) (p.line_count + 1) line
+          (next_command p line) p.block fits)
     ]
 
 -- a session that begins within its limit stays there

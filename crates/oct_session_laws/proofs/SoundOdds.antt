@@ -27,9 +27,8 @@ use Rattle.oct_session.specs.declared.kinds.FileVerb.TheVariants as verb
 use Rattle.oct_session.specs.Kinds.{Kind, kind_of, Nothing, Opens, Orders, Asks, Names}
 use Rattle.oct_session.specs.FileCommands.{found_in, load_action, reading_action, restore_action}
 use Rattle.oct_session.specs.FileCommands.{snapshot_action}
-use Rattle.oct_session.specs.History.{History, State, Action, Edited, Boxed, Scanned, Refreshed}
-use Rattle.oct_session.specs.History.{Pruned, Cleared, Likened, Replaced, Restored, Tracked}
-use Rattle.oct_session.specs.History.{Untracked, Limited, Unlimited, after, after_all, state_after}
+use Rattle.oct_session.specs.History.{History, State, Action, Restored, after, after_all}
+use Rattle.oct_session.specs.History.{state_after}
 use Rattle.oct_session.specs.ScanBlock.{opened, with_line, is_end, block_reply, block_action}
 use Rattle.oct_session.specs.Session.{Progress, Effect, effect, effect_of, effect_opened}
 use Rattle.oct_session.specs.Session.{next_command, answered, after_line, start, progress, replied}
@@ -54,19 +53,8 @@ AreFine [] = ⊤
 AreFine (a ∷ h) = IsFine a × AreFine h
 
 action_kept : (s : State) (a : Action) → IsFine a → IsModel s → IsModel (after s a)
-action_kept s (Edited p e lazy) fine is = is
-action_kept s (Boxed lo hi e) fine is = is
-action_kept s (Scanned seen lazy) fine is = is
-action_kept s Refreshed fine is = is
-action_kept s Pruned fine is = is
-action_kept s Cleared fine is = is
-action_kept s Likened fine is = is
-action_kept s (Replaced classes) fine is = is
 action_kept s (Restored q) fine is = fine
-action_kept s Tracked fine is = is
-action_kept s Untracked fine is = is
-action_kept s (Limited lo hi) fine is = is
-action_kept s Unlimited fine is = is
+action_kept s other fine is = is
 
 actions_kept : (s : State) (h : History) → AreFine h → IsModel s → IsModel (after_all s h)
 actions_kept s [] fine is = is
@@ -98,24 +86,14 @@ restore_fine s (Some TooLarge) is = tt
 restore_fine s (Some (Bytes bytes)) is =
     snapshot_are_fine s.base.odds bytes (read_snapshot s.base.odds bytes) is refl
 
+-- no order restores a snapshot; the last line is checked for each order that it covers
 order_fine : (o : Order) → IsFine (order_action o)
 order_fine (order.Edit p e lazy) = tt
-order_fine (order.Box lo hi e) = tt
-order_fine (order.Limit lo hi) = tt
-order_fine order.NoLimit = tt
-order_fine order.Refresh = tt
-order_fine order.Prune = tt
-order_fine order.Clear = tt
-order_fine order.MaxLik = tt
-order_fine order.Track = tt
-order_fine order.Untrack = tt
+order_fine other = tt
 
 question_fine : (q : Question) → AreFine (question_action q)
-question_fine (question.Get p depth) = tt
-question_fine (question.List lo hi depth) = tt
-question_fine (question.Cast o e ignore) = tt
 question_fine question.Counts = (tt, tt)
-question_fine question.Changes = tt
+question_fine other = tt
 
 verb_fine : (files : Option Files) (s : State) (v : FileVerb) (name : List ℕ) → IsModel s
     → AreFine (verb_action files s v name)

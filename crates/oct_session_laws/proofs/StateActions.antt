@@ -109,7 +109,7 @@ same_ground s a odds box is =
           (s.values k) (subst (λ (o : Odds). IsWithin o (s.values k)) (sym odds) (is.values k low));
     }
 
--- after a limit to a box of the map
+-- after an action that sets at most the box, to one of the map
 pub limited_is : (s : State) (a : Action) (w : Option Window)
     → base_by s.base a ≡ record s.base { update_box = w } → IfSome w IsMapBox → IsState s
     → IsState (after s a)

@@ -48,10 +48,8 @@ use Rattle.oct_session.specs.FileCommands.{found_in, snapshot_file, reading_repl
 use Rattle.oct_session.specs.FileCommands.{load_reply, load_action, snapshot_reply, snapshot_action}
 use Rattle.oct_session.specs.FileCommands.{restore_reply, restore_action}
 use Rattle.oct_session_laws.specs.GivenBack.{IsMapBox, IsState, IsSetUp}
-use Rattle.oct_session.specs.History.{History, State, Action, Edited, Boxed, Scanned, Refreshed}
-use Rattle.oct_session.specs.History.{Pruned, Cleared, Likened, Replaced, Restored, Tracked}
-use Rattle.oct_session.specs.History.{Untracked, Limited, Unlimited, base_by, after, after_all}
-use Rattle.oct_session.specs.History.{state_after}
+use Rattle.oct_session.specs.History.{History, State, Scanned, Pruned, Replaced, Restored, Limited}
+use Rattle.oct_session.specs.History.{base_by, after, after_all, state_after}
 use Rattle.oct_session.specs.ScanBlock.{opened, with_line, is_end, block_reply, block_action}
 use Rattle.oct_session.specs.ScanSoFar.{sighting_so_far}
 use Rattle.oct_session.specs.Session.{Progress, Effect, effect, effect_of, effect_opened}
@@ -213,33 +211,19 @@ restore_is s (Some TooLarge) good is = is
 restore_is s (Some (Bytes bytes)) good is =
     snapshot_is s bytes (read_snapshot s.base.odds bytes) good refl is
 
--- an action that changes neither log-odds nor box was done or not
-one_is : (s : State) (r : Option Reply) (a : Action) → base_by s.base a ≡ s.base → IsState s
-    → IsState (after_all s (accepted r (a ∷ [])))
-one_is s r a same is = either_is s r (a ∷ []) is (edited_is s a same is)
-
+-- the last line is checked for each order that it covers: it leaves the box, or takes it away
 order_is : (s : State) (o : Order) → IsState s
     → IsState (after_all s (accepted (order_reply s o) (order_action o ∷ [])))
-order_is s (order.Edit p e lazy) is =
-    one_is s (order_reply s (order.Edit p e lazy)) (Edited p e lazy) refl is
-order_is s (order.Box lo hi e) is =
-    one_is s (order_reply s (order.Box lo hi e)) (Boxed lo hi e) refl is
 order_is s (order.Limit lo hi) is =
     limit_is_at s lo hi (key_at s.base.res lo) (key_at s.base.res hi) refl refl is
-order_is s order.NoLimit is = limited_is s Unlimited None refl tt is
-order_is s order.Refresh is = edited_is s Refreshed refl is
-order_is s order.Prune is = edited_is s Pruned refl is
-order_is s order.Clear is = edited_is s Cleared refl is
-order_is s order.MaxLik is = edited_is s Likened refl is
-order_is s order.Track is = edited_is s Tracked refl is
-order_is s order.Untrack is = edited_is s Untracked refl is
+order_is s other is =
+    either_is s (order_reply s other) (order_action other ∷ []) is
+    (limited_is s (order_action other) (base_by s.base (order_action other)).update_box refl
+    (assumption is) is)
 
 question_is : (s : State) (q : Question) → IsState s → IsState (after_all s (question_action q))
-question_is s (question.Get p depth) is = is
-question_is s (question.List lo hi depth) is = is
-question_is s (question.Cast o e ignore) is = is
 question_is s question.Counts is = edited_is s Pruned refl is
-question_is s question.Changes is = is
+question_is s other is = is
 
 verb_is : (files : Option Files) (s : State) (v : FileVerb) (name : List ℕ) → AreGood files
     → IsState s
@@ -271,8 +255,9 @@ block_is s (Scanning scan) is =
     either_is s (block_reply s (Scanning scan)) (block_action (Scanning scan)) is
     (edited_is s (Scanned (sighting_so_far scan) scan.head.lazy) refl is)
 
-opened_is : (files : Option Files) (s : State) (c : Result Command Refusal) (block : Option ScanBlock)
-    → AreGood files → IsState s → IsState (after_all s (effect_opened files s c block).added)
+opened_is : (files : Option Files) (s : State) (c : Result Command Refusal)
+    (block : Option ScanBlock) → AreGood files → IsState s
+    → IsState (after_all s (effect_opened files s c block).added)
 opened_is files s c None good is = command_is files s c good is
 opened_is files s c (Some block) good is = is
 
