@@ -18,7 +18,8 @@ use Rattle.oct_script.specs.Reading.{◌>>=◌, number_or, number_in, point_in, 
 use Rattle.oct_script.specs.Reading.{end_in, flag_in, edit_end_in, edit_in, points_in}
 use Rattle.oct_script.specs.Reading.{point_number_in, number_edit_in, query_in, cast_in}
 use Rattle.oct_script.specs.Reading.{rotation_in, scan_in, beam_in, file_in, behind_verb}
-use Rattle.oct_script.specs.Reading.{forms_behind, single_command, forms_of_verb, forms_at}
+use Rattle.oct_script.specs.Reading.{forms_behind, single_command, file_command}
+use Rattle.oct_script.specs.Reading.{forms_of_verb, forms_at}
 use Rattle.oct_script.specs.Reading.{by_forms, behind_first, line_in, edit_number_in, edit_word_in}
 use Rattle.oct_script.specs.Reading.{box_in, listing_in, limit_in, miss_in, head_end_in}
 use Rattle.oct_script.specs.Reading.{forms_of_row}
@@ -35,8 +36,8 @@ use Rattle.oct_script.specs.declared.command.Command.TheVariants as command
 use Rattle.oct_script.specs.declared.verbs.Verb.{Verb}
 use Rattle.oct_script.specs.declared.verbs.Verb.TheVariants as verb
 use Rattle.oct_script.specs.declared.verbs.Verb.TheVariants.{Hit, Miss, Add, Set, Forget, Get, Cast}
-use Rattle.oct_script.specs.declared.verbs.Verb.TheVariants.{Scan, Beam, Alone, Box, Limit, Save}
-use Rattle.oct_script.specs.declared.verbs.Verb.TheVariants.{Load, Snapshot, Restore}
+use Rattle.oct_script.specs.declared.verbs.Verb.TheVariants.{Scan, Beam, Alone, Box, Limit, File}
+use Rattle.oct_script.specs.declared.verbs.FileVerb.{FileVerb}
 
 -- no word may stand any more
 ends : (c : Command) (end : ℕ) (words : List PlacedWord)
@@ -539,13 +540,13 @@ beams end words =
     point_one (λ p. Ends (command.Beam p)) end words
     ∙ then_same (point_in end words) _ _ (λ p. ends (command.Beam p.0) end p.1)
 
-files : (make : Word → Command) (end : ℕ) (words : List PlacedWord)
-    → command_by (file make) end words ≡ (file_in end words >>= λ name. Ok (make name))
+files : (verb : FileVerb) (end : ℕ) (words : List PlacedWord)
+    → command_by (file (file_command verb)) end words ≡ file_in verb end words
 unfolding file_in
-files make end words =
-    place_one FileName name_of name_place (λ name. Ends (make name)) end words
-    ∙ then_then (number_in name_of end words) _ _ _ (λ name.
-    ends (make name.0) end name.1 ∙ ends_then name.0 name.1 make)
+files verb end words =
+    place_one FileName name_of name_place (λ name. Ends (file_command verb name)) end words
+    ∙ then_same (number_in name_of end words) _ _ (λ name.
+    ends (file_command verb name.0) end name.1)
 
 -- what stands after a first word, as the forms have it
 pub behind_any : (verb : Verb) (end : ℕ) (words : List PlacedWord) (none : Result Command Syntax) →
@@ -564,10 +565,7 @@ behind_any Cast end words none = casts end words
 behind_any Box end words none = boxes end words
 behind_any Scan end words none = scans end words
 behind_any Beam end words none = beams end words
-behind_any Save end words none = files command.Save end words
-behind_any Load end words none = files command.Load end words
-behind_any Snapshot end words none = files command.Snapshot end words
-behind_any Restore end words none = files command.Restore end words
+behind_any (File verb) end words none = files verb end words
 behind_any (Alone single) end words none = ends (single_command single) end words
 
 -- a first word that may stand here

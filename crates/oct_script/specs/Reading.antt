@@ -18,8 +18,9 @@ use Rattle.oct_script.specs.declared.command.Command.TheVariants as command
 use Rattle.oct_script.specs.declared.verbs.Verb.{Verb}
 use Rattle.oct_script.specs.declared.verbs.Verb.TheVariants as verb
 use Rattle.oct_script.specs.declared.verbs.Verb.TheVariants.{Hit, Miss, Add, Set, Forget, Get, Scan}
-use Rattle.oct_script.specs.declared.verbs.Verb.TheVariants.{Beam, Cast, Alone, Box, Limit, Save}
-use Rattle.oct_script.specs.declared.verbs.Verb.TheVariants.{Load, Snapshot, Restore}
+use Rattle.oct_script.specs.declared.verbs.Verb.TheVariants.{Beam, Cast, Alone, Box, Limit, File}
+use Rattle.oct_script.specs.declared.verbs.FileVerb.{FileVerb}
+use Rattle.oct_script.specs.declared.verbs.FileVerb.TheVariants as file_verb
 use Rattle.oct_script.specs.declared.verbs.Single.{Single}
 use Rattle.oct_script.specs.declared.verbs.Single.TheVariants as single
 use Rattle.oct_script.specs.declared.verbs.FirstWord.{FirstWord}
@@ -209,11 +210,18 @@ beam_in end words = do
   p ← point_in end words
   end_in (command.Beam p.0) p.1
 
+-- the command of a file's verb and its name
+abbrev pub file_command : FileVerb → Word → Command
+file_command file_verb.Save name = command.Save name
+file_command file_verb.Load name = command.Load name
+file_command file_verb.Snapshot name = command.Snapshot name
+file_command file_verb.Restore name = command.Restore name
+
 -- NAME, and no word more, after the verb of a file
-unfoldable pub file_in : ℕ → List PlacedWord → Result Word Syntax
-file_in end words = do
+unfoldable pub file_in : FileVerb → ℕ → List PlacedWord → Result Command Syntax
+file_in verb end words = do
   name ← number_in name_of end words
-  end_in name.0 name.1
+  end_in (file_command verb name.0) name.1
 
 -- the command that is one word
 abbrev pub single_command : Single → Command
@@ -243,10 +251,7 @@ behind_verb Cast end words = cast_in end words
 behind_verb Box end words = box_in end words
 behind_verb Scan end words = scan_in end words
 behind_verb Beam end words = beam_in end words
-behind_verb Save end words = file_in end words >>= λ name. Ok (command.Save name)
-behind_verb Load end words = file_in end words >>= λ name. Ok (command.Load name)
-behind_verb Snapshot end words = file_in end words >>= λ name. Ok (command.Snapshot name)
-behind_verb Restore end words = file_in end words >>= λ name. Ok (command.Restore name)
+behind_verb (File verb) end words = file_in verb end words
 behind_verb (Alone single) end words = end_in (single_command single) words
 
 -- the forms of what stands after a first word
@@ -263,10 +268,7 @@ forms_behind Cast = cast
 forms_behind Box = box
 forms_behind Scan = scan
 forms_behind Beam = beam
-forms_behind Save = file command.Save
-forms_behind Load = file command.Load
-forms_behind Snapshot = file command.Snapshot
-forms_behind Restore = file command.Restore
+forms_behind (File verb) = file (file_command verb)
 forms_behind (Alone single) = alone (single_command single)
 
 -- the forms after a first word, and none where there is none

@@ -21,7 +21,7 @@ use crate::command::{Command, Edit, ScanHead, ScanOdds, Syntax};
 use crate::lines::LONGEST_LINE;
 use crate::name::Name;
 use crate::numbers::{component_of, depth_of, hit_of, miss_of, number_of, range_of};
-use crate::verbs::{Single, Verb, verb_of};
+use crate::verbs::{FileVerb, Single, Verb, verb_of};
 use crate::words::{WordAt, Words, first_word};
 use oct_key::Point;
 
@@ -422,13 +422,16 @@ fn read_name(words: &mut Words<'_>) -> Result<Name, Syntax>
 }
 
 /// Reads NAME and the end of the line, after the verb of a file.
+#[inline(never)]
 #[tactic(auto, unfolding(crate::specs::Reading::file_in))]
-fn read_file(words: &mut Words<'_>) -> Result<Name, Syntax>
-    ensures { result ≡ file_in words.old.end words.old.words }
+fn read_file(verb: FileVerb, words: &mut Words<'_>, command: &mut Command) -> Result<(), Syntax>
+    ensures exact { IsRead result command.new (file_in verb words.old.end words.old.words) }
+    ensures small { OnOk result (IsSmallCommand command.new) }
 {
     let name = read_name(words)?;
     read_end(words)?;
-    Ok(name)
+    *command = verb.command(name);
+    Ok(())
 }
 
 /// Reads the end of a line whose one word is its command.
@@ -461,22 +464,7 @@ fn read_behind(verb: &Verb, words: &mut Words<'_>, command: &mut Command) -> Res
         Verb::Limit => read_limit(words, command),
         Verb::Scan => read_scan(words, command),
         Verb::Beam => read_beam(words, command),
-        Verb::Save => {
-            *command = Command::Save(read_file(words)?);
-            Ok(())
-        }
-        Verb::Load => {
-            *command = Command::Load(read_file(words)?);
-            Ok(())
-        }
-        Verb::Snapshot => {
-            *command = Command::Snapshot(read_file(words)?);
-            Ok(())
-        }
-        Verb::Restore => {
-            *command = Command::Restore(read_file(words)?);
-            Ok(())
-        }
+        Verb::File(verb) => read_file(*verb, words, command),
         Verb::Alone(single) => read_alone(*single, words, command),
     }
 }

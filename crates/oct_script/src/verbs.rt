@@ -3,9 +3,11 @@ ghost use Rattle.std.specs.Prelude.{◌≡◌, map, bytes_eq, option_map};
 ghost use Rattle.std.specs.List.{find};
 ghost use Rattle.oct_script.specs.Commands.{IsSmallCommand};
 ghost use Rattle.oct_script.specs.Grammar.{rows_of};
-ghost use Rattle.oct_script.specs.Reading.{single_command, row_seen, forms_at, forms_of_verb};
+ghost use Rattle.oct_script.specs.Reading.{single_command, file_command, row_seen};
+ghost use Rattle.oct_script.specs.Reading.{forms_at, forms_of_verb};
 
 use crate::command::Command;
+use crate::name::Name;
 
 /// A command that is one word.
 #[derive(Clone, Copy, Debug, PartialEq, Eq)]
@@ -45,6 +47,30 @@ impl Single {
     }
 }
 
+/// What is done with the file of a name.
+#[derive(Clone, Copy, Debug, PartialEq, Eq)]
+pub enum FileVerb {
+    Save,
+    Load,
+    Snapshot,
+    Restore,
+}
+
+impl FileVerb {
+    /// The command that does it with the file of this name.
+    pub fn command(self, name: Name) -> Command
+        ensures exact { result ≡ file_command self name }
+        ensures small { IsSmallCommand result }
+    {
+        match self {
+            FileVerb::Save => Command::Save(name),
+            FileVerb::Load => Command::Load(name),
+            FileVerb::Snapshot => Command::Snapshot(name),
+            FileVerb::Restore => Command::Restore(name),
+        }
+    }
+}
+
 /// What a first word begins: a command with words of its own, or a whole command.
 #[derive(Clone, Copy, Debug, PartialEq, Eq)]
 pub enum Verb {
@@ -60,10 +86,8 @@ pub enum Verb {
     Limit,
     Scan,
     Beam,
-    Save,
-    Load,
-    Snapshot,
-    Restore,
+    /// A name stands after the first word, and no more.
+    File(FileVerb),
     /// No more words stand after the first one.
     Alone(Single),
 }
@@ -100,10 +124,10 @@ const OUTSIDE: [FirstWord; 25] = [
     row!(b"list", Verb::List),
     row!(b"quit", Verb::Alone(Single::Quit)),
     row!(b"scan", Verb::Scan),
-    row!(b"save", Verb::Save),
-    row!(b"load", Verb::Load),
-    row!(b"snapshot", Verb::Snapshot),
-    row!(b"restore", Verb::Restore),
+    row!(b"save", Verb::File(FileVerb::Save)),
+    row!(b"load", Verb::File(FileVerb::Load)),
+    row!(b"snapshot", Verb::File(FileVerb::Snapshot)),
+    row!(b"restore", Verb::File(FileVerb::Restore)),
     row!(b"track", Verb::Alone(Single::Track)),
     row!(b"untrack", Verb::Alone(Single::Untrack)),
     row!(b"changes", Verb::Alone(Single::Changes)),
