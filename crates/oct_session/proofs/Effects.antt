@@ -1,7 +1,7 @@
 -- What a line does, and where desk and session then stand.
-use Rattle.std.proofs.Common.{◌≡◌, ℕ, ◌+◌, ◌≤◌, List, [], ◌∷◌, ◌++◌, ◌||◌, Bool, true, false, cond, is_some}
-use Rattle.std.proofs.Common.{IsSome, IsErr, Some, None, refl, Option, Result, Ok, Err, IfErr}
-use Rattle.std.proofs.Common.{OnErr, IsErrAnd, inl, inr, sym, ap, subst, ◌∙◌, arith}
+use Rattle.std.proofs.Common.{◌≡◌, ℕ, ◌+◌, ◌≤◌, List, [], ◌∷◌, ◌++◌, ◌||◌, Bool, true, false, cond}
+use Rattle.std.proofs.Common.{is_some, IsSome, IsErr, Some, None, refl, Option, Result, Ok, Err}
+use Rattle.std.proofs.Common.{IfErr, OnErr, IsErrAnd, inl, inr, sym, ap, subst, ◌∙◌, arith}
 use Rattle.oct_io.specs.Files.{Files}
 use Rattle.oct_io.specs.declared.store.StoreFault.{StoreFault}
 use Rattle.oct_io.specs.declared.store.StoreFault.TheVariants as store_fault
@@ -130,8 +130,8 @@ effect_closed (Err x) m n number c inner block end none done = λ s at. let kept
 
 -- a line that closes the block that was open
 pub effect_taken : {E : Type 0} (r : Result (Option Reply) E) (m n : Map) (number : ℕ)
-    (c : Result Command Refusal) (old taken new : Option ScanBlock) (standing : ScanBlock) → is_end c ≡ true
-    → new ≡ None → taken ≡ old → taken ≡ Some standing →
+    (c : Result Command Refusal) (old taken new : Option ScanBlock) (standing : ScanBlock)
+    → is_end c ≡ true → new ≡ None → taken ≡ old → taken ≡ Some standing →
     HasScanned m n standing r → (first : ScanBlock) → old ≡ Some first
     → HasWorked (λ s. effect_inside s number c first) m n new r
 effect_taken r m n number c old taken new standing end none took is done first was =
@@ -140,7 +140,8 @@ effect_taken r m n number c old taken new standing end none took is done first w
 
 -- a line in a block, with the files that stand by
 pub inside_done : (m n : Map) (f : Option Files) (number : ℕ) (line : Line)
-    (c : Result Command Refusal) (old new : Option ScanBlock) (a : Option Reply) → is_some old ≡ true →
+    (c : Result Command Refusal) (old new : Option ScanBlock) (a : Option Reply)
+    → is_some old ≡ true →
     ((first : ScanBlock) → old ≡ Some first → (s : State) → StandsFor m s →
     (a ≡ (effect_inside s number c first).reply) × (new ≡ (effect_inside s number c first).block)
     × StandsFor n (after_all s (effect_inside s number c first).added)) →
@@ -176,8 +177,8 @@ inside_failed (Err x) m n f number line c (Some first) new some memory kept = λ
 -- a map on which a line in a block was done stands for some history, as before
 pub stands_inside : {E : Type 0} (r : Result (Option Reply) E) (m n : Map) (number : ℕ)
     (c : Result Command Refusal) (old new : Option ScanBlock) → is_some old ≡ true →
-    ((first : ScanBlock) → old ≡ Some first → HasWorked (λ s. effect_inside s number c first) m n new r)
-    → KeepsStanding m n
+    ((first : ScanBlock) → old ≡ Some first
+    → HasWorked (λ s. effect_inside s number c first) m n new r) → KeepsStanding m n
 stands_inside r m n number c None new some works = cc
 stands_inside r m n number c (Some first) new some works =
     stands_where_worked r m n new (λ s. effect_inside s number c first) (works first refl)
@@ -365,8 +366,8 @@ asked_once same old new c verb name is few =
     (record { unasked = λ none. cc; few = few })
 
 -- a line that isn't in the grammar, where no block is open
-fault_before : (m : Map) (f : Option Files) (refusal : Refusal) (opens : Bool) (new : Option ScanBlock)
-    (a : Option Reply) → new ≡ cond opens (Some (Spoilt refusal)) None
+fault_before : (m : Map) (f : Option Files) (refusal : Refusal) (opens : Bool)
+    (new : Option ScanBlock) (a : Option Reply) → new ≡ cond opens (Some (Spoilt refusal)) None
     → a ≡ spoilt_reply refusal new →
     TakesEffect (λ files s. effect_opened files s (Err refusal)
     (cond opens (Some (Spoilt refusal)) None)) None m f m f new a
@@ -577,7 +578,8 @@ between_line o d e s t line p c block a w asks counted is refused quit tally kno
     }
 
 failed_beside : (o : Setup) (e : Desk) (p : Progress) (line : Line) (fault : StoreFault)
-    → p.has_quit ≡ false → HasFailed (asked_of (next_command p line)) p.files (state_after o p.history) e.map
+    → p.has_quit ≡ false →
+    HasFailed (asked_of (next_command p line)) p.files (state_after o p.history) e.map
     e.store.files fault → StandsBeside o e p line fault
 failed_beside o e p line store_fault.Failed running torn =
     (asks_more o p line running torn.0, torn.1)
@@ -585,8 +587,8 @@ failed_beside o e p line store_fault.Memory running less = inr less
 
 -- where the command failed, nothing of the line is done, but for the file that it saves
 pub command_fails_line : {T H : Type 0} (x : Result T StoreFault) (fault : StoreFault) (o : Setup)
-    (d e : H → Desk) (s : Session) (line : Line) (c : Result Command Refusal) (block : Option ScanBlock)
-    → IsErrAnd x (λ y. y ≡ fault) →
+    (d e : H → Desk) (s : Session) (line : Line) (c : Result Command Refusal)
+    (block : Option ScanBlock) → IsErrAnd x (λ y. y ≡ fault) →
     ((first : H) → IsWorked s line c (d first).map (e first).map (d first).store.files
     (e first).store.files
     block (Err fault)) → ((first : H) → Asks (d first) (e first) (asks_for (file_named c))) →

@@ -1,8 +1,8 @@
 -- How a line begins that names a file.
 use Rattle.std.proofs.Common.{◌≡◌, ℕ, ℤ, suc, ◌+◌, ◌<◌, ◌≤◌, List, [], ◌∷◌, length, take, get_or}
 use Rattle.std.proofs.Common.{Bool, true, false, cond, ◌&&◌, nat_eq, bytes_eq, Option, Some, None}
-use Rattle.std.proofs.Common.{option_map, Result, Ok, Err, ◌⊎◌, inl, inr, refl, sym, ap, subst, ◌∙◌}
-use Rattle.std.proofs.Common.{arith}
+use Rattle.std.proofs.Common.{option_map, Result, Ok, Err, refl, sym, ap, subst, ◌∙◌, arith}
+use Rattle.std.proofs.lemmas.Bool.{false≢true}
 use Rattle.std.proofs.lemmas.List.Sums.{prefix_len-le-length}
 use Rattle.std.specs.List.{cons_option, find, prefix_len}
 use Rattle.std.specs.Option.{ok_or}
@@ -10,16 +10,14 @@ use Rattle.std.specs.Prelude.{codes}
 use Rattle.oct_script.specs.Commands.{all_behind, ended_command, if_any, command_by, command_in}
 use Rattle.oct_script.specs.Commands.{command_of, fault, is_comment}
 use Rattle.oct_script.specs.Grammar.{Form, Ends, Exactly, Metres, Number, Depth, Component, Range}
-use Rattle.oct_script.specs.Grammar.{HitOdds, MissOdds, FileName, Row, behind, alone, edit}
-use Rattle.oct_script.specs.Grammar.{number_edit, scan, box, cast, rows_of, forms_of, length_of}
+use Rattle.oct_script.specs.Grammar.{HitOdds, MissOdds, FileName, Row, behind, file, rows_of}
+use Rattle.oct_script.specs.Grammar.{forms_of, length_of}
 use Rattle.oct_script.specs.Grammar.{number_of, depth_of, component_of, range_of, hit_of, miss_of}
 use Rattle.oct_script.specs.Lines.{Line, Text}
 use Rattle.oct_script.specs.Reading.{forms_of_row, forms_at}
 use Rattle.oct_script.specs.Words.{Word, PlacedWord, is_blank, is_in_word, placed_words, first_text}
 use Rattle.oct_script.specs.declared.command.Command.{Command}
 use Rattle.oct_script.specs.declared.command.Command.TheVariants as command
-use Rattle.oct_script.specs.declared.command.Edit.{Edit}
-use Rattle.oct_script.specs.declared.command.Edit.TheVariants as an_edit
 use Rattle.oct_script.specs.declared.command.Syntax.{Syntax}
 use Rattle.oct_script.specs.declared.reply.Refusal.{Refusal}
 use Rattle.oct_script.proofs.FirstWords.{first_word}
@@ -119,26 +117,24 @@ by_nameless forms all end (word ∷ words) =
     (by_nameless (all_behind word.text forms) (all_fileless word.text forms all) end words)
     (failed_nameless (fault word.column))
 
--- a row of another word, or of forms that name no file
+-- a row that has this word names no file
 abbrev IsFine : Word → Row → Type 0
-IsFine word row = (bytes_eq word row.word ≡ false) ⊎ AreFileless row.forms
+IsFine word row = bytes_eq word row.word ≡ true → AreFileless row.forms
 
 abbrev AreFine : Word → List Row → Type 0
 AreFine word [] = Unit {0}
 AreFine word (row ∷ rows) = IsFine word row × AreFine word rows
 
-row_fine : (word : Word) (row : Row) (later : Option Row) → IsFine word row
-    → AreFileless (forms_of_row later)
-    → AreFileless (forms_of_row (cond (bytes_eq word row.word) (Some row) later))
-row_fine word row later (inl differs) all = rw differs all
-row_fine word row later (inr less) all =
-    elim (bytes_eq word row.word) as (λ x. AreFileless (forms_of_row (cond x (Some row) later)))
-    [ true ↦ less | false ↦ all ]
+row_fine : (row : Row) (later : Option Row) (has_word : Bool)
+    → (has_word ≡ true → AreFileless row.forms) → AreFileless (forms_of_row later)
+    → AreFileless (forms_of_row (cond has_word (Some row) later))
+row_fine row later true fine all = fine refl
+row_fine row later false fine all = all
 
 rows_fine : (word : Word) (rows : List Row) → AreFine word rows → AreFileless (forms_at word rows)
 rows_fine word [] all = tt
 rows_fine word (row ∷ rows) all =
-    row_fine word row (find (λ (r : Row). bytes_eq word r.word) rows) all.0
+    row_fine row (find (λ (r : Row). bytes_eq word r.word) rows) (bytes_eq word row.word) all.0
     (rows_fine word rows all.1)
 
 -- the first word of no line that names a file
@@ -148,48 +144,20 @@ record IsOtherWord (word : Word) : Type 0 where
   not_snapshot : bytes_eq word (codes "snapshot") ≡ false
   not_restore : bytes_eq word (codes "restore") ≡ false
 
-infixr 5 ◌and◌
--- one row or form, and the others
-◌and◌ : {A B : Type 0} → A → B → A × B
-a and b = (a, b)
+-- a row of another word
+differs_fine : (word literal : Word) (forms : List Form) → bytes_eq word literal ≡ false
+    → bytes_eq word literal ≡ true → AreFileless forms
+differs_fine word literal forms not is = absurd (false≢true (sym not ∙ is))
 
-edit_fileless : (e : Edit) → AreFileless (edit e)
-edit_fileless e = (λ x y z. refl) and (λ x y z. refl) and tt
-
-number_fileless : (e : ℤ → Edit) → AreFileless (number_edit e)
-number_fileless e = (λ x y z n. refl) and (λ x y z n. refl) and tt
-
-scan_fileless : AreFileless scan
-scan_fileless =
-    (λ x y z q a b c range. refl) and (λ x y z q a b c range. refl)
-    and (λ x y z q a b c range hit miss. refl) and (λ x y z q a b c range hit miss. refl) and tt
-
-box_fileless : AreFileless box
-box_fileless =
-    (λ x y z a b c. refl) and (λ x y z a b c. refl) and (λ x y z a b c. refl)
-    and (λ x y z a b c n. refl) and (λ x y z a b c n. refl) and tt
-
-cast_fileless : AreFileless cast
-cast_fileless = (λ x y z a b c. refl) and (λ x y z a b c. refl) and tt
-
-alone_fileless : (c : Command) → names c ≡ None → AreFileless (alone c)
-alone_fileless c none = none and tt
-
+-- each row but those of the four words is seen to name no file by what its forms come to
 rows_other : (word : Word) → IsOtherWord word → (inside : Bool) → AreFine word (rows_of inside)
-rows_other word o true =
-    inr ((λ x y z. refl) and tt) and inr (alone_fileless command.End refl) and tt
-rows_other word o false =
-    inr ((λ x y z depth. refl) and tt) and inr (edit_fileless an_edit.Hit)
-    and inr (edit_fileless an_edit.Miss) and inr (number_fileless an_edit.Add)
-    and inr (number_fileless an_edit.Set) and inr (edit_fileless an_edit.Forget)
-    and inr (alone_fileless command.Counts refl) and inr (alone_fileless command.Refresh refl)
-    and inr (alone_fileless command.Prune refl) and inr (alone_fileless command.Clear refl)
-    and inr (alone_fileless command.MaxLik refl) and inr cast_fileless and inr box_fileless
-    and inr ((λ x y z a b c depth. refl) and tt) and inr (alone_fileless command.Quit refl)
-    and inr scan_fileless and inl o.not_save and inl o.not_load and inl o.not_snapshot
-    and inl o.not_restore and inr (alone_fileless command.Track refl)
-    and inr (alone_fileless command.Untrack refl) and inr (alone_fileless command.Changes refl)
-    and inr ((λ x y z a b c. refl) and tt) and inr (alone_fileless command.NoLimit refl) and tt
+rows_other word o true = assumption
+rows_other word o false = assumption (
+  differs_fine word (codes "save") (file command.Save) o.not_save,
+  differs_fine word (codes "load") (file command.Load) o.not_load,
+  differs_fine word (codes "snapshot") (file command.Snapshot) o.not_snapshot,
+  differs_fine word (codes "restore") (file command.Restore) o.not_restore,
+)
 
 first_fileless : (word : Word) → IsOtherWord word → (inside : Bool)
     → AreFileless (all_behind word (forms_of inside))

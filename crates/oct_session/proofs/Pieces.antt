@@ -33,7 +33,8 @@ pieces bytes piece rest i n e =
     ∙ sym (append_assoc bytes (take i piece) (take n rest))
 
 -- a piece cut in two
-pub parts : (bytes piece : List ℕ) (i : ℕ) → (bytes ++ take i piece) ++ drop i piece ≡ bytes ++ piece
+pub parts : (bytes piece : List ℕ) (i : ℕ)
+    → (bytes ++ take i piece) ++ drop i piece ≡ bytes ++ piece
 parts bytes piece i = append_assoc bytes (take i piece) (drop i piece)
     ∙ ap (λ x. bytes ++ x) (take-append-drop i piece)
 
@@ -176,7 +177,8 @@ end_stopped (Err f) fault o a v u c d s t x y z same is goes cuts = λ first fil
     let halted : IsHaltedBetween o None p (closed p) [] w u (d first) (Rose y z)
     (status_of (stop_of_sink fault)) = halted_closed o w v u (d first) t p fault reached end in (
       inr (subst (λ f. IsHaltedBetween o None p (closed p) [] w u (d first) (Rose x z)
-          (status_of f)) (sym is) (subst (λ n. IsHaltedBetween o None p (closed p) [] w u (d first) (Rose n z)
+          (status_of f)) (sym is)
+          (subst (λ n. IsHaltedBetween o None p (closed p) [] w u (d first) (Rose n z)
           (status_of (stop_of_sink fault))) same halted)),
       replied_between o files bytes p (closed p) w u
           (progress_grows o files (ended_lines bytes) (last_line (rest_of bytes))) end.cut,

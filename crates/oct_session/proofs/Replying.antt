@@ -280,7 +280,8 @@ counts_done m n counts groups nodes values stale pruned setup = λ q at.
     let k : counts.nodes ≡ node_count q.values = nodes
     ∙ sym (same_node_count q.values (values_of m) at.values) in (
       ap (λ x. Some (reply_of.Counted (record { groups = x; nodes = counts.nodes }))) g
-          ∙ ap (λ x. Some (reply_of.Counted (record { groups = group_count q.values; nodes = x }))) k,
+          ∙ ap (λ x. Some
+          (reply_of.Counted (record { groups = group_count q.values; nodes = x }))) k,
       stands_pruned m n q values stale pruned setup at,
     )
 

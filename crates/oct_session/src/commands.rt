@@ -9,8 +9,8 @@ ghost use Rattle.oct_session.specs.History.{edit_event};
 ghost use Rattle.oct_session.specs.Commands.{map_action, map_reply, value_reply};
 ghost use Rattle.oct_session.specs.Kinds.{kind_of, IsSmallOrder};
 ghost use Rattle.oct_session.specs.Refusals.{refusal_of, fault_reply};
-ghost use Rattle.oct_session.specs.Standing.{with_reply, HasCarriedOut, HasDone, HasObeyed, HasTold};
-ghost use Rattle.oct_session.specs.Standing.{HasScanned};
+ghost use Rattle.oct_session.specs.Standing.{with_reply, HasCarriedOut, HasDone, HasObeyed};
+ghost use Rattle.oct_session.specs.Standing.{HasScanned, HasTold};
 
 use crate::kinds::{Kind, Order, Question, kind_of};
 use crate::scan_block::{PendingScan, ScanBlock};
@@ -259,7 +259,8 @@ pub fn by_map(map: &mut OccMap, command: &Command, reply: &mut Option<Reply>) ->
 
 /// Does a scan whose points have all been read, and answers it.
 fn scan(map: &mut OccMap, pending: PendingScan, reply: &mut Option<Reply>) -> Result<(), Memory>
-    ensures { HasScanned map.old map.new (ScanBlock.Scanning pending) (with_reply result reply.new) }
+    ensures { HasScanned map.old map.new (ScanBlock.Scanning pending)
+        (with_reply result reply.new) }
 {
     let lazy = pending.is_lazy();
     let Ok(scan) = pending.into_scan() else {

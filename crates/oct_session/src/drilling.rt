@@ -1,6 +1,5 @@
 //! Drills: a session over a script that a number makes, and four lines about it.
-ghost use Rattle.std.specs.Prelude.{◌≡◌, ◌≤◌, ◌++◌, decimal, length, None, OnOk, OnErr, IfOk};
-ghost use Rattle.std.specs.Prelude.{IfErr};
+ghost use Rattle.std.specs.Prelude.{◌≡◌, ◌≤◌, ◌++◌, decimal, length, OnOk, OnErr, IfOk, IfErr};
 ghost use Rattle.oct_bt.specs.File.{bt_text};
 ghost use Rattle.oct_io.specs.Counts.{IsMakingCounted};
 ghost use Rattle.oct_io.specs.Taken.{IsCutOff};

@@ -64,9 +64,9 @@
 //! what does them; `block` keeps the head and the points of the scan that is being read, or its
 //! first fault; `commands` has the map do what it's ordered, answer what it's asked and take in
 //! scans, makes replies of what it says, and tells what is left to be done; `files` does what a
-//! verb says with a file, on map and store. `options` holds what a session is set up with. `building` writes the file of a script's
-//! map in place of the replies, and `drilling` four lines about the session over a script that
-//! `oct_gen` makes; `tally` has what its replies come to.
+//! verb says with a file, on map and store. `options` holds what a session is set up with.
+//! `building` writes the file of a script's map in place of the replies, and `drilling` four lines
+//! about the session over a script that `oct_gen` makes; `tally` has what its replies come to.
 //!
 //! # Who stands on it
 //!

@@ -30,6 +30,8 @@ use std::alloc::Global;
 use std::mem::replace;
 
 /// A session between two bytes of its script.
+///
+/// Its calls take `options` for their clauses alone: only `turn` of `service` reads them.
 #[derive(Drop)]
 pub struct Session {
     /// Where memory comes from.

@@ -48,7 +48,10 @@ pub returns-in-NoLimit : goal.returns-in-NoLimit
 returns-in-NoLimit c =
     c.say-in-NoLimit.ensures c.args.map.now c.no_limit.new.self c.args.order
     (carried_as (Ok tt) c.args.map.now c.no_limit.new.self c.args.order NoLimit c.in-NoLimit.is
-    (λ s at. (refl, stands_unlimited c.args.map.now c.no_limit.new.self s c.no_limit.ensures.exact at)))
+    (λ s at. (
+      refl,
+      stands_unlimited c.args.map.now c.no_limit.new.self s c.no_limit.ensures.exact at,
+    )))
 
 pub returns-in-Refresh : goal.returns-in-Refresh
 returns-in-Refresh c =
@@ -108,4 +111,7 @@ pub returns-in-Untrack : goal.returns-in-Untrack
 returns-in-Untrack c =
     c.say-in-Untrack.ensures c.args.map.now c.untrack.new.self c.args.order
     (carried_as (Ok tt) c.args.map.now c.untrack.new.self c.args.order Untrack c.in-Untrack.is
-    (λ s at. (refl, stands_untracked c.args.map.now c.untrack.new.self s c.untrack.ensures.exact at)))
+    (λ s at. (
+      refl,
+      stands_untracked c.args.map.now c.untrack.new.self s c.untrack.ensures.exact at,
+    )))

@@ -9,9 +9,9 @@ use Rattle.oct_session.proofs.files.save.Goals as goal
 
 pub returns-in_err-file-clause-effect : goal.returns-in_err-file-clause-effect
 returns-in_err-file-clause-effect g c =
-    save_unwritten (Some (Puts c.args.name.now classes_file)) (with_reply c.from_residual.result c.args.reply.now)
-    c.args.map.now _ c.args.name.now classes_file
-    (failed_for _ c.args.reply.now store_fault.Memory c.from_residual.ensures.1)
+    save_unwritten (Some (Puts c.args.name.now classes_file))
+    (with_reply c.from_residual.result c.args.reply.now) c.args.map.now _ c.args.name.now
+    classes_file (failed_for _ c.args.reply.now store_fault.Memory c.from_residual.ensures.1)
 
 pub returns-in_err-save-clause-effect : goal.returns-in_err-save-clause-effect
 returns-in_err-save-clause-effect g c =
@@ -23,7 +23,7 @@ returns-in_err-save-clause-effect g c =
 
 pub returns-clause-effect : goal.returns-clause-effect
 returns-clause-effect g c =
-    save_done (Some (Puts c.args.name.now classes_file)) c.args.map.now _ _ c.as_str.result.now c.args.name.now
-    c.written-bytes.result.now _ classes_file c.as_str.ensures
+    save_done (Some (Puts c.args.name.now classes_file)) c.args.map.now _ _ c.as_str.result.now
+    c.args.name.now c.written-bytes.result.now _ classes_file c.as_str.ensures
     (classes_saved c.args.map.now c.written-bytes.result.now
     (c.written-bytes.ensures ∙ c.in_ok-file.ensures)) refl c.in_ok-save.ensures.saved
