@@ -55,3 +55,4 @@ pub use name::Name;
 pub use numbers::number_of;
 pub use parser::{opens_scan, parse, parse_into};
 pub use reply::{HeaderWord, Refusal, Reply, ScanDone, push_reply};
+pub use verbs::FileVerb;

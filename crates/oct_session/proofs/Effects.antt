@@ -17,7 +17,7 @@ use Rattle.oct_script.specs.Lines.{Line, Text, Long, is_long}
 use Rattle.oct_script.specs.Replies.{is_refusal}
 use Rattle.oct_session.specs.declared.scan_block.ScanBlock.{ScanBlock}
 use Rattle.oct_session.specs.declared.scan_block.ScanBlock.TheVariants.{Scanning, Spoilt}
-use Rattle.oct_session.specs.declared.kinds.FileVerb.{FileVerb}
+use Rattle.oct_script.specs.declared.verbs.FileVerb.{FileVerb}
 use Rattle.oct_session.specs.Kinds.{Kind, Nothing, Opens, Orders, Asks as AsksMap, Names, kind_of}
 use Rattle.oct_session.specs.Kinds.{left_of, rest_seen}
 use Rattle.oct_session.specs.declared.kinds.Rest as lent

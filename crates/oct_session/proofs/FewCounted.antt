@@ -48,8 +48,8 @@ use Rattle.oct_session.specs.Commands.{reply, kind_reply, order_answer, question
 use Rattle.oct_session.specs.Commands.{edit_reply, get_reply, cast_reply, list_reply, changes_reply}
 use Rattle.oct_session.specs.declared.kinds.Question.{Question}
 use Rattle.oct_session.specs.declared.kinds.Question.TheVariants as question
-use Rattle.oct_session.specs.declared.kinds.FileVerb.{FileVerb}
-use Rattle.oct_session.specs.declared.kinds.FileVerb.TheVariants as verb
+use Rattle.oct_script.specs.declared.verbs.FileVerb.{FileVerb}
+use Rattle.oct_script.specs.declared.verbs.FileVerb.TheVariants as verb
 use Rattle.oct_session.specs.Kinds.{Kind, kind_of, Nothing, Opens, Orders, Asks, Names}
 use Rattle.oct_session.specs.Drill.{drill_setup, drilled}
 use Rattle.oct_session.specs.FileCommands.{found_in, nodes_reply, reading_reply, load_reply}

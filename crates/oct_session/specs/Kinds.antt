@@ -9,8 +9,8 @@ use Rattle.oct_session.specs.declared.kinds.Order.{Order}
 use Rattle.oct_session.specs.declared.kinds.Order.TheVariants as order
 use Rattle.oct_session.specs.declared.kinds.Question.{Question}
 use Rattle.oct_session.specs.declared.kinds.Question.TheVariants as question
-use Rattle.oct_session.specs.declared.kinds.FileVerb.{FileVerb}
-use Rattle.oct_session.specs.declared.kinds.FileVerb.TheVariants as verb
+use Rattle.oct_script.specs.declared.verbs.FileVerb.{FileVerb}
+use Rattle.oct_script.specs.declared.verbs.FileVerb.TheVariants as verb
 use Rattle.oct_session.specs.declared.kinds.Rest as lent_rest
 use Rattle.oct_session.specs.declared.kinds.Rest.TheVariants as rest
 use Rattle.oct_session.specs.declared.kinds.Kind as lent_kind

@@ -34,7 +34,7 @@ use Rattle.oct_session.specs.Session.{session, finished, last_progress}
 use Rattle.oct_session.specs.Commands.{FileWork, named_in, changed_by, accepted, stored, file_saved}
 use Rattle.oct_session.specs.Commands.{order_answer, order_reply, order_action, question_reply}
 use Rattle.oct_session.specs.Commands.{question_action, verb_work}
-use Rattle.oct_session.specs.declared.kinds.FileVerb.{FileVerb}
+use Rattle.oct_script.specs.declared.verbs.FileVerb.{FileVerb}
 use Rattle.oct_session.specs.Kinds.{Names}
 use Rattle.oct_session.specs.declared.kinds.Order.{Order}
 use Rattle.oct_session.specs.declared.kinds.Question.{Question}

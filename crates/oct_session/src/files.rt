@@ -16,12 +16,11 @@ ghost use Rattle.oct_session.specs.Refusals.{file_refusal, word_of};
 ghost use Rattle.oct_session.specs.Standing.{with_reply, HasDone, HasUsed, KeepsStanding};
 
 use crate::commands::refuse;
-use crate::kinds::FileVerb;
 use oct_bt::{BtFault, BtFile, read_classes, write};
 use oct_io::{CalmSink, Loaded, Store, StoreFault};
 use oct_map::OccMap;
 use oct_num::Memory;
-use oct_script::{HeaderWord, Name, Refusal, Reply};
+use oct_script::{FileVerb, HeaderWord, Name, Refusal, Reply};
 use oct_snap as snap;
 use std::alloc::Global;
 

@@ -4,7 +4,7 @@ ghost use Rattle.oct_script.specs.Commands.{IsSmallCommand};
 ghost use Rattle.oct_session.specs.Kinds.{kind_of, kind_seen, left_of, rest_seen, IsSmallKind};
 
 use oct_key::Point;
-use oct_script::{Command, Edit, Name, ScanHead};
+use oct_script::{Command, Edit, FileVerb, Name, ScanHead};
 
 /// What the map is to do, and answers with `ok`, unless it refuses.
 #[derive(Clone, Copy)]
@@ -29,15 +29,6 @@ pub enum Question {
     Cast { o: Point, e: Point, ignore: bool },
     Counts,
     Changes,
-}
-
-/// What is done with a file.
-#[derive(Clone, Copy)]
-pub enum FileVerb {
-    Save,
-    Load,
-    Snapshot,
-    Restore,
 }
 
 /// What is left of a command once the map has had its part in it.

@@ -58,8 +58,8 @@ use Rattle.oct_session.specs.declared.kinds.Order.{Order}
 use Rattle.oct_session.specs.declared.kinds.Order.TheVariants as order
 use Rattle.oct_session.specs.declared.kinds.Question.{Question}
 use Rattle.oct_session.specs.declared.kinds.Question.TheVariants as question
-use Rattle.oct_session.specs.declared.kinds.FileVerb.{FileVerb}
-use Rattle.oct_session.specs.declared.kinds.FileVerb.TheVariants as verb
+use Rattle.oct_script.specs.declared.verbs.FileVerb.{FileVerb}
+use Rattle.oct_script.specs.declared.verbs.FileVerb.TheVariants as verb
 use Rattle.oct_session.specs.Kinds.{Kind, kind_of, Nothing, Opens, Orders, Asks, Names}
 use Rattle.oct_session.specs.History.{History, State, Edited, Scanned, Cleared, Likened, Replaced}
 use Rattle.oct_session.specs.History.{Restored, class_event, edit_event, after, after_all}

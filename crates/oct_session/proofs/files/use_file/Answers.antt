@@ -1,4 +1,4 @@
-use Rattle.oct_session.specs.declared.kinds.FileVerb.TheVariants.{Save, Load, Snapshot, Restore}
+use Rattle.oct_script.specs.declared.verbs.FileVerb.TheVariants.{Save, Load, Snapshot, Restore}
 use Rattle.oct_session.specs.Standing.{with_reply}
 use Rattle.oct_session.proofs.Effects.{used_as}
 use Rattle.oct_session.proofs.files.use_file.Goals as goal
