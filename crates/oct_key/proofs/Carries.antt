@@ -1,6 +1,6 @@
 -- A number whose bits stand at every third place is counted up and down as it stands.
 use Rattle.std.proofs.Common.{◌≡◌, ℕ, zero, suc, ◌+◌, ◌-◌, ◌*◌, ◌/◌, ◌%◌, ◌^◌, ◌<◌, ◌≤◌, inl, inr}
-use Rattle.std.proofs.Common.{refl, sym, ◌∙◌, ap, arith, bit_and}
+use Rattle.std.proofs.Common.{refl, sym, ◌∙◌, ap, arith, bit_and, Bool, true, false, if◌then◌else◌}
 use Rattle.std.proofs.Math.Nat.{pow-suc}
 use Rattle.std.proofs.lemmas.Nat.{and_block, and_le_r}
 use Rattle.std.proofs.lemmas.Bool.{cases_eq}
@@ -201,6 +201,63 @@ bits_before_is bits h some =
     let v : ℕ = gathered 16 bits in
     ap (λ (n : ℕ). bit_and (n - 1) 40210710958665) h ∙ ap (bit_and (dilated v - 1)) (sym places_are)
     ∙ borrow_down 16 v some (gathered_below 16 bits)
+
+-- the bits of a number stand in those places
+bits_kept : (bits : ℕ) → IsDilated bits
+    → bit_and bits 40210710958665 ≡ dilated (gathered 16 bits)
+bits_kept bits h =
+    ap (λ (n : ℕ). bit_and n 40210710958665) h
+    ∙ ap (bit_and (dilated (gathered 16 bits))) (sym places_are)
+    ∙ dilated_masked 16 (gathered 16 bits)
+
+-- the bits of the next number, or of the one itself
+stepped_up : (bits now : ℕ) → IsDilated bits → now ≤ 1
+    → bit_and ((bits + now * 241264265751991) % 18446744073709551616) 40210710958665
+    ≡ dilated (gathered 16 bits + now)
+stepped_up bits zero h l =
+    let small = dilated_fits bits h in
+    let sum : (bits + 0 * 241264265751991) % 18446744073709551616 ≡ bits = omega (arith, small) in
+    let same : gathered 16 bits + 0 ≡ gathered 16 bits = omega arith in
+    rw (sum, same) (bits_kept bits h)
+stepped_up bits (suc zero) h l =
+    let small = dilated_fits bits h in
+    let sum : (bits + 1 * 241264265751991) % 18446744073709551616 ≡ bits + 241264265751991 =
+    omega (arith, small) in
+    rw sum (bits_after_is bits h)
+stepped_up bits (suc (suc n)) h l = absurd (omega (arith, l))
+
+-- the bits of the number before, or of the one itself
+stepped_down : (bits now : ℕ) → IsDilated bits → now ≤ 1 → now ≤ gathered 16 bits
+    → bit_and ((bits + now * 18446744073709551615) % 18446744073709551616) 40210710958665
+    ≡ dilated (gathered 16 bits - now)
+stepped_down bits zero h l some =
+    let small = dilated_fits bits h in
+    let sum : (bits + 0 * 18446744073709551615) % 18446744073709551616 ≡ bits =
+    omega (arith, small) in
+    let same : gathered 16 bits - 0 ≡ gathered 16 bits = omega arith in
+    rw (sum, same) (bits_kept bits h)
+stepped_down bits (suc zero) h l some =
+    let small = dilated_fits bits h in
+    let bit = dilated_some_bit bits h some in
+    let sum : (bits + 1 * 18446744073709551615) % 18446744073709551616 ≡ bits - 1 =
+    omega (arith, small, bit) in
+    rw sum (bits_before_is bits h some)
+stepped_down bits (suc (suc n)) h l some = absurd (omega (arith, l))
+
+-- the bits where the number is counted on, up or down, or stays
+pub bits_stepped_is : (rises : Bool) (bits now by : ℕ) → IsDilated bits → now ≤ 1
+    → (rises ≡ false → now ≤ gathered 16 bits)
+    → by ≡ (if rises then 241264265751991 else 18446744073709551615)
+    → bit_and ((bits + now * by) % 18446744073709551616) 40210710958665
+    ≡ dilated (if rises then gathered 16 bits + now else gathered 16 bits - now)
+bits_stepped_is true bits now by h l some e = rw e (stepped_up bits now h l)
+bits_stepped_is false bits now by h l some e = rw e (stepped_down bits now h l (some refl))
+
+-- a step stays on the map
+pub stepped_below : (rises : Bool) (n now : ℕ) → n < 65536 → (rises ≡ true → n + now < 65536)
+    → (if rises then n + now else n - now) < 65536
+stepped_below true n now l up = up refl
+stepped_below false n now l up = omega (arith, l)
 
 -- three such numbers side by side are a code
 pub code_of_bits : (x y z : ℕ) → IsDilated x → IsDilated y → IsDilated z

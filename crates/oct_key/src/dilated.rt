@@ -1,5 +1,6 @@
 //! A voxel's number on an axis, counted where its bits stand in a Morton code.
-ghost use Rattle.std.specs.Prelude.{◌≡◌, ◌+◌, ◌-◌, ◌^◌, ◌<◌};
+ghost use Rattle.std.specs.Prelude.{◌≡◌, ◌+◌, ◌-◌, ◌^◌, ◌<◌, ◌≤◌};
+ghost use Rattle.std.specs.Prelude.{true, false, if◌then◌else◌};
 ghost use Rattle.oct_key.specs.Voxel.{IsInMap};
 ghost use Rattle.oct_key.specs.Morton.{gathered, morton_of};
 ghost use Rattle.oct_key.specs.Dilated.{dilated, IsDilated};
@@ -54,6 +55,17 @@ impl Dilated {
     {
         self.bits = bits_before(self.bits);
     }
+
+    /// Counts one on, up or down, where `now` is 1, and stays where it is 0. No branch is taken.
+    #[inline(always)]
+    pub fn step(&mut self, rises: bool, now: u64)
+        requires now { now ≤ 1 }
+        requires up { rises ≡ true → self.old + now < 65536 }
+        requires down { rises ≡ false → now ≤ self.old }
+        ensures { self.new ≡ (if rises then self.old + now else self.old - now) }
+    {
+        self.bits = bits_stepped(self.bits, rises, now);
+    }
 }
 
 /// The Morton code of the voxel of these three numbers, as [`morton`](crate::morton) makes it.
@@ -82,6 +94,19 @@ fn bits_before(bits: u64) -> u64
     (bits - 1) & THIRD_BITS
 }
 
+/// The bits of the next number or of the one before where `now` is 1, else the same ones. Modulo
+/// 2^64, to take one away is to add all ones.
+#[inline(always)]
+fn bits_stepped(bits: u64, rises: bool, now: u64) -> u64
+    requires bits { IsDilated bits }
+    requires now { now ≤ 1 }
+    requires down { rises ≡ false → now ≤ gathered 16 bits }
+    ensures { result ≡ dilated (if rises then gathered 16 bits + now else gathered 16 bits - now) }
+{
+    let by = if rises { ONE_FILLED } else { u64::MAX };
+    bits.wrapping_add(now * by) & THIRD_BITS
+}
+
 #[cfg(test)]
 mod tests {
     use super::*;
@@ -94,5 +119,16 @@ mod tests {
         let mut z = Dilated::new(8);
         z.decrement();
         expect_number(&rt, morton_of_axes(&Dilated::new(3), &y, &z), 0o2455);
+    }
+
+    #[test]
+    fn steps_where_it_is_to(rt: HostRuntime) {
+        let mut x = Dilated::new(7);
+        x.step(true, 1);
+        let mut y = Dilated::new(8);
+        y.step(false, 1);
+        let mut z = Dilated::new(0);
+        z.step(false, 0);
+        expect_number(&rt, morton_of_axes(&x, &y, &z), 0o1222);
     }
 }

@@ -32,7 +32,8 @@
 //! - The voxels of the map and the blocks of a depth have lists in their order, by x, then y, then
 //!   z: [`orders_are_whole`] says that each stands there once, and no other does.
 //! - [`Dilated`] is a number whose bits stand where its axis has them in a code. It is counted up
-//!   and down as it stands, and [`morton_of_axes`] makes the code of three of them.
+//!   and down as it stands, by [`Dilated::step`] without a branch, and [`morton_of_axes`] makes the
+//!   code of three of them.
 //! - A [`Window`] is a box of voxels, by its two corners, both included, of which on no axis the
 //!   first is beyond the second. [`Window::holds`] says which voxels lie in it,
 //!   [`Window::meets`] of which blocks some voxel does, and [`Window::covers`] of which each one.
