@@ -11,7 +11,7 @@ use Rattle.std.proofs.lemmas.List.Sorted.{length_permutation}
 use Rattle.oct_brick.specs.declared.brick.Brick.{Brick}
 use Rattle.oct_brick.specs.Bricks.{IsBrick}
 use Rattle.oct_brick.specs.Merge.{IsKey, AreKeys, HasAdded}
-use Rattle.oct_brick.proofs.Lists.{contains_none, contains_map, contains_from_map, all_contained}
+use Rattle.oct_brick.proofs.Lists.{contains_map, contains_from_map, all_contained}
 use Rattle.oct_brick.proofs.Merging.{HasSame, HasTaken, all_push, same_default, taken_added}
 use Rattle.oct_brick.proofs.Merging.{taken_all}
 
@@ -26,14 +26,6 @@ brick_of bricks key = get_or bricks (key % 2 ^ 22) nothing
 -- the bricks of keys
 abbrev pub bricks_of : List Brick → List ℕ → List Brick
 bricks_of bricks keys = map (brick_of bricks) keys
-
--- a list without keys
-pub keys_none : (bricks : List Brick) → AreKeys 0 bricks []
-keys_none bricks = record {
-  count = omega arith;
-  each = all_contained (IsKey bricks) [] (λ k h. absurd (contains_none k h));
-  all = λ i l. absurd (omega (arith, l));
-}
 
 -- a place behind others of 22 bits
 key_parts : (code n key : ℕ) → n < 2 ^ 22 → key ≡ code * 2 ^ 22 + n

@@ -212,7 +212,7 @@ low_some (suc n) first mask e = elim (cases_eq (mask % 2) 1) [
       (r.0, r.1, codes_even n first mask even ∙ r.2)
 ]
 
-one_bit : (r : ℕ) → r < 2 → count_ones r ≡ r
+pub one_bit : (r : ℕ) → r < 2 → count_ones r ≡ r
 unfolding ones ones_in
 one_bit zero l = refl
 one_bit (suc zero) l = refl

@@ -29,14 +29,14 @@
 //! - [`Brick::child_index`] and [`count_octets`] say where a brick lies in the tree: in which child
 //!   of a block, and in how many blocks of depth 15 its voxels lie.
 //!
-//! Up to 2^22 bricks are put in order by keys, numbers that have the code of a brick above its place
-//! in the list, which std sorts faster than bricks.
+//! Up to 2^22 bricks are put in order by keys, numbers that have the code of a brick above its
+//! place in the list, which std sorts faster than bricks.
 //!
-//! Merging allocates a list of keys and one of bricks, and nothing else does. Scans (`oct_scan`), edits of a tree
-//! (`oct_edit`), notes of changes (`oct_change`) and the map (`oct_map`) stand on this crate. Their
-//! contracts cite `IsBrick`, `hit_voxels` and `freed_voxels`. Scans and edits cite `AreAscending`
-//! too, scans and changes `codes_of` and `coded_voxel`, and scans `HasCode`, `scanned_codes`,
-//! `hit_codes` and `octet_count`.
+//! Merging allocates a list of keys and one of bricks, and nothing else does. Scans (`oct_scan`),
+//! edits of a tree (`oct_edit`), notes of changes (`oct_change`) and the map (`oct_map`) stand on
+//! this crate. Their contracts cite `IsBrick`, `hit_voxels` and `freed_voxels`. Scans and edits
+//! cite `AreAscending` too, scans and changes `codes_of` and `coded_voxel`, and scans `HasCode`,
+//! `scanned_codes`, `hit_codes` and `octet_count`.
 
 #![tactic(auto)]
 
