@@ -23,9 +23,9 @@
 //!   Nothing else changes: each says the whole list after the call.
 //! - [`NodeArena::node`], [`NodeArena::home`] and [`NodeArena::group`] answer what was put there.
 //!   They may be asked of live groups only. [`NodeArena::link`] answers which group a node links,
-//!   if any: whoever goes down reads nothing else on the way. [`Group::are_same`] compares two nodes
-//!   of a group, and [`Group::rank`] says what stands in one as a number. These three don't unpack
-//!   the node.
+//!   if any: whoever goes down reads nothing else on the way. [`Group::are_same`] compares two
+//!   nodes of a group, and [`Group::rank`] says what stands in one as a number. These three don't
+//!   unpack the node.
 //! - [`NodeArena::reserve`] appends vacant entries until there are as many as asked for, and at
 //!   most 1,023 more. It appends none where there are enough. No group moves to another id, also
 //!   where memory runs out.

@@ -19,8 +19,8 @@
 //! ```
 //!
 //! [`Paths`] answer the same to many questions. They keep eight ways, and points on both sides of a
-//! border of great blocks, as the origin has it, have different ones. A question goes down only from
-//! where the way to its block and to the last one that had the same of the eight part.
+//! border of great blocks, as the origin has it, have different ones. A question goes down only
+//! from where the way to its block and to the last one that had the same of the eight part.
 //!
 //! [`counts`] answers how many groups there are and how many nodes aren't absent. The promise is a
 //! law over all trees: no tree of these values has fewer groups than there are blocks of depth 0 to

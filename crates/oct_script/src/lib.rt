@@ -32,10 +32,10 @@
 //!   runs out.
 //!
 //! `lines` keeps a line in an `ArrayVec` of 4,096 bytes, and `words` goes through it once, from the
-//! left; neither allocates. `numbers` says what a word spells, and `verbs` what a first word begins.
-//! `parser` reads word by word, with one small function for each part of a form, and the last one
-//! puts the command in its place, so that it isn't moved from call to call. `specs/Reading.antt`
-//! says how, for the proofs; the grammar doesn't rest on it.
+//! left; neither allocates. `numbers` says what a word spells, and `verbs` what a first word
+//! begins. `parser` reads word by word, with one small function for each part of a form, and the
+//! last one puts the command in its place, so that it isn't moved from call to call.
+//! `specs/Reading.antt` says how, for the proofs; the grammar doesn't rest on it.
 //!
 //! Sessions stand on this crate.
 #![tactic(auto)]
