@@ -63,7 +63,8 @@ scanned_is r c l h = elim (has_tells r.code r.hits c h.inside) [
 pub below_of : (r : Brick) (m c : ℕ) → r.code < 2 ^ 42 → HasCode r.code m c → c < 2 ^ 48
 below_of r m c l h = (let i = h.inside in omega (arith, l, i))
 
-pub listed_in : (cs : List ℕ) (c : ℕ) → Contains cs c → Contains (map coded_voxel cs) (coded_voxel c)
+pub listed_in : (cs : List ℕ) (c : ℕ) → Contains cs c
+    → Contains (map coded_voxel cs) (coded_voxel c)
 listed_in [] c h = absurd (contains_none c h)
 listed_in (x ∷ cs) c h = elim (contains_cases x c cs h) [
   | inl e ↦ subst (λ y. Contains (map coded_voxel (x ∷ cs)) (coded_voxel y)) e

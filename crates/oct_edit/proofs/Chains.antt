@@ -116,8 +116,8 @@ last_above n m over id lazy none last = record {
 }
 
 -- From a place at the depth from, whose node n links nothing, groups of copies of n were made down
--- to the place q of depth d, where n stands. What an edit does from there on, it does from the first
--- place on, if all the groups are as it leaves them.
+-- to the place q of depth d, where n stands. What an edit does from there on, it does from the
+-- first place on, if all the groups are as it leaves them.
 pub record IsChain (t u : Tree) (k : Voxel) (event : Event) (lazy : Bool) (n : Node) (over : ℤ)
     (from : ℕ) (q : Place) (d : ℕ) : Type 0 where
   pub linked : IsLinked u
@@ -154,7 +154,8 @@ pub chain_more : (t u s : Tree) (k : Voxel) (event : Event) (lazy : Bool) (n : N
     → i < 8 → block_of (d + 1) k ≡ child_of (block_of d k) i → IsSplit u s q id over
     → SameValues (value_at u) (value_at s) → IsSameOutside u s (block_of d k) → IsLinked s
     → IsChain t s k event lazy n over from (Slot id i) (d + 1)
-chain_more t u s k event lazy n over from q d i id c low v none inherits takes li step split same out
+chain_more t u s k event lazy n over from q d i id c low v none inherits takes li step split same
+    out
     ls =
     record {
       linked = ls;
@@ -249,8 +250,8 @@ expands value new false other = inl (λ e. other (e, λ is. absurd (true≢false
 expands None new true other = inl (λ e. other (e, λ _. refl))
 expands (Some v) new true other = inr (refl, λ e. some_not_none refl e)
 
--- Where the voxel's new value isn't that of the block around it, or the edit is lazy and the block is
--- known, no group on the way is to be given back.
+-- Where the voxel's new value isn't that of the block around it, or the edit is lazy and the block
+-- is known, no group on the way is to be given back.
 pub leaf_last : (n m : Node) (over : ℤ) (lazy : Bool) → link_of n ≡ None → link_of m ≡ None
     → (LeavesBlock (value_of n) (value_of m) lazy → ⊥)
     → (lazy ≡ false → IsGreaterOf (value_of n) (value_of m) over) → IsLast n m over lazy
@@ -295,7 +296,8 @@ greater_is None (Some w) ra rb m f g l h e differ =
     }
   where
     second_is : (m ≡ ra) ⊎ (m ≡ rb) → w ≡ m
-    second_is (inl low) = (let at = g.0 in let high = g.1 in omega (arith, ints, low, f, at, high, h))
+    second_is (inl low) =
+        (let at = g.0 in let high = g.1 in omega (arith, ints, low, f, at, high, h))
     second_is (inr on) = sym g.0 ∙ sym on
 greater_is (Some v) None ra rb m f g l h e differ =
     let is : v ≡ m = first_is e in
@@ -307,7 +309,8 @@ greater_is (Some v) None ra rb m f g l h e differ =
   where
     first_is : (m ≡ ra) ⊎ (m ≡ rb) → v ≡ m
     first_is (inl on) = sym f.0 ∙ sym on
-    first_is (inr low) = (let at = f.0 in let high = f.1 in omega (arith, ints, low, g, at, high, l))
+    first_is (inr low) =
+        (let at = f.0 in let high = f.1 in omega (arith, ints, low, g, at, high, l))
 greater_is (Some v) (Some w) ra rb m f g l h e differ = record {
   there = elim e [
     | inl on ↦ inl (ap Some (sym f.0 ∙ sym on))

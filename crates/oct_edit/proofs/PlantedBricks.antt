@@ -48,7 +48,8 @@ pub record IsSown (s w : Tree) (p : Place) (b : Cube) (id : GroupId) (m : ℤ) (
 
 -- the lowest voxel of a child, and that it is one of the block
 low_voxel : (b : Cube) (i : ℕ) → IsBlock b → b.depth ≤ 15 → i < 8
-    → IsInMap (lowest_voxel (child_of b i)) × HoldsVoxel (child_of b i) (lowest_voxel (child_of b i))
+    → IsInMap (lowest_voxel (child_of b i)) × HoldsVoxel (child_of b i)
+    (lowest_voxel (child_of b i))
     × HoldsVoxel b (lowest_voxel (child_of b i))
 low_voxel b i map low few =
     let held = lowest_held (child_of b i) in (
@@ -97,7 +98,8 @@ inner_value s w p b id y m v i events h few e = go (is_reached events (child_of 
         let (mq, held, inside) = low_voxel (child_of b i) j child_map (omega (arith, level)) lj in
         let q : Voxel = lowest_voxel (child_of (child_of b i) j) in
         let value : value_at w q ≡ Some v =
-        sym (voxel_stored w (Slot id i) (child_of b i) y j q l place block level (ap link_of e) lj mq
+        sym (voxel_stored w (Slot id i) (child_of b i) y j q l place block level (ap link_of e) lj
+        mq
         held)
         ∙ stored in
         elim (h.one q mq (of_block q inside)) [
@@ -108,7 +110,8 @@ inner_value s w p b id y m v i events h few e = go (is_reached events (child_of 
     go : (test : Bool) → is_reached events (child_of b i) ≡ test → v ≡ m
     go true is =
         let (k, held, event) = (reached_exactly events (child_of b i) child_map).0 is in
-        within (h.done.closed (child_of b i) i few (omega (arith, level)) (lies_in_self (child_of b i))
+        within (h.done.closed (child_of b i) i few (omega (arith, level))
+        (lies_in_self (child_of b i))
         (record {
           voxel = k;
           in_map = held_in_map (child_of b i) k child_map held;
@@ -172,7 +175,8 @@ brick_closed s w p b id m events j k h mj hj known mk hk unknown =
         → (stored_in (node_in w (Slot id (child_index_of b.depth q))) ≡ value_at w q)
         ⊎ ((y : GroupId) × (node_in w (Slot id (child_index_of b.depth q)) ≡ Inner m y))
     stored q v held =
-        slot_value s w p b id m (child_index_of b.depth q) q events h (child_index_below b.depth q) v
+        slot_value s w p b id m (child_index_of b.depth q) q events h (child_index_below b.depth q)
+        v
         (in_child q held)
 
     there : stored_in (node_in w (Slot id (child_index_of b.depth j))) ≡ Some m

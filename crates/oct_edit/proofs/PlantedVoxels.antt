@@ -93,7 +93,8 @@ voxel_planted t s w z p b id m u whole r hit miss x ls l ok e out map sp absent 
     ∙ absent in
     touched_voxel w z (Slot id i) k (Leaf m) miss lazy h.way.done.linked place.0 at v lz refl
     written (values (block_of 16 k) at) (outside (block_of 16 k) at)
-    (value ∙ ap (λ (o : Odds). applied o u.miss None) (sym (h.way.done.apart.outside.odds ∙ sp.odds))
+    (value ∙ ap (λ (o : Odds). applied o u.miss None)
+    (sym (h.way.done.apart.outside.odds ∙ sp.odds))
     ∙ ap (λ event. applied w.odds event None) (sym h.way.miss)
     ∙ ap (λ n. applied w.odds miss (value_of n)) (sym fresh))
 

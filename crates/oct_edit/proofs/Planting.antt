@@ -1,6 +1,7 @@
 -- A block of which nothing was known, and of whose voxels some take one event and the others none:
 -- it is split to the value that comes out, and its group needs no closing.
-use Rattle.std.proofs.Common.{◌≡◌, ℕ, ◌+◌, ◌<◌, ◌≤◌, sym, subst, ◌∙◌, ap, arith, inl, inr, refl, Some}
+use Rattle.std.proofs.Common.{◌≡◌, ℕ, ◌+◌, ◌<◌, ◌≤◌, sym, subst, ◌∙◌, ap, arith, inl, inr, refl}
+use Rattle.std.proofs.Common.{Some}
 use Rattle.std.proofs.Common.{None, false, [], ◌≤ℤ◌}
 use Rattle.std.proofs.lemmas.Int.{ints}
 use Rattle.std.specs.Prelude.{◌⊎◌, ℤ}
@@ -158,7 +159,8 @@ pub voxel_stored : (w : Tree) (p : Place) (b : Cube) (id : GroupId) (i : ℕ) (k
 voxel_stored w p b id i k l ok e deep link few m held =
     let place = slot_place w l p ok id i link few in
     let block = slot_block w l p id i b link e in
-    let level : (child_of b i).depth ≡ 16 = (let d = depth_child_of b i in omega (arith, d, deep)) in
+    let level : (child_of b i).depth ≡ 16 = (let d = depth_child_of b i in omega (arith, d, deep))
+    in
     let plain : link_of (node_in w (Slot id i)) ≡ None =
     voxel_plain w (Slot id i) k l
     (block ∙ ap Some (around (child_of b i) k held ∙ ap (λ d. block_of d k) level)) in

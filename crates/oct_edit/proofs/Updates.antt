@@ -166,7 +166,8 @@ no_more b keys e =
     subst (All (λ k. 8 ≤ child_index_of b.depth k)) (sym e) (λ n d l. absurd (omega (arith, l)))
 
 -- where nothing is left, all children are done
-pub way_done : (s w : Tree) (p : Place) (b : Cube) (u rest : ListedUpdate) (lazy : Bool) → b.depth ≤ 15
+pub way_done : (s w : Tree) (p : Place) (b : Cube) (u rest : ListedUpdate) (lazy : Bool)
+    → b.depth ≤ 15
     → IsUnderWay s w p b u rest lazy → rest.hits ≡ [] → rest.frees ≡ []
     → IsTouchedBelow s w p b 8 (events_of u) lazy
 way_done s w p b u rest lazy low way hits frees =

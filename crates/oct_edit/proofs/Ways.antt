@@ -362,7 +362,8 @@ greatest_kept gs hs x j m v y low same is below kept h = record {
   ];
   most = λ i a few at. elim (cases_eq i j) [
     | inl on ↦ subst (λ n. n ≤ℤ m)
-        (inner_value v a (sym (ap stored_in is) ∙ ap (λ n. stored_in (node_at hs x n)) (sym on) ∙ at))
+        (inner_value v a
+        (sym (ap stored_in is) ∙ ap (λ n. stored_in (node_at hs x n)) (sym on) ∙ at))
         below
     | inr off ↦ h.most i a few (sym (ap stored_in (same i few off)) ∙ at)
   ];

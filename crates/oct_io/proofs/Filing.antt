@@ -23,7 +23,8 @@ more_bytes : (files : Files) (name bytes : List ℕ) → AreBytes files
     → All (λ byte. byte < 256) bytes → AreBytes (with_file files name bytes)
 more_bytes files name bytes before small = λ other.
     elim (bytes_eq name other) as
-    (λ b. IfSome (cond {A = Option (List ℕ)} b (Some bytes) (files other)) (All (λ byte. byte < 256)))
+    (λ b. IfSome (cond {A = Option (List ℕ)} b (Some bytes) (files other))
+    (All (λ byte. byte < 256)))
     [ true ↦ small | false ↦ before other ]
 
 -- whether or not there was memory for the insert, bytes under each name stay so

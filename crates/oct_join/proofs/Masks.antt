@@ -108,7 +108,8 @@ merged_next n Greatest x y a b lx ly =
     ∙ ap (λ (t : ℕ). bit_or x y + 4 * bit_or a b - t)
     (threes_next n (bit_or x y) (bit_or a b) (or_lt 2 x y lx ly))
     ∙ greatest_parts (bit_or x y) (bit_or a b) (three (bit_or x y)) (threes n (bit_or a b))
-    (let few = three_few (bit_or x y) (or_lt 2 x y lx ly) in omega (arith, few)) (threes_few n (bit_or a b))
+    (let few = three_few (bit_or x y) (or_lt 2 x y lx ly) in omega (arith, few))
+    (threes_few n (bit_or a b))
 merged_next n Least x y a b lx ly =
     ap (λ (o : ℕ). o - 2 * threes (suc n) o) (or_four x y a b lx ly)
     ∙ ap (λ (t : ℕ). bit_or x y + 4 * bit_or a b - 2 * t)

@@ -237,7 +237,8 @@ none_joined rule n m first second accepted accepted' none none' =
     (inl (
       refl,
       λ k ok.
-          ap (λ c. merged_class rule c (data_classes second k)) (unknown_all n first accepted none k ok)
+          ap (λ c. merged_class rule c (data_classes second k))
+          (unknown_all n first accepted none k ok)
           ∙ unknown_all m second accepted' none' k ok,
     ))).0 refl
 

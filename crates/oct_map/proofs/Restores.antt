@@ -135,7 +135,8 @@ pub restored_right : (m n : Map) (s : Snapshot) (info : SnapInfo) (a t u : Tree)
     → IsMapRestored m n s
 restored_right m n s info a t u i empty odds res grown few enough values pruned groups room
     same_odds same_res tree stale mark box most cells = record {
-      values = subst (λ (t : Tree). SameValues (snapshot.values_of s) (value_at t)) (sym tree) values;
+      values = subst (λ (t : Tree). SameValues (snapshot.values_of s) (value_at t)) (sym tree)
+          values;
       stale = stale;
       mark = mark;
       pruned = subst IsPruned (sym tree) pruned;

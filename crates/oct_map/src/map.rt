@@ -46,7 +46,7 @@ use crate::limits::Limits;
 use crate::mark::Mark;
 use oct_edit::{ScanUpdate, box_need, touch, touch_all, touch_box};
 use oct_inner::{maximum_likelihood, prune, refresh};
-use oct_key::{Block, Key, Point, Res, Window};
+use oct_key::{Block, Point, Res, Window};
 use oct_odds::{Event, OddsModel};
 use oct_query::{BlockList, Counts, Paths, counts, list, query};
 use oct_scan::{Scan, ScanOdds, update_bricks};

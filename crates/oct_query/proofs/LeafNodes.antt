@@ -21,7 +21,8 @@ use Rattle.oct_tree.specs.Tree.{value_at}
 use Rattle.oct_tree.specs.Shape.{IsPruned}
 use Rattle.oct_tree.proofs.Links.{place_in_map}
 use Rattle.oct_tree.proofs.Over.{over_home, over_lowest, reach_stands}
-use Rattle.oct_tree.proofs.Paths.{linked_block, live_home, place_reached, some_injective, value_at_last}
+use Rattle.oct_tree.proofs.Paths.{linked_block, live_home, place_reached, some_injective}
+use Rattle.oct_tree.proofs.Paths.{value_at_last}
 use Rattle.oct_query.specs.Shown.{Shown}
 use Rattle.oct_query.specs.Leaves.{IsLeaf, IsLeafNode}
 use Rattle.oct_query.proofs.LeafLists.{not_deeper}

@@ -139,7 +139,8 @@ several_of v b c i value next low some li child before here differ uniform =
     ∙ uniform l k (held_by_parent b i l low li held_l)
     (held_by_parent b 0 k low (omega arith) held_k)
     ∙ before 0 k (omega (arith, some)) held_k in
-    false≢true (sym (not-true (option_eq int_eq next value) differ) ∙ (tells_same next value).1 same)
+    false≢true
+    (sym (not-true (option_eq int_eq next value) differ) ∙ (tells_same next value).1 same)
 
 -- ---- those that meet a box
 

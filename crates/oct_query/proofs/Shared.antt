@@ -1,5 +1,6 @@
 -- Voxels whose numbers differ in low bits alone lie in one block.
-use Rattle.std.proofs.Common.{◌≡◌, ℕ, suc, ◌+◌, ◌-◌, ◌*◌, ◌/◌, ◌%◌, ◌^◌, ◌<◌, ◌≤◌, refl, sym, ap, ◌∙◌}
+use Rattle.std.proofs.Common.{◌≡◌, ℕ, suc, ◌+◌, ◌-◌, ◌*◌, ◌/◌, ◌%◌, ◌^◌, ◌<◌, ◌≤◌, refl, sym, ap}
+use Rattle.std.proofs.Common.{◌∙◌}
 use Rattle.std.proofs.Common.{arith, bit_or, bit_xor}
 use Rattle.std.proofs.Math.Nat.{div-eq_of_lt, pow-suc, pow-le-pow_right}
 use Rattle.std.proofs.lemmas.Nat.{xor_shr, le_or_l, le_or_r, pow_pos}

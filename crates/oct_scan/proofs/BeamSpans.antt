@@ -22,7 +22,8 @@ pub record IsHeldFrom (edge key a b : ℕ) : Type 0 where
 face : (edge key : ℕ) → IsDifference (lower_face edge key) (key * edge) (32768 * edge)
 face edge key = scaled edge (of_naturals key 32768)
 
-pub held_from : (edge key : ℕ) (c : ℤ) → HoldsOnAxis edge key c → IsHeldFrom edge key (up c) (down c)
+pub held_from : (edge key : ℕ) (c : ℤ) → HoldsOnAxis edge key c
+    → IsHeldFrom edge key (up c) (down c)
 held_from edge key c h =
     let itself : IsDifference c (up c) (down c) = parts c in
     let low = le (face edge key) itself h.0 in

@@ -68,7 +68,8 @@ once_at_most k = elim (cases_Bool (list_any (is_same_voxel k) (voxels_of root_bl
       subst (HoldsVoxel root_block) (sym (is_same_voxel_exact k r.0 r.2)) r.1 in
       let once = listed_once root_block k root_in_map held in
       omega (arith, once)
-  | inr none ↦ (let no = none_pass (is_same_voxel k) (voxels_of root_block) none in omega (arith, no))
+  | inr none ↦
+      (let no = none_pass (is_same_voxel k) (voxels_of root_block) none in omega (arith, no))
 ]
 
 -- no more of the map's voxels pass a test than stand in a list that has each of them

@@ -67,10 +67,12 @@ joined_from f old bs i a b j same l is both =
 pub pushed_more : (f : Brick → ℕ) (old bs bs' : List Brick) (b : Brick) → bs ≡ old
     → bs' ≡ bs ++ b ∷ [] → HasMore f old bs' b
 pushed_more f old bs bs' b same pushed c =
-    subst (λ xs. Contains (codes_by f xs) c ↔ (Contains (codes_by f old) c ⊎ HasCode b.code (f b) c))
+    subst (λ xs. Contains (codes_by f xs) c ↔
+    (Contains (codes_by f old) c ⊎ HasCode b.code (f b) c))
     (sym (pushed ∙ ap (λ xs. xs ++ b ∷ []) same)) (pushed_has f old b c)
 
 pub pushed_bricks : (old bs bs' : List Brick) (b : Brick) → bs ≡ old → bs' ≡ bs ++ b ∷ []
     → All IsBrick old → IsBrick b → All IsBrick bs'
 pushed_bricks old bs bs' b same pushed all one =
-    subst (All IsBrick) (sym (pushed ∙ ap (λ xs. xs ++ b ∷ []) same)) (All-push IsBrick old b all one)
+    subst (All IsBrick) (sym (pushed ∙ ap (λ xs. xs ++ b ∷ []) same))
+    (All-push IsBrick old b all one)

@@ -23,7 +23,8 @@ pub none_at : (line : List ℕ) (at start end : ℕ) → start ≡ at + prefix_l
     → [] ≡ words_from (at + 1) (drop at line)
 none_at line at start end begins ends none =
     let size : prefix_len is_in_word (drop start line) ≡ 0 = omega (arith, ends, none) in
-    sym (no_word_left (at + 1) (drop at line) (drop start line) [] (prefix_len is_blank (drop at line))
+    sym (no_word_left (at + 1) (drop at line) (drop start line) []
+    (prefix_len is_blank (drop at line))
     0 refl (behind_blanks line at start begins) (sym size) refl (omega arith) refl)
 
 -- the next word, and those behind it
@@ -51,7 +52,8 @@ word_at line at start end word begins within ends within_end some is =
     let further : end + 1 ≡ (start + 1) + length word = omega (arith, long, ends) in
     word_taken (at + 1) (start + 1) (end + 1) (drop at line) (take blanks (drop at line))
     (drop start line) word (drop end line) blanks (end - start) refl few refl
-    (behind_blanks line at start begins) size is rest (omega (arith, long, ends, some)) place further
+    (behind_blanks line at start begins) size is rest (omega (arith, long, ends, some)) place
+    further
 
 -- the first word of a line
 pub first_at : (line : List ℕ) (start end : ℕ) (word : List ℕ)
@@ -61,7 +63,8 @@ pub first_at : (line : List ℕ) (start end : ℕ) (word : List ℕ)
     → word ≡ first_text (placed_words line)
 first_at line start end word begins within ends within_end is =
     let size : end - start ≡ prefix_len is_in_word (drop start line) = omega (arith, ends) in
-    first_word_is line (drop start line) word start (end - start) (omega (arith, begins)) within refl
+    first_word_is line (drop start line) word start (end - start) (omega (arith, begins)) within
+    refl
     size (omega (arith, length-drop start line, within_end)) is
 
 -- the next word is the length that stands behind the blanks, where a blank or nothing follows it
@@ -87,5 +90,6 @@ length_at line at start end stop limit nm value begins within is within_end stop
       length-drop end line,
     ) in
     length_taken (at + 1) (end + 1) (drop at line) (drop start line) (drop end line) blanks limit nm
-    value refl (prefix_len-le-length is_blank (drop at line)) (behind_blanks line at start begins) is
+    value refl (prefix_len-le-length is_blank (drop at line)) (behind_blanks line at start begins)
+    is
     (omega (arith, stops, ended)) further same

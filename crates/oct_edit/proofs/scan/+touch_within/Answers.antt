@@ -121,7 +121,8 @@ touch_within-requires t c =
     let (b, e) = place_block c.args.tree.now c.args.p c.requires.place in
     let deep : b.depth ≡ c.args.depth = c.requires.depth b e in
     let low : b.depth ≤ 15 = omega (arith, deep, c.requires.deep) in
-    let deeper : b.depth ≤ 13 = omega (arith, deep, c.requires.deep, c.if-depth-eq-BRICK_DEPTH.false) in
+    let deeper : b.depth ≤ 13 = omega
+    (arith, deep, c.requires.deep, c.if-depth-eq-BRICK_DEPTH.false) in
     let cut : AreCut b.depth c.in-Some-first_child.i c.loop-i.rest.bricks.now
     c.split.result.0.bricks.now c.split.result.1.bricks.now =
     subst (λ d. AreCut d c.in-Some-first_child.i c.loop-i.rest.bricks.now
@@ -281,7 +282,8 @@ loop-i-preserved t c = record {
       c.in-Some-first_child.i (listed c.args.update) (listed c.loop-i.rest)
       (listed c.split.result.0) (listed c.split.result.1) c.args.lazy entered.linked
       (place_in_map c.args.tree.now c.args.p b c.requires.linked e) low (c.requires.inside b e)
-      way first hits frees (ap Add c.split.ensures.hit.0) (ap Add c.split.ensures.miss.0) (ap Add c.split.ensures.hit.1)
+      way first hits frees (ap Add c.split.ensures.hit.0) (ap Add c.split.ensures.miss.0)
+      (ap Add c.split.ensures.hit.1)
       (ap Add c.split.ensures.miss.1)
       (c.touch_within.ensures.touched (child_of b c.in-Some-first_child.i) place.1)
       (c.touch_within.ensures.room (child_of b c.in-Some-first_child.i) place.1);

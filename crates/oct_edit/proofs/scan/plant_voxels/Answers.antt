@@ -81,7 +81,8 @@ set_place-requires-clause-before c =
     way_slot c.split_to-id.new.self c.loop-rest.tree c.args.p b c.split_to-id.result
     (voxel_index r) (listed_one c.args.update) (listed_one c.loop-rest.rest) false few
     (ap link_of c.split_to-id.ensures.split.link) h.way in
-    one_plain c.loop-rest.tree (Slot c.split_to-id.result (voxel_index r)) (child_of b (voxel_index r))
+    one_plain c.loop-rest.tree (Slot c.split_to-id.result (voxel_index r))
+    (child_of b (voxel_index r))
     (update_of (part_of r x ∷ []) c.loop-rest.rest.hit c.loop-rest.rest.miss) h.way.done.linked
     place.1 (depth_child_of b (voxel_index r) ∙ ap (λ (d : ℕ). d + 1) deep)
     (voxel_inside c.split_to-id.new.self c.loop-rest.tree c.args.p b (listed_one c.args.update)

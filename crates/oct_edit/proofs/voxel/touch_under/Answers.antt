@@ -73,7 +73,8 @@ loop-level-preserved c =
           c.requires.takes (omega (arith, c.child_of_code.ensures.few))
           (block_step c.loop-level.level c.args.k c.loop-level-test.true
           ∙ ap (child_of (block_of c.loop-level.level c.args.k)) (sym (c.child_of_code.ensures.exact
-          ∙ c.morton-code.ensures.child c.loop-level.level (omega (arith, c.loop-level-test.true)))))
+          ∙ c.morton-code.ensures.child c.loop-level.level
+          (omega (arith, c.loop-level-test.true)))))
           c.split_to-id.ensures.split c.split_to-id.ensures.values
           (c.split_to-id.ensures.outside (block_of c.loop-level.level c.args.k)
           c.loop-level.invariant.chain.block)
@@ -136,9 +137,11 @@ pub returns-then-leaves_block-clause-touched : goal.returns-then-leaves_block-cl
 returns-then-leaves_block-clause-touched c =
     leaf_kept c.args.tree.now c.args.p c.args.depth c.args.k c.args.event c.args.lazy
     c.requires.linked c.requires.place c.requires.block c.requires.depth c.requires.voxel
-    c.requires.plain (sym (made_of _ c.args.tree.now.odds c.args.event c.value-value.result c.apply-new.result
+    c.requires.plain
+    (sym (made_of _ c.args.tree.now.odds c.args.event c.value-value.result c.apply-new.result
     (node_in c.args.tree.now c.args.p) c.apply-new.ensures.exact c.odds.ensures
     (c.value-value.ensures.exact ∙ ap value_of c.requires.node))
     ∙ c.if-leaves_block.ensures.when.0
     ∙ c.value-value.ensures.exact ∙ ap value_of c.requires.node)
-    (λ is. sym (c.value-value.ensures.exact ∙ ap value_of c.requires.node) ∙ c.if-leaves_block.ensures.when.1 is)
+    (λ is. sym (c.value-value.ensures.exact ∙ ap value_of c.requires.node) ∙
+    c.if-leaves_block.ensures.when.1 is)

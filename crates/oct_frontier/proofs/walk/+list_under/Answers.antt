@@ -48,7 +48,8 @@ list_under-requires t c =
           (
             c.requires.order,
             subst (λ r. vec_len c.loop-i.keys
-                + length (found_in c.args.tree.now c.args.lo c.args.hi (cube_of c.child.result.block))
+                + length (found_in c.args.tree.now c.args.lo c.args.hi
+                (cube_of c.child.result.block))
                 ≤ r)
                 (sym c.loop-i.invariant.capacity) room,
           ),

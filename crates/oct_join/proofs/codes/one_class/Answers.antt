@@ -8,8 +8,10 @@ pub returns-then-codes-eq-FREE_LEAVES : goal.returns-then-codes-eq-FREE_LEAVES
 returns-then-codes-eq-FREE_LEAVES c = free_is c.args.codes c.if-codes-eq-FREE_LEAVES.true
 
 pub returns-then-codes-eq-OCCUPIED_LEAVES : goal.returns-then-codes-eq-OCCUPIED_LEAVES
-returns-then-codes-eq-OCCUPIED_LEAVES c = occupied_is c.args.codes c.if-codes-eq-OCCUPIED_LEAVES.true
+returns-then-codes-eq-OCCUPIED_LEAVES c = occupied_is c.args.codes
+    c.if-codes-eq-OCCUPIED_LEAVES.true
 
 pub returns : goal.returns
 returns c =
-    none_is c.args.codes c.if-codes-eq0.false c.if-codes-eq-FREE_LEAVES.false c.if-codes-eq-OCCUPIED_LEAVES.false
+    none_is c.args.codes c.if-codes-eq0.false c.if-codes-eq-FREE_LEAVES.false
+    c.if-codes-eq-OCCUPIED_LEAVES.false

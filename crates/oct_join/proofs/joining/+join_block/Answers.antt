@@ -114,7 +114,8 @@ overflow_add-read t c =
     let (s, q, side_b, is_b) = c.requires.second in
     let x = joining_next _ _ _ _ _ _ _ _ _ _ _ _ _ _ _ _ _ _ _ c.loop-test.true
     (c.loop.invariant.joined r s p q side_a is_a side_b is_b) in
-    let j = c.join_block-part.ensures.joined x.r' x.s' x.p' x.q' x.side (c.split_at.ensures.back ∙ x.front)
+    let j = c.join_block-part.ensures.joined x.r' x.s' x.p' x.q' x.side
+    (c.split_at.ensures.back ∙ x.front)
     x.other_side (c.split_at-then-is_parted.ensures.back ∙ x.other_front) in
     let fits = fits_text _ _ c.args.first.now p x.within is_a in
     let took = j.first in
@@ -129,7 +130,8 @@ overflow_add-read-then-is_parted t c =
     let (s, q, side_b, is_b) = c.requires.second in
     let x = joining_next _ _ _ _ _ _ _ _ _ _ _ _ _ _ _ _ _ _ _ c.loop-test.true
     (c.loop.invariant.joined r s p q side_a is_a side_b is_b) in
-    let j = c.join_block-part.ensures.joined x.r' x.s' x.p' x.q' x.side (c.split_at.ensures.back ∙ x.front)
+    let j = c.join_block-part.ensures.joined x.r' x.s' x.p' x.q' x.side
+    (c.split_at.ensures.back ∙ x.front)
     x.other_side (c.split_at-then-is_parted.ensures.back ∙ x.other_front) in
     let fits = fits_text _ _ c.args.second.now q x.other_within is_b in
     let took = j.second in
@@ -144,7 +146,8 @@ overflow_mul-codes t c =
     let (s, q, side_b, is_b) = c.requires.second in
     let x = joining_next _ _ _ _ _ _ _ _ _ _ _ _ _ _ _ _ _ _ _ c.loop-test.true
     (c.loop.invariant.joined r s p q side_a is_a side_b is_b) in
-    let j = c.join_block-part.ensures.joined x.r' x.s' x.p' x.q' x.side (c.split_at.ensures.back ∙ x.front)
+    let j = c.join_block-part.ensures.joined x.r' x.s' x.p' x.q' x.side
+    (c.split_at.ensures.back ∙ x.front)
     x.other_side (c.split_at-then-is_parted.ensures.back ∙ x.other_front) in
     let few = made_fits _ _ _ _ _ _ _ _ _ _ _ _ _ _ _ _ _ _ _ side_a side_b
     (x.step _ c.join_block-part.result j) in
@@ -158,7 +161,8 @@ overflow_add-codes t c =
     let (s, q, side_b, is_b) = c.requires.second in
     let x = joining_next _ _ _ _ _ _ _ _ _ _ _ _ _ _ _ _ _ _ _ c.loop-test.true
     (c.loop.invariant.joined r s p q side_a is_a side_b is_b) in
-    let j = c.join_block-part.ensures.joined x.r' x.s' x.p' x.q' x.side (c.split_at.ensures.back ∙ x.front)
+    let j = c.join_block-part.ensures.joined x.r' x.s' x.p' x.q' x.side
+    (c.split_at.ensures.back ∙ x.front)
     x.other_side (c.split_at-then-is_parted.ensures.back ∙ x.other_front) in
     let few = made_fits _ _ _ _ _ _ _ _ _ _ _ _ _ _ _ _ _ _ _ side_a side_b
     (x.step _ c.join_block-part.result j) in
@@ -275,7 +279,8 @@ returns-clause-joined t c = λ r s p q side_a is_a side_b is_b.
     (c.loop.invariant.joined r s p q side_a is_a side_b is_b) in
     let start : length c.args.out.now.items ≡ c.len-start.result = search rules in
     joined_whole (merged_class c.args.rule) c.args.a c.args.b r s c.args.out.now.items
-    c.loop.out.items c.close-code.new.out.items c.loop.read.first c.loop.read.second c.loop.codes _ all
+    c.loop.out.items c.close-code.new.out.items c.loop.read.first c.loop.read.second c.loop.codes _
+    all
     c.close-code.ensures.code refl refl
     (λ later is. c.close-code.ensures.text c.args.out.now.items later is start))
 

@@ -25,6 +25,7 @@ pub returns-in_err-set-clause-memory : goal.returns-in_err-set-clause-memory
 returns-in_err-set-clause-memory c _ = (
   c.in_ok-update.ensures.accepted,
   bricks_point c.args.res c.args.window (sighting_of c.args.scan.now)
-      c.in_ok-update.update.bricks c.in_ok-update.ensures.made.bricks c.in_ok-update.ensures.update.hits
+      c.in_ok-update.update.bricks c.in_ok-update.ensures.made.bricks
+      c.in_ok-update.ensures.update.hits
       c.in_ok-update.ensures.update.frees (search rules),
 )

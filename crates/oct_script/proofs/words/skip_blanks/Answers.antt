@@ -1,5 +1,6 @@
 use Rattle.std.proofs.Common.{◌+◌, ◌∙◌, sym, ap, arith}
-use Rattle.std.proofs.lemmas.List.Sums.{prefix_len-drop_yes, prefix_len-drop_no, prefix_len-drop_all}
+use Rattle.std.proofs.lemmas.List.Sums.{prefix_len-drop_yes, prefix_len-drop_no}
+use Rattle.std.proofs.lemmas.List.Sums.{prefix_len-drop_all}
 use Rattle.oct_script.specs.Words.{is_blank}
 use Rattle.oct_script.proofs.words.skip_blanks.Goals as goal
 
@@ -28,5 +29,6 @@ returns-clause-end c =
     omega (
       arith,
       c.loop-at.invariant.1,
-      prefix_len-drop_all is_blank c.args.text.now c.loop-at.at (omega (arith, c.loop-at-test.false)),
+      prefix_len-drop_all is_blank c.args.text.now c.loop-at.at
+          (omega (arith, c.loop-at-test.false)),
     )

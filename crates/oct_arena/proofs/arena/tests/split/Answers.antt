@@ -46,10 +46,12 @@ split_to-requires-clause-deep g c b is =
 
 pub returns-clause-over : goal.returns-clause-over
 returns-clause-over g c =
-    (live_split _ _ _ _ 5 _ c.split_to.ensures.filled c.split_to.ensures.vacant c.split_to.ensures.within
+    (live_split _ _ _ _ 5 _ c.split_to.ensures.filled c.split_to.ensures.vacant
+    c.split_to.ensures.within
     c.requires).0
 
 pub returns-clause-under : goal.returns-clause-under
 returns-clause-under g c =
-    (live_split _ _ _ _ 5 _ c.split_to.ensures.filled c.split_to.ensures.vacant c.split_to.ensures.within
+    (live_split _ _ _ _ 5 _ c.split_to.ensures.filled c.split_to.ensures.vacant
+    c.split_to.ensures.within
     c.requires).1

@@ -9,7 +9,8 @@ below : (rises : Bool) (bits now v : ℕ) → gathered 16 bits ≡ v → (rises 
 below rises bits now v e up =
     stepped_below rises (gathered 16 bits) now (gathered_below 16 bits) (λ r. rw e (up r))
 
-pub bits_stepped-self-inside-requires-clause-down : goal.bits_stepped-self-inside-requires-clause-down
+pub bits_stepped-self-inside-requires-clause-down :
+    goal.bits_stepped-self-inside-requires-clause-down
 bits_stepped-self-inside-requires-clause-down c = λ e. rw c.self.view_is (c.requires.down e)
 
 pub invariant_of-self : goal.invariant_of-self
