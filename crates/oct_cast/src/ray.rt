@@ -14,7 +14,7 @@ use crate::way::Way;
 use oct_arena::{GroupId, Node};
 use oct_key::{Point, from_morton};
 use oct_odds::Class;
-use oct_ray::Walk;
+use oct_ray::{BeamWalk, Walk};
 use oct_tree::OccTree;
 
 /// The first voxel that the segment from `o` to `e` meets and that is occupied, or unknown where

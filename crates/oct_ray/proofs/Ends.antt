@@ -10,12 +10,15 @@ use Rattle.oct_key.specs.declared.point.Point.{Point}
 use Rattle.oct_key.proofs.Faces.{Holds-key_at}
 use Rattle.oct_ray.specs.Segment.{IsBetweenFaces, IsPlaceOf}
 use Rattle.oct_ray.specs.Axis.{HasRoom, axis_after, axis_keys, crosses, axis_voxel}
+use Rattle.oct_ray.specs.Track.{AreTracks, keys_left}
 use Rattle.oct_ray.specs.declared.axis.Axis.{Axis}
+use Rattle.oct_ray.specs.declared.track.Track.{Track}
 use Rattle.oct_ray.proofs.Moments.{Moment, NotAfter, IsMoment}
 use Rattle.oct_ray.proofs.Moments.{moment_lt_le}
 use Rattle.oct_ray.proofs.Crossings.{crossings_left, crosses-crossings, axis_after-HasRoom}
 use Rattle.oct_ray.proofs.Crossings.{crossing, lateness-le, crossings_left-fall}
 use Rattle.oct_ray.proofs.KeyLists.{zero_is, keys_end, keys_suc, zero_from}
+use Rattle.oct_ray.proofs.Tracks.{keys_are, make_walk}
 use Rattle.oct_ray.proofs.Visits.{IsAt, IsDueAfter, IsReady, VisitAt, at_start, key_after}
 use Rattle.oct_ray.proofs.Visits.{key_after-axis_after, key_after-zero, same_key, voxel_after}
 use Rattle.oct_ray.proofs.Faces.{place}
@@ -210,6 +213,20 @@ last_element : (ks : List Voxel) (k : Voxel) → EndsWith ks k → slice_get ks 
 last_element ks k w =
     rw w.is
     (ap (slice_get (w.earlier ++ k ∷ [])) (length-end w.earlier k) ∙ slice_get-end w.earlier k)
+
+same_some : (k l : Voxel) → Some k ≡ Some l → k ≡ l
+same_some k l e = cc
+
+-- the last voxel of three tracks is where their axes have no crossing left
+pub last_of_tracks : (x y z : Track) (r : AreTracks x y z) (k : Voxel)
+    → slice_get (keys_left x y z) (length (keys_left x y z) - 1) ≡ Some k
+    → k ≡ last_voxel r.a r.b r.c
+last_of_tracks x y z r k h =
+    let keys = keys_are (make_walk x y z true) r refl in
+    same_some k (last_voxel r.a r.b r.c)
+    (sym h ∙ ap (λ ks. slice_get ks (length ks - 1)) keys
+    ∙ last_element _ _ (axis_keys_last (crossings_left r.a r.b r.c) r.a r.b r.c r.is_a r.is_b r.is_c
+    (omega arith)))
 
 -- the list begins with the voxel that holds the origin
 first_key : (edge : ℕ) (o e : Point) (x y z : Axis) (k : Voxel) (f : ℕ) → 1 ≤ edge

@@ -11,3 +11,5 @@ pub mod Cuts
 pub mod Ends
 pub mod ComputedAxes
 pub mod OneAxis
+pub mod Alike
+pub mod NearWalks

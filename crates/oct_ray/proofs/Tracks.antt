@@ -186,13 +186,13 @@ AreTracks-track_after x y z r h =
 key_is : (x y z : Track) (r : AreTracks x y z) → track_voxel x y z ≡ axis_voxel r.a r.b r.c
 key_is x y z r = same_key _ _ _ _ _ _ r.track_a.key r.track_b.key r.track_c.key
 
-track_keys_end : (f : ℕ) (x y z : Track) → has_ended x y z ≡ true
+pub track_keys_end : (f : ℕ) (x y z : Track) → has_ended x y z ≡ true
     → track_keys f x y z ≡ track_voxel x y z ∷ []
 unfolding track_keys
 track_keys_end zero x y z e = refl
 track_keys_end (suc f) x y z e = rw e refl
 
-track_keys_suc : (f : ℕ) (x y z : Track) → has_ended x y z ≡ false
+pub track_keys_suc : (f : ℕ) (x y z : Track) → has_ended x y z ≡ false
     → track_keys (suc f) x y z ≡ track_voxel x y z
     ∷ track_keys f (track_after (crosses_now x y z) x y.pace z.pace)
     (track_after (crosses_now y z x) y z.pace x.pace)

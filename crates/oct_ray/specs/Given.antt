@@ -1,5 +1,5 @@
--- What a walk gives, as a code.
-use Rattle.std.specs.Prelude.{◌≡◌, ℕ, List, ◌∷◌}
+-- What a walk gives, and where it ends, as codes.
+use Rattle.std.specs.Prelude.{◌≡◌, ℕ, ◌-◌, List, ◌∷◌, length, slice_get, Some}
 use Rattle.oct_key.specs.Voxel.{Voxel, IsInMap}
 use Rattle.oct_key.specs.Morton.{morton_of}
 
@@ -8,4 +8,11 @@ pub record HasGiven (old new : List Voxel) (code : ℕ) : Type 0 where
   pub voxel : Voxel
   pub on_map : IsInMap voxel
   pub first : old ≡ voxel ∷ new
+  pub coded : code ≡ morton_of voxel
+
+-- the last voxel of the list has this code
+pub record HasLast (ks : List Voxel) (code : ℕ) : Type 0 where
+  pub voxel : Voxel
+  pub on_map : IsInMap voxel
+  pub last : slice_get ks (length ks - 1) ≡ Some voxel
   pub coded : code ≡ morton_of voxel

@@ -44,10 +44,14 @@ track_keys (suc fuel) x y z =
           (track_after (crosses_now z x y) z x.pace y.pace)
     ]
 
+-- the voxels from where three tracks stand until none of them has a crossing left
+abbrev pub keys_left : Track → Track → Track → List Voxel
+keys_left x y z = track_keys (x.crossings + y.crossings + z.crossings) x y z
+
 -- the voxels that a walk has still to give
 abbrev pub keys_to_come : Inside → List Voxel
 keys_to_come w = elim w.more [
-  | true ↦ track_keys (w.x.crossings + w.y.crossings + w.z.crossings) w.x w.y w.z
+  | true ↦ keys_left w.x w.y w.z
   | false ↦ []
 ]
 

@@ -26,6 +26,8 @@
 //! - A [`Walk`] is seen as the list of the voxels that it has still to give, at most 3 * 65,535 + 1
 //!   of them. As an iterator it takes off the first, and gives `None` exactly where the list is
 //!   empty.
+//! - [`Walk::near`] makes the same list a [`NearWalk`], in numbers of 64 bits, where they fit. Both
+//!   are a [`BeamWalk`], which gives the codes of its voxels up to the last one.
 //! - `met_by` computes the same list from the two points, and [`segments_are_walked`] says that it
 //!   is that list, so that whoever counts or asks for met voxels can name them.
 //! - [`cut`] moves the end of a beam toward the origin, to `o + (e - o) * r / length`, rounded
@@ -38,7 +40,8 @@
 //! crosses before one that falls, since a voxel has its lower faces. The fractions are kept
 //! multiplied for the comparisons with both other axes, so that a step is a few additions and
 //! comparisons, and no product or division. All numbers are whole and fit 128 bits, so no rounding
-//! error skips a voxel.
+//! error skips a voxel. A near walk keeps of each two axes how much later the one crosses than the
+//! other, and no place. Which axis comes next is hard to guess, so it steps without a branch.
 //!
 //! No call allocates or fails. Scans (`oct_scan`) and casts (`oct_cast`) stand on this crate, and
 //! cite `Meets` and `met_by`; casts cite `Precedes` too, and scans `IsWalkAlong`, `IsCutEnd`,
@@ -47,11 +50,15 @@
 #![tactic(auto)]
 
 mod axis;
+mod beam_walk;
 mod laws;
+mod near;
 mod range;
 mod track;
 mod walk;
 
+pub use beam_walk::BeamWalk;
 pub use laws::segments_are_walked;
+pub use near::NearWalk;
 pub use range::{cut, square_distance};
 pub use walk::Walk;

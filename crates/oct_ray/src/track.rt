@@ -1,11 +1,16 @@
 //! One axis of a walk under way.
 ghost use Rattle.std.specs.Prelude.{◌≡◌, true, false};
+ghost use Rattle.std.specs.Prelude.{IsTrue};
 ghost use Rattle.std.specs.Bool.{OnTrue};
 ghost use Rattle.oct_ray.specs.Axis.{HasRoom};
 ghost use Rattle.oct_ray.specs.Track.{CanPass, IsTrackOf, crosses_now, has_ended, track_after};
+ghost use Rattle.oct_ray.specs.Near.{IsSmall};
 
 use crate::axis::Axis;
 use oct_key::Dilated;
+
+/// The first number that doesn't fit 63 bits.
+const SMALL: u128 = 1 << 63;
 
 /// What a walk keeps of an axis: where it stands, and at which place of the segment it next crosses
 /// a face.
@@ -47,6 +52,13 @@ impl Track {
             beside_third: 2 * (axis.distance as u128 * third.span as u128) + late,
             pace: 2 * (axis.edge as u128 * axis.span as u128),
         }
+    }
+
+    /// Whether its numbers fit 63 bits.
+    pub fn is_small(&self) -> bool
+        ensures { IsTrue result → IsSmall self.now }
+    {
+        self.beside_next < SMALL && self.beside_third < SMALL && self.pace < SMALL
     }
 
     /// Whether this axis crosses no later than the other two.

@@ -1,13 +1,15 @@
 //! A beam followed voxel by voxel, from face to face.
 ghost use Rattle.std.specs.Prelude.{◌≡◌, ◌≢◌, ◌+◌, ◌-◌, ◌*◌, ◌^◌, ◌<◌, ◌≤◌, [], length, slice_get};
-ghost use Rattle.std.specs.Prelude.{IsSome, IfSome, IfNone};
+ghost use Rattle.std.specs.Prelude.{IsSome, IfSome, IfNone, IfOk, IfErr};
 ghost use Rattle.std.specs.Iterator.{YieldsFirst, item_count};
 ghost use Rattle.oct_key.specs.Voxel.{IsResolution, key_at};
 ghost use Rattle.oct_ray.specs.Segment.{IsWalkAlong};
-ghost use Rattle.oct_ray.specs.Given.{HasGiven};
+ghost use Rattle.oct_ray.specs.Given.{HasGiven, HasLast};
 ghost use Rattle.oct_ray.specs.Met.{met_by};
 
 use crate::axis::Axis;
+use crate::beam_walk::BeamWalk;
+use crate::near::NearWalk;
 use crate::track::{Track, advance, has_ended};
 use oct_key::{Key, Point, Res, from_morton, morton_of_axes};
 use std::iter::FusedIterator;
@@ -63,6 +65,21 @@ impl Walk {
         }
     }
 
+    /// The same walk in numbers of 64 bits, where they fit, or else the walk as it is. `last` is the
+    /// code of its last voxel.
+    #[inline(always)]
+    pub fn near(self, last: u64) -> Result<NearWalk, Walk>
+        requires { HasLast self last }
+        ensures near { IfOk result (λ near. near ≡ self) }
+        ensures far { IfErr result (λ walk. walk ≡ self) }
+    {
+        if self.x.is_small() && self.y.is_small() && self.z.is_small() {
+            Ok(NearWalk::new(self.x, self.y, self.z, last))
+        } else {
+            Err(self)
+        }
+    }
+
     // A step is short, and is made in the loops of scans and casts, which keep the walk in
     // registers.
     /// The Morton code of the next voxel, or `None` where the last one was given. It is made from
@@ -84,16 +101,13 @@ impl Walk {
         }
         Some(code)
     }
+}
 
-    /// The code of the next voxel, or `None` where that is the last one, or none is left. Then the
-    /// walk stays as it is.
+impl BeamWalk for Walk {
+    ghost to_come = { λ walk. walk };
+
     #[inline(always)]
-    pub fn next_but_last(&mut self) -> Option<u64>
-        ensures next { IfSome result (HasGiven self.old self.new) }
-        ensures below { IfSome result (λ code. code < 2 ^ 48) }
-        ensures more { IfSome result (λ _. self.new ≢ []) }
-        ensures none { IfNone result ((self.new ≡ self.old) × (length self.old ≤ 1)) }
-    {
+    fn next_but_last(&mut self) -> Option<u64> {
         if !self.more || has_ended(&self.x, &self.y, &self.z) {
             return None;
         }

@@ -14,7 +14,7 @@ use crate::pile::BrickPile;
 use oct_brick::Brick;
 use oct_key::{Key, Point, Res, Window, from_morton, morton};
 use oct_num::Memory;
-use oct_ray::Walk;
+use oct_ray::{BeamWalk, Walk};
 use std::alloc::Global;
 
 /// What beams from one origin change, brick by brick, in the box where one stands. They all lie in
@@ -153,6 +153,16 @@ fn push_way(bricks: &mut BrickPile, walk: Walk, end: u64) -> Result<(), Memory>
     requires end { end < 2 ^ 48 }
     requires bricks { All IsBrick bricks.old }
     ensures { OnOk result (IsWayAdded None end walk bricks.old bricks.new) }
+{
+    push_steps(bricks, walk, end)
+}
+
+/// The same for a walk in whatever numbers.
+fn push_steps<W: BeamWalk>(bricks: &mut BrickPile, walk: W, end: u64) -> Result<(), Memory>
+    requires ends { (k : Voxel) × IsInMap k × (morton_of k ≡ end) × EndsAt k (W.to_come walk) }
+    requires end { end < 2 ^ 48 }
+    requires bricks { All IsBrick bricks.old }
+    ensures { OnOk result (IsWayAdded None end (W.to_come walk) bricks.old bricks.new) }
 {
     let mut walk = walk;
     let mut brick = Brick::around(end);

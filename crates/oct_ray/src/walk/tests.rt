@@ -2,6 +2,7 @@
 ghost use Rattle.std.specs.Prelude.{◌≤◌};
 
 use super::*;
+use oct_key::morton;
 use std::alloc::{AllocError, Global};
 use std::process::Abort;
 use std::test::Fail;
@@ -149,6 +150,41 @@ fn stops_before_the_last_voxel(rt: HostRuntime) -> Result<(), Fail> {
     expect_code(&rt, &mut way, Some(0o7000_0000_0000_0001));
     expect_code(&rt, &mut way, None);
     expect_next(&rt, &mut way, Some(key(2, 0, 0)));
+    Ok(())
+}
+
+/// A walk in 64 bits between two points of the map.
+fn near(rt: &impl Abort, res: Res, o: Point, e: Point) -> NearWalk {
+    assert!(rt; res.key_of(o).is_some());
+    let last = res.key_of(e).expect(rt, "a point of the map");
+    match Walk::new(res, o, e).near(morton(last)) {
+        Ok(near) => near,
+        Err(_) => panic!(rt; "the beam is short"),
+    }
+}
+
+/// Expects the code of the next voxel of a walk in 64 bits, where that isn't the last one.
+fn expect_near_code(rt: &impl Abort, walk: &mut NearWalk, want: Option<u64>) {
+    assert_eq!(rt; walk.next_but_last(), want);
+}
+
+/// Expects that a walk in 64 bits gives the voxels of a beam but the last.
+fn expect_near(rt: &impl Abort, res: Res, (o, e, want): Beam) {
+    let mut way = near(rt, res, point_at(o), point_at(e));
+    if let Some((_, front)) = want.split_last() {
+        for (x, y, z) in front {
+            expect_near_code(rt, &mut way, Some(morton(key(*x, *y, *z))));
+        }
+    }
+    expect_near_code(rt, &mut way, None);
+}
+
+#[test]
+fn walks_alike_in_64_bits(rt: HostRuntime) -> Result<(), Fail> {
+    let res = Res::new(TENTH)?;
+    for case in BEAMS {
+        expect_near(&rt, res, *case);
+    }
     Ok(())
 }
 

@@ -3,9 +3,9 @@ use Rattle.oct_key.specs.Voxel.{Voxel}
 use Rattle.oct_ray.specs.Track.{track_voxel}
 use Rattle.oct_ray.proofs.Tracks.{walk_steps, walk_goes_on, walk_left, AreTracks-steps, can_pass_x}
 use Rattle.oct_ray.proofs.Tracks.{can_pass_y, can_pass_z}
-use Rattle.oct_ray.proofs.walk.Walk.next_but_last.Goals as goal
-use Rattle.oct_ray.proofs.walk.Walk.next_but_last.Goals.{then-not-self-via-then-not-self}
-use Rattle.oct_ray.proofs.walk.Walk.next_but_last.Goals.{then-not-self-via-else-not-self+then-has_ended}
+use Rattle.oct_ray.proofs.walk.WalkBeamWalk.next_but_last.Goals as goal
+use Rattle.oct_ray.proofs.walk.WalkBeamWalk.next_but_last.Goals.{then-not-self-via-then-not-self}
+use Rattle.oct_ray.proofs.walk.WalkBeamWalk.next_but_last.Goals.{then-not-self-via-else-not-self+then-has_ended}
 
 pub returns-then-not-self-clause-none : goal.returns-then-not-self-clause-none
 returns-then-not-self-clause-none c = (

@@ -4,16 +4,17 @@ use Rattle.oct_key.specs.Voxel.{Voxel}
 use Rattle.oct_brick.specs.Bricks.{IsBrick, hit_codes}
 use Rattle.oct_scan.specs.Gathered.{IsCurrent, EndsAt}
 use Rattle.oct_scan.proofs.Holding.{IsOnWay}
-use Rattle.oct_scan.proofs.cells.push_way.Given as goal
+use Rattle.oct_scan.proofs.cells.push_steps.Given as goal
 
 abbrev pub invariant-loop-code : goal.invariant-loop-code
-invariant-loop-code l = record {
-  ends : (k : Voxel) → EndsAt k l.fn.walk → EndsAt k l.walk;
+invariant-loop-code g l = record {
+  ends : (k : Voxel) → EndsAt k (g.W.BeamWalk.to_come l.fn.walk) → EndsAt k (g.W.BeamWalk.to_come l.walk);
   bricks : All IsBrick l.bricks;
   current : IsCurrent l.brick;
   hits : (c : ℕ) → Contains (hit_codes l.bricks) c ↔ Contains (hit_codes l.initial.bricks) c;
-  scanned : IsOnWay l.end l.initial.bricks l.fn.walk l.bricks l.brick l.walk;
+  scanned : IsOnWay l.end l.initial.bricks (g.W.BeamWalk.to_come l.fn.walk) l.bricks l.brick
+      (g.W.BeamWalk.to_come l.walk);
 }
 
 abbrev pub decreases-loop-code : goal.decreases-loop-code
-decreases-loop-code l = length l.walk
+decreases-loop-code g l = length (g.W.BeamWalk.to_come l.walk)

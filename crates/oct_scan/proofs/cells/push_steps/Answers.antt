@@ -5,10 +5,10 @@ use Rattle.oct_key.proofs.Interleavings.{morton_injective}
 use Rattle.oct_scan.specs.Gathered.{EndsAt}
 use Rattle.oct_scan.proofs.Ends.{end_later, end_left}
 use Rattle.oct_scan.proofs.Holding.{way_none, way_passed, way_marked, way_all, around_below}
-use Rattle.oct_scan.proofs.cells.push_way.Goals as goal
+use Rattle.oct_scan.proofs.cells.push_steps.Goals as goal
 
 pub loop-code-init : goal.loop-code-init
-loop-code-init c = record {
+loop-code-init g c = record {
   ends = λ k e. e;
   bricks = c.requires.bricks;
   current = record {
@@ -17,14 +17,15 @@ loop-code-init c = record {
     unhit = c.around-brick.ensures.hits;
   };
   hits = λ k. (λ h. h, λ h. h);
-  scanned = way_none c.args.end c.args.bricks.now c.args.walk c.around-brick.result
+  scanned = way_none c.args.end c.args.bricks.now (g.W.BeamWalk.to_come c.args.walk) c.around-brick.result
       c.around-brick.ensures.scanned;
 }
 
 pub loop-code-preserved : goal.loop-code-preserved
-loop-code-preserved c =
+loop-code-preserved g c =
     let given = c.in-Some.ensures.next in
-    let rest = c.next_but_last.new.self in
+    let to_come = g.W.BeamWalk.to_come in
+    let rest : List Voxel = to_come c.next_but_last.new.self in
     record {
       ends = λ k e. (end_later k given.voxel rest c.in-Some.ensures.more
           (subst (EndsAt k) given.first (c.loop-code.invariant.ends k e))).1;
@@ -38,8 +39,8 @@ loop-code-preserved c =
           let (end, on_map, coded, ends) = c.requires.ends in
           let other = (end_later end given.voxel rest c.in-Some.ensures.more
           (subst (EndsAt end) given.first (c.loop-code.invariant.ends end ends))).0 in
-          way_marked c.args.end c.args.bricks.now c.args.walk c.loop-code.bricks
-          c.push_code.new.bricks c.loop-code.brick c.in_ok-brick.brick c.loop-code.walk rest
+          way_marked c.args.end c.args.bricks.now (to_come c.args.walk) c.loop-code.bricks
+          c.push_code.new.bricks c.loop-code.brick c.in_ok-brick.brick (to_come c.loop-code.walk) rest
           given.voxel c.in-Some.code given.first given.coded
           (λ same. other (morton_injective given.voxel end given.on_map on_map
           (sym given.coded ∙ same ∙ sym coded))) c.in_ok-brick.ensures.scanned
@@ -47,17 +48,18 @@ loop-code-preserved c =
     }
 
 pub returns : goal.returns
-returns c =
-    let rest : List Voxel = c.loop-code.walk in
+returns g c =
+    let to_come = g.W.BeamWalk.to_come in
+    let rest : List Voxel = to_come c.loop-code.walk in
     let (end, on_map, coded, ends) = c.requires.ends in
     let one : rest ≡ end ∷ [] =
     end_left end rest c.in_default.ensures.none.1 (c.loop-code.invariant.ends end ends) in
     let i = c.loop-code.invariant in
     record {
-      scanned = way_all c.args.end c.args.bricks.now c.args.walk
+      scanned = way_all c.args.end c.args.bricks.now (to_come c.args.walk)
           c.loop-code.bricks c.push_some.new.bricks c.loop-code.brick [] refl
           c.in_ok-push_some.ensures.scanned
-          (way_passed c.args.end c.args.bricks.now c.args.walk c.loop-code.bricks
+          (way_passed c.args.end c.args.bricks.now (to_come c.args.walk) c.loop-code.bricks
           c.loop-code.brick rest [] end (morton_of end) one refl coded i.scanned);
       hits = λ k. (
         λ h. (i.hits k).0 ((c.in_ok-push_some.ensures.hits k).0 h),

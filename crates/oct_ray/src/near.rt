@@ -1,0 +1,171 @@
+//! A walk whose numbers fit 64 bits, which steps without a branch.
+ghost use Rattle.std.specs.Prelude.{◌≡◌, ◌+◌, ◌*◌, ◌^◌, ◌<◌, ◌≤◌, nat_le};
+ghost use Rattle.oct_ray.specs.Given.{HasLast};
+ghost use Rattle.oct_ray.specs.Track.{AreTracks, keys_left};
+ghost use Rattle.oct_ray.specs.Near.{IsOrder, IsSmall, StaysOnMap};
+ghost use Rattle.oct_ray.specs.Near.{after_pass, axis_of_track, bit};
+
+use crate::beam_walk::BeamWalk;
+use crate::track::Track;
+use oct_key::{Dilated, morton_of_axes};
+use std::marker::Model;
+
+/// The order of two crossings at one place.
+const TOGETHER: u64 = 1 << 63;
+
+/// One axis of a walk in 64 bits.
+#[derive(Debug, Drop)]
+struct NearAxis {
+    /// The number of the voxels where the walk stands, with its bits where a code has them.
+    key: Dilated,
+    /// Whether the axis rises.
+    rises: bool,
+    /// What a crossing of another axis adds to its place beside this one.
+    pace: u64,
+}
+
+impl NearAxis {
+    /// The axis of a track.
+    fn new(track: Track) -> NearAxis
+        requires { track.pace < 2 ^ 63 }
+        ensures { result ≡ axis_of_track track }
+    {
+        NearAxis {
+            key: track.key,
+            rises: track.rises,
+            pace: track.pace as u64,
+        }
+    }
+
+    /// Takes a crossing where `now` is 1.
+    #[inline(always)]
+    fn pass(&mut self, now: u64)
+        requires now { now ≤ 1 }
+        requires stays { StaysOnMap now self.old }
+        ensures { self.new ≡ after_pass now self.old }
+    {
+        self.key.step(self.rises, now);
+    }
+}
+
+/// How much later the second crossing comes than the first, above [`TOGETHER`].
+fn order(first: u128, second: u128) -> u64
+    requires first { first < 2 ^ 63 }
+    requires second { second < 2 ^ 63 }
+    ensures { IsOrder result first second }
+{
+    TOGETHER + second as u64 - first as u64
+}
+
+/// 1 where the second crossing comes no earlier.
+#[inline(always)]
+fn not_before(order: u64) -> u64
+    ensures { result ≡ bit (nat_le (2 ^ 63) order) }
+{
+    order >> 63
+}
+
+/// 1 where the second crossing comes no later.
+#[inline(always)]
+fn not_after(order: u64) -> u64
+    requires { 0 < order }
+    ensures { result ≡ bit (nat_le order (2 ^ 63)) }
+{
+    0u64.wrapping_sub(order) >> 63
+}
+
+/// The order after a step, in which each of the two crossings is taken where its number is 1.
+#[inline(always)]
+fn order_after(order: u64, first: u64, second: u64, first_pace: u64, second_pace: u64) -> u64
+    requires order { 0 < order }
+    requires first { first ≤ 1 }
+    requires second { second ≤ 1 }
+    requires first_pace { first_pace < 2 ^ 63 }
+    requires second_pace { second_pace < 2 ^ 63 }
+    requires not_before { first ≡ 1 → 2 ^ 63 ≤ order }
+    requires not_after { second ≡ 1 → order ≤ 2 ^ 63 }
+    ensures some { 0 < result }
+    ensures moved { result + first * second_pace ≡ order + second * first_pace }
+{
+    order + second * first_pace - first * second_pace
+}
+
+/// A [`Walk`](crate::Walk) in numbers of 64 bits. It keeps how much later one axis crosses than
+/// another, and not where. Contracts see it as the list of the voxels still to come.
+#[derive(Debug, Drop)]
+pub struct NearWalk {
+    x: NearAxis,
+    y: NearAxis,
+    z: NearAxis,
+    /// How much later y crosses than x, above [`TOGETHER`].
+    y_after_x: u64,
+    /// How much later z crosses than x.
+    z_after_x: u64,
+    /// How much later z crosses than y.
+    z_after_y: u64,
+    /// The code of the last voxel.
+    last: u64,
+}
+
+impl Model for NearWalk {
+    ghost use Rattle.std.specs.Prelude.{List};
+    ghost use Rattle.oct_key.specs.Voxel.{Voxel};
+
+    ghost Value = { List Voxel };
+
+    ghost use Rattle.oct_ray.specs.Near.{near_keys, IsNear};
+
+    ghost view = { near_keys };
+
+    ghost invariant = { IsNear };
+}
+
+impl NearWalk {
+    /// The walk of three tracks whose numbers fit, to the voxel of a code.
+    #[inline(always)]
+    pub(crate) fn new(x: Track, y: Track, z: Track, last: u64) -> NearWalk
+        requires tracks { AreTracks x y z }
+        requires small_x { IsSmall x }
+        requires small_y { IsSmall y }
+        requires small_z { IsSmall z }
+        requires last { HasLast (keys_left x y z) last }
+        ensures { result ≡ keys_left x y z }
+    {
+        let y_after_x = order(x.beside_next, y.beside_third);
+        let z_after_x = order(x.beside_third, z.beside_next);
+        let z_after_y = order(y.beside_next, z.beside_third);
+        NearWalk {
+            x: NearAxis::new(x),
+            y: NearAxis::new(y),
+            z: NearAxis::new(z),
+            y_after_x,
+            z_after_x,
+            z_after_y,
+            last,
+        }
+    }
+}
+
+impl BeamWalk for NearWalk {
+    ghost to_come = { λ walk. walk };
+
+    // Which axes cross is reckoned in numbers: a branch on that is guessed wrong too often.
+    #[inline(always)]
+    fn next_but_last(&mut self) -> Option<u64> {
+        let code = morton_of_axes(&self.x.key, &self.y.key, &self.z.key);
+        if code == self.last {
+            return None;
+        }
+        let x_now = not_before(self.y_after_x) & not_before(self.z_after_x);
+        let y_now = not_before(self.z_after_y) & not_after(self.y_after_x);
+        let z_now = not_after(self.z_after_x) & not_after(self.z_after_y);
+        let (x_pace, y_pace, z_pace) = (self.x.pace, self.y.pace, self.z.pace);
+        self.y_after_x = order_after(self.y_after_x, x_now, y_now, x_pace, y_pace);
+        self.z_after_x = order_after(self.z_after_x, x_now, z_now, x_pace, z_pace);
+        self.z_after_y = order_after(self.z_after_y, y_now, z_now, y_pace, z_pace);
+        self.x.pass(x_now);
+        self.y.pass(y_now);
+        self.z.pass(z_now);
+        Some(code)
+    }
+}
