@@ -37,3 +37,14 @@ pub end_left : (end : Voxel) (ks : List Voxel) → length ks ≤ 1 → EndsAt en
 end_left end [] few e = absurd e
 end_left end (k ∷ []) few e = ap (λ v. v ∷ []) e
 end_left end (k ∷ l ∷ ks) few e = absurd (omega (arith, few))
+
+-- the end is the last voxel
+pub end_is_last : (end : Voxel) (ks : List Voxel) → EndsAt end ks
+    → slice_get ks (length ks - 1) ≡ Some end
+end_is_last end [] e = absurd e
+end_is_last end (k ∷ []) e = ap Some e
+end_is_last end (k ∷ l ∷ ks) e =
+    let same : suc (suc (length ks)) - 1 ≡ suc (length ks) = omega arith in
+    let below : suc (length ks) - 1 ≡ length ks = omega arith in
+    ap (slice_get (k ∷ l ∷ ks)) same ∙ sym (ap (slice_get (l ∷ ks)) below)
+    ∙ end_is_last end (l ∷ ks) e.1

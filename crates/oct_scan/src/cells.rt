@@ -154,10 +154,13 @@ fn push_way(bricks: &mut BrickPile, walk: Walk, end: u64) -> Result<(), Memory>
     requires bricks { All IsBrick bricks.old }
     ensures { OnOk result (IsWayAdded None end walk bricks.old bricks.new) }
 {
-    push_steps(bricks, walk, end)
+    match walk.near(end) {
+        Ok(near) => push_steps(bricks, near, end),
+        Err(walk) => push_steps(bricks, walk, end),
+    }
 }
 
-/// The same for a walk in whatever numbers.
+/// The same for a walk in numbers of whatever size.
 fn push_steps<W: BeamWalk>(bricks: &mut BrickPile, walk: W, end: u64) -> Result<(), Memory>
     requires ends { (k : Voxel) × IsInMap k × (morton_of k ≡ end) × EndsAt k (W.to_come walk) }
     requires end { end < 2 ^ 48 }
