@@ -160,7 +160,9 @@ fn push_way(bricks: &mut BrickPile, walk: Walk, end: u64) -> Result<(), Memory>
     }
 }
 
-/// The same for a walk in numbers of whatever size.
+/// The same for a walk in numbers of whatever size. Each kind of walk has a function to itself, so
+/// that its numbers have more of the registers.
+#[inline(never)]
 fn push_steps<W: BeamWalk>(bricks: &mut BrickPile, walk: W, end: u64) -> Result<(), Memory>
     requires ends { (k : Voxel) × IsInMap k × (morton_of k ≡ end) × EndsAt k (W.to_come walk) }
     requires end { end < 2 ^ 48 }
