@@ -96,10 +96,10 @@ fn remember(places: &mut Vec<u32>, bricks: &[Brick], code: u64) -> Result<(), Me
     Ok(())
 }
 
-/// Makes the table twice as long, and remembers all bricks anew.
+/// Makes the table four times as long, and remembers all bricks anew.
 #[inline(never)]
 fn widen(places: &mut Vec<u32>, bricks: &[Brick]) -> Result<(), Memory> {
-    places.resize(places.len().saturating_mul(2).max(LEAST), 0)?;
+    places.resize(places.len().saturating_mul(4).clamp(LEAST, MOST), 0)?;
     for (at, brick) in bricks.iter().enumerate() {
         note(places, brick.code, at);
     }
