@@ -17,8 +17,8 @@ loop-code-init g c = record {
     unhit = c.around-brick.ensures.hits;
   };
   hits = λ k. (λ h. h, λ h. h);
-  scanned = way_none c.args.end c.args.bricks.now (g.W.BeamWalk.to_come c.args.walk) c.around-brick.result
-      c.around-brick.ensures.scanned;
+  scanned = way_none c.args.end c.args.bricks.now (g.W.BeamWalk.to_come c.args.walk)
+      c.around-brick.result c.around-brick.ensures.scanned;
 }
 
 pub loop-code-preserved : goal.loop-code-preserved
@@ -40,8 +40,8 @@ loop-code-preserved g c =
           let other = (end_later end given.voxel rest c.in-Some.ensures.more
           (subst (EndsAt end) given.first (c.loop-code.invariant.ends end ends))).0 in
           way_marked c.args.end c.args.bricks.now (to_come c.args.walk) c.loop-code.bricks
-          c.push_code.new.bricks c.loop-code.brick c.in_ok-brick.brick (to_come c.loop-code.walk) rest
-          given.voxel c.in-Some.code given.first given.coded
+          c.push_code.new.bricks c.loop-code.brick c.in_ok-brick.brick (to_come c.loop-code.walk)
+          rest given.voxel c.in-Some.code given.first given.coded
           (λ same. other (morton_injective given.voxel end given.on_map on_map
           (sym given.coded ∙ same ∙ sym coded))) c.in_ok-brick.ensures.scanned
           c.loop-code.invariant.scanned;

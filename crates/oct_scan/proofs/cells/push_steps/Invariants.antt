@@ -8,7 +8,8 @@ use Rattle.oct_scan.proofs.cells.push_steps.Given as goal
 
 abbrev pub invariant-loop-code : goal.invariant-loop-code
 invariant-loop-code g l = record {
-  ends : (k : Voxel) → EndsAt k (g.W.BeamWalk.to_come l.fn.walk) → EndsAt k (g.W.BeamWalk.to_come l.walk);
+  ends : (k : Voxel) → EndsAt k (g.W.BeamWalk.to_come l.fn.walk)
+      → EndsAt k (g.W.BeamWalk.to_come l.walk);
   bricks : All IsBrick l.bricks;
   current : IsCurrent l.brick;
   hits : (c : ℕ) → Contains (hit_codes l.bricks) c ↔ Contains (hit_codes l.initial.bricks) c;
