@@ -3,6 +3,9 @@ use Rattle.std.specs.Prelude.{ℕ, ℤ, int_lt, List, [], ◌++◌, codes, decim
 use Rattle.std.specs.Prelude.{false, Option, Some, None, if◌then◌else◌}
 use Rattle.std.specs.List.{flat_map}
 use Rattle.std.specs.Fmt.{signed_decimal}
+use Rattle.oct_bt.specs.FaultText.{fault_text}
+use Rattle.oct_bt.specs.declared.fault.BtFault.{BtFault}
+use Rattle.oct_bt.specs.declared.fault.BtFault.TheVariants as bt_fault
 use Rattle.oct_cast.specs.declared.outcome.Cast.{Cast}
 use Rattle.oct_cast.specs.declared.outcome.Cast.TheVariants as cast
 use Rattle.oct_change.specs.declared.kind.Change.{Change}
@@ -26,8 +29,6 @@ use Rattle.oct_script.specs.declared.reply.Refusal.TheVariants.{SizeMismatch, Ba
 use Rattle.oct_script.specs.declared.reply.Refusal.TheVariants.{WideWhileTracked, NotTracked}
 use Rattle.oct_script.specs.declared.reply.Refusal.TheVariants.{NoFile, FileTooLarge}
 use Rattle.oct_script.specs.declared.reply.Refusal.TheVariants.{OtherResolution}
-use Rattle.oct_script.specs.declared.reply.HeaderWord.{HeaderWord}
-use Rattle.oct_script.specs.declared.reply.HeaderWord.TheVariants.{Id, Res, Size, Data}
 use Rattle.oct_script.specs.declared.reply.ScanDone.{ScanDone}
 use Rattle.oct_script.specs.declared.reply.Reply.{Reply}
 use Rattle.oct_script.specs.declared.reply.Reply.TheVariants.{Ok, Known, Unknown, Scanned, Counted}
@@ -40,13 +41,6 @@ class_name class.Unknown = codes "unknown"
 class_name class.Free = codes "free"
 class_name class.Occupied = codes "occupied"
 
--- a word of a file's header
-abbrev pub word_text : HeaderWord → List ℕ
-word_text Id = codes "id"
-word_text Res = codes "res"
-word_text Size = codes "size"
-word_text Data = codes "data"
-
 -- a refusal: its number, its name and its fields
 abbrev pub refusal_text : Refusal → List ℕ
 refusal_text ZeroQuaternion = codes "5 ZeroQuaternion"
@@ -55,17 +49,16 @@ refusal_text (PointOutside index) = codes "7 PointOutside index " ++ decimal ind
 refusal_text (TooManyCells index cells) =
     (codes "8 TooManyCells index " ++ decimal index) ++ (codes " cells " ++ decimal cells)
 refusal_text (TooManyBlocks count) = codes "9 TooManyBlocks count " ++ decimal count
-refusal_text NotOctomap = codes "10 NotOctomap"
-refusal_text FloatTree = codes "11 FloatTree"
-refusal_text WrongId = codes "12 WrongId"
-refusal_text (MissingField word) = codes "13 MissingField " ++ word_text word
-refusal_text (BadField word) = codes "14 BadField " ++ word_text word
-refusal_text HeaderTooLong = codes "15 HeaderTooLong"
-refusal_text (TooDeep at) = codes "16 TooDeep at " ++ decimal at
-refusal_text (Truncated at) = codes "17 Truncated at " ++ decimal at
-refusal_text (TrailingBytes at) = codes "18 TrailingBytes at " ++ decimal at
-refusal_text (SizeMismatch said found) =
-    (codes "19 SizeMismatch said " ++ decimal said) ++ (codes " found " ++ decimal found)
+refusal_text NotOctomap = fault_text bt_fault.NotOctomap
+refusal_text FloatTree = fault_text bt_fault.FloatTree
+refusal_text WrongId = fault_text bt_fault.WrongId
+refusal_text (MissingField word) = fault_text (bt_fault.MissingField word)
+refusal_text (BadField word) = fault_text (bt_fault.BadField word)
+refusal_text HeaderTooLong = fault_text bt_fault.HeaderTooLong
+refusal_text (TooDeep at) = fault_text (bt_fault.TooDeep at)
+refusal_text (Truncated at) = fault_text (bt_fault.Truncated at)
+refusal_text (TrailingBytes at) = fault_text (bt_fault.TrailingBytes at)
+refusal_text (SizeMismatch said found) = fault_text (bt_fault.SizeMismatch said found)
 refusal_text BadMagic = codes "20 BadMagic"
 refusal_text (BadSnapshot at) = codes "21 BadSnapshot at " ++ decimal at
 refusal_text Stale = codes "22 Stale"
@@ -86,6 +79,21 @@ refusal_text FileTooLarge = codes "34 FileTooLarge"
 refusal_text (OtherResolution file session) =
     (codes "35 OtherResolution file " ++ signed_decimal file)
     ++ (codes " session " ++ signed_decimal session)
+
+-- what is wrong with a file of classes, as a reply says it; out of memory a session ends without
+-- one
+abbrev pub file_refusal : BtFault → Option Refusal
+file_refusal bt_fault.NotOctomap = Some NotOctomap
+file_refusal bt_fault.FloatTree = Some FloatTree
+file_refusal bt_fault.WrongId = Some WrongId
+file_refusal (bt_fault.MissingField word) = Some (MissingField word)
+file_refusal (bt_fault.BadField word) = Some (BadField word)
+file_refusal bt_fault.HeaderTooLong = Some HeaderTooLong
+file_refusal (bt_fault.TooDeep at) = Some (TooDeep at)
+file_refusal (bt_fault.Truncated at) = Some (Truncated at)
+file_refusal (bt_fault.TrailingBytes at) = Some (TrailingBytes at)
+file_refusal (bt_fault.SizeMismatch said found) = Some (SizeMismatch said found)
+file_refusal bt_fault.Memory = None
 
 -- how many voxels a scan hit and freed
 abbrev pub scan_text : ScanDone → List ℕ

@@ -30,6 +30,8 @@
 //!   such a line opens a block.
 //! - [`push_reply`] appends exactly `reply_text` of `specs/Replies.antt`, or nothing where memory
 //!   runs out.
+//! - [`file_refusal`] makes a refusal of what is wrong with a file of classes; its text is that of
+//!   the fault in `oct_bt`, so that a `load` is refused with the words of a task over that file.
 //!
 //! `lines` keeps a line in an `ArrayVec` of 4,096 bytes, and `words` goes through it once, from the
 //! left; neither allocates. `numbers` says what a word spells, and `verbs` what a first word
@@ -37,7 +39,7 @@
 //! last one puts the command in its place, so that it isn't moved from call to call.
 //! `specs/Reading.antt` says how, for the proofs; the grammar doesn't rest on it.
 //!
-//! Sessions stand on this crate.
+//! Sessions stand on this crate. It stands on `oct_bt` for what is wrong with a file of classes.
 #![tactic(auto)]
 
 mod command;
@@ -53,6 +55,7 @@ pub use command::{Command, Edit, ScanHead, ScanOdds, Syntax};
 pub use lines::{Fed, LONGEST_LINE, Lines, ReadLine, WholeLine};
 pub use name::Name;
 pub use numbers::number_of;
+pub use oct_bt::HeaderWord;
 pub use parser::{opens_scan, parse, parse_into};
-pub use reply::{HeaderWord, Refusal, Reply, ScanDone, push_reply};
+pub use reply::{Refusal, Reply, ScanDone, file_refusal, push_reply};
 pub use verbs::FileVerb;

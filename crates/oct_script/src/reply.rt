@@ -1,14 +1,18 @@
 //! Replies, and their texts.
-ghost use Rattle.std.specs.Prelude.{◌≡◌, ◌++◌, OnOk, OnErr, take, vec_len, map, codes};
+ghost use Rattle.std.specs.Prelude.{◌≡◌, ◌++◌, IfOk, OnOk, OnErr, Some, take, vec_len};
+ghost use Rattle.std.specs.Prelude.{map, codes};
 ghost use Rattle.std.specs.List.{flat_map};
 ghost use Rattle.oct_script.specs.Replies.{class_name, refusal_text, voxel_text, cast_text};
-ghost use Rattle.oct_script.specs.Replies.{word_text, class_shown, value_text, block_text};
+ghost use Rattle.oct_script.specs.Replies.{class_shown, value_text, block_text, file_refusal};
 ghost use Rattle.oct_script.specs.Replies.{kind_name, change_text, end_text, blocks_text};
 ghost use Rattle.oct_script.specs.Replies.{changes_text, reply_text};
+ghost use Rattle.oct_bt.specs.FaultText.{fault_text};
+ghost use Rattle.oct_bt.specs.declared.fault.BtFault.{BtFault};
 ghost use Rattle.oct_query.specs.Shown.{shown_as};
 ghost use Rattle.std.specs.Fmt.{signed_decimal};
 
 use itoa::{Buffer, Integer};
+use oct_bt::{BtFault, HeaderWord, push_fault};
 use oct_cast::Cast;
 use oct_change::{Change, ChangeList, Kind};
 use oct_key::Key;
@@ -21,15 +25,6 @@ use oct_query::{BlockList, Counts, Found};
 pub struct ScanDone {
     pub hits: u64,
     pub frees: u64,
-}
-
-/// A word that a line of a file's header begins with.
-#[derive(Clone, Copy, Debug, PartialEq, Eq)]
-pub enum HeaderWord {
-    Id,
-    Res,
-    Size,
-    Data,
 }
 
 /// Why a line or the block of a scan was refused. Places in a file count bytes from its start, from
@@ -142,34 +137,12 @@ fn name_of(class: Class) -> &'static str
     }
 }
 
-/// The text of a header's word.
-fn text_of_word(word: HeaderWord) -> &'static str
-    ensures { result.now ≡ word_text word }
-{
-    match word {
-        HeaderWord::Id => "id",
-        HeaderWord::Res => "res",
-        HeaderWord::Size => "size",
-        HeaderWord::Data => "data",
-    }
-}
-
 /// Appends a text.
 fn append_text(out: &mut Vec<u8>, text: &[u8]) -> Result<(), Memory>
     ensures ok { OnOk result (out.new.items ≡ out.old.items ++ text.now) }
     ensures err { OnErr result (take (vec_len out.old) out.new.items ≡ out.old.items) }
 {
     Ok(out.extend_from_slice(text)?)
-}
-
-/// Appends a text and a header's word after it.
-fn append_word(out: &mut Vec<u8>, before: &[u8], word: HeaderWord) -> Result<(), Memory>
-    ensures ok { OnOk result (out.new.items ≡ out.old.items ++ (before.now ++ word_text word)) }
-    ensures err { OnErr result (take (vec_len out.old) out.new.items ≡ out.old.items) }
-{
-    out.extend_from_slice(before)?;
-    out.extend_from_slice(text_of_word(word).as_bytes())?;
-    Ok(())
 }
 
 /// Appends a text and the decimal text of a number after it.
@@ -198,69 +171,54 @@ fn append_fields<I: Integer, J: Integer>(
     append_field(out, between, m)
 }
 
-/// Appends two texts, each with the decimal text of a signed number after it.
-fn append_signed(
-    out: &mut Vec<u8>,
-    before: &[u8],
-    n: &i64,
-    between: &[u8],
-    m: &i64,
-) -> Result<(), Memory>
-    ensures ok { OnOk result (out.new.items ≡ out.old.items
-        ++ ((before.now ++ signed_decimal n.now) ++ (between.now ++ signed_decimal m.now))) }
-    ensures err { OnErr result (take (vec_len out.old) out.new.items ≡ out.old.items) }
-{
-    append_fields(out, before, *n, between, *m)
-}
-
 /// Appends a refusal's number, name and fields.
-fn append_refusal(out: &mut Vec<u8>, refusal: &Refusal) -> Result<(), Memory>
-    ensures ok { OnOk result (out.new.items ≡ out.old.items ++ refusal_text refusal.now) }
+fn append_refusal(out: &mut Vec<u8>, refusal: Refusal) -> Result<(), Memory>
+    ensures ok { OnOk result (out.new.items ≡ out.old.items ++ refusal_text refusal) }
     ensures err { OnErr result (take (vec_len out.old) out.new.items ≡ out.old.items) }
 {
     match refusal {
         Refusal::ZeroQuaternion => append_text(out, b"5 ZeroQuaternion"),
         Refusal::OriginOutside => append_text(out, b"6 OriginOutside"),
-        Refusal::PointOutside { index } => append_field(out, b"7 PointOutside index ", *index),
+        Refusal::PointOutside { index } => append_field(out, b"7 PointOutside index ", index),
         Refusal::TooManyCells { index, cells } => {
-            append_fields(out, b"8 TooManyCells index ", *index, b" cells ", *cells)
+            append_fields(out, b"8 TooManyCells index ", index, b" cells ", cells)
         }
-        Refusal::TooManyBlocks { count } => append_field(out, b"9 TooManyBlocks count ", *count),
-        Refusal::NotOctomap => append_text(out, b"10 NotOctomap"),
-        Refusal::FloatTree => append_text(out, b"11 FloatTree"),
-        Refusal::WrongId => append_text(out, b"12 WrongId"),
-        Refusal::MissingField { word } => append_word(out, b"13 MissingField ", *word),
-        Refusal::BadField { word } => append_word(out, b"14 BadField ", *word),
-        Refusal::HeaderTooLong => append_text(out, b"15 HeaderTooLong"),
-        Refusal::TooDeep { at } => append_field(out, b"16 TooDeep at ", *at),
-        Refusal::Truncated { at } => append_field(out, b"17 Truncated at ", *at),
-        Refusal::TrailingBytes { at } => append_field(out, b"18 TrailingBytes at ", *at),
+        Refusal::TooManyBlocks { count } => append_field(out, b"9 TooManyBlocks count ", count),
+        Refusal::NotOctomap => push_fault(out, BtFault::NotOctomap),
+        Refusal::FloatTree => push_fault(out, BtFault::FloatTree),
+        Refusal::WrongId => push_fault(out, BtFault::WrongId),
+        Refusal::MissingField { word } => push_fault(out, BtFault::MissingField { word }),
+        Refusal::BadField { word } => push_fault(out, BtFault::BadField { word }),
+        Refusal::HeaderTooLong => push_fault(out, BtFault::HeaderTooLong),
+        Refusal::TooDeep { at } => push_fault(out, BtFault::TooDeep { at }),
+        Refusal::Truncated { at } => push_fault(out, BtFault::Truncated { at }),
+        Refusal::TrailingBytes { at } => push_fault(out, BtFault::TrailingBytes { at }),
         Refusal::SizeMismatch { said, found } => {
-            append_fields(out, b"19 SizeMismatch said ", *said, b" found ", *found)
+            push_fault(out, BtFault::SizeMismatch { said, found })
         }
         Refusal::BadMagic => append_text(out, b"20 BadMagic"),
-        Refusal::BadSnapshot { at } => append_field(out, b"21 BadSnapshot at ", *at),
+        Refusal::BadSnapshot { at } => append_field(out, b"21 BadSnapshot at ", at),
         Refusal::Stale => append_text(out, b"22 Stale"),
         Refusal::Full { groups, need } => {
-            append_fields(out, b"23 Full groups ", *groups, b" need ", *need)
+            append_fields(out, b"23 Full groups ", groups, b" need ", need)
         }
-        Refusal::Outside { point } => append_field(out, b"24 Outside point ", *point),
+        Refusal::Outside { point } => append_field(out, b"24 Outside point ", point),
         Refusal::BadDepth => append_text(out, b"25 BadDepth"),
         Refusal::BadBox => append_text(out, b"26 BadBox"),
         Refusal::WideWhileTracked { count } => {
-            append_field(out, b"27 WideWhileTracked count ", *count)
+            append_field(out, b"27 WideWhileTracked count ", count)
         }
         Refusal::NotTracked => append_text(out, b"28 NotTracked"),
         Refusal::Syntax { line, column } => {
-            append_fields(out, b"29 Syntax line ", *line, b" column ", *column)
+            append_fields(out, b"29 Syntax line ", line, b" column ", column)
         }
-        Refusal::LongLine { line } => append_field(out, b"30 LongLine line ", *line),
-        Refusal::OpenScan { line } => append_field(out, b"31 OpenScan line ", *line),
-        Refusal::TooManyPoints { line } => append_field(out, b"32 TooManyPoints line ", *line),
+        Refusal::LongLine { line } => append_field(out, b"30 LongLine line ", line),
+        Refusal::OpenScan { line } => append_field(out, b"31 OpenScan line ", line),
+        Refusal::TooManyPoints { line } => append_field(out, b"32 TooManyPoints line ", line),
         Refusal::NoFile => append_text(out, b"33 NoFile"),
         Refusal::FileTooLarge => append_text(out, b"34 FileTooLarge"),
         Refusal::OtherResolution { file, session } => {
-            append_signed(
+            append_fields(
                 out,
                 b"35 OtherResolution file ",
                 file,
@@ -268,6 +226,27 @@ fn append_refusal(out: &mut Vec<u8>, refusal: &Refusal) -> Result<(), Memory>
                 session,
             )
         }
+    }
+}
+
+/// What a reply says is wrong with a file of classes, in the same words, unless memory ran out.
+pub fn file_refusal(fault: BtFault) -> Result<Refusal, Memory>
+    ensures ok { IfOk result (λ refusal. file_refusal fault ≡ Some refusal) }
+    ensures text { IfOk result (λ refusal. refusal_text refusal ≡ fault_text fault) }
+    ensures err { OnErr result (fault ≡ BtFault.Memory) }
+{
+    match fault {
+        BtFault::NotOctomap => Ok(Refusal::NotOctomap),
+        BtFault::FloatTree => Ok(Refusal::FloatTree),
+        BtFault::WrongId => Ok(Refusal::WrongId),
+        BtFault::MissingField { word } => Ok(Refusal::MissingField { word }),
+        BtFault::BadField { word } => Ok(Refusal::BadField { word }),
+        BtFault::HeaderTooLong => Ok(Refusal::HeaderTooLong),
+        BtFault::TooDeep { at } => Ok(Refusal::TooDeep { at }),
+        BtFault::Truncated { at } => Ok(Refusal::Truncated { at }),
+        BtFault::TrailingBytes { at } => Ok(Refusal::TrailingBytes { at }),
+        BtFault::SizeMismatch { said, found } => Ok(Refusal::SizeMismatch { said, found }),
+        BtFault::Memory => Err(Memory),
     }
 }
 
@@ -462,7 +441,7 @@ fn append_refused(out: &mut Vec<u8>, refusal: &Refusal) -> Result<(), Memory>
     ensures err { OnErr result (take (vec_len out.old) out.new.items ≡ out.old.items) }
 {
     append_text(out, b"refused ")?;
-    append_refusal(out, refusal)?;
+    append_refusal(out, *refusal)?;
     append_text(out, b"\n")
 }
 

@@ -55,7 +55,8 @@ use Rattle.oct_session.specs.Drill.{drill_setup, drilled}
 use Rattle.oct_session.specs.FileCommands.{found_in, nodes_reply, reading_reply, load_reply}
 use Rattle.oct_session.specs.FileCommands.{groups_reply, restore_reply}
 use Rattle.oct_session.specs.History.{State, state_after}
-use Rattle.oct_session.specs.Refusals.{refusal_of, fault_reply, file_refusal}
+use Rattle.oct_session.specs.Refusals.{refusal_of, fault_reply}
+use Rattle.oct_script.specs.Replies.{file_refusal}
 use Rattle.oct_session.specs.ScanBlock.{opened, with_line, is_end, is_zero, scan_reply, block_reply}
 use Rattle.oct_session.specs.ScanBlock.{block_action, end_reply}
 use Rattle.oct_session.specs.ScanSoFar.{sighting_so_far}

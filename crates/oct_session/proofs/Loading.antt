@@ -31,7 +31,8 @@ use Rattle.oct_session.specs.FileCommands.{found_in, nodes_reply, reading_reply,
 use Rattle.oct_session.specs.FileCommands.{load_reply, classes_file, save_reply}
 use Rattle.oct_session.specs.History.{History, State, after_all}
 use Rattle.oct_session.specs.Leaving.{StandsFor, IsLike, KeepsUnsaved}
-use Rattle.oct_session.specs.Refusals.{file_refusal, fault_reply}
+use Rattle.oct_session.specs.Refusals.{fault_reply}
+use Rattle.oct_script.specs.Replies.{file_refusal}
 use Rattle.oct_session.specs.Session.{Effect, replied}
 use Rattle.oct_session.specs.Standing.{HasAnswered, HasDone, HasEffect, HasFailed, FindsTold}
 use Rattle.oct_session.specs.Standing.{TakesEffect}

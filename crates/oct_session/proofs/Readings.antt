@@ -5,7 +5,7 @@ use Rattle.oct_bt.specs.declared.fault.BtFault.{BtFault}
 use Rattle.oct_bt.specs.declared.fault.BtFault.TheVariants as bt_fault
 use Rattle.oct_bt.specs.File.{reading}
 use Rattle.oct_bt.proofs.NoWant.{reading_wants_nothing}
-use Rattle.oct_session.specs.Refusals.{file_refusal}
+use Rattle.oct_script.specs.Replies.{file_refusal}
 
 -- a fault, if it is one, has a refusal
 abbrev pub IsTold : {A : Type 0} → Result A BtFault → Type 0

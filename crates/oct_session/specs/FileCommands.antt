@@ -3,6 +3,7 @@
 use Rattle.std.specs.Prelude.{ℕ, List, [], ◌∷◌, length, ⊤, Option, Some, None, option_map, Result}
 use Rattle.std.specs.Prelude.{Ok, Err, ◌≡◌, ◌&&◌, nat_eq, false}
 use Rattle.oct_script.specs.Lines.{Line, Text}
+use Rattle.oct_script.specs.Replies.{file_refusal}
 use Rattle.oct_script.specs.Words.{is_blank}
 use Rattle.oct_bt.specs.declared.fault.BtFault.{BtFault}
 use Rattle.oct_bt.specs.DataClasses.{data_classes}
@@ -21,7 +22,7 @@ use Rattle.oct_script.specs.declared.reply.Reply.{Reply}
 use Rattle.oct_script.specs.declared.reply.Reply.TheVariants as reply_of
 use Rattle.oct_script.specs.declared.reply.Reply.TheVariants.{Refused}
 use Rattle.oct_session.specs.History.{History, State, Replaced, Restored}
-use Rattle.oct_session.specs.Refusals.{fault_reply, file_refusal}
+use Rattle.oct_session.specs.Refusals.{fault_reply}
 use Rattle.oct_snap.specs.declared.fault.SnapFault.{SnapFault}
 use Rattle.oct_snap.specs.Reading.{Snapshot, read_snapshot}
 use Rattle.oct_snap.specs.Texts.{snap_text}

@@ -1,13 +1,7 @@
--- Why a call of the map, or a file, is refused, as a reply says it.
+-- Why a call of the map is refused, as a reply says it.
 use Rattle.std.specs.Prelude.{Option, Some, None, option_map}
-use Rattle.oct_bt.specs.declared.fault.BtFault.{BtFault}
-use Rattle.oct_bt.specs.declared.fault.BtFault.TheVariants as bt_fault
-use Rattle.oct_bt.specs.declared.fault.HeaderWord as bt_word
-use Rattle.oct_bt.specs.declared.fault.HeaderWord.TheVariants as bt_words
 use Rattle.oct_map.specs.declared.fault.MapFault.{MapFault}
 use Rattle.oct_map.specs.declared.fault.MapFault.TheVariants as fault
-use Rattle.oct_script.specs.declared.reply.HeaderWord.{HeaderWord}
-use Rattle.oct_script.specs.declared.reply.HeaderWord.TheVariants.{Id, Res, Size, Data}
 use Rattle.oct_script.specs.declared.reply.Refusal.{Refusal}
 use Rattle.oct_script.specs.declared.reply.Refusal.TheVariants as refusal
 use Rattle.oct_script.specs.declared.reply.Reply.{Reply}
@@ -36,25 +30,3 @@ refusal_of fault.Memory = None
 -- the reply to a call that the map refuses
 abbrev pub fault_reply : MapFault → Option Reply
 fault_reply fault = option_map Refused (refusal_of fault)
-
--- a word of a file's header, as a reply names it
-abbrev pub word_of : bt_word.HeaderWord → HeaderWord
-word_of bt_words.Id = Id
-word_of bt_words.Res = Res
-word_of bt_words.Size = Size
-word_of bt_words.Data = Data
-
--- what is wrong with a file of classes, as a reply says it; out of memory a session ends without
--- one
-abbrev pub file_refusal : BtFault → Option Refusal
-file_refusal bt_fault.NotOctomap = Some refusal.NotOctomap
-file_refusal bt_fault.FloatTree = Some refusal.FloatTree
-file_refusal bt_fault.WrongId = Some refusal.WrongId
-file_refusal (bt_fault.MissingField word) = Some (refusal.MissingField (word_of word))
-file_refusal (bt_fault.BadField word) = Some (refusal.BadField (word_of word))
-file_refusal bt_fault.HeaderTooLong = Some refusal.HeaderTooLong
-file_refusal (bt_fault.TooDeep at) = Some (refusal.TooDeep at)
-file_refusal (bt_fault.Truncated at) = Some (refusal.Truncated at)
-file_refusal (bt_fault.TrailingBytes at) = Some (refusal.TrailingBytes at)
-file_refusal (bt_fault.SizeMismatch said found) = Some (refusal.SizeMismatch said found)
-file_refusal bt_fault.Memory = None

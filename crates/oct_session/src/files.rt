@@ -12,15 +12,14 @@ ghost use Rattle.oct_session.specs.FileCommands.{load_action, load_reply, readin
 ghost use Rattle.oct_session.specs.FileCommands.{reading_reply};
 ghost use Rattle.oct_session.specs.FileCommands.{restore_action, restore_reply, snapshot_action};
 ghost use Rattle.oct_session.specs.FileCommands.{snapshot_reply};
-ghost use Rattle.oct_session.specs.Refusals.{file_refusal, word_of};
 ghost use Rattle.oct_session.specs.Standing.{with_reply, HasDone, HasUsed, KeepsStanding};
 
 use crate::commands::refuse;
-use oct_bt::{BtFault, BtFile, read_classes, write};
+use oct_bt::{BtFile, read_classes, write};
 use oct_io::{CalmSink, Loaded, Store, StoreFault};
 use oct_map::OccMap;
 use oct_num::Memory;
-use oct_script::{FileVerb, HeaderWord, Name, Refusal, Reply};
+use oct_script::{FileVerb, Name, Refusal, Reply, file_refusal};
 use oct_snap as snap;
 use std::alloc::Global;
 
@@ -57,42 +56,6 @@ fn save<F: Store>(
     store.save(name.as_str(), bytes)?;
     *reply = Some(Reply::Saved(bytes.len() as u64));
     Ok(())
-}
-
-/// A word of a file's header, as a reply names it.
-fn word_of(word: oct_bt::HeaderWord) -> HeaderWord
-    ensures { result ≡ word_of word }
-{
-    match word {
-        oct_bt::HeaderWord::Id => HeaderWord::Id,
-        oct_bt::HeaderWord::Res => HeaderWord::Res,
-        oct_bt::HeaderWord::Size => HeaderWord::Size,
-        oct_bt::HeaderWord::Data => HeaderWord::Data,
-    }
-}
-
-/// What a reply says is wrong with a file, unless memory ran out.
-fn file_refusal(fault: BtFault) -> Result<Refusal, Memory>
-    ensures ok { IfOk result (λ refusal. file_refusal fault ≡ Some refusal) }
-    ensures err { OnErr result (fault ≡ BtFault.Memory) }
-{
-    match fault {
-        BtFault::NotOctomap => Ok(Refusal::NotOctomap),
-        BtFault::FloatTree => Ok(Refusal::FloatTree),
-        BtFault::WrongId => Ok(Refusal::WrongId),
-        BtFault::MissingField { word } => Ok(Refusal::MissingField {
-            word: word_of(word),
-        }),
-        BtFault::BadField { word } => Ok(Refusal::BadField {
-            word: word_of(word),
-        }),
-        BtFault::HeaderTooLong => Ok(Refusal::HeaderTooLong),
-        BtFault::TooDeep { at } => Ok(Refusal::TooDeep { at }),
-        BtFault::Truncated { at } => Ok(Refusal::Truncated { at }),
-        BtFault::TrailingBytes { at } => Ok(Refusal::TrailingBytes { at }),
-        BtFault::SizeMismatch { said, found } => Ok(Refusal::SizeMismatch { said, found }),
-        BtFault::Memory => Err(Memory),
-    }
 }
 
 /// Puts the classes of a file in place of the map, and answers its number of nodes.

@@ -1,14 +1,10 @@
 //! What the definitions come to, with nothing to compute.
 ghost use Rattle.std.specs.Prelude.{◌≡◌, ◌≤◌, ℕ, List, Option, IfSome};
-ghost use Rattle.oct_bt.specs.FaultText.{fault_text};
-ghost use Rattle.oct_bt.specs.declared.fault.BtFault.{BtFault};
 ghost use Rattle.oct_key.specs.Voxel.{Voxel};
 ghost use Rattle.oct_values.specs.Counts.{group_count};
 ghost use Rattle.oct_io.specs.Files.{Files};
 ghost use Rattle.oct_script.specs.Lines.{Line};
-ghost use Rattle.oct_script.specs.Replies.{refusal_text};
 ghost use Rattle.oct_session_laws.specs.BlockReply.{IsBlock, RepliesOnce};
-ghost use Rattle.oct_session.specs.Refusals.{file_refusal};
 ghost use Rattle.oct_session_laws.specs.GivenBack.{IsSetUp, IsState};
 ghost use Rattle.oct_session_laws.specs.GivenBack.{TwoLines, AreSnapshotAndRestore, GivesBack};
 ghost use Rattle.oct_session_laws.specs.Sums.{IsSummed, drill_replies};
@@ -26,13 +22,6 @@ use oct_session::Options;
 pub fn values_are_folds()
     ensures { (o : Setup) (history : History) (k : Voxel)
         → value_after o history k ≡ alone_after o history k }
-{}
-
-/// What is wrong with a file of classes has the same text where a `load` is refused for it and
-/// where a task over a file is. A law, with nothing to compute.
-pub fn faults_read_alike()
-    ensures { (fault : BtFault) → IfSome (file_refusal fault)
-        (λ refusal. refusal_text refusal ≡ fault_text fault) }
 {}
 
 /// The groups that the values of a session need are never more than its limit. A law, with nothing

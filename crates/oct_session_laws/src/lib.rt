@@ -15,8 +15,6 @@
 //!   decides which; it is done as a whole or not at all, and leaves the files as they were
 //!   (`specs/BlockReply.antt`).
 //! - [`drills_sum_up`]: what a drill tells of its replies are sums over them (`specs/Sums.antt`).
-//! - [`faults_read_alike`]: a faulty file is refused with the same words by a `load` and by a task
-//!   over a file.
 //!
 //! Nothing stands on this crate, so that the program's first start need not wait for it. It stands
 //! on `oct_session`, whose definitions it speaks of.
@@ -25,6 +23,6 @@
 mod laws;
 
 pub use laws::{
-    blocks_have_one_reply, drills_sum_up, faults_read_alike, groups_stay_within, saves_are_loaded,
+    blocks_have_one_reply, drills_sum_up, groups_stay_within, saves_are_loaded,
     snapshots_are_restored, states_stay_sound, values_are_folds,
 };
