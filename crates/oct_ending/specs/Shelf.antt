@@ -10,11 +10,11 @@ pub record Shelf : Type 1 where
   pub first_calls : ℕ
   pub calls : ℕ
 
--- the shelf that a store is now, which was that of `home` at first
+-- the shelf of a store as it is now, beside the same store as it was at first
 abbrev pub shelf : {F : Type 0} → (F → Option Files) → (F → ℕ) → F → F → Shelf
-shelf files calls home store = record {
+shelf files calls first store = record {
   files = files store;
-  same = store ≡ home;
-  first_calls = calls home;
+  same = store ≡ first;
+  first_calls = calls first;
   calls = calls store;
 }
