@@ -16,7 +16,7 @@ use Rattle.oct_values.proofs.Held.{all_held}
 use Rattle.oct_values.proofs.Sums.{All-follows, list_all-same}
 use Rattle.oct_export.specs.Bands.{band_class, has_class, numbers_to, shown}
 use Rattle.oct_export.specs.Boxes.{is_full, boxes_of, boxes_below}
-use Rattle.oct_export.specs.BoxTexts.{box_lines, vrml_text}
+use Rattle.oct_export.specs.BoxTexts.{box_lines, scene_text}
 use Rattle.oct_export.specs.Grids.{grey_of, row_of, rows_of, grid_head, pgm_text}
 use Rattle.oct_export.proofs.Boxes.{first_boxes, boxes_of_full, boxes_of_parts, boxes_of_root}
 
@@ -143,9 +143,9 @@ same_boxes c d same = boxes_of_root c ∙ same_below c d 16 root_block same root
     ∙ sym (boxes_of_root d)
 
 pub same_scene : (c d : Classes) (edge : ℕ) → ((k : Voxel) → IsInMap k → c k ≡ d k)
-    → vrml_text edge c ≡ vrml_text edge d
-unfolding vrml_text
-same_scene c d edge same = ap (vrml_scene edge) (same_boxes c d same)
+    → scene_text edge c ≡ scene_text edge d
+unfolding scene_text
+same_scene c d edge same = ap (scene_with edge) (same_boxes c d same)
   where
-    vrml_scene : ℕ → List Cube → List ℕ
-    vrml_scene edge boxes = codes "#VRML V2.0 utf8\n" ++ box_lines edge boxes
+    scene_with : ℕ → List Cube → List ℕ
+    scene_with edge boxes = codes "#VRML V2.0 utf8\n" ++ box_lines edge boxes

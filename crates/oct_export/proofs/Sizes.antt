@@ -16,7 +16,7 @@ use Rattle.oct_num.proofs.MetresWriting.{leading_few, front_few}
 use Rattle.oct_values.specs.Classes.{Classes}
 use Rattle.oct_export.specs.Boxes.{is_full, boxes_of, boxes_below, blocks_before, boxes_found}
 use Rattle.oct_export.specs.BoxTexts.{fine_text, twice_middle, middle_text, size_text, box_line}
-use Rattle.oct_export.specs.BoxTexts.{box_lines, vrml_text}
+use Rattle.oct_export.specs.BoxTexts.{box_lines, scene_text}
 use Rattle.oct_export.proofs.Lines.{whole_short, sign_short, faces_few, faces_is, apart_fits}
 use Rattle.oct_export.proofs.Lines.{size_fits}
 use Rattle.oct_export.proofs.Boxes.{first_boxes, boxes_of_full, boxes_of_parts, boxes_of_root}
@@ -145,8 +145,8 @@ lines_short c edge (suc h) b res ok d =
         let power = pow-suc 8 h in omega (arith, few, same, power))
 
 -- a scene's text is shorter than 2^64
-scene_short : (c : Classes) (edge : ℕ) → IsResolution edge → length (vrml_text edge c) < 2 ^ 64
-unfolding vrml_text
+scene_short : (c : Classes) (edge : ℕ) → IsResolution edge → length (scene_text edge c) < 2 ^ 64
+unfolding scene_text
 scene_short c edge res =
     let few = lines_short c edge 16 root_block res root_in_map refl in
     let same = ap (λ (l : List Cube). length (box_lines edge l)) (boxes_of_root c) in
@@ -169,8 +169,8 @@ pub scene_parts : (c : Classes) (edge res : ℕ) (head : List ℕ) (a b : Cube) 
     → head ≡ codes "#VRML V2.0 utf8\n"
     → a ≡ root_block → b ≡ root_block → full ≡ is_full c a → res ≡ edge
     → head ++ (box_lines edge (boxes_found c 0 a) ++ cond full (box_line res b) [])
-    ≡ vrml_text edge c
-unfolding vrml_text
+    ≡ scene_text edge c
+unfolding scene_text
 scene_parts c edge res head a b full is_head is_a is_b is_full_root same =
     ap (λ (l : List ℕ). l ++ (box_lines edge (boxes_found c 0 a) ++ cond full (box_line res b) []))
     is_head
@@ -189,15 +189,15 @@ scene_parts c edge res head a b full is_head is_a is_b is_full_root same =
 
 pub scene_length : (c : Classes) (edge : ℕ) (head b d : List ℕ) (m n k total : ℕ)
     → IsResolution edge → m ≡ length head → n ≡ length b % 2 ^ 64 → k ≡ length d
-    → head ++ (b ++ d) ≡ vrml_text edge c → total ≡ ((m + n) % 2 ^ 64 + k) % 2 ^ 64 → m < 2 ^ 64
-    → total ≡ length (vrml_text edge c)
+    → head ++ (b ++ d) ≡ scene_text edge c → total ≡ ((m + n) % 2 ^ 64 + k) % 2 ^ 64 → m < 2 ^ 64
+    → total ≡ length (scene_text edge c)
 scene_length c edge head b d m n k total res is_m is_n is_k whole is small =
     let rest : m ≡ length head % 2 ^ 64 = omega (arith, is_m, small) in
-    let all = bytes_next head b d (vrml_text edge c) m n k rest is_n is_k whole in
+    let all = bytes_next head b d (scene_text edge c) m n k rest is_n is_k whole in
     let few = scene_short c edge res in
     omega (arith, is, all, few)
 
 pub scene_begins : (c : Classes) (edge : ℕ) (head : List ℕ) → head ≡ codes "#VRML V2.0 utf8\n"
-    → head ++ box_lines edge (boxes_of c) ≡ vrml_text edge c
-unfolding vrml_text
+    → head ++ box_lines edge (boxes_of c) ≡ scene_text edge c
+unfolding scene_text
 scene_begins c edge head is = ap (λ (l : List ℕ). l ++ box_lines edge (boxes_of c)) is

@@ -49,5 +49,5 @@ abbrev pub box_lines : ℕ → List Cube → List ℕ
 box_lines edge boxes = flat_map (box_line edge) boxes
 
 -- the scene of a resolution in nanometres and a class for each voxel
-unfoldable pub vrml_text : ℕ → Classes → List ℕ
-vrml_text edge classes = codes "#VRML V2.0 utf8\n" ++ box_lines edge (boxes_of classes)
+unfoldable pub scene_text : ℕ → Classes → List ℕ
+scene_text edge classes = codes "#VRML V2.0 utf8\n" ++ box_lines edge (boxes_of classes)

@@ -48,8 +48,8 @@ fn count_in(tree: &OccTree, p: Place, depth: u8) -> Tally
     Tally { full, boxes }
 }
 
-/// How many boxes [`vrml`](crate::vrml) writes of the tree: the greatest blocks all of whose voxels
-/// are occupied. Goes through the tree once, and takes no memory.
+/// How many boxes a scene of the tree has: the greatest blocks all of whose voxels are occupied.
+/// Goes through the tree once, and takes no memory.
 pub fn box_count(tree: &OccTree) -> u64
     ensures { result ≡ length (boxes_of (classes_in tree.now)) }
 {

@@ -14,7 +14,7 @@
 //! - [`pgm`] writes the columns of a box as a picture in the form PGM (`pgm_text`): a byte for each
 //!   column, black where it is occupied, 254 where it is free and 205 where it is unknown, as the
 //!   map server of ROS has them. The first row is that of the highest y, and x ascends in it.
-//! - [`vrml`] writes a scene of VRML97 (`vrml_text`) with a box for each block that is occupied
+//! - [`vrml`] writes a scene of VRML97 (`scene_text`) with a box for each block that is occupied
 //!   throughout and is the whole map or lies in one that isn't (`boxes_of`), by ascending Morton
 //!   code of its lowest voxel, with its middle and its edge in metres, to the half nanometre.
 //!   [`box_count`] says how many these are, and the law [`boxes_rise`] that they stand in that

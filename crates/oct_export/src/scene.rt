@@ -9,7 +9,7 @@ ghost use Rattle.oct_io.specs.Told.{appended};
 ghost use Rattle.oct_tree.specs.Tree.{IsLinked, IsPlace, block_in};
 ghost use Rattle.oct_tree.specs.Classes.{classes_in};
 ghost use Rattle.oct_export.specs.Boxes.{is_full, is_due, waited, blocks_before, boxes_found};
-ghost use Rattle.oct_export.specs.BoxTexts.{box_line, box_lines, vrml_text};
+ghost use Rattle.oct_export.specs.BoxTexts.{box_line, box_lines, scene_text};
 ghost use Rattle.oct_export.specs.Pushed.{IsPushed};
 
 use crate::line::line_of;
@@ -218,11 +218,11 @@ fn push_boxes<K: Sink>(
 /// reason.
 pub fn vrml<K: Sink>(tree: &OccTree, sink: &mut K) -> Result<u64, SinkFault>
     ensures length { IfOk result
-        (λ bytes. bytes ≡ length (vrml_text tree.now.res (classes_in tree.now))) }
+        (λ bytes. bytes ≡ length (scene_text tree.now.res (classes_in tree.now))) }
     ensures written { OnOk result (K.written sink.new
-        ≡ appended (K.written sink.old) (vrml_text tree.now.res (classes_in tree.now))) }
+        ≡ appended (K.written sink.old) (scene_text tree.now.res (classes_in tree.now))) }
     ensures cut { OnErr result (IsCutOff (K.written sink.old) (K.written sink.new)
-        (vrml_text tree.now.res (classes_in tree.now))) }
+        (scene_text tree.now.res (classes_in tree.now))) }
     ensures counts { IsWriteCounted result (K.faults sink.old) (K.faults sink.new)
         (K.shortages sink.old) (K.shortages sink.new) }
 {

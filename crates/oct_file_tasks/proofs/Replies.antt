@@ -4,10 +4,12 @@ use Rattle.std.proofs.Common.{sym, ap, subst, ◌∙◌, arith, length-append, z
 use Rattle.std.specs.Prelude.{codes, decimal, nat_lt}
 use Rattle.std.specs.List.{flat_map}
 use Rattle.std.proofs.lemmas.Bool.{lt-ltb, le-ltb}
+use Rattle.oct_bt.specs.DataClasses.{data_classes}
+use Rattle.oct_bt.specs.File.{FileRead}
 use Rattle.oct_key.specs.Boxes.{Window}
 use Rattle.oct_key.specs.Voxel.{Voxel, IsInMap}
 use Rattle.oct_export.specs.Boxes.{boxes_of}
-use Rattle.oct_export.specs.BoxTexts.{vrml_text}
+use Rattle.oct_export.specs.BoxTexts.{scene_text}
 use Rattle.oct_export.specs.Grids.{grid_head, pgm_text}
 use Rattle.oct_export.proofs.Same.{same_boxes}
 use Rattle.oct_frontier.specs.Frontier.{frontier_between}
@@ -15,7 +17,7 @@ use Rattle.oct_frontier.proofs.Same.{same_frontier}
 use Rattle.oct_ending.specs.declared.status.Status.TheVariants.{Done}
 use Rattle.oct_values.specs.Classes.{Classes}
 use Rattle.oct_file_tasks.specs.Frontiers.{voxel_line, listing, list_reply}
-use Rattle.oct_file_tasks.specs.Grids.{column_count, grid_reply, scene_reply}
+use Rattle.oct_file_tasks.specs.Grids.{column_count, grid_reply, box_count, scene_reply}
 use Rattle.oct_ending.specs.Answer.{Answer}
 use Rattle.oct_file_tasks.specs.Refusals.{refused}
 use Rattle.oct_file_tasks.specs.declared.refusal.Refusal.TheVariants.{TooManyFrontiers, WideGrid}
@@ -50,13 +52,12 @@ some_grid c box =
     (record { text = pgm_text c box.lo box.hi; status = Done })
     (some_refusal (WideGrid (column_count box))) (zero-lt-suc _)
 
-pub some_scene : (edge : ℕ) (c : Classes) → 0 < length (scene_reply edge c).text
-unfolding scene_reply vrml_text
-some_scene edge c =
-    some_of_two (nat_lt 1000000 (length (boxes_of c)))
-    (refused (TooManyBoxes (length (boxes_of c))))
-    (record { text = vrml_text edge c; status = Done })
-    (some_refusal (TooManyBoxes (length (boxes_of c)))) (zero-lt-suc _)
+pub some_scene : (file : FileRead) → 0 < length (scene_reply file).text
+unfolding scene_reply scene_text
+some_scene file =
+    some_of_two (nat_lt 1000000 (box_count file)) (refused (TooManyBoxes (box_count file)))
+    (record { text = scene_text file.res (data_classes file.codes); status = Done })
+    (some_refusal (TooManyBoxes (box_count file))) (zero-lt-suc _)
 
 -- ---- a frontier, of a tree that has the classes of a file
 
@@ -107,23 +108,27 @@ grid_told c box count is few =
 
 -- ---- a scene, of a tree that has the classes of a file
 
-pub scene_refused : (edge : ℕ) (c d : Classes) (count : ℕ) → ((k : Voxel) → IsInMap k → c k ≡ d k)
+pub scene_refused : (c : Classes) (file : FileRead) (count : ℕ)
+    → ((k : Voxel) → IsInMap k → c k ≡ data_classes file.codes k)
     → count ≡ length (boxes_of c) → 1000000 < count
-    → scene_reply edge d ≡ refused (TooManyBoxes count)
+    → scene_reply file ≡ refused (TooManyBoxes count)
 unfolding scene_reply
-scene_refused edge c d count same is more =
-    let counted : count ≡ length (boxes_of d) = is ∙ ap length (same_boxes c d same) in
-    ap (λ t. cond t (refused (TooManyBoxes (length (boxes_of d))))
-    (record { text = vrml_text edge d; status = Done }))
-    (lt-ltb 1000000 (length (boxes_of d)) (subst (λ n. 1000000 < n) counted more))
+scene_refused c file count same is more =
+    let counted : count ≡ box_count file =
+    is ∙ ap length (same_boxes c (data_classes file.codes) same) in
+    ap (λ t. cond t (refused (TooManyBoxes (box_count file)))
+    (record { text = scene_text file.res (data_classes file.codes); status = Done }))
+    (lt-ltb 1000000 (box_count file) (subst (λ n. 1000000 < n) counted more))
     ∙ ap (λ n. refused (TooManyBoxes n)) (sym counted)
 
-pub scene_told : (edge : ℕ) (c d : Classes) (count : ℕ) → ((k : Voxel) → IsInMap k → c k ≡ d k)
+pub scene_told : (c : Classes) (file : FileRead) (count : ℕ)
+    → ((k : Voxel) → IsInMap k → c k ≡ data_classes file.codes k)
     → count ≡ length (boxes_of c) → count ≤ 1000000
-    → scene_reply edge d ≡ record { text = vrml_text edge d; status = Done }
+    → scene_reply file
+    ≡ record { text = scene_text file.res (data_classes file.codes); status = Done }
 unfolding scene_reply
-scene_told edge c d count same is few =
-    ap (λ t. cond t (refused (TooManyBoxes (length (boxes_of d))))
-    (record { text = vrml_text edge d; status = Done }))
-    (le-ltb 1000000 (length (boxes_of d))
-    (subst (λ n. n ≤ 1000000) (is ∙ ap length (same_boxes c d same)) few))
+scene_told c file count same is few =
+    ap (λ t. cond t (refused (TooManyBoxes (box_count file)))
+    (record { text = scene_text file.res (data_classes file.codes); status = Done }))
+    (le-ltb 1000000 (box_count file) (subst (λ n. n ≤ 1000000)
+    (is ∙ ap length (same_boxes c (data_classes file.codes) same)) few))

@@ -4,7 +4,7 @@ use Rattle.oct_bt.specs.File.{FileRead}
 use Rattle.oct_convert.specs.Answers.{task_answer}
 use Rattle.oct_ending.specs.Answer.{Answer}
 use Rattle.oct_file_tasks.specs.Frontiers.{frontier_reply}
-use Rattle.oct_file_tasks.specs.Grids.{project_reply, vrml_reply}
+use Rattle.oct_file_tasks.specs.Grids.{project_reply, scene_reply}
 use Rattle.oct_file_tasks.specs.declared.file_task.FileTask.{FileTask}
 use Rattle.oct_file_tasks.specs.declared.file_task.FileTask.TheVariants.{Frontier, Project, Vrml}
 
@@ -12,7 +12,7 @@ use Rattle.oct_file_tasks.specs.declared.file_task.FileTask.TheVariants.{Frontie
 abbrev pub file_reply : FileTask → FileRead → Answer
 file_reply (Frontier lo hi) file = frontier_reply lo hi file
 file_reply (Project lo hi) file = project_reply lo hi file
-file_reply Vrml file = vrml_reply file
+file_reply Vrml file = scene_reply file
 
 -- the answer to an input
 abbrev pub over_file_answer : FileTask → ℕ → List ℕ → Answer

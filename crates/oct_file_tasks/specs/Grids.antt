@@ -5,7 +5,7 @@ use Rattle.oct_key.specs.Boxes.{Window}
 use Rattle.oct_bt.specs.DataClasses.{data_classes}
 use Rattle.oct_bt.specs.File.{FileRead}
 use Rattle.oct_export.specs.Boxes.{boxes_of}
-use Rattle.oct_export.specs.BoxTexts.{vrml_text}
+use Rattle.oct_export.specs.BoxTexts.{scene_text}
 use Rattle.oct_export.specs.Grids.{pgm_text}
 use Rattle.oct_ending.specs.declared.status.Status.TheVariants.{Done}
 use Rattle.oct_values.specs.Classes.{Classes}
@@ -28,13 +28,12 @@ abbrev pub project_reply : Point → Point → FileRead → Answer
 project_reply lo hi file =
     reply_in (grid_reply (data_classes file.codes)) (box_between file.res lo hi)
 
--- the reply that shows occupied space as a scene, where it makes no more than 1,000,000 boxes
-unfoldable pub scene_reply : ℕ → Classes → Answer
-scene_reply edge classes =
-    if nat_lt 1000000 (length (boxes_of classes))
-    then refused (TooManyBoxes (length (boxes_of classes)))
-    else record { text = vrml_text edge classes; status = Done }
+-- how many boxes the occupied space of a file makes
+abbrev pub box_count : FileRead → ℕ
+box_count file = length (boxes_of (data_classes file.codes))
 
--- the reply to a file, of its resolution and its classes
-abbrev pub vrml_reply : FileRead → Answer
-vrml_reply file = scene_reply file.res (data_classes file.codes)
+-- the reply that shows it as a scene, where it makes no more than 1,000,000 boxes
+unfoldable pub scene_reply : FileRead → Answer
+scene_reply file =
+    if nat_lt 1000000 (box_count file) then refused (TooManyBoxes (box_count file))
+    else record { text = scene_text file.res (data_classes file.codes); status = Done }

@@ -7,7 +7,7 @@ ghost use Rattle.oct_bt.specs.NodeData.{IsAccepted};
 ghost use Rattle.oct_convert.specs.Input.{IsReadToEnd};
 ghost use Rattle.oct_ending.specs.Counts.{IsSinkCounted};
 ghost use Rattle.oct_file_tasks.specs.Grids.{column_count, grid_reply, project_reply};
-ghost use Rattle.oct_file_tasks.specs.Grids.{vrml_reply};
+ghost use Rattle.oct_file_tasks.specs.Grids.{scene_reply};
 ghost use Rattle.oct_convert.specs.Ending.{EndsOverFile};
 ghost use Rattle.oct_file_tasks.specs.OverFile.{IsOfReply};
 
@@ -89,7 +89,7 @@ pub fn draw_boxes<K: Sink>(alloc: Global, file: &BtFile, sink: &mut K) -> Status
     requires accepted { IsAccepted file.now.nodes file.now.codes }
     requires few { length file.now.codes ≤ 2 ^ 32 }
     ensures ends { (most : ℕ) (bytes : List ℕ) (left : Option (List ℕ))
-        → IsReadToEnd most bytes left → EndsOverFile (vrml_reply file.now) most bytes left
+        → IsReadToEnd most bytes left → EndsOverFile (scene_reply file.now) most bytes left
         (K.written sink.old) (K.written sink.new) result }
     ensures sink_counts { IsSinkCounted result (K.faults sink.old) (K.faults sink.new)
         (K.shortages sink.old) (K.shortages sink.new) }
