@@ -76,11 +76,6 @@ pub cut_written : {T : Type 0} (r : Result T SinkFault) (text piece : List ℕ)
 cut_written (Ok t) text piece old new is err cut = tt
 cut_written (Err fault) text piece old new is err cut = subst (IsCutOff old new) is cut
 
--- the end by another name of the reply
-pub same_reply : (whole other : Answer) (old new : Option (List ℕ)) (end : Status) → whole ≡ other
-    → EndsByReply other old new end → EndsByReply whole old new end
-same_reply whole other old new end is ends = subst (λ w. EndsByReply w old new end) (sym is) ends
-
 -- the task, where both files were loaded
 pub found_ends : (task : StoreTask) (files : Option Files) (found : Result Pair NoPair)
     (old new : Option (List ℕ)) (end : Status)

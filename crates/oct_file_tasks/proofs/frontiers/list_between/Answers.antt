@@ -5,7 +5,6 @@ use Rattle.oct_frontier.specs.Frontier.{frontier_between, IsRefused}
 use Rattle.oct_frontier.specs.declared.fault.FrontierFault.{FrontierFault}
 use Rattle.oct_file_tasks.specs.Frontiers.{list_reply}
 use Rattle.oct_ending.specs.Answer.{Answer}
-use Rattle.oct_convert.specs.Ending.{EndsOverFile}
 use Rattle.oct_file_tasks.proofs.OverFile.{none_sent}
 use Rattle.oct_file_tasks.proofs.Replies.{some_list, list_told, list_refused}
 use Rattle.oct_file_tasks.proofs.frontiers.list_between.Goals as goal
@@ -29,15 +28,13 @@ returns-in-Ok-frontier-clause-ends g c = λ most bytes left to_end.
     (sym (ap (λ (r : Answer). r.text) told)) (sym (ap (λ (r : Answer). r.status) told)) to_end
 
 pub returns-in-Err-TooManyFrontiers-clause-ends : goal.returns-in-Err-TooManyFrontiers-clause-ends
-returns-in-Err-TooManyFrontiers-clause-ends g c = λ most bytes left to_end.
-    subst (λ (whole : Answer). EndsOverFile whole most bytes left (g.K.Sink.written c.args.sink.now)
-    (g.K.Sink.written c.send_refusal.new.sink) c.send_refusal.result)
-    (sym (list_refused (classes_in c.in-Ok.tree) (data_classes c.args.file.now.codes) c.args.low
+returns-in-Err-TooManyFrontiers-clause-ends g c =
+    rw (list_refused (classes_in c.in-Ok.tree) (data_classes c.args.file.now.codes) c.args.low
     c.args.high c.in-Ok.ensures.classes
     (subst (λ (fault : FrontierFault). IsRefused fault
     (length (frontier_between (classes_in c.in-Ok.tree) c.args.low c.args.high)) 1000000)
-    c.in-Err-TooManyFrontiers.field-0-is c.in-Err-TooManyFrontiers.ensures.refused)))
-    (c.send_refusal.ensures.ends most bytes left to_end)
+    c.in-Err-TooManyFrontiers.field-0-is c.in-Err-TooManyFrontiers.ensures.refused))
+    c.send_refusal.ensures.ends
 
 pub returns-clause-ends : goal.returns-clause-ends
 returns-clause-ends g c = λ most bytes left to_end.

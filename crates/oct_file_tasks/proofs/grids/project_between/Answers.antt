@@ -1,25 +1,20 @@
-use Rattle.std.proofs.Common.{sym, subst, rules}
+use Rattle.std.proofs.Common.{rules}
 use Rattle.oct_bt.specs.DataClasses.{data_classes}
 use Rattle.oct_export.specs.Grids.{pgm_text}
 use Rattle.oct_tree.specs.Classes.{classes_in}
 use Rattle.oct_export.proofs.Same.{same_grid}
 use Rattle.oct_key.specs.Voxel.{IsInMap}
 use Rattle.oct_file_tasks.specs.Grids.{grid_reply}
-use Rattle.oct_ending.specs.Answer.{Answer}
-use Rattle.oct_convert.specs.Ending.{EndsOverFile}
 use Rattle.oct_file_tasks.proofs.OverFile.{none_sent, text_sent}
 use Rattle.oct_file_tasks.proofs.Replies.{some_grid, grid_told, grid_refused}
 use Rattle.oct_file_tasks.proofs.grids.project_between.Goals as goal
 
 pub returns-then-count-gt-MOST_COLUMNS-clause-ends
     : goal.returns-then-count-gt-MOST_COLUMNS-clause-ends
-returns-then-count-gt-MOST_COLUMNS-clause-ends g c = λ most bytes left to_end.
-    subst (λ (whole : Answer). EndsOverFile whole most bytes left (g.K.Sink.written c.args.sink.now)
-    (g.K.Sink.written c.send_refusal.new.sink) c.send_refusal.result)
-    (sym (grid_refused (data_classes c.args.file.now.codes)
+returns-then-count-gt-MOST_COLUMNS-clause-ends g c =
+    rw (grid_refused (data_classes c.args.file.now.codes)
     (record { lo = c.args.low; hi = c.args.high }) _ c.column_count-count.ensures
-    c.if-count-gt-MOST_COLUMNS.true))
-    (c.send_refusal.ensures.ends most bytes left to_end)
+    c.if-count-gt-MOST_COLUMNS.true) c.send_refusal.ensures.ends
 
 pub returns-in_default-clause-ends : goal.returns-in_default-clause-ends
 returns-in_default-clause-ends g c = λ most bytes left to_end.

@@ -1,9 +1,8 @@
 use Rattle.std.proofs.Common.{inl, refl, ap}
-use Rattle.oct_file_tasks.specs.OverStore.{merged_text, pair_reply, table_reply}
-use Rattle.oct_file_tasks.specs.Refusals.{box_between}
+use Rattle.oct_file_tasks.specs.OverStore.{merged_text, pair_reply}
 use Rattle.oct_file_tasks.specs.declared.store_task.PairTask.{PairTask}
 use Rattle.oct_ending.specs.declared.status.Status.TheVariants.{Done}
-use Rattle.oct_file_tasks.proofs.StoreEnds.{reply_ends, same_reply}
+use Rattle.oct_file_tasks.proofs.StoreEnds.{reply_ends}
 use Rattle.oct_file_tasks.proofs.merging.answer_pair.Goals as goal
 
 pub returns-in-Merge-clause-ends : goal.returns-in-Merge-clause-ends
@@ -14,8 +13,4 @@ returns-in-Merge-clause-ends g c =
     c.write_merged.ensures.written c.write_merged.ensures.cut
 
 pub returns-in-Table-clause-ends : goal.returns-in-Table-clause-ends
-returns-in-Table-clause-ends g c =
-    same_reply (pair_reply c.args.asks c.args.pair.now)
-    (table_reply c.args.pair.now
-    (box_between c.args.pair.now.first.res c.in-Table.lo c.in-Table.hi)) _ _ _
-    (ap (λ (a : PairTask). pair_reply a c.args.pair.now) c.in-Table.is) c.answer_table.ensures.ends
+returns-in-Table-clause-ends g c = rw c.in-Table.is c.answer_table.ensures.ends
