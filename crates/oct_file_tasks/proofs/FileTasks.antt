@@ -1,13 +1,14 @@
 -- How a task over a file ends, by what was read.
-use Rattle.std.proofs.Common.{◌≡◌, ℕ, ◌≤◌, List, length, Option, Some, None, IfSome, Ok, sym, ap}
-use Rattle.std.proofs.Common.{subst, ◌∙◌, refl}
+use Rattle.std.proofs.Common.{◌≡◌, ℕ, ◌≤◌, List, length, Option, Some, None, IfSome, Ok, ap}
+use Rattle.std.proofs.Common.{◌∙◌, refl}
 use Rattle.std.proofs.lemmas.Bool.{le-ltb}
 use Rattle.oct_bt.specs.File.{FileRead, reading}
 use Rattle.oct_convert.specs.Answers.{answer_to, task_answer}
 use Rattle.oct_convert.specs.Ending.{EndsOverFile}
-use Rattle.oct_convert.specs.Input.{MayRead, IsReadToEnd}
-use Rattle.oct_ending.specs.Answer.{Answer}
+use Rattle.oct_convert.specs.Input.{MayRead}
+use Rattle.oct_ending.specs.Answer.{EndsUnread}
 use Rattle.oct_ending.specs.declared.status.Status.{Status}
+use Rattle.oct_file_tasks.proofs.OverFile.{over_file}
 use Rattle.oct_file_tasks.specs.FileTasks.{file_reply, over_file_answer}
 use Rattle.oct_file_tasks.specs.declared.file_task.FileTask.{FileTask}
 
@@ -18,14 +19,11 @@ answer_short task most bytes few = rw (le-ltb most (length bytes) few) refl
 
 -- a task that read a file
 pub file_ends : (first left old new : Option (List ℕ)) (task : FileTask) (file : FileRead)
-    (most : ℕ) (end : Status)
-    → ((most : ℕ) (bytes : List ℕ) (left : Option (List ℕ)) → IsReadToEnd most bytes left
-    → EndsOverFile (file_reply task file) most bytes left old new end)
+    (most : ℕ) (end : Status) → EndsUnread (file_reply task file) old new end
     → IfSome first (λ bytes. MayRead most bytes left (Ok file))
     → IfSome first (λ bytes. EndsOverFile (over_file_answer task most bytes) most bytes left old new
     end)
 file_ends None left old new task file most end ends read = tt
 file_ends (Some bytes) left old new task file most end ends (is, to_end) =
-    subst (λ (whole : Answer). EndsOverFile whole most bytes left old new end)
-    (sym (answer_short task most bytes to_end.few ∙ ap (answer_to (file_reply task)) is))
-    (ends most bytes left to_end)
+    rw (answer_short task most bytes to_end.few ∙ ap (answer_to (file_reply task)) is)
+    (over_file (file_reply task file) most bytes left old new end ends to_end)

@@ -1,10 +1,10 @@
 //! The tasks that read a file of classes and ask something of it that may be refused.
-ghost use Rattle.std.specs.Prelude.{◌≡◌, ◌≢◌, ◌≤◌, ◌^◌, ℕ, List, Option, length, IfSome};
+ghost use Rattle.std.specs.Prelude.{◌≡◌, ◌≢◌, ◌≤◌, ◌^◌, length, IfSome};
 ghost use Rattle.oct_bt.specs.NodeData.{IsAccepted};
-ghost use Rattle.oct_convert.specs.Input.{IsReadToEnd};
 ghost use Rattle.oct_ending.specs.Counts.{IsSourceCounted, IsSinkCounted};
 ghost use Rattle.oct_file_tasks.specs.FileTasks.{file_reply, over_file_answer};
 ghost use Rattle.oct_convert.specs.Ending.{EndsOverFile};
+ghost use Rattle.oct_ending.specs.Answer.{EndsUnread};
 ghost use Rattle.oct_file_tasks.specs.OverFile.{IsOfReply};
 
 use crate::frontiers::list_frontier;
@@ -62,9 +62,8 @@ pub fn answer_over_file<S: Source, K: Sink>(
 fn answer_file<K: Sink>(alloc: Global, task: FileTask, file: &BtFile, sink: &mut K) -> Status
     requires accepted { IsAccepted file.now.nodes file.now.codes }
     requires few { length file.now.codes ≤ 2 ^ 32 }
-    ensures ends { (most : ℕ) (bytes : List ℕ) (left : Option (List ℕ))
-        → IsReadToEnd most bytes left → EndsOverFile (file_reply task file.now) most bytes left
-        (K.written sink.old) (K.written sink.new) result }
+    ensures ends { EndsUnread (file_reply task file.now) (K.written sink.old) (K.written sink.new)
+        result }
     ensures sink_counts { IsSinkCounted result (K.faults sink.old) (K.faults sink.new)
         (K.shortages sink.old) (K.shortages sink.new) }
     ensures ended { IsOfReply result }

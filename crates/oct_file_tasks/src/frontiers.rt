@@ -1,14 +1,12 @@
 //! The frontier of a file.
-ghost use Rattle.std.specs.Prelude.{◌≡◌, ◌≤◌, ◌^◌, ℕ, List, Option, length};
+ghost use Rattle.std.specs.Prelude.{◌≤◌, ◌^◌, length};
 ghost use Rattle.oct_key.specs.Boxes.{IsBox};
 ghost use Rattle.oct_bt.specs.DataClasses.{data_classes};
 ghost use Rattle.oct_bt.specs.NodeData.{IsAccepted};
-ghost use Rattle.oct_convert.specs.Input.{IsReadToEnd};
 ghost use Rattle.oct_frontier.specs.Frontier.{frontier_between};
 ghost use Rattle.oct_ending.specs.Counts.{IsSinkCounted};
-ghost use Rattle.oct_file_tasks.specs.Frontiers.{listing, list_reply, frontier_reply};
-ghost use Rattle.oct_ending.specs.Answer.{Answer};
-ghost use Rattle.oct_convert.specs.Ending.{EndsOverFile};
+ghost use Rattle.oct_file_tasks.specs.Frontiers.{list_reply, frontier_reply};
+ghost use Rattle.oct_ending.specs.Answer.{EndsUnread};
 ghost use Rattle.oct_file_tasks.specs.OverFile.{IsOfReply};
 
 use crate::file_tree::tree_of;
@@ -20,7 +18,6 @@ use oct_ending::Status;
 use oct_frontier::{FrontierFault, frontier};
 use oct_io::Sink;
 use oct_key::{Key, Point};
-use oct_num::Memory;
 use std::alloc::Global;
 
 /// The most voxels that are listed.
@@ -37,9 +34,8 @@ pub fn list_frontier<K: Sink>(
 ) -> Status
     requires accepted { IsAccepted file.now.nodes file.now.codes }
     requires few { length file.now.codes ≤ 2 ^ 32 }
-    ensures ends { (most : ℕ) (bytes : List ℕ) (left : Option (List ℕ))
-        → IsReadToEnd most bytes left → EndsOverFile (frontier_reply lo hi file.now) most bytes left
-        (K.written sink.old) (K.written sink.new) result }
+    ensures ends { EndsUnread (frontier_reply lo hi file.now) (K.written sink.old)
+        (K.written sink.new) result }
     ensures sink_counts { IsSinkCounted result (K.faults sink.old) (K.faults sink.new)
         (K.shortages sink.old) (K.shortages sink.new) }
     ensures ended { IsOfReply result }
@@ -55,10 +51,8 @@ fn list_between<K: Sink>(alloc: Global, file: &BtFile, low: Key, high: Key, sink
     requires accepted { IsAccepted file.now.nodes file.now.codes }
     requires few { length file.now.codes ≤ 2 ^ 32 }
     requires order { IsBox low high }
-    ensures ends { (most : ℕ) (bytes : List ℕ) (left : Option (List ℕ))
-        → IsReadToEnd most bytes left
-        → EndsOverFile (list_reply (frontier_between (data_classes file.now.codes) low high))
-        most bytes left (K.written sink.old) (K.written sink.new) result }
+    ensures ends { EndsUnread (list_reply (frontier_between (data_classes file.now.codes) low high))
+        (K.written sink.old) (K.written sink.new) result }
     ensures sink_counts { IsSinkCounted result (K.faults sink.old) (K.faults sink.new)
         (K.shortages sink.old) (K.shortages sink.new) }
     ensures ended { IsOfReply result }
@@ -67,25 +61,10 @@ fn list_between<K: Sink>(alloc: Global, file: &BtFile, low: Key, high: Key, sink
         return Status::Memory;
     };
     match frontier(alloc, &tree, low, high, MOST_VOXELS) {
-        Ok(keys) => send_listing(alloc, keys.as_slice(), sink),
+        Ok(keys) => send(listing_text(alloc, keys.as_slice()), Status::Done, sink),
         Err(FrontierFault::TooManyFrontiers) => {
             send_refusal(alloc, Refusal::TooManyFrontiers, sink)
         }
         Err(FrontierFault::Memory) => Status::Memory,
-    }
-}
-
-/// Writes the lines that list these voxels.
-fn send_listing<K: Sink>(alloc: Global, keys: &[Key], sink: &mut K) -> Status
-    ensures ends { (whole : Answer) (most : ℕ) (bytes : List ℕ) (left : Option (List ℕ))
-        → listing keys.now ≡ whole.text → Status.Done ≡ whole.status → IsReadToEnd most bytes left
-        → EndsOverFile whole most bytes left (K.written sink.old) (K.written sink.new) result }
-    ensures sink_counts { IsSinkCounted result (K.faults sink.old) (K.faults sink.new)
-        (K.shortages sink.old) (K.shortages sink.new) }
-    ensures ended { IsOfReply result }
-{
-    match listing_text(alloc, keys) {
-        Ok(text) => send(&text, Status::Done, sink),
-        Err(Memory) => Status::Memory,
     }
 }

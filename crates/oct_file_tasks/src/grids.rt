@@ -1,14 +1,13 @@
 //! The map of a file as other programs read it: a height band as a grid, and occupied space as
 //! boxes.
-ghost use Rattle.std.specs.Prelude.{◌≡◌, ◌≤◌, ◌^◌, ℕ, List, Option, length};
+ghost use Rattle.std.specs.Prelude.{◌≡◌, ◌≤◌, ◌^◌, length};
 ghost use Rattle.oct_key.specs.Boxes.{IsBox};
 ghost use Rattle.oct_bt.specs.DataClasses.{data_classes};
 ghost use Rattle.oct_bt.specs.NodeData.{IsAccepted};
-ghost use Rattle.oct_convert.specs.Input.{IsReadToEnd};
 ghost use Rattle.oct_ending.specs.Counts.{IsSinkCounted};
 ghost use Rattle.oct_file_tasks.specs.Grids.{column_count, grid_reply, project_reply};
 ghost use Rattle.oct_file_tasks.specs.Grids.{scene_reply};
-ghost use Rattle.oct_convert.specs.Ending.{EndsOverFile};
+ghost use Rattle.oct_ending.specs.Answer.{EndsUnread};
 ghost use Rattle.oct_file_tasks.specs.OverFile.{IsOfReply};
 
 use crate::file_tree::tree_of;
@@ -32,9 +31,8 @@ const MOST_BOXES: u64 = 1_000_000;
 pub fn project<K: Sink>(alloc: Global, file: &BtFile, lo: Point, hi: Point, sink: &mut K) -> Status
     requires accepted { IsAccepted file.now.nodes file.now.codes }
     requires few { length file.now.codes ≤ 2 ^ 32 }
-    ensures ends { (most : ℕ) (bytes : List ℕ) (left : Option (List ℕ))
-        → IsReadToEnd most bytes left → EndsOverFile (project_reply lo hi file.now) most bytes left
-        (K.written sink.old) (K.written sink.new) result }
+    ensures ends { EndsUnread (project_reply lo hi file.now) (K.written sink.old)
+        (K.written sink.new) result }
     ensures sink_counts { IsSinkCounted result (K.faults sink.old) (K.faults sink.new)
         (K.shortages sink.old) (K.shortages sink.new) }
     ensures ended { IsOfReply result }
@@ -66,10 +64,9 @@ fn project_between<K: Sink>(
     requires accepted { IsAccepted file.now.nodes file.now.codes }
     requires few { length file.now.codes ≤ 2 ^ 32 }
     requires order { IsBox low high }
-    ensures ends { (most : ℕ) (bytes : List ℕ) (left : Option (List ℕ))
-        → IsReadToEnd most bytes left → EndsOverFile
+    ensures ends { EndsUnread
         (grid_reply (data_classes file.now.codes) (record { lo = low; hi = high }))
-        most bytes left (K.written sink.old) (K.written sink.new) result }
+        (K.written sink.old) (K.written sink.new) result }
     ensures sink_counts { IsSinkCounted result (K.faults sink.old) (K.faults sink.new)
         (K.shortages sink.old) (K.shortages sink.new) }
     ensures ended { IsOfReply result }
@@ -88,9 +85,8 @@ fn project_between<K: Sink>(
 pub fn draw_boxes<K: Sink>(alloc: Global, file: &BtFile, sink: &mut K) -> Status
     requires accepted { IsAccepted file.now.nodes file.now.codes }
     requires few { length file.now.codes ≤ 2 ^ 32 }
-    ensures ends { (most : ℕ) (bytes : List ℕ) (left : Option (List ℕ))
-        → IsReadToEnd most bytes left → EndsOverFile (scene_reply file.now) most bytes left
-        (K.written sink.old) (K.written sink.new) result }
+    ensures ends { EndsUnread (scene_reply file.now) (K.written sink.old) (K.written sink.new)
+        result }
     ensures sink_counts { IsSinkCounted result (K.faults sink.old) (K.faults sink.new)
         (K.shortages sink.old) (K.shortages sink.new) }
     ensures ended { IsOfReply result }

@@ -4,21 +4,23 @@ ghost use Rattle.oct_io.specs.Counts.{IsMakingCounted};
 ghost use Rattle.oct_io.specs.Taken.{IsCutOff};
 ghost use Rattle.oct_io.specs.Told.{appended};
 ghost use Rattle.oct_key.specs.Boxes.{IsBox};
+ghost use Rattle.oct_ending.specs.Answer.{EndsUnread};
 ghost use Rattle.oct_ending.specs.Counts.{IsSinkCounted, IsStoreCounted};
 ghost use Rattle.oct_file_tasks.specs.OverFile.{IsOfReply};
-ghost use Rattle.oct_file_tasks.specs.OverStore.{merged_text, table_text, pair_line};
-ghost use Rattle.oct_file_tasks.specs.OverStore.{table_reply, pair_reply, found_reply, EndsByReply};
+ghost use Rattle.oct_file_tasks.specs.OverStore.{merged_text, table_text};
+ghost use Rattle.oct_file_tasks.specs.OverStore.{table_reply, pair_reply, found_reply};
 ghost use Rattle.oct_file_tasks.specs.OverStore.{EndsOverStore};
-ghost use Rattle.oct_file_tasks.specs.Refusals.{box_between, refused};
+ghost use Rattle.oct_file_tasks.specs.Refusals.{box_between};
 ghost use Rattle.oct_file_tasks.specs.TwoFiles.{loads_of, AreFit};
 
 use crate::pair_text::{no_pair_text, table_text};
-use crate::refusal::{Refusal, box_between, line_of};
+use crate::refusal::box_between;
+use crate::sending::{send, send_refusal};
 use crate::store_task::{PairTask, StoreTask};
 use crate::two_files::{NoPair, Pair, load_pair};
 use oct_bt::rewrite;
 use oct_ending::{Status, status_written};
-use oct_io::{Sink, SinkFault, Store, StoreFault, write_all};
+use oct_io::{Sink, SinkFault, Store, StoreFault};
 use oct_join::{join, tabulate};
 use oct_key::{Point, Window};
 use oct_merge::Rule;
@@ -64,7 +66,7 @@ fn answer<K: Sink>(
     sink: &mut K,
 ) -> Status
     requires fit { IfOk found.now AreFit }
-    ensures ends { EndsByReply (found_reply asks found.now) (K.written sink.old)
+    ensures ends { EndsUnread (found_reply asks found.now) (K.written sink.old)
         (K.written sink.new) result }
     ensures sink_counts { IsSinkCounted result (K.faults sink.old) (K.faults sink.new)
         (K.shortages sink.old) (K.shortages sink.new) }
@@ -72,14 +74,14 @@ fn answer<K: Sink>(
 {
     match found {
         Ok(pair) => answer_pair(alloc, asks, pair, sink),
-        Err(reason) => status_written(Status::Refused, write_no_pair(alloc, *reason, sink)),
+        Err(reason) => send(no_pair_text(alloc, *reason), Status::Refused, sink),
     }
 }
 
 /// Writes what is asked of two maps.
 fn answer_pair<K: Sink>(alloc: Global, asks: PairTask, pair: &Pair, sink: &mut K) -> Status
     requires fit { AreFit pair.now }
-    ensures ends { EndsByReply (pair_reply asks pair.now) (K.written sink.old)
+    ensures ends { EndsUnread (pair_reply asks pair.now) (K.written sink.old)
         (K.written sink.new) result }
     ensures sink_counts { IsSinkCounted result (K.faults sink.old) (K.faults sink.new)
         (K.shortages sink.old) (K.shortages sink.new) }
@@ -96,15 +98,15 @@ fn answer_pair<K: Sink>(alloc: Global, asks: PairTask, pair: &Pair, sink: &mut K
 /// Writes the table of the voxels between two points, or the refusal of the points.
 fn answer_table<K: Sink>(alloc: Global, pair: &Pair, lo: Point, hi: Point, sink: &mut K) -> Status
     requires fit { AreFit pair.now }
-    ensures ends { EndsByReply (table_reply pair.now (box_between pair.now.first.res lo hi))
+    ensures ends { EndsUnread (table_reply pair.now (box_between pair.now.first.res lo hi))
         (K.written sink.old) (K.written sink.new) result }
     ensures sink_counts { IsSinkCounted result (K.faults sink.old) (K.faults sink.new)
         (K.shortages sink.old) (K.shortages sink.new) }
     ensures ended { IsOfReply result }
 {
     match box_between(pair.first.res(), lo, hi) {
-        Ok(window) => status_written(Status::Done, write_table(alloc, pair, window, sink)),
-        Err(why) => status_written(Status::Refused, write_refusal(alloc, why, sink)),
+        Ok(window) => send(table_of(alloc, pair, window), Status::Done, sink),
+        Err(why) => send_refusal(alloc, why, sink),
     }
 }
 
@@ -136,50 +138,4 @@ fn table_of(alloc: Global, pair: &Pair, window: Window) -> Result<Vec<u8>, Memor
 {
     let table = tabulate(&pair.first, &pair.second, window.lo(), window.hi());
     table_text(alloc, &table)
-}
-
-/// Writes the table of the voxels of a box in two maps. After an error a part of it was written.
-fn write_table<K: Sink>(
-    alloc: Global,
-    pair: &Pair,
-    window: Window,
-    sink: &mut K,
-) -> Result<(), SinkFault>
-    requires fit { AreFit pair.now }
-    requires order { IsBox window.lo window.hi }
-    ensures written { OnOk result
-        (K.written sink.new ≡ appended (K.written sink.old) (table_text pair.now window)) }
-    ensures cut { OnErr result
-        (IsCutOff (K.written sink.old) (K.written sink.new) (table_text pair.now window)) }
-    ensures sink_counts { IsMakingCounted result (K.faults sink.old) (K.faults sink.new)
-        (K.shortages sink.old) (K.shortages sink.new) }
-{
-    let text = table_of(alloc, pair, window)?;
-    write_all(sink, &text)
-}
-
-/// Writes the line of a refusal. After an error a part of it was written.
-fn write_refusal<K: Sink>(alloc: Global, why: Refusal, sink: &mut K) -> Result<(), SinkFault>
-    ensures written { OnOk result
-        (K.written sink.new ≡ appended (K.written sink.old) (refused why).text) }
-    ensures cut { OnErr result
-        (IsCutOff (K.written sink.old) (K.written sink.new) (refused why).text) }
-    ensures sink_counts { IsMakingCounted result (K.faults sink.old) (K.faults sink.new)
-        (K.shortages sink.old) (K.shortages sink.new) }
-{
-    let text = line_of(alloc, why)?;
-    write_all(sink, &text)
-}
-
-/// Writes the line of why there are no two maps. After an error a part of it was written.
-fn write_no_pair<K: Sink>(alloc: Global, reason: NoPair, sink: &mut K) -> Result<(), SinkFault>
-    ensures written { OnOk result
-        (K.written sink.new ≡ appended (K.written sink.old) (pair_line reason)) }
-    ensures cut { OnErr result
-        (IsCutOff (K.written sink.old) (K.written sink.new) (pair_line reason)) }
-    ensures sink_counts { IsMakingCounted result (K.faults sink.old) (K.faults sink.new)
-        (K.shortages sink.old) (K.shortages sink.new) }
-{
-    let text = no_pair_text(alloc, reason)?;
-    write_all(sink, &text)
 }

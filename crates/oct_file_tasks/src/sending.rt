@@ -1,10 +1,7 @@
-//! Replies to a file on their way to a sink.
-ghost use Rattle.std.specs.Prelude.{◌≡◌, ℕ, List, Option};
-ghost use Rattle.oct_io.specs.Told.{Rose};
-ghost use Rattle.oct_convert.specs.Input.{IsReadToEnd};
+//! Replies on their way to a sink.
+ghost use Rattle.std.specs.Prelude.{◌≡◌, ◌<◌, IfOk, length};
 ghost use Rattle.oct_ending.specs.Counts.{IsSinkCounted};
-ghost use Rattle.oct_ending.specs.Answer.{Answer};
-ghost use Rattle.oct_convert.specs.Ending.{EndsOverFile};
+ghost use Rattle.oct_ending.specs.Answer.{Answer, EndsUnread};
 ghost use Rattle.oct_file_tasks.specs.OverFile.{IsSettled, IsOfReply};
 ghost use Rattle.oct_file_tasks.specs.Refusals.{refused};
 
@@ -14,31 +11,29 @@ use oct_io::{Sink, write_all};
 use oct_num::Memory;
 use std::alloc::Global;
 
-/// Writes a text, and answers the status of the reply that it is, or that of the sink's fault.
-pub fn send<K: Sink>(text: &[u8], status: Status, sink: &mut K) -> Status
+/// Writes the text of a reply, where there was memory for it, and answers its status, or that of
+/// the fault that ended it.
+pub fn send<K: Sink>(text: Result<Vec<u8>, Memory>, status: Status, sink: &mut K) -> Status
     requires settled { IsSettled status }
-    ensures ends { (whole : Answer) (most : ℕ) (bytes : List ℕ) (left : Option (List ℕ))
-        → text.now ≡ whole.text → status ≡ whole.status → IsReadToEnd most bytes left
-        → EndsOverFile whole most bytes left (K.written sink.old) (K.written sink.new) result }
+    ensures ends { (whole : Answer) → IfOk text (λ text. text.items ≡ whole.text)
+        → 0 < length whole.text → status ≡ whole.status
+        → EndsUnread whole (K.written sink.old) (K.written sink.new) result }
     ensures sink_counts { IsSinkCounted result (K.faults sink.old) (K.faults sink.new)
         (K.shortages sink.old) (K.shortages sink.new) }
-    ensures memory { result ≡ Status.Memory → Rose (K.shortages sink.old) (K.shortages sink.new) }
     ensures ended { IsOfReply result }
 {
-    status_written(status, write_all(sink, text))
+    match text {
+        Ok(text) => status_written(status, write_all(sink, &text)),
+        Err(Memory) => Status::Memory,
+    }
 }
 
 /// Writes the line of a refusal, and answers its status, or that of the fault that ended it.
 pub fn send_refusal<K: Sink>(alloc: Global, refusal: Refusal, sink: &mut K) -> Status
-    ensures ends { (most : ℕ) (bytes : List ℕ) (left : Option (List ℕ))
-        → IsReadToEnd most bytes left → EndsOverFile (refused refusal) most bytes left
-        (K.written sink.old) (K.written sink.new) result }
+    ensures ends { EndsUnread (refused refusal) (K.written sink.old) (K.written sink.new) result }
     ensures sink_counts { IsSinkCounted result (K.faults sink.old) (K.faults sink.new)
         (K.shortages sink.old) (K.shortages sink.new) }
     ensures ended { IsOfReply result }
 {
-    match line_of(alloc, refusal) {
-        Ok(line) => send(&line, Status::Refused, sink),
-        Err(Memory) => Status::Memory,
-    }
+    send(line_of(alloc, refusal), Status::Refused, sink)
 }

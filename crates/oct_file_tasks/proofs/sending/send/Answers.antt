@@ -1,8 +1,13 @@
-use Rattle.oct_file_tasks.proofs.OverFile.{reply_sent}
+use Rattle.std.proofs.Common.{◌∙◌}
+use Rattle.oct_convert.proofs.Ends.{cut_none}
+use Rattle.oct_file_tasks.proofs.OverFile.{reply_ends}
 use Rattle.oct_file_tasks.proofs.sending.send.Goals as goal
 
-pub returns-clause-ends : goal.returns-clause-ends
-returns-clause-ends g c = λ whole most bytes left same_text same_status to_end.
-    reply_sent c.write_all.result c.args.text.now c.args.status _ whole most bytes left _ _
-    c.requires.settled same_text same_status
-    c.status_written.ensures c.write_all.ensures.ok c.write_all.ensures.err to_end
+pub returns-in-Ok-clause-ends : goal.returns-in-Ok-clause-ends
+returns-in-Ok-clause-ends g c = λ whole is some same.
+    reply_ends c.write_all.result whole c.deref.result.now c.args.status _ _ _ c.requires.settled
+    (c.deref.ensures.value ∙ rw c.in-Ok.is at is) same c.status_written.ensures
+    c.write_all.ensures.ok c.write_all.ensures.err
+
+pub returns-in-Err-clause-ends : goal.returns-in-Err-clause-ends
+returns-in-Err-clause-ends g c = λ whole is some same. cut_none whole.text _ some
