@@ -1,4 +1,4 @@
 pub mod Words
 pub mod Task
-pub mod Asked
+pub mod Meant
 pub mod Ending

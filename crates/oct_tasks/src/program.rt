@@ -5,7 +5,7 @@ ghost use Rattle.oct_session.specs.History.{start_state};
 ghost use Rattle.oct_session.specs.Leaving.{StandsFor};
 ghost use Rattle.oct_ending.specs.Shelf.{shelf};
 ghost use Rattle.oct_tasks.specs.Words.{bytes_of};
-ghost use Rattle.oct_tasks.specs.Asked.{asked};
+ghost use Rattle.oct_tasks.specs.Meant.{meant_task};
 ghost use Rattle.oct_tasks.specs.Task.{IsInRange, task_of};
 ghost use Rattle.oct_tasks.specs.Ending.{MayEnd, EndsAlone, LeavesStore, ReadsTold};
 ghost use Rattle.oct_tasks.specs.Ending.{KeepsUnneeded, IsRunCounted};
@@ -72,22 +72,22 @@ fn perform<S: Source, K: Sink, F: Store>(
     sink: &mut K,
     store: &mut F,
 ) -> Status
-    requires few { IsInRange (asked task.now) }
+    requires few { IsInRange (meant_task task.now) }
     ensures answer { IfSome (S.left source.old) (λ bytes.
-        ReadsTold (Some (asked task.now)) (F.files store.old) bytes
-        → MayEnd (Some (asked task.now)) (F.files store.old) bytes (S.left source.new)
+        ReadsTold (Some (meant_task task.now)) (F.files store.old) bytes
+        → MayEnd (Some (meant_task task.now)) (F.files store.old) bytes (S.left source.new)
         (K.written sink.old) (K.written sink.new) result) }
     ensures leaves { IfSome (S.left source.old) (λ bytes.
-        ReadsTold (Some (asked task.now)) (F.files store.old) bytes
-        → LeavesStore (Some (asked task.now)) (F.files store.old) bytes (S.left source.new)
+        ReadsTold (Some (meant_task task.now)) (F.files store.old) bytes
+        → LeavesStore (Some (meant_task task.now)) (F.files store.old) bytes (S.left source.new)
         (K.written sink.old) (K.written sink.new) (shelf F.files F.calls store.old store.new)
         (Rose (K.shortages sink.old) (K.shortages sink.new)) result) }
     ensures usage { result ≢ Status.Usage }
-    ensures untouched { KeepsUnneeded (Some (asked task.now)) result
+    ensures untouched { KeepsUnneeded (Some (meant_task task.now)) result
         (source.new ≡ source.old) (sink.new ≡ sink.old) (store.new ≡ store.old) }
-    ensures made { EndsAlone (Some (asked task.now)) (F.files store.old)
+    ensures made { EndsAlone (Some (meant_task task.now)) (F.files store.old)
         (K.written sink.old) (K.written sink.new) result }
-    ensures counts { IsRunCounted (Some (asked task.now)) result (S.faults source.old)
+    ensures counts { IsRunCounted (Some (meant_task task.now)) result (S.faults source.old)
         (S.faults source.new) (S.ends source.old) (S.ends source.new) (K.faults sink.old)
         (K.faults sink.new) (K.shortages sink.old) (K.shortages sink.new) (F.faults store.old)
         (F.faults store.new) }

@@ -9,7 +9,7 @@ ghost use Rattle.oct_tasks.specs.Task.{rule_of, workload_of, options_asked, task
 ghost use Rattle.oct_tasks.specs.Task.{resolution_of, count_of, chosen_number, chosen_count};
 ghost use Rattle.oct_tasks.specs.Task.{chosen_model, chosen_groups, chosen_cells, chosen_bytes};
 ghost use Rattle.oct_tasks.specs.Task.{setup_asked, task_of};
-ghost use Rattle.oct_tasks.specs.Asked.{asked};
+ghost use Rattle.oct_tasks.specs.Meant.{meant_task};
 ghost use Rattle.oct_file_tasks.specs.declared.store_task.PairTask.TheVariants.{Merge};
 
 use crate::words::{are_options, value_of};
@@ -413,8 +413,8 @@ fn drill_task(load: Workload) -> Task
 
 /// Reads the words after a command.
 fn read_task(command: &[u8], words: &[String]) -> Option<Task>
-    ensures exact { option_map asked result ≡ task_by command.now (bytes_of words.now) }
-    ensures few { IfSome result (λ task. IsInRange (asked task)) }
+    ensures exact { option_map meant_task result ≡ task_by command.now (bytes_of words.now) }
+    ensures few { IfSome result (λ task. IsInRange (meant_task task)) }
 {
     if command == b"session".as_slice() {
         Some(Task::Session(read_setup(words)?))
@@ -455,8 +455,8 @@ fn read_task(command: &[u8], words: &[String]) -> Option<Task>
 /// words that it may have.
 #[tactic(auto, unfolding(crate::specs::Task::task_of))]
 pub fn read_words(words: &[String]) -> Result<Task, Usage>
-    ensures exact { option_map asked (result_ok result) ≡ task_of (bytes_of words.now) }
-    ensures few { IfOk result (λ task. IsInRange (asked task)) }
+    ensures exact { option_map meant_task (result_ok result) ≡ task_of (bytes_of words.now) }
+    ensures few { IfOk result (λ task. IsInRange (meant_task task)) }
 {
     let [command, rest @ ..] = words else {
         return Err(Usage);
