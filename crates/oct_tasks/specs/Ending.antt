@@ -1,5 +1,5 @@
 -- What a run writes, and how it may end.
-use Rattle.std.specs.Prelude.{◌≡◌, ◌≢◌, ℕ, List, [], Option, Some, None, IsSome, Bool, true, false, ⊤}
+use Rattle.std.specs.Prelude.{◌≡◌, ◌≢◌, ℕ, List, [], Option, Some, None, false, ⊤}
 use Rattle.oct_convert.specs.Answers.{convert_answer, inspect_answer}
 use Rattle.oct_convert.specs.Ending.{EndsOverFile}
 use Rattle.oct_ending.specs.Answer.{Answer, Outcome, with_files, IsAnswered, EndsUnread}
@@ -16,15 +16,14 @@ use Rattle.oct_ending.specs.Counts.{IsSourceCounted, IsSinkCounted, IsStoreCount
 use Rattle.oct_ending.specs.Whole.{IsWhole}
 use Rattle.oct_session.specs.Leaving.{desk}
 use Rattle.oct_session.specs.Leaving as session_leaving
-use Rattle.oct_session.specs.Session.{session, last_progress}
-use Rattle.oct_session.specs.Session as session_reading
+use Rattle.oct_session.specs.Session.{session}
 use Rattle.oct_ending.specs.declared.status.Status.{Status}
 use Rattle.oct_ending.specs.declared.status.Status.TheVariants.{Done, Usage, Memory, StoreFault}
 use Rattle.oct_tasks.specs.Task.{Task, Session, Build, Convert, Inspect, OverFile, OverStore}
 use Rattle.oct_tasks.specs.Task.{Gen, Drill}
+use Rattle.oct_tasks.specs.Needs.{reads, is_script, is_input, names_files, asks_of, takes_memory}
 use Rattle.oct_file_tasks.specs.FileTasks.{over_file_answer}
 use Rattle.oct_file_tasks.specs.OverStore.{told_reply, EndsOverStore}
-use Rattle.oct_file_tasks.specs.TwoFiles.{loads_of}
 
 -- the answer of a task that writes the script of these numbers
 abbrev pub script_answer : ℕ → ℕ → ℕ → Answer
@@ -54,17 +53,23 @@ answer (Some (Drill seed scans points)) files bytes =
 abbrev pub EndsAlone : Option Task → Option Files → Option (List ℕ) → Option (List ℕ) → Status
     → Type 0
 EndsAlone None files old new status = IsAnswered usage old new status
+EndsAlone (Some (Session o)) files old new status = ⊤
+EndsAlone (Some (Build o)) files old new status = ⊤
+EndsAlone (Some (Convert max_bytes)) files old new status = ⊤
+EndsAlone (Some (Inspect max_bytes)) files old new status = ⊤
+EndsAlone (Some (OverFile task max_bytes)) files old new status = ⊤
 EndsAlone (Some (OverStore task)) files old new status = EndsOverStore task files old new status
 EndsAlone (Some (Gen seed scans points)) files old new status =
     EndsUnread (script_answer seed scans points) old new status
 EndsAlone (Some (Drill seed scans points)) files old new status =
     EndsUnread (drill seed scans points) old new status
-EndsAlone _ files old new status = ⊤
 
 -- how a run over these bytes may end: as the session or the build may, or as the task over a file;
 -- without a task, or with one that reads nothing, no byte was taken
 abbrev pub MayEnd : Option Task → Option Files → List ℕ → Option (List ℕ) → Option (List ℕ)
     → Option (List ℕ) → Status → Type 0
+MayEnd None files bytes left old new status =
+    EndsAlone None files old new status × (left ≡ Some bytes)
 MayEnd (Some (Session o)) files bytes left old new status =
     session_ending.MayEnd o files bytes left old new status
 MayEnd (Some (Build o)) files bytes left old new status =
@@ -75,60 +80,29 @@ MayEnd (Some (Inspect max_bytes)) files bytes left old new status =
     EndsOverFile (inspect_answer max_bytes bytes) max_bytes bytes left old new status
 MayEnd (Some (OverFile task max_bytes)) files bytes left old new status =
     EndsOverFile (over_file_answer task max_bytes bytes) max_bytes bytes left old new status
-MayEnd task files bytes left old new status =
-    EndsAlone task files old new status × (left ≡ Some bytes)
-
--- all files that a task reads are told
-abbrev pub ReadsTold : Option Task → Option Files → List ℕ → Type 0
-ReadsTold (Some (Session o)) files bytes = session_reading.ReadsTold o files bytes
-ReadsTold (Some (Build o)) files bytes = session_reading.ReadsTold o files bytes
-ReadsTold (Some (OverStore task)) files bytes = IsSome files
-ReadsTold _ files bytes = ⊤
-
--- how often a task may ask the store: once for each line of its script that names a file, or for
--- each file that its words name, and for the second of them only where the first is a map
-abbrev pub asks_of : Option Task → Option Files → List ℕ → ℕ
-asks_of (Some (Session o)) files bytes = (last_progress o files bytes).asks
-asks_of (Some (Build o)) files bytes = (last_progress o files bytes).asks
-asks_of (Some (OverStore task)) files bytes = loads_of files task.first
-asks_of _ files bytes = 0
-
--- whether a task reads a script, whose lines may name files
-abbrev pub has_script : Option Task → Bool
-has_script (Some (Session o)) = true
-has_script (Some (Build o)) = true
-has_script _ = false
-
--- whether a task may name files of the store: by lines of its script, or as words
-abbrev pub names_files : Option Task → Bool
-names_files (Some (OverStore task)) = true
-names_files task = has_script task
-
--- whether a task reads its input
-abbrev pub has_input : Option Task → Bool
-has_input None = false
-has_input (Some (OverStore task)) = false
-has_input (Some (Gen seed scans points)) = false
-has_input (Some (Drill seed scans points)) = false
-has_input _ = true
-
--- whether a task may take memory beside what its sink takes
-abbrev pub takes_memory : Option Task → Bool
-takes_memory None = false
-takes_memory (Some (Gen seed scans points)) = false
-takes_memory _ = true
+MayEnd (Some (OverStore task)) files bytes left old new status =
+    EndsAlone (Some (OverStore task)) files old new status × (left ≡ Some bytes)
+MayEnd (Some (Gen seed scans points)) files bytes left old new status =
+    EndsAlone (Some (Gen seed scans points)) files old new status × (left ≡ Some bytes)
+MayEnd (Some (Drill seed scans points)) files bytes left old new status =
+    EndsAlone (Some (Drill seed scans points)) files old new status × (left ≡ Some bytes)
 
 -- what a run over these bytes and files leaves of the store: a session and a build leave its files
 -- as they say of them and their map, by whether the sink ran short of memory; a task over two files
 -- leaves what it holds, and any other task the whole store as it is
 abbrev pub Leaves : Option Task → Option Files → List ℕ → Option (List ℕ) → Option (List ℕ)
     → Option (List ℕ) → Shelf → Type 0 → Status → Type 0
+Leaves None files bytes left old new store short status = store.same
 Leaves (Some (Session o)) files bytes left old new store short status =
     (map : Map) × session_leaving.Leaves o files bytes left old new (desk map store) short status
 Leaves (Some (Build o)) files bytes left old new store short status =
     (map : Map) × building.Leaves o files bytes left (desk map store) status
+Leaves (Some (Convert max_bytes)) files bytes left old new store short status = store.same
+Leaves (Some (Inspect max_bytes)) files bytes left old new store short status = store.same
+Leaves (Some (OverFile task max_bytes)) files bytes left old new store short status = store.same
 Leaves (Some (OverStore task)) files bytes left old new store short status = store.files ≡ files
-Leaves _ files bytes left old new store short status = store.same
+Leaves (Some (Gen seed scans points)) files bytes left old new store short status = store.same
+Leaves (Some (Drill seed scans points)) files bytes left old new store short status = store.same
 
 -- what a run over these bytes and files leaves of the store, that it asked it no more often than
 -- its task may, and, where the whole answer was given, that the files are those of it
@@ -136,17 +110,17 @@ pub record LeavesStore (task : Option Task) (files : Option Files) (bytes : List
     (left old new : Option (List ℕ)) (store : Shelf) (short : Type 0) (status : Status)
     : Type 0 where
   pub leaves : Leaves task files bytes left old new store short status
-  pub asked : IsAsked store.same store.first_calls store.calls (asks_of task files bytes)
+  pub asked : IsAsked store.same store.first_calls store.calls (asks_of (reads task) files bytes)
   pub files_told : IsWhole status → store.files ≡ (answer task files bytes).files
 
 -- what a run has no need of is as it was: the store where no file is named, the input where it
 -- isn't read, and the output where the words have no task, or the store fails one without a script
 pub record KeepsUnneeded (task : Option Task) (status : Status) (source sink store : Type 0)
     : Type 0 where
-  pub unused : names_files task ≡ false → store
-  pub unread : has_input task ≡ false → source
+  pub unused : names_files (reads task) ≡ false → store
+  pub unread : is_input (reads task) ≡ false → source
   pub unwritten : status ≡ Usage → sink
-  pub unloaded : has_script task ≡ false → status ≡ StoreFault → sink
+  pub unloaded : is_script (reads task) ≡ false → status ≡ StoreFault → sink
 
 -- a fault is met once and ends the run: its count rises by one exactly where the status names it,
 -- and no other count changes; the end of the input is met once at most; memory runs out in the sink

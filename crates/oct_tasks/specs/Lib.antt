@@ -1,4 +1,5 @@
 pub mod Words
 pub mod Task
 pub mod Meant
+pub mod Needs
 pub mod Ending

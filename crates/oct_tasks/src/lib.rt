@@ -36,8 +36,9 @@
 //! or out of memory, what was written is a prefix of that; on a read fault it is exactly the
 //! replies to the lines that lie whole in the bytes taken. What a task over a file writes is a
 //! function of the file, and what one over two files writes a function of both. `specs/Ending.antt`
-//! says this over the tasks that the words of the command line ask for (`Words`, `Task`), over the
-//! session of `oct_session`, and over the endings of `oct_convert` and `oct_file_tasks`.
+//! says this over the tasks that the words of the command line ask for (`Words`, `Task`) and what
+//! they read (`Needs`), over the session of `oct_session`, and over the endings of `oct_convert`
+//! and `oct_file_tasks`.
 //!
 //! # How it works
 //!

@@ -7,7 +7,8 @@ ghost use Rattle.oct_ending.specs.Shelf.{shelf};
 ghost use Rattle.oct_tasks.specs.Words.{bytes_of};
 ghost use Rattle.oct_tasks.specs.Meant.{meant_task};
 ghost use Rattle.oct_tasks.specs.Task.{IsInRange, task_of};
-ghost use Rattle.oct_tasks.specs.Ending.{MayEnd, EndsAlone, LeavesStore, ReadsTold};
+ghost use Rattle.oct_tasks.specs.Needs.{reads, ReadsTold};
+ghost use Rattle.oct_tasks.specs.Ending.{MayEnd, EndsAlone, LeavesStore};
 ghost use Rattle.oct_tasks.specs.Ending.{KeepsUnneeded, IsRunCounted};
 
 use crate::task::{Task, Usage, read_words};
@@ -39,11 +40,11 @@ pub fn run<S: Source, K: Sink, F: Store>(
     store: &mut F,
 ) -> Status
     ensures answer { IfSome (S.left source.old) (λ bytes.
-        ReadsTold (task_of (bytes_of words.now)) (F.files store.old) bytes
+        ReadsTold (reads (task_of (bytes_of words.now))) (F.files store.old) bytes
         → MayEnd (task_of (bytes_of words.now)) (F.files store.old) bytes (S.left source.new)
         (K.written sink.old) (K.written sink.new) result) }
     ensures leaves { IfSome (S.left source.old) (λ bytes.
-        ReadsTold (task_of (bytes_of words.now)) (F.files store.old) bytes
+        ReadsTold (reads (task_of (bytes_of words.now))) (F.files store.old) bytes
         → LeavesStore (task_of (bytes_of words.now)) (F.files store.old) bytes (S.left source.new)
         (K.written sink.old) (K.written sink.new) (shelf F.files F.calls store.old store.new)
         (Rose (K.shortages sink.old) (K.shortages sink.new)) result) }
@@ -74,11 +75,11 @@ fn perform<S: Source, K: Sink, F: Store>(
 ) -> Status
     requires few { IsInRange (meant_task task.now) }
     ensures answer { IfSome (S.left source.old) (λ bytes.
-        ReadsTold (Some (meant_task task.now)) (F.files store.old) bytes
+        ReadsTold (reads (Some (meant_task task.now))) (F.files store.old) bytes
         → MayEnd (Some (meant_task task.now)) (F.files store.old) bytes (S.left source.new)
         (K.written sink.old) (K.written sink.new) result) }
     ensures leaves { IfSome (S.left source.old) (λ bytes.
-        ReadsTold (Some (meant_task task.now)) (F.files store.old) bytes
+        ReadsTold (reads (Some (meant_task task.now))) (F.files store.old) bytes
         → LeavesStore (Some (meant_task task.now)) (F.files store.old) bytes (S.left source.new)
         (K.written sink.old) (K.written sink.new) (shelf F.files F.calls store.old store.new)
         (Rose (K.shortages sink.old) (K.shortages sink.new)) result) }
