@@ -1,4 +1,4 @@
--- What a task writes, and how it may end that reads nothing of its input.
+-- What a task writes, and how a call may end that only writes it.
 use Rattle.std.specs.Prelude.{◌≡◌, ℕ, List, Option}
 use Rattle.oct_io.specs.Files.{Files}
 use Rattle.oct_io.specs.Taken.{IsCutOff}
@@ -30,8 +30,8 @@ pub record IsAnswered (whole : Answer) (old new : Option (List ℕ)) (status : S
   pub written : new ≡ appended old whole.text
   pub same_status : whole.status ≡ status
 
--- how a task that reads nothing may end, by what it writes: the whole text, or a part of it where
--- the sink fails or memory runs out
+-- how a call may end that only writes this answer: the whole text is written, or a part of it
+-- where the sink fails or memory runs out
 abbrev pub EndsUnread : Answer → Option (List ℕ) → Option (List ℕ) → Status → Type 0
 EndsUnread whole old new Done = IsAnswered whole old new Done
 EndsUnread whole old new Refused = IsAnswered whole old new Refused

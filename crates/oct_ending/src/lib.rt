@@ -11,7 +11,7 @@
 //! The definitions say what holds beside a status, whatever was to be done:
 //!
 //! - `Answer`: what a task writes, with its status, and that all of it was written (`IsAnswered`);
-//!   what a run leaves, files among it (`Outcome`); how a task ends that reads nothing
+//!   what a run leaves, files among it (`Outcome`); how a call ends that only writes it
 //!   (`EndsUnread`).
 //! - `Counts`: a count of faults rises by one exactly where the status names the fault, and no
 //!   other count changes; the end of an input is met once at most, and a store asked so many times.

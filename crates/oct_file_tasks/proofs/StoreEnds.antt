@@ -32,7 +32,8 @@ cut_written (Ok t) text piece old new is err cut = tt
 cut_written (Err fault) text piece old new is err cut = subst (IsCutOff old new) is cut
 
 -- the end by a reply
-by_reply : (whole : Answer) (old new : Option (List ℕ)) (end : Status) → EndsUnread whole old new end
+by_reply : (whole : Answer) (old new : Option (List ℕ)) (end : Status)
+    → EndsUnread whole old new end
     → EndsByReply whole old new end
 by_reply whole old new Done ends = ends
 by_reply whole old new Refused ends = ends

@@ -23,7 +23,7 @@
 //! - A count of faults rises by one exactly where the status names the fault.
 //!
 //! `file_task` reads a file and hands it to what is asked of it: `frontiers` and `grids` fill a
-//! tree with its classes (`file_tree`), and `sending` writes their replies, a `refusal` among them.
+//! tree with its classes (`file_tree`), and `sending` writes replies, a `refusal` among them.
 //! `merging` goes by two files, which `two_files` loads, and `pair_text` has its texts.
 //!
 //! `oct_tasks` stands on this crate. It stands on `oct_convert` for the reading of a file and the

@@ -12,7 +12,7 @@ use oct_num::Memory;
 use std::alloc::Global;
 
 /// Writes the text of a reply, where there was memory for it, and answers its status, or that of
-/// the fault that ended it.
+/// the fault that ended it. The text isn't empty, so that without memory less of it is written.
 pub fn send<K: Sink>(text: Result<Vec<u8>, Memory>, status: Status, sink: &mut K) -> Status
     requires settled { IsSettled status }
     ensures ends { (whole : Answer) → IfOk text (λ text. text.items ≡ whole.text)

@@ -105,7 +105,8 @@ near_ended n r code on_map coded e =
     let x = at_end _ n.x r.track_a r.axis_a (ap (λ (k : Voxel). k.x) at) in
     let y = at_end _ n.y r.track_b r.axis_b (ap (λ (k : Voxel). k.y) at) in
     let z = at_end _ n.z r.track_c r.axis_c (ap (λ (k : Voxel). k.z) at) in
-    zero_is (r.track_a.crossings + r.track_b.crossings + r.track_c.crossings) (omega (arith, x, y, z))
+    zero_is (r.track_a.crossings + r.track_b.crossings + r.track_c.crossings)
+    (omega (arith, x, y, z))
 
 -- and there alone
 near_goes_on : (n : Inside) (r : IsNear n) (code : ℕ) → code ≡ morton_of (near_voxel n)
@@ -290,11 +291,14 @@ near_steps n m r code i j k coded other now s =
       track_b = track_after (crosses_now b c a) b c.pace a.pace;
       track_c = track_after (crosses_now c a b) c a.pace b.pace;
       tracks = AreTracks-steps w _ _ _ r.tracks e refl refl refl;
-      axis_a = rw s.last (axis_steps (crosses_now a b c) (gathered 16 n.last) i n.x m.x a b.pace c.pace
+      axis_a = rw s.last
+          (axis_steps (crosses_now a b c) (gathered 16 n.last) i n.x m.x a b.pace c.pace
           r.axis_a (can_pass_x w r.tracks e) ei s.x);
-      axis_b = rw s.last (axis_steps (crosses_now b c a) (gathered 16 (n.last / 2)) j n.y m.y b c.pace
+      axis_b = rw s.last
+          (axis_steps (crosses_now b c a) (gathered 16 (n.last / 2)) j n.y m.y b c.pace
           a.pace r.axis_b (can_pass_y w r.tracks e) ej s.y);
-      axis_c = rw s.last (axis_steps (crosses_now c a b) (gathered 16 (n.last / 4)) k n.z m.z c a.pace
+      axis_c = rw s.last
+          (axis_steps (crosses_now c a b) (gathered 16 (n.last / 4)) k n.z m.z c a.pace
           b.pace r.axis_c (can_pass_z w r.tracks e) ek s.z);
       y_after_x = order_steps n.y_after_x m.y_after_x a.beside_next b.beside_third _ _ i j n.x.pace
           n.y.pace a.pace b.pace r.y_after_x s.some_y_x s.y_after_x pace_y pace_x

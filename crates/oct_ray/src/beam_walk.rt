@@ -8,8 +8,8 @@ pub trait BeamWalk: Drop {
     /// The voxels still to come.
     ghost to_come: { Self → List Voxel };
 
-    /// The code of the next voxel, or `None` where that is the last one, or none is left. Then the
-    /// walk stays as it is.
+    /// The code of the next voxel, or `None` where that is the last one, or none is left, and then
+    /// the walk stays as it is.
     fn next_but_last(&mut self) -> Option<u64>
         ensures next { IfSome result (HasGiven (to_come self.old) (to_come self.new)) }
         ensures below { IfSome result (λ code. code < 2 ^ 48) }

@@ -41,7 +41,7 @@
 //! multiplied for the comparisons with both other axes, so that a step is a few additions and
 //! comparisons, and no product or division. All numbers are whole and fit 128 bits, so no rounding
 //! error skips a voxel. A near walk keeps of each two axes how much later the one crosses than the
-//! other, and no place. Which axis comes next is hard to guess, so it steps without a branch.
+//! other, and no place.
 //!
 //! No call allocates or fails. Scans (`oct_scan`) and casts (`oct_cast`) stand on this crate, and
 //! cite `Meets` and `met_by`; casts cite `Precedes` too, and scans `IsWalkAlong`, `IsCutEnd`,

@@ -1,4 +1,4 @@
-//! A walk whose numbers fit 64 bits, which steps without a branch.
+//! A walk whose numbers fit 64 bits.
 ghost use Rattle.std.specs.Prelude.{◌≡◌, ◌+◌, ◌*◌, ◌^◌, ◌<◌, ◌≤◌, nat_le};
 ghost use Rattle.oct_ray.specs.Given.{HasLast};
 ghost use Rattle.oct_ray.specs.Track.{AreTracks, keys_left};

@@ -1,6 +1,5 @@
 //! One axis of a walk under way.
-ghost use Rattle.std.specs.Prelude.{◌≡◌, true, false};
-ghost use Rattle.std.specs.Prelude.{IsTrue};
+ghost use Rattle.std.specs.Prelude.{◌≡◌, true, false, IsTrue};
 ghost use Rattle.std.specs.Bool.{OnTrue};
 ghost use Rattle.oct_ray.specs.Axis.{HasRoom};
 ghost use Rattle.oct_ray.specs.Track.{CanPass, IsTrackOf, crosses_now, has_ended, track_after};
@@ -10,7 +9,7 @@ use crate::axis::Axis;
 use oct_key::Dilated;
 
 /// The first number that doesn't fit 63 bits.
-const SMALL: u128 = 1 << 63;
+const SMALL_END: u128 = 1 << 63;
 
 /// What a walk keeps of an axis: where it stands, and at which place of the segment it next crosses
 /// a face.
@@ -58,7 +57,7 @@ impl Track {
     pub fn is_small(&self) -> bool
         ensures { IsTrue result → IsSmall self.now }
     {
-        self.beside_next < SMALL && self.beside_third < SMALL && self.pace < SMALL
+        self.beside_next < SMALL_END && self.beside_third < SMALL_END && self.pace < SMALL_END
     }
 
     /// Whether this axis crosses no later than the other two.

@@ -1,5 +1,5 @@
 //! A beam followed voxel by voxel, from face to face.
-ghost use Rattle.std.specs.Prelude.{◌≡◌, ◌≢◌, ◌+◌, ◌-◌, ◌*◌, ◌^◌, ◌<◌, ◌≤◌, [], length, slice_get};
+ghost use Rattle.std.specs.Prelude.{◌≡◌, ◌+◌, ◌-◌, ◌*◌, ◌^◌, ◌<◌, ◌≤◌, [], length, slice_get};
 ghost use Rattle.std.specs.Prelude.{IsSome, IfSome, IfNone, IfOk, IfErr};
 ghost use Rattle.std.specs.Iterator.{YieldsFirst, item_count};
 ghost use Rattle.oct_key.specs.Voxel.{IsResolution, key_at};
@@ -65,8 +65,9 @@ impl Walk {
         }
     }
 
-    /// The same walk in numbers of 64 bits, where they fit, or else the walk as it is. `last` is the
-    /// code of its last voxel.
+    /// The same walk in numbers of 64 bits, where its own fit, or else the walk as it is: in both
+    /// the voxels to come are the same, and a step of the first takes less time. `last` is the code
+    /// of its last voxel.
     #[inline(always)]
     pub fn near(self, last: u64) -> Result<NearWalk, Walk>
         requires { HasLast self last }
@@ -106,6 +107,7 @@ impl Walk {
 impl BeamWalk for Walk {
     ghost to_come = { λ walk. walk };
 
+    // In line as `next_code` is.
     #[inline(always)]
     fn next_but_last(&mut self) -> Option<u64> {
         if !self.more || has_ended(&self.x, &self.y, &self.z) {

@@ -160,8 +160,8 @@ fn push_way(bricks: &mut BrickPile, walk: Walk, end: u64) -> Result<(), Memory>
     }
 }
 
-/// The same for a walk in numbers of whatever size. Each kind of walk has a function to itself, so
-/// that its numbers have more of the registers.
+/// Adds the voxels of a walk of either kind but that of the end.
+// Each kind has a function to itself, in which more of its numbers stand in registers.
 #[inline(never)]
 fn push_steps<W: BeamWalk>(bricks: &mut BrickPile, walk: W, end: u64) -> Result<(), Memory>
     requires ends { (k : Voxel) × IsInMap k × (morton_of k ≡ end) × EndsAt k (W.to_come walk) }

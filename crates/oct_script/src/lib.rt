@@ -39,7 +39,7 @@
 //! last one puts the command in its place, so that it isn't moved from call to call.
 //! `specs/Reading.antt` says how, for the proofs; the grammar doesn't rest on it.
 //!
-//! Sessions stand on this crate. It stands on `oct_bt` for what is wrong with a file of classes.
+//! Sessions stand on this crate.
 #![tactic(auto)]
 
 mod command;

@@ -1,6 +1,6 @@
 //! What a command does that names a file: a save or a snapshot to the store, or a load or a restore
 //! from it.
-ghost use Rattle.std.specs.Prelude.{◌≡◌, ◌≤◌, ◌+◌, IfOk, None, Ok, Option, Some};
+ghost use Rattle.std.specs.Prelude.{◌≡◌, ◌≤◌, ◌+◌, IfOk, Ok, Option, Some};
 ghost use Rattle.oct_bt.specs.File.{bt_text, reading};
 ghost use Rattle.oct_tree.specs.Classes.{classes_in};
 ghost use Rattle.oct_io.specs.Counts.{IsAskCounted};

@@ -32,7 +32,7 @@ StoreLeft short task files left after v u k s =
     IfSome left (λ bytes. ReadsTold (reads task) files bytes
     → LeavesStore task files bytes after v u k short s)
 
--- both of a run
+-- how a run ends, and what it leaves of the store
 pub record HasRun (short : Type 0) (task : Option Task) (files : Option Files)
     (left after v u : Option (List ℕ)) (k : Shelf) (s : Status) : Type 0 where
   pub answer : Answers task files left after v u s

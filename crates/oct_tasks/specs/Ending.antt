@@ -48,7 +48,8 @@ answer (Some (Gen seed scans points)) files bytes =
 answer (Some (Drill seed scans points)) files bytes =
     with_files files (drill seed scans points)
 
--- how a run may end whose words have no task, or one that reads nothing, whatever its source tells;
+-- how a run may end whose words have no task, or one that reads no input, whatever its source
+-- tells;
 -- of others nothing is said here
 abbrev pub EndsAlone : Option Task → Option Files → Option (List ℕ) → Option (List ℕ) → Status
     → Type 0
@@ -65,7 +66,7 @@ EndsAlone (Some (Drill seed scans points)) files old new status =
     EndsUnread (drill seed scans points) old new status
 
 -- how a run over these bytes may end: as the session or the build may, or as the task over a file;
--- without a task, or with one that reads nothing, no byte was taken
+-- without a task, or with one that reads no input, no byte was taken
 abbrev pub MayEnd : Option Task → Option Files → List ℕ → Option (List ℕ) → Option (List ℕ)
     → Option (List ℕ) → Status → Type 0
 MayEnd None files bytes left old new status =

@@ -9,8 +9,8 @@ use Rattle.oct_file_tasks.specs.declared.store_task.StoreTask.{StoreTask}
 use Rattle.oct_tasks.specs.Task.{Task, Session, Build, Convert, Inspect, OverFile, OverStore}
 use Rattle.oct_tasks.specs.Task.{Gen, Drill}
 
--- what may be read: nothing, the script of a session that is set up so, whose lines may name files,
--- a file from the input, or two files of the store, which words name
+-- what may be read: nothing, a script, for a map that is set up so, whose lines may name files, a
+-- file from the input, or two files of the store, which words name
 pub data Reads : Type 0 where
   Nothing : Reads
   Script : Setup → Reads

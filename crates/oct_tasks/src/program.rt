@@ -29,7 +29,7 @@ use std::alloc::Global;
 /// files then stand there, and that the store is asked once at most for each line that names a
 /// file, and for each file that a word names, for the second only where the first is a map. They
 /// speak wherever source and sink tell their bytes, as those in memory do, and the store its files,
-/// or no line names one. Of a task that reads nothing `made` says what is written, whatever the
+/// or no line names one. Of one that reads no input `made` says what is written, whatever the
 /// source tells. A status names a fault of source, sink or store only where that one's count of
 /// faults rose in this call.
 pub fn run<S: Source, K: Sink, F: Store>(

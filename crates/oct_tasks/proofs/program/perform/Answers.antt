@@ -42,18 +42,18 @@ returns-in-Build-clause-leaves g c = rw c.in-Build.is
 
 pub returns-in-Convert-clause-leaves : goal.returns-in-Convert-clause-leaves
 returns-in-Convert-clause-leaves g c =
-    run_unnamed g.F.Store.files g.F.Store.calls c.args.store.now _ (run_of c.args.task.now) _ _ _ _ _
-    (ap names c.in-Convert.is)
+    run_unnamed g.F.Store.files g.F.Store.calls c.args.store.now _ (run_of c.args.task.now)
+    _ _ _ _ _ (ap names c.in-Convert.is)
 
 pub returns-in-Inspect-clause-leaves : goal.returns-in-Inspect-clause-leaves
 returns-in-Inspect-clause-leaves g c =
-    run_unnamed g.F.Store.files g.F.Store.calls c.args.store.now _ (run_of c.args.task.now) _ _ _ _ _
-    (ap names c.in-Inspect.is)
+    run_unnamed g.F.Store.files g.F.Store.calls c.args.store.now _ (run_of c.args.task.now)
+    _ _ _ _ _ (ap names c.in-Inspect.is)
 
 pub returns-in-OverFile-clause-leaves : goal.returns-in-OverFile-clause-leaves
 returns-in-OverFile-clause-leaves g c =
-    run_unnamed g.F.Store.files g.F.Store.calls c.args.store.now _ (run_of c.args.task.now) _ _ _ _ _
-    (ap names c.in-OverFile.is)
+    run_unnamed g.F.Store.files g.F.Store.calls c.args.store.now _ (run_of c.args.task.now)
+    _ _ _ _ _ (ap names c.in-OverFile.is)
 
 pub returns-in-OverStore-clause-leaves : goal.returns-in-OverStore-clause-leaves
 returns-in-OverStore-clause-leaves g c = rw c.in-OverStore.is
@@ -63,10 +63,10 @@ returns-in-OverStore-clause-leaves g c = rw c.in-OverStore.is
 
 pub returns-in-Gen-clause-leaves : goal.returns-in-Gen-clause-leaves
 returns-in-Gen-clause-leaves g c =
-    run_unnamed g.F.Store.files g.F.Store.calls c.args.store.now _ (run_of c.args.task.now) _ _ _ _ _
-    (ap names c.in-Gen.is)
+    run_unnamed g.F.Store.files g.F.Store.calls c.args.store.now _ (run_of c.args.task.now)
+    _ _ _ _ _ (ap names c.in-Gen.is)
 
 pub returns-in-Drill-clause-leaves : goal.returns-in-Drill-clause-leaves
 returns-in-Drill-clause-leaves g c =
-    run_unnamed g.F.Store.files g.F.Store.calls c.args.store.now _ (run_of c.args.task.now) _ _ _ _ _
-    (ap names c.in-Drill.is)
+    run_unnamed g.F.Store.files g.F.Store.calls c.args.store.now _ (run_of c.args.task.now)
+    _ _ _ _ _ (ap names c.in-Drill.is)
