@@ -18,8 +18,8 @@ use Rattle.oct_script.specs.Replies.{is_refusal}
 use Rattle.oct_session.specs.declared.scan_block.ScanBlock.{ScanBlock}
 use Rattle.oct_session.specs.declared.scan_block.ScanBlock.TheVariants.{Scanning, Spoilt}
 use Rattle.oct_script.specs.declared.verbs.FileVerb.{FileVerb}
-use Rattle.oct_session.specs.Kinds.{Kind, Nothing, Opens, Orders, Asks as AsksMap, Names, kind_of}
-use Rattle.oct_session.specs.Kinds.{left_of, rest_seen}
+use Rattle.oct_session.specs.Kinds.{Kind, Nothing, Opens, Adds, Closes, Orders, Asks as AsksMap}
+use Rattle.oct_session.specs.Kinds.{Names, kind_of, left_of, rest_seen}
 use Rattle.oct_session.specs.declared.kinds.Rest as lent
 use Rattle.oct_session.specs.declared.kinds.Rest.TheVariants as rest
 use Rattle.oct_session.specs.declared.session.Session.{Session}
@@ -235,16 +235,15 @@ rest_left rest.Nothing = refl
 rest_left (rest.Opens head) = refl
 rest_left (rest.Names verb name) = refl
 
-pub rest_still : (m : Map) (x : lent.Rest) → HasPart (rest_seen x) m m None
-rest_still m rest.Nothing = λ s at. (refl, at)
-rest_still m (rest.Opens head) = λ s at. (refl, at)
-rest_still m (rest.Names verb name) = λ s at. (refl, at)
-
 -- a part of which nothing is left
 pub part_done : (m n : Map) (f : Option Files) (number : ℕ) (k : Kind) (block : Option ScanBlock)
     (a : Option Reply) → Nothing ≡ left_of k → block ≡ None → HasPart k m n a
     → HasEffect (KindEffect number k) (kind_work k) m f n f block (Ok a)
 part_done m n f number Nothing block a is closed done =
+    map_done m n f block a (λ s. None) (λ s. []) closed done
+part_done m n f number (Adds p) block a is closed done =
+    map_done m n f block a (λ s. None) (λ s. []) closed done
+part_done m n f number Closes block a is closed done =
     map_done m n f block a (λ s. None) (λ s. []) closed done
 part_done m n f number (Orders o) block a is closed done =
     map_done m n f block a (λ s. order_reply s o) (λ s. order_action o ∷ []) closed done
@@ -270,6 +269,10 @@ part_stopped x m n f number (AsksMap q) block memory kept =
     map_failed x m n f block (λ s. question_reply s q) (λ s. question_action q) memory kept
 part_stopped x m n f number Nothing block memory kept =
     none_failed m n (KindEffect number Nothing) None f f block x kept
+part_stopped x m n f number (Adds p) block memory kept =
+    none_failed m n (KindEffect number (Adds p)) None f f block x kept
+part_stopped x m n f number Closes block memory kept =
+    none_failed m n (KindEffect number Closes) None f f block x kept
 part_stopped x m n f number (Opens head) block memory kept =
     none_failed m n (KindEffect number (Opens head)) None f f block x kept
 part_stopped x m n f number (Names v name) block memory kept =
@@ -288,6 +291,8 @@ part_failed (Err x) m n f number k block memory kept =
 pub opens_all : (k : Kind) (head : ScanHead) → Opens head ≡ left_of k → Opens head ≡ k
 opens_all Nothing head is = cc
 opens_all (Opens other) head is = is
+opens_all (Adds p) head is = cc
+opens_all Closes head is = cc
 opens_all (Orders o) head is = cc
 opens_all (AsksMap q) head is = cc
 opens_all (Names v name) head is = cc
@@ -297,6 +302,8 @@ pub names_all : (k : Kind) (verb : FileVerb) (name : List ℕ) → Names verb na
     → Names verb name ≡ k
 names_all Nothing verb name is = cc
 names_all (Opens head) verb name is = cc
+names_all (Adds p) verb name is = cc
+names_all Closes verb name is = cc
 names_all (Orders o) verb name is = cc
 names_all (AsksMap q) verb name is = cc
 names_all (Names v other) verb name is = is

@@ -50,7 +50,8 @@ use Rattle.oct_session.specs.declared.kinds.Question.{Question}
 use Rattle.oct_session.specs.declared.kinds.Question.TheVariants as question
 use Rattle.oct_script.specs.declared.verbs.FileVerb.{FileVerb}
 use Rattle.oct_script.specs.declared.verbs.FileVerb.TheVariants as verb
-use Rattle.oct_session.specs.Kinds.{Kind, kind_of, Nothing, Opens, Orders, Asks, Names}
+use Rattle.oct_session.specs.Kinds.{Kind, kind_of, Nothing, Opens, Adds, Closes, Orders, Asks}
+use Rattle.oct_session.specs.Kinds.{Names}
 use Rattle.oct_session.specs.Drill.{drill_setup, drilled}
 use Rattle.oct_session.specs.FileCommands.{found_in, nodes_reply, reading_reply, load_reply}
 use Rattle.oct_session.specs.FileCommands.{groups_reply, restore_reply}
@@ -157,6 +158,8 @@ kind_few : (most : ℕ) (files : Option Files) (s : State) (k : Kind)
     → HasFewCells most (kind_reply files s k)
 kind_few most files s Nothing = tt
 kind_few most files s (Opens head) = tt
+kind_few most files s (Adds p) = tt
+kind_few most files s Closes = tt
 kind_few most files s (Orders o) = edit_few most (order_answer s o)
 kind_few most files s (Asks q) = question_few most s q
 kind_few most files s (Names v name) = verb_few most files s v name

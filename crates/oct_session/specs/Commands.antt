@@ -37,7 +37,8 @@ use Rattle.oct_session.specs.declared.kinds.Question.{Question}
 use Rattle.oct_session.specs.declared.kinds.Question.TheVariants as question
 use Rattle.oct_script.specs.declared.verbs.FileVerb.{FileVerb}
 use Rattle.oct_script.specs.declared.verbs.FileVerb.TheVariants as verb
-use Rattle.oct_session.specs.Kinds.{Kind, kind_of, Nothing, Opens, Orders, Asks, Names}
+use Rattle.oct_session.specs.Kinds.{Kind, kind_of, Nothing, Opens, Adds, Closes, Orders, Asks}
+use Rattle.oct_session.specs.Kinds.{Names}
 use Rattle.oct_values.specs.Classes.{classes_of}
 
 -- the command that was read on the line of this number, or the refusal where the line isn't in the
@@ -161,6 +162,8 @@ map_reply s (Orders order) = order_reply s order
 map_reply s (Asks question) = question_reply s question
 map_reply s Nothing = None
 map_reply s (Opens head) = None
+map_reply s (Adds p) = None
+map_reply s Closes = None
 map_reply s (Names verb name) = None
 
 -- what it does
@@ -169,6 +172,8 @@ map_action (Orders order) = order_action order ∷ []
 map_action (Asks question) = question_action question
 map_action Nothing = []
 map_action (Opens head) = []
+map_action (Adds p) = []
+map_action Closes = []
 map_action (Names verb name) = []
 
 -- the reply to a command, by what does it, over these files and in a state; there is none where
@@ -179,6 +184,8 @@ kind_reply files s (Orders order) = order_reply s order
 kind_reply files s (Asks question) = question_reply s question
 kind_reply files s Nothing = None
 kind_reply files s (Opens head) = None
+kind_reply files s (Adds p) = None
+kind_reply files s Closes = None
 
 -- what it does
 abbrev pub kind_action : Option Files → State → Kind → History
@@ -187,6 +194,8 @@ kind_action files s (Orders order) = order_action order ∷ []
 kind_action files s (Asks question) = question_action question
 kind_action files s Nothing = []
 kind_action files s (Opens head) = []
+kind_action files s (Adds p) = []
+kind_action files s Closes = []
 
 -- the reply to a line's command over these files and in a state, outside the block of a scan
 abbrev pub reply : Option Files → State → Result Command Refusal → Option Reply
@@ -219,6 +228,8 @@ verb_work verb.Restore name = Reads name
 abbrev pub kind_work : Kind → Option FileWork
 kind_work Nothing = None
 kind_work (Opens head) = None
+kind_work (Adds p) = None
+kind_work Closes = None
 kind_work (Orders order) = None
 kind_work (Asks question) = None
 kind_work (Names verb name) = Some (verb_work verb name)

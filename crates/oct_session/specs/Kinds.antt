@@ -2,6 +2,7 @@
 use Rattle.std.specs.Prelude.{⊤, ℕ, List, IfSome}
 use Rattle.oct_pose.specs.Reach.{IsInReach}
 use Rattle.oct_script.specs.Commands.{IsOwnOdds, IsRange, IsSmallEdit}
+use Rattle.oct_key.specs.declared.point.Point.{Point}
 use Rattle.oct_script.specs.declared.command.ScanHead.{ScanHead}
 use Rattle.oct_script.specs.declared.command.Command.{Command}
 use Rattle.oct_script.specs.declared.command.Command.TheVariants as command
@@ -16,22 +17,24 @@ use Rattle.oct_session.specs.declared.kinds.Rest.TheVariants as rest
 use Rattle.oct_session.specs.declared.kinds.Kind as lent_kind
 use Rattle.oct_session.specs.declared.kinds.Kind.TheVariants as kind
 
--- what does a command outside the block of a scan: nothing, a block that it opens, the map, which
--- does it or answers it, or what a verb says is done with the file that it names
+-- what does a command: nothing, a block that it opens, to which it adds a point or which it closes,
+-- the map, which does it or answers it, or what a verb says is done with the file that it names
 pub data Kind : Type 0 where
   Nothing : Kind
   Opens : ScanHead → Kind
+  Adds : Point → Kind
+  Closes : Kind
   Orders : Order → Kind
   Asks : Question → Kind
   Names : FileVerb → List ℕ → Kind
 
--- what does a command outside the block of a scan, where a point and an end have nothing to do
+-- the kind of a command
 abbrev pub kind_of : Command → Kind
 kind_of command.Blank = Nothing
 kind_of command.Quit = Nothing
 kind_of (command.Scan head) = Opens head
-kind_of (command.Beam p) = Nothing
-kind_of command.End = Nothing
+kind_of (command.Beam p) = Adds p
+kind_of command.End = Closes
 kind_of (command.Edit p e lazy) = Orders (order.Edit p e lazy)
 kind_of (command.Box low high e) = Orders (order.Box low high e)
 kind_of (command.Limit low high) = Orders (order.Limit low high)
@@ -52,10 +55,12 @@ kind_of (command.Load name) = Names verb.Load name
 kind_of (command.Snapshot name) = Names verb.Snapshot name
 kind_of (command.Restore name) = Names verb.Restore name
 
--- what is left of it once the map has had its part in it
+-- what is left of it outside the block of a scan, once the map has had its part in it
 abbrev pub left_of : Kind → Kind
 left_of Nothing = Nothing
 left_of (Opens head) = Opens head
+left_of (Adds p) = Nothing
+left_of Closes = Nothing
 left_of (Orders order) = Nothing
 left_of (Asks question) = Nothing
 left_of (Names verb name) = Names verb name
@@ -68,6 +73,8 @@ rest_seen (rest.Names verb name) = Names verb name.now
 
 -- and what does it
 abbrev pub kind_seen : lent_kind.Kind → Kind
+kind_seen (kind.Adds p) = Adds p
+kind_seen kind.Closes = Closes
 kind_seen (kind.Orders order) = Orders order
 kind_seen (kind.Asks question) = Asks question
 kind_seen (kind.Rests rest) = rest_seen rest
@@ -76,7 +83,14 @@ kind_seen (kind.Rests rest) = rest_seen rest
 abbrev pub IsSmallOrder : Order → Type 0
 IsSmallOrder (order.Edit p e lazy) = IsSmallEdit e
 IsSmallOrder (order.Box low high e) = IsSmallEdit e
-IsSmallOrder _ = ⊤
+IsSmallOrder (order.Limit low high) = ⊤
+IsSmallOrder order.NoLimit = ⊤
+IsSmallOrder order.Refresh = ⊤
+IsSmallOrder order.Prune = ⊤
+IsSmallOrder order.Clear = ⊤
+IsSmallOrder order.MaxLik = ⊤
+IsSmallOrder order.Track = ⊤
+IsSmallOrder order.Untrack = ⊤
 
 -- those in the head of a scan are, too
 abbrev pub IsSmallHead : ScanHead → Type 0
@@ -84,6 +98,10 @@ IsSmallHead head = IsInReach head.t × IsRange head.range × IfSome head.odds Is
 
 -- and so are those of whatever does a command
 abbrev pub IsSmallKind : Kind → Type 0
+IsSmallKind Nothing = ⊤
 IsSmallKind (Opens head) = IsSmallHead head
+IsSmallKind (Adds p) = IsInReach p
+IsSmallKind Closes = ⊤
 IsSmallKind (Orders order) = IsSmallOrder order
-IsSmallKind _ = ⊤
+IsSmallKind (Asks question) = ⊤
+IsSmallKind (Names verb name) = ⊤

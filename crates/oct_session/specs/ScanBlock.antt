@@ -7,7 +7,6 @@ use Rattle.oct_map.specs.declared.fault.MapFault.{MapFault}
 use Rattle.oct_map.specs.declared.done.ScanDone as map_done
 use Rattle.oct_key.specs.declared.point.Point.{Point}
 use Rattle.oct_script.specs.declared.command.Command.{Command}
-use Rattle.oct_script.specs.declared.command.Command.TheVariants.{Beam, End}
 use Rattle.oct_script.specs.declared.command.ScanHead.{ScanHead}
 use Rattle.oct_script.specs.declared.reply.Refusal.{Refusal}
 use Rattle.oct_script.specs.declared.reply.Refusal.TheVariants as refusal
@@ -18,7 +17,8 @@ use Rattle.oct_script.specs.Lines.{Line, Text, Long}
 use Rattle.oct_session.specs.Refusals.{fault_reply}
 use Rattle.oct_session.specs.History.{History, State, Scanned}
 use Rattle.oct_session.specs.ScanSoFar.{ScanSoFar, begun, sighting_so_far}
-use Rattle.oct_session.specs.Kinds.{Kind, kind_of, Nothing, Opens, Orders, Asks, Names}
+use Rattle.oct_session.specs.Kinds.{Kind, kind_of, Nothing, Opens, Adds, Closes, Orders, Asks}
+use Rattle.oct_session.specs.Kinds.{Names}
 use Rattle.oct_session.specs.declared.scan_block.ScanBlock.{ScanBlock}
 use Rattle.oct_session.specs.declared.scan_block.ScanBlock.TheVariants.{Scanning, Spoilt}
 
@@ -31,6 +31,8 @@ opens_block Long = false
 abbrev pub kind_opened : ℕ → Kind → Option ScanBlock
 kind_opened number (Opens head) = Some (Scanning (begun number head))
 kind_opened number Nothing = None
+kind_opened number (Adds p) = None
+kind_opened number Closes = None
 kind_opened number (Orders order) = None
 kind_opened number (Asks question) = None
 kind_opened number (Names verb name) = None
@@ -49,13 +51,23 @@ with_point number p scan =
     then Spoilt (refusal.TooManyPoints number)
     else Scanning (record { line = scan.line; head = scan.head; points = scan.points ++ p ∷ [] })
 
+-- the block with what this does, unless it closes the block: a point is added to it, and nothing
+-- else has a part in it
+abbrev pub with_kind : ℕ → Kind → ScanSoFar → ScanBlock
+with_kind number (Adds p) scan = with_point number p scan
+with_kind number Nothing scan = Scanning scan
+with_kind number (Opens head) scan = Scanning scan
+with_kind number Closes scan = Scanning scan
+with_kind number (Orders order) scan = Scanning scan
+with_kind number (Asks question) scan = Scanning scan
+with_kind number (Names verb name) scan = Scanning scan
+
 -- the block with one line more, which is the line of this number and doesn't end it: the first
 -- fault spoils it, and stays
 abbrev pub with_line : ℕ → Result Command Refusal → ScanBlock → ScanBlock
 with_line number command (Spoilt first) = Spoilt first
 with_line number (Err refusal) (Scanning scan) = Spoilt refusal
-with_line number (Ok (Beam p)) (Scanning scan) = with_point number p scan
-with_line number (Ok _) (Scanning scan) = Scanning scan
+with_line number (Ok command) (Scanning scan) = with_kind number (kind_of command) scan
 
 -- the block that is open after a line that isn't in the grammar: the one that was open, or the one
 -- that the line opens
@@ -68,10 +80,20 @@ abbrev pub spoilt_reply : Refusal → Option ScanBlock → Option Reply
 spoilt_reply refusal None = Some (reply_of.Refused refusal)
 spoilt_reply refusal (Some block) = None
 
--- the line that closes a block
+-- what closes a block
+abbrev pub does_close : Kind → Bool
+does_close Closes = true
+does_close Nothing = false
+does_close (Opens head) = false
+does_close (Adds p) = false
+does_close (Orders order) = false
+does_close (Asks question) = false
+does_close (Names verb name) = false
+
+-- the line that closes it
 abbrev pub is_end : Result Command Refusal → Bool
-is_end (Ok End) = true
-is_end _ = false
+is_end (Ok command) = does_close (kind_of command)
+is_end (Err refusal) = false
 
 -- all four numbers of a head's quaternion are 0
 abbrev pub is_zero : ScanHead → Bool

@@ -250,7 +250,7 @@ pub fn by_map(map: &mut OccMap, command: &Command, reply: &mut Option<Reply>) ->
     match kind_of(command) {
         Kind::Orders(order) => obey(map, order, reply),
         Kind::Asks(question) => ask(map, question, reply),
-        Kind::Rests(_) => {
+        Kind::Adds(_) | Kind::Closes | Kind::Rests(_) => {
             *reply = None;
             Ok(())
         }

@@ -31,7 +31,7 @@ pub enum Question {
     Changes,
 }
 
-/// What is left of a command once the map has had its part in it.
+/// What is left of a command outside the block of a scan, once the map has had its part in it.
 #[derive(Clone, Copy)]
 pub enum Rest<'a> {
     /// Nothing, if there ever was something to do.
@@ -42,9 +42,13 @@ pub enum Rest<'a> {
     Names(FileVerb, &'a Name),
 }
 
-/// A command outside the block of a scan, by what does it.
+/// A command by what does it.
 #[derive(Clone, Copy)]
 pub enum Kind<'a> {
+    /// It adds a point to the block of a scan.
+    Adds(Point),
+    /// It closes the block.
+    Closes,
     /// The map does it.
     Orders(Order),
     /// The map answers it.
@@ -53,7 +57,7 @@ pub enum Kind<'a> {
     Rests(Rest<'a>),
 }
 
-/// What does a command outside the block of a scan.
+/// The kind of a command.
 #[inline(always)]
 pub fn kind_of(command: &Command) -> Kind<'_>
     requires { IsSmallCommand command.now }
@@ -62,7 +66,8 @@ pub fn kind_of(command: &Command) -> Kind<'_>
 {
     match *command {
         Command::Blank | Command::Quit => Kind::Rests(Rest::Nothing),
-        Command::Beam(_) | Command::End => Kind::Rests(Rest::Nothing),
+        Command::Beam(p) => Kind::Adds(p),
+        Command::End => Kind::Closes,
         Command::Scan(ref head) => Kind::Rests(Rest::Opens(head)),
         Command::Edit { p, e, lazy } => Kind::Orders(Order::Edit { p, e, lazy }),
         Command::Box { lo, hi, e } => Kind::Orders(Order::Box { lo, hi, e }),
@@ -86,7 +91,7 @@ pub fn kind_of(command: &Command) -> Kind<'_>
     }
 }
 
-/// What is left of a command once the map has had its part in it.
+/// What is left of a command outside the block of a scan, once the map has had its part in it.
 #[inline(always)]
 pub fn rest_of(command: &Command) -> Rest<'_>
     requires { IsSmallCommand command.now }
@@ -94,7 +99,7 @@ pub fn rest_of(command: &Command) -> Rest<'_>
     ensures small { IsSmallKind (rest_seen result) }
 {
     match kind_of(command) {
-        Kind::Orders(_) | Kind::Asks(_) => Rest::Nothing,
+        Kind::Adds(_) | Kind::Closes | Kind::Orders(_) | Kind::Asks(_) => Rest::Nothing,
         Kind::Rests(rest) => rest,
     }
 }

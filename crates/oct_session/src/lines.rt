@@ -12,7 +12,7 @@ ghost use Rattle.oct_session.specs.Standing.{with_reply, HasEffect, HasWorked, K
 
 use crate::commands::{by_map, finish};
 use crate::files::use_file;
-use crate::kinds::{Rest, rest_of};
+use crate::kinds::{Kind, Rest, kind_of, rest_of};
 use crate::scan_block::{ScanBlock, open_scan, spoil};
 use oct_io::{Store, StoreFault};
 use oct_map::OccMap;
@@ -22,9 +22,13 @@ use std::alloc::Global;
 
 /// Whether a command closes a block.
 fn is_end(command: &Command) -> bool
+    requires { IsSmallCommand command.now }
     ensures { result ≡ is_end (Ok command.now) }
 {
-    matches!(command, Command::End)
+    match kind_of(command) {
+        Kind::Closes => true,
+        Kind::Adds(_) | Kind::Orders(_) | Kind::Asks(_) | Kind::Rests(_) => false,
+    }
 }
 
 /// Whether a command ends the session.
@@ -86,7 +90,7 @@ fn inside(
         return finish(map, standing, reply);
     }
     *reply = None;
-    *block = Some(standing.with_command(number, *command)?);
+    *block = Some(standing.with_command(number, command)?);
     Ok(())
 }
 

@@ -9,6 +9,7 @@ ghost use Rattle.oct_session.specs.ScanBlock.{opens_block, with_point, with_line
 ghost use Rattle.oct_session.specs.ScanBlock.{is_zero, end_refusal};
 ghost use Rattle.oct_session.specs.Kinds.{IsSmallHead};
 
+use crate::kinds::{Kind, kind_of};
 use oct_key::{Point, PointList};
 use oct_num::Memory;
 use oct_pose::{Pose, ZeroQuaternion};
@@ -100,14 +101,16 @@ impl PendingScan {
     }
 
     /// The block with one command more, which is on the line of this number.
-    fn with_command(self, number: u64, command: Command) -> Result<ScanBlock, Memory>
-        requires { IsSmallCommand command }
+    fn with_command(self, number: u64, command: &Command) -> Result<ScanBlock, Memory>
+        requires { IsSmallCommand command.now }
         ensures { IfOk result
-            (λ block. block ≡ with_line number (Ok command) (ScanBlock.Scanning self)) }
+            (λ block. block ≡ with_line number (Ok command.now) (ScanBlock.Scanning self)) }
     {
-        match command {
-            Command::Beam(p) => self.with_point(number, p),
-            _ => Ok(ScanBlock::Scanning(self)),
+        match kind_of(command) {
+            Kind::Adds(p) => self.with_point(number, p),
+            Kind::Closes | Kind::Orders(_) | Kind::Asks(_) | Kind::Rests(_) => {
+                Ok(ScanBlock::Scanning(self))
+            }
         }
     }
 
@@ -133,9 +136,9 @@ impl PendingScan {
 
 impl ScanBlock {
     /// The block with one command more, which is on the line of this number and doesn't close it.
-    pub fn with_command(self, number: u64, command: Command) -> Result<ScanBlock, Memory>
-        requires { IsSmallCommand command }
-        ensures { IfOk result (λ block. block ≡ with_line number (Ok command) self) }
+    pub fn with_command(self, number: u64, command: &Command) -> Result<ScanBlock, Memory>
+        requires { IsSmallCommand command.now }
+        ensures { IfOk result (λ block. block ≡ with_line number (Ok command.now) self) }
     {
         match self {
             ScanBlock::Spoilt(first) => Ok(ScanBlock::Spoilt(first)),

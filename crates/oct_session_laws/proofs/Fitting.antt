@@ -60,7 +60,8 @@ use Rattle.oct_session.specs.declared.kinds.Question.{Question}
 use Rattle.oct_session.specs.declared.kinds.Question.TheVariants as question
 use Rattle.oct_script.specs.declared.verbs.FileVerb.{FileVerb}
 use Rattle.oct_script.specs.declared.verbs.FileVerb.TheVariants as verb
-use Rattle.oct_session.specs.Kinds.{Kind, kind_of, Nothing, Opens, Orders, Asks, Names}
+use Rattle.oct_session.specs.Kinds.{Kind, kind_of, Nothing, Opens, Adds, Closes, Orders, Asks}
+use Rattle.oct_session.specs.Kinds.{Names}
 use Rattle.oct_session.specs.History.{History, State, Edited, Scanned, Cleared, Likened, Replaced}
 use Rattle.oct_session.specs.History.{Restored, class_event, edit_event, after, after_all}
 use Rattle.oct_session.specs.History.{start_state, state_after, value_after, Boxed}
@@ -329,6 +330,8 @@ kind_fits : (files : Option Files) (s : State) (k : Kind) → Fits s
     → Fits (after_all s (accepted (kind_reply files s k) (kind_action files s k)))
 kind_fits files s Nothing fits = fits
 kind_fits files s (Opens head) fits = fits
+kind_fits files s (Adds p) fits = fits
+kind_fits files s Closes fits = fits
 kind_fits files s (Orders o) fits = order_fits s o fits
 kind_fits files s (Asks q) fits =
     either_fits s (question_reply s q) (question_action q) fits (question_fits s q fits)

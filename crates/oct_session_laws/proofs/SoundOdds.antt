@@ -24,7 +24,8 @@ use Rattle.oct_session.specs.declared.kinds.Question.{Question}
 use Rattle.oct_session.specs.declared.kinds.Question.TheVariants as question
 use Rattle.oct_script.specs.declared.verbs.FileVerb.{FileVerb}
 use Rattle.oct_script.specs.declared.verbs.FileVerb.TheVariants as verb
-use Rattle.oct_session.specs.Kinds.{Kind, kind_of, Nothing, Opens, Orders, Asks, Names}
+use Rattle.oct_session.specs.Kinds.{Kind, kind_of, Nothing, Opens, Adds, Closes, Orders, Asks}
+use Rattle.oct_session.specs.Kinds.{Names}
 use Rattle.oct_session.specs.FileCommands.{found_in, load_action, reading_action, restore_action}
 use Rattle.oct_session.specs.FileCommands.{snapshot_action}
 use Rattle.oct_session.specs.History.{History, State, Action, Restored, after, after_all}
@@ -106,6 +107,8 @@ kind_fine : (files : Option Files) (s : State) (k : Kind) → IsModel s
     → AreFine (kind_action files s k)
 kind_fine files s Nothing is = tt
 kind_fine files s (Opens head) is = tt
+kind_fine files s (Adds p) is = tt
+kind_fine files s Closes is = tt
 kind_fine files s (Orders o) is = (order_fine o, tt)
 kind_fine files s (Asks q) is = question_fine q
 kind_fine files s (Names v name) is = verb_fine files s v name is

@@ -43,7 +43,8 @@ use Rattle.oct_session.specs.declared.kinds.Question.{Question}
 use Rattle.oct_session.specs.declared.kinds.Question.TheVariants as question
 use Rattle.oct_script.specs.declared.verbs.FileVerb.{FileVerb}
 use Rattle.oct_script.specs.declared.verbs.FileVerb.TheVariants as verb
-use Rattle.oct_session.specs.Kinds.{Kind, kind_of, Nothing, Opens, Orders, Asks, Names}
+use Rattle.oct_session.specs.Kinds.{Kind, kind_of, Nothing, Opens, Adds, Closes, Orders, Asks}
+use Rattle.oct_session.specs.Kinds.{Names}
 use Rattle.oct_session.specs.FileCommands.{found_in, snapshot_file, reading_reply, reading_action}
 use Rattle.oct_session.specs.FileCommands.{load_reply, load_action, snapshot_reply, snapshot_action}
 use Rattle.oct_session.specs.FileCommands.{restore_reply, restore_action}
@@ -238,6 +239,8 @@ kind_is : (files : Option Files) (s : State) (k : Kind) → AreGood files → Is
     → IsState (after_all s (accepted (kind_reply files s k) (kind_action files s k)))
 kind_is files s Nothing good is = is
 kind_is files s (Opens head) good is = is
+kind_is files s (Adds p) good is = is
+kind_is files s Closes good is = is
 kind_is files s (Orders o) good is = order_is s o is
 kind_is files s (Asks q) good is =
     either_is s (question_reply s q) (question_action q) is (question_is s q is)
@@ -295,6 +298,8 @@ kind_good : (s : State) (k : Kind) → IsResolution s.base.res → IsState s
     → IsGoodSaving (saving_by s (kind_work k))
 kind_good s Nothing ok is = tt
 kind_good s (Opens head) ok is = tt
+kind_good s (Adds p) ok is = tt
+kind_good s Closes ok is = tt
 kind_good s (Orders o) ok is = tt
 kind_good s (Asks q) ok is = tt
 kind_good s (Names v name) ok is = verb_good s v name ok is

@@ -1,7 +1,7 @@
-use Rattle.std.proofs.Common.{◌∙◌, None, ap, sym, subst}
-use Rattle.oct_session.specs.Kinds.{Orders, Asks, IsSmallKind, kind_seen, rest_seen}
+use Rattle.std.proofs.Common.{◌∙◌, ap, sym, subst}
+use Rattle.oct_session.specs.Kinds.{Orders, Asks, IsSmallKind, kind_seen}
 use Rattle.oct_session.specs.Standing.{with_reply}
-use Rattle.oct_session.proofs.Effects.{done_as, part_as, rest_still}
+use Rattle.oct_session.proofs.Effects.{done_as}
 use Rattle.oct_session.proofs.commands.by_map.Goals as goal
 
 pub obey-requires : goal.obey-requires
@@ -18,9 +18,3 @@ returns-in-Asks c =
     done_as (with_reply c.ask.result c.ask.new.reply) c.args.map.now c.ask.new.map _
     (Asks c.in-Asks.question) (sym (ap kind_seen c.in-Asks.is) ∙ c.kind_of.ensures.exact)
     c.ask.ensures
-
-pub returns-in-Rests : goal.returns-in-Rests
-returns-in-Rests c =
-    part_as c.args.map.now c.args.map.now _ (rest_seen c.in-Rests.field-0) None
-    (sym (ap kind_seen c.in-Rests.is) ∙ c.kind_of.ensures.exact)
-    (rest_still c.args.map.now c.in-Rests.field-0)
