@@ -7,6 +7,8 @@ import subprocess
 import tempfile
 from pathlib import Path
 
+from row import bt
+
 PATIENCE = 20
 LITTLE_MEMORY = 1 << 26
 # Far more than a program takes at a time. One that were run again would answer what is left.
@@ -147,8 +149,27 @@ def leaves_old_bytes_to_their_reader(program, folder):
         yield f"it leaves {os.listdir(folder)}"
 
 
+def asks_for_the_second_file_last(program, folder):
+    """Where the first of two files is none, the second isn't asked for: here it would fail. Where
+    the first is one, it is."""
+    Path(folder, "b").mkdir()
+    for words in (["merge", "least", "a", "b"], ["table", "a", "b"] + 6 * ["0"]):
+        Path(folder, "a").unlink(missing_ok=True)
+        asked = run(program, words, b"", folder)
+        if asked != (1, b"first refused 33 NoFile\n", b"octomap: refused\n"):
+            yield f"{words[0]} of no first file: {asked}"
+        Path(folder, "a").write_bytes(b"")
+        asked = run(program, words, b"", folder)
+        if asked != (1, b"first refused 10 NotOctomap\n", b"octomap: refused\n"):
+            yield f"{words[0]} of a bad first file: {asked}"
+        Path(folder, "a").write_bytes(bt(0, ""))
+        asked = run(program, words, b"", folder)
+        if asked != (8, b"", b"octomap: store fault\n"):
+            yield f"{words[0]} of a second file that can't be read: {asked}"
+
+
 RUNS = [answers_before_it_waits, quits_at_once, runs_out_of_memory, holds_more_than_it_can,
-        is_run_once, leaves_old_bytes_to_their_reader]
+        is_run_once, leaves_old_bytes_to_their_reader, asks_for_the_second_file_last]
 
 
 def differences(program):

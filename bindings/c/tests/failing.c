@@ -225,6 +225,37 @@ static void ask_without_memory(void) {
     EXPECT(live, 0);
 }
 
+/* What is refused whatever memory there is, where there is none. */
+static void refuse_without_memory(void) {
+    const octofix_limits few = {16, 1 << 20};
+    octofix_map map = opened(&default_odds, &few), closed = {0};
+    const octofix_point low = at(0, 0, 0), high = at(11000, 11000, 11000), far = at(4000000, 0, 0);
+    const octofix_point away = at(-1000000, 0, 0);
+    const octofix_pose unturned = {{0, 0, 0}, 0, 0, 0, 0};
+    const octofix_scan_options one_sided = {-1, 5, 0, false};
+    octofix_counted counted;
+    size_t count;
+    EXPECT(octofix_edit(&map, &low, OCTOFIX_ADD, 850, false, &details), OCTOFIX_DONE);
+    EXPECT(octofix_track(&map), OCTOFIX_DONE);
+    to_go = 0;
+    const long made_before = made;
+    EXPECT(octofix_edit(&closed, &low, OCTOFIX_ADD, 1, false, &details), 40);
+    EXPECT(octofix_edit(&map, &low, 4, 1, false, &details), 47);
+    EXPECT(octofix_edit(&map, &far, OCTOFIX_ADD, 1, false, &details), 24);
+    EXPECT(octofix_edit(&map, &away, OCTOFIX_ADD, 1, false, &details), 23);
+    EXPECT(octofix_edit_box(&map, &high, &low, OCTOFIX_ADD, 1, &details), 26);
+    EXPECT(octofix_edit_box(&map, &low, &high, OCTOFIX_ADD, 1, &details), 27);
+    EXPECT(octofix_scan(&map, &unturned, &low, 1, &no_range, &counted, &details), 5);
+    EXPECT(octofix_scan(&map, &ahead, &low, 1, &one_sided, &counted, &details), 4);
+    EXPECT(octofix_list(&map, &low, &far, 16, blocks, ROOM, &count, &details), 24);
+    EXPECT(octofix_list(&map, &low, &high, 17, blocks, ROOM, &count, &details), 25);
+    EXPECT(octofix_list(&map, &high, &low, 16, blocks, ROOM, &count, &details), 26);
+    EXPECT(made, made_before);
+    to_go = -1;
+    octofix_close(&map);
+    EXPECT(live, 0);
+}
+
 static long fail_open(void) {
     octofix_map map = {0};
     long told = 0;
@@ -263,6 +294,7 @@ int main(void) {
     }
     told += fail_edits();
     ask_without_memory();
+    refuse_without_memory();
     printf("failing: %ld allocations, %ld calls told that memory ran out, %d failed\n", made, told,
            failed);
     return failed != 0 || told == 0;
