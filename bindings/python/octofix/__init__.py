@@ -10,13 +10,17 @@
 Lengths are metres, log-odds whole thousandths, points arrays of shape (n, 3). See `Map`.
 """
 
-from ._blocks import Blocks
-from ._errors import BadPoints, Closed, OutOfMemory, Refused
-from ._map import Map, ray
-from ._results import (
-    UNKNOWN, Box, Casts, CastKind, ChangeKind, Changes, Counted, Counts, Event, Limits, Odds,
-    VoxelClass,
-)
+from importlib import import_module
+from typing import TYPE_CHECKING, Any
+
+if TYPE_CHECKING:
+    from ._blocks import Blocks
+    from ._errors import BadPoints, Closed, Interrupted, OutOfMemory, Refused
+    from ._map import Map, ray
+    from ._results import (
+        UNKNOWN, Box, Casts, CastKind, ChangeKind, Changes, Counted, Counts, Event, Limits, Odds,
+        VoxelClass,
+    )
 
 __version__ = "1.0.0"
 
@@ -33,6 +37,7 @@ __all__ = [
     "Counted",
     "Counts",
     "Event",
+    "Interrupted",
     "Limits",
     "Map",
     "Odds",
@@ -41,3 +46,28 @@ __all__ = [
     "VoxelClass",
     "ray",
 ]
+
+_MODULES = ("_errors", "_results", "_blocks", "_map")
+
+
+def __getattr__(name: str) -> Any:
+    """A public name or a module of the package, which is imported when it is first asked for.
+
+    (numpy and the library take a while, and the tools listen for Ctrl-C before.)
+    """
+    if name in __all__:
+        for module in _MODULES:
+            found = vars(import_module(f".{module}", __name__))
+            globals().update({it: found[it] for it in __all__ if it in found})
+        return globals()[name]
+    if not name.startswith("__"):
+        try:
+            return import_module(f".{name}", __name__)
+        except ModuleNotFoundError as missing:
+            if missing.name != f"{__name__}.{name}":
+                raise
+    raise AttributeError(f"module {__name__!r} has no attribute {name!r}")
+
+
+def __dir__() -> list[str]:
+    return sorted({*globals(), *__all__})

@@ -89,6 +89,17 @@ class OutOfMemory(MemoryError):
         return f"{NO_MEMORY}, at row {self.index}"
 
 
+class Interrupted(KeyboardInterrupt):
+    """A Ctrl-C that came during a scan, of which `done` says whether the map has it, whole."""
+
+    def __init__(self, done: bool) -> None:
+        self.done = done
+        super().__init__(done)
+
+    def __str__(self) -> str:
+        return f"the scan is {'done' if self.done else 'not done'}"
+
+
 class BadPoints(ValueError):
     """Points of which one isn't finite, or is 10^7 m or more away from 0 on an axis.
 

@@ -12,7 +12,9 @@ import numpy.typing as npt
 
 from . import _arrays, _files, _library
 from ._blocks import DEPTH, Blocks, blocks_of, voxels_in
-from ._errors import OTHER_RESOLUTION, Closed, OutOfMemory, Refused, refusal_of_row
+from ._errors import (
+    OTHER_RESOLUTION, Closed, Interrupted, OutOfMemory, Refused, refusal_of_row,
+)
 from ._library import call, rows_of
 from ._lock import ReadersWriterLock
 from ._results import (
@@ -24,6 +26,7 @@ _Map = TypeVar("_Map", bound="Map")
 _MOST_GROUPS, _MOST_CELLS = 2**26, 2**27
 _SOUGHT = {"known": 0, "occupied": 1}
 _GUESSED_EDGE = 0.1
+_NOT_COUNTED = 2**64 - 1  # more hits than a scan has
 
 
 class Map:
@@ -97,7 +100,7 @@ class Map:
         if isinstance(source, (bytes, bytearray, memoryview)):
             data = source
         else:
-            data = _files.read(source)
+            data = _files.read_map(source)
         made = cls(_GUESSED_EDGE, **settings)
         try:
             made._take(name, data)
@@ -211,16 +214,20 @@ class Map:
         turned by `quaternion` (w, x, y, z), of any length; points are turned in double. A beam
         that is longer than `range` metres is cut there, and hits nothing. `hit` and `miss` are
         log-odds of this scan alone. A lazy scan leaves depths below 16 to `refresh`. The scan is
-        done whole or refused: 4, 5, 6, 7 (`index`), 8 (`index`, `cells`) or 23.
+        done whole or refused: 4, 5, 6, 7 (`index`), 8 (`index`, `cells`) or 23. A Ctrl-C that comes
+        meanwhile is taken when it is done, as `Interrupted`.
         """
         turn = _arrays.quaternion(quaternion)
         places = _arrays.nanometres(points, "points", turn)
         pose = _library.Pose(_arrays.point(origin, "origin"), 1 if any(turn) else 0, 0, 0, 0)
         reach = -1 if range is None else _arrays.length(range, "range")
         options = _library.ScanOptions(reach, *_arrays.own_odds(hit, miss), lazy)
-        counted = _library.Counted()
-        self._do("scan", pose, places.ctypes.data, len(places), options, counted)
-        return Counted(counted.hits, counted.frees)
+        counted = _library.Counted(_NOT_COUNTED)
+        try:
+            self._do("scan", pose, places.ctypes.data, len(places), options, counted)
+            return Counted(counted.hits, counted.frees)
+        except KeyboardInterrupt:
+            raise Interrupted(counted.hits != _NOT_COUNTED) from None
 
     def edit(
         self,
@@ -452,20 +459,24 @@ class Map:
         self._take("restore", data)
 
     def save(self, path: _files.PathLike) -> None:
-        """Writes the `.bt` file of the map, in place of one there only when it is whole."""
+        """Writes the `.bt` file of the map, in place of one there only when it is whole.
+
+        Links are followed, a file keeps its mode and its owner, and a device or a pipe is written
+        to as it is. What can't be written is an OSError with this name.
+        """
         _files.write(path, self.to_bt())
 
     def load(self, path: _files.PathLike) -> None:
         """`load_bt` of a file."""
-        self.load_bt(_files.read(path))
+        self.load_bt(_files.read_map(path))
 
     def snapshot(self, path: _files.PathLike) -> None:
-        """Writes the snapshot of the map, in place of a file there only when it is whole."""
+        """Writes the snapshot of the map, as `save` writes its file."""
         _files.write(path, self.to_snapshot())
 
     def restore(self, path: _files.PathLike) -> None:
         """`load_snapshot` of a file."""
-        self.load_snapshot(_files.read(path))
+        self.load_snapshot(_files.read_map(path))
 
     # -- calls of the library; what ends with `within` is called while the lock is held
 

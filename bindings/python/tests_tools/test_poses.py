@@ -71,9 +71,10 @@ class ByTime(InFolder):
         words = ["--poses", "poses.tum", "--by-time", *self.clouds]
         counts = [
             self.script(*words, "--tolerance", tolerance, status=3).count("scan ")
-            for tolerance in ("0.004", "0.011", "0.049", "0.051")
+            for tolerance in ("0.011", "0.049", "0.051")
         ]
-        self.assertEqual(counts, [0, 1, 1, 2])
+        self.assertEqual(counts, [1, 1, 2])
+        self.assertEqual(self.script(*words, "--tolerance", "0.004", status=1), "")
 
     def test_interpolated(self):
         """At three quarters of the way the turn is 67.5 degrees; before the first pose is a gap."""

@@ -5,6 +5,14 @@ import argparse
 from .clouds.reading import FORMS
 
 
+class Input(str):
+    """The name of a file that is read."""
+
+
+class Output(str):
+    """The name of a file that is written."""
+
+
 def positive(word):
     number = float(word)
     if not 0 < number < 1e7:
@@ -39,7 +47,9 @@ def columns(word):
 
 def add_scans(parser):
     """The options of how clouds are read and placed."""
-    parser.add_argument("clouds", nargs="+", metavar="CLOUD", help="files; - is the input")
+    parser.add_argument(
+        "clouds", nargs="+", type=Input, metavar="CLOUD", help="files; - is the input"
+    )
     form = parser.add_argument_group("how clouds are read")
     form.add_argument("--format", choices=[*FORMS], help="where the file doesn't show it")
     form.add_argument(
@@ -69,8 +79,9 @@ def add_scans(parser):
 
 def _add_poses(group):
     group.add_argument(
-        "--poses", metavar="FILE", help="a pose a line, for each cloud in turn: TUM or KITTI"
-    )
+        "--poses", type=Input, metavar="FILE",
+        help="a pose a line, for each cloud in turn: TUM or KITTI",
+    )  # fmt: skip
     group.add_argument(
         "--pose", nargs=7, type=finite, metavar=("X", "Y", "Z", "QW", "QX", "QY", "QZ"),
         help="one pose for all clouds",
@@ -78,7 +89,9 @@ def _add_poses(group):
     group.add_argument(
         "--by-time", action="store_true", help="take poses by the times in the names of the clouds"
     )
-    group.add_argument("--times", metavar="FILE", help="by these times, a line for each cloud")
+    group.add_argument(
+        "--times", type=Input, metavar="FILE", help="by these times, a line for each cloud"
+    )
     group.add_argument(
         "--tolerance", type=positive, default=0.05, metavar="S", help="seconds to a pose (0.05)"
     )
@@ -95,7 +108,15 @@ def _add_poses(group):
 
 
 def add_map(parser, name="map"):
-    parser.add_argument(name, metavar=name.upper(), help="a .bt file or a snapshot; - is the input")
+    parser.add_argument(
+        name, type=Input, metavar=name.upper(), help="a .bt file or a snapshot; - is the input"
+    )
+
+
+def add_output(parser, said="- is the output", is_required=True):
+    parser.add_argument(
+        "-o", "--output", type=Output, required=is_required, metavar="FILE", help=said
+    )
 
 
 def add_box(parser):

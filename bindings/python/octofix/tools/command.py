@@ -1,13 +1,15 @@
 """The command octofix: its subcommands, its statuses, and what is said of a fault."""
 
 import argparse
+import contextlib
 import importlib
 import os
 import sys
 
-from octofix import Refused, __version__
+from octofix import __version__
 
 from .errors import CLOSED_PIPE, INTERRUPTED, UNUSABLE, Unusable
+from .interrupts import INTERRUPTS, Abandoned
 from .progress import say
 
 COMMANDS = (
@@ -15,7 +17,7 @@ COMMANDS = (
 )  # fmt: skip
 STATUSES = """statuses: 0 done; 1 an input can't be used, an output can't be written, or something
 was refused; 2 usage; 3 done, but something was skipped; 4 a Python library isn't there; 130 stopped
-by Ctrl-C, with what was done until then written; 141 nobody reads the output any more"""
+by Ctrl-C, SIGTERM or SIGHUP; 141 nobody reads the output any more"""
 
 
 def parser():
@@ -35,8 +37,32 @@ def parser():
 
 def main(words=None):
     """Runs a subcommand, and answers its exit status."""
-    options = parser().parse_args(words)
+    with INTERRUPTS.heard():
+        try:
+            return _run(words)
+        except Abandoned:
+            say("ended at once: nothing is written")
+            # (what is abandoned still runs in its thread)
+            os._exit(INTERRUPTED)
+        except KeyboardInterrupt as why:
+            say(f"stopped by {INTERRUPTS.name()}{why}")
+            return INTERRUPTED
+
+
+def _run(words):
+    if sys.stdout is None:
+        # (it is closed, and what is written to this is a fault)
+        sys.stdout = open(os.devnull)
+    with INTERRUPTS.held("the start"):
+        # (this imports numpy and loads the library)
+        from octofix import Refused
+
+        from .clashes import refuse_clashes
+
+        options = parser().parse_args(words)
     try:
+        INTERRUPTS.take()
+        refuse_clashes(options)
         status = options.run(options)
         sys.stdout.flush()
         return status
@@ -50,11 +76,16 @@ def main(words=None):
         say(str(why) or "memory ran out")
         return UNUSABLE
     except BrokenPipeError:
-        # (so that nothing is written when Python ends)
-        os.dup2(os.open(os.devnull, os.O_WRONLY), sys.stdout.fileno())
+        _give_output_up()
         return CLOSED_PIPE
     except OSError as error:
+        if error.filename is None:
+            _give_output_up()
         say(f"{error.filename or 'the output'}: {error.strerror or error}")
         return UNUSABLE
-    except KeyboardInterrupt:
-        return INTERRUPTED
+
+
+def _give_output_up():
+    """Sees to it that nothing is written, and nothing fails, when Python ends."""
+    with contextlib.suppress(OSError):
+        os.dup2(os.open(os.devnull, os.O_WRONLY), sys.stdout.fileno())

@@ -1,25 +1,26 @@
 """Bytes in and out: files, gzip, and the standard streams under the name '-'."""
 
 import contextlib
+import errno
 import gzip
 import os
 import sys
-import tempfile
 import zlib
 
+from octofix import _files
+
 from .errors import Unusable
+from .interrupts import INTERRUPTS
 
 GZIP = b"\x1f\x8b"
+# What an interrupt waits for.
+WRITING = "the files to be written"
 
 
 def read_bytes(name):
     """The content of a file, unpacked where it is gzip's."""
     try:
-        if name == "-":
-            content = sys.stdin.buffer.read()
-        else:
-            with open(name, "rb") as file:
-                content = file.read()
+        content = _standard_input() if name == "-" else _files.read(name)
         return gzip.decompress(content) if content.startswith(GZIP) else content
     except (EOFError, zlib.error, gzip.BadGzipFile) as error:
         raise Unusable(f"it isn't whole gzip data: {error}", name) from None
@@ -33,44 +34,43 @@ def read_text(name):
 
 
 @contextlib.contextmanager
-def written(name):
-    """A binary file to write, which takes its name's place when it is whole, and never before.
-
-    That it can't be made is Unusable at once; a write that fails is an OSError."""
-    if name == "-":
-        yield sys.stdout.buffer
-        sys.stdout.buffer.flush()
-    elif os.path.exists(name) and not os.path.isfile(name):
-        with _made(open, name, name, "wb") as file:
-            yield file
-    else:
-        with _replacing(name) as file:
-            yield file
-
-
-def _made(make, name, *words, **options):
-    try:
-        return make(*words, **options)
-    except OSError as error:
-        raise Unusable(error.strerror or str(error), name) from None
+def written(*names):
+    """Files to write, which take their places when all of them are whole, and else leave nothing.
+    An interrupt waits until they are there."""
+    outputs = [StandardOutput() if it == "-" else _files.Output(it) for it in names]
+    with contextlib.ExitStack() as stack:
+        # (a pipe may wait for its reader)
+        with INTERRUPTS.held(None):
+            stack.enter_context(_files.opened(outputs))
+        yield outputs
+        with INTERRUPTS.held(WRITING):
+            _files.put(outputs)
+    INTERRUPTS.take()
 
 
-@contextlib.contextmanager
-def _replacing(name):
-    folder, base = os.path.split(name)
-    options = {"dir": folder or ".", "prefix": f".{base}.", "delete": False}
-    file = _made(tempfile.NamedTemporaryFile, name, **options)
-    try:
-        with file:
-            yield file
-        os.chmod(file.name, 0o666 & ~_mask())
-        os.replace(file.name, name)
-    except BaseException:
-        os.unlink(file.name)
-        raise
+def write(name, data):
+    with written(name) as (file,):
+        file.write(data)
 
 
-def _mask():
-    mask = os.umask(0)
-    os.umask(mask)
-    return mask
+class StandardOutput(_files.Output):
+    """The standard output, which has no place to be put in."""
+
+    def __init__(self):
+        super().__init__("-")
+        self.stream = sys.stdout.buffer
+
+    def open(self):
+        pass
+
+    def write(self, data):
+        self.stream.write(data)
+
+    def finish(self):
+        self.stream.flush()
+
+
+def _standard_input():
+    if sys.stdin is None:
+        raise OSError(errno.EBADF, os.strerror(errno.EBADF))
+    return sys.stdin.buffer.read()

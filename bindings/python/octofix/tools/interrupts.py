@@ -1,33 +1,102 @@
-"""Ctrl-C at a good moment."""
+"""Ctrl-C, SIGTERM and SIGHUP at a good moment."""
 
 import contextlib
 import signal
+import threading
+
+from .progress import say
+
+NAMES = {signal.SIGINT: "Ctrl-C", signal.SIGTERM: "SIGTERM", signal.SIGHUP: "SIGHUP"}
+# How often it is looked whether an interrupt waits, in seconds.
+LOOK = 0.1
+
+
+class Abandoned(KeyboardInterrupt):
+    """A second interrupt while the first one waits: the process is to end at once."""
 
 
 class Interrupts:
-    """While this is entered, Ctrl-C raises KeyboardInterrupt, and within `held` only at its end."""
+    """What is done where one of the signals comes: a KeyboardInterrupt, or within `held` nothing
+    before the caller asks by `take`; there a second one is Abandoned."""
 
     def __init__(self):
-        self.is_held = self.came = False
+        self._forget()
 
-    def __enter__(self):
-        self.before = signal.signal(signal.SIGINT, self._handle)
-        return self
-
-    def __exit__(self, *_):
-        signal.signal(signal.SIGINT, self.before)
-
-    def _handle(self, *_):
-        self.came = True
-        if not self.is_held:
-            raise KeyboardInterrupt
+    def _forget(self):
+        self.first = self.waits_for = None
+        self.is_waiting = False
 
     @contextlib.contextmanager
-    def held(self):
-        self.is_held = True
+    def heard(self):
+        """Hears the signals; in the main thread, which alone can."""
+        self._forget()
+        before = {}
+        try:
+            if threading.current_thread() is threading.main_thread():
+                for it in filter(_is_to_be_heard, NAMES):
+                    before[it] = signal.signal(it, self._come)
+            yield
+        finally:
+            for it, handler in before.items():
+                signal.signal(it, handler)
+
+    def _come(self, number, _):
+        # (a terminal that is closed may send several signals)
+        is_second = self.first not in (None, signal.SIGHUP) and number != signal.SIGHUP
+        self.first = self.first or number
+        if self.waits_for is None:
+            raise KeyboardInterrupt
+        if is_second:
+            raise Abandoned
+        self.is_waiting = True
+
+    def name(self):
+        """What came first."""
+        return NAMES.get(self.first, "Ctrl-C")
+
+    @contextlib.contextmanager
+    def held(self, what):
+        """An interrupt waits for this; None lets it come at once."""
+        before, self.waits_for = self.waits_for, what
         try:
             yield
         finally:
-            self.is_held = False
-        if self.came:
+            self.waits_for = before
+
+    def take(self):
+        """Raises the interrupt that waits, if there is one."""
+        if self.is_waiting:
+            self.is_waiting = False
             raise KeyboardInterrupt
+
+    def finish(self, what, work, *words):
+        """What the work answers, for which an interrupt waits, and says so. A second one ends this
+        at once, and the work goes on in its thread until the process ends."""
+        answers, faults, is_done, is_said = [], [], threading.Event(), False
+
+        def do():
+            try:
+                answers.append(work(*words))
+            except BaseException as fault:
+                faults.append(fault)
+            finally:
+                is_done.set()
+
+        with self.held(what):
+            threading.Thread(target=do, daemon=True).start()
+            while not is_done.wait(LOOK):
+                if self.is_waiting and not is_said:
+                    is_said = True
+                    say(f"{self.name()} waits for {what}; a second one ends at once")
+        if faults:
+            raise faults[0]
+        return answers[0]
+
+
+def _is_to_be_heard(number):
+    """All but what somebody else handles, or ignores on purpose, as nohup does."""
+    handler = signal.getsignal(number)
+    return number == signal.SIGINT or handler not in (signal.SIG_IGN, None)
+
+
+INTERRUPTS = Interrupts()

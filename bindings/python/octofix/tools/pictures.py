@@ -1,7 +1,9 @@
 """Pictures: PGM, and PNG by Pillow."""
 
+import io
+
 from .errors import Unusable
-from .files import written
+from .files import write
 from .optional import needed
 
 
@@ -13,14 +15,16 @@ def form_of(name):
 
 
 def write_picture(name, pixels):
-    """Writes uint8 pixels, (rows, columns) of greys or (rows, columns, 3), the top row first."""
+    write(name, picture(name, pixels))
+
+
+def picture(name, pixels):
+    """The file of uint8 pixels, (rows, columns) of greys or (rows, columns, 3), the top row
+    first, in the form of the name."""
     if form_of(name) == "pgm":
         if pixels.ndim != 2:
             raise Unusable("a picture in colours is a PNG", name)
-        head = f"P5\n{pixels.shape[1]} {pixels.shape[0]}\n255\n".encode()
-        with written(name) as file:
-            file.write(head + pixels.tobytes())
-        return
-    images = needed("PIL.Image", "a PNG")
-    with written(name) as file:
-        images.fromarray(pixels).save(file, "PNG")
+        return f"P5\n{pixels.shape[1]} {pixels.shape[0]}\n255\n".encode() + pixels.tobytes()
+    file = io.BytesIO()
+    needed("PIL.Image", "a PNG").fromarray(pixels).save(file, "PNG")
+    return file.getvalue()

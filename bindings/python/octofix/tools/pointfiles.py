@@ -5,6 +5,8 @@ import tempfile
 
 import numpy as np
 
+from octofix import _files
+
 from .errors import Unusable
 from .files import written
 
@@ -28,13 +30,20 @@ def write_points(name, form, columns, pieces):
     with tempfile.SpooledTemporaryFile(KEPT_IN_MEMORY) as body:
         count = 0
         for piece in pieces:
-            body.write(_body(form, piece))
+            # (where that has no room, TMPDIR may name another folder)
+            with _files.named(tempfile.gettempdir()):
+                body.write(_body(form, piece))
             count += len(piece)
         body.seek(0)
-        with written(name) as file:
+        with written(name) as (file,):
             file.write(_header(form, columns, count))
             shutil.copyfileobj(body, file)
     return count
+
+
+def points_file(form, columns, piece):
+    """The file of one piece."""
+    return _header(form, columns, len(piece)) + _body(form, piece)
 
 
 def _body(form, piece):

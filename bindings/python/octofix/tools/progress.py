@@ -1,5 +1,6 @@
-"""How far a long run is, on standard error."""
+"""How far a long run is, on standard error. Where that is closed, nothing is said."""
 
+import contextlib
 import sys
 import time
 
@@ -7,7 +8,18 @@ from .optional import wanted
 
 
 def say(text):
-    print(f"octofix: {text}", file=sys.stderr, flush=True)
+    _write(f"octofix: {text}\n")
+
+
+def is_terminal():
+    return sys.stderr is not None and sys.stderr.isatty()
+
+
+def _write(text):
+    # (the terminal may be gone)
+    with contextlib.suppress(OSError):
+        if sys.stderr is not None:
+            print(text, end="", file=sys.stderr, flush=True)
 
 
 class Progress:
@@ -27,10 +39,11 @@ class Progress:
         self.points += points
         if self.bar is not None:
             self.bar.set_postfix_str(f"{self.points / self.seconds():,.0f} points/s", False)
-            self.bar.update()
+            with contextlib.suppress(OSError):
+                self.bar.update()
         elif self.is_shown and time.monotonic() - self.told > 0.5:
             self.told = time.monotonic()
-            print(f"\r{self.line()}", end="", file=sys.stderr, flush=True)
+            _write(f"\r{self.line()}")
 
     def seconds(self):
         return max(time.monotonic() - self.began, 1e-6)
@@ -49,6 +62,7 @@ class Progress:
 
     def close(self):
         if self.bar is not None:
-            self.bar.close()
+            with contextlib.suppress(OSError):
+                self.bar.close()
         elif self.is_shown:
-            print("\r" + " " * 78 + "\r", end="", file=sys.stderr, flush=True)
+            _write("\r" + " " * 78 + "\r")

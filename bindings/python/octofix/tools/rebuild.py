@@ -6,7 +6,7 @@ from octofix import Event, Map, Refused
 
 from .editing import edit_blocks
 from .errors import Unusable
-from .files import written
+from .files import write
 from .leaves import OCCUPIED
 from .lengths import NANO
 from .maps import MOST_GROUPS
@@ -21,5 +21,4 @@ def write_leaves(name, leaves, steps=(0, 0, 0)):
             edit_blocks(world, leaves, Event.SET, numbers, steps)
         except Refused as refused:
             raise Unusable(f"the map can't be made: {refused}") from None
-        with written(name) as file:
-            file.write(world.to_bt())
+        write(name, world.to_bt())

@@ -19,6 +19,7 @@ from octofix import CastKind, Refused
 from ..arguments import add_map, add_scans
 from ..errors import DONE, SKIPPED
 from ..gathering import gathered
+from ..interrupts import INTERRUPTS
 from ..leaves import OCCUPIED, UNKNOWN, Leaves, overlay
 from ..lengths import NANO
 from ..mapping import refusal
@@ -55,7 +56,9 @@ def run(options):
         leaves = Leaves.of(world.leaves(), world.odds.threshold)
         for scan in scans:
             try:
-                _add(tally, world, leaves, scan, options.range)
+                words = tally, world, leaves, scan, options.range
+                INTERRUPTS.finish("the running scan", _add, *words)
+                INTERRUPTS.take()
             except Refused as refused:
                 scans.skips.judge(refusal(refused, scan.name))
     print(json.dumps(_facts(tally), indent=2) if options.json else _text(tally))

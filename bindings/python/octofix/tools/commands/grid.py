@@ -13,16 +13,18 @@ import os
 import numpy as np
 
 from .. import planes
-from ..arguments import add_map, finite
+from ..arguments import Output, add_map, add_output, finite
 from ..boxes import box_of
+from ..clashes import refuse_clashes
 from ..errors import DONE, Unusable
 from ..files import written
 from ..leaves import FREE, OCCUPIED, ORIGIN, UNKNOWN
 from ..lengths import NANO, metres
 from ..maps import read_leaves
-from ..pictures import form_of, write_picture
-from ..pointfiles import write_points
+from ..pictures import form_of, picture
+from ..pointfiles import points_file
 from ..progress import say
+from ..yamltext import text_of
 
 HELP = "a height band as PGM or PNG, with its YAML for ROS"
 GREYS = {UNKNOWN: 205, FREE: 254, OCCUPIED: 0}
@@ -44,21 +46,26 @@ def arguments(parser):
     parser.add_argument(
         "--area", nargs=4, type=finite, metavar=("X0", "Y0", "X1", "Y1"), help="in metres (all)"
     )
-    parser.add_argument("-o", "--output", required=True, metavar="FILE", help=".pgm or .png")
-    parser.add_argument("--frontier", metavar="FILE", help="a .csv of the frontier")
+    add_output(parser, ".pgm or .png")
+    parser.add_argument("--frontier", type=Output, metavar="FILE", help="a .csv of the frontier")
 
 
 def run(options):
     form_of(options.output)
+    beside = Output(os.path.splitext(options.output)[0] + ".yaml")
+    refuse_clashes(options, beside)
+    image = text_of(os.path.basename(options.output))
     leaves = read_leaves(options.map)
     low, high = box_for(leaves, options.area, options.height)
     plane = planes.band(leaves, low, high)
     greys = np.array([GREYS[it] for it in (UNKNOWN, FREE, OCCUPIED)], np.uint8)
-    write_picture(options.output, greys[plane[::-1]])
-    with written(os.path.splitext(options.output)[0] + ".yaml") as file:
-        file.write(yaml_of(options.output, low, leaves.resolution).encode())
+    contents = {options.output: picture(options.output, greys[plane[::-1]])}
+    contents[beside] = yaml_of(image, low, leaves.resolution).encode()
     if options.frontier:
-        _write_frontier(options.frontier, plane, low, leaves.resolution)
+        contents[options.frontier] = frontier_file(plane, low, leaves.resolution)
+    with written(*contents) as files:
+        for file, content in zip(files, contents.values()):
+            file.write(content)
     counted = ", ".join(f"{(plane == it).sum()} {name}" for it, name in _named())
     say(f"{plane.shape[1]} x {plane.shape[0]} cells: {counted}")
     return DONE
@@ -85,15 +92,15 @@ def box_for(leaves, area, height):
     return low, high
 
 
-def yaml_of(picture, low, resolution):
-    """The YAML of a picture whose lower left cell has this key: its origin is that corner."""
+def yaml_of(image, low, resolution):
+    """The YAML of an image whose lower left cell has this key: its origin is that corner."""
     x, y = (metres(it) for it in (np.asarray(low)[:2] - ORIGIN) * resolution)
-    image = os.path.basename(picture)
     return YAML.format(image=image, resolution=metres(resolution), x=x, y=y)
 
 
-def _write_frontier(name, plane, low, resolution):
+def frontier_file(plane, low, resolution):
+    """A CSV of the middles of the cells of the frontier."""
     rows, columns = np.nonzero(planes.frontier(plane))
     keys = np.stack([columns + low[0], rows + low[1]], axis=-1)
     middles = (2 * (keys - ORIGIN) + 1) * (resolution / 2 / NANO)
-    write_points(name, "csv", ["x", "y"], [middles])
+    return points_file("csv", ["x", "y"], middles)

@@ -8,21 +8,24 @@ metres in the sensor's own frame. Where a pose stands in the file (VIEWPOINT of 
 used unless poses are given; without any, the sensor stands at the origin.
 """
 
-import contextlib
-import sys
-
 from octofix import Map, Refused
 
-from ..arguments import add_scans, positive, whole
+from ..arguments import Output, add_scans, positive, whole
+from ..clashes import refuse_clouds
 from ..errors import DONE, INTERRUPTED, SKIPPED, Unusable
-from ..files import written
-from ..interrupts import Interrupts
+from ..files import WRITING, written
+from ..interrupts import INTERRUPTS, Abandoned
 from ..mapping import Mapper
-from ..progress import Progress, say
+from ..progress import Progress, is_terminal, say
 from ..script import Script
 from ..setup import scans_of
 
 HELP = "clouds to a map"
+OUTPUTS = {
+    "output": (("-o", "--output"), "the .bt file of the map"),
+    "snapshot": (("--snapshot",), "the map with its values"),
+    "script": (("--script",), "commands for 'octomap build' or a session"),
+}
 ODDS = {"hit": 850, "miss": -400, "min": -2000, "max": 3500, "thr": 0}
 
 
@@ -30,9 +33,11 @@ def arguments(parser):
     add_scans(parser)
     parser.add_argument("--res", type=positive, required=True, metavar="M", help="edge of a voxel")
     out = parser.add_argument_group("what is written (- is the output)")
-    out.add_argument("-o", "--output", metavar="FILE", help="the .bt file of the map")
-    out.add_argument("--snapshot", metavar="FILE", help="the map with its values")
-    out.add_argument("--script", metavar="FILE", help="commands for 'octomap build' or a session")
+    for words, said in OUTPUTS.values():
+        out.add_argument(*words, type=Output, metavar="FILE", help=said)
+    out.add_argument(
+        "--allow-empty", action="store_true", help="write a map that no scan has put a point into"
+    )
     for name, number in ODDS.items():
         parser.add_argument(
             f"--{name}", type=int, default=number, metavar="N",
@@ -49,26 +54,27 @@ def arguments(parser):
 
 
 def run(options):
-    outputs = [options.output, options.snapshot, options.script]
-    if not any(outputs):
+    kinds = [it for it in OUTPUTS if getattr(options, it)]
+    names = [getattr(options, it) for it in kinds]
+    if not names:
         raise Unusable("nothing is to be written (-o, --snapshot or --script)")
-    if outputs.count("-") > 1:
+    if names.count("-") > 1:
         raise Unusable("only one of -o, --snapshot and --script can be the output")
+    refuse_clouds(names, options.clouds)
     scans = scans_of(options)
-    with contextlib.ExitStack() as stack:
-        world = stack.enter_context(_map_of(options))
-        # (what can't be written is told before all the work)
-        files = [stack.enter_context(written(it)) if it else None for it in outputs]
-        mapper = Mapper(world, options.range, files[2] and Script(files[2]))
-        with Interrupts() as interrupts:
-            is_stopped = _fill(mapper, scans, options, interrupts)
-        for file, content in zip(files, (world.to_bt, world.to_snapshot)):
-            if file:
-                file.write(content())
+    # (it isn't closed: a scan that is abandoned is still at work in it)
+    world = _map_of(options)
+    # (what can't be written is told before all the work)
+    with INTERRUPTS.held(WRITING), written(*names) as opened:
+        files = dict(zip(kinds, opened))
+        mapper = Mapper(world, options.range, Script(files["script"]) if options.script else None)
+        is_stopped = _fill(mapper, scans, options)
+        _expect_points(mapper, scans, is_stopped, options.allow_empty)
+        INTERRUPTS.finish(WRITING, _write, world, files)
     if not options.quiet:
         say(_closing_line(mapper, scans))
     if is_stopped:
-        say("stopped by Ctrl-C: the map has the scans until then")
+        say(f"stopped by {INTERRUPTS.name()}: the map has the scans until then")
         return INTERRUPTED
     return SKIPPED if scans.skips.count or scans.gaps else DONE
 
@@ -84,15 +90,18 @@ def _map_of(options):
         raise Unusable(named.get(refused.name, str(refused))) from None
 
 
-def _fill(mapper, scans, options, interrupts):
-    """Does all scans; whether Ctrl-C came, which waits until a scan is done."""
-    is_shown = not options.quiet and sys.stderr.isatty()
+def _fill(mapper, scans, options):
+    """Does all scans; whether an interrupt came, which waits until a scan is done."""
+    is_shown = not options.quiet and is_terminal()
     progress = Progress(len(options.clouds) if scans.is_one_each() else None, is_shown)
     try:
-        for scan in scans:
-            with interrupts.held():
-                _add(mapper, scan, scans.skips)
+        with INTERRUPTS.held(None):
+            for scan in scans:
+                INTERRUPTS.finish("the running scan", _add, mapper, scan, scans.skips)
                 progress.step(len(scan.points))
+                INTERRUPTS.take()
+    except Abandoned:
+        raise
     except KeyboardInterrupt:
         return True
     finally:
@@ -108,14 +117,36 @@ def _add(mapper, scan, skips):
         skips.judge(why)
 
 
+def _expect_points(mapper, scans, is_stopped, is_empty_allowed):
+    """Leaves the old files where the map has nothing."""
+    if mapper.points:
+        return
+    if is_stopped:
+        raise KeyboardInterrupt(" before the first scan: nothing is written")
+    if not is_empty_allowed:
+        said = "no scan has a point, so nothing is written (--allow-empty writes an empty map)"
+        raise Unusable("; ".join([said, *_left_out(scans)]))
+
+
+def _write(world, files):
+    for kind, content in (("output", world.to_bt), ("snapshot", world.to_snapshot)):
+        if kind in files:
+            files[kind].write(content())
+
+
 def _closing_line(mapper, scans):
     counted = [f"{mapper.scans} scans of {mapper.points} points, {mapper.rates}"]
     if mapper.parted:
         counted.append(f"{mapper.parted} of them in parts")
+    return "; ".join([*counted, *_left_out(scans)])
+
+
+def _left_out(scans):
+    counted = []
     if scans.skips.count:
         counted.append(f"skipped {scans.skips.count}")
     if scans.gaps:
         counted.append(f"{scans.gaps} gaps without a pose")
     if scans.left.text():
         counted.append(f"left out {scans.left.text()}")
-    return "; ".join(counted)
+    return counted

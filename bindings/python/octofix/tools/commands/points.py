@@ -13,7 +13,7 @@ occupied) behind x, y, z.
 
 import numpy as np
 
-from ..arguments import add_box, add_map, whole
+from ..arguments import add_box, add_map, add_output, whole
 from ..boxes import box_of
 from ..errors import DONE, Unusable
 from ..leaves import FREE, OCCUPIED, VOXELS
@@ -33,7 +33,7 @@ def arguments(parser):
     parser.add_argument("--depth", type=whole(0, VOXELS), default=VOXELS, help="of blocks (16)")
     add_box(parser)
     parser.add_argument("--format", choices=FORMS, help="where the name's ending doesn't say it")
-    parser.add_argument("-o", "--output", required=True, metavar="FILE", help="- is the output")
+    add_output(parser)
 
 
 def run(options):

@@ -13,7 +13,7 @@ import os
 import numpy as np
 
 from .. import colours, oblique, planes
-from ..arguments import add_box, add_map, finite, whole
+from ..arguments import add_box, add_map, add_output, finite, whole
 from ..boxes import box_of
 from ..errors import DONE, Unusable
 from ..leaves import OCCUPIED, VOXELS
@@ -52,7 +52,7 @@ def arguments(parser):
     )
     parser.add_argument("--width", type=whole(16, 8192), default=800, metavar="N", help="in pixels")
     parser.add_argument("--text", action="store_true", help="a slice as text on the output")
-    parser.add_argument("-o", "--output", metavar="FILE", help="the picture, .png")
+    add_output(parser, "the picture, .png", is_required=False)
 
 
 def run(options):

@@ -1,0 +1,76 @@
+"""Outputs that would be written over an input or over each other."""
+
+import contextlib
+import os
+import re
+import stat
+
+from .arguments import Input, Output
+from .errors import Unusable
+
+
+# How what the tools write begins, and the endings of clouds.
+MADE = (b"# Octomap OcTree", b"OCTSNAP", b"scan ", b"hit ", b"miss ", b"box ")
+CLOUDS = {"pcd", "ply", "npy", "bin", "graph", "bag", "log", "xyz", "csv", "las", "laz"}
+
+
+def refuse_clouds(outputs, clouds):
+    """Refuses to write over a file that was made by no tool and has an ending of clouds: where
+    somebody forgets FILE in `-o FILE *.npy`, it is the first of them."""
+    endings = CLOUDS | set(map(_ending, clouds))
+    for name in outputs:
+        with contextlib.suppress(OSError):
+            if _ending(name) in endings and _is_foreign(name):
+                raise Unusable("it stands there and seems to be a cloud (is FILE forgotten?)", name)
+
+
+def _ending(name):
+    return re.sub(r"\.gz$", "", name.lower()).rpartition(".")[2]
+
+
+def _is_foreign(name):
+    if not os.path.isfile(name):
+        return False
+    with open(name, "rb") as file:
+        head = file.read(16)
+    return bool(head) and not head.startswith(MADE)
+
+
+def refuse_clashes(options, *more):
+    """Refuses outputs that are an input or another output, `more` of them beside those of the
+    options. Files are told apart by device and inode, those that aren't there by their places."""
+    words = [it for value in vars(options).values() for it in _listed(value)]
+    inputs = [it for it in words if isinstance(it, Input)]
+    outputs = [it for it in words if isinstance(it, Output)] + list(more)
+    if inputs.count("-") > 1:
+        raise Unusable("- stands for two inputs, and the standard input can be read once")
+    read, taken = {_identity(it, 0): it for it in inputs if _is_kept(it, 0)}, {}
+    for name in outputs:
+        place = _identity(name, 1)
+        if place in read and _is_kept(name, 1):
+            raise Unusable(f"it would be written over the input {read[place]}", name)
+        if place in taken and name != os.devnull and {name, taken[place]} != {"-"}:
+            raise Unusable(f"two outputs are this file, the other one as {taken[place]}", name)
+        taken[place] = name
+
+
+def _listed(value):
+    return value if isinstance(value, list) else [value]
+
+
+def _status(name, descriptor):
+    try:
+        return os.fstat(descriptor) if name == "-" else os.stat(name)
+    except OSError:
+        return None
+
+
+def _identity(name, descriptor):
+    found = _status(name, descriptor)
+    return (found.st_dev, found.st_ino) if found else os.path.realpath(name)
+
+
+def _is_kept(name, descriptor):
+    """Whether what is written may be read again: a terminal may be both input and output."""
+    found = _status(name, descriptor)
+    return found is None or not (stat.S_ISCHR(found.st_mode) or stat.S_ISSOCK(found.st_mode))
