@@ -10,10 +10,14 @@
 Lengths are metres, log-odds whole thousandths, points arrays of shape (n, 3). See `Map`.
 """
 
-from importlib import import_module
-from typing import TYPE_CHECKING, Any
+from __future__ import annotations
 
+from importlib import import_module
+
+TYPE_CHECKING = False
 if TYPE_CHECKING:
+    from typing import Any
+
     from ._blocks import Blocks
     from ._errors import BadPoints, Closed, Interrupted, OutOfMemory, Refused
     from ._map import Map, ray

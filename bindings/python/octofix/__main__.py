@@ -1,7 +1,12 @@
 """`python3 -m octofix`: the tools' command."""
 
+import signal
 import sys
 
-from .tools.command import main
+# (until the tools listen, Ctrl-C ends this without a word)
+if signal.getsignal(signal.SIGINT) is signal.default_int_handler:
+    signal.signal(signal.SIGINT, signal.SIG_DFL)
+
+from .tools.command import main  # noqa: E402
 
 sys.exit(main())

@@ -1,14 +1,19 @@
 """Files, copies and pickles."""
 import copy
+import errno
 import os
 import pickle
+import signal
 import stat
+import sys
 import tempfile
+import threading
 import unittest
 from pathlib import Path
 from unittest import mock
 
 import octofix
+from octofix import _files, _library
 
 # One occupied voxel, that of the origin: fifteen blocks with one child, and then the voxel. The
 # child is the last of eight at first, and then always the first.
@@ -103,11 +108,145 @@ class Files(unittest.TestCase):
 
     def test_a_link_stays_one(self):
         (self.folder / "target").write_bytes(b"")
-        (self.folder / "link").symlink_to("target")
+        (self.folder / "other").mkdir()
+        for name, target in (("link", "target"), ("dangling", "other/new")):
+            (self.folder / name).symlink_to(target)
+            with octofix.Map(0.1) as world:
+                world.save(self.folder / name)
+                self.assertEqual(os.readlink(self.folder / name), target)
+                self.assertEqual((self.folder / target).read_bytes(), world.to_bt())
+
+    def test_modes(self):
+        """A file that stands keeps its own, and a new one has what the mask leaves."""
+        (self.folder / "a.bt").write_bytes(b"old")
+        (self.folder / "a.bt").chmod(0o600)
+        self.addCleanup(os.umask, os.umask(0o027))
         with octofix.Map(0.1) as world:
-            world.save(self.folder / "link")
-            self.assertTrue((self.folder / "link").is_symlink())
-            self.assertEqual((self.folder / "target").read_bytes(), world.to_bt())
+            for name, mode in (("a.bt", 0o600), ("b.bt", 0o640)):
+                world.snapshot(self.folder / name)
+                self.assertEqual(stat.S_IMODE((self.folder / name).stat().st_mode), mode)
+                self.assertEqual((self.folder / name).read_bytes(), world.to_snapshot())
+
+    def test_a_device_and_a_pipe_stay_what_they_are(self):
+        os.mkfifo(self.folder / "pipe")
+        came = []
+        reader = threading.Thread(
+            target=lambda: came.append((self.folder / "pipe").read_bytes())
+        )
+        reader.start()
+        with octofix.Map(0.1) as world:
+            world.save(self.folder / "pipe")
+            reader.join()
+            self.assertEqual(came, [world.to_bt()])
+            for call in (world.save, world.snapshot):
+                with self.assertRaises(OSError) as full:
+                    call("/dev/full")
+                self.assertEqual(full.exception.errno, errno.ENOSPC)
+                self.assertEqual(full.exception.filename, "/dev/full")
+        self.assertTrue(stat.S_ISFIFO((self.folder / "pipe").stat().st_mode))
+        self.assertTrue(stat.S_ISCHR(os.stat("/dev/full").st_mode))
+
+    def test_faults_name_the_file(self):
+        (self.folder / "a.bt").write_bytes(b"old")
+        with octofix.Map(0.1) as world:
+            for name in ("", ".", "none/a.bt", "new/", "a.bt/b.bt"):
+                place = os.path.join(self.folder, name)
+                with self.assertRaises(OSError) as fault:
+                    world.save(place)
+                self.assertEqual(fault.exception.filename, place)
+            with self.assertRaises(FileNotFoundError):
+                world.save("")
+            for call, fault in ((os.fsync, errno.EIO), (os.replace, errno.EPERM)):
+                with mock.patch(f"os.{call.__name__}", side_effect=OSError(fault, "no")):
+                    with self.assertRaises(OSError) as came:
+                        world.save(self.folder / "a.bt")
+                named = str(self.folder / "a.bt")
+                self.assertEqual((came.exception.errno, came.exception.filename), (fault, named))
+        self.assertEqual((self.folder / "a.bt").read_bytes(), b"old")
+        self.assertEqual(os.listdir(self.folder), ["a.bt"])
+
+    def test_names_of_bytes(self):
+        with octofix.Map(0.1) as world:
+            world.save(os.fsencode(self.folder) + b"/\xff.bt")
+            world.load(os.fsencode(self.folder) + b"/\xff.bt")
+        self.assertEqual(os.listdir(os.fsencode(self.folder)), [b"\xff.bt"])
+
+    def test_an_endless_file(self):
+        with octofix.Map(0.1) as world, mock.patch("octofix._files._MOST_BYTES", 99):
+            with self.assertRaisesRegex(octofix.Refused, "refused 34 FileTooLarge"):
+                world.load("/dev/zero")
+
+    def test_an_interrupt_anywhere_leaves_nothing(self):
+        """At each line that writing a file takes: the old file or the new one, and no other."""
+        for old in (None, b"old"):
+            line, is_done = 0, False
+            while not is_done:
+                line += 1
+                place = self.folder / f"{line}.bt"
+                if old:
+                    place.write_bytes(old)
+                is_done = not interrupted(line, lambda: _files.write(place, b"new"))
+                came = place.read_bytes() if place.exists() else None
+                self.assertIn(came, (old, b"new"))
+                self.assertIn(os.listdir(self.folder), ([], [place.name]))
+                place.unlink(missing_ok=True)
+            self.assertGreater(line, 30)
+
+
+def interrupted(number, work):
+    """Does the work with a KeyboardInterrupt at the line of this number; whether it came so far."""
+    lines = iter(range(1, number))
+
+    def trace(frame, event, _):
+        if frame.f_code.co_filename != _files.__file__:
+            return None
+        if event == "line" and next(lines, None) is None:
+            sys.settrace(None)
+            raise KeyboardInterrupt
+        return trace
+
+    before = sys.gettrace()
+    sys.settrace(trace)
+    try:
+        work()
+        return False
+    except KeyboardInterrupt:
+        return True
+    finally:
+        sys.settrace(before)
+
+
+class Interrupts(unittest.TestCase):
+    """A Ctrl-C while the library is at work is taken when it is done."""
+
+    def setUp(self):
+        before = signal.signal(signal.SIGINT, signal.default_int_handler)
+        self.addCleanup(signal.signal, signal.SIGINT, before)
+
+    def scan(self, world, is_before):
+        scan = _library._FUNCTIONS["scan"]
+
+        def interrupting(*words):
+            if is_before:
+                signal.raise_signal(signal.SIGINT)
+            code = scan(*words)
+            signal.raise_signal(signal.SIGINT)
+            return code
+
+        with mock.patch.dict(_library._FUNCTIONS, scan=interrupting):
+            with self.assertRaises(octofix.Interrupted) as came:
+                world.scan([[2, 0, 0]])
+        self.assertIsInstance(came.exception, KeyboardInterrupt)
+        return came.exception
+
+    def test_it_says_whether_the_map_has_the_scan(self):
+        with octofix.Map(0.1) as world:
+            stopped = self.scan(world, is_before=True)
+            self.assertEqual((stopped.done, str(stopped)), (False, "the scan is not done"))
+            self.assertEqual(world.counts().nodes, 0)
+            stopped = self.scan(world, is_before=False)
+            self.assertEqual((stopped.done, str(stopped)), (True, "the scan is done"))
+            self.assertEqual(world.get((2, 0, 0)).tolist(), [850])
 
 
 class Copies(unittest.TestCase):

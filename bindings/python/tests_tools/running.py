@@ -25,7 +25,8 @@ class Ran:
 
 
 def octofix(*words, given=b""):
-    streams = [io.TextIOWrapper(io.BytesIO(), write_through=True) for _ in range(2)]
+    how = {"errors": "backslashreplace", "write_through": True}
+    streams = [io.TextIOWrapper(io.BytesIO(), **how) for _ in range(2)]
     given = io.TextIOWrapper(io.BytesIO(given))
     with mock.patch.multiple(sys, stdout=streams[0], stderr=streams[1], stdin=given):
         try:

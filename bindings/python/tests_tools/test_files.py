@@ -1,0 +1,264 @@
+"""Files that are written: where they go, what stays as it was, and what would be lost."""
+
+import errno
+import os
+import resource
+import stat
+import threading
+from unittest import mock
+
+import numpy as np
+from running import InFolder, save_map
+
+from octofix import _files
+from octofix.tools.yamltext import text_of
+
+try:
+    import yaml
+except ImportError:
+    yaml = None
+
+CLOUD = b"2 0 0\n"
+
+
+def content_of(name):
+    with open(name, "rb") as file:
+        return file.read()
+
+
+def put_file(name, content=b"old"):
+    with open(name, "wb") as file:
+        file.write(content)
+
+
+class Maps(InFolder):
+    """A map of one beam, which is in wanted.bt, too."""
+
+    def setUp(self):
+        super().setUp()
+        put_file("a.xyz", CLOUD)
+        self.map("-o", "wanted.bt")
+        self.wanted = content_of("wanted.bt")
+
+    def map(self, *words, status=0):
+        return self.done("map", "--res", "0.1", "--quiet", "a.xyz", *words, status=status)
+
+    def fails(self, said, *words):
+        before = sorted(os.listdir())
+        self.refused(said, "map", "--res", "0.1", "--quiet", "a.xyz", *words)
+        self.assertEqual(sorted(os.listdir()), before)
+
+
+class Written(Maps):
+    def test_a_device_stays_one(self):
+        self.fails("/dev/full: No space left on device", "-o", "/dev/full")
+        self.assertTrue(stat.S_ISCHR(os.stat("/dev/full").st_mode))
+        self.map("-o", "/dev/null", "--snapshot", "/dev/null")
+        self.assertTrue(stat.S_ISCHR(os.stat("/dev/null").st_mode))
+
+    def test_a_pipe_is_written_to(self):
+        os.mkfifo("pipe")
+        came = []
+        reader = threading.Thread(target=lambda: came.append(content_of("pipe")))
+        reader.start()
+        self.map("-o", "pipe")
+        reader.join()
+        self.assertEqual(came, [self.wanted])
+        self.assertTrue(stat.S_ISFIFO(os.stat("pipe").st_mode))
+
+    def test_links_are_followed(self):
+        os.mkdir("other")
+        put_file("other/stands.bt")
+        for name, target in (("to.bt", "other/stands.bt"), ("dangling.bt", "other/new.bt")):
+            os.symlink(target, name)
+            self.map("-o", name)
+            self.assertEqual((os.readlink(name), content_of(target)), (target, self.wanted))
+        self.assertEqual(sorted(os.listdir("other")), ["new.bt", "stands.bt"])
+        os.symlink("loop.bt", "loop.bt")
+        self.fails("loop.bt: Too many levels of symbolic links", "-o", "loop.bt")
+
+    def test_the_mode_stays(self):
+        put_file("a.bt")
+        os.chmod("a.bt", 0o600)
+        self.addCleanup(os.umask, os.umask(0o027))
+        self.map("-o", "a.bt", "--snapshot", "new")
+        self.assertEqual(content_of("a.bt"), self.wanted)
+        modes = [stat.S_IMODE(os.stat(it).st_mode) for it in ("a.bt", "new")]
+        self.assertEqual(modes, [0o600, 0o640])
+
+    def test_the_owner_stays(self):
+        if os.geteuid():
+            self.skipTest("only root sets owners")
+        put_file("a.bt")
+        os.chown("a.bt", 12345, 54321)
+        self.map("-o", "a.bt")
+        owned = os.stat("a.bt")
+        self.assertEqual((owned.st_uid, owned.st_gid), (12345, 54321))
+
+    def test_a_longest_name(self):
+        name = "m" * 252 + ".bt"
+        self.map("-o", name)
+        self.assertEqual(content_of(name), self.wanted)
+
+    def test_faults_name_the_file(self):
+        self.fails("no/a.bt: No such file or directory", "-o", "no/a.bt")
+        self.fails(".: Is a directory", "-o", ".")
+        self.fails("new/: Is a directory", "-o", "new/")
+        self.fails("new.bt: two outputs are this file, the other one as ./new.bt",
+                   "-o", "./new.bt", "--snapshot", "new.bt")  # fmt: skip
+
+    def test_no_room(self):
+        """Room for less than the map's file; what stood there stands."""
+        put_file("a.bt")
+        limits = resource.getrlimit(resource.RLIMIT_FSIZE)
+        resource.setrlimit(resource.RLIMIT_FSIZE, (len(self.wanted) // 2, limits[1]))
+        try:
+            self.fails("a.bt: File too large", "-o", "a.bt", "--script", "a.txt")
+        finally:
+            resource.setrlimit(resource.RLIMIT_FSIZE, limits)
+        self.assertEqual(content_of("a.bt"), b"old")
+
+    def test_all_or_none(self):
+        """The second file can't be put in its place: the first one is as it was."""
+        replace = os.replace
+
+        def refuse(source, target):
+            if target.endswith("b.snapshot"):
+                raise OSError(errno.EPERM, "Operation not permitted", source)
+            replace(source, target)
+
+        with mock.patch("os.replace", refuse):
+            self.fails("b.snapshot: Operation not permitted", "-o", "b.bt", "--snapshot",
+                       "b.snapshot")  # fmt: skip
+            put_file("b.bt")
+            self.fails("b.snapshot: Operation not permitted", "-o", "b.bt", "--snapshot",
+                       "b.snapshot")  # fmt: skip
+        self.assertEqual(content_of("b.bt"), b"old")
+
+    def test_no_room_for_points(self):
+        """The place where points wait for their header is named, as it is the one that is full."""
+        with mock.patch("tempfile.SpooledTemporaryFile.write", side_effect=OSError(28, "full")):
+            with mock.patch("tempfile.gettempdir", return_value="/small"):
+                words = "points", "wanted.bt", "-o", "a.xyz"
+                self.refused("/small: full", *words)
+
+
+class Clashes(Maps):
+    def test_an_input_is_no_output(self):
+        os.link("a.xyz", "hard.xyz")
+        os.symlink("a.xyz", "soft.xyz")
+        for name in ("a.xyz", "./a.xyz", "hard.xyz", "soft.xyz"):
+            for option in ("-o", "--snapshot", "--script"):
+                self.fails(f"{name}: it would be written over the input a.xyz", option, name)
+        put_file("poses", b"0 0 0 0 0 0 0 1\n")
+        words = "-o", "poses", "--poses", "poses"
+        self.fails("poses: it would be written over the input poses", *words)
+        self.assertEqual(content_of("a.xyz"), CLOUD)
+
+    def test_of_every_command(self):
+        said = "a.bt: it would be written over the input a.bt"
+        box = "--box", 0, 0, 0, 1, 1, 1
+        for name in ("a.bt", "a.png"):
+            put_file(name, self.wanted)
+        for words in (
+            ("crop", *box), ("shift", "--voxels", 1, 0, 0), ("coarsen", "--depth", 3),
+            ("points", "--format", "xyz"),
+        ):  # fmt: skip
+            self.refused(said, *words, "a.bt", "-o", "a.bt")
+        self.refused(said, "grid", "a.bt", "-o", "c.png", "--frontier", "a.bt")
+        said = "a.png: it would be written over the input a.png"
+        self.refused(said, "view", "a.png", "-o", "a.png")
+        said = "c.yaml: two outputs are this file, the other one as c.yaml"
+        self.refused(said, "grid", "a.bt", "-o", "c.png", "--frontier", "c.yaml")
+        self.assertEqual(content_of("a.bt"), self.wanted)
+
+    def test_an_input_once(self):
+        said = "- stands for two inputs, and the standard input can be read once"
+        self.refused(said, "compare", "-", "-", given=self.wanted)
+
+    def test_a_forgotten_name(self):
+        """`-o FILE *.xyz` without FILE."""
+        put_file("b.xyz", CLOUD)
+        put_file("c.npy", b"\x93NUMPY")
+        said = "it stands there and seems to be a cloud (is FILE forgotten?)"
+        self.fails(f"b.xyz: {said}", "-o", "b.xyz")
+        self.fails(f"c.npy: {said}", "--snapshot", "c.npy")
+        self.map("--script", "new.xyz")
+        self.map("--script", "new.xyz")
+
+
+class Nothing(Maps):
+    """A run that has no point for the map."""
+
+    SAID = "no scan has a point, so nothing is written (--allow-empty writes an empty map)"
+
+    def setUp(self):
+        super().setUp()
+        put_file("a.bt")
+        np.save("none.npy", np.empty((0, 3)))
+        put_file("endless.xyz", b"nan 0 0\n")
+
+    def nothing(self, said, *words):
+        self.refused(said, "map", "--res", "1", *words, "-o", "a.bt", "--snapshot", "b")
+        self.assertEqual(content_of("a.bt"), b"old")
+        self.assertFalse(os.path.exists("b"))
+
+    def test_nothing_is_written(self):
+        self.nothing(self.SAID, "none.npy", "none.npy")
+        self.nothing(f"{self.SAID}; left out 1 points that aren't finite", "endless.xyz")
+        words = "--min-range", "9", "a.xyz"
+        self.nothing(f"{self.SAID}; left out 1 points by --every, --min-range and --voxel", *words)
+        self.nothing(f"{self.SAID}; skipped 1", "--on-error", "skip", "absent.xyz")
+
+    def test_who_means_it(self):
+        self.done("map", "--res", "1", "none.npy", "--allow-empty", "-o", "a.bt")
+        save_map("empty.bt", 1, {})
+        self.assertEqual(content_of("a.bt"), content_of("empty.bt"))
+
+
+class Grids(InFolder):
+    NAMES = (
+        "a #b.pgm", "a: b.pgm", "[x].pgm", "'q.pgm", '"q".pgm', "new\nline.pgm", "tab\t.pgm",
+        "back\\slash.pgm", "ü.pgm", "\u2028.pgm", "\U0001f5fa.pgm", "~.pgm", "- a.pgm", "{x}.pgm",
+        "plain_1.2-a.pgm", "1e3.png",
+    )  # fmt: skip
+
+    def setUp(self):
+        super().setUp()
+        save_map("a.bt", 0.5, {(0, 0, 0): 9})
+
+    def test_plain_and_quoted(self):
+        self.assertEqual(text_of("floor-1.pgm"), "floor-1.pgm")
+        self.assertEqual(text_of("a #b.pgm"), '"a #b.pgm"')
+        self.assertEqual(text_of('"\\\n.pgm'), '"\\"\\\\\\U0000000a.pgm"')
+
+    def test_names_are_read_back(self):
+        if yaml is None:
+            self.skipTest("PyYAML isn't there")
+        for name in self.NAMES:
+            with self.subTest(name):
+                self.done("grid", "a.bt", "-o", name)
+                with open(os.path.splitext(name)[0] + ".yaml", encoding="utf-8") as file:
+                    found = yaml.safe_load(file)
+                self.assertEqual(found["image"], name)
+                self.assertEqual((found["resolution"], found["origin"]), (0.5, [0, 0, 0]))
+
+    def test_both_or_none(self):
+        bad = os.fsdecode(b"bad\xff.pgm")
+        os.mkdir("floor.yaml")
+        said = "bad\\udcff.pgm: its name isn't UTF-8, so that no YAML can name it"
+        self.refused(said, "grid", "a.bt", "-o", bad)
+        self.refused("floor.yaml: Is a directory", "grid", "a.bt", "-o", "floor.pgm")
+        words = "grid", "a.bt", "-o", "c.pgm", "--frontier", "/dev/full"
+        self.refused("/dev/full: No space left on device", *words)
+        self.assertEqual(sorted(os.listdir()), ["a.bt", "floor.yaml"])
+
+
+class Names(InFolder):
+    def test_standard_output_by_its_descriptor(self):
+        """A descriptor is written to where it stands, though a regular file is behind it."""
+        with open("file", "w+b") as file:
+            file.write(b"before ")
+            file.flush()
+            _files.write(f"/dev/fd/{file.fileno()}", b"after")
+        self.assertEqual(content_of("file"), b"before after")

@@ -1,0 +1,184 @@
+"""Ctrl-C, SIGTERM and SIGHUP: when they are taken, and what they leave."""
+
+import os
+import pty
+import signal
+import subprocess
+import sys
+import time
+import unittest
+
+from running import InFolder
+
+SIGNALS = (signal.SIGINT, signal.SIGTERM, signal.SIGHUP)
+# Scans that last, as a scan of very many beams does: the library is at work, and Python waits.
+SLOW = """
+import sys, time
+from octofix.tools import mapping
+from octofix.tools.command import main
+scan = mapping.do_scan
+def slow(*words):
+    print("begun", flush=True)
+    time.sleep(%s)
+    scan(*words)
+mapping.do_scan = slow
+sys.exit(main(sys.argv[1:]))
+"""
+# A numpy during whose import Ctrl-C comes.
+INTERRUPTING = """
+import os, signal, sys
+os.kill(os.getpid(), signal.SIGINT)
+sys.path = [it for it in sys.path if os.path.abspath(it) != os.getcwd()]
+del sys.modules["numpy"]
+import numpy
+"""
+
+
+def content_of(name):
+    with open(name, "rb") as file:
+        return file.read()
+
+
+def heard():
+    """Lets a process hear the signals, which a shell's job in the background may not."""
+    for it in SIGNALS:
+        signal.signal(it, signal.SIG_DFL)
+
+
+def hung_up():
+    heard()
+    signal.signal(signal.SIGHUP, signal.SIG_IGN)
+
+
+class Processes(InFolder):
+    def setUp(self):
+        super().setUp()
+        for name in ("a.bt", "a.xyz", "b.xyz"):
+            with open(name, "w") as file:
+                file.write("2 0 0\n")
+        self.done("map", "--res", "0.1", "a.xyz", "-o", "wanted.bt")
+        self.before = set(os.listdir())
+
+    def start(self, *words, before=heard, stderr=subprocess.PIPE):
+        call = [sys.executable, *words]
+        return subprocess.Popen(call, stdout=subprocess.PIPE, stderr=stderr, preexec_fn=before)
+
+    def map(self, *clouds, **how):
+        words = "map", "--res", "0.1", "--quiet", *clouds, "-o", "a.bt"
+        return self.start("-m", "octofix", *words, **how)
+
+    def ends(self, run, said, status=130):
+        """Waits for the end, and for these lines."""
+        _, came = run.communicate(timeout=30)
+        self.assertEqual((came.decode(), run.returncode), (said, status))
+        self.assertEqual(set(os.listdir()), self.before)
+
+    def pipe(self):
+        """A cloud that is being read until this is closed."""
+        os.mkfifo("wait.xyz")
+        self.before.add("wait.xyz")
+
+    @staticmethod
+    def opened():
+        return os.open("wait.xyz", os.O_WRONLY)
+
+
+class Reading(Processes):
+    def test_before_the_first_scan(self):
+        """The old map stands, and no part of a new one."""
+        self.pipe()
+        for it, name in zip(SIGNALS, ("Ctrl-C", "SIGTERM", "SIGHUP")):
+            run = self.map("wait.xyz", "a.xyz")
+            held = self.opened()
+            run.send_signal(it)
+            self.ends(run, f"octofix: stopped by {name} before the first scan: nothing is written\n")
+            os.close(held)
+            self.assertEqual(content_of("a.bt"), b"2 0 0\n")
+
+    def test_between_scans(self):
+        self.pipe()
+        for it, name in ((signal.SIGTERM, "SIGTERM"), (signal.SIGHUP, "SIGHUP")):
+            run = self.map("a.xyz", "wait.xyz")
+            held = self.opened()
+            run.send_signal(it)
+            self.ends(run, f"octofix: stopped by {name}: the map has the scans until then\n")
+            os.close(held)
+            self.assertEqual(content_of("a.bt"), content_of("wanted.bt"))
+
+    def test_what_is_to_be_ignored(self):
+        """As nohup starts it."""
+        self.pipe()
+        run = self.map("wait.xyz", before=hung_up)
+        held = self.opened()
+        run.send_signal(signal.SIGHUP)
+        os.write(held, b"2 0 0\n")
+        os.close(held)
+        self.ends(run, "", status=0)
+        self.assertEqual(content_of("a.bt"), content_of("wanted.bt"))
+
+    def test_a_terminal_that_is_closed(self):
+        """Nothing can be said any more, and the map is written."""
+        self.pipe()
+        ours, theirs = pty.openpty()
+        run = self.map("a.xyz", "wait.xyz", stderr=theirs)
+        os.close(theirs)
+        held = self.opened()
+        os.close(ours)
+        run.send_signal(signal.SIGHUP)
+        run.send_signal(signal.SIGHUP)
+        self.assertEqual(run.wait(30), 130)
+        run.stdout.close()
+        os.close(held)
+        self.assertEqual(content_of("a.bt"), content_of("wanted.bt"))
+
+    def test_while_numpy_is_imported(self):
+        os.mkdir("numpy")
+        with open("numpy/__init__.py", "w") as file:
+            file.write(INTERRUPTING)
+        self.before.add("numpy")
+        self.ends(self.map("a.xyz"), "octofix: stopped by Ctrl-C\n")
+        self.assertEqual(content_of("a.bt"), b"2 0 0\n")
+
+
+class Scanning(Processes):
+    def slow_map(self, seconds):
+        """A map of two scans of so many seconds each, of which the first has begun."""
+        words = "map", "--res", "0.1", "--quiet", "a.xyz", "b.xyz", "-o", "a.bt"
+        run = self.start("-c", SLOW % seconds, *words)
+        self.assertEqual(run.stdout.readline(), b"begun\n")
+        return run
+
+    def test_once(self):
+        """It says what it waits for, and the map has that scan."""
+        run = self.slow_map(0.5)
+        run.send_signal(signal.SIGINT)
+        said = "octofix: Ctrl-C waits for the running scan; a second one ends at once\n"
+        said += "octofix: stopped by Ctrl-C: the map has the scans until then\n"
+        self.ends(run, said)
+        self.assertEqual(content_of("a.bt"), content_of("wanted.bt"))
+
+    def test_twice(self):
+        run = self.slow_map(60)
+        began = time.monotonic()
+        said = "octofix: SIGTERM waits for the running scan; a second one ends at once\n"
+        run.send_signal(signal.SIGTERM)
+        self.assertEqual(run.stderr.readline().decode(), said)
+        run.send_signal(signal.SIGINT)
+        self.ends(run, "octofix: ended at once: nothing is written\n")
+        self.assertLess(time.monotonic() - began, 10)
+        self.assertEqual(content_of("a.bt"), b"2 0 0\n")
+
+    def test_a_terminal_that_is_closed(self):
+        """Several SIGHUP are one."""
+        run = self.slow_map(0.5)
+        for _ in range(3):
+            run.send_signal(signal.SIGHUP)
+            time.sleep(0.05)
+        said = "octofix: SIGHUP waits for the running scan; a second one ends at once\n"
+        said += "octofix: stopped by SIGHUP: the map has the scans until then\n"
+        self.ends(run, said)
+        self.assertEqual(content_of("a.bt"), content_of("wanted.bt"))
+
+
+if __name__ == "__main__":
+    unittest.main()
