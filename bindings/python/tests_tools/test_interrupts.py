@@ -91,7 +91,8 @@ class Reading(Processes):
             run = self.map("wait.xyz", "a.xyz")
             held = self.opened()
             run.send_signal(it)
-            self.ends(run, f"octofix: stopped by {name} before the first scan: nothing is written\n")
+            said = f"octofix: stopped by {name} before the first scan: nothing is written\n"
+            self.ends(run, said)
             os.close(held)
             self.assertEqual(content_of("a.bt"), b"2 0 0\n")
 
