@@ -18,6 +18,7 @@ Bytes = Union[bytes, bytearray, memoryview]
 _MOST_BYTES = 2**30
 _MOST_LINKS = 40
 _NONE = -1  # no descriptor
+_OWN_DESCRIPTORS = "/proc/self/fd"
 
 
 def check_size(size: int) -> None:
@@ -68,6 +69,7 @@ class Output:
         self._descriptor = _NONE
         self._stood: os.stat_result | None = None
         self._place = self._beside = self._kept = ""
+        self._is_nameless = False
 
     def open(self) -> None:
         with named(self.name):
@@ -86,10 +88,18 @@ class Output:
         if self._stood and not os.access(place, os.W_OK):
             raise OSError(errno.EACCES, os.strerror(errno.EACCES))
         # (short, so that any name that a file may have can be written)
-        part = os.path.join(os.path.dirname(place), f".octofix-{secrets.token_hex(8)}")
+        folder = os.path.dirname(place)
+        part = os.path.join(folder, f".octofix-{secrets.token_hex(8)}")
         self._place, self._beside, self._kept = place, f"{part}.new", f"{part}.old"
-        how = os.O_WRONLY | os.O_CREAT | os.O_EXCL
-        self._descriptor = os.open(self._beside, how, 0o600 if self._stood else 0o666)
+        mode = 0o600 if self._stood else 0o666
+        try:
+            # (without a name, so that nothing is left however the process ends; /proc gives it one)
+            os.stat(_OWN_DESCRIPTORS)
+            self._descriptor = os.open(folder, os.O_WRONLY | os.O_TMPFILE, mode)
+            self._is_nameless = True
+        except OSError:
+            how = os.O_WRONLY | os.O_CREAT | os.O_EXCL
+            self._descriptor = os.open(self._beside, how, mode)
 
     def write(self, data: Bytes) -> None:
         left = memoryview(data).cast("B")
@@ -100,11 +110,12 @@ class Output:
     def finish(self) -> None:
         """Sees to it that all bytes are written."""
         with named(self.name):
-            if self._beside:
-                if self._stood:
-                    _keep_owner_and_mode(self._descriptor, self._stood)
-                os.fsync(self._descriptor)
-            self._close()
+            if not self._beside:
+                self._close()
+                return
+            if self._stood:
+                _keep_owner_and_mode(self._descriptor, self._stood)
+            os.fsync(self._descriptor)
 
     def keep(self) -> None:
         """Keeps what stands in the place, so that it can be brought back until `discard`."""
@@ -114,9 +125,15 @@ class Output:
                 os.link(self._place, self._kept)
 
     def place(self) -> None:
-        if self._beside:
-            with named(self.name):
-                os.replace(self._beside, self._place)
+        if not self._beside:
+            return
+        with named(self.name):
+            if self._is_nameless:
+                # (where a descriptor is passed Python follows the first name, to what is open)
+                itself = f"{_OWN_DESCRIPTORS}/{self._descriptor}"
+                os.link(itself, self._beside, src_dir_fd=self._descriptor)
+            self._close()
+            os.replace(self._beside, self._place)
 
     def bring_back(self) -> None:
         """Undoes `place`, after `keep`."""
@@ -166,7 +183,7 @@ def put(outputs: Sequence[Output]) -> None:
 
 def _descriptor_of(name: str) -> int | None:
     """The descriptor of this process for which a name as /dev/stdout stands, or None."""
-    own = os.path.realpath("/proc/self/fd")
+    own = os.path.realpath(_OWN_DESCRIPTORS)
     for _ in range(_MOST_LINKS):
         folder, base = os.path.realpath(os.path.dirname(name)), os.path.basename(name)
         if folder == own and base.isdigit():

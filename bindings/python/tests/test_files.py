@@ -5,6 +5,7 @@ import os
 import pickle
 import signal
 import stat
+import subprocess
 import sys
 import tempfile
 import threading
@@ -178,6 +179,12 @@ class Files(unittest.TestCase):
 
     def test_an_interrupt_anywhere_leaves_nothing(self):
         """At each line that writing a file takes: the old file or the new one, and no other."""
+        self.check_each_line()
+        # (where there are no files without a name)
+        with mock.patch("os.O_TMPFILE", os.O_DIRECTORY):
+            self.check_each_line()
+
+    def check_each_line(self):
         for old in (None, b"old"):
             line, is_done = 0, False
             while not is_done:
@@ -190,7 +197,24 @@ class Files(unittest.TestCase):
                 self.assertIn(came, (old, b"new"))
                 self.assertIn(os.listdir(self.folder), ([], [place.name]))
                 place.unlink(missing_ok=True)
+            self.assertEqual(came, b"new")
             self.assertGreater(line, 30)
+
+    def test_a_process_that_is_killed_leaves_nothing(self):
+        try:
+            os.close(os.open(self.folder, os.O_WRONLY | os.O_TMPFILE))
+        except OSError:
+            self.skipTest("the file system has no files without a name")
+        work = f"""if True:
+            import os, signal
+            from octofix import _files
+            with _files.opened([_files.Output({str(self.folder / "a.bt")!r})]) as (file,):
+                file.write(b"part")
+                os.kill(os.getpid(), signal.SIGKILL)
+        """
+        done = subprocess.run([sys.executable, "-c", work])
+        self.assertEqual(done.returncode, -signal.SIGKILL)
+        self.assertEqual(os.listdir(self.folder), [])
 
 
 def interrupted(number, work):
