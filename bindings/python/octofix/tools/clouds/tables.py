@@ -21,7 +21,9 @@ def table_of(body, columns, first_line, delimiter=None, rows=None):
     try:
         with warnings.catch_warnings():
             warnings.filterwarnings("ignore", "loadtxt: ")
-            return np.loadtxt(io.BytesIO(body), comments=comments, **form).reshape(-1, len(columns))
+            # (between the rows of a generator Python hears an interrupt)
+            rows = (row for row in io.BytesIO(body))
+            return np.loadtxt(rows, comments=comments, **form).reshape(-1, len(columns))
     except (ValueError, IndexError, UnicodeError) as error:
         _find_fault(body, columns, first_line, delimiter)
         raise Unusable(str(error).split(";")[0], line=first_line) from None
