@@ -85,10 +85,8 @@ class Output:
 
     def _open_beside(self) -> None:
         place = os.path.realpath(self.name)
-        if self._stood and not os.access(place, os.W_OK):
-            raise OSError(errno.EACCES, os.strerror(errno.EACCES))
-        # (short, so that any name that a file may have can be written)
         folder = os.path.dirname(place)
+        # (short, so that any name that a file may have can be written)
         part = os.path.join(folder, f".octofix-{secrets.token_hex(8)}")
         self._place, self._beside, self._kept = place, f"{part}.new", f"{part}.old"
         mode = 0o600 if self._stood else 0o666
@@ -100,6 +98,8 @@ class Output:
         except OSError:
             how = os.O_WRONLY | os.O_CREAT | os.O_EXCL
             self._descriptor = os.open(self._beside, how, mode)
+        if self._stood and not os.access(place, os.W_OK):
+            raise OSError(errno.EACCES, os.strerror(errno.EACCES))
 
     def write(self, data: Bytes) -> None:
         left = memoryview(data).cast("B")
@@ -223,4 +223,6 @@ def _keep_owner_and_mode(descriptor: int, stood: os.stat_result) -> None:
         mode &= 0o777
         with suppress(OSError):
             os.fchown(descriptor, -1, stood.st_gid)
-    os.fchmod(descriptor, mode)
+    # (some file systems have no modes)
+    with suppress(PermissionError):
+        os.fchmod(descriptor, mode)

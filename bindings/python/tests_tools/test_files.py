@@ -95,6 +95,12 @@ class Written(Maps):
         owned = os.stat("a.bt")
         self.assertEqual((owned.st_uid, owned.st_gid), (12345, 54321))
 
+    def test_a_file_that_may_not_be_written_to(self):
+        put_file("a.bt")
+        with mock.patch("os.access", return_value=False):
+            self.fails("a.bt: Permission denied", "-o", "a.bt")
+        self.assertEqual(content_of("a.bt"), b"old")
+
     def test_a_longest_name(self):
         name = "m" * 252 + ".bt"
         self.map("-o", name)

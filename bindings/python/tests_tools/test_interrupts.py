@@ -153,7 +153,7 @@ class Scanning(Processes):
         """It says what it waits for, and the map has that scan."""
         run = self.slow_map(0.5)
         run.send_signal(signal.SIGINT)
-        said = "octofix: Ctrl-C waits for the running scan; a second one ends at once\n"
+        said = "octofix: Ctrl-C waits for the running scan; a second Ctrl-C ends at once\n"
         said += "octofix: stopped by Ctrl-C: the map has the scans until then\n"
         self.ends(run, said)
         self.assertEqual(content_of("a.bt"), content_of("wanted.bt"))
@@ -161,7 +161,7 @@ class Scanning(Processes):
     def test_twice(self):
         run = self.slow_map(60)
         began = time.monotonic()
-        said = "octofix: SIGTERM waits for the running scan; a second one ends at once\n"
+        said = "octofix: SIGTERM waits for the running scan; a second Ctrl-C ends at once\n"
         run.send_signal(signal.SIGTERM)
         self.assertEqual(run.stderr.readline().decode(), said)
         run.send_signal(signal.SIGINT)
@@ -175,7 +175,7 @@ class Scanning(Processes):
         for _ in range(3):
             run.send_signal(signal.SIGHUP)
             time.sleep(0.05)
-        said = "octofix: SIGHUP waits for the running scan; a second one ends at once\n"
+        said = "octofix: SIGHUP waits for the running scan; a second Ctrl-C ends at once\n"
         said += "octofix: stopped by SIGHUP: the map has the scans until then\n"
         self.ends(run, said)
         self.assertEqual(content_of("a.bt"), content_of("wanted.bt"))

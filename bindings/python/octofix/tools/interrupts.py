@@ -87,7 +87,7 @@ class Interrupts:
             while not is_done.wait(LOOK):
                 if self.is_waiting and not is_said:
                     is_said = True
-                    say(f"{self.name()} waits for {what}; a second one ends at once")
+                    say(f"{self.name()} waits for {what}; a second Ctrl-C ends at once")
         if faults:
             raise faults[0]
         return answers[0]
