@@ -63,6 +63,7 @@ put_library() {
 put_package() {
     put_all "$root/bindings/python/octofix" lib/python3/octofix '*.py'
     put_all "$root/bindings/python/octofix" lib/python3/octofix py.typed
+    put_all "$root/bindings/python/octofix/tools/viewer" lib/python3/octofix/tools/viewer '*'
     put_filled 755 "$parts/tools.sh" "bin/octofix$suffix"
 }
 

@@ -258,24 +258,15 @@ class Words(InFolder):
                 self.refused(said, *words)
         self.assertEqual(sorted(os.listdir()), ["a.bt", "b.bt", "empty.bt"])
 
-    def test_no_display(self):
-        said = "--open needs a display (-o FILE writes a picture)"
-        places = {"DISPLAY": "", "WAYLAND_DISPLAY": ""}
-        with mock.patch.dict("sys.modules", open3d=mock.Mock()):
-            with mock.patch.dict(os.environ, places):
-                self.refused(said, "view", "a.bt", "--open")
-
     def test_missing_libraries(self):
         """What is optional, with the name of Debian's package."""
-        missing = ("PIL", "PIL.Image", "rosbag", "open3d", "scipy.spatial")
+        missing = ("PIL", "PIL.Image", "rosbag", "scipy.spatial")
         with mock.patch.dict("sys.modules", dict.fromkeys(missing)):
             said = "a PNG needs the Python library PIL (in Debian python3-pil)"
             self.refused(said, "view", "a.bt", "-o", "c.png", status=4)
             said = "a ROS bag needs the Python library rosbag (in Debian python3-rosbag)"
             said = f"{DATA / 'small.bag'}: {said}"
             self.refused(said, "map", "--res", 1, DATA / "small.bag", "-o", "c.bt", status=4)
-            said = "--open needs the Python library open3d (in Debian python3-open3d)"
-            self.refused(said, "view", "a.bt", "--open", status=4)
             ran = self.done("compare", "a.bt", "a.bt")
             said = b"distances: they need the Python library scipy (in Debian python3-scipy)"
             self.assertIn(said, ran.output)

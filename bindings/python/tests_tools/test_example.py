@@ -1,6 +1,7 @@
 """The lines of README.md, on the clouds of examples/flat_clouds.py, with voxels of 0.1 m."""
 
 import json
+import os
 import subprocess
 import sys
 from pathlib import Path
@@ -19,6 +20,8 @@ class Flat(InFolder):
         clouds = [f"clouds/{number}.npy" for number in range(7)]
         self.done("map", "--res", "0.1", "--poses", "poses.txt", *clouds, "-o", "flat.bt")
         self.places()
+        self.done("view", "flat.bt", "-o", "flat.html")
+        self.assertLess(os.path.getsize("flat.html"), 76_000)
         self.done("view", "flat.bt", "--oblique", "--above", "50", "-o", "flat.png")
         self.done("grid", "flat.bt", "--height", "0.1", "1.6", "-o", "floor.png")
         found = json.loads(self.done("info", "flat.bt", "--json").output)

@@ -26,7 +26,7 @@ class Leaves:
 
     @staticmethod
     def of(blocks, threshold):
-        """Those of the blocks of an octofix map."""
+        """Those of the blocks of an octofix map, which come in this order."""
         depths = blocks.depth.astype(np.int64)
         codes = encode(blocks.index.astype(np.int64) << (VOXELS - depths)[:, None])
         classes = np.where(blocks.value >= threshold, OCCUPIED, FREE).astype(np.int8)
@@ -188,3 +188,13 @@ def overlay(first, second):
     ends += [it.codes + it.volumes() for it in (first, second)]
     cuts = np.unique(np.concatenate(ends))
     return np.diff(cuts), first.class_at(cuts[:-1]), second.class_at(cuts[:-1])
+
+
+def values_of_parts(values, blocks, parts):
+    """Of blocks of which each lies in one of `blocks`: the value that this one has."""
+    return values[np.searchsorted(blocks.codes, parts.codes, "right") - 1]
+
+
+def greatest_values(values, blocks, joined):
+    """Of blocks that are made of these: the greatest value in each."""
+    return np.maximum.reduceat(values, np.searchsorted(blocks.codes, joined.codes))

@@ -6,7 +6,6 @@ from .errors import MissingLibrary
 
 DEBIAN = {
     "PIL.Image": "python3-pil",
-    "open3d": "python3-open3d",
     "rosbag": "python3-rosbag",
     "scipy.spatial": "python3-scipy",
     "tqdm": "python3-tqdm",

@@ -1,14 +1,21 @@
-"""Makes a picture of a map, without a display.
+"""Makes a picture of a map, or a page that shows it in a browser.
 
+    octofix view map.bt -o map.html                     a page, with the map in it
+    octofix view map.bt --open                          the same, shown at once
     octofix view map.bt -o above.png                    from above, coloured by height
     octofix view map.bt --oblique -o corner.png         from a corner
     octofix view map.bt --slice 0.5 -o slice.png        one layer of voxels
     octofix view map.bt --slice 0.5 --text              the same as text: # occupied, . free
-    octofix view map.bt --open                          in a window of Open3D
+
+In the page the map is turned by mouse, fingers or keys, and cut from above and below; a click tells
+what stands there, of a snapshot with its value. It needs no network.
 """
 
 import argparse
 import os
+import pathlib
+import tempfile
+import webbrowser
 
 import numpy as np
 
@@ -16,18 +23,19 @@ from .. import colours, oblique, planes
 from ..arguments import add_box, add_map, add_output, finite, whole
 from ..boxes import box_of
 from ..errors import DONE, Unusable
-from ..leaves import OCCUPIED, VOXELS
-from ..lengths import NANO
-from ..maps import read_leaves
+from ..files import write
+from ..leaves import OCCUPIED, VOXELS, values_of_parts
+from ..maps import read_leaves, read_leaves_and_values
 from ..morton import decode
-from ..optional import needed
+from ..page import MOST_LEAVES, fewer, page
 from ..pictures import write_picture
 from ..progress import say
 from .grid import box_for
 
-HELP = "a picture: from above, from a corner, a slice"
+HELP = "a page for a browser, or a picture: from above, from a corner, a slice"
 MOST_VOXELS = 1 << 22
 SIGNS = np.array([" ", ".", "#"])
+PAGES = (".html", ".htm")
 
 
 def elevation(word):
@@ -42,7 +50,6 @@ def arguments(parser):
     how = parser.add_mutually_exclusive_group()
     how.add_argument("--oblique", action="store_true", help="from a corner")
     how.add_argument("--slice", type=finite, metavar="Z", help="the voxels at this height")
-    how.add_argument("--open", action="store_true", help="show it in a window")
     parser.add_argument(
         "--around", type=finite, default=235.0, metavar="DEG",
         help="where --oblique looks from: degrees from x towards y (235)",
@@ -52,7 +59,8 @@ def arguments(parser):
     )
     parser.add_argument("--width", type=whole(16, 8192), default=800, metavar="N", help="in pixels")
     parser.add_argument("--text", action="store_true", help="a slice as text on the output")
-    add_output(parser, "the picture, .png", is_required=False)
+    add_output(parser, "the page, .html, or picture, .png", is_required=False)
+    parser.add_argument("--open", action="store_true", help="show the page in the browser")
 
 
 def run(options):
@@ -60,19 +68,51 @@ def run(options):
         raise Unusable("--text shows a slice (--slice Z)")
     if not (options.text or options.open or options.output):
         raise Unusable("nothing is to be written (-o FILE, --text or --open)")
+    if options.open or options.output and options.output.lower().endswith(PAGES):
+        _page(options)
+        return DONE
     leaves = read_leaves(options.map)
     if options.slice is not None:
         _slice(leaves, options)
         return DONE
     if options.box:
         leaves = leaves.within(*box_of(options.box, leaves.resolution))
-    if options.open:
-        _open(leaves)
-    elif options.oblique:
+    if options.oblique:
         _oblique(leaves, options)
     else:
         _above(leaves, options)
     return DONE
+
+
+def _page(options):
+    if options.oblique or options.text or options.slice is not None:
+        raise Unusable("--oblique, --slice and --text are for pictures; a page shows it all")
+    if options.output and not options.output.lower().endswith(PAGES):
+        raise Unusable("--open shows a page (-o FILE.html, or no -o)", options.output)
+    content = _page_of(options)
+    name = options.output or os.path.join(tempfile.mkdtemp(prefix="octofix-"), "map.html")
+    write(name, content)
+    if not options.output:
+        say(f"{name} is shown")
+    if options.open and not webbrowser.open(pathlib.Path(name).absolute().as_uri()):
+        raise Unusable(f"no browser could be started; open {name} in one")
+
+
+def _page_of(options):
+    leaves, values = read_leaves_and_values(options.map)
+    if options.box:
+        part = leaves.within(*box_of(options.box, leaves.resolution))
+        values = values if values is None else values_of_parts(values, leaves, part)
+        leaves = part
+    if not len(leaves):
+        raise Unusable("nothing is known there")
+    if not leaves.depths[0]:
+        leaves, values = leaves.children(), values if values is None else np.repeat(values, 8)
+    leaves, values, depth = fewer(leaves, values)
+    if depth < VOXELS:
+        say(f"blocks of depth {depth} are shown: there are more than {MOST_LEAVES} leaves")
+    name = "map" if options.map == "-" else os.path.basename(options.map)
+    return page(leaves, name, values)
 
 
 def _slice(leaves, options):
@@ -122,17 +162,3 @@ def _oblique(leaves, options):
     keys, _ = _voxels(leaves)
     camera = oblique.Camera(options.around, options.above)
     write_picture(options.output, oblique.picture(keys, camera, options.width))
-
-
-def _open(leaves):
-    open3d = needed("open3d", "--open")
-    if not (os.environ.get("DISPLAY") or os.environ.get("WAYLAND_DISPLAY")):
-        raise Unusable("--open needs a display (-o FILE writes a picture)")
-    keys, edge = _voxels(leaves)
-    cloud = open3d.geometry.PointCloud()
-    size = edge * leaves.resolution / NANO
-    cloud.points = open3d.utility.Vector3dVector((keys - (1 << 15) / edge + 0.5) * size)
-    shade = colours.by_height(keys[:, 2], keys[:, 2].min(), keys[:, 2].max())
-    cloud.colors = open3d.utility.Vector3dVector(shade / 255)
-    grid = open3d.geometry.VoxelGrid.create_from_point_cloud(cloud, size)
-    open3d.visualization.draw_geometries([grid], "octofix")
