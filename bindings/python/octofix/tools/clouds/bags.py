@@ -35,7 +35,7 @@ def read(name, topics):
             for _, message, _ in bag.read_messages(topics=[topic]):
                 stamp = message.header.stamp.to_sec()
                 pose, gap = where(message.header.frame_id, stamp)
-                points = _points_in(message)
+                points = points_in(message)
                 yield Cloud(f"{name} {topic} {stamp:.6f}", points, pose, stamp, notes, gap)
                 notes = ()
     except rosbag.ROSBagException as error:
@@ -55,7 +55,8 @@ def _topic_of(bag, asked):
     return asked, ()
 
 
-def _points_in(message):
+def points_in(message):
+    """The points of a message of CLOUDS, (n, 3) in metres, with those that aren't finite."""
     try:
         return _points_of(message)
     except (ValueError, KeyError) as error:

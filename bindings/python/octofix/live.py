@@ -1,0 +1,371 @@
+"""A map that grows while a robot runs: clouds and poses with times in, grids and changes out.
+
+    mapper = live.Mapper(octofix.Map(0.05), range=30)
+    mapper.add_pose(12.30, (0, 0, 0.5))
+    mapper.add_cloud(12.32, points)  # waits until there is a pose after it
+    mapper.add_pose(12.40, (0.1, 0, 0.5))  # now it is mapped
+    grid = mapper.view().grid(0.1, 1.8)
+
+Times are numbers of one unit, as seconds, or whole nanoseconds; what is compared with them, as
+`patience`, is of that unit too. Several threads may call all of this at once. It knows no
+middleware: examples/ros has a node for ROS that is made of it.
+"""
+
+from __future__ import annotations
+
+import math
+import threading
+from bisect import bisect_left
+from dataclasses import dataclass
+from typing import Any, NamedTuple, Protocol
+
+import numpy as np
+import numpy.typing as npt
+
+from ._errors import BadPoints, Refused
+from ._files import PathLike
+from ._map import Map
+from ._results import Changes
+from .tools import planes
+from .tools.errors import Unusable
+from .tools.leaves import FREE, OCCUPIED, ORIGIN, Leaves
+from .tools.lengths import NANO
+from .tools.poses import Pose
+from .tools.trajectory import between
+
+_FARTHEST = 1e7  # metres; a point that is as far is no measurement
+_KINDS = {"occupied": OCCUPIED, "free": FREE}
+_CELLS = np.array([-1, 0, 100], np.int8)  # of unknown, free and occupied
+
+
+def pose(position: npt.ArrayLike, quaternion: npt.ArrayLike = (1, 0, 0, 0)) -> Pose:
+    """A place in metres, (3,), and a turn by a quaternion (w, x, y, z) of any length but 0.
+
+    ValueError where a number isn't finite, or it is none.
+    """
+    place, turn = np.asarray(position, float), np.asarray(quaternion, float)
+    if place.shape != (3,) or turn.shape != (4,):
+        raise ValueError("a pose is three numbers, and four of a quaternion")
+    try:
+        return Pose.of(place, turn)
+    except Unusable as why:
+        raise ValueError(str(why)) from None
+
+
+class NoPose(LookupError):
+    """There is no pose for this time, and none will come."""
+
+
+class PoseSource(Protocol):
+    """Where the poses of clouds come from, as a `Trajectory`, or the frames of a middleware."""
+
+    def pose_of(self, time: float, frame: str) -> Pose | None:
+        """The pose of a frame in that of the map, or None where it may still come; NoPose where it
+        never will."""
+
+
+class Trajectory:
+    """Poses of one sensor over time.
+
+    A time between two poses that are at most `gap` apart has the pose on the way from one to the
+    other: places on a line, turns by the shorter way, evenly. Poses that are `keep` older than the
+    newest one are given up.
+    """
+
+    def __init__(self, gap: float = 0.5, keep: float = 60.0) -> None:
+        self._gap, self._keep = gap, keep
+        self._lock = threading.Lock()
+        self._times: list[float] = []
+        self._poses: list[Pose] = []
+
+    def add(
+        self, time: float, position: npt.ArrayLike, quaternion: npt.ArrayLike = (1, 0, 0, 0)
+    ) -> None:
+        """Adds a `pose`, in any order of times; one at the time of another takes its place."""
+        added = pose(position, quaternion)
+        _check_time(time)
+        with self._lock:
+            at = bisect_left(self._times, time)
+            if self._times[at : at + 1] == [time]:
+                self._poses[at] = added
+                return
+            self._times.insert(at, time)
+            self._poses.insert(at, added)
+            old = bisect_left(self._times, self._times[-1] - self._keep)
+            del self._times[:old], self._poses[:old]
+
+    def clear(self) -> None:
+        """Forgets all poses, as where time begins anew."""
+        with self._lock:
+            self._times, self._poses = [], []
+
+    def pose_of(self, time: float, frame: str = "") -> Pose | None:
+        with self._lock:
+            at = bisect_left(self._times, time)
+            if at == len(self._times):
+                return None
+            if self._times[at] == time:
+                return self._poses[at]
+            if at == 0:
+                raise NoPose(f"{time} lies before all poses")
+            start, end = self._times[at - 1 : at + 1]
+            before, after = self._poses[at - 1 : at + 1]
+        if end - start > self._gap:
+            raise NoPose(f"the poses around {time} are {end - start} apart")
+        return between(before, after, (time - start) / (end - start))
+
+
+class Tally(NamedTuple):
+    """What has become of the clouds of a `Mapper`, since it was made or cleared.
+
+    `mapped` clouds with `points` that count are in the map, and `left_out` points of them are not:
+    they aren't finite, 10,000 km away, or outside the box. `waiting` clouds wait for their poses.
+    For `without_pose` none came, `refused` were refused by the map, and `why` says what the last
+    one of both was lacking.
+    """
+
+    mapped: int = 0
+    points: int = 0
+    left_out: int = 0
+    waiting: int = 0
+    without_pose: int = 0
+    refused: int = 0
+    why: str = ""
+
+
+class Grid(NamedTuple):
+    """Squares of a height band: int8 (rows on y, columns on x), -1 where nothing is known, 0 free,
+    100 occupied; `origin` is the lower left corner of the first one, (x, y) in metres, and
+    `resolution` their edge. These are the numbers of an OccupancyGrid of ROS."""
+
+    cells: npt.NDArray[np.int8]
+    origin: tuple[float, float]
+    resolution: float
+
+
+class Cubes(NamedTuple):
+    """Blocks of one class: their middles, (n, 3), and edges, (n,), in metres."""
+
+    centers: npt.NDArray[np.float64]
+    sizes: npt.NDArray[np.float64]
+
+
+@dataclass(frozen=True, eq=False)
+class View:
+    """The classes of a map at one moment."""
+
+    leaves: Leaves
+
+    @property
+    def resolution(self) -> float:
+        """The edge of a voxel in metres."""
+        return float(self.leaves.resolution / NANO)
+
+    def grid(self, low: float = -math.inf, high: float = math.inf) -> Grid:
+        """What stands between two heights in metres, of all that is known: a square is occupied
+        where an occupied voxel lies in it, else free where a free one does.
+
+        ValueError where `low` isn't at most `high`, or there are more than 2^26 squares.
+        """
+        if not low <= high:
+            raise ValueError(f"a band from {low} to {high} m has no height")
+        box = self.leaves.box()
+        if box is None:
+            return Grid(np.empty((0, 0), np.int8), (0.0, 0.0), self.resolution)
+        first, last = (it.copy() for it in box)
+        floor, top = (self._layer(it) for it in (low, high))
+        first[2], last[2] = max(first[2], floor), min(last[2], top)
+        try:
+            plane = planes.band(self.leaves, first, last)
+        except Unusable as why:
+            raise ValueError(str(why)) from None
+        x, y = ((first[:2] - ORIGIN) * self.leaves.resolution / NANO).tolist()
+        return Grid(_CELLS[plane], (x, y), self.resolution)
+
+    def cubes(self, kind: str = "occupied") -> Cubes:
+        """The greatest blocks that are "occupied" or "free" throughout and have one value, in
+        Morton order."""
+        if kind not in _KINDS:
+            raise ValueError(f"kind is 'occupied' or 'free', not {kind!r}")
+        chosen = self.leaves.of_class(_KINDS[kind])
+        edges = chosen.edges()
+        halves = 2 * (chosen.lows() - ORIGIN) + edges[:, None]
+        edge = chosen.resolution
+        return Cubes(halves * edge / (2 * NANO), edges * edge / NANO)
+
+    def _layer(self, height: float) -> int:
+        """The key on z of the voxels at a height, which may lie beyond the map."""
+        bounded = min(max(height, -_FARTHEST), _FARTHEST)
+        return int(round(bounded * NANO) // self.leaves.resolution + ORIGIN)
+
+
+@dataclass
+class _Waiting:
+    """A cloud, and the greatest time of those that came after it."""
+
+    time: float
+    frame: str
+    points: npt.NDArray[Any]
+    later: float
+
+
+class Mapper:
+    """Maps clouds as soon as their poses are known.
+
+    `poses` says where the sensors stood; without it there is a `Trajectory`, to which `add_pose`
+    adds. A cloud waits for its pose until one comes that is `patience` later than it, or more than
+    `most_waiting` wait; then it is given up. `range` cuts beams, in metres. Points outside the box
+    from `low` to `high`, (3,) each in metres in the map's frame, are left out with their beams.
+    With `is_tracked` the map has a mark, for `changes`.
+
+    The calls that add or work map what can be mapped before they return.
+    """
+
+    def __init__(
+        self,
+        world: Map,
+        poses: PoseSource | None = None,
+        *,
+        range: float | None = None,
+        low: npt.ArrayLike = (-math.inf,) * 3,
+        high: npt.ArrayLike = (math.inf,) * 3,
+        patience: float = 1.0,
+        most_waiting: int = 16,
+        is_tracked: bool = False,
+    ) -> None:
+        self.world = world
+        self.poses: PoseSource = Trajectory() if poses is None else poses
+        self._range, self._patience, self._most_waiting = range, patience, most_waiting
+        self._box = np.array([low, high], float).reshape(2, 3)
+        self._is_bounded = bool(np.isfinite(self._box).any())
+        self._lock = threading.Lock()
+        self._waiting: list[_Waiting] = []
+        self._tally = Tally()
+        self._is_tracked = is_tracked
+        if is_tracked:
+            world.track()
+
+    def add_pose(
+        self, time: float, position: npt.ArrayLike, quaternion: npt.ArrayLike = (1, 0, 0, 0)
+    ) -> None:
+        """Adds a pose to the `Trajectory`, as its `add`. TypeError where poses come from
+        elsewhere."""
+        if not isinstance(self.poses, Trajectory):
+            raise TypeError("the poses of this mapper come from elsewhere")
+        self.poses.add(time, position, quaternion)
+        self.work()
+
+    def add_cloud(self, time: float, points: npt.ArrayLike, frame: str = "") -> None:
+        """Adds the cloud that a sensor saw at a time: (n, 3) in metres in its own frame, or an
+        organised cloud (rows, columns, 3). Points that aren't finite are no measurements.
+
+        ValueError where it has another shape, or the time isn't finite. What the map refuses isn't
+        raised, but counted; memory that runs out is, and that cloud is lost.
+        """
+        _check_time(time)
+        rows = np.array(points)  # (a copy, since it may wait)
+        if rows.ndim not in (2, 3) or rows.shape[-1] != 3:
+            raise ValueError(f"a cloud is an (n, 3) array, not of shape {rows.shape}")
+        with self._lock:
+            for it in self._waiting:
+                it.later = max(it.later, time)
+            self._waiting.append(_Waiting(time, frame, rows.reshape(-1, 3), time))
+            self._work()
+
+    def work(self) -> None:
+        """Maps the clouds whose poses have come by now."""
+        with self._lock:
+            self._work()
+
+    def tally(self) -> Tally:
+        with self._lock:
+            return self._tally._replace(waiting=len(self._waiting))
+
+    def view(self) -> View:
+        """What the map has now. Clouds that come later don't change it."""
+        blocks = self.world.leaves()
+        return View(Leaves.of(blocks, self.world.odds.threshold))
+
+    def changes(self) -> Changes:
+        """The voxels that have another class than at the last call, or when the mapper was made or
+        cleared. Refused: 28 where it isn't `is_tracked`."""
+        with self._lock:
+            found = self.world.changes()
+            self.world.track()
+            return found
+
+    def save(self, path: PathLike) -> None:
+        """Writes the `.bt` file of the map, in place of one there only when it is whole."""
+        self.world.save(path)
+
+    def clear(self) -> None:
+        """Makes each voxel unknown, and forgets the clouds that wait, and what was counted."""
+        with self._lock:
+            self.world.clear()
+            self._waiting.clear()
+            self._tally = Tally()
+            if self._is_tracked:
+                self.world.track()
+
+    # -- what is called while the lock is held
+
+    def _work(self) -> None:
+        for cloud in list(self._waiting):
+            try:
+                found = self.poses.pose_of(cloud.time, cloud.frame)
+            except NoPose as why:
+                self._give_up(cloud, str(why))
+                continue
+            if found is not None:
+                self._waiting.remove(cloud)
+                self._map(cloud, found)
+            elif cloud.later - cloud.time > self._patience:
+                self._give_up(cloud, f"no pose for {cloud.time} came in time")
+        while len(self._waiting) > self._most_waiting:
+            self._give_up(self._waiting[0], "too many clouds wait for poses")
+
+    def _give_up(self, cloud: _Waiting, why: str) -> None:
+        self._waiting.remove(cloud)
+        self._tally = self._tally._replace(without_pose=self._tally.without_pose + 1, why=why)
+
+    def _map(self, cloud: _Waiting, at: Pose) -> None:
+        points = self._measured(cloud.points, at)
+        try:
+            self.world.scan(points, at.at, at.turn, self._range)
+        except (Refused, BadPoints) as why:
+            self._tally = self._tally._replace(refused=self._tally.refused + 1, why=str(why))
+            return
+        self._tally = self._tally._replace(
+            mapped=self._tally.mapped + 1,
+            points=self._tally.points + len(points),
+            left_out=self._tally.left_out + len(cloud.points) - len(points),
+        )
+
+    def _measured(self, points: npt.NDArray[Any], at: Pose) -> npt.NDArray[Any]:
+        """The points that are measurements, and lie in the box."""
+        with np.errstate(invalid="ignore", over="ignore"):
+            away = np.square(points, dtype=float).sum(axis=1)
+            points = points[away < _FARTHEST**2]
+        if self._is_bounded:
+            placed = at.turned(points) + at.at
+            points = points[((placed >= self._box[0]) & (placed <= self._box[1])).all(axis=1)]
+        return points
+
+
+def _check_time(time: float) -> None:
+    if not math.isfinite(time):
+        raise ValueError("a time is a finite number")
+
+
+__all__ = [
+    "Cubes",
+    "Grid",
+    "Mapper",
+    "NoPose",
+    "Pose",
+    "PoseSource",
+    "Tally",
+    "Trajectory",
+    "View",
+    "pose",
+]
