@@ -53,9 +53,11 @@ class Browser:
     def close(self):
         self.driver.quit()
 
-    def open(self, address):
-        """Opens a page, and waits until it shows its map, or says why it doesn't."""
+    def open(self, address, first=""):
+        """Opens a page, and waits until it shows its map, or says why it doesn't. `first` is a
+        script that runs before those of the page."""
         self.driver.get("about:blank")
+        found = self.command("Page.addScriptToEvaluateOnNewDocument", source=first)
         self.driver.get(address)
         self.driver.set_script_timeout(60)
         self.driver.execute_async_script("""
@@ -63,6 +65,7 @@ class Browser:
             const look = () => window.viewer || document.getElementById("told").textContent
               ? done() : setTimeout(look, 20);
             look();""")
+        self.command("Page.removeScriptToEvaluateOnNewDocument", **found)
 
     def js(self, text, *arguments):
         """The value of an expression."""

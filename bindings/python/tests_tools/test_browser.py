@@ -39,15 +39,15 @@ class InBrowser(unittest.TestCase):
     def tearDown(self):
         self.assertEqual(self.window.faults(), [])
 
-    def show(self, fill, resolution=1, is_snapshot=False):
-        """Opens the page of a map that `fill` has filled."""
+    def show(self, fill, resolution=1, is_snapshot=False, first=""):
+        """Opens the page of a map that `fill` has filled, after a script."""
         name = Path(self.folder.name) / "a"
         with Map(resolution) as world:
             fill(world)
             (world.snapshot if is_snapshot else world.save)(name)
         ran = octofix("view", name, "-o", name.with_suffix(".html"))
         self.assertEqual(ran.status, 0, ran.said)
-        self.window.open(name.with_suffix(".html").as_uri())
+        self.window.open(name.with_suffix(".html").as_uri(), first)
 
     def press(self, name):
         self.window.js(f"document.getElementById('{name}').click()")
@@ -221,6 +221,16 @@ class Page(InBrowser):
             for (const list of findFaces(viewer.tree, {kind}, {list(behind)}))
               for (let at = 3; at < 4 * list.length; at += 4) sum += 4 ** list.numbers[at];
             return sum;""")
+
+    def test_browsers_that_cannot(self):
+        """What a browser lacks is said in a sentence, and there is no panel that does nothing."""
+        for first, said in (
+            ("HTMLCanvasElement.prototype.getContext = () => null;", "this browser has no WebGL 2"),
+            ("delete window.DecompressionStream;", "this browser is older than 2023"),
+        ):
+            self.show(self.stairs, first=first)
+            self.assertEqual(self.said(), f"The map can't be shown: {said}.")
+            self.assertFalse(self.window.js("document.getElementById('panel').checkVisibility()"))
 
     def test_corners_of_the_map(self):
         """Voxels at the borders of the map are shown, and told."""

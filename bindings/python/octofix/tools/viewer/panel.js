@@ -2,6 +2,8 @@
 
 import {lowerFaceOf, middleOf} from "./telling.js";
 
+const NARROW = 500;                     // pixels of a phone
+
 export const element = id => document.getElementById(id);
 
 export class Panel {
@@ -18,7 +20,7 @@ export class Panel {
         viewer.cut(name, Number(element(name).value)));
     element("corner").addEventListener("click", () => viewer.look(235, 35));
     element("top").addEventListener("click", () => viewer.look(270, 90));
-    element("panel").open = innerWidth > 500;
+    Object.assign(element("panel"), {hidden: false, open: innerWidth > NARROW});
   }
 
   legend() {
