@@ -6,7 +6,7 @@ const KEYS = {
   ArrowUp: [0, -KEY_STEP], ArrowDown: [0, KEY_STEP],
 };
 const TAP = 5;                          // pixels that a finger may shake
-const BY_PIXELS = 0.0012, BY_LINES = 0.04;
+const BY_PIXELS = 0.0012, BY_LINES = 0.04, BY_PINCH = 0.01;
 
 export class Hands {
   constructor(viewer) {
@@ -63,8 +63,9 @@ export class Hands {
 
   wheel(event) {
     event.preventDefault();
-    const factor = Math.exp(event.deltaY * (event.deltaMode ? BY_LINES : BY_PIXELS));
-    this.viewer.nearer(factor, event.offsetX, event.offsetY);
+    // (two fingers on a touchpad come as a wheel with Ctrl)
+    const step = event.ctrlKey ? BY_PINCH : event.deltaMode ? BY_LINES : BY_PIXELS;
+    this.viewer.nearer(Math.exp(event.deltaY * step), event.offsetX, event.offsetY);
   }
 
   key(event) {
