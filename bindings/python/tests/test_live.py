@@ -77,8 +77,10 @@ class Clouds(InMap):
     def test_patience(self):
         """Without any pose a cloud is given up once one comes that is later by more than that."""
         mapper = self.mapper(patience=1)
-        for time in (0, 0.5, 1, 1.25):
+        for time in (0, 0.5, 1):
             mapper.add_cloud(time, [[1, 0, 0]])
+        self.assertEqual((mapper.tally().waiting, mapper.tally().without_pose), (3, 0))
+        mapper.add_cloud(1.25, [[1, 0, 0]])
         self.assertEqual((mapper.tally().waiting, mapper.tally().without_pose), (3, 1))
         self.assertEqual(mapper.tally().why, "no pose for 0 came in time")
 
