@@ -157,6 +157,12 @@ class Text(InFolder):
         said = "&lt;img src=x onerror=alert(1)&gt;@TREE@&quot;&#x27;&amp;.bt"
         self.assertIn(f"<title>{said}</title>", read_page("a.html")[0])
 
+    def test_name_that_is_no_text(self):
+        name = os.fsdecode(b"\xff\xc3\xa4.bt")
+        os.rename("a.bt", name)
+        self.done("view", name, "-o", "a.html")
+        self.assertIn("<title>?\u00e4.bt</title>", read_page("a.html")[0])
+
     def test_standard_input(self):
         self.done("view", "-", "-o", "a.HTM", given=Path("a.bt").read_bytes())
         self.assertIn("<title>map</title>", read_page("a.HTM")[0])

@@ -32,7 +32,8 @@ def page(leaves, name, values=None):
     """The page of a map, as bytes. `leaves` are its blocks, none of which is the whole map, and
     `values`, int32, what each of them has, or None where nothing is to be said of that."""
     words = {
-        "NAME": html.escape(name),
+        # (a file's name may be no UTF-8)
+        "NAME": html.escape(name.encode("utf-8", "replace").decode()),
         "COUNTS": _counts(leaves),
         "STYLE": _part("page.css"),
         "MAP": json.dumps(_about(leaves)),
