@@ -235,6 +235,25 @@ class Bags(InFolder):
         wanted += "scan 1 0.5 1 1 0 0 0 all\np 0 2 0.25\np -1 0 0.5\nend\n"
         self.assertEqual(self.script_of("--frame", "odom", status=3), wanted)
 
+    def test_interpolated(self):
+        """The clouds are from a tenth and from nine tenths of the time in which the base moves by a
+        metre and turns by 90 degrees: by 9 and by 81."""
+        words = ["--interpolate", "--tolerance", "0.2"]
+        points = ["p 1.975376681 0.31286893 0.25\np -0.156434465 0.987688341 0.5\nend\n"]
+        points += ["p 0.31286893 1.975376681 0.25\np -0.987688341 0.156434465 0.5\nend\n"]
+        origins = ["0.59384417 0.078217233 1", "0.978217233 0.49384417 1"]
+        scans = [f"scan {it} 1 0 0 0 all\n" for it in origins]
+        script = self.script_of("--frame", "odom", *words, status=3)
+        self.assertEqual(script, scans[0] + points[0] + scans[1] + points[1])
+        scans = [f"scan {it} 0 0 1 0 0 0 all\n" for it in ("0.1", "0.9")]
+        script = self.script_of("--pose-topic", "/odom", *words, status=3)
+        self.assertEqual(script, scans[0] + points[0] + scans[1] + points[1])
+
+    def test_by_its_first_bytes(self):
+        os.symlink(DATA / "small.bag", "drive")
+        cloud = "scan 0 0 0 1 0 0 0 all\np 2 0 0.25\np 0 1 0.5\nend\n"
+        self.assertEqual(self.script("drive"), cloud * 3)
+
     def test_topic(self):
         said = f"{DATA / 'small.bag'}: no clouds are on /foo (--topic); the bag has /points"
         words = ["map", "--res", "1", DATA / "small.bag", "--topic", "/foo", "-o", "a.bt"]

@@ -1,9 +1,12 @@
 """Poses of clouds: in turn, by time, of a mount; and which points are taken."""
 
+import os
+
 import numpy as np
-from running import DATA, InFolder
+from running import DATA, InFolder, octofix
 
 from octofix.tools import poses
+from octofix.tools.ordering import in_order
 from octofix.tools.trajectory import between, time_of_name
 
 
@@ -47,6 +50,155 @@ class InTurn(InFolder):
         turned = ["--pose", 1, 0, 0, 1, 0, 0, 1, "--sensor", 0, 0, 0.25, 1, 0, 1, 0]
         script = self.script("-", *turned, given=b"2 0 0\n0 3 0\n")
         self.assertEqual(script, "scan 1 0 0.25 1 0 0 0 all\np 0 0 -2\np -3 0 0\nend\n")
+
+
+class Order(InFolder):
+    """Poses go to clouds in turn, which has to be the order of the numbers in their names."""
+
+    def setUp(self):
+        super().setUp()
+        with open("poses", "w") as file:
+            file.writelines(f"{it} {it} 0 0 0 0 0 1\n" for it in range(3))
+        for it in (0, 2, 10):
+            np.save(f"{it}.npy", np.array([[it, 1, 0]]))
+        self.words = ["--poses", "poses", "0.npy", "10.npy", "2.npy"]
+
+    def test_another_order(self):
+        said = "poses go to clouds in turn, and 10.npy stands before 2.npy "
+        said += "(--order natural goes by numbers, --order given doesn't)"
+        self.refused(said, "map", "--res", 1, *self.words, "-o", "a.bt")
+        with open("times", "w") as file:
+            file.write("0\n1\n2\n")
+        words = [*self.words, "--times", "times", "-o", "a.bt"]
+        self.refused(said, "map", "--res", 1, *words)
+        self.done("map", "--res", 1, *self.words[:-1], "2.npy", "--by-time", "-o", "a.bt", status=3)
+
+    def test_chosen(self):
+        """The cloud named 10 has the third pose by numbers, and the second as they are given."""
+        natural, given = (self.script(*self.words, "--order", it) for it in ("natural", "given"))
+        starts = [f"scan {it} 0 0 1 0 0 0 all\np " for it in range(3)]
+        self.assertEqual(natural.split(" 1 0\nend\n"), [
+            f"{start}{it}" for start, it in zip(starts, (0, 2, 10))] + [""])  # fmt: skip
+        self.assertEqual(given.split(" 1 0\nend\n"), [
+            f"{start}{it}" for start, it in zip(starts, (0, 10, 2))] + [""])  # fmt: skip
+
+    def test_counts_come_first(self):
+        said = "poses: it has 3 poses for 2 clouds (--by-time takes poses by their times)"
+        self.refused(said, "map", "--res", 1, *self.words[:-1], "-o", "a.bt")
+
+    def test_same_order(self):
+        for names in (["a2", "a10", "b1"], ["1.25", "1.5", "1.75"], ["01", "1", "2"]):
+            self.assertEqual(in_order(names, None, True), names)
+        self.assertEqual(in_order(["b", "a"], None, False), ["b", "a"])
+
+    def test_more_poses_than_nodes(self):
+        """What a scan log has is counted when it is read."""
+        said = "poses: it has 3 poses for 2 clouds (--by-time takes poses by their times)"
+        words = [DATA / "two_nodes.log", "--poses", "poses", "-o", "a.bt"]
+        self.refused(said, "map", "--res", 1, *words)
+
+
+class Forms(InFolder):
+    """Which form poses have is shown by their first line, or asked."""
+
+    def setUp(self):
+        super().setUp()
+        with open("a.xyz", "w") as file:
+            file.write("2 0 0.5\n")
+
+    def scan(self, poses, *words, status=0):
+        with open("poses", "w") as file:
+            file.write(poses)
+        return self.script("--poses", "poses", *words, "a.xyz", status=status)
+
+    # A turn by 90 degrees to the left at (1, 2, 3).
+    TURNED = "scan 1 2 3 1 0 0 0 all\np 0 2 0.5\nend\n"
+    HALF = "0.7071067811865476"
+
+    def test_euroc(self):
+        """The ground truth of EuRoC has 17 columns, of which the first eight are pose and time."""
+        names = "q_RS_w [], q_RS_x [], q_RS_y [], q_RS_z []"
+        places = "p_RS_R_x [m], p_RS_R_y [m], p_RS_R_z [m]"
+        more = ", ".join(f"v{it} [m s^-1]" for it in range(9))
+        row = f"1403636579763555584,1,2,3,{self.HALF},0,0,{self.HALF}"
+        zeros = ",0" * 9
+        for heading in (f"#timestamp, {places}, {names}, {more}\n", ""):
+            self.assertEqual(self.scan(f"{heading}{row}{zeros}\n"), self.TURNED)
+        self.assertEqual(self.scan(f"#timestamp [ns], {places}, {names}\n{row}\n"), self.TURNED)
+        self.assertEqual(self.scan(f"{row}\n", "--pose-format", "euroc"), self.TURNED)
+
+    def test_nanoseconds(self):
+        """Times of EuRoC are in nanoseconds, in names of files too."""
+        poses = f"1403636579763555584,1,2,3,{self.HALF},0,0,{self.HALF}{',0' * 9}\n"
+        poses += f"1403636580763555584,9,9,9,1,0,0,0{',0' * 9}\n"
+        os.rename("a.xyz", "1403636579763555600.xyz")
+        with open("poses", "w") as file:
+            file.write(poses)
+        words = ["--poses", "poses", "--by-time", "1403636579763555600.xyz"]
+        self.assertEqual(self.script(*words), self.TURNED)
+        with open("times", "w") as file:
+            file.write("1403636579.76\n")
+        self.assertEqual(self.script(*words, "--times", "times"), self.TURNED)
+
+    def test_order_of_the_quaternion(self):
+        first, last = f"0 1 2 3 {self.HALF} 0 0 {self.HALF}\n", f"0 1 2 3 0 0 {self.HALF} "
+        last += f"{self.HALF}\n"
+        self.assertEqual(self.scan(last), self.TURNED)
+        self.assertEqual(self.scan(f"# timestamp tx ty tz qx qy qz qw\n{last}"), self.TURNED)
+        self.assertEqual(self.scan(f"# time x y z qw qx qy qz\n{first}"), self.TURNED)
+        self.assertEqual(self.scan(f"time x y z qw qx qy qz\n{first}"), self.TURNED)
+        commas = last.replace(" ", ",")
+        self.assertEqual(self.scan(commas, "--pose-format", "tum"), self.TURNED)
+        said = "poses:1: whether qx qy qz qw (--pose-format tum) or qw qx qy qz "
+        said += "(--pose-format euroc) follow time and place isn't said: "
+        words = ["map", "--res", 1, "--poses", "poses", "a.xyz", "-o", "a.bt"]
+        self.refused(f"{said}{commas.strip()!r}", *words)
+        with open("poses", "w") as file:
+            file.write(f"# t x y z a b c d\n{last}")
+        said = said.replace("poses:1", "poses:2")
+        self.refused(f"{said}'# t x y z a b c d'", *words)
+
+    def test_one_form(self):
+        """A line of another form is none of this file."""
+        with open("poses", "w") as file:
+            file.write("0 1 2 3 0 0 0 1\n1 0 0 1 0 1 0 2 0 0 1 3\n")
+        said = "poses:2: a pose has 8 numbers here (tum), and not 12"
+        words = ["map", "--res", 1, "--poses", "poses", "a.xyz", "a.xyz", "-o", "a.bt"]
+        self.refused(said, *words)
+        said = "poses:1: a pose has 12 numbers here (kitti), and not 8"
+        self.refused(said, *words, "--pose-format", "kitti")
+
+
+class Turned(InFolder):
+    """Poses along other axes than those of the map."""
+
+    def setUp(self):
+        super().setUp()
+        with open("a.xyz", "w") as file:
+            file.write("2 0 0.5\n")
+
+    def test_camera(self):
+        """A camera of KITTI moves a metre along its z, and turns to its right, around its y."""
+        with open("poses", "w") as file:
+            file.write("0 0 1 0.25 0 1 0 -0.5 -1 0 0 1\n")
+        script = self.script("--poses", "poses", "--turn", "camera", "a.xyz")
+        wanted = "scan 1 -0.25 0.5 1 0 0 0 all\np 0 -2 0.5\nend\n"
+        self.assertEqual(script, wanted)
+        words = ["--poses", "poses", "--turn", "0.5,-0.5,0.5,-0.5", "a.xyz"]
+        self.assertEqual(self.script(*words), wanted)
+
+    def test_camera_that_carries_a_lidar(self):
+        """The mount is along the map's axes: a quarter of a metre behind the camera."""
+        words = ["--turn", "camera", "--sensor", -0.25, 0, 0, 1, 0, 0, 0, "a.xyz"]
+        pose = ["--pose", 0, 0, 1, 1, 0, 1, 0]
+        script = self.script(*pose, *words)
+        self.assertEqual(script, "scan 1 0.25 0 1 0 0 0 all\np 0 -2 0.5\nend\n")
+
+    def test_asked_wrongly(self):
+        words = ["map", "--res", 1, "a.xyz", "-o", "a.bt", "--turn"]
+        self.refused("--turn and --world exclude each other", *words, "camera", "--world")
+        for bad in ("lens", "1,0,0", "0,0,0,0"):
+            self.assertEqual(octofix(*words, bad).status, 2)
 
 
 class ByTime(InFolder):

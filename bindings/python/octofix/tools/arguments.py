@@ -3,6 +3,9 @@
 import argparse
 
 from .clouds.reading import FORMS
+from .errors import Unusable
+from .poses import CAMERA, Pose
+from .poses import FORMS as FORMS_OF_POSES
 
 
 class Input(str):
@@ -45,6 +48,19 @@ def columns(word):
     return found
 
 
+def turn(word):
+    """The Pose of axes: those of a camera, or turned by a quaternion."""
+    if word == "camera":
+        return CAMERA
+    numbers = [float(it) for it in word.split(",")]
+    if len(numbers) != 4:
+        raise argparse.ArgumentTypeError("camera, or four numbers as 0.5,-0.5,0.5,-0.5")
+    try:
+        return Pose.of((0, 0, 0), numbers)
+    except Unusable as why:
+        raise argparse.ArgumentTypeError(str(why)) from None
+
+
 def add_scans(parser):
     """The options of how clouds are read and placed."""
     parser.add_argument(
@@ -53,8 +69,9 @@ def add_scans(parser):
     form = parser.add_argument_group("how clouds are read")
     form.add_argument("--format", choices=[*FORMS], help="where the file doesn't show it")
     form.add_argument(
-        "--columns", type=columns, metavar="X,Y,Z", help="names or numbers (from 1) of columns"
-    )
+        "--columns", type=columns, metavar="X,Y,Z",
+        help="which columns are x, y and z: names or numbers (from 1)",
+    )  # fmt: skip
     form.add_argument(
         "--every", type=whole(1, 10**9), default=1, metavar="N", help="each Nth point"
     )
@@ -80,7 +97,15 @@ def add_scans(parser):
 def _add_poses(group):
     group.add_argument(
         "--poses", type=Input, metavar="FILE",
-        help="a pose a line, for each cloud in turn: TUM or KITTI",
+        help="a pose a line, for each cloud in turn: TUM, KITTI or EuRoC",
+    )  # fmt: skip
+    group.add_argument(
+        "--pose-format", choices=[*FORMS_OF_POSES], help="where the file doesn't show it"
+    )
+    group.add_argument(
+        "--order", choices=["given", "natural"],
+        help="poses go to the clouds as they are given, or by the numbers in their names; needed "
+        "where these differ",
     )  # fmt: skip
     group.add_argument(
         "--pose", nargs=7, type=finite, metavar=("X", "Y", "Z", "QW", "QX", "QY", "QZ"),
@@ -101,6 +126,11 @@ def _add_poses(group):
     group.add_argument(
         "--sensor", nargs=7, type=finite, metavar=("X", "Y", "Z", "QW", "QX", "QY", "QZ"),
         help="how the sensor is mounted on what the poses are of",
+    )  # fmt: skip
+    group.add_argument(
+        "--turn", type=turn, metavar="QW,QX,QY,QZ",
+        help="how the axes that poses are in lie in the map, or 'camera' for x right, y down, "
+        "z ahead (KITTI's)",
     )  # fmt: skip
     group.add_argument(
         "--world", action="store_true", help="points are in the map's frame; poses say from where"

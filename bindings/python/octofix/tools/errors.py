@@ -1,5 +1,9 @@
 """What ends a tool, and the exit statuses."""
 
+import contextlib
+
+LONGEST_REASON = 200
+
 DONE = 0
 UNUSABLE = 1
 USAGE = 2
@@ -32,3 +36,17 @@ class MissingLibrary(Unusable):
     """A Python library that is optional, and needed for what was asked."""
 
     status = MISSING_LIBRARY
+
+
+@contextlib.contextmanager
+def failing_as(what):
+    """Whatever a library raises of bytes that it can't read is Unusable: they are no `what`."""
+    try:
+        yield
+    except Unusable:
+        raise
+    except OSError as error:
+        raise Unusable(error.strerror or f"it can't be read as {what}: {error}") from error
+    except Exception as error:
+        reason = f"{type(error).__name__} {error}"[:LONGEST_REASON]
+        raise Unusable(f"it can't be read as {what}: {reason}") from error

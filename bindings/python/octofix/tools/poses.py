@@ -1,14 +1,19 @@
 """Where a sensor stood and how it was turned, and lists of that in files."""
 
 import math
+import re
 from dataclasses import dataclass
 
 import numpy as np
 
 from .errors import Unusable
-from .files import read_text
+from .kinds import text_of
 
-TUM_WORDS, KITTI_WORDS = 8, 12
+# Forms of poses: 'time x y z qx qy qz qw' of the TUM benchmarks, the 12 numbers of a 3 x 4 matrix
+# of KITTI, and 'time x y z qw qx qy qz ..' of EuRoC, whose ground truth has 17 columns.
+FORMS = ("tum", "kitti", "euroc")
+TUM_WORDS, KITTI_WORDS, EUROC_WORDS = 8, 12, 17
+NANOSECONDS = 1e17
 FARTHEST = 1e7
 
 
@@ -54,12 +59,21 @@ class Pose:
         at = self.at + self.turned(mount.at[None])[0]
         return Pose.of(at, product(self.turn, mount.turn))
 
+    def along(self, turn):
+        """The same pose where the axes of both frames, that of the map and that of what stands
+        here, are turned: `turn` is the Pose of the old axes in the new frame."""
+        back = turn.turn * [1, -1, -1, -1]
+        at = turn.turned(self.at[None])[0]
+        return Pose.of(at, product(product(turn.turn, self.turn), back))
+
     def inverse(self):
         back = Pose(self.at, self.turn * [1, -1, -1, -1])
         return Pose(-back.turned(self.at[None])[0], back.turn)
 
 
 IDENTITY = Pose.of((0, 0, 0), (1, 0, 0, 0))
+# The axes of a camera (x right, y down, z ahead) as seen along x ahead, y to the left and z up.
+CAMERA = Pose.of((0, 0, 0), (1, -1, 1, -1))
 
 
 def product(p, q):
@@ -98,17 +112,24 @@ def of_matrix(turn):
     return np.array((*rows, (c, e, f, squares[3]))[int(squares.argmax())])
 
 
-def read_poses(name, skips):
-    """The list of (time or None, pose or None) of a file, a line each, in the form of the TUM
-    benchmarks ('time x y z qx qy qz qw') or of KITTI (the 12 numbers of a 3 x 4 matrix). A pose
-    that can't be used is None where `skips` lets it pass."""
-    found = []
-    for line, row in enumerate(read_text(name).splitlines(), 1):
+def seconds(time):
+    """A time of a file or a name in seconds: one of 10^17 or more is in nanoseconds."""
+    return time / 1e9 if time >= NANOSECONDS else time
+
+
+def read_poses(name, skips, form=None):
+    """The list of (time or None, pose or None) of a file, a line each, in a form of FORMS, or in
+    the one that its first pose shows. A pose that can't be used is None where `skips` lets it
+    pass."""
+    found, headings = [], []
+    for line, row in enumerate(text_of(name).split("\n"), 1):
         words = row.replace(",", " ").split()
-        if not words or words[0].startswith("#"):
+        if not words or words[0].startswith("#") or not (found or any(map(is_number, words))):
+            headings.append(row)
             continue
         try:
-            found.append(_pose_of(words, row))
+            form = form or _form_of(words, row, headings)
+            found.append(_pose_of(words, row, form))
         except Unusable as why:
             why.name, why.line = name, line
             skips.judge(why)
@@ -123,24 +144,72 @@ def numbers_of(words, row):
     found, start = [], 0
     for word in words:
         start = row.index(word, start)
-        try:
-            found.append(float(word))
-        except ValueError:
-            raise Unusable(f"{word[:40]!r} is no number", column=start + 1) from None
+        if not is_number(word):
+            raise Unusable(f"{word[:40]!r} is no number", column=start + 1)
+        found.append(float(word))
         start += len(word)
     return found
 
 
-def _pose_of(words, row):
+def is_number(word):
+    try:
+        float(word)
+    except ValueError:
+        return False
+    return word.isascii() and "_" not in word
+
+
+def _form_of(words, row, headings):
+    """The form of the first pose: by how many numbers it has, and by a line that names them."""
+    many = len(words)
+    if many == KITTI_WORDS:
+        return "kitti"
+    if named := [it for it in headings if len(_names_of(it)) == many >= TUM_WORDS]:
+        return _form_named(named[-1], many)
+    if many == TUM_WORDS and "," not in row:
+        return "tum"
+    if many == TUM_WORDS:
+        raise _unclear(row)
+    if many == EUROC_WORDS and numbers_of(words[:1], row)[0] >= NANOSECONDS:
+        return "euroc"
+    said = f"{TUM_WORDS} numbers (TUM), {KITTI_WORDS} (KITTI) or {EUROC_WORDS} (EuRoC)"
+    raise Unusable(f"a pose has {said}, and here are {many}")
+
+
+def _form_named(heading, many):
+    names = _names_of(heading)
+    place = "".join(it[-1] for it in names[1:4])
+    turn = "".join(it[-1] for it in names[4:8] if it.startswith("q"))
+    if (place, turn) == ("xyz", "wxyz"):
+        return "euroc"
+    if (place, turn, many) == ("xyz", "xyzw", TUM_WORDS):
+        return "tum"
+    raise _unclear(heading)
+
+
+def _unclear(row):
+    said = "whether qx qy qz qw (--pose-format tum) or qw qx qy qz (--pose-format euroc) follow"
+    return Unusable(f"{said} time and place isn't said: {row.strip()[:80]!r}")
+
+
+def _names_of(heading):
+    """The names in a line that may name columns, without units."""
+    plain = re.sub(r"[\[(][^\])]*[\])]", " ", heading).lower().lstrip("# ")
+    return [it for it in re.split(r"[,\s]+", plain) if it]
+
+
+def _pose_of(words, row, form):
+    """The time, or None, and the pose of a line."""
     numbers = numbers_of(words, row)
-    if len(numbers) == TUM_WORDS:
-        time, x, y, z, qx, qy, qz, qw = numbers
-        if not math.isfinite(time):
-            raise Unusable("the time isn't finite")
-        return time, Pose.of((x, y, z), (qw, qx, qy, qz))
-    if len(numbers) == KITTI_WORDS:
+    wanted = {"tum": TUM_WORDS, "kitti": KITTI_WORDS, "euroc": TUM_WORDS}[form]
+    if len(numbers) < wanted or (len(numbers) > wanted and form != "euroc"):
+        raise Unusable(f"a pose has {wanted} numbers here ({form}), and not {len(numbers)}")
+    if form == "kitti":
         matrix = np.reshape(numbers, (3, 4))
         if not np.isfinite(matrix).all():
             raise Unusable("a number of the pose isn't finite")
         return None, Pose.of(matrix[:, 3], of_matrix(matrix[:, :3]))
-    raise Unusable(f"a pose has 8 numbers (TUM) or 12 (KITTI), and here are {len(numbers)}")
+    time, x, y, z, *turn = numbers[:TUM_WORDS]
+    if not math.isfinite(time):
+        raise Unusable("the time isn't finite")
+    return seconds(time), Pose.of((x, y, z), turn if form == "euroc" else (turn[3], *turn[:3]))

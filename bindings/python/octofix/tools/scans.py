@@ -8,7 +8,7 @@ import numpy as np
 from .clouds import clouds_in
 from .errors import Unusable
 from .lengths import FARTHEST, NANO, nanometres
-from .poses import IDENTITY
+from .poses import IDENTITY, Pose
 from .progress import say
 
 
@@ -34,6 +34,16 @@ class Choice:
     voxel: float = None
 
 
+@dataclass(frozen=True)
+class Frames:
+    """How the sensor is mounted on what poses are of, how the axes of the poses' frames lie in the
+    map's, and whether points are in the map's frame."""
+
+    mount: Pose = IDENTITY
+    turn: Pose = IDENTITY
+    is_world: bool = False
+
+
 @dataclass
 class Left:
     """How many points were left out: not finite, too far away, and by choice."""
@@ -53,11 +63,9 @@ class Scans:
     """The scans of files in turn. What can't be used goes to `skips`; gaps counts the clouds that
     have no pose near enough in time."""
 
-    def __init__(
-        self, names, reading, trajectory, skips, *, mount, is_world, choice, is_quiet=False
-    ):
+    def __init__(self, names, reading, trajectory, skips, *, frames, choice, is_quiet=False):
         self.names, self.reading, self.trajectory = names, reading, trajectory
-        self.skips, self.mount, self.is_world, self.choice = skips, mount, is_world, choice
+        self.skips, self.frames, self.choice = skips, frames, choice
         self.left, self.gaps, self.clouds = Left(), 0, 0
         self.said, self.is_quiet = set(), is_quiet
 
@@ -75,6 +83,8 @@ class Scans:
             except Unusable as why:
                 self.clouds += 1
                 self.skips.judge(why)
+        if self.trajectory is not None and not self.skips.count:
+            self.trajectory.check(self.clouds)
 
     def _scan_of(self, cloud):
         """The scan of a cloud, or None."""
@@ -84,14 +94,14 @@ class Scans:
             self._say_once(note, cloud.name)
         try:
             pose = self._pose_of(number, cloud)
+            if pose is not None:
+                return self._placed(cloud, pose)
         except Unusable as why:
-            self.skips.judge(why)
+            self.skips.judge(why.named(cloud.name))
             return None
-        if pose is None:
-            self.gaps += 1
-            say(f"gap: {cloud.name}: {cloud.gap or 'no pose is near enough in time (--tolerance)'}")
-            return None
-        return self._placed(cloud, pose)
+        self.gaps += 1
+        say(f"gap: {cloud.name}: {cloud.gap or 'no pose is near enough in time (--tolerance)'}")
+        return None
 
     def _say_once(self, note, name):
         if note not in self.said and not self.is_quiet:
@@ -112,18 +122,21 @@ class Scans:
         else:
             self._say_once("no pose is given: the sensor stands at the origin", cloud.name)
             pose = IDENTITY
-        return pose and pose.carrying(self.mount)
+        return pose and pose.along(self.frames.turn).carrying(self.frames.mount)
 
     def _placed(self, cloud, pose):
         """The scan of a cloud, made piece by piece, so that little memory is taken beside it."""
         origin, points, count = nanometres(pose.at), cloud.points[:: self.choice.every], 0
         self.left.chosen += len(cloud.points) - len(points)
+        unplaced = len(points) + self.left.endless + self.left.far
         beams = np.empty((len(points), 3), np.int64)
         for start in range(0, len(points), PIECE):
-            piece = self._beams_of(points[start : start + PIECE].astype(float), pose, origin)
+            piece = self._beams_of(points[start : start + PIECE], pose, origin)
             beams[count : count + len(piece)] = piece
             count += len(piece)
         beams = beams[:count]
+        if self.left.far and self.left.endless + self.left.far == unplaced:
+            raise Unusable(f"none of its {len(points)} points is finite and below 10,000 km away")
         if self.choice.voxel:
             beams = _one_a_voxel(beams, origin, nanometres(self.choice.voxel))
             self.left.chosen += count - len(beams)
@@ -131,12 +144,16 @@ class Scans:
 
     def _beams_of(self, points, pose, origin):
         """Beams in nanometres from the origin, along the axes of the map."""
+        # (what has no place among numbers of 64 bits is infinite, and left out)
+        with np.errstate(invalid="ignore", over="ignore"):
+            points = points.astype(float)
         is_finite = np.isfinite(points).all(axis=1)
         is_near = (np.abs(points) < FARTHEST / NANO).all(axis=1)
         self.left.endless += len(points) - int(is_finite.sum())
         self.left.far += int((is_finite & ~is_near).sum())
         points = points[is_finite & is_near]
-        beams = nanometres(points) - origin if self.is_world else nanometres(pose.turned(points))
+        is_world = self.frames.is_world
+        beams = nanometres(points) - origin if is_world else nanometres(pose.turned(points))
         is_near = (np.abs(beams) < FARTHEST).all(axis=1)
         self.left.far += len(beams) - int(is_near.sum())
         beams = beams[is_near]

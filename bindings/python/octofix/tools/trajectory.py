@@ -2,12 +2,13 @@
 
 import os
 import re
+from dataclasses import dataclass
 
 import numpy as np
 
 from .errors import Unusable
-from .files import read_text
-from .poses import Pose, numbers_of, read_poses
+from .kinds import text_of
+from .poses import Pose, numbers_of, read_poses, seconds
 
 
 class Same:
@@ -26,13 +27,13 @@ class Same:
 class InTurn:
     """A pose for each cloud, in the same order."""
 
-    def __init__(self, name, skips):
+    def __init__(self, name, skips, form=None):
         self.name = name
-        self.poses = [pose for _, pose in read_poses(name, skips)]
+        self.poses = [pose for _, pose in read_poses(name, skips, form)]
 
     def check(self, clouds):
-        """Stops where there are more or fewer poses than clouds, if that is known."""
-        if clouds is not None and len(self.poses) != clouds:
+        """Stops where there are more or fewer poses than clouds."""
+        if len(self.poses) != clouds:
             why = f"it has {len(self.poses)} poses for {clouds} clouds"
             raise Unusable(f"{why} (--by-time takes poses by their times)", self.name)
 
@@ -44,37 +45,33 @@ class InTurn:
         return self.poses[number]
 
 
-class ByTime:
-    """The pose of the time of a cloud: the nearest one, or between the two around it."""
+@dataclass(frozen=True)
+class Nearness:
+    """Which pose is near enough to a time: the nearest one within so many seconds, or the one
+    between the two around it, both within them."""
 
-    def __init__(self, name, skips, times, tolerance, is_between):
-        found = [it for it in read_poses(name, skips) if it[1] is not None]
-        if any(time is None for time, _ in found):
-            raise Unusable("its poses have no times, which --by-time takes", name)
-        found.sort(key=lambda it: it[0])
-        self.name, self.times, self.tolerance = name, times, tolerance
-        self.stamps = np.array([time for time, _ in found])
-        self.poses = [pose for _, pose in found]
-        self.is_between = is_between
+    tolerance: float = 0.05
+    is_between: bool = False
 
-    def check(self, clouds):
-        if self.times is not None and clouds is not None and len(self.times) != clouds:
-            raise Unusable(f"there are {len(self.times)} times for {clouds} clouds", self.name)
 
-    def pose_of(self, number, cloud):
-        """The pose, or None where none is near enough."""
-        time = cloud.time if self.times is None else self.times[number]
-        if time is None:
-            time = time_of_name(cloud.name)
-        return self.at(time)
+class Track:
+    """Poses over time."""
+
+    def __init__(self, timed, nearness):
+        """timed: pairs of a time in seconds and a pose, in any order."""
+        timed = sorted(timed, key=lambda it: it[0])
+        self.stamps = np.array([time for time, _ in timed])
+        self.poses = [pose for _, pose in timed]
+        self.nearness = nearness
 
     def at(self, time):
+        """The pose, or None where none is near enough."""
         after = int(np.searchsorted(self.stamps, time))
         around = [it for it in (after - 1, after) if 0 <= it < len(self.poses)]
-        near = [it for it in around if abs(self.stamps[it] - time) <= self.tolerance]
-        if self.is_between and len(around) == 2:
+        near = [it for it in around if abs(self.stamps[it] - time) <= self.nearness.tolerance]
+        if self.nearness.is_between and len(around) == 2:
             return self._between(time, *around) if len(near) == 2 else self._exact(time, near)
-        if self.is_between:
+        if self.nearness.is_between:
             return self._exact(time, near)
         if not near:
             return None
@@ -87,6 +84,32 @@ class ByTime:
         span = self.stamps[after] - self.stamps[before]
         part = (time - self.stamps[before]) / span if span else 0.0
         return between(self.poses[before], self.poses[after], part)
+
+
+class ByTime:
+    """The pose of the time of a cloud."""
+
+    def __init__(self, name, skips, nearness, *, times=None, form=None):
+        """times: the name of a file of the times of the clouds in turn; else their names say."""
+        found = [it for it in read_poses(name, skips, form) if it[1] is not None]
+        if any(time is None for time, _ in found):
+            raise Unusable("its poses have no times, which --by-time takes", name)
+        self.track, self.times_name = Track(found, nearness), times
+        self.times = read_times(times) if times else None
+
+    def check(self, clouds):
+        if self.times is not None and len(self.times) != clouds:
+            why = f"there are {len(self.times)} times for {clouds} clouds"
+            raise Unusable(why, self.times_name)
+
+    def pose_of(self, number, cloud):
+        """The pose, or None where none is near enough."""
+        if self.times is not None:
+            if number >= len(self.times):
+                why = f"it has no time for cloud {number + 1}, {cloud.name}"
+                raise Unusable(why, self.times_name)
+            return self.track.at(self.times[number])
+        return self.track.at(time_of_name(cloud.name) if cloud.time is None else cloud.time)
 
 
 def between(first, second, part):
@@ -102,22 +125,22 @@ def between(first, second, part):
 
 
 def time_of_name(name):
-    """The time that the name of a file is, as 1305031102.1753 or scan_1305031102.1753.pcd."""
+    """The time in seconds that the name of a file is, as scan_1305031102.1753.pcd."""
     base = re.sub(r"(\.[A-Za-z]+)+$", "", os.path.basename(name))
     found = re.search(r"[0-9]+(\.[0-9]+)?$", base)
     if found is None:
         raise Unusable("its name has no time (--times FILE gives times)", name)
-    return float(found[0])
+    return seconds(float(found[0]))
 
 
 def read_times(name):
     """The first number of each line that isn't a comment."""
     found = []
-    for line, row in enumerate(read_text(name).splitlines(), 1):
+    for line, row in enumerate(text_of(name).split("\n"), 1):
         words = row.split()[:1]
         if words and not words[0].startswith("#"):
             try:
-                found += numbers_of(words, row)
+                found += map(seconds, numbers_of(words, row))
             except Unusable as why:
                 why.name, why.line = name, line
                 raise

@@ -4,44 +4,45 @@ from dataclasses import dataclass
 
 import numpy as np
 
-from ..errors import Unusable
+from ..errors import Unusable, failing_as
 from ..optional import needed
 from ..poses import IDENTITY, Pose
+from ..trajectory import Nearness, Track
 from .cloud import Cloud, xyz_of
 
 CLOUDS = "sensor_msgs/PointCloud2"
 POSES = ("nav_msgs/Odometry", "geometry_msgs/PoseStamped", "geometry_msgs/TransformStamped")
+# What tf_static says holds at any time.
+ALWAYS = Nearness(float("inf"))
 TYPES = dict(enumerate(("i1", "u1", "i2", "u2", "i4", "u4", "f4", "f8"), 1))
 
 
 @dataclass(frozen=True)
 class Topics:
     """What is taken of a bag: the topic of clouds, that of the sensor's poses, or the frame in
-    which tf says where the sensor is; a pose is at most `tolerance` seconds away."""
+    which tf says where the sensor is, and which of these poses is near enough."""
 
     clouds: str = None
     poses: str = None
     frame: str = None
-    tolerance: float = 0.05
+    nearness: Nearness = Nearness()
 
 
 def read(name, topics):
     """A cloud for each message of the topic, with its stamp."""
     rosbag = needed("rosbag", "a ROS bag")
-    try:
-        with rosbag.Bag(name) as bag:
-            topic, notes = _topic_of(bag, topics.clouds)
-            where = _where(bag, topics)
-            for _, message, _ in bag.read_messages(topics=[topic]):
-                stamp = message.header.stamp.to_sec()
-                pose, gap = where(message.header.frame_id, stamp)
-                points = points_in(message)
-                yield Cloud(f"{name} {topic} {stamp:.6f}", points, pose, stamp, notes, gap)
-                notes = ()
-    except rosbag.ROSBagException as error:
-        raise Unusable(f"it can't be read as a ROS bag: {error}") from None
-    except OSError as error:
-        raise Unusable(error.strerror or str(error)) from None
+    if name == "-":
+        raise Unusable("a ROS bag is read of a file, and not of the input")
+    # (of damaged bytes rosbag and genpy raise whatever they come across)
+    with failing_as("a ROS bag"), rosbag.Bag(name) as bag:
+        topic, notes = _topic_of(bag, topics.clouds)
+        where = _where(bag, topics)
+        for _, message, _ in bag.read_messages(topics=[topic]):
+            stamp = message.header.stamp.to_sec()
+            pose, gap = where(message.header.frame_id, stamp)
+            points = points_in(message)
+            yield Cloud(f"{name} {topic} {stamp:.6f}", points, pose, stamp, notes, gap)
+            notes = ()
 
 
 def _topic_of(bag, asked):
@@ -75,7 +76,10 @@ def _points_of(message):
         "itemsize": message.point_step,
     })  # fmt: skip
     rows = np.frombuffer(message.data, np.uint8).reshape(message.height, message.row_step)
-    used = np.ascontiguousarray(rows[:, : message.width * message.point_step])
+    length = message.width * message.point_step
+    if length > message.row_step:
+        raise ValueError(f"{message.row_step} bytes of a row have no room for {length}")
+    used = np.ascontiguousarray(rows[:, :length])
     records = used.reshape(-1).view(layout)
     return xyz_of(records)
 
@@ -89,35 +93,20 @@ def _where(bag, topics):
     return lambda frame, time: (None, None)
 
 
-class _Track:
-    """Poses with times."""
-
-    def __init__(self):
-        self.times, self.poses = [], []
-
-    def add(self, time, pose):
-        self.times.append(time)
-        self.poses.append(pose)
-
-    def nearest(self, time, tolerance):
-        away = np.abs(np.array(self.times) - time)
-        best = int(away.argmin())
-        return self.poses[best] if away[best] <= tolerance else None
-
-
 class _Stamped:
     def __init__(self, bag, topics):
-        self.topics, self.track = topics, _Track()
-        for _, message, _ in bag.read_messages(topics=[topics.poses]):
+        self.topic, timed = topics.poses, []
+        for _, message, _ in bag.read_messages(topics=[self.topic]):
             if message._type not in POSES:
-                raise Unusable(f"{topics.poses} has {message._type}, and not {', '.join(POSES)}")
-            self.track.add(message.header.stamp.to_sec(), _pose_in(message))
-        if not self.track.times:
-            raise Unusable(f"the bag has no poses on {topics.poses}")
+                raise Unusable(f"{self.topic} has {message._type}, and not {', '.join(POSES)}")
+            timed.append((message.header.stamp.to_sec(), _pose_in(message)))
+        if not timed:
+            raise Unusable(f"the bag has no poses on {self.topic}")
+        self.track = Track(timed, topics.nearness)
 
     def pose_of(self, frame, time):
-        pose = self.track.nearest(time, self.topics.tolerance)
-        return pose, None if pose else f"no pose on {self.topics.poses} is near enough"
+        pose = self.track.at(time)
+        return pose, None if pose else f"no pose on {self.topic} is near enough"
 
 
 def _pose_in(message):
@@ -134,24 +123,25 @@ class _Frames:
     """What tf says: for each frame its parent, and its pose there over time."""
 
     def __init__(self, bag, topics):
-        self.topics, self.tracks, self.parents, self.fixed = topics, {}, {}, set()
+        self.wanted, self.parents, timed, fixed = topics.frame.strip("/"), {}, {}, set()
         for topic, message, _ in bag.read_messages(topics=["/tf", "/tf_static"]):
             for it in message.transforms:
                 child = it.child_frame_id.strip("/")
                 self.parents[child] = it.header.frame_id.strip("/")
-                self.fixed |= {child} if topic == "/tf_static" else set()
-                track = self.tracks.setdefault(child, _Track())
-                track.add(it.header.stamp.to_sec(), _pose_in(it))
+                fixed |= {child} if topic == "/tf_static" else set()
+                timed.setdefault(child, []).append((it.header.stamp.to_sec(), _pose_in(it)))
+        self.tracks = {
+            child: Track(its, ALWAYS if child in fixed else topics.nearness)
+            for child, its in timed.items()
+        }
 
     def pose_of(self, frame, time):
-        frame, wanted = frame.strip("/"), self.topics.frame.strip("/")
-        pose, seen = IDENTITY, set()
-        while frame != wanted:
+        frame, pose, seen = frame.strip("/"), IDENTITY, set()
+        while frame != self.wanted:
             if frame not in self.parents or frame in seen:
-                return None, f"tf has no way from {frame} to {wanted}"
+                return None, f"tf has no way from {frame} to {self.wanted}"
             seen.add(frame)
-            tolerance = float("inf") if frame in self.fixed else self.topics.tolerance
-            step = self.tracks[frame].nearest(time, tolerance)
+            step = self.tracks[frame].at(time)
             if step is None:
                 return None, f"tf says nothing of {frame} near the time"
             pose, frame = step.carrying(pose), self.parents[frame]

@@ -1,0 +1,48 @@
+"""Kinds of files by their first bytes, so that one which isn't read is called by its name."""
+
+import re
+
+from .errors import Unusable
+from .files import read_bytes
+
+ROS_BAG = b"#ROSBAG V"
+LAS = b"LASF"
+UTF_16 = "text in UTF-16, and UTF-8 is read (iconv -f UTF-16 -t UTF-8)"
+UNREAD = [
+    (rb"PK(\x03\x04|\x05\x06)", "a ZIP archive, as a .npz is one: unpack it first"),
+    (rb"BZh|\xfd7zXZ\0|\x28\xb5\x2f\xfd|7z\xbc\xaf|Rar!", "packed, and only gzip is unpacked"),
+    (rb"SQLite format 3\0", "an SQLite file, as a ROS 2 bag is one, which isn't read"),
+    (rb"\x89MCAP", "an MCAP file of ROS 2, which isn't read"),
+    (rb"ASTM-E57", "an E57 file, which isn't read"),
+    (rb"\x89HDF", "an HDF5 file, which isn't read"),
+    (rb"\x89PNG|\xff\xd8\xff", "a picture"),
+    (rb"%PDF", "a PDF"),
+    (rb"\x7fELF", "a program"),
+    (rb"# Octomap OcTree|OCTSNAP", "a map, and no cloud"),
+    (rb"\xff\xfe\0\0|\0\0\xfe\xff", "text in UTF-32, and UTF-8 is read"),
+    (rb"\xff\xfe|\xfe\xff", UTF_16),
+    (rb"[^\0]\0([^\0]\0){7}|\0[^\0](\0[^\0]){7}", UTF_16),
+]  # fmt: skip
+
+
+def refuse_unread(content):
+    """Unusable where the content is of a kind that isn't read."""
+    for sign, kind in UNREAD:
+        if re.match(sign, content):
+            raise Unusable(f"it is {kind}")
+
+
+def refuse_empty(content):
+    if not content:
+        raise Unusable("it is empty")
+
+
+def text_of(name):
+    """The content of a text file in UTF-8; a byte that isn't is replaced."""
+    content = read_bytes(name)
+    try:
+        refuse_empty(content)
+        refuse_unread(content)
+    except Unusable as why:
+        raise why.named(name)
+    return content.decode("utf-8-sig", "replace")
