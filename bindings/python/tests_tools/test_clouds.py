@@ -92,8 +92,6 @@ class Text(InFolder):
 
     def test_which_columns_is_said(self):
         words = ("map", "--res", "1", "-", "--script", "-")
-        said = self.done(*words, given=b"1 2 3 4\n").said
-        self.assertIn("columns 1, 2, 3 are taken as x, y, z (--columns)", said)
         said = self.done(*words, given=b"i x y z\n4 1 2 3\n").said
         self.assertIn("columns 2, 3, 4 are x, y, z by their names", said)
         self.assertNotIn("columns", self.done(*words, given=b"1 2 3\n").said)
@@ -143,7 +141,7 @@ class Arrays(InFolder):
         head += "property double z\nelement face 1\nproperty list uchar int i\nend_header\n"
         layout = [("red", "u1"), ("x", ">f8"), ("y", ">f4"), ("z", ">f8")]
         rows = np.array([(9, *it) for it in POINTS.tolist()], layout)
-        content = head.encode() + bytes(16) + rows.tobytes() + bytes(13)
+        content = head.encode() + bytes(16) + rows.tobytes() + b"\x03" + bytes(12)
         self.assertEqual(self.script("-", given=content), CORNER)
 
     def test_fields_in_any_order(self):

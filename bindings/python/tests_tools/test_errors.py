@@ -32,11 +32,14 @@ CLOUDS = [
     ("bad:2:4: the line has 2 numbers, and 3 are needed", "1 2 3\n4 5\n"),
     ("bad:2:5: 'six' is no number", "1 2 3\n4 5 six\n"),
     ("bad:3:4: '' is no number", "# a\n1,2,3\n4, ,6\n"),
-    ("bad:1: no column has the name x (--columns)", "a b c\n1 2 3\n"),
+    (
+        "bad:1: which of 3 columns are x, y and z isn't clear (as --columns 1,2,3): 'a b c'",
+        "a b c\n1 2 3\n",
+    ),
     # PCD
     ("bad:1: its header has no line DATA", "FIELDS x y z"),
     ("bad:11: its header lacks SIZE", PCD.replace("SIZE", "SIZES")),
-    ("bad:3: FIELDS lacks z", PCD.replace("FIELDS x y z", "FIELDS x y t")),
+    ("bad:3: FIELDS lacks z (--columns)", PCD.replace("FIELDS x y z", "FIELDS x y t")),
     (
         "bad:3: FIELDS, SIZE, TYPE and COUNT of its header don't fit together",
         PCD.replace("TYPE F", "TYPE Q"),
@@ -57,7 +60,7 @@ CLOUDS = [
     ("bad:13:3: 'b' is no number", lines(PCD, 13, "2 b 0")),
     (
         "bad: its data has 4028 bytes, and 400 points of 12 bytes are announced",
-        BINARY_PCD.replace(b"POINTS 8", b"POINTS 400"),
+        BINARY_PCD.replace(b"POINTS 8", b"POINTS 400").replace(b"WIDTH 8", b"WIDTH 400"),
     ),
     ("bad: its data ends before the two sizes", PACKED_PCD[:240]),
     (
@@ -74,14 +77,14 @@ CLOUDS = [
     ),
     ("bad:2: its header has no line format", "ply\nend_header\n"),
     ("bad:3: it has no element vertex", "ply\nformat ascii 1.0\nend_header\n"),
-    ("bad:4: its vertices lack z", PLY.replace("float z", "float t")),
+    ("bad:4: its vertex lacks z (--columns)", PLY.replace("float z", "float t")),
     (
         "bad:5: a property of the type list isn't read before or in vertex",
         PLY.replace("property float x", "property list uchar int x"),
     ),
     ("bad:4: the number of elements is no count: '-8'", PLY.replace("vertex 8", "vertex -8")),
     (
-        "bad: its data has 9 lines, and 80 vertices are announced",
+        "bad: its data has 9 lines, and 81 are announced",
         PLY.replace("vertex 8", "vertex 80").replace(PLY[-39:], "1 2 3\n", 1),
     ),
     (
@@ -90,10 +93,11 @@ CLOUDS = [
     ),
     # arrays
     ("bad: its array is 7 of int64, and n x 3 numbers are needed", npy(np.arange(7))),
-    ("bad: its records lack z", npy(np.zeros(2, [("x", "f4"), ("y", "f4")]))),
+    ("bad: its record lacks z (--columns)", npy(np.zeros(2, [("x", "f4"), ("y", "f4")]))),
     # scan logs
     ("bad:1: points stand before the first line NODE", "1 2 3\nNODE 0 0 0 0 0 0\n"),
     ("bad:2: NODE has 6 numbers, and here are 5", "# a\nNODE 0 0 0 0 0\n"),
+    ("bad:1: a number of the pose isn't finite", "NODE 0 0 0 0 inf 0\n"),
     ("bad:3:3: 'b' is no number", "NODE 0 0 0 0 0 0\n1 2 3\n4 b 6\n"),
     # gzip
     (
@@ -109,7 +113,10 @@ POSES = [
     ("poses:1: the time isn't finite", "inf 0 0 0 0 0 0 1\n"),
     ("poses:1: the quaternion is 0, which is no direction", "0 0 0 0 0 0 0 0\n"),
     ("poses:1: the place lies 10,000 km away or more", "0 1e7 0 0 0 0 0 1\n"),
-    ("poses:1: a pose has 8 numbers (TUM) or 12 (KITTI), and here are 3", "1 2 3\n"),
+    (
+        "poses:1: a pose has 8 numbers (TUM), 12 (KITTI) or 17 (EuRoC), and here are 3",
+        "1 2 3\n",
+    ),
     ("poses:1: the 3 x 3 part of the pose is no turn", "2 0 0 0 0 1 0 0 0 0 1 0\n"),
     ("poses: it has no pose", "# nothing\n"),
     (
@@ -178,7 +185,7 @@ class Files(InFolder):
         self.refused("times:2:1: 'now' is no number", *words, "--times", "times", "-")
         with open("times", "w") as file:
             file.write("1\n2\n")
-        self.refused("poses: there are 2 times for 1 clouds", *words, "--times", "times", "-")
+        self.refused("times: there are 2 times for 1 clouds", *words, "--times", "times", "-")
         with open("poses", "w") as file:
             file.write("1 0 0 0 0 1 0 0 0 0 1 0\n")
         said = "poses: its poses have no times, which --by-time takes"
@@ -221,8 +228,10 @@ class Words(InFolder):
             ("nothing is to be written (-o, --snapshot or --script)", "map", "--res", 1, "-"),
             ("--pose and --poses exclude each other", "map", "--res", 1, "-", "-o", "c.bt",
              "--poses", "p", "--pose", 0, 0, 0, 1, 0, 0, 0),
-            ("--by-time, --times and --interpolate need --poses", "map", "--res", 1, "-", "-o", "c",
+            ("--by-time and --times need --poses", "map", "--res", 1, "-", "-o", "c",
              "--by-time"),
+            ("--interpolate needs --poses, --pose-topic or --frame", "map", "--res", 1, "-", "-o",
+             "c", "--interpolate"),
             ("the quaternion is 0, which is no direction", "map", "--res", 1, "-", "-o", "c",
              "--sensor", 0, 0, 0, 0, 0, 0, 0),
             ("only one of -o, --snapshot and --script can be the output", "map", "--res", 1, "-",

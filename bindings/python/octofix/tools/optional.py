@@ -4,11 +4,13 @@ import importlib
 
 from .errors import MissingLibrary
 
-DEBIAN = {
-    "PIL.Image": "python3-pil",
-    "rosbag": "python3-rosbag",
-    "scipy.spatial": "python3-scipy",
-    "tqdm": "python3-tqdm",
+# The packages that have them.
+PACKAGES = {
+    "PIL.Image": "in Debian python3-pil",
+    "laspy": "on PyPI laspy[lazrs]",
+    "rosbag": "in Debian python3-rosbag",
+    "scipy.spatial": "in Debian python3-scipy",
+    "tqdm": "in Debian python3-tqdm",
 }
 
 
@@ -21,9 +23,9 @@ def wanted(module):
 
 
 def needed(module, purpose):
-    """The module; a sentence that names Debian's package where it isn't there."""
+    """The module; a sentence that names the package where it isn't there."""
     found = wanted(module)
     if found is None:
-        name, package = module.split(".")[0], DEBIAN[module]
-        raise MissingLibrary(f"{purpose} needs the Python library {name} (in Debian {package})")
+        name, package = module.split(".")[0], PACKAGES[module]
+        raise MissingLibrary(f"{purpose} needs the Python library {name} ({package})")
     return found

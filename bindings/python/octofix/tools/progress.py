@@ -8,7 +8,9 @@ from .optional import wanted
 
 
 def say(text):
-    _write(f"octofix: {text}\n")
+    """Says it in one line, whatever stands in names of files and in words of theirs."""
+    shown = "".join(it if it.isprintable() else ascii(it)[1:-1] for it in text)
+    _write(f"octofix: {shown}\n")
 
 
 def is_terminal():

@@ -1,46 +1,90 @@
 """Arrays in files: NumPy's .npy, and the .bin of KITTI."""
 
 import io
+import math
+import warnings
 
 import numpy as np
 
-from ..errors import Unusable
+from ..errors import Unusable, failing_as
 from .cloud import Cloud, only, xyz_of
+from .columns import AXES, places_of
 
-KITTI_RECORD = 16
+HEADERS = {
+    (1, 0): np.lib.format.read_array_header_1_0,
+    (2, 0): np.lib.format.read_array_header_2_0,
+}
+KITTI_RECORD = np.dtype([(it, "<f4") for it in (*AXES, "intensity")])
 
 
 def read_npy(name, content, reading):
     """One cloud of an (n, 3) array, of the columns that are asked of a wider one, or of records
-    with the fields x, y and z."""
-    try:
-        array = np.load(io.BytesIO(content), allow_pickle=False)
-    except (ValueError, EOFError, OSError, SyntaxError, MemoryError) as error:
-        raise Unusable(f"it isn't an array of numbers: {error}") from None
+    with the fields x, y and z or those that are asked."""
+    array = _array_of(content)
     if array.dtype.names:
-        if lacking := [it for it in "xyz" if it not in array.dtype.names]:
-            raise Unusable(f"its records lack {', '.join(lacking)}")
-        return only(Cloud(name, xyz_of(array)))
+        return only(Cloud(name, _of_records(array, reading.columns)))
     if array.ndim != 2 or array.shape[1] < 3 or array.dtype.kind not in "fiu":
-        shape = "x".join(map(str, array.shape))
-        raise Unusable(f"its array is {shape} of {array.dtype}, and n x 3 numbers are needed")
-    columns, notes = _columns(array.shape[1], reading.columns)
-    return only(Cloud(name, array[:, columns], notes=notes))
+        raise Unusable(f"{_shape_of(array)}, and n x 3 numbers are needed")
+    width = array.shape[1]
+    if width > 3 and not reading.columns:
+        said = f"{_shape_of(array)}: which columns are x, y and z isn't said"
+        row = ", ".join(map(str, array[:1].ravel().tolist()))
+        raise Unusable(f"{said} (as --columns 1,2,3): {row[:80]}")
+    columns = places_of([], width, reading.columns or ["1", "2", "3"], "its array")
+    return only(Cloud(name, array if columns == list(range(width)) else array[:, columns]))
 
 
-def _columns(width, asked):
-    if asked:
-        if bad := [it for it in asked if not it.isdigit() or not 1 <= int(it) <= width]:
-            raise Unusable(f"there is no column {bad[0]}: its array has {width}")
-        return [int(it) - 1 for it in asked], ()
-    if width > 3:
-        said = f"its array has {width} columns without names"
-        return [0, 1, 2], (f"{said}: columns 1, 2, 3 are taken as x, y, z (--columns)",)
-    return [0, 1, 2], ()
+def _array_of(content):
+    """The array, which stays in the content."""
+    stream = io.BytesIO(content)
+    # (of a damaged header Python's parser raises and warns whatever it likes)
+    with warnings.catch_warnings(), failing_as("an array of numbers"):
+        warnings.simplefilter("ignore")
+        version = np.lib.format.read_magic(stream)
+        if version not in HEADERS:
+            raise Unusable(f"its version {version[0]}.{version[1]} isn't read")
+        shape, is_by_columns, kind = HEADERS[version](stream)
+        if not _is_sound(kind) or min(shape, default=0) < 0:
+            raise ValueError(f"of {kind}")
+        many, start = math.prod(shape), stream.tell()
+        size = len(content) - start
+        if size != many * kind.itemsize:
+            said = f"{many} values of {kind.itemsize} bytes are announced"
+            raise Unusable(f"its data has {size} bytes, and {said}")
+        if many == 0:
+            return np.empty(shape, kind)
+        values = np.frombuffer(content, kind, many, start)
+        return values.reshape(shape, order="F" if is_by_columns else "C")
+
+
+def _is_sound(kind):
+    """Whether the kind and its fields lie within its length. (numpy takes a text of -1 letters from
+    a file, and then writes beyond what it has.)"""
+    parts = [it[:2] for it in (kind.fields or {}).values()]
+    parts += [(kind.base, 0)] if kind.shape else []
+    return kind.itemsize > 0 and not kind.hasobject and all(
+        0 <= it.itemsize <= kind.itemsize - start and (it.itemsize == 0 or _is_sound(it))
+        for it, start in parts
+    )  # fmt: skip
+
+
+def _shape_of(array):
+    return f"its array is {' x '.join(map(str, array.shape))} of {array.dtype}"
+
+
+def _of_records(array, asked):
+    names = array.dtype.names
+    places = places_of(names, len(names), asked, "its record")
+    chosen = [names[it] for it in places]
+    if bad := [it for it in chosen if array.dtype[it].kind not in "fiu"]:
+        raise Unusable(f"its field {bad[0]} is {array.dtype[bad[0]]}, and no number")
+    return xyz_of(array, chosen)
 
 
 def read_kitti(name, content, reading):
     """One cloud of records x, y, z, intensity, each of four bytes, the lowest first."""
-    if len(content) % KITTI_RECORD:
+    if len(content) % KITTI_RECORD.itemsize:
         raise Unusable(f"its {len(content)} bytes are no whole number of records of 16 bytes")
-    return only(Cloud(name, np.frombuffer(content, "<f4").reshape(-1, 4)[:, :3].copy()))
+    rows = np.frombuffer(content, "<f4").reshape(-1, 4)
+    columns = places_of(KITTI_RECORD.names, 4, reading.columns, "a record")
+    return only(Cloud(name, rows[:, columns]))

@@ -5,6 +5,7 @@ from dataclasses import dataclass
 import numpy as np
 
 from ..poses import Pose
+from .columns import AXES
 
 
 @dataclass(frozen=True)
@@ -24,9 +25,16 @@ class Cloud:
     gap: str = None
 
 
-def xyz_of(records):
-    """The fields x, y and z of records as (n, 3)."""
-    return np.stack([records[it] for it in "xyz"], axis=-1).reshape(-1, 3)
+def xyz_of(records, names=AXES):
+    """Three fields of records as (n, 3)."""
+    return stacked([records[it] for it in names])
+
+
+def stacked(columns):
+    """The coordinates as (n, 3), of a kind of numbers that has room for all."""
+    # (a signalling NaN is one of the points that aren't finite, and no fault)
+    with np.errstate(invalid="ignore"):
+        return np.stack(columns, axis=-1).reshape(-1, 3)
 
 
 def only(cloud):

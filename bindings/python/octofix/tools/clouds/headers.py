@@ -3,7 +3,7 @@
 from ..errors import Unusable
 
 
-def header_lines(content, last, what):
+def header_lines(content, last):
     """The lines (number, words, text) up to the first whose first word is `last`, and the place
     where the data begins."""
     found, start = [], 0

@@ -7,7 +7,7 @@ def unpacked(packed, size):
     """What the bytes of an LZF stream stand for; `size` bytes, or Unusable."""
     plain, at = bytearray(), 0
     try:
-        while at < len(packed):
+        while at < len(packed) and len(plain) <= size:
             control = packed[at]
             at += 1
             if control < 32:

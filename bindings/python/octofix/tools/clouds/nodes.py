@@ -1,5 +1,6 @@
 """The scan logs of the OctoMap library: 'NODE x y z roll pitch yaw', then a point each line."""
 
+import math
 import re
 
 from ..errors import Unusable
@@ -32,6 +33,8 @@ def _pose_of(row, line):
         numbers = numbers_of(row.split()[1:], row)
         if len(numbers) != 6:
             raise Unusable(f"NODE has 6 numbers, and here are {len(numbers)}")
+        if not all(map(math.isfinite, numbers)):
+            raise Unusable("a number of the pose isn't finite")
         return Pose.of(numbers[:3], of_angles(*numbers[3:]))
     except Unusable as why:
         why.line = line

@@ -6,23 +6,26 @@ import numpy as np
 
 from ..errors import Unusable
 from ..poses import Pose, numbers_of
-from .cloud import Cloud, only, xyz_of
+from .cloud import Cloud, only, stacked, xyz_of
+from .columns import AXES, places_of
 from .headers import count_of, header_lines
 from .lzf import unpacked
 from .tables import table_of
 
 TYPES = {"F4", "F8", "I1", "I2", "I4", "I8", "U1", "U2", "U4", "U8"}
 MOST_BYTES = 1 << 20
+LARGEST_PAGE = 1 << 16
 FORMS = ("ascii", "binary", "binary_compressed")
 
 
 @dataclass
 class _Header:
-    """The fields by name, as numpy's types with their lengths, and what else is said."""
+    """The fields as numpy's types with their lengths, where x, y and z are among them, and what
+    else is said."""
 
-    names: list
     types: list
     repeats: list
+    places: list
     points: int
     form: str
     viewpoint: Pose
@@ -31,29 +34,29 @@ class _Header:
     def layout(self):
         """x, y and z in a record, at their places."""
         sizes = [np.dtype(it).itemsize * many for it, many in zip(self.types, self.repeats)]
-        if sum(sizes) > MOST_BYTES:
-            raise Unusable(f"its points have {sum(sizes)} bytes each, and at most 2^20 are read")
-        places = [self.names.index(it) for it in "xyz"]
         return np.dtype({
-            "names": list("xyz"),
-            "formats": [self.types[it] for it in places],
-            "offsets": [sum(sizes[:it]) for it in places],
+            "names": AXES,
+            "formats": [self.types[it] for it in self.places],
+            "offsets": [sum(sizes[:it]) for it in self.places],
             "itemsize": sum(sizes),
         })  # fmt: skip
 
 
 def read(name, content, reading):
     """One cloud, with the VIEWPOINT of the header as its pose where it isn't that of the origin."""
-    header, start = _header_of(content)
+    header, start = _header_of(content, reading.columns)
     body = memoryview(content)[start:]
     points = {"ascii": _of_text, "binary": _of_records, "binary_compressed": _of_compressed}
     pose = None if header.viewpoint.is_identity() else header.viewpoint
     return only(Cloud(name, points[header.form](body, header), pose))
 
 
-def _header_of(content):
-    lines, start = header_lines(content, "DATA", "PCD")
-    found = {it[1][0]: it for it in lines if it[1] and not it[1][0].startswith("#")}
+def _header_of(content, asked):
+    lines, start = header_lines(content, "DATA")
+    found = {}
+    for it in lines:
+        if it[1] and not it[1][0].startswith("#") and found.setdefault(it[1][0], it) is not it:
+            raise Unusable(f"its header has {it[1][0][:40]} twice", line=it[0])
     for name in ("FIELDS", "SIZE", "TYPE", "POINTS"):
         if len(found.get(name, (0, []))[1]) < 2:
             raise Unusable(f"its header lacks {name}", line=len(lines))
@@ -62,16 +65,26 @@ def _header_of(content):
     if form not in FORMS:
         said = f"DATA {form[:40]} isn't read, only {', '.join(FORMS)} are"
         raise Unusable(said, line=form_line)
+    types, repeats, places = _fields_of(found, asked)
+    points = _points_of(found)
+    return _Header(types, repeats, places, points, form, _viewpoint(found), len(lines)), start
+
+
+def _points_of(found):
+    """How many points there are: POINTS, which WIDTH times HEIGHT has to be where they are said."""
     line, words, _ = found["POINTS"]
-    names, types, repeats = _fields_of(found)
     points = count_of(words[1], "POINTS", line)
-    return _Header(names, types, repeats, points, form, _viewpoint(found), len(lines)), start
+    if "WIDTH" in found:
+        sides = [found.get(it, (line, [it, "1"], "")) for it in ("WIDTH", "HEIGHT")]
+        width, height = (count_of(" ".join(it[1][1:]), it[1][0], it[0]) for it in sides)
+        if width * height != points:
+            said = f"WIDTH {width} times HEIGHT {height} isn't POINTS {points}"
+            raise Unusable(said, line=line)
+    return points
 
 
-def _fields_of(found):
+def _fields_of(found, asked):
     line, (_, *names), _ = found["FIELDS"]
-    if lacking := [it for it in "xyz" if it not in names]:
-        raise Unusable(f"FIELDS lacks {', '.join(lacking)}", line=line)
     counts = found.get("COUNT", (line, ["COUNT"] + ["1"] * len(names), ""))
     repeats = [count_of(it, "COUNT", counts[0]) for it in counts[1][1:]]
     types = [kind + size for kind, size in zip(found["TYPE"][1][1:], found["SIZE"][1][1:])]
@@ -79,9 +92,17 @@ def _fields_of(found):
     if len(lengths) != 1 or not set(types) <= TYPES:
         said = "FIELDS, SIZE, TYPE and COUNT of its header don't fit together"
         raise Unusable(said, line=line)
-    if any(repeats[names.index(it)] != 1 for it in "xyz"):
+    try:
+        places = places_of(names, len(names), asked, "FIELDS")
+    except Unusable as why:
+        why.line = line
+        raise
+    if any(repeats[it] != 1 for it in places):
         raise Unusable("COUNT isn't 1 for x, y and z", line=counts[0])
-    return names, ["<" + it.lower() for it in types], repeats
+    size = sum(int(kind[1:]) * many for kind, many in zip(types, repeats))
+    if size > MOST_BYTES:
+        raise Unusable(f"its points have {size} bytes each, and at most 2^20 are read", line=line)
+    return ["<" + it.lower() for it in types], repeats, places
 
 
 def _viewpoint(found):
@@ -97,8 +118,8 @@ def _viewpoint(found):
 
 
 def _of_text(body, header):
-    places = [sum(header.repeats[: header.names.index(it)]) for it in "xyz"]
-    points = table_of(bytes(body), places, header.lines + 1)
+    places = [sum(header.repeats[:it]) for it in header.places]
+    points = table_of(bytes(body), places, header.lines + 1, width=sum(header.repeats))
     if len(points) != header.points:
         said = f"its data has {len(points)} lines, and {header.points} points are announced"
         raise Unusable(said)
@@ -107,10 +128,17 @@ def _of_text(body, header):
 
 def _of_records(body, header):
     layout = header.layout()
-    if len(body) < header.points * layout.itemsize:
+    size = header.points * layout.itemsize
+    if len(body) < size or not _is_padding(body[size:]):
         announced = f"{header.points} points of {layout.itemsize} bytes are announced"
         raise Unusable(f"its data has {len(body)} bytes, and {announced}")
     return xyz_of(np.frombuffer(body, layout, header.points))
+
+
+def _is_padding(rest):
+    """Whether these are the zeros, up to a page of memory, that the Point Cloud Library may write
+    behind data."""
+    return len(rest) <= LARGEST_PAGE and not any(rest)
 
 
 def _of_compressed(body, header):
@@ -119,9 +147,9 @@ def _of_compressed(body, header):
         raise Unusable("its data ends before the two sizes")
     packed, plain = np.frombuffer(body, "<u4", 2).tolist()
     layout = header.layout()
-    if plain != header.points * layout.itemsize or len(body) < 8 + packed:
+    is_whole = len(body) >= 8 + packed and _is_padding(body[8 + packed :])
+    if plain != header.points * layout.itemsize or not is_whole:
         raise Unusable(f"its data has {len(body)} bytes, which don't fit the sizes in it")
     data = unpacked(body[8 : 8 + packed], plain)
-    fields = ((layout.fields[it][0], layout.fields[it][1] * header.points) for it in "xyz")
-    columns = [np.frombuffer(data, kind, header.points, start) for kind, start in fields]
-    return np.stack(columns, axis=-1)
+    fields = ((layout.fields[it][0], layout.fields[it][1] * header.points) for it in AXES)
+    return stacked([np.frombuffer(data, kind, header.points, start) for kind, start in fields])

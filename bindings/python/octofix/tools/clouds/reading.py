@@ -3,9 +3,10 @@
 import re
 from dataclasses import dataclass
 
-from ..errors import Unusable
+from ..errors import Unusable, failing_as
 from ..files import read_bytes
-from . import arrays, bags, graph, nodes, pcd, ply, text
+from ..kinds import LAS, ROS_BAG, refuse_empty, refuse_unread
+from . import arrays, bags, graph, las, nodes, pcd, ply, text
 
 READERS = {
     "pcd": pcd.read,
@@ -13,14 +14,18 @@ READERS = {
     "text": text.read,
     "npy": arrays.read_npy,
     "kitti": arrays.read_kitti,
+    "las": las.read,
     "log": nodes.read,
     "graph": graph.read,
 }
 FORMS = [*READERS, "bag"]
+WITHOUT_COLUMNS = ("log", "graph", "bag")
 SIGNS = [
     (rb"(#[^\n]*\n\s*)*VERSION |# \.PCD|FIELDS ", "pcd"),
     (rb"ply\r?\n", "ply"),
     (rb"\x93NUMPY", "npy"),
+    (LAS, "las"),
+    (ROS_BAG, "bag"),
     (rb"(\s*(#[^\n]*)?\n)*NODE\s", "log"),
 ]
 ENDINGS = [(r"\.bin(\.gz)?$", "kitti"), (r"\.graph(\.gz)?$", "graph"), (r"\.bag$", "bag")]
@@ -46,14 +51,27 @@ def form_of(name, content):
 def clouds_in(name, reading):
     """Each Cloud of a file in turn; Unusable where it can't be read."""
     try:
-        if reading.form == "bag" or (reading.form is None and name.endswith(".bag")):
-            yield from bags.read(name, reading.bag)
-            return
-        content = read_bytes(name)
-        form = reading.form or form_of(name, content)
-        clouds = READERS[form](name, content, reading)
-        # (so that one cloud at a time is in memory, and not its file beside it)
-        del content
-        yield from clouds
+        form, clouds = _opened(name, reading)
+        with failing_as(f"the form {form}"):
+            yield from clouds
     except Unusable as why:
         raise why.named(name)
+
+
+def _opened(name, reading):
+    """The form of a file, and an iterator of its clouds, which alone has the file's content."""
+    form = reading.form
+    if form is None and name.lower().endswith(".bag"):
+        form = "bag"
+    if form != "bag":
+        content = read_bytes(name)
+        refuse_empty(content)
+        form = form or form_of(name, content)
+        if form == "text":
+            refuse_unread(content)
+    if reading.columns and form in WITHOUT_COLUMNS:
+        raise Unusable(f"--columns isn't for the form {form}")
+    if form == "bag":
+        return form, bags.read(name, reading.bag)
+    with failing_as(f"the form {form}"):
+        return form, READERS[form](name, content, reading)

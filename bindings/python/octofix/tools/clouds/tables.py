@@ -7,26 +7,36 @@ import warnings
 import numpy as np
 
 from ..errors import Unusable
+from ..poses import is_number
 
 
-def table_of(body, columns, first_line, delimiter=None, rows=None):
-    """These columns of lines of numbers as (n, len(columns)), of at most `rows` lines.
+def table_of(body, columns, first_line, delimiter=None, width=None):
+    """These columns of lines of numbers as (n, len(columns)).
 
     Blank lines and what follows a '#' are passed over. first_line is the number that the first line
-    of the body has in its file, for what is said of a fault."""
-    if rows == 0 or not re.search(rb"\S", body):
+    of the body has in its file, for what is said of a fault. Where a width is given each line has
+    that many words."""
+    if not re.search(rb"\S", body):
         return np.empty((0, len(columns)))
+    is_all = columns == list(range(width or 0))
+    form = {"usecols": None if is_all else columns, "delimiter": delimiter, "ndmin": 2}
     comments = "#" if b"#" in body else None
-    form = {"usecols": columns, "delimiter": delimiter, "max_rows": rows, "ndmin": 2}
     try:
         with warnings.catch_warnings():
             warnings.filterwarnings("ignore", "loadtxt: ")
             # (between the rows of a generator Python hears an interrupt)
             rows = (row for row in io.BytesIO(body))
-            return np.loadtxt(rows, comments=comments, **form).reshape(-1, len(columns))
-    except (ValueError, IndexError, UnicodeError) as error:
-        _find_fault(body, columns, first_line, delimiter)
+            table = np.loadtxt(rows, comments=comments, **form)
+        # (of comments alone it makes a table without columns)
+        table = table.reshape(-1, len(columns)) if table.size == 0 else table
+        if table.shape[1] != len(columns):
+            raise ValueError(f"the lines have {table.shape[1]} numbers")
+    except (ValueError, IndexError, OverflowError) as error:
+        _find_fault(body, columns, first_line, delimiter, width)
         raise Unusable(str(error).split(";")[0], line=first_line) from None
+    if width and not is_all and not _is_even(body, width, delimiter):
+        _find_fault(body, columns, first_line, delimiter, width)
+    return table
 
 
 def words_of(row, delimiter):
@@ -41,17 +51,18 @@ def words_of(row, delimiter):
     return found
 
 
-def is_number(word):
-    try:
-        float(word)
-    except ValueError:
-        return False
-    return "_" not in word
+def _is_even(body, width, delimiter):
+    """Whether each line that isn't blank has this many words."""
+    if b"#" in body:
+        body = re.sub(rb"#[^\n]*", b"", body)
+    parting = delimiter and delimiter.encode()
+    rows = (it for it in io.BytesIO(body) if not it.isspace())
+    return {len(it.split(parting)) for it in rows} <= {width}
 
 
-def _find_fault(body, columns, first_line, delimiter):
+def _find_fault(body, columns, first_line, delimiter, width):
     """Raises the first fault of the lines, with its place."""
-    for line, row in enumerate(body.decode("utf-8", "replace").split("\n"), first_line):
+    for line, row in enumerate(bytes(body).decode("utf-8", "replace").split("\n"), first_line):
         row = row.split("#")[0].rstrip()
         if not row.strip():
             continue
@@ -59,6 +70,10 @@ def _find_fault(body, columns, first_line, delimiter):
         for word, column in (words[it] for it in sorted(columns) if it < len(words)):
             if not is_number(word):
                 raise Unusable(f"{word[:40]!r} is no number", line=line, column=column)
+        many = f"{len(words)} numbers" if len(words) != 1 else "1 number"
         if len(words) <= max(columns):
-            many = f"{len(words)} numbers, and {max(columns) + 1} are needed"
-            raise Unusable(f"the line has {many}", line=line, column=len(row) + 1)
+            said = f"the line has {many}, and {max(columns) + 1} are needed"
+            raise Unusable(said, line=line, column=len(row) + 1)
+        if width and len(words) != width:
+            said = f"the line has {many}, and the others have {width}"
+            raise Unusable(said, line=line, column=len(row) + 1)

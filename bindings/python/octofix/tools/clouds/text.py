@@ -4,78 +4,116 @@ import re
 from dataclasses import dataclass, field
 
 from ..errors import Unusable
+from ..poses import is_number
 from .cloud import Cloud, only
-from .tables import is_number, table_of, words_of
+from .columns import AXES, places_of
+from .tables import table_of, words_of
 
 COMMENT = re.compile(r"\s*(#+|//+)")
+LONGEST_LINE = 1 << 16
 
 
 def read(name, content, reading):
     """One cloud. Words are parted by blanks, commas or semicolons; lines that begin with '#' or
-    '//' are comments, and the last line before the numbers may name the columns, as one too."""
+    '//' are comments, and one line before the numbers may name the columns, as one too. Three
+    columns without names are x, y and z; of more it has to be said which they are."""
     content = content.removeprefix(b"\xef\xbb\xbf")
     front = _front_of(content)
     body = content[front.length :]
     if b"//" in body:
         body = re.sub(rb"(?m)^[ \t]*//.*", b"", body)
-    columns, notes = _columns(front, reading.columns)
-    points = table_of(body, columns, front.lines + 1, front.delimiter)
+    asked = reading.columns
+    columns, notes = _asked(front, asked) if asked else _columns(front)
+    # (whoever asks for columns knows that lines may have words beyond them)
+    width = None if asked else front.width
+    points = table_of(body, columns, front.lines + 1, front.delimiter, width=width)
     return only(Cloud(name, points, notes=notes))
+
+
+@dataclass(frozen=True)
+class _Heading:
+    """A line that may name the columns: its number, its text, and its words in lower case."""
+
+    line: int
+    row: str
+    words: list
+
+    def names_axes(self):
+        return set(AXES) <= set(self.words)
+
+    def is_clear(self):
+        """Whether it can't mean that three columns are others than x, y and z in turn."""
+        return [it for it in self.words if it in AXES] == list(AXES)
 
 
 @dataclass
 class _Front:
-    """What stands before the numbers: how long it is, the names of the columns, what parts words,
-    and how many words the first line of numbers has."""
+    """What stands before the numbers: how long it is, the line of names and the comments, what
+    parts words, and the first line of numbers with the number of its words."""
 
     length: int = 0
     lines: int = 0
-    names: list = field(default_factory=list)
-    named_in: int = None
+    named: _Heading = None
+    comments: list = field(default_factory=list)
     delimiter: str = None
+    first: str = ""
     width: int = 3
+
+    def heading(self):
+        """The line that names the columns, or may be meant to: one that is no comment, or else the
+        last comment with x, y and z, or with as many words as there are columns."""
+        if self.named or not self.first:
+            return self.named
+        fitting = [it for it in self.comments if len(it.words) == self.width]
+        naming = [it for it in fitting if it.names_axes()]
+        unclear = [it for it in self.comments if it.names_axes() and not it.is_clear()]
+        return next(iter([*naming[-1:], *unclear[-1:], *fitting[-1:]]), None)
 
 
 def _front_of(content):
     front = _Front()
     while front.length < len(content):
         end = content.find(b"\n", front.length) + 1 or len(content)
+        if end - front.length > LONGEST_LINE:
+            raise Unusable("the line has more than 2^16 bytes", line=front.lines + 1)
         row = content[front.length : end].decode("utf-8", "replace").rstrip()
         plain = COMMENT.sub("", row, count=1) if COMMENT.match(row) else row
         front.delimiter = next((it for it in ";," if it in plain), None)
         words = [it.strip("\"'").lower() for it, _ in words_of(plain, front.delimiter)]
-        is_heading = plain == row and row and not front.names and not any(map(is_number, words))
-        if {"x", "y", "z"} <= set(words) or is_heading:
-            front.names, front.named_in = words, front.lines + 1
-        elif plain == row and row:
-            front.width = len(words)
+        found = _Heading(front.lines + 1, row, words)
+        if plain != row:
+            front.comments.append(found)
+        elif row and not front.named and (found.names_axes() or not any(map(is_number, words))):
+            front.named = found
+        elif row:
+            front.first, front.width = row, len(words)
             return front
         front.length, front.lines = end, front.lines + 1
     return front
 
 
-def _columns(front, asked):
-    """The indices of x, y and z, and what is said of them."""
-    if asked:
-        return [_index(it, front) for it in asked], ()
-    if front.names:
-        if lacking := [it for it in "xyz" if it not in front.names]:
-            raise Unusable(f"no column has the name {lacking[0]} (--columns)", line=front.named_in)
-        found = [front.names.index(it) for it in "xyz"]
-        said = ", ".join(str(it + 1) for it in found)
-        is_plain = len(front.names) == 3
-        return found, () if is_plain else (f"columns {said} are x, y, z by their names",)
-    if front.width > 3:
-        said = f"its lines have {front.width} numbers without names"
-        return [0, 1, 2], (f"{said}: columns 1, 2, 3 are taken as x, y, z (--columns)",)
-    return [0, 1, 2], ()
+def _columns(front):
+    """The indices of x, y and z, and what is said of them; Unusable where it would be a guess."""
+    heading = front.heading()
+    if heading is None and front.width > len(AXES):
+        said = f"which of its {front.width} columns are x, y and z isn't said"
+        raise Unusable(f"{said} (as --columns 1,2,3): {front.first[:80]!r}", line=front.lines + 1)
+    if heading is None:
+        return [0, 1, 2], ()
+    if not heading.names_axes() or (front.first and len(heading.words) != front.width):
+        said = f"which of {front.width} columns are x, y and z isn't clear"
+        raise Unusable(f"{said} (as --columns 1,2,3): {heading.row[:80]!r}", line=heading.line)
+    try:
+        found = places_of(heading.words, len(heading.words), None, "the line")
+    except Unusable as why:
+        why.line = heading.line
+        raise
+    said = ", ".join(str(it + 1) for it in found)
+    is_plain = len(heading.words) == len(AXES)
+    return found, () if is_plain else (f"columns {said} are x, y, z by their names",)
 
 
-def _index(asked, front):
-    if asked.isdigit():
-        if not 1 <= int(asked) <= front.width:
-            raise Unusable(f"there is no column {asked}: a line has {front.width}")
-        return int(asked) - 1
-    if asked.lower() not in front.names:
-        raise Unusable(f"no column has the name {asked!r}", line=front.named_in)
-    return front.names.index(asked.lower())
+def _asked(front, asked):
+    heading = front.heading()
+    names = heading.words if heading and len(heading.words) == front.width else []
+    return places_of(names, front.width, asked, "a line"), ()

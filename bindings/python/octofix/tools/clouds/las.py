@@ -1,0 +1,20 @@
+"""LAS and LAZ, the files of laser scanners from the air, by the library laspy."""
+
+import io
+
+import numpy as np
+
+from ..errors import failing_as
+from ..optional import needed
+from .cloud import Cloud, only, stacked
+from .columns import places_of
+
+
+def read(name, content, reading):
+    """One cloud of all points, in the metres that scale and offset of the header make of them."""
+    laspy = needed("laspy", "a LAS file")
+    places_of(("x", "y", "z"), 3, reading.columns, "a point")
+    with failing_as("a LAS file"):
+        found = laspy.read(io.BytesIO(content))
+        axes = [np.asarray(it, float) for it in (found.x, found.y, found.z)]
+        return only(Cloud(name, stacked(axes)))
