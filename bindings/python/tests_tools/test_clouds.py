@@ -134,6 +134,13 @@ class Arrays(InFolder):
         rows.tofile("000000.bin")
         self.assertEqual(self.script("000000.bin"), CORNER_32)
 
+    def test_nuscenes(self):
+        """Records of five numbers, which by their length may be those of KITTI."""
+        rows = np.concatenate([POINTS, np.ones((7, 2))], axis=1).astype("<f4")
+        np.concatenate([rows, rows[:1]]).tofile("scan.pcd.bin")
+        wanted = CORNER_32.replace("end\n", "p 2 -0.5 0\nend\n")
+        self.assertEqual(self.script("scan.pcd.bin"), wanted)
+
     def test_big_endian_ply(self):
         """With faces before the vertices, and a property between the coordinates."""
         head = "ply\nformat binary_big_endian 1.0\nelement camera 2\nproperty double f\n"

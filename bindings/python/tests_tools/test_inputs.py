@@ -207,6 +207,8 @@ class Kinds(Inputs):
             self.is_refused(f": it is {said}", content)
 
     def test_other_bytes(self):
+        said = ": it is no text, and its first bytes are of no kind that is read"
+        self.is_refused(said, b"1 2 3\n\x01\x02")
         self.is_refused(":1: the line has more than 2^16 bytes", b"1 " * 40_000)
 
     def test_las(self):

@@ -7,6 +7,7 @@ from .files import read_bytes
 
 ROS_BAG = b"#ROSBAG V"
 LAS = b"LASF"
+FRONT = 1024
 UTF_16 = "text in UTF-16, and UTF-8 is read (iconv -f UTF-16 -t UTF-8)"
 UNREAD = [
     (rb"PK(\x03\x04|\x05\x06)", "a ZIP archive, as a .npz is one: unpack it first"),
@@ -26,10 +27,12 @@ UNREAD = [
 
 
 def refuse_unread(content):
-    """Unusable where the content is of a kind that isn't read."""
+    """Unusable where the content is of a kind that isn't read, or no text."""
     for sign, kind in UNREAD:
         if re.match(sign, content):
             raise Unusable(f"it is {kind}")
+    if re.search(rb"[\0-\x08\x0e-\x1a\x7f]", content[:FRONT]):
+        raise Unusable("it is no text, and its first bytes are of no kind that is read")
 
 
 def refuse_empty(content):

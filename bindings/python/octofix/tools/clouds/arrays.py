@@ -1,4 +1,4 @@
-"""Arrays in files: NumPy's .npy, and the .bin of KITTI."""
+"""Arrays in files: NumPy's .npy, and the .bin of KITTI and nuScenes."""
 
 import io
 import math
@@ -14,7 +14,6 @@ HEADERS = {
     (1, 0): np.lib.format.read_array_header_1_0,
     (2, 0): np.lib.format.read_array_header_2_0,
 }
-KITTI_RECORD = np.dtype([(it, "<f4") for it in (*AXES, "intensity")])
 
 
 def read_npy(name, content, reading):
@@ -83,8 +82,17 @@ def _of_records(array, asked):
 
 def read_kitti(name, content, reading):
     """One cloud of records x, y, z, intensity, each of four bytes, the lowest first."""
-    if len(content) % KITTI_RECORD.itemsize:
-        raise Unusable(f"its {len(content)} bytes are no whole number of records of 16 bytes")
-    rows = np.frombuffer(content, "<f4").reshape(-1, 4)
-    columns = places_of(KITTI_RECORD.names, 4, reading.columns, "a record")
-    return only(Cloud(name, rows[:, columns]))
+    return _read_floats(name, content, reading, (*AXES, "intensity"))
+
+
+def read_nuscenes(name, content, reading):
+    """One cloud of records x, y, z, intensity, ring, as those of KITTI."""
+    return _read_floats(name, content, reading, (*AXES, "intensity", "ring"))
+
+
+def _read_floats(name, content, reading, names):
+    width, many = len(names), len(content)
+    if many % (4 * width):
+        raise Unusable(f"its {many} bytes are no whole number of records of {4 * width} bytes")
+    columns = places_of(names, width, reading.columns, "a record")
+    return only(Cloud(name, np.frombuffer(content, "<f4").reshape(-1, width)[:, columns]))

@@ -14,6 +14,7 @@ READERS = {
     "text": text.read,
     "npy": arrays.read_npy,
     "kitti": arrays.read_kitti,
+    "nuscenes": arrays.read_nuscenes,
     "las": las.read,
     "log": nodes.read,
     "graph": graph.read,
@@ -28,7 +29,12 @@ SIGNS = [
     (ROS_BAG, "bag"),
     (rb"(\s*(#[^\n]*)?\n)*NODE\s", "log"),
 ]
-ENDINGS = [(r"\.bin(\.gz)?$", "kitti"), (r"\.graph(\.gz)?$", "graph"), (r"\.bag$", "bag")]
+ENDINGS = [
+    (r"\.pcd\.bin(\.gz)?$", "nuscenes"),
+    (r"\.bin(\.gz)?$", "kitti"),
+    (r"\.graph(\.gz)?$", "graph"),
+    (r"\.bag$", "bag"),
+]
 
 
 @dataclass(frozen=True)

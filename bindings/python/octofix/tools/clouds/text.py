@@ -98,7 +98,7 @@ def _columns(front):
     if heading is None and front.width > len(AXES):
         said = f"which of its {front.width} columns are x, y and z isn't said"
         raise Unusable(f"{said} (as --columns 1,2,3): {front.first[:80]!r}", line=front.lines + 1)
-    if heading is None:
+    if heading is None or (front.first and front.width < len(AXES)):
         return [0, 1, 2], ()
     if not heading.names_axes() or (front.first and len(heading.words) != front.width):
         said = f"which of {front.width} columns are x, y and z isn't clear"
