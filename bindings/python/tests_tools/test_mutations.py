@@ -15,12 +15,16 @@ MANY = int(os.environ.get("OCTOFIX_MUTATIONS", "500"))
 LONGEST = 20
 
 
+class TooLongError(BaseException):
+    """No Exception, so that nothing takes it for a fault of an input."""
+
+
 @contextlib.contextmanager
 def at_most(seconds):
-    """Raises TimeoutError in what takes longer."""
+    """Raises TooLongError in what takes longer."""
 
     def stop(*_):
-        raise TimeoutError(f"it takes more than {seconds} s")
+        raise TooLongError(f"it takes more than {seconds} s")
 
     before = signal.signal(signal.SIGALRM, stop)
     signal.alarm(seconds)

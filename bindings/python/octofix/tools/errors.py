@@ -50,3 +50,13 @@ def failing_as(what):
     except Exception as error:
         reason = f"{type(error).__name__} {error}"[:LONGEST_REASON]
         raise Unusable(f"it can't be read as {what}: {reason}") from error
+
+
+@contextlib.contextmanager
+def on_line(line):
+    """What is Unusable within is so on this line of its file."""
+    try:
+        yield
+    except Unusable as why:
+        why.line = why.line or line
+        raise

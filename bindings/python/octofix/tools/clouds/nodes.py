@@ -3,7 +3,7 @@
 import math
 import re
 
-from ..errors import Unusable
+from ..errors import Unusable, on_line
 from ..poses import Pose, numbers_of, of_angles
 from .cloud import Cloud
 from .tables import table_of
@@ -29,13 +29,10 @@ def read(name, content, reading):
 
 
 def _pose_of(row, line):
-    try:
+    with on_line(line):
         numbers = numbers_of(row.split()[1:], row)
         if len(numbers) != 6:
             raise Unusable(f"NODE has 6 numbers, and here are {len(numbers)}")
         if not all(map(math.isfinite, numbers)):
             raise Unusable("a number of the pose isn't finite")
         return Pose.of(numbers[:3], of_angles(*numbers[3:]))
-    except Unusable as why:
-        why.line = line
-        raise

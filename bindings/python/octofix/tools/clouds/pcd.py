@@ -4,7 +4,7 @@ from dataclasses import dataclass
 
 import numpy as np
 
-from ..errors import Unusable
+from ..errors import Unusable, on_line
 from ..poses import Pose, numbers_of
 from .cloud import Cloud, only, stacked, xyz_of
 from .columns import AXES, places_of
@@ -92,11 +92,8 @@ def _fields_of(found, asked):
     if len(lengths) != 1 or not set(types) <= TYPES:
         said = "FIELDS, SIZE, TYPE and COUNT of its header don't fit together"
         raise Unusable(said, line=line)
-    try:
+    with on_line(line):
         places = places_of(names, len(names), asked, "FIELDS")
-    except Unusable as why:
-        why.line = line
-        raise
     if any(repeats[it] != 1 for it in places):
         raise Unusable("COUNT isn't 1 for x, y and z", line=counts[0])
     size = sum(int(kind[1:]) * many for kind, many in zip(types, repeats))
@@ -107,14 +104,11 @@ def _fields_of(found, asked):
 
 def _viewpoint(found):
     line, words, row = found.get("VIEWPOINT", (0, ["", *"0001000"], "0 0 0 1 0 0 0"))
-    try:
+    with on_line(line):
         numbers = numbers_of(words[1:], row)
         if len(numbers) != 7:
             raise Unusable(f"VIEWPOINT has 7 numbers, and here are {len(numbers)}")
         return Pose.of(numbers[:3], numbers[3:])
-    except Unusable as why:
-        why.line = line
-        raise
 
 
 def _of_text(body, header):

@@ -4,7 +4,7 @@ from dataclasses import dataclass, field
 
 import numpy as np
 
-from ..errors import Unusable
+from ..errors import Unusable, on_line
 from .cloud import Cloud, only, xyz_of
 from .columns import AXES, places_of
 from .headers import count_of, header_lines
@@ -41,11 +41,8 @@ def read(name, content, reading):
     form, elements = _elements_of(lines)
     at = [it.name for it in elements].index("vertex")
     before, vertex, after = elements[:at], elements[at], elements[at + 1 :]
-    try:
+    with on_line(vertex.line):
         places = places_of(vertex.names, len(vertex.names), reading.columns, "its vertex")
-    except Unusable as why:
-        why.line = vertex.line
-        raise
     if form == "ascii":
         points = _of_text(content, start, len(lines), elements, vertex, places)
     else:

@@ -3,7 +3,7 @@
 import re
 from dataclasses import dataclass, field
 
-from ..errors import Unusable
+from ..errors import Unusable, on_line
 from ..poses import is_number
 from .cloud import Cloud, only
 from .columns import AXES, places_of
@@ -103,11 +103,8 @@ def _columns(front):
     if not heading.names_axes() or (front.first and len(heading.words) != front.width):
         said = f"which of {front.width} columns are x, y and z isn't clear"
         raise Unusable(f"{said} (as --columns 1,2,3): {heading.row[:80]!r}", line=heading.line)
-    try:
+    with on_line(heading.line):
         found = places_of(heading.words, len(heading.words), None, "the line")
-    except Unusable as why:
-        why.line = heading.line
-        raise
     said = ", ".join(str(it + 1) for it in found)
     is_plain = len(heading.words) == len(AXES)
     return found, () if is_plain else (f"columns {said} are x, y, z by their names",)
