@@ -273,8 +273,8 @@ class Damaged(Inputs):
         """A NaN of 32 bits that signals is a point that isn't finite, and no warning."""
         points = np.array([[0x7FA00000] * 3, [0x3F800000] * 3], "<u4").view("<f4")
         layout = [("x", "<f4"), ("y", "<f8"), ("z", "<f4")]
-        records = np.zeros(1, layout)
-        records.view("<u4")[:] = 0x7FA00000
+        records = np.ones(2, layout)
+        records[:1].view("<u4")[:] = 0x7FA00000
         for content in (npy(points), npy(records)):
             with warnings.catch_warnings(record=True) as caught:
                 warnings.simplefilter("always")

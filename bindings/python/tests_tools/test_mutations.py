@@ -73,7 +73,8 @@ class Mutations(InFolder):
         lines = [it for it in ran.said.splitlines() if not it.startswith("octofix: gap: ")]
         self.assertEqual((is_old, len(lines)), (ran.status == 1,) * 2, ran.said)
         if lines:
-            self.assertRegex(lines[0], rf"^octofix: ([^ ]*corner.xyz|{sample.name})\b.*: ")
+            named = rf"^octofix: (no scan has a point|([^ ]*corner.xyz|{sample.name})\b.*: )"
+            self.assertRegex(lines[0], named)
         # (the readers of the package itself foresee all bytes)
         self.assertNotIn("read as the form", ran.said)
 
