@@ -12,7 +12,7 @@ from running import DATA
 from octofix import Map
 
 NUMBER = re.compile(rb"[-+]?[0-9]+(?:\.[0-9]+)?")
-WORDS = b"nan -1 1e400 99999999999999 4294967295 0 1_0 0x10 -".split() + [b""]
+WORDS = b"nan -1 1e400 1e200 99999999999999 4294967295 0 1_0 0x10 -".split() + [b""]
 BYTES = [bytes([it]) for it in b"\0\xff\x7f\x80\n\r #,\xc3"]
 # (NaNs that signal, of 32 and 64 bits, and the front of gzip's)
 BYTES += [b"\xff\xff\xa0\x7f", b"\xff\xff\xff\xff\xff\xff\xf4\x7f", b"\x1f\x8b"]

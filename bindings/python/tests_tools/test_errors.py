@@ -117,6 +117,7 @@ POSES = [
         "poses:1: a pose has 8 numbers (TUM), 12 (KITTI) or 17 (EuRoC), and here are 3",
         "1 2 3\n",
     ),
+    ("poses:1: the 3 x 3 part of the pose is no turn", "1e200 0 0 0 0 1 0 0 0 0 1 0\n"),
     ("poses:1: the 3 x 3 part of the pose is no turn", "2 0 0 0 0 1 0 0 0 0 1 0\n"),
     ("poses: it has no pose", "# nothing\n"),
     (
@@ -183,6 +184,9 @@ class Files(InFolder):
         with open("times", "w") as file:
             file.write("1\nnow\n")
         self.refused("times:2:1: 'now' is no number", *words, "--times", "times", "-")
+        with open("times", "w") as file:
+            file.write("nan\n")
+        self.refused("times:1: the time isn't finite", *words, "--times", "times", "-")
         with open("times", "w") as file:
             file.write("1\n2\n")
         self.refused("times: there are 2 times for 1 clouds", *words, "--times", "times", "-")

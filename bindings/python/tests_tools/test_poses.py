@@ -127,6 +127,14 @@ class Forms(InFolder):
         self.assertEqual(self.scan(f"#timestamp [ns], {places}, {names}\n{row}\n"), self.TURNED)
         self.assertEqual(self.scan(f"{row}\n", "--pose-format", "euroc"), self.TURNED)
 
+    def test_twelve_columns_with_names(self):
+        """As many as a matrix of KITTI has."""
+        heading = "# t x y z q_w q_x q_y q_z a b c d\n"
+        row = f"0 1 2 3 {self.HALF} 0 0 {self.HALF} 0 0 0 0\n"
+        self.assertEqual(self.scan(heading + row), self.TURNED)
+        matrix = "# " + "word " * 12 + "\n0 -1 0 1 1 0 0 2 0 0 1 3\n"
+        self.assertEqual(self.scan(matrix), self.TURNED)
+
     def test_nanoseconds(self):
         """Times of EuRoC are in nanoseconds, in names of files too."""
         poses = f"1403636579763555584,1,2,3,{self.HALF},0,0,{self.HALF}{',0' * 9}\n"

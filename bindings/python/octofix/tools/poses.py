@@ -97,8 +97,9 @@ def of_angles(roll, pitch, yaw):
 def of_matrix(turn):
     """The quaternion of a 3 x 3 matrix that turns."""
     m = np.asarray(turn, float)
-    off = np.abs(m @ m.T - np.eye(3)).max()
-    if not off < 1e-3 or np.linalg.det(m) < 0:
+    # (a number of 2 or more is in no such matrix, and might be too large to multiply)
+    is_small = np.abs(m).max() < 2
+    if not (is_small and np.abs(m @ m.T - np.eye(3)).max() < 1e-3 and np.linalg.det(m) > 0):
         raise Unusable("the 3 x 3 part of the pose is no turn")
     squares = np.array([
         1 + m[0, 0] + m[1, 1] + m[2, 2],
@@ -162,9 +163,10 @@ def is_number(word):
 def _form_of(words, row, headings):
     """The form of the first pose: by how many numbers it has, and by a line that names them."""
     many = len(words)
-    if many == KITTI_WORDS:
+    named = [it for it in headings if len(_names_of(it)) == many >= TUM_WORDS]
+    if many == KITTI_WORDS and not any(_turn_of(it) for it in named):
         return "kitti"
-    if named := [it for it in headings if len(_names_of(it)) == many >= TUM_WORDS]:
+    if named:
         return _form_named(named[-1], many)
     if many == TUM_WORDS and "," not in row:
         return "tum"
@@ -177,14 +179,17 @@ def _form_of(words, row, headings):
 
 
 def _form_named(heading, many):
-    names = _names_of(heading)
-    place = "".join(it[-1] for it in names[1:4])
-    turn = "".join(it[-1] for it in names[4:8] if it.startswith("q"))
+    place, turn = "".join(it[-1] for it in _names_of(heading)[1:4]), _turn_of(heading)
     if (place, turn) == ("xyz", "wxyz"):
         return "euroc"
     if (place, turn, many) == ("xyz", "xyzw", TUM_WORDS):
         return "tum"
     raise _unclear(heading)
+
+
+def _turn_of(heading):
+    """The last letters of the names from the fifth to the eighth that are of a quaternion."""
+    return "".join(it[-1] for it in _names_of(heading)[4:8] if it.startswith("q"))
 
 
 def _unclear(row):

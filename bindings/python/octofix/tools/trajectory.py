@@ -1,5 +1,6 @@
 """The pose of each cloud: the same for all, one for each in turn, or by its time."""
 
+import math
 import os
 import re
 from dataclasses import dataclass
@@ -134,14 +135,17 @@ def time_of_name(name):
 
 
 def read_times(name):
-    """The first number of each line that isn't a comment."""
+    """The first number of each line that isn't a comment, in seconds."""
     found = []
     for line, row in enumerate(text_of(name).split("\n"), 1):
         words = row.split()[:1]
         if words and not words[0].startswith("#"):
             try:
-                found += map(seconds, numbers_of(words, row))
+                (time,) = numbers_of(words, row)
+                if not math.isfinite(time):
+                    raise Unusable("the time isn't finite")
             except Unusable as why:
                 why.name, why.line = name, line
                 raise
+            found.append(seconds(time))
     return found

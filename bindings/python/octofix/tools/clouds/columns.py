@@ -23,4 +23,4 @@ def places_of(names, width, asked, holder):
 
 
 def _is_number(word):
-    return word.isascii() and word.isdigit()
+    return word.isascii() and word.isdigit() and len(word) < 10
