@@ -296,6 +296,17 @@ class Damaged(Inputs):
         self.is_refused(": a ROS bag is read of a file, and not of the input", b"", "--format",
                         "bag", name="-")  # fmt: skip
 
+    def test_bag_that_rosbag_warns_of(self):
+        """Its definitions have other sums than it says, and it can be read."""
+        if importlib.util.find_spec("rosbag") is None:
+            self.skipTest("rosbag isn't there")
+        content = (DATA / "small.bag").read_bytes()
+        self.write("a.bag", content.replace(b"1158d486dd51d683ce2f1be655c3c181", b"0" * 32))
+        ran = self.done("map", "--res", 1, "a.bag", "-o", "a.bt")
+        lines = ran.said.splitlines()
+        self.assertTrue(all(it.startswith("octofix: ") for it in lines), ran.said)
+        self.assertIn("rosbag says: WARNING: ", ran.said)
+
     def test_names(self):
         """Names of any bytes are shown in one line."""
         name = os.fsdecode(b"a\xff\n1.xyz")

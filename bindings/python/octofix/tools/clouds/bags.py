@@ -1,6 +1,8 @@
 """Clouds of a ROS 1 bag: a topic of PointCloud2, with poses by odometry or tf."""
 
-from dataclasses import dataclass
+import contextlib
+import io
+from dataclasses import dataclass, replace
 
 import numpy as np
 
@@ -29,7 +31,19 @@ class Topics:
 
 
 def read(name, topics):
-    """A cloud for each message of the topic, with its stamp."""
+    """A cloud for each message of the topic, with its stamp. What rosbag and genpy say meanwhile on
+    standard error is a note of the cloud."""
+    clouds = _clouds_in(name, topics)
+    while True:
+        with contextlib.redirect_stderr(io.StringIO()) as said:
+            cloud = next(clouds, None)
+        if cloud is None:
+            return
+        warned = (f"rosbag says: {said.getvalue().strip()}",) if said.getvalue() else ()
+        yield replace(cloud, notes=(*cloud.notes, *warned))
+
+
+def _clouds_in(name, topics):
     rosbag = needed("rosbag", "a ROS bag")
     if name == "-":
         raise Unusable("a ROS bag is read of a file, and not of the input")
