@@ -28,11 +28,6 @@ def read_bytes(name):
         raise Unusable(error.strerror or str(error), name) from None
 
 
-def read_text(name):
-    """The content of a text file in UTF-8; a byte that isn't is replaced."""
-    return read_bytes(name).decode("utf-8-sig", "replace")
-
-
 @contextlib.contextmanager
 def written(*names):
     """Files to write, which take their places when all of them are whole, and else leave nothing.
