@@ -231,12 +231,21 @@ class Kinds(Inputs):
         for name in ("a.xyz", "a.pcd", "a.ply", "a.npy", "a.bin", "a.log", "a.graph", "a.las"):
             self.is_refused(": it is empty", b"", name=name)
         self.is_refused(": it is empty", gzip.compress(b""), name="a.xyz.gz")
+        if importlib.util.find_spec("rosbag") is not None:
+            self.is_refused(": it is empty", b"", name="a.bag")
         for form in ("text", "pcd", "ply", "npy", "kitti", "log", "graph", "las"):
             self.is_refused(": it is empty", b"", "--format", form)
         self.write("empty", b"")
         for words in (["--poses", "empty"], ["--poses", DATA / "poses.tum", "--times", "empty"]):
             words = ["map", "--res", 1, DATA / "corner.xyz", *words, "-o", "a.bt"]
             self.refused("empty: it is empty", *words)
+
+    def test_empty_names(self):
+        """As a shell makes them of a variable that isn't set: nothing is done without poses."""
+        said = ": No such file or directory"
+        words = ["map", "--res", 1, DATA / "corner.xyz", "-o", "a.bt", "--poses"]
+        self.refused(said, *words, "")
+        self.refused(said, *words, DATA / "poses.tum", "--times", "")
 
     def test_poses_of_other_kinds(self):
         self.write("poses", "1 0 0 0 0 0 0 1\n".encode("utf-16"))

@@ -36,6 +36,7 @@ def refuse_unread(content):
 
 
 def refuse_empty(content):
+    """Unusable where there is no content, or no number of bytes."""
     if not content:
         raise Unusable("it is empty")
 

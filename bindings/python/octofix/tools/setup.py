@@ -39,17 +39,18 @@ def _frames(options):
 
 def _trajectory(options, nearness, skips):
     """Which poses are given, or None."""
-    if options.pose and options.poses:
+    if options.pose and options.poses is not None:
         raise Unusable("--pose and --poses exclude each other")
     if options.pose:
         return Same(Pose.of(options.pose[:3], options.pose[3:]))
-    if not options.poses:
-        if options.by_time or options.times:
+    is_by_time = options.by_time or options.times is not None
+    if options.poses is None:
+        if is_by_time:
             raise Unusable("--by-time and --times need --poses")
-        if options.interpolate and not (options.frame or options.pose_topic):
+        if options.interpolate and options.frame is None and options.pose_topic is None:
             raise Unusable("--interpolate needs --poses, --pose-topic or --frame")
         return None
-    if not (options.by_time or options.times or options.interpolate):
+    if not (is_by_time or options.interpolate):
         return InTurn(options.poses, skips, options.pose_format)
     chosen = {"times": options.times, "form": options.pose_format}
     return ByTime(options.poses, skips, nearness, **chosen)

@@ -96,7 +96,7 @@ class ByTime:
         if any(time is None for time, _ in found):
             raise Unusable("its poses have no times, which --by-time takes", name)
         self.track, self.times_name = Track(found, nearness), times
-        self.times = read_times(times) if times else None
+        self.times = None if times is None else read_times(times)
 
     def check(self, clouds):
         if self.times is not None and len(self.times) != clouds:

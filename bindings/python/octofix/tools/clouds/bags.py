@@ -65,7 +65,7 @@ def _topic_of(bag, asked):
     if asked is None and len(clouds) == 1:
         return clouds[0], (f"the topic {clouds[0]} is taken",)
     if asked not in clouds:
-        said = f"no clouds are on {asked}" if asked else "a topic of clouds is to be named"
+        said = "a topic of clouds is to be named" if asked is None else f"no clouds are on {asked}"
         raise Unusable(f"{said} (--topic); the bag has {', '.join(clouds) or 'none'}")
     return asked, ()
 
@@ -100,9 +100,9 @@ def _points_of(message):
 
 def _where(bag, topics):
     """A function of a frame and a time: the pose there, or None with what is missing."""
-    if topics.poses:
+    if topics.poses is not None:
         return _Stamped(bag, topics).pose_of
-    if topics.frame:
+    if topics.frame is not None:
         return _Frames(bag, topics).pose_of
     return lambda frame, time: (None, None)
 

@@ -1,5 +1,6 @@
 """Which reader takes a file."""
 
+import os
 import re
 from dataclasses import dataclass
 
@@ -78,6 +79,8 @@ def _opened(name, reading):
     if reading.columns and form in WITHOUT_COLUMNS:
         raise Unusable(f"--columns isn't for the form {form}")
     if form == "bag":
+        if name != "-" and os.path.isfile(name):
+            refuse_empty(os.path.getsize(name))
         return form, bags.read(name, reading.bag)
     with failing_as(f"the form {form}"):
         return form, READERS[form](name, content, reading)
