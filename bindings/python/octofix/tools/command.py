@@ -6,8 +6,6 @@ import importlib
 import os
 import sys
 
-from octofix import __version__
-
 from .errors import CLOSED_PIPE, INTERRUPTED, UNUSABLE, Unusable
 from .interrupts import INTERRUPTS, Abandoned
 from .progress import say
@@ -21,6 +19,8 @@ by Ctrl-C, SIGTERM or SIGHUP; 141 nobody reads the output any more"""
 
 
 def parser():
+    from octofix import __version__
+
     top = argparse.ArgumentParser("octofix", description=__doc__.split(":")[0], epilog=STATUSES)
     top.add_argument("--version", action="version", version=f"octofix {__version__}")
     below = top.add_subparsers(dest="command", metavar="COMMAND", required=True)
