@@ -7,6 +7,7 @@ import subprocess
 import sys
 import time
 import unittest
+from unittest import mock
 
 from running import InFolder
 
@@ -139,6 +140,23 @@ class Reading(Processes):
         self.before.add("numpy")
         self.ends(self.map("a.xyz"), "octofix: stopped by Ctrl-C\n")
         self.assertEqual(content_of("a.bt"), b"2 0 0\n")
+
+
+class Start(Processes):
+    def test_without_the_library(self):
+        """One line, and no map."""
+        with mock.patch.dict(os.environ, OCTOFIX_LIBRARY="/nowhere.so"):
+            run = self.map("a.xyz")
+        _, said = run.communicate(timeout=30)
+        self.assertRegex(said, rb"^octofix: the library [^\n]* can't be loaded[^\n]*/nowhere.so.*\n$")
+        self.assertEqual((run.returncode, content_of("a.bt")), (4, b"2 0 0\n"))
+
+    def test_without_numpy(self):
+        with open("numpy.py", "w") as file:
+            file.write("raise ModuleNotFoundError('it is gone', name='numpy')\n")
+        self.before.add("numpy.py")
+        said = "octofix: octofix needs the Python library numpy (in Debian python3-numpy)\n"
+        self.ends(self.map("a.xyz"), said, status=4)
 
 
 class Scanning(Processes):

@@ -6,7 +6,7 @@ import importlib
 import os
 import sys
 
-from .errors import CLOSED_PIPE, INTERRUPTED, UNUSABLE, Unusable
+from .errors import CLOSED_PIPE, INTERRUPTED, MISSING_LIBRARY, UNUSABLE, Unusable
 from .interrupts import INTERRUPTS, Abandoned
 from .progress import say
 
@@ -47,6 +47,11 @@ def main(words=None):
         except KeyboardInterrupt as why:
             say(f"stopped by {INTERRUPTS.name()}{why}")
             return INTERRUPTED
+        except ImportError as why:
+            is_numpy = why.name == "numpy"
+            said = "octofix needs the Python library numpy (in Debian python3-numpy)"
+            say(said if is_numpy else " ".join(str(why).split()))
+            return MISSING_LIBRARY
 
 
 def _run(words):
