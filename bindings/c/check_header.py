@@ -6,7 +6,7 @@
 Fails where a function stands on one side alone, or has other parameters (their order, names, types
 and constness), where a struct has other fields, sizes or offsets, where a code, an event, a kind of
 change or what bounds are sought of stands on one side alone or has another number, or where a code
-has another name than docs/FORMATS.md has for the refusal of its number. What the sources export is
+has another name in the header, in the sources or in docs/FORMATS.md. What the sources export is
 written as a file in C, which a C compiler has to accept after the header: declarations that must be
 those of the header, and assertions on its structs.
 """
@@ -26,9 +26,11 @@ NUMBERS = {"i16": "int16_t", "u16": "uint16_t", "i32": "int32_t", "u32": "uint32
 SIZES = {"i16": 2, "u16": 2, "i32": 4, "u32": 4, "i64": 8, "u64": 8, "u8": 1, "usize": 8, "bool": 1}
 STRUCTS = {"PointNm": "point", "VoxelKey": "key", "VoxelBox": "box", "SegmentNm": "segment",
            "PoseNm": "pose", "LogOdds": "odds", "MapLimits": "limits", "Settings": "settings",
-           "PointEdit": "edit_t", "ScanOptions": "scan_options", "Counted": "counted",
+           "PointEdit": "point_edit", "ScanOptions": "scan_options", "Counted": "counted",
            "TreeCounts": "counts", "KnownBlock": "block", "PointAnswer": "answer",
            "CastStop": "stop", "ChangedVoxel": "change", "Details": "details"}
+# A text that stays, as it lies in memory.
+TEXT, TEXT_FIELDS = "&[u8]", [("at", "*const u8"), ("length", "usize")]
 # A handle that a call may change, and one that it can't.
 HANDLES = {"Octofix": "octofix_map", "Shared": "const octofix_map"}
 # A clause that says so of a handle that a call takes as one that it may change: it is the same
@@ -65,6 +67,8 @@ def parameters(name, kind, is_same):
         const = "const " if is_same and target == "Octofix" else ""
         return [(const + HANDLES[target] + " *", name)]
     const = "" if pointed[1] else "const "
+    if target == TEXT:
+        return [(const + "octofix_text *", name)]
     many = re.fullmatch(r"\[(.+)\]", target)
     if many:
         return [(const + c_type(many[1].strip()) + " *", name), ("size_t", None)]
@@ -218,11 +222,23 @@ def check_numbers(text, header):
             if here.get(name) != there.get(name):
                 raise Differs(f"OCTOFIX_{name} is {there.get(name)}, and {here.get(name)} in the "
                               "sources")
-    refusals = dict(re.findall(r"`refused (\d+) (\w+)", (ROOT / "docs/FORMATS.md").read_text()))
-    named = numbers((name, number) for number, name in refusals.items())
-    for name, number in theirs[0].items():
-        if 5 <= number < 40 and named.get(name) != number:
-            raise Differs(f"OCTOFIX_{name} is {number}, which is {refusals.get(str(number))}")
+    check_names_of_codes(text, theirs[0])
+
+
+def check_names_of_codes(text, codes):
+    """The names that the library has for codes: those of the header, and those of the refusals in
+    docs/FORMATS.md."""
+    rows = re.findall(r'\brow!\((\w+), b"(\w+)\\0"\)', text)
+    pairs = [(name, codes.get(number, number)) for number, name in rows]
+    named = numbers(pairs)
+    for name in codes.keys() - {"DONE"}:
+        if named.get(name) != codes[name]:
+            raise Differs(f"OCTOFIX_{name} is {codes[name]}, and has another name in the sources")
+    refusals = re.findall(r"`refused (\d+) (\w+)", (ROOT / "docs/FORMATS.md").read_text())
+    told = {(name, int(number)) for number, name in refusals}
+    mine = {(name, int(number)) for name, number in pairs if 5 <= int(number) < 40}
+    for name, number in sorted(told ^ mine):
+        raise Differs(f"the code {number} isn't {name} in the sources and in docs/FORMATS.md alike")
 
 
 def compile_with_header(lines):
@@ -250,10 +266,11 @@ def main():
         lines += assertions("Shared", "octofix_map", known, {"slot": "at"})
     for rust, name in STRUCTS.items():
         lines += assertions(rust, "octofix_" + name, known)
+    lines += assertions("Text", "octofix_text", {"Text": TEXT_FIELDS})
     for name, given in mine.items():
         lines.append(f"uint32_t {name}({', '.join(kind for kind, _ in given)});")
     compile_with_header(lines)
-    print(f"octofix.h is that of the sources: {len(mine)} functions, {len(STRUCTS) + 1} structs")
+    print(f"octofix.h is that of the sources: {len(mine)} functions, {len(STRUCTS) + 2} structs")
 
 
 if __name__ == "__main__":

@@ -31,8 +31,9 @@
  * refused changes no voxel, but for octofix_edit_all, which tells how many of its edits it did.
  * What a call writes to besides is said with it: on another code it leaves that alone. Details are
  * written by each call that takes them, on every code: two numbers that say what is refused, by the
- * table of codes, or two zeros. With each call stand the codes that it may be refused with, in the
- * order in which they come, where nothing else is said.
+ * table of codes, or two zeros. With each call stand the codes that it may be refused with, without
+ * their OCTOFIX_ and in the order in which they come, where nothing else is said. A call that takes
+ * a handle answers CLOSED for a closed one before anything else, and octofix_open alone wants one.
  *
  * Ownership. A handle is a struct that the caller keeps. All zeros are a closed handle, without a
  * map. octofix_open puts a map in, which is on the heap and belongs to the handle, and
@@ -59,10 +60,11 @@
  * after the other. Calls that list what is in a map take some for the list. Queries of points,
  * blocks and segments take none, and neither does octofix_ray.
  *
- * What is proved. Of each function here it is proved, for all maps and all numbers: which code it
- * answers, what it writes, and what map it leaves (docs/PROMISES.md). For OCTOFIX_MEMORY that is
- * where it may come; whether memory is out is for malloc to say. No number that is passed, whatever
- * it is, has another effect than an answer. What a caller owes is checked by nothing:
+ * What is proved. Of each function here (but the two that stand here whole) it is proved, for all
+ * maps and all numbers: which code it answers, what it writes, and what map it leaves
+ * (docs/PROMISES.md). For OCTOFIX_MEMORY that is where it may come; whether memory is out is for
+ * malloc to say. No number that is passed, whatever it is, has another effect than an answer. What
+ * a caller owes is checked by nothing:
  *
  * - No pointer is null, also beside a count, a length or a room of 0. (Any address of an object of
  *   this type does; one past the end of an array, too.)
@@ -119,12 +121,13 @@ typedef struct octofix_settings {
     bool is_stale, is_tracked;
 } octofix_settings;
 
-/* An edit of the voxel that holds the point. */
-typedef struct octofix_edit_t {
+/* An edit of the voxel that holds the point. (octofix_edit is the call that does one.) */
+typedef struct octofix_point_edit {
     octofix_point point;
     uint32_t event;
     int32_t number;
-} octofix_edit_t;
+} octofix_point_edit;
+typedef octofix_point_edit octofix_edit_t; /* the same, as programs of 1.0 have it */
 
 /* How a scan is to be done. A negative range is none. Where hit and miss are both 0, they are those
  * of the map; else they are as in octofix_odds. */
@@ -144,6 +147,11 @@ typedef struct octofix_answer { int32_t value; uint32_t code; } octofix_answer;
 typedef struct octofix_stop { octofix_key key; uint16_t code; } octofix_stop;
 typedef struct octofix_change { octofix_key key; uint16_t kind; } octofix_change;
 typedef struct octofix_details { uint64_t first, second; } octofix_details;
+
+/* A text of the library, which stays as long as the program: where it begins, and how many bytes it
+ * has, the zero at its end among them. */
+typedef struct octofix_text { const char *at; size_t length; } octofix_text;
+#define OCTOFIX_NO_TEXT {"", 1}
 
 /* -- numbers */
 
@@ -209,47 +217,79 @@ enum {
     OCTOFIX_BAD_ARGUMENT = 47        /* a number is out of its range [its index, if in an array] */
 };
 
-/* -- maps. Every call that takes a handle answers 40 (OCTOFIX_CLOSED) for a closed one, before
- * anything else; octofix_open is the one that wants it closed. */
+/* -- texts */
 
-/* Opens an unknown map of voxels of res nanometres. Refused, with the handle as it was: 41, 3, 4,
- * 47 (one of the limits; it isn't said which), 45. The map begins with less than 4 kilobytes. */
+/* The version of the library, as "1.0.0". Never refused. *text has a value before, as
+ * OCTOFIX_NO_TEXT. */
+uint32_t octofix_version_text(octofix_text *text);
+
+/* The name of a code: of those above all have one but OCTOFIX_DONE, and those from 3 to 39 have the
+ * names of the program's replies, others than are answered here among them (docs/FORMATS.md). *text
+ * has a value before, and keeps it where the code isn't 0. Refused: NONE. */
+uint32_t octofix_code_text(uint32_t code, octofix_text *text);
+
+#ifdef __cplusplus
+#define OCTOFIX_INLINE inline
+#else
+#define OCTOFIX_INLINE static inline
+#endif
+
+/* The version of the library. */
+OCTOFIX_INLINE const char *octofix_version(void) {
+    octofix_text text = OCTOFIX_NO_TEXT;
+    octofix_version_text(&text);
+    return text.at;
+}
+
+/* The name of a code, as "BadResolution" of OCTOFIX_BAD_RESOLUTION; NULL where it has none. */
+OCTOFIX_INLINE const char *octofix_code_name(uint32_t code) {
+    octofix_text text = OCTOFIX_NO_TEXT;
+    return octofix_code_text(code, &text) == OCTOFIX_DONE ? text.at : NULL;
+}
+
+/* -- maps */
+
+/* Opens an unknown map of voxels of res nanometres. Refused, with the handle as it was: OPEN,
+ * BAD_RESOLUTION, BAD_MODEL, BAD_ARGUMENT (one of the limits; it isn't said which), MEMORY. The map
+ * begins with less than 4 kilobytes. */
 uint32_t octofix_open(octofix_map *map, int64_t res, const octofix_odds *odds,
                       const octofix_limits *limits, octofix_details *details);
 
-/* Closes the map, and gives all its memory back. Refused: 40, so that a second close does
+/* Closes the map, and gives all its memory back. Refused: CLOSED, so that a second close does
  * nothing. */
 uint32_t octofix_close(octofix_map *map);
 
-/* The settings of the map, where the code is 0. Refused: 40. */
+/* The settings of the map, where the code is 0. Refused: CLOSED. */
 uint32_t octofix_settings_of(const octofix_map *map, octofix_settings *settings);
 
 /* The bytes that the map's tree and the notes of its mark hold now, where the code is 0.
- * Refused: 40. */
+ * Refused: CLOSED. */
 uint32_t octofix_memory(const octofix_map *map, uint64_t *bytes);
 
 /* -- edits. An event is one of OCTOFIX_ADD to OCTOFIX_LIKELY, and with the first two, OCTOFIX_ADD
- * and OCTOFIX_SET, a number is from -1000000 to 1000000, else the call is refused as 47; with the
- * other two any number will do. A lazy edit leaves the blocks above the voxel to a later
+ * and OCTOFIX_SET, a number is from -1000000 to 1000000, else the call is refused as BAD_ARGUMENT;
+ * with the other two any number will do. A lazy edit leaves the blocks above the voxel to a later
  * octofix_refresh, which is faster for many edits: until then the map is stale, and queries at a
  * depth below 16 are refused. */
 
-/* One edit of the voxel that holds the point. Refused: 40, 47, 24, 23, 45. */
+/* One edit of the voxel that holds the point.
+ * Refused: CLOSED, BAD_ARGUMENT, OUTSIDE, FULL, MEMORY. */
 uint32_t octofix_edit(octofix_map *map, const octofix_point *point, uint32_t event, int32_t number,
                       bool lazy, octofix_details *details);
 
 /* One edit of each voxel of the box from the voxel of low to that of high. It costs what is known
  * there, and not the number of voxels. It isn't lazy, and leaves a stale map stale. While a mark
- * stands, a box has at most 1000000 voxels. Refused: 40, 47, 24, 26, 27, 23, 45. */
+ * stands, a box has at most 1000000 voxels. Refused: CLOSED, BAD_ARGUMENT, OUTSIDE, BAD_BOX,
+ * WIDE_WHILE_TRACKED, FULL, MEMORY. */
 uint32_t octofix_edit_box(octofix_map *map, const octofix_point *low, const octofix_point *high,
                           uint32_t event, int32_t number, octofix_details *details);
 
 /* Edits, one after another, as octofix_edit does them. It stops at the first that is refused, and
  * answers its code and details; *done is how many were done before it, which is its index, and is
- * written on every code. Refused: 40, else as octofix_edit refuses that one edit: 47 (with the
- * index of the edit), 24 (with 1, as its only point), 23, 45. */
-uint32_t octofix_edit_all(octofix_map *map, const octofix_edit_t *edits, size_t count, bool lazy,
-                          size_t *done, octofix_details *details);
+ * written on every code. Refused: CLOSED, else as octofix_edit refuses that one edit: BAD_ARGUMENT
+ * (with the index of the edit), OUTSIDE (with 1, as its only point), FULL, MEMORY. */
+uint32_t octofix_edit_all(octofix_map *map, const octofix_point_edit *edits, size_t count,
+                          bool lazy, size_t *done, octofix_details *details);
 
 /* A scan: a beam goes from the place of the sensor to each point, which stands in the sensor's own
  * frame, and is cut where it is longer than the range. The voxel where a beam ends is hit, unless
@@ -258,73 +298,76 @@ uint32_t octofix_edit_all(octofix_map *map, const octofix_edit_t *edits, size_t 
  * stands, voxels outside its box take nothing and aren't counted. The scan is done whole or not at
  * all. *counted is written where the code is 0. Without points no voxel changes, but the rest is
  * refused as ever, and a lazy scan makes the map stale all the same.
- * Refused: 40, 47 (a coordinate of magnitude 10^16 or more, of the sensor or of a point, with the
- * index of the point, or then a range from 10^16 on; index 0 is the sensor, the first point or the
- * range), 5, 4 (hit or miss), 6, 7, 8, 23, and 45 at any place after 4. */
+ * Refused: CLOSED, BAD_ARGUMENT (a coordinate of magnitude 10^16 or more, of the sensor or of a
+ * point, with the index of the point, or then a range from 10^16 on; index 0 is the sensor, the
+ * first point or the range), ZERO_QUATERNION, BAD_MODEL (hit or miss), ORIGIN_OUTSIDE,
+ * POINT_OUTSIDE, TOO_MANY_CELLS, FULL, and MEMORY at any place after BAD_MODEL. */
 uint32_t octofix_scan(octofix_map *map, const octofix_pose *pose, const octofix_point *points,
                       size_t count, const octofix_scan_options *options,
                       octofix_counted *counted, octofix_details *details);
 
 /* From now on scans change only voxels of the box from the voxel of low to that of high, in place
- * of the box that stood. Nothing else looks at it. Refused: 40, 24, 26. */
+ * of the box that stood. Nothing else looks at it. Refused: CLOSED, OUTSIDE, BAD_BOX. */
 uint32_t octofix_limit(octofix_map *map, const octofix_point *low, const octofix_point *high,
                        octofix_details *details);
 
-/* Lifts the limit, where one stands. Refused: 40. */
+/* Lifts the limit, where one stands. Refused: CLOSED. */
 uint32_t octofix_no_limit(octofix_map *map);
 
-/* The box of the limit, where the code is 0. Refused: 40, 44. */
+/* The box of the limit, where the code is 0. Refused: CLOSED, NONE. */
 uint32_t octofix_window(const octofix_map *map, octofix_box *window);
 
 /* Makes all blocks right again after lazy edits, so that the map isn't stale. Costs a walk.
- * Refused: 40. */
+ * Refused: CLOSED. */
 uint32_t octofix_refresh(octofix_map *map);
 
 /* Gives back the groups that the values don't need, for later edits to take. Costs a walk.
- * Refused: 40. */
+ * Refused: CLOSED. */
 uint32_t octofix_prune(octofix_map *map);
 
 /* Makes each voxel unknown, ends staleness, takes the mark away, and gives memory back. Resolution,
- * log-odds, limits and the box of the limit stay. Refused: 40. */
+ * log-odds, limits and the box of the limit stay. Refused: CLOSED. */
 uint32_t octofix_clear(octofix_map *map);
 
 /* Makes each occupied voxel max and each free one min, ends staleness, and prunes. Costs a walk.
- * Refused: 40. */
+ * Refused: CLOSED. */
 uint32_t octofix_max_likelihood(octofix_map *map);
 
 /* Prunes the map, and counts the groups and nodes of the least tree that has these values, where
- * the code is 0. Costs a walk. Refused: 40. */
+ * the code is 0. Costs a walk. Refused: CLOSED. */
 uint32_t octofix_counts_of(octofix_map *map, octofix_counts *counts);
 
 /* -- queries */
 
 /* The value of the block of this depth that holds the point; depth 16 asks for the voxel. *value is
- * written where the code is 0. Otherwise: 40, 24, 25, 22, 42. */
+ * written where the code is 0. Otherwise: CLOSED, OUTSIDE, BAD_DEPTH, STALE, UNKNOWN. */
 uint32_t octofix_get(const octofix_map *map, const octofix_point *point, uint32_t depth,
                      int32_t *value);
 
 /* octofix_get of many points. There are as many answers as points, each with the code that
- * octofix_get has for it (0, 24, 25, 22 or 42) and, where that is 0, the value, else 0. Refused as
- * a whole, with nothing written: 40, 46 (where room is below count), and for nothing else: not for
- * a depth, which is a matter of each point. */
+ * octofix_get has for it (DONE, OUTSIDE, BAD_DEPTH, STALE or UNKNOWN) and, where that is 0, the
+ * value, else 0. Refused as a whole, with nothing written: CLOSED, SMALL_BUFFER (where room is
+ * below count), and for nothing else: not for a depth, which is a matter of each point. */
 uint32_t octofix_get_all(const octofix_map *map, const octofix_point *points, size_t count,
                          uint32_t depth, octofix_answer *answers, size_t room);
 
 /* Which voxel stops the straight way from origin to end first, those of both points among its
- * voxels: an occupied one (0), or, unless unknown ones are ignored, an unknown one (42). *key is
- * this voxel on these two codes. Otherwise: 40, 24, 43 where none stops it. Answers on a stale map
- * too. Costs a step for each voxel on the way. */
+ * voxels: an occupied one (DONE), or, unless unknown ones are ignored, an unknown one (UNKNOWN).
+ * *key is this voxel on these two codes. Otherwise: CLOSED, OUTSIDE, CLEAR where none stops it.
+ * Answers on a stale map too. Costs a step for each voxel on the way. */
 uint32_t octofix_cast(const octofix_map *map, const octofix_point *origin, const octofix_point *end,
                       bool ignore_unknown, octofix_key *key, octofix_details *details);
 
-/* octofix_cast of many segments. There are as many stops as segments, each with its code (0, 42,
- * 43 or 24) and, on 0 and 42, its key, else the key 0 0 0. Refused as a whole: 40, 46. */
+/* octofix_cast of many segments. There are as many stops as segments, each with its code (DONE,
+ * UNKNOWN, CLEAR or OUTSIDE) and, on DONE and UNKNOWN, its key, else the key 0 0 0. Refused as a
+ * whole: CLOSED, SMALL_BUFFER. */
 uint32_t octofix_cast_all(const octofix_map *map, const octofix_segment *segments, size_t count,
                           bool ignore_unknown, octofix_stop *stops, size_t room);
 
 /* The known blocks of a depth that meet the box from the voxel of low to that of high, with their
  * values, by ascending x, then y, then z. At most 1000000 blocks, unknown ones among them, may meet
- * the box. *count is written on 0 and 46. Refused: 40, 24, 25, 26, 22, 9, 45, 46. */
+ * the box. *count is written on DONE and SMALL_BUFFER. Refused: CLOSED, OUTSIDE, BAD_DEPTH,
+ * BAD_BOX, STALE, TOO_MANY_BLOCKS, MEMORY, SMALL_BUFFER. */
 uint32_t octofix_list(const octofix_map *map, const octofix_point *low, const octofix_point *high,
                       uint32_t depth, octofix_block *blocks, size_t room, size_t *count,
                       octofix_details *details);
@@ -332,23 +375,26 @@ uint32_t octofix_list(const octofix_map *map, const octofix_point *low, const oc
 /* All that is known: the largest blocks whose voxels all have one value, each known voxel in one of
  * them. They come in Morton order, which is that of a walk down the tree: by their first voxels,
  * compared by the highest bit in which two keys differ, z before y before x. Answers on a stale map
- * too. Costs a walk. *count is written on 0 and 46. Refused: 40, 45, 46. */
+ * too. Costs a walk. *count is written on DONE and SMALL_BUFFER.
+ * Refused: CLOSED, MEMORY, SMALL_BUFFER. */
 uint32_t octofix_leaves(const octofix_map *map, octofix_block *blocks, size_t room, size_t *count);
 
 /* Those of these blocks that meet the box from the voxel of low to that of high, each as a whole.
- * Costs a walk over the box alone. *count is written on 0 and 46.
- * Refused: 40, 24, 26, 45, 46. */
+ * Costs a walk over the box alone. *count is written on DONE and SMALL_BUFFER.
+ * Refused: CLOSED, OUTSIDE, BAD_BOX, MEMORY, SMALL_BUFFER. */
 uint32_t octofix_leaves_in(const octofix_map *map, const octofix_point *low,
                            const octofix_point *high, octofix_block *blocks, size_t room,
                            size_t *count, octofix_details *details);
 
 /* The smallest box that holds all voxels that are sought (OCTOFIX_KNOWN_VOXELS or
- * OCTOFIX_OCCUPIED_VOXELS), where the code is 0. Costs a walk. Otherwise: 40, 47, 44. */
+ * OCTOFIX_OCCUPIED_VOXELS), where the code is 0. Costs a walk.
+ * Otherwise: CLOSED, BAD_ARGUMENT, NONE. */
 uint32_t octofix_bounds(const octofix_map *map, uint32_t sought, octofix_box *corners);
 
 /* Without a map: the keys of all voxels of res nanometres that the straight way from origin to end
  * meets, in their order, those of both points among them. Where it passes exactly through an edge
- * or a corner it goes on diagonally. *count is written on 0 and 46. Refused: 3, 24, 46. */
+ * or a corner it goes on diagonally. *count is written on DONE and SMALL_BUFFER.
+ * Refused: BAD_RESOLUTION, OUTSIDE, SMALL_BUFFER. */
 uint32_t octofix_ray(int64_t res, const octofix_point *origin, const octofix_point *end,
                      octofix_key *keys, size_t room, size_t *count, octofix_details *details);
 
@@ -356,15 +402,16 @@ uint32_t octofix_ray(int64_t res, const octofix_point *origin, const octofix_poi
 
 /* Sets the mark at this moment, in place of an earlier one. While it stands, an edit takes some
  * memory for each voxel that it touches. octofix_clear, octofix_load and octofix_restore take it
- * away. Refused: 40. */
+ * away. Refused: CLOSED. */
 uint32_t octofix_track(octofix_map *map);
 
-/* Takes the mark away, where one stands. Refused: 40. */
+/* Takes the mark away, where one stands. Refused: CLOSED. */
 uint32_t octofix_untrack(octofix_map *map);
 
 /* The voxels that have another class (unknown, free or occupied) than at the mark, by ascending x,
  * then y, then z. The mark stays. Costs what was edited since the mark, and answers on a stale map
- * too. *count is written on 0 and 46. Refused: 40, 28, 45, 46. */
+ * too. *count is written on DONE and SMALL_BUFFER.
+ * Refused: CLOSED, NOT_TRACKED, MEMORY, SMALL_BUFFER. */
 uint32_t octofix_changes(const octofix_map *map, octofix_change *changed, size_t room,
                          size_t *count);
 
@@ -372,22 +419,25 @@ uint32_t octofix_changes(const octofix_map *map, octofix_change *changed, size_t
  * writes it. A snapshot has their values, the log-odds and the box of the limit. Neither has
  * limits, mark or staleness. Both are written in one way: equal maps have equal bytes. */
 
-/* The .bt file of the map. Costs a walk. *length is written on 0 and 46. Refused: 40, 46, 45. */
+/* The .bt file of the map. Costs a walk. *length is written on DONE and SMALL_BUFFER.
+ * Refused: CLOSED, SMALL_BUFFER, MEMORY. */
 uint32_t octofix_save(const octofix_map *map, uint8_t *bytes, size_t room, size_t *length);
 
 /* Makes the map that of a .bt file: its occupied voxels get the value max, its free ones min, and
  * all others are unknown. Ends staleness, takes the mark away, and prunes. Refused, with the map as
- * it was: 40, 10 to 19 (the first fault, by docs/FORMATS.md), 35, 23, and 45 at any place after
- * 40. */
+ * it was: CLOSED, NOT_OCTOMAP to SIZE_MISMATCH (the first fault, by docs/FORMATS.md),
+ * OTHER_RESOLUTION, FULL, and MEMORY at any place after CLOSED. */
 uint32_t octofix_load(octofix_map *map, const uint8_t *bytes, size_t length,
                       octofix_details *details);
 
-/* The snapshot of the map. Costs a walk. *length is written on 0 and 46. Refused: 40, 46, 45. */
+/* The snapshot of the map. Costs a walk. *length is written on DONE and SMALL_BUFFER.
+ * Refused: CLOSED, SMALL_BUFFER, MEMORY. */
 uint32_t octofix_snapshot(const octofix_map *map, uint8_t *bytes, size_t room, size_t *length);
 
 /* Makes the map that of a snapshot: its values, its log-odds and its box of the limit (a snapshot
  * of version 1 has values alone). Ends staleness, takes the mark away, and prunes. Refused, with
- * the map as it was: 40, 17, 18, 20 or 21 (the first fault, by docs/FORMATS.md), 35, 23, 45. */
+ * the map as it was: CLOSED, TRUNCATED, TRAILING_BYTES, BAD_MAGIC or BAD_SNAPSHOT (the first fault,
+ * by docs/FORMATS.md), OTHER_RESOLUTION, FULL, MEMORY. */
 uint32_t octofix_restore(octofix_map *map, const uint8_t *bytes, size_t length,
                          octofix_details *details);
 

@@ -14,6 +14,32 @@ static const int64_t extremes[] = {INT64_MIN, INT64_MIN + 1, -10000000000000000,
                                    10000000000000000, INT64_MAX - 1, INT64_MAX};
 enum { EXTREMES = sizeof extremes / sizeof *extremes };
 
+/* The version, and the names of codes: one of each kind, and codes that have none. */
+static void try_texts(void) {
+    static const uint32_t nameless[] = {OCTOFIX_DONE, 1, 2, 36, 48, UINT32_MAX};
+    static const struct { uint32_t code; const char *name; } named[] = {
+        {OCTOFIX_BAD_RESOLUTION, "BadResolution"}, {OCTOFIX_TOO_MANY_CELLS, "TooManyCells"},
+        {OCTOFIX_WIDE_WHILE_TRACKED, "WideWhileTracked"}, {29, "Syntax"}, {39, "TooManyBoxes"},
+        {OCTOFIX_CLOSED, "Closed"}, {OCTOFIX_BAD_ARGUMENT, "BadArgument"}};
+    octofix_text text = OCTOFIX_NO_TEXT;
+    const char *mine = text.at;
+    for (size_t i = 0; i < sizeof nameless / sizeof *nameless; i++) {
+        EXPECT(octofix_code_name(nameless[i]) == NULL, true);
+        EXPECT(octofix_code_text(nameless[i], &text), OCTOFIX_NONE);
+        EXPECT(text.at == mine && text.length == 1, true);
+    }
+    for (size_t i = 0; i < sizeof named / sizeof *named; i++) {
+        const char *name = octofix_code_name(named[i].code);
+        EXPECT(name && strcmp(name, named[i].name) == 0, true);
+        EXPECT(octofix_code_text(named[i].code, &text), OCTOFIX_DONE);
+        EXPECT(text.at == name && text.length == strlen(name) + 1, true);
+    }
+    EXPECT(octofix_version_text(&text), OCTOFIX_DONE);
+    EXPECT(text.at == octofix_version() && text.length == strlen(text.at) + 1, true);
+    int parts[3];
+    EXPECT(sscanf(text.at, "%d.%d.%d", &parts[0], &parts[1], &parts[2]), 3);
+}
+
 static void try_opening(void) {
     octofix_map map = {0};
     const octofix_limits *limits = &default_limits;
@@ -137,7 +163,7 @@ static void try_edits(void) {
     EXPECT_DETAILS(octofix_edit_box(&map, &q, &p, OCTOFIX_FORGET, INT32_MIN, &details), 0, 0, 0);
     EXPECT(octofix_get(&map, &q, 16, &value), 42);
 
-    const octofix_edit_t edits[] = {
+    const octofix_point_edit edits[] = {
         {p, OCTOFIX_SET, 5}, {q, OCTOFIX_SET, 6}, {far, OCTOFIX_SET, 7}};
     EXPECT_DETAILS(octofix_edit_all(&map, edits, 3, false, &count, &details), 24, 1, 0);
     EXPECT(count, 2);
@@ -145,10 +171,10 @@ static void try_edits(void) {
     EXPECT(value, 6);
     EXPECT_DETAILS(octofix_edit_all(&map, edits, 0, true, &count, &details), 0, 0, 0);
     EXPECT(count, 0);
-    const octofix_edit_t bad[] = {{p, OCTOFIX_SET, 8}, {p, 4, 0}};
+    const octofix_point_edit bad[] = {{p, OCTOFIX_SET, 8}, {p, 4, 0}};
     EXPECT_DETAILS(octofix_edit_all(&map, bad, 2, false, &count, &details), 47, 1, 0);
     EXPECT(count, 1);
-    const octofix_edit_t unnumbered[] = {{p, OCTOFIX_FORGET, INT32_MIN},
+    const octofix_point_edit unnumbered[] = {{p, OCTOFIX_FORGET, INT32_MIN},
                                          {q, OCTOFIX_LIKELY, INT32_MAX}};
     EXPECT_DETAILS(octofix_edit_all(&map, unnumbered, 2, false, &count, &details), 0, 0, 0);
     EXPECT(count, 2);
@@ -596,6 +622,7 @@ static void try_extreme_points(void) {
 }
 
 int main(void) {
+    try_texts();
     try_opening();
     try_closed_handle();
     try_edits();

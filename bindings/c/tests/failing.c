@@ -49,7 +49,7 @@ enum { POINTS = 40, ROOM = 1 << 17 };
 
 static octofix_details details;
 static octofix_point points[POINTS];
-static octofix_edit_t edits[POINTS];
+static octofix_point_edit edits[POINTS];
 static octofix_block blocks[ROOM];
 static octofix_change changes[ROOM];
 static octofix_key keys[ROOM];
@@ -278,7 +278,7 @@ static long fail_open(void) {
 int main(void) {
     for (int i = 0; i < POINTS; i++) {
         points[i] = at(1000 + 50 * i, 70 * i, -30 * i);
-        edits[i] = (octofix_edit_t){at(-80000 * i, 70000 * i, 60000 * i), OCTOFIX_SET, i};
+        edits[i] = (octofix_point_edit){at(-80000 * i, 70000 * i, 60000 * i), OCTOFIX_SET, i};
     }
     octofix_map map = scanned(false);
     EXPECT(octofix_save(&map, file, ROOM, &file_length), OCTOFIX_DONE);

@@ -6,6 +6,7 @@ pub mod Loads
 pub mod Models
 pub mod Opened
 pub mod Reaches
+mod Rows
 pub mod Sights
 pub mod Tellings
 pub mod Walks

@@ -51,6 +51,7 @@ mod handle;
 mod limits;
 mod lists;
 mod making;
+mod names;
 mod parts;
 mod queries;
 mod rays;
