@@ -18,7 +18,7 @@ TYPE_CHECKING = False
 if TYPE_CHECKING:
     from typing import Any
 
-    from ._blocks import Blocks
+    from ._blocks import Block, Blocks
     from ._errors import BadPoints, Closed, Interrupted, OutOfMemory, Refused
     from ._map import Map, ray
     from ._results import (
@@ -26,11 +26,12 @@ if TYPE_CHECKING:
         VoxelClass,
     )
 
-__version__ = "1.0.0"
+    __version__: str
 
 __all__ = [
     "UNKNOWN",
     "BadPoints",
+    "Block",
     "Blocks",
     "Box",
     "CastKind",
@@ -59,6 +60,9 @@ def __getattr__(name: str) -> Any:
 
     (numpy and the library take a while, and the tools listen for Ctrl-C before.)
     """
+    if name == "__version__":
+        globals()[name] = import_module("._loading", __name__).version()
+        return globals()[name]
     if name in __all__:
         for module in _MODULES:
             found = vars(import_module(f".{module}", __name__))

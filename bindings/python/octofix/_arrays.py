@@ -16,15 +16,41 @@ NANOMETRES = 1e9  # in a metre
 _END = 1e16  # the library takes nanometres below this magnitude
 ORIGIN_KEY = 1 << 15  # of the voxel that begins at the origin
 _MOST_NUMBER = 1_000_000  # thousandths of log-odds
-_NUMBERED = (Event.ADD, Event.SET)  # the events that have a number
+# (as plain integers: of a class of numbers numpy asks things in Python code, and swallows what
+# interrupts that)
+_NUMBERED = int(Event.ADD), int(Event.SET)  # the events that have a number
+_FIRST_EVENT, _LAST_EVENT = int(min(Event)), int(max(Event))
 _PART = 1 << 13  # rows that are converted at once, so that they stay in the cache
 
 Nanometres = npt.NDArray[np.int64]
 
 
+def _unmasked(values: npt.ArrayLike, what: str) -> npt.ArrayLike:
+    """The same values; numbers behind a mask are none, and are refused."""
+    parts = values if isinstance(values, (list, tuple)) else (values,)
+    if any(isinstance(it, np.ma.MaskedArray) and np.ma.is_masked(it) for it in parts):
+        raise ValueError(f"{what} has values that are masked; leave their rows out")
+    return values
+
+
+def _columns(rows: npt.NDArray[Any], what: str) -> npt.NDArray[np.float64]:
+    """The fields x, y and z of an array that has fields."""
+    names = rows.dtype.names or ()
+    if not {"x", "y", "z"} <= set(names):
+        raise ValueError(f"{what} has the fields {', '.join(names)}, and not x, y and z")
+    columns = [rows[name] for name in "xyz"]
+    if any(it.ndim > 1 or it.dtype.kind not in "fiu" for it in columns):
+        raise ValueError(f"{what} has fields x, y and z that aren't one number a row")
+    return np.stack(columns, axis=-1).astype(np.float64, copy=False)
+
+
 def _rows_of_three(values: npt.ArrayLike, what: str) -> npt.NDArray[np.float64]:
-    """Numbers as an (n, 3) array; three of them are one row."""
-    rows = np.asarray(values, np.float64)
+    """Numbers as an (n, 3) array; three of them are one row. Of an array with fields they are x, y
+    and z."""
+    given = np.asarray(_unmasked(values, what))
+    if given.dtype.names is not None:
+        given = _columns(given, what)
+    rows = given.astype(np.float64, copy=False)
     if rows.shape in ((3,), (0,)):
         rows = rows.reshape(-1, 3)
     if rows.ndim != 2 or rows.shape[1] != 3:
@@ -61,7 +87,7 @@ def _scaled(
 
 def quaternion(values: npt.ArrayLike) -> list[float]:
     """The four numbers (w, x, y, z), scaled so that the greatest is 1, or four zeros."""
-    four = np.asarray(values, np.float64)
+    four = np.asarray(_unmasked(values, "quaternion"), np.float64)
     if four.shape != (4,) or not np.isfinite(four).all():
         raise ValueError("a quaternion is four finite numbers (w, x, y, z)")
     w, x, y, z = four / (np.abs(four).max() or 1)
@@ -120,7 +146,7 @@ def integer_32(value: int) -> int:
 
 def _whole_numbers(values: npt.ArrayLike, what: str) -> npt.NDArray[Any]:
     """Whole numbers, one or an array."""
-    numbers = np.asarray(values)
+    numbers = np.asarray(_unmasked(values, what))
     if numbers.dtype.kind not in "iu":
         raise TypeError(f"{what} has to be whole numbers of at most 64 bits")
     return numbers
@@ -138,7 +164,9 @@ def integers(values: npt.ArrayLike, what: str, low: int, high: int) -> npt.NDArr
 
 
 def events_of_edits(values: npt.ArrayLike) -> npt.NDArray[Any]:
-    return integers(values, "event", min(Event), max(Event))
+    if isinstance(values, Event):
+        values = int(values)
+    return integers(values, "event", _FIRST_EVENT, _LAST_EVENT)
 
 
 def numbers_of_edits(values: npt.ArrayLike, events: npt.NDArray[Any]) -> npt.NDArray[Any]:

@@ -5,37 +5,25 @@ from __future__ import annotations
 
 from typing import Any, Mapping
 
-# The number of each refusal, with its name and what it names beside it.
-REFUSALS: Mapping[int, tuple[str, tuple[str, ...]]] = {
-    3: ("BadResolution", ()),
-    4: ("BadModel", ("field",)),
-    5: ("ZeroQuaternion", ()),
-    6: ("OriginOutside", ()),
-    7: ("PointOutside", ("index",)),
-    8: ("TooManyCells", ("index", "cells")),
-    9: ("TooManyBlocks", ("count",)),
-    10: ("NotOctomap", ()),
-    11: ("FloatTree", ()),
-    12: ("WrongId", ()),
-    13: ("MissingField", ("field",)),
-    14: ("BadField", ("field",)),
-    15: ("HeaderTooLong", ()),
-    16: ("TooDeep", ("at",)),
-    17: ("Truncated", ("at",)),
-    18: ("TrailingBytes", ("at",)),
-    19: ("SizeMismatch", ("said", "found")),
-    20: ("BadMagic", ()),
-    21: ("BadSnapshot", ("at",)),
-    22: ("Stale", ()),
-    23: ("Full", ("groups", "need")),
-    24: ("Outside", ("point",)),
-    25: ("BadDepth", ()),
-    26: ("BadBox", ()),
-    27: ("WideWhileTracked", ("count",)),
-    28: ("NotTracked", ()),
-    34: ("FileTooLarge", ()),
-    35: ("OtherResolution", ("file", "map")),
-    47: ("BadArgument", ()),
+from ._loading import code_name
+
+# What refusals name beside their names, by number; those that aren't here name nothing.
+_FIELDS: Mapping[int, tuple[str, ...]] = {
+    4: ("field",),
+    7: ("index",),
+    8: ("index", "cells"),
+    9: ("count",),
+    13: ("field",),
+    14: ("field",),
+    16: ("at",),
+    17: ("at",),
+    18: ("at",),
+    19: ("said", "found"),
+    21: ("at",),
+    23: ("groups", "need"),
+    24: ("point",),
+    27: ("count",),
+    35: ("file", "map"),
 }
 BAD_MODEL, FULL, OUTSIDE, FILE_TOO_LARGE, OTHER_RESOLUTION, BAD_ARGUMENT = 4, 23, 24, 34, 35, 47
 
@@ -60,7 +48,7 @@ class Refused(ValueError):
 
     def __init__(self, code: int, fields: Mapping[str, Any] | None = None) -> None:
         self.code = code
-        self.name = REFUSALS[code][0]
+        self.name = code_name(code) or "?"
         self.fields = dict(fields or {})
         super().__init__(code, self.fields)
 
@@ -116,7 +104,7 @@ class BadPoints(ValueError):
 
 def refusal(code: int, first: int, second: int) -> Refused:
     """The refusal of this number that names these two numbers, or fewer."""
-    named: dict[str, Any] = dict(zip(REFUSALS[code][1], (first, second)))
+    named: dict[str, Any] = dict(zip(_FIELDS.get(code, ()), (first, second)))
     if "field" in named:
         texts = _ODDS_FIELDS if code == BAD_MODEL else _HEADER_FIELDS
         named["field"] = texts[named["field"]]

@@ -1,23 +1,21 @@
-"""The library liboctofix: where it is, and its calls, with the types of octofix.h."""
+"""The calls of the library, with the types of octofix.h."""
 
 from __future__ import annotations
 
 import ctypes
-import os
 from ctypes import POINTER, c_bool, c_int16, c_int32, c_int64, c_size_t, c_uint16, c_uint32
 from ctypes import c_uint64, c_void_p
-from pathlib import Path
-from typing import Any
+from functools import partial
+from typing import Any, Callable, Sequence
 
 import numpy as np
 import numpy.typing as npt
 
 from . import _errors
-
-FILE_NAME = "liboctofix.so.1"
+from ._loading import DONE, function
 
 # Codes that are answers. Any other but 0 is an error.
-DONE, CLOSED, UNKNOWN, CLEAR, NONE, MEMORY, SMALL_BUFFER = 0, 40, 42, 43, 44, 45, 46
+CLOSED, UNKNOWN, CLEAR, NONE, MEMORY, SMALL_BUFFER = 40, 42, 43, 44, 45, 46
 _ANSWERS = frozenset((DONE, UNKNOWN, CLEAR, NONE, SMALL_BUFFER))
 
 
@@ -128,56 +126,46 @@ CALLS: dict[str, list[Any]] = {
 }
 
 
-def _places() -> list[str]:
-    """Where the library may be: as the environment says, or else beside the package, in the folder
-    above the one that holds the package, and where the system looks."""
-    named = os.environ.get("OCTOFIX_LIBRARY")
-    if named:
-        return [named]
-    package = Path(__file__).resolve().parent
-    return [str(package / FILE_NAME), str(package.parent.parent / FILE_NAME), FILE_NAME]
-
-
-def _load() -> ctypes.CDLL:
-    faults = []
-    for place in _places():
-        try:
-            return ctypes.CDLL(place)
-        except OSError as fault:
-            faults.append(f"  {place}: {fault}")
-    tried = "\n".join(faults)
-    raise ImportError(
-        f"the library {FILE_NAME} can't be loaded; OCTOFIX_LIBRARY may name its file. Tried:\n"
-        f"{tried}"
-    )
-
-
-def _function(library: ctypes.CDLL, name: str, types: list[Any]) -> Any:
-    try:
-        function = getattr(library, f"octofix_{name}")
-    except AttributeError as fault:
-        raise ImportError(f"this is another library than the package needs: {fault}") from None
-    function.argtypes, function.restype = types, c_uint32
-    return function
-
-
-_library = _load()
-_FUNCTIONS = {name: _function(_library, name, types) for name, types in CALLS.items()}
+FUNCTIONS = {name: function(name, types) for name, types in CALLS.items()}
 _WITH_DETAILS = frozenset(name for name, types in CALLS.items() if types[-1] is _DETAILS)
+
+# What does calls, and answers what they do.
+Way = Callable[..., "list[Any]"]
+
+
+class Call:
+    """A call of the library that is to be done: `run` does it, as a function of C alone."""
+
+    def __init__(self, name: str, *arguments: Any) -> None:
+        self._details = Details()
+        last = (self._details,) if name in _WITH_DETAILS else ()
+        self.run = partial(FUNCTIONS[name], *arguments, *last)
+
+    def answer(self, code: int) -> int:
+        """The code that it was answered, where that is no error."""
+        if code in _ANSWERS:
+            return code
+        if code == CLOSED:
+            raise _errors.Closed
+        if code == MEMORY:
+            raise MemoryError(_errors.NO_MEMORY)
+        raise _errors.refusal(code, self._details.first, self._details.second)
+
+
+def at_once(*calls: Callable[[], Any]) -> list[Any]:
+    """Does calls for which no lock is needed."""
+    return [it() for it in calls]
+
+
+def done(way: Way, *calls: Call) -> list[int]:
+    """Does calls, and answers their codes where none is an error."""
+    codes = way(*(it.run for it in calls))
+    return [it.answer(code) for it, code in zip(calls, codes)]
 
 
 def call(name: str, *arguments: Any) -> int:
-    """Does a call of the library, and answers its code where that is no error."""
-    details = Details()
-    last = (details,) if name in _WITH_DETAILS else ()
-    code: int = _FUNCTIONS[name](*arguments, *last)
-    if code in _ANSWERS:
-        return code
-    if code == CLOSED:
-        raise _errors.Closed
-    if code == MEMORY:
-        raise MemoryError(_errors.NO_MEMORY)
-    raise _errors.refusal(code, details.first, details.second)
+    """Does one call, and answers its code where that is no error."""
+    return done(at_once, Call(name, *arguments))[0]
 
 
 # The bytes of a buffer before a call says how many rows it takes. (Those that aren't written cost
@@ -185,11 +173,15 @@ def call(name: str, *arguments: Any) -> int:
 _FIRST_BYTES = 1 << 21
 
 
-def rows_of(dtype: npt.DTypeLike, name: str, *arguments: Any) -> npt.NDArray[Any]:
-    """The rows that a call writes into a buffer, in a second one where the first is too small."""
+def rows_of(
+    way: Way, dtype: npt.DTypeLike, name: str, *arguments: Any, beside: Sequence[Call] = ()
+) -> npt.NDArray[Any]:
+    """The rows that a call writes into a buffer, in another one where that is too small; the calls
+    `beside` it are done with it."""
     room, count = _FIRST_BYTES // np.dtype(dtype).itemsize, c_size_t()
     while True:
         rows = np.empty(room, dtype)
-        if call(name, *arguments, rows.ctypes.data, room, count) == DONE:
+        listing = Call(name, *arguments, rows.ctypes.data, room, count)
+        if done(way, listing, *beside)[0] == DONE:
             return rows[: count.value]
         room = count.value

@@ -1,47 +1,119 @@
-"""A lock that many readers may hold at once, or one writer alone."""
+"""A lock that many calls which ask may hold at once, or one call alone that changes.
+
+What interrupts a thread (the handler of a signal, an exception that another thread sets, a trace
+function that raises) comes between two steps of Python code, and never inside a function of C. So
+the lock is taken, the calls are done and the lock is given back by one function of C, over others:
+whoever is interrupted doesn't hold it, and there is nothing to be mended. A thread that has to wait
+does so in turns, between which it can be interrupted. That a writer waits is a time which passes by
+itself, and isn't taken back by one that is interrupted.
+"""
 
 from __future__ import annotations
 
-import threading
-from contextlib import contextmanager
-from typing import Iterator
+import ctypes
+import errno
+import time
+from collections import deque
+from functools import partial
+from itertools import chain
+from operator import methodcaller
+from typing import Any, Callable
+
+_TURN, _PAUSE = 0.05, 0.001  # seconds
+_WRITERS_FIRST = 2  # PTHREAD_RWLOCK_PREFER_WRITER_NONRECURSIVE_NP
+_NOT_TAKEN = (errno.ETIMEDOUT, errno.EBUSY, errno.EAGAIN)
+# More than a lock of POSIX takes, and its attributes.
+_Place = ctypes.c_uint64 * 32
+
+# A function of C that calls what it is given.
+_call = methodcaller("__call__")
+
+
+class _Moment(ctypes.Structure):
+    _fields_ = [("seconds", ctypes.c_long), ("nanoseconds", ctypes.c_long)]
+
+
+_PAST = _Moment(0, 0)
+_posix = ctypes.CDLL(None)
+
+
+def _function(name: str, *types: Any) -> Any:
+    function = getattr(_posix, f"pthread_rwlock{name}")
+    function.argtypes = types
+    return function
+
+
+_init = _function("_init", ctypes.POINTER(_Place), ctypes.POINTER(_Place))
+_unlock = _function("_unlock", ctypes.POINTER(_Place))
+_take_reading, _take_writing = (
+    _function(f"_timed{it}", ctypes.POINTER(_Place), ctypes.POINTER(_Moment))
+    for it in ("rdlock", "wrlock")
+)
+
+
+def _attributes() -> Any:
+    """Those of a lock at which writers go before readers that come later, where there are such."""
+    made = _Place()
+    _function("attr_init", ctypes.POINTER(_Place))(made)
+    if hasattr(_posix, "pthread_rwlockattr_setkind_np"):
+        _function("attr_setkind_np", ctypes.POINTER(_Place), ctypes.c_int)(made, _WRITERS_FIRST)
+    return made
 
 
 class ReadersWriterLock:
-    """Readers come in side by side, unless a writer is in or waits; a thread that is in must not
-    ask again."""
+    """Does calls while it is held: functions of C without arguments, which raise nothing.
+
+    Readers come in side by side, unless a writer is in or waits. A call must not ask for the lock.
+    """
 
     def __init__(self) -> None:
-        self._changed = threading.Condition()
-        self._readers = 0
-        self._waiting_writers = 0
-        self._is_writing = False
+        self._place = _Place()
+        self._writers_wait_until = 0.0  # by time.monotonic
+        _init(self._place, _attributes())
 
-    @contextmanager
-    def reading(self) -> Iterator[None]:
-        with self._changed:
-            self._changed.wait_for(lambda: not (self._is_writing or self._waiting_writers))
-            self._readers += 1
-        try:
-            yield
-        finally:
-            with self._changed:
-                self._readers -= 1
-                self._changed.notify_all()
+    def reading(self, *calls: Callable[[], Any]) -> list[Any]:
+        """Does these calls beside other readers, and answers what they do."""
+        results, until = None, _PAST
+        while results is None:
+            while time.monotonic() < self._writers_wait_until:
+                time.sleep(_PAUSE)
+            results = self._attempt(_take_reading, until, calls)
+            until = _moment_after(_TURN)
+        return results
 
-    @contextmanager
-    def writing(self) -> Iterator[None]:
-        with self._changed:
-            self._waiting_writers += 1
-            try:
-                self._changed.wait_for(lambda: not (self._is_writing or self._readers))
-                self._is_writing = True
-            finally:
-                self._waiting_writers -= 1
-                self._changed.notify_all()
+    def writing(self, *calls: Callable[[], Any]) -> list[Any]:
+        """Does these calls alone, and answers what they do."""
+        results = self._attempt(_take_writing, _PAST, calls)
+        if results is not None:
+            return results
         try:
-            yield
+            while results is None:
+                self._writers_wait_until = time.monotonic() + 2 * _TURN
+                results = self._attempt(_take_writing, _moment_after(_TURN), calls)
         finally:
-            with self._changed:
-                self._is_writing = False
-                self._changed.notify_all()
+            self._writers_wait_until = 0.0
+        return results
+
+    def _attempt(
+        self, take: Any, until: _Moment, calls: tuple[Callable[[], Any], ...]
+    ) -> list[Any] | None:
+        """What the calls do, and None where the lock can't be had until a moment."""
+        give = partial(_unlock, self._place)
+        # What is done after an attempt to take the lock, by its answer.
+        steps: dict[int, tuple[Callable[[], Any], ...]] = dict.fromkeys(_NOT_TAKEN, ())
+        steps[0] = (bool, *calls, give)
+        attempts = map(_call, (partial(take, self._place, until),))
+        chosen = chain.from_iterable(map(steps.__getitem__, attempts))
+        results: deque[Any] = deque()
+        try:
+            results.extend(map(_call, chosen))
+        finally:
+            # (a call raised)
+            if 0 < len(results) < len(steps[0]):
+                give()
+        return list(results)[1:-1] if results else None
+
+
+def _moment_after(seconds: float) -> _Moment:
+    nanoseconds = time.time_ns() + int(seconds * 1e9)
+    return _Moment(*divmod(nanoseconds, 10**9))

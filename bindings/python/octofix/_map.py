@@ -2,9 +2,11 @@
 
 from __future__ import annotations
 
+import copy
 import operator
 import weakref
 from ctypes import c_size_t, c_uint64
+from functools import partial
 from typing import Any, TypeVar
 
 import numpy as np
@@ -15,7 +17,7 @@ from ._blocks import DEPTH, Blocks, blocks_of, voxels_in
 from ._errors import (
     OTHER_RESOLUTION, Closed, Interrupted, OutOfMemory, Refused, refusal_of_row,
 )
-from ._library import call, rows_of
+from ._library import Call, at_once, done, rows_of
 from ._lock import ReadersWriterLock
 from ._results import (
     UNKNOWN, Box, Casts, CastKind, Changes, Counted, Counts, Event, Limits, Odds, VoxelClass,
@@ -27,6 +29,7 @@ _MOST_GROUPS, _MOST_CELLS = 2**26, 2**27
 _SOUGHT = {"known": 0, "occupied": 1}
 _GUESSED_EDGE = 0.1
 _NOT_COUNTED = 2**64 - 1  # more hits than a scan has
+_CLOSE = _library.FUNCTIONS["close"]
 
 
 class Map:
@@ -59,16 +62,17 @@ class Map:
     ) -> None:
         self._lock = ReadersWriterLock()
         self._handle = _library.Handle()
+        # (a function of C, so that no interrupt keeps it; nobody else has the map then)
+        self._release = weakref.finalize(self, _CLOSE, self._handle)
+        # (a thread may still ask while the process ends, which gives all memory back)
+        self._release.atexit = False
         self._edge = _arrays.edge(res)
         odds = _library.Odds(*map(_arrays.integer_32, (hit, miss, min, max, threshold)))
         limits = _library.Limits(
             int(_arrays.integers(max_groups, "max_groups", 16, _MOST_GROUPS)),
             int(_arrays.integers(max_cells, "max_cells", 1, _MOST_CELLS)),
         )
-        call("open", self._handle, self._edge, odds, limits)
-        self._release = weakref.finalize(self, call, "close", self._handle)
-        # (a thread may still ask while the process ends, which gives all memory back)
-        self._release.atexit = False
+        _library.call("open", self._handle, self._edge, odds, limits)
 
     # -- opening and closing
 
@@ -117,12 +121,11 @@ class Map:
 
         A second close does nothing.
         """
-        with self._lock.writing():
-            self._release()
+        self._lock.writing(partial(_CLOSE, self._handle))
 
     @property
     def closed(self) -> bool:
-        return not self._release.alive
+        return not self._handle.is_open
 
     def __enter__(self: _Map) -> _Map:
         return self
@@ -138,17 +141,37 @@ class Map:
 
         It isn't stale, and has no mark.
         """
-        rebuild, arguments = self.__reduce__()
-        made: _Map = rebuild(*arguments)
+        return copy.copy(self)
+
+    def __deepcopy__(self: _Map, memo: dict[int, Any]) -> _Map:
+        rebuild, arguments, state = self.__reduce__()
+        made = memo[id(self)] = rebuild(*arguments)
+        if state:
+            made.__setstate__(copy.deepcopy(state, memo))
         return made
 
-    __copy__ = copy
-
-    def __deepcopy__(self: _Map, _: dict[int, Any]) -> _Map:
-        return self.copy()
-
     def __reduce__(self) -> tuple[Any, ...]:
-        return _rebuilt, (type(self), self.resolution, self.limits, self.to_snapshot())
+        arguments = type(self), self.resolution, self.limits, self.to_snapshot()
+        state = self.__getstate__()
+        if isinstance(state, dict):
+            state = {name: it for name, it in state.items() if name not in _OWN} or None
+        return _rebuilt, arguments, state
+
+    def __getstate__(self) -> Any:
+        """What a class made of this one has set, which goes with a copy."""
+        own = dict(vars(self))
+        for kind in type(self).__mro__:
+            slots = kind.__dict__.get("__slots__", ())
+            for name in (slots,) if isinstance(slots, str) else slots:
+                if name.startswith("__") and not name.endswith("__"):
+                    name = f"_{kind.__name__.lstrip('_')}{name}"
+                if hasattr(self, name) and name not in ("__dict__", "__weakref__"):
+                    own[name] = getattr(self, name)
+        return own
+
+    def __setstate__(self, state: dict[str, Any]) -> None:
+        for name, it in state.items():
+            setattr(self, name, it)
 
     # -- what the map is
 
@@ -221,7 +244,7 @@ class Map:
         places = _arrays.nanometres(points, "points", turn)
         pose = _library.Pose(_arrays.point(origin, "origin"), 1 if any(turn) else 0, 0, 0, 0)
         reach = -1 if range is None else _arrays.length(range, "range")
-        options = _library.ScanOptions(reach, *_arrays.own_odds(hit, miss), lazy)
+        options = _library.ScanOptions(reach, *_arrays.own_odds(hit, miss), bool(lazy))
         counted = _library.Counted(_NOT_COUNTED)
         try:
             self._do("scan", pose, places.ctypes.data, len(places), options, counted)
@@ -244,13 +267,13 @@ class Map:
         before it are done, and none after it; so where `OutOfMemory` is raised with an `index`.
         """
         edits = _arrays.edits(points, event, number)
-        done = c_size_t()
+        count = c_size_t()
         try:
-            self._do("edit_all", edits.ctypes.data, len(edits), lazy, done)
+            self._do("edit_all", edits.ctypes.data, len(edits), bool(lazy), count)
         except Refused as refused:
-            raise refusal_of_row(refused.code, done.value, refused.fields) from None
+            raise refusal_of_row(refused.code, count.value, refused.fields) from None
         except MemoryError:
-            raise OutOfMemory(done.value) from None
+            raise OutOfMemory(count.value) from None
 
     def add(self, points: npt.ArrayLike, number: npt.ArrayLike, *, lazy: bool = False) -> None:
         """Adds `number` to the voxels that hold `points`, (n, 3), as `edit`."""
@@ -314,16 +337,14 @@ class Map:
         At a depth below 16 it is the largest known value in the block around the point. Refused:
         24 (`index`), 25, and 22 where the map is stale and the depth is below 16.
         """
-        places = _arrays.nanometres(points)
-        with self._lock.reading():
-            return self._values_within(places, depth)
+        return self._values(points, depth)
 
     def classes(self, points: npt.ArrayLike, depth: int = 16) -> npt.NDArray[np.int8]:
         """The `VoxelClass` at `points`, int8 (n,): that of the value that `get` answers."""
-        places = _arrays.nanometres(points)
-        with self._lock.reading():
-            values, threshold = self._values_within(places, depth), self._settings_within().odds.thr
-        classes = np.where(values >= threshold, VoxelClass.OCCUPIED, VoxelClass.FREE)
+        settings = _library.Settings()
+        values = self._values(points, depth, Call("settings_of", self._handle, settings))
+        is_occupied = values >= settings.odds.thr
+        classes = np.where(is_occupied, VoxelClass.OCCUPIED, VoxelClass.FREE)
         return np.where(values == UNKNOWN, VoxelClass.UNKNOWN, classes).astype(np.int8)
 
     def probabilities(self, points: npt.ArrayLike, depth: int = 16) -> npt.NDArray[np.float64]:
@@ -344,7 +365,7 @@ class Map:
         """
         ways = _arrays.segments(origins, ends)
         stops = np.empty(len(ways), _library.STOP)
-        rows = ways.ctypes.data, len(ways), ignore_unknown, stops.ctypes.data, len(stops)
+        rows = ways.ctypes.data, len(ways), bool(ignore_unknown), stops.ctypes.data, len(stops)
         self._ask("cast_all", *rows)
         codes = stops["code"]
         kinds = np.full(len(ways), CastKind.HIT, np.int8)
@@ -384,11 +405,11 @@ class Map:
         """
         if kind not in ("occupied", "free", "known"):
             raise ValueError(f"kind is 'occupied', 'free' or 'known', not {kind!r}")
-        with self._lock.reading():
-            leaves = rows_of(_library.BLOCK, "leaves", self._handle)
-            threshold = self._settings_within().odds.thr
+        settings = _library.Settings()
+        beside = (Call("settings_of", self._handle, settings),)
+        leaves = self._rows(_library.BLOCK, "leaves", beside=beside)
         if kind != "known":
-            leaves = leaves[(leaves["value"] >= threshold) == (kind == "occupied")]
+            leaves = leaves[(leaves["value"] >= settings.odds.thr) == (kind == "occupied")]
         return voxels_in(leaves, limit)
 
     def centers(self, keys: npt.ArrayLike) -> npt.NDArray[np.float64]:
@@ -478,23 +499,22 @@ class Map:
         """`load_snapshot` of a file."""
         self.load_snapshot(_files.read_map(path))
 
-    # -- calls of the library; what ends with `within` is called while the lock is held
+    # -- calls of the library
 
     def _check_open(self) -> None:
         if self.closed:
             raise Closed
 
     def _ask(self, name: str, *arguments: Any) -> int:
-        with self._lock.reading():
-            return call(name, self._handle, *arguments)
+        return done(self._lock.reading, Call(name, self._handle, *arguments))[0]
 
     def _do(self, name: str, *arguments: Any) -> None:
-        with self._lock.writing():
-            call(name, self._handle, *arguments)
+        done(self._lock.writing, Call(name, self._handle, *arguments))
 
-    def _rows(self, dtype: npt.DTypeLike, name: str, *arguments: Any) -> npt.NDArray[Any]:
-        with self._lock.reading():
-            return rows_of(dtype, name, self._handle, *arguments)
+    def _rows(
+        self, dtype: npt.DTypeLike, name: str, *arguments: Any, beside: tuple[Call, ...] = ()
+    ) -> npt.NDArray[Any]:
+        return rows_of(self._lock.reading, dtype, name, self._handle, *arguments, beside=beside)
 
     def _take(self, name: str, data: _files.Bytes) -> None:
         found = np.frombuffer(data, np.uint8)
@@ -509,23 +529,28 @@ class Map:
         return Box((low.x, low.y, low.z), (high.x, high.y, high.z))
 
     def _settings(self) -> _library.Settings:
-        with self._lock.reading():
-            return self._settings_within()
-
-    def _settings_within(self) -> _library.Settings:
         settings = _library.Settings()
-        call("settings_of", self._handle, settings)
+        self._ask("settings_of", settings)
         return settings
 
-    def _values_within(self, places: _arrays.Nanometres, depth: int) -> npt.NDArray[np.int32]:
+    def _values(
+        self, points: npt.ArrayLike, depth: int, *beside: Call
+    ) -> npt.NDArray[np.int32]:
+        """The values at points; the calls `beside` are done with it."""
+        places = _arrays.nanometres(points)
         answers = np.empty(len(places), _library.ANSWER)
         rows = answers.ctypes.data, len(answers)
-        call("get_all", self._handle, places.ctypes.data, len(places), _depth(depth), *rows)
+        asked = self._handle, places.ctypes.data, len(places), _depth(depth), *rows
+        done(self._lock.reading, Call("get_all", *asked), *beside)
         codes, values = answers["code"], answers["value"].copy()
         is_unknown = codes == _library.UNKNOWN
         values[is_unknown] = UNKNOWN
         _refuse_first(codes, (codes != _library.DONE) & ~is_unknown)
         return values
+
+
+# What each map has set by itself.
+_OWN = frozenset(("_lock", "_handle", "_release", "_edge"))
 
 
 def _depth(depth: int) -> int:
@@ -542,7 +567,8 @@ def _refuse_first(codes: npt.NDArray[Any], is_refused: npt.NDArray[np.bool_]) ->
 
 def _rebuilt(kind: type[_Map], resolution: float, limits: Limits, snapshot: bytes) -> _Map:
     """The map of a snapshot, for copies."""
-    made = kind(resolution, **limits._asdict())
+    made = kind.__new__(kind)
+    Map.__init__(made, resolution, **limits._asdict())
     made.load_snapshot(snapshot)
     return made
 
@@ -553,4 +579,4 @@ def ray(res: float, origin: npt.ArrayLike, end: npt.ArrayLike) -> npt.NDArray[np
     uint16 (n, 3). Refused: 3, 24 (`point`).
     """
     way = _arrays.point(origin, "origin"), _arrays.point(end, "end")
-    return rows_of(_library.KEY, "ray", _arrays.edge(res), *way).copy()
+    return rows_of(at_once, _library.KEY, "ray", _arrays.edge(res), *way).copy()

@@ -4,8 +4,8 @@ import re
 import unittest
 from pathlib import Path
 
-from octofix import ChangeKind, Event, _library, _map
-from octofix._errors import REFUSALS
+from octofix import ChangeKind, Event, _library, _loading, _map
+from octofix._errors import _FIELDS
 
 HEADER = Path(__file__).resolve().parents[2] / "c" / "octofix.h"
 TYPES = {
@@ -19,6 +19,7 @@ TYPES = {
     "uint32_t": ctypes.c_uint32,
     "uint64_t": ctypes.c_uint64,
     "void *": ctypes.c_void_p,
+    "char *": ctypes.c_char_p,
 }
 STRUCTS = {
     "map": _library.Handle,
@@ -33,20 +34,20 @@ STRUCTS = {
     "counted": _library.Counted,
     "counts": _library.Counts,
     "details": _library.Details,
+    "text": _loading.Text,
 }
 # Rows of arrays, with the fields that are several of the header's.
 ROWS = {
     "point": (_library.POINT, {}),
     "segment": (_library.SEGMENT, {}),
     "key": (_library.KEY, {}),
-    "edit_t": (_library.EDIT, {}),
+    "point_edit": (_library.EDIT, {}),
     "block": (_library.BLOCK, {"index": "x"}),
     "answer": (_library.ANSWER, {}),
     "stop": (_library.STOP, {}),
     "change": (_library.CHANGE, {}),
 }
 WITHOUT_USE = {"edit", "get", "cast"}  # those of arrays serve
-WITHOUT_FILE = {34}  # the library takes bytes
 
 
 def header():
@@ -60,7 +61,7 @@ def structs(text):
     pattern = r"typedef struct octofix(?:_(\w+))? \{ (.*?) \} octofix\w*;"
     for name, body in re.findall(pattern, text):
         fields = []
-        for line in body.rstrip("; ").split("; "):
+        for line in body.replace("const ", "").rstrip("; ").split("; "):
             kind, names = re.fullmatch(r"(\w+ \*|\w+ )\s*(.*)", line.replace("* ", "*")).groups()
             kind = found[kind.strip().removeprefix("octofix_")]
             fields += [(it.strip(), kind) for it in names.split(",")]
@@ -115,8 +116,9 @@ class Header(unittest.TestCase):
 
     def test_calls(self):
         found = dict(re.findall(r"uint32_t octofix_(\w+) ?\(([^()]*)\);", self.text))
-        self.assertEqual(found.keys() - WITHOUT_USE, _library.CALLS.keys())
-        for name, kinds in _library.CALLS.items():
+        mine = {**_loading.TEXT_CALLS, **_library.CALLS}
+        self.assertEqual(found.keys() - WITHOUT_USE, mine.keys())
+        for name, kinds in mine.items():
             with self.subTest(call=name):
                 self.assertEqual(kinds, parameters(found[name]))
 
@@ -130,15 +132,12 @@ class Header(unittest.TestCase):
         self.assertEqual(codes["OCCUPIED_VOXELS"], _map._SOUGHT["occupied"])
         for name in ("DONE", "CLOSED", "UNKNOWN", "CLEAR", "NONE", "MEMORY", "SMALL_BUFFER"):
             self.assertEqual(codes[name], getattr(_library, name))
-        others = Event.__members__.keys() | ChangeKind.__members__.keys()
-        refusals = {name: codes[name] for name in codes.keys() - others}
-        refusals = {name: it for name, it in refusals.items() if 2 < it < 40 or it == 47}
-        named = {
-            re.sub(r"(?<=[a-z])(?=[A-Z])", "_", name).upper(): code
-            for code, (name, _) in REFUSALS.items()
-            if code not in WITHOUT_FILE
-        }
-        self.assertEqual(refusals, named)
+
+    def test_fields_of_refusals(self):
+        # in brackets a comment has what the details name
+        table = re.findall(r"OCTOFIX_\w+ = (\d+),? +/\*[^[\n]*\[.*\] \*/", HEADER.read_text())
+        with_index = {47}  # the row, which the package finds itself
+        self.assertEqual(_FIELDS.keys() | with_index, set(map(int, table)))
 
 
 if __name__ == "__main__":

@@ -1,4 +1,6 @@
 """What a map answers, with values worked out by hand."""
+import copy
+import pickle
 import unittest
 from unittest import mock
 
@@ -192,6 +194,23 @@ class Questions(unittest.TestCase):
         some = self.map.leaves((0.5, 0.5, 0.5), (9, 9, 9))
         self.assertEqual(some.depth.tolist(), [15])
 
+    def test_a_loop_over_blocks(self):
+        self.map.edit_box((0, 0, 0), (0.5, 0.5, 0.5), Event.SET, 10)
+        self.map.set((-0.5, 0, 0), -10)
+        leaves = self.map.leaves()
+        wanted = [
+            (16, (32767, 32768, 32768), -10, (-0.25, 0.25, 0.25), 0.5),
+            (15, (16384, 16384, 16384), 10, (0.5, 0.5, 0.5), 1.0),
+        ]
+        self.assertEqual(list(leaves), wanted)
+        self.assertEqual([block.value for block in leaves], [-10, 10])
+        self.map.clear()
+        self.map.set([[0.5 * x, 0, 0] for x in range(5000)], np.arange(5000) % 2 + 1)
+        values = [block.value for block in self.map.leaves()]
+        self.assertEqual(values, self.map.leaves().value.tolist())
+        self.map.clear()
+        self.assertEqual(list(self.map.leaves()), [])
+
     def test_voxels_of_leaves_of_several_sizes(self):
         self.map.edit_box((0, 0, 0), (1.5, 1.5, 1.5), Event.SET, 10)
         self.map.set([[2, 0, 0], [-0.5, 0, 0], [0, 0, 0]], [-10, 20, 30])
@@ -259,6 +278,85 @@ class Limits(unittest.TestCase):
             self.assertEqual((keys.dtype, kinds.dtype), (np.uint16, np.uint8))
             world.untrack()
             self.assertFalse(world.tracked)
+
+
+class Points(unittest.TestCase):
+    def setUp(self):
+        self.map = octofix.Map(0.1)
+        self.addCleanup(self.map.close)
+
+    def test_fields_are_taken_by_their_names(self):
+        fields = [("intensity", "u1"), ("z", "f4"), ("y", "f8"), ("x", "f4")]
+        cloud = np.array([(9, 0, 0, 1), (9, 0, 2, 0)], fields)
+        for points in (cloud, cloud.view(np.recarray)):
+            self.map.set(points, [5, 6])
+            self.assertEqual(self.map.keys(points).tolist(), [[32778, 32768, 32768],
+                                                              [32768, 32788, 32768]])
+        self.assertEqual(self.map.get(cloud[1]).tolist(), [6])
+
+    def test_fields_that_are_no_points(self):
+        others = {
+            "the fields x, y, and not x, y and z": np.zeros(2, [("x", "f4"), ("y", "f4")]),
+            "aren't one number a row": np.zeros(2, [(it, "f4", 2) for it in "xyz"]),
+        }
+        others["aren't one number"] = np.zeros((2, 2), [(it, "f4") for it in "xyz"])
+        for text, points in others.items():
+            for call in (self.map.get, self.map.scan, self.map.keys):
+                with self.assertRaisesRegex(ValueError, f"points has .*{text}"):
+                    call(points)
+
+    def test_masked_points_are_refused(self):
+        points = np.ma.array(np.zeros((2, 3)), mask=[[0, 0, 0], [0, 1, 0]])
+        calls = (
+            self.map.get, self.map.scan, self.map.keys, self.map.forget,
+            lambda them: self.map.add(them, 1), lambda them: self.map.edit(them, Event.SET, 1),
+        )
+        for masked in (points, points[1], list(points)):
+            for call in calls:
+                with self.assertRaisesRegex(ValueError, "points has values that are masked"):
+                    call(masked)
+        with self.assertRaisesRegex(ValueError, "ends has values that are masked"):
+            self.map.cast((0, 0, 0), points)
+        with self.assertRaisesRegex(ValueError, "number has values that are masked"):
+            self.map.add(np.zeros((2, 3)), np.ma.array([1, 2], mask=[1, 0]))
+        self.assertEqual(len(self.map.leaves()), 0)
+        self.assertEqual(self.map.scan(points[:1]).hits, 1)
+
+
+class Sensor(octofix.Map):
+    """A map of a program, with more in it and another way to be made."""
+
+    __slots__ = ("gain", "__secret")
+
+    def __init__(self, name):
+        super().__init__(0.2)
+        self.name, self.gain, self.seen, self.__secret = name, 3, [name], "kept"
+
+    def secret(self):
+        return self.__secret
+
+
+class Copies(unittest.TestCase):
+    def test_a_class_of_a_program_keeps_what_it_has(self):
+        ways = {
+            "pickle": lambda it: pickle.loads(pickle.dumps(it)),
+            "copy": copy.copy,
+            "the map's copy": Sensor.copy,
+            "deepcopy": copy.deepcopy,
+        }
+        for name, way in ways.items():
+            with self.subTest(way=name), Sensor("front") as world:
+                world.set((0, 0, 0), 7)
+                world.itself = world
+                with way(world) as other:
+                    self.assertIs(type(other), Sensor)
+                    self.assertEqual((other.name, other.gain, other.secret()), ("front", 3, "kept"))
+                    self.assertEqual(other.get((0, 0, 0)).tolist(), [7])
+                    other.clear()
+                    is_own = name in ("pickle", "deepcopy")
+                    self.assertIs(other.itself, other if is_own else world)
+                    self.assertEqual(other.seen is world.seen, not is_own)
+                self.assertEqual(world.get((0, 0, 0)).tolist(), [7])
 
 
 def morton(key):

@@ -1,5 +1,6 @@
 """Several threads on one map."""
 import gc
+import signal
 import threading
 import time
 import unittest
@@ -9,6 +10,7 @@ from concurrent.futures import ThreadPoolExecutor
 import numpy as np
 
 import octofix
+from octofix import _lock
 from octofix._lock import ReadersWriterLock
 
 THREADS, ROUNDS = 8, 50
@@ -78,26 +80,23 @@ class Threads(unittest.TestCase):
 class Lock(unittest.TestCase):
     def test_readers_come_in_side_by_side(self):
         lock, both = ReadersWriterLock(), threading.Barrier(2, timeout=30)
-
-        def read():
-            with lock.reading():
-                both.wait()
-
         with ThreadPoolExecutor(2) as pool:
-            for it in [pool.submit(read), pool.submit(read)]:
+            for it in [pool.submit(lock.reading, both.wait), pool.submit(lock.reading, both.wait)]:
                 it.result()
 
     def test_a_writer_is_alone(self):
         lock, inside, most = ReadersWriterLock(), [], []
 
         def work(way):
+            def be_inside():
+                inside.append(way)
+                time.sleep(0)
+                if lock.writing in inside:
+                    most.append(len(inside))
+                inside.remove(way)
+
             for _ in range(ROUNDS):
-                with way():
-                    inside.append(way)
-                    time.sleep(0)
-                    if lock.writing in inside:
-                        most.append(len(inside))
-                    inside.remove(way)
+                way(be_inside)
 
         with ThreadPoolExecutor(THREADS) as pool:
             list(pool.map(work, [lock.reading, lock.writing] * (THREADS // 2)))
@@ -105,31 +104,58 @@ class Lock(unittest.TestCase):
 
     def test_a_waiting_writer_goes_before_new_readers(self):
         lock, order = ReadersWriterLock(), []
+        threads = [
+            threading.Thread(target=lock.writing, args=(lambda: order.append("writer"),)),
+            threading.Thread(target=lock.reading, args=(lambda: order.append("reader"),)),
+        ]
 
-        def enter(way, name):
-            with way():
-                order.append(name)
-
-        with lock.reading():
-            writer = threading.Thread(target=enter, args=(lock.writing, "writer"))
-            writer.start()
-            while not lock._waiting_writers:
+        def let_them_wait():
+            threads[0].start()
+            # (as long as no writer waits, others may read)
+            while _lock._take_reading(lock._place, _lock._PAST) == 0:
+                _lock._unlock(lock._place)
                 time.sleep(0.001)
-            reader = threading.Thread(target=enter, args=(lock.reading, "reader"))
-            reader.start()
-            time.sleep(0.05)
+            threads[1].start()
+            time.sleep(4 * _lock._TURN)
             self.assertEqual(order, [])
-        writer.join()
-        reader.join()
+
+        lock.reading(let_them_wait)
+        for it in threads:
+            it.join()
         self.assertEqual(order, ["writer", "reader"])
+
+    def test_calls_answer_in_their_order(self):
+        lock = ReadersWriterLock()
+        for way in (lock.reading, lock.writing):
+            self.assertEqual(way(int, list, lambda: None), [0, [], None])
+            self.assertEqual(way(), [])
 
     def test_an_error_inside_leaves_it_free(self):
         lock = ReadersWriterLock()
         for way in (lock.reading, lock.writing):
-            with self.assertRaises(KeyError), way():
-                raise KeyError
-        with lock.writing():
-            pass
+            for calls in ([{}.popitem], [int, {}.popitem, int]):
+                with self.assertRaises(KeyError):
+                    way(*calls)
+        self.assertEqual(lock.writing(int), [0])
+
+    def test_one_that_waits_can_be_interrupted(self):
+        lock, begun, end = ReadersWriterLock(), threading.Event(), threading.Event()
+
+        def be_inside():
+            begun.set()
+            end.wait(30)
+
+        holder = threading.Thread(target=lock.writing, args=(be_inside,))
+        holder.start()
+        begun.wait(30)
+        timer = threading.Timer(0.2, signal.raise_signal, (signal.SIGINT,))
+        timer.start()
+        with self.assertRaises(KeyboardInterrupt):
+            lock.reading(int)
+        end.set()
+        for it in (holder, timer):
+            it.join()
+        self.assertEqual(lock.writing(int), [0])
 
 
 if __name__ == "__main__":
