@@ -90,6 +90,6 @@ int main() {
     const double points[] = {1, 0, 0, 0, infinity, 0};
     refuse([&] { world.scan(octofix::pose_at(0, 0, 0), metres(points, 2)); });
     refuse([&] { world.scan(octofix::pose_at(0, 0, 0), std::array{metres(4000, 0, 0)}); });
-    refuse([&] { world.get(metres(0, 0, 0), 17); });
+    refuse([&] { return world.get(metres(0, 0, 0), 17); });
     refuse([&] { copy.clear(); }); // it was moved from
 }

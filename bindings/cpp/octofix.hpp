@@ -21,23 +21,26 @@
 #ifndef OCTOFIX_HPP
 #define OCTOFIX_HPP
 
-#include "octofix.h"
+#if __cplusplus < 201703L
+#error "octofix.hpp is for C++17 or newer: compile with -std=c++17"
+#else
 
-#include <cerrno>
+#include "octofix.h"
+#include "octofix/errors.hpp"
+#include "octofix/files.hpp"
+
+#include <algorithm>
+#include <array>
 #include <cmath>
 #include <cstddef>
 #include <cstdint>
 #include <filesystem>
-#include <fstream>
-#include <istream>
 #include <iterator>
 #include <limits>
 #include <new>
 #include <optional>
-#include <random>
 #include <stdexcept>
 #include <string>
-#include <system_error>
 #include <type_traits>
 #include <utility>
 #include <vector>
@@ -57,10 +60,6 @@ using counts = octofix_counts;
 using block = octofix_block;
 using answer = octofix_answer;
 using stop = octofix_stop; ///< its code: OCTOFIX_DONE (occupied), OCTOFIX_UNKNOWN or OCTOFIX_CLEAR
-using details = octofix_details;
-
-/// Bytes of a .bt file or of a snapshot.
-using bytes = std::vector<std::uint8_t>;
 
 /// What an edit does to the value of a voxel.
 enum class event : std::uint32_t {
@@ -136,123 +135,6 @@ template <class T> class view {
     std::size_t size_ = 0;
 };
 
-// -- errors
-
-namespace detail {
-
-/// A code with its name and those of the numbers that its details hold.
-struct code_name {
-    std::uint32_t code;
-    const char *name, *first, *second;
-};
-
-inline constexpr code_name code_names[] = {
-    {OCTOFIX_BAD_RESOLUTION, "BadResolution", nullptr, nullptr},
-    {OCTOFIX_BAD_MODEL, "BadModel", "field", nullptr},
-    {OCTOFIX_ZERO_QUATERNION, "ZeroQuaternion", nullptr, nullptr},
-    {OCTOFIX_ORIGIN_OUTSIDE, "OriginOutside", nullptr, nullptr},
-    {OCTOFIX_POINT_OUTSIDE, "PointOutside", "index", nullptr},
-    {OCTOFIX_TOO_MANY_CELLS, "TooManyCells", "index", "cells"},
-    {OCTOFIX_TOO_MANY_BLOCKS, "TooManyBlocks", "count", nullptr},
-    {OCTOFIX_NOT_OCTOMAP, "NotOctomap", nullptr, nullptr},
-    {OCTOFIX_FLOAT_TREE, "FloatTree", nullptr, nullptr},
-    {OCTOFIX_WRONG_ID, "WrongId", nullptr, nullptr},
-    {OCTOFIX_MISSING_FIELD, "MissingField", "field", nullptr},
-    {OCTOFIX_BAD_FIELD, "BadField", "field", nullptr},
-    {OCTOFIX_HEADER_TOO_LONG, "HeaderTooLong", nullptr, nullptr},
-    {OCTOFIX_TOO_DEEP, "TooDeep", "at", nullptr},
-    {OCTOFIX_TRUNCATED, "Truncated", "at", nullptr},
-    {OCTOFIX_TRAILING_BYTES, "TrailingBytes", "at", nullptr},
-    {OCTOFIX_SIZE_MISMATCH, "SizeMismatch", "said", "found"},
-    {OCTOFIX_BAD_MAGIC, "BadMagic", nullptr, nullptr},
-    {OCTOFIX_BAD_SNAPSHOT, "BadSnapshot", "at", nullptr},
-    {OCTOFIX_STALE, "Stale", nullptr, nullptr},
-    {OCTOFIX_FULL, "Full", "groups", "need"},
-    {OCTOFIX_OUTSIDE, "Outside", "point", nullptr},
-    {OCTOFIX_BAD_DEPTH, "BadDepth", nullptr, nullptr},
-    {OCTOFIX_BAD_BOX, "BadBox", nullptr, nullptr},
-    {OCTOFIX_WIDE_WHILE_TRACKED, "WideWhileTracked", "count", nullptr},
-    {OCTOFIX_NOT_TRACKED, "NotTracked", nullptr, nullptr},
-    {OCTOFIX_OTHER_RESOLUTION, "OtherResolution", "file", "map"},
-    {OCTOFIX_CLOSED, "Closed", nullptr, nullptr},
-    {OCTOFIX_OPEN, "Open", nullptr, nullptr},
-    {OCTOFIX_UNKNOWN, "Unknown", nullptr, nullptr},
-    {OCTOFIX_CLEAR, "Clear", nullptr, nullptr},
-    {OCTOFIX_NONE, "None", nullptr, nullptr},
-    {OCTOFIX_MEMORY, "Memory", nullptr, nullptr},
-    {OCTOFIX_SMALL_BUFFER, "SmallBuffer", nullptr, nullptr},
-    {OCTOFIX_BAD_ARGUMENT, "BadArgument", "index", nullptr},
-};
-
-inline code_name name_of(std::uint32_t code) {
-    for (const code_name &known : code_names)
-        if (known.code == code) return known;
-    return {code, "?", nullptr, nullptr};
-}
-
-/// The text of a refusal, as `refused 7 PointOutside index 3`.
-inline std::string text_of(std::uint32_t code, const details &named) {
-    const code_name known = name_of(code);
-    std::string text = "refused " + std::to_string(code) + ' ' + known.name;
-    if (known.first) text += std::string(" ") + known.first + ' ' + std::to_string(named.first);
-    if (known.second) text += std::string(" ") + known.second + ' ' + std::to_string(named.second);
-    return text;
-}
-
-} // namespace detail
-
-/// What a map refuses: a code of octofix.h, its name, and what it names.
-class refused : public std::runtime_error {
-  public:
-    explicit refused(std::uint32_t code, const octofix::details &named = {})
-        : std::runtime_error(detail::text_of(code, named)), code_(code), details_(named) {}
-    std::uint32_t code() const { return code_; }
-    const char *name() const { return detail::name_of(code_).name; }
-    const octofix::details &details() const { return details_; }
-
-  private:
-    std::uint32_t code_;
-    octofix::details details_;
-};
-
-/// A refusal of edit_all: the edits before this one were done.
-class edits_refused : public refused {
-  public:
-    edits_refused(std::uint32_t code, const octofix::details &named, std::size_t done)
-        : refused(code, named), done_(done) {}
-    std::size_t done() const { return done_; }
-
-  private:
-    std::size_t done_;
-};
-
-/// Memory ran out for an edit of edit_all: the edits before it were done.
-class edits_out_of_memory : public std::bad_alloc {
-  public:
-    explicit edits_out_of_memory(std::size_t done) : done_(done) {}
-    std::size_t done() const { return done_; }
-    const char *what() const noexcept override { return "memory ran out for an edit"; }
-
-  private:
-    std::size_t done_;
-};
-
-/// A number of metres that isn't finite, or of magnitude 10^7 or more, with the index of its point;
-/// or a range below 0.
-class bad_length : public std::domain_error {
-  public:
-    explicit bad_length(std::size_t index = 0)
-        : std::domain_error("point " + std::to_string(index) +
-                            " isn't finite, or 10^7 m or more from the origin"),
-          index_(index) {}
-    /// That of a length, and of no point.
-    explicit bad_length(const std::string &text) : std::domain_error(text) {}
-    std::size_t index() const { return index_; }
-
-  private:
-    std::size_t index_ = 0;
-};
-
 namespace detail {
 
 /// Throws what a code is, but for 0.
@@ -286,56 +168,12 @@ template <class T, class Call> std::vector<T> listed(Call call) {
     return found;
 }
 
-/// All that a stream still has; none where it can't be read.
-inline std::optional<bytes> rest_of(std::istream &in) {
-    if (!in) return std::nullopt;
-    bytes all;
-    for (char part[1 << 14]; in.read(part, sizeof part) || in.gcount() > 0;)
-        all.insert(all.end(), part, part + in.gcount());
-    return in.bad() ? std::nullopt : std::make_optional(std::move(all));
-}
-
-[[noreturn]] inline void fail(const char *what, const std::filesystem::path &path) {
-    throw std::filesystem::filesystem_error(what, path,
-                                            std::error_code(errno, std::generic_category()));
-}
-
-inline bytes read_file(const std::filesystem::path &path) {
-    std::ifstream file(path, std::ios::binary);
-    std::optional<bytes> content = rest_of(file);
-    if (!content) fail("can't be read", path);
-    return *std::move(content);
-}
-
-inline void write_new(const std::filesystem::path &path, const bytes &content) {
-    std::ofstream file(path, std::ios::binary | std::ios::trunc);
-    file.write(reinterpret_cast<const char *>(content.data()),
-               static_cast<std::streamsize>(content.size()));
-    file.close();
-    if (!file) fail("can't be written", path);
-}
-
-/// Puts a file in place of one that stands there only when it is written whole. It is written
-/// beside its place, under a name of its own, and nothing of it stays where that fails.
-inline void write_file(const std::filesystem::path &path, const bytes &content) {
-    std::filesystem::path part = path;
-    part += '.' + std::to_string(std::random_device()()) + ".part";
-    try {
-        write_new(part, content);
-        std::filesystem::rename(part, path);
-    } catch (...) {
-        std::error_code ignored;
-        std::filesystem::remove(part, ignored);
-        throw;
-    }
-}
-
 } // namespace detail
 
 // -- metres, log-odds, keys
 
 /// Whole nanometres. Throws bad_length with this index.
-inline std::int64_t nanometres(double metres, std::size_t index = 0) {
+[[nodiscard]] inline std::int64_t nanometres(double metres, std::size_t index = 0) {
     if (!(std::fabs(metres) < 1e7)) throw bad_length(index);
     return std::llround(metres * 1e9);
 }
@@ -365,15 +203,28 @@ inline std::int64_t way(std::int64_t from, std::int64_t to) {
     return to - from;
 }
 
+/// The key of a coordinate. Throws as a point outside the map is refused.
+inline std::uint16_t key_at(std::int64_t coordinate, std::int64_t res) {
+    const std::int64_t below = coordinate / res - (coordinate % res < 0);
+    if (below < -32768 || below > 32767) throw refused(OCTOFIX_OUTSIDE, {1, 0});
+    return static_cast<std::uint16_t>(below + 32768);
+}
+
+/// Whether a file begins as a snapshot.
+inline bool is_snapshot(view<std::uint8_t> file) {
+    static const std::string mark = "OCTSNAP";
+    return file.size() >= mark.size() && std::equal(mark.begin(), mark.end(), file.begin());
+}
+
 } // namespace detail
 
 /// A point in metres.
-inline point metres(double x, double y, double z) {
+[[nodiscard]] inline point metres(double x, double y, double z) {
     return {nanometres(x), nanometres(y), nanometres(z)};
 }
 
 /// Points in metres: of any row whose elements have numbers x, y and z, or [0], [1] and [2].
-template <class Row> std::vector<point> metres(const Row &row) {
+template <class Row> [[nodiscard]] std::vector<point> metres(const Row &row) {
     std::vector<point> points;
     points.reserve(std::size(row));
     for (const auto &it : row) {
@@ -387,7 +238,8 @@ template <class Row> std::vector<point> metres(const Row &row) {
 }
 
 /// Points in metres: of count times three numbers in a row.
-template <class Number> std::vector<point> metres(const Number *xyz, std::size_t count) {
+template <class Number>
+[[nodiscard]] std::vector<point> metres(const Number *xyz, std::size_t count) {
     std::vector<point> points;
     points.reserve(count);
     for (std::size_t i = 0; i < count; ++i, xyz += 3)
@@ -396,23 +248,27 @@ template <class Number> std::vector<point> metres(const Number *xyz, std::size_t
 }
 
 /// The thousandths of log-odds of a probability: 847 of 0.7.
-inline std::int32_t log_odds(double probability) {
+[[nodiscard]] inline std::int32_t log_odds(double probability) {
     const double value = 1000 * std::log(probability / (1 - probability));
     if (!(std::fabs(value) <= 1e6)) throw std::domain_error("not a probability between 0 and 1");
     return static_cast<std::int32_t>(std::lround(value));
 }
 
 /// The probability of a value.
-inline double probability_of(std::int32_t value) { return 1 / (1 + std::exp(-value / 1000.0)); }
+[[nodiscard]] inline double probability_of(std::int32_t value) {
+    return 1 / (1 + std::exp(-value / 1000.0));
+}
 
 /// A sensor at a place in metres that isn't turned.
-inline pose pose_at(double x, double y, double z) { return {metres(x, y, z), 32767, 0, 0, 0}; }
+[[nodiscard]] inline pose pose_at(double x, double y, double z) {
+    return {metres(x, y, z), 32767, 0, 0, 0};
+}
 
 /// A sensor that is turned by a quaternion of any length. It is kept in sixteen bits, which is off
 /// by up to 3e-5 radians; where that is too much, turn the points before, and use scan_from.
-inline pose turned(const point &at, double w, double x, double y, double z) {
-    const double largest = std::fmax(std::fmax(std::fabs(w), std::fabs(x)),
-                                     std::fmax(std::fabs(y), std::fabs(z)));
+[[nodiscard]] inline pose turned(const point &at, double w, double x, double y, double z) {
+    const double largest =
+        std::fmax(std::fmax(std::fabs(w), std::fabs(x)), std::fmax(std::fabs(y), std::fabs(z)));
     if (!(largest > 0) || !std::isfinite(w + x + y + z))
         throw std::domain_error("a quaternion that is 0, or isn't finite");
     const auto part = [=](double q) {
@@ -422,10 +278,12 @@ inline pose turned(const point &at, double w, double x, double y, double z) {
 }
 
 /// How many voxels the edge of a block has.
-inline std::uint32_t edge(const block &it) { return std::uint32_t{1} << (16 - it.depth); }
+[[nodiscard]] inline std::uint32_t edge(const block &it) {
+    return std::uint32_t{1} << (16 - it.depth);
+}
 
 /// The voxel of a block with the lowest keys.
-inline voxel_key low(const block &it) {
+[[nodiscard]] inline voxel_key low(const block &it) {
     const auto number = [&](std::uint16_t b) { return static_cast<std::uint16_t>(b * edge(it)); };
     return {number(it.x), number(it.y), number(it.z)};
 }
@@ -482,7 +340,7 @@ class voxels {
 };
 
 /// The keys of all voxels of res metres that the straight way between two points meets.
-inline std::vector<voxel_key> ray(double res, const point &origin, const point &end) {
+[[nodiscard]] inline std::vector<voxel_key> ray(double res, const point &origin, const point &end) {
     const std::int64_t edge = detail::edge_of(res);
     details named{};
     return detail::listed<voxel_key>([&](voxel_key *keys, std::size_t room, std::size_t *count) {
@@ -514,9 +372,30 @@ class map {
     map &operator=(const map &) = delete;
     ~map() { octofix_close(&handle_); }
 
+    /// A map of the bytes of a .bt file, with the resolution of the file.
+    [[nodiscard]] static map from_bt(view<std::uint8_t> file, const odds &log_odds = default_odds,
+                                     const limits &most = default_limits) {
+        return of_any_edge(log_odds, most, [&](map &made) { made.load(file); });
+    }
+    /// A map of a snapshot, with its resolution; its log-odds, where it has some, come before
+    /// these.
+    [[nodiscard]] static map from_snapshot(view<std::uint8_t> file,
+                                           const odds &log_odds = default_odds,
+                                           const limits &most = default_limits) {
+        return of_any_edge(log_odds, most, [&](map &made) { made.restore(file); });
+    }
+    /// A map of a file, a .bt file or a snapshot.
+    [[nodiscard]] static map from_file(const std::filesystem::path &path,
+                                       const odds &log_odds = default_odds,
+                                       const limits &most = default_limits) {
+        const bytes file = detail::read_file(path);
+        return detail::is_snapshot(file) ? from_snapshot(file, log_odds, most)
+                                         : from_bt(file, log_odds, most);
+    }
+
     /// A map of its own with these values, log-odds, limits and box of the limit. It isn't stale,
     /// and has no mark.
-    map clone() const {
+    [[nodiscard]] map clone() const {
         const octofix::settings now = settings();
         map other;
         details named{};
@@ -527,15 +406,17 @@ class map {
 
     // Settings.
 
-    octofix::settings settings() const {
+    [[nodiscard]] octofix::settings settings() const {
         octofix::settings now{};
         detail::check(octofix_settings_of(&handle_, &now));
         return now;
     }
-    double resolution() const { return static_cast<double>(settings().res) / 1e9; }
-    bool is_occupied(std::int32_t value) const { return value >= settings().odds.thr; }
+    [[nodiscard]] double resolution() const { return static_cast<double>(settings().res) / 1e9; }
+    [[nodiscard]] bool is_occupied(std::int32_t value) const {
+        return value >= settings().odds.thr;
+    }
     /// The bytes that the map holds now.
-    std::uint64_t memory() const {
+    [[nodiscard]] std::uint64_t memory() const {
         std::uint64_t held = 0;
         detail::check(octofix_memory(&handle_, &held));
         return held;
@@ -545,9 +426,9 @@ class map {
 
     void edit(const point &at, event what, std::int32_t number = 0, bool lazy = false) {
         details named{};
-        detail::check(octofix_edit(&handle_, &at, static_cast<std::uint32_t>(what), number, lazy,
-                                   &named),
-                      named);
+        detail::check(
+            octofix_edit(&handle_, &at, static_cast<std::uint32_t>(what), number, lazy, &named),
+            named);
     }
     void add(const point &at, std::int32_t number, bool lazy = false) {
         edit(at, event::add, number, lazy);
@@ -608,14 +489,14 @@ class map {
     }
     void no_limit() { detail::check(octofix_no_limit(&handle_)); }
     /// The box of the limit.
-    std::optional<box> window() const { return found(&octofix_window); }
+    [[nodiscard]] std::optional<box> window() const { return found(&octofix_window); }
 
     void refresh() { detail::check(octofix_refresh(&handle_)); }
     void prune() { detail::check(octofix_prune(&handle_)); }
     void clear() { detail::check(octofix_clear(&handle_)); }
     void max_likelihood() { detail::check(octofix_max_likelihood(&handle_)); }
     /// Prunes the map, and counts the least tree of its values.
-    octofix::counts counts() {
+    [[nodiscard]] octofix::counts counts() {
         octofix::counts least{};
         detail::check(octofix_counts_of(&handle_, &least));
         return least;
@@ -624,20 +505,20 @@ class map {
     // Queries.
 
     /// The value of the block of this depth that holds the point; none where nothing is known.
-    std::optional<std::int32_t> get(const point &at, std::uint32_t depth = 16) const {
+    [[nodiscard]] std::optional<std::int32_t> get(const point &at, std::uint32_t depth = 16) const {
         const answer there = answer_at(at, depth);
         if (there.code == OCTOFIX_UNKNOWN) return std::nullopt;
         detail::check(there.code, {there.code == OCTOFIX_OUTSIDE ? 1u : 0u, 0});
         return there.value;
     }
     /// The same with a code, as get_all has it.
-    answer answer_at(const point &at, std::uint32_t depth = 16) const {
+    [[nodiscard]] answer answer_at(const point &at, std::uint32_t depth = 16) const {
         answer there{};
         there.code = octofix_get(&handle_, &at, depth, &there.value);
         return there;
     }
     /// An answer for each point, with a code of its own.
-    std::vector<answer> get_all(view<point> points, std::uint32_t depth = 16) const {
+    [[nodiscard]] std::vector<answer> get_all(view<point> points, std::uint32_t depth = 16) const {
         std::vector<answer> answers(points.size() + 1);
         detail::check(octofix_get_all(&handle_, detail::start(points), points.size(), depth,
                                       answers.data(), points.size()));
@@ -645,7 +526,8 @@ class map {
         return answers;
     }
     /// What stops the straight way from one point to another first.
-    stop cast(const point &origin, const point &end, bool ignore_unknown = false) const {
+    [[nodiscard]] stop cast(const point &origin, const point &end,
+                            bool ignore_unknown = false) const {
         stop first{};
         details named{};
         const std::uint32_t code =
@@ -655,7 +537,8 @@ class map {
         return first;
     }
     /// A stop for each segment, with a code of its own.
-    std::vector<stop> cast_all(view<segment> segments, bool ignore_unknown = false) const {
+    [[nodiscard]] std::vector<stop> cast_all(view<segment> segments,
+                                             bool ignore_unknown = false) const {
         std::vector<stop> stops(segments.size() + 1);
         detail::check(octofix_cast_all(&handle_, detail::start(segments), segments.size(),
                                        ignore_unknown, stops.data(), segments.size()));
@@ -663,43 +546,52 @@ class map {
         return stops;
     }
     /// The known blocks of a depth that meet a box, by ascending x, then y, then z.
-    std::vector<block> list(const point &low, const point &high, std::uint32_t depth = 16) const {
-        return listed_in_box([&](auto *it, auto... out) {
-            return octofix_list(it, &low, &high, depth, out...);
-        });
+    [[nodiscard]] std::vector<block> list(const point &low, const point &high,
+                                          std::uint32_t depth = 16) const {
+        return listed_in_box(
+            [&](auto *it, auto... out) { return octofix_list(it, &low, &high, depth, out...); });
     }
     /// The largest blocks of one value each, in Morton order: all that is known.
-    std::vector<block> leaves() const {
-        return listed<block>(&octofix_leaves);
-    }
+    [[nodiscard]] std::vector<block> leaves() const { return listed<block>(&octofix_leaves); }
     /// Those that meet a box, each as a whole.
-    std::vector<block> leaves(const point &low, const point &high) const {
-        return listed_in_box([&](auto *it, auto... out) {
-            return octofix_leaves_in(it, &low, &high, out...);
-        });
+    [[nodiscard]] std::vector<block> leaves(const point &low, const point &high) const {
+        return listed_in_box(
+            [&](auto *it, auto... out) { return octofix_leaves_in(it, &low, &high, out...); });
     }
     /// All known voxels: for (voxel it : world.known_voxels()).
-    voxels known_voxels() const { return voxels(leaves()); }
+    [[nodiscard]] voxels known_voxels() const { return voxels(leaves()); }
     /// The smallest box that holds all known, or all occupied, voxels.
-    std::optional<box> bounds(sought what = sought::known) const {
+    [[nodiscard]] std::optional<box> bounds(sought what = sought::known) const {
         return found([&](const octofix_map *it, box *out) {
             return octofix_bounds(it, static_cast<std::uint32_t>(what), out);
         });
     }
-    /// The middle of a block, or of a voxel, in metres.
-    void middle(const block &it, double &x, double &y, double &z) const {
+    /// The voxel that holds a point. It is refused as a point outside the map is.
+    [[nodiscard]] voxel_key key_of(const point &at) const {
+        const std::int64_t res = settings().res;
+        return {detail::key_at(at.x, res), detail::key_at(at.y, res), detail::key_at(at.z, res)};
+    }
+    /// The middle of a block in metres: x, y and z.
+    [[nodiscard]] std::array<double, 3> middle(const block &it) const {
         const double res = resolution(), half = edge(it) / 2.0;
         const voxel_key first = low(it);
-        x = (first.x - 32768 + half) * res;
-        y = (first.y - 32768 + half) * res;
-        z = (first.z - 32768 + half) * res;
+        return {(first.x - 32768 + half) * res, (first.y - 32768 + half) * res,
+                (first.z - 32768 + half) * res};
+    }
+    /// The middle of a voxel in metres.
+    [[nodiscard]] std::array<double, 3> middle(const voxel_key &it) const {
+        return middle(block{16, it.x, it.y, it.z, 0});
+    }
+    void middle(const block &it, double &x, double &y, double &z) const {
+        const auto there = middle(it);
+        x = there[0], y = there[1], z = there[2];
     }
 
     // Changes since a mark.
 
     void track() { detail::check(octofix_track(&handle_)); }
     void untrack() { detail::check(octofix_untrack(&handle_)); }
-    std::vector<change> changes() const {
+    [[nodiscard]] std::vector<change> changes() const {
         const std::vector<octofix_change> all = listed<octofix_change>(&octofix_changes);
         std::vector<change> changes;
         changes.reserve(all.size());
@@ -709,14 +601,16 @@ class map {
     }
 
     // Files. Those of paths throw std::filesystem::filesystem_error where they can't be read or
-    // written; a file is put in place of another one only when it is whole.
+    // written. A file that stands, also behind a link, is replaced only when the new one is whole,
+    // which takes its mode and, where that may be set, its owner. What is no regular file, as a
+    // device or a pipe, is written to as it is.
 
-    bytes save() const { return listed<std::uint8_t>(&octofix_save); }
+    [[nodiscard]] bytes save() const { return listed<std::uint8_t>(&octofix_save); }
     void load(view<std::uint8_t> file) {
         details named{};
         detail::check(octofix_load(&handle_, detail::start(file), file.size(), &named), named);
     }
-    bytes snapshot() const { return listed<std::uint8_t>(&octofix_snapshot); }
+    [[nodiscard]] bytes snapshot() const { return listed<std::uint8_t>(&octofix_snapshot); }
     void restore(view<std::uint8_t> file) {
         details named{};
         detail::check(octofix_restore(&handle_, detail::start(file), file.size(), &named), named);
@@ -729,11 +623,26 @@ class map {
     void restore_from(const std::filesystem::path &path) { restore(detail::read_file(path)); }
 
     /// The handle, for a call of octofix.h.
-    const octofix_map *handle() const { return &handle_; }
-    octofix_map *handle() { return &handle_; }
+    [[nodiscard]] const octofix_map *handle() const { return &handle_; }
+    [[nodiscard]] octofix_map *handle() { return &handle_; }
 
   private:
     map() = default; // closed
+
+    /// A map with the edge that is found to be that of a file.
+    template <class Fill>
+    static map of_any_edge(const odds &log_odds, const limits &most, Fill fill) {
+        map made(0.1, log_odds, most);
+        try {
+            fill(made);
+            return made;
+        } catch (const refused &error) {
+            if (error.code() != OCTOFIX_OTHER_RESOLUTION) throw;
+            made = map(static_cast<double>(error.details().first) / 1e9, log_odds, most);
+        }
+        fill(made);
+        return made;
+    }
 
     /// All that a query lists.
     template <class T, class Call> std::vector<T> listed(Call call) const {
@@ -762,4 +671,5 @@ class map {
 
 } // namespace octofix
 
+#endif // C++17
 #endif

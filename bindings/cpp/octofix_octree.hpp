@@ -17,6 +17,7 @@
 #define OCTOFIX_OCTREE_HPP
 
 #include "octofix.hpp"
+#if __cplusplus >= 201703L // (octofix.hpp tells where it isn't)
 #include "octofix/octree_cloud.hpp"
 #include "octofix/octree_files.hpp"
 #include "octofix/octree_iterators.hpp"
@@ -415,13 +416,12 @@ class OcTree : public OcTreeGrid {
         return writeBinaryConst(out);
     }
     bool writeBinary(const std::string &file) {
-        std::ofstream out(file, std::ios::binary);
-        return out && writeBinary(out);
+        toMaxLikelihood();
+        return writeBinaryConst(file);
     }
     bool writeBinaryConst(std::ostream &out) const { return detail::put(out, map_.save(), 0); }
     bool writeBinaryConst(const std::string &file) const {
-        std::ofstream out(file, std::ios::binary);
-        return out && writeBinaryConst(out);
+        return detail::put_file(file, map_.save());
     }
     /// The records alone, as messages have them.
     bool writeBinaryData(std::ostream &out) const {
@@ -450,8 +450,10 @@ class OcTree : public OcTreeGrid {
         return static_cast<bool>(writeData(out));
     }
     bool write(const std::string &file) const {
-        std::ofstream out(file, std::ios::binary);
-        return out && write(out);
+        std::ostringstream out;
+        write(out);
+        const std::string text = out.str();
+        return detail::put_file(file, bytes(text.begin(), text.end()));
     }
     std::ostream &writeData(std::ostream &out) const {
         const std::shared_ptr<OcTreeValues> now = values();
@@ -792,4 +794,5 @@ inline bool OcTreeNode::hasChildren() const { return tree_ && tree_->nodeHasChil
 
 } // namespace octofix
 
+#endif // C++17
 #endif

@@ -14,6 +14,14 @@ if(NOT TARGET @NAME@::octofix)
     IMPORTED_LOCATION "${_octofix_prefix}/lib/lib@NAME@.a"
     IMPORTED_LINK_INTERFACE_LANGUAGES C
     INTERFACE_INCLUDE_DIRECTORIES "${_octofix_prefix}/include")
+
+  # (a project in C alone knows no standard of C++)
+  get_property(_octofix_languages GLOBAL PROPERTY ENABLED_LANGUAGES)
+  if(_octofix_languages MATCHES "CXX")
+    set_property(TARGET @NAME@::octofix @NAME@::static
+      PROPERTY INTERFACE_COMPILE_FEATURES cxx_std_17)
+  endif()
+  unset(_octofix_languages)
 endif()
 
 unset(_octofix_prefix)

@@ -19,6 +19,16 @@ inline bool put(std::ostream &out, const bytes &file, std::size_t from) {
     return static_cast<bool>(out);
 }
 
+/// Writes a file whole, as a map does, and answers whether it could.
+inline bool put_file(const std::string &name, const bytes &file) {
+    try {
+        write_file(name, file);
+    } catch (const std::filesystem::filesystem_error &) {
+        return false;
+    }
+    return true;
+}
+
 /// Where the records of a canonical .bt file begin.
 inline std::size_t data_of(const bytes &file) {
     const std::string mark = "\ndata\n";

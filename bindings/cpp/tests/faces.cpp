@@ -3,14 +3,11 @@
 #include <octofix_octree.hpp>
 
 #include <array>
-#include <csignal>
 #include <cstdio>
 #include <iomanip>
 #include <limits>
 #include <sstream>
 #include <thread>
-
-#include <sys/resource.h>
 
 using octofix::metres;
 
@@ -81,21 +78,21 @@ void try_lengths() {
     EXPECT(octofix::nanometres(0.0000000005) == 1); // halves away from zero
     EXPECT(octofix::nanometres(-0.0000000005) == -1);
     EXPECT(octofix::nanometres(0.0000000004) == 0);
-    EXPECT(index_of([] { octofix::nanometres(1e7); }) == 0);
-    EXPECT(index_of([&] { metres(0, 0, nan); }) == 0);
+    EXPECT(index_of([] { return octofix::nanometres(1e7); }) == 0);
+    EXPECT(index_of([&] { return metres(0, 0, nan); }) == 0);
     const double row[] = {0, 0, 0, 1, 1, 1, 0, -infinity, 0};
-    EXPECT(index_of([&] { metres(row, 3); }) == 2);
+    EXPECT(index_of([&] { return metres(row, 3); }) == 2);
     EXPECT(metres(row, 2)[1].z == 1000000000);
     struct sighting {
         float x, y, z, intensity;
     };
     EXPECT(metres(std::vector<sighting>{{1, 2, 3, 0}})[0].y == 2000000000);
-    EXPECT(text_of([] { metres(0, 1e7, 0); }) ==
+    EXPECT(text_of([] { return metres(0, 1e7, 0); }) ==
            "point 0 isn't finite, or 10^7 m or more from the origin");
     const std::string edge = "the edge of a voxel isn't finite, or 10^7 m or more";
     EXPECT(text_of([&] { octofix::map world(infinity); }) == edge);
     EXPECT(text_of([] { octofix::map world(1e8); }) == edge);
-    EXPECT(text_of([&] { octofix::ray(nan, {0, 0, 0}, {0, 0, 0}); }) == edge);
+    EXPECT(text_of([&] { return octofix::ray(nan, {0, 0, 0}, {0, 0, 0}); }) == edge);
     EXPECT(text_of([&] { octofix::OcTree tree(-infinity); }) == edge);
     octofix::map world(0.1);
     const auto wall = metres(row, 2);
@@ -149,13 +146,13 @@ void try_refusals() {
            OCTOFIX_BAD_ARGUMENT);
     octofix::map world(0.1);
     const octofix::point far = metres(4000, 0, 0), near = metres(1, 1, 1);
-    EXPECT(code_of([&] { world.get(far); }) == OCTOFIX_OUTSIDE);
-    EXPECT(code_of([&] { world.leaves(near, metres(0, 0, 0)); }) == OCTOFIX_BAD_BOX);
-    EXPECT(code_of([&] { world.list(near, far); }) == OCTOFIX_OUTSIDE);
-    EXPECT(code_of([&] { world.changes(); }) == OCTOFIX_NOT_TRACKED);
+    EXPECT(code_of([&] { return world.get(far); }) == OCTOFIX_OUTSIDE);
+    EXPECT(code_of([&] { return world.leaves(near, metres(0, 0, 0)); }) == OCTOFIX_BAD_BOX);
+    EXPECT(code_of([&] { return world.list(near, far); }) == OCTOFIX_OUTSIDE);
+    EXPECT(code_of([&] { return world.changes(); }) == OCTOFIX_NOT_TRACKED);
     EXPECT(code_of([&] { world.restore({}); }) == OCTOFIX_BAD_MAGIC);
     EXPECT(code_of([&] { world.load({}); }) == OCTOFIX_NOT_OCTOMAP);
-    EXPECT(code_of([&] { octofix::ray(0.1, near, far); }) == OCTOFIX_OUTSIDE);
+    EXPECT(code_of([&] { return octofix::ray(0.1, near, far); }) == OCTOFIX_OUTSIDE);
     const std::vector<octofix::edit> edits = {{near, octofix::event::set, 5},
                                               {far, octofix::event::set, 5}};
     try {
@@ -168,42 +165,12 @@ void try_refusals() {
     }
     EXPECT(world.get(near) == 5);
     octofix::map other(std::move(world));
-    EXPECT(code_of([&] { world.settings(); }) == OCTOFIX_CLOSED);
+    EXPECT(code_of([&] { return world.settings(); }) == OCTOFIX_CLOSED);
     world = std::move(other);
     EXPECT(world.get(near) == 5);
     EXPECT(world.get_all({}).empty() && world.cast_all({}).empty());
     world.edit_all({});
     EXPECT(world.scan(octofix::pose_at(0, 0, 0), {}).hits == 0);
-}
-
-/// How many files a folder has.
-std::ptrdiff_t count_of(const std::filesystem::path &folder) {
-    return std::distance(std::filesystem::directory_iterator(folder), {});
-}
-
-/// A file that can't be written, or put in its place, leaves nothing, and what stood there.
-void try_failing_writes(const std::filesystem::path &folder) {
-    octofix::map world(0.1);
-    world.set(metres(1, 2, 3), 700);
-    const std::filesystem::path full = folder / "full", taken = full / "taken";
-    std::filesystem::create_directories(taken);
-    EXPECT(is_file_error([&] { world.save_to(taken); }));
-    EXPECT(count_of(full) == 1);
-    std::filesystem::remove(taken);
-    world.save_to(taken);
-    const octofix::bytes before = octofix::detail::read_file(taken);
-    world.clear();
-    rlimit most{};
-    getrlimit(RLIMIT_FSIZE, &most);
-    const rlimit few = {3, most.rlim_max};
-    std::signal(SIGXFSZ, SIG_IGN);
-    setrlimit(RLIMIT_FSIZE, &few);
-    EXPECT(is_file_error([&] { world.save_to(taken); }));
-    EXPECT(is_file_error([&] { world.snapshot_to(full / "new"); }));
-    setrlimit(RLIMIT_FSIZE, &most);
-    EXPECT(count_of(full) == 1 && octofix::detail::read_file(taken) == before);
-    world.save_to(taken);
-    EXPECT(count_of(full) == 1 && octofix::detail::read_file(taken) == world.save());
 }
 
 void try_files(const std::filesystem::path &folder) {
@@ -220,8 +187,6 @@ void try_files(const std::filesystem::path &folder) {
     EXPECT(world.clone().snapshot() == world.snapshot());
     EXPECT(is_file_error([&] { other.load_from(folder / "missing.bt"); }));
     EXPECT(is_file_error([&] { other.load_from(folder); }));
-    EXPECT(is_file_error([&] { other.save_to(folder / "missing" / "world.bt"); }));
-    EXPECT(is_file_error([&] { other.save_to("/dev/full/world.bt"); }));
     EXPECT(other.get(metres(1, 2, 3)) == 700);
     octofix::OcTree tree(0.1);
     EXPECT(tree.readBinary((folder / "world.bt").string()) && tree.search(1, 2, 3));
@@ -243,6 +208,28 @@ void try_voxels() {
     double x, y, z;
     world.middle(world.leaves()[0], x, y, z);
     EXPECT(std::fabs(x - 0.2) < 1e-12 && std::fabs(z - 0.2) < 1e-12);
+    const auto [left, front, up] = world.middle(world.leaves()[0]);
+    EXPECT(left == x && front == y && up == z);
+}
+
+/// Keys by hand: 0.25 m are the voxel that begins 0.2 m above the origin.
+void try_keys() {
+    const octofix::map world(0.1);
+    const auto is = [](const octofix::voxel_key &it, int x, int y, int z) {
+        return it.x == x && it.y == y && it.z == z;
+    };
+    EXPECT(is(world.key_of(metres(0.25, 0, -0.01)), 32770, 32768, 32767));
+    EXPECT(is(world.key_of(metres(-3276.8, 3276.79, 0)), 0, 65535, 32768));
+    EXPECT(is(world.key_of({-1, -100000000, -100000001}), 32767, 32767, 32766));
+    const auto [x, y, z] = world.middle(octofix::voxel_key{32770, 0, 65535});
+    EXPECT(std::fabs(x - 0.25) < 1e-12 && std::fabs(y + 3276.75) < 1e-9);
+    EXPECT(std::fabs(z - 3276.75) < 1e-9);
+    EXPECT(is(world.key_of(metres(x, y, z)), 32770, 0, 65535));
+    constexpr std::int64_t low = std::numeric_limits<std::int64_t>::min();
+    constexpr std::int64_t high = std::numeric_limits<std::int64_t>::max();
+    const octofix::point outside[] = {{low, 0, 0}, {0, high, 0}, {0, 0, 3276800000000}};
+    for (const octofix::point &it : outside)
+        EXPECT(code_of([&] { return world.key_of(it); }) == OCTOFIX_OUTSIDE);
 }
 
 void try_models() {
@@ -400,8 +387,8 @@ int main(int, char **words) {
     try_far_points();
     try_refusals();
     try_files(words[1]);
-    try_failing_writes(words[1]);
     try_voxels();
+    try_keys();
     try_models();
     try_resolutions();
     try_poses();

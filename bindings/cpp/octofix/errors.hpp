@@ -1,0 +1,109 @@
+// What the calls throw. Part of octofix.hpp.
+#ifndef OCTOFIX_ERRORS_HPP
+#define OCTOFIX_ERRORS_HPP
+
+#include "octofix.h"
+
+#include <cstddef>
+#include <cstdint>
+#include <new>
+#include <stdexcept>
+#include <string>
+
+namespace octofix {
+
+using details = octofix_details;
+
+namespace detail {
+
+/// What the numbers are called that a refusal names, and how many there are.
+struct named_numbers {
+    std::uint32_t code;
+    const char *first, *second;
+};
+
+inline constexpr named_numbers numbers_of_codes[] = {
+    {OCTOFIX_BAD_MODEL, "field", nullptr},      {OCTOFIX_POINT_OUTSIDE, "index", nullptr},
+    {OCTOFIX_TOO_MANY_CELLS, "index", "cells"}, {OCTOFIX_TOO_MANY_BLOCKS, "count", nullptr},
+    {OCTOFIX_MISSING_FIELD, "field", nullptr},  {OCTOFIX_BAD_FIELD, "field", nullptr},
+    {OCTOFIX_TOO_DEEP, "at", nullptr},          {OCTOFIX_TRUNCATED, "at", nullptr},
+    {OCTOFIX_TRAILING_BYTES, "at", nullptr},    {OCTOFIX_SIZE_MISMATCH, "said", "found"},
+    {OCTOFIX_BAD_SNAPSHOT, "at", nullptr},      {OCTOFIX_FULL, "groups", "need"},
+    {OCTOFIX_OUTSIDE, "point", nullptr},        {OCTOFIX_WIDE_WHILE_TRACKED, "count", nullptr},
+    {OCTOFIX_OTHER_RESOLUTION, "file", "map"},  {OCTOFIX_BAD_ARGUMENT, "index", nullptr},
+};
+
+/// The name of a code.
+inline const char *name_of(std::uint32_t code) {
+    const char *name = octofix_code_name(code);
+    return name ? name : "?";
+}
+
+/// The text of a refusal, as `refused 7 PointOutside index 3`.
+inline std::string text_of(std::uint32_t code, const details &named) {
+    std::string text = "refused " + std::to_string(code) + ' ' + name_of(code);
+    const auto append = [&](const char *name, std::uint64_t number) {
+        if (name) text += std::string(" ") + name + ' ' + std::to_string(number);
+    };
+    for (const named_numbers &it : numbers_of_codes)
+        if (it.code == code) append(it.first, named.first), append(it.second, named.second);
+    return text;
+}
+
+} // namespace detail
+
+/// What a map refuses: a code of octofix.h, its name, and what it names.
+class refused : public std::runtime_error {
+  public:
+    explicit refused(std::uint32_t code, const octofix::details &named = {})
+        : std::runtime_error(detail::text_of(code, named)), code_(code), details_(named) {}
+    std::uint32_t code() const { return code_; }
+    const char *name() const { return detail::name_of(code_); }
+    const octofix::details &details() const { return details_; }
+
+  private:
+    std::uint32_t code_;
+    octofix::details details_;
+};
+
+/// A refusal of edit_all: the edits before this one were done.
+class edits_refused : public refused {
+  public:
+    edits_refused(std::uint32_t code, const octofix::details &named, std::size_t done)
+        : refused(code, named), done_(done) {}
+    std::size_t done() const { return done_; }
+
+  private:
+    std::size_t done_;
+};
+
+/// Memory ran out for an edit of edit_all: the edits before it were done.
+class edits_out_of_memory : public std::bad_alloc {
+  public:
+    explicit edits_out_of_memory(std::size_t done) : done_(done) {}
+    std::size_t done() const { return done_; }
+    const char *what() const noexcept override { return "memory ran out for an edit"; }
+
+  private:
+    std::size_t done_;
+};
+
+/// A number of metres that isn't finite, or of magnitude 10^7 or more, with the index of its point;
+/// or a range below 0.
+class bad_length : public std::domain_error {
+  public:
+    explicit bad_length(std::size_t index = 0)
+        : std::domain_error("point " + std::to_string(index) +
+                            " isn't finite, or 10^7 m or more from the origin"),
+          index_(index) {}
+    /// That of a length, and of no point.
+    explicit bad_length(const std::string &text) : std::domain_error(text) {}
+    std::size_t index() const { return index_; }
+
+  private:
+    std::size_t index_ = 0;
+};
+
+} // namespace octofix
+
+#endif
