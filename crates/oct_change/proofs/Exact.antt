@@ -101,7 +101,7 @@ listed_changes before after = record {
         (marked_there before voxels_in_order k (in_order_all k v))
         (ap (option_map (λ kind. record { key = k; kind = kind })) h)
 
--- there is one list of changes
+-- there is one list of changes, and it is right
 key_steps : (x : Change) (xs : List Change)
     → AllByRecursion (λ q. key_cmp x.key q ≡ Less) (map (λ (change : Change). change.key) xs)
     → AllByRecursion (λ (y : Change). key_cmp x.key y.key ≡ Less) xs
@@ -114,6 +114,12 @@ step_of : (x : Change) (xs : List Change)
     (map (λ (change : Change). change.key) xs)
 unfolding IsStrictlySortedBy
 step_of x xs h = (key_steps x xs h.0, h.1)
+
+pub right_changes : (before after : Classes)
+    → AreChanges before after (changes_between before after)
+right_changes before after =
+    subst (AreChanges before after) (same_change before after voxels_in_order)
+    (listed_changes before after)
 
 pub one_report : (before after : Classes) (xs : List Change) → AreChanges before after xs
     → xs ≡ changes_between before after
@@ -128,8 +134,7 @@ one_report before after xs h =
     ((all.exact x.key v x.kind).0 there)))
   where
     all : AreChanges before after (changes_between before after)
-    all = subst (AreChanges before after) (same_change before after voxels_in_order)
-        (listed_changes before after)
+    all = right_changes before after
 
 pub one_report_ok : {E : Type 0} (r : Result (List Change) E) (before after : Classes)
     → IfOk r (λ changes. AreChanges before after changes)

@@ -98,12 +98,31 @@ impl Changes {
         self.notes.clear();
     }
 
+    /// Makes room for n more notes. Where there isn't any, there is room for n more afterwards, or
+    /// for as many again, where these are more. All notes stay.
+    ///
+    /// `Memory` comes only where there wasn't room for n, and then nothing changes.
+    pub fn reserve(&mut self, n: u64) -> Result<(), Memory>
+        ensures notes { self.new.notes ≡ self.old.notes }
+        ensures room { OnOk result (n ≤ self.new.spare) }
+        ensures enough { n ≤ self.old.spare → IsOk result × (self.new ≡ self.old) }
+        ensures made { OnOk result (self.old.spare < n
+            → room_of self.new ≡ wanted_room (length self.old.notes) n) }
+        ensures err { OnErr result (self.new ≡ self.old) }
+    {
+        if n <= self.spare() {
+            return Ok(());
+        }
+        let len = self.notes.len();
+        self.grow(len, n as usize)
+    }
+
     /// Makes room for n more notes. Where there isn't any, each note goes whose voxel was noted
     /// before it, the others come by ascending x, y and z, and there is room for n more, or for as
     /// many again, where these are more. So this happens seldom, however often a voxel is noted.
     ///
     /// `Memory` comes only where there wasn't room for n, and then nothing changes.
-    pub fn reserve(&mut self, n: u64) -> Result<(), Memory>
+    pub fn compact(&mut self, n: u64) -> Result<(), Memory>
         ensures room { OnOk result (n ≤ self.new.spare) }
         ensures enough { n ≤ self.old.spare → IsOk result × (self.new ≡ self.old) }
         ensures made { OnOk result (self.old.spare < n → IsCompacted self.old self.new n) }

@@ -19,16 +19,18 @@
 //!
 //! - [`Changes`] is seen as a list of notes, each a voxel and the class that it had, and as the
 //!   number of notes that it has room for. [`Changes::note`] adds one at the end and can't fail,
-//!   and [`Changes::mark`] drops all. [`Changes::reserve`] makes room: where there is none, only
-//!   each voxel's first note stays, in room for at least as many again (`IsCompacted`). So room is
-//!   bounded by the voxels that were noted, each counted once, however often they are noted.
+//!   and [`Changes::mark`] drops all. [`Changes::reserve`] makes room, and all notes stay.
+//!   [`Changes::compact`] makes room too, but where there is none, only each voxel's first note
+//!   stays, in room for at least as many again (`IsCompacted`). So room is bounded by the voxels
+//!   that were noted, each counted once, however often they are noted.
 //! - The first note of a voxel since the mark counts. So the classes at the mark (`marked_by`) are
 //!   those of the first notes, and the classes now where nothing was noted. The lemma `mark_kept`
 //!   says that an edit doesn't change them, if each voxel that changes its class was noted before.
 //! - [`Changes::report`] gives exactly the voxels whose class now differs from that at the mark,
 //!   each with its [`Kind`], by ascending x, y and z. The clause is the one list
 //!   `changes_between`, a function of the classes then and now, and beside it `AreChanges`, which
-//!   asks each voxel by itself.
+//!   asks each voxel by itself. That the two agree is a law for all classes
+//!   ([`changes_are_right`]).
 //! - [`Changes::note_class`], [`Changes::note_bricks`] and [`Changes::note_box`] note exactly the
 //!   voxels of an edit, of a scan and of a box, each with its class in the tree (`HasNoted`).
 //!
@@ -41,11 +43,13 @@
 
 mod changes;
 mod kind;
+mod laws;
 mod list;
 mod voxels;
 
 pub use changes::{Changes, Note};
 pub use kind::{Change, Kind};
+pub use laws::changes_are_right;
 pub use list::ChangeList;
 
 #[cfg(test)]

@@ -131,17 +131,38 @@ fn reports_each_pair_of_classes_in_the_order_of_voxels(rt: HostRuntime) -> Resul
     let mut changes = Changes::new(rt.alloc());
     note_all(&mut changes, NOTES)?;
     expect_report(&rt, &changes, &tree, &wanted());
-    // Room is made for as many notes as there are voxels noted: 1, 2, 4, 8 and 16 in all.
-    expect_len(&rt, &changes, 11);
-    expect_room(&rt, &mut changes, 5, 5);
-    expect_len(&rt, &changes, 11);
-    // Without the notes of voxels that were noted before it is the same report.
-    expect_room(&rt, &mut changes, 6, 9);
-    expect_len(&rt, &changes, 9);
-    expect_report(&rt, &changes, &tree, &wanted());
-
     changes.mark();
     expect_report(&rt, &changes, &tree, &[]);
+    Ok(())
+}
+
+#[test]
+fn all_notes_stay_where_room_is_made(rt: HostRuntime) -> Result<(), Fail> {
+    let tree = two_children(rt.alloc())?;
+    let mut changes = Changes::new(rt.alloc());
+    note_all(&mut changes, NOTES)?;
+    // Room is made for as many notes as there are: 1, 2, 4, 8 and 16 in all.
+    expect_len(&rt, &changes, 11);
+    expect_room(&rt, &mut changes, 5, 5);
+    expect_room(&rt, &mut changes, 6, 11);
+    expect_len(&rt, &changes, 11);
+    expect_report(&rt, &changes, &tree, &wanted());
+    Ok(())
+}
+
+#[test]
+fn first_notes_stay_where_they_are_compacted(rt: HostRuntime) -> Result<(), Fail> {
+    let tree = two_children(rt.alloc())?;
+    let mut changes = Changes::new(rt.alloc());
+    note_all(&mut changes, NOTES)?;
+    // There is room for 5 more of 16.
+    changes.compact(5)?;
+    expect_len(&rt, &changes, 11);
+    // Of 9 voxels each has one note then, in room for as many again.
+    changes.compact(6)?;
+    expect_len(&rt, &changes, 9);
+    expect_room(&rt, &mut changes, 9, 9);
+    expect_report(&rt, &changes, &tree, &wanted());
     Ok(())
 }
 

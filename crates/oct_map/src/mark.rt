@@ -87,7 +87,7 @@ impl Mark {
         ensures err { OnErr result (self.new ≡ self.old) }
     {
         if let Some(changes) = &mut self.changes {
-            changes.reserve(n)?;
+            changes.compact(n)?;
         }
         Ok(())
     }

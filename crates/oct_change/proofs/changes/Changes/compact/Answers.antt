@@ -3,7 +3,7 @@ use Rattle.oct_change.specs.Notes.{AreInMap, note_of}
 use Rattle.oct_change.specs.Held.{Held, room_of, wanted_room}
 use Rattle.oct_change.specs.contracts.changes.Changes.{the_view}
 use Rattle.oct_change.proofs.Compacts.{compacted}
-use Rattle.oct_change.proofs.changes.Changes.reserve.Goals as goal
+use Rattle.oct_change.proofs.changes.Changes.compact.Goals as goal
 
 pub returns-in_ok-grow-clause-made : goal.returns-in_ok-grow-clause-made
 returns-in_ok-grow-clause-made c _ =
