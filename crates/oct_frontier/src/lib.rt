@@ -10,7 +10,8 @@
 //!
 //! The promise is that the list is a function of the voxels' classes (`frontier_between`): of the
 //! voxels of the map in their order those that lie between the corners and at the frontier, and
-//! that it has exactly these (`IsFrontierBetween`). A neighbour counts where it lies beyond the
+//! that it has exactly these (`IsFrontierBetween`), which is a law for all classes too
+//! ([`frontiers_are_right`]). A neighbour counts where it lies beyond the
 //! corners, and not where it would lie beyond the map. More voxels than are allowed are refused,
 //! exactly where there are more, and then none is listed. Memory is taken once, for exactly the
 //! voxels of the answer, and none where it is refused as too many.
@@ -30,10 +31,12 @@
 #![tactic(auto)]
 
 mod fault;
+mod laws;
 mod listing;
 mod look;
 mod patch;
 mod walk;
 
 pub use fault::FrontierFault;
+pub use laws::frontiers_are_right;
 pub use listing::frontier;
