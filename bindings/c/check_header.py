@@ -4,9 +4,9 @@
     check_header.py [HEADER [CRATE]]
 
 Fails where a function stands on one side alone, or has other parameters (their order, names, types
-and constness), where a struct has other fields, sizes or offsets, where a code, an event, a kind of
-change or what bounds are sought of stands on one side alone or has another number, or where a code
-has another name in the header, in the sources or in docs/FORMATS.md. What the sources export is
+and constness), where a struct has other fields, sizes or offsets, where a code, an event, a rule, a
+kind of change or what bounds are sought of stands on one side alone or has another number, or where
+a code has another name in the header, in the sources or in docs/FORMATS.md. What the sources export is
 written as a file in C, which a C compiler has to accept after the header: declarations that must be
 those of the header, and assertions on its structs.
 """
@@ -193,15 +193,17 @@ def body_of(text, name):
 
 
 def numbers_of_sources(text):
-    """The numbers of codes, events, kinds of changes and what bounds are sought of, in this order,
-    by the names that the header has."""
+    """The numbers of codes, events, rules, kinds of changes and what bounds are sought of, in this
+    order, by the names that the header has."""
     events = re.findall(r"if event == (\d+) \{\s*return Ok\(Event::(\w+)",
                         body_of(text, "event_of"))
+    rules = re.findall(r"if rule == (\d+) \{\s*return Ok\(Rule::(\w+)", body_of(text, "rule_of"))
     sought = re.findall(r"(\d+) => Some\(Sought::(\w+)\)", body_of(text, "sought_numbered"))
     codes = re.findall(r"\b(?:Refusal|MapFault|BtFault)::(\w+)(?: \{ \.\. \})? => (\d+)", text)
     return [
         numbers(codes + re.findall(r"pub const ([A-Z_]+): u32 = (\d+);", text)),
         numbers((name, number) for number, name in events),
+        numbers((name, number) for number, name in rules),
         numbers(re.findall(r"Kind::(\w+) => (\d+)", body_of(text, "kind_number"))),
         numbers((name + "_VOXELS", number) for number, name in sought),
     ]
@@ -209,9 +211,10 @@ def numbers_of_sources(text):
 
 def numbers_of_header(header):
     """The same of the header."""
-    events, kinds, sought, codes = (numbers(re.findall(r"\bOCTOFIX_(\w+)\s*=\s*(\d+)", body))
-                                    for body in re.findall(r"\benum \{(.*?)\};", header, re.S))
-    return [codes, events, kinds, sought]
+    events, rules, kinds, sought, codes = (
+        numbers(re.findall(r"\bOCTOFIX_(\w+)\s*=\s*(\d+)", body))
+        for body in re.findall(r"\benum \{(.*?)\};", header, re.S))
+    return [codes, events, rules, kinds, sought]
 
 
 def check_numbers(text, header):

@@ -162,6 +162,12 @@ enum { /* events: what an edit does to the value of a voxel */
     OCTOFIX_LIKELY = 3   /* makes it max where it is occupied, and min where it is free; likewise */
 };
 
+enum { /* rules: which value a voxel gets that both maps of a merge know */
+    OCTOFIX_FIRST = 0,    /* that of the map itself */
+    OCTOFIX_GREATEST = 1, /* the greater one */
+    OCTOFIX_LEAST = 2     /* the lesser one */
+};
+
 enum { /* kinds of changes since a mark */
     OCTOFIX_NEW = 0,      /* was unknown, and is known */
     OCTOFIX_LOST = 1,     /* was known, and is unknown */
@@ -214,7 +220,8 @@ enum {
     OCTOFIX_NONE = 44,               /* bounds: there is no such voxel; window: no limit stands */
     OCTOFIX_MEMORY = 45,             /* memory ran out */
     OCTOFIX_SMALL_BUFFER = 46,       /* the buffer has too little room */
-    OCTOFIX_BAD_ARGUMENT = 47        /* a number is out of its range [its index, if in an array] */
+    OCTOFIX_BAD_ARGUMENT = 47,       /* a number is out of its range [its index, if in an array] */
+    OCTOFIX_OTHER_ODDS = 48          /* merge: the log-odds of the two maps aren't the same */
 };
 
 /* -- texts */
@@ -332,6 +339,17 @@ uint32_t octofix_clear(octofix_map *map);
 /* Makes each occupied voxel max and each free one min, ends staleness, and prunes. Costs a walk.
  * Refused: CLOSED. */
 uint32_t octofix_max_likelihood(octofix_map *map);
+
+/* Merges another map of the same resolution and log-odds into this one: each voxel that one of them
+ * knows gets its value, and one that both know the value that the rule takes. All else of the map
+ * stays, and so does each voxel of the other; both are pruned, and a stale map stays stale. Whether
+ * the other one is stale, or what limits it has, doesn't matter. The two handles must not be one.
+ * While a mark stands, the least box around what the other map knows has at most 1000000 voxels.
+ * Full means that the blocks that aren't of one value in one of the maps are more than the groups
+ * that the map may have. Costs a walk. Refused: 40 (either handle), 47 (the rule), 35 (the other
+ * map's resolution first), 48, 27, 23, 45. */
+uint32_t octofix_merge(octofix_map *map, octofix_map *other, uint32_t rule,
+                       octofix_details *details);
 
 /* Prunes the map, and counts the groups and nodes of the least tree that has these values, where
  * the code is 0. Costs a walk. Refused: CLOSED. */

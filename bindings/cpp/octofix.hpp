@@ -69,6 +69,13 @@ enum class event : std::uint32_t {
     likely = OCTOFIX_LIKELY
 };
 
+/// Which value a voxel gets that both maps of a merge know.
+enum class rule : std::uint32_t {
+    first = OCTOFIX_FIRST,
+    greatest = OCTOFIX_GREATEST,
+    least = OCTOFIX_LEAST
+};
+
 /// How a voxel has changed since the mark.
 enum class change_kind : std::uint16_t {
     is_new = OCTOFIX_NEW,
@@ -495,6 +502,16 @@ class map {
     void prune() { detail::check(octofix_prune(&handle_)); }
     void clear() { detail::check(octofix_clear(&handle_)); }
     void max_likelihood() { detail::check(octofix_max_likelihood(&handle_)); }
+    /// Takes in what another map of the same resolution and log-odds knows: a voxel that one of them
+    /// knows gets its value, and one that both know the value that the rule takes. The other map
+    /// keeps its voxels; both are pruned.
+    void merge(map &other, rule by = rule::first) {
+        if (this == &other) return prune();
+        details named{};
+        detail::check(octofix_merge(&handle_, &other.handle_, static_cast<std::uint32_t>(by),
+                                    &named),
+                      named);
+    }
     /// Prunes the map, and counts the least tree of its values.
     [[nodiscard]] octofix::counts counts() {
         octofix::counts least{};

@@ -102,6 +102,10 @@ static void try_closed_handle(void) {
     EXPECT(octofix_prune(&map), 40);
     EXPECT(octofix_clear(&map), 40);
     EXPECT(octofix_max_likelihood(&map), 40);
+    octofix_map other = opened(&default_odds, &default_limits);
+    EXPECT_DETAILS(octofix_merge(&map, &other, 3, &details), 40, 0, 0);
+    EXPECT_DETAILS(octofix_merge(&other, &map, 3, &details), 40, 0, 0);
+    octofix_close(&other);
     EXPECT(octofix_counts_of(&map, &counts), 40);
     EXPECT(octofix_get(&map, &p, 99, &value), 40);
     EXPECT(octofix_get_all(&map, &p, 1, 99, &answer, 0), 40);
@@ -468,6 +472,67 @@ static void try_changes(void) {
     octofix_close(&map);
 }
 
+/* A map of 0.2 m, one of other log-odds, and one of few groups, into a map of one voxel. */
+static void try_refused_merges(void) {
+    octofix_map map = opened(&default_odds, &default_limits), other = {0};
+    const octofix_point p = at(50, 50, 50), q = at(-50, 50, 50);
+    const octofix_odds odds = {850, -400, -2000, 3500, 1};
+    const octofix_limits few = {16, 100};
+    int32_t value;
+    EXPECT(octofix_edit(&map, &p, OCTOFIX_SET, 1, false, &details), 0);
+    EXPECT(octofix_open(&other, 2 * RES, &odds, &default_limits, &details), 0);
+    EXPECT_DETAILS(octofix_merge(&map, &other, 3, &details), 47, 0, 0);
+    EXPECT_DETAILS(octofix_merge(&map, &other, UINT32_MAX, &details), 47, 0, 0);
+    EXPECT_DETAILS(octofix_merge(&map, &other, OCTOFIX_FIRST, &details), 35, 2 * RES, RES);
+    octofix_close(&other);
+    other = opened(&odds, &default_limits);
+    EXPECT_DETAILS(octofix_merge(&map, &other, OCTOFIX_FIRST, &details), 48, 0, 0);
+    octofix_close(&other);
+    other = opened(&default_odds, &few);
+    EXPECT(octofix_edit(&other, &q, OCTOFIX_SET, 2, false, &details), 0);
+    EXPECT_DETAILS(octofix_merge(&other, &map, OCTOFIX_LEAST, &details), 23, 16, 15);
+    EXPECT(octofix_get(&other, &p, 16, &value), 42);
+    EXPECT(octofix_get(&map, &q, 16, &value), 42);
+    octofix_close(&other);
+    octofix_close(&map);
+}
+
+static void try_merges(void) {
+    const octofix_point p = at(50, 50, 50), q = at(150, 50, 50), r = at(250, 50, 50);
+    const octofix_point far = at(10050, 10050, 9950);
+    const int32_t both[] = {850, 850, -400}; /* by first, greatest and least */
+    for (uint32_t rule = OCTOFIX_FIRST; rule <= OCTOFIX_LEAST; rule++) {
+        octofix_map map = opened(&default_odds, &default_limits);
+        octofix_map other = opened(&default_odds, &default_limits);
+        int32_t value = 0;
+        EXPECT(octofix_edit(&map, &p, OCTOFIX_SET, 850, false, &details), 0);
+        EXPECT(octofix_edit(&map, &q, OCTOFIX_SET, 5, false, &details), 0);
+        EXPECT(octofix_edit(&other, &p, OCTOFIX_SET, -400, false, &details), 0);
+        EXPECT(octofix_edit(&other, &r, OCTOFIX_SET, 6, true, &details), 0);
+        EXPECT(octofix_track(&map), 0);
+        EXPECT_DETAILS(octofix_merge(&map, &other, rule, &details), 0, 0, 0);
+        EXPECT(octofix_get(&map, &p, 16, &value), 0);
+        EXPECT(value, both[rule]);
+        EXPECT(octofix_get(&map, &q, 16, &value), 0);
+        EXPECT(value, 5);
+        EXPECT(octofix_get(&map, &r, 0, &value), 0);
+        EXPECT(value, rule == OCTOFIX_LEAST ? 6 : 850);
+        EXPECT(octofix_get(&other, &p, 16, &value), 0);
+        EXPECT(value, -400);
+        EXPECT(octofix_get(&other, &q, 16, &value), 42);
+        EXPECT(octofix_get(&other, &p, 0, &value), 22);
+        EXPECT(octofix_changes(&map, changes, 64, &count), 0);
+        EXPECT(count, rule == OCTOFIX_LEAST ? 2 : 1);
+        EXPECT(changes[count - 1].kind, OCTOFIX_NEW);
+        EXPECT(octofix_edit(&other, &far, OCTOFIX_SET, 1, false, &details), 0);
+        EXPECT_DETAILS(octofix_merge(&map, &other, rule, &details), 27, 101 * 101 * 100, 0);
+        EXPECT(octofix_untrack(&map), 0);
+        EXPECT_DETAILS(octofix_merge(&map, &other, rule, &details), 0, 0, 0);
+        octofix_close(&other);
+        octofix_close(&map);
+    }
+}
+
 static void load(octofix_map *map, int line, const char *text, const char *records, size_t length,
                  uint32_t code, uint64_t first, uint64_t second) {
     const size_t head = strlen(text);
@@ -635,6 +700,8 @@ int main(void) {
     try_lists();
     try_rays();
     try_changes();
+    try_refused_merges();
+    try_merges();
     try_loads();
     try_snapshots();
     try_the_rest();

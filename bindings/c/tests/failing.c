@@ -82,6 +82,19 @@ static uint32_t refresh(octofix_map *map) { return octofix_refresh(map); }
 static uint32_t prune(octofix_map *map) { return octofix_prune(map); }
 static uint32_t max_likelihood(octofix_map *map) { return octofix_max_likelihood(map); }
 static uint32_t track(octofix_map *map) { return octofix_track(map); }
+/* (the other map is made and closed besides: its allocations neither fail nor count) */
+static uint32_t merge(octofix_map *map) {
+    const octofix_point low = at(-900, -900, -900), high = at(900, 800, 700);
+    const long passing = to_go, made_before = made;
+    to_go = -1;
+    octofix_map other = opened(&default_odds, &default_limits);
+    EXPECT(octofix_edit_box(&other, &low, &high, OCTOFIX_SET, 100, &details), OCTOFIX_DONE);
+    to_go = passing;
+    made = made_before;
+    const uint32_t code = octofix_merge(map, &other, OCTOFIX_GREATEST, &details);
+    octofix_close(&other);
+    return code;
+}
 static uint32_t counts(octofix_map *map) {
     octofix_counts least;
     return octofix_counts_of(map, &least);
@@ -117,7 +130,7 @@ static uint32_t take_snapshot(octofix_map *map) {
 static uint32_t (*const calls[])(octofix_map *) = {
     scan,   edit,           edit_box, edit_all,  load, restore, clear,        refresh, prune,
     counts, max_likelihood, leaves,   leaves_in, list, save,    list_changes, track,
-    take_snapshot};
+    take_snapshot, merge};
 
 /* A map that is scanned, and tracked where that is wanted. */
 static octofix_map scanned(bool is_tracked) {

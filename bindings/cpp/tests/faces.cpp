@@ -354,6 +354,35 @@ void try_changes() {
     EXPECT(tracked.numChangesDetected() == 0);
 }
 
+void try_merges() {
+    const octofix::point both = metres(0, 0, 0), mine = metres(1, 0, 0), theirs = metres(2, 0, 0);
+    const auto merged_by = [&](octofix::rule by) {
+        octofix::map world(0.1), other(0.1);
+        world.set(both, 850);
+        world.set(mine, 5);
+        other.set(both, -400);
+        other.set(theirs, 6);
+        world.merge(other, by);
+        EXPECT(world.get(mine) == 5 && world.get(theirs) == 6);
+        EXPECT(other.get(both) == -400 && !other.get(mine));
+        return world.get(both);
+    };
+    EXPECT(merged_by(octofix::rule::first) == 850);
+    EXPECT(merged_by(octofix::rule::greatest) == 850);
+    EXPECT(merged_by(octofix::rule::least) == -400);
+    octofix::map world(0.1), coarse(0.2);
+    octofix::map surer(0.1, {850, -400, -2000, 3500, 1});
+    world.set(both, 850);
+    world.merge(world, octofix::rule::least); // is as it was
+    EXPECT(world.get(both) == 850);
+    EXPECT(code_of([&] { world.merge(coarse); }) == OCTOFIX_OTHER_RESOLUTION);
+    EXPECT(code_of([&] { world.merge(surer); }) == OCTOFIX_OTHER_ODDS);
+    octofix::map moved(std::move(coarse));
+    EXPECT(code_of([&] { world.merge(coarse); }) == OCTOFIX_CLOSED);
+    EXPECT(code_of([&] { coarse.merge(coarse); }) == OCTOFIX_CLOSED);
+    EXPECT(world.leaves().size() == 1);
+}
+
 void try_threads() {
     octofix::OcTree tree(0.1);
     octofix::Pointcloud cloud;
@@ -394,6 +423,7 @@ int main(int, char **words) {
     try_poses();
     try_blocks();
     try_changes();
+    try_merges();
     try_threads();
     std::printf("faces: %d failed\n", failed);
     return failed != 0;

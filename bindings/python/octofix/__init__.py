@@ -23,7 +23,7 @@ if TYPE_CHECKING:
     from ._map import Map, ray
     from ._results import (
         UNKNOWN, Box, Casts, CastKind, ChangeKind, Changes, Counted, Counts, Event, Limits, Odds,
-        VoxelClass,
+        Rule, VoxelClass,
     )
 
     __version__: str
@@ -48,6 +48,7 @@ __all__ = [
     "Odds",
     "OutOfMemory",
     "Refused",
+    "Rule",
     "VoxelClass",
     "ray",
 ]

@@ -108,6 +108,7 @@ CALLS: dict[str, list[Any]] = {
     "prune": [_HANDLE],
     "clear": [_HANDLE],
     "max_likelihood": [_HANDLE],
+    "merge": [_HANDLE, _HANDLE, c_uint32, _DETAILS],
     "counts_of": [_HANDLE, POINTER(Counts)],
     "get_all": [_HANDLE, *_ROWS, c_uint32, *_ROWS],
     "cast_all": [_HANDLE, *_ROWS, c_bool, *_ROWS],

@@ -17,7 +17,7 @@ from collections import deque
 from functools import partial
 from itertools import chain
 from operator import methodcaller
-from typing import Any, Callable
+from typing import Any, Callable, Iterable, Sequence
 
 _TURN, _PAUSE = 0.05, 0.001  # seconds
 _WRITERS_FIRST = 2  # PTHREAD_RWLOCK_PREFER_WRITER_NONRECURSIVE_NP
@@ -77,41 +77,62 @@ class ReadersWriterLock:
         while results is None:
             while time.monotonic() < self._writers_wait_until:
                 time.sleep(_PAUSE)
-            results = self._attempt(_take_reading, until, calls)
+            results = _attempt((self,), _take_reading, until, calls)
             until = _moment_after(_TURN)
         return results
 
     def writing(self, *calls: Callable[[], Any]) -> list[Any]:
         """Does these calls alone, and answers what they do."""
-        results = self._attempt(_take_writing, _PAST, calls)
-        if results is not None:
-            return results
-        try:
-            while results is None:
-                self._writers_wait_until = time.monotonic() + 2 * _TURN
-                results = self._attempt(_take_writing, _moment_after(_TURN), calls)
-        finally:
-            self._writers_wait_until = 0.0
-        return results
+        return writing_all((self,), *calls)
 
-    def _attempt(
-        self, take: Any, until: _Moment, calls: tuple[Callable[[], Any], ...]
-    ) -> list[Any] | None:
-        """What the calls do, and None where the lock can't be had until a moment."""
-        give = partial(_unlock, self._place)
+
+def writing_all(locks: Iterable[ReadersWriterLock], *calls: Callable[[], Any]) -> list[Any]:
+    """Does these calls alone under all of the locks, and answers what they do.
+
+    (They are taken in one order whoever asks, so that no two threads wait for each other.)
+    """
+    locks = sorted(locks, key=id)
+    results = _attempt(locks, _take_writing, _PAST, calls)
+    if results is not None:
+        return results
+    try:
+        while results is None:
+            until = time.monotonic() + 2 * _TURN
+            for it in locks:
+                it._writers_wait_until = until
+            results = _attempt(locks, _take_writing, _moment_after(_TURN), calls)
+    finally:
+        for it in locks:
+            it._writers_wait_until = 0.0
+    return results
+
+
+def _attempt(
+    locks: Sequence[ReadersWriterLock],
+    take: Any,
+    until: _Moment,
+    calls: Sequence[Callable[[], Any]],
+) -> list[Any] | None:
+    """What the calls do, and None where a lock can't be had until a moment."""
+    held: list[Callable[[], Any]] = []  # how to give back the locks that are held
+    chosen: Iterable[Callable[[], Any]] = calls
+    for lock in reversed(locks):
+        give = partial(_unlock, lock._place)
         # What is done after an attempt to take the lock, by its answer.
-        steps: dict[int, tuple[Callable[[], Any], ...]] = dict.fromkeys(_NOT_TAKEN, ())
-        steps[0] = (bool, *calls, give)
-        attempts = map(_call, (partial(take, self._place, until),))
+        steps: dict[int, Iterable[Callable[[], Any]]] = dict.fromkeys(_NOT_TAKEN, ())
+        steps[0] = chain((partial(held.append, give),), chosen, (give, held.pop))
+        attempts = map(_call, (partial(take, lock._place, until),))
         chosen = chain.from_iterable(map(steps.__getitem__, attempts))
-        results: deque[Any] = deque()
-        try:
-            results.extend(map(_call, chosen))
-        finally:
-            # (a call raised)
-            if 0 < len(results) < len(steps[0]):
-                give()
-        return list(results)[1:-1] if results else None
+    results: deque[Any] = deque()
+    try:
+        results.extend(map(_call, chosen))
+    finally:
+        # (a call raised)
+        while held:
+            held.pop()()
+    first = len(locks)
+    last = first + len(calls)
+    return list(results)[first:last] if len(results) == last + 2 * len(locks) else None
 
 
 def _moment_after(seconds: float) -> _Moment:

@@ -21,6 +21,14 @@ class Event(IntEnum):
     LIKELY = 3  # gives it the largest value where it is occupied, the smallest where it is free
 
 
+class Rule(IntEnum):
+    """Which value a voxel gets that both maps of a merge know."""
+
+    FIRST = 0  # that of the map itself
+    GREATEST = 1
+    LEAST = 2
+
+
 class VoxelClass(IntEnum):
     """What `Map.classes` says of a voxel or a block."""
 

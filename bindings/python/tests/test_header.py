@@ -4,7 +4,7 @@ import re
 import unittest
 from pathlib import Path
 
-from octofix import ChangeKind, Event, _library, _loading, _map
+from octofix import ChangeKind, Event, Rule, _library, _loading, _map
 from octofix._errors import _FIELDS
 
 HEADER = Path(__file__).resolve().parents[2] / "c" / "octofix.h"
@@ -124,10 +124,8 @@ class Header(unittest.TestCase):
 
     def test_codes(self):
         codes = {name: int(it) for name, it in re.findall(r"OCTOFIX_(\w+) = (\d+)", self.text)}
-        for event in Event:
-            self.assertEqual(codes[event.name], event)
-        for kind in ChangeKind:
-            self.assertEqual(codes[kind.name], kind)
+        for numbered in (*Event, *Rule, *ChangeKind):
+            self.assertEqual(codes[numbered.name], numbered)
         self.assertEqual(codes["KNOWN_VOXELS"], _map._SOUGHT["known"])
         self.assertEqual(codes["OCCUPIED_VOXELS"], _map._SOUGHT["occupied"])
         for name in ("DONE", "CLOSED", "UNKNOWN", "CLEAR", "NONE", "MEMORY", "SMALL_BUFFER"):

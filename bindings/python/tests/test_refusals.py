@@ -116,6 +116,28 @@ class Refusals(unittest.TestCase):
             refused = self.refuses(text, small.set, points, 1)
             self.assertEqual(refused.fields, {"groups": 31, "need": 16, "index": 2})
 
+    def test_merges(self):
+        with octofix.Map(0.2) as coarse, octofix.Map(0.1, threshold=1) as surer:
+            text = "refused 35 OtherResolution file 200000000 map 100000000"
+            self.refuses(text, self.map.merge, coarse)
+            self.refuses("refused 48 OtherOdds", self.map.merge, surer)
+            for rule in (-1, 3, 2**40):
+                self.refuses("refused 47 BadArgument rule", self.map.merge, coarse, rule)
+        with octofix.Map(0.1) as other:
+            # in two other octants: each needs 15 groups below the one of depth 0
+            other.set([[-1, -1, -1], [1, -1, -1]], 5)
+            self.refuses("refused 23 Full groups 16 need 30", self.map.merge, other)
+            self.map.track()
+            other.set([[9, 9, 8.9]], 5)
+            text = f"refused 27 WideWhileTracked count {101 * 101 * 100}"
+            self.refuses(text, self.map.merge, other)
+            self.assertEqual(len(other.voxels()), 3)
+        with self.assertRaises(octofix.Closed):
+            self.map.merge(other)
+        for none in (None, 0, self.before):
+            with self.assertRaisesRegex(TypeError, "another Map"):
+                self.map.merge(none)
+
     def test_questions(self):
         points = [[0, 0, 0], [0, 0, -FAR]]
         for call in (self.map.get, self.map.classes, self.map.probabilities, self.map.keys):
@@ -280,7 +302,7 @@ class BadInput(unittest.TestCase):
             lambda: self.map.load_bt(b""), lambda: self.map.keys((0, 0, 0)),
             lambda: self.map.centers([[0, 0, 0]]), self.map.counts, self.map.track,
             lambda: self.map.forget((0, 0, 0)), lambda: self.map.cast((0, 0, 0), (0, 0, 0)),
-            lambda: pickle.dumps(self.map),
+            lambda: pickle.dumps(self.map), lambda: self.map.merge(self.map),
         ]
         with self.map as same:
             self.assertIs(same, self.map)

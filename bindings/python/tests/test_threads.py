@@ -68,6 +68,23 @@ class Threads(unittest.TestCase):
                 world.close()
                 self.assertTrue(all(it.result(timeout=60) for it in asking))
 
+    def test_maps_that_are_merged_into_each_other(self):
+        with octofix.Map(0.1) as one, octofix.Map(0.1) as two:
+            one.set([[0, 0, 0]], 1)
+            two.set([[1, 0, 0]], 2)
+
+            def work(number):
+                maps = (one, two) if number % 2 else (two, one)
+                for _ in range(ROUNDS):
+                    maps[0].merge(maps[1])
+
+            with ThreadPoolExecutor(THREADS) as pool:
+                merging = [pool.submit(work, number) for number in range(THREADS)]
+                for it in merging:
+                    it.result(timeout=60)
+            self.assertEqual(one.to_snapshot(), two.to_snapshot())
+            self.assertEqual(one.get([[0, 0, 0], [1, 0, 0]]).tolist(), [1, 2])
+
     def test_a_map_that_nobody_holds_is_closed(self):
         world = octofix.Map(0.1)
         handle, gone = world._handle, weakref.ref(world)

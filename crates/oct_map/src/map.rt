@@ -37,6 +37,7 @@ ghost use Rattle.oct_map.specs.Edits.{fitted_groups};
 
 mod loading;
 mod marking;
+mod merging;
 mod restoring;
 mod surveying;
 

@@ -1,5 +1,5 @@
 //! The mark of a map.
-ghost use Rattle.std.specs.Prelude.{◌≡◌, ◌+◌, ◌<◌, ◌^◌, ◌⊎◌, length, [], None, Some};
+ghost use Rattle.std.specs.Prelude.{◌≡◌, ◌+◌, ◌<◌, ◌^◌, ◌⊎◌, length, [], Option, None, Some};
 ghost use Rattle.std.specs.Prelude.{is_some, IsOk, OnOk, OnErr, IfOk, option_map};
 ghost use Rattle.std.specs.Prelude.{All, Contains};
 ghost use Rattle.oct_brick.specs.Bricks.{IsBrick};
@@ -9,11 +9,13 @@ ghost use Rattle.oct_key.specs.Boxes.{IsBox, IsInBox, box_volume};
 ghost use Rattle.oct_values.specs.Classes.{classes_of};
 ghost use Rattle.oct_change.specs.Changes.{changes_between};
 ghost use Rattle.oct_map.specs.Notes.{HasRoomForNotes, IsSameNoted, IsRoomMade, HasMarked};
-ghost use Rattle.oct_map.specs.Notes.{marked_by_notes, notes_of, note_room};
+ghost use Rattle.oct_map.specs.Notes.{NotesFew, marked_by_notes, notes_of, note_room};
+ghost use Rattle.oct_map.specs.Merges.{IsInGiven, given_events, given_volume};
+ghost use Rattle.oct_change.specs.Held.{Held};
 
 use oct_brick::Brick;
 use oct_change::{ChangeList, Changes};
-use oct_key::Key;
+use oct_key::{Key, Window};
 use oct_num::Memory;
 use oct_tree::OccTree;
 use std::alloc::Global;
@@ -129,6 +131,28 @@ impl Mark {
         if let Some(changes) = &mut self.changes {
             changes.note_box(tree, lo, hi);
         }
+    }
+
+    /// Makes room for notes of the voxels of the box, where there is one, and notes the classes that
+    /// they have in the tree, where a mark stands.
+    pub(crate) fn note_window(
+        &mut self,
+        tree: &OccTree,
+        window: Option<Window>,
+    ) -> Result<(), Memory>
+        ensures noted { OnOk result ((between : Option Held) × IsSameNoted self.old between
+            × HasMarked (classes_of tree.now.odds (value_at tree.now)) (IsInGiven window)
+            (given_volume window) between self.new) }
+        ensures few { OnOk result
+            (NotesFew self.old self.new (given_events window) (given_volume window)) }
+        ensures enough { HasRoomForNotes self.old (given_volume window) → IsOk result }
+        ensures err { OnErr result (self.new ≡ self.old) }
+    {
+        if let Some(window) = window {
+            self.reserve(window.volume())?;
+            self.note_box(tree, window.lo(), window.hi());
+        }
+        Ok(())
     }
 
     /// The changes since the mark, or none where no mark stands.

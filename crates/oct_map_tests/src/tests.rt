@@ -18,6 +18,7 @@ use std::test::Fail;
 mod files;
 mod lists;
 mod marks;
+mod merges;
 mod surveys;
 
 /// What an addition of a hit adds.

@@ -31,10 +31,10 @@
 //! the box. None takes memory, and how deep they call themselves is bounded by the depth of the
 //! trees.
 //!
-//! No task of the program and no call of `octofix` merges trees: the tasks `merge` and `table` go
-//! over two files, by `oct_join`. That crate stands on this one for the rules, and counts in the
-//! same table: [`ClassTable::add`] counts voxels at one of its places, and [`shared_across`] tells
-//! how many a block and a box have in common on an axis.
+//! The map of `oct_map` merges by these calls. The tasks `merge` and `table` of the program make no
+//! trees: they go over two files, by `oct_join`. That crate stands on this one for the rules, and
+//! counts in the same table: [`ClassTable::add`] counts voxels at one of its places, and
+//! [`shared_across`] tells how many a block and a box have in common on an axis.
 #![tactic(auto)]
 
 mod merging;

@@ -1,3 +1,4 @@
+pub mod Alike
 mod AsBox
 pub mod Chains
 pub mod Fronts

@@ -55,6 +55,7 @@ refusal_code (refusal.BadArgument index) = code.bad_argument
 refusal_code refusal.BadResolution = 3
 refusal_code (refusal.BadModel which) = 4
 refusal_code refusal.ZeroQuaternion = 5
+refusal_code refusal.OtherOdds = code.other_odds
 refusal_code (refusal.Map fault) = map_code fault
 refusal_code (refusal.File fault) = file_code fault
 
@@ -129,6 +130,7 @@ refusal_details refusal.Closed = no_details
 refusal_details refusal.Open = no_details
 refusal_details refusal.BadResolution = no_details
 refusal_details refusal.ZeroQuaternion = no_details
+refusal_details refusal.OtherOdds = no_details
 
 -- the same, of the element of an array that has this index
 abbrev pub refusal_at : ℕ → Refusal → Refusal

@@ -12,6 +12,7 @@ pub mod Handles
 pub mod Lends
 pub mod Limits
 pub mod Lists
+pub mod Merges
 pub mod Names
 pub mod Numbers
 pub mod Owned

@@ -69,6 +69,7 @@ names =
     ∷ named code.memory (codes "Memory")
     ∷ named code.small_buffer (codes "SmallBuffer")
     ∷ named code.bad_argument (codes "BadArgument")
+    ∷ named code.other_odds (codes "OtherOdds")
     ∷ []
 
 -- the name of a code, where it has one

@@ -37,3 +37,7 @@ small_buffer = 46
 -- a number that was passed is out of its range
 abbrev pub bad_argument : ℕ
 bad_argument = 47
+
+-- the log-odds of the two maps aren't the same
+abbrev pub other_odds : ℕ
+other_odds = 48

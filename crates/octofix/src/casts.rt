@@ -28,7 +28,7 @@ fn cast_between(
 /// Tells where a cast ended.
 fn tell_stop(answer: &Result<Cast, Refusal>, key: &mut VoxelKey) -> u32
     ensures code { result ≡ cast_code answer.now }
-    ensures small { result ≤ 47 }
+    ensures small { result ≤ 48 }
     ensures key { key.new ≡ key_left key.old answer.now }
 {
     match *answer {

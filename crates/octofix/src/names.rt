@@ -4,7 +4,7 @@ ghost use Rattle.std.specs.List.{find};
 ghost use Rattle.octofix.specs.Names.{name_code, name_left, name_of, names, row_seen, version};
 
 use crate::refusal::{
-    BAD_ARGUMENT, CLEAR, CLOSED, DONE, MEMORY, NONE, OPEN, SMALL_BUFFER, UNKNOWN,
+    BAD_ARGUMENT, CLEAR, CLOSED, DONE, MEMORY, NONE, OPEN, OTHER_ODDS, SMALL_BUFFER, UNKNOWN,
 };
 
 /// The version of the library, with a zero at its end.
@@ -25,7 +25,7 @@ macro_rules! row {
 }
 
 /// The codes that have names: those of refusals, as replies have them, and the library's own.
-const NAMES: [Row; 44] = [
+const NAMES: [Row; 45] = [
     row!(3, b"BadResolution\0"),
     row!(4, b"BadModel\0"),
     row!(5, b"ZeroQuaternion\0"),
@@ -70,6 +70,7 @@ const NAMES: [Row; 44] = [
     row!(MEMORY, b"Memory\0"),
     row!(SMALL_BUFFER, b"SmallBuffer\0"),
     row!(BAD_ARGUMENT, b"BadArgument\0"),
+    row!(OTHER_ODDS, b"OtherOdds\0"),
 ];
 
 /// The table.

@@ -42,6 +42,9 @@ pub const SMALL_BUFFER: u32 = 46;
 /// A number that was passed is out of its range.
 pub const BAD_ARGUMENT: u32 = 47;
 
+/// The log-odds of the two maps aren't the same.
+pub const OTHER_ODDS: u32 = 48;
+
 /// Why a call is refused.
 #[derive(Clone, Copy, Debug, PartialEq, Eq)]
 pub enum Refusal {
@@ -57,6 +60,8 @@ pub enum Refusal {
     BadModel { which: OddsField },
     /// The quaternion of a pose is 0.
     ZeroQuaternion,
+    /// The log-odds of the two maps aren't the same.
+    OtherOdds,
     /// The map refuses the call.
     Map(MapFault),
     /// The bytes aren't a file of a map.
@@ -108,7 +113,7 @@ impl Refusal {
     pub fn code(self) -> u32
         ensures code { result ≡ refusal_code self }
         ensures refused { result ≢ DONE }
-        ensures small { result ≤ 47 }
+        ensures small { result ≤ 48 }
     {
         match self {
             Refusal::Closed => CLOSED,
@@ -117,6 +122,7 @@ impl Refusal {
             Refusal::BadResolution => 3,
             Refusal::BadModel { .. } => 4,
             Refusal::ZeroQuaternion => 5,
+            Refusal::OtherOdds => OTHER_ODDS,
             Refusal::Map(fault) => map_code(fault),
             Refusal::File(fault) => file_code(fault),
         }
@@ -184,7 +190,7 @@ impl Details {
 fn map_code(fault: MapFault) -> u32
     ensures code { result ≡ map_code fault }
     ensures refused { result ≢ DONE }
-    ensures small { result ≤ 47 }
+    ensures small { result ≤ 48 }
 {
     match fault {
         MapFault::OriginOutside => 6,
@@ -239,7 +245,7 @@ fn in_64_bits(number: u128) -> u64
 fn file_code(fault: BtFault) -> u32
     ensures code { result ≡ file_code fault }
     ensures refused { result ≢ DONE }
-    ensures small { result ≤ 47 }
+    ensures small { result ≤ 48 }
 {
     match fault {
         BtFault::NotOctomap => 10,

@@ -17,6 +17,7 @@ use std::process::Abort;
 use std::test::Fail;
 
 mod asking;
+mod merging;
 
 /// Where the sensor stands.
 const ORIGIN: PointNm = PointNm {
