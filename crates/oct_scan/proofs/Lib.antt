@@ -21,3 +21,4 @@ pub mod Taking
 pub mod MostMet
 pub mod Judging
 pub mod Piling
+pub mod Ordered

@@ -6,10 +6,12 @@ ghost use Rattle.oct_key.specs.Boxes.{IsInBox};
 ghost use Rattle.oct_key.specs.Voxel.{Voxel, IsInMap, key_at};
 ghost use Rattle.oct_key.specs.Morton.{morton_of};
 ghost use Rattle.oct_brick.specs.Bricks.{scanned_codes, hit_codes, IsBrick};
+ghost use Rattle.oct_scan.specs.Order.{AreKeys};
 ghost use Rattle.oct_scan.specs.Gathered.{HoldAllGathered, IsBeamHeld, IsHeld, IsCurrent};
 ghost use Rattle.oct_scan.specs.Gathered.{is_mute, EndsAt, IsSpanned, IsWayAdded};
 
 use crate::beam::Beam;
+use crate::order::{MOST_KEYED, sorted_keys};
 use crate::pile::BrickPile;
 use oct_brick::Brick;
 use oct_key::{Key, Point, Res, Window, from_morton, morton};
@@ -34,10 +36,64 @@ pub fn gather(
     ensures some { OnErr result (0 < length beams.now) }
 {
     let mut bricks = BrickPile::new(alloc);
-    for beam in beams {
-        add_beam(&mut bricks, res, origin, *beam, window)?;
+    if beams.len() as u64 <= MOST_KEYED {
+        let keys = sorted_keys(alloc, res, beams)?;
+        add_by_keys(&mut bricks, res, origin, beams, &keys, window)?;
+    } else {
+        add_beams(&mut bricks, res, origin, beams, window)?;
     }
     Ok(bricks.into_bricks())
+}
+
+/// Adds what beams change, in the order of their keys: beams that pass the same bricks mostly come
+/// one after another.
+fn add_by_keys(
+    bricks: &mut BrickPile,
+    res: Res,
+    origin: Point,
+    beams: &[Beam],
+    keys: &[u64],
+    window: &Option<Window>,
+) -> Result<(), Memory>
+    requires origin { IsSome (key_at res origin) }
+    requires ends { All (λ b. IsSome (key_at res b.end)) beams.now }
+    requires keys { AreKeys beams.now keys.now }
+    requires none { bricks.old ≡ [] }
+    ensures gathered { OnOk result (HoldAllGathered res window.now origin beams.now bricks.new) }
+    ensures bricks { OnOk result (All IsBrick bricks.new) }
+    ensures some { OnErr result (0 < length beams.now) }
+{
+    for &key in keys {
+        add_beam(
+            bricks,
+            res,
+            origin,
+            beams[(key % MOST_KEYED) as usize],
+            window,
+        )?;
+    }
+    Ok(())
+}
+
+/// The same for beams that are too many for keys, in their own order.
+fn add_beams(
+    bricks: &mut BrickPile,
+    res: Res,
+    origin: Point,
+    beams: &[Beam],
+    window: &Option<Window>,
+) -> Result<(), Memory>
+    requires origin { IsSome (key_at res origin) }
+    requires ends { All (λ b. IsSome (key_at res b.end)) beams.now }
+    requires none { bricks.old ≡ [] }
+    ensures gathered { OnOk result (HoldAllGathered res window.now origin beams.now bricks.new) }
+    ensures bricks { OnOk result (All IsBrick bricks.new) }
+    ensures some { OnErr result (0 < length beams.now) }
+{
+    for beam in beams {
+        add_beam(bricks, res, origin, *beam, window)?;
+    }
+    Ok(())
 }
 
 /// Adds what a beam changes in the box, where one stands.

@@ -63,6 +63,7 @@ mod fault;
 mod judge;
 mod laws;
 mod need;
+mod order;
 mod pile;
 mod scan;
 mod update;

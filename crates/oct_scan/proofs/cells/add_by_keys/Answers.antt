@@ -1,0 +1,31 @@
+use Rattle.std.proofs.Common.{◌≡◌, length, false, refl, arith, rules}
+use Rattle.oct_key.specs.Voxel.{IsResolution}
+use Rattle.oct_scan.specs.declared.beam.Beam.{Beam}
+use Rattle.oct_scan.proofs.Holding.{all_none}
+use Rattle.oct_scan.proofs.Ordered.{all_keyed, all_moved, keys_long}
+use Rattle.oct_scan.proofs.cells.add_by_keys.Goals as goal
+
+pub loop-key-init : goal.loop-key-init
+loop-key-init c = rw c.requires.none (record {
+  held = λ d. all_none c.args.res c.args.window.now c.args.origin;
+  bricks = λ k d l. absurd (omega (arith, l));
+})
+
+pub loop-key-preserved : goal.loop-key-preserved
+loop-key-preserved c =
+    let (met, added) = c.in_ok-add_beam.ensures.added in
+    record {
+      held = λ d. all_keyed c.args.res c.args.window.now c.args.origin c.args.beams.now
+          c.args.keys.now c.loop-key.key-index _ _ _ d met c.loop-key.bricks
+          c.add_beam.new.bricks c.loop-key-test.true c.requires.keys refl
+          (c.loop-key.invariant.held d) added;
+      bricks = c.in_ok-add_beam.ensures.bricks;
+    }
+
+pub returns-clause-gathered : goal.returns-clause-gathered
+returns-clause-gathered c =
+    let range : IsResolution c.args.res = search rules in
+    let d : Beam = record { end = c.args.origin; is_cut = false } in
+    all_moved c.args.res c.args.window.now c.args.origin c.args.beams.now c.args.keys.now
+    c.loop-key.key-index d c.loop-key.bricks range c.requires.origin c.requires.ends
+    c.requires.keys (omega (arith, c.loop-key-test.false)) (c.loop-key.invariant.held d)

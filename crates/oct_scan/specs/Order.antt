@@ -1,0 +1,13 @@
+-- Beams in the order of keys.
+use Rattle.std.specs.Prelude.{ℕ, ◌%◌, ◌^◌, ◌<◌, List, map, length, All, slice_index_or}
+use Rattle.std.specs.List.Sorted.{IsPermutation}
+use Rattle.oct_scan.specs.declared.beam.Beam.{Beam}
+
+-- the beam at the place that a key has in its lowest 19 bits
+abbrev pub keyed_beam : List Beam → Beam → ℕ → Beam
+keyed_beam bs d key = slice_index_or bs (key % 2 ^ 19) d
+
+-- the beams at the places that the keys have are those of the list, in another order
+pub record AreKeys (bs : List Beam) (keys : List ℕ) : Type 0 where
+  pub within : All (λ key. key % 2 ^ 19 < length bs) keys
+  pub moved : (d : Beam) → IsPermutation bs (map (keyed_beam bs d) keys)

@@ -1,0 +1,29 @@
+//! Beams in the order of the bricks where they end.
+ghost use Rattle.std.specs.Prelude.{◌^◌, ◌<◌, ◌≤◌, All, IfOk, OnErr, IsSome, length};
+ghost use Rattle.oct_key.specs.Voxel.{key_at};
+ghost use Rattle.oct_scan.specs.Order.{AreKeys};
+
+use crate::beam::Beam;
+use oct_key::{Res, morton};
+use oct_num::Memory;
+use std::alloc::Global;
+
+/// How many beams have keys at most, which take four megabytes then. A key is the code of the brick
+/// where a beam ends times this, and the beam's place in the list.
+pub const MOST_KEYED: u64 = 1 << 19;
+
+/// The keys of the beams, in order: those that end side by side stand together.
+pub fn sorted_keys(alloc: Global, res: Res, beams: &[Beam]) -> Result<Vec<u64>, Memory>
+    requires ends { All (λ b. IsSome (key_at res b.end)) beams.now }
+    requires few { length beams.now ≤ 2 ^ 19 }
+    ensures keys { IfOk result (λ keys. AreKeys beams.now keys.items) }
+    ensures some { OnErr result (0 < length beams.now) }
+{
+    let mut keys = Vec::new(alloc);
+    for (place, beam) in beams.iter().enumerate() {
+        let end = res.key_of(beam.end).unwrap();
+        keys.push((morton(end) >> 6) * MOST_KEYED + place as u64)?;
+    }
+    keys.sort_unstable();
+    Ok(keys)
+}
