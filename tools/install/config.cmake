@@ -1,17 +1,19 @@
 # The targets @NAME@::octofix, the shared library, and @NAME@::static, wherever they lie.
 
-get_filename_component(_octofix_prefix "${CMAKE_CURRENT_LIST_DIR}/../../.." ABSOLUTE)
+# (where /lib is a link to /usr/lib, the prefix is the one behind it)
+get_filename_component(_octofix_prefix "${CMAKE_CURRENT_LIST_DIR}" REALPATH)
+get_filename_component(_octofix_prefix "${_octofix_prefix}/@UP@/.." ABSOLUTE)
 
 if(NOT TARGET @NAME@::octofix)
   add_library(@NAME@::octofix SHARED IMPORTED)
   set_target_properties(@NAME@::octofix PROPERTIES
-    IMPORTED_LOCATION "${_octofix_prefix}/lib/lib@NAME@.so.1"
+    IMPORTED_LOCATION "${_octofix_prefix}/@LIB@/lib@NAME@.so.1"
     IMPORTED_SONAME lib@NAME@.so.1
     INTERFACE_INCLUDE_DIRECTORIES "${_octofix_prefix}/include")
 
   add_library(@NAME@::static STATIC IMPORTED)
   set_target_properties(@NAME@::static PROPERTIES
-    IMPORTED_LOCATION "${_octofix_prefix}/lib/lib@NAME@.a"
+    IMPORTED_LOCATION "${_octofix_prefix}/@LIB@/lib@NAME@.a"
     IMPORTED_LINK_INTERFACE_LANGUAGES C
     INTERFACE_INCLUDE_DIRECTORIES "${_octofix_prefix}/include")
 

@@ -1,10 +1,11 @@
 #!/bin/sh
 # Installs the program and the library, once they are built, and says what stands where.
 #
-#     tools/install/install.sh HOW PREFIX PROGRAM ARCHIVE VERSION
+#     tools/install/install.sh HOW PREFIX PROGRAM ARCHIVE VERSION [LAYOUT]
 #
 # HOW is proved or unproved; what isn't proved gets names of its own. ARCHIVE is what the kit made
-# of the library, and VERSION what the installed command answers to --version.
+# of the library, and VERSION what the installed command answers to --version. LAYOUT is debian
+# where PREFIX is the folder usr of Debian; else all finds its files from where it stands.
 
 root=$(dirname -- "$(readlink -f -- "$0")")/../.. && . "$root/tools/words.sh" || exit 1
 parts=$root/tools/install
@@ -15,22 +16,40 @@ number=$(printf '%s\n' "$version" | sed -n '1s/^octomap \([^ ]*\).*/\1/p')
 room=$(mktemp -d) && trap 'rm -rf -- "$room"' EXIT || exit 1
 mkdir -p -- "$2" && prefix=$(cd -- "$2" && pwd) || exit 1
 
+case ${6-} in
+debian)
+    lib=lib/x86_64-linux-gnu packages=lib/python3/dist-packages python=/usr/bin/python3
+    zsh=share/zsh/vendor-completions pc_prefix=/usr run_path=
+    up=../../..
+    ;;
+*)
+    lib=lib packages=lib/python3 python='/usr/bin/env python3' zsh=share/zsh/site-functions
+    # (these dollars are for pkg-config)
+    pc_prefix='${pcfiledir}/../..' run_path='-Wl,-rpath,${libdir} '
+    up=../..
+    ;;
+esac
+
 # put MODE SOURCE TARGET: a file, as TARGET below the prefix.
 put() {
     install -D -m "$1" -- "$2" "$prefix/$3" || exit 1
 }
 
-# put_all FOLDER TARGET PATTERN: the files of a folder and those below it.
+# put_all FOLDER TARGET [TEST..]: the files of a folder and those below it, which find tells so.
 put_all() {
-    (cd -- "$1" && find . -name "$3" -type f) >"$room/files"
+    from=$1 to=$2
+    shift 2
+    (cd -- "$from" && find . -name __pycache__ -prune -o -type f "$@" -print) >"$room/files"
     while read -r file; do
-        put 644 "$1/$file" "$2/${file#./}"
+        put 644 "$from/$file" "$to/${file#./}"
     done <"$room/files"
 }
 
-# put_filled MODE SOURCE TARGET: a text with the names of this build in it.
+# put_filled MODE SOURCE TARGET: a text with the names and the folders of this build in it.
 put_filled() {
-    sed "s/@NAME@/octofix$suffix/g; s/@VERSION@/$number/g" "$2" >"$room/text" || exit 1
+    sed "s/@NAME@/octofix$suffix/g; s/@VERSION@/$number/g; s|@LIB@|$lib|g; s|@UP@|$up|g
+        s|@PACKAGES@|$packages|g; s|@PYTHON@|$python|g
+        s|@PREFIX@|$pc_prefix|g; s|@RUN_PATH@|$run_path|g" "$2" >"$room/text" || exit 1
     put "$1" "$room/text" "$3"
 }
 
@@ -42,29 +61,50 @@ put_program() {
     put 755 "$parts/command.sh" "bin/octomap$suffix"
     put 644 "$root/docs/octomap.1" share/man/man1/octomap.1
     put 644 "$parts/completion.bash" "share/bash-completion/completions/octomap$suffix"
-    put 644 "$parts/completion.zsh" share/zsh/site-functions/_octomap
+    put 644 "$parts/completion.zsh" "$zsh/_octomap"
 }
 
 put_library() {
     "$root/tools/link_library.py" "$archive" "octofix$suffix" "$room" || exit 1
     for it in a so.1; do
-        put 644 "$room/liboctofix$suffix.$it" "lib/liboctofix$suffix.$it"
+        put 644 "$room/liboctofix$suffix.$it" "$lib/liboctofix$suffix.$it"
     done
-    ln -sfn "liboctofix$suffix.so.1" "$prefix/lib/liboctofix$suffix.so" || exit 1
-    put_all "$root/bindings/c" include octofix.h
-    put_all "$root/bindings/cpp" include 'octofix*.hpp'
-    put_all "$root/bindings/cpp/octofix" include/octofix '*.hpp'
-    put_filled 644 "$parts/octofix.pc" "lib/pkgconfig/octofix$suffix.pc"
-    package=lib/cmake/octofix$suffix
-    put_filled 644 "$parts/config.cmake" "$package/octofix${suffix}Config.cmake"
-    put_filled 644 "$parts/version.cmake" "$package/octofix${suffix}ConfigVersion.cmake"
+    ln -sfn "liboctofix$suffix.so.1" "$prefix/$lib/liboctofix$suffix.so" || exit 1
+    put_all "$root/bindings/c" include -name octofix.h
+    put_all "$root/bindings/cpp" include -name 'octofix*.hpp'
+    put_all "$root/bindings/cpp/octofix" include/octofix -name '*.hpp'
+    put_filled 644 "$parts/octofix.pc" "$lib/pkgconfig/octofix$suffix.pc"
+    cmake=$lib/cmake/octofix$suffix
+    put_filled 644 "$parts/config.cmake" "$cmake/octofix${suffix}Config.cmake"
+    put_filled 644 "$parts/version.cmake" "$cmake/octofix${suffix}ConfigVersion.cmake"
 }
 
 put_package() {
-    put_all "$root/bindings/python/octofix" lib/python3/octofix '*.py'
-    put_all "$root/bindings/python/octofix" lib/python3/octofix py.typed
-    put_all "$root/bindings/python/octofix/tools/viewer" lib/python3/octofix/tools/viewer '*'
-    put_filled 755 "$parts/tools.sh" "bin/octofix$suffix"
+    put_all "$root/bindings/python/octofix" "$packages/octofix"
+    put_filled 755 "$parts/tools.py" "bin/octofix$suffix"
+}
+
+# The man page and the completions of the tools are made of what these say of their own words.
+put_tool_words() {
+    for python in python3 /usr/bin/python3 ''; do
+        "$python" -c 'import numpy' 2>/dev/null && break
+    done
+    if [ -z "$python" ]; then
+        say 'octofix gets no man page and no completions: no python3 with numpy is here'
+        return
+    fi
+    OCTOFIX_LIBRARY=$prefix/$lib/liboctofix$suffix.so.1 \
+        "$python" "$parts/write_tool_words.py" "$room/words" || exit 1
+    put 644 "$room/words/octofix.1" share/man/man1/octofix.1
+    put 644 "$room/words/octofix.bash" "share/bash-completion/completions/octofix$suffix"
+    put 644 "$room/words/_octofix" "$zsh/_octofix"
+}
+
+put_documents() {
+    for it in docs/FORMATS docs/LIBRARY docs/PROMISES docs/SCALING docs/TOOLS CHANGELOG; do
+        put 644 "$root/$it.md" "share/doc/octofix/$(basename "$it").md"
+    done
+    put 644 "$root/LICENSE" share/doc/octofix/LICENSE
 }
 
 line() {
@@ -74,8 +114,6 @@ line() {
 tell() {
     printf 'octomap: installed in %s:\n' "$prefix"
     line "bin/octomap$suffix" "the program, $how"
-    line share/man/man1/octomap.1 'its man page'
-    line 'share/bash-completion, share/zsh' 'completions of its words'
     line "lib/liboctofix$suffix.a, .so" "the library for C, C++ and Python, $how"
     line 'include/octofix.h, .hpp' 'its headers for C and C++, and octofix_octree.hpp'
     line "lib/pkgconfig/octofix$suffix.pc" "pkg-config --cflags --libs octofix$suffix"
@@ -84,6 +122,8 @@ tell() {
     [ "$how" = proved ] ||
         line '' "with OCTOFIX_LIBRARY=$prefix/lib/liboctofix$suffix.so.1"
     line "bin/octofix$suffix" 'its tools'
+    line 'share/man, share/doc/octofix' 'man pages, and documents'
+    line 'share/bash-completion, share/zsh' 'completions of all words'
     case :$PATH: in
     *:"$prefix/bin":*) ;;
     *) say "$prefix/bin is not on the path" ;;
@@ -93,4 +133,6 @@ tell() {
 put_program
 put_library
 put_package
+put_tool_words
+put_documents
 tell

@@ -1,0 +1,25 @@
+#!@PYTHON@
+# The command octofix: the tools of the Python package that is installed beside it. Where this
+# Python has no numpy, the system's own one is tried.
+
+import os
+import sys
+
+SYSTEM = "/usr/bin/python3"
+
+if sys.version_info < (3, 9):
+    sys.exit("octofix: Python 3.9 or newer is needed")
+prefix = os.path.dirname(os.path.dirname(os.path.realpath(__file__)))
+sys.path.insert(0, os.path.join(prefix, "@PACKAGES@"))
+os.environ.setdefault("OCTOFIX_LIBRARY", os.path.join(prefix, "@LIB@/lib@NAME@.so.1"))
+try:
+    import numpy  # noqa: F401
+except ImportError:
+    if sys.executable != SYSTEM and os.access(SYSTEM, os.X_OK):
+        os.execv(SYSTEM, [SYSTEM, __file__, *sys.argv[1:]])
+    print("octofix: no python3 with numpy is here (in Debian python3-numpy)", file=sys.stderr)
+    sys.exit(4)
+
+from octofix.tools.command import main  # noqa: E402
+
+sys.exit(main())
