@@ -1,0 +1,159 @@
+"""Builds the wheel and the sdist of this package, by the standard library alone.
+
+pip calls the functions of a build backend that stand last. The wheel has the library where one is
+found as the package itself would find it, as a file; where only the system's loader finds it, the
+package will find it that way too; and without any library nothing is built. A release calls
+`write_wheel` with the files and the tags that it knows.
+"""
+
+import base64
+import ctypes
+import hashlib
+import io
+import os
+import re
+import sys
+import tarfile
+import time
+import zipfile
+from pathlib import Path
+
+try:
+    import tomllib
+except ImportError:
+    import tomli as tomllib
+
+HERE = Path(__file__).resolve().parent
+LIBRARY = "liboctofix.so.1"
+PURE, BOUND = "py3-none-any", "py3-none-linux_x86_64"
+# The time of a file where nothing says one: the first that a zip archive can have.
+EARLIEST = 315532800
+
+
+def project():
+    with open(HERE / "pyproject.toml", "rb") as file:
+        return tomllib.load(file)["project"]
+
+
+def package_files(folder=None):
+    """The package's files by their names, each as (mode, bytes)."""
+    folder = Path(folder or HERE / "octofix")
+    found = sorted(it for it in folder.rglob("*") if it.is_file() and "__pycache__" not in it.parts)
+    return {f"octofix/{it.relative_to(folder)}": (0o644, it.read_bytes()) for it in found}
+
+
+def loads(name):
+    try:
+        return bool(ctypes.CDLL(str(name)))
+    except OSError:
+        return False
+
+
+def found_library():
+    """The file of the library, or None where the system's loader finds it."""
+    named = os.environ.get("OCTOFIX_LIBRARY")
+    places = [Path(named)] if named else [HERE / "octofix" / LIBRARY, HERE.parent / LIBRARY]
+    for place in places:
+        if place.is_file() and loads(place):
+            return place
+    if named or not loads(LIBRARY):
+        what = f"OCTOFIX_LIBRARY names no library: {named}" if named else f"no {LIBRARY} is here"
+        sys.exit(
+            f"octofix can't be built: {what} (a release's wheel has it; else name the file that "
+            "./octomap install made in OCTOFIX_LIBRARY)"
+        )
+    return None
+
+
+def description():
+    """The package's page, without the links into the repository, which lead nowhere elsewhere."""
+    return re.sub(r"\[([^]]*)\]\(\.\./[^)]*\)", r"\1", (HERE / "README.md").read_text("utf-8"))
+
+
+def metadata(version=None):
+    about = project()
+    lines = [
+        "Metadata-Version: 2.1",
+        f"Name: {about['name']}",
+        f"Version: {version or about['version']}",
+        f"Summary: {about['description']}",
+        f"Keywords: {','.join(about['keywords'])}",
+        f"License: {about['license']['text']}",
+        *(f"Classifier: {it}" for it in about["classifiers"]),
+        f"Requires-Python: {about['requires-python']}",
+        *(f"Requires-Dist: {it}" for it in about["dependencies"]),
+    ]
+    for extra, needs in about["optional-dependencies"].items():
+        lines.append(f"Provides-Extra: {extra}")
+        lines += [f'Requires-Dist: {it} ; extra == "{extra}"' for it in needs]
+    return "\n".join([*lines, "Description-Content-Type: text/markdown", "", description()])
+
+
+def record(files, name):
+    def sum_of(content):
+        return base64.urlsafe_b64encode(hashlib.sha256(content).digest()).rstrip(b"=").decode()
+
+    lines = [f"{it},sha256={sum_of(content)},{len(content)}\n"
+             for it, (_, content) in files.items()]  # fmt: skip
+    return "".join([*lines, f"{name},,\n"])
+
+
+def packed(files, seconds):
+    """A zip archive of the files, stored as they are, so that each zlib makes the same one."""
+    out = io.BytesIO()
+    with zipfile.ZipFile(out, "w", zipfile.ZIP_STORED) as archive:
+        for name, (mode, content) in files.items():
+            it = zipfile.ZipInfo(name, time.gmtime(max(seconds, EARLIEST))[:6])
+            it.create_system, it.external_attr = 3, (0o100000 | mode) << 16
+            archive.writestr(it, content)
+    return out.getvalue()
+
+
+def write_wheel(folder, files, tags, version=None, more=(), seconds=EARLIEST):
+    """Writes a wheel of these files, with more of them, by name, beside its metadata, and answers
+    its name. Tags are whole ones, as py3-none-any, that differ in their last part."""
+    about = project()
+    version = version or about["version"]
+    info = f"octofix-{version}.dist-info"
+    head = f"Wheel-Version: 1.0\nGenerator: octofix\nRoot-Is-Purelib: {str(PURE in tags).lower()}\n"
+    scripts = "".join(f"{it} = {to}\n" for it, to in about["scripts"].items())
+    texts = {
+        "METADATA": metadata(version),
+        "WHEEL": head + "".join(f"Tag: {it}\n" for it in tags),
+        "entry_points.txt": f"[console_scripts]\n{scripts}",
+        **dict(more),
+    }
+    files = {**files, **{f"{info}/{it}": (0o644, text.encode()) for it, text in texts.items()}}
+    files[f"{info}/RECORD"] = 0o644, record(files, f"{info}/RECORD").encode()
+    last = ".".join(it.rpartition("-")[2] for it in tags)
+    name = f"octofix-{version}-{tags[0].rpartition('-')[0]}-{last}.whl"
+    Path(folder, name).write_bytes(packed(files, seconds))
+    return name
+
+
+def build_wheel(wheel_directory, config_settings=None, metadata_directory=None):
+    library, files = found_library(), package_files()
+    if library:
+        files[f"octofix/{LIBRARY}"] = 0o755, library.read_bytes()
+    return write_wheel(wheel_directory, files, [BOUND if library else PURE])
+
+
+def build_editable(wheel_directory, config_settings=None, metadata_directory=None):
+    """A wheel that leads to this folder, whose package looks for the library when it runs."""
+    found_library()
+    files = {"octofix.pth": (0o644, f"{HERE}\n".encode())}
+    return write_wheel(wheel_directory, files, [PURE])
+
+
+def build_sdist(sdist_directory, config_settings=None):
+    top = f"octofix-{project()['version']}"
+    files = package_files()
+    for it in ("pyproject.toml", "README.md", "octofix_build.py"):
+        files[it] = 0o644, (HERE / it).read_bytes()
+    files["PKG-INFO"] = 0o644, metadata().encode()
+    with tarfile.open(Path(sdist_directory, f"{top}.tar.gz"), "w:gz") as archive:
+        for name, (mode, content) in files.items():
+            it = tarfile.TarInfo(f"{top}/{name}")
+            it.mode, it.size, it.mtime = mode, len(content), EARLIEST
+            archive.addfile(it, io.BytesIO(content))
+    return f"{top}.tar.gz"
