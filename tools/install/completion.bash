@@ -6,6 +6,8 @@ _octomap() {
     1:*)
         words='session build convert inspect frontier project vrml merge table gen drill
             --help --version'
+        # (words of the launcher, in the folder of the sources)
+        [ ! -f "${COMP_WORDS[0]%/*}/crates.txt" ] || words+=' --unproved install release'
         ;;
     [3579]:session | [3579]:build | 1[13579]:session | 1[13579]:build)
         words='--hit --miss --min --max --thr --max-groups --max-cells --max-bytes'

@@ -20,6 +20,8 @@ tasks=(
 options=(--hit --miss --min --max --thr --max-groups --max-cells --max-bytes)
 
 if ((CURRENT == 2)); then
+    # (words of the launcher, in the folder of the sources)
+    [[ -f ${words[1]:h}/crates.txt ]] && compadd -- --unproved install release
     _describe task tasks
     return
 fi

@@ -1,0 +1,25 @@
+"""The wheel: the package with its library, which any pip takes where glibc is new enough."""
+
+from pathlib import Path
+
+import octofix_build
+
+# The older names of policies, of the glibc that each allows.
+NAMED = {(2, 5): "manylinux1", (2, 12): "manylinux2010", (2, 17): "manylinux2014"}
+
+
+def tags_of(needs):
+    """The tags of a library that needs this glibc: the oldest named policy that has it."""
+    policy = min((it for it in NAMED if it >= needs), default=needs)
+    names = ["manylinux_{}_{}".format(*policy), *[NAMED[policy]] * (policy in NAMED)]
+    return [f"py3-none-{it}_x86_64" for it in names]
+
+
+def make(release, prefix, out):
+    """Packs what Python needs of an installed prefix, and answers the wheel's name."""
+    files = octofix_build.package_files(Path(prefix, "lib/python3/octofix"))
+    library = Path(prefix, "lib", octofix_build.LIBRARY).read_bytes()
+    files[f"octofix/{octofix_build.LIBRARY}"] = 0o755, library
+    more = {"LICENSE": release.read("LICENSE"), "PROVENANCE.txt": release.provenance}
+    tags = tags_of(release.library.glibc())
+    return octofix_build.write_wheel(out, files, tags, release.version, more, release.time)
