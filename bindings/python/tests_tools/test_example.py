@@ -1,22 +1,18 @@
-"""The lines of README.md, on the clouds of examples/flat_clouds.py, with voxels of 0.1 m."""
+"""The lines of README.md, on the clouds of `octofix example`, with voxels of 0.1 m."""
 
 import json
 import os
-import subprocess
-import sys
-from pathlib import Path
 
 import numpy as np
 from running import InFolder
 
 from octofix import Map
 
-SCRIPT = Path(__file__).resolve().parents[3] / "examples" / "flat_clouds.py"
-
 
 class Flat(InFolder):
     def test_lines(self):
-        subprocess.run([sys.executable, SCRIPT, "."], check=True)
+        self.done("example", "flat")
+        os.chdir("flat")
         clouds = [f"clouds/{number}.npy" for number in range(7)]
         self.done("map", "--res", "0.1", "--poses", "poses.txt", *clouds, "-o", "flat.bt")
         self.places()
@@ -30,6 +26,12 @@ class Flat(InFolder):
         np.testing.assert_allclose(found["known_from"], [-5.05, -3.55, -0.05], atol=0.051)
         shares = self.done("check", "flat.bt", "--poses", "poses.txt", *clouds, "--json").output
         self.assertGreater(json.loads(shares)["share_of_known_voxels_correct"], 0.95)
+
+    def test_a_folder_with_something(self):
+        """Nothing is written over."""
+        open("poses.txt", "w").close()
+        self.refused(".: something is in that folder", "example", ".")
+        self.assertEqual(os.listdir(), ["poses.txt"])
 
     def places(self):
         """The middle of a room and of a door are free, walls and a leg of a table occupied, and

@@ -1,19 +1,23 @@
-#!/usr/bin/env python3
-"""Writes the clouds that a spinning sensor of 64 rings sees of the flat of flat.py, one for each of
-its places, and the poses, as examples of what a robot leaves behind:
+"""Writes clouds of a flat with four rooms, and poses, to try the other commands on.
 
-    examples/flat_clouds.py FOLDER
+    octofix example flat && cd flat
+    octofix map --res 0.05 --poses poses.txt clouds/*.npy -o flat.bt
+    octofix view flat.bt --oblique --above 50 -o flat.png
 
-makes FOLDER/clouds/0.npy to 6.npy, with points in the sensor's own frame, and FOLDER/poses.txt in
-the form of the TUM benchmarks. Walls are 2.4 m high, what stands on the floor 1 m, tables 0.75 m.
+FOLDER/clouds/0.npy to 6.npy are what a spinning sensor of 64 rings sees at seven places, in its own
+frame, and FOLDER/poses.txt has its poses in the form of the TUM benchmarks. Walls are 2.4 m high,
+what stands on the floor 1 m, tables 0.75 m.
 """
-import sys
+
 from math import pi
 from pathlib import Path
 
 import numpy as np
-from flat import LEGS, ON_FLOOR, PLACES, TABLES, WALLS
 
+from ..errors import DONE, Unusable
+from ..flat_plan import LEGS, ON_FLOOR, PLACES, TABLES, WALLS
+
+HELP = "clouds and poses to try the others on"
 SENSOR = 1.4
 RINGS = np.radians(np.linspace(-60, 30, 64))
 AROUND = (np.arange(1200) + 0.5) * 2 * pi / 1200
@@ -50,8 +54,15 @@ def seen_from(place, turned):
     return np.stack([it[is_seen] for it in points], axis=-1)
 
 
-def main(folder):
-    clouds = Path(folder, "clouds")
+def arguments(parser):
+    parser.add_argument("folder", metavar="FOLDER", help="a new folder, or an empty one")
+
+
+def run(options):
+    folder = Path(options.folder)
+    if folder.is_dir() and any(folder.iterdir()):
+        raise Unusable("something is in that folder", options.folder)
+    clouds = folder / "clouds"
     clouds.mkdir(parents=True, exist_ok=True)
     poses = []
     for number, (x, y) in enumerate(PLACES):
@@ -59,10 +70,5 @@ def main(folder):
         np.save(clouds / f"{number}.npy", seen_from((x, y), turned).astype(np.float32))
         turn = f"0 0 {np.sin(turned / 2):.9f} {np.cos(turned / 2):.9f}"
         poses.append(f"{number} {x} {y} {SENSOR} {turn}\n")
-    Path(folder, "poses.txt").write_text("# time x y z qx qy qz qw\n" + "".join(poses))
-
-
-if __name__ == "__main__":
-    if len(sys.argv) != 2:
-        sys.exit(__doc__.strip())
-    main(sys.argv[1])
+    (folder / "poses.txt").write_text("# time x y z qx qy qz qw\n" + "".join(poses))
+    return DONE
