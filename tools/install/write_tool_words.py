@@ -27,7 +27,8 @@ from octofix.tools import command  # noqa: E402
 
 def date():
     """The day of the newest version, as mdoc wants it."""
-    found = re.search(r"^## \[\d.*\] - (\d+)-(\d+)-(\d+)$", (ROOT / "CHANGELOG.md").read_text(), re.M)
+    changes = (ROOT / "CHANGELOG.md").read_text()
+    found = re.search(r"^## \[\d.*\] - (\d+)-(\d+)-(\d+)$", changes, re.M)
     year, month, day = map(int, found.groups())
     return f"{MONTHS[month - 1]} {day}, {year}"
 

@@ -38,8 +38,8 @@ def git(*words):
 
 
 def has_numpy(python):
-    found = shutil.which(python)
-    return found and not subprocess.run([found, "-c", "import numpy"], capture_output=True).returncode
+    words = [python, "-c", "import numpy"]
+    return shutil.which(python) and not subprocess.run(words, capture_output=True).returncode
 
 
 def check_tools():
