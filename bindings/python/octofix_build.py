@@ -70,6 +70,12 @@ def description():
     return re.sub(r"\[([^]]*)\]\(\.\./[^)]*\)", r"\1", (HERE / "README.md").read_text("utf-8"))
 
 
+def licenses():
+    """The license's text, by its name: it stands here in an sdist, and at the top of a clone."""
+    places = [HERE / "LICENSE", *(it / "LICENSE" for it in HERE.parents[1:2])]
+    return {"LICENSE": it.read_text("utf-8") for it in places if it.is_file()}
+
+
 def metadata(version=None):
     about = project()
     lines = [
@@ -79,6 +85,7 @@ def metadata(version=None):
         f"Summary: {about['description']}",
         f"Keywords: {','.join(about['keywords'])}",
         f"License: {about['license']['text']}",
+        *(f"License-File: {it}" for it in licenses()),
         *(f"Classifier: {it}" for it in about["classifiers"]),
         f"Requires-Python: {about['requires-python']}",
         *(f"Requires-Dist: {it}" for it in about["dependencies"]),
@@ -121,6 +128,7 @@ def write_wheel(folder, files, tags, version=None, more=(), seconds=EARLIEST):
         "METADATA": metadata(version),
         "WHEEL": head + "".join(f"Tag: {it}\n" for it in tags),
         "entry_points.txt": f"[console_scripts]\n{scripts}",
+        **licenses(),
         **dict(more),
     }
     files = {**files, **{f"{info}/{it}": (0o644, text.encode()) for it, text in texts.items()}}
@@ -150,7 +158,8 @@ def build_sdist(sdist_directory, config_settings=None):
     files = package_files()
     for it in ("pyproject.toml", "README.md", "octofix_build.py"):
         files[it] = 0o644, (HERE / it).read_bytes()
-    files["PKG-INFO"] = 0o644, metadata().encode()
+    for it, text in {"PKG-INFO": metadata(), **licenses()}.items():
+        files[it] = 0o644, text.encode()
     with tarfile.open(Path(sdist_directory, f"{top}.tar.gz"), "w:gz") as archive:
         for name, (mode, content) in files.items():
             it = tarfile.TarInfo(f"{top}/{name}")

@@ -104,6 +104,7 @@ put_documents() {
     for it in docs/FORMATS docs/LIBRARY docs/PROMISES docs/SCALING docs/TOOLS CHANGELOG; do
         put 644 "$root/$it.md" "share/doc/octofix/$(basename "$it").md"
     done
+    put 644 "$root/bindings/python/README.md" share/doc/octofix/PYTHON.md
     put 644 "$root/LICENSE" share/doc/octofix/LICENSE
 }
 

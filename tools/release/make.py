@@ -62,17 +62,18 @@ def make(sources, options, room):
     return [*names, "SHA256SUMS"]
 
 
-@contextlib.contextmanager
-def all_or_nothing(folder):
-    """A folder to fill, which is as it was before where that isn't done."""
-    stood, made = folder.is_dir(), [it for it in folder.parents if not it.is_dir()]
+def put(made, names, folder):
+    """Copies these files to a folder, which is as it was before where one can't be."""
+    new = [it for it in (folder, *folder.parents) if not it.is_dir()]
     try:
         folder.mkdir(parents=True, exist_ok=True)
-        yield
+        for it in names:
+            shutil.copyfile(made / it, folder / it)
     except BaseException:
-        for it in folder.iterdir() if folder.is_dir() else ():
-            it.unlink()
-        for it in [folder] * (not stood) + made:
+        for it in names:
+            with contextlib.suppress(OSError):
+                (folder / it).unlink()
+        for it in new:
             with contextlib.suppress(OSError):
                 it.rmdir()
         raise
@@ -80,10 +81,9 @@ def all_or_nothing(folder):
 
 def write(sources, options):
     folder = options.folder
-    with tempfile.TemporaryDirectory(prefix="octomap-release-") as room, all_or_nothing(folder):
+    with tempfile.TemporaryDirectory(prefix="octomap-release-") as room:
         names = make(sources, options, Path(room))
-        for it in names:
-            shutil.copyfile(Path(room, "made", it), folder / it)
+        put(Path(room, "made"), names, folder)
     print(f"octomap: released in {folder}:")
     for it in names:
         print(f"  {(folder / it).stat().st_size:9,}  {it}")

@@ -29,7 +29,7 @@ def run(*words, **how):
     done = subprocess.run(words, capture_output=True, text=True, **how)
     if done.returncode:
         said = (done.stderr or done.stdout).strip().splitlines() or ["without a word"]
-        raise Unfit(f"{Path(words[0]).name} failed: {said[-1]}")
+        raise Unfit(f"{Path(words[0]).name} failed: {said[0]}")
     return done.stdout.strip()
 
 

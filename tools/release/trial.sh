@@ -1,3 +1,4 @@
+# shellcheck shell=bash disable=SC2154,SC2034
 # Tries what a release has, as somebody does who hasn't the kit. Who reads this, in bash, sets
 # `given`, a folder with README.md, bindings/ and examples/ of the sources, `release`, and `room`,
 # an empty folder; then calls one of the functions try_packages, try_unpacked, try_wheel,
@@ -61,10 +62,17 @@ try_commands() {
     expect 'octomap --version' "octomap $number" "$(octomap --version | sed -n '1s/ (.*//p')"
 }
 
-# try_python PYTHON: the package's own examples, by a Python that finds it.
+# readme_block LANGUAGE: what README.md has between ```LANGUAGE and ```.
+readme_block() {
+    sed -n "/^\`\`\`$1\$/,/^\`\`\`\$/p" "$given/README.md" | sed '1d; $d'
+}
+
+# try_python PYTHON: README.md's example and the package's own, by a Python that finds it.
 try_python() {
     local it examples=$given/bindings/python/examples
     cd "$room/home" || exit 1
+    expect "README.md's example in Python" "$(readme_block text)" \
+        "$("$1" -c "$(readme_block python)" 2>&1)"
     for it in room changes; do
         expect "the example $it in Python" "$(<"$examples/$it.out")" \
             "$("$1" "$examples/$it.py" 2>&1)"
@@ -179,6 +187,13 @@ try_compilers() {
     pass 'C by pkg-config' cc -std=c11 -Wall -Wextra -Werror -o "$room/c" \
         "$given/bindings/c/example.c" "${words[@]}"
     expect 'the example in C' "$(<"$given/bindings/c/example.out")" "$("$room/c" 2>&1)"
+    /usr/bin/python3 "$given/bindings/doc_examples.py" "$room"
+    pass "README.md's example in C" cc -o "$room/first" "$room/example_0.c" "${words[@]}"
+    pass "README.md's example in C++" c++ -std=c++17 -o "$room/second" "$room/example_1.cpp" \
+        "${words[@]}"
+    for it in first second; do
+        expect "the $it example of README.md" 'known 850' "$("$room/$it" 2>&1)"
+    done
     try_cmake found "-DCMAKE_PREFIX_PATH=$prefix"
     try_cmake fetched "-DOCTOFIX_URL=file://$tarball" \
         "-DOCTOFIX_SHA256=$(sha256sum "$tarball" | cut -d ' ' -f 1)"

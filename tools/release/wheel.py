@@ -4,6 +4,11 @@ from pathlib import Path
 
 import octofix_build
 
+# What the command octofix has beside the package, in the folder of a Python's own files.
+SHARED = (
+    "share/man/man1/octofix.1", "share/bash-completion/completions/octofix",
+    "share/zsh/site-functions/_octofix",
+)  # fmt: skip
 # The older names of policies, of the glibc that each allows.
 NAMED = {(2, 5): "manylinux1", (2, 12): "manylinux2010", (2, 17): "manylinux2014"}
 
@@ -20,6 +25,9 @@ def make(release, prefix, out):
     files = octofix_build.package_files(Path(prefix, "lib/python3/octofix"))
     library = Path(prefix, "lib", octofix_build.LIBRARY).read_bytes()
     files[f"octofix/{octofix_build.LIBRARY}"] = 0o755, library
-    more = {"LICENSE": release.read("LICENSE"), "PROVENANCE.txt": release.provenance}
+    for name in SHARED:
+        place = f"octofix-{release.version}.data/data/{name}"
+        files[place] = 0o644, Path(prefix, name).read_bytes()
+    more = {"PROVENANCE.txt": release.provenance}
     tags = tags_of(release.library.glibc())
     return octofix_build.write_wheel(out, files, tags, release.version, more, release.time)
