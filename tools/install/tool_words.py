@@ -24,7 +24,7 @@ class Option:
         takes_more = action.nargs in ("+", "*")
         count = 0 if action.nargs == 0 else action.nargs if isinstance(action.nargs, int) else 1
         values = values[:count] + values[-1:] * (count - len(values))
-        text = (action.help or "") % vars(action) if action.help else ""
+        text = (action.help or "") % {"prog": "octofix", **vars(action)}
         return cls(action.option_strings, values, list(action.choices or []), text, takes_more)
 
 
@@ -44,13 +44,18 @@ class Command:
 def commands_of(top):
     """The commands of a parser with subcommands."""
     (below,) = [it for it in top._actions if isinstance(it, argparse._SubParsersAction)]
-    helps = {it.dest: it.help for it in below._choices_actions}
+    helps = {it.dest: it.help or "" for it in below._choices_actions}
     found = []
     for name, parser in below.choices.items():
-        groups = [(title_of(it), [Option.of(one) for one in it._group_actions])
-                  for it in parser._action_groups if it._group_actions]  # fmt: skip
-        found.append(Command(name, helps[name], parser.description.strip(), groups))
+        groups = [(title_of(it), options_of(it)) for it in parser._action_groups]
+        groups = [it for it in groups if it[1]]
+        found.append(Command(name, helps.get(name, ""), parser.description.strip(), groups))
     return found
+
+
+def options_of(group):
+    shown = [it for it in group._group_actions if it.help != argparse.SUPPRESS]
+    return [Option.of(it) for it in shown]
 
 
 def title_of(group):

@@ -69,13 +69,15 @@ def put(made, names, folder):
         folder.mkdir(parents=True, exist_ok=True)
         for it in names:
             shutil.copyfile(made / it, folder / it)
-    except BaseException:
+    except BaseException as why:
         for it in names:
             with contextlib.suppress(OSError):
                 (folder / it).unlink()
         for it in new:
             with contextlib.suppress(OSError):
                 it.rmdir()
+        if isinstance(why, OSError):
+            raise Unfit(f"can't write to the folder '{folder}': {why.strerror}") from None
         raise
 
 
