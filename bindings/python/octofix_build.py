@@ -31,6 +31,7 @@ EARLIEST = 315532800
 
 
 def project():
+    """What pyproject.toml says of the package."""
     with open(HERE / "pyproject.toml", "rb") as file:
         return tomllib.load(file)["project"]
 
@@ -43,6 +44,7 @@ def package_files(folder=None):
 
 
 def loads(name):
+    """Whether the loader takes this as a library."""
     try:
         return bool(ctypes.CDLL(str(name)))
     except OSError:
@@ -77,6 +79,7 @@ def licenses():
 
 
 def metadata(version=None):
+    """The text of METADATA, of the project's version where none is given."""
     about = project()
     lines = [
         "Metadata-Version: 2.1",
@@ -97,6 +100,8 @@ def metadata(version=None):
 
 
 def record(files, name):
+    """The text of RECORD, which has this name: each file with its sum and its bytes."""
+
     def sum_of(content):
         return base64.urlsafe_b64encode(hashlib.sha256(content).digest()).rstrip(b"=").decode()
 
@@ -140,6 +145,7 @@ def write_wheel(folder, files, tags, version=None, more=(), seconds=EARLIEST):
 
 
 def build_wheel(wheel_directory, config_settings=None, metadata_directory=None):
+    """A wheel with the library that is found, or without one where the system has it."""
     library, files = found_library(), package_files()
     if library:
         files[f"octofix/{LIBRARY}"] = 0o755, library.read_bytes()
@@ -154,6 +160,7 @@ def build_editable(wheel_directory, config_settings=None, metadata_directory=Non
 
 
 def build_sdist(sdist_directory, config_settings=None):
+    """The sources of the package, of which pip builds a wheel where there is a library."""
     top = f"octofix-{project()['version']}"
     files = package_files()
     for it in ("pyproject.toml", "README.md", "octofix_build.py"):

@@ -6,9 +6,16 @@ import os
 import sys
 
 SYSTEM = "/usr/bin/python3"
+MISSING = 4
+
+
+def stop(why):
+    print(f"octofix: {why}", file=sys.stderr)
+    sys.exit(MISSING)
+
 
 if sys.version_info < (3, 9):
-    sys.exit("octofix: Python 3.9 or newer is needed")
+    stop("Python 3.9 or newer is needed")
 prefix = os.path.dirname(os.path.dirname(os.path.realpath(__file__)))
 sys.path.insert(0, os.path.join(prefix, "@PACKAGES@"))
 os.environ.setdefault("OCTOFIX_LIBRARY", os.path.join(prefix, "@LIB@/lib@NAME@.so.1"))
@@ -17,9 +24,10 @@ try:
 except ImportError:
     if sys.executable != SYSTEM and os.access(SYSTEM, os.X_OK):
         os.execv(SYSTEM, [SYSTEM, __file__, *sys.argv[1:]])
-    print("octofix: no python3 with numpy is here (in Debian python3-numpy)", file=sys.stderr)
-    sys.exit(4)
-
-from octofix.tools.command import main  # noqa: E402
+    stop("no python3 with numpy is here (in Debian python3-numpy)")
+try:
+    from octofix.tools.command import main
+except ImportError as why:
+    stop(why)
 
 sys.exit(main())

@@ -174,6 +174,8 @@ try_tarball() {
     expect 'octofix without numpy' \
         'octofix: no python3 with numpy is here (in Debian python3-numpy)' \
         "$(PYTHONPATH=$room/none octofix --version 2>&1)"
+    expect 'octofix without its library' "octofix: the library liboctofix.so.1 can't be loaded" \
+        "$(OCTOFIX_LIBRARY=/nowhere octofix --version 2>&1 | sed -n '1s/;.*//p')"
     chmod -R u+w "$prefix"
 }
 
