@@ -21,8 +21,11 @@ import sys
 import tempfile
 from pathlib import Path
 
+# The status of the launcher where something can't be made.
+FAILED = 9
 if sys.version_info < (3, 11):
-    sys.exit("octomap: a release needs Python 3.11 or newer")
+    print("octomap: a release needs Python 3.11 or newer", file=sys.stderr)
+    sys.exit(FAILED)
 ROOT = Path(__file__).resolve().parents[2]
 sys.dont_write_bytecode = True  # (the clone stays as it is)
 sys.path.insert(0, str(ROOT / "bindings/python"))
@@ -31,9 +34,6 @@ import debian  # noqa: E402
 import tarball  # noqa: E402
 import wheel  # noqa: E402
 from release import Release, Sources, Unfit, check_folder, check_tools, run  # noqa: E402
-
-# The status of the launcher where something can't be made.
-FAILED = 9
 
 
 def install(prefix, program, archive, version, *layout):
