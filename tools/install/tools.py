@@ -2,6 +2,7 @@
 # The command octofix: the tools of the Python package that is installed beside it. Where this
 # Python has no numpy, the system's own one is tried.
 
+import importlib.util
 import os
 import sys
 
@@ -19,15 +20,12 @@ if sys.version_info < (3, 9):
 prefix = os.path.dirname(os.path.dirname(os.path.realpath(__file__)))
 sys.path.insert(0, os.path.join(prefix, "@PACKAGES@"))
 os.environ.setdefault("OCTOFIX_LIBRARY", os.path.join(prefix, "@LIB@/lib@NAME@.so.1"))
-try:
-    import numpy  # noqa: F401
-except ImportError:
+# (the tools import it, once they listen to Ctrl-C)
+if importlib.util.find_spec("numpy") is None:
     if sys.executable != SYSTEM and os.access(SYSTEM, os.X_OK):
         os.execv(SYSTEM, [SYSTEM, __file__, *sys.argv[1:]])
     stop("no python3 with numpy is here (in Debian python3-numpy)")
-try:
-    from octofix.tools.command import main
-except ImportError as why:
-    stop(why)
+
+from octofix.tools.command import main  # noqa: E402
 
 sys.exit(main())

@@ -170,10 +170,13 @@ try_tarball() {
     expect 'octofix through a link' "octofix $number" "$("$room/home/octofix" --version 2>&1)"
     expect 'octomap through a link' "octomap $number" \
         "$("$room/home/octomap" --version | sed -n '1s/ (.*//p')"
-    mkdir "$room/none" && echo 'raise ImportError' >"$room/none/numpy.py"
+    mkdir "$room/none" && echo 'import sys; sys.modules["numpy"] = None' >"$room/none/sitecustomize.py"
     expect 'octofix without numpy' \
         'octofix: no python3 with numpy is here (in Debian python3-numpy)' \
         "$(PYTHONPATH=$room/none octofix --version 2>&1)"
+    python3 -m venv --without-pip "$room/bare"
+    expect "octofix where the path's Python has no numpy" "octofix $number" \
+        "$(PATH=$room/bare/bin:$PATH octofix --version 2>&1)"
     expect 'octofix without its library' "octofix: the library liboctofix.so.1 can't be loaded" \
         "$(OCTOFIX_LIBRARY=/nowhere octofix --version 2>&1 | sed -n '1s/;.*//p')"
     chmod -R u+w "$prefix"
