@@ -59,17 +59,13 @@ def _run(words):
     if sys.stdout is None:
         # (it is closed, and what is written to this is a fault)
         sys.stdout = open(os.devnull)
-    try:
-        with INTERRUPTS.held("the start"):
-            # (this imports numpy and loads the library)
-            from octofix import Refused
+    with INTERRUPTS.held("the start"):
+        # (this imports numpy and loads the library)
+        from octofix import Refused
 
-            from .clashes import refuse_clashes
+        from .clashes import refuse_clashes
 
-            options = parser().parse_args(words)
-    except ImportError as why:
-        say(str(why))
-        return MISSING_LIBRARY
+        options = parser().parse_args(words)
     try:
         INTERRUPTS.take()
         refuse_clashes(options)
