@@ -346,8 +346,8 @@ uint32_t octofix_max_likelihood(octofix_map *map);
  * the other one is stale, or what limits it has, doesn't matter. The two handles must not be one.
  * While a mark stands, the least box around what the other map knows has at most 1000000 voxels.
  * Full means that the blocks that aren't of one value in one of the maps are more than the groups
- * that the map may have. Costs a walk. Refused: 40 (either handle), 47 (the rule), 35 (the other
- * map's resolution first), 48, 27, 23, 45. */
+ * that the map may have. Costs a walk. Refused: CLOSED (either handle), BAD_ARGUMENT (the rule),
+ * OTHER_RESOLUTION (the other map's first), OTHER_ODDS, WIDE_WHILE_TRACKED, FULL, MEMORY. */
 uint32_t octofix_merge(octofix_map *map, octofix_map *other, uint32_t rule,
                        octofix_details *details);
 

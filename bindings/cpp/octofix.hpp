@@ -454,11 +454,11 @@ class map {
     /// One edit after another. At the first that isn't done it throws edits_refused, or
     /// edits_out_of_memory.
     void edit_all(view<octofix::edit> edits, bool lazy = false) {
-        std::vector<octofix_edit_t> all;
+        std::vector<octofix_point_edit> all;
         all.reserve(edits.size());
         for (const octofix::edit &it : edits)
             all.push_back({it.at, static_cast<std::uint32_t>(it.what), it.number});
-        const view<octofix_edit_t> row(all);
+        const view<octofix_point_edit> row(all);
         std::size_t done = 0;
         details named{};
         const std::uint32_t code =

@@ -10,7 +10,7 @@ import numpy.typing as npt
 
 from . import _library
 from ._errors import BAD_ARGUMENT, BAD_MODEL, OUTSIDE, BadPoints, Refused, refusal_of_row
-from ._results import Event
+from ._results import Event, Rule
 
 NANOMETRES = 1e9  # in a metre
 _END = 1e16  # the library takes nanometres below this magnitude
@@ -20,6 +20,7 @@ _MOST_NUMBER = 1_000_000  # thousandths of log-odds
 # interrupts that)
 _NUMBERED = int(Event.ADD), int(Event.SET)  # the events that have a number
 _FIRST_EVENT, _LAST_EVENT = int(min(Event)), int(max(Event))
+_FIRST_RULE, _LAST_RULE = int(min(Rule)), int(max(Rule))
 _PART = 1 << 13  # rows that are converted at once, so that they stay in the cache
 
 Nanometres = npt.NDArray[np.int64]
@@ -167,6 +168,10 @@ def events_of_edits(values: npt.ArrayLike) -> npt.NDArray[Any]:
     if isinstance(values, Event):
         values = int(values)
     return integers(values, "event", _FIRST_EVENT, _LAST_EVENT)
+
+
+def rule_of_merge(value: int) -> int:
+    return int(integers(operator.index(value), "rule", _FIRST_RULE, _LAST_RULE))
 
 
 def numbers_of_edits(values: npt.ArrayLike, events: npt.NDArray[Any]) -> npt.NDArray[Any]:

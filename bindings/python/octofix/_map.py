@@ -333,7 +333,7 @@ class Map:
         """
         if not isinstance(other, Map):
             raise TypeError(f"another Map is merged, and not {other!r}")
-        by = int(_arrays.integers(rule, "rule", min(Rule), max(Rule)))
+        by = _arrays.rule_of_merge(rule)
         if other is self:
             self.prune()
             return

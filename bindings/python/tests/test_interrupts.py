@@ -28,6 +28,7 @@ CHANGES = {
     "limit": lambda world: world.limit((0, 0, 0), (1, 1, 1)),
     "clear": lambda world: world.clear(),
     "load_bt": lambda world: world.load_bt(EMPTY),
+    "merge": lambda world: world.merge(OTHER),
 }
 QUESTIONS = {
     "get": lambda world: world.get(POINTS),
@@ -45,6 +46,8 @@ with octofix.Map(0.1) as unknown:
 with octofix.Map(0.1) as some:
     some.set([[0, 0, 0], [-1, 0, 0]], [850, -400])
     BEFORE = some.to_snapshot()
+OTHER = octofix.Map(0.1)
+OTHER.set([[0, 0, 0], [2, 0, 0]], [9, 9])
 
 
 class Interrupt(BaseException):
@@ -108,6 +111,8 @@ class Interrupts(unittest.TestCase):
                 goes_on = is_interrupted(lambda: act(world), at)
                 self.assertIn(world.to_snapshot(), (BEFORE, after))
                 self.expect_free(world)
+                self.expect_free(OTHER)
+                OTHER.forget((3, 0, 0))
         self.assertGreater(at, 10)
 
     def test_at_each_line_of_a_change(self):
