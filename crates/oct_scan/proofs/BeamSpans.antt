@@ -31,11 +31,11 @@ held_from edge key c h =
     record { low = omega (arith, low); high = omega (arith, high) }
 
 -- a place of the segment in whole numbers
-record IsPlaced (edge k p q a b c d : ℕ) : Type 0 where
-  lower : k * edge * q + (b * q + p * (d + a)) ≤ a * q + p * (c + b) + 32768 * edge * q
-  upper : a * q + p * (c + b) + 32768 * edge * q < (k * edge + edge) * q + (b * q + p * (d + a))
+pub record IsPlaced (edge k p q a b c d : ℕ) : Type 0 where
+  pub lower : k * edge * q + (b * q + p * (d + a)) ≤ a * q + p * (c + b) + 32768 * edge * q
+  pub upper : a * q + p * (c + b) + 32768 * edge * q < (k * edge + edge) * q + (b * q + p * (d + a))
 
-placed_from : (edge k p q : ℕ) (o e : ℤ) → IsBetweenFaces edge o e k p q
+pub placed_from : (edge k p q : ℕ) (o e : ℤ) → IsBetweenFaces edge o e k p q
     → IsPlaced edge k p q (up o) (down o) (up e) (down e)
 placed_from edge k p q o e h =
     let start : IsDifference o (up o) (down o) = parts o in
@@ -89,7 +89,7 @@ above_bottom edge k p q s bottom a b c d split some at first last =
         (λ high. omega (arith, high, one, two)) high
 
 -- a row of faces from a lower number is lower
-rows : (m n edge : ℕ) → m ≤ n → m * edge ≤ n * edge
+pub rows : (m n edge : ℕ) → m ≤ n → m * edge ≤ n * edge
 rows m n edge h = mul-le-mul_right edge h
 
 on_axis : (edge k p q i j : ℕ) (o e : ℤ) → 0 < q → p ≤ q → HoldsOnAxis edge i o

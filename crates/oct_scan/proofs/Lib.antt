@@ -22,3 +22,5 @@ pub mod MostMet
 pub mod Judging
 pub mod Piling
 pub mod Ordered
+pub mod LaterSpans
+pub mod BlockParts

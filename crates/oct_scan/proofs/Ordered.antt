@@ -1,15 +1,15 @@
 -- Beams that are taken in another order.
 use Rattle.std.proofs.Common.{◌≡◌, ℕ, ◌+◌, ◌*◌, ◌%◌, ◌^◌, ◌<◌, ◌≤◌, List, [], ◌∷◌, ◌++◌}
 use Rattle.std.proofs.Common.{length, map, get_or, take, sym, subst, ◌∙◌, ap, arith}
-use Rattle.std.specs.Prelude.{IsSome, Option, sum_by}
-use Rattle.std.specs.List.{All, Contains}
+use Rattle.std.specs.Prelude.{IsSome, Option}
+use Rattle.std.specs.List.{All}
 use Rattle.std.specs.List.Sorted.{IsPermutation}
 use Rattle.std.proofs.lemmas.List.{get_or-map, get_or_default, length-map, map_push, take_all}
 use Rattle.std.proofs.lemmas.List.{take_more}
 use Rattle.std.proofs.lemmas.List.Elements.{All-contains, All-push}
 use Rattle.std.proofs.lemmas.List.Sorted.{All-permutation, Contains-permutation}
 use Rattle.std.proofs.lemmas.List.Sorted.{IsPermutation-map, IsPermutation-sym}
-use Rattle.std.proofs.lemmas.List.Sorted.{length_permutation, sum_by-IsPermutation}
+use Rattle.std.proofs.lemmas.List.Sorted.{sum_by-IsPermutation}
 use Rattle.oct_key.specs.Boxes.{Window}
 use Rattle.oct_key.specs.Voxel.{IsResolution, key_at}
 use Rattle.oct_key.specs.declared.point.Point.{Point}
@@ -125,13 +125,6 @@ held_moved edge window o bs cs bricks range origin ends moved h =
         held = h.all.held;
       };
     }
-
--- there are as many keys as beams
-pub keys_long : (bs : List Beam) (keys : List ℕ) (d : Beam) → AreKeys bs keys
-    → length keys ≡ length bs
-keys_long bs keys d are =
-    let moved = length_permutation bs (map (keyed_beam bs d) keys) (are.moved d) in
-    omega (arith, moved, length-map keys (keyed_beam bs d))
 
 -- what is gathered by all keys is gathered along all beams
 pub all_moved : (edge : ℕ) (window : Option Window) (o : Point) (bs : List Beam) (keys : List ℕ)

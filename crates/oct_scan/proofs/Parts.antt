@@ -1,24 +1,19 @@
 -- One voxel more of a walk of which only what lies in a box is kept.
-use Rattle.std.proofs.Common.{◌≡◌, ◌≢◌, ℕ, ◌⊎◌, ◌↔◌, inl, inr, Bool, true, false, Option, Some}
-use Rattle.std.proofs.Common.{List, [], ◌∷◌, map, sym, subst, ◌∙◌, ap, arith}
+use Rattle.std.proofs.Common.{◌≡◌, ◌≢◌, ℕ, ◌⊎◌, ◌↔◌, inl, inr, true, false, Option, Some}
+use Rattle.std.proofs.Common.{List, [], ◌∷◌, map, refl, sym, subst, ◌∙◌, ap, arith}
 use Rattle.std.specs.Prelude.{min, max, Result, Ok, Err, OnOk}
 use Rattle.std.specs.List.{Contains}
-use Rattle.oct_key.specs.Voxel.{Voxel, IsInMap}
+use Rattle.std.proofs.lemmas.Bool.{cases_Bool}
+use Rattle.std.proofs.lemmas.List.Elements.{All-contains}
+use Rattle.oct_key.specs.Voxel.{Voxel}
 use Rattle.oct_key.specs.Boxes.{Window, IsBetween, IsInBox, is_in_box}
 use Rattle.oct_key.specs.Morton.{morton_of}
 use Rattle.oct_brick.specs.declared.brick.Brick.{Brick}
 use Rattle.oct_brick.specs.Bricks.{scanned_codes}
-use Rattle.oct_brick.proofs.Lists.{contains_none}
-use Rattle.oct_scan.specs.Gathered.{IsHeld, IsSpanned, IsWayAdded, kept}
-use Rattle.oct_scan.proofs.Kept.{kept_first, kept_without}
+use Rattle.oct_brick.proofs.Lists.{contains_cases, contains_none, pairs_head, pairs_tail}
+use Rattle.oct_scan.specs.Gathered.{GoesTo, IsHeld, IsSpanned, IsWayAdded, kept}
+use Rattle.oct_scan.proofs.Kept.{kept_first, kept_none, kept_without}
 use Rattle.oct_scan.proofs.Holding.{IsOnWay, way_passed, way_marked}
-
--- the voxel of a code is tested where the voxel that was given is
-pub tested : (box : Window) (code : ℕ) (k key : Voxel) (test : Bool) → IsInMap k
-    → code ≡ morton_of k → ((l : Voxel) → IsInMap l → morton_of l ≡ code → l ≡ key)
-    → test ≡ is_in_box box.lo box.hi key → is_in_box box.lo box.hi k ≡ test
-tested box code k key test on_map coded only is =
-    ap (λ l. is_in_box box.lo box.hi l) (only k on_map (sym coded)) ∙ sym is
 
 -- what is left of a walk, with a voxel of the box before it, or with one outside
 left_with : (box : Window) (k : Voxel) (ks ks' : List Voxel) → ks ≡ k ∷ ks'
@@ -101,3 +96,42 @@ none_added old ks end none c = (
         k.0))
   ],
 )
+
+-- what is left of a walk goes on to its end
+pub goes_on : (end k : Voxel) (ks ks' : List Voxel) → ks ≡ k ∷ ks' → GoesTo end ks → GoesTo end ks'
+goes_on end k ks ks' first h =
+    pairs_tail (λ k l. IsSpanned k end l) k ks' (subst (GoesTo end) first h)
+
+-- where nothing is left but the end, its code is passed over
+pub way_last : (end : Voxel) (old : List Brick) (walk : List Voxel) (bs : List Brick) (b : Brick)
+    (box : Window) (ks : List Voxel) → ks ≡ end ∷ []
+    → IsOnWay (morton_of end) old walk bs b (kept (Some box) ks)
+    → IsOnWay (morton_of end) old walk bs b []
+way_last end old walk bs b box ks one h = elim (cases_Bool (is_in_box box.lo box.hi end)) [
+  | inl inside ↦
+      way_ended (morton_of end) old walk bs b box ks [] end (morton_of end) one inside refl refl h
+  | inr outside ↦ way_outside (morton_of end) old walk bs b box ks [] end one outside h
+]
+
+-- where what is left lies beyond the box, nothing of it is kept
+pub way_beyond : (end : Voxel) (old : List Brick) (walk : List Voxel) (bs : List Brick) (b : Brick)
+    (box : Window) (ks ks' : List Voxel) (k : Voxel) → ks ≡ k ∷ ks' → GoesTo end ks
+    → ((l : Voxel) → IsSpanned k end l → IsInBox box.lo box.hi l → ⊥)
+    → IsOnWay (morton_of end) old walk bs b (kept (Some box) ks)
+    → IsOnWay (morton_of end) old walk bs b []
+way_beyond end old walk bs b box ks ks' k first onward beyond h =
+    let later = pairs_head (λ k l. IsSpanned k end l) k ks' (subst (GoesTo end) first onward) in
+    let none : kept (Some box) (k ∷ ks') ≡ [] =
+    kept_none box (k ∷ ks') (λ l there. beyond l (elim (contains_cases k l ks' there) [
+      | inl e ↦ subst (IsSpanned k end) e (spans_first k end)
+      | inr m ↦ All-contains (λ l. IsSpanned k end l) ks' l later m
+    ])) in
+    subst (λ l. IsOnWay (morton_of end) old walk bs b l)
+    (ap (λ l. kept (Some box) l) first ∙ none) h
+  where
+    spans_first : (k end : Voxel) → IsSpanned k end k
+    spans_first k end = record {
+      x = (omega arith, omega arith);
+      y = (omega arith, omega arith);
+      z = (omega arith, omega arith);
+    }

@@ -2,7 +2,7 @@
 use Rattle.std.specs.Prelude.{◌≡◌, ◌≢◌, ℕ, ◌^◌, ◌<◌, ◌≤◌, ◌↔◌, ◌⊎◌, Bool, false, not, ◌||◌}
 use Rattle.std.specs.Prelude.{if◌then◌else◌, Option, Some, None, min, max}
 use Rattle.std.specs.List.{filter}
-use Rattle.std.specs.Prelude.{List, [], ◌∷◌, ◌++◌, map, length, All, Contains}
+use Rattle.std.specs.Prelude.{List, [], ◌∷◌, ◌++◌, map, length, All, AllPairs, Contains}
 use Rattle.oct_key.specs.Voxel.{Voxel, IsInMap}
 use Rattle.oct_key.specs.Boxes.{Window, IsInBox, IsInWindow, is_in_box, is_in_window}
 use Rattle.oct_key.specs.Morton.{morton_of}
@@ -51,6 +51,10 @@ abbrev pub IsSpanned : Voxel → Voxel → Voxel → Type 0
 IsSpanned a b k = IsInBox
     (record { x = min a.x b.x; y = min a.y b.y; z = min a.z b.z })
     (record { x = max a.x b.x; y = max a.y b.y; z = max a.z b.z }) k
+
+-- each voxel of a list lies in the box that any one before it and the end span
+abbrev pub GoesTo : Voxel → List Voxel → Type 0
+GoesTo end ks = AllPairs (λ k l. IsSpanned k end l) ks
 
 -- a list of voxels ends at this one, which stands nowhere else in it
 abbrev pub EndsAt : Voxel → List Voxel → Type 0

@@ -8,10 +8,11 @@ ghost use Rattle.oct_key.specs.Morton.{morton_of};
 ghost use Rattle.oct_brick.specs.Bricks.{scanned_codes, hit_codes, IsBrick};
 ghost use Rattle.oct_scan.specs.Order.{AreKeys};
 ghost use Rattle.oct_scan.specs.Gathered.{HoldAllGathered, IsBeamHeld, IsHeld, IsCurrent};
-ghost use Rattle.oct_scan.specs.Gathered.{is_mute, EndsAt, IsSpanned, IsWayAdded};
+ghost use Rattle.oct_scan.specs.Gathered.{is_mute, EndsAt, GoesTo, IsSpanned, IsWayAdded};
 
 use crate::beam::Beam;
-use crate::order::{MOST_KEYED, sorted_keys};
+use crate::order::{LEAST_KEYED, MOST_KEYED, sorted_keys};
+use crate::part::BlockPart;
 use crate::pile::BrickPile;
 use oct_brick::Brick;
 use oct_key::{Key, Point, Res, Window, from_morton, morton};
@@ -36,7 +37,8 @@ pub fn gather(
     ensures some { OnErr result (0 < length beams.now) }
 {
     let mut bricks = BrickPile::new(alloc);
-    if beams.len() as u64 <= MOST_KEYED {
+    let count = beams.len() as u64;
+    if LEAST_KEYED <= count && count <= MOST_KEYED {
         let keys = sorted_keys(alloc, res, beams)?;
         add_by_keys(&mut bricks, res, origin, beams, &keys, window)?;
     } else {
@@ -75,7 +77,7 @@ fn add_by_keys(
     Ok(())
 }
 
-/// The same for beams that are too many for keys, in their own order.
+/// The same for beams that are too few or too many for keys, in their own order.
 fn add_beams(
     bricks: &mut BrickPile,
     res: Res,
@@ -141,6 +143,7 @@ fn push_kept(
 ) -> Result<(), Memory>
     requires ends { EndsAt end walk }
     requires between { (k : Voxel) → Contains walk k → IsSpanned start end k }
+    requires onward { GoesTo end walk }
     requires bricks { All IsBrick bricks.old }
     ensures { OnOk result (IsWayAdded window.now (morton_of end) walk bricks.old bricks.new) }
 {
@@ -161,6 +164,7 @@ fn push_part(
 ) -> Result<(), Memory>
     requires ends { EndsAt end walk }
     requires between { (k : Voxel) → Contains walk k → IsSpanned start end k }
+    requires onward { GoesTo end walk }
     requires bricks { All IsBrick bricks.old }
     ensures { OnOk result
         (IsWayAdded (Some window.now) (morton_of end) walk bricks.old bricks.new) }
@@ -170,7 +174,7 @@ fn push_part(
     } else if is_passed_by(window, start, end) {
         Ok(())
     } else {
-        push_within(bricks, walk, morton(end), window)
+        push_inside(bricks, walk, end, window)
     }
 }
 
@@ -186,16 +190,55 @@ fn is_passed_by(window: &Window, a: Key, b: Key) -> bool
     below || above
 }
 
+/// Whether a walk comes from one block to the next one at the voxel of a code, and from there to the
+/// end lies beyond a box.
+#[inline(always)]
+fn is_beyond(window: &Window, part: BlockPart, next: BlockPart, code: u64, end: Key) -> bool
+    requires { code < 2 ^ 48 }
+    ensures { IsTrue result → (k : Voxel) → IsInMap k → code ≡ morton_of k
+        → (l : Voxel) → IsSpanned k end l → IsInBox window.now.lo window.now.hi l → ⊥ }
+{
+    next.is_apart && next.code != part.code && is_passed_by(window, from_morton(code), end)
+}
+
 /// Adds the voxels of a walk that lie in a box, but not that of the end.
-fn push_within(bricks: &mut BrickPile, walk: Walk, end: u64, window: &Window) -> Result<(), Memory>
-    requires end { end < 2 ^ 48 }
+fn push_inside(bricks: &mut BrickPile, walk: Walk, end: Key, window: &Window) -> Result<(), Memory>
+    requires ends { EndsAt end walk }
+    requires onward { GoesTo end walk }
     requires bricks { All IsBrick bricks.old }
-    ensures { OnOk result (IsWayAdded (Some window.now) end walk bricks.old bricks.new) }
+    ensures { OnOk result
+        (IsWayAdded (Some window.now) (morton_of end) walk bricks.old bricks.new) }
+{
+    match walk.near(morton(end)) {
+        Ok(near) => push_within(bricks, near, end, window),
+        Err(walk) => push_within(bricks, walk, end, window),
+    }
+}
+
+/// The same for a walk of either kind. Once what is left of it lies beyond the box, it is left out.
+#[inline(never)]
+fn push_within<W: BeamWalk>(
+    bricks: &mut BrickPile,
+    walk: W,
+    end: Key,
+    window: &Window,
+) -> Result<(), Memory>
+    requires ends { EndsAt end (W.to_come walk) }
+    requires onward { GoesTo end (W.to_come walk) }
+    requires bricks { All IsBrick bricks.old }
+    ensures { OnOk result
+        (IsWayAdded (Some window.now) (morton_of end) (W.to_come walk) bricks.old bricks.new) }
 {
     let mut walk = walk;
-    let mut brick = Brick::around(end);
-    while let Some(code) = walk.next_code() {
-        if window.holds(from_morton(code)) && code != end {
+    let mut brick = Brick::around(morton(end));
+    let mut part = BlockPart::of(window, morton(end));
+    while let Some(code) = walk.next_but_last() {
+        let next = part.around(window, code);
+        if is_beyond(window, part, next, code, end) {
+            break;
+        }
+        part = next;
+        if part.holds(window, code) {
             brick = push_code(bricks, brick, code)?;
         }
     }

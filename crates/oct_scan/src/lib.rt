@@ -39,12 +39,15 @@
 //!
 //! A scan is judged first. A beam meets no more voxels than one and the faces between the voxels of
 //! its ends, which are counted at once; only where the sum of these exceeds the limit are the
-//! voxels counted along the beams. Then each beam is walked. Its voxels go into the brick where the
-//! beam is, which is added to a pile when the beam leaves it, and the end goes into a brick of its
-//! own. The pile remembers in a table where bricks stand, so that mostly a brick is joined with
-//! that of its code, and memory follows the bricks that the beams touch. How a beam is walked is
-//! chosen by its ends: where both lie in the box, or no box stands, no voxel is tested; where both
-//! lie beyond it on one side, the beam is passed over; else each is tested before it is kept.
+//! voxels counted along the beams. Then each beam is walked; from 4,096 to 2^19 beams go in the
+//! order of the bricks where they end, so that those that pass the same bricks mostly follow one
+//! another. Its voxels go into the brick where the beam is, which is added to a pile when the beam
+//! leaves it, and the end goes into a brick of its own. The pile remembers in a table where bricks
+//! stand, so that mostly a brick is joined with that of its code, and memory follows the bricks
+//! that the beams touch. How a beam is walked is chosen by its ends: where both lie in the box, or
+//! no box stands, no voxel is tested; where both lie beyond it on one side, the beam is passed
+//! over. Else the blocks of 8 voxels a side are tested on its way, and the voxels of those that lie
+//! partly in the box, and it is left where the rest of it lies beyond.
 //! The bricks are sorted by their codes, and those of one code joined. Of the sorted bricks each
 //! adds the blocks that don't hold the one before it, which the highest different bit of the two
 //! codes tells, and its own octets.
@@ -64,6 +67,7 @@ mod judge;
 mod laws;
 mod need;
 mod order;
+mod part;
 mod pile;
 mod scan;
 mod update;

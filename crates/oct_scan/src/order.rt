@@ -12,6 +12,9 @@ use std::alloc::Global;
 /// where a beam ends times this, and the beam's place in the list.
 pub const MOST_KEYED: u64 = 1 << 19;
 
+/// How many beams have keys at least. Fewer of them pass few bricks that others pass too.
+pub const LEAST_KEYED: u64 = 4096;
+
 /// The keys of the beams, in order: those that end side by side stand together.
 pub fn sorted_keys(alloc: Global, res: Res, beams: &[Beam]) -> Result<Vec<u64>, Memory>
     requires ends { All (λ b. IsSome (key_at res b.end)) beams.now }

@@ -1,8 +1,8 @@
-use Rattle.std.proofs.Common.{◌≡◌, length, false, refl, arith, rules}
+use Rattle.std.proofs.Common.{false, refl, arith, rules}
 use Rattle.oct_key.specs.Voxel.{IsResolution}
 use Rattle.oct_scan.specs.declared.beam.Beam.{Beam}
 use Rattle.oct_scan.proofs.Holding.{all_none}
-use Rattle.oct_scan.proofs.Ordered.{all_keyed, all_moved, keys_long}
+use Rattle.oct_scan.proofs.Ordered.{all_keyed, all_moved}
 use Rattle.oct_scan.proofs.cells.add_by_keys.Goals as goal
 
 pub loop-key-init : goal.loop-key-init

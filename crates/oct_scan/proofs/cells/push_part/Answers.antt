@@ -1,4 +1,4 @@
-use Rattle.std.proofs.Common.{refl, None, Some}
+use Rattle.std.proofs.Common.{None, Some}
 use Rattle.oct_key.specs.Morton.{morton_of}
 use Rattle.oct_scan.specs.Gathered.{kept}
 use Rattle.oct_scan.proofs.Kept.{kept_all, kept_none}
@@ -27,6 +27,4 @@ returns-then-is_passed_by c = record {
 
 pub returns-else-is_passed_by : goal.returns-else-is_passed_by
 returns-else-is_passed_by c =
-    added_as c.push_within.result (Some c.args.window.now) (Some c.args.window.now)
-    c.morton-else-is_passed_by.result (morton_of c.args.end) c.args.walk c.args.bricks.now
-    c.push_within.new.bricks refl c.morton-else-is_passed_by.ensures.exact c.push_within.ensures
+    c.push_inside.ensures
