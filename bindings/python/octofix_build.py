@@ -7,7 +7,6 @@ package will find it that way too; and without any library nothing is built. A r
 """
 
 import base64
-import ctypes
 import hashlib
 import io
 import os
@@ -43,28 +42,21 @@ def package_files(folder=None):
     return {f"octofix/{it.relative_to(folder)}": (0o644, it.read_bytes()) for it in found}
 
 
-def loads(name):
-    """Whether the loader takes this as a library."""
-    try:
-        return bool(ctypes.CDLL(str(name)))
-    except OSError:
-        return False
-
-
 def found_library():
     """The file of the library, or None where the system's loader finds it."""
-    named = os.environ.get("OCTOFIX_LIBRARY")
-    places = [Path(named)] if named else [HERE / "octofix" / LIBRARY, HERE.parent / LIBRARY]
-    for place in places:
-        if place.is_file() and loads(place):
-            return place
-    if named or not loads(LIBRARY):
-        what = f"OCTOFIX_LIBRARY names no library: {named}" if named else f"no {LIBRARY} is here"
-        sys.exit(
-            f"octofix can't be built: {what} (a release's wheel has it; else name the file that "
-            "./octomap install made in OCTOFIX_LIBRARY)"
-        )
-    return None
+    sys.path.insert(0, str(HERE))
+    try:
+        from octofix import _loading
+    except ImportError as why:
+        refuse(" ".join(str(why).split()))
+    name = _loading.library._name
+    if _loading.version() != project()["version"]:
+        refuse(f"the library {name} is of version {_loading.version()}")
+    return None if name == LIBRARY else Path(name)
+
+
+def refuse(why):
+    sys.exit(f"octofix can't be built: {why} (a release's wheel has its library in it)")
 
 
 def description():

@@ -143,7 +143,7 @@ try_wheel() {
 
 # try_sources PYTHON: pip builds the package where there is a library, and else refuses.
 try_sources() {
-    local wanted="octofix can't be built: no liboctofix.so.1 is here"
+    local wanted="octofix can't be built: the library liboctofix.so.1 can't be loaded"
     cp -r "$given/bindings/python" "$room/sources"
     expect 'pip refuses sources without a library' "$wanted" \
         "$("$1" -m pip install "$room/sources" 2>&1 | grep -o "$wanted" | head -1)"
