@@ -217,9 +217,13 @@ class Nothing(Maps):
         self.nothing(f"{self.SAID}; skipped 1", "--on-error", "skip", "absent.xyz")
 
     def test_who_means_it(self):
-        self.done("map", "--res", "1", "none.npy", "--allow-empty", "-o", "a.bt")
         save_map("empty.bt", 1, {})
-        self.assertEqual(content_of("a.bt"), content_of("empty.bt"))
+        put_file("void.xyz", b"")
+        for cloud in ("none.npy", "void.xyz"):
+            self.done("map", "--res", "1", cloud, "--allow-empty", "-o", "a.bt")
+            self.assertEqual(content_of("a.bt"), content_of("empty.bt"))
+            os.unlink("a.bt")
+        self.refused("void.xyz: it is empty", "map", "--res", "1", "void.xyz", "-o", "a.bt")
 
 
 class Grids(InFolder):

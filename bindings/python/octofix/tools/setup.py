@@ -15,7 +15,8 @@ def scans_of(options):
     skips = Skips(options.on_error == "skip")
     nearness = Nearness(options.tolerance, options.interpolate)
     topics = Topics(options.topic, options.pose_topic, options.frame, nearness)
-    reading = Reading(options.format, options.columns, topics)
+    allows_empty = getattr(options, "allow_empty", False)
+    reading = Reading(options.format, options.columns, topics, allows_empty)
     choice = Choice(options.every, options.min_range, options.voxel)
     frames, trajectory = _frames(options), _trajectory(options, nearness, skips)
     scans = Scans(

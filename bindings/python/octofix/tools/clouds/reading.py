@@ -41,11 +41,13 @@ ENDINGS = [
 @dataclass(frozen=True)
 class Reading:
     """How files are read: a form of FORMS or None for what the file itself shows, and the columns
-    of x, y and z as --columns has them, or None; topic and the like are for bags."""
+    of x, y and z as --columns has them, or None; topic and the like are for bags; whether a file of
+    no byte is a cloud of no point."""
 
     form: str = None
     columns: list = None
     bag: bags.Topics = bags.Topics()
+    allows_empty: bool = False
 
 
 def form_of(name, content):
@@ -72,7 +74,8 @@ def _opened(name, reading):
         form = "bag"
     if form != "bag":
         content = read_bytes(name)
-        refuse_empty(content)
+        if not reading.allows_empty:
+            refuse_empty(content)
         form = form or form_of(name, content)
         if form == "text":
             refuse_unread(content)
