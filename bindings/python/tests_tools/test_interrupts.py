@@ -155,7 +155,7 @@ class Start(Processes):
         with open("numpy.py", "w") as file:
             file.write("raise ModuleNotFoundError('it is gone', name='numpy')\n")
         self.before.add("numpy.py")
-        said = "octofix: octofix needs the Python library numpy (in Debian python3-numpy)\n"
+        said = "octofix: the Python library numpy is needed (in Debian python3-numpy)\n"
         self.ends(self.map("a.xyz"), said, status=4)
 
 

@@ -50,7 +50,7 @@ def main(words=None):
             return INTERRUPTED
         except ImportError as why:
             is_numpy = why.name == "numpy"
-            said = "octofix needs the Python library numpy (in Debian python3-numpy)"
+            said = "the Python library numpy is needed (in Debian python3-numpy)"
             say(said if is_numpy else " ".join(str(why).split()))
             return MISSING_LIBRARY
 
