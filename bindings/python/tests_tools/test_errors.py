@@ -205,11 +205,11 @@ class Files(InFolder):
 
     def test_maps(self):
         with open("bad.bt", "wb") as file:
-            file.write(b"# Octomap OcTree file\n")
+            file.write(b"# Octomap OcTree binary file\nid ColorOcTree\ndata\n")
         tools = [["info"], ["points", "-o", "a.ply"], ["grid", "-o", "a.pgm"]]
         tools.append(["view", "-o", "a.png"])
         for words in tools:
-            said = "bad.bt: it can't be read as a map: refused 11 FloatTree"
+            said = "bad.bt: it can't be read as a map: refused 12 WrongId"
             self.refused(said, *words, "bad.bt")
         self.refused("none.bt: No such file or directory", "info", "none.bt")
 
