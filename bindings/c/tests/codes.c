@@ -16,11 +16,11 @@ enum { EXTREMES = sizeof extremes / sizeof *extremes };
 
 /* The version, and the names of codes: one of each kind, and codes that have none. */
 static void try_texts(void) {
-    static const uint32_t nameless[] = {OCTOFIX_DONE, 1, 2, 36, 48, UINT32_MAX};
+    static const uint32_t nameless[] = {OCTOFIX_DONE, 1, 2, 36, 49, UINT32_MAX};
     static const struct { uint32_t code; const char *name; } named[] = {
         {OCTOFIX_BAD_RESOLUTION, "BadResolution"}, {OCTOFIX_TOO_MANY_CELLS, "TooManyCells"},
         {OCTOFIX_WIDE_WHILE_TRACKED, "WideWhileTracked"}, {29, "Syntax"}, {39, "TooManyBoxes"},
-        {OCTOFIX_CLOSED, "Closed"}, {OCTOFIX_BAD_ARGUMENT, "BadArgument"}};
+        {OCTOFIX_CLOSED, "Closed"}, {OCTOFIX_OTHER_ODDS, "OtherOdds"}};
     octofix_text text = OCTOFIX_NO_TEXT;
     const char *mine = text.at;
     for (size_t i = 0; i < sizeof nameless / sizeof *nameless; i++) {
