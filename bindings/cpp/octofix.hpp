@@ -502,9 +502,9 @@ class map {
     void prune() { detail::check(octofix_prune(&handle_)); }
     void clear() { detail::check(octofix_clear(&handle_)); }
     void max_likelihood() { detail::check(octofix_max_likelihood(&handle_)); }
-    /// Takes in what another map of the same resolution and log-odds knows: a voxel that one of them
-    /// knows gets its value, and one that both know the value that the rule takes. The other map
-    /// keeps its voxels; both are pruned.
+    /// Takes in what another map of the same resolution and log-odds knows: a voxel that one of
+    /// them knows gets its value, and one that both know the value that the rule takes. The other
+    /// map keeps its voxels; both are pruned.
     void merge(map &other, rule by = rule::first) {
         if (this == &other) return prune();
         details named{};
