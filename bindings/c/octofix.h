@@ -127,7 +127,7 @@ typedef struct octofix_point_edit {
     uint32_t event;
     int32_t number;
 } octofix_point_edit;
-typedef octofix_point_edit octofix_edit_t; /* the same, as programs of 1.0 have it */
+typedef octofix_point_edit octofix_edit_t; /* an older name of it */
 
 /* How a scan is to be done. A negative range is none. Where hit and miss are both 0, they are those
  * of the map; else they are as in octofix_odds. */
