@@ -19,7 +19,7 @@ PROVED = """\
 The kit builds a program or a library only where it has proved each function of it and of the crates
 below it, and writes the number of the logic by which it proved into the section .comment:
 
-    readelf -p .comment lib/liboctofix.so.1      # rattle logic={logic}
+    readelf -p .comment lib/liboctofix.so.1      # rattle logic={logic:.16}..
 
 Who makes a file can write such a line too, so it is a label and no seal. Whoever has the kit makes
 the same bytes, in any folder, of a clone of that commit:
