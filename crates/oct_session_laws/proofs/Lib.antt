@@ -14,3 +14,4 @@ pub mod LoadedBack
 pub mod Allowed
 pub mod BlockReplies
 pub mod Summed
+pub mod DrillEnds

@@ -15,7 +15,7 @@ use Rattle.oct_session.specs.Session.{last_progress, session}
 use Rattle.oct_session.specs.Setup.{Setup}
 use Rattle.oct_session.proofs.Progresses.{progress_push, progress_grows, after_answered}
 use Rattle.oct_session_laws.specs.GivenBack.{TwoLines, up_to_second, lines_in, RepliesTo}
-use Rattle.oct_session_laws.specs.GivenBack.{last_state}
+use Rattle.oct_session_laws.specs.GivenBack.{state_behind}
 
 -- the text of a session begins with the replies to its lines
 abbrev BeginsWith : Progress → Outcome → Type 0
@@ -57,7 +57,7 @@ pub told_and_left : (o : Setup) (files : Files) (bytes : List ℕ) (t : TwoLines
     (P : State → Type 0) → lines_of o bytes ≡ lines_in t
     → (progress o (Some files) (up_to_second t)).has_quit ≡ false
     → Does o (progress o (Some files) (up_to_second t)) t.second reply P →
-    RepliesTo o files bytes t reply × (t.after ≡ [] → P (last_state o files bytes))
+    RepliesTo o files bytes t reply × P (state_behind o files t)
 told_and_left o files bytes t reply P script runs does =
     let up : List Line = up_to_second t in
     let r : Progress = progress o (Some files) up in
@@ -78,7 +78,5 @@ told_and_left o files bytes t reply P script runs does =
             ∙ append_assoc (r.text ++ reply_text reply) g.0 s.0
             ∙ append_assoc r.text (reply_text reply) (g.0 ++ s.0);
       },
-      λ none. subst (λ (x : Progress). P (state_after o x.history))
-          (sym (ap (progress o (Some files)) (script ∙ ap (λ a. up ++ t.second ∷ a) none) ∙ pushed))
-          does.state,
+      subst (λ (x : Progress). P (state_after o x.history)) (sym pushed) does.state,
     )

@@ -18,7 +18,7 @@ use Rattle.oct_session.specs.Commands.{Saving}
 use Rattle.oct_session.specs.FileCommands.{snapshot_file}
 use Rattle.oct_session.specs.History.{State, state_after}
 use Rattle.oct_session.specs.Session.{Progress, effect_of, next_command, after_line, progress}
-use Rattle.oct_session.specs.Session.{lines_of, last_progress, session}
+use Rattle.oct_session.specs.Session.{lines_of, session}
 use Rattle.oct_session.specs.Setup.{Setup}
 
 -- ---- what holds between any two lines
@@ -87,9 +87,10 @@ pub record AreKeptApart (o : Setup) (files : Files) (bytes name : List ℕ) (t :
 abbrev pub state_then : Setup → Files → TwoLines → State
 state_then o files t = state_after o (progress o (Some files) t.before).history
 
--- the state that a session over these bytes leaves, for which its map then stands
-abbrev pub last_state : Setup → Files → List ℕ → State
-last_state o files bytes = state_after o (last_progress o (Some files) bytes).history
+-- the state right behind the second one
+abbrev pub state_behind : Setup → Files → TwoLines → State
+state_behind o files t =
+    state_after o (progress o (Some files) (up_to_second t ++ t.second ∷ [])).history
 
 -- the text of a session over these bytes has this reply to the second line, right behind the
 -- replies to all lines before it
@@ -116,7 +117,7 @@ pub record IsGivenBack (old new : State) : Type 0 where
   pub update_box : new.base.update_box ≡ old.base.update_box
 
 -- The restore isn't refused, and replies with the groups that the values need which were there when
--- the snapshot was written. Where it is the last line, all is given back in the end.
+-- the snapshot was written. Right behind it all is given back, whatever lines follow.
 pub record GivesBack (o : Setup) (files : Files) (bytes : List ℕ) (t : TwoLines) : Type 0 where
   pub told : RepliesTo o files bytes t (Restored (group_count (state_then o files t).values))
-  pub left : t.after ≡ [] → IsGivenBack (state_then o files t) (last_state o files bytes)
+  pub left : IsGivenBack (state_then o files t) (state_behind o files t)

@@ -1,5 +1,5 @@
 -- What a save keeps, and a load of its name gives back, within one session.
-use Rattle.std.specs.Prelude.{◌≡◌, ℕ, List, []}
+use Rattle.std.specs.Prelude.{◌≡◌, ℕ, List}
 use Rattle.oct_bt.specs.Canonical.{canonical_size}
 use Rattle.oct_bt.specs.Classes.{value_for}
 use Rattle.oct_io.specs.Files.{Files}
@@ -8,7 +8,7 @@ use Rattle.oct_script.specs.declared.command.Command.TheVariants.{Save, Load}
 use Rattle.oct_script.specs.declared.reply.Reply.TheVariants.{Loaded}
 use Rattle.oct_values.specs.Classes.{Classes, classes_of}
 use Rattle.oct_session_laws.specs.GivenBack.{TwoLines, AreKeptApart, RepliesTo, state_then}
-use Rattle.oct_session_laws.specs.GivenBack.{last_state}
+use Rattle.oct_session_laws.specs.GivenBack.{state_behind}
 use Rattle.oct_session.specs.History.{State}
 use Rattle.oct_session.specs.Setup.{Setup}
 
@@ -28,8 +28,8 @@ pub record IsLoadedBack (old new : State) : Type 0 where
   pub values : (k : Voxel) → IsInMap k
       → new.values k ≡ value_for new.base.odds (classes_in old k)
 
--- The load isn't refused, and replies with the number of nodes of the file that was saved. Where it
--- is the last line, the classes are those that were saved in the end.
+-- The load isn't refused, and replies with the number of nodes of the file that was saved. Right
+-- behind it the classes are those that were saved, whatever lines follow.
 pub record LoadsBack (o : Setup) (files : Files) (bytes : List ℕ) (t : TwoLines) : Type 0 where
   pub told : RepliesTo o files bytes t (Loaded (canonical_size (classes_in (state_then o files t))))
-  pub left : t.after ≡ [] → IsLoadedBack (state_then o files t) (last_state o files bytes)
+  pub left : IsLoadedBack (state_then o files t) (state_behind o files t)

@@ -1,6 +1,7 @@
 -- What the replies of a session come to, as plain sums over them.
-use Rattle.std.specs.Prelude.{◌≡◌, ℕ, List, [], ◌∷◌, ◌++◌, Option, Some, None, sum_by}
-use Rattle.std.specs.Prelude.{if◌then◌else◌}
+use Rattle.std.specs.Prelude.{◌≡◌, ◌<◌, ◌≤◌, ◌^◌, ℕ, List, [], ◌∷◌, ◌++◌, Option, Some, None}
+use Rattle.std.specs.Prelude.{sum_by, if◌then◌else◌}
+use Rattle.oct_ending.specs.Answer.{Outcome}
 use Rattle.oct_gen.specs.Script.{script_of}
 use Rattle.oct_io.specs.Files.{Files, no_files}
 use Rattle.oct_script.specs.Lines.{Line}
@@ -9,6 +10,7 @@ use Rattle.oct_script.specs.declared.reply.Reply.TheVariants.{Scanned, Refused}
 use Rattle.oct_session.specs.Drill.{drill_setup}
 use Rattle.oct_session.specs.ScanBlock.{end_reply}
 use Rattle.oct_session.specs.Session.{Progress, start, effect_of, after_line, progress, lines_of}
+use Rattle.oct_session.specs.Session.{session}
 use Rattle.oct_session.specs.Setup.{Setup}
 use Rattle.oct_session.specs.declared.tally.Tally.{Tally}
 
@@ -35,6 +37,17 @@ abbrev pub drill_replies : ℕ → ℕ → ℕ → List (Option Reply)
 drill_replies seed scans points =
     all_replies drill_setup (Some no_files) (lines_of drill_setup (script_of seed scans points))
 
+-- the session over it, with no files
+abbrev pub drill_session : ℕ → ℕ → ℕ → Outcome
+drill_session seed scans points =
+    session drill_setup (Some no_files) (script_of seed scans points)
+
+-- the numbers of a drill are as its words may have them
+pub record IsDrill (seed scans points : ℕ) : Type 0 where
+  pub low : seed < 2 ^ 64
+  pub few_scans : scans ≤ 1000
+  pub few_points : points ≤ 100000
+
 -- the voxels that a scan hit, of which its reply tells
 abbrev pub hits_in : Option Reply → ℕ
 hits_in (Some (Scanned done)) = done.hits
@@ -55,3 +68,9 @@ pub record IsSummed (t : Tally) (replies : List (Option Reply)) : Type 0 where
   pub refused : t.refused ≡ sum_by refusals_in replies
   pub hits : t.hits ≡ sum_by hits_in replies
   pub frees : t.frees ≡ sum_by frees_in replies
+
+-- each number is below this one
+pub record IsBelow (most : ℕ) (t : Tally) : Type 0 where
+  pub refused : t.refused < most
+  pub hits : t.hits < most
+  pub frees : t.frees < most

@@ -1,5 +1,5 @@
 //! What the definitions come to, with nothing to compute.
-ghost use Rattle.std.specs.Prelude.{◌≡◌, ◌≤◌, ℕ, List, Option, IfSome};
+ghost use Rattle.std.specs.Prelude.{◌≡◌, ◌≤◌, ◌^◌, ℕ, List, Option, IfSome};
 ghost use Rattle.oct_key.specs.Voxel.{Voxel};
 ghost use Rattle.oct_values.specs.Counts.{group_count};
 ghost use Rattle.oct_io.specs.Files.{Files};
@@ -7,8 +7,9 @@ ghost use Rattle.oct_script.specs.Lines.{Line};
 ghost use Rattle.oct_session_laws.specs.BlockReply.{IsBlock, RepliesOnce};
 ghost use Rattle.oct_session_laws.specs.GivenBack.{IsSetUp, IsState};
 ghost use Rattle.oct_session_laws.specs.GivenBack.{TwoLines, AreSnapshotAndRestore, GivesBack};
-ghost use Rattle.oct_session_laws.specs.Sums.{IsSummed, drill_replies};
-ghost use Rattle.oct_session.specs.Drill.{drilled};
+ghost use Rattle.oct_session_laws.specs.Sums.{IsSummed, IsBelow, IsDrill};
+ghost use Rattle.oct_session_laws.specs.Sums.{drill_replies, drill_session};
+ghost use Rattle.oct_session.specs.Drill.{drilled, drill};
 ghost use Rattle.oct_session_laws.specs.LoadedBack.{AreSaveAndLoad, LoadsBack};
 ghost use Rattle.oct_session.specs.History.{History, state_after, value_after, alone_after};
 ghost use Rattle.oct_session.specs.Session.{Progress, progress};
@@ -53,10 +54,10 @@ pub fn states_stay_sound<F: Store>(options: &Options, store: &F)
 
 /// A restore gives back what the snapshot of that name kept, and isn't refused, whatever stands
 /// between them: scans, edits, a clear, loads, other files, other log-odds. No line between writes
-/// that file, and the snapshot has at most `2^30` bytes. Its reply, in the text
-/// of the session, has the number of groups of then; and where it is the last line, every voxel has
-/// the value that it had at the snapshot, and the session goes by the log-odds and the box of then.
-/// The files that are there at first are those that a store tells. A law, with nothing to compute.
+/// that file, and the snapshot has at most `2^30` bytes. Its reply, in the text of the session, has
+/// the number of groups of then; and right behind it, whatever follows, every voxel has the value
+/// that it had at the snapshot, and the session goes by the log-odds and the box of then. The files
+/// that are there at first are those that a store tells. A law, with nothing to compute.
 pub fn snapshots_are_restored<F: Store>(options: &Options, store: &F)
     ensures { IfSome (F.files store.now) (λ files. (bytes name : List ℕ) (t : TwoLines)
         → AreSnapshotAndRestore options.now files bytes name t
@@ -67,10 +68,9 @@ pub fn snapshots_are_restored<F: Store>(options: &Options, store: &F)
 
 /// A load gives back the classes that the save of that name wrote, and isn't refused, whatever
 /// stands between them: scans, edits, a clear, loads, other files, other log-odds, as long as no
-/// line between writes that file. Its reply, in
-/// the text of the session, has the number of nodes of the file that was saved; and where it is the
-/// last line, each voxel has the class that it had at the save, with a value that is as sure of it
-/// as can be. A law, with nothing to compute.
+/// line between writes that file. Its reply, in the text of the session, has the number of nodes of
+/// the file that was saved; and right behind it, whatever follows, each voxel has the class that it
+/// had at the save, with a value that is as sure of it as can be. A law, with nothing to compute.
 pub fn saves_are_loaded(options: &Options)
     ensures { (files : Files) (bytes name : List ℕ) (t : TwoLines)
         → AreSaveAndLoad options.now files bytes name t
@@ -94,4 +94,18 @@ pub fn blocks_have_one_reply()
 pub fn drills_sum_up()
     ensures { (seed scans points : ℕ)
         → IsSummed (drilled seed scans points).tally (drill_replies seed scans points) }
+{}
+
+/// A drill ends with the status of the session over its script: refused where a reply is a refusal,
+/// and else done. A law, with nothing to compute.
+pub fn drills_end_as_sessions()
+    ensures { (seed scans points : ℕ) → IsDrill seed scans points
+        → (drill seed scans points).status ≡ (drill_session seed scans points).status }
+{}
+
+/// The sums that a drill tells of are below `2^64`, so that none is cut off. A law, with nothing to
+/// compute.
+pub fn drills_stay_within()
+    ensures { (seed scans points : ℕ) → IsDrill seed scans points
+        → IsBelow (2 ^ 64) (drilled seed scans points).tally }
 {}

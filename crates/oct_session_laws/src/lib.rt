@@ -14,7 +14,9 @@
 //! - [`blocks_have_one_reply`]: the block of a scan has one reply, and the first of its faults
 //!   decides which; it is done as a whole or not at all, and leaves the files as they were
 //!   (`specs/BlockReply.antt`).
-//! - [`drills_sum_up`]: what a drill tells of its replies are sums over them (`specs/Sums.antt`).
+//! - [`drills_sum_up`], [`drills_stay_within`]: what a drill tells of its replies are sums over
+//!   them, below `2^64` (`specs/Sums.antt`); [`drills_end_as_sessions`]: its status is that of the
+//!   session over its script.
 //!
 //! Nothing stands on this crate, so that the program's first start need not wait for it. It stands
 //! on `oct_session`, whose definitions it speaks of.
@@ -23,6 +25,7 @@
 mod laws;
 
 pub use laws::{
-    blocks_have_one_reply, drills_sum_up, groups_stay_within, saves_are_loaded,
-    snapshots_are_restored, states_stay_sound, values_are_folds,
+    blocks_have_one_reply, drills_end_as_sessions, drills_stay_within, drills_sum_up,
+    groups_stay_within, saves_are_loaded, snapshots_are_restored, states_stay_sound,
+    values_are_folds,
 };
