@@ -1,7 +1,7 @@
 #!/usr/bin/env python3
-"""Counts how often a session writes, and talks to one line by line. Fails where the replies of one
-read are written by more writes than they need, or where a reply isn't there before the next line is
-asked.
+"""Counts how often a session writes, and talks to one line by line. Fails where the replies to the
+questions of one read are written by more writes than they need, where two edits share a write, or
+where a reply isn't there before the next line is asked.
 
     bench/writes.py [PROGRAM]
 
@@ -47,7 +47,7 @@ def writes_of(script):
 
 
 def few_writes(line, reply):
-    """A line many times over: a write for each read, and for each 4,096 bytes of replies."""
+    """A question many times over: a write for each read, and for each 4,096 bytes of replies."""
     script, replies = line * LINES, reply * LINES
     most = len(script) // MOST_READ + 1 + len(replies) // MOST_HELD
     writes = writes_of(script)
@@ -55,11 +55,22 @@ def few_writes(line, reply):
         b"".join(writes) == replies and len(writes) <= most, len(writes))
 
 
-def files_in_order():
-    """What comes before a line that names a file is written first, blanks before it or not."""
-    writes = writes_of(b"hit 0 0 0\nclear\nhit 0 0 0\nsave m\nclear\n\tload m\nget 0 0 0 16\n")
-    wanted = [b"ok\nok\nok\n", b"saved 169\nok\n", b"loaded 17\nknown 3500 occupied\n"]
-    say("the replies before a line that names a file are written first", writes == wanted, writes)
+def one_write_each(line, reply):
+    """An edit many times over: a write for each, before the next one is done."""
+    writes = writes_of(line * LINES)
+    say(f"{LINES} times {line.decode().rstrip()!r} take as many writes",
+        writes == [reply] * LINES, len(writes))
+
+
+def changes_in_order():
+    """What comes before a change of map or files is written first; what changes nothing isn't."""
+    writes = writes_of(b"hit 0 0 0\nget 0 0 0 16\nhit x\ncounts\n# aside\ncast 0 0 0 0 0 0\nclear\n"
+                       b"\thit 0 0 0\nsave m\nscan 0 0 0 1 0 0 0 all\np 0 0 0\nend\nload m\n"
+                       b"get 0 0 0 16\n")
+    wanted = [b"ok\nknown 850 occupied\nrefused 29 Syntax line 3 column 5\n",
+              b"groups 16 nodes 17\ncast hit 32768 32768 32768\n", b"ok\n", b"ok\n",
+              b"saved 169\n", b"ok hits 1 frees 0\n", b"loaded 17\nknown 3500 occupied\n"]
+    say("the replies before a change are written first", writes == wanted, writes)
 
 
 def dialogue():
@@ -78,9 +89,10 @@ def dialogue():
 
 
 def main():
-    few_writes(b"hit 0 0 0\n", b"ok\n")
     few_writes(b"get 1 0 0 16\n", b"unknown\n")
-    files_in_order()
+    few_writes(b"cast 0 0 0 1 0 0\n", b"cast unknown 32768 32768 32768\n")
+    one_write_each(b"hit 0 0 0\n", b"ok\n")
+    changes_in_order()
     dialogue()
     sys.exit(failed != 0)
 

@@ -17,8 +17,7 @@ use Rattle.oct_ending.specs.Whole.{IsWhole}
 use Rattle.oct_session.specs.FileCommands.{classes_file}
 use Rattle.oct_session.specs.Leaving as lent
 use Rattle.oct_session.specs.Leaving.{Desk, IsLikeAfter}
-use Rattle.oct_session.specs.Session.{Progress, after_lines, last_progress, session, ReadsTold}
-use Rattle.oct_script.specs.Lines.{Line}
+use Rattle.oct_session.specs.Session.{Progress, last_progress, session, ReadsTold}
 use Rattle.oct_session.specs.Setup.{Setup}
 use Rattle.oct_ending.specs.declared.status.Status.{Status}
 use Rattle.oct_ending.specs.declared.status.Status.TheVariants as status
@@ -190,37 +189,35 @@ zero_stays (inr last) = omega (arith, last.0)
 
 -- what a session leaves that runs out of memory, where its sink takes none
 calm_memory : (o : Setup) (saved : Option (List ℕ)) (p q : Progress) (told : List ℕ)
-    (ahead : List Line) (d : Desk) → lent.HasLeft o saved p q told ahead d (Rose 0 0) status.Memory
-    → lent.HasLeft o saved p q told ahead d ⊥ status.Memory
-calm_memory o saved p q told ahead d (inl ran) = absurd (zero_stays ran.0)
-calm_memory o saved p q told ahead d (inr own) = inr own
+    (d : Desk) → lent.HasLeft o saved p q told d (Rose 0 0) status.Memory
+    → lent.HasLeft o saved p q told d ⊥ status.Memory
+calm_memory o saved p q told d (inl ran) = absurd (zero_stays ran.0)
+calm_memory o saved p q told d (inr own) = inr own
 
-calm_between : {o : Setup} {saved : Option (List ℕ)} {p q : Progress} {ahead : List Line}
+calm_between : {o : Setup} {saved : Option (List ℕ)} {p q : Progress}
     {old new : Option (List ℕ)} {d : Desk} (status : Status)
-    → ((saved : Option (List ℕ)) (p q : Progress) (told : List ℕ) (ahead : List Line)
-    → lent.HasLeft o saved p q told ahead d (Rose 0 0) status
-    → lent.HasLeft o saved p q told ahead d ⊥ status)
-    → lent.IsHaltedBetween o saved p q ahead old new d (Rose 0 0) status
-    → lent.IsHaltedBetween o saved p q ahead old new d ⊥ status
-calm_between {o} {saved} {p} {q} {ahead} status left h = record {
+    → ((saved : Option (List ℕ)) (p q : Progress) (told : List ℕ)
+    → lent.HasLeft o saved p q told d (Rose 0 0) status
+    → lent.HasLeft o saved p q told d ⊥ status)
+    → lent.IsHaltedBetween o saved p q old new d (Rose 0 0) status
+    → lent.IsHaltedBetween o saved p q old new d ⊥ status
+calm_between {o} {saved} {p} {q} status left h = record {
   cut = h.cut;
-  done = h.done;
-  has_left = left saved p (after_lines o q ahead) h.cut.told ahead h.has_left;
+  has_left = left saved p q h.cut.told h.has_left;
   asked = h.asked;
 }
 
 -- a halt of such a session
 calm_halted : (o : Setup) (files : Option Files) (bytes : List ℕ) (d : Desk) (status : Status)
-    → ((saved : Option (List ℕ)) (p q : Progress) (told : List ℕ) (ahead : List Line)
-    → lent.HasLeft o saved p q told ahead d (Rose 0 0) status
-    → lent.HasLeft o saved p q told ahead d ⊥ status)
+    → ((saved : Option (List ℕ)) (p q : Progress) (told : List ℕ)
+    → lent.HasLeft o saved p q told d (Rose 0 0) status
+    → lent.HasLeft o saved p q told d ⊥ status)
     → lent.IsHaltedIn o files bytes None None d (Rose 0 0) status
     → lent.IsHaltedIn o files bytes None None d ⊥ status
 calm_halted o files bytes d status left (inl h) = inl (record {
   before = h.before;
   line = h.line;
-  ahead = h.ahead;
-  rest = h.rest;
+  behind = h.behind;
   split = h.split;
   at = calm_between status left h.at;
 })
@@ -251,11 +248,11 @@ stopped_ends o files bytes left v u d status.WriteFault going calm unwritten end
 stopped_ends o files bytes left v u d status.Memory going calm unwritten ends leaves = (
   inl (record { unwritten = unwritten; stopped = ends }),
   inl (calm_halted o files bytes d status.Memory
-      (λ saved p q told ahead. calm_memory o saved p q told ahead d) leaves),
+      (λ saved p q told. calm_memory o saved p q told d) leaves),
 )
 stopped_ends o files bytes left v u d status.StoreFault going calm unwritten ends leaves = (
   record { unwritten = unwritten; stopped = ends },
-  calm_halted o files bytes d status.StoreFault (λ saved p q told ahead left. left) leaves,
+  calm_halted o files bytes d status.StoreFault (λ saved p q told left. left) leaves,
 )
 
 -- a build whose script hasn't ended

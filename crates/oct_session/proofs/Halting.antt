@@ -22,7 +22,7 @@ use Rattle.oct_session.specs.Commands.{file_saved}
 use Rattle.oct_io.specs.Taken.{IsBegun}
 use Rattle.oct_session.specs.Ending.{replies_within, HasReplied}
 use Rattle.oct_session.specs.Leaving.{Desk, HasAsked, IsLikeAfter, HasLeft, IsCutBetween}
-use Rattle.oct_session.specs.Leaving.{IsAhead, IsHaltedBetween, IsHaltedBy, IsHalted}
+use Rattle.oct_session.specs.Leaving.{IsHaltedBetween, IsHaltedBy, IsHalted}
 use Rattle.oct_session.specs.Session.{Progress, effect_of, next_command, after_line, progress}
 use Rattle.oct_session.specs.Session.{ended, closed}
 use Rattle.oct_session.specs.ScanBlock.{end_reply}
@@ -67,32 +67,27 @@ cut_untold w v s p q text running at before is heard = record {
 
 -- what is left where all was done
 pub left_all : {short : Type 0} (o : Setup) (saved : Option (List ℕ)) (d : Desk) (p q : Progress)
-    (told : List ℕ)
-    (ahead : List Line) (fault : SinkFault) → IsShort fault short → IsLikeAfter o q d
-    → HasLeft o saved p q told ahead d short (status_of (stop_of_sink fault))
-left_all o saved d p q told ahead sink_fault.Failed ran all = all
-left_all o saved d p q told ahead sink_fault.Memory ran all = inl (ran refl, all)
+    (told : List ℕ) (fault : SinkFault) → IsShort fault short → IsLikeAfter o q d
+    → HasLeft o saved p q told d short (status_of (stop_of_sink fault))
+left_all o saved d p q told sink_fault.Failed ran all = all
+left_all o saved d p q told sink_fault.Memory ran all = inl (ran refl, all)
 
--- the same where no line is ahead, and it may be that nothing was told
+-- the same where it may be that nothing was told
 left_cut : {short : Type 0} (o : Setup) (saved : Option (List ℕ)) (d : Desk) (p q : Progress)
     (told : List ℕ) (fault : SinkFault) → (told ≡ []) ⊎ IsShort fault short → IsLikeAfter o q d
-    → HasLeft o saved p q told [] d short (status_of (stop_of_sink fault))
+    → HasLeft o saved p q told d short (status_of (stop_of_sink fault))
 left_cut o saved d p q told sink_fault.Failed by all = all
-left_cut o saved d p q told sink_fault.Memory (inl none) all = inr (none, refl, inl all)
+left_cut o saved d p q told sink_fault.Memory (inl none) all = inr (none, inl all)
 left_cut o saved d p q told sink_fault.Memory (inr ran) all = inl (ran refl, all)
-
--- no line is done ahead
-pub none_ahead : (o : Setup) (p : Progress) (written : ℕ) → IsAhead o p [] written
-none_ahead o p written = record { unasked = refl; few = λ n less. absurd (omega (arith, less)) }
 
 -- what a line leaves of which nothing was told
 left_beside : (short : Type 0) (o : Setup) (d : Desk) (p : Progress) (line : Line)
     (fault : StoreFault)
     → StandsBeside o d p line fault →
-    HasLeft o (file_saved (next_command p line)) p (after_line o p line) [] [] d short
+    HasLeft o (file_saved (next_command p line)) p (after_line o p line) [] d short
     (status_of (stop_of_store fault))
-left_beside short o d p line store_fault.Failed torn = (refl, refl, torn.0, torn.1)
-left_beside short o d p line store_fault.Memory some = inr (refl, refl, some)
+left_beside short o d p line store_fault.Failed torn = (refl, torn.0, torn.1)
+left_beside short o d p line store_fault.Memory some = inr (refl, some)
 
 -- what a line writes
 text_line : (o : Setup) (s : Session) (line : Line) (p : Progress) → s.has_quit ≡ false
@@ -112,7 +107,7 @@ heard_line o p line running (inr some) =
 pub halted_untold : {short : Type 0} (o : Setup) (w v : Option (List ℕ)) (d e : Desk) (s : Session)
     (line : Line) (p : Progress) (fault : StoreFault) → s.has_quit ≡ false → HasReached o w v d s p
     → HasFailedAt o e p line fault
-    → IsHaltedBy o p line [] w v e short (status_of (stop_of_store fault))
+    → IsHaltedBy o p line w v e short (status_of (stop_of_store fault))
 unfolding cut_untold
 halted_untold {short} o w v d e s line p fault running at stopped =
     record {
@@ -120,7 +115,6 @@ halted_untold {short} o w v d e s line p fault running at stopped =
           (text_of (effect_of o p line).reply) running at.between.step at.written
           (text_line o s line p running at.between.step)
           (heard_line o p line (sym at.between.step.has_quit ∙ running) stopped.heard);
-      done = none_ahead o (after_line o p line) (length (p.text ++ []));
       has_left = left_beside short o e p line fault stopped.beside;
       asked = stopped.asked;
     }
@@ -247,10 +241,9 @@ closing_cut (Err x) fault v u s r text k same ran running is told less written =
 pub halted_closed : {short : Type 0} (o : Setup) (w v u : Option (List ℕ)) (d : Desk) (s : Session)
     (p : Progress)
     (fault : SinkFault) → HasReached o w v d s p → IsCutBy p (closed p) w u short fault →
-    IsHaltedBetween o None p (closed p) [] w u d short (status_of (stop_of_sink fault))
+    IsHaltedBetween o None p (closed p) w u d short (status_of (stop_of_sink fault))
 halted_closed o w v u d s p fault at end = record {
   cut = end.cut;
-  done = none_ahead o (closed p) (length (p.text ++ end.cut.told));
   has_left = left_cut o None d p (closed p) end.cut.told fault end.by
       (like_closed o d p at.between.like);
   asked = subst (HasAsked d) (sym (closed_asks p)) at.between.asked;
@@ -260,10 +253,10 @@ halted_closed o w v u d s p fault at end = record {
 pub halted_last : {short : Type 0} (o : Setup) (files : Option Files) (lines : List Line)
     (line : Line)
     (w v : Option (List ℕ)) (d : Desk) (status : Status)
-    → IsHaltedBy o (progress o files lines) line [] w v d short status →
+    → IsHaltedBy o (progress o files lines) line w v d short status →
     IsHalted o files (lines ++ line ∷ []) w v d short status
 halted_last o files lines line w v d status at =
-    record { before = lines; line = line; ahead = []; rest = []; split = refl; at = at }
+    record { before = lines; line = line; behind = []; split = refl; at = at }
 
 -- more lines after them
 pub halted_more : {short : Type 0} (o : Setup) (files : Option Files) (lines more : List Line)
@@ -272,10 +265,8 @@ pub halted_more : {short : Type 0} (o : Setup) (files : Option Files) (lines mor
 halted_more o files lines more w v d status h = record {
   before = h.before;
   line = h.line;
-  ahead = h.ahead;
-  rest = h.rest ++ more;
-  split = ap (λ x. x ++ more) h.split ∙ append_assoc h.before (h.line ∷ (h.ahead ++ h.rest)) more
-      ∙ ap (λ x. h.before ++ h.line ∷ x) (append_assoc h.ahead h.rest more);
+  behind = h.behind ++ more;
+  split = ap (λ x. x ++ more) h.split ∙ append_assoc h.before (h.line ∷ h.behind) more;
   at = h.at;
 }
 
@@ -314,12 +305,12 @@ pub halted_begun : {short : Type 0} (o : Setup) (files : Option Files) (lines : 
     → IsBegun (progress o files lines).text w v
 halted_begun o files lines w v d status h =
     let p : Progress = progress o files h.before in
-    let s = progress_grows o files (h.before ++ h.line ∷ []) (h.ahead ++ h.rest) in
+    let s = progress_grows o files (h.before ++ h.line ∷ []) h.behind in
     let begun : IsBegun (progress o files (h.before ++ h.line ∷ [])).text w v =
     subst (λ (x : Progress). IsBegun x.text w v) (sym (progress_push o files h.before h.line))
     (between_begun p (after_line o p h.line) w v h.at.cut) in
     begun_more _ _ s.0 w v (ap (λ x. (progress o files x).text)
-    (split_at o files lines h.before (h.ahead ++ h.rest) h.line h.split) ∙ s.1) begun
+    (split_at o files lines h.before h.behind h.line h.split) ∙ s.1) begun
 
 -- and the store was asked once at most for each of them that names a file
 pub halted_asked : {short : Type 0} (o : Setup) (files : Option Files) (lines : List Line)
@@ -328,8 +319,8 @@ pub halted_asked : {short : Type 0} (o : Setup) (files : Option Files) (lines : 
     → HasAsked d (progress o files lines).asks
 halted_asked o files lines w v d status h =
     subst (λ x. HasAsked d (progress o files x).asks)
-    (sym (split_at o files lines h.before (h.ahead ++ h.rest) h.line h.split))
-    (asked_most d _ _ (asks_before o files (h.before ++ h.line ∷ []) (h.ahead ++ h.rest))
+    (sym (split_at o files lines h.before h.behind h.line h.split))
+    (asked_most d _ _ (asks_before o files (h.before ++ h.line ∷ []) h.behind)
     (subst (λ (x : Progress). HasAsked d x.asks) (sym (progress_push o files h.before h.line))
     h.at.asked))
 

@@ -6,7 +6,6 @@ use Rattle.std.proofs.Common.{length-drop, Result, Ok, Err, IfErr, IsErrAnd}
 use Rattle.std.proofs.Math.Seq.{take-append-add}
 use Rattle.std.proofs.lemmas.Bool.{cases_lt}
 use Rattle.std.proofs.lemmas.List.{take-append-drop}
-use Rattle.std.proofs.lemmas.List.Sums.{fold-append, fold_push}
 use Rattle.oct_io.specs.Files.{Files}
 use Rattle.oct_io.specs.Taken.{IsCutOff}
 use Rattle.oct_io.specs.Told.{Rose, appended}
@@ -18,37 +17,24 @@ use Rattle.oct_io.specs.declared.store.StoreFault.TheVariants as store_fault
 use Rattle.oct_script.specs.Lines.{Line}
 use Rattle.oct_script.specs.Replies.{text_of}
 use Rattle.oct_ending.specs.declared.stop.Stop.{Stop}
+use Rattle.oct_session.specs.declared.scan_block.ScanBlock.{ScanBlock}
 use Rattle.oct_session.specs.declared.session.Session.{Session}
-use Rattle.oct_session.specs.Commands.{NamesNoFile, asks_for, file_saved}
-use Rattle.oct_session.specs.Leaving.{Desk, HasAsked, IsAhead, IsHalted, IsKnown, IsLikeAfter}
-use Rattle.oct_session.specs.Session.{Progress, start, effect_of, next_command, after_line}
-use Rattle.oct_session.specs.Session.{after_lines, progress}
+use Rattle.oct_script.specs.declared.command.Command.{Command}
+use Rattle.oct_script.specs.declared.reply.Refusal.{Refusal}
+use Rattle.oct_session.specs.Commands.{command_on, may_change, file_saved}
+use Rattle.oct_session.specs.Leaving.{Desk, HasAsked, IsHalted, IsKnown, IsLikeAfter}
+use Rattle.oct_session.specs.Session.{Progress, effect_of, next_command, after_line, progress}
 use Rattle.oct_session.specs.Setup.{Setup}
-use Rattle.oct_session.specs.Standing.{seated, IsBetween, IsUnwritten, IsHolding, HasHeld, HasMoved}
+use Rattle.oct_session.specs.Standing.{seated, IsIdle, IsInStep, IsBetween, IsUnwritten, IsHolding}
+use Rattle.oct_session.specs.Standing.{HasHeld, HasMoved}
 use Rattle.oct_session.specs.Standing.{Adds, TakesLine, FailsLine, HoldsLine, HaltsLine}
 use Rattle.oct_session.specs.Standing.{StandsBeside, IsShort}
 use Rattle.oct_ending.specs.Stops.{stop_of_sink, stop_of_store, status_of}
-use Rattle.oct_session.proofs.Halting.{halted_last, halted_untold, left_all, none_ahead}
+use Rattle.oct_session.proofs.Effects.{same_command}
+use Rattle.oct_session.proofs.Halting.{halted_last, halted_untold, left_all}
+use Rattle.oct_session.proofs.Idle.{idle_none, idle_twice, idle_line, like_idle}
 use Rattle.oct_session.proofs.Pieces.{IsBeside}
-use Rattle.oct_session.proofs.Progresses.{progress_push, after_answered, asks_next}
-
--- the lines after one, from where it leads
-progress_ahead : (o : Setup) (files : Option Files) (lines before ahead : List Line) (line : Line)
-    → lines ≡ before ++ line ∷ ahead
-    → progress o files lines ≡ after_lines o (after_line o (progress o files before) line) ahead
-progress_ahead o files lines before ahead line split =
-    ap (λ x. progress o files x) split
-    ∙ fold-append (after_line o) (start files) before (line ∷ ahead)
-
--- a line that names no file asks nothing of the store
-unnamed_asks : (o : Setup) (p : Progress) (line : Line) → p.has_quit ≡ false → NamesNoFile line
-    → (after_line o p line).asks ≡ p.asks
-unnamed_asks o p line running none =
-    omega (
-      arith,
-      asks_next o p line running,
-      ap asks_for (none (is_some p.block) (p.line_count + 1)),
-    )
+use Rattle.oct_session.proofs.Progresses.{progress_push, after_answered}
 
 take_short : {A : Type 0} (front more : List A) (k : ℕ) → k < length front
     → take k (front ++ more) ≡ take k front
@@ -57,54 +43,28 @@ take_short (x ∷ front) more zero less = refl
 take_short (x ∷ front) more (suc k) less =
     ap (λ l. x ∷ l) (take_short front more k (omega (arith, less)))
 
-take_front : {A : Type 0} (front more : List A) (k : ℕ) → k ≡ length front
-    → take k (front ++ more) ≡ front
-take_front front more k size =
-    ap (λ n. take n (front ++ more)) (omega (arith, size)) ∙ take-append-add front more 0
-    ∙ append-nil front
-
--- one line more is done ahead
-ahead_push : (o : Setup) (p : Progress) (lines : List Line) (line : Line) (written : ℕ)
-    → IsAhead o p lines written
-    → (after_line o (after_lines o p lines) line).asks ≡ (after_lines o p lines).asks
-    → length (after_lines o p lines).text < written + 4096
-    → IsAhead o p (lines ++ line ∷ []) written
-ahead_push o p lines line written done same few = record {
-  unasked = ap (λ (x : Progress). x.asks) (fold_push (after_line o) p lines line) ∙ same
-      ∙ done.unasked;
-  few = λ n less. elim (cases_lt n (length lines)) [
-    | inl before ↦ subst (λ x. length (after_lines o p x).text < written + 4096)
-        (sym (take_short lines (line ∷ []) n before)) (done.few n before)
-    | inr behind ↦ subst (λ x. length (after_lines o p x).text < written + 4096)
-        (sym (take_front lines (line ∷ []) n
-        (omega (arith, less, behind, length-append lines (line ∷ []))))) few
-  ];
-}
-
+-- a line more that changes nothing
 unwritten_push : (o : Setup) (files : Option Files) (lines : List Line) (line : Line)
     (front : List ℕ) → IsUnwritten o files lines front
-    → (after_line o (progress o files lines) line).asks ≡ (progress o files lines).asks
-    → length (progress o files lines).text < length front + 4096
+    → IsIdle (progress o files lines) (after_line o (progress o files lines) line)
     → IsUnwritten o files (lines ++ line ∷ []) front
-unwritten_push o files lines line front h same few =
-    let p : Progress = progress o files h.before in
-    let ahead = progress_ahead o files lines h.before h.ahead h.line h.split in
+unwritten_push o files lines line front h idle =
+    let q : Progress = after_line o (progress o files h.before) h.line in
+    let p : Progress = progress o files lines in
     record {
       before = h.before;
       line = h.line;
-      ahead = h.ahead ++ line ∷ [];
+      behind = h.behind ++ line ∷ [];
       told = h.told;
       untold = h.untold;
       split = ap (λ x. x ++ line ∷ []) h.split
-          ∙ append_assoc h.before (h.line ∷ h.ahead) (line ∷ []);
+          ∙ append_assoc h.before (h.line ∷ h.behind) (line ∷ []);
       running = h.running;
       reply = h.reply;
       written = h.written;
       more = h.more;
-      done = ahead_push o (after_line o p h.line) h.ahead line (length (p.text ++ h.told)) h.done
-          (subst (λ (x : Progress). (after_line o x line).asks ≡ x.asks) ahead same)
-          (subst (λ (x : Progress). length x.text < length (p.text ++ h.told) + 4096) ahead
-          (subst (λ x. length (progress o files lines).text < length x + 4096) h.written few));
+      idle = subst (λ (x : Progress). IsIdle q x) (sym (progress_push o files lines line))
+          (idle_twice q p (after_line o p line) h.idle idle);
     }
 
 -- the reply of the last line ends what was written
@@ -122,7 +82,7 @@ unwritten_last o files lines line front held text k running split is least less 
     record {
       before = lines;
       line = line;
-      ahead = [];
+      behind = [];
       told = take n text;
       untold = drop n text;
       split = refl;
@@ -132,7 +92,8 @@ unwritten_last o files lines line front held text k running split is least less 
           (ap (λ x. take x (held ++ text)) size ∙ take-append-add held text n)
           ∙ sym (append_assoc front held (take n text)) ∙ ap (λ x. x ++ take n text) (sym split);
       more = omega (arith, length-drop n text, less, long, least);
-      done = none_ahead o (after_line o p line) (length (p.text ++ take n text));
+      idle = subst (λ (x : Progress). IsIdle (after_line o p line) x)
+          (sym (progress_push o files lines line)) (idle_none (after_line o p line));
     }
 
 -- a count that rose, and stood before where it had stood
@@ -149,14 +110,12 @@ halted_unwritten : {short : Type 0} (o : Setup) (files : Option Files)
 halted_unwritten o files whole lines more front w u d fault parts h wrote like asked ran =
     let p : Progress = progress o files h.before in
     let q : Progress = after_line o p h.line in
-    let ahead = progress_ahead o files lines h.before h.ahead h.line h.split in
     record {
       before = h.before;
       line = h.line;
-      ahead = h.ahead;
-      rest = more;
+      behind = h.behind ++ more;
       split = parts ∙ ap (λ x. x ++ more) h.split
-          ∙ append_assoc h.before (h.line ∷ h.ahead) more;
+          ∙ append_assoc h.before (h.line ∷ h.behind) more;
       at = record {
         cut = record {
           running = h.running;
@@ -166,10 +125,9 @@ halted_unwritten o files whole lines more front w u d fault parts h wrote like a
           written = wrote ∙ ap (appended w) h.written;
           more = inl h.more;
         };
-        done = h.done;
-        has_left = left_all o (file_saved (next_command p h.line)) d p (after_lines o q h.ahead)
-            h.told h.ahead fault ran (subst (λ (x : Progress). IsLikeAfter o x d) ahead like);
-        asked = subst (HasAsked d) (ap (λ (x : Progress). x.asks) ahead ∙ h.done.unasked) asked;
+        has_left = left_all o (file_saved (next_command p h.line)) d p q h.told fault ran
+            (like_idle o d q (progress o files lines) h.idle like);
+        asked = subst (HasAsked d) h.idle.asks asked;
       };
     }
 
@@ -197,11 +155,6 @@ holding_moved o files lines w v u held rest h (inr (wrote, none)) =
     (holding_none o files lines w u
     (gathered_whole (progress o files lines).text held w v u h.gathered wrote))
 
-moved_few : (v u : Option (List ℕ)) (held rest : List ℕ) → HasMoved v u held rest
-    → length held < 4096 → length rest < 4096
-moved_few v u held rest (inl (same, none)) few = omega (arith, few, ap length none)
-moved_few v u held rest (inr (wrote, none)) few = omega (arith, few, ap length none)
-
 cut_written : (w v u : Option (List ℕ)) (front told : List ℕ) → v ≡ appended w front
     → u ≡ appended v told → u ≡ appended w (front ++ told)
 cut_written w v u front told before wrote =
@@ -218,27 +171,43 @@ holding_cut o files whole lines more w v u held d fault parts h (k, less, wrote)
     (h.cut k less) (cut_written w v u h.gathered.front (take k held) h.gathered.written wrote) like
     asked ran
 
--- where a line is done behind some that are held, less than 4,096 bytes were
-held_few : (front held text : List ℕ) (k : ℕ) → text ≡ front ++ held → length held < 4096
-    → length text < length (front ++ take k held) + 4096
-held_few front held text k split few =
-    omega (arith, ap length split, length-append front held, length-append front (take k held), few)
+-- nothing is held before a line, or it changes nothing
+abbrev IsClear : Progress → Line → List ℕ → Type 0
+IsClear p line held = (held ≡ []) ⊎ (may_change (next_command p line) ≡ false)
 
--- a line that is done behind what is held names no file
-clear_asks : (o : Setup) (p : Progress) (line : Line) (held : List ℕ) (k : ℕ)
-    → p.has_quit ≡ false → k < length held → (held ≡ []) ⊎ NamesNoFile line
-    → (after_line o p line).asks ≡ p.asks
-clear_asks o p line held k running less (inl none) = absurd (omega (arith, less, ap length none))
-clear_asks o p line held k running less (inr none) = unnamed_asks o p line running none
+-- a line that is done behind what is held changes nothing
+clear_idle : (o : Setup) (p : Progress) (line : Line) (held : List ℕ) (k : ℕ)
+    → p.has_quit ≡ false → k < length held → IsClear p line held → IsIdle p (after_line o p line)
+clear_idle o p line held k running less (inl none) = absurd (omega (arith, less, ap length none))
+clear_idle o p line held k running less (inr same) = idle_line o p line running same
+
+-- the same of the next line of a session that holds this, where this block is open
+abbrev pub IsClearNext : List ℕ → Option ScanBlock → ℕ → Line → Type 0
+IsClearNext held block number line =
+    (held ≡ []) ⊎ (may_change (command_on (is_some block) number line) ≡ false)
+
+-- by the command that was read of it
+pub clear_next : (held : List ℕ) (block : Option ScanBlock) (number : ℕ) (line : Line)
+    (c : Result Command Refusal) → c ≡ command_on (is_some block) number line
+    → (held ≡ []) ⊎ (may_change c ≡ false) → IsClearNext held block number line
+clear_next held block number line c read clear =
+    subst (λ x. (held ≡ []) ⊎ (may_change x ≡ false)) read clear
+
+-- and where that session stands
+clear_read : (s : Session) (p : Progress) (line : Line) → IsInStep s p
+    → IsClearNext s.text.items s.block (s.line_count + 1) line → IsClear p line s.text.items
+clear_read s p line at clear =
+    subst (λ x. (s.text.items ≡ []) ⊎ (may_change x ≡ false))
+    (same_command s line p (command_on (is_some s.block) (s.line_count + 1) line) at refl) clear
 
 -- the reply of one line more
 holding_more : (o : Setup) (files : Option Files) (lines : List Line) (line : Line)
     (w v : Option (List ℕ)) (held held' text : List ℕ) → (progress o files lines).has_quit ≡ false
     → IsHolding o files lines w v held
     → text ≡ text_of (effect_of o (progress o files lines) line).reply → held' ≡ held ++ text
-    → (held ≡ []) ⊎ NamesNoFile line → length held < 4096
+    → IsClear (progress o files lines) line held
     → IsHolding o files (lines ++ line ∷ []) w v held'
-holding_more o files lines line w v held held' text running h told is clear few =
+holding_more o files lines line w v held held' text running h told is clear =
     let p : Progress = progress o files lines in
     let all : (after_line o p line).text ≡ p.text ++ text =
     ap (λ (x : Progress). x.text) (after_answered o p line running)
@@ -254,8 +223,7 @@ holding_more o files lines line w v held held' text running h told is clear few 
         | inl before ↦ subst (λ x. IsUnwritten o files (lines ++ line ∷ []) (h.gathered.front ++ x))
             (sym (take_short held text k before))
             (unwritten_push o files lines line (h.gathered.front ++ take k held) (h.cut k before)
-            (clear_asks o p line held k running before clear)
-            (held_few h.gathered.front held p.text k h.gathered.split few))
+            (clear_idle o p line held k running before clear))
         | inr behind ↦ unwritten_last o files lines line h.gathered.front held text k running
             h.gathered.split all behind less
       ];
@@ -298,10 +266,11 @@ held_moved o files lines w v u d s f beside moved at = record {
 
 -- a line that is answered behind what is held
 pub held_more : {H : Type 0} (o : Setup) (v x : Option (List ℕ)) (d e : H → Desk)
-    (s f t : Session) (line : Line) → s.has_quit ≡ false → IsBeside f s → length s.text.items < 4096
-    → HasMoved v x s.text.items f.text.items → (f.text.items ≡ []) ⊎ NamesNoFile line
-    → TakesLine o d e f t line → HoldsLine o (seated d v) (seated e x) s t line
-held_more o v x d e s f t line running beside few moved clear takes first files lines w known at =
+    (s f t : Session) (line : Line) → s.has_quit ≡ false → IsBeside f s
+    → HasMoved v x s.text.items f.text.items
+    → IsClearNext f.text.items f.block (f.line_count + 1) line → TakesLine o d e f t line
+    → HoldsLine o (seated d v) (seated e x) s t line
+held_more o v x d e s f t line running beside moved clear takes first files lines w known at =
     let p : Progress = progress o files lines in
     let push = progress_push o files lines line in
     let told : IsKnown (after_line o p line) = subst IsKnown push known in
@@ -312,8 +281,8 @@ held_more o v x d e s f t line running beside few moved clear takes first files 
       holding = holding_more o files lines line w x f.text.items t.text.items
           (text_of (effect_of o p line).reply) (sym at.between.step.has_quit ∙ running)
           (holding_moved o files lines w v x s.text.items f.text.items at.holding moved)
-          refl (takes.text first p told here) clear
-          (moved_few v x s.text.items f.text.items moved few);
+          refl (takes.text first p told here)
+          (clear_read f p line here.step clear);
     }
 
 -- a call that gives up when a part of what is held is written, before a line
@@ -357,62 +326,58 @@ halted_behind_line {short} (Err y) fault o v x u d e s t line is cut ran more =
 failed_cut : {short : Type 0} (o : Setup) (files : Option Files) (lines : List Line) (line : Line)
     (w v u : Option (List ℕ)) (held : List ℕ) (d : Desk) (fault : SinkFault) (own : StoreFault)
     (k : ℕ) → (progress o files lines).has_quit ≡ false → IsHolding o files lines w v held
-    → k < length held → u ≡ appended v (take k held) → (held ≡ []) ⊎ NamesNoFile line
-    → length held < 4096 → StandsBeside o d (progress o files lines) line own
+    → k < length held → u ≡ appended v (take k held)
+    → IsClear (progress o files lines) line held
+    → StandsBeside o d (progress o files lines) line own
     → HasAsked d (after_line o (progress o files lines) line).asks → IsShort fault short
     → IsHalted o files (lines ++ line ∷ []) w u d short (status_of (stop_of_sink fault))
-failed_cut o files lines line w v u held d fault store_fault.Failed k running h less wrote clear few
+failed_cut o files lines line w v u held d fault store_fault.Failed k running h less wrote clear
     torn asked ran =
-    absurd (omega (
-      arith,
-      torn.0,
-      clear_asks o (progress o files lines) line held k running less clear,
-    ))
-failed_cut o files lines line w v u held d fault store_fault.Memory k running h less wrote clear few
+    let idle = clear_idle o (progress o files lines) line held k running less clear in
+    absurd (omega (arith, torn.0, idle.asks))
+failed_cut o files lines line w v u held d fault store_fault.Memory k running h less wrote clear
     (inl all) asked ran =
     let p : Progress = progress o files lines in
     let push = progress_push o files lines line in
     halted_unwritten o files (lines ++ line ∷ []) (lines ++ line ∷ []) []
     (h.gathered.front ++ take k held) w u d fault (sym (append-nil (lines ++ line ∷ [])))
     (unwritten_push o files lines line (h.gathered.front ++ take k held) (h.cut k less)
-    (clear_asks o p line held k running less clear)
-    (held_few h.gathered.front held p.text k h.gathered.split few))
+    (clear_idle o p line held k running less clear))
     (cut_written w v u h.gathered.front (take k held) h.gathered.written wrote)
     (subst (λ (x : Progress). IsLikeAfter o x d) (sym push) all)
     (subst (λ (x : Progress). HasAsked d x.asks) (sym push) asked) ran
-failed_cut o files lines line w v u held d fault store_fault.Memory k running h less wrote clear few
+failed_cut o files lines line w v u held d fault store_fault.Memory k running h less wrote clear
     (inr none) asked ran =
+    let idle = clear_idle o (progress o files lines) line held k running less clear in
     holding_cut o files (lines ++ line ∷ []) lines (line ∷ []) w v u held d fault refl h
-    (k, less, wrote) none
-    (subst (HasAsked d) (clear_asks o (progress o files lines) line held k running less clear)
-    asked) ran
+    (k, less, wrote) none (subst (HasAsked d) idle.asks asked) ran
 
 pub halted_with_failed : {short : Type 0} {T H : Type 0} (r : Result T Stop) (fault : SinkFault)
     (own : StoreFault)
     (o : Setup) (v x u : Option (List ℕ)) (d e : H → Desk) (s f : Session) (line : Line)
     (held : List ℕ)
     → IsErrAnd r (λ y. y ≡ stop_of_sink fault) → s.has_quit ≡ false → IsBeside f s
-    → length s.text.items < 4096 → HasMoved v x s.text.items f.text.items
+    → HasMoved v x s.text.items f.text.items
     → held ≡ f.text.items → IsCutOff x u held → IsShort fault short
-    → (f.text.items ≡ []) ⊎ NamesNoFile line → FailsLine o d e f line own →
+    → IsClearNext f.text.items f.block (f.line_count + 1) line → FailsLine o d e f line own →
     IfErr r (λ stop. HaltsLine o (seated d v) (seated e u) s line short (status_of stop))
 halted_with_failed {short}
-    (Ok y) fault own o v x u d e s f line held is running beside few moved kept cut ran
+    (Ok y) fault own o v x u d e s f line held is running beside moved kept cut ran
     clear stopped = absurd is
-halted_with_failed {short} (Err y) fault own o v x u d e s f line held is running beside few moved
+halted_with_failed {short} (Err y) fault own o v x u d e s f line held is running beside moved
     kept
     (k, less, wrote)
     ran clear stopped = λ first files lines w known at.
     let p : Progress = progress o files lines in
-    let b = stopped first p (subst IsKnown (progress_push o files lines line) known)
-    (between_beside o (d first) s f p beside at.between) in
+    let here = between_beside o (d first) s f p beside at.between in
+    let b = stopped first p (subst IsKnown (progress_push o files lines line) known) here in
     subst (λ z. IsHalted o files (lines ++ line ∷ []) w u (e first) short (status_of z))
     (sym is)
     (failed_cut o files lines line w x u f.text.items (e first) fault own k
     (sym at.between.step.has_quit ∙ running)
     (holding_moved o files lines w v x s.text.items f.text.items at.holding moved)
-    (subst (λ l. k < length l) kept less) (wrote ∙ ap (λ l. appended x (take k l)) kept) clear
-    (moved_few v x s.text.items f.text.items moved few) b.beside b.asked ran)
+    (subst (λ l. k < length l) kept less) (wrote ∙ ap (λ l. appended x (take k l)) kept)
+    (clear_read f p line here.step clear) b.beside b.asked ran)
 
 -- a line that has failed, when all that was held is written
 pub halted_by_failed : {short : Type 0} {H : Type 0} (stop : Stop) (fault : StoreFault) (o : Setup)

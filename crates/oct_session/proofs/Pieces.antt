@@ -174,11 +174,11 @@ end_stopped (Err f) fault o a v u c d s t x y z same is goes cuts = λ first fil
     let p : Progress = progress o files (all_lines bytes) in
     let reached = goes first files w bytes at known in
     let end = cuts w p reached.between.step reached.written in
-    let halted : IsHaltedBetween o None p (closed p) [] w u (d first) (Rose y z)
+    let halted : IsHaltedBetween o None p (closed p) w u (d first) (Rose y z)
     (status_of (stop_of_sink fault)) = halted_closed o w v u (d first) t p fault reached end in (
-      inr (subst (λ f. IsHaltedBetween o None p (closed p) [] w u (d first) (Rose x z)
+      inr (subst (λ f. IsHaltedBetween o None p (closed p) w u (d first) (Rose x z)
           (status_of f)) (sym is)
-          (subst (λ n. IsHaltedBetween o None p (closed p) [] w u (d first) (Rose n z)
+          (subst (λ n. IsHaltedBetween o None p (closed p) w u (d first) (Rose n z)
           (status_of (stop_of_sink fault))) same halted)),
       replied_between o files bytes p (closed p) w u
           (progress_grows o files (ended_lines bytes) (last_line (rest_of bytes))) end.cut,

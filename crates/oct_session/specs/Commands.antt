@@ -1,6 +1,6 @@
 -- The command of a line, and the reply to it outside the block of a scan.
 use Rattle.std.specs.Prelude.{ℕ, ℤ, List, [], ◌∷◌, ⊤, Option, Some, None, is_some, Result, Ok, Err}
-use Rattle.std.specs.Prelude.{◌≡◌, Bool, true, false, if◌then◌else◌, option_map}
+use Rattle.std.specs.Prelude.{Bool, true, false, if◌then◌else◌, option_map}
 use Rattle.oct_io.specs.Files.{Files, saved}
 use Rattle.oct_key.specs.Values.{Values}
 use Rattle.oct_odds.specs.Odds.{Odds}
@@ -277,9 +277,28 @@ file_named command = named_in (asked_of command)
 abbrev pub file_saved : Result Command Refusal → Option (List ℕ)
 file_saved command = changed_by (asked_of command)
 
--- a line that names no file, inside the block of a scan or outside
-abbrev pub NamesNoFile : Line → Type 0
-NamesNoFile line = (inside : Bool) (number : ℕ) → file_named (command_on inside number line) ≡ None
+-- whether a question may change what later replies or the map depend on
+abbrev pub question_changes : Question → Bool
+question_changes (question.Get p depth) = false
+question_changes (question.List lo hi depth) = false
+question_changes (question.Cast origin end ignore) = false
+question_changes question.Counts = true
+question_changes question.Changes = false
+
+-- whether what does a command may change the map, or names a file
+abbrev pub kind_changes : Kind → Bool
+kind_changes (Orders order) = true
+kind_changes (Asks question) = question_changes question
+kind_changes (Names verb name) = true
+kind_changes Closes = true
+kind_changes Nothing = false
+kind_changes (Opens head) = false
+kind_changes (Adds p) = false
+
+-- whether a line's command may; a line that isn't in the grammar changes nothing
+abbrev pub may_change : Result Command Refusal → Bool
+may_change (Ok command) = kind_changes (kind_of command)
+may_change (Err refusal) = false
 
 -- how often a line asks the store that names this file, or none
 abbrev pub asks_for : Option (List ℕ) → ℕ

@@ -1,10 +1,8 @@
 -- What a load or a restore answers and does, by the file that it finds, and what a save or a
 -- snapshot puts there.
 use Rattle.std.specs.Prelude.{ℕ, List, [], ◌∷◌, length, ⊤, Option, Some, None, option_map, Result}
-use Rattle.std.specs.Prelude.{Ok, Err, ◌≡◌, ◌&&◌, nat_eq, false}
-use Rattle.oct_script.specs.Lines.{Line, Text}
+use Rattle.std.specs.Prelude.{Ok, Err}
 use Rattle.oct_script.specs.Replies.{file_refusal}
-use Rattle.oct_script.specs.Words.{is_blank}
 use Rattle.oct_bt.specs.declared.fault.BtFault.{BtFault}
 use Rattle.oct_bt.specs.DataClasses.{data_classes}
 use Rattle.oct_bt.specs.File.{FileRead, bt_text, reading}
@@ -98,17 +96,3 @@ snapshot_file s = snap_text s.base.res s.base.odds s.base.update_box s.values
 -- the reply to a save of these bytes
 abbrev pub save_reply : List ℕ → Option Reply
 save_reply bytes = Some (reply_of.Saved (length bytes))
-
--- two bytes that begin no line that names a file: neither a command that does nor a blank
-pub record IsOther (a b : ℕ) : Type 0 where
-  pub not_blank : is_blank a ≡ false
-  pub not_save : (nat_eq a 115 && nat_eq b 97) ≡ false
-  pub not_snapshot : (nat_eq a 115 && nat_eq b 110) ≡ false
-  pub not_load : (nat_eq a 108 && nat_eq b 111) ≡ false
-  pub not_restore : (nat_eq a 114 && nat_eq b 101) ≡ false
-
--- a line that is long, has fewer than two bytes, or begins with two that begin no line that names a
--- file
-abbrev pub BeginsOther : Line → Type 0
-BeginsOther (Text (a ∷ b ∷ rest)) = IsOther a b
-BeginsOther _ = ⊤

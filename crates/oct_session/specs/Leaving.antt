@@ -1,5 +1,5 @@
 -- What a session leaves of the map and the files that it was lent.
-use Rattle.std.specs.Prelude.{◌≡◌, ◌⊎◌, ℕ, ◌+◌, ◌<◌, length, List, [], ◌∷◌, ◌++◌, take, true, false}
+use Rattle.std.specs.Prelude.{◌≡◌, ◌⊎◌, ℕ, ◌<◌, length, List, [], ◌∷◌, ◌++◌, take, true, false}
 use Rattle.std.specs.Prelude.{Option}
 use Rattle.std.specs.Prelude.{Some, None, IsSome}
 use Rattle.oct_io.specs.Files.{Files, KeepsOthers}
@@ -14,7 +14,7 @@ use Rattle.oct_ending.specs.Counts.{IsAsked}
 use Rattle.oct_ending.specs.Shelf.{Shelf}
 use Rattle.oct_io.specs.Taken.{HasTaken}
 use Rattle.oct_session.specs.History.{History, State, state_after}
-use Rattle.oct_session.specs.Session.{Progress, next_command, after_line, after_lines, progress}
+use Rattle.oct_session.specs.Session.{Progress, next_command, after_line, progress}
 use Rattle.oct_session.specs.Session.{closed, is_too_long, lines_of, last_progress, session}
 use Rattle.oct_session.specs.Ending.{MayEnd}
 use Rattle.oct_ending.specs.Whole.{IsWhole}
@@ -78,17 +78,16 @@ IsTornAfter o saved p d = IsTorn saved p.files (state_after o p.history) d.map d
 
 -- what a session leaves that is halted on its way from one state to the next, by the status: on a
 -- write fault all is done; on a store fault, which takes a line that names a file, nothing is, but
--- for the file that the line saves, if it saves one; where memory runs out all is done or nothing;
--- lines after it are done, or something of its reply was told, only where the sink ran short of
--- memory, and then all is done
-abbrev pub HasLeft : Setup → Option (List ℕ) → Progress → Progress → List ℕ → List Line → Desk
-    → Type 0 → Status → Type 0
-HasLeft o saved p q told ahead d short WriteFault = IsLikeAfter o q d
-HasLeft o saved p q told ahead d short Memory = (short × IsLikeAfter o q d)
-    ⊎ ((told ≡ []) × (ahead ≡ []) × (IsLikeAfter o q d ⊎ IsLikeAfter o p d))
-HasLeft o saved p q told ahead d short StoreFault =
-    (told ≡ []) × (ahead ≡ []) × (p.asks < q.asks) × IsTornAfter o saved p d
-HasLeft o saved p q told ahead d short _ = ⊥
+-- for the file that the line saves, if it saves one; where memory runs out all is done or nothing,
+-- and all where something of the reply was told, which takes a sink that ran short of memory
+abbrev pub HasLeft : Setup → Option (List ℕ) → Progress → Progress → List ℕ → Desk → Type 0
+    → Status → Type 0
+HasLeft o saved p q told d short WriteFault = IsLikeAfter o q d
+HasLeft o saved p q told d short Memory = (short × IsLikeAfter o q d)
+    ⊎ ((told ≡ []) × (IsLikeAfter o q d ⊎ IsLikeAfter o p d))
+HasLeft o saved p q told d short StoreFault =
+    (told ≡ []) × (p.asks < q.asks) × IsTornAfter o saved p d
+HasLeft o saved p q told d short _ = ⊥
 
 -- What was to be written on the way from one state to the next was not written whole, unless the
 -- way ends inside a block, whose lines have no reply.
@@ -100,52 +99,42 @@ pub record IsCutBetween (p q : Progress) (old new : Option (List ℕ)) : Type 0 
   pub written : new ≡ appended old (p.text ++ told)
   pub more : (0 < length untold) ⊎ IsSome q.block
 
--- these lines were done one after another while what was written ended before them: none of them
--- names a file, and before each fewer than 4,096 bytes of the replies weren't written
-pub record IsAhead (o : Setup) (p : Progress) (lines : List Line) (written : ℕ) : Type 0 where
-  pub unasked : (after_lines o p lines).asks ≡ p.asks
-  pub few : (n : ℕ) → n < length lines
-      → length (after_lines o p (take n lines)).text < written + 4096
-
--- the session was halted on its way from one state to the next, by a line that may save a file, and
--- these lines were done ahead; the store was asked once at most for each line that named a file
+-- the session was halted on its way from one state to the next, by a line that may save a file: map
+-- and files are those of one of the two, and the store was asked once at most for each line that
+-- named a file
 pub record IsHaltedBetween (o : Setup) (saved : Option (List ℕ)) (p q : Progress)
-    (ahead : List Line) (old new : Option (List ℕ)) (d : Desk) (short : Type 0) (status : Status)
-    : Type 0 where
+    (old new : Option (List ℕ)) (d : Desk) (short : Type 0) (status : Status) : Type 0 where
   pub cut : IsCutBetween p q old new
-  pub done : IsAhead o q ahead (length (p.text ++ cut.told))
-  pub has_left : HasLeft o saved p (after_lines o q ahead) cut.told ahead d short status
+  pub has_left : HasLeft o saved p q cut.told d short status
   pub asked : HasAsked d q.asks
 
--- the session was halted at this line, with these done ahead
-abbrev pub IsHaltedBy : Setup → Progress → Line → List Line → Option (List ℕ) → Option (List ℕ)
-    → Desk → Type 0 → Status → Type 0
-IsHaltedBy o p line ahead old new d short status =
-    IsHaltedBetween o (file_saved (next_command p line)) p (after_line o p line) ahead old new d
-    short
+-- the session was halted at this line
+abbrev pub IsHaltedBy : Setup → Progress → Line → Option (List ℕ) → Option (List ℕ) → Desk → Type 0
+    → Status → Type 0
+IsHaltedBy o p line old new d short status =
+    IsHaltedBetween o (file_saved (next_command p line)) p (after_line o p line) old new d short
     status
 
 -- what was answered so far is known: the files are told, or no line named one
 abbrev pub IsKnown : Progress → Type 0
 IsKnown p = IsSome p.files ⊎ (p.asks ≡ 0)
 
--- the session was halted at one of these lines: all lines before it were answered, its reply wasn't
--- written whole, and those ahead were done already, with their replies still to be written
+-- the session was halted at one of these lines: the replies to all lines before it were written
+-- whole, and its own wasn't; map and files are as after the lines before it, or as after it
 pub record IsHalted (o : Setup) (files : Option Files) (lines : List Line)
     (old new : Option (List ℕ)) (d : Desk) (short : Type 0) (status : Status) : Type 0 where
   pub before : List Line
   pub line : Line
-  pub ahead : List Line
-  pub rest : List Line
-  pub split : lines ≡ before ++ line ∷ (ahead ++ rest)
-  pub at : IsHaltedBy o (progress o files before) line ahead old new d short status
+  pub behind : List Line
+  pub split : lines ≡ before ++ line ∷ behind
+  pub at : IsHaltedBy o (progress o files before) line old new d short status
 
 -- all these lines were answered, and the session was halted at the end of the script after them,
 -- which names no file
 abbrev pub IsHaltedAtEnd : Setup → Option Files → List Line → Option (List ℕ)
     → Option (List ℕ) → Desk → Type 0 → Status → Type 0
 IsHaltedAtEnd o files lines old new d short status =
-    IsHaltedBetween o None (progress o files lines) (closed (progress o files lines)) [] old new d
+    IsHaltedBetween o None (progress o files lines) (closed (progress o files lines)) old new d
     short
     status
 
@@ -167,8 +156,8 @@ pub record IsLikeTaken (o : Setup) (files : Option Files) (bytes : List ℕ)
 
 -- what a session over these bytes and files leaves, status by status: map and files are as after
 -- all lines that were to be answered, as after those that end within the bytes taken, or, where it
--- was halted, as after those that were answered, at most one more, and those that were done ahead
--- of the writing, but for the one file that a store fault leaves open
+-- was halted, as after those whose replies were written whole and at most one more, but for the one
+-- file that a store fault leaves open
 abbrev pub Leaves : Setup → Option Files → List ℕ → Option (List ℕ) → Option (List ℕ)
     → Option (List ℕ) → Desk → Type 0 → Status → Type 0
 Leaves o files bytes left old new d short Done = IsLikeAfter o (last_progress o files bytes) d

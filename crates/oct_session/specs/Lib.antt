@@ -8,6 +8,7 @@ pub mod Commands
 pub mod ScanBlock
 pub mod Tally
 pub mod Session
+pub mod Parsed
 pub mod Ending
 pub mod Leaving
 pub mod Standing

@@ -23,7 +23,7 @@ use Rattle.oct_io.specs.Taken.{HasTaken, IsGathered}
 use Rattle.oct_session.specs.Ending.{HasReplied, IsReadToEnd}
 use Rattle.oct_session.specs.Leaving.{StandsFor, StandsForSome, Desk, desk, HasAsked, IsLike}
 use Rattle.oct_session.specs.Leaving.{IsTorn}
-use Rattle.oct_session.specs.Leaving.{IsLikeAfter, IsTornAfter, IsCutBetween, IsAhead, IsKnown}
+use Rattle.oct_session.specs.Leaving.{IsLikeAfter, IsTornAfter, IsCutBetween, IsKnown}
 use Rattle.oct_session.specs.Leaving.{IsHalted}
 use Rattle.oct_session.specs.Leaving.{IsHaltedAtEnd, HasEndedAs}
 use Rattle.oct_session.specs.History.{History, State, after, after_all}
@@ -198,25 +198,31 @@ pub record HasReached (o : Setup) (old new : Option (List ℕ)) (d : Desk) (sess
   pub between : IsBetween o d session p
   pub written : new ≡ appended old p.text
 
--- these lines were done, and of their replies a front was written that ends in that of one of them
+-- nothing was done on the way from one state to the next, and no file was named
+pub record IsIdle (p q : Progress) : Type 0 where
+  pub history : q.history ≡ p.history
+  pub files : q.files ≡ p.files
+  pub asks : q.asks ≡ p.asks
+
+-- of the replies to these lines a front was written that ends in that of one of them, and nothing
+-- was done after it
 pub record IsUnwritten (o : Setup) (files : Option Files) (lines : List Line) (front : List ℕ)
     : Type 0 where
   pub before : List Line
   pub line : Line
-  pub ahead : List Line
+  pub behind : List Line
   pub told : List ℕ
   pub untold : List ℕ
-  pub split : lines ≡ before ++ line ∷ ahead
+  pub split : lines ≡ before ++ line ∷ behind
   pub running : (progress o files before).has_quit ≡ false
   pub reply : (after_line o (progress o files before) line).text
       ≡ (progress o files before).text ++ (told ++ untold)
   pub written : front ≡ (progress o files before).text ++ told
   pub more : 0 < length untold
-  pub done : IsAhead o (after_line o (progress o files before) line) ahead
-      (length ((progress o files before).text ++ told))
+  pub idle : IsIdle (after_line o (progress o files before) line) (progress o files lines)
 
 -- of the replies to these lines a front was written, and the rest is held; wherever the writing of
--- it breaks off, the lines behind that place may be done ahead
+-- it breaks off, nothing was done after the line whose reply ends there
 pub record IsHolding (o : Setup) (files : Option Files) (lines : List Line)
     (old new : Option (List ℕ)) (held : List ℕ) : Type 0 where
   pub gathered : IsGathered (progress o files lines).text old new held

@@ -3,9 +3,9 @@
 //! # What it is
 //!
 //! [`serve`] reads a script from a source, does its commands and scans on a map that it is lent,
-//! and writes the reply to each command, faulty line and scan block to a sink: those of one read
-//! together, before the next read. The map is that of `oct_map`, the class `OcTree` of the OctoMap
-//! library (Hornung et al. 2013) in whole numbers.
+//! and writes the reply to each command, faulty line and scan block to a sink: before the next
+//! read, and before the next change of map or files. The map is that of `oct_map`, the class
+//! `OcTree` of the OctoMap library (Hornung et al. 2013) in whole numbers.
 //!
 //! ```text
 //! let options = Options { res, odds: OddsModel::default(), limits, max_bytes: MOST_BYTES };
@@ -46,27 +46,26 @@
 //!   `specs/Leaving.antt`): each voxel has its value after it, the map is stale where a lazy edit
 //!   or scan stands after the last refresh, and pruned where none stands after the last prune. It
 //!   is the history of all lines that count, on a read fault of those that end within the bytes
-//!   taken, and on a write fault of every line that was done: those whose replies were written
-//!   whole, the one whose reply wasn't, and those that were done ahead of the writing, none of
-//!   which names a file. Before each of these fewer than 4,096 bytes of replies weren't written.
-//!   Out of memory it is the same, or without the one whose reply wasn't, where nothing of it was
-//!   written and nothing done ahead. Without the premise it stands for some history all the same.
+//!   taken, and on a write fault of those whose replies were written whole and of the one whose
+//!   reply wasn't. Out of memory it is the same, or without the one whose reply wasn't, where
+//!   nothing of it was written. Without the premise it stands for some history all the same.
 //!
 //! # How it works
 //!
 //! `service` reads pieces of at most 16 KiB and hands each to `session`, which has `oct_script`
 //! find the lines in them, and feeds it those alone that don't stand whole in a piece. `held`
 //! appends the text of each reply to those that are held, and writes them at the end of the piece,
-//! before a line that may name a file, where 4,096 bytes are held, and where a line fails. Their
-//! room stays, so that a reply allocates only where more is held than ever before. `lines` says
-//! what a line does, inside a block and outside, and keeps a place for its command and for its
-//! reply, so that neither is moved from call to call; `kinds` tells the commands apart, once, by
-//! what does them; `block` keeps the head and the points of the scan that is being read, or its
-//! first fault; `commands` has the map do what it's ordered, answer what it's asked and take in
-//! scans, makes replies of what it says, and tells what is left to be done; `files` does what a
-//! verb says with a file, on map and store. `options` holds what a session is set up with.
-//! `building` writes the file of a script's map in place of the replies, and `drilling` four lines
-//! about the session over a script that `oct_gen` makes; `tally` has what its replies come to.
+//! before a line that may change the map or names a file, where 4,096 bytes are held, and where a
+//! line fails. Their room stays, so that a reply allocates only where more is held than ever
+//! before. `lines` reads a line and says what it does, inside a block and outside; its command and
+//! its reply have places, so that neither is moved from call to call; `kinds` tells the commands
+//! apart, once, by what does them; `block` keeps the head and the points of the scan that is being
+//! read, or its first fault; `commands` has the map do what it's ordered, answer what it's asked
+//! and take in scans, makes replies of what it says, and tells what is left to be done; `files`
+//! does what a verb says with a file, on map and store. `options` holds what a session is set up
+//! with. `building` writes the file of a script's map in place of the replies, and `drilling` four
+//! lines about the session over a script that `oct_gen` makes; `tally` has what its replies come
+//! to.
 //!
 //! # Who stands on it
 //!

@@ -1,12 +1,14 @@
 //! What a line does: its reply, and the block that is open after it.
-ghost use Rattle.std.specs.Prelude.{◌≡◌, ℕ, IfOk, None, Ok, Some, is_some};
+ghost use Rattle.std.specs.Prelude.{◌≡◌, ℕ, None, Ok, Some};
 ghost use Rattle.oct_io.specs.Counts.{IsAskCounted};
 ghost use Rattle.oct_script.specs.Commands.{IsSmallCommand};
 ghost use Rattle.oct_script.specs.Lines.{Line};
 ghost use Rattle.oct_ending.specs.Counts.{IsAsked};
 ghost use Rattle.oct_session.specs.Commands.{asked_of, asks_for, command_on, file_named, is_quit};
+ghost use Rattle.oct_session.specs.Commands.{may_change};
 ghost use Rattle.oct_session.specs.ScanBlock.{is_end, opened, spoilt_by, spoilt_reply};
 ghost use Rattle.oct_session.specs.Session.{effect_opened, effect_inside};
+ghost use Rattle.oct_session.specs.Parsed.{command_in, IsSmallLine};
 ghost use Rattle.oct_session.specs.Session.{effect};
 ghost use Rattle.oct_session.specs.Standing.{with_reply, HasEffect, HasWorked, KeepsStanding};
 
@@ -17,7 +19,7 @@ use crate::scan_block::{ScanBlock, open_scan, spoil};
 use oct_io::{Store, StoreFault};
 use oct_map::OccMap;
 use oct_num::Memory;
-use oct_script::{Command, ReadLine, Refusal, Reply, Syntax, parse_into};
+use oct_script::{Command, ReadLine, Refusal, Reply, parse_into};
 use std::alloc::Global;
 
 /// Whether a command closes a block.
@@ -36,6 +38,74 @@ fn is_quit(command: &Command) -> bool
     ensures { result ≡ is_quit (Ok command.now) }
 {
     matches!(command, Command::Quit)
+}
+
+/// Whether a command may change the map, or names a file.
+fn may_change(command: &Command) -> bool
+    ensures { result ≡ may_change (Ok command.now) }
+{
+    !matches!(
+        command,
+        Command::Blank
+            | Command::Scan(_)
+            | Command::Beam(_)
+            | Command::Get { .. }
+            | Command::List { .. }
+            | Command::Cast { .. }
+            | Command::Changes
+            | Command::Quit
+    )
+}
+
+/// What was read of a line, in a place of its own, so that no command is moved from call to call.
+#[derive(Clone, Copy)]
+pub struct Parsed {
+    /// The command on the line, where it has one.
+    command: Command,
+    /// Why it has none.
+    refusal: Option<Refusal>,
+}
+
+impl Parsed {
+    /// The place before any line was read.
+    pub fn new() -> Self {
+        Parsed {
+            command: Command::Blank,
+            refusal: None,
+        }
+    }
+
+    /// Reads the line of this number, inside the block of a scan or outside.
+    pub fn read(&mut self, line: &ReadLine<'_>, number: u64, inside: bool)
+        ensures exact { command_in self.new ≡ command_on inside number line.now }
+        ensures small { IsSmallLine self.new }
+    {
+        self.refusal = None;
+        if line.is_long() {
+            self.refusal = Some(Refusal::LongLine { line: number });
+            return;
+        }
+        if let Err(syntax) = parse_into(line.text(), inside, &mut self.command) {
+            self.refusal = Some(Refusal::Syntax {
+                line: number,
+                column: syntax.column,
+            });
+        }
+    }
+
+    /// Whether the line may change the map, or names a file. A faulty one does neither.
+    pub fn may_change(&self) -> bool
+        ensures { result ≡ may_change (command_in self.now) }
+    {
+        self.refusal.is_none() && may_change(&self.command)
+    }
+
+    /// Whether the line ends the session.
+    pub fn is_quit(&self) -> bool
+        ensures { result ≡ is_quit (command_in self.now) }
+    {
+        self.refusal.is_none() && is_quit(&self.command)
+    }
 }
 
 /// What a command does outside a block.
@@ -139,74 +209,34 @@ fn take_fault(
     };
 }
 
-/// What a line does that leaves the grammar.
-fn take_misspelt(
-    line: &ReadLine<'_>,
-    number: u64,
-    syntax: Syntax,
-    block: &mut Option<ScanBlock>,
-    reply: &mut Option<Reply>,
-)
-    ensures block { block.new
-        ≡ spoilt_by number line.now (Refusal.Syntax number syntax.column) block.old }
-    ensures reply { reply.new ≡ spoilt_reply (Refusal.Syntax number syntax.column) block.new }
-{
-    let refusal = Refusal::Syntax {
-        line: number,
-        column: syntax.column,
-    };
-    take_fault(line, refusal, block, reply);
-}
-
-/// What a line does that is too long to be read.
-fn take_long(
-    line: &ReadLine<'_>,
-    number: u64,
-    block: &mut Option<ScanBlock>,
-    reply: &mut Option<Reply>,
-)
-    ensures block { block.new ≡ spoilt_by number line.now (Refusal.LongLine number) block.old }
-    ensures reply { reply.new ≡ spoilt_reply (Refusal.LongLine number) block.new }
-{
-    take_fault(line, Refusal::LongLine { line: number }, block, reply);
-}
-
-/// Does what the line of this number says, inside a block or outside: leaves the block that is open
-/// afterwards and the reply in their places, and returns whether the line ends the session. Where
-/// it failed, nothing was done, but for the file that it names.
+/// Does what the line of this number says, of which this was read, inside a block or outside, and
+/// leaves the block that is open afterwards and the reply in their places. Where it failed, nothing
+/// was done, but for the file that it names.
 pub fn take_line<F: Store>(
     alloc: Global,
     map: &mut OccMap,
     store: &mut F,
     line: &ReadLine<'_>,
     number: u64,
+    parsed: &Parsed,
     block: &mut Option<ScanBlock>,
     reply: &mut Option<Reply>,
-) -> Result<bool, StoreFault>
-    ensures effect { let command = command_on (is_some block.old) number line.now in
-        HasEffect (λ files s. effect files s number line.now command block.old)
-        (asked_of command) map.old (F.files store.old) map.new (F.files store.new)
+) -> Result<(), StoreFault>
+    requires { IsSmallLine parsed.now }
+    ensures effect { HasEffect
+        (λ files s. effect files s number line.now (command_in parsed.now) block.old)
+        (asked_of (command_in parsed.now)) map.old (F.files store.old) map.new (F.files store.new)
         block.new (with_reply result reply.new) }
-    ensures quits { IfOk result (λ quits. quits
-        ≡ is_quit (command_on (is_some block.old) number line.now)) }
     ensures stands { KeepsStanding map.old map.new }
     ensures asked { IsAsked (store.new ≡ store.old) (F.calls store.old) (F.calls store.new)
-        (asks_for (file_named (command_on (is_some block.old) number line.now))) }
+        (asks_for (file_named (command_in parsed.now))) }
     ensures store_counts { IsAskCounted result (F.faults store.old) (F.faults store.new) }
 {
-    if line.is_long() {
-        take_long(line, number, block, reply);
-        return Ok(false);
-    }
-    let mut command = Command::Blank;
-    match parse_into(line.text(), block.is_some(), &mut command) {
-        Ok(()) => {
-            take_command(alloc, map, store, number, &command, block, reply)?;
-            Ok(is_quit(&command))
-        }
-        Err(syntax) => {
-            take_misspelt(line, number, syntax, block, reply);
-            Ok(false)
+    match parsed.refusal {
+        None => take_command(alloc, map, store, number, &parsed.command, block, reply),
+        Some(refusal) => {
+            take_fault(line, refusal, block, reply);
+            Ok(())
         }
     }
 }

@@ -164,10 +164,10 @@ pub(crate) fn read_all<S: Source, K: Sink, F: Store>(
 }
 
 /// Answers a script line by line and block by block, to its end or to its `quit`. The replies to
-/// what a read gave are written together, before the next one; those before a line that may name a
-/// file, before that line is done. It works on the map that it is lent: a map that is set up as
-/// the options say, in which each voxel is unknown and which isn't stale. Files are those of the
-/// store.
+/// what a read gave are written before the next one, and those before a line that may change the
+/// map or names a file, before that line is done. It works on the map that it is lent: a map that
+/// is set up as the options say, in which each voxel is unknown and which isn't stale. Files are
+/// those of the store.
 ///
 /// The clause `ends` says, status by status, what is written and what is left of the input
 /// (`answer`), what map and files then stand for (`leaves`), and that the store is asked once at

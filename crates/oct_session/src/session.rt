@@ -7,6 +7,7 @@ ghost use Rattle.oct_script.specs.Lines.{ended_lines, all_lines, unread};
 ghost use Rattle.oct_script.specs.Replies.{is_refusal};
 ghost use Rattle.oct_session.specs.Commands.{command_on, file_named, asks_for};
 ghost use Rattle.oct_ending.specs.Counts.{IsStopCounted, IsAsked};
+ghost use Rattle.oct_session.specs.Parsed.{command_in, IsSmallLine};
 ghost use Rattle.oct_session.specs.ScanBlock.{end_reply};
 ghost use Rattle.oct_session.specs.Session.{Progress, closed};
 ghost use Rattle.oct_session.specs.Tally.{no_replies};
@@ -17,7 +18,7 @@ ghost use Rattle.oct_session.specs.Standing.{TakesHeld, HaltsHeld, Takes, Halts,
 ghost use Rattle.oct_session.specs.Standing.{HaltsAtEnd, IsResting};
 
 use crate::held::{MOST_HELD, flush, hold_few, make_way, tell};
-use crate::lines::take_line;
+use crate::lines::{Parsed, take_line};
 use crate::options::Options;
 use crate::scan_block::ScanBlock;
 use crate::tally::Tally;
@@ -92,16 +93,21 @@ impl Session {
         }
     }
 
-    /// Does what a line says, and holds its reply. After an error what is held is as it was.
+    /// Does what a line says, of which this was read, and holds its reply. After an error what is
+    /// held is as it was.
     fn answer<F: Store>(
         &mut self,
         options: &Options,
         map: &mut OccMap,
         store: &mut F,
         line: &ReadLine<'_>,
+        parsed: &Parsed,
     ) -> Result<(), StoreFault>
         requires few { self.old.line_count < 2 ^ 63 }
         requires running { self.old.has_quit ≡ false }
+        requires read { command_in parsed.now
+            ≡ command_on (is_some self.old.block) (self.old.line_count + 1) line.now }
+        requires small { IsSmallLine parsed.now }
         ensures ok { OnOk result (TakesLine options.now (desk_of F.files F.calls map.old store.old)
             (desk_of F.files F.calls map.new store.new) self.old self.new line.now) }
         ensures err { IfErr result (FailsLine options.now
@@ -109,8 +115,7 @@ impl Session {
             (desk_of F.files F.calls map.new store.new) self.old line.now) }
         ensures kept { OnErr result (self.new.text.items ≡ self.old.text.items) }
         ensures asked { IsAsked (store.new ≡ store.old) (F.calls store.old) (F.calls store.new)
-            (asks_for (file_named (command_on (is_some self.old.block) (self.old.line_count + 1)
-            line.now))) }
+            (asks_for (file_named (command_in parsed.now))) }
         ensures stands { KeepsStanding map.old map.new }
         ensures line { self.new.line ≡ self.old.line }
         ensures counted { OnOk result (self.new.line_count ≡ self.old.line_count + 1) }
@@ -119,17 +124,19 @@ impl Session {
         let number = self.line_count + 1;
         let block = &mut self.block;
         let mut reply = None;
-        let has_quit = take_line(self.alloc, map, store, line, number, block, &mut reply)?;
+        take_line(
+            self.alloc, map, store, line, number, parsed, block, &mut reply,
+        )?;
         tell(&mut self.text, &reply)?;
         self.refused |= is_refused(&reply);
         self.tally.count(&reply);
-        self.has_quit = has_quit;
+        self.has_quit = parsed.is_quit();
         self.line_count = number;
         Ok(())
     }
 
     /// Answers a line, and holds its reply, with few others. What was held before is written first
-    /// where the line may name a file.
+    /// where the line may change the map, or names a file.
     fn respond<K: Sink, F: Store>(
         &mut self,
         options: &Options,
@@ -160,8 +167,10 @@ impl Session {
             (K.shortages sink.old) (K.shortages sink.new)
             (F.faults store.old) (F.faults store.new) }
     {
-        make_way(line, &mut self.text, sink)?;
-        match self.answer(options, map, store, line) {
+        let mut parsed = Parsed::new();
+        parsed.read(line, self.line_count + 1, self.block.is_some());
+        make_way(&parsed, &mut self.text, sink)?;
+        match self.answer(options, map, store, line, &parsed) {
             Ok(()) => {
                 hold_few(&mut self.text, sink)?;
                 Ok(())

@@ -19,6 +19,7 @@ use std::process::Abort;
 use std::test::Fail;
 
 mod files;
+mod held;
 
 /// A point of voxel 0.
 const ORIGIN: Point = Point { x: 0, y: 0, z: 0 };
@@ -254,17 +255,6 @@ fn the_lent_map_stands_for_the_lines_before_a_fault(rt: HostRuntime) -> Result<(
     let (status, map) = ended_alone(rt.alloc(), 1000, &mut source, &mut sink)?;
     expect_status(&rt, status, Status::ReadFault);
     expect_map(&rt, &map, Some(850), Some(850), false);
-    Ok(())
-}
-
-// Both lines come with one read, so that both are done before the write that fails.
-#[test]
-fn the_lent_map_stands_for_the_lines_done_ahead_of_a_write(rt: HostRuntime) -> Result<(), Fail> {
-    let mut source = script(rt.alloc(), "hit 0 0 0 lazy\nhit 0.1 0 0\n", 100)?;
-    let mut sink = MemSink::new(rt.alloc(), 100, only(rt.alloc(), 1)?);
-    let (status, map) = ended_alone(rt.alloc(), 1000, &mut source, &mut sink)?;
-    expect_status(&rt, status, Status::WriteFault);
-    expect_map(&rt, &map, Some(850), Some(850), true);
     Ok(())
 }
 

@@ -290,12 +290,13 @@ fn expect_write_fault(
 }
 
 #[test]
-fn no_file_is_ahead_of_the_replies(rt: HostRuntime) -> Result<(), Fail> {
+fn no_file_is_ahead_of_a_reply(rt: HostRuntime) -> Result<(), Fail> {
     let fault = Status::WriteFault;
     for (number, want, left) in [
         (1, (fault, ""), (false, None)),
-        (2, (fault, "ok\n"), (true, Some(850))),
-        (3, (Status::Done, "ok\nsaved 169\nok\n"), (true, Some(850))),
+        (2, (fault, "ok\n"), (true, None)),
+        (3, (fault, "ok\nsaved 169\n"), (true, Some(850))),
+        (4, (Status::Done, "ok\nsaved 169\nok\n"), (true, Some(850))),
     ] {
         expect_write_fault(&rt, rt.alloc(), number, want, left)?;
     }

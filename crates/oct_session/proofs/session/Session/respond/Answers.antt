@@ -1,8 +1,10 @@
-use Rattle.std.proofs.Common.{[], ◌∷◌, ◌++◌, Err, ap, refl}
+use Rattle.std.proofs.Common.{[], ◌∷◌, ◌+◌, ◌++◌, ◌∙◌, Err, ap, refl}
+use Rattle.oct_session.specs.Commands.{command_on}
 use Rattle.oct_session.specs.Standing.{desk_of}
 use Rattle.oct_session.proofs.Holding.{adds_more, held_moved, held_more, halted_before_line}
 use Rattle.oct_session.proofs.Holding.{halted_behind_line}
 use Rattle.oct_session.proofs.Holding.{halted_with_failed, halted_by_failed, rose_since}
+use Rattle.oct_session.proofs.Holding.{clear_next}
 use Rattle.oct_session.proofs.session.Session.respond.Goals as goal
 
 pub returns-in_err-make_way-clause-err : goal.returns-in_err-make_way-clause-err
@@ -18,6 +20,10 @@ pub returns-in_ok-hold_few-in-Ok-clause-adds : goal.returns-in_ok-hold_few-in-Ok
 returns-in_ok-hold_few-in-Ok-clause-adds g c =
     adds_more _ _ _ c.make_way.ensures.adds c.hold_few.ensures.adds
 
+pub returns-in_err-flush-in-Err-clause-adds : goal.returns-in_err-flush-in-Err-clause-adds
+returns-in_err-flush-in-Err-clause-adds g c =
+    adds_more _ _ _ c.make_way.ensures.adds c.flush.ensures.adds
+
 pub returns-in_ok-flush-in-Err-clause-adds : goal.returns-in_ok-flush-in-Err-clause-adds
 returns-in_ok-flush-in-Err-clause-adds g c =
     adds_more _ _ _ c.make_way.ensures.adds c.flush.ensures.adds
@@ -30,7 +36,10 @@ returns-in_ok-hold_few-in-Ok-clause-ok g c = λ first files lines w known at.
     c.in_ok-hold_few-in-Ok.ensures.moved
     (held_more c.args.options.now _ _ _ _ c.args.self.now _ c.answer.new.self _ c.requires.running
     (record { counted = refl; block = refl; refused = refl; has_quit = refl; tally = refl })
-    c.requires.held c.in_ok-make_way.ensures.moved c.in_ok-make_way.ensures.clear
+    c.in_ok-make_way.ensures.moved (clear_next c.make_way.new.text.items c.args.self.now.block
+    (c.args.self.now.line_count + 1) c.args.line.now _ (c.read.ensures.exact
+    ∙ ap (λ b. command_on b (c.args.self.now.line_count + 1) c.args.line.now) c.is_some.ensures)
+    c.in_ok-make_way.ensures.clear)
     c.in-Ok.ensures.ok first files lines w known at)
 
 pub returns-in_err-hold_few-in-Ok-clause-err : goal.returns-in_err-hold_few-in-Ok-clause-err
@@ -42,7 +51,10 @@ returns-in_err-hold_few-in-Ok-clause-err g c =
     (c.in_err-hold_few-in-Ok.ensures.counts.memory (ap Err e)).1)
     (held_more c.args.options.now _ _ _ _ c.args.self.now _ c.answer.new.self _ c.requires.running
     (record { counted = refl; block = refl; refused = refl; has_quit = refl; tally = refl })
-    c.requires.held c.in_ok-make_way.ensures.moved c.in_ok-make_way.ensures.clear
+    c.in_ok-make_way.ensures.moved (clear_next c.make_way.new.text.items c.args.self.now.block
+    (c.args.self.now.line_count + 1) c.args.line.now _ (c.read.ensures.exact
+    ∙ ap (λ b. command_on b (c.args.self.now.line_count + 1) c.args.line.now) c.is_some.ensures)
+    c.in_ok-make_way.ensures.clear)
     c.in-Ok.ensures.ok)
 
 pub returns-in_err-flush-in-Err-clause-err : goal.returns-in_err-flush-in-Err-clause-err
@@ -50,11 +62,14 @@ returns-in_err-flush-in-Err-clause-err g c =
     halted_with_failed _ _ _ c.args.options.now _ _ _ _ _ c.args.self.now _ _ _
     c.from_residual-in_err-flush-in-Err.ensures.1 c.requires.running
     (record { counted = refl; block = refl; refused = refl; has_quit = refl; tally = refl })
-    c.requires.held c.in_ok-make_way.ensures.moved c.in-Err.ensures.kept
+    c.in_ok-make_way.ensures.moved c.in-Err.ensures.kept
     c.in_err-flush-in-Err.ensures.err
     (λ e. rose_since _ _ _ c.in_ok-make_way.ensures.counts.stays.1
     (c.in_err-flush-in-Err.ensures.counts.memory (ap Err e)).1)
-    c.in_ok-make_way.ensures.clear c.in-Err.ensures.err
+    (clear_next c.make_way.new.text.items c.args.self.now.block
+    (c.args.self.now.line_count + 1) c.args.line.now _ (c.read.ensures.exact
+    ∙ ap (λ b. command_on b (c.args.self.now.line_count + 1) c.args.line.now) c.is_some.ensures)
+    c.in_ok-make_way.ensures.clear) c.in-Err.ensures.err
 
 pub returns-in_ok-flush-in-Err-clause-err : goal.returns-in_ok-flush-in-Err-clause-err
 returns-in_ok-flush-in-Err-clause-err g c = λ first files lines w known at.

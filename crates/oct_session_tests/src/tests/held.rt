@@ -1,0 +1,110 @@
+//! Replies that are held until they are written, and what is done until then.
+use super::*;
+
+/// A script that one read gives, with the replies to seven of its lines.
+const CHANGES: &str = "hit 0 0 0 lazy\nget 0 0 0 16\nhit 0.1 0 0\n# aside\nhit 0 x\nrefresh\n\
+    miss 0.1 0 0\nscan 0 0 0 1 0 0 0 all\np 0.1 0 0\nend\n";
+
+/// Its replies, of 83 bytes.
+const REPLIES: &str = "ok\nknown 850 occupied\nok\nrefused 29 Syntax line 5 column 7\nok\nok\n\
+    ok hits 1 frees 1\n";
+
+/// The values of the two voxels after each line that is replied to, and whether the map is stale.
+const AFTER: &[(Option<i32>, Option<i32>, bool)] = &[
+    (Some(850), None, true),
+    (Some(850), None, true),
+    (Some(850), Some(850), true),
+    (Some(850), Some(850), true),
+    (Some(850), Some(850), false),
+    (Some(850), Some(450), false),
+    (Some(450), Some(1300), false),
+];
+
+/// How many lines end in these bytes.
+fn lines_in(bytes: &[u8]) -> usize {
+    let mut count = 0usize;
+    for byte in bytes {
+        if *byte == b'\n' {
+            count = count.saturating_add(1);
+        }
+    }
+    count
+}
+
+/// Expects that a session whose write of this number fails leaves the map as it is after the first
+/// line whose reply wasn't written whole.
+fn expect_cut(rt: &impl Abort, alloc: Global, number: u64) -> Result<(), Fail> {
+    let mut source = script(alloc, CHANGES, 200)?;
+    let mut sink = MemSink::new(alloc, 7, only(alloc, number)?);
+    let (status, map) = ended_alone(alloc, 1000, &mut source, &mut sink)?;
+    expect_status(rt, status, Status::WriteFault);
+    let whole = lines_in(sink.written());
+    let after = AFTER.get(whole);
+    assert!(rt; after.is_some(), "write {number}");
+    if let Some((origin, beside, is_stale)) = after {
+        expect_map(rt, &map, *origin, *beside, *is_stale);
+    }
+    Ok(())
+}
+
+// In pieces of 7 bytes, 22 bytes of replies are written before the second edit, 37 before the
+// refresh, 3 before each of the next two changes, and 18 at the end of the read: 15 writes.
+#[test]
+fn a_change_waits_for_the_reply_before_it(rt: HostRuntime) -> Result<(), Fail> {
+    for number in 1u64..=15 {
+        expect_cut(&rt, rt.alloc(), number)?;
+    }
+    Ok(())
+}
+
+#[test]
+fn replies_that_are_held_are_written_whole(rt: HostRuntime) -> Result<(), Fail> {
+    let mut source = script(rt.alloc(), CHANGES, 200)?;
+    let mut sink = MemSink::new(rt.alloc(), 7, only(rt.alloc(), 16)?);
+    let (status, map) = ended_alone(rt.alloc(), 1000, &mut source, &mut sink)?;
+    let refused = (Status::Refused, REPLIES);
+    expect_answer(&rt, CHANGES, (status, sink.written()), refused);
+    expect_map(&rt, &map, Some(450), Some(1300), false);
+    Ok(())
+}
+
+/// A query of 13 bytes, 1,300 times.
+fn queries(alloc: Global) -> Result<FileBytes, Memory> {
+    let mut bytes = FileBytes::new(alloc);
+    for _ in 0u64..1300 {
+        bytes.extend_from_slice(b"get 0 0 0 16\n")?;
+    }
+    Ok(bytes)
+}
+
+/// Expects how many bytes a session on these queries has written when its write of this number
+/// fails.
+fn expect_held(
+    rt: &impl Abort,
+    alloc: Global,
+    number: u64,
+    want: (Status, usize),
+) -> Result<(), Fail> {
+    let mut source = CalmSource::new(queries(alloc)?, 100_000);
+    let mut sink = MemSink::new(alloc, 100_000, only(alloc, number)?);
+    let (status, _) = ended_alone(alloc, 20_000, &mut source, &mut sink)?;
+    assert_eq!(rt; (status, sink.written().len()), want, "write {number}");
+    Ok(())
+}
+
+// A read gives 16,384 bytes, in which 1,260 queries end, and each reply has 8 bytes: 512 replies
+// are 4,096 bytes, and are written at once.
+#[test]
+fn replies_are_held_up_to_their_limit_and_within_one_read(rt: HostRuntime) -> Result<(), Fail> {
+    let fault = Status::WriteFault;
+    for (number, want) in [
+        (1, (fault, 0)),
+        (2, (fault, 4096)),
+        (3, (fault, 8192)),
+        (4, (fault, 10_080)),
+        (5, (Status::Done, 10_400)),
+    ] {
+        expect_held(&rt, rt.alloc(), number, want)?;
+    }
+    Ok(())
+}
