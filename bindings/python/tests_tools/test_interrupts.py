@@ -160,21 +160,22 @@ class Start(Processes):
 
 
 class Scanning(Processes):
-    def slow_map(self, seconds):
+    def slow_map(self, seconds, *more):
         """A map of two scans of so many seconds each, of which the first has begun."""
         words = "map", "--res", "0.1", "--quiet", "a.xyz", "b.xyz", "-o", "a.bt"
-        run = self.start("-c", SLOW % seconds, *words)
+        run = self.start("-c", SLOW % seconds, *words, *more)
         self.assertEqual(run.stdout.readline(), b"begun\n")
         return run
 
     def test_once(self):
-        """It says what it waits for, and the map has that scan."""
-        run = self.slow_map(0.5)
-        run.send_signal(signal.SIGINT)
-        said = "octofix: Ctrl-C waits for the running scan; a second Ctrl-C ends at once\n"
-        said += "octofix: stopped by Ctrl-C: the map has the scans until then\n"
-        self.ends(run, said)
-        self.assertEqual(content_of("a.bt"), content_of("wanted.bt"))
+        """It says what it waits for, and the map has that scan, in each region."""
+        for words in ([], ["--jobs", "3"]):
+            run = self.slow_map(0.5, *words)
+            run.send_signal(signal.SIGINT)
+            said = "octofix: Ctrl-C waits for the running scan; a second Ctrl-C ends at once\n"
+            said += "octofix: stopped by Ctrl-C: the map has the scans until then\n"
+            self.ends(run, said)
+            self.assertEqual(content_of("a.bt"), content_of("wanted.bt"))
 
     def test_twice(self):
         run = self.slow_map(60)

@@ -41,6 +41,13 @@ def whole(low, high):
     return number
 
 
+def region(word):
+    """The number of a region, from 1, and of how many."""
+    number, _, count = word.partition("/")
+    found = whole(1, 1 << 12)(count)
+    return whole(1, found)(number), found
+
+
 def columns(word):
     found = [it.strip() for it in word.split(",")]
     if len(found) != 3 or not all(found):

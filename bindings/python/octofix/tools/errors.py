@@ -32,6 +32,10 @@ class Unusable(Exception):
         return ":".join(map(str, place)) + ": " * bool(place) + self.why
 
 
+class Torn(Unusable):
+    """What can't be left out: a scan that one region refuses, and others may have done."""
+
+
 class MissingLibrary(Unusable):
     """A Python library that is optional, and needed for what was asked."""
 

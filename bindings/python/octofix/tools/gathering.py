@@ -24,12 +24,15 @@ def do_scan(world, origin, points, reach):
     world._do("scan", pose, points.ctypes.data, len(points), options, counted)
 
 
-def gathered(scan, resolution, limits, reach):
-    """The voxels that a beam hits as OCCUPIED, and the others that a beam meets as FREE.
+def gathered(scan, resolution, limits, reach, window=None):
+    """The voxels that a beam hits as OCCUPIED, and the others that a beam meets as FREE; those from
+    one point to another where `window` has two.
 
     They are those of the whole scan, though it is done in parts as large as the limits allow, in a
     map of its own. Refused where one beam can't be done."""
     with Map(resolution, **ODDS, **limits._asdict()) as own:
+        if window is not None:
+            own.limit(*window)
         _gather(own, scan.origin, scan.points, reach)
         own.max_likelihood()
         return Leaves.of(own.leaves(), own.odds.threshold)

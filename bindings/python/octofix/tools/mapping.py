@@ -7,31 +7,37 @@ import numpy as np
 from octofix import Event, Refused
 
 from .editing import edit_blocks
-from .errors import Unusable
+from .errors import Torn, Unusable
 from .gathering import MOST_POINTS, TOO_MANY_CELLS, do_scan, gathered
 from .leaves import OCCUPIED
 
+FULL = 23
 HELP = {
     6: "the sensor stands outside the map",
     7: "its point {index} lies outside the map (--range cuts beams, a larger --res has more space)",
     8: "a beam meets {cells} voxels (--range, --max-cells)",
-    23: "the map is full (--max-groups allows more, a larger --res or a --range takes less)",
+    FULL: "the map is full (--max-groups allows more, a larger --res or a --range takes less)",
 }
 
 
-def refusal(refused, name):
+def refusal(refused, name, kind=Unusable):
     """A refused scan in the words of the options that help."""
     text = HELP.get(refused.code, str(refused)).format(**refused.fields)
-    return Unusable(text, name)
+    return kind(text, name)
 
 
 class Mapper:
-    """Does scans in a map and, where there is one, writes them to a script."""
+    """Does scans in a map, within its box of `limit`, and writes them to a script where there is
+    one."""
 
     def __init__(self, world, reach=None, script=None):
         """reach: the range in metres, or None."""
         self.world, self.reach, self.script = world, reach, script
         self.scans = self.points = self.parted = 0
+        self.finished = []
+
+    def begin(self, scans):
+        """Looks at scans that are to come."""
 
     def add(self, scan):
         """Does one scan whole; where that is refused nothing is done, and it is Unusable."""
@@ -39,9 +45,33 @@ class Mapper:
             if not self._add_at_once(scan):
                 self._add_in_parts(scan)
         except Refused as refused:
-            raise refusal(refused, scan.name) from None
+            # (a region that is full says nothing of the others)
+            is_torn = refused.code == FULL and self.world.window is not None
+            raise refusal(refused, scan.name, Torn if is_torn else Unusable) from None
         self.scans += 1
         self.points += len(scan.points)
+        self.finished.append(len(scan.points))
+
+    def take_finished(self):
+        """How many points the scans have that were done since this was asked last."""
+        found, self.finished = self.finished, []
+        return found
+
+    def catch_up(self):
+        """Waits for a scan that is being done; False where there is none."""
+        return False
+
+    def stop(self):
+        """No more scans come."""
+
+    def joined(self):
+        """The map of all scans."""
+        return self.world
+
+    def window(self):
+        """Two points of the box of `limit`, or None."""
+        box = self.world.window
+        return box and self.world.centers([box.low, box.high])
 
     def _add_at_once(self, scan):
         """False where the scan has too many points or voxels for that."""
@@ -60,7 +90,9 @@ class Mapper:
     def _add_in_parts(self, scan):
         """What the scan does, as edits: each voxel that it hits is hit once, each one that it frees
         is missed once."""
-        leaves = gathered(scan, self.world.resolution, self.world.limits, self.reach)
+        leaves = gathered(
+            scan, self.world.resolution, self.world.limits, self.reach, self.window()
+        )
         odds = self.world.odds
         numbers = np.where(leaves.classes == OCCUPIED, odds.hit, odds.miss)
         with self._undone_where_refused():

@@ -61,3 +61,11 @@ def read_leaves_and_values(name):
         blocks = world.leaves()
         leaves = Leaves.of(blocks, world.odds.threshold)
     return leaves, blocks.value if is_snapshot else None
+
+
+def write_map(world, files):
+    """Writes a map to the files, which are open, by what they are: an "output", which is a .bt
+    file, or a "snapshot"."""
+    for kind, content in (("output", world.to_bt), ("snapshot", world.to_snapshot)):
+        if kind in files:
+            files[kind].write(content())

@@ -1,11 +1,13 @@
 """Clouds made scans: points chosen, turned and placed, in whole nanometres."""
 
+import contextlib
+import copy
 import re
 from dataclasses import dataclass
 
 import numpy as np
 
-from .clouds import clouds_in
+from .clouds import clouds_again, clouds_in
 from .errors import Unusable
 from .lengths import FARTHEST, NANO, nanometres
 from .poses import IDENTITY, Pose
@@ -85,6 +87,34 @@ class Scans:
                 self.skips.judge(why)
         if self.trajectory is not None and not self.skips.count:
             self.trajectory.check(self.clouds)
+
+    def spread(self, most):
+        """About so many scans from all over the clouds, each after how many it stands for. They are
+        read for that alone: nothing is said or counted, and what can't be used is left out."""
+        quiet, stride = copy.copy(self), 1
+        quiet.left, quiet.is_quiet = Left(), True
+        step = -(-len(self.names) // most) if self.is_one_each() else 1
+        for number, cloud in self._numbered(step):
+            if number >= most * stride * step:
+                stride *= 2
+            if number % stride == 0 and cloud is not None:
+                with contextlib.suppress(Unusable):
+                    pose = quiet._pose_of(number, cloud)
+                    if pose is not None:
+                        yield stride, quiet._placed(cloud, pose)
+
+    def _numbered(self, step):
+        """The clouds of each file of so many, and their numbers; None for a file that can't be
+        read. What can be read once alone is kept for another reading."""
+        number = 0
+        for at in range(step // 2, len(self.names), step):
+            number = max(number, at)
+            try:
+                for number, cloud in enumerate(clouds_again(self.names[at], self.reading), number):
+                    yield number, cloud
+            except Unusable:
+                yield number, None
+            number += 1
 
     def _scan_of(self, cloud):
         """The scan of a cloud, or None."""

@@ -29,6 +29,11 @@ class Script:
     def _write(self, lines):
         self.file.write("".join(f"{it}\n" for it in lines).encode())
 
+    def limit(self, low, high):
+        """The box of a limit, from one point in metres to another."""
+        corners = [metres(it) for point in (low, high) for it in nanometres(point)]
+        self._write([f"limit {' '.join(corners)}"])
+
     def scan(self, scan, reach):
         """A scan as the map did it: its points are turned already, so the quaternion turns no
         more."""

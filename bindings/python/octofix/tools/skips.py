@@ -1,5 +1,6 @@
 """What is to be done with an input that can't be used: stop, or leave it out and count it."""
 
+from .errors import Torn
 from .progress import say
 
 
@@ -10,7 +11,7 @@ class Skips:
 
     def judge(self, why):
         """Says and counts what is left out; raises it where the run stops."""
-        if not self.is_skipping:
+        if not self.is_skipping or isinstance(why, Torn):
             raise why
         self.count += 1
         say(f"skipped: {why}")

@@ -2,7 +2,7 @@
 
 import os
 import re
-from dataclasses import dataclass
+from dataclasses import dataclass, field
 
 from ..errors import Unusable, failing_as
 from ..files import read_bytes
@@ -42,12 +42,13 @@ ENDINGS = [
 class Reading:
     """How files are read: a form of FORMS or None for what the file itself shows, and the columns
     of x, y and z as --columns has them, or None; topic and the like are for bags; whether a file of
-    no byte is a cloud of no point."""
+    no byte is a cloud of no point. What was read for later is kept by the names of files."""
 
     form: str = None
     columns: list = None
     bag: bags.Topics = bags.Topics()
     allows_empty: bool = False
+    kept: dict = field(default_factory=dict, compare=False)
 
 
 def form_of(name, content):
@@ -67,13 +68,23 @@ def clouds_in(name, reading):
         raise why.named(name)
 
 
+def clouds_again(name, reading):
+    """Each Cloud of a file that is read once more later; of a pipe the content is kept."""
+    kept = {} if os.path.isfile(name) else {name: read_bytes(name)}
+    reading.kept.update(kept)
+    try:
+        yield from clouds_in(name, reading)
+    finally:
+        reading.kept.update(kept)
+
+
 def _opened(name, reading):
     """The form of a file, and an iterator of its clouds, which alone has the file's content."""
     form = reading.form
     if form is None and name.lower().endswith(".bag"):
         form = "bag"
     if form != "bag":
-        content = read_bytes(name)
+        content = reading.kept.pop(name) if name in reading.kept else read_bytes(name)
         if not reading.allows_empty:
             refuse_empty(content)
         form = form or form_of(name, content)

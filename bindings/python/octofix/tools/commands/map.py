@@ -7,16 +7,23 @@ packed by gzip, scan logs (NODE) and .graph files of the OctoMap library, and RO
 in metres in the sensor's own frame. Three columns of text are x, y and z; of more a heading or
 --columns says which are. Where a pose stands in the file (VIEWPOINT of PCD, NODE) it is used unless
 poses are given; without any, the sensor stands at the origin.
+
+--jobs N makes the same map by N threads, each of which has a region. --region K/N does the scans in
+one of N regions, the same ones for the same clouds; 'octofix merge' joins their snapshots.
 """
+
+import os
 
 from octofix import Map, Refused
 
-from ..arguments import Output, add_scans, positive, whole
+from ..arguments import Output, add_scans, positive, region, whole
 from ..clashes import refuse_clouds
 from ..errors import DONE, INTERRUPTED, SKIPPED, Unusable
 from ..files import WRITING, written
 from ..interrupts import INTERRUPTS, Abandoned
 from ..mapping import Mapper
+from ..maps import write_map
+from ..parallel import ParallelMapper, RegionMapper
 from ..progress import Progress, is_terminal, say
 from ..script import Script
 from ..setup import scans_of
@@ -52,6 +59,13 @@ def arguments(parser):
         "--max-cells", type=whole(1, 1 << 27), default=1 << 26, metavar="N",
         help="the most voxels that beams meet at once; larger scans are parted (2^26)",
     )  # fmt: skip
+    cores = parser.add_argument_group("several cores, several machines")
+    cores = cores.add_mutually_exclusive_group()
+    cores.add_argument(
+        "--jobs", type=whole(0, 256), default=1, metavar="N",
+        help="so many threads, each with --max-groups; 0 takes as many as there are cores (1)",
+    )  # fmt: skip
+    cores.add_argument("--region", type=region, metavar="K/N", help="the Kth of N regions alone")
 
 
 def run(options):
@@ -63,21 +77,29 @@ def run(options):
         raise Unusable("only one of -o, --snapshot and --script can be the output")
     refuse_clouds(names, options.clouds)
     scans = scans_of(options)
-    # (it isn't closed: a scan that is abandoned is still at work in it)
-    world = _map_of(options)
     # (what can't be written is told before all the work)
     with INTERRUPTS.held(WRITING), written(*names) as opened:
         files = dict(zip(kinds, opened))
-        mapper = Mapper(world, options.range, Script(files["script"]) if options.script else None)
+        mapper = _mapper_of(options, Script(files["script"]) if options.script else None)
         is_stopped = _fill(mapper, scans, options)
         _expect_points(mapper, scans, is_stopped, options.allow_empty)
-        INTERRUPTS.finish(WRITING, _write, world, files)
+        INTERRUPTS.finish(WRITING, _write, mapper, files)
     if not options.quiet:
         say(_closing_line(mapper, scans))
     if is_stopped:
         say(f"stopped by {INTERRUPTS.name()}: the map has the scans until then")
         return INTERRUPTED
     return SKIPPED if scans.skips.count or scans.gaps else DONE
+
+
+def _mapper_of(options, script):
+    # (maps aren't closed: a scan that is abandoned is still at work in one)
+    jobs = options.jobs or len(os.sched_getaffinity(0))
+    if jobs > 1:
+        return ParallelMapper(lambda: _map_of(options), jobs, options.range, script)
+    if options.region:
+        return RegionMapper(_map_of(options), *options.region, options.range, script)
+    return Mapper(_map_of(options), options.range, script)
 
 
 def _map_of(options):
@@ -92,22 +114,33 @@ def _map_of(options):
 
 
 def _fill(mapper, scans, options):
-    """Does all scans; whether an interrupt came, which waits until a scan is done."""
+    """Does all scans; whether an interrupt came, which waits until those that run are done."""
     is_shown = not options.quiet and is_terminal()
     progress = Progress(len(options.clouds) if scans.is_one_each() else None, is_shown)
     try:
+        is_stopped = _begin(mapper, scans, progress)
+        while INTERRUPTS.finish("the running scans", mapper.catch_up):
+            _show(mapper, progress)
+        return is_stopped
+    finally:
+        mapper.stop()
+        progress.close()
+        mapper.rates = progress.rates()
+
+
+def _begin(mapper, scans, progress):
+    """Begins with all scans; whether an interrupt came."""
+    try:
         with INTERRUPTS.held(None):
+            mapper.begin(scans)
             for scan in scans:
                 INTERRUPTS.finish("the running scan", _add, mapper, scan, scans.skips)
-                progress.step(len(scan.points))
+                _show(mapper, progress)
                 INTERRUPTS.take()
     except Abandoned:
         raise
     except KeyboardInterrupt:
         return True
-    finally:
-        progress.close()
-        mapper.rates = progress.rates()
     return False
 
 
@@ -116,6 +149,11 @@ def _add(mapper, scan, skips):
         mapper.add(scan)
     except Unusable as why:
         skips.judge(why)
+
+
+def _show(mapper, progress):
+    for points in mapper.take_finished():
+        progress.step(points)
 
 
 def _expect_points(mapper, scans, is_stopped, is_empty_allowed):
@@ -129,10 +167,8 @@ def _expect_points(mapper, scans, is_stopped, is_empty_allowed):
         raise Unusable("; ".join([said, *_left_out(scans)]))
 
 
-def _write(world, files):
-    for kind, content in (("output", world.to_bt), ("snapshot", world.to_snapshot)):
-        if kind in files:
-            files[kind].write(content())
+def _write(mapper, files):
+    write_map(mapper.joined(), files)
 
 
 def _closing_line(mapper, scans):

@@ -1,0 +1,125 @@
+"""A map of regions: one of them, or all of them by several threads."""
+
+from concurrent.futures import ThreadPoolExecutor
+
+from octofix import Map, Refused
+
+from .crew import Crew
+from .gathering import gathered
+from .mapping import FULL, Mapper
+from .maps import MOST_GROUPS
+from .regions import HIGHEST, Region, Samples, cut, sample
+
+# About how many scans tell where beams go.
+SAMPLED = 32
+# All that a judge may change.
+CORNER = Region((HIGHEST,) * 3)
+
+
+def regions_of(scans, count, edge, reach):
+    """So many regions, cut where the beams of scans from all over the clouds go."""
+    found = [sample(scan, edge, reach, weight) for weight, scan in scans.spread(SAMPLED)]
+    return cut(Samples.joined(found), count)
+
+
+class RegionMapper(Mapper):
+    """Does scans in one region of several, which are the same ones for the same clouds."""
+
+    def __init__(self, world, number, count, reach=None, script=None):
+        """number: from 1."""
+        super().__init__(world, reach, script)
+        self.number, self.count = number, count
+
+    def begin(self, scans):
+        edge = self.world.resolution_nm
+        region = regions_of(scans, self.count, edge, self.reach)[self.number - 1]
+        corners = region.corners(edge)
+        self.world.limit(*corners)
+        if self.script:
+            self.script.limit(*corners)
+
+
+class Judge(Mapper):
+    """Refuses the scans that each region would refuse, and writes the script of the others."""
+
+    def __init__(self, world, reach, script):
+        super().__init__(world, reach, script)
+        world.limit(*CORNER.corners(world.resolution_nm))
+
+    def _add_in_parts(self, scan):
+        window = None if self.script else self.window()
+        leaves = gathered(scan, self.world.resolution, self.world.limits, self.reach, window)
+        if self.script:
+            self.script.edits(leaves)
+        self.parted += 1
+
+
+class ParallelMapper:
+    """Does scans as a Mapper does, by several threads, each with a map of a region.
+
+    What each region refuses is refused at once. A scan for which a region has no room or no memory
+    ends all, since other regions may have done it."""
+
+    def __init__(self, new_map, count, reach=None, script=None):
+        """new_map: makes a map."""
+        self.new_map, self.count, self.reach = new_map, count, reach
+        self.judge, self.worlds, self.crew = Judge(new_map(), reach, script), [], None
+
+    scans = property(lambda self: self.judge.scans)
+    points = property(lambda self: self.judge.points)
+    parted = property(lambda self: self.judge.parted)
+
+    def begin(self, scans):
+        """Cuts the regions, by scans that are read for that alone."""
+        edge = self.judge.world.resolution_nm
+        for region in regions_of(scans, self.count, edge, self.reach):
+            world = self.new_map()
+            world.limit(*region.corners(edge))
+            self.worlds.append(world)
+        self.crew = Crew([Mapper(it, self.reach).add for it in self.worlds])
+
+    def add(self, scan):
+        """Has a scan done, which may last until earlier ones are done."""
+        self.judge.add(scan)
+        self.crew.put(scan, len(scan.points))
+
+    def take_finished(self):
+        return self.crew.take_finished() if self.crew else []
+
+    def catch_up(self):
+        return bool(self.crew) and self.crew.catch_up()
+
+    def stop(self):
+        if self.crew:
+            self.crew.stop()
+
+    def joined(self):
+        """The map of all regions."""
+        while len(self.worlds) > 1:
+            ones, others = self.worlds[::2], self.worlds[1::2]
+            with ThreadPoolExecutor(len(others)) as pool:
+                self.worlds = [*pool.map(_joined, ones, others), *ones[len(others) :]]
+        self.worlds[0].no_limit()
+        return self.worlds[0]
+
+
+def _joined(one, other):
+    """One map of two, with more room than each of them has where that is needed."""
+    try:
+        one.merge(other)
+    except Refused as refused:
+        if refused.code != FULL:
+            raise
+        return _roomy(one, other)
+    other.close()
+    return one
+
+
+def _roomy(*worlds):
+    """The maps joined in one that may have as many groups as any."""
+    odds, limits = worlds[0].odds._asdict(), worlds[0].limits._asdict()
+    joined = Map(worlds[0].resolution, **odds, **{**limits, "max_groups": MOST_GROUPS})
+    for it in worlds:
+        joined.merge(it)
+        it.close()
+    return joined

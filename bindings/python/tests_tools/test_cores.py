@@ -1,0 +1,209 @@
+"""Maps by several threads, and by regions that are joined: the same map as one thread makes."""
+
+import re
+import threading
+import unittest
+from unittest import mock
+
+import numpy as np
+from running import DATA, InFolder
+
+from octofix import Map
+from octofix.tools import crew, mapping
+from octofix.tools.command import parser
+from octofix.tools.lengths import nanometres
+from octofix.tools.regions import HIGHEST, LOWEST, Parts, Region, Samples, cut, sample
+from octofix.tools.scans import Scan
+from octofix.tools.setup import scans_of
+
+CLOUDS = [f"{number:02}.npy" for number in range(9)]
+FULL = "(--max-groups allows more, a larger --res or a --range takes less)"
+
+
+def save_drive(random):
+    """Nine clouds, of which one has a point outside the map, and their poses."""
+    with open("poses.tum", "w") as poses:
+        for number, name in enumerate(CLOUDS):
+            place, turn = random.uniform(-3, 3, 3), random.normal(size=4)
+            poses.write(f"{number} {' '.join(map(str, [*place, *turn]))}\n")
+            points = random.normal(size=(random.integers(1, 60), 3)) * 3
+            np.save(name, points if number != 4 else points + 1e5)
+
+
+def content_of(*names):
+    found = []
+    for name in names:
+        with open(name, "rb") as file:
+            found.append(file.read())
+    return found
+
+
+def joined(worlds):
+    for other in worlds[1:]:
+        worlds[0].merge(other)
+    worlds[0].no_limit()
+    return worlds[0]
+
+
+class Jobs(InFolder):
+    def map(self, jobs, *words, status=0, clouds=CLOUDS):
+        """The files that so many threads leave, and what they say but for times."""
+        out = ["-o", "a.bt", "--snapshot", "a.snap", "--script", "a.txt"]
+        words = ["map", "--res", 0.2, "--jobs", jobs, *words, *clouds, *out]
+        said = self.done(*words, status=status).said
+        return content_of("a.bt", "a.snap", "a.txt"), re.sub(r"[\d,.]+ \w+/s", "", said)
+
+    def test_same_files(self):
+        """Whatever the range, also where scans are done in parts, or refused: each one once."""
+        tried = ([], ["--max-cells", 90], ["--voxel", 0.5], ["--range", 2])
+        for seed, words in enumerate(tried):
+            save_drive(np.random.default_rng(seed))
+            status = 0 if "--range" in words else 3
+            words = [*words, "--poses", "poses.tum", "--on-error", "skip"]
+            wanted = self.map(1, *words, status=status)
+            self.assertEqual(wanted[1].count("skipped: 04.npy: its point"), status // 3)
+            for jobs in (2, 3, 7, 0):
+                self.assertEqual(self.map(jobs, *words, status=status), wanted)
+
+    def test_many_scans_of_one_file(self):
+        words = {"clouds": [DATA / "five_scans.log"]}
+        self.assertEqual(self.map(3, **words), self.map(1, **words))
+
+    def test_what_can_be_read_once(self):
+        words = ["map", "--res", 0.1, "-", "--quiet", "-o", "-"]
+        files = [self.done(*words, "--jobs", it, given=b"2 0 0\n0 3 1\n").output for it in (1, 2)]
+        self.assertEqual(*files)
+
+    def test_stop(self):
+        save_drive(np.random.default_rng(1))
+        words = ["map", "--res", 0.2, "--jobs", 2, *CLOUDS, "-o", "a.bt"]
+        said = "04.npy: its point 0 lies outside the map "
+        self.refused(said + "(--range cuts beams, a larger --res has more space)", *words)
+
+    def test_a_region_that_is_full(self):
+        """The other one may have done the scan, so that it can't be left out."""
+        np.save("a.npy", [[1, 1, 1], [-1, -1, -1]])
+        words = ["map", "--res", 0.1, "--max-groups", 20, "--jobs", 2, "--on-error", "skip"]
+        self.refused(f"a.npy: the map is full {FULL}", *words, "a.npy", "-o", "a.bt")
+
+    def test_more_room_than_one_map(self):
+        """Each region has one voxel, which takes 16 groups, and both take 31 together."""
+        with open("poses.tum", "w") as poses:
+            poses.write("0 5 5 5 0 0 0 1\n0 -5 -5 -5 0 0 0 1\n")
+        np.save("a.npy", [[0.01, 0.01, 0.01]])
+        words = ["--res", 0.1, "--max-groups", 16, "--poses", "poses.tum", "a.npy", "a.npy"]
+        self.done("map", *words, "--jobs", 2, "--snapshot", "a.snap")
+        with Map.from_snapshot("a.snap") as world:
+            self.assertEqual(world.get([[5.01] * 3, [-4.99] * 3]).tolist(), [850, 850])
+            self.assertEqual(world.counts().groups, 31)
+
+    def test_no_memory(self):
+        """It runs out in one of the threads."""
+        save_drive(np.random.default_rng(1))
+        do_scan = mapping.do_scan
+
+        def fail(*words):
+            if threading.current_thread().name.startswith("crew"):
+                raise MemoryError
+            do_scan(*words)
+
+        with mock.patch.object(mapping, "do_scan", fail):
+            words = ["map", "--res", 0.2, "--jobs", 2, *CLOUDS[:3], "-o", "a.bt"]
+            self.refused("memory ran out", *words)
+
+
+class Crew(unittest.TestCase):
+    def test_what_waits_is_bounded(self):
+        """Each item is done by both in its turn, and at most three wait for the slow one."""
+        done, is_free = ([], []), threading.Semaphore(0)
+
+        def slow(item):
+            is_free.acquire()
+            done[1].append(item)
+
+        with mock.patch.object(crew, "MOST_WAITING", 30):
+            threads = crew.Crew([done[0].append, slow])
+            putting = threading.Thread(target=lambda: [threads.put(it, 10) for it in range(5)])
+            putting.start()
+            putting.join(0.05)
+            self.assertTrue(putting.is_alive())
+            self.assertLessEqual(len(done[0]), 3)
+            is_free.release(5)
+            putting.join(10)
+            while threads.catch_up():
+                pass
+        threads.stop()
+        self.assertEqual(done, ([*range(5)], [*range(5)]))
+        self.assertEqual(threads.take_finished(), [10] * 5)
+
+
+class Regions(InFolder):
+    def test_they_are_a_whole(self):
+        """Whatever the beams are, also none, and in one voxel alone."""
+        random = np.random.default_rng(1)
+        for scale in (0, 1, 5, 40_000):
+            voxels = np.rint(random.normal(size=(300, 3)) * scale).astype(int).clip(LOWEST, HIGHEST)
+            samples = Samples(voxels, random.integers(0, 9, 300))
+            for count in (1, 2, 3, 64):
+                found, parts = cut(samples, count), Parts()
+                self.assertEqual(len(found), count)
+                self.assertEqual({parts.add("", it) for it in found}, {None})
+                self.assertFalse(parts.lack())
+
+    def test_a_voxel_at_the_end(self):
+        ends = Region((HIGHEST, LOWEST, HIGHEST - 1), (HIGHEST, LOWEST, HIGHEST))
+        samples = Samples(np.array([ends.low]), np.array([1]))
+        self.assertEqual([it.low[2] for it in cut(samples, 2, ends)], [HIGHEST - 1, HIGHEST])
+
+    def test_they_have_about_as_much(self):
+        """Beams to a wall on x: a half of the way lies in each region, as far as samples tell."""
+        points = nanometres([[10, 0.01 * it, 0] for it in range(-500, 500)])
+        scan = Scan("", nanometres([0, 0, 0]), points)
+        found = cut(sample(scan, 100_000_000, None), 2)
+        self.assertEqual((found[0].low[1], found[1].high[1]), (LOWEST, HIGHEST))
+        self.assertAlmostEqual(found[1].low[0], 50, delta=5)
+
+    def test_a_range(self):
+        """No beam is longer than 3 m: 30 voxels."""
+        scan = Scan("", nanometres([1, 0, 0]), nanometres([[90, 0, 0], [2, 0, 0]]))
+        found = sample(scan, 100_000_000, 3)
+        self.assertEqual(found.voxels[:, 0].max(), 39)
+        self.assertEqual(set(found.weights.tolist()), {31, 21})
+
+    def test_scans_from_all_over(self):
+        """Each stands for as many as are left out after it."""
+        with open("many.log", "w") as log:
+            for number in range(100):
+                log.write(f"NODE {number} 0 0 0 0 0\n1 0 0\n")
+        scans = scans_of(parser().parse_args(["map", "--res", "1", "--quiet", "many.log"]))
+        found = [(weight, round(it.origin[0] / 1e9)) for weight, it in scans.spread(8)]
+        wanted = [*range(8), *range(8, 16, 2), *range(16, 32, 4), *range(32, 64, 8), 64, 80, 96]
+        self.assertEqual([it for _, it in found], wanted)
+        self.assertEqual([weight for weight, _ in found[::4]], [1, 1, 2, 4, 8, 16])
+        self.assertEqual(sum(len(it.points) for it in scans), 100)
+
+    def test_lazy_scans_and_a_mark(self):
+        """Maps of regions know together what one map knows, and what has changed in it."""
+        for seed in range(4):
+            random = np.random.default_rng(seed)
+            scans = [
+                (random.normal(size=(30, 3)), random.uniform(-2, 2, 3), reach, lazy)
+                for reach, lazy in zip((None, 1, 2, None, 0.5, 3), random.integers(0, 2, 6) > 0)
+            ]
+            places = [Scan("", nanometres(at), nanometres(it)) for it, at, _, _ in scans]
+            samples = Samples.joined([sample(it, 100_000_000, None) for it in places])
+            worlds = [Map(0.1) for _ in range(6)]
+            for world, region in zip(worlds, [Region(), *cut(samples, 5)]):
+                world.limit(*region.corners(world.resolution_nm))
+                world.track()
+                for points, at, reach, lazy in scans:
+                    world.scan(points, at, range=reach, lazy=bool(lazy))
+            one, other = joined(worlds[:1]), joined(worlds[1:])
+            self.assertEqual(one.to_snapshot(), other.to_snapshot())
+            self.assertEqual(one.to_bt(), other.to_bt())
+            for mine, theirs in zip(one.changes(), other.changes()):
+                self.assertEqual(mine.tolist(), theirs.tolist())
+
+
+if __name__ == "__main__":
+    unittest.main()
