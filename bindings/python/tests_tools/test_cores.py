@@ -6,7 +6,7 @@ import unittest
 from unittest import mock
 
 import numpy as np
-from running import DATA, InFolder
+from running import DATA, InFolder, save_map
 
 from octofix import Map
 from octofix.tools import crew, mapping
@@ -203,6 +203,68 @@ class Regions(InFolder):
             self.assertEqual(one.to_bt(), other.to_bt())
             for mine, theirs in zip(one.changes(), other.changes()):
                 self.assertEqual(mine.tolist(), theirs.tolist())
+
+
+class Merge(InFolder):
+    def region(self, number, count):
+        words = ["map", "--res", 0.2, "--poses", "poses.tum", "--on-error", "skip", *CLOUDS]
+        out = ["--region", f"{number}/{count}", "--snapshot", f"{number}.snap"]
+        self.done(*words, *out, status=3)
+
+    def test_regions(self):
+        save_drive(np.random.default_rng(1))
+        for number in (1, 2, 3):
+            self.region(number, 3)
+        words = ["map", "--res", 0.2, "--poses", "poses.tum", "--on-error", "skip", *CLOUDS]
+        self.done(*words, "--snapshot", "one.snap", "-o", "one.bt", status=3)
+        self.done("merge", "3.snap", "1.snap", "2.snap", "-o", "a.bt", "--snapshot", "a.snap")
+        self.assertEqual(content_of("a.bt", "a.snap"), content_of("one.bt", "one.snap"))
+        said = "the regions leave a part of the map out: one is missing (--allow-gaps)"
+        self.refused(said, "merge", "1.snap", "2.snap", "-o", "b.bt")
+        said = "1.snap: its region overlaps that of 1.snap (--rule says whose values stay)"
+        self.refused(said, "merge", "1.snap", "1.snap", "-o", "b.bt")
+        self.done("merge", "1.snap", "2.snap", "--snapshot", "b.snap", "--allow-gaps")
+        self.done("merge", "b.snap", "3.snap", "--snapshot", "c.snap", "--rule", "least")
+        self.assertEqual(content_of("c.snap"), content_of("one.snap"))
+
+    def test_a_region_that_is_full(self):
+        np.save("a.npy", [[1, 1, 1], [-1, -1, -1]])
+        words = ["map", "--res", 0.1, "--max-groups", 20, "--on-error", "skip", "a.npy"]
+        said = f"a.npy: the map is full {FULL}"
+        self.refused(said, *words, "--region", "2/2", "--snapshot", "a.snap")
+
+    def test_rules(self):
+        """Both know the first voxel, and each one another voxel."""
+        for name, values in (("a", {0: 9, 1: 7}), ("b", {0: -5, 2: 3})):
+            with Map(0.5) as world:
+                for x, value in values.items():
+                    world.set([[x / 2, 0, 0]], value)
+                world.snapshot(name)
+        tried = {"first": ("a", "b", 9), "greatest": ("b", "a", 9), "least": ("a", "b", -5)}
+        for rule, (one, other, value) in {**tried, None: ("b", "a", -5)}.items():
+            words = ["--rule", rule] if rule else []
+            self.done("merge", one, other, "--snapshot", "c", *words)
+            with Map.from_snapshot("c") as world:
+                came = world.get([[it / 2, 0, 0] for it in range(3)]).tolist()
+            self.assertEqual(came, [value, 7, 3])
+
+    def test_classes(self):
+        save_map("a.bt", 0.5, {(0, 0, 0): 9})
+        save_map("b.bt", 0.5, {(0, 0, 0): -9, (1, 0, 0): -9})
+        self.done("merge", "a.bt", "b.bt", "-o", "c.bt")
+        with Map.from_bt("c.bt") as world:
+            self.assertEqual(world.classes([[0, 0, 0], [0.5, 0, 0]]).tolist(), [2, 1])
+
+    def test_maps_that_differ(self):
+        save_map("a.bt", 0.5, {(0, 0, 0): 9})
+        save_map("b.bt", 0.2, {(0, 0, 0): 9})
+        said = "b.bt: its voxels have another edge than those of a.bt"
+        self.refused(said, "merge", "a.bt", "b.bt", "-o", "c.bt")
+        with Map(0.5, threshold=1) as world:
+            world.snapshot("c")
+        said = "c: its log-odds are others than those of a.bt"
+        self.refused(said, "merge", "a.bt", "c", "-o", "c.bt")
+        self.refused("nothing is to be written (-o or --snapshot)", "merge", "a.bt", "c")
 
 
 if __name__ == "__main__":

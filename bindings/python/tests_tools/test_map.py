@@ -262,7 +262,7 @@ class Bags(InFolder):
 
 class Help(InFolder):
     def test_help(self):
-        names = "map info points grid view compare crop shift coarsen check".split()
+        names = "map merge info points grid view compare crop shift coarsen check".split()
         self.assertIn(b"octofix", octofix("--help").output)
         for name in names:
             ran = octofix(name, "--help")

@@ -11,8 +11,8 @@ from .interrupts import INTERRUPTS, Abandoned
 from .progress import say
 
 COMMANDS = (
-    "map", "info", "points", "grid", "view", "compare", "crop", "shift", "coarsen", "check",
-    "example",
+    "map", "merge", "info", "points", "grid", "view", "compare", "crop", "shift", "coarsen",
+    "check", "example",
 )  # fmt: skip
 STATUSES = """statuses: 0 done; 1 an input can't be used, an output can't be written, or something
 was refused; 2 usage; 3 done, but something was skipped; 4 a Python library isn't there; 130 stopped

@@ -1,0 +1,91 @@
+"""Joins maps with their values: a voxel that one of them knows has its value.
+
+    octofix map --res 0.1 --region 1/2 clouds/*.pcd --snapshot 1.snap
+    octofix map --res 0.1 --region 2/2 clouds/*.pcd --snapshot 2.snap
+    octofix merge 1.snap 2.snap -o map.bt --snapshot map.snap
+
+The regions of one N that were made of the same clouds give the map that one run makes of them, byte
+for byte. Of what several files know --rule says whose value stays; values aren't added up. A .bt
+file has classes alone, so that its voxels have the greatest or the smallest value. Two maps are in
+memory at a time. Where each file has a box, as a region has it, the boxes have to be parts of a
+whole, or a region is missing.
+"""
+
+from octofix import Refused, Rule
+
+from ..arguments import Input, Output
+from ..errors import DONE, Unusable
+from ..files import WRITING, written
+from ..interrupts import INTERRUPTS
+from ..maps import read_map, write_map
+from ..regions import Parts, Region
+
+HELP = "maps joined with their values"
+RULES = {it.name.lower(): it for it in Rule}
+REFUSED = {
+    35: "its voxels have another edge than those of {first}",
+    48: "its log-odds are others than those of {first}",
+}
+
+
+def arguments(parser):
+    parser.add_argument(
+        "maps", nargs="+", type=Input, metavar="MAP", help="snapshots or .bt files; - is the input"
+    )
+    parser.add_argument(
+        "-o", "--output", type=Output, metavar="FILE", help="the .bt file; - is the output"
+    )
+    parser.add_argument(
+        "--snapshot", type=Output, metavar="FILE", help="the map with its values; - is the output"
+    )
+    parser.add_argument(
+        "--rule", choices=[*RULES],
+        help="the value where several know a voxel: that of the first of the maps, the greatest or "
+        "the least one; without it regions that overlap are refused (first)",
+    )  # fmt: skip
+    parser.add_argument(
+        "--allow-gaps", action="store_true", help="join regions that are no whole, too"
+    )
+
+
+def run(options):
+    kinds = [it for it in ("output", "snapshot") if getattr(options, it)]
+    names = [getattr(options, it) for it in kinds]
+    if not names:
+        raise Unusable("nothing is to be written (-o or --snapshot)")
+    if names.count("-") > 1:
+        raise Unusable("only one of -o and --snapshot can be the output")
+    with INTERRUPTS.held(WRITING), written(*names) as opened:
+        with INTERRUPTS.held(None):
+            world = _joined(options)
+        INTERRUPTS.finish(WRITING, write_map, world, dict(zip(kinds, opened)))
+    return DONE
+
+
+def _joined(options):
+    """The map of all files, which are read in turn."""
+    parts, first = Parts(), options.maps[0]
+    world = read_map(first)
+    _note(parts, world, first, options.rule)
+    for name in options.maps[1:]:
+        with read_map(name) as other:
+            _note(parts, other, name, options.rule)
+            _merge(world, other, RULES[options.rule or "first"], name, first)
+    if parts.lack() and not options.allow_gaps:
+        raise Unusable("the regions leave a part of the map out: one is missing (--allow-gaps)")
+    world.no_limit()
+    return world
+
+
+def _note(parts, world, name, rule):
+    found = parts.add(name, Region.of(world.window))
+    if found and rule is None:
+        raise Unusable(f"its region overlaps that of {found} (--rule says whose values stay)", name)
+
+
+def _merge(world, other, rule, name, first):
+    try:
+        world.merge(other, rule)
+    except Refused as refused:
+        said = REFUSED.get(refused.code, "it can't be joined: {refused}")
+        raise Unusable(said.format(first=first, refused=refused), name) from None
