@@ -12,7 +12,7 @@ import textwrap
 from pathlib import Path
 
 ROOT = Path(__file__).resolve().parent.parent
-INCLUDE = r"^    #include <octofix(?:_octree)?\.h(?:pp)?>.*\n"
+INCLUDE = r"^    #include <octofix(?:_octree|_mapper)?\.h(?:pp)?>.*\n"
 BLOCK = re.compile(INCLUDE + r"(?:    .*\n|\n(?=    ))*", re.M)
 
 

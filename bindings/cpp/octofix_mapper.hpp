@@ -1,0 +1,150 @@
+// octofix_mapper.hpp: a map that several threads make of scans.
+//
+//     octofix::mapper mapper(0.05);                      // a thread for each core
+//     for (..) mapper.add(pose, octofix::metres(cloud));
+//     octofix::map world = mapper.finish();              // that of one thread, to the voxel
+//
+// Each thread has a map of a region, in which it does all scans, and finish() merges the maps. The
+// regions are cut where the first scans walk through most, before which no scan is done; the later
+// ones are done as fast where they go there, too.
+#ifndef OCTOFIX_MAPPER_HPP
+#define OCTOFIX_MAPPER_HPP
+
+#include "octofix.hpp"
+#include "octofix/crew.hpp"
+#include "octofix/regions.hpp"
+
+#include <algorithm>
+#include <cstddef>
+#include <memory>
+#include <stdexcept>
+#include <thread>
+#include <utility>
+#include <vector>
+
+namespace octofix {
+
+namespace detail {
+
+/// Merges the second map into the first, in one with more room where that is needed, and closes it.
+inline void take(map &one, map &other) {
+    map taken(std::move(other));
+    try {
+        return one.merge(taken);
+    } catch (const refused &why) {
+        if (why.code() != OCTOFIX_FULL) throw;
+    }
+    settings now = one.settings();
+    now.limits.max_groups = std::uint64_t{1} << 26;
+    map roomy(one.resolution(), now.odds, now.limits);
+    roomy.merge(one);
+    roomy.merge(taken);
+    one = std::move(roomy);
+}
+
+} // namespace detail
+
+/// Makes a map by several threads. Its calls come from one thread at a time.
+class mapper {
+  public:
+    /// A map of voxels of res metres by so many threads; 0 takes one for each core. The limits are
+    /// those of each region's map; together they may have 2^26 groups. The regions are cut by the
+    /// first scans that have so many points.
+    explicit mapper(double res, const odds &log_odds = default_odds,
+                    const limits &most = default_limits, unsigned threads = 0,
+                    std::size_t points_to_cut_by = std::size_t{1} << 20)
+        : threads_(threads ? threads : std::max(1u, std::thread::hardware_concurrency())),
+          points_to_cut_by_(points_to_cut_by), log_odds_(log_odds), most_(most),
+          judge_(res, log_odds, most) {
+        constexpr int last = detail::region::last;
+        if (threads_ > 1) detail::limit(judge_, {{last, last, last}, {last, last, last}});
+    }
+    mapper(const mapper &) = delete;
+    mapper &operator=(const mapper &) = delete;
+    /// Ends the threads, each after the scan that it is doing.
+    ~mapper() = default;
+
+    /// Does a scan as map::scan, which may last until earlier ones are done. What each region
+    /// refuses throws refused at once, and isn't done. Where one has no room, or memory runs out,
+    /// others may have done the scan: this call, or a later one, throws that, and each after it.
+    void add(const pose &sensor, std::vector<point> points, const scan_options &how = {}) {
+        if (is_finished_) throw std::logic_error("the mapper has given its map away");
+        judge_.scan(sensor, points, how);
+        if (threads_ == 1) return;
+        points_ += points.size();
+        auto seen = std::make_shared<const detail::sighting>(
+            detail::sighting{sensor, how, std::move(points)});
+        if (crew_) return put(std::move(seen));
+        first_.push_back(std::move(seen));
+        if (points_ >= points_to_cut_by_) begin();
+    }
+
+    /// The map of all scans. There are no more after it.
+    map finish() {
+        if (is_finished_) throw std::logic_error("the mapper has given its map away");
+        if (threads_ > 1) {
+            if (!crew_) begin();
+            crew_->finish();
+            join();
+        }
+        is_finished_ = true;
+        return std::move(threads_ > 1 ? maps_.front() : judge_);
+    }
+
+  private:
+    using sightings = std::vector<std::shared_ptr<const detail::sighting>>;
+
+    static constexpr std::size_t beams_to_cut_by = std::size_t{1} << 13;
+
+    /// Cuts the regions, and has the scans done that have waited for that.
+    void begin() {
+        const double res = judge_.resolution();
+        for (const detail::region &it : regions()) {
+            maps_.emplace_back(res, log_odds_, most_);
+            detail::limit(maps_.back(), it);
+        }
+        std::vector<detail::crew<detail::sighting>::task> tasks;
+        for (std::size_t i = 0; i < maps_.size(); ++i)
+            tasks.push_back([this, i](const detail::sighting &it) {
+                maps_[i].scan(it.sensor, it.points, it.how);
+            });
+        crew_ = std::make_unique<detail::crew<detail::sighting>>(std::move(tasks));
+        for (auto &it : std::exchange(first_, {})) put(std::move(it));
+    }
+    std::vector<detail::region> regions() const {
+        const std::size_t each = beams_to_cut_by / (first_.size() + 1) + 1;
+        std::vector<detail::walked> samples;
+        for (const auto &it : first_)
+            detail::add_samples(samples, *it, judge_.settings().res, each);
+        std::vector<detail::region> found;
+        detail::cut_into(threads_, std::move(samples), {}, found);
+        return found;
+    }
+    void put(std::shared_ptr<const detail::sighting> seen) {
+        const std::size_t size = seen->points.size();
+        crew_->put(std::move(seen), size);
+    }
+    /// Merges all maps into the first, by pairs.
+    void join() {
+        for (std::size_t step = 1; step < maps_.size(); step *= 2)
+            detail::side_by_side((maps_.size() + step - 1) / (2 * step), [&](std::size_t i) {
+                detail::take(maps_[2 * i * step], maps_[(2 * i + 1) * step]);
+            });
+        maps_.front().no_limit();
+    }
+
+    unsigned threads_;
+    std::size_t points_to_cut_by_;
+    odds log_odds_;
+    limits most_;
+    map judge_; // refuses what each region does; of one thread the map itself
+    sightings first_;
+    std::size_t points_ = 0;
+    bool is_finished_ = false;
+    std::vector<map> maps_;
+    std::unique_ptr<detail::crew<detail::sighting>> crew_; // (it ends before the maps do)
+};
+
+} // namespace octofix
+
+#endif

@@ -1,0 +1,166 @@
+// What octofix::mapper makes of scans by several threads: the map of one thread, byte for byte; and
+// what it throws.
+#include <octofix_mapper.hpp>
+
+#include <array>
+#include <chrono>
+#include <cstdio>
+#include <random>
+
+namespace {
+
+int failed = 0;
+
+void expect(int line, bool holds) {
+    if (holds) return;
+    failed++;
+    std::printf("line %d doesn't hold\n", line);
+}
+
+#define EXPECT(what) expect(__LINE__, what)
+
+using octofix::metres;
+
+struct look {
+    octofix::pose from;
+    std::vector<octofix::point> points;
+    octofix::scan_options how;
+};
+
+std::vector<octofix::point> cloud(std::mt19937 &random, std::size_t size) {
+    std::normal_distribution<double> draw(0, 3);
+    std::vector<octofix::point> points;
+    for (std::size_t i = 0; i < size; ++i)
+        points.push_back(metres(draw(random), draw(random), draw(random)));
+    return points;
+}
+
+/// Scans of all kinds: turned, cut, lazy, with log-odds of their own, and without points.
+std::vector<look> looks(unsigned seed) {
+    std::mt19937 random(seed);
+    std::uniform_real_distribution<double> draw(-1, 1);
+    std::vector<look> all;
+    for (unsigned i = 0; i < 8; ++i) {
+        const octofix::point at = metres(4 * draw(random), 4 * draw(random), draw(random));
+        look it{octofix::turned(at, draw(random), draw(random), draw(random), draw(random)),
+                cloud(random, random() % 60), {}};
+        if (i % 3 == 1) it.how.range = 2 + draw(random);
+        if (i % 4 == 2) it.how.hit = 300, it.how.miss = -200;
+        it.how.lazy = i % 2 == seed % 2;
+        all.push_back(it);
+    }
+    return all;
+}
+
+std::uint32_t code_of(octofix::mapper &to, const octofix::pose &from,
+                      const std::vector<octofix::point> &points) {
+    try {
+        to.add(from, points);
+    } catch (const octofix::refused &error) {
+        return error.code();
+    }
+    return 0;
+}
+
+template <class Error, class Call> bool throws(Call call) {
+    try {
+        call();
+    } catch (const Error &) {
+        return true;
+    }
+    return false;
+}
+
+void try_same_maps() {
+    for (unsigned seed = 0; seed < 6; ++seed) {
+        const std::vector<look> all = looks(seed);
+        octofix::map one(0.1);
+        for (const look &it : all) one.scan(it.from, it.points, it.how);
+        for (const unsigned threads : {0u, 1u, 2u, 3u, 7u}) {
+            // (with 3 threads they begin before the last scan comes)
+            octofix::mapper mapper(0.1, octofix::default_odds, octofix::default_limits, threads,
+                                   threads == 3 ? 20 : 1000);
+            for (const look &it : all) mapper.add(it.from, it.points, it.how);
+            const octofix::map came = mapper.finish();
+            EXPECT(came.snapshot() == one.snapshot() && came.save() == one.save());
+            EXPECT(!came.window() && came.settings().is_stale == one.settings().is_stale);
+        }
+    }
+}
+
+/// More items than may wait for the slower of two threads.
+void try_crew() {
+    std::array<std::vector<int>, 2> done;
+    octofix::detail::crew<int> both({[&](const int &it) { done[0].push_back(it); },
+                                     [&](const int &it) {
+                                         std::this_thread::sleep_for(std::chrono::milliseconds(1));
+                                         done[1].push_back(it);
+                                     }},
+                                    3);
+    std::vector<int> all;
+    for (int i = 0; i < 20; ++i) {
+        all.push_back(i);
+        both.put(std::make_shared<const int>(i), 2);
+    }
+    both.finish();
+    EXPECT(done[0] == all && done[1] == all);
+}
+
+void try_refusals() {
+    octofix::mapper mapper(0.1, octofix::default_odds, octofix::default_limits, 3);
+    const octofix::pose from = octofix::pose_at(0, 0, 0);
+    mapper.add(from, {metres(1, 0, 0)});
+    EXPECT(code_of(mapper, from, {metres(1, 0, 0), metres(9e6, 0, 0)}) == OCTOFIX_POINT_OUTSIDE);
+    EXPECT(code_of(mapper, octofix::pose_at(9e6, 0, 0), {}) == OCTOFIX_ORIGIN_OUTSIDE);
+    EXPECT(throws<octofix::bad_length>([&] { mapper.add(from, {}, {-1, 0, 0, false}); }));
+    mapper.add(from, {metres(0, 1, 0)});
+    octofix::map one(0.1);
+    one.scan(from, std::vector{metres(1, 0, 0)});
+    one.scan(from, std::vector{metres(0, 1, 0)});
+    EXPECT(mapper.finish().snapshot() == one.snapshot());
+    EXPECT(throws<std::logic_error>([&] { mapper.add(from, {}); }));
+    EXPECT(throws<std::logic_error>([&] { mapper.finish(); }));
+    EXPECT(throws<octofix::refused>([] { octofix::mapper none(0); }));
+}
+
+/// A region that is full ends all, whichever call comes next.
+void try_full() {
+    const octofix::limits few = {16, 1 << 20};
+    octofix::mapper mapper(0.1, octofix::default_odds, few, 2);
+    const octofix::pose from = octofix::pose_at(0, 0, 0);
+    mapper.add(from, {metres(3, 3, 3), metres(-3, -3, -3)});
+    EXPECT(throws<octofix::refused>([&] { mapper.finish(); }));
+    EXPECT(throws<octofix::refused>([&] { mapper.add(from, {}); }));
+    EXPECT(throws<octofix::refused>([&] { mapper.finish(); }));
+}
+
+/// Each region has one voxel, which takes 16 groups, and both take 31 together.
+void try_more_room() {
+    const octofix::limits few = {16, 1 << 20};
+    octofix::mapper mapper(0.1, octofix::default_odds, few, 2);
+    mapper.add(octofix::pose_at(5, 5, 5), {metres(0.01, 0.01, 0.01)});
+    mapper.add(octofix::pose_at(-5, -5, -5), {metres(0.01, 0.01, 0.01)});
+    octofix::map world = mapper.finish();
+    EXPECT(world.get(metres(5, 5, 5)) == 850 && world.get(metres(-4.99, -5, -5)) == 850);
+    EXPECT(world.counts().groups == 31);
+}
+
+void try_ends() {
+    octofix::mapper none(0.1);
+    EXPECT(none.finish().leaves().empty());
+    octofix::mapper left(0.1, octofix::default_odds, octofix::default_limits, 4);
+    left.add(octofix::pose_at(0, 0, 0), {metres(1, 0, 0)});
+}
+
+} // namespace
+
+int main() {
+    try_same_maps();
+    try_crew();
+    try_refusals();
+    try_full();
+    try_more_room();
+    try_ends();
+    std::printf("mapper: %d failed\n", failed);
+    return failed != 0;
+}
