@@ -94,7 +94,7 @@ class mapper {
   private:
     using sightings = std::vector<std::shared_ptr<const detail::sighting>>;
 
-    static constexpr std::size_t beams_to_cut_by = std::size_t{1} << 13;
+    static constexpr std::size_t beams_to_cut_by = std::size_t{1} << 12;
 
     /// Cuts the regions, and has the scans done that have waited for that.
     void begin() {
@@ -113,12 +113,10 @@ class mapper {
     }
     std::vector<detail::region> regions() const {
         const std::size_t each = beams_to_cut_by / (first_.size() + 1) + 1;
-        std::vector<detail::walked> samples;
+        std::vector<detail::sampled> samples;
         for (const auto &it : first_)
             detail::add_samples(samples, *it, judge_.settings().res, each);
-        std::vector<detail::region> found;
-        detail::cut_into(threads_, std::move(samples), {}, found);
-        return found;
+        return detail::cutter(samples).cut(threads_);
     }
     void put(std::shared_ptr<const detail::sighting> seen) {
         const std::size_t size = seen->points.size();

@@ -7,9 +7,12 @@
 
 #include <algorithm>
 #include <array>
+#include <bitset>
 #include <cmath>
 #include <cstddef>
 #include <cstdint>
+#include <numeric>
+#include <optional>
 #include <vector>
 
 namespace octofix::detail {
@@ -21,9 +24,12 @@ struct sighting {
     std::vector<point> points;
 };
 
-/// A voxel that beams walk through, by its key, and how many it stands for.
-struct walked {
-    std::array<int, 3> at;
+/// At how many places of a beam it is looked which voxels are there.
+inline constexpr std::size_t places = 16;
+
+/// Places from the beginning of a beam to its end, as keys, and how many voxels each stands for.
+struct sampled {
+    std::array<std::array<int, 3>, places> at;
     std::uint64_t weight;
 };
 
@@ -31,6 +37,12 @@ struct walked {
 struct region {
     static constexpr int last = 65535;
     std::array<int, 3> low{0, 0, 0}, high{last, last, last};
+
+    std::uint64_t size() const {
+        std::uint64_t all = 1;
+        for (std::size_t i = 0; i < 3; ++i) all *= static_cast<std::uint64_t>(high[i] - low[i] + 1);
+        return all;
+    }
 };
 
 using vector_3 = std::array<double, 3>;
@@ -57,10 +69,9 @@ inline vector_3 beam_of(const sighting &seen, std::size_t number) {
     return beam;
 }
 
-/// Voxels at a few places of so many beams of a scan, of voxels with this edge in nanometres.
-inline void add_samples(std::vector<walked> &all, const sighting &seen, std::int64_t edge,
+/// Samples of so many beams of a scan, of voxels with this edge in nanometres.
+inline void add_samples(std::vector<sampled> &all, const sighting &seen, std::int64_t edge,
                         std::size_t beams) {
-    constexpr int places = 8;
     const std::size_t count = seen.points.size(), taken = std::min(count, beams);
     // (steps of the golden ratio, which keep no time with the rings of a lidar)
     const auto step = static_cast<std::size_t>(0.618 * static_cast<double>(count)) | 1;
@@ -70,87 +81,126 @@ inline void add_samples(std::vector<walked> &all, const sighting &seen, std::int
     for (std::size_t i = 0; i < taken; ++i) {
         const vector_3 beam = beam_of(seen, i * step % count);
         const double length = std::fabs(beam[0]) + std::fabs(beam[1]) + std::fabs(beam[2]);
-        const double voxels = length / static_cast<double>(edge) + 1;
-        const std::uint64_t weight = static_cast<std::uint64_t>(voxels) * count / taken;
-        for (int place = 0; place < places; ++place) {
-            walked it{{}, weight};
+        const auto voxels = static_cast<std::uint64_t>(length / static_cast<double>(edge));
+        sampled it{{}, (voxels + 1) * count / taken};
+        for (std::size_t place = 0; place < places; ++place)
             for (std::size_t axis = 0; axis < 3; ++axis) {
-                const double there = from[axis] + beam[axis] * (place + 0.5) / places;
+                const double part = static_cast<double>(place) / (places - 1);
+                const double there = from[axis] + beam[axis] * part;
                 const double key = std::floor(there / static_cast<double>(edge)) + 32768;
-                it.at[axis] = static_cast<int>(std::clamp<double>(key, 0, region::last));
+                it.at[place][axis] = static_cast<int>(std::clamp<double>(key, 0, region::last));
             }
-            all.push_back(it);
-        }
+        all.push_back(it);
     }
 }
 
-/// How much is walked through up to each voxel of an axis, from the lowest one of a region on.
-inline std::vector<std::uint64_t> sums_of(const std::vector<walked> &all, const region &within,
-                                          std::size_t axis) {
-    const int low = within.low[axis];
-    std::vector<std::uint64_t> sums(static_cast<std::size_t>(within.high[axis] - low + 1));
-    for (const walked &it : all) sums[static_cast<std::size_t>(it.at[axis] - low)] += it.weight;
-    for (std::size_t i = 1; i < sums.size(); ++i) sums[i] += sums[i - 1];
-    return sums;
-}
+/// Cuts the whole in regions. Each call has the places that are in its region, a bit for each.
+class cutter {
+  public:
+    explicit cutter(const std::vector<sampled> &beams) : beams_(beams) {}
 
-/// The first number of rising ones that has reached this share of the last.
-inline std::ptrdiff_t reached(const std::vector<std::uint64_t> &sums, double share) {
-    const auto wanted = static_cast<std::uint64_t>(share * static_cast<double>(sums.back()));
-    return std::lower_bound(sums.begin(), sums.end(), wanted) - sums.begin();
-}
+    /// So many regions, each with about as much to do.
+    std::vector<region> cut(std::size_t count) {
+        found_.clear();
+        cut({}, std::vector<bits>(beams_.size(), bits{0xffff}), count);
+        return found_;
+    }
 
-/// A cut before a voxel of an axis.
-struct cut {
-    std::size_t axis;
-    int at;
+  private:
+    using bits = std::uint16_t;
+
+    struct place_to_cut {
+        std::size_t axis;
+        int at;
+    };
+
+    /// What is done for a beam that has these places in a region. (As instructions have been
+    /// counted.)
+    static std::uint64_t work(bits in) {
+        const std::uint64_t count = std::bitset<places>(in).count();
+        return count == 0 ? 0 : count == places ? 16 * count : 19 * count + 26;
+    }
+    /// The places of a beam that are before a voxel of an axis.
+    bits before(std::size_t beam, bits in, const place_to_cut &cut) const {
+        unsigned found = 0;
+        for (std::size_t i = 0; i < places; ++i)
+            found |= unsigned{beams_[beam].at[i][cut.axis] < cut.at} << i;
+        return static_cast<bits>(found & in);
+    }
+    void cut(const region &within, const std::vector<bits> &in, std::size_t count) {
+        if (count == 1) return found_.push_back(within);
+        std::size_t few = count / 2;
+        const place_to_cut here = best_cut(within, in, few, count);
+        region first = within, second = within;
+        first.high[here.axis] = here.at - 1;
+        second.low[here.axis] = here.at;
+        // (each has a voxel at least)
+        if (second.size() < count - few) few = count - static_cast<std::size_t>(second.size());
+        if (first.size() < few) few = static_cast<std::size_t>(first.size());
+        std::vector<bits> ones, others;
+        for (std::size_t i = 0; i < in.size(); ++i) {
+            ones.push_back(before(i, in[i], here));
+            others.push_back(static_cast<bits>(in[i] & ~ones.back()));
+        }
+        cut(first, ones, few);
+        cut(second, others, count - few);
+    }
+    /// That by which the region with most to do has least; the middle of the longest edge where
+    /// there is nothing.
+    place_to_cut best_cut(const region &within, const std::vector<bits> &in, std::size_t few,
+                          std::size_t count) const {
+        std::optional<std::uint64_t> least;
+        place_to_cut best{0, 0};
+        std::size_t longest = 0;
+        const double share = static_cast<double>(few) / static_cast<double>(count);
+        for (std::size_t axis = 0; axis < 3; ++axis) {
+            const auto edge = [&](std::size_t it) { return within.high[it] - within.low[it]; };
+            if (edge(axis) > edge(longest)) longest = axis;
+            for (const int at : tried(within, in, axis, share)) {
+                const std::uint64_t most = most_work(in, {axis, at}, few, count);
+                if (!least || most < *least) least = most, best = {axis, at};
+            }
+        }
+        if (least) return best;
+        return {longest, (within.low[longest] + within.high[longest] + 1) / 2};
+    }
+    /// Where it may be cut on an axis: around where this share of what is walked through ends.
+    std::vector<int> tried(const region &within, const std::vector<bits> &in, std::size_t axis,
+                           double share) const {
+        const int low = within.low[axis], edge = within.high[axis] - low;
+        std::vector<double> sums(static_cast<std::size_t>(edge) + 1);
+        for (std::size_t i = 0; i < in.size(); ++i)
+            for (std::size_t place = 0; place < places; ++place)
+                if (in[i] >> place & 1)
+                    sums[static_cast<std::size_t>(beams_[i].at[place][axis] - low)] +=
+                        static_cast<double>(beams_[i].weight);
+        std::partial_sum(sums.begin(), sums.end(), sums.begin());
+        std::vector<int> found;
+        if (edge == 0 || sums.back() == 0) return found;
+        for (int step = -6; step <= 6; ++step) {
+            const double wanted = std::clamp(share + 0.03 * step, 0.01, 0.99) * sums.back();
+            const auto there = std::lower_bound(sums.begin(), sums.end(), wanted) - sums.begin();
+            for (const int more : {0, 1})
+                found.push_back(low + std::clamp(static_cast<int>(there) + more, 1, edge));
+        }
+        return found;
+    }
+    /// What the region with most to do has to do after a cut, so many times as there are regions.
+    std::uint64_t most_work(const std::vector<bits> &in, const place_to_cut &cut, std::size_t few,
+                            std::size_t count) const {
+        std::uint64_t ones = 0, others = 0;
+        for (std::size_t i = 0; i < in.size(); ++i) {
+            if (in[i] == 0) continue;
+            const bits first = before(i, in[i], cut);
+            ones += work(first) * beams_[i].weight;
+            others += work(static_cast<bits>(in[i] & ~first)) * beams_[i].weight;
+        }
+        return std::max(ones * (count - few), others * few);
+    }
+
+    const std::vector<sampled> &beams_;
+    std::vector<region> found_;
 };
-
-/// That before which about this share of what is walked through lies, on the axis on which it
-/// spreads most; through the middle of the longest edge where nothing is.
-inline cut best_cut(const std::vector<walked> &all, const region &within, double share) {
-    cut best{0, 0};
-    std::ptrdiff_t widest = -1;
-    for (std::size_t axis = 0; axis < 3; ++axis) {
-        const int low = within.low[axis], most = within.high[axis] - low;
-        if (most == 0) continue;
-        std::ptrdiff_t spread = most, at = most / 2;
-        if (!all.empty()) {
-            const std::vector<std::uint64_t> sums = sums_of(all, within, axis);
-            spread = reached(sums, 0.9) - reached(sums, 0.1);
-            at = reached(sums, share);
-            const double wanted = share * static_cast<double>(sums.back());
-            const auto i = static_cast<std::size_t>(at);
-            // (the sum before it may be nearer)
-            if (i > 0 && wanted - static_cast<double>(sums[i - 1]) <
-                             static_cast<double>(sums[i]) - wanted)
-                --at;
-        }
-        if (spread > widest) {
-            widest = spread;
-            best = {axis, low + std::min(static_cast<int>(at) + 1, most)};
-        }
-    }
-    return best;
-}
-
-/// So many regions that are this one together, each with about as much to walk through.
-inline void cut_into(std::size_t count, std::vector<walked> all, const region &within,
-                     std::vector<region> &found) {
-    if (count == 1) return found.push_back(within);
-    const std::size_t few = count / 2;
-    const cut here = best_cut(all, within, static_cast<double>(few) / static_cast<double>(count));
-    region before = within, after = within;
-    before.high[here.axis] = here.at - 1;
-    after.low[here.axis] = here.at;
-    const auto middle = std::partition(all.begin(), all.end(), [&](const walked &it) {
-        return it.at[here.axis] < here.at;
-    });
-    std::vector<walked> rest(middle, all.end());
-    all.erase(middle, all.end());
-    cut_into(few, std::move(all), before, found);
-    cut_into(count - few, std::move(rest), after, found);
-}
 
 /// The middle of a voxel.
 inline point middle_of(const std::array<int, 3> &key, std::int64_t edge) {

@@ -12,7 +12,7 @@ from octofix import Map
 from octofix.tools import crew, mapping
 from octofix.tools.command import parser
 from octofix.tools.lengths import nanometres
-from octofix.tools.regions import HIGHEST, LOWEST, Parts, Region, Samples, cut, sample
+from octofix.tools.regions import HIGHEST, LOWEST, PLACES, Parts, Region, Samples, cut, sample
 from octofix.tools.scans import Scan
 from octofix.tools.setup import scans_of
 
@@ -142,32 +142,38 @@ class Regions(InFolder):
         """Whatever the beams are, also none, and in one voxel alone."""
         random = np.random.default_rng(1)
         for scale in (0, 1, 5, 40_000):
-            voxels = np.rint(random.normal(size=(300, 3)) * scale).astype(int).clip(LOWEST, HIGHEST)
-            samples = Samples(voxels, random.integers(0, 9, 300))
+            voxels = np.rint(random.normal(size=(40, PLACES, 3)) * scale).astype(int)
+            samples = Samples(voxels.clip(LOWEST, HIGHEST), random.integers(0, 9, 40))
             for count in (1, 2, 3, 64):
                 found, parts = cut(samples, count), Parts()
                 self.assertEqual(len(found), count)
                 self.assertEqual({parts.add("", it) for it in found}, {None})
                 self.assertFalse(parts.lack())
 
-    def test_a_voxel_at_the_end(self):
-        ends = Region((HIGHEST, LOWEST, HIGHEST - 1), (HIGHEST, LOWEST, HIGHEST))
-        samples = Samples(np.array([ends.low]), np.array([1]))
-        self.assertEqual([it.low[2] for it in cut(samples, 2, ends)], [HIGHEST - 1, HIGHEST])
+    def test_voxels_at_the_ends(self):
+        """No region is without voxels."""
+        for end in (LOWEST, HIGHEST):
+            samples = Samples(np.full((1, PLACES, 3), end), np.array([1]))
+            self.assertTrue(all(it.size() > 0 for it in cut(samples, 9)))
+
+    def test_no_beam_is_cut_where_others_are(self):
+        """Beams to a wall on x: those to the left and those to the right have a region each."""
+        points = nanometres([[10, 0.01 * it, 0] for it in range(-500, 500)])
+        found = cut(sample(Scan("", nanometres([0, 0, 0]), points), 100_000_000, None), 2)
+        self.assertEqual((found[0].low[0], found[1].high[0]), (LOWEST, HIGHEST))
+        self.assertAlmostEqual(found[1].low[1], 0, delta=2)
 
     def test_they_have_about_as_much(self):
-        """Beams to a wall on x: a half of the way lies in each region, as far as samples tell."""
-        points = nanometres([[10, 0.01 * it, 0] for it in range(-500, 500)])
-        scan = Scan("", nanometres([0, 0, 0]), points)
-        found = cut(sample(scan, 100_000_000, None), 2)
-        self.assertEqual((found[0].low[1], found[1].high[1]), (LOWEST, HIGHEST))
+        """Beams to a spot on x, which have to be cut in any case, are halved."""
+        points = nanometres([[10, 0, 0]] * 100)
+        found = cut(sample(Scan("", nanometres([0, 0, 0]), points), 100_000_000, None), 2)
         self.assertAlmostEqual(found[1].low[0], 50, delta=5)
 
     def test_a_range(self):
-        """No beam is longer than 3 m: 30 voxels."""
+        """No beam is longer than 3 m: it ends at 4 m, in the voxel 40."""
         scan = Scan("", nanometres([1, 0, 0]), nanometres([[90, 0, 0], [2, 0, 0]]))
         found = sample(scan, 100_000_000, 3)
-        self.assertEqual(found.voxels[:, 0].max(), 39)
+        self.assertEqual(found.voxels[..., 0].max(), 40)
         self.assertEqual(set(found.weights.tolist()), {31, 21})
 
     def test_scans_from_all_over(self):

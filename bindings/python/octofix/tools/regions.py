@@ -9,10 +9,13 @@ from .lengths import NANO, nanometres
 
 # Voxels of an axis, counted from the origin.
 LOWEST, HIGHEST = -(1 << 15), (1 << 15) - 1
-# How many beams of a scan are looked at, and at how many places each.
-BEAMS, PLACES = 512, 16
-# Between these shares of what is walked through lies the spread on an axis.
-SPREAD = np.array([0.1, 0.9])
+# How many beams of a scan are looked at, how many of all scans, and at how many places each.
+BEAMS, MOST_BEAMS, PLACES = 512, 1 << 11, 16
+# Where it is tried to cut: so far from where a region has its share, in shares of what is walked.
+TRIED = np.arange(-6, 7) * 0.03
+# What is done for each place of a beam that lies in a region whole, for each place in it of one
+# that has a part there, and for this one besides. (As instructions have been counted.)
+WHOLE, PART, PARTED = 16, 19, 26
 
 
 @dataclass(frozen=True)
@@ -68,35 +71,35 @@ class Parts:
 
 @dataclass(frozen=True)
 class Samples:
-    """Voxels that beams walk through, (n, 3), and how many each stands for, (n,)."""
+    """Beams, n of them: voxels at places from their beginning to their end, (n, PLACES, 3), and how
+    many voxels each stands for, (n,)."""
 
     voxels: np.ndarray
     weights: np.ndarray
 
     @staticmethod
     def joined(several):
-        """Those of several samples."""
-        several = [Samples(np.empty((0, 3), np.int64), np.empty(0, np.int64)), *several]
+        """Those of several samples, or of as many of their beams as are looked at."""
+        none = Samples(np.empty((0, PLACES, 3), np.int64), np.empty(0, np.int64))
+        several = [none, *several]
         voxels = np.concatenate([it.voxels for it in several])
-        return Samples(voxels, np.concatenate([it.weights for it in several]))
-
-    def where(self, is_kept):
-        return Samples(self.voxels[is_kept], self.weights[is_kept])
+        weights = np.concatenate([it.weights for it in several])
+        step = -(-len(weights) // MOST_BEAMS) or 1
+        return Samples(voxels[::step], weights[::step])
 
 
 def sample(scan, edge, reach, weight=1):
-    """The Samples of a scan that stands for so many: places along some of its beams, all in whole
-    numbers, so that the same scan has the same ones everywhere."""
+    """The Samples of a scan that stands for so many, all in whole numbers, so that the same scan
+    has the same ones everywhere."""
     count = len(scan.points)
     # (steps of the golden ratio, which keep no time with the rings of a lidar)
     picked = np.arange(min(count, BEAMS)) * (int(0.618 * count) | 1) % max(count, 1)
     beams = _cut_off(scan.points[picked], reach)
-    places = np.concatenate([beams * it // (2 * PLACES) for it in range(1, 2 * PLACES, 2)])
-    voxels = (places + scan.origin) // edge
+    parts = np.arange(PLACES)[:, None]
+    voxels = (beams[:, None] * parts // (PLACES - 1) + scan.origin) // edge
     walked = np.abs(beams).sum(axis=1) // edge + 1
-    weights = np.tile(walked * (weight * count) // max(len(picked), 1), PLACES)
-    is_inside = ((voxels >= LOWEST) & (voxels <= HIGHEST)).all(axis=1)
-    return Samples(voxels, weights).where(is_inside)
+    weights = walked * (weight * count) // max(len(picked), 1)
+    return Samples(voxels.clip(LOWEST, HIGHEST), weights)
 
 
 def _cut_off(beams, reach):
@@ -108,34 +111,62 @@ def _cut_off(beams, reach):
     return np.rint(beams * np.minimum(part, 1)[:, None]).astype(np.int64)
 
 
-def cut(samples, count, region=Region()):
-    """So many regions that are this one together, each with about as much to walk through."""
+def cut(samples, count):
+    """So many regions that are the whole together, each with about as much to do."""
+    return _cut(samples, np.ones(samples.voxels.shape[:2], bool), count, Region())
+
+
+def _cut(samples, is_in, count, region):
+    """Those that are this one together, in which these places of the beams are."""
     if count == 1:
         return [region]
     few = count // 2
-    axis, at = _best_cut(samples, few / count, region)
-    is_before = samples.voxels[:, axis] < at
+    axis, at = _best_cut(samples, is_in, few, count, region)
+    is_before = is_in & (samples.voxels[..., axis] < at)
     before, after = region.parted(axis, at)
+    # (each has a voxel at least)
+    few = min(max(few, count - after.size()), before.size())
     return [
-        *cut(samples.where(is_before), few, before),
-        *cut(samples.where(~is_before), count - few, after),
+        *_cut(samples, is_before, few, before),
+        *_cut(samples, is_in & ~is_before, count - few, after),
     ]
 
 
-def _best_cut(samples, share, region):
-    """The axis on which what is walked through spreads most, and the voxel of it before which about
-    this share lies; the middle of the longest edge where nothing is."""
-    edges = np.subtract(region.high, region.low)
-    if not samples.weights.any():
-        axis = int(edges.argmax())
-        return axis, (region.low[axis] + region.high[axis] + 1) // 2
-    sums = [_sums(samples, axis, region.low[axis]) for axis in range(3)]
-    spreads = [np.ptp(np.searchsorted(it, it[-1] * SPREAD)) for it in sums]
-    axis = int(np.argmax(np.where(edges > 0, spreads, -1)))
-    at = int(np.abs(sums[axis] - share * sums[axis][-1]).argmin()) + 1
-    return axis, region.low[axis] + min(at, int(edges[axis]))
+def _best_cut(samples, is_in, few, count, region):
+    """The axis and the voxel of it before which so few of the regions are best cut off: that by
+    which the region with most to do has least. The middle of the longest edge where nothing is."""
+    tried = [
+        (_most(samples, is_in, axis, at, few, count), axis, at)
+        for axis in range(3)
+        for at in _places(samples, is_in, axis, few / count, region)
+    ]
+    if tried:
+        return min(tried)[1:]
+    axis = int(np.subtract(region.high, region.low).argmax())
+    return axis, (region.low[axis] + region.high[axis] + 1) // 2
 
 
-def _sums(samples, axis, low):
-    """How much is walked through up to each voxel of an axis, from the lowest one on."""
-    return np.cumsum(np.bincount(samples.voxels[:, axis] - low, samples.weights))
+def _places(samples, is_in, axis, share, region):
+    """Where it may be cut on an axis."""
+    numbers = samples.voxels[..., axis][is_in] - region.low[axis]
+    edge = region.high[axis] - region.low[axis]
+    if not len(numbers) or not edge:
+        return []
+    weights = np.broadcast_to(samples.weights[:, None], is_in.shape)[is_in]
+    sums = np.cumsum(np.bincount(numbers, weights))
+    found = np.searchsorted(sums, (share + TRIED).clip(0.01, 0.99) * sums[-1])
+    return (region.low[axis] + np.unique([found, found + 1]).clip(1, edge)).tolist()
+
+
+def _most(samples, is_in, axis, at, few, count):
+    """What the region with most to do has to do after a cut, so many times as there are regions."""
+    is_before = is_in & (samples.voxels[..., axis] < at)
+    before, after = _work(samples, is_before), _work(samples, is_in & ~is_before)
+    return max(before * (count - few), after * few)
+
+
+def _work(samples, is_in):
+    """What is to be done where these places of the beams are in a region."""
+    places = is_in.sum(axis=1)
+    parts = PART * places + PARTED * (places > 0)
+    return int((np.where(places == PLACES, WHOLE * PLACES, parts) * samples.weights).sum())
