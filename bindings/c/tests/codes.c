@@ -14,13 +14,29 @@ static const int64_t extremes[] = {INT64_MIN, INT64_MIN + 1, -10000000000000000,
                                    10000000000000000, INT64_MAX - 1, INT64_MAX};
 enum { EXTREMES = sizeof extremes / sizeof *extremes };
 
-/* The version, and the names of codes: one of each kind, and codes that have none. */
+/* The version, and the names of all codes, which those from 3 to 39 have from docs/FORMATS.md. */
 static void try_texts(void) {
     static const uint32_t nameless[] = {OCTOFIX_DONE, 1, 2, 36, 49, UINT32_MAX};
     static const struct { uint32_t code; const char *name; } named[] = {
-        {OCTOFIX_BAD_RESOLUTION, "BadResolution"}, {OCTOFIX_TOO_MANY_CELLS, "TooManyCells"},
-        {OCTOFIX_WIDE_WHILE_TRACKED, "WideWhileTracked"}, {29, "Syntax"}, {39, "TooManyBoxes"},
-        {OCTOFIX_CLOSED, "Closed"}, {OCTOFIX_OTHER_ODDS, "OtherOdds"}};
+        {OCTOFIX_BAD_RESOLUTION, "BadResolution"}, {OCTOFIX_BAD_MODEL, "BadModel"},
+        {OCTOFIX_ZERO_QUATERNION, "ZeroQuaternion"}, {OCTOFIX_ORIGIN_OUTSIDE, "OriginOutside"},
+        {OCTOFIX_POINT_OUTSIDE, "PointOutside"}, {OCTOFIX_TOO_MANY_CELLS, "TooManyCells"},
+        {OCTOFIX_TOO_MANY_BLOCKS, "TooManyBlocks"}, {OCTOFIX_NOT_OCTOMAP, "NotOctomap"},
+        {OCTOFIX_FLOAT_TREE, "FloatTree"}, {OCTOFIX_WRONG_ID, "WrongId"},
+        {OCTOFIX_MISSING_FIELD, "MissingField"}, {OCTOFIX_BAD_FIELD, "BadField"},
+        {OCTOFIX_HEADER_TOO_LONG, "HeaderTooLong"}, {OCTOFIX_TOO_DEEP, "TooDeep"},
+        {OCTOFIX_TRUNCATED, "Truncated"}, {OCTOFIX_TRAILING_BYTES, "TrailingBytes"},
+        {OCTOFIX_SIZE_MISMATCH, "SizeMismatch"}, {OCTOFIX_BAD_MAGIC, "BadMagic"},
+        {OCTOFIX_BAD_SNAPSHOT, "BadSnapshot"}, {OCTOFIX_STALE, "Stale"}, {OCTOFIX_FULL, "Full"},
+        {OCTOFIX_OUTSIDE, "Outside"}, {OCTOFIX_BAD_DEPTH, "BadDepth"}, {OCTOFIX_BAD_BOX, "BadBox"},
+        {OCTOFIX_WIDE_WHILE_TRACKED, "WideWhileTracked"}, {OCTOFIX_NOT_TRACKED, "NotTracked"},
+        {29, "Syntax"}, {30, "LongLine"}, {31, "OpenScan"}, {32, "TooManyPoints"}, {33, "NoFile"},
+        {34, "FileTooLarge"}, {OCTOFIX_OTHER_RESOLUTION, "OtherResolution"},
+        {37, "TooManyFrontiers"}, {38, "WideGrid"}, {39, "TooManyBoxes"},
+        {OCTOFIX_CLOSED, "Closed"}, {OCTOFIX_OPEN, "Open"}, {OCTOFIX_UNKNOWN, "Unknown"},
+        {OCTOFIX_CLEAR, "Clear"}, {OCTOFIX_NONE, "None"}, {OCTOFIX_MEMORY, "Memory"},
+        {OCTOFIX_SMALL_BUFFER, "SmallBuffer"}, {OCTOFIX_BAD_ARGUMENT, "BadArgument"},
+        {OCTOFIX_OTHER_ODDS, "OtherOdds"}};
     octofix_text text = OCTOFIX_NO_TEXT;
     const char *mine = text.at;
     for (size_t i = 0; i < sizeof nameless / sizeof *nameless; i++) {
@@ -497,10 +513,27 @@ static void try_refused_merges(void) {
     octofix_close(&map);
 }
 
+/* A box that is too wide is told before too many groups. Its two corners share the groups of depths
+ * 0 to 9, and each has six of its own. */
+static void try_wide_and_full_merge(void) {
+    const octofix_limits few = {16, 100};
+    octofix_map map = opened(&default_odds, &few), other = opened(&default_odds, &default_limits);
+    const octofix_point p = at(50, 50, 50), far = at(10050, 10050, 9950);
+    EXPECT(octofix_edit(&other, &p, OCTOFIX_SET, 1, false, &details), 0);
+    EXPECT(octofix_edit(&other, &far, OCTOFIX_SET, 1, false, &details), 0);
+    EXPECT(octofix_track(&map), 0);
+    EXPECT_DETAILS(octofix_merge(&map, &other, OCTOFIX_FIRST, &details), 27, 101 * 101 * 100, 0);
+    EXPECT(octofix_untrack(&map), 0);
+    EXPECT_DETAILS(octofix_merge(&map, &other, OCTOFIX_FIRST, &details), 23, 0, 22);
+    octofix_close(&other);
+    octofix_close(&map);
+}
+
 static void try_merges(void) {
     const octofix_point p = at(50, 50, 50), q = at(150, 50, 50), r = at(250, 50, 50);
-    const octofix_point far = at(10050, 10050, 9950);
+    const octofix_point s = at(350, 50, 50), far = at(10050, 10050, 9950);
     const int32_t both[] = {850, 850, -400}; /* by first, greatest and least */
+    const int32_t both_again[] = {-300, 7, -300};
     for (uint32_t rule = OCTOFIX_FIRST; rule <= OCTOFIX_LEAST; rule++) {
         octofix_map map = opened(&default_odds, &default_limits);
         octofix_map other = opened(&default_odds, &default_limits);
@@ -509,10 +542,14 @@ static void try_merges(void) {
         EXPECT(octofix_edit(&map, &q, OCTOFIX_SET, 5, false, &details), 0);
         EXPECT(octofix_edit(&other, &p, OCTOFIX_SET, -400, false, &details), 0);
         EXPECT(octofix_edit(&other, &r, OCTOFIX_SET, 6, true, &details), 0);
+        EXPECT(octofix_edit(&map, &s, OCTOFIX_SET, -300, false, &details), 0);
+        EXPECT(octofix_edit(&other, &s, OCTOFIX_SET, 7, true, &details), 0);
         EXPECT(octofix_track(&map), 0);
         EXPECT_DETAILS(octofix_merge(&map, &other, rule, &details), 0, 0, 0);
         EXPECT(octofix_get(&map, &p, 16, &value), 0);
         EXPECT(value, both[rule]);
+        EXPECT(octofix_get(&map, &s, 16, &value), 0);
+        EXPECT(value, both_again[rule]);
         EXPECT(octofix_get(&map, &q, 16, &value), 0);
         EXPECT(value, 5);
         EXPECT(octofix_get(&map, &r, 0, &value), 0);
@@ -522,10 +559,13 @@ static void try_merges(void) {
         EXPECT(octofix_get(&other, &q, 16, &value), 42);
         EXPECT(octofix_get(&other, &p, 0, &value), 22);
         EXPECT(octofix_changes(&map, changes, 64, &count), 0);
-        EXPECT(count, rule == OCTOFIX_LEAST ? 2 : 1);
-        EXPECT(changes[count - 1].kind, OCTOFIX_NEW);
+        EXPECT(count, rule == OCTOFIX_FIRST ? 1 : 2);
+        const size_t added = rule == OCTOFIX_LEAST ? 1 : 0; /* r lies between p and s */
+        EXPECT(changes[added].kind, OCTOFIX_NEW);
         EXPECT(octofix_edit(&other, &far, OCTOFIX_SET, 1, false, &details), 0);
         EXPECT_DETAILS(octofix_merge(&map, &other, rule, &details), 27, 101 * 101 * 100, 0);
+        EXPECT(octofix_track(&other), 0); /* which knows more than a mark bears, unlike the map */
+        EXPECT_DETAILS(octofix_merge(&other, &map, rule, &details), 0, 0, 0);
         EXPECT(octofix_untrack(&map), 0);
         EXPECT_DETAILS(octofix_merge(&map, &other, rule, &details), 0, 0, 0);
         octofix_close(&other);
@@ -701,6 +741,7 @@ int main(void) {
     try_rays();
     try_changes();
     try_refused_merges();
+    try_wide_and_full_merge();
     try_merges();
     try_loads();
     try_snapshots();
