@@ -68,6 +68,24 @@ fn replies_that_are_held_are_written_whole(rt: HostRuntime) -> Result<(), Fail> 
     Ok(())
 }
 
+/// Lines that change nothing: a question of each kind, a faulty line, two without a reply, the end.
+const QUESTIONS: &str = "get 0 0 0 16\nlist 0 0 0 0 0 0 16\ncast 0 0 0 1 0 0\nchanges\nhit 0 x\n\
+    # aside\n\nget 0 0 0 16\nquit\n";
+
+/// Their replies.
+const ANSWERS: &str = "unknown\nend 0\ncast unknown 32768 32768 32768\nrefused 28 NotTracked\n\
+    refused 29 Syntax line 5 column 7\nunknown\n";
+
+#[test]
+fn lines_that_change_nothing_share_a_write(rt: HostRuntime) -> Result<(), Fail> {
+    let mut source = script(rt.alloc(), QUESTIONS, 200)?;
+    let mut sink = MemSink::new(rt.alloc(), 200, only(rt.alloc(), 2)?);
+    let (status, _) = ended_alone(rt.alloc(), 1000, &mut source, &mut sink)?;
+    let refused = (Status::Refused, ANSWERS);
+    expect_answer(&rt, QUESTIONS, (status, sink.written()), refused);
+    Ok(())
+}
+
 /// A query of 13 bytes, 1,300 times.
 fn queries(alloc: Global) -> Result<FileBytes, Memory> {
     let mut bytes = FileBytes::new(alloc);
