@@ -269,6 +269,33 @@ static void refuse_without_memory(void) {
     EXPECT(live, 0);
 }
 
+/* Merges likewise. The other map knows two corners of a box that is too wide under a mark. */
+static void refuse_merges_without_memory(void) {
+    const octofix_limits few = {16, 100};
+    const octofix_odds surer = {850, -400, -2000, 3500, 1};
+    octofix_map map = opened(&default_odds, &default_limits);
+    octofix_map small = opened(&default_odds, &few), other = opened(&default_odds, &default_limits);
+    octofix_map unlike = opened(&surer, &default_limits), closed = {0};
+    const octofix_point low = at(50, 50, 50), high = at(10050, 10050, 9950);
+    EXPECT(octofix_edit(&other, &low, OCTOFIX_SET, 1, false, &details), OCTOFIX_DONE);
+    EXPECT(octofix_edit(&other, &high, OCTOFIX_SET, 1, false, &details), OCTOFIX_DONE);
+    EXPECT(octofix_track(&map), OCTOFIX_DONE);
+    to_go = 0;
+    const long made_before = made;
+    EXPECT(octofix_merge(&closed, &other, OCTOFIX_FIRST, &details), 40);
+    EXPECT(octofix_merge(&map, &other, 3, &details), 47);
+    EXPECT(octofix_merge(&map, &unlike, OCTOFIX_FIRST, &details), 48);
+    EXPECT(octofix_merge(&map, &other, OCTOFIX_FIRST, &details), 27);
+    EXPECT(octofix_merge(&small, &other, OCTOFIX_FIRST, &details), 23);
+    EXPECT(made, made_before);
+    to_go = -1;
+    octofix_close(&map);
+    octofix_close(&small);
+    octofix_close(&other);
+    octofix_close(&unlike);
+    EXPECT(live, 0);
+}
+
 static long fail_open(void) {
     octofix_map map = {0};
     long told = 0;
@@ -308,6 +335,7 @@ int main(void) {
     told += fail_edits();
     ask_without_memory();
     refuse_without_memory();
+    refuse_merges_without_memory();
     printf("failing: %ld allocations, %ld calls told that memory ran out, %d failed\n", made, told,
            failed);
     return failed != 0 || told == 0;
