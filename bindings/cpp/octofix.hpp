@@ -230,28 +230,51 @@ inline bool is_snapshot(view<std::uint8_t> file) {
     return {nanometres(x), nanometres(y), nanometres(z)};
 }
 
-/// Points in metres: of any row whose elements have numbers x, y and z, or [0], [1] and [2].
-template <class Row> [[nodiscard]] std::vector<point> metres(const Row &row) {
-    std::vector<point> points;
-    points.reserve(std::size(row));
-    for (const auto &it : row) {
-        const std::size_t i = points.size();
-        if constexpr (detail::has_fields<std::decay_t<decltype(it)>>::value)
-            points.push_back({nanometres(it.x, i), nanometres(it.y, i), nanometres(it.z, i)});
-        else
-            points.push_back({nanometres(it[0], i), nanometres(it[1], i), nanometres(it[2], i)});
+/// What is done with points that aren't finite, as those of an organised cloud that saw nothing.
+enum class unfinite { refused, skipped };
+
+namespace detail {
+
+/// Points that are collected from rows of numbers, of which each has its index.
+class collected {
+  public:
+    collected(std::size_t count, unfinite those) : skips_(those == unfinite::skipped) {
+        points_.reserve(count);
     }
-    return points;
+    void add(double x, double y, double z) {
+        const std::size_t i = index_++;
+        if (skips_ && !(std::isfinite(x) && std::isfinite(y) && std::isfinite(z))) return;
+        points_.push_back({nanometres(x, i), nanometres(y, i), nanometres(z, i)});
+    }
+    std::vector<point> take() { return std::move(points_); }
+
+  private:
+    std::vector<point> points_;
+    std::size_t index_ = 0;
+    bool skips_;
+};
+
+} // namespace detail
+
+/// Points in metres: of any row whose elements have numbers x, y and z, or [0], [1] and [2].
+template <class Row>
+[[nodiscard]] std::vector<point> metres(const Row &row, unfinite those = unfinite::refused) {
+    detail::collected points(std::size(row), those);
+    for (const auto &it : row)
+        if constexpr (detail::has_fields<std::decay_t<decltype(it)>>::value)
+            points.add(it.x, it.y, it.z);
+        else
+            points.add(it[0], it[1], it[2]);
+    return points.take();
 }
 
 /// Points in metres: of count times three numbers in a row.
 template <class Number>
-[[nodiscard]] std::vector<point> metres(const Number *xyz, std::size_t count) {
-    std::vector<point> points;
-    points.reserve(count);
-    for (std::size_t i = 0; i < count; ++i, xyz += 3)
-        points.push_back({nanometres(xyz[0], i), nanometres(xyz[1], i), nanometres(xyz[2], i)});
-    return points;
+[[nodiscard]] std::vector<point> metres(const Number *xyz, std::size_t count,
+                                        unfinite those = unfinite::refused) {
+    detail::collected points(count, those);
+    for (std::size_t i = 0; i < count; ++i, xyz += 3) points.add(xyz[0], xyz[1], xyz[2]);
+    return points.take();
 }
 
 /// The thousandths of log-odds of a probability: 847 of 0.7.
@@ -263,7 +286,7 @@ template <class Number>
 
 /// The probability of a value.
 [[nodiscard]] inline double probability_of(std::int32_t value) {
-    return 1 / (1 + std::exp(-value / 1000.0));
+    return 1 / (1 + std::exp(static_cast<double>(value) / -1000.0));
 }
 
 /// A sensor at a place in metres that isn't turned.
@@ -276,7 +299,9 @@ template <class Number>
 [[nodiscard]] inline pose turned(const point &at, double w, double x, double y, double z) {
     const double largest =
         std::fmax(std::fmax(std::fabs(w), std::fabs(x)), std::fmax(std::fabs(y), std::fabs(z)));
-    if (!(largest > 0) || !std::isfinite(w + x + y + z))
+    const bool is_finite =
+        std::isfinite(w) && std::isfinite(x) && std::isfinite(y) && std::isfinite(z);
+    if (!(largest > 0) || !is_finite)
         throw std::domain_error("a quaternion that is 0, or isn't finite");
     const auto part = [=](double q) {
         return static_cast<std::int16_t>(std::lround(q / largest * 32767));

@@ -12,7 +12,8 @@
 //
 // Threads. Methods that are const may run side by side on one tree, as long as no other method runs
 // beside them. The nodes that search and updateNode return are good for the next 4,095 such
-// calls of their thread; those of getRoot and getNodeChild until something is asked after an edit.
+// calls of their thread; those of getRoot and getNodeChild until something is asked after an edit;
+// that of a leaf iterator until it moves.
 #ifndef OCTOFIX_OCTREE_HPP
 #define OCTOFIX_OCTREE_HPP
 
@@ -22,6 +23,7 @@
 #include "octofix/octree_files.hpp"
 #include "octofix/octree_iterators.hpp"
 #include "octofix/octree_keys.hpp"
+#include "octofix/octree_leaves.hpp"
 #include "octofix/octree_math.hpp"
 #include "octofix/octree_nodes.hpp"
 
@@ -38,6 +40,7 @@ class OcTree : public OcTreeGrid {
     using iterator = OcTreeLeafIterator;
     using leaf_bbx_iterator = OcTreeLeafBoxIterator;
     using tree_iterator = OcTreeNodeIterator;
+    using iterator_base = OcTreePlace;
 
     // -- making
 
@@ -50,7 +53,7 @@ class OcTree : public OcTreeGrid {
     OcTree(const OcTree &other)
         : OcTreeGrid(other), odds_(other.odds_), map_(other.map_.clone()), hit_(other.hit_),
           miss_(other.miss_), use_bbx_(other.use_bbx_), is_expanded_(other.is_expanded_),
-          bbx_min_(other.bbx_min_), bbx_max_(other.bbx_max_) {
+          bbx_min_(other.bbx_min_), bbx_max_(other.bbx_max_), kept_(other.changed()) {
         if (other.is_tracking_) enableChangeDetection(true);
     }
     OcTree &operator=(const OcTree &other) {
@@ -67,8 +70,10 @@ class OcTree : public OcTreeGrid {
         return type == "OcTree" ? new OcTree(resolution) : nullptr;
     }
     std::string getTreeType() const { return "OcTree"; }
-    /// Swaps the maps; whether changes are detected stays, and they count from now on.
+    /// Swaps the maps; the changed keys stay, and whether changes are detected.
     void swapContent(OcTree &other) {
+        keep_changes();
+        other.keep_changes();
         swap_maps(other);
         renew_mark();
         other.renew_mark();
@@ -76,7 +81,8 @@ class OcTree : public OcTreeGrid {
     /// Whether the two have one resolution and the same value for each voxel.
     bool operator==(const OcTree &other) const {
         if (edge() != other.edge()) return false;
-        const std::vector<block> mine = map_.leaves(), theirs = other.map_.leaves();
+        const auto kept = leaves(), others = other.leaves();
+        const view<block> mine = kept->blocks(), theirs = others->blocks();
         return std::equal(mine.begin(), mine.end(), theirs.begin(), theirs.end(),
                           [](const block &a, const block &b) {
                               return a.depth == b.depth && a.x == b.x && a.y == b.y &&
@@ -85,19 +91,20 @@ class OcTree : public OcTreeGrid {
     }
     bool operator!=(const OcTree &other) const { return !(*this == other); }
     void clear() {
+        keep_changes();
         map_.clear();
         renew_mark();
     }
     /// Gives each voxel another edge, in the grid's own coordinates.
     void setResolution(double resolution) {
-        rebuild(detail::edge_of(resolution), odds_, "setResolution while changes are detected");
+        rebuild(detail::edge_of(resolution), odds_);
     }
 
     // -- sizes
 
-    std::size_t size() const { return values()->size(); }
+    std::size_t size() const { return leaves()->size(); }
     std::size_t calcNumNodes() const { return size(); }
-    std::size_t getNumLeafNodes() const { return values()->leaf_count(); }
+    std::size_t getNumLeafNodes() const { return leaves()->leaf_count(); }
     std::size_t memoryUsage() const { return sizeof(*this) + map_.memory(); }
     std::size_t memoryUsageNode() const { return 8; }
     unsigned long long memoryFullGrid() const {
@@ -178,6 +185,7 @@ class OcTree : public OcTreeGrid {
         node->setLogOdds(isNodeOccupied(node) ? getClampingThresMaxLog()
                                               : getClampingThresMinLog());
     }
+    void nodeToMaxLikelihood(OcTreeNode &node) const { nodeToMaxLikelihood(&node); }
     void updateInnerOccupancy() {
         map_.refresh();
         edited();
@@ -214,29 +222,24 @@ class OcTree : public OcTreeGrid {
                               bool lazy = false) {
         for (const point3d &end : scan) insertRay(origin, end, -1, lazy);
     }
+    /// Does nothing: no rays are kept.
+    void clearKeyRays() {}
     /// One beam, which knows of no box; whether it lies in the map.
     bool insertRay(const point3d &origin, const point3d &end, double maxrange = -1,
                    bool lazy = false) {
+        const double range = maxrange > 0 ? maxrange : -1;
         OcTreeKey key;
-        if (!coordToKeyChecked(origin, key) || !coordToKeyChecked(cut(origin, end, maxrange), key))
+        if (!coordToKeyChecked(origin, key) || !coordToKeyChecked(cut(origin, end, range), key))
             return false;
         Pointcloud one;
         one.push_back(end);
-        insert_scan(one, origin, maxrange > 0 ? maxrange : -1, lazy, false);
+        insert_scan(one, origin, range, lazy, false);
         return true;
     }
     /// The voxels that a scan frees and hits, for updateNode one by one.
     void computeUpdate(const Pointcloud &scan, const point3d &origin, KeySet &free_cells,
                        KeySet &occupied_cells, double maxrange) {
-        KeyRay ray;
-        OcTreeKey key;
-        for (const point3d &p : scan) {
-            if (computeRayKeys(origin, cut(origin, p, maxrange), ray))
-                free_cells.insert(ray.begin(), ray.end());
-            if (is_in_range(origin, p, maxrange) && coordToKeyChecked(p, key))
-                occupied_cells.insert(key);
-        }
-        for (const OcTreeKey &hit : occupied_cells) free_cells.erase(hit);
+        find_update(scan, origin, free_cells, occupied_cells, maxrange, use_bbx_);
     }
     void computeDiscreteUpdate(const Pointcloud &scan, const point3d &origin, KeySet &free_cells,
                                KeySet &occupied_cells, double maxrange) {
@@ -282,87 +285,29 @@ class OcTree : public OcTreeGrid {
     bool isNodeCollapsible(const OcTreeNode *) const { return false; }
 
     /// Whether a ray comes to an occupied voxel; end is the middle of the voxel where it stops.
-    bool castRay(const point3d &origin, const point3d &direction, point3d &end,
-                 bool ignore_unknown = false, double max_range = -1) const {
-        OcTreeKey key;
-        if (!coordToKeyChecked(origin, key)) return false;
-        const point from = exact(origin), to = far_end(from, direction, max_range);
-        const stop first = map_.cast(from, to, ignore_unknown);
-        if (first.code == OCTOFIX_CLEAR)
-            coordToKeyChecked(in_metres(to.x), in_metres(to.y), in_metres(to.z), key);
-        else
-            key = {first.key.x, first.key.y, first.key.z};
-        end = keyToCoord(key);
-        return first.code == OCTOFIX_DONE;
-    }
+    inline bool castRay(const point3d &origin, const point3d &direction, point3d &end,
+                        bool ignore_unknown = false, double max_range = -1) const;
     /// The voxels that the way from origin to end meets, but for that of the end.
-    bool computeRayKeys(const point3d &origin, const point3d &end, KeyRay &ray) const {
-        ray.reset();
-        OcTreeKey key;
-        if (!coordToKeyChecked(origin, key) || !coordToKeyChecked(end, key)) return false;
-        std::vector<voxel_key> met = octofix::ray(getResolution(), exact(origin), exact(end));
-        met.pop_back();
-        for (const voxel_key &it : met) ray.addKey({it.x, it.y, it.z});
-        return true;
-    }
-    bool computeRay(const point3d &origin, const point3d &end, std::vector<point3d> &ray) const {
-        KeyRay keys;
-        if (!computeRayKeys(origin, end, keys)) return false;
-        ray.clear();
-        for (const OcTreeKey &key : keys) ray.push_back(keyToCoord(key));
-        return true;
-    }
+    inline bool computeRayKeys(const point3d &origin, const point3d &end, KeyRay &ray) const;
+    inline bool computeRay(const point3d &origin, const point3d &end,
+                           std::vector<point3d> &ray) const;
     /// Where a ray enters the voxel with this middle, and so much less.
-    bool getRayIntersection(const point3d &origin, const point3d &direction, const point3d &center,
-                            point3d &intersection, double delta = 0) const {
-        const double half = getResolution() / 2;
-        double nearest = std::numeric_limits<double>::infinity();
-        for (unsigned axis = 0; axis < 3; ++axis)
-            for (const double side : {-half, half}) {
-                if (direction(axis) == 0) continue;
-                const double t = (center(axis) + side - origin(axis)) / direction(axis);
-                bool enters = t >= 0 && t < nearest;
-                for (unsigned other = 0; other < 3; ++other) {
-                    const double off = origin(other) + t * direction(other) - center(other);
-                    enters = enters && (other == axis || std::fabs(off) <= half * (1 + 1e-6));
-                }
-                if (enters) nearest = t;
-            }
-        if (std::isinf(nearest)) return false;
-        intersection = origin + direction * static_cast<float>(nearest - delta);
-        return true;
-    }
+    inline bool getRayIntersection(const point3d &origin, const point3d &direction,
+                                   const point3d &center, point3d &intersection,
+                                   double delta = 0) const;
     /// The middles of the unknown blocks of a depth in a box.
-    void getUnknownLeafCenters(point3d_list &centers, point3d pmin, point3d pmax,
-                               unsigned depth = 0) const {
-        if (depth == 0) depth = 16;
-        const point3d low = keyToCoord(coordToKey(pmin, depth), depth);
-        const point3d high = keyToCoord(coordToKey(pmax, depth), depth);
-        const float step = static_cast<float>(getNodeSize(depth));
-        unsigned steps[3];
-        for (unsigned axis = 0; axis < 3; ++axis)
-            steps[axis] = static_cast<unsigned>(std::floor((high(axis) - low(axis)) / step));
-        point3d p = low;
-        for (unsigned x = 0; x < steps[0]; ++x, p.y() = low.y()) {
-            p.x() += step;
-            for (unsigned y = 0; y < steps[1]; ++y, p.z() = low.z()) {
-                p.y() += step;
-                for (unsigned z = 0; z < steps[2]; ++z) {
-                    p.z() += step;
-                    if (!search(p, depth)) centers.push_back(p);
-                }
-            }
-        }
-    }
+    inline void getUnknownLeafCenters(point3d_list &centers, point3d pmin, point3d pmax,
+                                      unsigned depth = 0) const;
 
-    // -- the model of a sensor: probabilities, kept as thousandths of log-odds. Another bound or
-    // threshold makes the map anew, at the cost of what is known.
+    // -- the model of a sensor: probabilities, kept as thousandths of log-odds; those of 0 and 1
+    // are -1000000 and 1000000. Another bound or threshold makes the map anew, at the cost of what
+    // is known.
 
-    void setProbHit(double p) { hit_ = log_odds(p); }
-    void setProbMiss(double p) { miss_ = log_odds(p); }
-    void setClampingThresMin(double p) { set_bound(&odds::min, p, "setClampingThresMin"); }
-    void setClampingThresMax(double p) { set_bound(&odds::max, p, "setClampingThresMax"); }
-    void setOccupancyThres(double p) { set_bound(&odds::thr, p, "setOccupancyThres"); }
+    void setProbHit(double p) { hit_ = held_log_odds(p); }
+    void setProbMiss(double p) { miss_ = held_log_odds(p); }
+    void setClampingThresMin(double p) { set_bound(&odds::min, p); }
+    void setClampingThresMax(double p) { set_bound(&odds::max, p); }
+    void setOccupancyThres(double p) { set_bound(&odds::thr, p); }
     double getProbHit() const { return probability(getProbHitLog()); }
     double getProbMiss() const { return probability(getProbMissLog()); }
     double getClampingThresMin() const { return probability(getClampingThresMinLog()); }
@@ -395,15 +340,19 @@ class OcTree : public OcTreeGrid {
     }
 
     // -- changes: voxels that are known and weren't (true), or have turned (false), since the last
-    // reset
+    // reset, as far as changes were detected
 
     void enableChangeDetection(bool enable) {
         if (enable == is_tracking_) return;
+        keep_changes();
         is_tracking_ = enable;
         renew_mark();
     }
     bool isChangeDetectionEnabled() const { return is_tracking_; }
-    void resetChangeDetection() { renew_mark(); }
+    void resetChangeDetection() {
+        kept_.clear();
+        renew_mark();
+    }
     KeyBoolMap::const_iterator changedKeysBegin() const { return changed().begin(); }
     KeyBoolMap::const_iterator changedKeysEnd() const { return changed().end(); }
     std::size_t numChangesDetected() const { return changed().size(); }
@@ -424,23 +373,24 @@ class OcTree : public OcTreeGrid {
         return detail::put_file(file, map_.save());
     }
     /// The records alone, as messages have them.
-    bool writeBinaryData(std::ostream &out) const {
+    std::ostream &writeBinaryData(std::ostream &out) const {
         const bytes file = map_.save();
-        return detail::put(out, file, detail::data_of(file));
+        detail::put(out, file, detail::data_of(file));
+        return out;
     }
-    /// Reads all that the stream has, and takes the resolution of the file.
-    bool readBinary(std::istream &in) {
-        const std::optional<bytes> file = detail::rest_of(in);
-        return file && load(*file);
-    }
+    /// Reads the bytes of one map, and takes its resolution.
+    bool readBinary(std::istream &in) { return load(detail::tree_of(in)); }
     bool readBinary(const std::string &file) {
         std::ifstream in(file, std::ios::binary);
         return readBinary(in);
     }
-    /// Records alone, of a map with this resolution.
-    bool readBinaryData(std::istream &in) {
-        const std::optional<bytes> records = detail::rest_of(in);
-        return records && load(detail::with_header(*records, edge()));
+    /// Records alone, of a map with this resolution; none are an unknown map. The stream fails
+    /// where they can't be read.
+    std::istream &readBinaryData(std::istream &in) {
+        bytes records;
+        if (in && in.peek() != std::istream::traits_type::eof()) detail::add_records(in, records);
+        if (!load(detail::with_header(records, edge()))) in.setstate(std::ios::failbit);
+        return in;
     }
     /// An .ot file with the values, for the library.
     bool write(std::ostream &out) const {
@@ -468,11 +418,11 @@ class OcTree : public OcTreeGrid {
 
     leaf_iterator begin(unsigned char depth = 0) const { return begin_leafs(depth); }
     leaf_iterator end() const { return {}; }
-    leaf_iterator begin_leafs(unsigned char depth = 0) const { return {*this, values(), depth}; }
+    leaf_iterator begin_leafs(unsigned char depth = 0) const { return {*this, leaves(), depth}; }
     leaf_iterator end_leafs() const { return {}; }
     leaf_bbx_iterator begin_leafs_bbx(const OcTreeKey &min, const OcTreeKey &max,
                                       unsigned char depth = 0) const {
-        return {*this, values_in(min, max, depth), depth, min, max};
+        return {*this, leaves_in(min, max, depth), depth, min, max};
     }
     leaf_bbx_iterator begin_leafs_bbx(const point3d &min, const point3d &max,
                                       unsigned char depth = 0) const {
@@ -516,30 +466,12 @@ class OcTree : public OcTreeGrid {
         return origin + (p - origin).normalized() * static_cast<float>(maxrange);
     }
     /// Where a ray ends, at the range or at the border of the map.
-    point far_end(const point &from, const point3d &direction, double max_range) const {
-        const double length = direction.norm();
-        if (!(length > 0) || std::isinf(length)) return from;
-        const std::int64_t low = -32768 * edge(), high = 32768 * edge() - 1;
-        const std::int64_t start[3] = {from.x, from.y, from.z};
-        double way = max_range > 0 ? max_range * 1e9 : std::numeric_limits<double>::infinity();
-        for (unsigned axis = 0; axis < 3; ++axis) {
-            const double part = direction(axis) / length;
-            if (part == 0) continue;
-            const std::int64_t border = part > 0 ? high : low;
-            way = std::fmin(way, static_cast<double>(border - start[axis]) / part);
-        }
-        std::int64_t reached[3];
-        for (unsigned axis = 0; axis < 3; ++axis) {
-            const double part = direction(axis) / length;
-            const std::int64_t there = start[axis] + std::llround(way * part);
-            reached[axis] = std::max(low, std::min(high, there));
-        }
-        return {reached[0], reached[1], reached[2]};
-    }
+    inline point far_end(const point &from, const point3d &direction, double max_range) const;
 
     // Edits.
 
     void edited() {
+        leaves_.reset();
         are_values_new_ = false;
         are_changes_new_ = false;
     }
@@ -557,27 +489,33 @@ class OcTree : public OcTreeGrid {
         map_.edit_box(middle_of(low), middle_of(high), what, number);
         edited();
     }
-    void set_bound(std::int32_t odds::*bound, double p, const char *method) {
+    static std::int32_t held_log_odds(double p) {
+        return p == 0 ? -1000000 : p == 1 ? 1000000 : log_odds(p);
+    }
+    void set_bound(std::int32_t odds::*bound, double p) {
         odds other = odds_;
-        other.*bound = log_odds(p);
-        if (other.*bound == odds_.*bound) return;
-        rebuild(edge(), other, std::string(method) + " while changes are detected");
+        other.*bound = held_log_odds(p);
+        if (other.*bound != odds_.*bound) rebuild(edge(), other);
     }
     /// The same blocks in a map of another edge, with other bounds.
-    void rebuild(std::int64_t edge, const odds &bounds, const std::string &method) {
-        if (is_tracking_) throw unsupported(method);
+    void rebuild(std::int64_t edge, const odds &bounds) {
         OcTree other(in_metres(edge), bounds);
         for (const block &leaf : map_.leaves()) {
             const voxel_key first = low(leaf);
             other.edit_block({first.x, first.y, first.z}, leaf.depth, event::set, leaf.value);
         }
+        keep_changes();
         static_cast<OcTreeGrid &>(*this) = other;
         map_ = std::move(other.map_);
         odds_ = bounds;
-        edited();
+        renew_mark();
     }
     OcTree(double resolution, const odds &bounds)
         : OcTreeGrid(detail::edge_of(resolution)), odds_(bounds), map_(resolution, bounds, most_) {}
+    /// Before the mark is set anew, or taken away: what has changed until now stays so.
+    void keep_changes() {
+        if (is_tracking_) kept_ = changed();
+    }
     void renew_mark() {
         is_tracking_ ? map_.track() : map_.untrack();
         edited();
@@ -598,54 +536,23 @@ class OcTree : public OcTreeGrid {
         std::swap(bbx_max_, other.bbx_max_);
         std::swap(is_tracking_, other.is_tracking_);
         std::swap(is_expanded_, other.is_expanded_);
+        std::swap(kept_, other.kept_);
     }
 
     // Scans.
 
     /// The first point of each voxel, moved to its middle.
-    Pointcloud discretized(const Pointcloud &scan) const {
-        Pointcloud middles;
-        KeySet seen;
-        OcTreeKey key;
-        for (const point3d &p : scan)
-            if (coordToKeyChecked(p, key) && seen.insert(key).second)
-                middles.push_back(keyToCoord(key));
-        return middles;
-    }
-    void insert_scan(const Pointcloud &scan, const point3d &origin, double maxrange, bool lazy,
-                     bool in_box) {
-        OcTreeKey key;
-        if (!coordToKeyChecked(origin, key)) return hit_ends(scan, origin, maxrange, lazy, in_box);
-        const point from = exact(origin);
-        std::vector<point> ends;
-        ends.reserve(scan.size());
-        for (const point3d &p : scan) {
-            if (!(std::fabs(p.x()) < 1e7 && std::fabs(p.y()) < 1e7 && std::fabs(p.z()) < 1e7))
-                continue;
-            if (in_box && !(inBBX(p) && is_in_range(origin, p, maxrange))) continue;
-            const point end = exact(p);
-            if (is_inside(end) || coordToKeyChecked(cut(origin, p, maxrange), key))
-                ends.push_back(end);
-        }
-        scan_options how;
-        if (maxrange >= 0 && maxrange < 1.2e7) how.range = maxrange; // no map has longer beams
-        how.hit = hit_, how.miss = miss_, how.lazy = lazy;
-        const box_limit limit(*this, in_box);
-        if (limit.is_empty()) return;
-        map_.scan_from(from, ends, how);
-        edited();
-    }
-    /// What the library does with a scan from outside the map: it hits the ends, and frees nothing.
-    void hit_ends(const Pointcloud &scan, const point3d &origin, double maxrange, bool lazy,
-                  bool in_box) {
-        KeySet ends;
-        OcTreeKey key;
-        for (const point3d &p : scan)
-            if (is_in_range(origin, p, maxrange) && (!in_box || inBBX(p)) &&
-                coordToKeyChecked(p, key))
-                ends.insert(key);
-        for (const OcTreeKey &end : ends) updateNode(end, true, lazy);
-    }
+    inline Pointcloud discretized(const Pointcloud &scan) const;
+    inline void find_update(const Pointcloud &scan, const point3d &origin, KeySet &free_cells,
+                            KeySet &occupied_cells, double maxrange, bool in_box) const;
+    inline std::vector<point> ways_of(const Pointcloud &scan, const point3d &origin,
+                                      double maxrange, bool in_box) const;
+    inline void insert_scan(const Pointcloud &scan, const point3d &origin, double maxrange,
+                            bool lazy, bool in_box);
+    inline void insert_by_voxels(const Pointcloud &scan, const point3d &origin, double maxrange,
+                                 bool lazy, bool in_box);
+    inline void hit_ends(const Pointcloud &scan, const point3d &origin, double maxrange, bool lazy,
+                         bool in_box);
     /// While it stands, scans change only voxels of the box, as far as it lies in the map.
     class box_limit {
       public:
@@ -695,27 +602,49 @@ class OcTree : public OcTreeGrid {
         const OcTreeNode *node = values()->find(key, depth);
         return node ? lend(key, depth, node->value_) : nullptr;
     }
+    std::shared_ptr<const OcTreeLeaves> leaves() const {
+        const std::lock_guard<std::mutex> lock(copies_);
+        return new_leaves();
+    }
+    /// The same, while the lock is held.
+    const std::shared_ptr<const OcTreeLeaves> &new_leaves() const {
+        const auto list = [&](auto... out) { return octofix_leaves(map_.handle(), out...); };
+        // (a leaf takes more than eight bytes of most maps)
+        if (!leaves_) leaves_ = shared_leaves({map_.memory() / 8 + 1, list});
+        return leaves_;
+    }
+    std::shared_ptr<const OcTreeLeaves> shared_leaves(detail::listed_blocks blocks) const {
+        return std::make_shared<OcTreeLeaves>(const_cast<OcTree *>(this), std::move(blocks),
+                                              is_expanded_);
+    }
     std::shared_ptr<OcTreeValues> values() const {
         const std::lock_guard<std::mutex> lock(copies_);
         if (!are_values_new_) {
             values_ = std::make_shared<OcTreeValues>(const_cast<OcTree *>(this),
-                                                           map_.leaves(), is_expanded_);
+                                                     new_leaves()->blocks(), is_expanded_);
             are_values_new_ = true;
         }
         return values_;
     }
-    /// The values of a box, without a copy of the whole map where that serves.
-    std::shared_ptr<OcTreeValues> values_in(const OcTreeKey &min, const OcTreeKey &max,
+    /// The leaves of the blocks of a depth that meet a box.
+    std::shared_ptr<const OcTreeLeaves> leaves_in(const OcTreeKey &min, const OcTreeKey &max,
                                                   unsigned depth) const {
-        if (depth != 0 && depth != 16) return values();
-        if (min[0] > max[0] || min[1] > max[1] || min[2] > max[2])
-            return std::make_shared<OcTreeValues>(nullptr, std::vector<block>());
-        return std::make_shared<OcTreeValues>(const_cast<OcTree *>(this),
-                                                    map_.leaves(middle_of(min), middle_of(max)),
-                                                    is_expanded_);
+        if (min[0] > max[0] || min[1] > max[1] || min[2] > max[2]) return shared_leaves({});
+        const auto level = static_cast<key_type>(depth == 0 ? 0 : 16 - depth);
+        const OcTreeKey last = computeIndexKey(level, max);
+        const auto high = [&](unsigned axis) {
+            return static_cast<key_type>(last[axis] + (1u << level) - 1);
+        };
+        const point low = middle_of(computeIndexKey(level, min));
+        const point end = middle_of({high(0), high(1), high(2)});
+        const auto list = [&](auto... out) {
+            details named;
+            return octofix_leaves_in(map_.handle(), &low, &end, out..., &named);
+        };
+        return shared_leaves({first_room_, list});
     }
     std::array<OcTreeNode, 8> *children_of(const OcTreeNode *node) const {
-        if (node->children_ || node->depth_ == 16) return node->children_;
+        if (node->children_ || node->is_leaf_ || node->depth_ == 16) return node->children_;
         OcTreeNode *here = values()->find(node->low_, node->depth_);
         return here && here->depth_ == node->depth_ ? here->children_ : nullptr;
     }
@@ -729,14 +658,21 @@ class OcTree : public OcTreeGrid {
     }
     const KeyBoolMap &changed() const {
         const std::lock_guard<std::mutex> lock(copies_);
-        if (is_tracking_ && !are_changes_new_) {
-            changed_.clear();
-            for (const change &it : map_.changes())
-                if (it.kind != change_kind::lost)
-                    changed_[{it.key.x, it.key.y, it.key.z}] = it.kind == change_kind::is_new;
+        if (!are_changes_new_) {
+            changed_ = kept_;
+            if (is_tracking_)
+                for (const change &it : map_.changes()) add_change(it);
             are_changes_new_ = true;
         }
         return changed_;
+    }
+    void add_change(const change &it) const {
+        const OcTreeKey key(it.key.x, it.key.y, it.key.z);
+        if (it.kind == change_kind::lost) return;
+        const auto [place, is_first] = changed_.emplace(key, it.kind == change_kind::is_new);
+        const bool turns_back =
+            !is_first && it.kind != change_kind::is_new && !place->second;
+        if (turns_back) changed_.erase(place);
     }
 
     // Files.
@@ -745,6 +681,7 @@ class OcTree : public OcTreeGrid {
         try {
             OcTree other(detail::resolution_of(file), odds_);
             other.map_.load(file);
+            keep_changes();
             static_cast<OcTreeGrid &>(*this) = other;
             map_ = std::move(other.map_);
         } catch (const refused &) {
@@ -766,6 +703,8 @@ class OcTree : public OcTreeGrid {
             if ((known >> i & 1) != 0) write_node(out, (*node.children_)[i]);
     }
 
+    /// For how many leaves of a box there is room at first.
+    static constexpr std::size_t first_room_ = 1 << 14;
     /// As many groups and voxels met as a map takes.
     static constexpr limits most_ = {1 << 26, 1 << 27};
 
@@ -774,8 +713,10 @@ class OcTree : public OcTreeGrid {
     std::int32_t hit_ = 847, miss_ = -405;
     bool use_bbx_ = false, is_tracking_ = false, is_expanded_ = false;
     point3d bbx_min_, bbx_max_;
+    KeyBoolMap kept_; // what has changed until the mark
 
     mutable std::mutex copies_; // guards what follows
+    mutable std::shared_ptr<const OcTreeLeaves> leaves_; // of the map as it is, or none
     mutable std::shared_ptr<OcTreeValues> values_;
     mutable KeyBoolMap changed_;
     mutable bool are_values_new_ = false, are_changes_new_ = false;
@@ -792,7 +733,20 @@ inline void OcTreeNode::setLogOdds(float logodds) {
 }
 inline bool OcTreeNode::hasChildren() const { return tree_ && tree_->nodeHasChildren(this); }
 
+inline OcTreeLeafIterator::OcTreeLeafIterator(const OcTree *tree, unsigned char depth)
+    : OcTreeLeafIterator(tree->begin_leafs(depth)) {}
+inline OcTreeLeafBoxIterator::OcTreeLeafBoxIterator(const OcTree *tree, const OcTreeKey &min,
+                                                    const OcTreeKey &max, unsigned char depth)
+    : OcTreeLeafBoxIterator(tree->begin_leafs_bbx(min, max, depth)) {}
+inline OcTreeLeafBoxIterator::OcTreeLeafBoxIterator(const OcTree *tree, const point3d &min,
+                                                    const point3d &max, unsigned char depth)
+    : OcTreeLeafBoxIterator(tree->begin_leafs_bbx(min, max, depth)) {}
+inline OcTreeNodeIterator::OcTreeNodeIterator(const OcTree *tree, unsigned char depth)
+    : OcTreeNodeIterator(tree->begin_tree(depth)) {}
+
 } // namespace octofix
+
+#include "octofix/octree_beams.hpp"
 
 #endif // C++17
 #endif

@@ -6,6 +6,7 @@
 
 #include <algorithm>
 #include <cstddef>
+#include <cstdint>
 #include <iterator>
 #include <random>
 
@@ -15,6 +16,12 @@ class Pointcloud {
   public:
     using iterator = point3d_collection::iterator;
     using const_iterator = point3d_collection::const_iterator;
+
+    Pointcloud() = default;
+    /// Copies keep the points, and no frame.
+    Pointcloud(const Pointcloud &other) : points_(other.points_) {}
+    Pointcloud(Pointcloud *other) : points_(other->points_) {}
+    Pointcloud &operator=(const Pointcloud &other) = default;
 
     std::size_t size() const { return points_.size(); }
     void clear() { points_.clear(); }
@@ -37,8 +44,17 @@ class Pointcloud {
 
     void transform(const pose6d &frame) {
         for (point3d &p : points_) p = frame.transform(p);
+        undoing_ = frame.inv();
     }
-    void transformAbsolute(const pose6d &frame) { transform(frame); }
+    /// Moves the points by the way from the frame of the last move to this one.
+    void transformAbsolute(const pose6d &frame) {
+        const pose6d way = undoing_ * frame;
+        for (point3d &p : points_) p = way.transform(p);
+        undoing_ = frame.inv();
+    }
+    void rotate(double roll, double pitch, double yaw) {
+        for (point3d &p : points_) p.rotate_IP(roll, pitch, yaw);
+    }
     /// The corners of the smallest box that holds the points.
     void calcBBX(point3d &lower, point3d &upper) const {
         if (points_.empty()) return;
@@ -61,9 +77,26 @@ class Pointcloud {
                    p.y() <= upper.y() && p.z() >= lower.z() && p.z() <= upper.z();
         });
     }
-    /// Keeps the points that are farther than this from the origin, seen from above.
+    /// Keeps the points that are farther than this from the origin.
     void minDist(double distance) {
-        keep([&](const point3d &p) { return std::hypot(p.x(), p.y()) > distance; });
+        keep([&](const point3d &p) { return p.norm() > distance; });
+    }
+
+    /// Adds the points of a text, three numbers each, to its end or to what is none.
+    std::istream &read(std::istream &in) {
+        for (float x, y, z; in >> x >> y >> z;) push_back(x, y, z);
+        return in;
+    }
+    std::istream &readBinary(std::istream &in) {
+        std::uint32_t count = 0;
+        detail::get_number(in, count);
+        for (point3d p; count > 0 && p.readBinary(in); --count) push_back(p);
+        return in;
+    }
+    std::ostream &writeBinary(std::ostream &out) const {
+        detail::put_number(out, static_cast<std::uint32_t>(size()));
+        for (const point3d &p : points_) p.writeBinary(out);
+        return out;
     }
 
   private:
@@ -74,6 +107,7 @@ class Pointcloud {
     }
 
     point3d_collection points_;
+    pose6d undoing_; // the inverse of the last frame
 };
 
 } // namespace octofix

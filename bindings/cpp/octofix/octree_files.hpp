@@ -6,6 +6,7 @@
 #include "../octofix.hpp"
 
 #include <algorithm>
+#include <istream>
 #include <ostream>
 #include <sstream>
 
@@ -34,6 +35,52 @@ inline std::size_t data_of(const bytes &file) {
     const std::string mark = "\ndata\n";
     const auto at = std::search(file.begin(), file.end(), mark.begin(), mark.end());
     return static_cast<std::size_t>(at - file.begin()) + mark.size();
+}
+
+/// A line of a stream with its end, or as much of it as a header may have.
+inline std::string line_of(std::istream &in) {
+    std::string line;
+    for (char c; line.size() < 65536 && in.get(c);) {
+        line += c;
+        if (c == '\n') break;
+    }
+    return line;
+}
+
+/// Adds the records of a tree to a file. The stream is left at the byte after them.
+inline void add_records(std::istream &in, bytes &file) {
+    constexpr std::size_t most = std::size_t{1} << 30, most_at_once = 1 << 15;
+    for (std::size_t to_come = 1; to_come > 0 && in && file.size() < most;) {
+        const std::size_t begin = file.size(), records = std::min(to_come, most_at_once);
+        file.resize(begin + 2 * records);
+        in.read(reinterpret_cast<char *>(file.data() + begin),
+                static_cast<std::streamsize>(2 * records));
+        file.resize(begin + static_cast<std::size_t>(in.gcount()));
+        to_come -= records;
+        for (std::size_t i = begin; i < file.size(); ++i)
+            for (unsigned child = 0; child < 4; ++child)
+                to_come += (file[i] >> 2 * child & 3) == 3;
+    }
+}
+
+/// The .bt file that a stream has next; the stream is left at the byte after it. Of what is no such
+/// file it has the beginning.
+inline bytes tree_of(std::istream &in) {
+    bytes file;
+    bool has_records = false;
+    for (std::string word; in && word != "data" && file.size() < 65536;) {
+        const bool is_first = file.empty();
+        const std::string line = line_of(in);
+        file.insert(file.end(), line.begin(), line.end());
+        if (is_first && line.compare(0, 28, "# Octomap OcTree binary file") != 0) return file;
+        std::istringstream words(line);
+        word.clear();
+        words >> word;
+        if (std::string number; word == "size" && words >> number)
+            has_records = number.find_first_not_of('0') != std::string::npos;
+    }
+    if (has_records) add_records(in, file);
+    return file;
 }
 
 /// The edge of a voxel in metres that the header of a .bt file says, or 0.

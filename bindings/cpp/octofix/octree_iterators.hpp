@@ -1,16 +1,23 @@
-// Iterators over the nodes of a map, as the OctoMap library has them. Each keeps a copy of the
-// map's values, so that edits don't disturb it. Part of octofix_octree.hpp.
+// Iterators over the nodes of a map, as the OctoMap library has them. Each keeps the map's leaves
+// as they were when it was made, so that edits don't disturb it. Part of octofix_octree.hpp.
 #ifndef OCTOFIX_OCTREE_ITERATORS_HPP
 #define OCTOFIX_OCTREE_ITERATORS_HPP
 
+#include "octree_leaves.hpp"
 #include "octree_nodes.hpp"
 
+#include <algorithm>
+#include <cstddef>
+#include <cstdint>
+#include <iterator>
 #include <memory>
+#include <vector>
 
 namespace octofix {
 
-/// The way of a walk: the nodes that are still to come, the next one on top.
-class OcTreeWalk {
+/// Where an iterator stands: at a node, which it has for itself. The node is good until the
+/// iterator moves.
+class OcTreePlace {
   public:
     using iterator_category = std::forward_iterator_tag;
     using value_type = OcTreeNode;
@@ -18,117 +25,203 @@ class OcTreeWalk {
     using pointer = OcTreeNode *;
     using reference = OcTreeNode &;
 
-    OcTreeWalk() : grid_(1) {}
-    OcTreeWalk(const OcTreeGrid &grid, std::shared_ptr<OcTreeValues> values, unsigned depth)
-        : grid_(grid), values_(std::move(values)), max_depth_(depth == 0 ? 16 : depth) {
-        if (values_->root()) to_come_.push_back(values_->root());
-    }
+    OcTreeNode &operator*() const { return node_; }
+    OcTreeNode *operator->() const { return &node_; }
 
-    bool operator==(const OcTreeWalk &other) const { return to_come_ == other.to_come_; }
-    bool operator!=(const OcTreeWalk &other) const { return !(*this == other); }
-    OcTreeNode &operator*() const { return *to_come_.back(); }
-    OcTreeNode *operator->() const { return to_come_.back(); }
-
-    unsigned getDepth() const { return to_come_.back()->depth_; }
+    unsigned getDepth() const { return node_.depth_; }
     double getSize() const { return grid_.getNodeSize(getDepth()); }
     /// The key in the middle of the block.
     OcTreeKey getKey() const { return grid_.adjustKeyAtDepth(getIndexKey(), getDepth()); }
     /// The lowest key of the block.
-    OcTreeKey getIndexKey() const { return to_come_.back()->low_; }
+    OcTreeKey getIndexKey() const { return node_.low_; }
     point3d getCoordinate() const { return grid_.keyToCoord(getIndexKey(), getDepth()); }
     double getX() const { return grid_.keyToCoord(getIndexKey()[0], getDepth()); }
     double getY() const { return grid_.keyToCoord(getIndexKey()[1], getDepth()); }
     double getZ() const { return grid_.keyToCoord(getIndexKey()[2], getDepth()); }
 
   protected:
-    void restrict_to(const OcTreeKey &low, const OcTreeKey &high) {
-        has_box_ = true;
-        low_ = low;
-        high_ = high;
+    OcTreePlace() : grid_(1) {}
+    OcTreePlace(const OcTreeGrid &grid, unsigned depth)
+        : grid_(grid), max_depth_(depth == 0 ? 16 : depth) {}
+    void stand(OcTree *tree, const OcTreeKey &first, unsigned depth, std::int32_t value) {
+        node_.tree_ = tree;
+        node_.low_ = first;
+        node_.depth_ = static_cast<std::uint8_t>(depth);
+        node_.value_ = value;
+        node_.is_known_ = true;
     }
-    bool is_inner() const {
-        return getDepth() < max_depth_ && to_come_.back()->children_ != nullptr;
-    }
-    /// Goes from a node to the first of its children, or past it.
-    void step() {
-        std::array<OcTreeNode, 8> *children = is_inner() ? to_come_.back()->children_ : nullptr;
-        to_come_.pop_back();
-        if (!children) return;
-        for (auto child = children->rbegin(); child != children->rend(); ++child)
-            if (child->is_known_ && meets_box(*child)) to_come_.push_back(&*child);
-    }
-    void to_leaf() {
-        while (!to_come_.empty() && is_inner()) step();
-    }
-    void past_leaf() {
-        to_come_.pop_back();
-        to_leaf();
-    }
+    void tell_leaf(bool is_leaf) { node_.is_leaf_ = is_leaf; }
+    void stand_on(const OcTreeNode &node) { node_ = node; }
+    unsigned max_depth() const { return max_depth_; }
+    static std::array<OcTreeNode, 8> *children_of(const OcTreeNode &node) { return node.children_; }
+    static bool is_known(const OcTreeNode &node) { return node.is_known_; }
 
   private:
-    bool meets_box(const OcTreeNode &node) const {
-        if (!has_box_) return true;
-        const unsigned last = (1u << (16 - node.depth_)) - 1;
-        for (unsigned axis = 0; axis < 3; ++axis)
-            if (node.low_[axis] > high_[axis] || node.low_[axis] + last < low_[axis]) return false;
-        return true;
-    }
-
     OcTreeGrid grid_;
-    std::shared_ptr<OcTreeValues> values_;
-    std::vector<OcTreeNode *> to_come_;
     unsigned max_depth_ = 16;
-    bool has_box_ = false;
-    OcTreeKey low_, high_;
+    mutable OcTreeNode node_;
 };
 
 /// Over the leaves, and the inner nodes of the greatest depth that is wanted.
-class OcTreeLeafIterator : public OcTreeWalk {
+class OcTreeLeafIterator : public OcTreePlace {
   public:
     OcTreeLeafIterator() = default;
-    OcTreeLeafIterator(const OcTreeGrid &grid, std::shared_ptr<OcTreeValues> values,
+    OcTreeLeafIterator(const OcTreeGrid &grid, std::shared_ptr<const OcTreeLeaves> leaves,
                        unsigned depth)
-        : OcTreeWalk(grid, std::move(values), depth) {
-        to_leaf();
-    }
+        : OcTreeLeafIterator(grid, std::move(leaves), depth, {0, 0, 0}, {65535, 65535, 65535}) {}
+    inline explicit OcTreeLeafIterator(const OcTree *tree, unsigned char depth = 0);
+
     OcTreeLeafIterator &operator++() {
-        past_leaf();
+        go_on();
         return *this;
     }
     OcTreeLeafIterator operator++(int) {
         OcTreeLeafIterator before = *this;
-        ++*this;
+        go_on();
         return before;
     }
+    bool operator==(const OcTreeLeafIterator &other) const {
+        if (is_end() || other.is_end()) return is_end() == other.is_end();
+        return leaves_ == other.leaves_ && at_ == other.at_ && part_ == other.part_;
+    }
+    bool operator!=(const OcTreeLeafIterator &other) const { return !(*this == other); }
+
+  protected:
+    /// Those that meet a box of keys.
+    OcTreeLeafIterator(const OcTreeGrid &grid, std::shared_ptr<const OcTreeLeaves> leaves,
+                       unsigned depth, const OcTreeKey &first, const OcTreeKey &last)
+        : OcTreePlace(grid, depth), leaves_(std::move(leaves)), first_(first), last_(last) {
+        settle();
+    }
+    void go_on() {
+        at_ = next_;
+        part_ = next_part_;
+        settle();
+    }
+
+  private:
+    static OcTreeKey low_of(const block &leaf) {
+        const voxel_key first = low(leaf);
+        return {first.x, first.y, first.z};
+    }
+    bool is_end() const { return !leaves_ || at_ == leaves_->blocks().size(); }
+    const block &leaf() const { return leaves_->blocks()[at_]; }
+    bool meets_box(const OcTreeKey &first, unsigned depth) const {
+        const unsigned last = (1u << (16 - depth)) - 1;
+        for (unsigned axis = 0; axis < 3; ++axis)
+            if (first[axis] > last_[axis] || first[axis] + last < first_[axis]) return false;
+        return true;
+    }
+    /// Stands at the first node, from this leaf and part of it on, that meets the box.
+    void settle() {
+        for (; !is_end(); at_ = next_, part_ = next_part_) {
+            next_ = at_ + 1, next_part_ = 0;
+            if (leaf().depth > max_depth())
+                stand_on_block();
+            else if (leaves_->are_voxels_alone() && leaf().depth < max_depth())
+                stand_on_part();
+            else
+                stand_on_leaf(low_of(leaf()), leaf().depth);
+            if (!is_past_parts_ && meets_box(getIndexKey(), getDepth())) return;
+        }
+    }
+    void stand_on_leaf(const OcTreeKey &first, unsigned depth) {
+        stand(leaves_->tree(), first, depth, leaf().value);
+        tell_leaf(!leaves_->are_voxels_alone() || depth == 16);
+        is_past_parts_ = false;
+    }
+    /// The leaves that lie in one block of the greatest depth, as one node.
+    void stand_on_block() {
+        const auto level = static_cast<key_type>(16 - max_depth());
+        const OcTreeKey first = computeIndexKey(level, low_of(leaf()));
+        const view<block> blocks = leaves_->blocks();
+        std::int32_t largest = leaf().value;
+        for (; next_ < blocks.size(); ++next_) {
+            if (computeIndexKey(level, low_of(blocks[next_])) != first) break;
+            largest = std::max(largest, blocks[next_].value);
+        }
+        stand(leaves_->tree(), first, max_depth(), largest);
+        tell_leaf(false);
+        is_past_parts_ = false;
+    }
+    /// The first part of the leaf, from this one on, that meets the box.
+    void stand_on_part() {
+        const unsigned levels = max_depth() - leaf().depth;
+        const std::uint64_t parts = std::uint64_t{1} << 3 * levels;
+        while (part_ < parts) {
+            unsigned up = 0;
+            while (up < levels && part_ % (std::uint64_t{8} << 3 * up) == 0) ++up;
+            while (up > 0 && meets_box(part_low(), max_depth() - up)) --up;
+            if (meets_box(part_low(), max_depth() - up)) break;
+            part_ += std::uint64_t{1} << 3 * up;
+        }
+        is_past_parts_ = part_ >= parts;
+        if (is_past_parts_) return;
+        stand_on_leaf(part_low(), max_depth());
+        if (part_ + 1 < parts) next_ = at_, next_part_ = part_ + 1;
+    }
+    /// The lowest key of the part.
+    OcTreeKey part_low() const {
+        OcTreeKey key = low_of(leaf());
+        for (unsigned bit = 0; part_ >> 3 * bit != 0; ++bit)
+            for (unsigned axis = 0; axis < 3; ++axis)
+                if ((part_ >> (3 * bit + axis) & 1) != 0)
+                    key[axis] = static_cast<key_type>(key[axis] + (1u << (16 - max_depth() + bit)));
+        return key;
+    }
+
+    std::shared_ptr<const OcTreeLeaves> leaves_;
+    OcTreeKey first_, last_;
+    std::size_t at_ = 0, next_ = 0;          // leaves
+    std::uint64_t part_ = 0, next_part_ = 0; // of a leaf that is parted
+    bool is_past_parts_ = false;
 };
 
 /// Over those that meet a box of keys.
-class OcTreeLeafBoxIterator : public OcTreeWalk {
+class OcTreeLeafBoxIterator : public OcTreeLeafIterator {
   public:
     OcTreeLeafBoxIterator() = default;
-    OcTreeLeafBoxIterator(const OcTreeGrid &grid, std::shared_ptr<OcTreeValues> values,
-                          unsigned depth, const OcTreeKey &low, const OcTreeKey &high)
-        : OcTreeWalk(grid, std::move(values), depth) {
-        restrict_to(low, high);
-        to_leaf();
-    }
+    OcTreeLeafBoxIterator(const OcTreeGrid &grid, std::shared_ptr<const OcTreeLeaves> leaves,
+                          unsigned depth, const OcTreeKey &first, const OcTreeKey &last)
+        : OcTreeLeafIterator(grid, std::move(leaves), depth, first, last) {}
+    inline OcTreeLeafBoxIterator(const OcTree *tree, const OcTreeKey &min, const OcTreeKey &max,
+                                 unsigned char depth = 0);
+    inline OcTreeLeafBoxIterator(const OcTree *tree, const point3d &min, const point3d &max,
+                                 unsigned char depth = 0);
     OcTreeLeafBoxIterator &operator++() {
-        past_leaf();
+        go_on();
         return *this;
     }
     OcTreeLeafBoxIterator operator++(int) {
         OcTreeLeafBoxIterator before = *this;
-        ++*this;
+        go_on();
         return before;
     }
 };
 
-/// Over all nodes, each before its children.
-class OcTreeNodeIterator : public OcTreeWalk {
+/// Over all nodes, each before its children. It keeps a copy of them, with whose nodes it stands.
+class OcTreeNodeIterator : public OcTreePlace {
   public:
-    using OcTreeWalk::OcTreeWalk;
+    OcTreeNodeIterator() = default;
+    OcTreeNodeIterator(const OcTreeGrid &grid, std::shared_ptr<OcTreeValues> values,
+                       unsigned depth)
+        : OcTreePlace(grid, depth), values_(std::move(values)) {
+        if (values_->root()) to_come_.push_back(values_->root());
+        settle();
+    }
+    inline explicit OcTreeNodeIterator(const OcTree *tree, unsigned char depth = 0);
+
+    OcTreeNode &operator*() const { return *to_come_.back(); }
+    OcTreeNode *operator->() const { return to_come_.back(); }
+    bool operator==(const OcTreeNodeIterator &other) const { return to_come_ == other.to_come_; }
+    bool operator!=(const OcTreeNodeIterator &other) const { return !(*this == other); }
     OcTreeNodeIterator &operator++() {
-        step();
+        std::array<OcTreeNode, 8> *children = isLeaf() ? nullptr : children_of(**this);
+        to_come_.pop_back();
+        if (children)
+            for (auto child = children->rbegin(); child != children->rend(); ++child)
+                if (is_known(*child)) to_come_.push_back(&*child);
+        settle();
         return *this;
     }
     OcTreeNodeIterator operator++(int) {
@@ -136,7 +229,15 @@ class OcTreeNodeIterator : public OcTreeWalk {
         ++*this;
         return before;
     }
-    bool isLeaf() const { return !is_inner(); }
+    bool isLeaf() const { return getDepth() >= max_depth() || !children_of(**this); }
+
+  private:
+    void settle() {
+        if (!to_come_.empty()) stand_on(*to_come_.back());
+    }
+
+    std::shared_ptr<OcTreeValues> values_;
+    std::vector<OcTreeNode *> to_come_; // the next one last
 };
 
 } // namespace octofix

@@ -75,6 +75,15 @@ inline std::uint8_t computeChildIdx(const OcTreeKey &key, int bit) {
                                      (key[2] >> bit & 1) << 2);
 }
 
+/// The key in the middle of a child: half of the child's edge is the offset, or 0 for a voxel.
+inline void computeChildKey(unsigned child, key_type offset, const OcTreeKey &parent,
+                            OcTreeKey &key) {
+    const int below = offset + (offset == 0 ? 1 : 0);
+    for (unsigned axis = 0; axis < 3; ++axis)
+        key[axis] = static_cast<key_type>((child >> axis & 1) != 0 ? parent[axis] + offset
+                                                                   : parent[axis] - below);
+}
+
 /// How coordinates and keys belong together: by whole nanometres, rounded down, as in octofix.h,
 /// and not by a product of doubles.
 class OcTreeGrid {
@@ -92,6 +101,11 @@ class OcTreeGrid {
         const std::int64_t number = floored(std::llround(c * 1e9)) + 32768;
         if (number < 0 || number > 65535) return false;
         key = static_cast<key_type>(number);
+        return true;
+    }
+    bool coordToKeyChecked(double c, unsigned depth, key_type &key) const {
+        if (!coordToKeyChecked(c, key)) return false;
+        key = adjustKeyAtDepth(key, depth);
         return true;
     }
     bool coordToKeyChecked(double x, double y, double z, OcTreeKey &key) const {

@@ -35,19 +35,22 @@ class unsupported : public std::logic_error {
 /// node shows too, and others don't.
 class OcTreeNode {
   public:
+    using DataType = float;
+
     float getLogOdds() const { return static_cast<float>(value_) / 1000.0f; }
     float getValue() const { return getLogOdds(); }
     double getOccupancy() const { return probability(getLogOdds()); }
     inline void setLogOdds(float logodds);
     void setValue(float logodds) { setLogOdds(logodds); }
     void addValue(float logodds) { setLogOdds(getLogOdds() + logodds); }
+    void copyData(const OcTreeNode &other) { setLogOdds(other.getLogOdds()); }
     inline bool hasChildren() const;
     bool operator==(const OcTreeNode &other) const { return value_ == other.value_; }
 
   private:
     friend class OcTree;
     friend class OcTreeValues;
-    friend class OcTreeWalk;
+    friend class OcTreePlace;
 
     OcTree *tree_ = nullptr;
     std::array<OcTreeNode, 8> *children_ = nullptr;
@@ -55,13 +58,14 @@ class OcTreeNode {
     OcTreeKey low_;
     std::uint8_t depth_ = 0;
     bool is_known_ = false;
+    bool is_leaf_ = false; // has no children, whatever the map has
 };
 
 /// The values of a map as a tree that stands still.
 class OcTreeValues {
   public:
     /// Of leaves in Morton order. Where voxels alone are wanted, each leaf is parted into them.
-    OcTreeValues(OcTree *tree, const std::vector<block> &leaves, bool voxels_alone = false)
+    OcTreeValues(OcTree *tree, view<block> leaves, bool voxels_alone)
         : voxels_alone_(voxels_alone) {
         root_.tree_ = tree;
         const block *next = leaves.data();

@@ -109,6 +109,41 @@ void try_lengths() {
     EXPECT(world.scan_from({0, 0, 0}, metres(row + 3, 1), nothing).hits == 0);
     EXPECT(octofix::log_odds(0.7) == 847);
     EXPECT(octofix::log_odds(0.4) == -405);
+    EXPECT(std::fabs(octofix::probability_of(847) - 0.7) < 1e-4);
+    EXPECT(octofix::probability_of(std::numeric_limits<std::int32_t>::min()) == 0);
+    EXPECT(octofix::probability_of(std::numeric_limits<std::int32_t>::max()) == 1);
+}
+
+/// What an organised cloud has where its sensor saw nothing may be left out; its indices stay.
+void try_unfinite() {
+    constexpr auto skipped = octofix::unfinite::skipped;
+    const float nan = std::numeric_limits<float>::quiet_NaN();
+    const float infinity = std::numeric_limits<float>::infinity();
+    const float cloud[][3] = {{1, 2, 3}, {nan, nan, nan}, {0, infinity, 0}, {4, 5, 6}};
+    const auto seen = metres(cloud, skipped);
+    EXPECT(seen.size() == 2 && seen[0].z == 3000000000 && seen[1].x == 4000000000);
+    EXPECT(metres(cloud[0], 4, skipped).size() == 2);
+    EXPECT(index_of([&] { return metres(cloud); }) == 1);
+    const float far[][3] = {{nan, 0, 0}, {1, 2, 3}, {0, 1e7f, 0}};
+    EXPECT(index_of([&] { return metres(far, skipped); }) == 2);
+}
+
+/// Quaternions whose squares and sums are beyond a double; by hand, a half turn about x and z.
+void try_turns() {
+    const double huge = std::numeric_limits<double>::max();
+    const double infinity = std::numeric_limits<double>::infinity();
+    const auto is_refused = [](double w, double x) {
+        try {
+            static_cast<void>(octofix::turned({0, 0, 0}, w, x, 0, 0));
+            return false;
+        } catch (const std::domain_error &) {
+            return true;
+        }
+    };
+    const octofix::pose half = octofix::turned({0, 0, 0}, 0, huge, 0, huge);
+    EXPECT(half.w == 0 && half.x == 32767 && half.y == 0 && half.z == 32767);
+    EXPECT(octofix::turned({0, 0, 0}, -5e-324, 0, 0, 0).w == -32767);
+    EXPECT(is_refused(infinity, 0) && is_refused(0, std::nan("")) && is_refused(0, 0));
 }
 
 /// Points in nanometres may be any numbers: what is too far away is refused.
@@ -261,7 +296,11 @@ void try_models() {
     EXPECT(tree.setNodeValue(p, infinity)->getLogOdds() == 2.197f);
     EXPECT(tree.updateNode(p, -infinity)->getLogOdds() == -2.0f);
     tree.enableChangeDetection(true);
-    EXPECT(is_unsupported([&] { tree.setResolution(0.1); }));
+    tree.updateNode(octofix::OcTreeKey(9, 9, 9), true);
+    tree.setResolution(0.1); // the keys stay, and so do their changes
+    EXPECT(tree.getResolution() == 0.1 && tree.numChangesDetected() == 1);
+    EXPECT(tree.search(octofix::OcTreeKey(9, 9, 9))->getLogOdds() == 2.197f);
+    EXPECT(code_of([&] { tree.setOccupancyThres(1); }) == OCTOFIX_BAD_MODEL);
     std::istringstream empty;
     EXPECT(is_unsupported([&] { octofix::OcTree::read(empty); }));
 }
@@ -307,6 +346,12 @@ void try_blocks() {
     EXPECT(tree.deleteNode(key, 15) && !tree.search(key) && !tree.deleteNode(key));
     EXPECT(tree.size() == 15 + 7); // the blocks of depth 0 to 14, and seven leaves
     EXPECT(!tree.nodeHasChildren(tree.search(octofix::OcTreeKey(32768, 32768, 32768))));
+    const auto first = tree.begin_leafs();
+    const octofix::OcTreeNode &kept = *first; // good as long as the iterator stands there
+    for (unsigned i = 0; i < 5000; ++i) tree.search(key, 14);
+    tree.updateNode(octofix::OcTreeKey(0, 0, 0), true);
+    EXPECT(kept.getLogOdds() == -0.5f && first.getDepth() == 15 && !kept.hasChildren());
+    tree.deleteNode(octofix::OcTreeKey(0, 0, 0));
     tree.setBBXMin({-9000, 0, 0});
     tree.setBBXMax({9000, 0.1f, 0.1f});
     tree.useBBXLimit(true);
@@ -346,10 +391,10 @@ void try_changes() {
     other.updateNode(p, true);
     EXPECT(other.numChangesDetected() == 0);
     other = tracked;
-    EXPECT(other.isChangeDetectionEnabled() && other.numChangesDetected() == 0);
+    EXPECT(other.isChangeDetectionEnabled() && other.numChangesDetected() == 1);
     tracked.clear();
-    tracked.updateNode(p, true);
-    EXPECT(tracked.numChangesDetected() == 1 && tracked.changedKeysBegin()->second);
+    tracked.updateNode(p, true); // a voxel that has turned before is told so
+    EXPECT(tracked.numChangesDetected() == 1 && !tracked.changedKeysBegin()->second);
     tracked.resetChangeDetection();
     EXPECT(tracked.numChangesDetected() == 0);
 }
@@ -413,6 +458,8 @@ void try_threads() {
 
 int main(int, char **words) {
     try_lengths();
+    try_unfinite();
+    try_turns();
     try_far_points();
     try_refusals();
     try_files(words[1]);
