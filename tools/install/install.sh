@@ -72,7 +72,7 @@ put_library() {
     ln -sfn "liboctofix$suffix.so.1" "$prefix/$lib/liboctofix$suffix.so" || exit 1
     put_all "$root/bindings/c" include -name octofix.h
     put_all "$root/bindings/cpp" include -name 'octofix*.hpp'
-    put_all "$root/bindings/cpp/octofix" include/octofix -name '*.hpp'
+    put_all "$root/bindings/cpp/octofix" include/octofix '(' -name '*.hpp' -o -name '*.h' ')'
     put_filled 644 "$parts/octofix.pc" "$lib/pkgconfig/octofix$suffix.pc"
     cmake=$lib/cmake/octofix$suffix
     put_filled 644 "$parts/config.cmake" "$cmake/octofix${suffix}Config.cmake"

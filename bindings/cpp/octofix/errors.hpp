@@ -50,6 +50,17 @@ inline std::string text_of(std::uint32_t code, const details &named) {
     return text;
 }
 
+/// What helps against a refusal by a limit; else nothing.
+inline const char *hint_of(std::uint32_t code) {
+    switch (code) {
+    case OCTOFIX_FULL: return "limits::max_groups of the map allows no more, and may be up to 2^26";
+    case OCTOFIX_TOO_MANY_CELLS:
+        return "limits::max_cells of the map allows no more, and may be up to 2^27; with a range "
+               "beams meet fewer";
+    default: return "";
+    }
+}
+
 } // namespace detail
 
 /// What a map refuses: a code of octofix.h, its name, and what it names.
@@ -60,6 +71,8 @@ class refused : public std::runtime_error {
     std::uint32_t code() const { return code_; }
     const char *name() const { return detail::name_of(code_); }
     const octofix::details &details() const { return details_; }
+    /// Which limit it is, for people; empty where it is none.
+    const char *hint() const { return detail::hint_of(code_); }
 
   private:
     std::uint32_t code_;

@@ -179,8 +179,17 @@ void try_refusals() {
     EXPECT(code_of([] { octofix::map world(0.1, {850, 1, -2000, 3500, 0}); }) == OCTOFIX_BAD_MODEL);
     EXPECT(code_of([] { octofix::map world(0.1, octofix::default_odds, {0, 0}); }) ==
            OCTOFIX_BAD_ARGUMENT);
-    octofix::map world(0.1);
+    octofix::map world(0.1), narrow(0.1, octofix::default_odds, {16, 1});
     const octofix::point far = metres(4000, 0, 0), near = metres(1, 1, 1);
+    try {
+        narrow.scan_from(near, std::array{metres(9, 9, 9)});
+        EXPECT(false);
+    } catch (const octofix::refused &error) {
+        EXPECT(std::string(error.hint()).find("max_cells") != std::string::npos);
+    }
+    EXPECT(std::string(octofix::refused(OCTOFIX_FULL).hint()).find("max_groups") !=
+           std::string::npos);
+    EXPECT(std::string(octofix::refused(OCTOFIX_OUTSIDE).hint()).empty());
     EXPECT(code_of([&] { return world.get(far); }) == OCTOFIX_OUTSIDE);
     EXPECT(code_of([&] { return world.leaves(near, metres(0, 0, 0)); }) == OCTOFIX_BAD_BOX);
     EXPECT(code_of([&] { return world.list(near, far); }) == OCTOFIX_OUTSIDE);

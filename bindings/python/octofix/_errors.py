@@ -27,6 +27,12 @@ _FIELDS: Mapping[int, tuple[str, ...]] = {
 }
 BAD_MODEL, FULL, OUTSIDE, FILE_TOO_LARGE, OTHER_RESOLUTION, BAD_ARGUMENT = 4, 23, 24, 34, 35, 47
 
+# Which limit a refusal is by, and what helps.
+_HINTS: Mapping[int, str] = {
+    8: "max_cells of the map allows no more (up to 2^27); with a range beams meet fewer",
+    23: "max_groups of the map allows no more (up to 2^26)",
+}
+
 # Refusals that an array's row can be the cause of.
 _OF_ROWS = frozenset((FULL, OUTSIDE, BAD_ARGUMENT))
 
@@ -43,13 +49,15 @@ class Refused(ValueError):
 
     `code` is the number of the refusal, `name` its name, and `fields` what it names, as in
     docs/FORMATS.md: `str` of it is `refused 7 PointOutside index 3`. Where a call takes arrays,
-    `index` is the row that was refused.
+    `index` is the row that was refused. `hint` says for people which limit it is, where it is one
+    that a map is made with; else it is empty.
     """
 
     def __init__(self, code: int, fields: Mapping[str, Any] | None = None) -> None:
         self.code = code
         self.name = code_name(code) or "?"
         self.fields = dict(fields or {})
+        self.hint = _HINTS.get(code, "")
         super().__init__(code, self.fields)
 
     def __str__(self) -> str:

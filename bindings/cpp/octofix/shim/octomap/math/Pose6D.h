@@ -1,0 +1,1 @@
+#include <octofix_octree.hpp> // with -Doctomap=octofix -Doctomath=octofix
