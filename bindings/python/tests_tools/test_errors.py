@@ -227,6 +227,14 @@ class Words(InFolder):
         for words in wrong:
             self.assertEqual(self.done(*words, status=2).output, b"")
 
+    def test_classes_under_the_name_of_a_snapshot(self):
+        said = "is named as a snapshot, and a .bt file, which has classes alone, is written"
+        box = ["--box", 0, 0, 0, 1, 1, 1]
+        for words in (["map", "--res", 1, "-"], ["merge", "a.bt"], ["crop", "a.bt", *box]):
+            ran = self.done(*words, "-o", "c.snap", status=2)
+            self.assertIn(f"argument -o/--output: c.snap {said}\n", ran.said)
+        self.done("merge", "a.bt", "--snapshot", "c.snap")
+
     def test_asked_wrongly(self):
         for said, *words in (
             ("nothing is to be written (-o, --snapshot or --script)", "map", "--res", 1, "-"),

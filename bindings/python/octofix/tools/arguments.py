@@ -16,6 +16,15 @@ class Output(str):
     """The name of a file that is written."""
 
 
+def classes_output(word):
+    """The name of a .bt file that is written; not that of a snapshot, whose values it would lack."""
+    if word.endswith((".snap", ".snapshot")):
+        raise argparse.ArgumentTypeError(
+            f"{word} is named as a snapshot, and a .bt file, which has classes alone, is written"
+        )
+    return Output(word)
+
+
 def positive(word):
     number = float(word)
     if not 0 < number < 1e7:
@@ -150,10 +159,8 @@ def add_map(parser, name="map"):
     )
 
 
-def add_output(parser, said="- is the output", is_required=True):
-    parser.add_argument(
-        "-o", "--output", type=Output, required=is_required, metavar="FILE", help=said
-    )
+def add_output(parser, said="- is the output", is_required=True, of=Output):
+    parser.add_argument("-o", "--output", type=of, required=is_required, metavar="FILE", help=said)
 
 
 def add_box(parser):

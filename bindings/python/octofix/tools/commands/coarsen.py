@@ -4,7 +4,7 @@ above free), and is filled with it. The resolution stays.
     octofix coarsen map.bt --depth 14 -o coarse.bt
 """
 
-from ..arguments import add_map, add_output, whole
+from ..arguments import add_map, add_output, classes_output, whole
 from ..errors import DONE
 from ..leaves import VOXELS
 from ..maps import read_leaves
@@ -18,7 +18,7 @@ def arguments(parser):
     parser.add_argument(
         "--depth", type=whole(0, VOXELS), required=True, metavar="D", help="16 is a voxel"
     )
-    add_output(parser)
+    add_output(parser, of=classes_output)
 
 
 def run(options):

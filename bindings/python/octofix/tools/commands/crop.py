@@ -3,7 +3,7 @@
     octofix crop map.bt --box -5 -5 0 5 5 2 -o room.bt
 """
 
-from ..arguments import add_box, add_map, add_output
+from ..arguments import add_box, add_map, add_output, classes_output
 from ..boxes import box_of
 from ..errors import DONE, Unusable
 from ..maps import read_leaves
@@ -15,7 +15,7 @@ HELP = "the part of a map in a box"
 def arguments(parser):
     add_map(parser)
     add_box(parser)
-    add_output(parser)
+    add_output(parser, of=classes_output)
 
 
 def run(options):

@@ -16,7 +16,7 @@ import os
 
 from octofix import Map, Refused
 
-from ..arguments import Output, add_scans, positive, region, whole
+from ..arguments import Output, add_scans, classes_output, positive, region, whole
 from ..clashes import refuse_clouds
 from ..errors import DONE, INTERRUPTED, SKIPPED, Unusable
 from ..files import WRITING, written
@@ -30,9 +30,9 @@ from ..setup import scans_of
 
 HELP = "clouds to a map"
 OUTPUTS = {
-    "output": (("-o", "--output"), "the .bt file of the map"),
-    "snapshot": (("--snapshot",), "the map with its values"),
-    "script": (("--script",), "commands for 'octomap build' or a session"),
+    "output": (("-o", "--output"), classes_output, "the .bt file of the map"),
+    "snapshot": (("--snapshot",), Output, "the map with its values"),
+    "script": (("--script",), Output, "commands for 'octomap build' or a session"),
 }
 ODDS = {"hit": 850, "miss": -400, "min": -2000, "max": 3500, "thr": 0}
 
@@ -41,8 +41,8 @@ def arguments(parser):
     add_scans(parser)
     parser.add_argument("--res", type=positive, required=True, metavar="M", help="edge of a voxel")
     out = parser.add_argument_group("what is written (- is the output)")
-    for words, said in OUTPUTS.values():
-        out.add_argument(*words, type=Output, metavar="FILE", help=said)
+    for words, kind, said in OUTPUTS.values():
+        out.add_argument(*words, type=kind, metavar="FILE", help=said)
     out.add_argument(
         "--allow-empty", action="store_true", help="write a map that no scan has put a point into"
     )

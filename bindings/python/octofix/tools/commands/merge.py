@@ -13,7 +13,7 @@ whole, or a region is missing.
 
 from octofix import Refused, Rule
 
-from ..arguments import Input, Output
+from ..arguments import Input, Output, classes_output
 from ..errors import DONE, Unusable
 from ..files import WRITING, written
 from ..interrupts import INTERRUPTS
@@ -33,8 +33,9 @@ def arguments(parser):
         "maps", nargs="+", type=Input, metavar="MAP", help="snapshots or .bt files; - is the input"
     )
     parser.add_argument(
-        "-o", "--output", type=Output, metavar="FILE", help="the .bt file; - is the output"
-    )
+        "-o", "--output", type=classes_output, metavar="FILE",
+        help="the .bt file; - is the output",
+    )  # fmt: skip
     parser.add_argument(
         "--snapshot", type=Output, metavar="FILE", help="the map with its values; - is the output"
     )

@@ -6,7 +6,7 @@
 
 import numpy as np
 
-from ..arguments import add_map, add_output, finite, whole
+from ..arguments import add_map, add_output, classes_output, finite, whole
 from ..errors import DONE, Unusable
 from ..leaves import ORIGIN
 from ..lengths import metres, nanometres
@@ -22,7 +22,7 @@ def arguments(parser):
     how.add_argument("--by", nargs=3, type=finite, metavar=("X", "Y", "Z"), help="in metres")
     steps = whole(-65535, 65535)
     how.add_argument("--voxels", nargs=3, type=steps, metavar=("X", "Y", "Z"), help="in voxels")
-    add_output(parser)
+    add_output(parser, of=classes_output)
 
 
 def run(options):
