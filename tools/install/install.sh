@@ -101,7 +101,7 @@ put_tool_words() {
 }
 
 put_documents() {
-    for it in docs/FORMATS docs/LIBRARY docs/PROMISES docs/SCALING docs/TOOLS CHANGELOG; do
+    for it in docs/FORMATS docs/LIBRARY docs/PROMISES docs/RECIPES docs/SCALING docs/TOOLS CHANGELOG; do
         put 644 "$root/$it.md" "share/doc/octofix/$(basename "$it").md"
     done
     put 644 "$root/bindings/python/README.md" share/doc/octofix/PYTHON.md
