@@ -78,7 +78,10 @@ class Refusals(unittest.TestCase):
         refused = self.refuses("refused 7 PointOutside index 1", scan, [[0, 0, 0], [FAR, 0, 0]])
         self.assertEqual((refused.code, refused.name), (7, "PointOutside"))
         self.assertEqual(refused.fields, {"index": 1})
-        self.refuses("refused 8 TooManyCells index 1 cells 32", scan, [[1.5, 0, 0], [1.5, 0, 0]])
+        self.assertEqual(refused.hint, "")
+        text = "refused 8 TooManyCells index 1 cells 32"
+        refused = self.refuses(text, scan, [[1.5, 0, 0], [1.5, 0, 0]])
+        self.assertIn("max_cells", refused.hint)
         # 16 voxels in a row lie in one block of each depth to 12, and then in 2, 4 and 8
         self.refuses("refused 23 Full groups 16 need 27", scan, [[1.5, 0, 0]], (0, 0, 0.15))
 
