@@ -82,6 +82,7 @@ put_library() {
 put_package() {
     put_all "$root/bindings/python/octofix" "$packages/octofix"
     put_filled 755 "$parts/tools.py" "bin/octofix$suffix"
+    put 644 "$root/bindings/cpp/octofix_ot.cpp" share/octofix/octofix_ot.cpp
 }
 
 # The man page and the completions of the tools are made of what these say of their own words.
