@@ -19,6 +19,6 @@ folder=$(mktemp -d)
 trap 'rm -rf -- "$folder"' EXIT
 
 g++ -std=c++17 -O2 -I"$here/../bindings/c" -I"$here/../bindings/cpp" -o "$folder/cores" \
-    -Wl,--wrap=octofix_scan,--wrap=octofix_merge "$here/library/cores.cpp" \
+    -Wl,--wrap=octofix_scan,--wrap=octofix_merge "$here/cores.cpp" \
     "$library/liboctofix.a" -pthread
 "$folder/cores" "$@"

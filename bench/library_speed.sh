@@ -38,7 +38,7 @@ expect() {
     awk "BEGIN { exit !($2 <= $3) }" || failed=1
 }
 
-gcc -O2 -std=gnu11 -I"$here/../bindings/c" -o "$folder/speed" "$here/library/speed.c" \
+gcc -O2 -std=gnu11 -I"$here/../bindings/c" -o "$folder/speed" "$here/library_speed.c" \
     "$library/liboctofix.a" -lm
 "$program" gen 1 3 2000 >"$folder/few"
 "$program" gen 1 5 500 >"$folder/many"

@@ -7,7 +7,7 @@
 # of the library, and VERSION what the installed command answers to --version. LAYOUT is debian
 # where PREFIX is the folder usr of Debian; else all finds its files from where it stands.
 
-root=$(dirname -- "$(readlink -f -- "$0")")/../.. && . "$root/tools/words.sh" || exit 1
+root=$(dirname -- "$(readlink -f -- "$0")")/../.. && . "$root/tools/install/words.sh" || exit 1
 parts=$root/tools/install
 how=$1 program=$3 archive=$4 version=$5
 suffix=
@@ -56,7 +56,7 @@ put_filled() {
 put_program() {
     home=libexec/octomap$suffix
     put 755 "$program" "$home/octomap"
-    put 644 "$root/tools/words.sh" "$home/words.sh"
+    put 644 "$root/tools/install/words.sh" "$home/words.sh"
     printf '%s\n' "$version" >"$room/version" && put 644 "$room/version" "$home/version"
     put 755 "$parts/command.sh" "bin/octomap$suffix"
     put 644 "$root/docs/octomap.1" share/man/man1/octomap.1
@@ -65,7 +65,7 @@ put_program() {
 }
 
 put_library() {
-    "$root/tools/link_library.py" "$archive" "octofix$suffix" "$room" || exit 1
+    "$root/tools/build/link_library.py" "$archive" "octofix$suffix" "$room" || exit 1
     for it in a so.1; do
         put 644 "$room/liboctofix$suffix.$it" "$lib/liboctofix$suffix.$it"
     done

@@ -11,7 +11,7 @@ import warnings
 import mutations
 from running import InFolder, octofix
 
-# More are tried by bench/tools_mutations.py.
+# More are tried by tests/tools_mutations.py.
 MANY = int(os.environ.get("OCTOFIX_MUTATIONS", "500"))
 LONGEST = 20
 

@@ -46,7 +46,7 @@ class Points(InFolder):
         self.assertEqual(sorted(array.tolist()), wanted)
 
     def test_read_back(self):
-        """PLY and PCD are read again (bench/tools_formats.py has others read them)."""
+        """PLY and PCD are read again (tests/tools_formats.py has others read them)."""
         for form in ("ply", "pcd"):
             self.done("points", "a.bt", "--what", "free", "-o", f"a.{form}")
             lines = self.script(f"a.{form}").splitlines()

@@ -698,7 +698,7 @@ fn expect_room(
     expect_entries(rt, &map, live, spare);
 }
 
-/// The numbers of this scan are those that the model in `bench/model` gives for it too.
+/// The numbers of this scan are those that the model in `tests/model` gives for it too.
 #[test]
 fn makes_room_for_thousands_of_groups(rt: HostRuntime) -> Result<(), Fail> {
     let scan = scan_of(rt.alloc(), WIDE)?;

@@ -35,7 +35,7 @@ fn a_script_is_made_and_nothing_is_read(rt: HostRuntime) {
     expect_length(&rt, rt.alloc(), &words, b"", (Status::Done, 38_554));
 }
 
-/// Words, and the four lines of the drill that they ask for, as the model in `bench/model` gives
+/// Words, and the four lines of the drill that they ask for, as the model in `tests/model` gives
 /// them too.
 const DRILLS: &[(&[&str], &str)] = &[
     (

@@ -2,7 +2,7 @@
 """Makes random scripts and files, and compares what the program makes of them with what the model
 does: what is written, the status, and the files that stand afterwards.
 
-    bench/model/try_random.py FIRST LAST [--program P] [--without COMMAND,..]
+    tests/model/try_random.py FIRST LAST [--program P] [--without COMMAND,..]
 
 makes one session for each seed from FIRST to LAST. Prints the first that ends otherwise, and then
 ends with 1. The program is the launcher ./octomap where it isn't given.

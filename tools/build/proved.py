@@ -1,7 +1,7 @@
 #!/usr/bin/env python3
 """Proves and builds the program, or the static library, and all crates that it stands on.
 
-    tools/build_proved.py CRATE JOBS LOG
+    tools/build/proved.py CRATE JOBS LOG
 
 As many crates as there are jobs are proved side by side, where they don't stand on each other, and
 first those with the heaviest chain of crates above them. While there are enough of them each has
@@ -26,7 +26,7 @@ import time
 from concurrent.futures import FIRST_COMPLETED, ThreadPoolExecutor, wait
 
 import crates
-from build_unproved import TARGET, kit_folder
+from unproved import TARGET, kit_folder
 
 PLACE = crates.ROOT / "crates/octomap_cli/out/rlib"
 MOST_JOBS = 4

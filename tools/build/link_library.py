@@ -1,7 +1,7 @@
 #!/usr/bin/env python3
 """Makes the libraries that C links of the archive that the kit builds of a static library.
 
-    tools/link_library.py ARCHIVE NAME FOLDER
+    tools/build/link_library.py ARCHIVE NAME FOLDER
 
 writes FOLDER/libNAME.a, FOLDER/libNAME.so.1 and the link FOLDER/libNAME.so. Both have what calls
 the heap of the C library. The shared one shows the names that begin with octofix_ and no other.
@@ -13,7 +13,7 @@ import sys
 import tempfile
 from pathlib import Path
 
-from build_unproved import kit_folder
+from unproved import kit_folder
 
 SHOWN = "{ global: octofix_*; local: *; };\n"
 

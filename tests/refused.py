@@ -4,7 +4,7 @@ own, until a run asks for no more than was granted; over a session in which ever
 and over each other task. Each run must end with the whole answer, or out of memory with a beginning
 of it, and with the files that stand after the lines that were answered, or after one line more.
 
-    bench/refused.py [PROGRAM]
+    tests/refused.py [PROGRAM]
 
 Needs Linux and a C compiler (cc), for the few lines that count the requests.
 """

@@ -1,7 +1,7 @@
 #!/usr/bin/env python3
 """Tries grids and scenes of the program at their limits, and reads them with programs of others.
 
-    bench/grids.py [PROGRAM]
+    tests/grids.py [PROGRAM]
 
 A picture of exactly 2^26 columns, its time beside it, and one of a column more; a scene of exactly
 1,000,000 boxes, and one of a box more. What is wanted is worked out here, from how the files were

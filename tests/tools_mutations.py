@@ -1,7 +1,7 @@
 #!/usr/bin/env python3
 """Feeds the tools 20,000 damaged files of all kinds that they read, or another number of them:
 
-    bench/tools_mutations.py FOLDER [MANY]
+    tests/tools_mutations.py FOLDER [MANY]
 
 FOLDER has liboctofix.so.1. Each has to end in one line, with a status of docs/TOOLS.md, and to
 leave an old file as it was. Bags are among them where rosbag is there. Needs numpy. Ends with 1

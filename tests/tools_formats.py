@@ -2,7 +2,7 @@
 """Compares clouds that other programs write with what the tools read of them, and points that the
 tools write with what others read:
 
-    bench/tools_formats.py FOLDER
+    tests/tools_formats.py FOLDER
 
 FOLDER has liboctofix.so.1. Needs numpy, Open3D, meshio and the tools of the Point Cloud Library
 (in Debian python3-numpy, python3-open3d, python3-meshio, pcl-tools). Ends with 1 where something

@@ -2,10 +2,10 @@
 """Has the OctoMap library read the files of this program, and the program those of the library, and
 counts what the library's insertion of five scans of 500 points takes.
 
-    bench/library.py [PROGRAM ..]
+    tests/library.py [PROGRAM ..]
 
 PROGRAM is the built one where it isn't given; several words are a command, as 'python3
-bench/model'. Needs the library with its tools and headers, and g++ and valgrind (on Debian and
+tests/model'. Needs the library with its tools and headers, and g++ and valgrind (on Debian and
 Ubuntu: octomap-tools, liboctomap-dev, g++, valgrind). Fails where a file is read as another map
 than it is. It says how many voxels the two know otherwise where both insert the same scans; that is
 no fault, since the library steps along a beam in floating point.
@@ -45,7 +45,8 @@ def say(what, holds):
 
 
 def scans(seed, number, points):
-    words = [sys.executable, HERE / "make_scans.py", str(seed), str(number), str(points)]
+    made = HERE.parent / "bench/make_scans.py"
+    words = [sys.executable, made, str(seed), str(number), str(points)]
     return subprocess.run(words, stdout=subprocess.PIPE, check=True).stdout
 
 
@@ -88,7 +89,7 @@ def instructions(folder, script, *words):
 
 def insert(folder):
     """The library's own map of five scans, beside that of the program."""
-    build = ["g++", "-O2", "-o", folder / "insert", HERE / "library/insert.cpp", "-loctomap"]
+    build = ["g++", "-O2", "-o", folder / "insert", HERE / "library_insert.cpp", "-loctomap"]
     subprocess.run([*build, "-loctomath"], check=True)
     script = scans(1, 5, 500)
     theirs, peak = run_library(folder, script, "0.05")

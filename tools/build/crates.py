@@ -1,7 +1,7 @@
 """The crates of this repository, as crates.txt lists them."""
 from pathlib import Path
 
-ROOT = Path(__file__).resolve().parent.parent
+ROOT = Path(__file__).resolve().parents[2]
 
 
 def lines():

@@ -3,7 +3,7 @@ cites. Names of the kit and of its ported crates are left out."""
 import re
 from pathlib import Path
 
-CRATES = Path(__file__).resolve().parent.parent / "crates"
+CRATES = Path(__file__).resolve().parents[2] / "crates"
 BUILT_IN = {"Type", "Unit"}
 WORD = re.compile(r"[A-Za-z_]\w*(?:\.[A-Za-z_]\w*)*")
 USE = re.compile(r"^ *(?:ghost )?use ([\w.]+?)(?:\.\{(.*)\}| as (\w+));?$")

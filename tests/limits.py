@@ -2,7 +2,7 @@
 """Measures the peak memory of the program on inputs as large as its limits let them be, and fails
 where one takes more than it may, or ends with another status than it should.
 
-    bench/limits.py [PROGRAM]
+    tests/limits.py [PROGRAM]
 
 Needs Linux, a C compiler (cc) for the few lines that measure, 1.1 GB of disk and 3 GB of memory.
 """

@@ -46,12 +46,12 @@ jobs_at_once() {
 
 build_proved() {
     say "$crate is proved now, which takes minutes; the kit's own words go to $log"
-    "$root/tools/build_proved.py" "$crate" "$(jobs_at_once)" "$log" </dev/null
+    "$root/tools/build/proved.py" "$crate" "$(jobs_at_once)" "$log" </dev/null
 }
 
 build_unproved() {
     say "$crate is built without proof now, which takes half a minute"
-    "$root/tools/build_unproved.py" "$crate" "$made" </dev/null >"$log" 2>&1
+    "$root/tools/build/unproved.py" "$crate" "$made" </dev/null >"$log" 2>&1
 }
 
 # Only the built file says that there was a build.
@@ -68,7 +68,7 @@ ensure_built() {
     is_built && return
     check_jobs
     command -v rt >/dev/null || fail 'the command rt of the kit is not on the path (see README.md)'
-    exec 9<"$root/tools/build_$how.py" || exit 9
+    exec 9<"$root/tools/build/$how.py" || exit 9
     flock -n 9 || { say "waiting for another octomap to build $crate" && flock 9; } || exit 9
     is_built || build || fail "$crate can't be built; the last lines of $log say why"
     exec 9<&-

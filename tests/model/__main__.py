@@ -1,7 +1,7 @@
 """A second program: it answers by the words of docs/FORMATS.md alone, and shares nothing with the
 first one.
 
-    python3 bench/model session 0.1 [options] < SCRIPT        (and the other tasks)
+    python3 tests/model session 0.1 [options] < SCRIPT        (and the other tasks)
 
 It keeps a number for each known voxel in a dictionary, and exact fractions for each beam. There is
 no tree here, and no walk from crossing to crossing. It is slow, and knows no large blocks: a box

@@ -4,7 +4,7 @@ scanned, loaded and restored under a mark (refused_map.rt.in), and says whether 
 caller can see as it was: values, the value at the root, the stale flag, counts, changes since the
 mark, log-odds and the update box. What was refused is asked for again, and is done then.
 
-    bench/refused_map.py [LAST]
+    tests/refused_map.py [LAST]
 
 goes up to request LAST (400), on a copy of the crates, by `rt try`, which proves nothing, and takes
 some two minutes. Ends with 1 where a refusal left something else, or where there are more requests.

@@ -4,7 +4,7 @@
 //     insert RES < SCRIPT > map.bt
 //     insert RES dry < SCRIPT        reads the script, and inserts and writes nothing
 //
-// The script's lines are comments, scan with a range, p, end and quit. bench/library.py builds
+// The script's lines are comments, scan with a range, p, end and quit. tests/library.py builds
 // this.
 #include <octomap/octomap.h>
 

@@ -3,7 +3,7 @@
 questions of one read are written by more writes than they need, where two edits share a write, or
 where a reply isn't there before the next line is asked.
 
-    bench/writes.py [PROGRAM]
+    tests/writes.py [PROGRAM]
 
 The replies go into a socket that keeps each write as a message of its own. Needs Linux.
 """

@@ -4,7 +4,7 @@ closed pipe, an input that breaks off, a folder in place of a file, a folder tha
 in or is gone, and a kill in the middle of a save. Fails where a status, a reply or a file is
 another one than docs/FORMATS.md says.
 
-    bench/faults.py [PROGRAM]
+    tests/faults.py [PROGRAM]
 
 What needs leave that the caller lacks (a file system of its own) is left out, and said so. A kill
 is tried at moments spread over the time that a save takes. Needs Linux.
@@ -156,7 +156,7 @@ def largest_file(folder):
 
 def killed(folder):
     """Kills at twenty moments of a save, each over the old file of another map."""
-    scans = subprocess.run([sys.executable, HERE / "make_scans.py", "1", "5", "500"],
+    scans = subprocess.run([sys.executable, HERE.parent / "bench/make_scans.py", "1", "5", "500"],
                            stdout=subprocess.PIPE, check=True).stdout.replace(b"quit\n", b"")
     start = time.monotonic()
     run(scans, folder)
