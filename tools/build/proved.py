@@ -1,7 +1,7 @@
 #!/usr/bin/env python3
 """Proves and builds the program, or the static library, and all crates that it stands on.
 
-    tools/build/proved.py CRATE JOBS LOG
+    tools/build/proved.py [--after-ci] CRATE JOBS LOG
 
 As many crates as there are jobs are proved side by side, where they don't stand on each other, and
 first those with the heaviest chain of crates above them. While there are enough of them each has
@@ -14,7 +14,11 @@ A library is built as `rt verdict` builds it: from nothing, and with its stateme
 their proofs. That is a third of what `rt lib` writes, and a crate reads those of all crates below.
 They stand in the program's out/rlib, where no command of the kit builds or takes a library, with a
 sum of what each was made from. The next start takes them as long as that is the same.
+
+With --after-ci CRATE alone is proved and built, by so many jobs, over the libraries that rt ci has
+left in the crates' own folders. Only who has just seen rt ci pass there may say so.
 """
+import argparse
 import hashlib
 import importlib.util
 import os
@@ -57,14 +61,15 @@ def text_of(file):
 
 
 class Work:
-    """The crates of a start, as the kit reads them, lowest first."""
+    """The crates of a start, as the kit reads them, lowest first. Their libraries stand in a folder,
+    or each in its crate's own, where the kit's commands have them."""
 
-    def __init__(self, target, log):
+    def __init__(self, target, log, place=None):
         self.kit, self.log = load_rtlib(), log
         known = {}
         top = self.kit.Crate(str(crates.ROOT / "crates" / target), str(crates.ROOT), known)
-        for it in known.values():
-            it.rlib = f"{PLACE}/{it.name}.rlib"
+        for it in known.values() if place else ():
+            it.rlib = f"{place}/{it.name}.rlib"
         self.crates = {it.name: it for it in (*top.below(), top)}
         self.uses = {name: [dep.name for dep in it.deps] for name, it in self.crates.items()}
         # For each library that is built, what its stamp says: its sum, and a word of its own build.
@@ -127,10 +132,15 @@ class Work:
 
     def build(self, name, jobs):
         """Builds the crate, over the libraries below it, and returns the kit's status."""
+        crate = self.crates[name]
+        if crate.makes_rlib():
+            return self.build_library(name, jobs)
+        os.makedirs(f"{crate.folder}/out", exist_ok=True)
+        return self.prove(name, jobs) or (crate.is_program and self.link(name))
+
+    def build_library(self, name, jobs):
+        """Builds a library that others stand on, and keeps what it was made from."""
         crate, stamp, sum = self.crates[name], PLACE / f"{name}.stamp", self.sum_of(name)
-        if not crate.makes_rlib():
-            os.makedirs(f"{crate.folder}/out", exist_ok=True)
-            return self.prove(name, jobs) or (crate.is_program and self.link(name))
         stamp.unlink(missing_ok=True)
         shutil.rmtree(crate.rlib, ignore_errors=True)
         status = self.prove(name, jobs)
@@ -213,22 +223,43 @@ def build_all(work, progress, at_once):
                     progress.done(name)
 
 
-def main(target, jobs, log):
+def build_below_too(work, jobs):
+    """Builds the crate and all below it, and returns whether that could be done."""
+    PLACE.mkdir(parents=True, exist_ok=True)
+    work.take_kept()
+    progress = Progress(work, jobs)
+    # (what failed as memory didn't suffice is tried once more with nothing beside it)
+    return build_all(work, progress, jobs) or build_all(work, progress, 1)
+
+
+def build_after_ci(work, jobs):
+    """Builds the crate over what rt ci left below it, and returns whether that could be done."""
+    *below, top = work.crates.values()
+    lacking = [it.name for it in below if not os.path.isdir(it.rlib)]
+    if lacking:
+        say(f"rt ci has left no library of {', '.join(lacking)}")
+    return not lacking and not work.build(top.name, min(jobs, MOST_JOBS))
+
+
+def arguments():
+    parser = argparse.ArgumentParser(usage=__doc__.split("\n\n")[1].strip())
+    parser.add_argument("--after-ci", action="store_true")
+    parser.add_argument("crate")
+    parser.add_argument("jobs", type=int)
+    parser.add_argument("log")
+    return parser.parse_args()
+
+
+def main(options):
     # (what the kit runs ends with this process, which would wait for it at Ctrl-C)
     signal.signal(signal.SIGINT, signal.SIG_DFL)
-    with open(log, "ab") as file:
-        work = Work(target, file)
-        PLACE.mkdir(parents=True, exist_ok=True)
+    with open(options.log, "ab") as file:
+        work = Work(options.crate, file, None if options.after_ci else PLACE)
         work.kit.guarded()  # (before any thread runs)
         work.kit.lock(work.crates.values())  # (keeps every rt out of these crates, till this ends)
-        work.take_kept()
-        progress = Progress(work, jobs)
-        # (what failed as memory didn't suffice is tried once more with nothing beside it)
-        is_built = build_all(work, progress, jobs) or build_all(work, progress, 1)
-    return 0 if is_built else 1
+        build = build_after_ci if options.after_ci else build_below_too
+        return 0 if build(work, options.jobs) else 1
 
 
 if __name__ == "__main__":
-    if len(sys.argv) != 4:
-        sys.exit(__doc__)
-    sys.exit(main(sys.argv[1], int(sys.argv[2]), sys.argv[3]))
+    sys.exit(main(arguments()))
