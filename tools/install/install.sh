@@ -59,7 +59,10 @@ put_program() {
     put 644 "$root/tools/install/words.sh" "$home/words.sh"
     printf '%s\n' "$version" >"$room/version" && put 644 "$room/version" "$home/version"
     put 755 "$parts/command.sh" "bin/octomap$suffix"
-    put 644 "$root/docs/octomap.1" share/man/man1/octomap.1
+    # (a hyphen is a minus, as it is typed)
+    help | sed 's/-/\\-/g' >"$room/help" &&
+        sed -e "/^@HELP@/r $room/help" -e '/^@HELP@/d' "$root/docs/octomap.1" >"$room/text" || exit 1
+    put 644 "$room/text" share/man/man1/octomap.1
     put 644 "$parts/completion.bash" "share/bash-completion/completions/octomap$suffix"
     put 644 "$parts/completion.zsh" "$zsh/_octomap"
 }
