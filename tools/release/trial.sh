@@ -35,7 +35,7 @@ readme_lines() {
 # Runs them in the folder of the release, with the home in the room, and then looks for the picture.
 try_readme() {
     local lines
-    lines=$(readme_lines "$1")
+    lines=$(readme_lines "$1" && readme_lines Then)
     expect "the lines of README.md for $1" 3 "$(printf '%s\n' "$lines" | wc -l)"
     mkdir -p "$room/home" && cd -- "${2:-$release}" || exit 1
     export HOME=$room/home
@@ -193,11 +193,11 @@ try_compilers() {
         "$given/bindings/c/example.c" "${words[@]}"
     expect 'the example in C' "$(<"$given/bindings/c/example.out")" "$("$room/c" 2>&1)"
     /usr/bin/python3 "$given/bindings/doc_examples.py" "$room"
-    pass "README.md's example in C" cc -o "$room/first" "$room/example_0.c" "${words[@]}"
-    pass "README.md's example in C++" c++ -std=c++17 -o "$room/second" "$room/example_1.cpp" \
+    pass "README.md's example in C++" c++ -std=c++17 -o "$room/first" "$room/example_0.cpp" \
         "${words[@]}"
+    pass "LIBRARY.md's example in C" cc -o "$room/second" "$room/example_1.c" "${words[@]}"
     for it in first second; do
-        expect "the $it example of README.md" 'known 850' "$("$room/$it" 2>&1)"
+        expect "the $it example of the documents" 'known 850' "$("$room/$it" 2>&1)"
     done
     try_cmake found "-DCMAKE_PREFIX_PATH=$prefix"
     try_cmake fetched "-DOCTOFIX_URL=file://$tarball" \
