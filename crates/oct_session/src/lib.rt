@@ -21,7 +21,7 @@
 //!   No tree is in that definition: a query shows the largest known value among the voxels of its
 //!   block, an edit or a scan is full by what the values need, and lazy edits, lazy scans and
 //!   prunes can't be told from a reply, but for the one refusal of a stale map. The laws of
-//!   `oct_session_laws` say what it comes to: that no voxel reads another one, and that restores
+//!   `oct_promise` say what it comes to: that no voxel reads another one, and that restores
 //!   and loads give back what was kept.
 //! - **Scans.** The lines of a scan are a block with one reply, after its `end` or at the end of
 //!   the script (`specs/ScanBlock.antt`). The first faulty line among its head and the lines
@@ -69,7 +69,7 @@
 //!
 //! # Who stands on it
 //!
-//! `oct_tasks`, and `oct_session_laws`. It stands on `oct_script` for lines, commands and replies,
+//! `oct_tasks`, and `oct_promise`. It stands on `oct_script` for lines, commands and replies,
 //! on `oct_ending` for the statuses, on `oct_io` for source, sink and store, on `oct_map` for the
 //! map, on `oct_bt` and `oct_snap` for the files that lines name, on `oct_gen` for the script of a
 //! drill, on `oct_scan` and `oct_pose` for what a scan is, and on `oct_key`, `oct_odds` and

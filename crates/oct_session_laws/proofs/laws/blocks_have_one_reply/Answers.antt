@@ -1,5 +1,0 @@
-use Rattle.oct_session_laws.proofs.BlockReplies.{block_replies}
-use Rattle.oct_session_laws.proofs.laws.blocks_have_one_reply.Goals as goal
-
-pub returns : goal.returns
-returns c = block_replies

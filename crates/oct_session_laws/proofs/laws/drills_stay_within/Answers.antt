@@ -1,5 +1,0 @@
-use Rattle.oct_session_laws.proofs.DrillEnds.{drill_below}
-use Rattle.oct_session_laws.proofs.laws.drills_stay_within.Goals as goal
-
-pub returns : goal.returns
-returns c = drill_below

@@ -1,5 +1,0 @@
-use Rattle.oct_session_laws.proofs.Alone.{value_alone}
-use Rattle.oct_session_laws.proofs.laws.values_are_folds.Goals as goal
-
-pub returns : goal.returns
-returns c = value_alone
