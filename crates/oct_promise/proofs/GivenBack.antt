@@ -36,9 +36,10 @@ use Rattle.oct_values.proofs.Uniform.{same_group_count}
 use Rattle.oct_session.specs.Commands.{Saving, accepted, stored}
 use Rattle.oct_session.specs.FileCommands.{found_in, snapshot_file, restore_reply, restore_action}
 use Rattle.oct_session.specs.FileCommands.{snapshot_action, groups_reply}
-use Rattle.oct_promise.specs.GivenBack.{IsState, IsSetUp, IsNext, name_written}
-use Rattle.oct_promise.specs.GivenBack.{NoneWrites, AreSnapshotAndRestore, IsGivenBack}
-use Rattle.oct_promise.specs.GivenBack.{GivesBack, TwoLines, up_to_second, AreKeptApart}
+use Rattle.oct_promise.specs.Promise.{IsGivenBack}
+use Rattle.oct_promise.specs.States.{IsState, IsSetUp}
+use Rattle.oct_promise.specs.GivenBack.{name_written, NoneWrites, AreSnapshotAndRestore, GivesBack}
+use Rattle.oct_promise.specs.GivenBack.{TwoLines, up_to_second, AreKeptApart}
 use Rattle.oct_session.specs.History.{State, Restored, value_event, after, after_all, state_after}
 use Rattle.oct_session.specs.History.{value_after}
 use Rattle.oct_session.specs.Session.{Progress, Effect, effect, effect_of, next_command, answered}
@@ -51,7 +52,7 @@ use Rattle.oct_session.proofs.Progresses.{progress_push, after_answered, told_fo
 use Rattle.oct_promise.proofs.RestoredGroups.{groups_of_snapshot}
 use Rattle.oct_promise.proofs.StateActions.{restored_value}
 use Rattle.oct_promise.proofs.StateCommands.{session_is, res_of, most_of}
-use Rattle.oct_promise.proofs.Telling.{Does, told_and_left}
+use Rattle.oct_promise.proofs.Telling.{IsNext, next_line, Does, told_and_left}
 
 -- ---- the file that was written
 
@@ -277,17 +278,18 @@ restore_gives_back o set files bytes name t small given =
     let p : Progress = progress o (Some files) t.before in
     let r : Progress = progress o (Some files) (up_to_second t) in
     let lines = given.lines in
-    let written = written_there o p t.first name lines.writes
+    let written = written_there o p t.first name
+    (next_line o (Some files) bytes t.before t.first (command.Snapshot name) lines.writes)
     (told_fold o (start (Some files)) t.before refl) in
     let there = file_kept o files bytes name (snapshot_file (state_after o p.history)) t
     (command.Snapshot name) (command.Restore name) lines written in
     let does = given_back o p r t.second name set
     (session_is o (Some files) t.before set small).state (groups_within o (Some files) t.before)
-    there given.loadable lines.reads in
-    let reads = lines.reads in
-    let done = told_and_left o files bytes t
-    (reply_of.Restored (group_count (value_after o p.history)))
-    (IsGivenBack (state_after o p.history)) lines.script reads.running does in
+    there given.loadable
+    (next_line o (Some files) bytes (up_to_second t) t.second (command.Restore name) lines.reads) in
+    let done = told_and_left o (Some files) bytes (up_to_second t) t.second None
+    (Ok (command.Restore name)) (reply_of.Restored (group_count (value_after o p.history)))
+    (IsGivenBack (state_after o p.history)) lines.reads does in
     record { told = done.0; left = done.1 }
 
 -- for files that a store tells

@@ -15,3 +15,8 @@ pub mod Allowed
 pub mod BlockReplies
 pub mod Summed
 pub mod DrillEnds
+pub mod Queries
+pub mod Refusals
+pub mod Written
+pub mod ScansDone
+pub mod SameFiles

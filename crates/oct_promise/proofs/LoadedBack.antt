@@ -34,12 +34,12 @@ use Rattle.oct_values.specs.Events.{after_event}
 use Rattle.oct_session.specs.Commands.{accepted, stored}
 use Rattle.oct_session.specs.FileCommands.{found_in, classes_file, load_reply, load_action}
 use Rattle.oct_session.specs.FileCommands.{reading_reply, reading_action, nodes_reply}
-use Rattle.oct_promise.specs.GivenBack.{IsSetUp, IsNext, TwoLines, up_to_second}
+use Rattle.oct_promise.specs.GivenBack.{TwoLines, up_to_second, AreSaveAndLoad, LoadsBack}
+use Rattle.oct_promise.specs.Promise.{classes_in, IsLoadedBack}
+use Rattle.oct_promise.specs.States.{IsSetUp}
 use Rattle.oct_session.specs.History.{State, Replaced, class_event, after, after_all, state_after}
 use Rattle.oct_session.specs.History.{value_after}
 use Rattle.oct_session.specs.Setup.{IsLimited}
-use Rattle.oct_promise.specs.LoadedBack.{AreSaveAndLoad, classes_in, IsLoadedBack}
-use Rattle.oct_promise.specs.LoadedBack.{LoadsBack}
 use Rattle.oct_session.specs.Session.{Progress, Effect, effect, effect_of, after_line, start}
 use Rattle.oct_session.specs.Session.{progress}
 use Rattle.oct_session.specs.Setup.{Setup}
@@ -52,7 +52,7 @@ use Rattle.oct_promise.proofs.SavedRecords.{records_few, file_few}
 use Rattle.oct_promise.proofs.StateActions.{bound_within}
 use Rattle.oct_promise.proofs.SoundOdds.{odds_stay_sound}
 use Rattle.oct_promise.proofs.StateCommands.{res_of, most_of}
-use Rattle.oct_promise.proofs.Telling.{Does, told_and_left}
+use Rattle.oct_promise.proofs.Telling.{IsNext, next_line, Does, told_and_left}
 
 -- ---- values and classes
 
@@ -216,15 +216,17 @@ pub load_gives_back : (o : Setup) → IsSetUp o → IsLimited o → (files : Fil
 load_gives_back o set limited files bytes name t given =
     let p : Progress = progress o (Some files) t.before in
     let r : Progress = progress o (Some files) (up_to_second t) in
-    let written = written_there o p t.first name given.writes
+    let written = written_there o p t.first name
+    (next_line o (Some files) bytes t.before t.first (command.Save name) given.writes)
     (told_fold o (start (Some files)) t.before refl) in
     let there = file_kept o files bytes name (classes_file (state_after o p.history)) t
     (command.Save name) (command.Load name) given written in
     let sound = odds_stay_sound o (Some files) (up_to_second t) set.odds in
     let does = loaded_back o p r t.second name set limited sound
-    (groups_within o (Some files) t.before) there given.reads in
-    let reads = given.reads in
-    let done = told_and_left o files bytes t
+    (groups_within o (Some files) t.before) there
+    (next_line o (Some files) bytes (up_to_second t) t.second (command.Load name) given.reads) in
+    let done = told_and_left o (Some files) bytes (up_to_second t) t.second None
+    (Ok (command.Load name))
     (reply_of.Loaded (canonical_size (classes_in (state_after o p.history))))
-    (IsLoadedBack (state_after o p.history)) given.script reads.running does in
+    (IsLoadedBack (state_after o p.history)) given.reads does in
     record { told = done.0; left = done.1 }

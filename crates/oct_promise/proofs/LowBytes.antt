@@ -1,7 +1,7 @@
 -- Of the numbers that stand for the bytes of a file, node data reads the low eight bits alone.
 use Rattle.std.proofs.Common.{◌≡◌, ℕ, zero, suc, ◌+◌, ◌/◌, ◌%◌, ◌<◌, ◌≤◌, List, [], ◌∷◌, ◌++◌}
 use Rattle.std.proofs.Common.{length, drop, Bool, true, false, cond, ◌&&◌, nat_lt, Some, None}
-use Rattle.std.proofs.Common.{Result, Ok, Err, refl, sym, ap, subst, ◌∙◌, arith}
+use Rattle.std.proofs.Common.{Result, Ok, Err, inl, inr, refl, sym, ap, subst, ◌∙◌, arith}
 use Rattle.std.specs.Prelude.{nat_eq, fold, map, replicate, option_map, not, count_by}
 use Rattle.std.specs.List.{All, flat_map}
 use Rattle.std.proofs.lemmas.Bool.{eq-eqb}
@@ -9,18 +9,21 @@ use Rattle.oct_odds.specs.declared.event.Class.{Class}
 use Rattle.oct_odds.specs.declared.event.Class.TheVariants.{Unknown, Free, Occupied}
 use Rattle.oct_bt.specs.declared.fault.BtFault.{BtFault}
 use Rattle.oct_bt.specs.declared.fault.BtFault.TheVariants.{TooDeep, TrailingBytes, SizeMismatch}
-use Rattle.oct_bt.specs.Canonical.{codes_in, node_total}
+use Rattle.oct_bt.specs.Canonical.{canonical_data, codes_in, node_total}
 use Rattle.oct_bt.specs.DataClasses.{Split, with_plain, with_record, split_entries, split_record}
 use Rattle.oct_bt.specs.DataClasses.{data_classes}
 use Rattle.oct_bt.specs.File.{FileRead, file_with, after_header, reading}
 use Rattle.oct_bt.specs.Header.{Header, head_of, header_of}
 use Rattle.oct_bt.specs.NodeData.{Progress, Reads, Stopped, records_in, after_record, after_byte}
 use Rattle.oct_bt.specs.NodeData.{after_bytes, at_first, judged, read_nodes, IsAccepted}
+use Rattle.oct_bt.specs.NodeData.{IsDataOf}
 use Rattle.oct_bt.specs.Records.{record_total, class_by}
 use Rattle.oct_bt.proofs.DataClassed.{data_classed}
+use Rattle.oct_bt.proofs.Standing.{least_of_all}
 use Rattle.oct_bt.proofs.Walks.{accepts_only, judged_ok}
-use Rattle.oct_key.specs.Voxel.{Voxel}
+use Rattle.oct_key.specs.Voxel.{Voxel, IsInMap}
 use Rattle.oct_odds.specs.Update.{Value}
+use Rattle.oct_values.specs.Classes.{Classes}
 use Rattle.oct_values.specs.Counts.{group_count}
 use Rattle.oct_values.proofs.Uniform.{same_group_count}
 use Rattle.oct_promise.proofs.LoadedGroups.{groups_of_data}
@@ -202,25 +205,54 @@ codes_ok : Result FileRead BtFault → List ℕ
 codes_ok (Ok read) = read.codes
 codes_ok (Err fault) = []
 
--- and so do those of a file that was read
-pub groups_of_file : (file : List ℕ) (read : FileRead) (value : Class → Value)
-    → reading file ≡ Ok read
-    → group_count (λ k. value (data_classes read.codes k)) ≤ record_total read.codes
+-- the codes of a file that was read are the node data behind its header
+nodes_of_file : (file : List ℕ) (read : FileRead) → reading file ≡ Ok read
+    → (header : Header)
+    × (read_nodes header.start header.size (drop header.start file) ≡ Ok read.codes)
 unfolding reading codes_ok
-groups_of_file file read value h = by_header (header_of (head_of file)) h
+nodes_of_file file read h = by_header (header_of (head_of file)) h
   where
     by_nodes : (header : Header) (nodes : Result (List ℕ) BtFault)
         → read_nodes header.start header.size (drop header.start file) ≡ nodes
-        → file_with header nodes ≡ Ok read →
-        group_count (λ k. value (data_classes read.codes k)) ≤ record_total read.codes
+        → file_with header nodes ≡ Ok read
+        → read_nodes header.start header.size (drop header.start file) ≡ Ok read.codes
     by_nodes header (Err fault) is e = absurd (not_ok fault read e)
-    by_nodes header (Ok records) is e =
-        subst (λ codes. group_count (λ k. value (data_classes codes k)) ≤ record_total codes)
-        (ap codes_ok e) (groups_of_nodes header.start header.size (drop header.start file) records
-        value is)
+    by_nodes header (Ok records) is e = is ∙ ap Ok (ap codes_ok e)
 
     by_header : (header : Result Header BtFault) → after_header file header ≡ Ok read
-        → group_count (λ k. value (data_classes read.codes k)) ≤ record_total read.codes
+        → (header : Header)
+        × (read_nodes header.start header.size (drop header.start file) ≡ Ok read.codes)
     by_header (Err fault) e = absurd (not_ok fault read e)
-    by_header (Ok header) e =
-        by_nodes header (read_nodes header.start header.size (drop header.start file)) refl e
+    by_header (Ok header) e = (
+      header,
+      by_nodes header (read_nodes header.start header.size (drop header.start file)) refl e,
+    )
+
+-- and need no more groups than it has records, as the values of its classes
+pub groups_of_file : (file : List ℕ) (read : FileRead) (value : Class → Value)
+    → reading file ≡ Ok read
+    → group_count (λ k. value (data_classes read.codes k)) ≤ record_total read.codes
+groups_of_file file read value h =
+    let (header, is) = nodes_of_file file read h in
+    groups_of_nodes header.start header.size (drop header.start file) read.codes value is
+
+-- no canonical data of its classes is longer
+pub data_of_file : (file : List ℕ) (read : FileRead) (classes : Classes) → reading file ≡ Ok read
+    → ((k : Voxel) → IsInMap k → data_classes read.codes k ≡ classes k)
+    → length (canonical_data classes) ≤ length read.codes
+data_of_file file read classes h same =
+    let (header, is) = nodes_of_file file read h in
+    let front : List ℕ = lows read.codes in
+    let stands = data_classed header.size front
+    (accepted_low header.start header.size (drop header.start file) read.codes is) in
+    let least = (least_of_all classes front (data_for (data_classes front) classes front
+    (λ k in_map. classes_low read.codes k ∙ same k in_map) stands)).0 in
+    let long = lows_length read.codes in
+    omega (arith, least, long)
+  where
+    data_for : (c e : Classes) (bytes : List ℕ) → ((k : Voxel) → IsInMap k → c k ≡ e k)
+        → IsDataOf c bytes → IsDataOf e bytes
+    data_for c e bytes alike (inl (empty, all)) =
+        inl (empty, λ k in_map. sym (alike k in_map) ∙ all k in_map)
+    data_for c e bytes alike (inr (r, is, text, gives)) =
+        inr (r, is, text, λ k in_map. gives k in_map ∙ alike k in_map)

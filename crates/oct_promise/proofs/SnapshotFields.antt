@@ -17,7 +17,7 @@ use Rattle.oct_snap.specs.Reading.{Fields, Snapshot, axis_at, voxel_at, read_cor
 use Rattle.oct_snap.specs.Reading.{odds_at, read_odds, read_version, res_at, is_resolution}
 use Rattle.oct_snap.specs.Reading.{read_res, read_fields, read_snapshot}
 use Rattle.oct_snap.proofs.WholeFills.{whole_read}
-use Rattle.oct_promise.specs.GivenBack.{IsMapBox}
+use Rattle.oct_promise.specs.States.{IsMapBox}
 
 abbrev AreSmall : List ℕ → Type 0
 AreSmall bytes = All (λ byte. byte < 256) bytes

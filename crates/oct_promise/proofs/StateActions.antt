@@ -15,7 +15,7 @@ use Rattle.oct_odds.specs.declared.event.Event.TheVariants as event
 use Rattle.oct_snap.specs.Reading.{Snapshot}
 use Rattle.oct_snap.specs.Reading as snapshot
 use Rattle.oct_values.specs.Events.{after_event}
-use Rattle.oct_promise.specs.GivenBack.{IsMapBox, IsState}
+use Rattle.oct_promise.specs.States.{IsMapBox, IsState}
 use Rattle.oct_session.specs.History.{State, Action, Restored, base_by, command_event, value_event}
 use Rattle.oct_session.specs.History.{after, start_state}
 use Rattle.oct_session.specs.Setup.{Setup}

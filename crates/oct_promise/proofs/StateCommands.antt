@@ -48,7 +48,7 @@ use Rattle.oct_session.specs.Kinds.{Names}
 use Rattle.oct_session.specs.FileCommands.{found_in, snapshot_file, reading_reply, reading_action}
 use Rattle.oct_session.specs.FileCommands.{load_reply, load_action, snapshot_reply, snapshot_action}
 use Rattle.oct_session.specs.FileCommands.{restore_reply, restore_action}
-use Rattle.oct_promise.specs.GivenBack.{IsMapBox, IsState, IsSetUp}
+use Rattle.oct_promise.specs.States.{IsMapBox, IsState, IsSetUp}
 use Rattle.oct_session.specs.History.{History, State, Scanned, Pruned, Replaced, Restored, Limited}
 use Rattle.oct_session.specs.History.{base_by, after, after_all, state_after}
 use Rattle.oct_session.specs.ScanBlock.{opened, with_line, is_end, block_reply, block_action}

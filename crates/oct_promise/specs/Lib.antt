@@ -1,4 +1,6 @@
+pub mod Promise
+pub mod ScanCounts
 pub mod GivenBack
-pub mod LoadedBack
+pub mod States
 pub mod BlockReply
 pub mod Sums

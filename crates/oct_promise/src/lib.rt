@@ -1,16 +1,16 @@
-//! Laws of sessions: what their definitions come to, with nothing to compute.
+//! The promise of a session, as laws: what the definitions of its answer come to.
 //!
-//! - [`values_are_folds`]: the value of a voxel is the fold of its own events, and no voxel reads
-//!   another one.
+//! `specs/Promise.antt` is the page to read, and these laws say that it holds: [`scans_are_exact`],
+//! [`scans_are_counted`], [`values_are_folds`], [`gets_are_greatest`], [`casts_are_first`], [`changes_are_differences`],
+//! [`refusals_change_nothing`], [`faults_leave_a_prefix`], [`snapshots_are_restored`],
+//! [`saves_are_loaded`], [`saves_are_canonical`]. They speak of bytes, files and text as a caller
+//! of `serve` has them.
+//!
+//! The others say what else sessions come to.
+//!
 //! - [`states_stay_sound`], [`groups_stay_within`]: between any two lines the log-odds in force
 //!   make a model, each known value lies within the bounds, and the values need no more groups than
 //!   the limit.
-//! - [`snapshots_are_restored`]: whatever stands in a script between a snapshot and a restore of
-//!   its name, the restore isn't refused and what was kept is given back, where no line between
-//!   them writes that file (`specs/GivenBack.antt`). [`saves_are_loaded`]: so does a load with the
-//!   classes that a save of its name wrote (`specs/LoadedBack.antt`). Both take the options of a
-//!   session, the first one also its store, and speak of its bytes, files and text as a caller of
-//!   `serve` has them.
 //! - [`blocks_have_one_reply`]: the block of a scan has one reply, and the first of its faults
 //!   decides which; it is done as a whole or not at all, and leaves the files as they were
 //!   (`specs/BlockReply.antt`).
@@ -25,7 +25,9 @@
 mod laws;
 
 pub use laws::{
-    blocks_have_one_reply, drills_end_as_sessions, drills_stay_within, drills_sum_up,
-    groups_stay_within, saves_are_loaded, snapshots_are_restored, states_stay_sound,
+    blocks_have_one_reply, casts_are_first, changes_are_differences, drills_end_as_sessions,
+    drills_stay_within, drills_sum_up, faults_leave_a_prefix, gets_are_greatest,
+    groups_stay_within, refusals_change_nothing, saves_are_canonical, saves_are_loaded,
+    scans_are_counted, scans_are_exact, snapshots_are_restored, states_stay_sound,
     values_are_folds,
 };
