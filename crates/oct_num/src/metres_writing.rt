@@ -1,6 +1,6 @@
 //! Nanometres written as decimal metres, without zeros at the end.
 ghost use Rattle.std.specs.Prelude.{◌≡◌, ℕ, List, ◌+◌, ◌^◌, ◌<◌, ◌≤◌, ◌++◌, unsigned_abs, length};
-ghost use Rattle.std.specs.Prelude.{Ok, OnOk, OnErr};
+ghost use Rattle.std.specs.Prelude.{vec_len, vec_capacity, Ok, OnOk, OnErr};
 ghost use Rattle.std.specs.Int.{is_negative};
 ghost use Rattle.arrayvec.specs.ArrayString.{array_string_len};
 ghost use Rattle.oct_num.specs.Form.{IsMetres, fraction_text};
@@ -76,6 +76,10 @@ fn push_digits(text: &mut ArrayString<20>, places: u32, n: u64)
 pub fn push_metres(out: &mut Vec<u8>, nm: i64) -> Result<(), Memory>
     ensures ok { OnOk result (out.new.items ≡ out.old.items ++ metres_text nm) }
     ensures err { OnErr result (out.new.items ≡ out.old.items) }
+
+    // Memory runs out only where there isn't room for the text.
+    ensures memory { OnErr result
+        (vec_capacity out.old < vec_len out.old + length (metres_text nm)) }
 {
     out.extend_from_slice(metres_text(nm).as_bytes())?;
     Ok(())

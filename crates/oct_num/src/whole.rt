@@ -1,6 +1,6 @@
 //! Whole numbers read from decimal text and written as such.
-ghost use Rattle.std.specs.Prelude.{◌≡◌, ◌↔◌, ◌^◌, ◌<◌, ◌++◌, ℤ, unsigned_abs, length};
-ghost use Rattle.std.specs.Prelude.{OnOk, OnErr, Some, IfSome};
+ghost use Rattle.std.specs.Prelude.{◌≡◌, ◌↔◌, ◌+◌, ◌^◌, ◌<◌, ◌++◌, ℤ, unsigned_abs, length};
+ghost use Rattle.std.specs.Prelude.{vec_len, vec_capacity, OnOk, OnErr, Some, IfSome};
 ghost use Rattle.std.specs.Fmt.{signed_decimal};
 ghost use Rattle.oct_num.specs.Whole.{natural_of, whole_of, IsWholeNumber};
 
@@ -44,6 +44,10 @@ pub fn read_natural(digits: &[u8]) -> Option<u64>
 pub fn push_whole(out: &mut Vec<u8>, n: i64) -> Result<(), Memory>
     ensures ok { OnOk result (out.new.items ≡ out.old.items ++ signed_decimal n) }
     ensures err { OnErr result (out.new.items ≡ out.old.items) }
+
+    // Memory runs out only where there isn't room for the text.
+    ensures memory { OnErr result
+        (vec_capacity out.old < vec_len out.old + length (signed_decimal n)) }
 {
     let mut buffer = Buffer::new();
     out.extend_from_slice(buffer.format(n).as_bytes())?;
