@@ -67,6 +67,7 @@ impl Sink for CalmSink {
             (λ n. self.new.written ≡ self.old.written ++ take n piece.now) }
         ensures err { OnErr result (self.new.written ≡ self.old.written) }
         ensures calm { IsOkUnless result SinkFault.Memory }
+        ensures memory { OnErr result (0 < length piece.now) }
         ensures counts { IsWriteCounted result 0 0 self.old.shortages self.new.shortages }
     {
         let count = self.most.min(piece.len());

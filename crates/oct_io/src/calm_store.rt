@@ -1,5 +1,5 @@
 //! Files in memory that load and save without a failure.
-ghost use Rattle.std.specs.Prelude.{◌≡◌, Some, IfOk, IsOkUnless, IsSome, OnErr, OnOk};
+ghost use Rattle.std.specs.Prelude.{◌≡◌, Some, IfOk, IsOkUnless, OnErr, OnOk};
 ghost use Rattle.std.specs.Prelude.{option_copied, ◌<◌, All};
 ghost use Rattle.std.specs.BTreeMap.{get_by_text};
 ghost use Rattle.std.proofs.Props.{props};
@@ -55,7 +55,7 @@ fn each_fits(bytes: &[u8])
 impl Store for CalmStore {
     ghost use Rattle.oct_io.specs.CalmFiles.{files_of};
     ghost use Rattle.oct_io.specs.Files.{KeepsOthers, with_file};
-    ghost use Rattle.oct_io.specs.Loaded.{loaded_of, IsWithinLimit};
+    ghost use Rattle.oct_io.specs.Loaded.{loaded_of, IsWithinLimit, TakesMemory};
 
     ghost files = { λ s. Some (files_of s) };
 
@@ -72,8 +72,8 @@ impl Store for CalmStore {
         ensures limit { IfOk result IsWithinLimit }
         ensures calm { IsOkUnless result StoreFault.Memory }
 
-        // Memory runs out only over the bytes of a file.
-        ensures memory { OnErr result (IsSome (files_of self.old name.now)) }
+        // Memory runs out only over the bytes that it answers.
+        ensures memory { OnErr result (TakesMemory (files_of self.old name.now)) }
     {
         let Some(bytes) = self.file(name) else {
             return Ok(Loaded::Missing);

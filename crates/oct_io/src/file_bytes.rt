@@ -1,5 +1,6 @@
 //! The bytes of a whole file.
-ghost use Rattle.std.specs.Prelude.{◌≡◌, ◌↔◌, ◌++◌, ◌∷◌, [], length, IfOk, IsTrue, OnErr, OnOk};
+ghost use Rattle.std.specs.Prelude.{◌≡◌, ◌<◌, ◌↔◌, ◌++◌, ◌∷◌, [], length, IfOk, IsTrue};
+ghost use Rattle.std.specs.Prelude.{OnErr, OnOk};
 
 use oct_num::Memory;
 use std::alloc::Global;
@@ -29,9 +30,10 @@ impl FileBytes {
         }
     }
 
-    /// A copy of these bytes.
+    /// A copy of these bytes. None need no memory.
     pub fn from_slice(alloc: Global, bytes: &[u8]) -> Result<Self, Memory>
-        ensures { IfOk result (λ copy. copy ≡ bytes.now) }
+        ensures copied { IfOk result (λ copy. copy ≡ bytes.now) }
+        ensures memory { OnErr result (0 < length bytes.now) }
     {
         let mut copy = FileBytes::new(alloc);
         copy.extend_from_slice(bytes)?;
@@ -68,10 +70,11 @@ impl FileBytes {
         Ok(())
     }
 
-    /// Adds the bytes of a slice at the end.
+    /// Adds the bytes of a slice at the end. None need no memory.
     pub fn extend_from_slice(&mut self, bytes: &[u8]) -> Result<(), Memory>
         ensures ok { OnOk result (self.new ≡ self.old ++ bytes.now) }
         ensures err { OnErr result (self.new ≡ self.old) }
+        ensures memory { OnErr result (0 < length bytes.now) }
     {
         self.bytes.extend_from_slice(bytes)?;
         Ok(())

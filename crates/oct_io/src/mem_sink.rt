@@ -60,6 +60,7 @@ impl Sink for MemSink {
         ensures appended { IfOk result
             (λ n. self.new.receipt.written ≡ self.old.receipt.written ++ take n piece.now) }
         ensures err { OnErr result (self.new.receipt.written ≡ self.old.receipt.written) }
+        ensures memory { IsErrOf result SinkFault.Memory → 0 < length piece.now }
         ensures counts { IsWriteCounted result
             (failed_of self.old.calls) (failed_of self.new.calls)
             self.old.receipt.shortages self.new.receipt.shortages }

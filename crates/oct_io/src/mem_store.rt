@@ -1,6 +1,6 @@
 //! Files in memory, of which chosen loads and saves fail.
 ghost use Rattle.std.specs.Prelude.{◌≡◌, Some, Err, IfOk, IsErrOf, OnErr, OnOk, option_copied};
-ghost use Rattle.std.specs.Prelude.{true, IsSome};
+ghost use Rattle.std.specs.Prelude.{true};
 ghost use Rattle.oct_io.specs.Counts.{IsAskCounted};
 ghost use Rattle.oct_io.specs.Failing.{fails_next, with_call, failed_of};
 
@@ -44,7 +44,7 @@ impl MemStore {
 impl Store for MemStore {
     ghost use Rattle.oct_io.specs.CalmFiles.{files_of};
     ghost use Rattle.oct_io.specs.Files.{KeepsOthers, with_file};
-    ghost use Rattle.oct_io.specs.Loaded.{loaded_of, IsWithinLimit};
+    ghost use Rattle.oct_io.specs.Loaded.{loaded_of, IsWithinLimit, TakesMemory};
 
     ghost files = { λ s. Some (files_of s.shelf) };
 
@@ -63,9 +63,9 @@ impl Store for MemStore {
             (λ loaded. loaded ≡ loaded_of (files_of self.old.shelf name.now)) }
         ensures limit { IfOk result IsWithinLimit }
 
-        // Memory runs out only over the bytes of a file.
+        // Memory runs out only over the bytes that it answers.
         ensures memory { IsErrOf result StoreFault.Memory
-            → IsSome (files_of self.old.shelf name.now) }
+            → TakesMemory (files_of self.old.shelf name.now) }
         ensures counts { IsAskCounted result
             (failed_of self.old.calls) (failed_of self.new.calls) }
     {
