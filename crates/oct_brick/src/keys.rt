@@ -1,5 +1,5 @@
 //! Bricks as numbers of 64 bits, which std sorts faster than bricks.
-ghost use Rattle.std.specs.Prelude.{◌^◌, ◌≤◌, All, IfOk, length};
+ghost use Rattle.std.specs.Prelude.{◌^◌, ◌<◌, ◌≤◌, All, IfOk, OnErr, length};
 ghost use Rattle.std.specs.List.Sorted.{IsNonDecreasing};
 ghost use Rattle.oct_brick.specs.Bricks.{IsBrick};
 ghost use Rattle.oct_brick.specs.Merge.{AreKeys};
@@ -18,6 +18,7 @@ pub(crate) fn sorted_keys(alloc: Global, bricks: &[Brick]) -> Result<Vec<u64>, M
     requires few { length bricks.now ≤ 2 ^ 22 }
     ensures keys { IfOk result (λ keys. AreKeys (length bricks.now) bricks.now keys.items) }
     ensures order { IfOk result (λ keys. IsNonDecreasing keys.items) }
+    ensures memory { OnErr result (0 < length bricks.now) }
 {
     let mut keys = Vec::with_capacity(alloc, bricks.len())?;
     for (place, brick) in bricks.iter().enumerate() {

@@ -1,5 +1,6 @@
 //! Bricks in the order of their codes, those of one code joined.
-ghost use Rattle.std.specs.Prelude.{ℕ, ◌≤◌, ◌↔◌, All, Contains, IfOk, OnOk, length, vec_len};
+ghost use Rattle.std.specs.Prelude.{ℕ, ◌<◌, ◌≤◌, ◌↔◌, All, Contains, IfOk, OnErr, OnOk};
+ghost use Rattle.std.specs.Prelude.{length, vec_len};
 ghost use Rattle.std.specs.List.Sorted.{IsNonDecreasing};
 ghost use Rattle.oct_brick.specs.Bricks.{scanned_codes, hit_codes, IsBrick, AreAscending};
 ghost use Rattle.oct_brick.specs.Merge.{AreKeys, HasAdded};
@@ -9,7 +10,8 @@ use crate::keys::{MOST_KEYED, sorted_keys};
 use oct_num::Memory;
 use std::alloc::Global;
 
-/// The same voxels as bricks in the order of their codes, with one brick for each code.
+/// The same voxels as bricks in the order of their codes, with one brick for each code. No bricks
+/// need no memory.
 pub fn merge_bricks(alloc: Global, bricks: Vec<Brick>) -> Result<Vec<Brick>, Memory>
     requires { All IsBrick bricks.items }
     ensures scanned { IfOk result (λ merged. (c : ℕ) →
@@ -19,6 +21,7 @@ pub fn merge_bricks(alloc: Global, bricks: Vec<Brick>) -> Result<Vec<Brick>, Mem
     ensures bricks { IfOk result (λ merged. All IsBrick merged.items) }
     ensures ascend { IfOk result (λ merged. AreAscending merged.items) }
     ensures few { IfOk result (λ merged. vec_len merged ≤ vec_len bricks) }
+    ensures memory { OnErr result (0 < vec_len bricks) }
 {
     if bricks.len() as u64 > MOST_KEYED {
         return merge_many(alloc, bricks);
@@ -39,6 +42,7 @@ fn merge_by_keys(alloc: Global, bricks: &[Brick], keys: &[u64]) -> Result<Vec<Br
     ensures bricks { IfOk result (λ merged. All IsBrick merged.items) }
     ensures ascend { IfOk result (λ merged. AreAscending merged.items) }
     ensures few { IfOk result (λ merged. vec_len merged ≤ length bricks.now) }
+    ensures memory { OnErr result (0 < length bricks.now) }
 {
     let mut merged = Vec::new(alloc);
     for &key in keys {
