@@ -40,3 +40,4 @@ pub mod Answered
 pub mod RecordFronts
 pub mod FileFaults
 pub mod Tested
+pub mod Finals

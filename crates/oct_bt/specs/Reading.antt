@@ -140,6 +140,10 @@ after_file_byte (Refused fault) byte = Refused fault
 after_file_byte (Body header progress) byte = Body header (after_byte header.start progress byte)
 after_file_byte Spent byte = Spent
 
+-- no byte changes what a file has come to: its fault has been met, or memory has run out
+abbrev pub IsFinal : FileProgress → Type 0
+IsFinal progress = (byte : ℕ) → after_file_byte progress byte ≡ progress
+
 -- the first fault if there is one, else the other
 abbrev pub fault_or : Option BtFault → BtFault → BtFault
 fault_or (Some fault) other = fault

@@ -208,6 +208,7 @@ impl Head {
             after_head_byte self.old byte ≡ after_take ended self.new) }
         ensures near { IfOk result (λ ended. IfSome ended
             (λ header. IfOk header (λ said. said.start ≤ 65536))) }
+        ensures memory { OnErr result (self.old.total < 65536) }
     {
         if self.is_full() {
             return Ok(None);

@@ -1,7 +1,9 @@
 //! The reading of node data in pieces.
-ghost use Rattle.std.specs.Prelude.{◌≡◌, ◌≤◌, ◌<◌, ◌^◌, List, ℕ, OnOk, IfOk, Result, Ok, Err, []};
+ghost use Rattle.std.specs.Prelude.{◌≡◌, ◌≢◌, ◌≤◌, ◌<◌, ◌^◌, List, ℕ, OnOk, OnErr, IfOk};
+ghost use Rattle.std.specs.Prelude.{Result, Ok, Err, []};
 ghost use Rattle.oct_bt.specs.NodeData.{HasRead, after_byte, read_nodes};
-ghost use Rattle.oct_bt.specs.NodeData.{IsAccepted};
+ghost use Rattle.oct_bt.specs.NodeData.{IsAccepted, Stopped};
+ghost use Rattle.oct_bt.specs.declared.fault.BtFault.{BtFault};
 ghost use Rattle.oct_bt.specs.Canonical.{node_total};
 
 use crate::code_list::CodeList;
@@ -94,6 +96,7 @@ impl NodeReader {
         ensures size { self.new.size ≡ self.old.size }
         ensures taken { OnOk result
             (self.new.progress ≡ after_byte self.old.start self.old.progress byte) }
+        ensures memory { OnErr result ((fault : BtFault) → self.old.progress ≢ Stopped fault) }
     {
         if self.stop.is_some() {
             return Ok(());

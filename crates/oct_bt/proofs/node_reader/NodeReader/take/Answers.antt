@@ -1,11 +1,14 @@
-use Rattle.std.proofs.Common.{rules, ◌≡◌, ◌++◌, ℕ, [], length, ◌+◌, ◌<◌, ◌∷◌, Some, None, false}
+use Rattle.std.proofs.Common.{rules, ◌≡◌, ◌≢◌, ◌++◌, ℕ, [], length, ◌+◌, ◌<◌, ◌∷◌, Some, None, false}
 use Rattle.std.proofs.Common.{subst, sym, ap, ◌∙◌, arith, inl, inr}
 use Rattle.std.specs.Prelude.{is_some, replicate}
 use Rattle.oct_bt.specs.NodeData.{Reading, Reads, Stopped, after_byte, progress_by, records_in}
 use Rattle.oct_bt.specs.Path.{pending_at, without_next}
+use Rattle.oct_bt.specs.declared.fault.BtFault.{BtFault}
 use Rattle.oct_bt.specs.declared.fault.BtFault.TheVariants.{TooDeep, TrailingBytes}
 use Rattle.oct_bt.proofs.Steps.{byte_trails, byte_begins, byte_deep, byte_ends, never_some}
 use Rattle.oct_bt.proofs.Endings.{reached_next}
+use Rattle.oct_num.proofs.Results.{on_any_err}
+use Rattle.oct_bt.proofs.Finals.{still_reads}
 use Rattle.oct_bt.proofs.node_reader.NodeReader.take.Goals as goal
 
 pub returns-then-is_empty-clause-taken : goal.returns-then-is_empty-clause-taken
@@ -91,6 +94,13 @@ returns-clause-taken c =
     (progress_by c.self.inside.stop
     (Reads (pending_at 0 c.self.inside.path.items) half c.self.inside.records))
     c.args.byte) (sym c.in-Some.is))
+
+pub returns-in_err-push-clause-memory : goal.returns-in_err-push-clause-memory
+returns-in_err-push-clause-memory c =
+    on_any_err c.from_residual.result _
+    (subst (λ (r : Reading). (fault : BtFault) → r.progress ≢ Stopped fault) c.self.view_is
+    (still_reads c.self.inside.stop (pending_at 0 c.self.inside.path.items) c.self.inside.half
+    c.self.inside.records (sym c.is_some.ensures ∙ c.if-is_some.false)))
 
 pub invariant_of-self : goal.invariant_of-self
 invariant_of-self c =

@@ -6,15 +6,21 @@ use Rattle.oct_bt.proofs.HeadSteps.{file_step}
 use Rattle.oct_bt.proofs.reader.Reader.feed.Goals as goal
 
 pub loop-byte-preserved : goal.loop-byte-preserved
-loop-byte-preserved c = λ text stands.
+loop-byte-preserved c =
     let taken : c.take.new.self
     ≡ after_file_byte c.loop-byte.self (get_or c.args.piece.now c.loop-byte.byte-index 0) =
     search rules in
-    let within : c.loop-byte.byte-index < length c.args.piece.now = search rules in
-    taken ∙ ap (λ p. after_file_byte p (get_or c.args.piece.now c.loop-byte.byte-index 0))
-    (c.loop-byte.invariant text stands)
-    ∙ file_step (text ++ take c.loop-byte.byte-index c.args.piece.now)
-    (get_or c.args.piece.now c.loop-byte.byte-index 0)
-    ∙ ap file_progress (append_assoc text (take c.loop-byte.byte-index c.args.piece.now)
-    (get_or c.args.piece.now c.loop-byte.byte-index 0 ∷ [])
-    ∙ ap (λ t. text ++ t) (sym (take_more c.args.piece.now c.loop-byte.byte-index 0 within)))
+    let within : c.loop-byte.byte-index < length c.args.piece.now = search rules in (
+      λ text stands. taken
+          ∙ ap (λ p. after_file_byte p (get_or c.args.piece.now c.loop-byte.byte-index 0))
+          (c.loop-byte.invariant.0 text stands)
+          ∙ file_step (text ++ take c.loop-byte.byte-index c.args.piece.now)
+          (get_or c.args.piece.now c.loop-byte.byte-index 0)
+          ∙ ap file_progress (append_assoc text (take c.loop-byte.byte-index c.args.piece.now)
+          (get_or c.args.piece.now c.loop-byte.byte-index 0 ∷ [])
+          ∙ ap (λ t. text ++ t) (sym (take_more c.args.piece.now c.loop-byte.byte-index 0 within))),
+      λ final. taken
+          ∙ ap (λ p. after_file_byte p (get_or c.args.piece.now c.loop-byte.byte-index 0))
+          (c.loop-byte.invariant.1 final)
+          ∙ final (get_or c.args.piece.now c.loop-byte.byte-index 0),
+    )
