@@ -21,6 +21,7 @@ pub mod Taking
 pub mod MostMet
 pub mod Judging
 pub mod Piling
+pub mod FewBricks
 pub mod Ordered
 pub mod LaterSpans
 pub mod BlockParts

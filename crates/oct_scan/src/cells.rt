@@ -9,6 +9,7 @@ ghost use Rattle.oct_brick.specs.Bricks.{scanned_codes, hit_codes, IsBrick};
 ghost use Rattle.oct_scan.specs.Order.{AreKeys};
 ghost use Rattle.oct_scan.specs.Gathered.{HoldAllGathered, IsBeamHeld, IsHeld, IsCurrent};
 ghost use Rattle.oct_scan.specs.Gathered.{is_mute, EndsAt, GoesTo, IsSpanned, IsWayAdded};
+ghost use Rattle.oct_scan.specs.Piled.{AreFew};
 
 use crate::beam::Beam;
 use crate::order::{LEAST_KEYED, MOST_KEYED, sorted_keys};
@@ -34,6 +35,7 @@ pub fn gather(
     ensures gathered { IfOk result (λ bricks.
         HoldAllGathered res window.now origin beams.now bricks.items) }
     ensures bricks { IfOk result (λ bricks. All IsBrick bricks.items) }
+    ensures few { IfOk result (λ bricks. (n : ℕ) × AreFew n bricks.items) }
     ensures some { OnErr result (0 < length beams.now) }
 {
     let mut bricks = BrickPile::new(alloc);

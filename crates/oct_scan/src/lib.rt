@@ -35,9 +35,11 @@
 //! exceeds the limit. Then each beam is walked; from 4,096 to 2^19 beams go in the order of the
 //! bricks where they end, so that those that pass the same bricks mostly follow one another. Its
 //! voxels go into the brick where the beam is, which is added to a pile when the beam leaves it.
-//! The pile remembers in a table where bricks stand, so that memory follows the bricks that the
-//! beams touch. The bricks are sorted by their codes, and those of one code joined; each adds to
-//! the need the blocks that don't hold the one before it, and its own octets.
+//! The pile remembers in a table where bricks stand. It merges them where those that the table
+//! forgot become many, so that there are never more than twice as many as codes, and 2^18
+//! (`AreFew`): memory follows the bricks that the beams touch, however often they do. The bricks
+//! are sorted by their codes, and those of one code joined; each adds to the need the blocks that
+//! don't hold the one before it, and its own octets.
 //!
 //! Both calls allocate, and touch nothing but their arguments.
 
