@@ -1,7 +1,7 @@
 -- Beams that are taken in another order.
-use Rattle.std.proofs.Common.{◌≡◌, ℕ, ◌+◌, ◌*◌, ◌%◌, ◌^◌, ◌<◌, ◌≤◌, List, [], ◌∷◌, ◌++◌}
+use Rattle.std.proofs.Common.{◌≡◌, ℕ, ◌+◌, ◌*◌, ◌/◌, ◌%◌, ◌^◌, ◌<◌, ◌≤◌, List, [], ◌∷◌, ◌++◌}
 use Rattle.std.proofs.Common.{length, map, get_or, take, sym, subst, ◌∙◌, ap, arith}
-use Rattle.std.specs.Prelude.{IsSome, Option}
+use Rattle.std.specs.Prelude.{IsSome, Option, Some}
 use Rattle.std.specs.List.{All}
 use Rattle.std.specs.List.Sorted.{IsPermutation}
 use Rattle.std.proofs.lemmas.List.{get_or-map, get_or_default, length-map, map_push, take_all}
@@ -11,7 +11,8 @@ use Rattle.std.proofs.lemmas.List.Sorted.{All-permutation, Contains-permutation}
 use Rattle.std.proofs.lemmas.List.Sorted.{IsPermutation-map, IsPermutation-sym}
 use Rattle.std.proofs.lemmas.List.Sorted.{sum_by-IsPermutation}
 use Rattle.oct_key.specs.Boxes.{Window}
-use Rattle.oct_key.specs.Voxel.{IsResolution, key_at}
+use Rattle.oct_key.specs.Voxel.{Voxel, IsResolution, key_at}
+use Rattle.oct_key.specs.Morton.{morton_of}
 use Rattle.oct_key.specs.declared.point.Point.{Point}
 use Rattle.oct_ray.specs.Met.{met_by}
 use Rattle.oct_ray.proofs.ComputedAxes.{met_by_walks}
@@ -19,7 +20,7 @@ use Rattle.oct_brick.specs.declared.brick.Brick.{Brick}
 use Rattle.oct_scan.specs.declared.beam.Beam.{Beam}
 use Rattle.oct_scan.specs.Gathered.{AreGathered, HoldAllGathered, IsBeamHeld, SomeBeam}
 use Rattle.oct_scan.specs.Answer.{MeetInAll}
-use Rattle.oct_scan.specs.Order.{AreKeys, keyed_beam}
+use Rattle.oct_scan.specs.Order.{AreKeys, IsCoded, keyed_beam}
 use Rattle.oct_scan.proofs.Faults.{AreWalked, cells_of, met_is, met_so}
 use Rattle.oct_scan.proofs.Holding.{all_next}
 
@@ -31,6 +32,9 @@ pub record AreFirst (bs : List Beam) (n : ℕ) (keys : List ℕ) : Type 0 where
 -- a place behind others of 19 bits
 place_of_key : (code n key : ℕ) → n < 2 ^ 19 → key ≡ code * 2 ^ 19 + n → key % 2 ^ 19 ≡ n
 place_of_key code n key l e = omega (arith, l, e)
+
+code_of_key : (code n key : ℕ) → n < 2 ^ 19 → key ≡ code * 2 ^ 19 + n → key / 2 ^ 19 ≡ code
+code_of_key code n key l e = omega (arith, l, e)
 
 -- the key of one beam more
 pub first_more : (bs : List Beam) (n code key : ℕ) (keys keys' : List ℕ) → length bs ≤ 2 ^ 19
@@ -47,6 +51,27 @@ first_more bs n code key keys keys' few l e is h =
           ∙ ap (λ m. take n bs ++ get_or bs m d ∷ []) place
           ∙ sym (take_more bs n d l);
     })
+
+-- and it has the code of the brick where that beam ends
+pub coded_more : (edge : ℕ) (bs : List Beam) (n code key : ℕ) (e : Beam)
+    (found : Option Voxel) (end : Voxel) (keys keys' : List ℕ) → length bs ≤ 2 ^ 19
+    → n < length bs → found ≡ key_at edge (get_or bs n e).end → found ≡ Some end
+    → code ≡ morton_of end
+    → key ≡ code / 64 * 2 ^ 19 + n → keys' ≡ keys ++ key ∷ [] → All (IsCoded edge bs) keys
+    → All (IsCoded edge bs) keys'
+coded_more edge bs n code key e found end keys keys' few l at_end there coded made is h =
+    let place : key % 2 ^ 19 ≡ n = place_of_key (code / 64) n key (omega (arith, few, l)) made in
+    let above : key / 2 ^ 19 ≡ code / 64 = code_of_key (code / 64) n key (omega (arith, few, l))
+    made in
+    subst (All (IsCoded edge bs)) (sym is) (All-push (IsCoded edge bs) keys key h (λ d k at.
+    let same : get_or bs (key % 2 ^ 19) d ≡ get_or bs n e =
+    ap (λ i. get_or bs i d) place ∙ get_or_default bs n d e l in
+    let voxel : k ≡ end = same_voxel k end (sym at ∙ ap (λ (b : Beam). key_at edge b.end) same
+    ∙ sym at_end ∙ there) in
+    above ∙ ap (λ (m : ℕ). m / 64) (coded ∙ ap morton_of (sym voxel))))
+  where
+    same_voxel : (k l : Voxel) → ◌≡◌ {A = Option Voxel} (Some k) (Some l) → k ≡ l
+    same_voxel k l h = cc
 
 -- the keys of all beams, in another order
 pub keys_moved : (bs : List Beam) (n : ℕ) (keys keys' : List ℕ) → length bs ≤ n

@@ -1,7 +1,8 @@
 //! Beams in the order of the bricks where they end.
 ghost use Rattle.std.specs.Prelude.{◌^◌, ◌<◌, ◌≤◌, All, IfOk, OnErr, IsSome, length};
+ghost use Rattle.std.specs.List.Sorted.{IsNonDecreasing};
 ghost use Rattle.oct_key.specs.Voxel.{key_at};
-ghost use Rattle.oct_scan.specs.Order.{AreKeys};
+ghost use Rattle.oct_scan.specs.Order.{AreKeys, IsCoded};
 
 use crate::beam::Beam;
 use oct_key::{Res, morton};
@@ -20,6 +21,8 @@ pub fn sorted_keys(alloc: Global, res: Res, beams: &[Beam]) -> Result<Vec<u64>, 
     requires ends { All (λ b. IsSome (key_at res b.end)) beams.now }
     requires few { length beams.now ≤ 2 ^ 19 }
     ensures keys { IfOk result (λ keys. AreKeys beams.now keys.items) }
+    ensures coded { IfOk result (λ keys. All (IsCoded res beams.now) keys.items) }
+    ensures order { IfOk result (λ keys. IsNonDecreasing keys.items) }
     ensures some { OnErr result (0 < length beams.now) }
 {
     let mut keys = Vec::new(alloc);
