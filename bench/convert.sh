@@ -15,8 +15,8 @@ folder=$(mktemp -d)
 trap 'rm -rf -- "$folder"' EXIT
 
 "$here/../octomap" session 0.05 </dev/null
-python3 "$here/make_scans.py" 1 5 500 | sed '/^quit$/d' | "$program" build 0.05 >"$folder/small"
-python3 "$here/make_scans.py" 1 5 2000 | sed '/^quit$/d' | "$program" build 0.05 >"$folder/large"
+python3 "$here/make_scans.py" 1 5 500 | "$program" build 0.05 >"$folder/small"
+python3 "$here/make_scans.py" 1 5 2000 | "$program" build 0.05 >"$folder/large"
 
 # Converts a file in this folder, and prints the seconds (the least of five runs) and the peak
 # memory in kilobytes.
