@@ -12,22 +12,11 @@ const LISTS: &[Case] = &[
         Status::Done,
     ),
     (
-        "scan 0.05 0.05 0.05 1 0 0 0 all\np 0.2 0 0\np 0.4 0 0\nend\nlist 0 0 0 0.4 0 0 15\n",
-        "ok hits 2 frees 3\nblock 16384 16384 16384 -400 free\n\
-         block 16385 16384 16384 850 occupied\nblock 16386 16384 16384 850 occupied\nend 3\n",
-        Status::Done,
-    ),
-    (
         "hit 0 0 0\nmiss 0.1 0.1 0.1\nlist 0.1 0 0 0.1 0 0 15\nlist 0 0 0 0 0 0 0\n\
          list 1 1 1 2 2 2 16\n",
         "ok\nok\nblock 16384 16384 16384 850 occupied\nend 1\nblock 0 0 0 850 occupied\nend 1\n\
          end 0\n",
         Status::Done,
-    ),
-    (
-        "list 0 0 0 12.7 12.7 12.7 16\n",
-        "refused 9 TooManyBlocks count 2097152\n",
-        Status::Refused,
     ),
     // A million blocks, and one more.
     (
@@ -52,23 +41,12 @@ fn lists_show_the_known_blocks_in_order(rt: HostRuntime) {
 /// Marks, and what has changed since.
 const CHANGES: &[Case] = &[
     (
-        "track\nhit 0 0 0\nmiss 0 0 0\nmiss 0 0 0\nmiss 0 0 0\nmiss 0 0 0\nget 0 0 0 16\nchanges\n",
-        "ok\nok\nok\nok\nok\nok\nknown -750 free\nnew 32768 32768 32768\nend 1\n",
-        Status::Done,
-    ),
-    (
         "hit 0 0 0\nmiss 0.1 0 0\nhit 0.2 0 0\ntrack\nhit 0.3 0 0 lazy\nforget 0.2 0 0\n\
          set 0.1 0 0 5\nset 0 0 0 -1\nhit 0.4 0 0\nforget 0.4 0 0\nchanges\ntrack\nchanges\n\
          untrack\nchanges\nuntrack\n",
         "ok\nok\nok\nok\nok\nok\nok\nok\nok\nok\nfreed 32768 32768 32768\n\
          occupied 32769 32768 32768\nlost 32770 32768 32768\nnew 32771 32768 32768\nend 4\nok\n\
          end 0\nok\nrefused 28 NotTracked\nok\n",
-        Status::Refused,
-    ),
-    // A voxel that is as it was is no change, whatever it was in between.
-    (
-        "hit 0 0 0\ntrack\nforget 0 0 0\nmiss 0.1 0 0\nhit 0 0 0\nchanges\nuntrack\nchanges\n",
-        "ok\nok\nok\nok\nok\nnew 32769 32768 32768\nend 1\nok\nrefused 28 NotTracked\n",
         Status::Refused,
     ),
     (
@@ -113,24 +91,6 @@ fn changes_are_those_since_the_mark(rt: HostRuntime) {
 
 /// Scans with log-odds of their own, and scans in a box.
 const SCANS: &[Case] = &[
-    (
-        "limit 0.1 0 0 0.3 0 0\nscan 0.05 0.05 0.05 1 0 0 0 all\np 0.2 0 0\np 0.4 0 0\nend\n\
-         list 0 0 0 0.4 0 0 16\n",
-        "ok\nok hits 1 frees 2\nblock 32769 32768 32768 -400 free\n\
-         block 32770 32768 32768 850 occupied\nblock 32771 32768 32768 -400 free\nend 3\n",
-        Status::Done,
-    ),
-    (
-        "scan 0.05 0.05 0.05 1 0 0 0 all 500 -200\np 0.2 0 0\nend\nget 0.2 0 0 16\nget 0 0 0 16\n",
-        "ok hits 1 frees 2\nknown 500 occupied\nknown -200 free\n",
-        Status::Done,
-    ),
-    // A hit without a miss, and a block that is refused for its head.
-    (
-        "scan 0 0 0 1 0 0 0 all 500\nend\n",
-        "refused 29 Syntax line 1 column 27\n",
-        Status::Refused,
-    ),
     // What one scan adds isn't what the next one does.
     (
         "scan 0.05 0.05 0.05 1 0 0 0 all 1 -1\np 0.2 0 0\nend\nlist 0 0 0 0.2 0 0 16\n\

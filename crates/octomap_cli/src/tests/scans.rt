@@ -54,22 +54,6 @@ const SCAN_BLOCKS: &[Case] = &[
         Status::Done,
     ),
     (
-        "scan 0 0 0 1 0 0 0 all\np 1 0 0\n",
-        "refused 31 OpenScan line 1\n",
-        Status::Refused,
-    ),
-    (
-        "scan 0 0 0 0 0 0 0 all\nend\n",
-        "refused 5 ZeroQuaternion\n",
-        Status::Refused,
-    ),
-    // The first fault is told, and after it nothing is read until the end of the block.
-    (
-        "scan 0 0 0 1 0 0 0 all\np 1 0\nhit 0 0 0\nend\nget 0 0 0 16\n",
-        "refused 29 Syntax line 2 column 6\nunknown\n",
-        Status::Refused,
-    ),
-    (
         "scan x\np 1 0 0\nend\nhit 0 0 0\nscan 0 0 0 1 0 0 0 all\nend\n",
         "refused 29 Syntax line 1 column 6\nok\nok hits 0 frees 0\n",
         Status::Refused,
@@ -93,11 +77,6 @@ const SCAN_BLOCKS: &[Case] = &[
     (
         "\nscan 0 0 0 0 0 0 0 all",
         "refused 31 OpenScan line 2\n",
-        Status::Refused,
-    ),
-    (
-        "scan 4000 0 0 1 0 0 0 all\np 1 0 0\nend\n",
-        "refused 6 OriginOutside\n",
         Status::Refused,
     ),
     (

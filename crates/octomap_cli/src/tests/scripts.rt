@@ -7,12 +7,6 @@ use std::test::Fail;
 
 /// Edits, and the values that they leave.
 const VALUES: &[Case] = &[
-    ("", "", Status::Done),
-    (
-        "hit 0 0 0\nget 0 0 0 16\n",
-        "ok\nknown 850 occupied\n",
-        Status::Done,
-    ),
     (
         "hit 0 0 0\nget -0.05 -0.05 -0.05 16\n",
         "ok\nunknown\n",
@@ -21,25 +15,6 @@ const VALUES: &[Case] = &[
     (
         "hit 0.05 0.05 0.05\nget 0.099999999 0 0 16\nget 0.1 0 0 16\n",
         "ok\nknown 850 occupied\nunknown\n",
-        Status::Done,
-    ),
-    (
-        "hit 0 0 0\nhit 0 0 0\nhit 0 0 0\nhit 0 0 0\nhit 0 0 0\nget 0 0 0 16\nhit 0 0 0\n\
-         get 0 0 0 16\nmiss 0 0 0\nget 0 0 0 16\n",
-        "ok\nok\nok\nok\nok\nknown 3500 occupied\nok\nknown 3500 occupied\nok\n\
-         known 3100 occupied\n",
-        Status::Done,
-    ),
-    (
-        "miss 0 0 0\nmiss 0 0 0\nmiss 0 0 0\nmiss 0 0 0\nmiss 0 0 0\nmiss 0 0 0\nget 0 0 0 16\n\
-         hit 0 0 0\nget 0 0 0 16\nhit 0 0 0\nget 0 0 0 16\nhit 0 0 0\nget 0 0 0 16\n",
-        "ok\nok\nok\nok\nok\nok\nknown -2000 free\nok\nknown -1150 free\nok\nknown -300 free\n\
-         ok\nknown 550 occupied\n",
-        Status::Done,
-    ),
-    (
-        "set 0 0 0 9000\nget 0 0 0 16\nadd 0 0 0 -9000\nget 0 0 0 16\nforget 0 0 0\nget 0 0 0 16\n",
-        "ok\nknown 3500 occupied\nok\nknown -2000 free\nok\nunknown\n",
         Status::Done,
     ),
     (
@@ -56,26 +31,6 @@ fn values_are_clamped_at_each_step(rt: HostRuntime) {
 
 /// Queries of blocks.
 const BLOCKS: &[Case] = &[
-    (
-        "hit 0 0 0\nget -0.05 -0.05 -0.05 16\nget -0.05 -0.05 -0.05 1\nget -0.05 -0.05 -0.05 0\n",
-        "ok\nunknown\nunknown\nknown 850 occupied\n",
-        Status::Done,
-    ),
-    (
-        "hit 0 0 0\nmiss 0.1 0 0\nget 0.1 0 0 15\nget 0.1 0 0 16\n",
-        "ok\nok\nknown 850 occupied\nknown -400 free\n",
-        Status::Done,
-    ),
-    (
-        "box 0 0 0 0.1 0.1 0.1 hit\ncounts\n",
-        "ok\ngroups 15 nodes 16\n",
-        Status::Done,
-    ),
-    (
-        "hit 0 0 0 lazy\nget 0 0 0 16\nget 0 0 0 15\nrefresh\nget 0 0 0 15\n",
-        "ok\nknown 850 occupied\nrefused 22 Stale\nok\nknown 850 occupied\n",
-        Status::Refused,
-    ),
     (
         "set 0 0 0 3500\nhit 0 0 0 lazy\nprune\ncounts\nget 4000 0 0 17\nget 0 0 0 17\n\
          get 0 0 0 0\n",
@@ -142,14 +97,6 @@ const CASTS: &[Case] = &[
          cast 0.5 0 0 0 0 0\ncast 0.5 0 0 0 0 0 ignore\ncast 0 0 0 0.1 0 0\n",
         "ok\nok\nok\nok\ncast hit 32770 32768 32768\ncast unknown 32773 32768 32768\n\
          cast hit 32772 32768 32768\ncast clear\n",
-        Status::Done,
-    ),
-    (
-        "scan 0.05 0.05 0.05 1 0 0 0 all\np 0.2 0 0\np 0.4 0 0\nend\n\
-         cast 0.05 0.05 0.05 0.45 0.05 0.05\ncast 0.05 0.05 0.05 0.05 0.25 0.05\n\
-         cast 0.05 0.05 0.05 0.05 0.25 0.05 ignore\n",
-        "ok hits 2 frees 3\ncast hit 32770 32768 32768\ncast unknown 32768 32769 32768\n\
-         cast clear\n",
         Status::Done,
     ),
     (
@@ -240,7 +187,6 @@ fn counts_are_the_least_that_the_values_need(rt: HostRuntime) -> Result<(), Fail
 
 /// Lines that are `quit`, and lines that are not.
 const QUITS: &[Case] = &[
-    ("hit 0 0 0\nquit\nhit 0 0 0\n", "ok\n", Status::Done),
     ("quit", "", Status::Done),
     (" quit\t\r\nhit\n", "", Status::Done),
     (
@@ -272,11 +218,6 @@ const REFUSALS: &[Case] = &[
         "get 0 0\nhit 0 0 x\nhit 4000 0 0\nget 0 0 0 17\nbox 1 0 0 0 0 0 forget\n",
         "refused 29 Syntax line 1 column 8\nrefused 29 Syntax line 2 column 9\n\
          refused 24 Outside point 1\nrefused 25 BadDepth\nrefused 26 BadBox\n",
-        Status::Refused,
-    ),
-    (
-        "fly 0 0 0\n",
-        "refused 29 Syntax line 1 column 1\n",
         Status::Refused,
     ),
     (
