@@ -83,9 +83,17 @@ const SAVES: [(&str, &str, &[u8], &[u8]); 7] = [
     ),
     // Eight values of one class are one leaf.
     (
-        "box 0 0 0 0.1 0.1 0.1 hit\nset 0 0 0 1\nset 0.1 0 0 2\n\
-          set 0 0.1 0 3 lazy\ncounts\nsave m\n",
-        "ok\nok\nok\nok\ngroups 16 nodes 24\nsaved 167\n",
+        "hit 0 0 0\nhit 0.1 0 0\nhit 0.1 0 0\nhit 0 0.1 0\nhit 0 0.1 0\nhit 0 0.1 0\n\
+          hit 0.1 0.1 0\nhit 0.1 0.1 0\nhit 0.1 0.1 0\nhit 0.1 0.1 0\nhit 0 0 0.1\n\
+          hit 0 0 0.1\nhit 0 0 0.1\nhit 0 0 0.1\nhit 0 0 0.1\nhit 0.1 0 0.1\nhit 0.1 0 0.1\n\
+          hit 0.1 0 0.1\nhit 0.1 0 0.1\nhit 0.1 0 0.1\nhit 0.1 0 0.1\nhit 0 0.1 0.1\n\
+          hit 0 0.1 0.1\nhit 0 0.1 0.1\nhit 0 0.1 0.1\nhit 0 0.1 0.1\nhit 0 0.1 0.1\n\
+          hit 0 0.1 0.1\nhit 0.1 0.1 0.1\nhit 0.1 0.1 0.1\nhit 0.1 0.1 0.1\n\
+          hit 0.1 0.1 0.1\nhit 0.1 0.1 0.1\nhit 0.1 0.1 0.1\nhit 0.1 0.1 0.1\n\
+          hit 0.1 0.1 0.1\ncounts\nsave m\n",
+        "ok\nok\nok\nok\nok\nok\nok\nok\nok\nok\nok\nok\nok\nok\nok\nok\nok\nok\nok\nok\n\
+          ok\nok\nok\nok\nok\nok\nok\nok\nok\nok\nok\nok\nok\nok\nok\nok\n\
+          groups 16 nodes 24\nsaved 167\n",
         b"16",
         CUBE,
     ),
