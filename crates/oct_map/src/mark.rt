@@ -133,8 +133,8 @@ impl Mark {
         }
     }
 
-    /// Makes room for notes of the voxels of the box, where there is one, and notes the classes that
-    /// they have in the tree, where a mark stands.
+    /// Makes room for notes of the voxels of the box, where there is one, and notes the classes
+    /// that they have in the tree, where a mark stands.
     pub(crate) fn note_window(
         &mut self,
         tree: &OccTree,

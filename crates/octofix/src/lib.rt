@@ -29,8 +29,8 @@
 //! - **The map.** A query leaves the map as it was. What a change leaves is the map's own record of
 //!   it (`IsVoxelEdit`, `IsBoxEdit`, `IsMapScan` and the others), where it is done and where it is
 //!   refused. [`edits::octofix_edit_all`] is a chain of single edits (`AreEdits`).
-//! - **Two maps.** What a merge leaves of both is said by their maps before (`AreMerged`), and of two
-//!   handles that aren't one.
+//! - **Two maps.** What a merge leaves of both is said by their maps before (`AreMerged`), and of
+//!   two handles that aren't one.
 //! - **The handle.** A call on a handle without a map is refused and leaves it so, a second open is
 //!   refused and leaves the map, and a close leaves none. The handle owns its map alone: who holds
 //!   it may change the map, and nobody else can.

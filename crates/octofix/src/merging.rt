@@ -78,8 +78,8 @@ fn merge(handle: &mut Octofix, other: &mut Octofix, rule: u32) -> Result<(), Ref
 ///
 /// It is refused where one of the handles has no map, for the rule, for another resolution, for
 /// other log-odds, while a mark stands where the least box around what the other map knows has more
-/// than 1,000,000 voxels, where the map is full, and where memory runs out. The other map keeps each
-/// value.
+/// than 1,000,000 voxels, where the map is full, and where memory runs out. The other map keeps
+/// each value.
 #[unsafe(no_mangle)]
 pub extern "C" fn octofix_merge(
     handle: &mut Octofix,

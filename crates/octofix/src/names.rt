@@ -105,8 +105,8 @@ pub extern "C" fn octofix_version_text(text: &mut &'static [u8]) -> u32
     DONE
 }
 
-/// Hands out the name of a code, as a text that stays. Where the code has none the place stays as it
-/// was.
+/// Hands out the name of a code, as a text that stays. Where the code has none the place stays as
+/// it was.
 #[unsafe(no_mangle)]
 pub extern "C" fn octofix_code_text(code: u32, text: &mut &'static [u8]) -> u32
     ensures code { result ≡ name_code (name_of code) }
