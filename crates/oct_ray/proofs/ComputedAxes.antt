@@ -12,8 +12,7 @@ use Rattle.oct_ray.specs.Axis.{IsFallingAxis}
 use Rattle.oct_ray.specs.Segment.{IsWalkAlong}
 use Rattle.oct_ray.specs.Met.{height_of, rising_axis, falling_axis, axis_between, axis_of, met_by}
 use Rattle.oct_ray.proofs.MapFaces.{on_map_with_key}
-use Rattle.oct_ray.proofs.Segments.{keys_walk}
-use Rattle.oct_ray.proofs.Starts.{IsMade, made_set, quotient_and_rest}
+use Rattle.oct_ray.proofs.Starts.{IsMade, IsNewWalk, made_set, new_walk, quotient_and_rest}
 
 -- a greater number has no smaller quotient, and a quotient of what is below the
 -- map's upper face is below 65536
@@ -146,11 +145,11 @@ axis_of_room edge o e range on_o on_e =
     between_room edge (height_of edge o) (height_of edge e) range (height_below edge o on_o)
     (height_below edge e on_e)
 
--- the voxels that are computed are a walk along the segment
-pub met_by_walks : (edge : ℕ) (o e : Point) → IsResolution edge → IsSome (key_at edge o)
-    → IsSome (key_at edge e) → IsWalkAlong edge o e (met_by edge o e)
+-- the voxels that are computed are a walk along the segment, from its first voxel to its last
+pub met_by_new : (edge : ℕ) (o e : Point) → IsResolution edge → IsSome (key_at edge o)
+    → IsSome (key_at edge e) → IsNewWalk edge o e (met_by edge o e)
 unfolding met_by
-met_by_walks edge o e range key_o key_e =
+met_by_new edge o e range key_o key_e =
     let at_o = on_map_with_key edge o (omega arith) key_o in
     let at_e = on_map_with_key edge e (omega arith) key_e in
     let made : IsMade edge o e (axis_of edge o.x e.x) (axis_of edge o.y e.y)
@@ -163,4 +162,8 @@ met_by_walks edge o e range key_o key_e =
       of_b = axis_of_is edge o.y e.y range at_o.y at_e.y;
       of_c = axis_of_is edge o.z e.z range at_o.z at_e.z;
     } in
-    keys_walk edge o e _ _ _ (made_set edge o e _ _ _ made)
+    new_walk edge o e _ _ _ (omega arith) key_o key_e (made_set edge o e _ _ _ made)
+
+pub met_by_walks : (edge : ℕ) (o e : Point) → IsResolution edge → IsSome (key_at edge o)
+    → IsSome (key_at edge e) → IsWalkAlong edge o e (met_by edge o e)
+met_by_walks edge o e range key_o key_e = (met_by_new edge o e range key_o key_e).walk

@@ -11,5 +11,7 @@ pub mod Cuts
 pub mod Ends
 pub mod ComputedAxes
 pub mod OneAxis
+pub mod LaterAxes
+pub mod Rests
 pub mod Alike
 pub mod NearWalks

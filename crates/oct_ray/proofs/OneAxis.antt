@@ -25,7 +25,7 @@ axis key rises crossings distance span edge = record {
 }
 
 -- an axis is told by its numbers
-one_axis : (a b : Axis) → a.key ≡ b.key → a.rises ≡ b.rises → a.crossings ≡ b.crossings
+pub one_axis : (a b : Axis) → a.key ≡ b.key → a.rises ≡ b.rises → a.crossings ≡ b.crossings
     → a.distance ≡ b.distance → a.span ≡ b.span → a.edge ≡ b.edge → a ≡ b
 one_axis a b key rises crossings distance span edge =
     let e : axis a.key a.rises a.crossings a.distance a.span a.edge ≡ axis b.key b.rises

@@ -184,7 +184,7 @@ pub record IsNewWalk (edge : ℕ) (o e : Point) (ks : List Voxel) : Type 0 where
   pub last : slice_get ks (length ks - 1) ≡ key_at edge e
 
 -- the voxels from where the axes of a segment begin
-new_walk : (edge : ℕ) (o e : Point) (x y z : Axis) → 1 ≤ edge → IsSome (key_at edge o)
+pub new_walk : (edge : ℕ) (o e : Point) (x y z : Axis) → 1 ≤ edge → IsSome (key_at edge o)
     → IsSome (key_at edge e) → IsSet edge o e x y z
     → IsNewWalk edge o e (axis_keys (crossings_left x y z) x y z)
 new_walk edge o e x y z positive ko ke s = record {

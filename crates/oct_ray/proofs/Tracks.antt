@@ -1,7 +1,8 @@
 -- The tracks of three axes step as the axes do, by additions alone.
 use Rattle.std.proofs.Common.{◌≡◌, ◌≢◌, ◌⊎◌, inl, inr, ℕ, zero, suc, ◌+◌, ◌-◌, ◌*◌, ◌^◌, ◌<◌, ◌≤◌}
 use Rattle.std.proofs.Common.{Bool, true, false, not, eqb, ◌&&◌, ◌||◌, [], ◌∷◌, refl, arith, sym}
-use Rattle.std.proofs.Common.{◌∙◌, ap, subst, length}
+use Rattle.std.proofs.Common.{◌∙◌, ap, subst, length, List}
+use Rattle.oct_key.specs.Voxel.{Voxel}
 use Rattle.std.proofs.lemmas.Bool.Decides.{nat_tests}
 use Rattle.std.proofs.lemmas.Nat.{mul-lt}
 use Rattle.oct_ray.specs.Axis.{HasRoom, crosses, axis_after, not_after}
@@ -284,6 +285,31 @@ pub walk_goes_on : (w v : Inside) → w.more ≡ true → v.more ≡ w.more → 
 walk_goes_on w v m em none =
     some_keys (v.x.crossings + v.y.crossings + v.z.crossings) v.x v.y v.z
     (sym (keys_to_come_more v (em ∙ m)) ∙ none)
+
+-- the first of the keys is where the tracks stand
+first_left : (fuel : ℕ) (x y z : Track)
+    → (rest : List Voxel) × (track_keys fuel x y z ≡ track_voxel x y z ∷ rest)
+unfolding track_keys
+first_left zero x y z = ([], refl)
+first_left (suc f) x y z =
+    elim (has_ended x y z) as
+    (λ t. has_ended x y z ≡ t
+    → (rest : List Voxel) × (track_keys (suc f) x y z ≡ track_voxel x y z ∷ rest)) [
+      | true ↦ λ e. ([], track_keys_end (suc f) x y z e)
+      | false ↦ λ e. (
+        track_keys f (track_after (crosses_now x y z) x y.pace z.pace)
+            (track_after (crosses_now y z x) y z.pace x.pace)
+            (track_after (crosses_now z x y) z x.pace y.pace),
+        track_keys_suc f x y z e,
+      )
+    ] refl
+
+-- what a walk gives next is where it stands
+pub next_to_come : (w : Inside) → w.more ≡ true
+    → (rest : List Voxel) × (keys_to_come w ≡ track_voxel w.x w.y w.z ∷ rest)
+next_to_come w more =
+    let first = first_left (w.x.crossings + w.y.crossings + w.z.crossings) w.x w.y w.z in
+    (first.0, keys_to_come_more w more ∙ first.1)
 
 -- at most one voxel is left where the walk has ended
 pub walk_left : (w : Inside) → (w.more ≡ false) ⊎ ((w.more ≡ true) × (has_ended w.x w.y w.z ≡ true))

@@ -42,7 +42,7 @@ at_start a m h = record {
 }
 
 -- an axis that crosses before the place m is at least one crossing on
-at_moved : (a : Axis) (j : ℕ) (m : Moment) → 0 < a.crossings → NotAfter (next_crossing a) m
+pub at_moved : (a : Axis) (j : ℕ) (m : Moment) → 0 < a.crossings → NotAfter (next_crossing a) m
     → IsAt a j m → 0 < j
 at_moved a zero m l n i = absurd (omega (arith, i.still l))
 at_moved a (suc j) m l n i = omega arith
@@ -89,7 +89,7 @@ at_step_back a j m l n i = record {
 }
 
 -- a step, where it is taken
-at_axis_after : (t : Bool) (a : Axis) (j : ℕ) (m : Moment) → (t ≡ true → 0 < j) → IsAt a j m
+pub at_axis_after : (t : Bool) (a : Axis) (j : ℕ) (m : Moment) → (t ≡ true → 0 < j) → IsAt a j m
     → (i : ℕ) × (j ≡ cond t (i + 1) i) × IsAt (axis_after t a) i m
 at_axis_after false a j m h i = (j, refl, i)
 at_axis_after true a j m h i =
@@ -133,7 +133,7 @@ pub record StandsAt (t : Bool) (a : Axis) (n : Moment) : Type 0 where
   pub not_yet : t ≡ true → NotAfter n (next_crossing a)
   pub later : t ≡ false → 0 < a.crossings → Before n (next_crossing a)
 
-crosses_others : (a b c : Axis) → crosses a b c ≡ true
+pub crosses_others : (a b c : Axis) → crosses a b c ≡ true
     → (0 < b.crossings → not_after a b ≡ true) × (0 < c.crossings → not_after a c ≡ true)
 crosses_others a b c h = grind (arith, nat_tests)
 
@@ -447,7 +447,7 @@ keys_visited (suc f) x y z s r k h =
     ] refl
 
 -- an axis that is some crossings on has passed its next one
-next_crossing_passed : (a : Axis) (j : ℕ) (m : Moment) → HasRoom a → IsMoment m → IsAt a j m → 0 < j
+pub next_crossing_passed : (a : Axis) (j : ℕ) (m : Moment) → HasRoom a → IsMoment m → IsAt a j m → 0 < j
     → NotAfter (next_crossing a) m
 next_crossing_passed a j m ia im i h =
     let c : NotAfter (next_crossing a) (crossing a (j - 1)) = omega arith in

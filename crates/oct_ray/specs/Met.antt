@@ -1,5 +1,5 @@
 -- The voxels that a segment meets, found by walking along it.
-use Rattle.std.specs.Prelude.{ℕ, ◌+◌, ◌-◌, ◌*◌, ◌/◌, ◌%◌, max, true, false, nat_eq, nat_le}
+use Rattle.std.specs.Prelude.{ℕ, ◌+◌, ◌-◌, ◌*◌, ◌/◌, ◌%◌, max, min, true, false, nat_eq, nat_le}
 use Rattle.std.specs.Prelude.{if◌then◌else◌, List, ℤ, pos, ◌+ℤ◌, unsigned_abs}
 use Rattle.oct_key.specs.Voxel.{Voxel}
 use Rattle.oct_key.specs.declared.point.Point.{Point}
@@ -48,3 +48,30 @@ keys_along x y z = axis_keys (x.crossings + y.crossings + z.crossings) x y z
 -- the voxels that the segment between two points of the map meets, in the order of its way
 unfoldable pub met_by : ℕ → Point → Point → List Voxel
 met_by edge o e = keys_along (axis_of edge o.x e.x) (axis_of edge o.y e.y) (axis_of edge o.z e.z)
+
+-- how many of an axis's crossings lie at most so far from its origin
+unfoldable pub crossings_within : ℕ → Axis → ℕ
+crossings_within way a =
+    if nat_le a.distance way then min ((way - a.distance) / a.edge + 1) a.crossings else 0
+
+-- an axis after so many crossings
+abbrev pub axis_after_crossings : ℕ → Axis → Axis
+axis_after_crossings taken a = record {
+  key = if a.rises then a.key + taken else a.key - taken;
+  rises = a.rises;
+  crossings = a.crossings - taken;
+  distance = a.distance + taken * a.edge;
+  span = a.span;
+  edge = a.edge;
+}
+
+-- an axis just after this part of its segment, in 65536ths
+abbrev pub axis_after_part : ℕ → Axis → Axis
+axis_after_part part a = axis_after_crossings (crossings_within (a.span * part / 65536) a) a
+
+-- the voxels that the segment between two points meets just after this part of it and later, in
+-- the order of its way
+unfoldable pub met_after : ℕ → ℕ → Point → Point → List Voxel
+met_after part edge o e =
+    keys_along (axis_after_part part (axis_of edge o.x e.x))
+    (axis_after_part part (axis_of edge o.y e.y)) (axis_after_part part (axis_of edge o.z e.z))

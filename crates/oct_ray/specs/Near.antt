@@ -12,11 +12,18 @@ use Rattle.oct_ray.specs.Track.{AreTracks, keys_left}
 abbrev pub bit : Bool → ℕ
 bit now = if now then 1 else 0
 
--- the numbers of a track fit 63 bits
-pub record IsSmall (t : Track) : Type 0 where
-  pub beside_next : t.beside_next < 2 ^ 63
-  pub beside_third : t.beside_third < 2 ^ 63
-  pub pace : t.pace < 2 ^ 63
+-- two places lie so near one another that 63 bits tell how much
+abbrev pub AreClose : ℕ → ℕ → Type 0
+AreClose first second = (first - second < 2 ^ 63) × (second - first < 2 ^ 63)
+
+-- the numbers that a near walk keeps of three tracks fit 63 bits
+pub record AreSmall (x y z : Track) : Type 0 where
+  pub x_pace : x.pace < 2 ^ 63
+  pub y_pace : y.pace < 2 ^ 63
+  pub z_pace : z.pace < 2 ^ 63
+  pub y_after_x : AreClose x.beside_next y.beside_third
+  pub z_after_x : AreClose x.beside_third z.beside_next
+  pub z_after_y : AreClose y.beside_next z.beside_third
 
 -- the order tells how much later the second place comes than the first, above 2 ^ 63
 pub record IsOrder (order first second : ℕ) : Type 0 where

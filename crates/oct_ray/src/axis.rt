@@ -1,7 +1,8 @@
 //! One axis of a segment, and the faces of voxels that it crosses.
-ghost use Rattle.std.specs.Prelude.{◌≡◌, ◌*◌, ◌<◌, pos, ◌-ℤ◌};
+ghost use Rattle.std.specs.Prelude.{◌≡◌, ◌*◌, ◌^◌, ◌<◌, ◌≤◌, pos, ◌-ℤ◌};
 ghost use Rattle.oct_key.specs.Voxel.{IsResolution};
 ghost use Rattle.oct_ray.specs.Axis.{HasRoom, IsAxisBetween, IsAxisOf, IsOnMap};
+ghost use Rattle.oct_ray.specs.Met.{crossings_within, axis_after_part};
 
 /// One axis of a segment: where the origin stands, and which faces of voxels lie between it and the
 /// end.
@@ -34,6 +35,42 @@ impl Axis {
         ensures room { HasRoom result }
     {
         Axis::between(edge, height(edge, o), height(edge, e))
+    }
+
+    /// What is left of the axis just after this part of its segment, in 65,536ths.
+    pub fn after(&self, part: u16) -> Axis
+        requires room { HasRoom self.now }
+        ensures left { result ≡ axis_after_part part self.now }
+        ensures room { HasRoom result }
+    {
+        let way = (u128::from(self.span) * u128::from(part) / 65_536) as u64;
+        let taken = self.crossings_within(way);
+        Axis {
+            key: if self.rises {
+                self.key + taken
+            } else {
+                self.key - taken
+            },
+            rises: self.rises,
+            crossings: self.crossings - taken,
+            distance: self.distance + u64::from(taken) * self.edge,
+            span: self.span,
+            edge: self.edge,
+        }
+    }
+
+    /// How many faces lie at most this many nanometres from the origin.
+    fn crossings_within(&self, way: u64) -> u16
+        requires way { way < 2 ^ 62 }
+        requires room { HasRoom self.now }
+        ensures exact { result ≡ crossings_within way self.now }
+        ensures few { result ≤ self.now.crossings }
+    {
+        if way < self.distance {
+            return 0;
+        }
+        let most = (way - self.distance) / self.edge + 1;
+        most.min(u64::from(self.crossings)) as u16
     }
 
     /// The axis of a segment whose ends lie that high above the map's lower face.

@@ -26,6 +26,8 @@
 //! - A [`Walk`] is seen as the list of the voxels that it has still to give, at most 3 * 65,535 + 1
 //!   of them. As an iterator it takes off the first, and gives `None` exactly where the list is
 //!   empty.
+//! - [`Walk::after`] begins just after a part of the beam: what is left of the list there, for
+//!   whoever has no use for the voxels before.
 //! - [`Walk::near`] makes the same list a [`NearWalk`], in numbers of 64 bits, where they fit. Both
 //!   are a [`BeamWalk`], which gives the codes of its voxels up to the last one.
 //! - `met_by` computes the same list from the two points, and [`segments_are_walked`] says that it

@@ -2,7 +2,7 @@
 ghost use Rattle.std.specs.Prelude.{◌≡◌, ◌+◌, ◌*◌, ◌^◌, ◌<◌, ◌≤◌, nat_le};
 ghost use Rattle.oct_ray.specs.Given.{HasLast};
 ghost use Rattle.oct_ray.specs.Track.{AreTracks, keys_left};
-ghost use Rattle.oct_ray.specs.Near.{IsOrder, IsSmall, StaysOnMap};
+ghost use Rattle.oct_ray.specs.Near.{AreClose, AreSmall, IsOrder, StaysOnMap};
 ghost use Rattle.oct_ray.specs.Near.{after_pass, axis_of_track, bit};
 
 use crate::beam_walk::BeamWalk;
@@ -50,11 +50,14 @@ impl NearAxis {
 
 /// How much later the second crossing comes than the first, above [`TOGETHER`].
 fn order(first: u128, second: u128) -> u64
-    requires first { first < 2 ^ 63 }
-    requires second { second < 2 ^ 63 }
+    requires { AreClose first second }
     ensures { IsOrder result first second }
 {
-    TOGETHER + second as u64 - first as u64
+    if first <= second {
+        TOGETHER + (second - first) as u64
+    } else {
+        TOGETHER - (first - second) as u64
+    }
 }
 
 /// 1 where the second crossing comes no earlier.
@@ -125,9 +128,7 @@ impl NearWalk {
     #[inline(always)]
     pub(crate) fn new(x: Track, y: Track, z: Track, last: u64) -> NearWalk
         requires tracks { AreTracks x y z }
-        requires small_x { IsSmall x }
-        requires small_y { IsSmall y }
-        requires small_z { IsSmall z }
+        requires small { AreSmall x y z }
         requires last { HasLast (keys_left x y z) last }
         ensures { result ≡ keys_left x y z }
     {

@@ -1,9 +1,9 @@
 //! One axis of a walk under way.
-ghost use Rattle.std.specs.Prelude.{◌≡◌, true, false, IsTrue};
+ghost use Rattle.std.specs.Prelude.{◌≡◌, ◌↔◌, true, false, IsTrue};
 ghost use Rattle.std.specs.Bool.{OnTrue};
 ghost use Rattle.oct_ray.specs.Axis.{HasRoom};
 ghost use Rattle.oct_ray.specs.Track.{CanPass, IsTrackOf, crosses_now, has_ended, track_after};
-ghost use Rattle.oct_ray.specs.Near.{IsSmall};
+ghost use Rattle.oct_ray.specs.Near.{AreClose, AreSmall};
 
 use crate::axis::Axis;
 use oct_key::Dilated;
@@ -53,13 +53,6 @@ impl Track {
         }
     }
 
-    /// Whether its numbers fit 63 bits.
-    pub fn is_small(&self) -> bool
-        ensures { IsTrue result → IsSmall self.now }
-    {
-        self.beside_next < SMALL_END && self.beside_third < SMALL_END && self.pace < SMALL_END
-    }
-
     /// Whether this axis crosses no later than the other two.
     fn crosses_now(&self, next: &Track, third: &Track) -> bool
         ensures { result ≡ crosses_now self.now next.now third.now }
@@ -93,6 +86,26 @@ impl Track {
             self.beside_third += third_pace;
         }
     }
+}
+
+/// Whether the paces of three tracks, and how far their crossings are apart, fit 63 bits.
+pub fn are_small(x: &Track, y: &Track, z: &Track) -> bool
+    ensures small { IsTrue result → AreSmall x.now y.now z.now }
+    ensures only { AreSmall x.now y.now z.now → IsTrue result }
+{
+    x.pace < SMALL_END
+        && y.pace < SMALL_END
+        && z.pace < SMALL_END
+        && are_close(x.beside_next, y.beside_third)
+        && are_close(x.beside_third, z.beside_next)
+        && are_close(y.beside_next, z.beside_third)
+}
+
+/// Whether two places lie so near one another that 63 bits tell how much.
+fn are_close(first: u128, second: u128) -> bool
+    ensures { IsTrue result ↔ AreClose first second }
+{
+    first.saturating_sub(second) < SMALL_END && second.saturating_sub(first) < SMALL_END
 }
 
 /// Whether none of the axes has a crossing to come.

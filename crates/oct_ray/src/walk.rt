@@ -4,13 +4,13 @@ ghost use Rattle.std.specs.Prelude.{IsSome, IfSome, IfNone, IfOk, IfErr};
 ghost use Rattle.std.specs.Iterator.{YieldsFirst, item_count};
 ghost use Rattle.oct_key.specs.Voxel.{IsResolution, key_at};
 ghost use Rattle.oct_ray.specs.Segment.{IsWalkAlong};
-ghost use Rattle.oct_ray.specs.Given.{HasGiven, HasLast};
-ghost use Rattle.oct_ray.specs.Met.{met_by};
+ghost use Rattle.oct_ray.specs.Given.{HasGiven, HasLast, HasNext, IsRestOf};
+ghost use Rattle.oct_ray.specs.Met.{met_by, met_after};
 
 use crate::axis::Axis;
 use crate::beam_walk::BeamWalk;
 use crate::near::NearWalk;
-use crate::track::{Track, advance, has_ended};
+use crate::track::{Track, advance, are_small, has_ended};
 use oct_key::{Key, Point, Res, from_morton, morton_of_axes};
 use std::iter::FusedIterator;
 use std::marker::Model;
@@ -65,6 +65,40 @@ impl Walk {
         }
     }
 
+    /// The rest of the walk from `o` to `e` just after this part of it, in 65,536ths: where the
+    /// voxels before are of no use, they need not be walked.
+    pub fn after(res: Res, o: Point, e: Point, part: u16) -> Walk
+        requires origin { IsSome (key_at res o) }
+        requires end { IsSome (key_at res e) }
+        ensures computed { result ≡ met_after part res o e }
+        ensures rest { IsRestOf (met_by res o e) result }
+    {
+        let edge = edge_of(res);
+        let x = Axis::new(edge, o.x, e.x);
+        let y = Axis::new(edge, o.y, e.y);
+        let z = Axis::new(edge, o.z, e.z);
+        let late_x = x.after(part);
+        let late_y = y.after(part);
+        let late_z = z.after(part);
+        Walk {
+            x: Track::new(&late_x, &late_y, &late_z),
+            y: Track::new(&late_y, &late_z, &late_x),
+            z: Track::new(&late_z, &late_x, &late_y),
+            more: true,
+        }
+    }
+
+    /// The Morton code of the next voxel, which stays to come, or `None` where none is left.
+    pub fn peek_code(&self) -> Option<u64>
+        ensures next { IfSome result (HasNext self.now) }
+        ensures none { IfNone result (self.now ≡ []) }
+    {
+        if !self.more {
+            return None;
+        }
+        Some(morton_of_axes(&self.x.key, &self.y.key, &self.z.key))
+    }
+
     /// The same walk in numbers of 64 bits, where its own fit, or else the walk as it is: in both
     /// the voxels to come are the same, and a step of the first takes less time. `last` is the code
     /// of its last voxel.
@@ -74,7 +108,7 @@ impl Walk {
         ensures near { IfOk result (λ near. near ≡ self) }
         ensures far { IfErr result (λ walk. walk ≡ self) }
     {
-        if self.x.is_small() && self.y.is_small() && self.z.is_small() {
+        if are_small(&self.x, &self.y, &self.z) {
             Ok(NearWalk::new(self.x, self.y, self.z, last))
         } else {
             Err(self)

@@ -153,6 +153,24 @@ fn stops_before_the_last_voxel(rt: HostRuntime) -> Result<(), Fail> {
     Ok(())
 }
 
+/// What is left of a walk between two points of the map after a part of its way, in 65,536ths.
+fn rest(rt: &impl Abort, res: Res, o: Point, e: Point, part: u16) -> Walk {
+    assert!(rt; res.key_of(o).is_some() && res.key_of(e).is_some());
+    Walk::after(res, o, e, part)
+}
+
+#[test]
+fn goes_on_after_half_of_its_way(rt: HostRuntime) -> Result<(), Fail> {
+    let res = Res::new(TENTH)?;
+    let mut up = rest(&rt, res, hundredths(0, 0, 0), hundredths(20, 0, 0), 32_768);
+    expect_next(&rt, &mut up, Some(key(1, 0, 0)));
+    expect_next(&rt, &mut up, Some(key(2, 0, 0)));
+    expect_next(&rt, &mut up, None);
+    let mut down = rest(&rt, res, hundredths(20, 0, 0), hundredths(0, 0, 0), 32_768);
+    expect_next(&rt, &mut down, Some(key(0, 0, 0)));
+    Ok(())
+}
+
 /// A walk in 64 bits between two points of the map.
 fn near(rt: &impl Abort, res: Res, o: Point, e: Point) -> NearWalk {
     assert!(rt; res.key_of(o).is_some());
