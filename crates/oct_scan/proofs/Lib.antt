@@ -25,3 +25,4 @@ pub mod FewBricks
 pub mod Ordered
 pub mod LaterSpans
 pub mod BlockParts
+pub mod Entries

@@ -68,10 +68,10 @@ AreAdded old new ks end = (c : ℕ)
     ↔ (Contains (scanned_codes old) c ⊎ (Contains (map morton_of ks) c × (end ≢ c)))
 
 -- what is added in one box is what is added in another, where both keep the same
-added_so : (window window' : Option Window) (end end' : ℕ) (walk : List Voxel)
-    (old new : List Brick) → kept window' walk ≡ kept window walk → end ≡ end'
-    → IsWayAdded window end walk old new → IsWayAdded window' end' walk old new
-added_so window window' end end' walk old new same is h = record {
+added_so : (window window' : Option Window) (end end' : ℕ) (walk walk' : List Voxel)
+    (old new : List Brick) → kept window' walk' ≡ kept window walk → end ≡ end'
+    → IsWayAdded window end walk old new → IsWayAdded window' end' walk' old new
+added_so window window' end end' walk walk' old new same is h = record {
   scanned = subst (λ l. AreAdded old new l end') (sym same)
       (subst (λ e. AreAdded old new (kept window walk) e) is h.scanned);
   hits = h.hits;
@@ -79,12 +79,12 @@ added_so window window' end end' walk old new same is h = record {
 }
 
 pub added_as : {X E : Type 0} (r : Result X E) (window window' : Option Window) (end end' : ℕ)
-    (walk : List Voxel) (old new : List Brick) → kept window' walk ≡ kept window walk
+    (walk walk' : List Voxel) (old new : List Brick) → kept window' walk' ≡ kept window walk
     → end ≡ end' → OnOk r (IsWayAdded window end walk old new)
-    → OnOk r (IsWayAdded window' end' walk old new)
-added_as (Ok x) window window' end end' walk old new same is h =
-    added_so window window' end end' walk old new same is h
-added_as (Err e) window window' end end' walk old new same is h = h
+    → OnOk r (IsWayAdded window' end' walk' old new)
+added_as (Ok x) window window' end end' walk walk' old new same is h =
+    added_so window window' end end' walk walk' old new same is h
+added_as (Err e) window window' end end' walk walk' old new same is h = h
 
 pub none_added : (old : List Brick) (ks : List Voxel) (end : ℕ) → ks ≡ [] → AreAdded old old ks end
 none_added old ks end none c = (

@@ -8,10 +8,13 @@ ghost use Rattle.oct_key.specs.Morton.{morton_of};
 ghost use Rattle.oct_brick.specs.Bricks.{scanned_codes, hit_codes, IsBrick};
 ghost use Rattle.oct_scan.specs.Order.{AreKeys};
 ghost use Rattle.oct_scan.specs.Gathered.{HoldAllGathered, IsBeamHeld, IsHeld, IsCurrent};
+ghost use Rattle.oct_ray.specs.Met.{met_by};
+ghost use Rattle.oct_scan.specs.Entry.{IsWay};
 ghost use Rattle.oct_scan.specs.Gathered.{is_mute, EndsAt, GoesTo, IsSpanned, IsWayAdded};
 ghost use Rattle.oct_scan.specs.Piled.{AreFew};
 
 use crate::beam::Beam;
+use crate::entry::{is_passed_by, walk_to_box};
 use crate::order::{LEAST_KEYED, MOST_KEYED, sorted_keys};
 use crate::part::BlockPart;
 use crate::pile::BrickPile;
@@ -117,8 +120,7 @@ fn add_beam(
 {
     let start = res.key_of(origin).unwrap();
     let end = res.key_of(beam.end).unwrap();
-    let walk = Walk::new(res, origin, beam.end);
-    push_kept(bricks, walk, start, end, window)?;
+    push_kept(bricks, res, origin, beam.end, start, end, window)?;
     push_end(bricks, morton(end), is_mute(window, beam, end))?;
     Ok(())
 }
@@ -135,61 +137,55 @@ fn is_mute(window: &Option<Window>, beam: Beam, end: Key) -> bool
     beam.is_cut || is_outside
 }
 
-/// Adds the voxels of a walk but that of the end, as far as they lie in the box, where one stands.
+/// Adds the voxels of a beam but that of the end, as far as they lie in the box, where one stands.
 fn push_kept(
     bricks: &mut BrickPile,
-    walk: Walk,
+    res: Res,
+    origin: Point,
+    target: Point,
     start: Key,
     end: Key,
     window: &Option<Window>,
 ) -> Result<(), Memory>
-    requires ends { EndsAt end walk }
-    requires between { (k : Voxel) → Contains walk k → IsSpanned start end k }
-    requires onward { GoesTo end walk }
+    requires origin { IsSome (key_at res origin) }
+    requires target { IsSome (key_at res target) }
+    requires way { IsWay start end (met_by res origin target) }
     requires bricks { All IsBrick bricks.old }
-    ensures { OnOk result (IsWayAdded window.now (morton_of end) walk bricks.old bricks.new) }
+    ensures { OnOk result (IsWayAdded window.now (morton_of end) (met_by res origin target)
+        bricks.old bricks.new) }
 {
     match window {
-        None => push_way(bricks, walk, morton(end)),
-        Some(window) => push_part(bricks, walk, start, end, window),
+        None => push_way(bricks, Walk::new(res, origin, target), morton(end)),
+        Some(window) => push_part(bricks, res, origin, target, start, end, window),
     }
 }
 
 /// The same in a box. A walk whose ends both lie in it lies in it with all its voxels, and none
-/// that passes it by has one there: the voxels of either are tested together.
+/// that passes it by has one there. Any other is walked from where it comes to the box.
 fn push_part(
     bricks: &mut BrickPile,
-    walk: Walk,
+    res: Res,
+    origin: Point,
+    target: Point,
     start: Key,
     end: Key,
     window: &Window,
 ) -> Result<(), Memory>
-    requires ends { EndsAt end walk }
-    requires between { (k : Voxel) → Contains walk k → IsSpanned start end k }
-    requires onward { GoesTo end walk }
+    requires origin { IsSome (key_at res origin) }
+    requires target { IsSome (key_at res target) }
+    requires way { IsWay start end (met_by res origin target) }
     requires bricks { All IsBrick bricks.old }
-    ensures { OnOk result
-        (IsWayAdded (Some window.now) (morton_of end) walk bricks.old bricks.new) }
+    ensures { OnOk result (IsWayAdded (Some window.now) (morton_of end) (met_by res origin target)
+        bricks.old bricks.new) }
 {
     if window.holds(start) && window.holds(end) {
-        push_way(bricks, walk, morton(end))
+        push_way(bricks, Walk::new(res, origin, target), morton(end))
     } else if is_passed_by(window, start, end) {
         Ok(())
     } else {
+        let walk = walk_to_box(res, origin, target, start, end, window);
         push_inside(bricks, walk, end, window)
     }
-}
-
-/// Whether two voxels lie beyond a box on one side of it, so that no voxel of the box that they
-/// span lies in it.
-fn is_passed_by(window: &Window, a: Key, b: Key) -> bool
-    ensures { IsTrue result → (k : Voxel) → IsSpanned a b k
-        → IsInBox window.now.lo window.now.hi k → ⊥ }
-{
-    let (lo, hi) = (window.lo(), window.hi());
-    let below = a.x.max(b.x) < lo.x || a.y.max(b.y) < lo.y || a.z.max(b.z) < lo.z;
-    let above = hi.x < a.x.min(b.x) || hi.y < a.y.min(b.y) || hi.z < a.z.min(b.z);
-    below || above
 }
 
 /// Whether a walk comes from one block to the next one at the voxel of a code, and from there to the
