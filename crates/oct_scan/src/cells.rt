@@ -188,8 +188,8 @@ fn push_part(
     }
 }
 
-/// Whether a walk comes from one block to the next one at the voxel of a code, and from there to the
-/// end lies beyond a box.
+/// Whether a walk comes from one block to the next one at the voxel of a code, and from there to
+/// the end lies beyond a box.
 #[inline(always)]
 fn is_beyond(window: &Window, part: BlockPart, next: BlockPart, code: u64, end: Key) -> bool
     requires { code < 2 ^ 48 }
