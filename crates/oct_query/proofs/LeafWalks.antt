@@ -15,15 +15,19 @@ use Rattle.oct_key.specs.Values.{Values}
 use Rattle.oct_key.specs.Block.{Cube, IsBlock, HoldsVoxel, child_of, child_index_of, lowest_voxel}
 use Rattle.oct_key.proofs.Blocks.{child_index_below, lowest_held}
 use Rattle.oct_key.proofs.Held.{held_by_parent, held_by_child, held_in_map}
-use Rattle.oct_odds.specs.Update.{Value}
+use Rattle.oct_odds.specs.Odds.{Odds}
+use Rattle.oct_odds.specs.Update.{Value, class_of}
 use Rattle.oct_values.specs.Blocks.{child_numbers}
 use Rattle.oct_values.specs.Uniform.{IsUniform}
 use Rattle.oct_values.specs.Boxes.{is_met_by}
 use Rattle.oct_values.specs.Counts.{is_uniform}
 use Rattle.oct_values.proofs.Uniform.{uniform_exactly, uniform_of}
 use Rattle.oct_tree.proofs.Paths.{some_injective}
+use Rattle.oct_query.specs.Extent.{is_sought}
 use Rattle.oct_query.specs.Shown.{Shown}
 use Rattle.oct_query.specs.Leaves.{IsOneValue, own_leaf, leaves_below, block_leaves, that_meet}
+use Rattle.oct_query.specs.Leaves.{picked, those_sought}
+use Rattle.oct_query.specs.declared.sought.Sought.{Sought}
 
 -- ---- the leaves of children
 
@@ -142,96 +146,107 @@ several_of v b c i value next low some li child before here differ uniform =
     false≢true
     (sym (not-true (option_eq int_eq next value) differ) ∙ (tells_same next value).1 same)
 
--- ---- those that meet a box
+-- ---- those that are sought and meet a box
 
-pub meet_next : (v : Values) (lo hi : Voxel) (h : ℕ) (b : Cube) (i : ℕ)
-    → that_meet lo hi (first_leaves v h b (i + 1))
-    ≡ that_meet lo hi (first_leaves v h b i) ++ that_meet lo hi (leaves_below v h (child_of b i))
-meet_next v lo hi h b i =
-    ap (that_meet lo hi) (leaves_next v h b i)
-    ∙ filter-append (λ leaf. is_met_by lo hi leaf.block) (first_leaves v h b i)
-    (leaves_below v h (child_of b i))
+pub meet_next : (v : Values) (o : Odds) (s : Sought) (lo hi : Voxel) (h : ℕ) (b : Cube) (i : ℕ)
+    → picked o s lo hi (first_leaves v h b (i + 1))
+    ≡ picked o s lo hi (first_leaves v h b i) ++ picked o s lo hi (leaves_below v h (child_of b i))
+meet_next v o s lo hi h b i =
+    ap (picked o s lo hi) (leaves_next v h b i)
+    ∙ ap (those_sought o s)
+    (filter-append (λ leaf. is_met_by lo hi leaf.block) (first_leaves v h b i)
+    (leaves_below v h (child_of b i)))
+    ∙ filter-append (λ leaf. is_sought s (class_of o (Some leaf.value)))
+    (that_meet lo hi (first_leaves v h b i)) (that_meet lo hi (leaves_below v h (child_of b i)))
 
 -- a block of one value that meets the box
-pub meets_one : (v : Values) (lo hi : Voxel) (b : Cube) (value : Value) → IsBlock b
+pub meets_one : (v : Values) (o : Odds) (s : Sought) (lo hi : Voxel) (b : Cube) (value : Value)
+    → IsBlock b
     → is_met_by lo hi b ≡ true → ((k : Voxel) → HoldsVoxel b k → v k ≡ value)
-    → that_meet lo hi (block_leaves v b) ≡ own_leaf b value
-meets_one v lo hi b value ok met all =
-    ap (that_meet lo hi) (leaves_of_one v (16 - b.depth) b value ok all) ∙ own value
+    → picked o s lo hi (block_leaves v b) ≡ those_sought o s (own_leaf b value)
+meets_one v o s lo hi b value ok met all =
+    ap (picked o s lo hi) (leaves_of_one v (16 - b.depth) b value ok all) ∙ own value
   where
-    own : (value : Value) → that_meet lo hi (own_leaf b value) ≡ own_leaf b value
+    own : (value : Value)
+        → picked o s lo hi (own_leaf b value) ≡ those_sought o s (own_leaf b value)
     own None = refl
     own (Some x) = rw met refl
 
 -- so it is what is pushed
-pub pushed_one : {E : Type 0} (v : Values) (lo hi : Voxel) (b : Cube) (value : Value)
+pub pushed_one : {E : Type 0} (v : Values) (o : Odds) (s : Sought) (lo hi : Voxel) (b : Cube)
+    (value : Value)
     (old now : List Shown) (r : Result ⊤ E) → IsBlock b → is_met_by lo hi b ≡ true
     → ((k : Voxel) → HoldsVoxel b k → v k ≡ value)
-    → OnOk r (now ≡ old ++ own_leaf b value) → OnErr r (own_leaf b value ≡ [] → ⊥)
-    → OnOk r (now ≡ old ++ that_meet lo hi (block_leaves v b))
-    × OnErr r (that_meet lo hi (block_leaves v b) ≡ [] → ⊥)
-pushed_one v lo hi b value old now r ok met all listed some =
-    rw (meets_one v lo hi b value ok met all) (listed, some)
+    → OnOk r (now ≡ old ++ those_sought o s (own_leaf b value))
+    → OnErr r (those_sought o s (own_leaf b value) ≡ [] → ⊥)
+    → OnOk r (now ≡ old ++ picked o s lo hi (block_leaves v b))
+    × OnErr r (picked o s lo hi (block_leaves v b) ≡ [] → ⊥)
+pushed_one v o s lo hi b value old now r ok met all listed some =
+    rw (meets_one v o s lo hi b value ok met all) (listed, some)
 
 -- a block of several values
-pub meets_several : (v : Values) (lo hi : Voxel) (h : ℕ) (b : Cube) → IsBlock b
+pub meets_several : (v : Values) (o : Odds) (s : Sought) (lo hi : Voxel) (h : ℕ) (b : Cube)
+    → IsBlock b
     → 16 - b.depth ≡ suc h → IsOneValue v b None
-    → that_meet lo hi (block_leaves v b) ≡ that_meet lo hi (first_leaves v h b 8)
-meets_several v lo hi h b ok high several =
-    ap (λ (m : ℕ). that_meet lo hi (leaves_below v m b)) high
-    ∙ ap (that_meet lo hi) (leaves_of_parts v h b
+    → picked o s lo hi (block_leaves v b) ≡ picked o s lo hi (first_leaves v h b 8)
+meets_several v o s lo hi h b ok high several =
+    ap (λ (m : ℕ). picked o s lo hi (leaves_below v m b)) high
+    ∙ ap (picked o s lo hi) (leaves_of_parts v h b
     (false_from_ne_true (is_uniform v b) (λ is. several ((uniform_exactly v b ok).0 is))))
 
 -- no leaves yet
-pub listed_none : (v : Values) (lo hi : Voxel) (h : ℕ) (b : Cube) (old : List Shown)
-    → old ≡ old ++ that_meet lo hi (first_leaves v h b 0)
+pub listed_none : (v : Values) (o : Odds) (s : Sought) (lo hi : Voxel) (h : ℕ) (b : Cube)
+    (old : List Shown)
+    → old ≡ old ++ picked o s lo hi (first_leaves v h b 0)
 unfolding first_leaves
-listed_none v lo hi h b old = sym (append-nil old)
+listed_none v o s lo hi h b old = sym (append-nil old)
 
 -- those of a child more
-pub listed_next : (v : Values) (lo hi : Voxel) (h m : ℕ) (b c : Cube) (i : ℕ)
+pub listed_next : (v : Values) (o : Odds) (s : Sought) (lo hi : Voxel) (h m : ℕ) (b c : Cube)
+    (i : ℕ)
     (old before now : List Shown)
-    → before ≡ old ++ that_meet lo hi (first_leaves v h b i)
-    → now ≡ before ++ that_meet lo hi (leaves_below v m c) → c ≡ child_of b i → m ≡ h
-    → now ≡ old ++ that_meet lo hi (first_leaves v h b (i + 1))
-listed_next v lo hi h m b c i old before now was is child level =
-    is ∙ ap (λ (n : ℕ). before ++ that_meet lo hi (leaves_below v n c)) level
-    ∙ ap (λ (d : Cube). before ++ that_meet lo hi (leaves_below v h d)) child
-    ∙ ap (λ l. l ++ that_meet lo hi (leaves_below v h (child_of b i))) was
-    ∙ append_assoc old (that_meet lo hi (first_leaves v h b i))
-    (that_meet lo hi (leaves_below v h (child_of b i)))
-    ∙ ap (λ l. old ++ l) (sym (meet_next v lo hi h b i))
+    → before ≡ old ++ picked o s lo hi (first_leaves v h b i)
+    → now ≡ before ++ picked o s lo hi (leaves_below v m c) → c ≡ child_of b i → m ≡ h
+    → now ≡ old ++ picked o s lo hi (first_leaves v h b (i + 1))
+listed_next v o s lo hi h m b c i old before now was is child level =
+    is ∙ ap (λ (n : ℕ). before ++ picked o s lo hi (leaves_below v n c)) level
+    ∙ ap (λ (d : Cube). before ++ picked o s lo hi (leaves_below v h d)) child
+    ∙ ap (λ l. l ++ picked o s lo hi (leaves_below v h (child_of b i))) was
+    ∙ append_assoc old (picked o s lo hi (first_leaves v h b i))
+    (picked o s lo hi (leaves_below v h (child_of b i)))
+    ∙ ap (λ l. old ++ l) (sym (meet_next v o s lo hi h b i))
 
 -- an unknown child has none
-pub listed_unknown : (v : Values) (lo hi : Voxel) (h : ℕ) (b : Cube) (i : ℕ)
+pub listed_unknown : (v : Values) (o : Odds) (s : Sought) (lo hi : Voxel) (h : ℕ) (b : Cube) (i : ℕ)
     (old before : List Shown)
-    → before ≡ old ++ that_meet lo hi (first_leaves v h b i) → IsBlock (child_of b i)
+    → before ≡ old ++ picked o s lo hi (first_leaves v h b i) → IsBlock (child_of b i)
     → ((k : Voxel) → IsInMap k → HoldsVoxel (child_of b i) k → v k ≡ None)
-    → before ≡ old ++ that_meet lo hi (first_leaves v h b (i + 1))
-listed_unknown v lo hi h b i old before was ok unknown =
+    → before ≡ old ++ picked o s lo hi (first_leaves v h b (i + 1))
+listed_unknown v o s lo hi h b i old before was ok unknown =
     let none : leaves_below v h (child_of b i) ≡ [] =
     leaves_of_one v h (child_of b i) None ok
     (λ k held. unknown k (held_in_map (child_of b i) k ok held) held) in
-    listed_next v lo hi h h b (child_of b i) i old before before was
-    (sym (append-nil before) ∙ ap (λ l. before ++ that_meet lo hi l) (sym none)) refl refl
+    listed_next v o s lo hi h h b (child_of b i) i old before before was
+    (sym (append-nil before) ∙ ap (λ l. before ++ picked o s lo hi l) (sym none)) refl refl
 
 -- where one child has some, the first n children have
-pub some_in_child : (v : Values) (lo hi : Voxel) (h m : ℕ) (b c : Cube) (i : ℕ)
+pub some_in_child : (v : Values) (o : Odds) (s : Sought) (lo hi : Voxel) (h m : ℕ) (b c : Cube)
+    (i : ℕ)
     → c ≡ child_of b i → m ≡ h
-    → (that_meet lo hi (leaves_below v m c) ≡ [] → ⊥) → (n : ℕ) → i < n
-    → that_meet lo hi (first_leaves v h b n) ≡ [] → ⊥
-some_in_child v lo hi h m b c i child level some zero less none = omega (arith, less)
-some_in_child v lo hi h m b c i child level some (suc n) less none =
+    → (picked o s lo hi (leaves_below v m c) ≡ [] → ⊥) → (n : ℕ) → i < n
+    → picked o s lo hi (first_leaves v h b n) ≡ [] → ⊥
+some_in_child v o s lo hi h m b c i child level some zero less none = omega (arith, less)
+some_in_child v o s lo hi h m b c i child level some (suc n) less none =
     let one : n + 1 ≡ suc n = omega arith in
-    let (before, here) = parts (that_meet lo hi (first_leaves v h b n))
-    (that_meet lo hi (leaves_below v h (child_of b n)))
-    (sym (meet_next v lo hi h b n)
-    ∙ ap (λ (k : ℕ). that_meet lo hi (first_leaves v h b k)) one ∙ none) in
+    let (before, here) = parts (picked o s lo hi (first_leaves v h b n))
+    (picked o s lo hi (leaves_below v h (child_of b n)))
+    (sym (meet_next v o s lo hi h b n)
+    ∙ ap (λ (k : ℕ). picked o s lo hi (first_leaves v h b k)) one ∙ none) in
     elim (cases_lt i n) [
-      | inl old ↦ some_in_child v lo hi h m b c i child level some n old before
+      | inl old ↦ some_in_child v o s lo hi h m b c i child level some n old before
       | inr last ↦ (let e : i ≡ n = omega (arith, less, last) in
-          some (ap (λ (k : ℕ). that_meet lo hi (leaves_below v k c)) level
-          ∙ ap (λ (d : Cube). that_meet lo hi (leaves_below v h d)) (child ∙ ap (child_of b) e)
+          some (ap (λ (k : ℕ). picked o s lo hi (leaves_below v k c)) level
+          ∙ ap (λ (d : Cube). picked o s lo hi (leaves_below v h d)) (child ∙ ap (child_of b) e)
           ∙ here))
     ]
   where

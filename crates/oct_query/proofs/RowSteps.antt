@@ -1,6 +1,7 @@
 -- The list of blocks, one block, one row and one plane more.
-use Rattle.std.proofs.Common.{Result, Ok, Err, OnOk, IfErr, ◌*◌, ◌≡◌, ℕ, zero, suc, ◌+◌, ◌-◌, ◌/◌}
-use Rattle.std.proofs.Common.{◌≤◌, List, [], ◌∷◌, ◌++◌, map, length, Some, None, Option, inl, inr}
+use Rattle.std.proofs.Common.{Result, Ok, Err, OnErr, OnOk, IfErr, ◌*◌, ◌≡◌, ℕ, zero, suc, ◌+◌}
+use Rattle.std.proofs.Common.{◌-◌, ◌/◌, ◌≤◌, List, [], ◌∷◌, ◌++◌, map, length, Some, None}
+use Rattle.std.proofs.Common.{Option, inl, inr}
 use Rattle.std.proofs.Common.{refl, sym, subst, ◌∙◌, ap, arith}
 use Rattle.std.specs.Prelude.{◌⊎◌, ℤ}
 use Rattle.std.specs.List.{filter_map, flat_map}
@@ -225,6 +226,11 @@ listed_are values lo hi depth found bs is all = is ∙ ap (filter_map (shown val
 pub on_done : {T E : Type 0} (r : Result T E) (P Q : Type 0) → OnOk r P → (P → Q) → OnOk r Q
 on_done (Ok x) P Q h f = f h
 on_done (Err e) P Q h f = tt
+
+-- what follows where it isn't
+pub on_failed : {T E : Type 0} (r : Result T E) (P Q : Type 0) → OnErr r P → (P → Q) → OnErr r Q
+on_failed (Ok x) P Q h f = tt
+on_failed (Err e) P Q h f = f h
 
 -- this many blocks meet a box as the spans of their numbers say
 pub count_is : (lo hi : Voxel) (depth fx tx fy ty fz tz nx ny nz : ℕ) → IsBox lo hi → IsInMap hi

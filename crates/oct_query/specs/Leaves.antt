@@ -7,7 +7,8 @@ use Rattle.oct_key.specs.Values.{Values}
 use Rattle.oct_key.specs.Block.{Cube, IsBlock, HoldsVoxel, child_of, parent_of, lowest_voxel}
 use Rattle.oct_key.specs.Block.{root_block}
 use Rattle.oct_key.specs.Morton.{morton_of}
-use Rattle.oct_odds.specs.Update.{Value}
+use Rattle.oct_odds.specs.Odds.{Odds}
+use Rattle.oct_odds.specs.Update.{Value, class_of}
 use Rattle.oct_values.specs.Blocks.{child_numbers}
 use Rattle.oct_values.specs.Boxes.{is_met_by}
 use Rattle.oct_values.specs.Uniform.{IsUniform}
@@ -15,7 +16,9 @@ use Rattle.oct_values.specs.Counts.{is_uniform}
 use Rattle.oct_arena.specs.declared.node.Node.TheVariants.{Leaf}
 use Rattle.oct_tree.specs.Tree.{Tree, IsPlace, block_in, node_in}
 use Rattle.oct_tree.specs.declared.place.Place.{Place}
+use Rattle.oct_query.specs.Extent.{is_sought}
 use Rattle.oct_query.specs.Shown.{Shown}
+use Rattle.oct_query.specs.declared.sought.Sought.{Sought}
 
 -- a block with a value is a leaf of the map: all its voxels have the value, and it is the whole map
 -- or its parent's voxels don't have one value, where unknown counts as a value
@@ -71,6 +74,15 @@ that_meet lo hi leaves = filter (λ leaf. is_met_by lo hi leaf.block) leaves
 -- the leaves of a map whose blocks meet the box of two voxels, in their order
 abbrev pub leaves_met : Values → Voxel → Voxel → List Shown
 leaves_met values lo hi = that_meet lo hi (leaves_of values)
+
+-- those of a list whose voxels are sought, by the class of their value
+abbrev pub those_sought : Odds → Sought → List Shown → List Shown
+those_sought odds sought leaves =
+    filter (λ leaf. is_sought sought (class_of odds (Some leaf.value))) leaves
+
+-- those of a list that are sought, and whose blocks meet the box of two voxels
+abbrev pub picked : Odds → Sought → Voxel → Voxel → List Shown → List Shown
+picked odds sought lo hi leaves = those_sought odds sought (that_meet lo hi leaves)
 
 -- the value that all voxels of a block have, where unknown counts as one, or none where they have
 -- several

@@ -14,8 +14,8 @@ use oct_key::{Block, Key, Window};
 use oct_odds::Class;
 use oct_tree::{OccTree, Place};
 
-/// The least box of voxels that holds every known voxel of the map, or every occupied one, or
-/// `None` exactly where there is none. Reads each node once and takes no memory.
+/// The least box of voxels that holds every voxel of the map that is sought, or `None` exactly
+/// where there is none. Reads each node once and takes no memory.
 pub fn bounds(tree: &OccTree, sought: Sought) -> Option<Window>
     ensures exact { IsExtent (IsFound (classes_in tree.now) sought) result }
     ensures linked { IsLinked tree.now }
@@ -43,7 +43,7 @@ fn bounds_in(tree: &OccTree, p: Place, block: Block, sought: Sought) -> Option<W
 }
 
 /// Whether a voxel of this class is one of those that are sought.
-fn is_sought(sought: Sought, class: Class) -> bool
+pub(crate) fn is_sought(sought: Sought, class: Class) -> bool
     ensures { result ≡ is_sought sought class }
 {
     match sought {
@@ -53,6 +53,10 @@ fn is_sought(sought: Sought, class: Class) -> bool
         },
         Sought::Occupied => match class {
             Class::Occupied => true,
+            _ => false,
+        },
+        Sought::Free => match class {
+            Class::Free => true,
             _ => false,
         },
     }

@@ -8,6 +8,7 @@
 //! for found in list(alloc, &tree, lo, hi, 15, 1_000_000)?.as_slice() { .. }
 //! for leaf in leaves(alloc, &tree)?.as_slice() { .. }
 //! for leaf in leaves_in(alloc, &tree, &window)?.as_slice() { .. }
+//! for leaf in leaves_of(alloc, &tree, Sought::Occupied)?.as_slice() { .. }
 //! let window = bounds(&tree, Sought::Occupied);     // None where no voxel is occupied
 //! ```
 //!
@@ -26,14 +27,16 @@
 //! - [`leaves`] answers the greatest blocks whose voxels are known and have one value, in the order
 //!   of the Morton codes of their first voxels (`leaves_of`), so a tree that isn't pruned gives the
 //!   same ones; of a pruned tree they are its leaf nodes ([`leaves_are_leaf_nodes`]).
-//!   [`leaves_in`] answers exactly those whose blocks meet a box (`leaves_met`).
-//! - [`bounds`] answers the least box around the known voxels, or around the occupied ones
+//!   [`leaves_in`] answers exactly those whose blocks meet a box (`leaves_met`), and [`leaves_of`]
+//!   those of one class (`those_sought`).
+//! - [`bounds`] answers the least box around the known voxels, or around those of one class
 //!   (`IsExtent`).
 //!
-//! Walks go down from the root, and not into a block that doesn't meet the box; a list keeps the
-//! way to its last block (`Path`). Of a block with children `leaves` first looks whether all of its
-//! voxels have one value, as far as the first two that differ: in a pruned tree that is after at
-//! most eight nodes for each depth below. Lists alone take memory.
+//! Walks go down from the root, and not into a block that doesn't meet the box, nor, where occupied
+//! voxels are sought in a tree that is known to be fresh, into one whose node tells that it holds
+//! none; a list keeps the way to its last block (`Path`). Of a block with children `leaves` first
+//! looks whether all of its voxels have one value, as far as the first two that differ: in a pruned
+//! tree that is after at most eight nodes for each depth below. Lists alone take memory.
 #![tactic(auto)]
 
 mod block_list;
@@ -56,7 +59,7 @@ pub use extent::bounds;
 pub use fault::ListFault;
 pub use found::Found;
 pub use laws::{groups_are_needed, leaves_are_leaf_nodes, pruned_is_least};
-pub use leaf_list::{leaves, leaves_in};
+pub use leaf_list::{leaves, leaves_in, leaves_of, leaves_of_in};
 pub use listing::list;
 pub use nodes::counts;
 pub use paths::Paths;

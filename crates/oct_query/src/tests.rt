@@ -305,6 +305,26 @@ fn lists_the_leaves_that_meet_a_box(rt: HostRuntime) -> Result<(), Fail> {
     Ok(())
 }
 
+/// Expects these to be the leaves that are sought.
+fn expect_sought(rt: &impl Abort, alloc: Global, tree: &OccTree, sought: Sought, want: &[Found]) {
+    match leaves_of(alloc, tree, sought) {
+        Ok(list) => assert_eq!(rt; list.as_slice(), want),
+        Err(_) => panic!(rt; "out of memory"),
+    }
+}
+
+#[test]
+fn lists_the_leaves_of_a_class(rt: HostRuntime) -> Result<(), Fail> {
+    let alloc = rt.alloc();
+    let occupied = block_found(&rt, 1, (32_768, 32_768, 0), 900);
+    let free = block_found(&rt, 1, (32_768, 0, 32_768), -400);
+    let two = two_children(alloc)?;
+    expect_sought(&rt, alloc, &two, Sought::Occupied, &[occupied]);
+    expect_sought(&rt, alloc, &two, Sought::Free, &[free]);
+    expect_sought(&rt, alloc, &two, Sought::Known, &[occupied, free]);
+    Ok(())
+}
+
 /// Expects these corners of the least box.
 fn expect_bounds(rt: &impl Abort, tree: &OccTree, sought: Sought, want: Option<(Voxel, Voxel)>) {
     let found = bounds(tree, sought).map(|w| {
@@ -328,5 +348,7 @@ fn finds_the_least_box_around_voxels(rt: HostRuntime) -> Result<(), Fail> {
     let occupied = ((32_768, 32_768, 0), (65_535, 65_535, 32_767));
     expect_bounds(&rt, &two, Sought::Known, Some(known));
     expect_bounds(&rt, &two, Sought::Occupied, Some(occupied));
+    let free = ((32_768, 0, 32_768), (65_535, 32_767, 65_535));
+    expect_bounds(&rt, &two, Sought::Free, Some(free));
     Ok(())
 }

@@ -10,22 +10,31 @@ use Rattle.oct_tree.specs.Tree.{value_at}
 use Rattle.oct_tree.specs.declared.place.Place.TheVariants.{Slot}
 use Rattle.oct_tree.proofs.Links.{place_in_map}
 use Rattle.oct_tree.proofs.Paths.{not_inner}
-use Rattle.oct_query.specs.Leaves.{that_meet}
+use Rattle.oct_query.specs.Leaves.{picked}
 use Rattle.oct_query.proofs.Above.{above, child_slot}
 use Rattle.oct_query.proofs.LeafWalks.{all_of_node, first_leaves, pushed_one}
 use Rattle.oct_query.proofs.LeafWalks.{meets_several, listed_none, listed_next, some_in_child}
 use Rattle.oct_query.proofs.LeafWalks.{listed_unknown}
-use Rattle.oct_query.proofs.LeafBoxes.{met_exactly, none_meet}
+use Rattle.oct_query.proofs.LeafBoxes.{met_exactly, none_picked, none_sought}
 use Rattle.oct_query.proofs.leaf_list.+push_leaves.Goals as goal
 
 pub returns-then-not-meets-clause-listed : goal.returns-then-not-meets-clause-listed
 returns-then-not-meets-clause-listed t c =
     sym (append-nil c.args.found.now)
     ∙ ap (λ l. c.args.found.now ++ l)
-    (sym (none_meet (value_at c.args.tree.now) c.args.window.now.lo c.args.window.now.hi
+    (sym (none_picked (value_at c.args.tree.now) c.args.tree.now.odds c.args.sought
+    c.args.window.now.lo c.args.window.now.hi
     (cube_of c.args.block)
     (block_in_map c.args.block)
     (sym (met_exactly _ _ _ _ (block_in_map c.args.block) c.if-not-meets.ensures))))
+
+pub returns-then-holds_none-clause-listed : goal.returns-then-holds_none-clause-listed
+returns-then-holds_none-clause-listed t c =
+    sym (append-nil c.args.found.now)
+    ∙ ap (λ l. c.args.found.now ++ l)
+    (sym (none_sought (value_at c.args.tree.now) c.args.tree.now.odds c.args.sought
+    c.args.window.now.lo c.args.window.now.hi (cube_of c.args.block) (block_in_map c.args.block)
+    (c.holds_none.ensures.none c.if-holds_none.true)))
 
 pub returns-in_default : goal.returns-in_default
 returns-in_default t c =
@@ -36,7 +45,8 @@ returns-in_default t c =
     (value_of c.node-node.result) c.value.result ok
     (c.node-node.ensures.values (cube_of c.args.block) c.requires.block none)
     c.value.ensures.exact in
-    let (listed, memory) = pushed_one (value_at c.args.tree.now) c.args.window.now.lo
+    let (listed, memory) = pushed_one (value_at c.args.tree.now) c.args.tree.now.odds c.args.sought
+    c.args.window.now.lo
     c.args.window.now.hi
     (cube_of c.args.block) c.value.result c.args.found.now _ c.push_block.result ok
     (sym (met_exactly _ _ _ _ (block_in_map c.args.block) c.if-not-meets.ensures)) all
@@ -45,7 +55,8 @@ returns-in_default t c =
 
 pub returns-in-Some-clause-listed : goal.returns-in-Some-clause-listed
 returns-in-Some-clause-listed t c =
-    (pushed_one (value_at c.args.tree.now) c.args.window.now.lo c.args.window.now.hi
+    (pushed_one (value_at c.args.tree.now) c.args.tree.now.odds c.args.sought c.args.window.now.lo
+    c.args.window.now.hi
     (cube_of c.args.block) c.in-Some.value c.args.found.now _ c.push_block-in-Some.result
     (block_in_map c.args.block)
     (sym (met_exactly _ _ _ _ (block_in_map c.args.block) c.if-not-meets.ensures))
@@ -54,7 +65,8 @@ returns-in-Some-clause-listed t c =
 
 pub returns-in-Some-clause-memory : goal.returns-in-Some-clause-memory
 returns-in-Some-clause-memory t c =
-    (pushed_one (value_at c.args.tree.now) c.args.window.now.lo c.args.window.now.hi
+    (pushed_one (value_at c.args.tree.now) c.args.tree.now.odds c.args.sought c.args.window.now.lo
+    c.args.window.now.hi
     (cube_of c.args.block) c.in-Some.value c.args.found.now _ c.push_block-in-Some.result
     (block_in_map c.args.block)
     (sym (met_exactly _ _ _ _ (block_in_map c.args.block) c.if-not-meets.ensures))
@@ -63,7 +75,8 @@ returns-in-Some-clause-memory t c =
 
 pub loop-i-init : goal.loop-i-init
 loop-i-init t c = record {
-  listed = listed_none (value_at c.args.tree.now) c.args.window.now.lo c.args.window.now.hi
+  listed = listed_none (value_at c.args.tree.now) c.args.tree.now.odds c.args.sought
+      c.args.window.now.lo c.args.window.now.hi
       (16 - (c.args.block.depth + 1)) (cube_of c.args.block) c.args.found.now;
 }
 
@@ -81,12 +94,14 @@ returns-in_err-push_leaves-clause-memory t c =
     c.in-Inner.ensures.linked c.requires.place (ap link_of (sym c.in-Inner.ensures.exact))
     c.requires.block in
     on_any_err c.from_residual.result _
-    (λ none. some_in_child (value_at c.args.tree.now) c.args.window.now.lo c.args.window.now.hi
+    (λ none. some_in_child (value_at c.args.tree.now) c.args.tree.now.odds c.args.sought
+    c.args.window.now.lo c.args.window.now.hi
     (16 - (c.args.block.depth + 1)) (16 - c.child.result.depth) (cube_of c.args.block)
     (cube_of c.child.result) c.loop-i.i c.child.ensures.exact
     (ap (λ (b : Cube). 16 - b.depth) c.child.ensures.exact ∙ a.child c.loop-i.i)
     c.in_err-push_leaves.ensures.memory 8 (omega arith)
-    (sym (meets_several (value_at c.args.tree.now) c.args.window.now.lo c.args.window.now.hi
+    (sym (meets_several (value_at c.args.tree.now) c.args.tree.now.odds c.args.sought
+    c.args.window.now.lo c.args.window.now.hi
     (16 - (c.args.block.depth + 1)) (cube_of c.args.block) a.ok a.next
     c.in_default-shared_value.ensures.exact) ∙ none))
 
@@ -96,7 +111,8 @@ loop-i-preserved t c =
     c.in-Inner.ensures.linked c.requires.place (ap link_of (sym c.in-Inner.ensures.exact))
     c.requires.block in
     record {
-      listed = listed_next (value_at c.args.tree.now) c.args.window.now.lo c.args.window.now.hi
+      listed = listed_next (value_at c.args.tree.now) c.args.tree.now.odds c.args.sought
+          c.args.window.now.lo c.args.window.now.hi
           (16 - (c.args.block.depth + 1)) (16 - c.child.result.depth) (cube_of c.args.block)
           (cube_of c.child.result) c.loop-i.i c.args.found.now c.loop-i.found _
           c.loop-i.invariant.listed c.in_ok-push_leaves.ensures.listed c.child.ensures.exact
@@ -111,7 +127,8 @@ loop-i-preserved-in-Absent t c =
     (cube_of c.args.block) child c.loop-i.i c.in-Inner.ensures.linked c.requires.place
     (ap link_of (sym c.in-Inner.ensures.exact)) c.requires.block refl (omega arith) in
     record {
-      listed = listed_unknown (value_at c.args.tree.now) c.args.window.now.lo c.args.window.now.hi
+      listed = listed_unknown (value_at c.args.tree.now) c.args.tree.now.odds c.args.sought
+          c.args.window.now.lo c.args.window.now.hi
           (16 - (c.args.block.depth + 1)) (cube_of c.args.block) c.loop-i.i c.args.found.now
           c.loop-i.found c.loop-i.invariant.listed
           (place_in_map c.args.tree.now c.in-Inner.ensures.linked
@@ -126,11 +143,13 @@ returns-clause-listed t c =
     c.requires.block in
     let end : c.loop-i.i ≡ 8 = omega arith in
     c.loop-i.invariant.listed
-    ∙ ap (λ (n : ℕ). c.args.found.now ++ that_meet c.args.window.now.lo c.args.window.now.hi
+    ∙ ap (λ (n : ℕ). c.args.found.now ++ picked c.args.tree.now.odds c.args.sought
+    c.args.window.now.lo c.args.window.now.hi
     (first_leaves (value_at c.args.tree.now) (16 - (c.args.block.depth + 1))
     (cube_of c.args.block) n)) end
     ∙ ap (λ l. c.args.found.now ++ l)
-    (sym (meets_several (value_at c.args.tree.now) c.args.window.now.lo c.args.window.now.hi
+    (sym (meets_several (value_at c.args.tree.now) c.args.tree.now.odds c.args.sought
+    c.args.window.now.lo c.args.window.now.hi
     (16 - (c.args.block.depth + 1)) (cube_of c.args.block) a.ok a.next
     c.in_default-shared_value.ensures.exact))
 
