@@ -5,7 +5,9 @@ use Rattle.oct_key.specs.Voxel.{Voxel, key_at}
 use Rattle.oct_key.specs.Values.{Values}
 use Rattle.oct_key.specs.Boxes.{is_box}
 use Rattle.oct_query.specs.Shown.{Shown}
-use Rattle.oct_query.specs.Leaves.{leaves_met}
+use Rattle.oct_odds.specs.Odds.{Odds}
+use Rattle.oct_query.specs.Leaves.{leaves_met, those_sought}
+use Rattle.oct_query.specs.declared.sought.Sought.{Sought}
 use Rattle.oct_map.specs.declared.fault.MapFault.{MapFault}
 use Rattle.oct_map.specs.declared.fault.MapFault.TheVariants.{Outside, BadBox}
 use Rattle.oct_map.specs.Ground.{Ground}
@@ -22,3 +24,15 @@ leaves_in_answer_at values (Some lo) (Some hi) =
 abbrev pub leaves_in_answer : Ground → Values → Point → Point → Result (List Shown) MapFault
 leaves_in_answer g values lo hi =
     leaves_in_answer_at values (key_at g.res lo) (key_at g.res hi)
+
+-- those of the leaves of an answer that are sought
+abbrev pub sought_answer : Odds → Sought → Result (List Shown) MapFault
+    → Result (List Shown) MapFault
+sought_answer odds sought (Ok leaves) = Ok (those_sought odds sought leaves)
+sought_answer odds sought (Err fault) = Err fault
+
+-- the leaves that are sought and meet the box whose corners are the voxels that hold two points
+abbrev pub sought_in_answer : Ground → Values → Sought → Point → Point
+    → Result (List Shown) MapFault
+sought_in_answer g values sought lo hi =
+    sought_answer g.odds sought (leaves_in_answer g values lo hi)

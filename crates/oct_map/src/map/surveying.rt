@@ -1,10 +1,10 @@
 //! What a map holds as a whole: its leaves, how far it reaches, its limits and its memory.
 ghost use Rattle.std.specs.Prelude.{◌≡◌, ◌-◌, ◌^◌, min, [], Ok, Err, IsOk, IfOk};
 ghost use Rattle.oct_query.specs.Extent.{IsExtent, IsFound};
-ghost use Rattle.oct_query.specs.Leaves.{IsLeafList, leaves_of};
+ghost use Rattle.oct_query.specs.Leaves.{IsLeafList, leaves_of, those_sought};
 ghost use Rattle.oct_map.specs.declared.fault.MapFault.{MapFault};
 ghost use Rattle.oct_map.specs.Answers.{IsAnswerOrMemory};
-ghost use Rattle.oct_map.specs.Leaves.{leaves_in_answer};
+ghost use Rattle.oct_map.specs.Leaves.{leaves_in_answer, sought_in_answer};
 ghost use Rattle.oct_map.specs.Marks.{classes_in};
 ghost use Rattle.oct_map.specs.Memory.{memory_of};
 
@@ -14,7 +14,7 @@ use crate::limits::Limits;
 use oct_arena::Group;
 use oct_change::Note;
 use oct_key::{Point, Window};
-use oct_query::{BlockList, Sought, bounds, leaves, leaves_in};
+use oct_query::{BlockList, Sought, bounds, leaves, leaves_of, leaves_of_in};
 use std::mem::size_of;
 
 /// The bytes of a group.
@@ -56,6 +56,32 @@ impl OccMap {
             × (leaves_in_answer (ground_of self.now) (values_of self.now) lo hi ≡ Ok [] → ⊥) }
         ensures map { IsMap self.now }
     {
+        self.leaves_of_in(lo, hi, Sought::Known)
+    }
+
+    /// Those of the leaves of the map whose voxels are sought, by their class, in the same order. A
+    /// stale map answers as well, but each of its leaves is looked at.
+    pub fn leaves_of(&self, sought: Sought) -> Result<BlockList, MapFault>
+        ensures answer { IsAnswerOrMemory
+            (Ok (those_sought self.now.tree.odds sought (leaves_of (values_of self.now)))) result }
+        ensures memory { result ≡ Err MapFault.Memory
+            → those_sought self.now.tree.odds sought (leaves_of (values_of self.now)) ≡ [] → ⊥ }
+        ensures map { IsMap self.now }
+    {
+        Ok(leaves_of(self.alloc, &self.tree, sought)?)
+    }
+
+    /// Those of these leaves whose blocks meet the box whose corners hold the two points, both
+    /// included. It is refused as [`leaves_in`](OccMap::leaves_in).
+    pub fn leaves_of_in(&self, lo: Point, hi: Point, sought: Sought) -> Result<BlockList, MapFault>
+        ensures answer { IsAnswerOrMemory
+            (sought_in_answer (ground_of self.now) (values_of self.now) sought lo hi) result }
+        ensures memory { result ≡ Err MapFault.Memory
+            → IsOk (sought_in_answer (ground_of self.now) (values_of self.now) sought lo hi)
+            × (sought_in_answer (ground_of self.now) (values_of self.now) sought lo hi ≡ Ok []
+            → ⊥) }
+        ensures map { IsMap self.now }
+    {
         let Some(low) = self.tree.res().key_of(lo) else {
             return Err(MapFault::Outside { point: 1 });
         };
@@ -65,11 +91,11 @@ impl OccMap {
         let Some(window) = Window::new(low, high) else {
             return Err(MapFault::BadBox);
         };
-        Ok(leaves_in(self.alloc, &self.tree, &window)?)
+        Ok(leaves_of_in(self.alloc, &self.tree, &window, sought)?)
     }
 
-    /// The least box of voxels that holds every known voxel of the map, or every occupied one, or
-    /// `None` where there is none. A stale map answers as well.
+    /// The least box of voxels that holds every voxel of the map that is sought, or `None` where
+    /// there is none. A stale map answers as well.
     pub fn bounds(&self, sought: Sought) -> Option<Window>
         ensures exact { IsExtent (IsFound (classes_in self.now) sought) result }
         ensures map { IsMap self.now }

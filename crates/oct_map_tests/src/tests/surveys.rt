@@ -97,6 +97,26 @@ fn tells_its_leaves_whatever_was_pruned(rt: HostRuntime) {
 }
 
 #[test]
+fn tells_the_leaves_of_a_class(rt: HostRuntime) {
+    let mut map = world(&rt, rt.alloc(), 64);
+    hit_eight(&rt, &mut map, true);
+    expect_edit(&rt, &mut map, tenths(2, 0, 0), MISS, true, Ok(()));
+    let eight = found(&rt, &map, ORIGIN, 15, 850);
+    let one = found(&rt, &map, tenths(2, 0, 0), 16, -400);
+    expect_found(&rt, map.leaves_of(Sought::Occupied), &[eight]);
+    expect_found(&rt, map.leaves_of(Sought::Free), &[one]);
+    // Once the inner values are right, only what is occupied is entered.
+    map.refresh();
+    expect_found(&rt, map.leaves_of(Sought::Occupied), &[eight]);
+    let box_of_both = (BEFORE, tenths(2, 0, 0));
+    expect_found(
+        &rt,
+        map.leaves_of_in(box_of_both.0, box_of_both.1, Sought::Free),
+        &[one],
+    );
+}
+
+#[test]
 fn refuses_a_box_of_leaves_in_order(rt: HostRuntime) {
     let map = world(&rt, rt.alloc(), 64);
     let cases = [
