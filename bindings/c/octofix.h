@@ -175,9 +175,10 @@ enum { /* kinds of changes since a mark */
     OCTOFIX_FREED = 3     /* was occupied, and is free */
 };
 
-enum { /* what octofix_bounds looks for */
+enum { /* what octofix_bounds and octofix_leaves_of look for */
     OCTOFIX_KNOWN_VOXELS = 0,
-    OCTOFIX_OCCUPIED_VOXELS = 1
+    OCTOFIX_OCCUPIED_VOXELS = 1,
+    OCTOFIX_FREE_VOXELS = 2
 };
 
 /* The table of codes. 3 to 35 have the numbers that the same refusals have in a script of the
@@ -404,8 +405,22 @@ uint32_t octofix_leaves_in(const octofix_map *map, const octofix_point *low,
                            const octofix_point *high, octofix_block *blocks, size_t room,
                            size_t *count, octofix_details *details);
 
-/* The smallest box that holds all voxels that are sought (OCTOFIX_KNOWN_VOXELS or
- * OCTOFIX_OCCUPIED_VOXELS), where the code is 0. Costs a walk.
+/* Those of the blocks of octofix_leaves whose voxels are sought (OCTOFIX_KNOWN_VOXELS,
+ * OCTOFIX_OCCUPIED_VOXELS or OCTOFIX_FREE_VOXELS), in the same order. For occupied ones of a map
+ * that isn't stale it costs a walk over the blocks that hold some, else one over all. *count is
+ * written on DONE and SMALL_BUFFER. Refused: CLOSED, BAD_ARGUMENT, MEMORY, SMALL_BUFFER. */
+uint32_t octofix_leaves_of(const octofix_map *map, uint32_t sought, octofix_block *blocks,
+                           size_t room, size_t *count);
+
+/* Those of these blocks that meet the box from the voxel of low to that of high, each as a whole.
+ * *count is written on DONE and SMALL_BUFFER.
+ * Refused: CLOSED, BAD_ARGUMENT, OUTSIDE, BAD_BOX, MEMORY, SMALL_BUFFER. */
+uint32_t octofix_leaves_of_in(const octofix_map *map, uint32_t sought, const octofix_point *low,
+                              const octofix_point *high, octofix_block *blocks, size_t room,
+                              size_t *count, octofix_details *details);
+
+/* The smallest box that holds all voxels that are sought (OCTOFIX_KNOWN_VOXELS,
+ * OCTOFIX_OCCUPIED_VOXELS or OCTOFIX_FREE_VOXELS), where the code is 0. Costs a walk.
  * Otherwise: CLOSED, BAD_ARGUMENT, NONE. */
 uint32_t octofix_bounds(const octofix_map *map, uint32_t sought, octofix_box *corners);
 

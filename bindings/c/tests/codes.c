@@ -130,6 +130,8 @@ static void try_closed_handle(void) {
     EXPECT_DETAILS(octofix_list(&map, &p, &p, 99, blocks, 0, &count, &details), 40, 0, 0);
     EXPECT(octofix_leaves(&map, blocks, 0, &count), 40);
     EXPECT_DETAILS(octofix_leaves_in(&map, &p, &p, blocks, 0, &count, &details), 40, 0, 0);
+    EXPECT(octofix_leaves_of(&map, 99, blocks, 0, &count), 40);
+    EXPECT_DETAILS(octofix_leaves_of_in(&map, 99, &p, &p, blocks, 0, &count, &details), 40, 0, 0);
     EXPECT(octofix_bounds(&map, 99, &box), 40);
     EXPECT(octofix_track(&map), 40);
     EXPECT(octofix_untrack(&map), 40);
@@ -381,6 +383,31 @@ static void try_queries(void) {
     octofix_close(&map);
 }
 
+/* Of a map with one free block of eight voxels from p to q. */
+static void try_leaves_of(octofix_map *map, const octofix_point *p, const octofix_point *q) {
+    const octofix_point far = at(0, 0, -3276801);
+    EXPECT(octofix_leaves_of(map, OCTOFIX_FREE_VOXELS, blocks, 0, &count), 46);
+    EXPECT(count, 1);
+    blocks[0].depth = 0;
+    EXPECT(octofix_leaves_of(map, OCTOFIX_FREE_VOXELS, blocks, 64, &count), 0);
+    EXPECT(blocks[0].depth, 15);
+    EXPECT(octofix_leaves_of(map, OCTOFIX_OCCUPIED_VOXELS, blocks, 64, &count), 0);
+    EXPECT(count, 0);
+    EXPECT(octofix_leaves_of(map, OCTOFIX_KNOWN_VOXELS, blocks, 64, &count), 0);
+    EXPECT(count, 1);
+    EXPECT(octofix_leaves_of(map, 3, blocks, 64, &count), 47);
+    EXPECT_DETAILS(octofix_leaves_of_in(map, OCTOFIX_FREE_VOXELS, p, q, blocks, 64, &count,
+                                        &details), 0, 0, 0);
+    EXPECT(count, 1);
+    EXPECT_DETAILS(octofix_leaves_of_in(map, OCTOFIX_OCCUPIED_VOXELS, p, q, blocks, 0, &count,
+                                        &details), 0, 0, 0);
+    EXPECT(count, 0);
+    /* The number is at fault first, then the points. */
+    EXPECT_DETAILS(octofix_leaves_of_in(map, 3, &far, q, blocks, 0, &count, &details), 47, 0, 0);
+    EXPECT_DETAILS(octofix_leaves_of_in(map, 1, p, &far, blocks, 0, &count, &details), 24, 2, 0);
+    EXPECT_DETAILS(octofix_leaves_of_in(map, 1, q, p, blocks, 0, &count, &details), 26, 0, 0);
+}
+
 static void try_lists(void) {
     octofix_map map = opened(&default_odds, &default_limits);
     const octofix_point p = at(50, 50, 50), q = at(150, 150, 150), far = at(0, 0, -3276801);
@@ -389,7 +416,8 @@ static void try_lists(void) {
     EXPECT(octofix_leaves(&map, blocks, 0, &count), 0);
     EXPECT(count, 0);
     EXPECT(octofix_bounds(&map, OCTOFIX_KNOWN_VOXELS, &box), 44);
-    EXPECT(octofix_bounds(&map, 2, &box), 47);
+    EXPECT(octofix_bounds(&map, OCTOFIX_FREE_VOXELS, &box), 44);
+    EXPECT(octofix_bounds(&map, 3, &box), 47);
     EXPECT(octofix_bounds(&map, UINT32_MAX, &box), 47);
     EXPECT(box.low.x, 9);
     EXPECT(octofix_edit_box(&map, &p, &q, OCTOFIX_SET, -100, &details), 0);
@@ -408,6 +436,7 @@ static void try_lists(void) {
     EXPECT_DETAILS(octofix_leaves_in(&map, &far, &p, blocks, 0, &count, &details), 24, 1, 0);
     EXPECT_DETAILS(octofix_leaves_in(&map, &p, &far, blocks, 0, &count, &details), 24, 2, 0);
     EXPECT_DETAILS(octofix_leaves_in(&map, &q, &p, blocks, 0, &count, &details), 26, 0, 0);
+    try_leaves_of(&map, &p, &q);
 
     EXPECT_DETAILS(octofix_list(&map, &p, &q, 16, blocks, 7, &count, &details), 46, 0, 0);
     EXPECT(count, 8);

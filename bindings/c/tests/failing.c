@@ -108,6 +108,10 @@ static uint32_t leaves_in(octofix_map *map) {
     size_t count;
     return octofix_leaves_in(map, &low, &high, blocks, ROOM, &count, &details);
 }
+static uint32_t leaves_of(octofix_map *map) {
+    size_t count;
+    return octofix_leaves_of(map, OCTOFIX_OCCUPIED_VOXELS, blocks, ROOM, &count);
+}
 static uint32_t list(octofix_map *map) {
     const octofix_point low = at(0, 0, -1000), high = at(1500, 900, 700);
     size_t count;
@@ -130,7 +134,7 @@ static uint32_t take_snapshot(octofix_map *map) {
 static uint32_t (*const calls[])(octofix_map *) = {
     scan,   edit,           edit_box, edit_all,  load, restore, clear,        refresh, prune,
     counts, max_likelihood, leaves,   leaves_in, list, save,    list_changes, track,
-    take_snapshot, merge};
+    take_snapshot, merge,   leaves_of};
 
 /* A map that is scanned, and tracked where that is wanted. */
 static octofix_map scanned(bool is_tracked) {

@@ -54,6 +54,8 @@ static uint64_t ask_lists(struct room *room) {
     sum = mixed_bytes(sum, blocks, count * sizeof *blocks);
     sum = mixed(sum, octofix_leaves(room->map, blocks, ROOM, &count));
     sum = mixed_bytes(sum, blocks, count * sizeof *blocks);
+    sum = mixed(sum, octofix_leaves_of(room->map, OCTOFIX_OCCUPIED_VOXELS, blocks, ROOM, &count));
+    sum = mixed_bytes(sum, blocks, count * sizeof *blocks);
     sum = mixed(sum, octofix_changes(room->map, room->changes, ROOM, &count));
     sum = mixed_bytes(sum, room->changes, count * sizeof *room->changes);
     sum = mixed(sum, octofix_get_all(room->map, asked, ASKED, 16, room->answers, ASKED));

@@ -95,6 +95,18 @@ memory_told answer may_run_out old count may = record {
   counted = refl;
 }
 
+-- what a call leaves that is refused
+pub refused_told : {A : Type 0} (answer : Result (List A) Refusal) (may_run_out : Type 0)
+    (why : Refusal) (code : ℕ) (old : List A) (count : ℕ) → answer ≡ Err why
+    → code ≡ refusal_code why → IsListTold answer may_run_out code old old count count
+refused_told answer may_run_out why code old count is coded = record {
+  reached = Err why;
+  right = inl (sym is);
+  coded = coded;
+  left = refl;
+  counted = refl;
+}
+
 -- what a call leaves on a handle without a map
 pub closed_told : {A : Type 0} (handle : Option Map) (answer : Map → Result (List A) Refusal)
     (may_run_out : Type 0) (why : Refusal) (code : ℕ) (old : List A) (count : ℕ)

@@ -5,7 +5,7 @@ use Rattle.oct_map.specs.Map.{Map}
 use Rattle.oct_map.specs.Marks.{classes_in}
 use Rattle.oct_query.specs.Extent.{IsExtent, IsFound}
 use Rattle.oct_query.specs.declared.sought.Sought.{Sought}
-use Rattle.oct_query.specs.declared.sought.Sought.TheVariants.{Known, Occupied}
+use Rattle.oct_query.specs.declared.sought.Sought.TheVariants.{Known, Occupied, Free}
 use Rattle.octofix.specs.Limits.{window_code, window_left}
 use Rattle.octofix.specs.declared.refusal.Refusal.{Refusal}
 use Rattle.octofix.specs.declared.refusal.Refusal.TheVariants as refusal
@@ -15,7 +15,8 @@ use Rattle.octofix.specs.declared.types.VoxelBox.{VoxelBox}
 abbrev pub sought_numbered : ℕ → Option Sought
 sought_numbered zero = Some Known
 sought_numbered (suc zero) = Some Occupied
-sought_numbered (suc (suc n)) = None
+sought_numbered (suc (suc zero)) = Some Free
+sought_numbered (suc (suc (suc n))) = None
 
 -- this is the least box around the voxels of a map that are sought, where these are some
 abbrev pub IsBoundsOf : Map → Option Sought → Result (Option Window) Refusal → Type 0

@@ -11,12 +11,13 @@ use oct_map::OccMap;
 use oct_query::Sought;
 
 /// The voxels that a number means.
-fn sought_numbered(number: u32) -> Option<Sought>
+pub fn sought_numbered(number: u32) -> Option<Sought>
     ensures { result ≡ sought_numbered number }
 {
     match number {
         0 => Some(Sought::Known),
         1 => Some(Sought::Occupied),
+        2 => Some(Sought::Free),
         _ => None,
     }
 }
@@ -45,7 +46,7 @@ fn bounds(map: &OccMap, sought: u32, corners: &mut VoxelBox) -> u32
     }
 }
 
-/// The least box that holds all known voxels (0), or all occupied ones (1).
+/// The least box that holds all known voxels (0), all occupied ones (1), or all free ones (2).
 #[unsafe(no_mangle)]
 pub extern "C" fn octofix_bounds(handle: &mut Octofix, sought: u32, corners: &mut VoxelBox) -> u32
     ensures same { handle.new ≡ handle.old }

@@ -8,13 +8,15 @@ ghost use Rattle.octofix.specs.Buffers.{IsListTold, IsSomeList, count_left, fill
 ghost use Rattle.octofix.specs.Buffers.{list_left, room_code};
 ghost use Rattle.octofix.specs.Codes.{answer_details};
 ghost use Rattle.octofix.specs.Lists.{block_told, blocks_between, leaves_between};
-ghost use Rattle.octofix.specs.Lists.{leaves_listed, leaves_told, listed};
+ghost use Rattle.octofix.specs.Lists.{leaves_listed, leaves_sought, leaves_sought_in};
+ghost use Rattle.octofix.specs.Lists.{leaves_told, listed, sought_listed};
 
+use crate::bounds::sought_numbered;
 use crate::handle::Octofix;
 use crate::refusal::{DONE, Refusal, SMALL_BUFFER};
 use crate::types::{Details, KnownBlock, PointNm};
 use oct_map::{MapFault, OccMap};
-use oct_query::{BlockList, Found};
+use oct_query::{BlockList, Found, Sought};
 
 impl KnownBlock {
     /// The same block and value.
@@ -71,6 +73,21 @@ fn leaves_between(map: &OccMap, low: &PointNm, high: &PointNm) -> Result<BlockLi
         × (leaves_listed low.now high.now map.now ≡ Ok [] → ⊥) }
 {
     map.leaves_in(low.point(), high.point())
+}
+
+/// The leaves that are sought and meet a box.
+fn sought_between(
+    map: &OccMap,
+    sought: Sought,
+    low: &PointNm,
+    high: &PointNm,
+) -> Result<BlockList, MapFault>
+    ensures answer { IsAnswerOrMemory (sought_listed sought low.now high.now map.now) result }
+    ensures memory { result ≡ Err MapFault.Memory
+        → IsOk (sought_listed sought low.now high.now map.now)
+        × (sought_listed sought low.now high.now map.now ≡ Ok [] → ⊥) }
+{
+    map.leaves_of_in(low.point(), high.point(), sought)
 }
 
 /// Puts a list that the map answers into a buffer, and tells how many blocks there are.
@@ -147,6 +164,43 @@ fn leaves_in(
     tell_blocks(&found, blocks, count)
 }
 
+/// Lists the leaves of a map that a number means.
+fn leaves_of(map: &OccMap, sought: u32, blocks: &mut [KnownBlock], count: &mut usize) -> u32
+    ensures { IsListTold (leaves_sought sought map.now) (IsSomeList (leaves_sought sought map.now))
+        result blocks.old blocks.new count.old count.new }
+{
+    match sought_numbered(sought) {
+        Some(sought) => tell_blocks(&map.leaves_of(sought), blocks, count),
+        None => Refusal::BadArgument { index: 0 }.code(),
+    }
+}
+
+/// Lists the leaves that a number means and that meet a box.
+fn leaves_of_in(
+    map: &OccMap,
+    sought: u32,
+    low: &PointNm,
+    high: &PointNm,
+    blocks: &mut [KnownBlock],
+    count: &mut usize,
+    details: &mut Details,
+) -> u32
+    ensures told { IsListTold (leaves_sought_in sought low.now high.now map.now)
+        (IsSomeList (leaves_sought_in sought low.now high.now map.now)) result
+        blocks.old blocks.new count.old count.new }
+    ensures details { details.new
+        ≡ answer_details (leaves_sought_in sought low.now high.now map.now) }
+{
+    match sought_numbered(sought) {
+        Some(sought) => {
+            let found = sought_between(map, sought, low, high);
+            *details = details_of_list(&found);
+            tell_blocks(&found, blocks, count)
+        }
+        None => Refusal::BadArgument { index: 0 }.tell(details),
+    }
+}
+
 /// The known blocks of a depth that meet the box between two points, by ascending x, y and z.
 #[unsafe(no_mangle)]
 pub extern "C" fn octofix_list(
@@ -209,6 +263,50 @@ pub extern "C" fn octofix_leaves_in(
 {
     match handle.map_mut() {
         Ok(map) => leaves_in(map, low, high, blocks, count, details),
+        Err(refusal) => refusal.tell(details),
+    }
+}
+
+/// Those of the leaves of the map whose voxels are known (0), occupied (1) or free (2), in the same
+/// order.
+#[unsafe(no_mangle)]
+pub extern "C" fn octofix_leaves_of(
+    handle: &mut Octofix,
+    sought: u32,
+    blocks: &mut [KnownBlock],
+    count: &mut usize,
+) -> u32
+    ensures same { handle.new ≡ handle.old }
+    ensures told { IsListTold (asked handle.old.slot.map (leaves_sought sought))
+        (IsSomeList (asked handle.old.slot.map (leaves_sought sought))) result blocks.old blocks.new
+        count.old count.new }
+{
+    match handle.map_mut() {
+        Ok(map) => leaves_of(map, sought, blocks, count),
+        Err(refusal) => refusal.code(),
+    }
+}
+
+/// Those of these leaves that meet the box between two points, in the same order.
+#[unsafe(no_mangle)]
+pub extern "C" fn octofix_leaves_of_in(
+    handle: &mut Octofix,
+    sought: u32,
+    low: &PointNm,
+    high: &PointNm,
+    blocks: &mut [KnownBlock],
+    count: &mut usize,
+    details: &mut Details,
+) -> u32
+    ensures same { handle.new ≡ handle.old }
+    ensures told { IsListTold (asked handle.old.slot.map (leaves_sought_in sought low.now high.now))
+        (IsSomeList (asked handle.old.slot.map (leaves_sought_in sought low.now high.now))) result
+        blocks.old blocks.new count.old count.new }
+    ensures details { details.new
+        ≡ answer_details (asked handle.old.slot.map (leaves_sought_in sought low.now high.now)) }
+{
+    match handle.map_mut() {
+        Ok(map) => leaves_of_in(map, sought, low, high, blocks, count, details),
         Err(refusal) => refusal.tell(details),
     }
 }

@@ -8,7 +8,7 @@ use crate::edits::octofix_edit;
 use crate::files::{octofix_load, octofix_restore, octofix_save, octofix_snapshot};
 use crate::handle::Octofix;
 use crate::limits::octofix_track;
-use crate::lists::octofix_leaves;
+use crate::lists::{octofix_leaves, octofix_leaves_of};
 use crate::making::octofix_close;
 use crate::queries::octofix_get_all;
 use crate::rays::octofix_ray;
@@ -97,6 +97,10 @@ fn expect_leaf(rt: &impl Abort, map: &mut Octofix, value: i32) {
     }];
     assert_eq!(rt; octofix_leaves(map, &mut blocks, &mut count), DONE);
     assert_eq!(rt; blocks[0].depth, 16);
+    assert_eq!(rt; octofix_leaves_of(map, 2, &mut blocks, &mut count), DONE);
+    assert_eq!(rt; count, 0);
+    assert_eq!(rt; octofix_leaves_of(map, 1, &mut blocks, &mut count), DONE);
+    assert_eq!(rt; count, 1);
     assert_eq!(rt; blocks[0].x, 32768);
     assert_eq!(rt; blocks[0].value, value);
 }
