@@ -41,8 +41,8 @@ void ask(const octofix::map &world) {
     const auto stop = world.cast(metres(0.05, 0.05, 0.05), metres(2.95, 0.05, 0.05));
     std::cout << "stopped " << stop.code << " at " << stop.key.x << '\n';
 
-    std::size_t occupied = 0, known = 0;
-    for (const auto &leaf : world.leaves()) occupied += world.is_occupied(leaf.value);
+    const std::size_t occupied = world.leaves(octofix::sought::occupied).size();
+    std::size_t known = 0;
     for (const auto &voxel : world.known_voxels()) known += voxel.value != 0;
     std::cout << "occupied " << occupied << " of " << known << '\n';
 

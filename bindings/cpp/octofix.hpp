@@ -84,10 +84,11 @@ enum class change_kind : std::uint16_t {
     freed = OCTOFIX_FREED
 };
 
-/// What bounds() looks for.
+/// What bounds() and leaves() look for.
 enum class sought : std::uint32_t {
     known = OCTOFIX_KNOWN_VOXELS,
-    occupied = OCTOFIX_OCCUPIED_VOXELS
+    occupied = OCTOFIX_OCCUPIED_VOXELS,
+    free = OCTOFIX_FREE_VOXELS
 };
 
 inline constexpr odds default_odds = OCTOFIX_DEFAULT_ODDS;
@@ -600,9 +601,23 @@ class map {
         return listed_in_box(
             [&](auto *it, auto... out) { return octofix_leaves_in(it, &low, &high, out...); });
     }
+    /// Those whose voxels are occupied, or free. Of a map that isn't stale occupied ones are found
+    /// without a look at all that is free.
+    [[nodiscard]] std::vector<block> leaves(sought what) const {
+        return listed<block>([&](auto *it, auto... out) {
+            return octofix_leaves_of(it, static_cast<std::uint32_t>(what), out...);
+        });
+    }
+    /// Those of them that meet a box, each as a whole.
+    [[nodiscard]] std::vector<block> leaves(sought what, const point &low,
+                                            const point &high) const {
+        return listed_in_box([&](auto *it, auto... out) {
+            return octofix_leaves_of_in(it, static_cast<std::uint32_t>(what), &low, &high, out...);
+        });
+    }
     /// All known voxels: for (voxel it : world.known_voxels()).
     [[nodiscard]] voxels known_voxels() const { return voxels(leaves()); }
-    /// The smallest box that holds all known, or all occupied, voxels.
+    /// The smallest box that holds all known, all occupied, or all free, voxels.
     [[nodiscard]] std::optional<box> bounds(sought what = sought::known) const {
         return found([&](const octofix_map *it, box *out) {
             return octofix_bounds(it, static_cast<std::uint32_t>(what), out);

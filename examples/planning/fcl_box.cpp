@@ -22,8 +22,7 @@ struct obstacle {
 /// The occupied blocks of a map as boxes.
 std::vector<obstacle> occupied_blocks(const octofix::map &world) {
     std::vector<obstacle> all;
-    for (const octofix::block &leaf : world.leaves()) {
-        if (!world.is_occupied(leaf.value)) continue;
+    for (const octofix::block &leaf : world.leaves(octofix::sought::occupied)) {
         const double edge = octofix::edge(leaf) * world.resolution();
         place middle{};
         world.middle(leaf, middle[0], middle[1], middle[2]);

@@ -249,6 +249,10 @@ void try_voxels() {
         EXPECT(it.key.x >= 32768 && it.key.x < 32772 && it.value == 9);
     }
     EXPECT(count == 64 && last == 32771);
+    using octofix::sought;
+    EXPECT(world.leaves(sought::occupied).size() == 1 && world.leaves(sought::free).empty());
+    EXPECT(world.leaves(sought::occupied, metres(0, 0, 0), metres(1, 1, 1)).size() == 1);
+    EXPECT(world.bounds(sought::occupied) && !world.bounds(sought::free));
     double x, y, z;
     world.middle(world.leaves()[0], x, y, z);
     EXPECT(std::fabs(x - 0.2) < 1e-12 && std::fabs(z - 0.2) < 1e-12);
