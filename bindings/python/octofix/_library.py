@@ -6,7 +6,7 @@ import ctypes
 from ctypes import POINTER, c_bool, c_int16, c_int32, c_int64, c_size_t, c_uint16, c_uint32
 from ctypes import c_uint64, c_void_p
 from functools import partial
-from typing import Any, Callable, Sequence
+from typing import Any, Callable
 
 import numpy as np
 import numpy.typing as npt
@@ -113,8 +113,8 @@ CALLS: dict[str, list[Any]] = {
     "get_all": [_HANDLE, *_ROWS, c_uint32, *_ROWS],
     "cast_all": [_HANDLE, *_ROWS, c_bool, *_ROWS],
     "list": [_HANDLE, *_TWO_POINTS, c_uint32, *_COUNTED_ROWS, _DETAILS],
-    "leaves": [_HANDLE, *_COUNTED_ROWS],
-    "leaves_in": [_HANDLE, *_TWO_POINTS, *_COUNTED_ROWS, _DETAILS],
+    "leaves_of": [_HANDLE, c_uint32, *_COUNTED_ROWS],
+    "leaves_of_in": [_HANDLE, c_uint32, *_TWO_POINTS, *_COUNTED_ROWS, _DETAILS],
     "bounds": [_HANDLE, c_uint32, POINTER(Box)],
     "ray": [c_int64, *_TWO_POINTS, *_COUNTED_ROWS, _DETAILS],
     "track": [_HANDLE],
@@ -174,15 +174,12 @@ def call(name: str, *arguments: Any) -> int:
 _FIRST_BYTES = 1 << 21
 
 
-def rows_of(
-    way: Way, dtype: npt.DTypeLike, name: str, *arguments: Any, beside: Sequence[Call] = ()
-) -> npt.NDArray[Any]:
-    """The rows that a call writes into a buffer, in another one where that is too small; the calls
-    `beside` it are done with it."""
+def rows_of(way: Way, dtype: npt.DTypeLike, name: str, *arguments: Any) -> npt.NDArray[Any]:
+    """The rows that a call writes into a buffer, in another one where that is too small."""
     room, count = _FIRST_BYTES // np.dtype(dtype).itemsize, c_size_t()
     while True:
         rows = np.empty(room, dtype)
         listing = Call(name, *arguments, rows.ctypes.data, room, count)
-        if done(way, listing, *beside)[0] == DONE:
+        if done(way, listing)[0] == DONE:
             return rows[: count.value]
         room = count.value

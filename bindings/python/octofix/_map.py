@@ -26,7 +26,7 @@ from ._results import (
 _Map = TypeVar("_Map", bound="Map")
 
 _MOST_GROUPS, _MOST_CELLS = 2**26, 2**27
-_SOUGHT = {"known": 0, "occupied": 1}
+_SOUGHT = {"known": 0, "occupied": 1, "free": 2}
 _GUESSED_EDGE = 0.1
 _NOT_COUNTED = 2**64 - 1  # more hits than a scan has
 _CLOSE = _library.FUNCTIONS["close"]
@@ -402,32 +402,31 @@ class Map:
         return blocks_of(rows, self._edge)
 
     def leaves(
-        self, low: npt.ArrayLike | None = None, high: npt.ArrayLike | None = None
+        self,
+        low: npt.ArrayLike | None = None,
+        high: npt.ArrayLike | None = None,
+        kind: str = "known",
     ) -> Blocks:
-        """The greatest blocks of known voxels that all have one value, in Morton order.
+        """The greatest blocks of "known", "occupied" or "free" voxels that all have one value, in
+        Morton order.
 
-        With `low` and `high` those that meet the box from one to the other.
+        With `low` and `high` those that meet the box from one to the other. The "occupied" ones of
+        a map that isn't `stale` are found without a look at all that is free.
         """
         if low is None and high is None:
-            return blocks_of(self._rows(_library.BLOCK, "leaves"), self._edge)
+            return blocks_of(self._leaves_of(kind), self._edge)
         if low is None or high is None:
             raise ValueError("low and high stand both or not at all")
         corners = _arrays.point(low, "low"), _arrays.point(high, "high")
-        return blocks_of(self._rows(_library.BLOCK, "leaves_in", *corners), self._edge)
+        rows = self._rows(_library.BLOCK, "leaves_of_in", _sought(kind), *corners)
+        return blocks_of(rows, self._edge)
 
     def voxels(self, kind: str = "occupied", limit: int = 2**26) -> npt.NDArray[np.uint16]:
         """The keys of all voxels that are "occupied", "free" or "known", (n, 3), in Morton order.
 
         ValueError where there are more than `limit`.
         """
-        if kind not in ("occupied", "free", "known"):
-            raise ValueError(f"kind is 'occupied', 'free' or 'known', not {kind!r}")
-        settings = _library.Settings()
-        beside = (Call("settings_of", self._handle, settings),)
-        leaves = self._rows(_library.BLOCK, "leaves", beside=beside)
-        if kind != "known":
-            leaves = leaves[(leaves["value"] >= settings.odds.thr) == (kind == "occupied")]
-        return voxels_in(leaves, limit)
+        return voxels_in(self._leaves_of(kind), limit)
 
     def centers(self, keys: npt.ArrayLike) -> npt.NDArray[np.float64]:
         """The middles of the voxels with these keys, (n, 3), in metres."""
@@ -440,10 +439,9 @@ class Map:
         return _arrays.keys_of(points, self._edge)
 
     def bounds(self, kind: str = "known") -> Box | None:
-        """The least box of keys that holds all "known" or all "occupied" voxels; None without."""
-        if kind not in _SOUGHT:
-            raise ValueError(f"kind is 'known' or 'occupied', not {kind!r}")
-        return self._box("bounds", _SOUGHT[kind])
+        """The least box of keys that holds all "known", "occupied" or "free" voxels; None
+        without."""
+        return self._box("bounds", _sought(kind))
 
     def extent(
         self, kind: str = "known"
@@ -528,10 +526,11 @@ class Map:
     def _do(self, name: str, *arguments: Any) -> None:
         done(self._lock.writing, Call(name, self._handle, *arguments))
 
-    def _rows(
-        self, dtype: npt.DTypeLike, name: str, *arguments: Any, beside: tuple[Call, ...] = ()
-    ) -> npt.NDArray[Any]:
-        return rows_of(self._lock.reading, dtype, name, self._handle, *arguments, beside=beside)
+    def _rows(self, dtype: npt.DTypeLike, name: str, *arguments: Any) -> npt.NDArray[Any]:
+        return rows_of(self._lock.reading, dtype, name, self._handle, *arguments)
+
+    def _leaves_of(self, kind: str) -> npt.NDArray[Any]:
+        return self._rows(_library.BLOCK, "leaves_of", _sought(kind))
 
     def _take(self, name: str, data: _files.Bytes) -> None:
         found = np.frombuffer(data, np.uint8)
@@ -573,6 +572,13 @@ _OWN = frozenset(("_lock", "_handle", "_release", "_edge"))
 def _depth(depth: int) -> int:
     """The depth, and for each that there isn't the same one."""
     return operator.index(depth) if 0 <= depth <= DEPTH else DEPTH + 1
+
+
+def _sought(kind: str) -> int:
+    """The number of a kind of voxels."""
+    if kind not in _SOUGHT:
+        raise ValueError(f"kind is 'known', 'occupied' or 'free', not {kind!r}")
+    return _SOUGHT[kind]
 
 
 def _refuse_first(codes: npt.NDArray[Any], is_refused: npt.NDArray[np.bool_]) -> None:

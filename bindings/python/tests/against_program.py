@@ -355,8 +355,16 @@ class Both:
             box = self.map.keys(metres([low, high])).tolist()
             some = rows_of(self.map.leaves(metres(low), metres(high)))
             agree("leaves of a box", some, [row for row in wanted if meets(row, *box)])
+            some = rows_of(self.map.leaves(metres(low), metres(high), "free"))
+            free = [row for row in wanted if meets(row, *box) and not self.is_occupied(row)]
+            agree("free leaves of a box", some, free)
+        occupied = [row for row in wanted if self.is_occupied(row)]
+        agree("occupied leaves", rows_of(self.map.leaves(kind="occupied")), occupied)
         if all(depth > 11 for depth, *_ in wanted):
             self.voxels(wanted)
+
+    def is_occupied(self, row):
+        return row[-1] >= self.map.odds.threshold
 
     def voxels(self, wanted):
         keys, occupied = self.map.voxels("known").astype(int), self.map.voxels()

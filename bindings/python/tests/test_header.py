@@ -47,7 +47,8 @@ ROWS = {
     "stop": (_library.STOP, {}),
     "change": (_library.CHANGE, {}),
 }
-WITHOUT_USE = {"edit", "get", "cast"}  # those of arrays serve
+# Those of arrays serve, and those of leaves that are sought.
+WITHOUT_USE = {"edit", "get", "cast", "leaves", "leaves_in"}
 
 
 def header():
@@ -128,6 +129,7 @@ class Header(unittest.TestCase):
             self.assertEqual(codes[numbered.name], numbered)
         self.assertEqual(codes["KNOWN_VOXELS"], _map._SOUGHT["known"])
         self.assertEqual(codes["OCCUPIED_VOXELS"], _map._SOUGHT["occupied"])
+        self.assertEqual(codes["FREE_VOXELS"], _map._SOUGHT["free"])
         for name in ("DONE", "CLOSED", "UNKNOWN", "CLEAR", "NONE", "MEMORY", "SMALL_BUFFER"):
             self.assertEqual(codes[name], getattr(_library, name))
 

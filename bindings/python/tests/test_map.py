@@ -133,6 +133,17 @@ class Edits(unittest.TestCase):
         self.assertEqual(self.map.counts(), (0, 0))
         self.assertIsNone(self.map.bounds())
 
+    def test_leaves_of_a_class(self):
+        self.map.set([[0, 0, 0], [1, 0, 0], [2, 0, 0]], [9, 10, 11])
+        self.assertEqual(self.map.leaves(kind="free").value.tolist(), [9])
+        self.assertEqual(self.map.leaves(kind="occupied").value.tolist(), [10, 11])
+        box = (0.5, 0, 0), (1.5, 0, 0)
+        self.assertEqual(self.map.leaves(*box, "occupied").value.tolist(), [10])
+        self.assertEqual(len(self.map.leaves(*box, "free")), 0)
+        self.assertEqual(self.map.bounds("free").low, self.map.bounds("free").high)
+        for call in (self.map.leaves, self.map.voxels, self.map.bounds):
+            self.assertRaisesRegex(ValueError, "not 'unknown'", call, kind="unknown")
+
     def test_counts(self):
         self.map.set([[0, 0, 0]], 20)
         self.map.prune()

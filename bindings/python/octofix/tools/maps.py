@@ -49,16 +49,16 @@ def _snapshot_of_ot(name, content):
     return done.stdout
 
 
-def read_leaves(name):
-    """The classes of the map of a file."""
-    return read_leaves_and_values(name)[0]
+def read_leaves(name, kind="known"):
+    """The classes of the map of a file: all that are known, or one of them."""
+    return read_leaves_and_values(name, kind)[0]
 
 
-def read_leaves_and_values(name):
+def read_leaves_and_values(name, kind="known"):
     """The classes of the map of a file, and of a snapshot the value of each block; else None."""
     world, is_snapshot = _read(name)
     with world:
-        blocks = world.leaves()
+        blocks = world.leaves(kind=kind)
         leaves = Leaves.of(blocks, world.odds.threshold)
     return leaves, blocks.value if is_snapshot else None
 

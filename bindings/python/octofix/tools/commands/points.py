@@ -48,7 +48,9 @@ def run(options):
 
 def pieces(options):
     """Arrays of rows of points."""
-    leaves = read_leaves(options.map).coarse(options.depth)
+    # (A greater block is occupied where a voxel in it is, whatever else is known there.)
+    kind = "occupied" if options.what == "occupied" else "known"
+    leaves = read_leaves(options.map, kind).coarse(options.depth)
     box = box_of(options.box, leaves.resolution) if options.box else None
     if options.what == "frontier":
         codes = leaves.frontier()
