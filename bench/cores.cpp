@@ -146,14 +146,16 @@ bool is_fast(const char *name, const std::vector<look> &all, const octofix::byte
     scanning.clear();
     merging.clear();
     octofix::mapper mapper(0.05, octofix::default_odds, most, threads);
+    const double began = seconds_of_thread();
     for (const look &it : all) mapper.add(it.from, it.points, it.how);
+    const double sharing = seconds_of_thread() - began;
     const bool is_same = mapper.finish().snapshot() == wanted;
-    const double longest = longest_of_threads(), judging = scanning[std::this_thread::get_id()];
-    const double merges = merging_in_rounds(threads), faster = alone / (longest + merges);
+    const double longest = longest_of_threads(), merges = merging_in_rounds(threads);
+    const double faster = alone / (std::max(longest, sharing) + merges);
     const double least = threads >= 8 ? 4 : threads >= 4 ? 2.8 : threads >= 2 ? 1.5 : 0;
-    std::printf("%s, %u threads: longest %.2f s, merges %.2f s, judging %.2f s; %.2f times as fast "
+    std::printf("%s, %u threads: longest %.2f s, merges %.2f s, sharing out %.2f s; %.2f times as fast "
                 "(at least %.1f)%s\n",
-                name, threads, longest, merges, judging, faster, least,
+                name, threads, longest, merges, sharing, faster, least,
                 is_same ? "" : ", ANOTHER MAP");
     return is_same && faster >= least;
 }

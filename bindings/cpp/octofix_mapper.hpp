@@ -4,9 +4,9 @@
 //     for (..) mapper.add(pose, octofix::metres(cloud));
 //     octofix::map world = mapper.finish();              // that of one thread, to the voxel
 //
-// Each thread has a map of a region, in which it does all scans, and finish() merges the maps. The
-// regions are cut where the first scans walk through most, before which no scan is done; the later
-// ones are done as fast where they go there, too.
+// Each thread has a map of a region, in which it does the beams of all scans that come near to it,
+// and finish() merges the maps. The regions are cut where the first scans walk through most, before
+// which no scan is done; the later ones are done as fast where they go there, too.
 #ifndef OCTOFIX_MAPPER_HPP
 #define OCTOFIX_MAPPER_HPP
 
@@ -26,9 +26,12 @@ namespace octofix {
 
 namespace detail {
 
-/// Merges the second map into the first, in one with more room where that is needed, and closes it.
+/// Joins two maps of which no voxel is known in both in the first, in one with more room where that
+/// is needed, and closes the second. The larger one takes the smaller, since a merge costs by the
+/// groups of the one that is taken.
 inline void take(map &one, map &other) {
     map taken(std::move(other));
+    if (one.memory() < taken.memory()) std::swap(one, taken);
     try {
         return one.merge(taken);
     } catch (const refused &why) {
@@ -72,9 +75,8 @@ class mapper {
         judge_.scan(sensor, points, how);
         if (threads_ == 1) return;
         points_ += points.size();
-        auto seen = std::make_shared<const detail::sighting>(
-            detail::sighting{sensor, how, std::move(points)});
-        if (crew_) return put(std::move(seen));
+        detail::sighting seen{sensor, how, std::move(points)};
+        if (crew_) return put(seen);
         first_.push_back(std::move(seen));
         if (points_ >= points_to_cut_by_) begin();
     }
@@ -92,35 +94,36 @@ class mapper {
     }
 
   private:
-    using sightings = std::vector<std::shared_ptr<const detail::sighting>>;
-
     static constexpr std::size_t beams_to_cut_by = std::size_t{1} << 12;
 
     /// Cuts the regions, and has the scans done that have waited for that.
     void begin() {
         const double res = judge_.resolution();
-        for (const detail::region &it : regions()) {
+        regions_ = regions();
+        for (const detail::region &it : regions_) {
             maps_.emplace_back(res, log_odds_, most_);
             detail::limit(maps_.back(), it);
         }
-        std::vector<detail::crew<detail::sighting>::task> tasks;
+        std::vector<detail::crew<detail::shares>::task> tasks;
         for (std::size_t i = 0; i < maps_.size(); ++i)
-            tasks.push_back([this, i](const detail::sighting &it) {
-                maps_[i].scan(it.sensor, it.points, it.how);
+            tasks.push_back([this, i](const detail::shares &it) {
+                maps_[i].scan(it.sensor, it.points[i], it.how);
             });
-        crew_ = std::make_unique<detail::crew<detail::sighting>>(std::move(tasks));
-        for (auto &it : std::exchange(first_, {})) put(std::move(it));
+        crew_ = std::make_unique<detail::crew<detail::shares>>(std::move(tasks));
+        for (const detail::sighting &it : std::exchange(first_, {})) put(it);
     }
     std::vector<detail::region> regions() const {
         const std::size_t each = beams_to_cut_by / (first_.size() + 1) + 1;
         std::vector<detail::sampled> samples;
-        for (const auto &it : first_)
-            detail::add_samples(samples, *it, judge_.settings().res, each);
+        for (const detail::sighting &it : first_)
+            detail::add_samples(samples, it, judge_.settings().res, each);
         return detail::cutter(samples).cut(threads_);
     }
-    void put(std::shared_ptr<const detail::sighting> seen) {
-        const std::size_t size = seen->points.size();
-        crew_->put(std::move(seen), size);
+    void put(const detail::sighting &seen) {
+        auto all = std::make_shared<const detail::shares>(
+            detail::share_out(seen, regions_, judge_.settings().res));
+        const std::size_t size = all->size();
+        crew_->put(std::move(all), size);
     }
     /// Merges all maps into the first, by pairs.
     void join() {
@@ -136,11 +139,12 @@ class mapper {
     odds log_odds_;
     limits most_;
     map judge_; // refuses what each region does; of one thread the map itself
-    sightings first_;
+    std::vector<detail::sighting> first_;
     std::size_t points_ = 0;
     bool is_finished_ = false;
+    std::vector<detail::region> regions_;
     std::vector<map> maps_;
-    std::unique_ptr<detail::crew<detail::sighting>> crew_; // (it ends before the maps do)
+    std::unique_ptr<detail::crew<detail::shares>> crew_; // (it ends before the maps do)
 };
 
 } // namespace octofix

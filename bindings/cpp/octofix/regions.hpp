@@ -94,6 +94,52 @@ inline void add_samples(std::vector<sampled> &all, const sighting &seen, std::in
     }
 }
 
+/// The beams of a sighting that each region's map needs: those that may go through a voxel of it.
+struct shares {
+    pose sensor;
+    scan_options how;
+    std::vector<std::vector<point>> points; // of each region
+
+    std::size_t size() const {
+        std::size_t all = 0;
+        for (const auto &it : points) all += it.size();
+        return all;
+    }
+};
+
+/// Whether a beam comes nearer to a region than a voxel's edge, by which it may be rounded.
+inline bool comes_near(const vector_3 &from, const vector_3 &beam, const region &it, double edge) {
+    double enter = 0, leave = 1;
+    for (std::size_t i = 0; i < 3; ++i) {
+        const double low = (it.low[i] - 32769) * edge - from[i];
+        const double high = (it.high[i] - 32766) * edge - from[i];
+        if (beam[i] == 0) {
+            if (low > 0 || high < 0) return false;
+            continue;
+        }
+        const double one = low / beam[i], other = high / beam[i];
+        enter = std::max(enter, std::min(one, other));
+        leave = std::min(leave, std::max(one, other));
+    }
+    return enter <= leave;
+}
+
+/// Gives each region the beams that come near to it.
+inline shares share_out(const sighting &seen, const std::vector<region> &regions,
+                        std::int64_t edge) {
+    shares all{seen.sensor, seen.how, std::vector<std::vector<point>>(regions.size())};
+    const vector_3 from = {static_cast<double>(seen.sensor.at.x),
+                           static_cast<double>(seen.sensor.at.y),
+                           static_cast<double>(seen.sensor.at.z)};
+    for (std::size_t number = 0; number < seen.points.size(); ++number) {
+        const vector_3 beam = beam_of(seen, number);
+        for (std::size_t i = 0; i < regions.size(); ++i)
+            if (comes_near(from, beam, regions[i], static_cast<double>(edge)))
+                all.points[i].push_back(seen.points[number]);
+    }
+    return all;
+}
+
 /// Cuts the whole in regions. Each call has the places that are in its region, a bit for each.
 class cutter {
   public:

@@ -1,6 +1,7 @@
 """A map of regions: one of them, or all of them by several threads."""
 
 from concurrent.futures import ThreadPoolExecutor
+from dataclasses import replace
 
 from octofix import Map, Refused
 
@@ -8,7 +9,7 @@ from .crew import Crew
 from .gathering import gathered
 from .mapping import FULL, Mapper
 from .maps import MOST_GROUPS
-from .regions import HIGHEST, Region, Samples, cut, sample
+from .regions import HIGHEST, Region, Samples, cut, near, sample
 
 # About how many scans tell where beams go.
 SAMPLED = 32
@@ -55,7 +56,8 @@ class Judge(Mapper):
 
 
 class ParallelMapper:
-    """Does scans as a Mapper does, by several threads, each with a map of a region.
+    """Does scans as a Mapper does, by several threads, each with a map of a region, in which it does
+    the beams that come near to it.
 
     What each region refuses is refused at once. A scan for which a region has no room or no memory
     ends all, since other regions may have done it."""
@@ -63,7 +65,8 @@ class ParallelMapper:
     def __init__(self, new_map, count, reach=None, script=None):
         """new_map: makes a map."""
         self.new_map, self.count, self.reach = new_map, count, reach
-        self.judge, self.worlds, self.crew = Judge(new_map(), reach, script), [], None
+        self.judge, self.crew = Judge(new_map(), reach, script), None
+        self.regions, self.worlds = [], []
 
     scans = property(lambda self: self.judge.scans)
     points = property(lambda self: self.judge.points)
@@ -72,16 +75,24 @@ class ParallelMapper:
     def begin(self, scans):
         """Cuts the regions, by scans that are read for that alone."""
         edge = self.judge.world.resolution_nm
-        for region in regions_of(scans, self.count, edge, self.reach):
+        self.regions = regions_of(scans, self.count, edge, self.reach)
+        for region in self.regions:
             world = self.new_map()
             world.limit(*region.corners(edge))
             self.worlds.append(world)
-        self.crew = Crew([Mapper(it, self.reach).add for it in self.worlds])
+        self.crew = Crew([self._adder(*it) for it in enumerate(self.worlds)])
 
     def add(self, scan):
         """Has a scan done, which may last until earlier ones are done."""
         self.judge.add(scan)
-        self.crew.put(scan, len(scan.points))
+        edge = self.judge.world.resolution_nm
+        parts = [scan.points[near(scan, it, edge, self.reach)] for it in self.regions]
+        self.crew.put([replace(scan, points=it) for it in parts], len(scan.points))
+
+    def _adder(self, number, world):
+        """Does in a map its part of a scan."""
+        mapper = Mapper(world, self.reach)
+        return lambda parts: mapper.add(parts[number])
 
     def take_finished(self):
         return self.crew.take_finished() if self.crew else []
@@ -104,7 +115,9 @@ class ParallelMapper:
 
 
 def _joined(one, other):
-    """One map of two, with more room than each of them has where that is needed."""
+    """One map of two of which no voxel is known in both, with more room than each of them has where
+    that is needed. The larger one takes the smaller, whose groups are what a merge costs by."""
+    one, other = sorted((one, other), key=lambda it: it.memory, reverse=True)
     try:
         one.merge(other)
     except Refused as refused:

@@ -102,6 +102,19 @@ def sample(scan, edge, reach, weight=1):
     return Samples(voxels.clip(LOWEST, HIGHEST), weights)
 
 
+def near(scan, region, edge, reach):
+    """Which beams of a scan come nearer to a region than a voxel's edge, by which they may be
+    rounded: no other one goes through a voxel of it. (n,) truth values."""
+    beams = _cut_off(scan.points, reach).astype(float)
+    low = np.subtract(region.low, 1) * edge - scan.origin
+    high = np.add(region.high, 2) * edge - scan.origin
+    # (a beam of no length on an axis is beside the region there, or has infinite bounds)
+    with np.errstate(divide="ignore", invalid="ignore"):
+        one, other = low / beams, high / beams
+    enters = np.minimum(one, other).max(axis=1, initial=0)
+    return enters <= np.maximum(one, other).min(axis=1, initial=1)
+
+
 def _cut_off(beams, reach):
     """Beams that are no longer than the range."""
     if reach is None:
