@@ -12,7 +12,17 @@ from octofix import Map
 from octofix.tools import crew, mapping
 from octofix.tools.command import parser
 from octofix.tools.lengths import nanometres
-from octofix.tools.regions import HIGHEST, LOWEST, PLACES, Parts, Region, Samples, cut, sample
+from octofix.tools.regions import (
+    HIGHEST,
+    LOWEST,
+    PLACES,
+    Parts,
+    Region,
+    Samples,
+    cut,
+    near,
+    sample,
+)
 from octofix.tools.scans import Scan
 from octofix.tools.setup import scans_of
 
@@ -175,6 +185,15 @@ class Regions(InFolder):
         found = sample(scan, 100_000_000, 3)
         self.assertEqual(found.voxels[..., 0].max(), 40)
         self.assertEqual(set(found.weights.tolist()), {31, 21})
+
+    def test_beams_near(self):
+        """A region has the beams that come as near to it as one voxel, here from 3 m on."""
+        scan = Scan("", nanometres([0.5, 0, 0]), nanometres([[9, 0, 0], [2.5, 0, 0], [2.4, 0, 0]]))
+        beside = Scan("", nanometres([0.5, 0, 0]), nanometres([[-9, 0, 0], [0, 9, 9], [0, 0, 0]]))
+        region = Region((4, LOWEST, LOWEST), (HIGHEST,) * 3)
+        self.assertEqual(near(scan, region, 10**9, None).tolist(), [True, True, False])
+        self.assertEqual(near(beside, region, 10**9, None).tolist(), [False] * 3)
+        self.assertEqual(near(scan, region, 10**9, 2).tolist(), [False] * 3)
 
     def test_scans_from_all_over(self):
         """Each stands for as many as are left out after it."""
