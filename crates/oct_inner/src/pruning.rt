@@ -12,7 +12,8 @@ use oct_arena::Node;
 use oct_tree::{OccTree, Place, Tidiness};
 
 /// Collapses groups until none is left whose nodes are all absent or all leaves of one value. No
-/// voxel changes, and the Inner nodes that are left keep their values. Closes each group once.
+/// voxel changes, and the Inner nodes that are left keep their values. Closes each group once, and
+/// visits none where the tree is known to be pruned.
 pub fn prune(tree: &mut OccTree)
     requires { IsWellFormed tree.old }
     ensures formed { IsWellFormed tree.new }
@@ -23,6 +24,9 @@ pub fn prune(tree: &mut OccTree)
     ensures same { IsPruned tree.old → tree.new ≡ tree.old }
 {
     let known = tree.tidiness();
+    if known.pruned {
+        return;
+    }
     prune_place(tree, Place::Root);
     tree.note(Tidiness {
         pruned: true,

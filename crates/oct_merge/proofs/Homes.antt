@@ -1,5 +1,5 @@
 -- The groups that a merge may take, counted at their homes.
-use Rattle.std.proofs.Common.{◌≡◌, ℕ, zero, suc, ◌<◌, ◌≤◌, Bool, true, false, cond, [], ◌∷◌, Some}
+use Rattle.std.proofs.Common.{◌≡◌, ℕ, zero, suc, ◌+◌, ◌<◌, ◌≤◌, Bool, true, false, cond, [], ◌∷◌, Some}
 use Rattle.std.proofs.Common.{None, refl, sym, ◌∙◌, ap, arith}
 use Rattle.std.specs.Prelude.{Option, ◌&&◌, not, is_some, length}
 use Rattle.std.proofs.lemmas.List.Elements.{All-from_get_or}
@@ -9,6 +9,7 @@ use Rattle.oct_key.proofs.Blocks.{lowest_held, lowest_in_map, block_of_held}
 use Rattle.oct_values.specs.Blocks.{blocks_above_voxels}
 use Rattle.oct_values.proofs.Listed.{all_above_voxels}
 use Rattle.oct_values.proofs.Sums.{All-follows, sum_by-same, sum_by-each_le}
+use Rattle.oct_values.proofs.Sums.{sum_by-plus}
 use Rattle.oct_arena.specs.declared.node.Group.{Group}
 use Rattle.oct_arena.specs.Entries.{Groups, entry, home_of, home_at, is_that_home, has_home, live}
 use Rattle.oct_arena.specs.Nodes.{link_of}
@@ -16,7 +17,7 @@ use Rattle.oct_tree.specs.Tree.{Tree, IsLinked, reach}
 use Rattle.oct_tree.proofs.Paths.{some_injective, some_not_none, reach_home, same_home}
 use Rattle.oct_query.proofs.Homes.{home_passes, home_fails, at_home, no_home, one_home, by_homes}
 use Rattle.oct_merge.specs.Need.{is_missing, merge_need}
-use Rattle.oct_merge.specs.Walk.{is_split, is_needed, need_in}
+use Rattle.oct_merge.specs.Walk.{is_split, is_needed, need_in, is_common, common_in}
 
 -- a group stands within the list
 in_range : (gs : Groups) (x : ℕ) (b : Cube) → home_at gs x ≡ Some b → x < length gs
@@ -92,6 +93,44 @@ need_by_blocks t o l lo =
     (All-follows (λ b. IsBlock b × (b.depth ≤ 15))
     (λ b. at_home (counts_at t) o.groups b ≡ cond {A = ℕ} (is_needed t o b) 1 0) blocks_above_voxels
     (λ b at. needed_at t o b l lo at.0) all_above_voxels)
+
+-- each group of the second tree is at one block whose node links one there
+live_at : (o : Tree) (b : Cube) → IsLinked o → IsBlock b
+    → at_home (λ e. cond {A = ℕ} (is_some e) 1 0) o.groups b ≡ cond {A = ℕ} (is_split o b) 1 0
+live_at o b lo ok = elim (at_block o b lo ok) [
+  | split_at x test home ↦ one_home (λ e. cond {A = ℕ} (is_some e) 1 0) b o.groups x home
+      (λ y there. same_home o lo y x b there home)
+      ∙ ap (λ a. cond {A = ℕ} a 1 0) (some_there (entry o.groups x) home ∙ sym test)
+  | plain_at test none ↦ no_home (λ e. cond {A = ℕ} (is_some e) 1 0) b o.groups none
+      ∙ ap (λ a. cond {A = ℕ} a 1 0) (sym test)
+]
+  where
+    some_there : (e : Option Group) → home_of e ≡ Some b → is_some e ≡ true
+    some_there None h = cc
+    some_there (Some g) h = refl
+
+-- where the first tree links one too, it is common, and else it is needed
+two_kinds : (a b : Bool) → cond {A = ℕ} a 1 0 ≡ cond {A = ℕ} (a && not b) 1 0 + cond {A = ℕ} (a && b) 1 0
+two_kinds true true = refl
+two_kinds true false = refl
+two_kinds false b = refl
+
+-- so the groups of the second tree are those that are missing, and those that are common
+pub live_by_blocks : (t o : Tree) → IsLinked t → IsLinked o
+    → live o.groups ≡ merge_need t o + common_in t o root_block
+live_by_blocks t o l lo =
+    sym (by_homes (λ e. cond {A = ℕ} (is_some e) 1 0) refl o.groups lo.homes)
+    ∙ sum_by-same (at_home (λ e. cond {A = ℕ} (is_some e) 1 0) o.groups)
+    (λ b. cond {A = ℕ} (is_needed t o b) 1 0 + cond {A = ℕ} (is_common t o b) 1 0)
+    blocks_above_voxels
+    (All-follows (λ b. IsBlock b × (b.depth ≤ 15))
+    (λ b. at_home (λ e. cond {A = ℕ} (is_some e) 1 0) o.groups b
+    ≡ cond {A = ℕ} (is_needed t o b) 1 0 + cond {A = ℕ} (is_common t o b) 1 0)
+    blocks_above_voxels
+    (λ b at. live_at o b lo at.0 ∙ two_kinds (is_split o b) (is_split t b)) all_above_voxels)
+    ∙ sum_by-plus (λ b. cond {A = ℕ} (is_needed t o b) 1 0)
+    (λ b. cond {A = ℕ} (is_common t o b) 1 0) blocks_above_voxels
+    ∙ ap (λ n. n + common_in t o root_block) (sym (need_by_blocks t o l lo))
 
 missing_live : (gs : Groups) (e : Option Group)
     → cond {A = ℕ} (is_missing gs e) 1 0 ≤ cond {A = ℕ} (is_some e) 1 0

@@ -20,7 +20,7 @@ use Rattle.oct_tree.specs.Tree.{IsOver, Tree, IsLinked, reach}
 use Rattle.oct_tree.proofs.Paths.{some_not_none, reach_home, unlinked_step}
 use Rattle.oct_edit.specs.Steps.{IsEntered}
 use Rattle.oct_edit.proofs.Needs.{sum_below_eight}
-use Rattle.oct_merge.specs.Walk.{is_split, is_needed, need_in}
+use Rattle.oct_merge.specs.Walk.{is_split, is_needed, need_in, is_common, common_in}
 use Rattle.oct_merge.proofs.Known.{over_step, over_low}
 
 -- by the nodes over a block
@@ -31,48 +31,77 @@ needed_by_nodes t o b m n here there =
     ∙ ap (λ x. is_some (link_of n) && not (is_some (link_of x)))
     (here (lowest_voxel b) (lowest_held b))
 
--- a block counts itself and what its children count
-pub need_of_children : (t o : Tree) (b : Cube) → b.depth ≤ 15
-    → need_in t o b ≡ cond (is_needed t o b) 1 0 + sum_below (λ i. need_in t o (child_of b i)) 8
-need_of_children t o b low =
+-- a count over the blocks of a block: itself, and what its children count
+count_of_children : (f : Cube → Bool) (b : Cube) → b.depth ≤ 15
+    → count_by f (blocks_below (16 - b.depth) b)
+    ≡ cond (f b) 1 0
+    + sum_below (λ i. count_by f (blocks_below (16 - (child_of b i).depth) (child_of b i))) 8
+count_of_children f b low =
     let level : 16 - b.depth ≡ suc (15 - b.depth) = omega arith in
-    let whole : need_in t o b
-    ≡ sum_by (λ q. cond {A = ℕ} (is_needed t o q) 1 0) (blocks_below (suc (15 - b.depth)) b) =
-    ap (λ n. count_by (is_needed t o) (blocks_below n b)) level in
-    let split = sum_of_blocks (λ q. cond {A = ℕ} (is_needed t o q) 1 0) (15 - b.depth) b in
+    let whole : count_by f (blocks_below (16 - b.depth) b)
+    ≡ sum_by (λ q. cond {A = ℕ} (f q) 1 0) (blocks_below (suc (15 - b.depth)) b) =
+    ap (λ n. count_by f (blocks_below n b)) level in
+    let split = sum_of_blocks (λ q. cond {A = ℕ} (f q) 1 0) (15 - b.depth) b in
     let each =
     same_eight
-    (λ i. sum_by (λ q. cond {A = ℕ} (is_needed t o q) 1 0)
-    (blocks_below (15 - b.depth) (child_of b i)))
-    (λ i. need_in t o (child_of b i))
-    (λ i li. ap (λ n. count_by (is_needed t o) (blocks_below n (child_of b i)))
-    (child_level i)) in
-    let eight = sum_below_eight (λ i. need_in t o (child_of b i)) in
+    (λ i. sum_by (λ q. cond {A = ℕ} (f q) 1 0) (blocks_below (15 - b.depth) (child_of b i)))
+    (λ i. count_by f (blocks_below (16 - (child_of b i).depth) (child_of b i)))
+    (λ i li. ap (λ n. count_by f (blocks_below n (child_of b i))) (child_level i)) in
+    let eight =
+    sum_below_eight
+    (λ i. count_by f (blocks_below (16 - (child_of b i).depth) (child_of b i))) in
     omega (arith, whole, split, each, eight)
   where
     child_level : (i : ℕ) → 15 - b.depth ≡ 16 - (child_of b i).depth
     child_level i = (let deep = depth_child_of b i in omega (arith, deep))
 
--- nothing is needed where the second tree has no groups
-none_below : (t o : Tree) (h : ℕ) (b : Cube) (n : Node) → b.depth + h ≡ 16 → IsOver o b n
-    → link_of n ≡ None
-    → count_by (is_needed t o) (blocks_below h b) ≡ 0
-none_below t o zero b n d over plain = sum_of_no_blocks (λ q. cond {A = ℕ} (is_needed t o q) 1 0) b
-none_below t o (suc h) b n d over plain =
-    let all = sum_of_blocks (λ q. cond {A = ℕ} (is_needed t o q) 1 0) h b in
-    let test : is_split o b ≡ false =
+pub need_of_children : (t o : Tree) (b : Cube) → b.depth ≤ 15
+    → need_in t o b ≡ cond (is_needed t o b) 1 0 + sum_below (λ i. need_in t o (child_of b i)) 8
+need_of_children t o b low = count_of_children (is_needed t o) b low
+
+pub common_of_children : (t o : Tree) (b : Cube) → b.depth ≤ 15
+    → common_in t o b
+    ≡ cond (is_common t o b) 1 0 + sum_below (λ i. common_in t o (child_of b i)) 8
+common_of_children t o b low = count_of_children (is_common t o) b low
+
+-- nothing is counted where a tree has no groups, and each block that counts has one
+none_below : (t : Tree) (f : Cube → Bool) → ((q : Cube) → is_split t q ≡ false → f q ≡ false)
+    → (h : ℕ) (b : Cube) (n : Node) → b.depth + h ≡ 16 → IsOver t b n → link_of n ≡ None
+    → count_by f (blocks_below h b) ≡ 0
+none_below t f only zero b n d over plain = sum_of_no_blocks (λ q. cond {A = ℕ} (f q) 1 0) b
+none_below t f only (suc h) b n d over plain =
+    let all = sum_of_blocks (λ q. cond {A = ℕ} (f q) 1 0) h b in
+    let test : is_split t b ≡ false =
     ap (λ m. is_some (link_of m)) (over (lowest_voxel b) (lowest_held b)) ∙ ap is_some plain in
-    let here : cond {A = ℕ} (is_needed t o b) 1 0 ≡ 0 =
-    ap (λ a. cond {A = ℕ} (a && not (is_split t b)) 1 0) test in
-    let rest = none_of_eight (λ i. count_by (is_needed t o) (blocks_below h (child_of b i)))
-    (λ i li. none_below t o h (child_of b i) n (child_depths b h i d)
-    (subst (IsOver o (child_of b i)) (unlinked_step o.groups n i plain)
-    (over_step o b n i (omega (arith, d)) li over)) plain) in
+    let here : cond {A = ℕ} (f b) 1 0 ≡ 0 = ap (λ a. cond {A = ℕ} a 1 0) (only b test) in
+    let rest = none_of_eight (λ i. count_by f (blocks_below h (child_of b i)))
+    (λ i li. none_below t f only h (child_of b i) n (child_depths b h i d)
+    (subst (IsOver t (child_of b i)) (unlinked_step t.groups n i plain)
+    (over_step t b n i (omega (arith, d)) li over)) plain) in
     omega (arith, all, here, rest)
 
 pub need_none : (t o : Tree) (b : Cube) (n : Node) → b.depth ≤ 16 → IsOver o b n → link_of n ≡ None
     → need_in t o b ≡ 0
-need_none t o b n m over plain = none_below t o (16 - b.depth) b n (omega (arith, m)) over plain
+need_none t o b n m over plain =
+    none_below o (is_needed t o) (λ q e. ap (λ a. a && not (is_split t q)) e) (16 - b.depth) b n
+    (omega (arith, m)) over plain
+
+neither : (a : Bool) → (a && false) ≡ false
+neither true = refl
+neither false = refl
+
+pub common_none : (t o : Tree) (b : Cube) (m : Node) → b.depth ≤ 16 → IsOver t b m
+    → link_of m ≡ None → common_in t o b ≡ 0
+common_none t o b m top over plain =
+    none_below t (is_common t o)
+    (λ q e. ap (λ a. is_split o q && a) e ∙ neither (is_split o q)) (16 - b.depth) b m
+    (omega (arith, top)) over plain
+
+pub common_none_there : (t o : Tree) (b : Cube) (n : Node) → b.depth ≤ 16 → IsOver o b n
+    → link_of n ≡ None → common_in t o b ≡ 0
+common_none_there t o b n top over plain =
+    none_below o (is_common t o) (λ q e. ap (λ a. a && is_split t q) e) (16 - b.depth) b n
+    (omega (arith, top)) over plain
 
 -- what is needed depends on where the first tree has groups
 alike_below : (t w o : Tree) (h : ℕ) (b : Cube) → IsBlock b → b.depth + h ≡ 16
@@ -125,24 +154,25 @@ entered_alike t s p b id l e d k below m v = elim (e.opened d k m v) [
       ])
 ]
 
--- a block whose node in the second tree links a group counts, unless that in the first one does too
-pub counted_here : (t o : Tree) (b : Cube) (m n : Node) (theirs mine : Bool) → IsOver t b m
-    → IsOver o b n → theirs ≡ false
+-- a block whose node links a group in both trees counts
+pub common_here : (t o : Tree) (b : Cube) (m n : Node) (theirs mine : Bool) → IsOver t b m
+    → IsOver o b n → theirs ≡ false → mine ≡ false
     → IsTrue theirs ↔ (link_of n ≡ None) → IsTrue mine ↔ (link_of m ≡ None)
-    → cond {A = ℕ} (is_needed t o b) 1 0 ≡ cond {A = ℕ} mine 1 0
-counted_here t o b m n theirs mine here there fails is_theirs is_mine =
-    go (link_of m) (link_of n) mine refl refl refl
+    → cond {A = ℕ} (is_common t o b) 1 0 ≡ 1
+common_here t o b m n theirs mine here there fails fails_too is_theirs is_mine =
+    go (link_of m) (link_of n) refl refl
   where
-    go : (x y : Option ℕ) (a : Bool) → link_of m ≡ x → link_of n ≡ y → mine ≡ a
-        → cond {A = ℕ} (is_needed t o b) 1 0 ≡ cond {A = ℕ} mine 1 0
-    go x None a ex ey ea = absurd (false≢true (sym fails ∙ is_theirs.1 ey))
-    go None (Some y) a ex ey ea =
-        ap (λ test. cond {A = ℕ} test 1 0) (needed_by_nodes t o b m n here there)
-        ∙ rw (ex, ey, is_mine.1 ex) refl
-    go (Some x) (Some y) true ex ey ea = absurd (some_not_none ex (is_mine.0 ea))
-    go (Some x) (Some y) false ex ey ea =
-        ap (λ test. cond {A = ℕ} test 1 0) (needed_by_nodes t o b m n here there)
-        ∙ rw (ex, ey, ea) refl
+    by_nodes : is_common t o b ≡ (is_some (link_of n) && is_some (link_of m))
+    by_nodes =
+        ap (λ x. is_some (link_of x) && is_split t b) (there (lowest_voxel b) (lowest_held b))
+        ∙ ap (λ x. is_some (link_of n) && is_some (link_of x))
+        (here (lowest_voxel b) (lowest_held b))
+
+    go : (x y : Option ℕ) → link_of m ≡ x → link_of n ≡ y
+        → cond {A = ℕ} (is_common t o b) 1 0 ≡ 1
+    go x None ex ey = absurd (false≢true (sym fails ∙ is_theirs.1 ey))
+    go None (Some y) ex ey = absurd (false≢true (sym fails_too ∙ is_mine.1 ex))
+    go (Some x) (Some y) ex ey = ap (λ test. cond {A = ℕ} test 1 0) by_nodes ∙ rw (ex, ey) refl
 
 -- no voxel's
 pub linked_low : (o : Tree) (b : Cube) (n : Node) (theirs : Bool) → IsLinked o → IsBlock b
@@ -159,22 +189,9 @@ pub sum_next : (f : ℕ → ℕ) (first need more i : ℕ) → need ≡ first + 
     → need + more ≡ first + sum_below f (i + 1)
 sum_next f first need more i sum is = let next = sum_below_next f i in omega (arith, sum, is, next)
 
--- where nothing comes to it
-pub sum_none : (f : ℕ → ℕ) (first need i : ℕ) → need ≡ first + sum_below f i → f i ≡ 0
-    → need ≡ first + sum_below f (i + 1)
-sum_none f first need i sum none =
-    let next = sum_below_next f i in omega (arith, sum, none, next)
-
-pub few_more : (need i most : ℕ) → need ≤ 1 + i * most → need ≤ 1 + (i + 1) * most
-few_more need i most few = omega (arith, few)
-
 pub sum_first : (f : ℕ → ℕ) (first need : ℕ) → need ≡ first → need ≡ first + sum_below f 0
 sum_first f first need is = let none = sum_below_none f in omega (arith, is, none)
 
 pub sum_last : (f : ℕ → ℕ) (first need i all : ℕ) → i ≡ 8 → need ≡ first + sum_below f i
     → all ≡ first + sum_below f 8 → need ≡ all
 sum_last f first need i all end sum whole = sum ∙ ap (λ n. first + sum_below f n) end ∙ sym whole
-
-pub one_few : (test : Bool) (n m : ℕ) → n ≡ cond test 1 0 → n ≤ 1 + 0 * m
-one_few true n m e = omega (arith, e)
-one_few false n m e = omega (arith, e)

@@ -1,7 +1,7 @@
 -- The merge of a block, child after child.
-use Rattle.std.proofs.Common.{◌≡◌, ℕ, ◌+◌, ◌<◌, ◌≤◌, Bool, false, cond, inl, inr, Some, None, refl}
+use Rattle.std.proofs.Common.{◌≡◌, ◌≢◌, ℕ, ◌+◌, ◌<◌, ◌≤◌, Bool, false, cond, inl, inr, Some, None, refl}
 use Rattle.std.proofs.Common.{sym, ◌∙◌, ap, subst, arith}
-use Rattle.std.specs.Prelude.{Option, ◌&&◌, not, is_some, IsSome, IsTrue, ◌↔◌}
+use Rattle.std.specs.Prelude.{Option, ◌&&◌, ◌⊎◌, not, is_some, IsSome}
 use Rattle.std.proofs.lemmas.Bool.{false≢true}
 use Rattle.oct_key.specs.Voxel.{Voxel, IsInMap}
 use Rattle.oct_key.specs.Block.{Cube, IsBlock, HoldsVoxel, child_of, child_index_of, lowest_voxel}
@@ -52,7 +52,7 @@ pub record IsMerging (t s w o : Tree) (p : Place) (b : Cube) (rule : Rule) (i : 
   pub room : spare s.groups ≤ spare w.groups + sum_below (λ j. need_in t o (child_of b j)) i
 
 -- where nothing is known of a block in the second tree, nothing is to do
-pub part_unknown : (t o : Tree) (b : Cube) (n : Node) (rule : Rule) → IsLinked t → IsBlock b
+part_unknown : (t o : Tree) (b : Cube) (n : Node) (rule : Rule) → IsLinked t → IsBlock b
     → IsOver o b n → n ≡ Absent
     → IsTouched t t b (events_of rule t o) false
 part_unknown t o b n rule l ok over absent = record {
@@ -73,28 +73,26 @@ part_unknown t o b n rule l ok over absent = record {
         merge_leaves rule (value_at t k) (value_at o k)
         (over_value o b n ok.depth over (ap link_of absent) k h ∙ ap value_of absent)
 
--- a block that isn't one leaf in both trees is no voxel
-pub part_low : (t o : Tree) (p : Place) (b : Cube) (n : Node) (plain : Bool) → IsLinked t
-    → IsLinked o → block_in t p ≡ Some b
-    → IsBlock b → IsOver o b n → plain ≡ false
-    → IsTrue plain ↔ ((link_of (node_in t p) ≡ None) × (link_of n ≡ None)) → b.depth ≤ 15
-part_low t o p b n plain l lo e ok over fails is = go (link_of (node_in t p)) (link_of n) refl refl
+-- a block that has a group in one of the trees is no voxel
+pub part_low : (t o : Tree) (p : Place) (b : Cube) (n : Node) → IsLinked t → IsLinked o
+    → block_in t p ≡ Some b → IsBlock b → IsOver o b n
+    → (link_of (node_in t p) ≡ None → link_of n ≢ None) → b.depth ≤ 15
+part_low t o p b n l lo e ok over parted = go (link_of (node_in t p)) (link_of n) refl refl
   where
     go : (x y : Option ℕ) → link_of (node_in t p) ≡ x → link_of n ≡ y → b.depth ≤ 15
-    go None None a c = absurd (false≢true (sym fails ∙ is.1 (a, c)))
+    go None None a c = absurd (parted a c)
     go (Some x) y a c = (l.homes x b (l.links p x a ∙ e)).1
     go None (Some y) a c = over_low o b n y lo ok over c
 
 -- and where the first has no group there, the second has
-part_needed : (t o : Tree) (p : Place) (b : Cube) (n : Node) (plain : Bool) → IsLinked t
-    → IsPlace t p → block_in t p ≡ Some b
-    → IsBlock b → IsOver o b n → plain ≡ false
-    → IsTrue plain ↔ ((link_of (node_in t p) ≡ None) × (link_of n ≡ None))
+part_needed : (t o : Tree) (p : Place) (b : Cube) (n : Node) → IsLinked t → IsPlace t p
+    → block_in t p ≡ Some b → IsBlock b → IsOver o b n
+    → (link_of (node_in t p) ≡ None → link_of n ≢ None)
     → link_of (node_in t p) ≡ None → cond {A = ℕ} (is_needed t o b) 1 0 ≡ 1
-part_needed t o p b n plain l ok e in_map over fails is none = go (link_of n) refl
+part_needed t o p b n l ok e in_map over parted none = go (link_of n) refl
   where
     go : (y : Option ℕ) → link_of n ≡ y → cond {A = ℕ} (is_needed t o b) 1 0 ≡ 1
-    go None c = absurd (false≢true (sym fails ∙ is.1 (none, c)))
+    go None c = absurd (parted none c)
     go (Some y) c =
         ap (λ a. cond {A = ℕ} a 1 0)
         (needed_by_nodes t o b (node_in t p) n (over_place t p b l ok e in_map) over)
@@ -102,26 +100,24 @@ part_needed t o p b n plain l ok e in_map over fails is none = go (link_of n) re
         ∙ ap (λ a. cond {A = ℕ} (not (is_some a)) 1 0) none
 
 -- so there is room for a group
-pub part_room : (t o : Tree) (p : Place) (b : Cube) (n : Node) (plain : Bool) → IsLinked t
-    → IsPlace t p → block_in t p ≡ Some b
-    → IsBlock b → IsOver o b n → plain ≡ false
-    → IsTrue plain ↔ ((link_of (node_in t p) ≡ None) × (link_of n ≡ None))
+pub part_room : (t o : Tree) (p : Place) (b : Cube) (n : Node) → IsLinked t → IsPlace t p
+    → block_in t p ≡ Some b → IsBlock b → IsOver o b n
+    → (link_of (node_in t p) ≡ None → link_of n ≢ None)
     → b.depth ≤ 15 → need_in t o b ≤ spare t.groups → link_of (node_in t p) ≡ None
     → 1 ≤ spare t.groups
-part_room t o p b n plain l ok e in_map over fails is low room none =
-    let one = part_needed t o p b n plain l ok e in_map over fails is none in
+part_room t o p b n l ok e in_map over parted low room none =
+    let one = part_needed t o p b n l ok e in_map over parted none in
     let all = need_of_children t o b low in
     omega (arith, one, all, room)
 
 -- and entering the block takes no more than is counted for it
-pub part_entered : (t s o : Tree) (p : Place) (b : Cube) (id : GroupId) (n : Node) (plain : Bool)
-    → IsLinked t → IsPlace t p → block_in t p ≡ Some b
-    → IsBlock b → IsOver o b n → plain ≡ false
-    → IsTrue plain ↔ ((link_of (node_in t p) ≡ None) × (link_of n ≡ None))
+pub part_entered : (t s o : Tree) (p : Place) (b : Cube) (id : GroupId) (n : Node) → IsLinked t
+    → IsPlace t p → block_in t p ≡ Some b → IsBlock b → IsOver o b n
+    → (link_of (node_in t p) ≡ None → link_of n ≢ None)
     → IsEntered t s p b id → spare t.groups ≤ spare s.groups + cond {A = ℕ} (is_needed t o b) 1 0
-part_entered t s o p b id n plain l ok at in_map over fails is e = elim e.spare [
+part_entered t s o p b id n l ok at in_map over parted e = elim e.spare [
   | inl same ↦ omega (arith, same)
-  | inr (none, less) ↦ (let one = part_needed t o p b n plain l ok at in_map over fails is none in
+  | inr (none, less) ↦ (let one = part_needed t o p b n l ok at in_map over parted none in
       omega (arith, one, less))
 ]
 
@@ -326,7 +322,7 @@ kept_value (Some v) None h = refl
 kept_value (Some v) (Some w) h = refl
 
 -- so a block that is one leaf is merged before it begins
-pub part_kept : (t o : Tree) (p : Place) (b : Cube) (rule : Rule) → IsLinked t → IsLinked o
+part_kept : (t o : Tree) (p : Place) (b : Cube) (rule : Rule) → IsLinked t → IsLinked o
     → IsPlace t p → block_in t p ≡ Some b → IsBlock b
     → t.odds ≡ o.odds → rule ≡ First → IsSome (value_of (node_in t p))
     → IsTouched t t b (events_of rule t o) false
@@ -358,3 +354,14 @@ part_kept t o p b rule l lo ok e in_map same first known = record {
         ∙ ap (λ r. merged r (value_at t k) (value_at o k)) first
         ∙ kept_value (value_at t k) (value_at o k)
         (subst IsSome (sym (covered t p b l ok e in_map.depth plain k v h)) known)
+
+-- so nothing is to do where the second tree knows nothing, or a known value stays
+pub part_done : (t o : Tree) (p : Place) (b : Cube) (n : Node) (rule : Rule) → IsLinked t
+    → IsLinked o → IsPlace t p → block_in t p ≡ Some b → IsBlock b → IsOver o b n
+    → t.odds ≡ o.odds
+    → (n ≡ Absent) ⊎ ((rule ≡ First) × IsSome (value_of (node_in t p)))
+    → IsTouched t t b (events_of rule t o) false
+part_done t o p b n rule l lo ok e in_map over same (inl absent) =
+    part_unknown t o b n rule l in_map over absent
+part_done t o p b n rule l lo ok e in_map over same (inr (first, known)) =
+    part_kept t o p b rule l lo ok e in_map same first known

@@ -16,3 +16,11 @@ is_needed into other b = is_split other b && not (is_split into b)
 -- how many such blocks of depth 0 to 15 there are in a block, itself among them
 abbrev pub need_in : Tree → Tree → Cube → ℕ
 need_in into other b = count_by (is_needed into other) (blocks_below (16 - b.depth) b)
+
+-- whether it does in both
+abbrev pub is_common : Tree → Tree → Cube → Bool
+is_common into other b = is_split other b && is_split into b
+
+-- how many such blocks there are in a block
+abbrev pub common_in : Tree → Tree → Cube → ℕ
+common_in into other b = count_by (is_common into other) (blocks_below (16 - b.depth) b)

@@ -23,12 +23,13 @@
 //!   the first map and the other in the second (`pair_counts`). The nine numbers add up to the
 //!   voxels of the box.
 //!
-//! All three are one walk: from the root down, block by block, with the node over the block in each
-//! tree. Where one tree has a leaf and the other a group, the leaf stands for each child. `merge`
-//! passes over what is absent in the other tree, and over a leaf that the rule keeps, writes a leaf
-//! where neither tree has a group, and closes each group on the way up, once. `class_table` counts
-//! a block at once where neither tree has a group, by the lengths that its axes have in common with
-//! the box. None takes memory, and how deep they call themselves is bounded by the depth of the
+//! All three walk from the root down, block by block, with the node over the block in each tree.
+//! Where one tree has a leaf and the other a group, the leaf stands for each child. `merge` passes
+//! over what is absent in the other tree, and over a leaf that the rule keeps, writes a leaf where
+//! neither tree has a group, and closes each group on the way up, once. `merge_need` visits only
+//! the groups whose home both trees have, and takes these from all of the other tree. `class_table`
+//! counts a block at once where neither tree has a group, by the lengths that its axes have in
+//! common with the box. None takes memory, and how deep they call themselves is bounded by the depth of the
 //! trees.
 //!
 //! The map of `oct_map` merges by these calls. The tasks `merge` and `table` of the program make no

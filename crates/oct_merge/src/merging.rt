@@ -1,5 +1,5 @@
 //! One walk down two trees, which joins what the second one knows into the first.
-ghost use Rattle.std.specs.Prelude.{◌≡◌, ◌+◌, ◌≤◌, ◌↔◌, IsTrue, IsSome, Some, None, false};
+ghost use Rattle.std.specs.Prelude.{◌≡◌, ◌≢◌, ◌+◌, ◌≤◌, ◌↔◌, ◌⊎◌, IsTrue, IsSome, Some, None, false};
 ghost use Rattle.oct_key.specs.Voxel.{Voxel, IsInMap};
 ghost use Rattle.oct_key.specs.Block.{Cube, IsBlock, HoldsVoxel};
 ghost use Rattle.oct_key.specs.CubeOf.{cube_of};
@@ -47,7 +47,7 @@ pub fn merge(into: &mut OccTree, other: &OccTree, rule: Rule)
         ≡ live into.old.groups + spare into.old.groups }
 {
     let known = into.tidiness();
-    merge_part(
+    merge_at(
         into,
         Place::Root,
         other,
@@ -60,7 +60,7 @@ pub fn merge(into: &mut OccTree, other: &OccTree, rule: Rule)
 
 /// Merges the voxels of the block of the place, over which this node stands in the other tree, and
 /// closes the groups from there on.
-fn merge_part(tree: &mut OccTree, p: Place, other: &OccTree, node: Node, block: Block, rule: Rule)
+fn merge_at(tree: &mut OccTree, p: Place, other: &OccTree, node: Node, block: Block, rule: Rule)
     requires linked { IsLinked tree.old }
     requires place { IsPlace tree.old p }
     requires block { block_in tree.old p ≡ Some (cube_of block) }
@@ -73,25 +73,59 @@ fn merge_part(tree: &mut OccTree, p: Place, other: &OccTree, node: Node, block: 
     ensures room { spare tree.old.groups
         ≤ spare tree.new.groups + need_in tree.old other.now (cube_of block) }
 {
-    if is_absent(node) {
-        return;
-    }
-    if is_kept(tree, p, rule) {
+    if is_done(tree, p, node, rule) {
         return;
     }
     if are_plain(tree, p, node) {
         write_leaf(tree, p, node, rule);
         return;
     }
+    merge_part(tree, p, other, node, block, rule);
+}
+
+/// The same, where one of the two has a group there, and something is to be done. What needs no
+/// group is done for each child without a call.
+fn merge_part(tree: &mut OccTree, p: Place, other: &OccTree, node: Node, block: Block, rule: Rule)
+    requires linked { IsLinked tree.old }
+    requires place { IsPlace tree.old p }
+    requires block { block_in tree.old p ≡ Some (cube_of block) }
+    requires other { IsWellFormed other.now }
+    requires over { IsOver other.now (cube_of block) node }
+    requires known { node ≢ Node.Absent }
+    requires parted { link_of (node_in tree.old p) ≡ None → link_of node ≢ None }
+    requires odds { tree.old.odds ≡ other.now.odds }
+    requires room { need_in tree.old other.now (cube_of block) ≤ spare tree.old.groups }
+    ensures touched { IsTouched tree.old tree.new (cube_of block)
+        (merge_events rule (value_at tree.old) (value_at other.now)) false }
+    ensures room { spare tree.old.groups
+        ≤ spare tree.new.groups + need_in tree.old other.now (cube_of block) }
+{
     let id = enter(tree, p);
     for i in 0..8 {
+        let slot = Place::Slot(id, i);
         let child = other.child_node(node, i);
-        if is_absent(child) {
+        if is_done(tree, slot, child, rule) {
             continue;
         }
-        merge_part(tree, Place::Slot(id, i), other, child, block.child(i), rule);
+        if are_plain(tree, slot, child) {
+            write_leaf(tree, slot, child, rule);
+            continue;
+        }
+        merge_part(tree, slot, other, child, block.child(i), rule);
     }
     close(tree, p, id, false);
+}
+
+/// Whether each voxel of the place's block stays as it is: the other node is absent, or the place
+/// has a leaf, and the rule takes the first map's value.
+#[inline(always)]
+fn is_done(tree: &OccTree, p: Place, node: Node, rule: Rule) -> bool
+    requires { IsPlace tree.now p }
+    ensures done { IsTrue result → (node ≡ Node.Absent)
+        ⊎ ((rule ≡ Rule.First) × IsSome (value_of (node_in tree.now p))) }
+    ensures known { result ≡ false → node ≢ Node.Absent }
+{
+    is_absent(node) || is_kept(tree, p, rule)
 }
 
 /// Whether the node is absent.
@@ -114,6 +148,7 @@ fn is_kept(tree: &OccTree, p: Place, rule: Rule) -> bool
 }
 
 /// Whether neither the place nor the other node links a group.
+#[inline(always)]
 fn are_plain(tree: &OccTree, p: Place, node: Node) -> bool
     requires { IsPlace tree.now p }
     ensures { IsTrue result ↔ ((link_of (node_in tree.now p) ≡ None) × (link_of node ≡ None)) }
@@ -122,6 +157,7 @@ fn are_plain(tree: &OccTree, p: Place, node: Node) -> bool
 }
 
 /// Merges the leaf of the other tree into the leaf or absent node of the place.
+#[inline(always)]
 fn write_leaf(tree: &mut OccTree, p: Place, node: Node, rule: Rule)
     requires linked { IsLinked tree.old }
     requires place { IsPlace tree.old p }

@@ -18,13 +18,13 @@ use Rattle.oct_merge.proofs.Known.{over_root}
 use Rattle.oct_merge.proofs.Parts.{events_of}
 use Rattle.oct_merge.proofs.merging.merge.Goals as goal
 
-pub merge_part-requires-clause-over : goal.merge_part-requires-clause-over
-merge_part-requires-clause-over c =
+pub merge_at-requires-clause-over : goal.merge_at-requires-clause-over
+merge_at-requires-clause-over c =
     subst (λ b. IsOver c.args.other.now b c.root.result) (sym c.whole_map.ensures)
     (λ k held. over_root c.args.other.now k held ∙ sym c.root.ensures.exact)
 
-pub merge_part-requires-clause-room : goal.merge_part-requires-clause-room
-merge_part-requires-clause-room c =
+pub merge_at-requires-clause-room : goal.merge_at-requires-clause-room
+merge_at-requires-clause-room c =
     subst (λ b. need_in c.args.into.now c.args.other.now b ≤ spare c.args.into.now.groups)
     (sym c.whole_map.ensures)
     (subst (λ n. n ≤ spare c.args.into.now.groups)
@@ -34,26 +34,26 @@ merge_part-requires-clause-room c =
 
 pub note-requires : goal.note-requires
 note-requires c =
-    whole_known c.args.into.now c.merge_part.new.tree
+    whole_known c.args.into.now c.merge_at.new.tree
     (events_of c.args.rule c.args.into.now c.args.other.now) false c.tidiness-known.result
-    (subst (λ b. IsTouched c.args.into.now c.merge_part.new.tree b
+    (subst (λ b. IsTouched c.args.into.now c.merge_at.new.tree b
     (events_of c.args.rule c.args.into.now c.args.other.now) false)
-    c.whole_map.ensures c.merge_part.ensures.touched)
+    c.whole_map.ensures c.merge_at.ensures.touched)
     (λ h. false≢true h) c.tidiness-known.ensures.so
 
 -- the edit within the whole map
 touched : (c : goal.After-note)
-    → IsTouched c.args.into.now c.merge_part.new.tree root_block
+    → IsTouched c.args.into.now c.merge_at.new.tree root_block
     (events_of c.args.rule c.args.into.now c.args.other.now) false
 touched c =
-    subst (λ b. IsTouched c.args.into.now c.merge_part.new.tree b
+    subst (λ b. IsTouched c.args.into.now c.merge_at.new.tree b
     (events_of c.args.rule c.args.into.now c.args.other.now) false)
-    c.whole_map.ensures c.merge_part.ensures.touched
+    c.whole_map.ensures c.merge_at.ensures.touched
 
 pub returns-clause-values : goal.returns-clause-values
 returns-clause-values c k v =
     let edited =
-    whole_edited c.args.into.now c.merge_part.new.tree
+    whole_edited c.args.into.now c.merge_at.new.tree
     (events_of c.args.rule c.args.into.now c.args.other.now) false
     (touched c) c.requires.into in
     let within =
@@ -67,7 +67,7 @@ pub returns-clause-edited : goal.returns-clause-edited
 returns-clause-edited c =
     subst (λ u. IsEdited c.args.into.now u (events_of c.args.rule c.args.into.now c.args.other.now))
     (sym c.note.ensures.same)
-    (whole_edited c.args.into.now c.merge_part.new.tree
+    (whole_edited c.args.into.now c.merge_at.new.tree
     (events_of c.args.rule c.args.into.now c.args.other.now) false
     (touched c) c.requires.into)
 
@@ -76,7 +76,7 @@ returns-clause-eager c =
     subst (λ u. IsEagerEdit c.args.into.now u
     (events_of c.args.rule c.args.into.now c.args.other.now))
     (sym c.note.ensures.same)
-    (whole_eager c.args.into.now c.merge_part.new.tree
+    (whole_eager c.args.into.now c.merge_at.new.tree
     (events_of c.args.rule c.args.into.now c.args.other.now) false
     (touched c) (λ h. false≢true h))
 
@@ -85,7 +85,7 @@ returns-clause-path c k v known =
     let (m, is, _) =
     merge_sets c.args.rule (value_at c.args.into.now k) (value_at c.args.other.now k) known in
     subst (λ u. IsTidyAlong u k) (sym c.note.ensures.same)
-    (whole_paths c.args.into.now c.merge_part.new.tree
+    (whole_paths c.args.into.now c.merge_at.new.tree
     (events_of c.args.rule c.args.into.now c.args.other.now) false
     (touched c) (λ h. false≢true h) k v (ap is_some is))
 
@@ -94,18 +94,18 @@ returns-clause-room c =
     subst (λ (u : Tree). live u.groups + spare u.groups ≡ live c.args.into.now.groups + spare
     c.args.into.now.groups)
     (sym c.note.ensures.same)
-    (same_total c.args.into.now.groups c.merge_part.new.tree.groups
+    (same_total c.args.into.now.groups c.merge_at.new.tree.groups
     (touched c).apart.outside.length)
 
 pub returns-clause-groups : goal.returns-clause-groups
 returns-clause-groups c =
     let total =
-    same_total c.args.into.now.groups c.merge_part.new.tree.groups
+    same_total c.args.into.now.groups c.merge_at.new.tree.groups
     (touched c).apart.outside.length in
     let room =
-    subst (λ b. spare c.args.into.now.groups ≤ spare c.merge_part.new.tree.groups + need_in
+    subst (λ b. spare c.args.into.now.groups ≤ spare c.merge_at.new.tree.groups + need_in
     c.args.into.now c.args.other.now b)
-    c.whole_map.ensures c.merge_part.ensures.room in
+    c.whole_map.ensures c.merge_at.ensures.room in
     let need =
     need_by_blocks c.args.into.now c.args.other.now c.requires.into.linked
     c.requires.other.linked in

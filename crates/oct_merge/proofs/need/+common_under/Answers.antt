@@ -4,31 +4,33 @@ use Rattle.oct_key.specs.Block.{Cube, child_of}
 use Rattle.oct_key.specs.CubeOf.{cube_of}
 use Rattle.oct_key.proofs.Blocks.{block_in_map, depth_child_of}
 use Rattle.oct_query.proofs.Under.{few_next, few_all, sum_fits, depths_down}
-use Rattle.oct_merge.specs.Walk.{is_needed, need_in}
+use Rattle.oct_merge.specs.Walk.{is_common, common_in}
 use Rattle.oct_merge.proofs.Known.{over_live, over_next}
-use Rattle.oct_merge.proofs.Needs.{need_none, need_of_children, counted_here, linked_low, sum_first}
-use Rattle.oct_merge.proofs.Needs.{sum_next, sum_none, sum_last, one_few, few_more}
-use Rattle.oct_merge.proofs.need.+need_under.Goals as goal
+use Rattle.oct_merge.proofs.Needs.{common_none, common_none_there, common_of_children, common_here}
+use Rattle.oct_merge.proofs.Needs.{linked_low, sum_first, sum_next, sum_last}
+use Rattle.oct_merge.proofs.need.+common_under.Goals as goal
 
 pub returns-then-is_plain-clause-exact : goal.returns-then-is_plain-clause-exact
 returns-then-is_plain-clause-exact t c =
-    sym (need_none c.args.into.now c.args.other.now (cube_of c.args.block) c.args.theirs
+    sym (common_none_there c.args.into.now c.args.other.now (cube_of c.args.block) c.args.theirs
     c.args.block.levels c.requires.theirs (c.is_plain.ensures.0 c.if-is_plain.true))
+
+pub returns-then-is_plain-2-clause-exact : goal.returns-then-is_plain-2-clause-exact
+returns-then-is_plain-2-clause-exact t c =
+    sym (common_none c.args.into.now c.args.other.now (cube_of c.args.block) c.args.node
+    c.args.block.levels c.requires.node (c.is_plain-2.ensures.0 c.if-is_plain-2.true))
 
 pub loop-i-init : goal.loop-i-init
 loop-i-init t c =
     let here =
-    counted_here c.args.into.now c.args.other.now (cube_of c.args.block) c.args.node
-    c.args.theirs c.is_plain.result c.is_plain-2.result c.requires.node c.requires.theirs
-    c.if-is_plain.false c.is_plain.ensures c.is_plain-2.ensures in
-    let from : c.from-need.result ≡ cond c.is_plain-2.result 1 0 = search rules in
+    common_here c.args.into.now c.args.other.now (cube_of c.args.block) c.args.node c.args.theirs
+    c.is_plain.result c.is_plain-2.result c.requires.node c.requires.theirs c.if-is_plain.false
+    c.if-is_plain-2.false c.is_plain.ensures c.is_plain-2.ensures in
     record {
       counted =
-          sum_first
-          (λ j. need_in c.args.into.now c.args.other.now (child_of (cube_of c.args.block) j))
-          (cond (is_needed c.args.into.now c.args.other.now (cube_of c.args.block)) 1 0) _
-          (from ∙ sym here);
-      few = one_few c.is_plain-2.result _ _ from;
+          sum_first (λ j. common_in c.args.into.now c.args.other.now (child_of (cube_of c.args.block) j))
+          (cond (is_common c.args.into.now c.args.other.now (cube_of c.args.block)) 1 0) 1 (sym here);
+      few = omega arith;
     }
 
 pub child_node-child-requires-clause-live : goal.child_node-child-requires-clause-live
@@ -49,8 +51,8 @@ child-requires-clause-depth t c =
     c.is_plain.ensures in
     low
 
-pub need_under-need-requires : goal.need_under-need-requires
-need_under-need-requires t c =
+pub common_under-common-requires : goal.common_under-common-requires
+common_under-common-requires t c =
     let low : c.args.block.depth ≤ 15 =
     linked_low c.args.other.now (cube_of c.args.block) c.args.theirs c.is_plain.result
     c.requires.other (block_in_map c.args.block) c.requires.theirs c.if-is_plain.false
@@ -71,8 +73,8 @@ need_under-need-requires t c =
       (c.requires.into, (c.requires.other, (mine, theirs))),
     )
 
-pub overflow_add-need : goal.overflow_add-need
-overflow_add-need t c =
+pub overflow_add-common : goal.overflow_add-common
+overflow_add-common t c =
     let low : c.args.block.depth ≤ 15 =
     linked_low c.args.other.now (cube_of c.args.block) c.args.theirs c.is_plain.result
     c.requires.other (block_in_map c.args.block) c.requires.theirs c.if-is_plain.false
@@ -81,11 +83,11 @@ overflow_add-need t c =
     let child = c.child.ensures.exact in
     let level : c.child.result.depth ≡ c.args.block.depth + 1 =
     ap (λ (a : Cube). a.depth) child ∙ depth_child_of (cube_of c.args.block) c.loop-i.i in
-    let power : c.need_under-need.result ≤ 9 ^ (15 - c.args.block.depth) =
-    subst (λ h. c.need_under-need.result ≤ 9 ^ h)
-    (ap (λ d. 16 - d) level ∙ depths_down c.args.block.depth) c.need_under-need.ensures.few in
-    let fits : c.loop-i.need + c.need_under-need.result < 18446744073709551616 =
-    sum_fits c.loop-i.need c.need_under-need.result c.loop-i.i c.args.block.depth low few
+    let power : c.common_under-common.result ≤ 9 ^ (15 - c.args.block.depth) =
+    subst (λ h. c.common_under-common.result ≤ 9 ^ h)
+    (ap (λ d. 16 - d) level ∙ depths_down c.args.block.depth) c.common_under-common.ensures.few in
+    let fits : c.loop-i.common + c.common_under-common.result < 18446744073709551616 =
+    sum_fits c.loop-i.common c.common_under-common.result c.loop-i.i c.args.block.depth low few
     c.loop-i.invariant.few power in
     search rules
 
@@ -99,47 +101,17 @@ loop-i-preserved t c =
     let child = c.child.ensures.exact in
     let level : c.child.result.depth ≡ c.args.block.depth + 1 =
     ap (λ (a : Cube). a.depth) child ∙ depth_child_of (cube_of c.args.block) c.loop-i.i in
-    let more : c.need_under-need.result
-    ≡ need_in c.args.into.now c.args.other.now (child_of (cube_of c.args.block) c.loop-i.i) =
-    c.need_under-need.ensures.exact ∙ ap (need_in c.args.into.now c.args.other.now) child in
-    let power : c.need_under-need.result ≤ 9 ^ (15 - c.args.block.depth) =
-    subst (λ h. c.need_under-need.result ≤ 9 ^ h)
-    (ap (λ d. 16 - d) level ∙ depths_down c.args.block.depth) c.need_under-need.ensures.few in
+    let more : c.common_under-common.result
+    ≡ common_in c.args.into.now c.args.other.now (child_of (cube_of c.args.block) c.loop-i.i) =
+    c.common_under-common.ensures.exact ∙ ap (common_in c.args.into.now c.args.other.now) child in
+    let power : c.common_under-common.result ≤ 9 ^ (15 - c.args.block.depth) =
+    subst (λ h. c.common_under-common.result ≤ 9 ^ h)
+    (ap (λ d. 16 - d) level ∙ depths_down c.args.block.depth) c.common_under-common.ensures.few in
     record {
       counted =
-          sum_next
-          (λ j. need_in c.args.into.now c.args.other.now (child_of (cube_of c.args.block) j))
-          (cond (is_needed c.args.into.now c.args.other.now (cube_of c.args.block)) 1 0) _ _ _
-          c.loop-i.invariant.counted more;
+          sum_next (λ j. common_in c.args.into.now c.args.other.now (child_of (cube_of c.args.block) j))
+          (cond (is_common c.args.into.now c.args.other.now (cube_of c.args.block)) 1 0) _ _ _ c.loop-i.invariant.counted more;
       few = few_next _ _ _ _ c.loop-i.invariant.few power;
-    }
-
--- a child without a group in the second tree
-pub loop-i-preserved-then-is_plain-2 : goal.loop-i-preserved-then-is_plain-2
-loop-i-preserved-then-is_plain-2 t c =
-    let low : c.args.block.depth ≤ 15 =
-    linked_low c.args.other.now (cube_of c.args.block) c.args.theirs c.is_plain.result
-    c.requires.other (block_in_map c.args.block) c.requires.theirs c.if-is_plain.false
-    c.is_plain.ensures in
-    let few : c.loop-i.i < 8 = omega arith in
-    let child = child_of (cube_of c.args.block) c.loop-i.i in
-    let theirs =
-    over_next c.args.other.now (cube_of c.args.block) child c.args.theirs
-    c.child_node-their_child.result c.loop-i.i low few refl c.child_node-their_child.ensures
-    c.requires.theirs in
-    let level = depth_child_of (cube_of c.args.block) c.loop-i.i in
-    let none : need_in c.args.into.now c.args.other.now child ≡ 0 =
-    need_none c.args.into.now c.args.other.now child c.child_node-their_child.result
-    (omega (arith, level, low)) theirs
-    (c.is_plain-in-loop-i.ensures.0 c.if-is_plain-2.true) in
-    record {
-      counted =
-          sum_none
-          (λ j. need_in c.args.into.now c.args.other.now (child_of (cube_of c.args.block) j))
-          (cond (is_needed c.args.into.now c.args.other.now (cube_of c.args.block)) 1 0) _ _
-          c.loop-i.invariant.counted none;
-      few = few_more c.loop-i.need c.loop-i.i (9 ^ (15 - c.args.block.depth))
-          c.loop-i.invariant.few;
     }
 
 pub returns-clause-exact : goal.returns-clause-exact
@@ -149,10 +121,9 @@ returns-clause-exact t c =
     c.requires.other (block_in_map c.args.block) c.requires.theirs c.if-is_plain.false
     c.is_plain.ensures in
     let last : c.loop-i.i ≡ 8 = omega arith in
-    sum_last (λ j. need_in c.args.into.now c.args.other.now (child_of (cube_of c.args.block) j))
-    (cond (is_needed c.args.into.now c.args.other.now (cube_of c.args.block)) 1 0) _ c.loop-i.i
-    _ last c.loop-i.invariant.counted
-    (need_of_children c.args.into.now c.args.other.now (cube_of c.args.block) low)
+    sum_last (λ j. common_in c.args.into.now c.args.other.now (child_of (cube_of c.args.block) j))
+    (cond (is_common c.args.into.now c.args.other.now (cube_of c.args.block)) 1 0) _ c.loop-i.i _ last c.loop-i.invariant.counted
+    (common_of_children c.args.into.now c.args.other.now (cube_of c.args.block) low)
 
 pub returns-clause-few : goal.returns-clause-few
 returns-clause-few t c =
@@ -161,4 +132,4 @@ returns-clause-few t c =
     c.requires.other (block_in_map c.args.block) c.requires.theirs c.if-is_plain.false
     c.is_plain.ensures in
     let last : c.loop-i.i ≡ 8 = omega arith in
-    few_all c.loop-i.need c.loop-i.i c.args.block.depth low last c.loop-i.invariant.few
+    few_all c.loop-i.common c.loop-i.i c.args.block.depth low last c.loop-i.invariant.few
