@@ -236,7 +236,7 @@ merge_part-requires t c =
                   c.is_done.ensures.known c.if-is_done.false,
                   (
                     λ here there.
-                    false≢true (sym c.if-are_plain.false ∙ c.are_plain.ensures.1 (here, there)),
+                        false≢true (sym c.if-are_plain.false ∙ c.are_plain.ensures.1 (here, there)),
                     (
                       odds,
                       subst (λ a. need_in c.loop-i.tree c.args.other.now a
