@@ -61,8 +61,8 @@ def text_of(file):
 
 
 class Work:
-    """The crates of a start, as the kit reads them, lowest first. Their libraries stand in a folder,
-    or each in its crate's own, where the kit's commands have them."""
+    """The crates of a start, as the kit reads them, lowest first. Their libraries stand in a given
+    folder, or each in its crate's own, where the kit's commands have them."""
 
     def __init__(self, target, log, place=None):
         self.kit, self.log = load_rtlib(), log

@@ -2,10 +2,10 @@
 """Prints what a public call promises: its clauses, and all definitions behind them in reading
 order, each before those that it is made of, with their comments and the file each stands in.
 
-    tools/promise/show.py                            the clause `answer` of the program's call, `run`
-    tools/promise/show.py --all                      all clauses of `run`
-    tools/promise/show.py oct_map OccMap::edit       all clauses of another call
-    tools/promise/show.py oct_map OccMap::edit full  one of them
+    tools/promise/show.py                           the clause `answer` of the program's call, `run`
+    tools/promise/show.py --all                     all clauses of `run`
+    tools/promise/show.py oct_map OccMap::edit      all clauses of another call
+    tools/promise/show.py oct_map OccMap::edit full one of them
 
 The last line says how many definitions there are, of how many lines (their comments not counted),
 in how many crates. Names of the kit are left out, and types of the code are printed as they are.
