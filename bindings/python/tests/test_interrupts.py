@@ -170,6 +170,8 @@ class Interrupts(unittest.TestCase):
                     world.get(POINTS)
                     world.add((1, 0, 0), 1)
                     added += 1
+                # (one that is late would come outside of this block)
+                signal.setitimer(signal.ITIMER_REAL, 0)
             except Interrupt:
                 interrupts += 1
             self.assertTrue(other.is_alive())
