@@ -56,8 +56,8 @@ class Judge(Mapper):
 
 
 class ParallelMapper:
-    """Does scans as a Mapper does, by several threads, each with a map of a region, in which it does
-    the beams that come near to it.
+    """Does scans as a Mapper does, by several threads, each with a map of a region, in which it
+    does the beams that come near to it.
 
     What each region refuses is refused at once. A scan for which a region has no room or no memory
     ends all, since other regions may have done it."""
