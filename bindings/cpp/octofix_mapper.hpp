@@ -16,6 +16,7 @@
 
 #include <algorithm>
 #include <cstddef>
+#include <exception>
 #include <memory>
 #include <stdexcept>
 #include <thread>
@@ -71,24 +72,20 @@ class mapper {
     /// refuses throws refused at once, and isn't done. Where one has no room, or memory runs out,
     /// others may have done the scan: this call, or a later one, throws that, and each after it.
     void add(const pose &sensor, std::vector<point> points, const scan_options &how = {}) {
-        if (is_finished_) throw std::logic_error("the mapper has given its map away");
+        check();
         judge_.scan(sensor, points, how);
-        if (threads_ == 1) return;
-        points_ += points.size();
-        detail::sighting seen{sensor, how, std::move(points)};
-        if (crew_) return put(seen);
-        first_.push_back(std::move(seen));
-        if (points_ >= points_to_cut_by_) begin();
+        if (threads_ > 1) try_it([&] { accept({sensor, how, std::move(points)}); });
     }
 
     /// The map of all scans. There are no more after it.
     map finish() {
-        if (is_finished_) throw std::logic_error("the mapper has given its map away");
-        if (threads_ > 1) {
-            if (!crew_) begin();
-            crew_->finish();
-            join();
-        }
+        check();
+        if (threads_ > 1)
+            try_it([&] {
+                if (!crew_) begin();
+                crew_->finish();
+                join();
+            });
         is_finished_ = true;
         return std::move(threads_ > 1 ? maps_.front() : judge_);
     }
@@ -96,6 +93,26 @@ class mapper {
   private:
     static constexpr std::size_t beams_to_cut_by = std::size_t{1} << 12;
 
+    /// Throws where the map is given away, and what an earlier call has thrown midway.
+    void check() const {
+        if (is_finished_) throw std::logic_error("the mapper has given its map away");
+        if (fault_) std::rethrow_exception(fault_);
+    }
+    /// Does what leaves some scans undone, or done in some regions alone, where it throws.
+    template <class Work> void try_it(Work work) {
+        try {
+            work();
+        } catch (...) {
+            fault_ = std::current_exception();
+            throw;
+        }
+    }
+    void accept(detail::sighting seen) {
+        if (crew_) return put(seen);
+        points_ += seen.points.size();
+        first_.push_back(std::move(seen));
+        if (points_ >= points_to_cut_by_) begin();
+    }
     /// Cuts the regions, and has the scans done that have waited for that.
     void begin() {
         const double res = judge_.resolution();
@@ -142,6 +159,7 @@ class mapper {
     std::vector<detail::sighting> first_;
     std::size_t points_ = 0;
     bool is_finished_ = false;
+    std::exception_ptr fault_;
     std::vector<detail::region> regions_;
     std::vector<map> maps_;
     std::unique_ptr<detail::crew<detail::shares>> crew_; // (it ends before the maps do)

@@ -5,7 +5,22 @@
 #include <array>
 #include <chrono>
 #include <cstdio>
+#include <cstdlib>
+#include <new>
+#include <optional>
 #include <random>
+
+/// How many requests of this thread are granted before one that isn't; none isn't where it is
+/// below 0.
+thread_local long granted_first = -1;
+
+void *operator new(std::size_t size) {
+    if (granted_first >= 0 && granted_first-- == 0) throw std::bad_alloc();
+    if (void *found = std::malloc(size)) return found;
+    throw std::bad_alloc();
+}
+[[gnu::noinline]] void operator delete(void *it) noexcept { std::free(it); }
+[[gnu::noinline]] void operator delete(void *it, std::size_t) noexcept { std::free(it); }
 
 namespace {
 
@@ -145,6 +160,37 @@ void try_more_room() {
     EXPECT(world.counts().groups == 31);
 }
 
+/// Scans where one request for memory is refused; whether there were as many.
+bool try_with_refused_request(const std::vector<look> &all, const octofix::bytes &wanted,
+                              long number) {
+    std::vector<look> given = all;
+    octofix::mapper mapper(0.1, octofix::default_odds, octofix::default_limits, 3, 20);
+    std::optional<octofix::map> came;
+    bool is_torn = false;
+    const auto does = [&](auto call) {
+        const bool is_refused = throws<std::bad_alloc>(call);
+        EXPECT(is_refused || !is_torn);
+        is_torn = is_refused;
+    };
+    granted_first = number;
+    for (look &it : given) does([&] { mapper.add(it.from, std::move(it.points), it.how); });
+    does([&] { came.emplace(mapper.finish()); });
+    granted_first = -1;
+    EXPECT(is_torn || came->snapshot() == wanted);
+    return is_torn;
+}
+
+/// Once memory has run out midway, each call throws that: the map would lack a scan.
+void try_refused_requests() {
+    const std::vector<look> all = looks(1);
+    octofix::map one(0.1);
+    for (const look &it : all) one.scan(it.from, it.points, it.how);
+    long number = 0;
+    // (of the first twenty each, and then less and less often)
+    while (try_with_refused_request(all, one.snapshot(), number)) number += 1 + number / 20;
+    EXPECT(number > 50);
+}
+
 void try_ends() {
     octofix::mapper none(0.1);
     EXPECT(none.finish().leaves().empty());
@@ -160,6 +206,7 @@ int main() {
     try_refusals();
     try_full();
     try_more_room();
+    try_refused_requests();
     try_ends();
     std::printf("mapper: %d failed\n", failed);
     return failed != 0;
