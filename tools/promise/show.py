@@ -104,7 +104,7 @@ def show(item, mark):
 
 
 def main():
-    signal.signal(signal.SIGPIPE, signal.SIG_DFL)    # as for `promise.py | head`
+    signal.signal(signal.SIGPIPE, signal.SIG_DFL)    # as for `show.py | head`
     parser = argparse.ArgumentParser(description=__doc__.split("\n\n")[0])
     parser.add_argument("crate", nargs="?", default="oct_tasks")
     parser.add_argument("call", nargs="?", default="run", help="run, or OccMap::edit")
