@@ -290,7 +290,7 @@ class BadInput(unittest.TestCase):
         with self.assertRaisesRegex(ValueError, "kind is"):
             self.map.voxels("unknown")
         with self.assertRaisesRegex(ValueError, "kind is"):
-            self.map.bounds("free")
+            self.map.bounds("unknown")
 
     def test_more_voxels_than_wanted(self):
         self.map.edit_box((-9, -9, -9), (9, 9, 9), Event.SET, 1)

@@ -156,6 +156,9 @@ class Lock(unittest.TestCase):
         self.assertEqual(lock.writing(int), [0])
 
     def test_one_that_waits_can_be_interrupted(self):
+        # (where this runs in the background, the signal may be ignored)
+        before = signal.signal(signal.SIGINT, signal.default_int_handler)
+        self.addCleanup(signal.signal, signal.SIGINT, before)
         lock, begun, end = ReadersWriterLock(), threading.Event(), threading.Event()
 
         def be_inside():
