@@ -199,7 +199,7 @@ class View:
         return int(round(bounded * NANO) // self.leaves.resolution + ORIGIN)
 
 
-@dataclass
+@dataclass(eq=False)
 class _Waiting:
     """A cloud, and the greatest time of those that came after it."""
 

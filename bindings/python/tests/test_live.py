@@ -188,6 +188,21 @@ class Clouds(InMap):
         with self.assertRaises(TypeError):
             mapper.add_pose(0, (0, 0, 0))
 
+    def test_a_later_cloud_of_one_time_is_mapped_first(self):
+        """The pose of two clouds comes between two questions for it."""
+        class Frames:
+            answers = iter([None, None, live.pose((0, 0, 0)), live.pose((0, 0, 0))])
+
+            def pose_of(self, time, frame):
+                return next(self.answers)
+
+        mapper = self.mapper(poses=Frames())
+        mapper.add_cloud(1, [[1, 0, 0], [2, 0, 0]])
+        mapper.add_cloud(1, [[1, 1, 0], [2, 1, 0]])
+        self.assertEqual((mapper.tally().mapped, mapper.tally().waiting), (1, 1))
+        mapper.work()
+        self.assertEqual(mapper.tally(), live.Tally(mapped=2, points=4))
+
     def test_old_poses_go(self):
         trajectory = live.Trajectory(gap=5, keep=10)
         for time in (0, 4, 8, 12):
