@@ -126,6 +126,14 @@ class Columns(Inputs):
         words = ["bad.xyz", "good.xyz", "--on-error", "skip"]
         self.assertEqual(self.script(*words, status=3), self.script("good.xyz"))
 
+    def test_too_far_before(self):
+        """What was too far in one cloud says nothing of the next one."""
+        self.write("partly.xyz", "1 2 3\n1e9 1 2\n")
+        self.write("endless.xyz", "nan 1 2\n")
+        self.write("none.xyz", "# x y z\n")
+        words = ["partly.xyz", "endless.xyz", "none.xyz"]
+        self.assertEqual(self.script(*words).count("scan "), 3)
+
 
 class Counts(Inputs):
     """Data and what its header announces have to agree."""

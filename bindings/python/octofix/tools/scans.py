@@ -158,14 +158,15 @@ class Scans:
         """The scan of a cloud, made piece by piece, so that little memory is taken beside it."""
         origin, points, count = nanometres(pose.at), cloud.points[:: self.choice.every], 0
         self.left.chosen += len(cloud.points) - len(points)
-        unplaced = len(points) + self.left.endless + self.left.far
+        endless, far = self.left.endless, self.left.far
         beams = np.empty((len(points), 3), np.int64)
         for start in range(0, len(points), PIECE):
             piece = self._beams_of(points[start : start + PIECE], pose, origin)
             beams[count : count + len(piece)] = piece
             count += len(piece)
         beams = beams[:count]
-        if self.left.far and self.left.endless + self.left.far == unplaced:
+        endless, far = self.left.endless - endless, self.left.far - far
+        if far and endless + far == len(points):
             raise Unusable(f"none of its {len(points)} points is finite and below 10,000 km away")
         if self.choice.voxel:
             beams = _one_a_voxel(beams, origin, nanometres(self.choice.voxel))
