@@ -227,6 +227,13 @@ class Words(InFolder):
         for words in wrong:
             self.assertEqual(self.done(*words, status=2).output, b"")
 
+    def test_lengths(self):
+        """A length is a nanometre at least."""
+        for option in ("--voxel", "--range", "--min-range"):
+            ran = self.done("map", "--res", 1, "-", "-o", "c.bt", option, "9e-10", status=2)
+            said = f"argument {option}: 9e-10 isn't from 10^-9 to below 10,000 km\n"
+            self.assertTrue(ran.said.endswith(said), ran.said)
+
     def test_classes_under_the_name_of_a_snapshot(self):
         said = "is named as a snapshot, and a .bt file, which has classes alone, is written"
         box = ["--box", 0, 0, 0, 1, 1, 1]
@@ -249,6 +256,9 @@ class Words(InFolder):
             ("only one of -o, --snapshot and --script can be the output", "map", "--res", 1, "-",
              "-o", "-", "--script", "-"),
             ("--res is from 0.0001 to 100", "map", "--res", 101, "-", "-o", "c.bt"),
+            ("--miss is from -1000000 to -1", "map", "--res", 1, "-", "-o", "c.bt", "--miss", 4),
+            ("--thr is above --min, and at most --max", "map", "--res", 1, "-", "-o", "c.bt",
+             "--thr", 4000),
             ("c.txt: --format is needed: the name has none of ply, pcd, xyz, csv, npy",
              "points", "a.bt", "-o", "c.txt"),
             ("a frontier is of voxels, and takes no --depth", "points", "a.bt", "-o", "c.ply",

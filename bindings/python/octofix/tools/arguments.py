@@ -28,7 +28,15 @@ def classes_output(word):
 def positive(word):
     number = float(word)
     if not 0 < number < 1e7:
-        raise argparse.ArgumentTypeError(f"{word} isn't above 0 and below 10,000 km")
+        raise argparse.ArgumentTypeError(f"{word} isn't above 0 and below 10^7")
+    return number
+
+
+def length(word):
+    """Metres; a part of a nanometre is no length."""
+    number = float(word)
+    if not 1e-9 <= number < 1e7:
+        raise argparse.ArgumentTypeError(f"{word} isn't from 10^-9 to below 10,000 km")
     return number
 
 
@@ -92,10 +100,10 @@ def add_scans(parser):
         "--every", type=whole(1, 10**9), default=1, metavar="N", help="each Nth point"
     )
     form.add_argument(
-        "--min-range", type=positive, default=0.0, metavar="M", help="no points nearer than this"
+        "--min-range", type=length, default=0.0, metavar="M", help="no points nearer than this"
     )
-    form.add_argument("--range", type=positive, metavar="M", help="cut beams that are longer")
-    form.add_argument("--voxel", type=positive, metavar="M", help="one point a voxel of this edge")
+    form.add_argument("--range", type=length, metavar="M", help="cut beams that are longer")
+    form.add_argument("--voxel", type=length, metavar="M", help="one point a voxel of this edge")
     form.add_argument(
         "--on-error",
         choices=["stop", "skip"],

@@ -16,7 +16,7 @@ import os
 
 from octofix import Map, Refused
 
-from ..arguments import Output, add_scans, classes_output, positive, region, whole
+from ..arguments import Output, add_scans, classes_output, length, region, whole
 from ..clashes import refuse_clouds
 from ..errors import DONE, INTERRUPTED, SKIPPED, Unusable
 from ..files import WRITING, written
@@ -34,12 +34,21 @@ OUTPUTS = {
     "snapshot": (("--snapshot",), Output, "the map with its values"),
     "script": (("--script",), Output, "commands for 'octomap build' or a session"),
 }
+# What is refused by the map, in the words of the options.
+REFUSED = {
+    "BadResolution": "--res is from 0.0001 to 100",
+    "hit": "--hit is from 1 to 1000000",
+    "miss": "--miss is from -1000000 to -1",
+    "min": "--min is from -1000000 to 0",
+    "max": "--max is from 0 to 1000000",
+    "threshold": "--thr is above --min, and at most --max",
+}
 ODDS = {"hit": 850, "miss": -400, "min": -2000, "max": 3500, "thr": 0}
 
 
 def arguments(parser):
     add_scans(parser)
-    parser.add_argument("--res", type=positive, required=True, metavar="M", help="edge of a voxel")
+    parser.add_argument("--res", type=length, required=True, metavar="M", help="edge of a voxel")
     out = parser.add_argument_group("what is written (- is the output)")
     for words, kind, said in OUTPUTS.values():
         out.add_argument(*words, type=kind, metavar="FILE", help=said)
@@ -109,8 +118,8 @@ def _map_of(options):
     try:
         return Map(options.res, **odds, **limits)
     except Refused as refused:
-        named = {"BadResolution": "--res is from 0.0001 to 100"}
-        raise Unusable(named.get(refused.name, str(refused))) from None
+        field = refused.fields.get("field", refused.name)
+        raise Unusable(REFUSED.get(field, str(refused))) from None
 
 
 def _fill(mapper, scans, options):
