@@ -2,6 +2,7 @@
 
 import json
 import os
+import resource
 
 import numpy as np
 from running import InFolder
@@ -32,6 +33,17 @@ class Flat(InFolder):
         open("poses.txt", "w").close()
         self.refused(".: something is in that folder", "example", ".")
         self.assertEqual(os.listdir(), ["poses.txt"])
+
+    def test_without_room(self):
+        """A fault names the file, leaves none, and the same words may be tried again."""
+        limits = resource.getrlimit(resource.RLIMIT_FSIZE)
+        self.addCleanup(resource.setrlimit, resource.RLIMIT_FSIZE, limits)
+        resource.setrlimit(resource.RLIMIT_FSIZE, (100_000, limits[1]))
+        self.refused("flat/clouds/0.npy: File too large", "example", "flat")
+        resource.setrlimit(resource.RLIMIT_FSIZE, limits)
+        self.assertEqual([it for *_, files in os.walk("flat") for it in files], [])
+        self.done("example", "flat")
+        self.assertEqual(len(os.listdir("flat/clouds")), 7)
 
     def places(self):
         """The middle of a room and of a door are free, walls and a leg of a table occupied, and

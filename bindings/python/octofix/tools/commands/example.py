@@ -9,12 +9,14 @@ frame, and FOLDER/poses.txt has its poses in the form of the TUM benchmarks. Wal
 what stands on the floor 1 m, tables 0.75 m.
 """
 
+import io
 from math import pi
 from pathlib import Path
 
 import numpy as np
 
 from ..errors import DONE, Unusable
+from ..files import written
 from ..flat_plan import LEGS, ON_FLOOR, PLACES, TABLES, WALLS
 
 HELP = "clouds and poses to try the others on"
@@ -60,15 +62,24 @@ def arguments(parser):
 
 def run(options):
     folder = Path(options.folder)
-    if folder.is_dir() and any(folder.iterdir()):
-        raise Unusable("something is in that folder", options.folder)
     clouds = folder / "clouds"
+    # (a run that had no room for the files leaves the folders)
+    for it in filter(Path.is_dir, (folder, clouds)):
+        if any(inside != clouds for inside in it.iterdir()):
+            raise Unusable("something is in that folder", str(folder))
     clouds.mkdir(parents=True, exist_ok=True)
-    poses = []
-    for number, (x, y) in enumerate(PLACES):
-        turned = number * 0.9
-        np.save(clouds / f"{number}.npy", seen_from((x, y), turned).astype(np.float32))
-        turn = f"0 0 {np.sin(turned / 2):.9f} {np.cos(turned / 2):.9f}"
-        poses.append(f"{number} {x} {y} {SENSOR} {turn}\n")
-    (folder / "poses.txt").write_text("# time x y z qx qy qz qw\n" + "".join(poses))
+    names = [clouds / f"{number}.npy" for number in range(len(PLACES))]
+    with written(*map(str, [folder / "poses.txt", *names])) as (poses, *files):
+        poses.write(b"# time x y z qx qy qz qw\n")
+        for number, (place, file) in enumerate(zip(PLACES, files)):
+            turned = number * 0.9
+            file.write(_npy(seen_from(place, turned)))
+            turn = f"0 0 {np.sin(turned / 2):.9f} {np.cos(turned / 2):.9f}"
+            poses.write(f"{number} {place[0]} {place[1]} {SENSOR} {turn}\n".encode())
     return DONE
+
+
+def _npy(points):
+    file = io.BytesIO()
+    np.save(file, points.astype(np.float32))
+    return file.getvalue()
