@@ -122,9 +122,9 @@ class Vector3 {
   private:
     using three = std::array<double, 3>;
     three numbers() const { return {x(), y(), z()}; }
-    std::istream &take(std::istream &(*read)(std::istream &, three &), std::istream &in) {
+    std::istream &take(std::istream &(*reader)(std::istream &, three &), std::istream &in) {
         three came{};
-        if (read(in, came))
+        if (reader(in, came))
             for (unsigned i = 0; i < 3; ++i) data_[i] = static_cast<float>(came[i]);
         return in;
     }
