@@ -39,9 +39,22 @@ inline const char *name_of(std::uint32_t code) {
     return name ? name : "?";
 }
 
-/// The text of a refusal, as `refused 7 PointOutside index 3`.
+/// The name of the field of this number, where a refusal names one; else null.
+inline const char *field_of(std::uint32_t code, std::uint64_t number) {
+    constexpr const char *of_odds[] = {"hit", "miss", "min", "max", "thr"};
+    constexpr const char *of_headers[] = {"id", "res", "size", "data"};
+    switch (code) {
+    case OCTOFIX_BAD_MODEL: return number < 5 ? of_odds[number] : nullptr;
+    case OCTOFIX_MISSING_FIELD:
+    case OCTOFIX_BAD_FIELD: return number < 4 ? of_headers[number] : nullptr;
+    default: return nullptr;
+    }
+}
+
+/// The text of a refusal, as `refused 7 PointOutside index 3` or `refused 14 BadField res`.
 inline std::string text_of(std::uint32_t code, const details &named) {
     std::string text = "refused " + std::to_string(code) + ' ' + name_of(code);
+    if (const char *field = field_of(code, named.first)) return text + ' ' + field;
     const auto append = [&](const char *name, std::uint64_t number) {
         if (name) text += std::string(" ") + name + ' ' + std::to_string(number);
     };

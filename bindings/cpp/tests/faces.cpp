@@ -190,6 +190,12 @@ void try_refusals() {
     EXPECT(std::string(octofix::refused(OCTOFIX_FULL).hint()).find("max_groups") !=
            std::string::npos);
     EXPECT(std::string(octofix::refused(OCTOFIX_OUTSIDE).hint()).empty());
+    EXPECT(std::string(octofix::refused(OCTOFIX_BAD_MODEL, {4, 0}).what()) ==
+           "refused 4 BadModel thr");
+    EXPECT(std::string(octofix::refused(OCTOFIX_MISSING_FIELD, {3, 0}).what()) ==
+           "refused 13 MissingField data");
+    EXPECT(std::string(octofix::refused(OCTOFIX_BAD_FIELD, {1, 0}).what()) ==
+           "refused 14 BadField res");
     EXPECT(code_of([&] { return world.get(far); }) == OCTOFIX_OUTSIDE);
     EXPECT(code_of([&] { return world.leaves(near, metres(0, 0, 0)); }) == OCTOFIX_BAD_BOX);
     EXPECT(code_of([&] { return world.list(near, far); }) == OCTOFIX_OUTSIDE);
