@@ -6,13 +6,18 @@ the lock is taken, the calls are done and the lock is given back by one function
 whoever is interrupted doesn't hold it, and there is nothing to be mended. A thread that has to wait
 does so in turns, between which it can be interrupted. That a writer waits is a time which passes by
 itself, and isn't taken back by one that is interrupted.
+
+In the child of a fork only the thread lives on that forked. There locks are made anew; one that a
+writer held, or waited for, says so whenever it is asked for.
 """
 
 from __future__ import annotations
 
 import ctypes
 import errno
+import os
 import time
+import weakref
 from collections import deque
 from functools import partial
 from itertools import chain
@@ -21,6 +26,7 @@ from typing import Any, Callable, Iterable, Sequence
 
 _TURN, _PAUSE = 0.05, 0.001  # seconds
 _WRITERS_FIRST = 2  # PTHREAD_RWLOCK_PREFER_WRITER_NONRECURSIVE_NP
+_LOST = "the process was forked while another thread changed this map, so it isn't whole here"
 _NOT_TAKEN = (errno.ETIMEDOUT, errno.EBUSY, errno.EAGAIN)
 # More than a lock of POSIX takes, and its attributes.
 _Place = ctypes.c_uint64 * 32
@@ -60,6 +66,17 @@ def _attributes() -> Any:
     return made
 
 
+_locks: weakref.WeakSet[ReadersWriterLock] = weakref.WeakSet()
+
+
+def _after_fork() -> None:
+    for it in list(_locks):
+        it._make_anew()
+
+
+os.register_at_fork(after_in_child=_after_fork)
+
+
 class ReadersWriterLock:
     """Does calls while it is held: functions of C without arguments, which raise nothing.
 
@@ -67,12 +84,28 @@ class ReadersWriterLock:
     """
 
     def __init__(self) -> None:
-        self._place = _Place()
         self._writers_wait_until = 0.0  # by time.monotonic
+        self._is_lost = False
+        self._make()
+        _locks.add(self)
+
+    def _make(self) -> None:
+        self._place = _Place()
         _init(self._place, _attributes())
+
+    def _make_anew(self) -> None:
+        """In the child of a fork, where no thread is that could give the lock back."""
+        if _take_reading(self._place, _PAST) != 0:
+            self._is_lost = True
+        self._make()
+
+    def _expect(self) -> None:
+        if self._is_lost:
+            raise RuntimeError(_LOST)
 
     def reading(self, *calls: Callable[[], Any]) -> list[Any]:
         """Does these calls beside other readers, and answers what they do."""
+        self._expect()
         results, until = None, _PAST
         while results is None:
             while time.monotonic() < self._writers_wait_until:
@@ -92,6 +125,8 @@ def writing_all(locks: Iterable[ReadersWriterLock], *calls: Callable[[], Any]) -
     (They are taken in one order whoever asks, so that no two threads wait for each other.)
     """
     locks = sorted(locks, key=id)
+    for it in locks:
+        it._expect()
     results = _attempt(locks, _take_writing, _PAST, calls)
     if results is not None:
         return results

@@ -1,11 +1,14 @@
 """Several threads on one map."""
 import gc
+import os
 import signal
 import threading
 import time
 import unittest
+import warnings
 import weakref
 from concurrent.futures import ThreadPoolExecutor
+from functools import partial
 
 import numpy as np
 
@@ -92,6 +95,63 @@ class Threads(unittest.TestCase):
         gc.collect()
         self.assertIsNone(gone())
         self.assertFalse(handle.is_open)
+
+
+class Forks(unittest.TestCase):
+    """The child of a fork has none of the other threads, which can give no lock back there."""
+
+    def setUp(self):
+        self.world = octofix.Map(0.1)
+        self.addCleanup(self.world.close)
+        self.world.set([0, 0, 0], 5)
+
+    def in_child(self, work, way):
+        """What the work answers in a child that is forked while another thread does a call."""
+        begun = threading.Event()
+
+        def call():
+            way(begun.set, partial(time.sleep, 0.5))
+
+        other = threading.Thread(target=call)
+        other.start()
+        begun.wait()
+        answers, said = os.pipe()
+        with warnings.catch_warnings():
+            warnings.simplefilter("ignore", DeprecationWarning)  # (3.12 warns of threads)
+            child = os.fork()
+        if child == 0:
+            signal.alarm(10)
+            try:
+                os.write(said, repr(work()).encode())
+                os._exit(0)
+            finally:
+                os._exit(1)
+        other.join()
+        os.close(said)
+        with open(answers) as file:
+            found = file.read()
+        self.assertEqual(os.waitpid(child, 0)[1], 0)
+        return found
+
+    def test_while_a_thread_asks(self):
+        def work():
+            self.world.set([1, 0, 0], 7)
+            return self.world.get([[0, 0, 0], [1, 0, 0]]).tolist()
+
+        self.assertEqual(self.in_child(work, self.world._lock.reading), "[5, 7]")
+        self.assertEqual(self.world.get([1, 0, 0]).tolist(), [octofix.UNKNOWN])
+
+    def test_while_a_thread_changes_the_map(self):
+        def work():
+            with octofix.Map(0.1) as other:
+                for call in (self.world.leaves, partial(other.merge, self.world)):
+                    with self.assertRaisesRegex(RuntimeError, "forked while another thread"):
+                        call()
+                other.set([0, 0, 0], 3)
+                return other.get([0, 0, 0]).tolist()
+
+        self.assertEqual(self.in_child(work, self.world._lock.writing), "[3]")
+        self.assertEqual(self.world.get([0, 0, 0]).tolist(), [5])
 
 
 class Lock(unittest.TestCase):
