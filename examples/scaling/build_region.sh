@@ -8,7 +8,8 @@
 # from 1 to REGIONS. The script has scans and no other line that changes the map or its box.
 #
 # The status is that of `octomap build`: 1 where a line or a scan was refused. Numbers that make no
-# region end with 2 and nothing written.
+# region end with 2 and nothing written. A script that can't be read to its end ends with 2, too:
+# what is written then is no map of it.
 
 program=${OCTOMAP:-$(dirname -- "$0")/../../octomap}
 
@@ -59,4 +60,13 @@ region=$(LC_ALL=C awk -v res="$res" -v regions="$regions" -v low="$low" -v high=
         print "limit", middle(from), ends, middle(to), tops
     }') || usage "$region"
 
-{ echo "$region" && cat -- "$script"; } | "$program" build "$res" "$@"
+# (what reads the script says how it ended to 3; the map goes to 4. A program that has read a line
+# `quit` ends before it, which is told by SIGPIPE.)
+exec 4>&1
+ended=$({ { echo "$region" && cat -- "$script"; echo $? >&3; } |
+    "$program" build "$res" "$@" 3>&- >&4; } 3>&1)
+status=$?
+case $ended in
+0 | 141) exit "$status" ;;
+*) usage "$script can't be read to its end" ;;
+esac
