@@ -41,17 +41,30 @@ def before_quit(script):
     return "\n".join(lines).rstrip("\n")
 
 
+def numbers(words):
+    """Six lengths, of which the first is above 0."""
+    try:
+        edge, *others = (Fraction(it) for it in words)
+        if edge > 0 and len(others) == 5:
+            return edge, *others
+    except (ValueError, ZeroDivisionError):
+        pass
+    sys.exit(__doc__.strip())
+
+
 def main(words):
-    if len(words) != 6:
-        sys.exit(__doc__.strip())
-    edge, x_0, y_0, x_1, y_1, z = (Fraction(it) for it in words)
+    edge, x_0, y_0, x_1, y_1, z = numbers(words)
     columns = range(floor(x_0 / edge), floor(x_1 / edge) + 1)
     rows = range(floor(y_1 / edge), floor(y_0 / edge) - 1, -1)
     places = [f"{decimal(x * edge)} {decimal(y * edge)} {words[5]}" for y in rows for x in columns]
     asked = [f"get {place} 16" for place in places]
+    sys.stdin.reconfigure(encoding="latin-1")  # (each byte goes to the program as it is)
     script = before_quit(sys.stdin.read()) + "\n" + "\n".join(asked) + "\n"
     call = [os.environ.get("OCTOMAP", LAUNCHER), "session", words[0]]
-    ran = subprocess.run(call, input=script, stdout=subprocess.PIPE, text=True)
+    try:
+        ran = subprocess.run(call, input=script, stdout=subprocess.PIPE, encoding="latin-1")
+    except OSError as why:
+        sys.exit(f"draw.py: {call[0]}: {why.strerror}")
     answers = ran.stdout.splitlines()[-len(asked) :]
     is_answered = len(answers) == len(asked) and all(map(ANSWER.fullmatch, answers))
     if ran.returncode > 1 or not is_answered:

@@ -7,6 +7,7 @@ each of a few places it looks in 900 directions, near the floor and at the heigh
 What is a table is seen from the upper height alone.
 """
 import math
+import signal
 import sys
 from pathlib import Path
 
@@ -43,4 +44,5 @@ def main():
 
 
 if __name__ == "__main__":
+    signal.signal(signal.SIGPIPE, signal.SIG_DFL)  # nobody may read to the end
     main()
