@@ -272,6 +272,7 @@ class Words(InFolder):
             ("20001 x 20001 columns are more than 2^26 (--area or --box takes fewer)", "grid",
              "a.bt", "-o", "c.pgm", "--area", -5000, -5000, 5000, 5000),
             ("nothing is known in the map, so it has no extent", "grid", "empty.bt", "-o", "c.pgm"),
+            ("nothing is known there", "view", "a.bt", "-o", "c.png", "--box", 5, 5, 5, 6, 6, 6),
             ("nothing is occupied there", "view", "empty.bt", "--oblique", "-o", "c.png"),
             ("--text shows a slice (--slice Z)", "view", "a.bt", "--text"),
             ("nothing is to be written (-o FILE, --text or --open)", "view", "a.bt"),

@@ -77,6 +77,8 @@ def run(options):
         return DONE
     if options.box:
         leaves = leaves.within(*box_of(options.box, leaves.resolution))
+        if not len(leaves):
+            raise Unusable("nothing is known there")
     if options.oblique:
         _oblique(leaves, options)
     else:
