@@ -51,6 +51,8 @@ def _rows_of_three(values: npt.ArrayLike, what: str) -> npt.NDArray[np.float64]:
     given = np.asarray(_unmasked(values, what))
     if given.dtype.names is not None:
         given = _columns(given, what)
+    if given.dtype.kind in "cmM":  # (numpy makes doubles of these, too)
+        raise TypeError(f"{what} are real numbers, and not {given.dtype}")
     rows = given.astype(np.float64, copy=False)
     if rows.shape in ((3,), (0,)):
         rows = rows.reshape(-1, 3)

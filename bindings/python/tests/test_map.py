@@ -316,6 +316,14 @@ class Points(unittest.TestCase):
                 with self.assertRaisesRegex(ValueError, f"points has .*{text}"):
                     call(points)
 
+    def test_what_is_no_length_is_refused(self):
+        """numpy makes doubles of complex numbers and of times, by the real part and the count."""
+        rows = np.ones((2, 3), np.int64)
+        for kind in (np.complex128, "datetime64[s]", "timedelta64[s]"):
+            for call in (self.map.scan, self.map.get, self.map.keys, self.map.centers):
+                with self.assertRaisesRegex(TypeError, "are real numbers, and not"):
+                    call(rows.astype(kind))
+
     def test_masked_points_are_refused(self):
         points = np.ma.array(np.zeros((2, 3)), mask=[[0, 0, 0], [0, 1, 0]])
         calls = (
