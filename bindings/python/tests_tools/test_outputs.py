@@ -211,6 +211,19 @@ class View(InFolder):
                 self.assertEqual("blocks of depth 15 are shown" in ran.said, name == "a")
         self.assertEqual(picture("a.png").tolist(), picture("b.png").tolist())
 
+    def test_a_floor_is_seen_from_above(self):
+        """Of a floor of 20 x 20 voxels, from 35 degrees above along its diagonal, all tops are
+        seen, and of the sides those of two rows alone."""
+        with Map(1) as world:
+            world.edit_box((0, 0, 0), (19, 19, 0), 1, 9)
+            world.save("a.bt")
+        self.done("view", "a.bt", "--oblique", "--around", 45, "--width", 401, "-o", "a.png")
+        pixels = picture("a.png").reshape(-1, 3)
+        seen = pixels[(pixels != pixels[0]).any(axis=1)]
+        share = (seen == (68, 1, 84)).all(axis=1).mean()
+        tops, sides = 400 * np.sin(np.radians(35)), 40 * np.sqrt(0.5) * np.cos(np.radians(35))
+        self.assertAlmostEqual(share, tops / (tops + sides), delta=0.02)
+
     def test_nearer_hides_farther(self):
         """Seen from -x, a voxel in the upper row hides one that lies lower and two behind: their
         faces on x are at heights of 0.82 to 1.64 and 1.15 to 1.97 in the picture."""

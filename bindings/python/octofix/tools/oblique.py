@@ -9,7 +9,8 @@ from . import colours
 
 # How bright the faces are that look up, along x and along y.
 BRIGHTNESS = (1.0, 0.62, 0.8)
-CHUNK = 1 << 15
+# Points that are painted at once.
+PIECE = 1 << 20
 
 
 @dataclass(frozen=True)
@@ -40,15 +41,17 @@ def picture(keys, camera, width):
     height = max(ceil((along.max() - along.min()) * scale), 1) + 1
     image = np.full((height, width, 3), colours.BACKGROUND, np.uint8)
     faces = _places_on_faces(towards, ceil(scale * 1.5) + 1)
-    for start in range(0, len(keys), CHUNK):
-        part = keys[start : start + CHUNK]
+    places, brightness = np.concatenate(faces), np.repeat(BRIGHTNESS, len(faces[0]))
+    step = max(PIECE // len(places), 1)
+    for start in range(0, len(keys), step):
+        part = keys[start : start + step]
         shade = colours.by_height(part[:, 2], low[2], high[2] - 1)
-        for face, brightness in zip(faces, BRIGHTNESS):
-            at = (part[:, None] + face).reshape(-1, 3)
-            column = ((at @ right - across.min()) * scale).astype(int)
-            row = height - 1 - ((at @ up - along.min()) * scale).astype(int)
-            painted = (shade * brightness).astype(np.uint8)
-            image[row, column] = np.repeat(painted, len(face), axis=0)
+        # (all faces of a voxel before those of the next one, which is nearer)
+        at = (part[:, None] + places).reshape(-1, 3)
+        column = ((at @ right - across.min()) * scale).astype(int)
+        row = height - 1 - ((at @ up - along.min()) * scale).astype(int)
+        painted = (shade[:, None] * brightness[:, None]).astype(np.uint8)
+        image[row, column] = painted.reshape(-1, 3)
     return image
 
 
