@@ -27,7 +27,7 @@
 //! std sorts in place and the list takes over.
 //!
 //! It stands on `oct_tree`, and on `oct_values` for what classes are. `oct_file_tasks` stands on
-//! this crate, for its task `frontier`; its tests are `oct_frontier_tests`.
+//! this crate, for its task `frontier`; its tests are in `oct_tree_tests`.
 #![tactic(auto)]
 
 mod fault;

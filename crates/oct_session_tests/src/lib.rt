@@ -1,14 +1,17 @@
-//! The tests of [`oct_session`]: the map that is lent to a session after each way in which a script
-//! can end, blocks of scans, files that are saved and loaded, a fault at each call of the world,
-//! and the names of the statuses.
+//! The tests of [`oct_script`] and [`oct_session`]: lines, commands and replies, the column of each
+//! fault of syntax, and the texts of all replies; the map that is lent to a session after each way
+//! in which a script can end, blocks of scans, files that are saved and loaded, a fault at each
+//! call of the world, and the names of the statuses.
 //!
 //! They compare the definitions with examples worked out by hand, and show that calls succeed while
 //! there is memory, which no clause can say. They call public functions alone. `rt test` in this
 //! folder proves and runs them, and `rt try --test` runs them with nothing proved.
 //!
-//! They are a crate of their own, as the folder `tests/` of a Rust crate is, so that `oct_session`
-//! isn't proved a second time beside them. Nothing stands on this crate.
+//! They are a crate of their own, as the folder `tests/` of a Rust crate is, so that the crates
+//! under test aren't proved a second time beside them. Nothing stands on this crate.
 #![tactic(auto)]
 
 #[cfg(test)]
-mod tests;
+mod lines;
+#[cfg(test)]
+mod sessions;

@@ -1,5 +1,0 @@
-use Rattle.oct_tree.specs.Shape.{IsWellFormed}
-use Rattle.oct_edit_tests.proofs.area.expect_edits.Given as goal
-
-abbrev pub invariant-loop-row : goal.invariant-loop-row
-invariant-loop-row g l = IsWellFormed l.tree

@@ -1,5 +1,0 @@
-use Rattle.oct_tree.specs.Shape.{IsWellFormed}
-use Rattle.oct_edit_tests.proofs.scan.leaves_a_saturated_leaf_whole.Given as goal
-
-abbrev pub invariant-loop : goal.invariant-loop
-invariant-loop g l = IsWellFormed l.tree

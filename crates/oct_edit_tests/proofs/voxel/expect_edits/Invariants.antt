@@ -1,5 +1,0 @@
-use Rattle.oct_tree.specs.Shape.{IsWellFormed}
-use Rattle.oct_edit_tests.proofs.voxel.expect_edits.Given as goal
-
-abbrev pub invariant-loop-event : goal.invariant-loop-event
-invariant-loop-event g l = IsWellFormed l.tree

@@ -1,5 +1,0 @@
-use Rattle.oct_tree.specs.Shape.{IsWellFormed}
-use Rattle.oct_edit_tests.proofs.voxel.prunes_equal_leaves.Given as goal
-
-abbrev pub invariant-loop-want : goal.invariant-loop-want
-invariant-loop-want g l = IsWellFormed l.tree
