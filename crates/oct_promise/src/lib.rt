@@ -1,10 +1,10 @@
 //! The promise of a session, as laws: what the definitions of its answer come to.
 //!
 //! `specs/Promise.antt` is the page to read, and these laws say that it holds: [`scans_are_exact`],
-//! [`scans_are_counted`], [`values_are_folds`], [`gets_are_greatest`], [`casts_are_first`], [`changes_are_differences`],
-//! [`refusals_change_nothing`], [`faults_leave_a_prefix`], [`snapshots_are_restored`],
-//! [`saves_are_loaded`], [`saves_are_canonical`]. They speak of bytes, files and text as a caller
-//! of `serve` has them.
+//! [`scans_are_counted`], [`values_are_folds`], [`gets_are_greatest`], [`casts_are_first`],
+//! [`changes_are_differences`], [`refusals_change_nothing`], [`faults_leave_a_prefix`],
+//! [`snapshots_are_restored`], [`saves_are_loaded`], [`saves_are_canonical`]. They speak of bytes,
+//! files and text as a caller of `serve` has them.
 //!
 //! The others say what else sessions come to.
 //!
