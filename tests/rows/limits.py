@@ -109,13 +109,31 @@ UNSOUND = [
     "--max-groups -16", "--max-cells 0", "--max-cells 134217729", "--max-cells -1",
     "--max-cells 0000000000000000001", "--max-bytes 1099511627777", "--max-bytes -1",
     "--max-bytes -0", "--max-bytes 0000000000000000000", "--max-bytes", "--help", "--version",
-    "--", "-- --hit 1", "more", "--max-files 1",
+    "--", "-- --hit 1", "more", "--max-files 1", "0.1", "--hits 850", "--max-groups x",
+    "--max-cell 16", "--hit 850 --thr 0 --hit 1", "--max-bytes 0000000000000000010",
+    "--max-bytes ten",
 ]
 SOUND_RES = ["0.0001", "0.000100000", "100", "0000100", "100.000000000", "0.1", "99.999999999"]
-UNSOUND_RES = ["0.000099999", "100.000000001", "00000100", "0.1000000000", "-0.1", "0", "-0", ".1",
-               "1.", "1e-1", "+1", "1,0", "RES"]
+UNSOUND_RES = ["0.000099999", "0.00009", "100.000000001", "00000100", "0.1000000000", "-0.1", "0",
+               "-0", ".1", "1.", "1e-1", "+1", "1,0", "RES"]
+
+# What a hit of an unknown voxel makes of it.
+HITS = {
+    "--hit 1000000 --max 1000000": "1000000 occupied",
+    "--hit 0000001": "1 occupied",
+    "--thr 851 --max-bytes 1099511627776": "850 free",
+    "--max 0": "0 occupied",
+    "--max 3 --thr 3 --hit 7 --min 0 --miss -1000000": "3 occupied",
+    "--min -1000000 --thr -999999": "850 occupied",
+    "--max-groups 16 --max-cells 1": "850 occupied",
+    "--max-cells 134217728": "850 occupied",
+    "--max-groups 000000000067108864 --max-bytes 23": "850 occupied",
+}
 
 WORDS = [
+    session("Options choose the model", options, "hit 0 0 0 ; get 0 0 0 16", f"ok / known {known}")
+    for options, known in HITS.items()
+] + [
     Row("An option has its whole range, and log-odds are judged together", f"{task} 0.1 {options}",
         "", bt(0, "") if task == "build" else "", 0)
     for options in SOUND for task in ("session", "build")
@@ -151,9 +169,10 @@ WORDS = [
 ] + [
     Row("A task has its words and no others", words, "hit 0 0 0", "", USAGE)
     for words in [
-        "", "session", "build", "fly", "Session 0.1", "convert 0.1", "convert --hit 1",
-        "inspect --max-bytes 1 --max-bytes 1", "gen", "gen 0 0", "gen 0 0 0 0", "drill 0 0",
-        "frontier 0 0 0 0 0", "frontier 0 0 0 0 0 0 0", "frontier 0 0 0 0 0 x",
+        "", "session", "build", "fly", "Session 0.1", "sessions 0.1", "session --hit 850 0.1",
+        "convert 0.1", "convert --hit 1", "inspect --max-bytes 1 --max-bytes 1", "gen", "gen 0 0",
+        "gen 0 0 0 0", "gen 0 0.5 0", "drill 0 0", "frontier 0 0 0 0 0",
+        "frontier 0 0 0 0 0 0 0", "frontier 0 0 0 0 0 x",
         "project --max-bytes 1 0 0 0 0 0 0", "project 0 0 0 0 0", "vrml 0", "merge A B",
         "merge most A B", "merge least A", "merge least A B C", "merge least A .b",
         "merge least A -b", "merge least A " + 65 * "b", "table A B 0 0 0 0 0",

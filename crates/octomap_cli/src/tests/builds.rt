@@ -16,13 +16,6 @@ const BUILDS: &[(&[&str], &str, &str, &[u8], Status)] = &[
     (&["build", "0.1"], "", "0", b"", Status::Done),
     (
         &["build", "0.1"],
-        "box -3276.8 -3276.8 -3276.8 3276.7 3276.7 3276.7 set 850\n",
-        "9",
-        b"\xAA\xAA",
-        Status::Done,
-    ),
-    (
-        &["build", "0.1"],
         "hit 0 0 0 lazy\nget 0 0 0 0\nquit\nclear\n",
         "17",
         b"\x00\xC0\x03\x00\x03\x00\x03\x00\x03\x00\x03\x00\x03\x00\x03\x00\x03\x00\x03\x00\x03\x00\
@@ -72,18 +65,4 @@ fn a_build_writes_the_file_of_the_last_map(rt: HostRuntime) -> Result<(), Fail> 
         expect_answer(&rt, rt.alloc(), words, script.as_bytes(), 100, want);
     }
     Ok(())
-}
-
-#[test]
-fn a_script_that_is_too_long_builds_nothing(rt: HostRuntime) {
-    let words = ["build", "0.1", "--max-bytes", "10"];
-    let want = (Status::TooLong, b"".as_slice());
-    expect_answer(
-        &rt,
-        rt.alloc(),
-        &words,
-        b"hit 0 0 0\nhit 0 0 0\n",
-        100,
-        want,
-    );
 }

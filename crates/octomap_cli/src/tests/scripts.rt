@@ -72,19 +72,6 @@ fn blocks_answer_their_largest_value_once_refreshed(rt: HostRuntime) {
     check(&rt, rt.alloc(), BLOCKS);
 }
 
-/// Maps that are saved and loaded again.
-const SAVED: &[Case] = &[(
-    "hit 0 0 0\nsave m\nclear\nload m\nget 0 0 0 16\nload n\nchanges\n",
-    "ok\nsaved 169\nok\nloaded 17\nknown 3500 occupied\nrefused 33 NoFile\n\
-     refused 28 NotTracked\n",
-    Status::Refused,
-)];
-
-#[test]
-fn a_map_is_loaded_as_it_was_saved(rt: HostRuntime) {
-    check(&rt, rt.alloc(), SAVED);
-}
-
 /// Casts.
 const CASTS: &[Case] = &[
     (

@@ -27,16 +27,6 @@ fn expect_file(rt: &impl Abort, store: &CalmStore, name: &str, want: &[u8]) {
 /// What stands between a snapshot and its restore doesn't matter, and a refused restore does
 /// nothing.
 const ROUNDS: &[Case] = &[
-    (
-        "hit 0 0 0\nsnapshot a\nclear\nget 0 0 0 16\nrestore a\nget 0 0 0 16\n",
-        "ok\nsaved 170\nok\nunknown\nrestored groups 16\nknown 850 occupied\n",
-        Status::Done,
-    ),
-    (
-        "limit 0 0 0 1 1 1\nhit 0 0 0\nsnapshot a\n",
-        "ok\nok\nsaved 182\n",
-        Status::Done,
-    ),
     // The box that stood is back, and the mark and staleness are gone.
     (
         "limit 0.1 0 0 0.1 0 0\nsnapshot a\nnolimit\ntrack\nhit 0 0 0 lazy\nrestore a\n\
