@@ -63,8 +63,20 @@ put_program() {
     help | sed 's/-/\\-/g' >"$room/help" &&
         sed -e "/^@HELP@/r $room/help" -e '/^@HELP@/d' "$root/docs/octomap.1" >"$room/text" || exit 1
     put 644 "$room/text" share/man/man1/octomap.1
-    put 644 "$parts/completion.bash" "share/bash-completion/completions/octomap$suffix"
-    put 644 "$parts/completion.zsh" "$zsh/_octomap"
+    put_completions
+}
+
+# The words that are completed are those of the help.
+put_completions() {
+    words=$(tasks | sed 's/:.*//' | paste -s -d ' ' -)
+    options=$(options | paste -s -d ' ' -)
+    tasks | sed "s/.*/    '&'/" >"$room/tasks" || exit 1
+    for it in bash zsh; do
+        sed -e "s/@WORDS@/$words/; s/@OPTIONS@/$options/" -e "/^@TASKS@/r $room/tasks" \
+            -e '/^@TASKS@/d' "$parts/completion.$it" >"$room/$it" || exit 1
+    done
+    put 644 "$room/bash" "share/bash-completion/completions/octomap$suffix"
+    put 644 "$room/zsh" "$zsh/_octomap"
 }
 
 put_library() {

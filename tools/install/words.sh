@@ -45,6 +45,27 @@ statuses: 0 all was done, 1 something was refused, 2 usage, 3 the input is no .b
 END
 }
 
+# The words of the help that stand first, each with what it does behind a colon.
+tasks() {
+    help | awk '
+        /^(usage:|      ) octomap / {
+            word = substr($0, 16)
+            sub(/ .*/, "", word)
+            waits = 1
+        }
+        waits && substr($0, 44, 3) == "   " {
+            does = substr($0, 47)
+            sub(/;$/, "", does)
+            print word ":" does
+            waits = 0
+        }'
+}
+
+# The options of the help.
+options() {
+    help | sed -n 's/^  \(--[a-z-]*\) .*/\1/p'
+}
+
 # What is wrong with the words.
 usage() {
     say "$1 ('octomap --help' shows the usage)"
