@@ -29,8 +29,8 @@
 //! neither tree has a group, and closes each group on the way up, once. `merge_need` visits only
 //! the groups whose home both trees have, and takes these from all of the other tree. `class_table`
 //! counts a block at once where neither tree has a group, by the lengths that its axes have in
-//! common with the box. None takes memory, and how deep they call themselves is bounded by the depth of the
-//! trees.
+//! common with the box. None takes memory, and how deep they call themselves is bounded by the
+//! depth of the trees.
 //!
 //! The map of `oct_map` merges by these calls. The tasks `merge` and `table` of the program make no
 //! trees: they go over two files, by `oct_join`. That crate stands on this one for the rules, and

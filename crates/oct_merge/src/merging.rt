@@ -1,5 +1,6 @@
 //! One walk down two trees, which joins what the second one knows into the first.
-ghost use Rattle.std.specs.Prelude.{◌≡◌, ◌≢◌, ◌+◌, ◌≤◌, ◌↔◌, ◌⊎◌, IsTrue, IsSome, Some, None, false};
+ghost use Rattle.std.specs.Prelude.{◌≡◌, ◌≢◌, ◌+◌, ◌≤◌, ◌↔◌, ◌⊎◌, IsTrue, IsSome, Some, None};
+ghost use Rattle.std.specs.Prelude.{false};
 ghost use Rattle.oct_key.specs.Voxel.{Voxel, IsInMap};
 ghost use Rattle.oct_key.specs.Block.{Cube, IsBlock, HoldsVoxel};
 ghost use Rattle.oct_key.specs.CubeOf.{cube_of};

@@ -1,5 +1,6 @@
 //! One map merged into another.
-ghost use Rattle.std.specs.Prelude.{◌≡◌, ℕ, ◌+◌, ◌<◌, ◌⊎◌, Bool, Option, false, Err, IsOk, IsSome, IsTrue};
+ghost use Rattle.std.specs.Prelude.{◌≡◌, ℕ, ◌+◌, ◌<◌, ◌⊎◌, Bool, Option, false, Err, IsTrue};
+ghost use Rattle.std.specs.Prelude.{IsOk, IsSome};
 ghost use Rattle.std.specs.Prelude.{OnOk, OnErr, IfOk, IfErr, is_some};
 ghost use Rattle.oct_key.specs.Boxes.{Window};
 ghost use Rattle.oct_key.specs.Values.{SameValues};
