@@ -5,7 +5,7 @@
 
 set -eu
 
-most_instructions=225000000
+most_instructions=24000000
 most_kilobytes=40960
 most_growth=5
 

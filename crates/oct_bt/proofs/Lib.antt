@@ -1,3 +1,4 @@
+pub mod CodeMasks
 pub mod Numbering
 pub mod Texts
 pub mod Alike

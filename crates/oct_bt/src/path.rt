@@ -1,11 +1,12 @@
 //! How many records of each depth are still to come.
-ghost use Rattle.std.specs.Prelude.{◌≡◌, ◌+◌, ◌*◌, ◌<◌, ◌++◌, length, replicate, nat_eq, count_by};
+ghost use Rattle.std.specs.Prelude.{◌≡◌, ◌+◌, ◌*◌, ◌<◌, ◌++◌, length, replicate};
 ghost use Rattle.std.specs.Prelude.{[], ◌∷◌};
-ghost use Rattle.oct_bt.specs.Canonical.{codes_in, known_codes};
+ghost use Rattle.oct_bt.specs.Canonical.{known_codes};
 ghost use Rattle.oct_bt.specs.NodeData.{records_in};
 ghost use Rattle.oct_bt.specs.Plain.{is_plain, has_plain};
 ghost use Rattle.oct_bt.specs.Path.{pending_at, IsTopped, without_next};
 
+use crate::masks::{nonzero, threes};
 use arrayvec::ArrayVec;
 
 /// The codes of eight leaves that are all free.
@@ -21,26 +22,12 @@ pub(crate) fn record_codes(first: u8, second: u8) -> u16
     u16::from(first) + 256 * u16::from(second)
 }
 
-/// How many of the four codes of a byte are 3.
-fn threes(byte: u8) -> u8
-    ensures count { result ≡ count_by (λ code. nat_eq code 3) (codes_in byte) }
-    ensures few { result < 5 }
-{
-    u8::from(byte % 4 == 3)
-        + u8::from(byte / 4 % 4 == 3)
-        + u8::from(byte / 16 % 4 == 3)
-        + u8::from(byte / 64 % 4 == 3)
-}
-
 /// How many of the four codes of a byte aren't 0.
 pub(crate) fn known_codes(byte: u8) -> u8
     ensures count { result ≡ known_codes (byte ∷ []) }
     ensures few { result < 5 }
 {
-    u8::from(byte % 4 != 0)
-        + u8::from(byte / 4 % 4 != 0)
-        + u8::from(byte / 16 % 4 != 0)
-        + u8::from(byte / 64 % 4 != 0)
+    nonzero(u16::from(byte)).count_ones() as u8
 }
 
 /// How many of the eight codes of a record are 3.
@@ -48,7 +35,7 @@ pub(crate) fn records_in(first: u8, second: u8) -> u8
     ensures count { result ≡ records_in first second }
     ensures few { result < 9 }
 {
-    threes(first) + threes(second)
+    threes(record_codes(first, second)).count_ones() as u8
 }
 
 /// Drops the depths at the end that have no record to come.

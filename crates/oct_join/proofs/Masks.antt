@@ -1,82 +1,18 @@
 -- Eight codes at once, by masks.
 use Rattle.std.proofs.Common.{◌≡◌, ℕ, zero, suc, ◌+◌, ◌-◌, ◌*◌, ◌/◌, ◌%◌, ◌<◌, ◌≤◌, refl}
-use Rattle.std.proofs.Common.{◌∙◌, ap, arith, bit_and, bit_or, [], cond}
-use Rattle.std.specs.Prelude.{nat_eq}
-use Rattle.std.proofs.lemmas.Nat.{and_block, or_block, and_le_l, and_le_r, le_or_r, or_lt}
+use Rattle.std.proofs.Common.{◌∙◌, ap, arith, bit_and, bit_or, []}
+use Rattle.std.proofs.lemmas.Nat.{and_le_l, le_or_r, or_lt}
 use Rattle.oct_odds.specs.declared.event.Class.{Class}
 use Rattle.oct_odds.specs.declared.event.Class.TheVariants.{Unknown, Free, Occupied}
 use Rattle.oct_merge.specs.declared.rule.Rule.{Rule}
 use Rattle.oct_merge.specs.declared.rule.Rule.TheVariants.{Greatest, Least, First}
 use Rattle.oct_bt.specs.Records.{Entries, End, Plain, Record, AreEntries, class_code}
 use Rattle.oct_bt.specs.Records.{codes_of, bodies_of}
+use Rattle.oct_bt.specs.Masks.{ones, threes}
+use Rattle.oct_bt.proofs.CodeMasks.{and_four, or_four, three, threes_few, threes_next}
 use Rattle.oct_bt.proofs.Texts.{class_code_below}
-use Rattle.oct_join.specs.Joined.{joined, ones, threes, merged_codes}
+use Rattle.oct_join.specs.Joined.{joined, merged_codes}
 use Rattle.oct_join.specs.Merged.{merged_class}
-
--- ---- the lowest code apart
-
-and_four : (x y a b : ℕ) → x < 4 → y < 4
-    → bit_and (x + 4 * a) (y + 4 * b) ≡ bit_and x y + 4 * bit_and a b
-and_four x y a b lx ly =
-    let one : x + 4 * a ≡ a * 4 + x = omega arith in
-    let two : y + 4 * b ≡ b * 4 + y = omega arith in
-    let turned : bit_and a b * 4 + bit_and x y ≡ bit_and x y + 4 * bit_and a b = omega arith in
-    ap (λ (n : ℕ). bit_and n (y + 4 * b)) one ∙ ap (λ (n : ℕ). bit_and (a * 4 + x) n) two
-    ∙ and_block 2 a b x y lx ly ∙ turned
-
-or_four : (x y a b : ℕ) → x < 4 → y < 4
-    → bit_or (x + 4 * a) (y + 4 * b) ≡ bit_or x y + 4 * bit_or a b
-or_four x y a b lx ly =
-    let one : x + 4 * a ≡ a * 4 + x = omega arith in
-    let two : y + 4 * b ≡ b * 4 + y = omega arith in
-    let turned : bit_or a b * 4 + bit_or x y ≡ bit_or x y + 4 * bit_or a b = omega arith in
-    ap (λ (n : ℕ). bit_or n (y + 4 * b)) one ∙ ap (λ (n : ℕ). bit_or (a * 4 + x) n) two
-    ∙ or_block 2 a b x y lx ly ∙ turned
-
--- whether a code is 3, as a number
-abbrev pub three : ℕ → ℕ
-three x = cond {A = ℕ} (nat_eq x 3) 1 0
-
-lowest_three : (x d : ℕ) → x < 4 → d < 2
-    → bit_and (bit_and x (x / 2 + 2 * d)) 1 ≡ three x
-lowest_three zero zero l e = refl
-lowest_three zero (suc zero) l e = refl
-lowest_three (suc zero) zero l e = refl
-lowest_three (suc zero) (suc zero) l e = refl
-lowest_three (suc (suc zero)) zero l e = refl
-lowest_three (suc (suc zero)) (suc zero) l e = refl
-lowest_three (suc (suc (suc zero))) zero l e = refl
-lowest_three (suc (suc (suc zero))) (suc zero) l e = refl
-lowest_three (suc (suc (suc (suc x)))) d l e = absurd (omega (arith, l))
-lowest_three x (suc (suc d)) l e = absurd (omega (arith, e))
-
-pub threes_next : (n x a : ℕ) → x < 4 → threes (suc n) (x + 4 * a) ≡ three x + 4 * threes n a
-unfolding threes ones
-threes_next n x a l =
-    let half : (x + 4 * a) / 2 ≡ x / 2 + 2 * (a % 2) + 4 * (a / 2) = omega arith in
-    let digit : x / 2 + 2 * (a % 2) < 4 = omega (arith, l) in
-    let less = and_le_l x (x / 2 + 2 * (a % 2)) in
-    let small : bit_and x (x / 2 + 2 * (a % 2)) < 4 = omega (arith, l, less) in
-    ap (λ (h : ℕ). bit_and (bit_and (x + 4 * a) h) (1 + 4 * ones n)) half
-    ∙ ap (λ (h : ℕ). bit_and h (1 + 4 * ones n))
-    (and_four x (x / 2 + 2 * (a % 2)) a (a / 2) l digit)
-    ∙ and_four (bit_and x (x / 2 + 2 * (a % 2))) 1 (bit_and a (a / 2)) (ones n) small
-    (omega arith)
-    ∙ ap (λ (t : ℕ). t + 4 * bit_and (bit_and a (a / 2)) (ones n))
-    (lowest_three x (a % 2) l (omega arith))
-
--- as the code has them
-pub threes_is : (codes : ℕ) → bit_and (bit_and codes (codes / 2)) 21845 ≡ threes 8 codes
-unfolding threes ones
-threes_is codes = refl
-
--- twice the threes are in the codes
-pub threes_few : (n a : ℕ) → 2 * threes n a ≤ a
-unfolding threes
-threes_few n a =
-    let one = and_le_l (bit_and a (a / 2)) (ones n) in
-    let two = and_le_r a (a / 2) in
-    omega (arith, one, two)
 
 -- what a rule makes of two codes
 abbrev pub merged_code : Rule → ℕ → ℕ → ℕ

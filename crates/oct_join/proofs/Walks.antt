@@ -14,7 +14,8 @@ use Rattle.oct_bt.proofs.Fills.{drop_front, drop_more}
 use Rattle.oct_bt.proofs.Texts.{class_code_below}
 use Rattle.oct_merge.specs.declared.rule.Rule.{Rule}
 use Rattle.oct_join.specs.Joined.{one_class, child_before, closed, recoded, joined, alike}
-use Rattle.oct_join.specs.Joined.{threes, merged_codes}
+use Rattle.oct_bt.specs.Masks.{threes}
+use Rattle.oct_join.specs.Joined.{merged_codes}
 use Rattle.oct_join.specs.Merged.{merged_class}
 use Rattle.oct_join.specs.Sides.{IsSide, side_text, IsJoined}
 use Rattle.oct_join.specs.declared.joining.Part.{Part}

@@ -1,10 +1,11 @@
 -- Two records side by side: the working words of a merge.
-use Rattle.std.specs.Prelude.{ℕ, zero, suc, ◌+◌, ◌-◌, ◌*◌, ◌/◌, nat_eq, Option, Some, None}
+use Rattle.std.specs.Prelude.{ℕ, zero, suc, ◌-◌, ◌*◌, nat_eq, Option, Some, None}
 use Rattle.std.specs.Prelude.{if◌then◌else◌, bit_and, bit_or}
 use Rattle.oct_odds.specs.declared.event.Class.{Class}
 use Rattle.oct_odds.specs.declared.event.Class.TheVariants.{Unknown, Free, Occupied}
 use Rattle.oct_merge.specs.declared.rule.Rule.{Rule}
 use Rattle.oct_merge.specs.declared.rule.Rule.TheVariants.{Greatest, Least, First}
+use Rattle.oct_bt.specs.Masks.{threes}
 use Rattle.oct_bt.specs.Records.{Entries, End, Plain, Record, codes_of}
 
 -- the class of a block whose eight children have these codes, where all are of that class
@@ -42,15 +43,6 @@ joined with _ _ = End
 unfoldable pub alike : Class → ℕ → Entries
 alike class zero = End
 alike class (suc n) = Plain class (alike class n)
-
--- a 1 in the place of each of this many codes
-unfoldable pub ones : ℕ → ℕ
-ones zero = 0
-ones (suc n) = 1 + 4 * ones n
-
--- a 1 in the place of each of this many codes that is 3
-unfoldable pub threes : ℕ → ℕ → ℕ
-threes n codes = bit_and (bit_and codes (codes / 2)) (ones n)
 
 -- this many codes, each what a rule makes of two, by masks: where an or of both is 3, they are two
 -- known classes

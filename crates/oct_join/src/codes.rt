@@ -1,9 +1,10 @@
 //! The codes of blocks: 0, 1 and 2 for the classes, and 3 for a record.
-ghost use Rattle.std.specs.Prelude.{◌≡◌, ◌≤◌};
+ghost use Rattle.std.specs.Prelude.{◌≡◌};
 ghost use Rattle.oct_odds.specs.declared.event.Class.{Class};
 ghost use Rattle.oct_bt.specs.Records.{class_code};
-ghost use Rattle.oct_join.specs.Joined.{merged_codes, one_class, threes};
+ghost use Rattle.oct_join.specs.Joined.{merged_codes, one_class};
 
+use oct_bt::threes;
 use oct_merge::Rule;
 use oct_odds::Class;
 
@@ -40,18 +41,6 @@ pub(crate) fn one_class(codes: u16) -> Option<Class>
         return Some(Class::Occupied);
     }
     None
-}
-
-/// A 1 in the place of each of eight codes.
-const ONES: u16 = 0x5555;
-
-/// A 1 in the place of each of eight codes that is 3.
-#[inline(always)]
-pub(crate) fn threes(codes: u16) -> u16
-    ensures exact { result ≡ threes 8 codes }
-    ensures few { result ≤ 21845 }
-{
-    codes & (codes / 2) & ONES
 }
 
 /// The codes of the classes that a rule makes of eight pairs, by their codes. Where one of a pair

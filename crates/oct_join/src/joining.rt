@@ -4,15 +4,16 @@ ghost use Rattle.std.specs.Prelude.{IsTrue, IfOk, OnErr, Option, nat_eq, if◌th
 ghost use Rattle.std.specs.Prelude.{vec_len, vec_capacity};
 ghost use Rattle.oct_bt.specs.Canonical.{block_code, canonical_data, canonical_size, data_of_child};
 ghost use Rattle.oct_bt.specs.DataClasses.{data_classes};
+ghost use Rattle.oct_bt.specs.Masks.{threes};
 ghost use Rattle.oct_bt.specs.NodeData.{IsAccepted};
 ghost use Rattle.oct_bt.specs.Records.{Entries, code_bytes, codes_of};
 ghost use Rattle.oct_odds.specs.declared.event.Class.{Class};
-ghost use Rattle.oct_join.specs.Joined.{one_class, threes};
+ghost use Rattle.oct_join.specs.Joined.{one_class};
 ghost use Rattle.oct_join.specs.Merged.{merged_class, merged_classes};
 ghost use Rattle.oct_join.specs.Sides.{IsSide, side_text, IsJoined, root_text};
 
-use crate::codes::{FREE_LEAVES, OCCUPIED_LEAVES, class_code, merged_codes, one_class, threes};
-use oct_bt::BtFile;
+use crate::codes::{FREE_LEAVES, OCCUPIED_LEAVES, class_code, merged_codes, one_class};
+use oct_bt::{BtFile, threes};
 use oct_merge::Rule;
 use oct_num::Memory;
 use std::alloc::Global;

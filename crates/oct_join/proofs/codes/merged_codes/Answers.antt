@@ -1,7 +1,8 @@
 use Rattle.std.proofs.Common.{◌*◌, arith, bit_or, sym, ◌∙◌, ap}
 use Rattle.std.proofs.lemmas.Nat.{and_le_l, le_or_r}
+use Rattle.oct_bt.proofs.CodeMasks.{threes_few}
 use Rattle.oct_join.specs.Joined.{merged_codes}
-use Rattle.oct_join.proofs.Masks.{threes_few, greatest_is, least_is, first_is}
+use Rattle.oct_join.proofs.Masks.{greatest_is, least_is, first_is}
 use Rattle.oct_join.proofs.codes.merged_codes.Goals as goal
 
 pub overflow_sub-result : goal.overflow_sub-result
