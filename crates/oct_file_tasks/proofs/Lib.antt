@@ -1,3 +1,7 @@
+pub mod Inputs
+pub mod EndCounts
+pub mod Ends
+pub mod Canonicals
 pub mod OverFile
 pub mod Replies
 pub mod FileTasks

@@ -3,7 +3,7 @@ use Rattle.std.proofs.Common.{◌≡◌, ℕ, ◌≤◌, ◌^◌, List, ◌++◌
 use Rattle.std.proofs.Common.{Ok, Err, inl, inr, sym, ◌∙◌, ap}
 use Rattle.std.proofs.Common.{le_trans}
 use Rattle.std.specs.Prelude.{◌⊎◌}
-use Rattle.oct_convert.proofs.Canonicals.{same_text}
+use Rattle.oct_file_tasks.proofs.Canonicals.{same_text}
 use Rattle.oct_key.specs.Voxel.{Voxel, IsInMap}
 use Rattle.oct_key.specs.Boxes.{Window}
 use Rattle.oct_odds.specs.Odds.{Odds, default_odds}

@@ -5,8 +5,8 @@ use Rattle.oct_io.specs.declared.sink.SinkFault.{SinkFault}
 use Rattle.oct_io.specs.declared.sink.SinkFault.TheVariants as sink
 use Rattle.oct_io.specs.Taken.{IsCutOff}
 use Rattle.oct_io.specs.Told.{appended}
-use Rattle.oct_convert.specs.Ending.{EndsOverFile}
-use Rattle.oct_convert.specs.Input.{IsReadToEnd}
+use Rattle.oct_file_tasks.specs.Ending.{EndsOverFile, Sends}
+use Rattle.oct_file_tasks.specs.Input.{IsReadToEnd}
 use Rattle.oct_ending.specs.Stops.{status_written}
 use Rattle.oct_ending.specs.declared.status.Status.{Status}
 use Rattle.oct_ending.specs.declared.status.Status.TheVariants.{Done, Refused, Usage, BadFile}
@@ -29,6 +29,16 @@ reply_ends (Err sink.Failed) whole text status end old new settled is same ends 
     rw ends (subst (IsCutOff old new) is err)
 reply_ends (Err sink.Memory) whole text status end old new settled is same ends ok err =
     rw ends (subst (IsCutOff old new) is err)
+
+-- the same, in one clause of what was sent
+pub sent_ends : {T : Type 0} (r : Result T SinkFault) (whole : Answer) (text : List ℕ)
+    (status end : Status) (old new : Option (List ℕ)) → IsSettled status → text ≡ whole.text
+    → status ≡ whole.status → end ≡ status_written status r → Sends text old new r
+    → EndsUnread whole old new end
+sent_ends (Ok t) whole text status end old new settled is same ends sends =
+    reply_ends (Ok t) whole text status end old new settled is same ends sends tt
+sent_ends {T = T} (Err fault) whole text status end old new settled is same ends sends =
+    reply_ends {T = T} (Err fault) whole text status end old new settled is same ends tt sends
 
 -- the end of a task whose input was read to its end
 pub over_file : (whole : Answer) (most : ℕ) (bytes : List ℕ) (left old new : Option (List ℕ))

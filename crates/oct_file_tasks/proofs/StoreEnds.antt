@@ -1,10 +1,7 @@
 -- How a task over two files of the store ends, by its reply and by what was written of it.
-use Rattle.std.proofs.Common.{◌≡◌, ℕ, ◌<◌, List, length, Option, Some, None, IfSome, Result}
-use Rattle.std.proofs.Common.{Ok, Err, OnErr, IsErr, refl, subst}
-use Rattle.oct_io.specs.declared.sink.SinkFault.{SinkFault}
+use Rattle.std.proofs.Common.{◌≡◌, ℕ, List, Option, Some, None, IfSome, Result, refl, subst}
 use Rattle.oct_io.specs.Files.{Files}
-use Rattle.oct_io.specs.Taken.{IsCutOff}
-use Rattle.oct_convert.proofs.Ends.{cut_none}
+use Rattle.oct_file_tasks.proofs.Ends.{cut_none}
 use Rattle.oct_ending.specs.declared.status.Status.{Status}
 use Rattle.oct_ending.specs.declared.status.Status.TheVariants.{Done, Refused, Usage, BadFile}
 use Rattle.oct_ending.specs.declared.status.Status.TheVariants.{TooLong, ReadFault, WriteFault}
@@ -16,20 +13,6 @@ use Rattle.oct_file_tasks.proofs.PairTexts.{some_reply}
 use Rattle.oct_file_tasks.specs.declared.store_task.StoreTask.{StoreTask}
 use Rattle.oct_file_tasks.specs.declared.two_files.NoPair.{NoPair}
 use Rattle.oct_file_tasks.specs.declared.two_files.Pair.{Pair}
-
--- an error before anything was written
-pub none_written : {T : Type 0} (r : Result T SinkFault) (text : List ℕ) (old : Option (List ℕ))
-    → IsErr r → 0 < length text
-    → OnErr r (IsCutOff old old text)
-none_written (Ok t) text old err some = tt
-none_written (Err fault) text old err some = cut_none text old some
-
--- an error after a part of a text
-pub cut_written : {T : Type 0} (r : Result T SinkFault) (text piece : List ℕ)
-    (old new : Option (List ℕ)) → piece ≡ text → IsErr r
-    → IsCutOff old new piece → OnErr r (IsCutOff old new text)
-cut_written (Ok t) text piece old new is err cut = tt
-cut_written (Err fault) text piece old new is err cut = subst (IsCutOff old new) is cut
 
 -- the end by a reply
 by_reply : (whole : Answer) (old new : Option (List ℕ)) (end : Status)

@@ -1,3 +1,7 @@
+pub mod Input
+pub mod Counts
+pub mod Answers
+pub mod Ending
 pub mod OverFile
 pub mod Refusals
 pub mod Frontiers

@@ -5,7 +5,7 @@ use Rattle.std.specs.List.{flat_map}
 use Rattle.oct_bt.specs.Classes.{value_for}
 use Rattle.oct_bt.specs.DataClasses.{data_classes}
 use Rattle.oct_bt.specs.File.{FileRead, bt_text}
-use Rattle.oct_convert.specs.Answers.{refusal_line}
+use Rattle.oct_file_tasks.specs.Answers.{refusal_line}
 use Rattle.oct_io.specs.Files.{Files}
 use Rattle.oct_key.specs.Block.{root_block}
 use Rattle.oct_key.specs.Boxes.{Window}

@@ -1,11 +1,10 @@
 //! The tasks `merge` and `table`: two files of the store in, and one map, or a table, out.
-ghost use Rattle.std.specs.Prelude.{◌≡◌, ◌≢◌, ◌≤◌, ◌+◌, IfOk, OnErr, OnOk};
+ghost use Rattle.std.specs.Prelude.{◌≡◌, ◌≢◌, ◌≤◌, ◌+◌, IfOk};
 ghost use Rattle.oct_io.specs.Counts.{IsMakingCounted};
-ghost use Rattle.oct_io.specs.Taken.{IsCutOff};
-ghost use Rattle.oct_io.specs.Told.{appended};
 ghost use Rattle.oct_key.specs.Boxes.{IsBox};
 ghost use Rattle.oct_ending.specs.Answer.{EndsUnread};
 ghost use Rattle.oct_ending.specs.Counts.{IsSinkCounted, IsStoreCounted};
+ghost use Rattle.oct_file_tasks.specs.Ending.{Sends};
 ghost use Rattle.oct_file_tasks.specs.OverFile.{IsOfReply};
 ghost use Rattle.oct_file_tasks.specs.OverStore.{merged_text, table_text};
 ghost use Rattle.oct_file_tasks.specs.OverStore.{table_reply, pair_reply, found_reply};
@@ -118,10 +117,8 @@ fn write_merged<K: Sink>(
     sink: &mut K,
 ) -> Result<(), SinkFault>
     requires fit { AreFit pair.now }
-    ensures written { OnOk result
-        (K.written sink.new ≡ appended (K.written sink.old) (merged_text rule pair.now)) }
-    ensures cut { OnErr result
-        (IsCutOff (K.written sink.old) (K.written sink.new) (merged_text rule pair.now)) }
+    ensures sends { Sends (merged_text rule pair.now) (K.written sink.old) (K.written sink.new)
+        result }
     ensures sink_counts { IsMakingCounted result (K.faults sink.old) (K.faults sink.new)
         (K.shortages sink.old) (K.shortages sink.new) }
 {

@@ -1,14 +1,13 @@
 //! The texts of tasks over two files.
 ghost use Rattle.std.specs.Prelude.{◌≡◌, ◌+◌, ◌++◌, ◌≤◌, IfOk, OnOk};
-ghost use Rattle.oct_convert.specs.Answers.{refusal_line};
 ghost use Rattle.oct_script.specs.Replies.{class_name};
 ghost use Rattle.oct_file_tasks.specs.OverStore.{line_of, map_line, pair_line, table_line};
 ghost use Rattle.oct_file_tasks.specs.OverStore.{table_row};
 ghost use Rattle.oct_file_tasks.specs.OverStore.{table_rows};
 
+use crate::no_file::push_bad;
 use crate::two_files::{NoMap, NoPair};
 use itoa::Buffer;
-use oct_bt::{BtFault, push_fault};
 use oct_key::Res;
 use oct_merge::ClassTable;
 use oct_num::Memory;
@@ -21,16 +20,6 @@ pub(crate) fn push_refusal(text: &mut Vec<u8>, why: Refusal) -> Result<(), Memor
     ensures { OnOk result (text.new.items ≡ text.old.items ++ line_of why) }
 {
     push_reply(text, &Reply::Refused(why))
-}
-
-/// Appends the line of a file's fault.
-fn push_bad(text: &mut Vec<u8>, fault: BtFault) -> Result<(), Memory>
-    ensures { OnOk result (text.new.items ≡ text.old.items ++ refusal_line fault) }
-{
-    text.extend_from_slice(b"refused ")?;
-    push_fault(text, fault)?;
-    text.extend_from_slice(b"\n")?;
-    Ok(())
 }
 
 /// Appends the line of why there is no map.

@@ -20,6 +20,7 @@ pub fn send<K: Sink>(text: Result<Vec<u8>, Memory>, status: Status, sink: &mut K
         → EndsUnread whole (K.written sink.old) (K.written sink.new) result }
     ensures sink_counts { IsSinkCounted result (K.faults sink.old) (K.faults sink.new)
         (K.shortages sink.old) (K.shortages sink.new) }
+    ensures refused { result ≡ Status.Refused → status ≡ Status.Refused }
     ensures ended { IsOfReply result }
 {
     match text {

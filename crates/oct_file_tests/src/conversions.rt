@@ -2,8 +2,8 @@
 ghost use Rattle.std.specs.Prelude.{◌<◌};
 
 use oct_bt::{BtFault, HeaderWord};
-use oct_convert::{NoFile, convert, inspect, read_file};
 use oct_ending::Status;
+use oct_file_tasks::{FileTask, NoFile, answer_over_file, read_file};
 use oct_io::{CalmSink, CalmSource, FileBytes, KeptList, MemSource};
 use oct_num::Memory;
 use std::alloc::Global;
@@ -106,13 +106,14 @@ fn source_of(alloc: Global, bytes: &[u8]) -> Result<CalmSource, Memory> {
     Ok(CalmSource::new(FileBytes::from_slice(alloc, bytes)?, 7))
 }
 
-/// The most bytes that `convert` may be asked to read.
+/// The most bytes of a file that may be asked for.
 const MOST: u64 = 1 << 32;
 
-/// Expects what `convert` writes of a file, by writes of three bytes, and how it ends.
-fn expect_converted(
+/// Expects what a task over a file writes, by writes of three bytes, and how it ends.
+fn expect(
     rt: &impl Abort,
     alloc: Global,
+    task: FileTask,
     max_bytes: u64,
     bytes: &[u8],
     want: (&[u8], Status),
@@ -120,31 +121,31 @@ fn expect_converted(
     assert!(rt; max_bytes <= MOST);
     let mut source = source_of(alloc, bytes)?;
     let mut sink = CalmSink::new(alloc, 3);
-    let ending = convert(alloc, max_bytes, &mut source, &mut sink);
-    assert_eq!(rt; (sink.written(), ending), want, "converting {bytes:?}");
-    Ok(())
-}
-
-/// Expects what `inspect` writes of a file, by writes of three bytes, and how it ends.
-fn expect_inspected(
-    rt: &impl Abort,
-    alloc: Global,
-    max_bytes: u64,
-    bytes: &[u8],
-    want: (&[u8], Status),
-) -> Result<(), Memory> {
-    let mut source = source_of(alloc, bytes)?;
-    let mut sink = CalmSink::new(alloc, 3);
-    let ending = inspect(alloc, max_bytes, &mut source, &mut sink);
-    assert_eq!(rt; (sink.written(), ending), want, "inspecting {bytes:?}");
+    let ending = answer_over_file(alloc, task, max_bytes, &mut source, &mut sink);
+    assert_eq!(rt; (sink.written(), ending), want, "{task:?} of {bytes:?}");
     Ok(())
 }
 
 #[test]
 fn converts_and_inspects_files(rt: HostRuntime) -> Result<(), Fail> {
     for (max_bytes, bytes, converted, inspected, ends) in TASKS {
-        expect_converted(&rt, rt.alloc(), *max_bytes, bytes, (converted, *ends))?;
-        expect_inspected(&rt, rt.alloc(), *max_bytes, bytes, (inspected, *ends))?;
+        let alloc = rt.alloc();
+        expect(
+            &rt,
+            alloc,
+            FileTask::Convert,
+            *max_bytes,
+            bytes,
+            (converted, *ends),
+        )?;
+        expect(
+            &rt,
+            alloc,
+            FileTask::Inspect,
+            *max_bytes,
+            bytes,
+            (inspected, *ends),
+        )?;
     }
     Ok(())
 }

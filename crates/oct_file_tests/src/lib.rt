@@ -1,4 +1,4 @@
-//! The tests of [`oct_bt`], [`oct_snap`] and [`oct_convert`]: files of classes and snapshots, read
+//! The tests of [`oct_bt`], [`oct_snap`] and [`oct_file_tasks`]: files of classes and snapshots, read
 //! in pieces of any length, written and cut short, the fault of each kind of bad file, the trees
 //! that files are made into, and how each task over one file of classes ends.
 //!

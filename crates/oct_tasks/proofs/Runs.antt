@@ -14,8 +14,7 @@ use Rattle.oct_file_tasks.specs.TwoFiles.{loads_of}
 use Rattle.oct_file_tasks.specs.declared.store_task.StoreTask.{StoreTask}
 use Rattle.oct_tasks.specs.Ending.{MayEnd, LeavesStore}
 use Rattle.oct_tasks.specs.Needs.{reads, names_files, ReadsTold}
-use Rattle.oct_tasks.specs.Task.{Task, Session, Build, Convert, Inspect, OverFile, OverStore, Gen}
-use Rattle.oct_tasks.specs.Task.{Drill}
+use Rattle.oct_tasks.specs.Task.{Task, Session, Build, OverFile, OverStore, Gen, Drill}
 use Rattle.oct_tasks.proofs.Loads.{some_load}
 
 -- how a run may end whose files are told
@@ -94,10 +93,6 @@ unnamed_left files calls store short None bytes after v u s unnamed =
     record { leaves = refl; asked = asked_none calls store; files_told = λ all. refl }
 unnamed_left files calls store short (Some (Session o)) bytes after v u s unnamed = cc
 unnamed_left files calls store short (Some (Build o)) bytes after v u s unnamed = cc
-unnamed_left files calls store short (Some (Convert most)) bytes after v u s unnamed =
-    record { leaves = refl; asked = asked_none calls store; files_told = λ all. refl }
-unnamed_left files calls store short (Some (Inspect most)) bytes after v u s unnamed =
-    record { leaves = refl; asked = asked_none calls store; files_told = λ all. refl }
 unnamed_left files calls store short (Some (OverFile asks most)) bytes after v u s unnamed =
     record { leaves = refl; asked = asked_none calls store; files_told = λ all. refl }
 unnamed_left files calls store short (Some (OverStore asks)) bytes after v u s unnamed = cc

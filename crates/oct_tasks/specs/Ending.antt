@@ -1,7 +1,5 @@
 -- What a run writes, and how it may end.
 use Rattle.std.specs.Prelude.{◌≡◌, ◌≢◌, ℕ, List, [], Option, Some, None, false, ⊤}
-use Rattle.oct_convert.specs.Answers.{convert_answer, inspect_answer}
-use Rattle.oct_convert.specs.Ending.{EndsOverFile}
 use Rattle.oct_ending.specs.Answer.{Answer, Outcome, with_files, IsAnswered, EndsUnread}
 use Rattle.oct_gen.specs.Script.{script_of}
 use Rattle.oct_io.specs.Files.{Files}
@@ -19,9 +17,9 @@ use Rattle.oct_session.specs.Leaving as session_leaving
 use Rattle.oct_session.specs.Session.{session}
 use Rattle.oct_ending.specs.declared.status.Status.{Status}
 use Rattle.oct_ending.specs.declared.status.Status.TheVariants.{Done, Usage, Memory, StoreFault}
-use Rattle.oct_tasks.specs.Task.{Task, Session, Build, Convert, Inspect, OverFile, OverStore}
-use Rattle.oct_tasks.specs.Task.{Gen, Drill}
+use Rattle.oct_tasks.specs.Task.{Task, Session, Build, OverFile, OverStore, Gen, Drill}
 use Rattle.oct_tasks.specs.Needs.{reads, is_script, is_input, names_files, asks_of, takes_memory}
+use Rattle.oct_file_tasks.specs.Ending.{EndsOverFile}
 use Rattle.oct_file_tasks.specs.FileTasks.{over_file_answer}
 use Rattle.oct_file_tasks.specs.OverStore.{told_reply, EndsOverStore}
 
@@ -38,8 +36,6 @@ abbrev pub answer : Option Task → Option Files → List ℕ → Outcome
 answer None files bytes = with_files files usage
 answer (Some (Session o)) files bytes = session o files bytes
 answer (Some (Build o)) files bytes = build o files bytes
-answer (Some (Convert max_bytes)) files bytes = with_files files (convert_answer max_bytes bytes)
-answer (Some (Inspect max_bytes)) files bytes = with_files files (inspect_answer max_bytes bytes)
 answer (Some (OverFile task max_bytes)) files bytes =
     with_files files (over_file_answer task max_bytes bytes)
 answer (Some (OverStore task)) files bytes = with_files files (told_reply task files)
@@ -56,8 +52,6 @@ abbrev pub EndsAlone : Option Task → Option Files → Option (List ℕ) → Op
 EndsAlone None files old new status = IsAnswered usage old new status
 EndsAlone (Some (Session o)) files old new status = ⊤
 EndsAlone (Some (Build o)) files old new status = ⊤
-EndsAlone (Some (Convert max_bytes)) files old new status = ⊤
-EndsAlone (Some (Inspect max_bytes)) files old new status = ⊤
 EndsAlone (Some (OverFile task max_bytes)) files old new status = ⊤
 EndsAlone (Some (OverStore task)) files old new status = EndsOverStore task files old new status
 EndsAlone (Some (Gen seed scans points)) files old new status =
@@ -75,10 +69,6 @@ MayEnd (Some (Session o)) files bytes left old new status =
     session_ending.MayEnd o files bytes left old new status
 MayEnd (Some (Build o)) files bytes left old new status =
     building.MayEnd o files bytes left old new status
-MayEnd (Some (Convert max_bytes)) files bytes left old new status =
-    EndsOverFile (convert_answer max_bytes bytes) max_bytes bytes left old new status
-MayEnd (Some (Inspect max_bytes)) files bytes left old new status =
-    EndsOverFile (inspect_answer max_bytes bytes) max_bytes bytes left old new status
 MayEnd (Some (OverFile task max_bytes)) files bytes left old new status =
     EndsOverFile (over_file_answer task max_bytes bytes) max_bytes bytes left old new status
 MayEnd (Some (OverStore task)) files bytes left old new status =
@@ -98,8 +88,6 @@ Leaves (Some (Session o)) files bytes left old new store short status =
     (map : Map) × session_leaving.Leaves o files bytes left old new (desk map store) short status
 Leaves (Some (Build o)) files bytes left old new store short status =
     (map : Map) × building.Leaves o files bytes left (desk map store) status
-Leaves (Some (Convert max_bytes)) files bytes left old new store short status = store.same
-Leaves (Some (Inspect max_bytes)) files bytes left old new store short status = store.same
 Leaves (Some (OverFile task max_bytes)) files bytes left old new store short status = store.same
 Leaves (Some (OverStore task)) files bytes left old new store short status = store.files ≡ files
 Leaves (Some (Gen seed scans points)) files bytes left old new store short status = store.same

@@ -6,8 +6,7 @@ use Rattle.oct_session.specs.Session as session
 use Rattle.oct_session.specs.Setup.{Setup}
 use Rattle.oct_file_tasks.specs.TwoFiles.{loads_of}
 use Rattle.oct_file_tasks.specs.declared.store_task.StoreTask.{StoreTask}
-use Rattle.oct_tasks.specs.Task.{Task, Session, Build, Convert, Inspect, OverFile, OverStore}
-use Rattle.oct_tasks.specs.Task.{Gen, Drill}
+use Rattle.oct_tasks.specs.Task.{Task, Session, Build, OverFile, OverStore, Gen, Drill}
 
 -- what may be read: nothing, a script, for a map that is set up so, whose lines may name files, a
 -- file from the input, or two files of the store, which words name
@@ -22,8 +21,6 @@ abbrev pub reads : Option Task → Reads
 reads None = Nothing
 reads (Some (Session o)) = Script o
 reads (Some (Build o)) = Script o
-reads (Some (Convert max_bytes)) = InputFile
-reads (Some (Inspect max_bytes)) = InputFile
 reads (Some (OverFile task max_bytes)) = InputFile
 reads (Some (OverStore task)) = StoredFiles task
 reads (Some (Gen seed scans points)) = Nothing
@@ -70,8 +67,6 @@ abbrev pub takes_memory : Option Task → Bool
 takes_memory None = false
 takes_memory (Some (Session o)) = true
 takes_memory (Some (Build o)) = true
-takes_memory (Some (Convert max_bytes)) = true
-takes_memory (Some (Inspect max_bytes)) = true
 takes_memory (Some (OverFile task max_bytes)) = true
 takes_memory (Some (OverStore task)) = true
 takes_memory (Some (Gen seed scans points)) = false

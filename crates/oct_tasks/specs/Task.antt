@@ -15,7 +15,8 @@ use Rattle.oct_script.specs.Names.{name_of}
 use Rattle.oct_script.specs.Words.{Word}
 use Rattle.oct_session.specs.Setup.{Setup}
 use Rattle.oct_file_tasks.specs.declared.file_task.FileTask.{FileTask}
-use Rattle.oct_file_tasks.specs.declared.file_task.FileTask.TheVariants.{Frontier, Project, Vrml}
+use Rattle.oct_file_tasks.specs.declared.file_task.FileTask.TheVariants.{Convert, Inspect, Frontier}
+use Rattle.oct_file_tasks.specs.declared.file_task.FileTask.TheVariants.{Project, Vrml}
 use Rattle.oct_tasks.specs.declared.task.Stretch.{Stretch}
 use Rattle.oct_file_tasks.specs.declared.store_task.PairTask.{PairTask}
 use Rattle.oct_file_tasks.specs.declared.store_task.PairTask.TheVariants.{Merge, Table}
@@ -29,8 +30,6 @@ use Rattle.oct_tasks.specs.Words.{value_of, are_options}
 pub data Task : Type 0 where
   Session : Setup → Task
   Build : Setup → Task
-  Convert : ℕ → Task
-  Inspect : ℕ → Task
   OverFile : FileTask → ℕ → Task
   OverStore : StoreTask → Task
   Gen : ℕ → ℕ → ℕ → Task
@@ -223,8 +222,10 @@ abbrev pub task_by : Word → List Word → Option Task
 task_by command words =
     if bytes_eq command (codes "session") then option_map Session (options_asked words)
     else if bytes_eq command (codes "build") then option_map Build (options_asked words)
-    else if bytes_eq command (codes "convert") then option_map Convert (file_bytes words)
-    else if bytes_eq command (codes "inspect") then option_map Inspect (file_bytes words)
+    else if bytes_eq command (codes "convert")
+    then option_map (OverFile Convert) (file_bytes words)
+    else if bytes_eq command (codes "inspect")
+    then option_map (OverFile Inspect) (file_bytes words)
     else if bytes_eq command (codes "frontier")
     then option_map (task_in Frontier) (stretch_of words)
     else if bytes_eq command (codes "project") then option_map (task_in Project) (stretch_of words)
@@ -245,8 +246,6 @@ task_of (command ∷ words) = task_by command words
 abbrev pub IsInRange : Task → Type 0
 IsInRange (Session o) = ⊤
 IsInRange (Build o) = ⊤
-IsInRange (Convert max_bytes) = max_bytes ≤ 2 ^ 32
-IsInRange (Inspect max_bytes) = max_bytes ≤ 2 ^ 32
 IsInRange (OverFile task max_bytes) = max_bytes ≤ 2 ^ 32
 IsInRange (OverStore task) = ⊤
 IsInRange (Gen seed scans points) = (scans ≤ 1000) × (points ≤ 100000)

@@ -37,24 +37,23 @@
 //! replies to the lines that lie whole in the bytes taken. What a task over a file writes is a
 //! function of the file, and what one over two files writes a function of both. `specs/Ending.antt`
 //! says this over the tasks that the words of the command line ask for (`Words`, `Task`) and what
-//! they read (`Needs`), over the session of `oct_session`, and over the endings of `oct_convert`
-//! and `oct_file_tasks`.
+//! they read (`Needs`), over the session of `oct_session`, and over the endings of
+//! `oct_file_tasks`.
 //!
 //! # How it works
 //!
 //! `words` finds the options among the words of the command line, and `task` reads the task that
 //! they ask for. For a session `program` makes the map of the unknown world, which may grow as far
 //! as the options say, and lends it to the loop of `oct_session`. The tasks over files are those of
-//! `oct_convert` and `oct_file_tasks`.
+//! `oct_file_tasks`.
 //!
 //! # Who stands on it
 //!
 //! `octomap_cli`, the program, whose tests go through all of it. It stands on `oct_session` for the
-//! loop, on `oct_map` for the map that the loop is lent, on `oct_convert` and `oct_file_tasks` for
-//! the tasks over files, on `oct_gen` for a script that a number makes, on `oct_num`, `oct_key`,
-//! `oct_odds` and `oct_merge` for the numbers and the rules of the command line, on `oct_script`
-//! for what a log-odds and a name are there, on `oct_ending` for the statuses, and on `oct_io` for
-//! the world.
+//! loop, on `oct_map` for the map that the loop is lent, on `oct_file_tasks` for the tasks over
+//! files, on `oct_gen` for a script that a number makes, on `oct_num`, `oct_key`, `oct_odds` and
+//! `oct_merge` for the numbers and the rules of the command line, on `oct_script` for what a
+//! log-odds and a name are there, on `oct_ending` for the statuses, and on `oct_io` for the world.
 #![tactic(auto)]
 
 mod program;

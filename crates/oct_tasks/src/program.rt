@@ -12,7 +12,6 @@ ghost use Rattle.oct_tasks.specs.Ending.{MayEnd, EndsAlone, LeavesStore};
 ghost use Rattle.oct_tasks.specs.Ending.{KeepsUnneeded, IsRunCounted};
 
 use crate::task::{Task, Usage, read_words};
-use oct_convert::{convert, inspect};
 use oct_ending::{Status, status_written};
 use oct_file_tasks::{answer_over_file, do_over_store};
 use oct_gen::generate;
@@ -102,8 +101,6 @@ fn perform<S: Source, K: Sink, F: Store>(
             let mut map = map_for(alloc, options);
             build(alloc, options, &mut map, source, sink, store)
         }
-        Task::Convert { max_bytes } => convert(alloc, *max_bytes, source, sink),
-        Task::Inspect { max_bytes } => inspect(alloc, *max_bytes, source, sink),
         Task::OverFile { task, max_bytes } => {
             answer_over_file(alloc, *task, *max_bytes, source, sink)
         }

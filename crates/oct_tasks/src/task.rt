@@ -10,6 +10,7 @@ ghost use Rattle.oct_tasks.specs.Task.{resolution_of, count_of, chosen_number, c
 ghost use Rattle.oct_tasks.specs.Task.{chosen_model, chosen_groups, chosen_cells, chosen_bytes};
 ghost use Rattle.oct_tasks.specs.Task.{setup_asked, task_of};
 ghost use Rattle.oct_tasks.specs.Meant.{meant_task};
+ghost use Rattle.oct_tasks.specs.Task as meant;
 ghost use Rattle.oct_file_tasks.specs.declared.store_task.PairTask.TheVariants.{Merge};
 
 use crate::words::{are_options, value_of};
@@ -113,10 +114,6 @@ pub enum Task {
     Session(Options),
     /// A script from the input, and the file of the map that it leaves to the output.
     Build(Options),
-    /// A file of classes from the input, and the canonical one of the same classes to the output.
-    Convert { max_bytes: u64 },
-    /// A file of classes from the input, and six lines about it to the output.
-    Inspect { max_bytes: u64 },
     /// A file of classes from the input, and what is asked of it to the output.
     OverFile { task: FileTask, max_bytes: u64 },
     /// Two files of the store, and what is asked of both to the output.
@@ -263,7 +260,7 @@ fn read_file_number(words: &[String]) -> Option<u64>
     }
 }
 
-/// Reads the words after `convert` or `inspect`: none, or `--max-bytes` and a number.
+/// Reads the words after `convert`, `inspect` or `vrml`: none, or `--max-bytes` and a number.
 fn read_file_bytes(words: &[String]) -> Option<u64>
     ensures exact { result ≡ file_bytes (bytes_of words.now) }
     ensures few { IfSome result (λ n. n ≤ 2 ^ 32) }
@@ -411,6 +408,16 @@ fn drill_task(load: Workload) -> Task
     }
 }
 
+/// Reads the words after the name of a task over a file that has no points.
+fn read_file_task(task: FileTask, words: &[String]) -> Option<Task>
+    ensures exact { option_map meant_task result
+        ≡ option_map (meant.OverFile task) (file_bytes (bytes_of words.now)) }
+    ensures few { IfSome result (λ task. IsInRange (meant_task task)) }
+{
+    let max_bytes = read_file_bytes(words)?;
+    Some(Task::OverFile { task, max_bytes })
+}
+
 /// Reads the words after a command.
 fn read_task(command: &[u8], words: &[String]) -> Option<Task>
     ensures exact { option_map meant_task result ≡ task_by command.now (bytes_of words.now) }
@@ -421,11 +428,9 @@ fn read_task(command: &[u8], words: &[String]) -> Option<Task>
     } else if command == b"build".as_slice() {
         Some(Task::Build(read_setup(words)?))
     } else if command == b"convert".as_slice() {
-        let max_bytes = read_file_bytes(words)?;
-        Some(Task::Convert { max_bytes })
+        read_file_task(FileTask::Convert, words)
     } else if command == b"inspect".as_slice() {
-        let max_bytes = read_file_bytes(words)?;
-        Some(Task::Inspect { max_bytes })
+        read_file_task(FileTask::Inspect, words)
     } else if command == b"frontier".as_slice() {
         let Stretch { lo, hi, max_bytes } = read_stretch(words)?;
         let task = FileTask::Frontier { lo, hi };
@@ -435,9 +440,7 @@ fn read_task(command: &[u8], words: &[String]) -> Option<Task>
         let task = FileTask::Project { lo, hi };
         Some(Task::OverFile { task, max_bytes })
     } else if command == b"vrml".as_slice() {
-        let task = FileTask::Vrml;
-        let max_bytes = read_file_bytes(words)?;
-        Some(Task::OverFile { task, max_bytes })
+        read_file_task(FileTask::Vrml, words)
     } else if command == b"merge".as_slice() {
         Some(Task::OverStore(read_merge(words)?))
     } else if command == b"table".as_slice() {

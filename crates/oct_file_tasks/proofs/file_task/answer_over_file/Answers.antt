@@ -1,4 +1,4 @@
-use Rattle.oct_convert.proofs.Ends.{reason_ends}
+use Rattle.oct_file_tasks.proofs.Ends.{reason_ends}
 use Rattle.oct_file_tasks.specs.FileTasks.{file_reply}
 use Rattle.oct_file_tasks.proofs.FileTasks.{file_ends}
 use Rattle.oct_file_tasks.proofs.file_task.answer_over_file.Goals as goal

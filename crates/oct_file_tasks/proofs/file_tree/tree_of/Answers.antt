@@ -1,6 +1,6 @@
 use Rattle.std.proofs.Common.{ap, ◌∙◌}
 use Rattle.oct_tree.specs.Tree.{Tree}
-use Rattle.oct_convert.proofs.Canonicals.{filled_classes}
+use Rattle.oct_file_tasks.proofs.Canonicals.{filled_classes}
 use Rattle.oct_file_tasks.proofs.Merges.{filled_values}
 use Rattle.oct_file_tasks.proofs.file_tree.tree_of.Goals as goal
 

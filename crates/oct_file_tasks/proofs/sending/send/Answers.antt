@@ -1,5 +1,5 @@
 use Rattle.std.proofs.Common.{◌∙◌}
-use Rattle.oct_convert.proofs.Ends.{cut_none}
+use Rattle.oct_file_tasks.proofs.Ends.{cut_none}
 use Rattle.oct_file_tasks.proofs.OverFile.{reply_ends}
 use Rattle.oct_file_tasks.proofs.sending.send.Goals as goal
 

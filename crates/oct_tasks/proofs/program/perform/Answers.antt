@@ -40,16 +40,6 @@ returns-in-Build-clause-leaves g c = rw c.in-Build.is
     (shelf g.F.Store.files g.F.Store.calls c.args.store.now c.build.new.store) _
     c.build.ensures.ends).leaves
 
-pub returns-in-Convert-clause-leaves : goal.returns-in-Convert-clause-leaves
-returns-in-Convert-clause-leaves g c =
-    run_unnamed g.F.Store.files g.F.Store.calls c.args.store.now _ (run_of c.args.task.now)
-    _ _ _ _ _ (ap names c.in-Convert.is)
-
-pub returns-in-Inspect-clause-leaves : goal.returns-in-Inspect-clause-leaves
-returns-in-Inspect-clause-leaves g c =
-    run_unnamed g.F.Store.files g.F.Store.calls c.args.store.now _ (run_of c.args.task.now)
-    _ _ _ _ _ (ap names c.in-Inspect.is)
-
 pub returns-in-OverFile-clause-leaves : goal.returns-in-OverFile-clause-leaves
 returns-in-OverFile-clause-leaves g c =
     run_unnamed g.F.Store.files g.F.Store.calls c.args.store.now _ (run_of c.args.task.now)

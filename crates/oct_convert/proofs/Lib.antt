@@ -1,4 +1,0 @@
-pub mod Inputs
-pub mod Ends
-pub mod Canonicals
-pub mod EndCounts

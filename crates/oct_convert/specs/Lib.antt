@@ -1,4 +1,0 @@
-pub mod Input
-pub mod Answers
-pub mod Ending
-pub mod Counts
