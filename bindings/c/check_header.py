@@ -6,9 +6,9 @@
 Fails where a function stands on one side alone, or has other parameters (their order, names, types
 and constness), where a struct has other fields, sizes or offsets, where a code, an event, a rule, a
 kind of change or what bounds are sought of stands on one side alone or has another number, or where
-a code has another name in the header, in the sources or in docs/FORMATS.md. What the sources export is
-written as a file in C, which a C compiler has to accept after the header: declarations that must be
-those of the header, and assertions on its structs.
+a code has another name in the header than in the sources. What the sources export is written as a
+file in C, which a C compiler has to accept after the header: declarations that must be those of the
+header, and assertions on its structs.
 """
 import re
 import subprocess
@@ -218,7 +218,7 @@ def numbers_of_header(header):
 
 
 def check_numbers(text, header):
-    """The numbers that are passed and answered, against the sources and docs/FORMATS.md."""
+    """The numbers that are passed and answered, against the sources."""
     mine, theirs = numbers_of_sources(text), numbers_of_header(header)
     for here, there in zip(mine, theirs):
         for name in sorted(here.keys() | there.keys()):
@@ -229,19 +229,12 @@ def check_numbers(text, header):
 
 
 def check_names_of_codes(text, codes):
-    """The names that the library has for codes: those of the header, and those of the refusals in
-    docs/FORMATS.md."""
+    """The names that the library has for codes, against those of the header."""
     rows = re.findall(r'\brow!\((\w+), b"(\w+)\\0"\)', text)
-    pairs = [(name, codes.get(number, number)) for number, name in rows]
-    named = numbers(pairs)
+    named = numbers((name, codes.get(number, number)) for number, name in rows)
     for name in codes.keys() - {"DONE"}:
         if named.get(name) != codes[name]:
             raise Differs(f"OCTOFIX_{name} is {codes[name]}, and has another name in the sources")
-    refusals = re.findall(r"`refused (\d+) (\w+)", (ROOT / "docs/FORMATS.md").read_text())
-    told = {(name, int(number)) for number, name in refusals}
-    mine = {(name, int(number)) for name, number in pairs if 5 <= int(number) < 40}
-    for name, number in sorted(told ^ mine):
-        raise Differs(f"the code {number} isn't {name} in the sources and in docs/FORMATS.md alike")
 
 
 def compile_with_header(lines):
