@@ -9,15 +9,12 @@ use Rattle.oct_script.specs.declared.reply.Refusal.TheVariants as script
 use Rattle.oct_ending.specs.declared.status.Status.TheVariants.{Refused}
 use Rattle.oct_ending.specs.Answer.{Answer}
 use Rattle.oct_file_tasks.specs.declared.refusal.Refusal.{Refusal}
-use Rattle.oct_file_tasks.specs.declared.refusal.Refusal.TheVariants.{Outside, BadBox}
-use Rattle.oct_file_tasks.specs.declared.refusal.Refusal.TheVariants.{TooManyFrontiers, WideGrid}
-use Rattle.oct_file_tasks.specs.declared.refusal.Refusal.TheVariants.{TooManyBoxes}
+use Rattle.oct_file_tasks.specs.declared.refusal.Refusal.TheVariants.{Line, TooManyFrontiers}
+use Rattle.oct_file_tasks.specs.declared.refusal.Refusal.TheVariants.{WideGrid, TooManyBoxes}
 
--- a refusal by its number, its name and its fields: those of a script that are refusals here too
--- have its text
+-- a refusal by its number, its name and its fields
 abbrev pub refusal_text : Refusal → List ℕ
-refusal_text (Outside point) = replies.refusal_text (script.Outside point)
-refusal_text BadBox = replies.refusal_text script.BadBox
+refusal_text (Line refusal) = replies.refusal_text refusal
 refusal_text TooManyFrontiers = codes "37 TooManyFrontiers"
 refusal_text (WideGrid count) = codes "38 WideGrid count " ++ decimal count
 refusal_text (TooManyBoxes count) = codes "39 TooManyBoxes count " ++ decimal count
@@ -31,9 +28,10 @@ refused refusal = record {
 
 -- the box of two voxels, where both are there and are corners
 abbrev pub box_from : Option Voxel → Option Voxel → Result Window Refusal
-box_from None hi = Err (Outside 1)
-box_from (Some lo) None = Err (Outside 2)
-box_from (Some lo) (Some hi) = if is_box lo hi then Ok (record { lo = lo; hi = hi }) else Err BadBox
+box_from None hi = Err (Line (script.Outside 1))
+box_from (Some lo) None = Err (Line (script.Outside 2))
+box_from (Some lo) (Some hi) =
+    if is_box lo hi then Ok (record { lo = lo; hi = hi }) else Err (Line script.BadBox)
 
 -- the box between two points, at a resolution in nanometres: that of their voxels, where both lie
 -- in the map and are corners

@@ -12,10 +12,8 @@ use std::alloc::Global;
 /// Why what is asked of a file is refused.
 #[derive(Clone, Copy, Debug, PartialEq, Eq)]
 pub enum Refusal {
-    /// The point of this number, from 1 on, lies outside the map.
-    Outside { point: u8 },
-    /// On some axis the first point's voxel is beyond the second's.
-    BadBox,
+    /// As a line of a script is: a point lies outside the map, or two points are no corners.
+    Line(script::Refusal),
     /// A frontier has more than 1,000,000 voxels.
     TooManyFrontiers,
     /// A grid has more than 2^26 columns.
@@ -47,13 +45,12 @@ fn push_counted(line: &mut Vec<u8>, name: &[u8], count: u64) -> Result<(), Memor
     Ok(())
 }
 
-/// Appends the line of a refusal: that of a script, where a script's line is refused so too.
+/// Appends the line of a refusal.
 fn push_line(line: &mut Vec<u8>, refusal: Refusal) -> Result<(), Memory>
     ensures { OnOk result (line.new.items ≡ line.old.items ++ (refused refusal).text) }
 {
     match refusal {
-        Refusal::Outside { point } => push_refusal(line, script::Refusal::Outside { point }),
-        Refusal::BadBox => push_refusal(line, script::Refusal::BadBox),
+        Refusal::Line(refusal) => push_refusal(line, refusal),
         Refusal::TooManyFrontiers => push_named(line, b"37 TooManyFrontiers"),
         Refusal::WideGrid { count } => push_counted(line, b"38 WideGrid count ", count),
         Refusal::TooManyBoxes { count } => push_counted(line, b"39 TooManyBoxes count ", count),
@@ -75,10 +72,10 @@ pub fn box_between(res: Res, lo: Point, hi: Point) -> Result<Window, Refusal>
     ensures { result ≡ box_between res lo hi }
 {
     let Some(low) = res.key_of(lo) else {
-        return Err(Refusal::Outside { point: 1 });
+        return Err(Refusal::Line(script::Refusal::Outside { point: 1 }));
     };
     let Some(high) = res.key_of(hi) else {
-        return Err(Refusal::Outside { point: 2 });
+        return Err(Refusal::Line(script::Refusal::Outside { point: 2 }));
     };
-    Window::new(low, high).ok_or(Refusal::BadBox)
+    Window::new(low, high).ok_or(Refusal::Line(script::Refusal::BadBox))
 }
