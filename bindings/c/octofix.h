@@ -314,6 +314,15 @@ uint32_t octofix_scan(octofix_map *map, const octofix_pose *pose, const octofix_
                       size_t count, const octofix_scan_options *options,
                       octofix_counted *counted, octofix_details *details);
 
+/* The same of points that stand in the frame of the map, as a sensor at the origin sees them that
+ * isn't turned: each beam ends at its point, and nothing is rounded. Refused: CLOSED, BAD_ARGUMENT
+ * (a coordinate of magnitude 10^16 or more, of the origin, with index 0, or of a point), MEMORY,
+ * and as octofix_scan, where a way from the origin to a point is out of range as a point is. */
+uint32_t octofix_scan_in_map(octofix_map *map, const octofix_point *origin,
+                             const octofix_point *points, size_t count,
+                             const octofix_scan_options *options, octofix_counted *counted,
+                             octofix_details *details);
+
 /* From now on scans change only voxels of the box from the voxel of low to that of high, in place
  * of the box that stood. Nothing else looks at it. Refused: CLOSED, OUTSIDE, BAD_BOX. */
 uint32_t octofix_limit(octofix_map *map, const octofix_point *low, const octofix_point *high,

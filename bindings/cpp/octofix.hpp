@@ -36,7 +36,6 @@
 #include <cstdint>
 #include <filesystem>
 #include <iterator>
-#include <limits>
 #include <new>
 #include <optional>
 #include <stdexcept>
@@ -199,16 +198,6 @@ inline std::int64_t range_of(const std::optional<double> &metres) {
     if (!metres) return -1;
     if (*metres >= 0 && *metres < 1e7) return nanometres(*metres);
     throw bad_length("a range isn't from 0 to below 10^7 m");
-}
-
-/// The way from one coordinate to another; where it is longer than numbers go, the longest, which
-/// is refused as every way of 10^16 nanometres is.
-inline std::int64_t way(std::int64_t from, std::int64_t to) {
-    constexpr std::int64_t low = std::numeric_limits<std::int64_t>::min();
-    constexpr std::int64_t high = std::numeric_limits<std::int64_t>::max();
-    if (from < 0 && to > high + from) return high;
-    if (from > 0 && to < low + from) return low;
-    return to - from;
 }
 
 /// The key of a coordinate. Throws as a point outside the map is refused.
@@ -495,24 +484,12 @@ class map {
 
     /// Beams from a sensor to points in its own frame.
     octofix::counted scan(const pose &sensor, view<point> points, const scan_options &how = {}) {
-        const octofix_scan_options options = {detail::range_of(how.range), how.hit, how.miss,
-                                              how.lazy};
-        octofix::counted seen{};
-        details named{};
-        detail::check(octofix_scan(&handle_, &sensor, detail::start(points), points.size(),
-                                   &options, &seen, &named),
-                      named);
-        return seen;
+        return scanned(&octofix_scan, sensor, points, how);
     }
-    /// Beams from a place to points in the frame of the map. They are refused as those of scan.
+    /// Beams from a place to points in the frame of the map.
     octofix::counted scan_from(const point &origin, view<point> points,
                                const scan_options &how = {}) {
-        std::vector<point> from_there;
-        from_there.reserve(points.size());
-        for (const point &it : points)
-            from_there.push_back({detail::way(origin.x, it.x), detail::way(origin.y, it.y),
-                                  detail::way(origin.z, it.z)});
-        return scan({origin, 32767, 0, 0, 0}, from_there, how);
+        return scanned(&octofix_scan_in_map, origin, points, how);
     }
 
     /// From now on scans change only voxels of this box.
@@ -704,6 +681,19 @@ class map {
     /// All that a query lists.
     template <class T, class Call> std::vector<T> listed(Call call) const {
         return detail::listed<T>([&](auto... out) { return call(&handle_, out...); });
+    }
+    /// A scan by one of the two calls.
+    template <class Call, class Sensor>
+    octofix::counted scanned(Call call, const Sensor &sensor, view<point> points,
+                             const scan_options &how) {
+        const octofix_scan_options options = {detail::range_of(how.range), how.hit, how.miss,
+                                              how.lazy};
+        octofix::counted seen{};
+        details named{};
+        detail::check(call(&handle_, &sensor, detail::start(points), points.size(), &options, &seen,
+                           &named),
+                      named);
+        return seen;
     }
     /// The blocks that a query lists of a box.
     template <class Call> std::vector<block> listed_in_box(Call call) const {

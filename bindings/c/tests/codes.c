@@ -111,6 +111,7 @@ static void try_closed_handle(void) {
     EXPECT(count, 0);
     count = 4711; /* which no call after this writes */
     EXPECT_DETAILS(octofix_scan(&map, &ahead, &p, 1, &no_range, &counted, &details), 40, 0, 0);
+    EXPECT_DETAILS(octofix_scan_in_map(&map, &p, &p, 1, &no_range, &counted, &details), 40, 0, 0);
     EXPECT_DETAILS(octofix_limit(&map, &p, &p, &details), 40, 0, 0);
     EXPECT(octofix_no_limit(&map), 40);
     EXPECT(octofix_window(&map, &box), 40);
@@ -258,6 +259,42 @@ static void try_scans(void) {
     EXPECT(counted.hits + counted.frees, 0);
     EXPECT(octofix_settings_of(&map, &settings), 0);
     EXPECT(settings.is_stale, true);
+    octofix_close(&map);
+}
+
+/* A scan in the frame of the map: a sensor at 0.1 m on each axis, and points beside the map's. */
+static void try_scans_in_map(void) {
+    const octofix_limits few = {1 << 20, 100};
+    octofix_map map = opened(&default_odds, &few);
+    const octofix_point origin = at(100, 100, 100), outside = at(0, 0, 3276800);
+    const octofix_point points[] = {at(1100, 100, 100), at(9100, 100, 100), at(4000000, 0, 0)};
+    octofix_counted counted = {7, 7};
+    EXPECT_DETAILS(octofix_scan_in_map(&map, &outside, points, 1, &no_range, &counted, &details),
+                   6, 0, 0);
+    EXPECT_DETAILS(octofix_scan_in_map(&map, &origin, points, 3, &no_range, &counted, &details), 7,
+                   2, 0);
+    EXPECT_DETAILS(octofix_scan_in_map(&map, &origin, points, 2, &no_range, &counted, &details), 8,
+                   1, 102);
+    const octofix_point far[] = {points[0], {0, 10000000000000000, 0}, {INT64_MIN, 0, 0}};
+    for (size_t i = 1; i < 3; i++)
+        EXPECT_DETAILS(octofix_scan_in_map(&map, &far[i], points, 1, &no_range, &counted, &details),
+                       47, 0, 0);
+    EXPECT_DETAILS(octofix_scan_in_map(&map, &origin, far, 3, &no_range, &counted, &details), 47, 1,
+                   0);
+    const octofix_point apart[] = {{-9000000000000000, 0, 0}, {9000000000000000, 0, 0}};
+    EXPECT_DETAILS(octofix_scan_in_map(&map, &apart[0], apart, 2, &no_range, &counted, &details),
+                   47, 1, 0);
+    const octofix_scan_options own = {-1, 5, 0, false};
+    EXPECT_DETAILS(octofix_scan_in_map(&map, &origin, points, 1, &own, &counted, &details), 4, 1,
+                   0);
+    EXPECT(counted.hits + counted.frees, 14);
+    EXPECT_DETAILS(octofix_scan_in_map(&map, &origin, points, 1, &no_range, &counted, &details), 0,
+                   0, 0);
+    EXPECT(counted.hits, 1);
+    EXPECT(counted.frees, 10);
+    int32_t value = 0;
+    EXPECT(octofix_get(&map, &points[0], 16, &value), 0);
+    EXPECT(value, 850);
     octofix_close(&map);
 }
 
@@ -762,6 +799,7 @@ int main(void) {
     try_edits();
     try_full();
     try_scans();
+    try_scans_in_map();
     try_order_of_scans();
     try_extreme_scans();
     try_limits();

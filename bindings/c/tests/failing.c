@@ -60,6 +60,10 @@ static uint32_t scan(octofix_map *map) {
     octofix_counted counted;
     return octofix_scan(map, &ahead, points, POINTS, &no_range, &counted, &details);
 }
+static uint32_t scan_in_map(octofix_map *map) {
+    octofix_counted counted;
+    return octofix_scan_in_map(map, &ahead.at, points, POINTS, &no_range, &counted, &details);
+}
 static uint32_t edit(octofix_map *map) {
     return octofix_edit(map, &points[7], OCTOFIX_SET, 77, false, &details);
 }
@@ -134,7 +138,7 @@ static uint32_t take_snapshot(octofix_map *map) {
 static uint32_t (*const calls[])(octofix_map *) = {
     scan,   edit,           edit_box, edit_all,  load, restore, clear,        refresh, prune,
     counts, max_likelihood, leaves,   leaves_in, list, save,    list_changes, track,
-    take_snapshot, merge,   leaves_of};
+    take_snapshot, merge,   leaves_of, scan_in_map};
 
 /* A map that is scanned, and tracked where that is wanted. */
 static octofix_map scanned(bool is_tracked) {

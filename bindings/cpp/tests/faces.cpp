@@ -150,11 +150,6 @@ void try_turns() {
 void try_far_points() {
     constexpr std::int64_t low = std::numeric_limits<std::int64_t>::min();
     constexpr std::int64_t high = std::numeric_limits<std::int64_t>::max();
-    EXPECT(octofix::detail::way(-2, 3) == 5 && octofix::detail::way(3, -2) == -5);
-    EXPECT(octofix::detail::way(low, low) == 0 && octofix::detail::way(high, high) == 0);
-    EXPECT(octofix::detail::way(0, low) == low && octofix::detail::way(-1, high - 1) == high);
-    EXPECT(octofix::detail::way(-1, high) == high && octofix::detail::way(low, high) == high);
-    EXPECT(octofix::detail::way(1, low) == low && octofix::detail::way(high, low) == low);
     octofix::map world(0.1);
     const std::int64_t ends[] = {low, high};
     for (const std::int64_t end : ends) {

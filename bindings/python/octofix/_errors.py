@@ -24,6 +24,7 @@ _FIELDS: Mapping[int, tuple[str, ...]] = {
     24: ("point",),
     27: ("count",),
     35: ("file", "map"),
+    47: ("index",),
 }
 BAD_MODEL, FULL, OUTSIDE, FILE_TOO_LARGE, OTHER_RESOLUTION, BAD_ARGUMENT = 4, 23, 24, 34, 35, 47
 

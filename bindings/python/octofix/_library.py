@@ -101,6 +101,9 @@ CALLS: dict[str, list[Any]] = {
     "scan": [
         _HANDLE, POINTER(Pose), *_ROWS, POINTER(ScanOptions), POINTER(Counted), _DETAILS,
     ],
+    "scan_in_map": [
+        _HANDLE, POINTER(Point), *_ROWS, POINTER(ScanOptions), POINTER(Counted), _DETAILS,
+    ],
     "limit": [_HANDLE, *_TWO_POINTS, _DETAILS],
     "no_limit": [_HANDLE],
     "window": [_HANDLE, POINTER(Box)],

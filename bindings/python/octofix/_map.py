@@ -243,11 +243,40 @@ class Map:
         turn = _arrays.quaternion(quaternion)
         places = _arrays.nanometres(points, "points", turn)
         pose = _library.Pose(_arrays.point(origin, "origin"), 1 if any(turn) else 0, 0, 0, 0)
+        return self._scan("scan", pose, places, range, hit, miss, lazy)
+
+    def scan_from(
+        self,
+        origin: npt.ArrayLike,
+        points: npt.ArrayLike,
+        range: float | None = None,
+        *,
+        hit: int | None = None,
+        miss: int | None = None,
+        lazy: bool = False,
+    ) -> Counted:
+        """Does a scan of beams from `origin` to `points`, (n, 3), both in metres in the frame of
+        the map; else as `scan`, but that no quaternion can be refused (5).
+        """
+        places = _arrays.nanometres(points, "points")
+        place = _arrays.point(origin, "origin")
+        return self._scan("scan_in_map", place, places, range, hit, miss, lazy)
+
+    def _scan(
+        self,
+        call: str,
+        sensor: _library.Pose | _library.Point,
+        places: _arrays.Nanometres,
+        range: float | None,
+        hit: int | None,
+        miss: int | None,
+        lazy: bool,
+    ) -> Counted:
         reach = -1 if range is None else _arrays.length(range, "range")
         options = _library.ScanOptions(reach, *_arrays.own_odds(hit, miss), bool(lazy))
         counted = _library.Counted(_NOT_COUNTED)
         try:
-            self._do("scan", pose, places.ctypes.data, len(places), options, counted)
+            self._do(call, sensor, places.ctypes.data, len(places), options, counted)
             return Counted(counted.hits, counted.frees)
         except KeyboardInterrupt:
             raise Interrupted(counted.hits != _NOT_COUNTED) from None

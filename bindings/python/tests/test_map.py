@@ -25,6 +25,13 @@ class Scans(unittest.TestCase):
         self.assertEqual(self.map.get(places).tolist(), [850, -400, -400, octofix.UNKNOWN])
         self.assertEqual(self.map.get(places).dtype, np.int32)
 
+    def test_points_may_stand_in_the_frame_of_the_map(self):
+        self.assertEqual(self.map.scan_from(HERE, [AHEAD]), (1, 20))
+        places = [AHEAD, (1.95, 0.05, 0.05), HERE, (2.15, 0.05, 0.05)]
+        self.assertEqual(self.map.get(places).tolist(), [850, -400, -400, octofix.UNKNOWN])
+        self.assertEqual(self.map.scan_from(HERE, [AHEAD], 1, hit=1, miss=-1, lazy=True), (0, 10))
+        self.assertTrue(self.map.stale)
+
     def test_a_quarter_turn_is_exact(self):
         # about z: what the sensor sees ahead lies to the left
         for turn in ((1, 0, 0, 1), (0.5**0.5, 0, 0, 0.5**0.5), (-3, 0, 0, -3)):

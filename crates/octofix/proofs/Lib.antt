@@ -3,6 +3,7 @@ mod AsBox
 pub mod Chains
 pub mod Fronts
 pub mod Handles
+pub mod InMap
 pub mod Loads
 pub mod Models
 pub mod Opened

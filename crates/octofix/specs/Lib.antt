@@ -9,6 +9,7 @@ pub mod Edits
 pub mod Files
 pub mod HandleLends
 pub mod Handles
+pub mod InMap
 pub mod Lends
 pub mod Limits
 pub mod Lists

@@ -1,6 +1,7 @@
 -- What scans do.
 use Rattle.std.specs.Prelude.{◌≡◌, ◌+◌, ◌^◌, ◌⊎◌, Bool, IsTrue, pos, ◌≤ℤ◌, ◌<ℤ◌, IsSome, IfSome}
-use Rattle.std.specs.Prelude.{All}
+use Rattle.std.specs.Prelude.{All, map}
+use Rattle.oct_key.specs.declared.point.Point.{Point}
 use Rattle.std.specs.Prelude.{List, [], Result, Ok, Err, OnOk, IfErr}
 use Rattle.oct_edit.specs.Edits.{IsTidyAlong}
 use Rattle.oct_key.specs.Voxel.{Voxel, IsInMap}
@@ -17,7 +18,9 @@ use Rattle.oct_scan.specs.Beam.{IsTrust, Sighting, sighting_of}
 use Rattle.oct_scan.specs.Outcome.{free_count, hit_count, scan_fault, TakesMemory}
 use Rattle.oct_scan.specs.declared.scan.Scan.{Scan}
 use Rattle.octofix.specs.Codes.{of_map}
-use Rattle.octofix.specs.Sightings.{sighting_from}
+use Rattle.octofix.specs.InMap.{standing, way_from}
+use Rattle.octofix.specs.Points.{point_of}
+use Rattle.octofix.specs.Sightings.{and_then, origin_from, points_from, sighting_from}
 use Rattle.octofix.specs.declared.refusal.Refusal.{Refusal}
 use Rattle.octofix.specs.declared.refusal.Refusal.TheVariants as refusal
 use Rattle.octofix.specs.declared.types.Counted.{Counted}
@@ -77,3 +80,23 @@ abbrev pub IsScan : PoseNm → List PointNm → ScanOptions → Map → Map → 
     → Type 0
 IsScan pose points options =
     IsScanOf (sighting_from pose points options) points options.lazy
+
+-- the points of a scan in the frame of the map, or the first reason to refuse them: the place of
+-- the sensor, or a point
+abbrev pub seen_in_map : PointNm → List PointNm → Result (List Point) Refusal
+seen_in_map origin points = and_then (origin_from (point_of origin)) (λ place. points_from points)
+
+-- a scan of points in the frame of the map, by these: it is refused, or there is no memory for the
+-- ways to them, or it is that of a sensor at the origin, which isn't turned, and these ways
+abbrev pub IsScanByWays : Result (List Point) Refusal → PointNm → List PointNm → ScanOptions → Map
+    → Map → Result Counted Refusal → Type 0
+IsScanByWays (Err refused) origin points options m n answer = (answer ≡ Err refused) × (n ≡ m)
+IsScanByWays (Ok seen) origin points options m n answer =
+    ((answer ≡ Err (refusal.Map fault.Memory)) × (points ≡ [] → ⊥) × (n ≡ m))
+    ⊎ IsScan (standing origin) (map (way_from origin) points) options m n answer
+
+-- the same by what C passes
+abbrev pub IsScanInMap : PointNm → List PointNm → ScanOptions → Map → Map
+    → Result Counted Refusal → Type 0
+IsScanInMap origin points options =
+    IsScanByWays (seen_in_map origin points) origin points options

@@ -5,7 +5,8 @@ ghost use Rattle.oct_pose.specs.Reach.{IsInReach};
 ghost use Rattle.oct_scan.specs.Beam.{IsTrust};
 ghost use Rattle.octofix.specs.Changed.{IsDone, IsValueTold};
 ghost use Rattle.octofix.specs.Points.{point_of};
-ghost use Rattle.octofix.specs.Scans.{IsRead, IsScan};
+ghost use Rattle.octofix.specs.Scans.{IsRead, IsScan, IsScanInMap};
+ghost use Rattle.octofix.specs.InMap.{EndsThere, standing, way_from};
 ghost use Rattle.octofix.specs.Sightings.{is_in_reach, points_from, range_from, sighting_from};
 ghost use Rattle.octofix.specs.Sightings.{trust_from};
 
@@ -14,6 +15,7 @@ use crate::handle::Octofix;
 use crate::refusal::Refusal;
 use crate::types::{Counted, Details, PointNm, PoseNm, ScanOptions};
 use oct_key::{Point, PointList};
+use oct_map::OccMap;
 use oct_num::Memory;
 use oct_odds::OddsField;
 use oct_pose::Pose;
@@ -124,8 +126,26 @@ fn scan_of(
     })
 }
 
-/// Scans the map of a handle.
+/// Scans a map.
 fn scan(
+    alloc: Global,
+    map: &mut OccMap,
+    pose: PoseNm,
+    points: &[PointNm],
+    options: ScanOptions,
+) -> Result<Counted, Refusal>
+    ensures { IsScan pose points.now options map.old map.new result }
+{
+    let scan = scan_of(alloc, pose, points, options)?;
+    let done = map.scan(&scan, options.lazy)?;
+    Ok(Counted {
+        hits: done.hits,
+        frees: done.frees,
+    })
+}
+
+/// Scans the map of a handle.
+fn scan_into(
     alloc: Global,
     handle: &mut Octofix,
     pose: PoseNm,
@@ -135,13 +155,7 @@ fn scan(
     ensures { IsDone handle.old handle.new (IsScan pose points.now options)
         result }
 {
-    let map = handle.map_mut()?;
-    let scan = scan_of(alloc, pose, points, options)?;
-    let done = map.scan(&scan, options.lazy)?;
-    Ok(Counted {
-        hits: done.hits,
-        frees: done.frees,
-    })
+    scan(alloc, handle.map_mut()?, pose, points, options)
 }
 
 /// Does a scan of points in the sensor's frame, and tells how many voxels it hit and freed.
@@ -162,7 +176,105 @@ pub extern "C" fn octofix_scan(
     ensures { IsValueTold handle.old handle.new
         (IsScan pose.now points.now options.now) result details.new counted.old counted.new }
 {
-    let answer = scan(alloc, handle, *pose, points, *options);
+    let answer = scan_into(alloc, handle, *pose, points, *options);
+    *details = details_of(&answer);
+    tell(&answer, counted)
+}
+
+/// A sensor that stands there and isn't turned.
+fn standing(at: PointNm) -> PoseNm
+    ensures { result ≡ standing at }
+{
+    PoseNm {
+        at,
+        w: 1,
+        x: 0,
+        y: 0,
+        z: 0,
+    }
+}
+
+/// Where a point lies from there, in 64 bits.
+fn difference(there: PointNm, to: PointNm) -> PointNm
+    ensures { result ≡ way_from there to }
+{
+    PointNm {
+        x: to.x.wrapping_sub(there.x),
+        y: to.y.wrapping_sub(there.y),
+        z: to.z.wrapping_sub(there.z),
+    }
+}
+
+/// The way to a point from there, at whose end the point is. A sensor that stands there and isn't
+/// turned sees the point so.
+fn way_from(there: PointNm, to: PointNm) -> PointNm
+    ensures exact { result ≡ way_from there to }
+    ensures ends { EndsThere there to result }
+{
+    difference(there, to)
+}
+
+/// Where points lie from there.
+fn ways_from(alloc: Global, there: PointNm, points: &[PointNm]) -> Result<Vec<PointNm>, Memory>
+    ensures exact { IfOk result (λ ways. ways.items ≡ map (way_from there) points.now) }
+    ensures memory { IfErr result (λ _. points.now ≡ [] → ⊥) }
+{
+    let mut ways = Vec::with_capacity(alloc, points.len())?;
+    for point in points {
+        ways.push(way_from(there, *point))?;
+    }
+    Ok(ways)
+}
+
+/// Scans a map by points in its own frame.
+fn scan_in_map(
+    alloc: Global,
+    map: &mut OccMap,
+    origin: PointNm,
+    points: &[PointNm],
+    options: ScanOptions,
+) -> Result<Counted, Refusal>
+    ensures { IsScanInMap origin points.now options map.old map.new result }
+{
+    if !is_in_reach(origin.point()) {
+        return Err(Refusal::BadArgument { index: 0 });
+    }
+    test_points(points)?;
+    let ways = ways_from(alloc, origin, points)?;
+    scan(alloc, map, standing(origin), &ways, options)
+}
+
+/// Scans the map of a handle by points in its own frame.
+fn scan_in_map_into(
+    alloc: Global,
+    handle: &mut Octofix,
+    origin: PointNm,
+    points: &[PointNm],
+    options: ScanOptions,
+) -> Result<Counted, Refusal>
+    ensures { IsDone handle.old handle.new (IsScanInMap origin points.now options) result }
+{
+    scan_in_map(alloc, handle.map_mut()?, origin, points, options)
+}
+
+/// Does a scan of points in the frame of the map, and tells how many voxels it hit and freed: the
+/// one of a sensor that stands at the origin, isn't turned, and sees them from there.
+///
+/// It is refused where the handle has no map, for a point out of its range, and as the other scan.
+#[unsafe(no_mangle)]
+pub extern "C" fn octofix_scan_in_map(
+    alloc: Global,
+    handle: &mut Octofix,
+    origin: &PointNm,
+    points: &[PointNm],
+    options: &ScanOptions,
+    counted: &mut Counted,
+    details: &mut Details,
+) -> u32
+    ensures { IsValueTold handle.old handle.new (IsScanInMap origin.now points.now options.now)
+        result details.new counted.old counted.new }
+{
+    let answer = scan_in_map_into(alloc, handle, *origin, points, *options);
     *details = details_of(&answer);
     tell(&answer, counted)
 }

@@ -1,0 +1,6 @@
+use Rattle.octofix.proofs.InMap.{ends_there}
+use Rattle.octofix.proofs.scans.way_from.Goals as goal
+
+pub returns-clause-ends : goal.returns-clause-ends
+returns-clause-ends c =
+    ends_there c.args.there c.args.to c.difference.result c.difference.ensures
