@@ -20,7 +20,7 @@
 //! - `Shelf`: a store, as a run uses it.
 //!
 //! It stands on `oct_io`, whose sources, sinks and stores have the faults. The tasks over files
-//! (`oct_convert`, `oct_file_tasks`), `oct_session` and `oct_tasks` stand on it.
+//! (`oct_file_tasks`), `oct_session` and `oct_tasks` stand on it.
 #![tactic(auto)]
 
 mod status;

@@ -44,7 +44,7 @@
 //! for the bytes and the counts, `Files` for files by name, `Loaded` for the answers of a load.
 //! Laws of appending are in `proofs/Appending.antt`.
 //!
-//! The files of maps (`oct_bt`, `oct_snap`, `oct_convert`, `oct_export`), the generator of scripts,
+//! The files of maps (`oct_bt`, `oct_snap`, `oct_export`), the generator of scripts,
 //! sessions and the program stand on this crate.
 //!
 //! # For tests
