@@ -10,10 +10,7 @@ use Rattle.oct_script.specs.declared.command.Command.{Command}
 use Rattle.oct_script.specs.declared.command.ScanHead.{ScanHead}
 use Rattle.oct_script.specs.declared.reply.Refusal.{Refusal}
 use Rattle.oct_script.specs.declared.reply.Reply.{Reply}
-use Rattle.oct_script.specs.declared.command.Syntax.{Syntax}
-use Rattle.oct_script.specs.declared.reply.Refusal.TheVariants as refusal_of
-use Rattle.oct_script.specs.Commands.{command_of}
-use Rattle.oct_script.specs.Lines.{Line, Text, Long, is_long}
+use Rattle.oct_script.specs.Lines.{Line}
 use Rattle.oct_script.specs.Replies.{is_refusal}
 use Rattle.oct_session.specs.declared.scan_block.ScanBlock.{ScanBlock}
 use Rattle.oct_session.specs.declared.scan_block.ScanBlock.TheVariants.{Scanning, Spoilt}
@@ -23,7 +20,7 @@ use Rattle.oct_session.specs.Kinds.{Names, kind_of, left_of, rest_seen}
 use Rattle.oct_session.specs.declared.kinds.Rest as lent
 use Rattle.oct_session.specs.declared.kinds.Rest.TheVariants as rest
 use Rattle.oct_session.specs.declared.session.Session.{Session}
-use Rattle.oct_session.specs.Commands.{FileWork, Saving, numbered, command_on, is_quit, asked_of}
+use Rattle.oct_session.specs.Commands.{FileWork, Saving, command_on, is_quit, asked_of}
 use Rattle.oct_session.specs.Commands.{kind_work, verb_work, named_in, file_named, asks_for}
 use Rattle.oct_session.specs.Commands.{map_reply, map_action, order_reply, order_action}
 use Rattle.oct_session.specs.Commands.{question_reply, question_action}
@@ -45,7 +42,7 @@ use Rattle.oct_session.specs.Tally.{capped, counted as count_reply}
 use Rattle.oct_session.specs.declared.tally.Tally.{Tally}
 use Rattle.oct_session.specs.Standing.{with_reply, KeepsStanding, HasAnswered, HasDone, HasUsed}
 use Rattle.oct_session.specs.Standing.{HasScanned, HasWorked, FindsTold, TakesEffect, HasEffect}
-use Rattle.oct_session.specs.Standing.{HasFailed, IsHeard, StandsBeside, IsInStep}
+use Rattle.oct_session.specs.Standing.{HasFailed, TakesMemory, StandsBeside, IsInStep}
 use Rattle.oct_session.specs.Standing.{IsBetween, FailsLine}
 use Rattle.oct_session.proofs.MapHistory.{state_more}
 use Rattle.oct_session.proofs.Progresses.{after_answered, asks_next, asks_more, line_finds_told}
@@ -106,19 +103,19 @@ stands_where_done (Err x) m n reply actions done =
 
 -- and so does one that has worked on a line
 pub stands_where_worked : {E : Type 0} (r : Result (Option Reply) E) (m n : Map)
-    (block : Option ScanBlock)
-    (e : State → Effect) → HasWorked e m n block r → KeepsStanding m n
-stands_where_worked (Ok a) m n block e done =
+    (before : ScanBlock) (block : Option ScanBlock) (e : State → Effect)
+    → HasWorked e before m n block r → KeepsStanding m n
+stands_where_worked (Ok a) m n before block e done =
     λ o some. stands_after_more o m n some (e (state_after o some.0)).added
     (done (state_after o some.0) some.1).2
-stands_where_worked (Err x) m n block e done = λ o some.
+stands_where_worked (Err x) m n before block e done = λ o some.
     (some.0, (done (state_after o some.0) some.1).1)
 
 -- a line that closes its block was answered, and done unless it is refused
 pub effect_closed : {E : Type 0} (r : Result (Option Reply) E) (m n : Map) (number : ℕ)
     (c : Result Command Refusal) (inner : ScanBlock) (block : Option ScanBlock) → is_end c ≡ true
     → block ≡ None →
-    HasScanned m n inner r → HasWorked (λ s. effect_inside s number c inner) m n block r
+    HasScanned m n inner r → HasWorked (λ s. effect_inside s number c inner) inner m n block r
 effect_closed (Ok a) m n number c inner block end none done = λ s at. let took = done s at in
     rw end (
       took.0,
@@ -133,7 +130,7 @@ pub effect_taken : {E : Type 0} (r : Result (Option Reply) E) (m n : Map) (numbe
     (c : Result Command Refusal) (old taken new : Option ScanBlock) (standing : ScanBlock)
     → is_end c ≡ true → new ≡ None → taken ≡ old → taken ≡ Some standing →
     HasScanned m n standing r → (first : ScanBlock) → old ≡ Some first
-    → HasWorked (λ s. effect_inside s number c first) m n new r
+    → HasWorked (λ s. effect_inside s number c first) first m n new r
 effect_taken r m n number c old taken new standing end none took is done first was =
     let same : standing ≡ first = cc in
     effect_closed r m n number c first new end none (subst (λ x. HasScanned m n x r) same done)
@@ -163,8 +160,8 @@ pub inside_failed : (r : Result (Option Reply) StoreFault) (m n : Map) (f : Opti
     → is_some old ≡ true →
     IsErrAnd r (λ x. x ≡ store_fault.Memory)
     → ((first : ScanBlock) → old ≡ Some first → (s : State) → StandsFor m s
-    → IsHeard (effect_inside s number c first) × StandsFor n s) →
-    HasEffect (λ files s. effect files s number line c old) (asked_of c) m f n f new r
+    → TakesMemory (Some first) (effect_inside s number c first) × StandsFor n s) →
+    HasEffect (λ files s. effect files s number line c old) (asked_of c) old m f n f new r
 inside_failed (Ok x) m n f number line c old new some memory kept = absurd memory
 inside_failed (Err x) m n f number line c None new some memory kept = cc
 inside_failed (Err x) m n f number line c (Some first) new some memory kept = λ files s finds at.
@@ -178,10 +175,10 @@ inside_failed (Err x) m n f number line c (Some first) new some memory kept = λ
 pub stands_inside : {E : Type 0} (r : Result (Option Reply) E) (m n : Map) (number : ℕ)
     (c : Result Command Refusal) (old new : Option ScanBlock) → is_some old ≡ true →
     ((first : ScanBlock) → old ≡ Some first
-    → HasWorked (λ s. effect_inside s number c first) m n new r) → KeepsStanding m n
+    → HasWorked (λ s. effect_inside s number c first) first m n new r) → KeepsStanding m n
 stands_inside r m n number c None new some works = cc
 stands_inside r m n number c (Some first) new some works =
-    stands_where_worked r m n new (λ s. effect_inside s number c first) (works first refl)
+    stands_where_worked r m n first new (λ s. effect_inside s number c first) (works first refl)
 
 -- what was answered and done on the map alone, with the files that stand by
 map_done : (m n : Map) (f : Option Files) (block : Option ScanBlock) (a : Option Reply)
@@ -202,7 +199,7 @@ map_done m n f block a reply actions closed done = λ files s finds at.
 map_failed : (x : StoreFault) (m n : Map) (f : Option Files) (block : Option ScanBlock)
     (reply : State → Option Reply) (actions : State → History) → x ≡ store_fault.Memory →
     ((s : State) → StandsFor m s → IsSome (reply s) × StandsFor n s)
-    → HasEffect (λ files s. replied (reply s) (actions s) None) None m f n f block (Err x)
+    → HasEffect (λ files s. replied (reply s) (actions s) None) None None m f n f block (Err x)
 map_failed x m n f block reply actions memory kept = λ files s finds at.
     let done = kept s at.stands in (
       inl done.0,
@@ -238,7 +235,7 @@ rest_left (rest.Names verb name) = refl
 -- a part of which nothing is left
 pub part_done : (m n : Map) (f : Option Files) (number : ℕ) (k : Kind) (block : Option ScanBlock)
     (a : Option Reply) → Nothing ≡ left_of k → block ≡ None → HasPart k m n a
-    → HasEffect (KindEffect number k) (kind_work k) m f n f block (Ok a)
+    → HasEffect (KindEffect number k) (kind_work k) None m f n f block (Ok a)
 part_done m n f number Nothing block a is closed done =
     map_done m n f block a (λ s. None) (λ s. []) closed done
 part_done m n f number (Adds p) block a is closed done =
@@ -255,14 +252,14 @@ part_done m n f number (Names v name) block a is closed done = cc
 none_failed : (m n : Map) (e : Option Files → State → Effect) (w : Option FileWork)
     (f g : Option Files) (block : Option ScanBlock) (x : StoreFault) →
     ((s : State) → StandsFor m s → IsSome (map_reply s Nothing) × StandsFor n s)
-    → HasEffect e w m f n g block (Err x)
+    → HasEffect e w None m f n g block (Err x)
 none_failed m n e w f g block x kept = λ files s finds at.
     let some = (kept s at.stands).0 in cc
 
 part_stopped : (x : StoreFault) (m n : Map) (f : Option Files) (number : ℕ) (k : Kind)
     (block : Option ScanBlock) → x ≡ store_fault.Memory →
     ((s : State) → StandsFor m s → IsSome (map_reply s k) × StandsFor n s)
-    → HasEffect (KindEffect number k) (kind_work k) m f n f block (Err x)
+    → HasEffect (KindEffect number k) (kind_work k) None m f n f block (Err x)
 part_stopped x m n f number (Orders o) block memory kept =
     map_failed x m n f block (λ s. order_reply s o) (λ s. order_action o ∷ []) memory kept
 part_stopped x m n f number (AsksMap q) block memory kept =
@@ -282,7 +279,7 @@ part_stopped x m n f number (Names v name) block memory kept =
 pub part_failed : (r : Result (Option Reply) StoreFault) (m n : Map) (f : Option Files)
     (number : ℕ) (k : Kind) (block : Option ScanBlock) → IsErrAnd r (λ x. x ≡ store_fault.Memory) →
     ((s : State) → StandsFor m s → IsSome (map_reply s k) × StandsFor n s)
-    → HasEffect (KindEffect number k) (kind_work k) m f n f block r
+    → HasEffect (KindEffect number k) (kind_work k) None m f n f block r
 part_failed (Ok a) m n f number k block memory kept = absurd memory
 part_failed (Err x) m n f number k block memory kept =
     part_stopped x m n f number k block memory kept
@@ -318,7 +315,7 @@ stands_still m n a done s at = let took = done s at in
 pub head_opened : (m n : Map) (f : Option Files) (number : ℕ) (head : ScanHead)
     (block : Option ScanBlock) (a : Option Reply) → block ≡ Some (Scanning (begun number head))
     → HasPart (Opens head) m n a
-    → HasEffect (KindEffect number (Opens head)) None m f n f block (Ok a)
+    → HasEffect (KindEffect number (Opens head)) None None m f n f block (Ok a)
 head_opened m n f number head block a is done = λ files s finds at. (
   (done s at.stands).0,
   is,
@@ -337,10 +334,11 @@ verb_taken (Err x) m l n f g verb name kept used = λ files s finds at.
 pub verb_used : (r : Result (Option Reply) StoreFault) (m l n : Map) (f g : Option Files)
     (number : ℕ) (verb : FileVerb) (name : List ℕ) (block : Option ScanBlock) (a : Option Reply)
     → block ≡ None → HasPart (Names verb name) m l a → HasUsed verb name l f n g r
-    → HasEffect (KindEffect number (Names verb name)) (Some (verb_work verb name)) m f n g block r
+    → HasEffect (KindEffect number (Names verb name)) (Some (verb_work verb name)) None m f n g
+    block r
 verb_used r m l n f g number verb name block a closed done used =
     subst (λ x. HasEffect (λ files s. effect_of_kind files s (Names verb name))
-    (Some (verb_work verb name)) m f n g x r) (sym closed)
+    (Some (verb_work verb name)) None m f n g x r) (sym closed)
     (verb_taken r m l n f g verb name (stands_still m l a done) used)
 
 -- a map that had its part stands for some history, as before
@@ -358,11 +356,11 @@ used_as r m n f g verb read name is used =
 -- the effect of a command outside a block is that of what does it
 pub effect_by_kind : (r : Result (Option Reply) StoreFault) (m n : Map) (f g : Option Files)
     (number : ℕ) (line : Line) (c : Command) (k : Kind) (block : Option ScanBlock) → k ≡ kind_of c →
-    HasEffect (KindEffect number k) (kind_work k) m f n g block r →
+    HasEffect (KindEffect number k) (kind_work k) None m f n g block r →
     HasEffect (λ files s. effect_opened files s (Ok c) (opened number line (Ok c)))
-    (asked_of (Ok c)) m f n g block r
+    (asked_of (Ok c)) None m f n g block r
 effect_by_kind r m n f g number line c k block is took =
-    subst (λ x. HasEffect (KindEffect number x) (kind_work x) m f n g block r) is took
+    subst (λ x. HasEffect (KindEffect number x) (kind_work x) None m f n g block r) is took
 
 -- a command that names a file asks the store once at most
 pub asked_once : (same : Type 0) (old new : ℕ) (c : Command) (verb : FileVerb) (name : List ℕ)
@@ -397,48 +395,22 @@ fault_taken m f number line refusal (Some block) new a is told =
 pub effect_as_read : (r : Result (Option Reply) StoreFault) (m n : Map) (f g : Option Files)
     (number : ℕ)
     (line : Line) (c read : Result Command Refusal) (old new : Option ScanBlock) → c ≡ read →
-    HasEffect (λ files s. effect files s number line read old) (asked_of read) m f n g new r
-    → HasEffect (λ files s. effect files s number line c old) (asked_of c) m f n g new r
+    HasEffect (λ files s. effect files s number line read old) (asked_of read) old m f n g new r
+    → HasEffect (λ files s. effect files s number line c old) (asked_of c) old m f n g new r
 effect_as_read r m n f g number line c read old new is took =
-    subst (λ x. HasEffect (λ files s. effect files s number line x old) (asked_of x) m f n g new r)
-    (sym is) took
+    subst (λ x. HasEffect (λ files s. effect files s number line x old) (asked_of x) old m f n g
+    new r) (sym is) took
 
--- a line that failed, and whose fault was passed on
-pub failed_passed_on : {A : Type 0} (r : Result A StoreFault) (a : Option Reply)
-    (e : Option Files → State → Effect) (w : Option FileWork) (x : StoreFault) (m n : Map)
-    (f g : Option Files) (block : Option ScanBlock) → IsErrAnd r (λ y. y ≡ x) →
-    HasEffect e w m f n g block (Err x) → HasEffect e w m f n g block (with_reply r a)
-failed_passed_on (Ok y) a e w x m n f g block same took = absurd same
-failed_passed_on (Err y) a e w x m n f g block same took =
-    subst (λ z. HasEffect e w m f n g block (Err z)) (sym same) took
-
--- the command of a line that was read, or why there is none
-pub command_read : (inside asked : Bool) (number : ℕ) (line : Line) (text : List ℕ) (c : Command)
-    → asked ≡ inside → line ≡ Text text → command_of asked text ≡ Ok c
-    → command_on inside number line ≡ Ok c
-command_read inside asked number line text c same is read = ap (command_on inside number) is
-    ∙ ap (λ b. numbered number (command_of b text)) (sym same) ∙ ap (numbered number) read
-
-pub command_misspelt : (inside asked : Bool) (number : ℕ) (line : Line) (text : List ℕ) (s : Syntax)
-    → asked ≡ inside → line ≡ Text text → command_of asked text ≡ Err s
-    → command_on inside number line ≡ Err (refusal_of.Syntax number s.column)
-command_misspelt inside asked number line text s same is read = ap (command_on inside number) is
-    ∙ ap (λ b. numbered number (command_of b text)) (sym same) ∙ ap (numbered number) read
-
-pub command_long : (inside : Bool) (number : ℕ) (line : Line) → is_long line ≡ true
-    → command_on inside number line ≡ Err (refusal_of.LongLine number)
-command_long inside number (Text text) long = cc
-command_long inside number Long long = refl
-
--- the effect of a line where no block is inner
+-- the effect of a line where no block is open
 pub effect_before : (r : Result (Option Reply) StoreFault) (m n : Map) (f g : Option Files)
     (number : ℕ) (line : Line) (c : Result Command Refusal) (old opens new : Option ScanBlock)
     → is_some old ≡ false → opens ≡ opened number line c →
-    HasEffect (λ files s. effect_opened files s c opens) (asked_of c) m f n g new r
-    → HasEffect (λ files s. effect files s number line c old) (asked_of c) m f n g new r
+    HasEffect (λ files s. effect_opened files s c opens) (asked_of c) None m f n g new r
+    → HasEffect (λ files s. effect files s number line c old) (asked_of c) old m f n g new r
 effect_before r m n f g number line c (Some inner) opens new none is took = cc
 effect_before r m n f g number line c None opens new none is took =
-    subst (λ x. HasEffect (λ files s. effect_opened files s c x) (asked_of c) m f n g new r) is took
+    subst (λ x. HasEffect (λ files s. effect_opened files s c x) (asked_of c) None m f n g new r) is
+    took
 
 -- the command that was read is that of the next line
 pub same_command : (s : Session) (line : Line) (p : Progress) (c : Result Command Refusal)
@@ -470,7 +442,7 @@ pub record IsWorked (s : Session) (line : Line) (c : Result Command Refusal) (m 
   pub running : s.has_quit ≡ false
   pub read : c ≡ command_on (is_some s.block) (s.line_count + 1) line
   pub took : HasEffect (λ files q. effect files q (s.line_count + 1) line c s.block) (asked_of c)
-      m f n g block r
+      s.block m f n g block r
 
 -- the file that the line names is told, if it names one
 finds_line : (o : Setup) (s : Session) (line : Line) (p : Progress) (c : Result Command Refusal)
@@ -614,7 +586,9 @@ command_fails_line (Err x) fault o d e s line c block same works asks = λ first
     (e first).store.files y)
     (sym same) done.1) in
     record {
-      heard = subst (λ (y : Effect). IsHeard y) (same_effect o s line p c at.step w.read) done.0;
+      takes = subst (λ b. TakesMemory b (effect_of o p line)) at.step.block
+          (subst (λ (y : Effect). TakesMemory s.block y) (same_effect o s line p c at.step w.read)
+          done.0);
       beside = failed_beside o (e first) p line x (sym at.step.has_quit ∙ w.running) failed;
       asked = asked_line o (d first) (e first) s line p c w.running w.read (asks first) at;
     }
@@ -632,7 +606,7 @@ reply_fails_line (Ok x) o d e s line c block a memory works asks some = absurd m
 reply_fails_line (Err x) o d e s line c block a memory works asks some = λ first p known at.
     let w = works first in
     record {
-      heard = inl (subst (λ (r : Option Reply). IsSome r)
+      takes = inl (subst (λ (r : Option Reply). IsSome r)
           (told_line o (d first) (e first).map
           (e first).store.files s line p c block a w known at) some);
       beside = subst (λ y. StandsBeside o (e first) p line y) (sym memory)

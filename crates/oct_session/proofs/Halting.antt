@@ -25,11 +25,11 @@ use Rattle.oct_session.specs.Leaving.{Desk, HasAsked, IsLikeAfter, HasLeft, IsCu
 use Rattle.oct_session.specs.Leaving.{IsHaltedBetween, IsHaltedBy, IsHalted}
 use Rattle.oct_session.specs.Session.{Progress, effect_of, next_command, after_line, progress}
 use Rattle.oct_session.specs.Session.{ended, closed}
-use Rattle.oct_session.specs.ScanBlock.{end_reply}
+use Rattle.oct_session.specs.ScanBlock.{end_reply, GainsPoint}
 use Rattle.oct_session.specs.Setup.{Setup}
 use Rattle.oct_session.specs.Tally.{capped, counted as count_reply}
 use Rattle.oct_session.specs.declared.tally.Tally.{Tally}
-use Rattle.oct_session.specs.Standing.{IsHeard, StandsBeside, HasFailedAt, IsInStep}
+use Rattle.oct_session.specs.Standing.{TakesMemory, StandsBeside, HasFailedAt, IsInStep}
 use Rattle.oct_session.specs.Standing.{HasReached, IsShort, IsCutBy}
 use Rattle.oct_ending.specs.Stops.{stop_of_sink, stop_of_store, status_of}
 use Rattle.oct_session.proofs.Effects.{asked_most}
@@ -55,14 +55,15 @@ cut_part w v u s p q text k running at before is less written = record {
 -- nothing was written of it
 cut_untold : (w v : Option (List ℕ)) (s : Session) (p q : Progress) (text : List ℕ)
     → s.has_quit ≡ false → IsInStep s p → v ≡ appended w p.text →
-    q.text ≡ p.text ++ text → (0 < length text) ⊎ IsSome q.block → IsCutBetween p q w v
-cut_untold w v s p q text running at before is heard = record {
+    q.text ≡ p.text ++ text → (0 < length text) ⊎ GainsPoint p.block q.block
+    → IsCutBetween p q w v
+cut_untold w v s p q text running at before is takes = record {
   running = sym at.has_quit ∙ running;
   told = [];
   untold = text;
   reply = is;
   written = before ∙ ap (λ x. appended w x) (sym (append-nil p.text));
-  more = heard;
+  more = takes;
 }
 
 -- what is left where all was done
@@ -95,13 +96,15 @@ text_line : (o : Setup) (s : Session) (line : Line) (p : Progress) → s.has_qui
 text_line o s line p running at =
     ap (λ (x : Progress). x.text) (after_answered o p line (sym at.has_quit ∙ running))
 
--- a line that is heard has a text, or a block is open after it
-heard_line : (o : Setup) (p : Progress) (line : Line) → p.has_quit ≡ false
-    → IsHeard (effect_of o p line)
-    → (0 < length (text_of (effect_of o p line).reply)) ⊎ IsSome (after_line o p line).block
-heard_line o p line running (inl some) = inl (text_some (effect_of o p line).reply some)
-heard_line o p line running (inr some) =
-    inr (subst (λ (x : Progress). IsSome x.block) (sym (after_answered o p line running)) some)
+-- a line that takes memory has a text, or adds a point to the block that is open
+memory_taken : (o : Setup) (p : Progress) (line : Line) → p.has_quit ≡ false
+    → TakesMemory p.block (effect_of o p line)
+    → (0 < length (text_of (effect_of o p line).reply))
+    ⊎ GainsPoint p.block (after_line o p line).block
+memory_taken o p line running (inl some) = inl (text_some (effect_of o p line).reply some)
+memory_taken o p line running (inr gains) =
+    inr (subst (λ (x : Progress). GainsPoint p.block x.block) (sym (after_answered o p line running))
+    gains)
 
 -- a halt at a line of whose reply nothing was written
 pub halted_untold : {short : Type 0} (o : Setup) (w v : Option (List ℕ)) (d e : Desk) (s : Session)
@@ -114,7 +117,7 @@ halted_untold {short} o w v d e s line p fault running at stopped =
       cut = cut_untold w v s p (after_line o p line)
           (text_of (effect_of o p line).reply) running at.between.step at.written
           (text_line o s line p running at.between.step)
-          (heard_line o p line (sym at.between.step.has_quit ∙ running) stopped.heard);
+          (memory_taken o p line (sym at.between.step.has_quit ∙ running) stopped.takes);
       has_left = left_beside short o e p line fault stopped.beside;
       asked = stopped.asked;
     }

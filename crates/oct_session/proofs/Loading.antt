@@ -212,7 +212,7 @@ pub load_failed : (w : Option FileWork) (reply : Ground → Option Loaded → Op
     (actions : Ground → Option Loaded → History) → AnswersAll reply
     → (r : Result (Option Reply) StoreFault) (m : Map) (f g : Option Files) (name : List ℕ)
     → Names w name → changed_by w ≡ None → IsErr r → g ≡ f →
-    HasEffect (λ files s. loading_effect reply actions name files s) w m f m g None r
+    HasEffect (λ files s. loading_effect reply actions name files s) w None m f m g None r
 load_failed w reply actions some (Ok x) m f g name named none err same = cc
 load_failed w reply actions some (Err x) m f g name named none err same = λ files s finds at. (
   inl (finds_some reply some s.base files name (finds_named w name files named finds)),
@@ -227,7 +227,7 @@ pub load_unfinished : (w : Option FileWork) (reply : Ground → Option Loaded �
     (found : Loaded) → Names w name →
     IsErrAnd r (λ x. x ≡ store_fault.Memory) → g ≡ f →
     ((s : State) → StandsFor m s → IsSome (reply s.base (Some found)) × StandsFor n s)
-    → HasEffect (λ files s. loading_effect reply actions name files s) w m f n g None r
+    → HasEffect (λ files s. loading_effect reply actions name files s) w None m f n g None r
 load_unfinished w reply actions some (Ok x) m n f g name found named memory same kept =
     absurd memory
 load_unfinished w reply actions some (Err x) m n f g name found named memory same kept =
@@ -287,7 +287,7 @@ pub save_failed : {A : Type 0} (w : Option FileWork) (r : Result (Option Reply) 
     → Names w name → changed_by w ≡ Some name → key ≡ name → IsErrAnd r (λ x. x ≡ fault)
     → KeepsOthers f g key → (◌≡◌ {A = Result A StoreFault} (Err fault) (Err store_fault.Memory)
     → g ≡ f) →
-    HasEffect (λ files s. saving_effect file name s) w m f m g None r
+    HasEffect (λ files s. saving_effect file name s) w None m f m g None r
 save_failed w (Ok x) fault m f g key name file named saves spelt is others same = absurd is
 save_failed w (Err x) fault m f g key name file named saves spelt is others same =
     λ files s finds at. (
@@ -301,7 +301,7 @@ save_failed w (Err x) fault m f g key name file named saves spelt is others same
 pub save_unwritten : (w : Option FileWork) (r : Result (Option Reply) StoreFault) (m : Map)
     (f : Option Files) (name : List ℕ) (file : State → List ℕ)
     → IsErrAnd r (λ x. x ≡ store_fault.Memory) →
-    HasEffect (λ files s. saving_effect file name s) w m f m f None r
+    HasEffect (λ files s. saving_effect file name s) w None m f m f None r
 save_unwritten w (Ok x) m f name file memory = absurd memory
 save_unwritten w (Err x) m f name file memory = λ files s finds at. (
   inl refl,

@@ -14,6 +14,7 @@ use Rattle.oct_ending.specs.Counts.{IsAsked}
 use Rattle.oct_ending.specs.Shelf.{Shelf}
 use Rattle.oct_io.specs.Taken.{HasTaken}
 use Rattle.oct_session.specs.History.{History, State, state_after}
+use Rattle.oct_session.specs.ScanBlock.{GainsPoint}
 use Rattle.oct_session.specs.Session.{Progress, next_command, after_line, progress}
 use Rattle.oct_session.specs.Session.{closed, is_too_long, lines_of, last_progress, session}
 use Rattle.oct_session.specs.Ending.{MayEnd}
@@ -89,15 +90,15 @@ HasLeft o saved p q told d short StoreFault =
     (told ≡ []) × (p.asks < q.asks) × IsTornAfter o saved p d
 HasLeft o saved p q told d short _ = ⊥
 
--- What was to be written on the way from one state to the next was not written whole, unless the
--- way ends inside a block, whose lines have no reply.
+-- what was to be written on the way from one state to the next was not written whole, unless the
+-- way adds a point to a block, whose lines have no reply
 pub record IsCutBetween (p q : Progress) (old new : Option (List ℕ)) : Type 0 where
   pub running : p.has_quit ≡ false
   pub told : List ℕ
   pub untold : List ℕ
   pub reply : q.text ≡ p.text ++ (told ++ untold)
   pub written : new ≡ appended old (p.text ++ told)
-  pub more : (0 < length untold) ⊎ IsSome q.block
+  pub more : (0 < length untold) ⊎ GainsPoint p.block q.block
 
 -- the session was halted on its way from one state to the next, by a line that may save a file: map
 -- and files are those of one of the two, and the store was asked once at most for each line that

@@ -1,5 +1,5 @@
 -- The block of a scan: its head, the lines inside it, and its one reply.
-use Rattle.std.specs.Prelude.{ℕ, pos, [], ◌∷◌, ◌++◌, length, nat_le, if◌then◌else◌, Bool, true}
+use Rattle.std.specs.Prelude.{◌≡◌, ℕ, pos, [], ◌∷◌, ◌++◌, length, nat_le, if◌then◌else◌, Bool, true}
 use Rattle.std.specs.Prelude.{false, ◌&&◌, Option, Some, None, Result, Ok, Err}
 use Rattle.std.specs.Ordering.{int_eq}
 use Rattle.oct_map.specs.Answers.{scan_answer}
@@ -43,13 +43,24 @@ abbrev pub opened : ℕ → Line → Result Command Refusal → Option ScanBlock
 opened number line (Ok command) = kind_opened number (kind_of command)
 opened number line (Err refusal) = if opens_block line then Some (Spoilt refusal) else None
 
+-- the scan with one point more
+abbrev pub extended : Point → ScanSoFar → ScanSoFar
+extended p scan = record { line = scan.line; head = scan.head; points = scan.points ++ p ∷ [] }
+
 -- the block with one point more, which is on the line of this number; a scan has at most 1,000,000
 -- points
 abbrev pub with_point : ℕ → Point → ScanSoFar → ScanBlock
 with_point number p scan =
     if nat_le 1000000 (length scan.points)
     then Spoilt (refusal.TooManyPoints number)
-    else Scanning (record { line = scan.line; head = scan.head; points = scan.points ++ p ∷ [] })
+    else Scanning (extended p scan)
+
+-- the scan of the block that was open has one point more
+pub record GainsPoint (old new : Option ScanBlock) : Type 0 where
+  pub scan : ScanSoFar
+  pub point : Point
+  pub before : old ≡ Some (Scanning scan)
+  pub after : new ≡ Some (Scanning (extended point scan))
 
 -- the block with what this does, unless it closes the block: a point is added to it, and nothing
 -- else has a part in it

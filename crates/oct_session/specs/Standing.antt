@@ -38,7 +38,7 @@ use Rattle.oct_script.specs.declared.verbs.FileVerb.{FileVerb}
 use Rattle.oct_session.specs.Kinds.{Names}
 use Rattle.oct_session.specs.declared.kinds.Order.{Order}
 use Rattle.oct_session.specs.declared.kinds.Question.{Question}
-use Rattle.oct_session.specs.ScanBlock.{block_reply, block_action}
+use Rattle.oct_session.specs.ScanBlock.{block_reply, block_action, GainsPoint}
 use Rattle.oct_session.specs.Setup.{Setup}
 use Rattle.oct_ending.specs.Stops.{status_of}
 use Rattle.oct_session.specs.declared.scan_block.ScanBlock.{ScanBlock}
@@ -112,19 +112,19 @@ abbrev pub HasScanned : {E : Type 0} → Map → Map → ScanBlock → Result (O
 HasScanned old new block result =
     HasDone (λ s. block_reply s block) (λ s. block_action block) old new result
 
--- a line has a reply, or a block is open after it
-abbrev pub IsHeard : Effect → Type 0
-IsHeard effect = IsSome effect.reply ⊎ IsSome effect.block
+-- a line takes memory, where this block was open before it: it has a reply, or adds a point
+abbrev pub TakesMemory : Option ScanBlock → Effect → Type 0
+TakesMemory before effect = IsSome effect.reply ⊎ GainsPoint before effect.block
 
--- a line inside a block had its effect on a map that stood for some state, or memory ran out, for a
--- line that is heard, and nothing was done
-abbrev pub HasWorked : {E : Type 0} → (State → Effect) → Map → Map → Option ScanBlock
+-- a line inside this block had its effect on a map that stood for some state, or memory ran out,
+-- for a line that takes some, and nothing was done
+abbrev pub HasWorked : {E : Type 0} → (State → Effect) → ScanBlock → Map → Map → Option ScanBlock
     → Result (Option Reply) E → Type 0
-HasWorked effect old new block (Ok answer) = (s : State) → StandsFor old s
+HasWorked effect before old new block (Ok answer) = (s : State) → StandsFor old s
     → (answer ≡ (effect s).reply) × (block ≡ (effect s).block)
     × StandsFor new (after_all s (effect s).added)
-HasWorked effect old new block (Err fault) =
-    (s : State) → StandsFor old s → IsHeard (effect s) × StandsFor new s
+HasWorked effect before old new block (Err fault) =
+    (s : State) → StandsFor old s → TakesMemory (Some before) (effect s) × StandsFor new s
 
 -- a line names no file, or the files are told
 abbrev pub FindsTold : Option (List ℕ) → Option Files → Type 0
@@ -147,21 +147,22 @@ HasFailed asked files s map told store_fault.Failed =
     IsSome (named_in asked) × IsTorn (changed_by asked) files s map told
 HasFailed asked files s map told store_fault.Memory = IsLike files s map told
 
--- a line had its effect, or it failed, and is heard
-abbrev pub HasEffect : (Option Files → State → Effect) → Option FileWork → Map → Option Files → Map
-    → Option Files → Option ScanBlock → Result (Option Reply) StoreFault → Type 0
-HasEffect effect asked old told new untold block (Ok answer) =
+-- a line had its effect where this block was open before it, or it failed, and takes memory
+abbrev pub HasEffect : (Option Files → State → Effect) → Option FileWork → Option ScanBlock → Map
+    → Option Files → Map → Option Files → Option ScanBlock → Result (Option Reply) StoreFault
+    → Type 0
+HasEffect effect asked before old told new untold block (Ok answer) =
     TakesEffect effect asked old told new untold block answer
-HasEffect effect asked old told new untold block (Err fault) =
+HasEffect effect asked before old told new untold block (Err fault) =
     (files : Option Files) (s : State) → FindsTold (named_in asked) files → IsLike files s old told
-    → IsHeard (effect files s) × HasFailed asked files s new untold fault
+    → TakesMemory before (effect files s) × HasFailed asked files s new untold fault
 
 -- what a verb does with the file of this name had its effect, or it failed
 abbrev pub HasUsed : FileVerb → List ℕ → Map → Option Files → Map → Option Files
     → Result (Option Reply) StoreFault → Type 0
 HasUsed verb name old told new untold result =
-    HasEffect (λ files s. effect_of_kind files s (Names verb name)) (Some (verb_work verb name)) old
-    told new untold None result
+    HasEffect (λ files s. effect_of_kind files s (Names verb name)) (Some (verb_work verb name))
+    None old told new untold None result
 
 -- the next line failed, or all of it was done and memory ran out for its reply
 abbrev pub StandsBeside : Setup → Desk → Progress → Line → StoreFault → Type 0
@@ -170,11 +171,11 @@ StandsBeside o d p line store_fault.Failed = (p.asks < (after_line o p line).ask
 StandsBeside o d p line store_fault.Memory =
     IsLikeAfter o (after_line o p line) d ⊎ IsLikeAfter o p d
 
--- the same, of a line that is heard; the store was asked once at most for each line that named a
--- file
+-- the same, of a line that takes memory; the store was asked once at most for each line that named
+-- a file
 pub record HasFailedAt (o : Setup) (d : Desk) (p : Progress) (line : Line) (fault : StoreFault)
     : Type 0 where
-  pub heard : IsHeard (effect_of o p line)
+  pub takes : TakesMemory p.block (effect_of o p line)
   pub beside : StandsBeside o d p line fault
   pub asked : HasAsked d (after_line o p line).asks
 

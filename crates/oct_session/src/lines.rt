@@ -67,8 +67,10 @@ pub struct Parsed {
 }
 
 impl Parsed {
-    /// The place before any line was read.
-    pub fn new() -> Self {
+    /// That of a blank line, before any line was read.
+    pub fn new() -> Self
+        ensures { command_in result ≡ Ok Command.Blank }
+    {
         Parsed {
             command: Command::Blank,
             refusal: None,
@@ -122,7 +124,7 @@ fn outside<F: Store>(
     requires closed { block.old ≡ None }
     ensures effect { (line : Line) → HasEffect
         (λ files s. effect_opened files s (Ok command.now) (opened number line (Ok command.now)))
-        (asked_of (Ok command.now)) map.old (F.files store.old) map.new (F.files store.new)
+        (asked_of (Ok command.now)) None map.old (F.files store.old) map.new (F.files store.new)
         block.new (with_reply result reply.new) }
     ensures stands { KeepsStanding map.old map.new }
     ensures asked { IsAsked (store.new ≡ store.old) (F.calls store.old) (F.calls store.new)
@@ -150,8 +152,8 @@ fn inside(
 ) -> Result<(), Memory>
     requires { IsSmallCommand command.now }
     ensures { (first : ScanBlock) → block.old ≡ Some first
-        → HasWorked (λ s. effect_inside s number (Ok command.now) first) map.old map.new block.new
-        (with_reply result reply.new) }
+        → HasWorked (λ s. effect_inside s number (Ok command.now) first) first map.old map.new
+        block.new (with_reply result reply.new) }
 {
     let Some(standing) = block.take() else {
         return Ok(());
@@ -177,8 +179,8 @@ fn take_command<F: Store>(
     requires { IsSmallCommand command.now }
     ensures effect { (line : Line) → HasEffect
         (λ files s. effect files s number line (Ok command.now) block.old)
-        (asked_of (Ok command.now)) map.old (F.files store.old) map.new (F.files store.new)
-        block.new (with_reply result reply.new) }
+        (asked_of (Ok command.now)) block.old map.old (F.files store.old) map.new
+        (F.files store.new) block.new (with_reply result reply.new) }
     ensures stands { KeepsStanding map.old map.new }
     ensures asked { IsAsked (store.new ≡ store.old) (F.calls store.old) (F.calls store.new)
         (asks_for (file_named (Ok command.now))) }
@@ -225,8 +227,8 @@ pub fn take_line<F: Store>(
     requires { IsSmallLine parsed.now }
     ensures effect { HasEffect
         (λ files s. effect files s number line.now (command_in parsed.now) block.old)
-        (asked_of (command_in parsed.now)) map.old (F.files store.old) map.new (F.files store.new)
-        block.new (with_reply result reply.new) }
+        (asked_of (command_in parsed.now)) block.old map.old (F.files store.old) map.new
+        (F.files store.new) block.new (with_reply result reply.new) }
     ensures stands { KeepsStanding map.old map.new }
     ensures asked { IsAsked (store.new ≡ store.old) (F.calls store.old) (F.calls store.new)
         (asks_for (file_named (command_in parsed.now))) }

@@ -1,11 +1,12 @@
 //! The block of a scan that is being read.
-ghost use Rattle.std.specs.Prelude.{◌≡◌, ℕ, option_map, All, IfOk, IfSome, Some, Ok, Err, is_err};
-ghost use Rattle.std.specs.Prelude.{pos, ◌≤ℤ◌, ◌<ℤ◌, ◌^◌};
+ghost use Rattle.std.specs.Prelude.{◌≡◌, ℕ, option_map, All, IfOk, OnErr, IfSome, Some, Ok, Err};
+ghost use Rattle.std.specs.Prelude.{is_err, pos, ◌≤ℤ◌, ◌<ℤ◌, ◌^◌};
 ghost use Rattle.oct_pose.specs.Reach.{IsInReach};
 ghost use Rattle.oct_scan.specs.Beam.{IsTrust, sighting_of};
 ghost use Rattle.oct_script.specs.Commands.{IsOwnOdds, IsRange, IsSmallCommand};
 ghost use Rattle.oct_session.specs.ScanSoFar.{begun, sighting_so_far, trust_of};
 ghost use Rattle.oct_session.specs.ScanBlock.{opens_block, with_point, with_line, spoilt_by};
+ghost use Rattle.oct_session.specs.ScanBlock.{extended, GainsPoint};
 ghost use Rattle.oct_session.specs.ScanBlock.{is_zero, end_refusal};
 ghost use Rattle.oct_session.specs.Kinds.{IsSmallHead};
 
@@ -91,7 +92,9 @@ impl PendingScan {
     /// The block with one point more, which is on the line of this number.
     fn with_point(mut self, number: u64, p: Point) -> Result<ScanBlock, Memory>
         requires { IsInReach p }
-        ensures { IfOk result (λ block. block ≡ with_point number p self) }
+        ensures exact { IfOk result (λ block. block ≡ with_point number p self) }
+        ensures memory { OnErr result
+            (with_point number p self ≡ ScanBlock.Scanning (extended p self)) }
     {
         if self.points.as_slice().len() >= MOST_POINTS {
             return Ok(ScanBlock::Spoilt(Refusal::TooManyPoints { line: number }));
@@ -103,8 +106,10 @@ impl PendingScan {
     /// The block with one command more, which is on the line of this number.
     fn with_command(self, number: u64, command: &Command) -> Result<ScanBlock, Memory>
         requires { IsSmallCommand command.now }
-        ensures { IfOk result
+        ensures exact { IfOk result
             (λ block. block ≡ with_line number (Ok command.now) (ScanBlock.Scanning self)) }
+        ensures memory { OnErr result (GainsPoint (Some (ScanBlock.Scanning self))
+            (Some (with_line number (Ok command.now) (ScanBlock.Scanning self)))) }
     {
         match kind_of(command) {
             Kind::Adds(p) => self.with_point(number, p),
@@ -136,9 +141,12 @@ impl PendingScan {
 
 impl ScanBlock {
     /// The block with one command more, which is on the line of this number and doesn't close it.
+    /// Memory is taken for a point alone.
     pub fn with_command(self, number: u64, command: &Command) -> Result<ScanBlock, Memory>
         requires { IsSmallCommand command.now }
-        ensures { IfOk result (λ block. block ≡ with_line number (Ok command.now) self) }
+        ensures exact { IfOk result (λ block. block ≡ with_line number (Ok command.now) self) }
+        ensures memory { OnErr result
+            (GainsPoint (Some self) (Some (with_line number (Ok command.now) self))) }
     {
         match self {
             ScanBlock::Spoilt(first) => Ok(ScanBlock::Spoilt(first)),
