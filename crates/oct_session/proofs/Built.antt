@@ -9,7 +9,7 @@ use Rattle.oct_io.specs.Told.{appended, Rose}
 use Rattle.oct_io.proofs.Appending.{appended_nil}
 use Rattle.oct_session.specs.Building as built
 use Rattle.oct_session.specs.Building.{last_state, text_built, build, has_ended, EndsWriting}
-use Rattle.oct_session.specs.Building.{HasBuiltAs}
+use Rattle.oct_session.specs.Building.{HasBuiltAs, RunsOut}
 use Rattle.oct_session.specs.Ending as script
 use Rattle.oct_ending.specs.Answer.{IsAnswered, answer_of}
 use Rattle.oct_session.specs.Ending.{IsReadToEnd}
@@ -73,16 +73,24 @@ has_done o files bytes left d status.WriteFault over ends leaves = cc
 has_done o files bytes left d status.Memory over ends leaves = cc
 has_done o files bytes left d status.StoreFault over ends leaves = cc
 
+-- how a build ended, what it left, and that both are of one moment where memory ran out
+abbrev HasStopped : Setup → Option Files → List ℕ → Option (List ℕ) → Option (List ℕ)
+    → Option (List ℕ) → Desk → Status → Type 0
+HasStopped o files bytes left v u d result =
+    built.MayEnd o files bytes left v u result × built.Leaves o files bytes left d result
+    × (result ≡ status.Memory → RunsOut o files bytes left v u d)
+
 -- a build that has written its file, or a part of it
 build_ends : (o : Setup) (files : Option Files) (bytes : List ℕ) (left v u : Option (List ℕ))
     (d : Desk) (ended result : Status) (text : List ℕ) → has_ended ended ≡ true
     → HasDone o files bytes left d ended → text ≡ (build o files bytes).text →
-    EndsWriting text v u ended result
-    → built.MayEnd o files bytes left v u result × built.Leaves o files bytes left d result
+    EndsWriting text v u ended result → HasStopped o files bytes left v u d result
 build_ends o files bytes left v u d ended status.WriteFault text over done is writes =
-    (record { begun = subst (IsCutOff v u) is writes; end = done.end }, done.like)
+    (record { begun = subst (IsCutOff v u) is writes; end = done.end }, done.like, λ memory. cc)
 build_ends o files bytes left v u d ended status.Memory text over done is writes =
-    (inr (record { begun = subst (IsCutOff v u) is writes; end = done.end }), inr done.like)
+    let cut : built.IsCutFile o files bytes left v u =
+    record { begun = subst (IsCutOff v u) is writes; end = done.end } in
+    (inr cut, inr done.like, λ memory. inr (cut, done.like))
 build_ends o files bytes left v u d ended status.Done text over done is writes = (
   (
     record {
@@ -93,6 +101,7 @@ build_ends o files bytes left v u d ended status.Done text over done is writes =
     done.end,
   ),
   done.like,
+  λ memory. cc,
 )
 build_ends o files bytes left v u d ended status.Refused text over done is writes = (
   (
@@ -104,6 +113,7 @@ build_ends o files bytes left v u d ended status.Refused text over done is write
     done.end,
   ),
   done.like,
+  λ memory. cc,
 )
 build_ends o files bytes left v u d ended status.Usage text over done is writes =
     let wrong : has_ended status.Usage ≡ true = ap has_ended writes.0 ∙ over in cc
@@ -146,11 +156,12 @@ whole_ended status.StoreFault over = cc
 built_as : (o : Setup) (files : Option Files) (bytes : List ℕ) (left v u : Option (List ℕ))
     (d : Desk) (ended result : Status) → (IsWhole result → IsWhole ended)
     → lent.HasEndedAs o files bytes left None None d (Rose 0 0) ended
-    → built.MayEnd o files bytes left v u result × built.Leaves o files bytes left d result
+    → HasStopped o files bytes left v u d result
     → HasBuiltAs o files bytes left v u d result
-built_as o files bytes left v u d ended result whole at both = record {
-  answer = both.0;
-  leaves = both.1;
+built_as o files bytes left v u d ended result whole at ends = record {
+  answer = ends.0;
+  leaves = ends.1;
+  ran_out = ends.2;
   asked = at.asked;
   files_told = λ all. at.files_told (whole all) ∙ sym (files_of_build o files bytes);
 }
@@ -229,7 +240,7 @@ stopped_ends : (o : Setup) (files : Option Files) (bytes : List ℕ) (left v u :
     → u ≡ v →
     script.MayEnd o files bytes left None None ended
     → lent.Leaves o files bytes left None None d (Rose 0 0) ended
-    → built.MayEnd o files bytes left v u ended × built.Leaves o files bytes left d ended
+    → HasStopped o files bytes left v u d ended
 stopped_ends o files bytes left v u d status.Done going calm unwritten ends leaves = cc
 stopped_ends o files bytes left v u d status.Refused going calm unwritten ends leaves = cc
 stopped_ends o files bytes left v u d status.Usage going calm unwritten ends leaves = absurd ends
@@ -240,19 +251,22 @@ stopped_ends o files bytes left v u d status.TooLong going calm unwritten ends l
     record { unwritten = unwritten; stopped = ends },
   ),
   leaves,
+  λ memory. cc,
 )
 stopped_ends o files bytes left v u d status.ReadFault going calm unwritten ends leaves =
-    (record { unwritten = unwritten; stopped = ends }, leaves)
+    (record { unwritten = unwritten; stopped = ends }, leaves, λ memory. cc)
 stopped_ends o files bytes left v u d status.WriteFault going calm unwritten ends leaves =
     absurd (calm refl)
-stopped_ends o files bytes left v u d status.Memory going calm unwritten ends leaves = (
-  inl (record { unwritten = unwritten; stopped = ends }),
-  inl (calm_halted o files bytes d status.Memory
-      (λ saved p q told. calm_memory o saved p q told d) leaves),
-)
+stopped_ends o files bytes left v u d status.Memory going calm unwritten ends leaves =
+    let stopped : built.IsStopped o files bytes left v u status.Memory =
+    record { unwritten = unwritten; stopped = ends } in
+    let left_halted = calm_halted o files bytes d status.Memory
+    (λ saved p q told. calm_memory o saved p q told d) leaves in
+    (inl stopped, inl left_halted, λ memory. inl (stopped, left_halted))
 stopped_ends o files bytes left v u d status.StoreFault going calm unwritten ends leaves = (
   record { unwritten = unwritten; stopped = ends },
   calm_halted o files bytes d status.StoreFault (λ saved p q told left. left) leaves,
+  λ memory. cc,
 )
 
 -- a build whose script hasn't ended

@@ -86,6 +86,15 @@ Leaves o files bytes left d Memory = lent.Leaves o files bytes left None None d 
     ⊎ IsLikeAfter o (last_progress o files bytes) d
 Leaves o files bytes left d status = lent.Leaves o files bytes left None None d ⊥ status
 
+-- where memory runs out, either the script hasn't ended, and the map is as where it was stopped, or
+-- all of it was done, and its file is cut off
+abbrev pub RunsOut : Setup → Option Files → List ℕ → Option (List ℕ) → Option (List ℕ)
+    → Option (List ℕ) → Desk → Type 0
+RunsOut o files bytes left old new d =
+    (IsStopped o files bytes left old new Memory
+    × lent.Leaves o files bytes left None None d ⊥ Memory)
+    ⊎ (IsCutFile o files bytes left old new × IsLikeAfter o (last_progress o files bytes) d)
+
 -- how a build over these bytes and files may end, with this status: what is left of the input and
 -- what was written, what map and files then are, that the store was asked once at most for each
 -- line that names a file, and, where the whole answer was given, that the files are those of it
@@ -93,6 +102,7 @@ pub record HasBuiltAs (o : Setup) (files : Option Files) (bytes : List ℕ)
     (left old new : Option (List ℕ)) (d : Desk) (status : Status) : Type 0 where
   pub answer : MayEnd o files bytes left old new status
   pub leaves : Leaves o files bytes left d status
+  pub ran_out : status ≡ Memory → RunsOut o files bytes left old new d
   pub asked : HasAsked d (last_progress o files bytes).asks
   pub files_told : IsWhole status → d.store.files ≡ (build o files bytes).files
 
