@@ -31,7 +31,7 @@ use Rattle.oct_values.specs.Classes.{Classes}
 use Rattle.oct_values.specs.Depths.{depth_value}
 use Rattle.oct_values.proofs.Largest.{answer_exactly}
 use Rattle.oct_session.specs.Commands.{get_reply, cast_reply, changes_reply, value_reply}
-use Rattle.oct_session.specs.History.{History, State, Action, Tracked, after, after_all, marked_by}
+use Rattle.oct_session.specs.History.{History, State, Action, Tracked, after, after_all, transition}
 use Rattle.oct_session.specs.History.{state_after}
 use Rattle.oct_session.specs.Session.{Progress, Effect, effect_of, progress}
 use Rattle.oct_session.specs.Setup.{Setup}
@@ -131,7 +131,7 @@ casts_first o set files bytes before line from to ignore is first last =
 
 -- an action leaves the mark as it was
 abbrev KeepsMark : Action → Type 0
-KeepsMark a = (now : Classes) (mark : Option Classes) → marked_by now mark a ≡ mark
+KeepsMark a = (now : Classes) (mark : Option Classes) → (transition a).marked now mark ≡ mark
 
 mark_kept : (s : State) (h : History) → All KeepsMark h → (after_all s h).marked ≡ s.marked
 mark_kept s [] keep = refl

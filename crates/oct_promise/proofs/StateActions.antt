@@ -16,7 +16,7 @@ use Rattle.oct_snap.specs.Reading.{Snapshot}
 use Rattle.oct_snap.specs.Reading as snapshot
 use Rattle.oct_values.specs.Events.{after_event}
 use Rattle.oct_promise.specs.States.{IsMapBox, IsState}
-use Rattle.oct_session.specs.History.{State, Action, Restored, base_by, command_event, value_event}
+use Rattle.oct_session.specs.History.{State, Action, Restored, value_event, transition}
 use Rattle.oct_session.specs.History.{after, start_state}
 use Rattle.oct_session.specs.Setup.{Setup}
 
@@ -98,41 +98,44 @@ pub start_is : (o : Setup) → IsSound o.odds → IsState (start_state o)
 start_is o sound = record { odds = sound; update_box = tt; values = λ k low. tt }
 
 -- after an action that leaves log-odds and box
-same_ground : (s : State) (a : Action) → (base_by s.base a).odds ≡ s.base.odds
-    → (base_by s.base a).update_box ≡ s.base.update_box → IsState s → IsState (after s a)
+same_ground : (s : State) (a : Action) → ((transition a).base s.base).odds ≡ s.base.odds
+    → ((transition a).base s.base).update_box ≡ s.base.update_box → IsState s → IsState (after s a)
 same_ground s a odds box is =
-    let sound : IsSound (base_by s.base a).odds = subst IsSound (sym odds) is.odds in
+    let sound : IsSound ((transition a).base s.base).odds = subst IsSound (sym odds) is.odds in
     record {
       odds = sound;
       update_box = subst (λ (w : Option Window). IfSome w IsMapBox) (sym box) is.update_box;
-      values = λ k low. event_within (base_by s.base a).odds sound (command_event s.base a k)
-          (s.values k) (subst (λ (o : Odds). IsWithin o (s.values k)) (sym odds) (is.values k low));
+      values = λ k low. event_within ((transition a).base s.base).odds sound
+          ((transition a).events s.base k) (s.values k)
+          (subst (λ (o : Odds). IsWithin o (s.values k)) (sym odds) (is.values k low));
     }
 
 -- after an action that sets at most the box, to one of the map
 pub limited_is : (s : State) (a : Action) (w : Option Window)
-    → base_by s.base a ≡ record s.base { update_box = w } → IfSome w IsMapBox → IsState s
+    → (transition a).base s.base ≡ record s.base { update_box = w } → IfSome w IsMapBox → IsState s
     → IsState (after s a)
 limited_is s a w base ok is =
-    let odds : (base_by s.base a).odds ≡ s.base.odds = ap (λ (g : Ground). g.odds) base in
-    let sound : IsSound (base_by s.base a).odds = subst IsSound (sym odds) is.odds in
+    let odds : ((transition a).base s.base).odds ≡ s.base.odds = ap (λ (g : Ground). g.odds) base in
+    let sound : IsSound ((transition a).base s.base).odds = subst IsSound (sym odds) is.odds in
     record {
       odds = sound;
       update_box = subst (λ (g : Ground). IfSome g.update_box IsMapBox) (sym base) ok;
-      values = λ k low. event_within (base_by s.base a).odds sound (command_event s.base a k)
-          (s.values k) (subst (λ (o : Odds). IsWithin o (s.values k)) (sym odds) (is.values k low));
+      values = λ k low. event_within ((transition a).base s.base).odds sound
+          ((transition a).events s.base k) (s.values k)
+          (subst (λ (o : Odds). IsWithin o (s.values k)) (sym odds) (is.values k low));
     }
 
 -- after the restore of a snapshot whose log-odds are sound, and whose box lies in the map
 pub restored_is : (s : State) (q : Snapshot) → IsSound q.head.odds
-    → IfSome (base_by s.base (Restored q)).update_box IsMapBox → IsState (after s (Restored q))
+    → IfSome ((transition (Restored q)).base s.base).update_box IsMapBox
+    → IsState (after s (Restored q))
 restored_is s q sound ok = record {
   odds = sound;
   update_box = ok;
   values = λ k low. restored_within q.head.odds sound (snapshot.values_of q k) (s.values k);
 }
 
-pub edited_is : (s : State) (a : Action) → (base_by s.base a) ≡ s.base → IsState s
+pub edited_is : (s : State) (a : Action) → ((transition a).base s.base) ≡ s.base → IsState s
     → IsState (after s a)
 edited_is s a same is = same_ground s a (ap (λ (g : Ground). g.odds) same)
     (ap (λ (g : Ground). g.update_box) same) is

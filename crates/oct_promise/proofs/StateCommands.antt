@@ -50,7 +50,7 @@ use Rattle.oct_session.specs.FileCommands.{load_reply, load_action, snapshot_rep
 use Rattle.oct_session.specs.FileCommands.{restore_reply, restore_action}
 use Rattle.oct_promise.specs.States.{IsMapBox, IsState, IsSetUp}
 use Rattle.oct_session.specs.History.{History, State, Scanned, Pruned, Replaced, Restored, Limited}
-use Rattle.oct_session.specs.History.{base_by, after, after_all, state_after}
+use Rattle.oct_session.specs.History.{after, after_all, state_after, transition}
 use Rattle.oct_session.specs.ScanBlock.{opened, with_line, is_end, block_reply, block_action}
 use Rattle.oct_session.specs.ScanSoFar.{sighting_so_far}
 use Rattle.oct_session.specs.Session.{Progress, Effect, effect, effect_of, effect_opened}
@@ -219,8 +219,8 @@ order_is s (order.Limit lo hi) is =
     limit_is_at s lo hi (key_at s.base.res lo) (key_at s.base.res hi) refl refl is
 order_is s other is =
     either_is s (order_reply s other) (order_action other ∷ []) is
-    (limited_is s (order_action other) (base_by s.base (order_action other)).update_box refl
-    (assumption is) is)
+    (limited_is s (order_action other)
+    ((transition (order_action other)).base s.base).update_box refl (assumption is) is)
 
 question_is : (s : State) (q : Question) → IsState s → IsState (after_all s (question_action q))
 question_is s question.Counts is = edited_is s Pruned refl is

@@ -24,7 +24,7 @@ use Rattle.oct_script.specs.declared.reply.Refusal.{Refusal}
 use Rattle.oct_script.specs.declared.reply.Reply.{Reply}
 use Rattle.oct_script.specs.declared.reply.Reply.TheVariants.{Casted, Changed}
 use Rattle.oct_session.specs.Commands.{value_reply}
-use Rattle.oct_session.specs.History.{History, State, Tracked, marked_by, state_after}
+use Rattle.oct_session.specs.History.{History, State, Tracked, state_after, transition}
 use Rattle.oct_session.specs.Session.{progress, next_command, lines_of, session}
 use Rattle.oct_session.specs.Setup.{Setup}
 use Rattle.oct_session.specs.declared.scan_block.ScanBlock.{ScanBlock}
@@ -92,7 +92,7 @@ module _ (o : Setup) (files : Option Files) where
   -- `changes` answers how classes differ from those behind the earlier lines, where a mark was set
   abbrev pub TellsChanges : List ℕ → List Line → List Line → Type 0
   TellsChanges bytes earlier before = (later : History)
-      → All (λ a. (now : Classes) (mark : Option Classes) → marked_by now mark a ≡ mark) later
+      → All (λ a. (c : Classes) (was : Option Classes) → (transition a).marked c was ≡ was) later
       → (progress o files before).history ≡ (progress o files earlier).history ++ Tracked ∷ later
       → ((changes : List Change)
       × AreChanges (classes_in (state_behind earlier)) (classes_in (state_behind before)) changes

@@ -166,8 +166,8 @@ text_ends (Err sink.Memory) whole refused text v u status is written cut =
     subst (IsCutOff v u) is cut
 
 -- three texts that are appended in turn, and one in three parts after them
-pub appended_in_turn : (z a b c d e k l m n o : List ℕ) (p : List ℕ) → z ≡ [] → a ≡ z ++ k → b ≡ a ++ l
-    → c ≡ b ++ m → d ≡ c ++ n ++ o → e ≡ d ++ p → e ≡ k ++ l ++ m ++ (n ++ o ++ p)
+pub appended_in_turn : (z a b c d e k l m n o : List ℕ) (p : List ℕ) → z ≡ [] → a ≡ z ++ k
+    → b ≡ a ++ l → c ≡ b ++ m → d ≡ c ++ n ++ o → e ≡ d ++ p → e ≡ k ++ l ++ m ++ (n ++ o ++ p)
 appended_in_turn z a b c d e k l m n o p ez ea eb ec ed ee =
     rw (ee, ed, ec, eb, ea, ez)
     (ap (λ t. t ++ p) (append_assoc (k ++ l ++ m) n o) ∙ append_assoc (k ++ l ++ m) (n ++ o) p)
@@ -181,7 +181,8 @@ pub summary_built : (scans : ℕ) (tally : Tally) (groups nodes bytes : ℕ) (z 
     → e ≡ summary scans tally groups nodes bytes
 unfolding summary
 summary_built scans tally groups nodes bytes z a b c d e ez ea eb ec ed ee =
-    appended_in_turn z a b c d e (line_of_two (codes "scans ") scans (codes " refused ") tally.refused)
+    appended_in_turn z a b c d e
+    (line_of_two (codes "scans ") scans (codes " refused ") tally.refused)
     (line_of_two (codes "hits ") tally.hits (codes " frees ") tally.frees)
     (line_of_two (codes "groups ") groups (codes " nodes ") nodes) (codes "bt ") (decimal bytes)
     (codes "\n") ez ea eb ec ed ee

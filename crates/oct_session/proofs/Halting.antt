@@ -103,8 +103,8 @@ memory_taken : (o : Setup) (p : Progress) (line : Line) → p.has_quit ≡ false
     ⊎ GainsPoint p.block (after_line o p line).block
 memory_taken o p line running (inl some) = inl (text_some (effect_of o p line).reply some)
 memory_taken o p line running (inr gains) =
-    inr (subst (λ (x : Progress). GainsPoint p.block x.block) (sym (after_answered o p line running))
-    gains)
+    inr (subst (λ (x : Progress). GainsPoint p.block x.block)
+    (sym (after_answered o p line running)) gains)
 
 -- a halt at a line of whose reply nothing was written
 pub halted_untold : {short : Type 0} (o : Setup) (w v : Option (List ℕ)) (d e : Desk) (s : Session)

@@ -35,10 +35,9 @@ use Rattle.oct_values.specs.Events.{Events, event_at, after_event, updated}
 use Rattle.oct_script.specs.declared.command.Edit.{Edit}
 use Rattle.oct_session.specs.History.{History, State, Action, Edited, Scanned, Refreshed, Pruned}
 use Rattle.oct_session.specs.History.{Cleared, Likened, Replaced, Restored, class_event}
-use Rattle.oct_session.specs.History.{value_event, edit_event, command_event, is_stale_by}
-use Rattle.oct_session.specs.History.{is_pruned_by, marked_by, after, after_all, start_state}
+use Rattle.oct_session.specs.History.{value_event, edit_event, transition}
+use Rattle.oct_session.specs.History.{after, after_all, start_state}
 use Rattle.oct_session.specs.History.{state_after, Boxed, Tracked, Untracked, Limited, Unlimited}
-use Rattle.oct_session.specs.History.{base_by}
 use Rattle.oct_values.specs.Classes.{classes_of}
 use Rattle.oct_session.specs.Leaving.{StandsFor}
 use Rattle.oct_session.specs.Setup.{Setup}
@@ -67,24 +66,28 @@ stands_same m n s values stale pruned setup at = record {
 
 -- the map after an action that had these events
 stands_done : (m n : Map) (s : State) (a : Action) (events : Events)
-    → events ≡ command_event (ground_of m) a
+    → events ≡ (transition a).events (ground_of m)
     → SameValues (updated m.tree.odds events (values_of m)) (values_of n) →
-    n.is_stale ≡ is_stale_by m.is_stale a
-    → ((was : Bool) → (was ≡ true → IsPruned m.tree) → is_pruned_by was a ≡ true → IsPruned n.tree)
+    n.is_stale ≡ (transition a).is_stale m.is_stale
+    → ((was : Bool) → (was ≡ true → IsPruned m.tree) → (transition a).is_pruned was ≡ true
+    → IsPruned n.tree)
     →
-    ((g : Ground) → (base_by g a).odds ≡ g.odds) → ground_of n ≡ base_by (ground_of m) a →
-    SameMark (marked_by (classes_of s.base.odds s.values) s.marked a) (marked_of n) → StandsFor m s
+    ((g : Ground) → ((transition a).base g).odds ≡ g.odds)
+    → ground_of n ≡ (transition a).base (ground_of m) →
+    SameMark ((transition a).marked (classes_of s.base.odds s.values) s.marked) (marked_of n)
+    → StandsFor m s
     → StandsFor n (after s a)
 stands_done m n s a events is values stale pruned odds setup mark at = record {
   values = λ k low.
-      ap (λ (o : Odds). after_event o (command_event s.base a k) (s.values k)) (odds s.base)
-      ∙ ap (after_event s.base.odds (command_event s.base a k)) (at.values k low)
-      ∙ ap (λ (g : Ground). after_event g.odds (command_event g a k) (values_of m k)) (sym at.base)
+      ap (λ (o : Odds). after_event o ((transition a).events s.base k) (s.values k)) (odds s.base)
+      ∙ ap (after_event s.base.odds ((transition a).events s.base k)) (at.values k low)
+      ∙ ap (λ (g : Ground). after_event g.odds ((transition a).events g k) (values_of m k))
+      (sym at.base)
       ∙ ap (λ (e : Events). after_event m.tree.odds (e k) (values_of m k)) (sym is)
       ∙ values k low;
-  base = setup ∙ ap (λ g. base_by g a) at.base;
+  base = setup ∙ ap (transition a).base at.base;
   marked = mark;
-  is_stale = stale ∙ ap (λ b. is_stale_by b a) at.is_stale;
+  is_stale = stale ∙ ap (transition a).is_stale at.is_stale;
   pruned = λ is. pruned s.is_pruned at.pruned is;
 }
 
@@ -141,7 +144,7 @@ pub stands_refreshed : (m n : Map) (s : State) → SameValues (values_of m) (val
     → n.is_stale ≡ false → (IsPruned m.tree → IsPruned n.tree) → Keeps m n →
     StandsFor m s → StandsFor n (after s Refreshed)
 stands_refreshed m n s values fresh pruned setup at =
-    stands_done m n s Refreshed (command_event (ground_of m) Refreshed) refl values fresh
+    stands_done m n s Refreshed ((transition Refreshed).events (ground_of m)) refl values fresh
     (λ was before is. pruned (before is)) (λ g. refl) setup.ground
     (same_mark_trans s.marked (marked_of m) (marked_of n) at.marked setup.mark) at
 
@@ -150,7 +153,7 @@ pub stands_pruned : (m n : Map) (s : State) → SameValues (values_of m) (values
     → n.is_stale ≡ m.is_stale → IsPruned n.tree → Keeps m n →
     StandsFor m s → StandsFor n (after s Pruned)
 stands_pruned m n s values stale pruned setup at =
-    stands_done m n s Pruned (command_event (ground_of m) Pruned) refl values stale
+    stands_done m n s Pruned ((transition Pruned).events (ground_of m)) refl values stale
     (λ was before is. pruned) (λ g. refl) setup.ground
     (same_mark_trans s.marked (marked_of m) (marked_of n) at.marked setup.mark) at
 
@@ -159,7 +162,7 @@ pub stands_cleared : (m n : Map) (s : State) → ((k : Voxel) → values_of n k 
     → n.is_stale ≡ false → IsPruned n.tree → ground_of n ≡ ground_of m → n.mark ≡ None
     → StandsFor m s → StandsFor n (after s Cleared)
 stands_cleared m n s unknown fresh pruned setup none at =
-    stands_done m n s Cleared (command_event (ground_of m) Cleared) refl
+    stands_done m n s Cleared ((transition Cleared).events (ground_of m)) refl
     (λ k low. forgotten (values_of m k) (values_of n k) (unknown k)) fresh (λ was before is. pruned)
     (λ g. refl) setup
     (subst (λ x. SameMark None (marked_by_notes x (classes_in n))) (sym none) tt) at
@@ -175,7 +178,7 @@ pub stands_likened : (m n : Map) (s : State)
     → n.is_stale ≡ false → IsPruned n.tree →
     Keeps m n → StandsFor m s → StandsFor n (after s Likened)
 stands_likened m n s values fresh pruned setup at =
-    stands_done m n s Likened (command_event (ground_of m) Likened) refl values fresh
+    stands_done m n s Likened ((transition Likened).events (ground_of m)) refl values fresh
     (λ was before is. pruned) (λ g. refl) setup.ground
     (same_mark_trans s.marked (marked_of m) (marked_of n) at.marked setup.mark) at
 
@@ -205,7 +208,7 @@ pub stands_replaced : (m n : Map) (s : State) (records : List ℕ) → IsMapLoad
     → StandsFor n (after s (Replaced (data_classes records)))
 stands_replaced m n s records loaded is_map ground at =
     stands_done m n s (Replaced (data_classes records))
-    (command_event (ground_of m) (Replaced (data_classes records))) refl
+    ((transition (Replaced (data_classes records))).events (ground_of m)) refl
     (λ k low. replaced_by m.tree.odds (data_classes records k) (values_of m k) (values_of n k)
     (loaded.values k low)
     (subst (λ (g : Ground). IsWithin g.odds (values_of n k)) ground
@@ -243,9 +246,12 @@ same_classes m s at k low = ap (class_of s.base.odds) (at.values k low)
 
 -- the map after an action that is about its mark alone
 stands_marked : (m n : Map) (s : State) (a : Action) (x : Option Held) → n ≡ record m { mark = x }
-    → (λ k. None) ≡ command_event (ground_of m) a → m.is_stale ≡ is_stale_by m.is_stale a →
-    ((was : Bool) → is_pruned_by was a ≡ was) → ((g : Ground) → base_by g a ≡ g) →
-    SameMark (marked_by (classes_of s.base.odds s.values) s.marked a) (marked_of n) → StandsFor m s
+    → (λ k. None) ≡ (transition a).events (ground_of m)
+    → m.is_stale ≡ (transition a).is_stale m.is_stale →
+    ((was : Bool) → (transition a).is_pruned was ≡ was)
+    → ((g : Ground) → (transition a).base g ≡ g) →
+    SameMark ((transition a).marked (classes_of s.base.odds s.values) s.marked) (marked_of n)
+    → StandsFor m s
     → StandsFor n (after s a)
 stands_marked m n s a x exact nothing stale pruned base mark at =
     stands_done m n s a (λ k. None) nothing (λ k low. ap (λ (t : Map). values_of t k) (sym exact))
@@ -272,11 +278,13 @@ stands_untracked m n s exact at =
 
 -- the map after an action that is about its update box alone
 stands_boxing : (m n : Map) (s : State) (a : Action) (x : Option Window)
-    → n ≡ record m { update_box = x } → (λ k. None) ≡ command_event (ground_of m) a
-    → m.is_stale ≡ is_stale_by m.is_stale a →
-    ((was : Bool) → is_pruned_by was a ≡ was) → ((g : Ground) → (base_by g a).odds ≡ g.odds)
-    → ground_of (record m { update_box = x }) ≡ base_by (ground_of m) a →
-    SameMark (marked_by (classes_of s.base.odds s.values) s.marked a) (marked_of m) → StandsFor m s
+    → n ≡ record m { update_box = x } → (λ k. None) ≡ (transition a).events (ground_of m)
+    → m.is_stale ≡ (transition a).is_stale m.is_stale →
+    ((was : Bool) → (transition a).is_pruned was ≡ was)
+    → ((g : Ground) → ((transition a).base g).odds ≡ g.odds)
+    → ground_of (record m { update_box = x }) ≡ (transition a).base (ground_of m) →
+    SameMark ((transition a).marked (classes_of s.base.odds s.values) s.marked) (marked_of m)
+    → StandsFor m s
     → StandsFor n (after s a)
 stands_boxing m n s a x exact nothing stale pruned odds base mark at =
     stands_done m n s a (λ k. None) nothing (λ k low. ap (λ (t : Map). values_of t k) (sym exact))
@@ -284,7 +292,7 @@ stands_boxing m n s a x exact nothing stale pruned odds base mark at =
     (λ was before is. subst (λ (t : Map). IsPruned t.tree) (sym exact)
     (before (sym (pruned was) ∙ is)))
     odds (ap ground_of exact ∙ base)
-    (subst (λ (t : Map). SameMark (marked_by (classes_of s.base.odds s.values) s.marked a)
+    (subst (λ (t : Map). SameMark ((transition a).marked (classes_of s.base.odds s.values) s.marked)
     (marked_of t)) (sym exact) mark) at
 
 -- the map after a limit

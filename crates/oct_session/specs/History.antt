@@ -64,92 +64,73 @@ abbrev pub value_event : Value → Event
 value_event None = event.Forget
 value_event (Some value) = event.Set value
 
--- what a command does to each voxel, by what the map's answers read: an event, or nothing
-abbrev pub command_event : Ground → Action → Events
-command_event g (Edited p edit lazy) = event_at (key_at g.res p) (edit_event g.odds edit)
-command_event g (Boxed lo hi edit) =
-    corner_events (key_at g.res lo) (key_at g.res hi) (edit_event g.odds edit)
-command_event g (Scanned sighting lazy) = outcome_of g sighting
-command_event g Refreshed = λ k. None
-command_event g Pruned = λ k. None
-command_event g Cleared = λ k. Some event.Forget
-command_event g Likened = λ k. Some event.Likely
-command_event g (Replaced classes) = λ k. Some (class_event g.odds (classes k))
-command_event g (Restored s) = λ k. Some (value_event (snapshot.values_of s k))
-command_event g Tracked = λ k. None
-command_event g Untracked = λ k. None
-command_event g (Limited lo hi) = λ k. None
-command_event g Unlimited = λ k. None
+-- what an action does to each part of a state: to what the map's answers read beside the values; to
+-- each voxel, by what they read before it, an event or nothing; to the mark, by the classes before
+-- it; to whether inner values may be out of date; and to whether the map is pruned
+pub record Transition : Type 0 where
+  pub base : Ground → Ground
+  pub events : Ground → Events
+  pub marked : Classes → Option Classes → Option Classes
+  pub is_stale : Bool → Bool
+  pub is_pruned : Bool → Bool
 
--- what the map's answers read beside the values after a command: a limit sets the box to which
--- scans are restricted, its end takes the box away, a restore takes log-odds and box from a
--- snapshot that has them, and no command changes anything else of it
-abbrev pub base_by : Ground → Action → Ground
-base_by g (Limited lo hi) =
-    record g { update_box = corner_box (key_at g.res lo) (key_at g.res hi) }
-base_by g Unlimited = record g { update_box = None }
-base_by g (Restored s) = ground_after g s.head
-base_by g (Edited p edit lazy) = g
-base_by g (Boxed lo hi edit) = g
-base_by g (Scanned sighting lazy) = g
-base_by g Refreshed = g
-base_by g Pruned = g
-base_by g Cleared = g
-base_by g Likened = g
-base_by g (Replaced classes) = g
-base_by g Tracked = g
-base_by g Untracked = g
+-- that of nothing done
+abbrev pub unchanging : Transition
+unchanging = record {
+  base = λ g. g;
+  events = λ g k. None;
+  marked = λ now mark. mark;
+  is_stale = λ was. was;
+  is_pruned = λ was. was;
+}
 
--- whether inner values may be out of date after a command: from a lazy edit or scan on they may,
--- and from a refresh, a clear, maximum likelihood, a load or a restore on they are right
-abbrev pub is_stale_by : Bool → Action → Bool
-is_stale_by is_stale (Edited p edit lazy) = is_stale || lazy
-is_stale_by is_stale (Boxed lo hi edit) = is_stale
-is_stale_by is_stale (Scanned sighting lazy) = is_stale || lazy
-is_stale_by is_stale Refreshed = false
-is_stale_by is_stale Pruned = is_stale
-is_stale_by is_stale Cleared = false
-is_stale_by is_stale Likened = false
-is_stale_by is_stale (Replaced classes) = false
-is_stale_by is_stale (Restored s) = false
-is_stale_by is_stale Tracked = is_stale
-is_stale_by is_stale Untracked = is_stale
-is_stale_by is_stale (Limited lo hi) = is_stale
-is_stale_by is_stale Unlimited = is_stale
+-- that of these events, after which, where they were lazy, inner values may be out of date and the
+-- map may not be pruned
+abbrev pub editing : (Ground → Events) → Bool → Transition
+editing events lazy = record unchanging {
+  events = events;
+  is_stale = λ was. was || lazy;
+  is_pruned = λ was. was && not lazy;
+}
 
--- whether the map is pruned after a command: from a prune, a clear, maximum likelihood, a load or a
--- restore on it is, and from a lazy edit or scan on it may not be
-abbrev pub is_pruned_by : Bool → Action → Bool
-is_pruned_by is_pruned (Edited p edit lazy) = is_pruned && not lazy
-is_pruned_by is_pruned (Boxed lo hi edit) = is_pruned
-is_pruned_by is_pruned (Scanned sighting lazy) = is_pruned && not lazy
-is_pruned_by is_pruned Refreshed = is_pruned
-is_pruned_by is_pruned Pruned = true
-is_pruned_by is_pruned Cleared = true
-is_pruned_by is_pruned Likened = true
-is_pruned_by is_pruned (Replaced classes) = true
-is_pruned_by is_pruned (Restored s) = true
-is_pruned_by is_pruned Tracked = is_pruned
-is_pruned_by is_pruned Untracked = is_pruned
-is_pruned_by is_pruned (Limited lo hi) = is_pruned
-is_pruned_by is_pruned Unlimited = is_pruned
+-- that of these events on each voxel, after which inner values are right, the map is pruned, and
+-- its mark is taken away
+abbrev pub replacing : (Ground → Ground) → (Ground → Events) → Transition
+replacing base events = record {
+  base = base;
+  events = events;
+  marked = λ now mark. None;
+  is_stale = λ was. false;
+  is_pruned = λ was. true;
+}
 
--- the classes at the mark after a command, by the classes before it: a mark that is set has these,
--- and a clear, a load and a restore take the mark away
-abbrev pub marked_by : Classes → Option Classes → Action → Option Classes
-marked_by now marked Cleared = None
-marked_by now marked (Replaced classes) = None
-marked_by now marked (Restored s) = None
-marked_by now marked Tracked = Some now
-marked_by now marked Untracked = None
-marked_by now marked (Edited p edit lazy) = marked
-marked_by now marked (Boxed lo hi edit) = marked
-marked_by now marked (Scanned sighting lazy) = marked
-marked_by now marked Refreshed = marked
-marked_by now marked Pruned = marked
-marked_by now marked Likened = marked
-marked_by now marked (Limited lo hi) = marked
-marked_by now marked Unlimited = marked
+-- what each action does, by the log-odds in force: a restore takes over log-odds and box of its
+-- snapshot, if it has them, and a limit sets the box to which scans are restricted
+abbrev pub transition : Action → Transition
+transition (Edited p edit lazy) =
+    editing (λ g. event_at (key_at g.res p) (edit_event g.odds edit)) lazy
+transition (Boxed lo hi edit) = record unchanging {
+  events = λ g. corner_events (key_at g.res lo) (key_at g.res hi) (edit_event g.odds edit);
+}
+transition (Scanned sighting lazy) = editing (λ g. outcome_of g sighting) lazy
+transition Refreshed = record unchanging { is_stale = λ was. false }
+transition Pruned = record unchanging { is_pruned = λ was. true }
+transition Cleared = replacing (λ g. g) (λ g k. Some event.Forget)
+transition Likened = record unchanging {
+  events = λ g k. Some event.Likely;
+  is_stale = λ was. false;
+  is_pruned = λ was. true;
+}
+transition (Replaced classes) =
+    replacing (λ g. g) (λ g k. Some (class_event g.odds (classes k)))
+transition (Restored s) = replacing (λ g. ground_after g s.head)
+    (λ g k. Some (value_event (snapshot.values_of s k)))
+transition Tracked = record unchanging { marked = λ now mark. Some now }
+transition Untracked = record unchanging { marked = λ now mark. None }
+transition (Limited lo hi) = record unchanging {
+  base = λ g. record g { update_box = corner_box (key_at g.res lo) (key_at g.res hi) };
+}
+transition Unlimited = record unchanging { base = λ g. record g { update_box = None } }
 
 -- what a session has between two commands: what the map's answers read beside the values, the value
 -- of each voxel, its class at the mark, where one stands, whether inner values may be out of date,
@@ -172,15 +153,16 @@ start_state o =
       is_pruned = true;
     }
 
--- after a command: each voxel has the value after its own event, by the log-odds that are in force
+-- after an action: each voxel has the value after its own event, by the log-odds that are in force
 -- from then on
 abbrev pub after : State → Action → State
 after s action = record {
-  base = base_by s.base action;
-  values = updated (base_by s.base action).odds (command_event s.base action) s.values;
-  marked = marked_by (classes_of s.base.odds s.values) s.marked action;
-  is_stale = is_stale_by s.is_stale action;
-  is_pruned = is_pruned_by s.is_pruned action;
+  base = (transition action).base s.base;
+  values = updated ((transition action).base s.base).odds ((transition action).events s.base)
+      s.values;
+  marked = (transition action).marked (classes_of s.base.odds s.values) s.marked;
+  is_stale = (transition action).is_stale s.is_stale;
+  is_pruned = (transition action).is_pruned s.is_pruned;
 }
 
 -- after some commands
@@ -200,12 +182,12 @@ pub record Alone : Type 0 where
   pub base : Ground
   pub value : Value
 
--- one voxel alone after a command, by its own event
+-- one voxel alone after an action, by its own event
 abbrev pub alone_by : Voxel → Alone → Action → Alone
 alone_by k alone action = record {
-  base = base_by alone.base action;
-  value =
-      after_event (base_by alone.base action).odds (command_event alone.base action k) alone.value;
+  base = (transition action).base alone.base;
+  value = after_event ((transition action).base alone.base).odds
+      ((transition action).events alone.base k) alone.value;
 }
 
 -- one voxel alone after a history: the fold of its own events, from unknown on; a law says that
