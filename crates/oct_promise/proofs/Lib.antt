@@ -9,6 +9,7 @@ pub mod StateCommands
 pub mod SoundOdds
 pub mod Telling
 pub mod GivenBack
+pub mod FilesWritten
 pub mod SavedRecords
 pub mod LoadedBack
 pub mod Allowed
@@ -18,5 +19,6 @@ pub mod DrillEnds
 pub mod Queries
 pub mod Refusals
 pub mod Written
+pub mod Passing
 pub mod ScansDone
 pub mod SameFiles

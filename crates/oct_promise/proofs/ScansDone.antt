@@ -1,10 +1,12 @@
 -- What a scan does to the voxels, in the words of its beams.
-use Rattle.std.proofs.Common.{◌≡◌, ℕ, ◌+◌, List, [], ◌∷◌, ◌++◌, Bool, true, false, cond, Option, Some}
-use Rattle.std.proofs.Common.{None, Result, Ok, Err, inl, inr, refl, sym, ap, subst, ◌∙◌}
-use Rattle.std.proofs.Common.{◌↔◌, ◌&&◌, length}
+use Rattle.std.proofs.Common.{◌≡◌, ℕ, ◌+◌, List, [], ◌∷◌, ◌++◌, Bool, true, false, cond, Option}
+use Rattle.std.proofs.Common.{Some, None, Result, Ok, Err, inl, inr, refl, sym, ap, subst, ◌∙◌}
+use Rattle.std.proofs.Common.{◌↔◌, ◌≢◌, ◌&&◌, length, arith}
 use Rattle.std.specs.Prelude.{⊤, IsTrue, option_map, count_by}
 use Rattle.std.specs.List.{Contains}
 use Rattle.std.proofs.lemmas.Bool.{and_parts}
+use Rattle.std.specs.List.{AllPairs, filter}
+use Rattle.std.proofs.lemmas.List.Kept.{AllPairs-filter}
 use Rattle.oct_brick.proofs.Lists.{all_contained}
 use Rattle.oct_io.specs.Files.{Files}
 use Rattle.oct_key.specs.Boxes.{Window, IsInWindow, is_in_window}
@@ -57,6 +59,7 @@ use Rattle.oct_promise.specs.ScanCounts.{AreThose, AreHit, AreFreed}
 use Rattle.oct_promise.specs.Sums.{hits_in, frees_in}
 use Rattle.oct_promise.specs.Promise.{IsLine, Replies, IsScanDone, state_behind}
 use Rattle.oct_promise.specs.States.{IsSetUp}
+use Rattle.oct_promise.proofs.Passing.{passing_exactly, each_once}
 use Rattle.oct_promise.proofs.StateCommands.{res_of}
 use Rattle.oct_promise.proofs.Telling.{told_and_left}
 
@@ -117,6 +120,7 @@ scan_done s scan lazy range inside =
           ((freed_exactly edge scan k range inside).1 is));
       kept = λ k never. ap (λ e. after_event s.base.odds e (s.values k))
           (kept_event edge window hit miss scan k range inside never);
+      beside = (refl, refl);
     }
 
 -- ---- its reply
@@ -186,6 +190,30 @@ replies_done : (o : Setup) (p : Progress) (line : Line) (scan : ScanSoFar) (done
 replies_done o p line scan done open_block reads answer =
     sym (ap (λ (e : Effect). e.reply) (closes o p line scan open_block reads)) ∙ answer
 
+-- where a scan is done, its origin and the ends of its beams lie in the map
+record IsSeenInside (o : Setup) (s : State) (scan : ScanSoFar) (done : ScanDone) : Type 0 where
+  range : IsResolution s.base.res
+  inside : IsInside s.base.res (sighting_so_far scan)
+  free : IsUnrefused (scan_fault s.base.res (sighting_so_far scan) s.base.max_cells)
+      (done_of s.base (sighting_so_far scan)) done
+
+seen_inside : (o : Setup) → IsSetUp o → (files : Option Files) (bytes : List ℕ)
+    (before : List Line) (line : Line) (scan : ScanSoFar) (done : ScanDone)
+    → IsLine o files bytes before line (Some (Scanning scan)) (Ok command.End)
+    → (effect_of o (progress o files before) line).reply ≡ Some (reply_of.Scanned done)
+    → IsSeenInside o (state_behind o files before) scan done
+seen_inside o set files bytes before line scan done is answer =
+    let p : Progress = progress o files before in
+    let s : State = state_after o p.history in
+    let seen : Sighting = sighting_so_far scan in
+    let free = block_unrefused s scan done
+    (replies_done o p line scan done is.inside is.reads answer) in
+    record {
+      range = subst IsResolution (sym (res_of o p.history)) set.res;
+      inside = (without_fault s.base.res s.base.max_cells seen free.none).0;
+      free = free;
+    }
+
 -- it does the scan, where its reply says so
 pub scan_ends : (o : Setup) → IsSetUp o → (files : Option Files) (bytes : List ℕ)
     (before : List Line) (line : Line) (scan : ScanSoFar) (done : ScanDone)
@@ -198,10 +226,8 @@ scan_ends o set files bytes before line scan done is answer =
     let p : Progress = progress o files before in
     let s : State = state_after o p.history in
     let seen : Sighting = sighting_so_far scan in
-    let ok : IsResolution s.base.res = subst IsResolution (sym (res_of o p.history)) set.res in
+    let is_seen = seen_inside o set files bytes before line scan done is answer in
     let told = replies_done o p line scan done is.inside is.reads answer in
-    let free = block_unrefused s scan done told in
-    let inside = (without_fault s.base.res s.base.max_cells seen free.none).0 in
     let added : (effect_of o p line).added ≡ Scanned seen scan.head.lazy ∷ [] =
     ap (λ (e : Effect). e.added) (closes o p line scan is.inside is.reads)
     ∙ ap (λ (r : Option Reply). accepted r (block_action (Scanning scan))) told in
@@ -212,10 +238,36 @@ scan_ends o set files bytes before line scan done is answer =
     told_and_left o files bytes before line (Some (Scanning scan)) (Ok command.End)
     (reply_of.Scanned done) (IsScanDone seen s) is (record {
       answer = answer;
-      state = subst (IsScanDone seen s) (sym leaves) (scan_done s seen scan.head.lazy ok inside);
+      state =
+          subst (IsScanDone seen s) (sym leaves)
+          (scan_done s seen scan.head.lazy is_seen.range is_seen.inside);
     })
 
 -- ---- counts
+
+-- no voxel of the map is listed twice
+listed_apart : AllPairs (λ k l. k ≢ l) (voxels_of root_block)
+listed_apart =
+    each_once is_same_voxel is_same_voxel_refl (voxels_of root_block) (λ k there.
+    let once = listed_once root_block k root_in_map
+    ((listed_exactly root_block k root_in_map).1 there) in omega (arith, once))
+
+-- the voxels of the map of which a test tells that something holds
+those_passing : (p : Voxel → Bool) (P : Voxel → Type 0) → ((k : Voxel) → (p k ≡ true) ↔ P k)
+    → AreThose P (filter p (voxels_of root_block))
+those_passing p P exact = record {
+  once = AllPairs-filter (λ k l. k ≢ l) p (voxels_of root_block) listed_apart;
+  listed = λ k. (
+    λ there. (let parts = (passing_exactly p (voxels_of root_block) k).0 there in (
+      held_in_map root_block k root_in_map ((listed_exactly root_block k root_in_map).1 parts.0),
+      (exact k).0 parts.1,
+    )),
+    λ those. (passing_exactly p (voxels_of root_block) k).1 (
+      (listed_exactly root_block k root_in_map).0 (root_holds k those.0),
+      (exact k).1 those.1,
+    ),
+  );
+}
 
 -- the voxels of the map that pass a test are as many as a list has that has each of them once
 counted : (p : Voxel → Bool) (P : Voxel → Type 0) (ks : List Voxel)
@@ -246,14 +298,27 @@ within_box window test P k exact = (
       rw (a, b) refl),
 )
 
+-- the tests of a hit and of a freed voxel tell what they are to tell
+hit_tested : (s : State) (seen : Sighting) (k : Voxel)
+    → ((is_in_window s.base.update_box k && is_hit s.base.res seen k) ≡ true)
+    ↔ (IsInWindow s.base.update_box k × IsHit s.base.res seen k)
+hit_tested s seen k =
+    within_box s.base.update_box (is_hit s.base.res seen k) (IsHit s.base.res seen k) k
+    (hit_exactly s.base.res seen k)
+
+freed_tested : (s : State) (seen : Sighting) → IsResolution s.base.res → IsInside s.base.res seen
+    → (k : Voxel) → ((is_in_window s.base.update_box k && is_freed s.base.res seen k) ≡ true)
+    ↔ (IsInWindow s.base.update_box k × IsFreed s.base.res seen k)
+freed_tested s seen range inside k =
+    within_box s.base.update_box (is_freed s.base.res seen k) (IsFreed s.base.res seen k) k
+    (freed_exactly s.base.res seen k range inside)
+
 hits_counted : (s : State) (seen : Sighting) (ks : List Voxel) → AreHit s seen ks
     → hit_count s.base.res s.base.update_box seen ≡ length ks
 unfolding hit_count
 hits_counted s seen ks those =
     counted (λ k. is_in_window s.base.update_box k && is_hit s.base.res seen k)
-    (λ k. IsInWindow s.base.update_box k × IsHit s.base.res seen k) ks
-    (λ k. within_box s.base.update_box (is_hit s.base.res seen k) (IsHit s.base.res seen k) k
-    (hit_exactly s.base.res seen k)) those
+    (λ k. IsInWindow s.base.update_box k × IsHit s.base.res seen k) ks (hit_tested s seen) those
 
 frees_counted : (s : State) (seen : Sighting) (ks : List Voxel) → IsResolution s.base.res
     → IsInside s.base.res seen → AreFreed s seen ks
@@ -262,8 +327,7 @@ unfolding free_count
 frees_counted s seen ks range inside those =
     counted (λ k. is_in_window s.base.update_box k && is_freed s.base.res seen k)
     (λ k. IsInWindow s.base.update_box k × IsFreed s.base.res seen k) ks
-    (λ k. within_box s.base.update_box (is_freed s.base.res seen k) (IsFreed s.base.res seen k) k
-    (freed_exactly s.base.res seen k range inside)) those
+    (freed_tested s seen range inside) those
 
 -- the reply has the numbers of voxels that the scan hits and frees
 pub scan_counts : (o : Setup) → IsSetUp o → (files : Option Files) (bytes : List ℕ)
@@ -275,13 +339,33 @@ pub scan_counts : (o : Setup) → IsSetUp o → (files : Option Files) (bytes : 
     → AreFreed (state_behind o files before) (sighting_so_far scan) frees
     → (done.hits ≡ length hits) × (done.frees ≡ length frees)
 scan_counts o set files bytes before line scan done hits frees is answer are_hit are_freed =
-    let p : Progress = progress o files before in
-    let s : State = state_after o p.history in
+    let s : State = state_behind o files before in
     let seen : Sighting = sighting_so_far scan in
-    let ok : IsResolution s.base.res = subst IsResolution (sym (res_of o p.history)) set.res in
-    let free = block_unrefused s scan done
-    (replies_done o p line scan done is.inside is.reads answer) in
-    let inside = (without_fault s.base.res s.base.max_cells seen free.none).0 in (
-      free.hits ∙ hits_counted s seen hits are_hit,
-      free.frees ∙ frees_counted s seen frees ok inside are_freed,
+    let is_seen = seen_inside o set files bytes before line scan done is answer in (
+      is_seen.free.hits ∙ hits_counted s seen hits are_hit,
+      is_seen.free.frees ∙ frees_counted s seen frees is_seen.range is_seen.inside are_freed,
+    )
+
+-- and there are such lists
+pub scan_lists : (o : Setup) → IsSetUp o → (files : Option Files) (bytes : List ℕ)
+    (before : List Line) (line : Line) (scan : ScanSoFar) (done : ScanDone)
+    → IsLine o files bytes before line (Some (Scanning scan)) (Ok command.End)
+    → (effect_of o (progress o files before) line).reply ≡ Some (reply_of.Scanned done)
+    → ((hits : List Voxel) × AreHit (state_behind o files before) (sighting_so_far scan) hits)
+    × ((frees : List Voxel) × AreFreed (state_behind o files before) (sighting_so_far scan) frees)
+scan_lists o set files bytes before line scan done is answer =
+    let s : State = state_behind o files before in
+    let seen : Sighting = sighting_so_far scan in
+    let is_seen = seen_inside o set files bytes before line scan done is answer in (
+      (
+        _,
+        those_passing (λ k. is_in_window s.base.update_box k && is_hit s.base.res seen k)
+            (λ k. IsInWindow s.base.update_box k × IsHit s.base.res seen k) (hit_tested s seen),
+      ),
+      (
+        _,
+        those_passing (λ k. is_in_window s.base.update_box k && is_freed s.base.res seen k)
+            (λ k. IsInWindow s.base.update_box k × IsFreed s.base.res seen k)
+            (freed_tested s seen is_seen.range is_seen.inside),
+      ),
     )

@@ -1,12 +1,12 @@
 -- What a snapshot or a save keeps, and a restore or a load of its name gives back, in one session.
-use Rattle.std.specs.Prelude.{◌≢◌, ◌≤◌, ◌^◌, ℕ, List, [], ◌∷◌, ◌++◌, length, ⊤, Option, Some, None}
-use Rattle.std.specs.Prelude.{option_map, Ok}
+use Rattle.std.specs.Prelude.{◌≡◌, ◌≢◌, ◌≤◌, ◌^◌, ℕ, List, [], ◌∷◌, ◌++◌, length, ⊤, Option}
+use Rattle.std.specs.Prelude.{Some, None, option_map, Ok}
 use Rattle.oct_bt.specs.Canonical.{canonical_size}
-use Rattle.oct_io.specs.Files.{Files}
+use Rattle.oct_io.specs.Files.{Files, saved}
 use Rattle.oct_script.specs.Lines.{Line}
 use Rattle.oct_script.specs.declared.command.Command.{Command}
 use Rattle.oct_script.specs.declared.command.Command.TheVariants.{Snapshot, Restore, Save, Load}
-use Rattle.oct_script.specs.declared.reply.Reply.TheVariants.{Restored, Loaded}
+use Rattle.oct_script.specs.declared.reply.Reply.TheVariants.{Restored, Loaded, Saved}
 use Rattle.oct_values.specs.Counts.{group_count}
 use Rattle.oct_promise.specs.Promise.{IsLine, Replies, state_behind, classes_in}
 use Rattle.oct_promise.specs.Promise.{IsGivenBack, IsLoadedBack}
@@ -49,6 +49,18 @@ pub record AreKeptApart (o : Setup) (files : Files) (bytes name : List ℕ) (t :
   pub writes : IsLine o (Some files) bytes t.before t.first None (Ok first)
   pub kept : NoneWrites o name (progress o (Some files) (t.before ++ t.first ∷ [])) t.between
   pub reads : IsLine o (Some files) bytes (up_to_second t) t.second None (Ok second)
+
+-- ---- one line that writes a file
+
+-- The line writes this file under this name, replies with the number of its bytes, and leaves every
+-- other file and the state as they were.
+pub record WritesFile (o : Setup) (files : Files) (bytes : List ℕ) (before : List Line)
+    (line : Line) (name file : List ℕ) : Type 0 where
+  pub told : Replies o (Some files) bytes before (Saved (length file))
+  pub written : (progress o (Some files) (before ++ line ∷ [])).files
+      ≡ saved (progress o (Some files) before).files name file
+  pub state : state_behind o (Some files) (before ++ line ∷ [])
+      ≡ state_behind o (Some files) before
 
 -- ---- a snapshot, and a restore of the same name later on
 

@@ -35,8 +35,8 @@ use Rattle.oct_values.specs.Depths.{IsLargestIn}
 abbrev pub classes_in : State → Classes
 classes_in s = classes_of s.base.odds s.values
 
--- A scan adds its hit to each voxel of the box in which a beam ends that isn't cut, and its miss to
--- each one that a beam passes through and that isn't hit; every other voxel keeps its value.
+-- A scan adds its hit to each voxel of the box in which an uncut beam ends, and its miss to each
+-- one that a beam passes through and that isn't hit; other voxels, box, log-odds and mark stay.
 pub record IsScanDone (scan : Sighting) (old new : State) : Type 0 where
   pub hit : (k : Voxel) → IsInWindow old.base.update_box k → IsHit old.base.res scan k
       → new.values k ≡ applied old.base.odds (hit_event old.base.odds scan.odds) (old.values k)
@@ -44,6 +44,7 @@ pub record IsScanDone (scan : Sighting) (old new : State) : Type 0 where
       → new.values k ≡ applied old.base.odds (miss_event old.base.odds scan.odds) (old.values k)
   pub kept : (k : Voxel) → ¬ IsScanned old.base.res old.base.update_box scan k
       → new.values k ≡ old.values k
+  pub beside : (new.base ≡ old.base) × (new.marked ≡ old.marked)
 
 -- a restore gives back each voxel's value, the log-odds and the box to which scans are restricted
 pub record IsGivenBack (old new : State) : Type 0 where

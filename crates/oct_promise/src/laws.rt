@@ -12,6 +12,7 @@ ghost use Rattle.oct_key.specs.declared.point.Point.{Point};
 ghost use Rattle.oct_script.specs.Lines.{Line};
 ghost use Rattle.oct_script.specs.declared.command.Command.{Command};
 ghost use Rattle.oct_script.specs.declared.command.Command.TheVariants.{End, Get, Cast, Changes};
+ghost use Rattle.oct_script.specs.declared.command.Command.TheVariants.{Save, Snapshot};
 ghost use Rattle.oct_script.specs.declared.reply.Refusal.{Refusal};
 ghost use Rattle.oct_script.specs.declared.reply.Reply.TheVariants.{Scanned, Refused};
 ghost use Rattle.oct_script.specs.declared.reply.ScanDone.{ScanDone};
@@ -21,13 +22,13 @@ ghost use Rattle.oct_promise.specs.Promise.{IsScanDone, GetsGreatest, CastsFirst
 ghost use Rattle.oct_promise.specs.ScanCounts.{AreHit, AreFreed};
 ghost use Rattle.oct_promise.specs.BlockReply.{IsBlock, RepliesOnce};
 ghost use Rattle.oct_promise.specs.GivenBack.{TwoLines, AreSnapshotAndRestore, GivesBack};
-ghost use Rattle.oct_promise.specs.GivenBack.{AreSaveAndLoad, LoadsBack};
+ghost use Rattle.oct_promise.specs.GivenBack.{AreSaveAndLoad, LoadsBack, WritesFile};
 ghost use Rattle.oct_promise.specs.States.{IsSetUp, IsState};
 ghost use Rattle.oct_promise.specs.Sums.{IsSummed, IsBelow, IsDrill};
 ghost use Rattle.oct_promise.specs.Sums.{drill_replies, drill_session};
 ghost use Rattle.oct_session.specs.Drill.{drilled, drill};
 ghost use Rattle.oct_session.specs.Ending.{MayEnd};
-ghost use Rattle.oct_session.specs.FileCommands.{classes_file};
+ghost use Rattle.oct_session.specs.FileCommands.{classes_file, snapshot_file};
 ghost use Rattle.oct_session.specs.History.{History, state_after, value_after, alone_after};
 ghost use Rattle.oct_session.specs.ScanSoFar.{ScanSoFar, sighting_so_far};
 ghost use Rattle.oct_session.specs.Session.{Progress, progress, effect_of, session};
@@ -66,7 +67,16 @@ pub fn scans_are_exact(options: &Options)
 
 /// The reply to a scan tells how many voxels of the map it hits, and how many it frees.
 pub fn scans_are_counted(options: &Options)
-    ensures { (files : Option Files) (bytes : List ℕ) (before : List Line) (line : Line)
+    ensures listed { (files : Option Files) (bytes : List ℕ) (before : List Line) (line : Line)
+        (scan : ScanSoFar) (done : ScanDone)
+        → IsLine options.now files bytes before line (Some (Scanning scan)) (Ok End)
+        → (effect_of options.now (progress options.now files before) line).reply
+        ≡ Some (Scanned done)
+        → ((hits : List Voxel)
+        × AreHit (state_behind options.now files before) (sighting_so_far scan) hits)
+        × ((frees : List Voxel)
+        × AreFreed (state_behind options.now files before) (sighting_so_far scan) frees) }
+    ensures counted { (files : Option Files) (bytes : List ℕ) (before : List Line) (line : Line)
         (scan : ScanSoFar) (done : ScanDone) (hits frees : List Voxel)
         → IsLine options.now files bytes before line (Some (Scanning scan)) (Ok End)
         → (effect_of options.now (progress options.now files before) line).reply
@@ -131,6 +141,21 @@ pub fn faults_leave_a_prefix()
         (left old new : Option (List ℕ)) (status : Status)
         → MayEnd o files bytes left old new status
         → IsBegun (session o files bytes).text old new }
+{}
+
+/// A save writes the file of the classes under its name, and a snapshot that of the values. Each
+/// replies with the number of its bytes, and changes no other file and no voxel.
+pub fn saves_write_files()
+    ensures saves { (o : Setup) (files : Files) (bytes : List ℕ) (before : List Line)
+        (line : Line) (name : List ℕ)
+        → IsLine o (Some files) bytes before line None (Ok (Save name))
+        → WritesFile o files bytes before line name
+        (classes_file (state_behind o (Some files) before)) }
+    ensures snapshots { (o : Setup) (files : Files) (bytes : List ℕ) (before : List Line)
+        (line : Line) (name : List ℕ)
+        → IsLine o (Some files) bytes before line None (Ok (Snapshot name))
+        → WritesFile o files bytes before line name
+        (snapshot_file (state_behind o (Some files) before)) }
 {}
 
 /// A restore gives back the values that the snapshot of its name kept, and isn't refused, whatever

@@ -3,8 +3,8 @@
 //! `specs/Promise.antt` is the page to read, and these laws say that it holds: [`scans_are_exact`],
 //! [`scans_are_counted`], [`values_are_folds`], [`gets_are_greatest`], [`casts_are_first`],
 //! [`changes_are_differences`], [`refusals_change_nothing`], [`faults_leave_a_prefix`],
-//! [`snapshots_are_restored`], [`saves_are_loaded`], [`saves_are_canonical`]. They speak of bytes,
-//! files and text as a caller of `serve` has them.
+//! [`saves_write_files`], [`snapshots_are_restored`], [`saves_are_loaded`],
+//! [`saves_are_canonical`]. They speak of bytes, files and text as a caller of `serve` has them.
 //!
 //! The others say what else sessions come to.
 //!
@@ -28,6 +28,6 @@ pub use laws::{
     blocks_have_one_reply, casts_are_first, changes_are_differences, drills_end_as_sessions,
     drills_stay_within, drills_sum_up, faults_leave_a_prefix, gets_are_greatest,
     groups_stay_within, refusals_change_nothing, saves_are_canonical, saves_are_loaded,
-    scans_are_counted, scans_are_exact, snapshots_are_restored, states_stay_sound,
-    values_are_folds,
+    saves_write_files, scans_are_counted, scans_are_exact, snapshots_are_restored,
+    states_stay_sound, values_are_folds,
 };
