@@ -609,11 +609,16 @@ class OcTree : public OcTreeGrid {
     /// The same, while the lock is held.
     const std::shared_ptr<const OcTreeLeaves> &new_leaves() const {
         const auto list = [&](auto... out) { return octofix_leaves(map_.handle(), out...); };
-        // (a leaf takes more than eight bytes of most maps)
-        if (!leaves_) leaves_ = shared_leaves({map_.memory() / 8 + 1, list});
+        if (!leaves_) {
+            const auto all = shared_leaves({most_leaves(), list});
+            all->count();
+            leaves_ = all;
+        }
         return leaves_;
     }
-    std::shared_ptr<const OcTreeLeaves> shared_leaves(detail::listed_blocks blocks) const {
+    /// How many leaves there may be: one takes more than eight bytes of most maps.
+    std::size_t most_leaves() const { return map_.memory() / 8 + 1; }
+    std::shared_ptr<OcTreeLeaves> shared_leaves(detail::listed_blocks blocks) const {
         return std::make_shared<OcTreeLeaves>(const_cast<OcTree *>(this), std::move(blocks),
                                               is_expanded_);
     }
@@ -635,13 +640,16 @@ class OcTree : public OcTreeGrid {
         const auto high = [&](unsigned axis) {
             return static_cast<key_type>(last[axis] + (1u << level) - 1);
         };
-        const point low = middle_of(computeIndexKey(level, min));
-        const point end = middle_of({high(0), high(1), high(2)});
+        const OcTreeKey first = computeIndexKey(level, min), end_key{high(0), high(1), high(2)};
+        const point low = middle_of(first), end = middle_of(end_key);
+        // (each leaf of the box has a voxel of it)
+        std::size_t voxels = 1;
+        for (unsigned axis = 0; axis < 3; ++axis) voxels *= end_key[axis] - first[axis] + 1u;
         const auto list = [&](auto... out) {
             details named;
             return octofix_leaves_in(map_.handle(), &low, &end, out..., &named);
         };
-        return shared_leaves({first_room_, list});
+        return shared_leaves({std::min(voxels, most_leaves()), list});
     }
     std::array<OcTreeNode, 8> *children_of(const OcTreeNode *node) const {
         if (node->children_ || node->is_leaf_ || node->depth_ == 16) return node->children_;
@@ -703,8 +711,6 @@ class OcTree : public OcTreeGrid {
             if ((known >> i & 1) != 0) write_node(out, (*node.children_)[i]);
     }
 
-    /// For how many leaves of a box there is room at first.
-    static constexpr std::size_t first_room_ = 1 << 14;
     /// As many groups and voxels met as a map takes.
     static constexpr limits most_ = {1 << 26, 1 << 27};
 

@@ -112,17 +112,18 @@ class OcTreeLeafIterator : public OcTreePlace {
             if (first[axis] > last_[axis] || first[axis] + last < first_[axis]) return false;
         return true;
     }
-    /// Stands at the first node, from this leaf and part of it on, that meets the box.
+    /// Stands at the first node, from this leaf and part of it on, that meets the box. The leaves
+    /// are those that do; only of a leaf that is parted not all parts may.
     void settle() {
         for (; !is_end(); at_ = next_, part_ = next_part_) {
             next_ = at_ + 1, next_part_ = 0;
             if (leaf().depth > max_depth())
                 stand_on_block();
-            else if (leaves_->are_voxels_alone() && leaf().depth < max_depth())
+            else if (leaf().depth < max_depth() && leaves_->are_voxels_alone())
                 stand_on_part();
             else
                 stand_on_leaf(low_of(leaf()), leaf().depth);
-            if (!is_past_parts_ && meets_box(getIndexKey(), getDepth())) return;
+            if (!is_past_parts_) return;
         }
     }
     void stand_on_leaf(const OcTreeKey &first, unsigned depth) {

@@ -40,27 +40,16 @@ class OcTreeLeaves {
   public:
     OcTreeLeaves(OcTree *tree, detail::listed_blocks blocks, bool voxels_alone)
         : tree_(tree), owned_(std::move(blocks)), blocks_(owned_.first.get(), owned_.count),
-          voxels_alone_(voxels_alone) {
-        count();
-    }
+          voxels_alone_(voxels_alone) {}
     OcTreeLeaves(const OcTreeLeaves &) = delete;
     OcTreeLeaves &operator=(const OcTreeLeaves &) = delete;
 
     OcTree *tree() const { return tree_; }
     view<block> blocks() const { return blocks_; }
     bool are_voxels_alone() const { return voxels_alone_; }
-    /// The nodes of the least tree that has these leaves.
+    /// The nodes of the least tree that has these leaves, and its leaves, once they were counted.
     std::size_t size() const { return size_; }
     std::size_t leaf_count() const { return leaf_count_; }
-
-  private:
-    /// How many depths two blocks of different keys have in common: those of the blocks that hold
-    /// both.
-    static unsigned common_depths(const voxel_key &a, const voxel_key &b) {
-        unsigned differing = (a.x ^ b.x) | (a.y ^ b.y) | (a.z ^ b.z), depths = 17;
-        for (; differing != 0; differing >>= 1) --depths;
-        return depths;
-    }
     void count() {
         unsigned shared = 0; // of a leaf and that before it
         for (std::size_t i = 0; i < blocks_.size(); ++i) {
@@ -69,6 +58,15 @@ class OcTreeLeaves {
             leaf_count_ += 1;
             if (voxels_alone_) part(16 - blocks_[i].depth);
         }
+    }
+
+  private:
+    /// How many depths two blocks of different keys have in common: those of the blocks that hold
+    /// both.
+    static unsigned common_depths(const voxel_key &a, const voxel_key &b) {
+        unsigned differing = (a.x ^ b.x) | (a.y ^ b.y) | (a.z ^ b.z), depths = 17;
+        for (; differing != 0; differing >>= 1) --depths;
+        return depths;
     }
     /// Counts the voxels of a leaf in place of it.
     void part(unsigned levels) {
