@@ -181,7 +181,13 @@ enum { /* what octofix_bounds and octofix_leaves_of look for */
     OCTOFIX_FREE_VOXELS = 2
 };
 
-/* The table of codes. 3 to 35 have the numbers that the same refusals have in a script of the
+enum { /* what octofix_grid shows of a column of voxels: numbers of ROS's OccupancyGrid */
+    OCTOFIX_CELL_OCCUPIED = 100, /* some voxel of it is occupied */
+    OCTOFIX_CELL_FREE = 0,       /* none is, and some is free */
+    OCTOFIX_CELL_UNKNOWN = -1    /* nothing is known of it */
+};
+
+/* The table of codes. 3 to 38 have the numbers that the same refusals have in a script of the
  * program (docs/FORMATS.md). In brackets: what details has, first and second; 0 where nothing is
  * named. */
 enum {
@@ -213,6 +219,7 @@ enum {
     OCTOFIX_WIDE_WHILE_TRACKED = 27, /* a mark stands, and a box is of over 1000000 [voxels] */
     OCTOFIX_NOT_TRACKED = 28,        /* no mark stands */
     OCTOFIX_OTHER_RESOLUTION = 35,   /* the file's isn't the map's [of the file, of the map] */
+    OCTOFIX_WIDE_GRID = 38,          /* a grid would have over 2^26 columns [columns] */
 
     OCTOFIX_CLOSED = 40,             /* the handle has no map */
     OCTOFIX_OPEN = 41,               /* the handle has a map already */
@@ -427,6 +434,18 @@ uint32_t octofix_leaves_of(const octofix_map *map, uint32_t sought, octofix_bloc
 uint32_t octofix_leaves_of_in(const octofix_map *map, uint32_t sought, const octofix_point *low,
                               const octofix_point *high, octofix_block *blocks, size_t room,
                               size_t *count, octofix_details *details);
+
+/* The grid of a height band: what each column of voxels shows of the box from the voxel of low to
+ * that of high, as OCTOFIX_CELL_OCCUPIED, OCTOFIX_CELL_FREE or OCTOFIX_CELL_UNKNOWN. The columns of
+ * the lowest y come first, by ascending x, so that the cell of the keys x and y is
+ * cells[(y - y_low) * width + (x - x_low)], where width is x_high - x_low + 1: the order and the
+ * numbers of the data of a nav_msgs/OccupancyGrid, whose origin is the lowest corner of the voxel of
+ * low. *count is how many columns there are, at most 2^26, and is written on DONE and SMALL_BUFFER,
+ * which costs nothing more. Takes no memory, and answers on a stale map too. Costs a step down the
+ * tree for each block that a row of columns meets.
+ * Refused: CLOSED, OUTSIDE, BAD_BOX, WIDE_GRID, SMALL_BUFFER. */
+uint32_t octofix_grid(const octofix_map *map, const octofix_point *low, const octofix_point *high,
+                      int8_t *cells, size_t room, size_t *count, octofix_details *details);
 
 /* The smallest box that holds all voxels that are sought (OCTOFIX_KNOWN_VOXELS,
  * OCTOFIX_OCCUPIED_VOXELS or OCTOFIX_FREE_VOXELS), where the code is 0. Costs a walk.

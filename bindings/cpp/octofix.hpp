@@ -113,6 +113,22 @@ struct change {
     change_kind kind;
 };
 
+/// What the columns of voxels of a box show, each as one cell: the numbers and the order of the data
+/// of a nav_msgs/OccupancyGrid of ROS.
+struct occupancy_grid {
+    std::size_t width = 0, height = 0; ///< how many cells there are along x, and along y
+    double x = 0, y = 0;               ///< the lowest corner of the first one, in metres
+    double resolution = 0;             ///< the edge of a cell, in metres
+    /// OCTOFIX_CELL_OCCUPIED, .._FREE or .._UNKNOWN, the row of the lowest y first.
+    std::vector<std::int8_t> cells;
+
+    /// The cell of a column, in a row on y, both from 0.
+    [[nodiscard]] std::int8_t at(std::size_t column, std::size_t row) const {
+        if (column >= width || row >= height) throw std::out_of_range("no such cell of a grid");
+        return cells[row * width + column];
+    }
+};
+
 /// A known voxel and its value.
 struct voxel {
     voxel_key key;
@@ -594,6 +610,24 @@ class map {
     }
     /// All known voxels: for (voxel it : world.known_voxels()).
     [[nodiscard]] voxels known_voxels() const { return voxels(leaves()); }
+    /// What each column of voxels shows between two points, both included: occupied where a voxel
+    /// of it is, else free where one is, else unknown. There may be 2^26 columns.
+    [[nodiscard]] occupancy_grid grid(const point &low, const point &high) const {
+        details named{};
+        occupancy_grid found;
+        found.cells = listed<std::int8_t>([&](auto *it, auto... out) {
+            const std::uint32_t code = octofix_grid(it, &low, &high, out..., &named);
+            if (code != OCTOFIX_SMALL_BUFFER) detail::check(code, named);
+            return code;
+        });
+        const voxel_key first = key_of(low), last = key_of(high);
+        found.width = last.x - first.x + std::size_t{1};
+        found.height = last.y - first.y + std::size_t{1};
+        found.resolution = resolution();
+        found.x = (first.x - 32768) * found.resolution;
+        found.y = (first.y - 32768) * found.resolution;
+        return found;
+    }
     /// The smallest box that holds all known, all occupied, or all free, voxels.
     [[nodiscard]] std::optional<box> bounds(sought what = sought::known) const {
         return found([&](const octofix_map *it, box *out) {

@@ -138,15 +138,14 @@ class Server:
             return
         self.shown = tally.mapped
         header = Header(stamp=rospy.Time.now(), frame_id=self.fixed)
-        view = self.mapper.view()
-        occupied = view.cubes("occupied")
-        self.send(self.grid, lambda: messages.grid_of(view.grid(*self.band), header))
+        occupied = self.mapper.cubes("occupied")
+        self.send(self.grid, lambda: messages.grid_of(self.mapper.grid(*self.band), header))
         self.send(self.centers, lambda: messages.centers_of(occupied, header))
         self.send(self.octomap, lambda: self.octomap_of(header))
         colour = None if self.is_by_height else self.colour
         self.send(self.occupied, lambda: messages.markers_of(occupied, header, colour))
         if self.has_free:
-            free = view.cubes("free")
+            free = self.mapper.cubes("free")
             self.send(self.free, lambda: messages.markers_of(free, header, self.free_colour))
 
     def send(self, topic, message):

@@ -7,6 +7,7 @@ static octofix_details details;
 static octofix_block blocks[64];
 static octofix_key keys[64];
 static octofix_change changes[64];
+static int8_t cells[64];
 static uint8_t bytes[4096];
 static size_t count;
 
@@ -32,7 +33,7 @@ static void try_texts(void) {
         {OCTOFIX_WIDE_WHILE_TRACKED, "WideWhileTracked"}, {OCTOFIX_NOT_TRACKED, "NotTracked"},
         {29, "Syntax"}, {30, "LongLine"}, {31, "OpenScan"}, {32, "TooManyPoints"}, {33, "NoFile"},
         {34, "FileTooLarge"}, {OCTOFIX_OTHER_RESOLUTION, "OtherResolution"},
-        {37, "TooManyFrontiers"}, {38, "WideGrid"}, {39, "TooManyBoxes"},
+        {37, "TooManyFrontiers"}, {OCTOFIX_WIDE_GRID, "WideGrid"}, {39, "TooManyBoxes"},
         {OCTOFIX_CLOSED, "Closed"}, {OCTOFIX_OPEN, "Open"}, {OCTOFIX_UNKNOWN, "Unknown"},
         {OCTOFIX_CLEAR, "Clear"}, {OCTOFIX_NONE, "None"}, {OCTOFIX_MEMORY, "Memory"},
         {OCTOFIX_SMALL_BUFFER, "SmallBuffer"}, {OCTOFIX_BAD_ARGUMENT, "BadArgument"},
@@ -134,6 +135,7 @@ static void try_closed_handle(void) {
     EXPECT(octofix_leaves_of(&map, 99, blocks, 0, &count), 40);
     EXPECT_DETAILS(octofix_leaves_of_in(&map, 99, &p, &p, blocks, 0, &count, &details), 40, 0, 0);
     EXPECT(octofix_bounds(&map, 99, &box), 40);
+    EXPECT_DETAILS(octofix_grid(&map, &p, &p, cells, 0, &count, &details), 40, 0, 0);
     EXPECT(octofix_track(&map), 40);
     EXPECT(octofix_untrack(&map), 40);
     EXPECT(octofix_changes(&map, changes, 0, &count), 40);
@@ -503,6 +505,48 @@ static void try_lists(void) {
     octofix_close(&map);
 }
 
+/* Of a map with a free block of eight voxels from 0 on, and an occupied voxel above one of them. */
+static void try_grids(void) {
+    octofix_map map = opened(&default_odds, &default_limits);
+    const octofix_point p = at(50, 50, 50), q = at(150, 150, 150), top = at(150, 50, 250);
+    const octofix_point low = at(-50, -50, 0), high = at(150, 150, 250), far = at(0, 0, 3276800);
+    const octofix_point corner = at(-3276800, -3276800, 0), beyond = at(3276700, -3174400, 0);
+    const octofix_point last = at(3276700, -3174401, 0); /* in the row before it, which is 1023 */
+    EXPECT(octofix_edit_box(&map, &p, &q, OCTOFIX_SET, -100, &details), 0);
+    EXPECT(octofix_edit(&map, &top, OCTOFIX_SET, 100, true, &details), 0); /* it is stale now */
+    memset(cells, 7, sizeof cells);
+    EXPECT_DETAILS(octofix_grid(&map, &low, &high, cells, 8, &count, &details), 46, 0, 0);
+    EXPECT(count, 9);
+    EXPECT(cells[0], 7);
+    EXPECT_DETAILS(octofix_grid(&map, &low, &high, cells, 64, &count, &details), 0, 0, 0);
+    EXPECT(count, 9);
+    static const int8_t whole[10] = {-1, -1, -1, -1, 0, 100, -1, 0, 0, 7};
+    EXPECT(memcmp(cells, whole, sizeof whole), 0);
+    /* Below the occupied voxel, and at it alone. */
+    EXPECT_DETAILS(octofix_grid(&map, &p, &q, cells, 64, &count, &details), 0, 0, 0);
+    EXPECT(count, 4);
+    static const int8_t below[5] = {0, 0, 0, 0, 0};
+    EXPECT(memcmp(cells, below, sizeof below), 0);
+    EXPECT_DETAILS(octofix_grid(&map, &top, &top, cells, 1, &count, &details), 0, 0, 0);
+    EXPECT(count, 1);
+    EXPECT(cells[0], OCTOFIX_CELL_OCCUPIED);
+    /* What is refused writes nothing but the details. */
+    count = 4711;
+    cells[0] = 7;
+    EXPECT_DETAILS(octofix_grid(&map, &far, &far, cells, 64, &count, &details), 24, 1, 0);
+    EXPECT_DETAILS(octofix_grid(&map, &q, &far, cells, 64, &count, &details), 24, 2, 0);
+    EXPECT_DETAILS(octofix_grid(&map, &q, &p, cells, 64, &count, &details), 26, 0, 0);
+    /* 65,536 x 1,024 columns are 2^26, and one more row of them is too many. */
+    EXPECT_DETAILS(octofix_grid(&map, &corner, &last, cells, 64, &count, &details), 46, 0, 0);
+    EXPECT(count, 65536 * 1024);
+    count = 4711;
+    EXPECT_DETAILS(octofix_grid(&map, &corner, &beyond, cells, 64, &count, &details), 38,
+                   65536ull * 1025, 0);
+    EXPECT(count, 4711);
+    EXPECT(cells[0], 7);
+    octofix_close(&map);
+}
+
 static void try_rays(void) {
     const octofix_point p = at(50, 50, 50), q = at(-150, 50, 50), far = at(3276800, 0, 0);
     EXPECT_DETAILS(octofix_ray(RES, &p, &q, keys, 2, &count, &details), 46, 0, 0);
@@ -805,6 +849,7 @@ int main(void) {
     try_limits();
     try_queries();
     try_lists();
+    try_grids();
     try_rays();
     try_changes();
     try_refused_merges();

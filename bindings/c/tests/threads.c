@@ -14,6 +14,7 @@ struct room {
     octofix_answer answers[ASKED];
     octofix_block blocks[ROOM];
     octofix_change changes[ROOM];
+    int8_t cells[ROOM];
     uint8_t bytes[1 << 19];
     uint64_t sum;
 };
@@ -56,6 +57,8 @@ static uint64_t ask_lists(struct room *room) {
     sum = mixed_bytes(sum, blocks, count * sizeof *blocks);
     sum = mixed(sum, octofix_leaves_of(room->map, OCTOFIX_OCCUPIED_VOXELS, blocks, ROOM, &count));
     sum = mixed_bytes(sum, blocks, count * sizeof *blocks);
+    sum = mixed(sum, octofix_grid(room->map, &low, &high, room->cells, ROOM, &count, &details));
+    sum = mixed_bytes(sum, room->cells, count);
     sum = mixed(sum, octofix_changes(room->map, room->changes, ROOM, &count));
     sum = mixed_bytes(sum, room->changes, count * sizeof *room->changes);
     sum = mixed(sum, octofix_get_all(room->map, asked, ASKED, 16, room->answers, ASKED));

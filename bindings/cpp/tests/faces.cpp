@@ -239,6 +239,23 @@ void try_files(const std::filesystem::path &folder) {
     EXPECT(!tree.readBinary((folder / "world.snap").string()) && tree.search(1, 2, 3));
 }
 
+void try_grid() {
+    octofix::map world(0.1);
+    world.edit_box(metres(0, 0, 0), metres(0.3, 0.3, 0.3), octofix::event::set, 9);
+    world.edit(metres(0.4, 0.1, 0), octofix::event::set, -9);
+    const octofix::occupancy_grid grid = world.grid(metres(0.25, 0.1, 0), metres(0.45, 0.2, 0.1));
+    EXPECT(grid.width == 3 && grid.height == 2 && grid.resolution == 0.1);
+    EXPECT(std::fabs(grid.x - 0.2) < 1e-12 && std::fabs(grid.y - 0.1) < 1e-12);
+    EXPECT((grid.cells == std::vector<std::int8_t>{100, 100, 0, 100, 100, -1}));
+    EXPECT(grid.at(2, 0) == OCTOFIX_CELL_FREE && grid.at(2, 1) == OCTOFIX_CELL_UNKNOWN);
+    const auto code = [&](const octofix::point &low, const octofix::point &high) {
+        return code_of([&] { return world.grid(low, high); });
+    };
+    EXPECT(code(metres(0, 0, 0), metres(-1, 0, 0)) == OCTOFIX_BAD_BOX);
+    EXPECT(code(metres(0, 0, 0), metres(0, 0, 4000)) == OCTOFIX_OUTSIDE);
+    EXPECT(code(metres(-3276, -3276, 0), metres(3276, -2000, 0)) == OCTOFIX_WIDE_GRID);
+}
+
 void try_voxels() {
     octofix::map world(0.1);
     world.edit_box(metres(0, 0, 0), metres(0.3, 0.3, 0.3), octofix::event::set, 9);
@@ -477,6 +494,7 @@ int main(int, char **words) {
     try_far_points();
     try_refusals();
     try_files(words[1]);
+    try_grid();
     try_voxels();
     try_keys();
     try_models();

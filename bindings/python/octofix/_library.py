@@ -118,6 +118,7 @@ CALLS: dict[str, list[Any]] = {
     "list": [_HANDLE, *_TWO_POINTS, c_uint32, *_COUNTED_ROWS, _DETAILS],
     "leaves_of": [_HANDLE, c_uint32, *_COUNTED_ROWS],
     "leaves_of_in": [_HANDLE, c_uint32, *_TWO_POINTS, *_COUNTED_ROWS, _DETAILS],
+    "grid": [_HANDLE, *_TWO_POINTS, *_COUNTED_ROWS, _DETAILS],
     "bounds": [_HANDLE, c_uint32, POINTER(Box)],
     "ray": [c_int64, *_TWO_POINTS, *_COUNTED_ROWS, _DETAILS],
     "track": [_HANDLE],

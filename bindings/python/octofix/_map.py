@@ -450,6 +450,20 @@ class Map:
         rows = self._rows(_library.BLOCK, "leaves_of_in", _sought(kind), *corners)
         return blocks_of(rows, self._edge)
 
+    def grid(self, low: npt.ArrayLike, high: npt.ArrayLike) -> npt.NDArray[np.int8]:
+        """What each column of voxels shows of the box from the voxel of the point `low` to that of
+        `high`: int8 (rows on y, columns on x), 100 where a voxel of it is occupied, else 0 where
+        one is free, else -1.
+
+        Row 0 has the lowest y and column 0 the lowest x, so that `grid(..).tobytes()` is the data
+        of an OccupancyGrid of ROS; a picture has its rows the other way round, `grid(..)[::-1]`.
+        Refused: 24 (`point`), 26, and 38 (`count`) where there are more than 2^26 columns.
+        """
+        corners = _arrays.point(low, "low"), _arrays.point(high, "high")
+        cells = self._rows(np.int8, "grid", *corners)
+        width = corners[1].x // self._edge - corners[0].x // self._edge + 1
+        return cells.reshape(-1, width)
+
     def voxels(self, kind: str = "occupied", limit: int = 2**26) -> npt.NDArray[np.uint16]:
         """The keys of all voxels that are "occupied", "free" or "known", (n, 3), in Morton order.
 

@@ -4,7 +4,7 @@
     mapper.add_pose(12.30, (0, 0, 0.5))
     mapper.add_cloud(12.32, points)  # waits until there is a pose after it
     mapper.add_pose(12.40, (0.1, 0, 0.5))  # now it is mapped
-    grid = mapper.view().grid(0.1, 1.8)
+    grid = mapper.grid(0.1, 1.8)
 
 Times are numbers of one unit, as seconds, or whole nanoseconds; what is compared with them, as
 `patience`, is of that unit too. Several threads may call all of this at once. It knows no
@@ -17,7 +17,8 @@ import math
 import threading
 from bisect import bisect_left
 from dataclasses import dataclass
-from typing import Any, NamedTuple, Protocol
+from functools import partial
+from typing import Any, Callable, NamedTuple, Protocol
 
 import numpy as np
 import numpy.typing as npt
@@ -167,36 +168,18 @@ class View:
 
         ValueError where `low` isn't at most `high`, or there are more than 2^26 squares.
         """
-        if not low <= high:
-            raise ValueError(f"a band from {low} to {high} m has no height")
-        box = self.leaves.box()
-        if box is None:
-            return Grid(np.empty((0, 0), np.int8), (0.0, 0.0), self.resolution)
-        first, last = (it.copy() for it in box)
-        floor, top = (self._layer(it) for it in (low, high))
-        first[2], last[2] = max(first[2], floor), min(last[2], top)
-        try:
-            plane = planes.band(self.leaves, first, last)
-        except Unusable as why:
-            raise ValueError(str(why)) from None
-        x, y = ((first[:2] - ORIGIN) * self.leaves.resolution / NANO).tolist()
-        return Grid(_CELLS[plane], (x, y), self.resolution)
+        plane_of = partial(planes.band, self.leaves)
+        return _grid(plane_of, self.leaves.box(), (low, high), self.leaves.resolution)
 
     def cubes(self, kind: str = "occupied") -> Cubes:
         """The greatest blocks that are "occupied" or "free" throughout and have one value, in
         Morton order."""
-        if kind not in _KINDS:
-            raise ValueError(f"kind is 'occupied' or 'free', not {kind!r}")
+        _check_kind(kind)
         chosen = self.leaves.of_class(_KINDS[kind])
         edges = chosen.edges()
         halves = 2 * (chosen.lows() - ORIGIN) + edges[:, None]
         edge = chosen.resolution
         return Cubes(halves * edge / (2 * NANO), edges * edge / NANO)
-
-    def _layer(self, height: float) -> int:
-        """The key on z of the voxels at a height, which may lie beyond the map."""
-        bounded = min(max(height, -_FARTHEST), _FARTHEST)
-        return int(round(bounded * NANO) // self.leaves.resolution + ORIGIN)
 
 
 @dataclass(eq=False)
@@ -286,6 +269,18 @@ class Mapper:
         blocks = self.world.leaves()
         return View(Leaves.of(blocks, self.world.odds.threshold))
 
+    def grid(self, low: float = -math.inf, high: float = math.inf) -> Grid:
+        """The grid of what the map has now, as `View.grid`, without a list of all that is known."""
+        plane_of = partial(planes.band_of, self.world)
+        return _grid(plane_of, self.world.bounds(), (low, high), self.world.resolution_nm)
+
+    def cubes(self, kind: str = "occupied") -> Cubes:
+        """The cubes of what the map has now, as `View.cubes`. The occupied ones are found without a
+        look at all that is free."""
+        _check_kind(kind)
+        blocks = self.world.leaves(kind=kind)
+        return Cubes(blocks.centers(), blocks.sizes())
+
     def changes(self) -> Changes:
         """The voxels that have another class than at the last call, or when the mapper was made or
         cleared. Refused: 28 where it isn't `is_tracked`."""
@@ -350,6 +345,42 @@ class Mapper:
             placed = at.turned(points) + at.at
             points = points[((placed >= self._box[0]) & (placed <= self._box[1])).all(axis=1)]
         return points
+
+
+def _grid(
+    plane_of: Callable[..., npt.NDArray[np.int8]],
+    box: Any,
+    heights: tuple[float, float],
+    resolution: int,
+) -> Grid:
+    """The grid between two heights of a box of keys, or of none: `plane_of` has the classes of
+    columns."""
+    low, high = heights
+    edge = float(resolution / NANO)
+    if not low <= high:
+        raise ValueError(f"a band from {low} to {high} m has no height")
+    if box is None:
+        return Grid(np.empty((0, 0), np.int8), (0.0, 0.0), edge)
+    first, last = (np.array(it, np.int64) for it in box)
+    floor, top = (_layer(it, resolution) for it in heights)
+    first[2], last[2] = max(first[2], floor), min(last[2], top)
+    try:
+        plane = plane_of(first, last)
+    except Unusable as why:
+        raise ValueError(str(why)) from None
+    x, y = ((first[:2] - ORIGIN) * resolution / NANO).tolist()
+    return Grid(_CELLS[plane], (x, y), edge)
+
+
+def _layer(height: float, resolution: int) -> int:
+    """The key on z of the voxels at a height, which may lie beyond the map."""
+    bounded = min(max(height, -_FARTHEST), _FARTHEST)
+    return int(round(bounded * NANO) // resolution + ORIGIN)
+
+
+def _check_kind(kind: str) -> None:
+    if kind not in _KINDS:
+        raise ValueError(f"kind is 'occupied' or 'free', not {kind!r}")
 
 
 def _check_time(time: float) -> None:

@@ -216,21 +216,25 @@ class Clouds(InMap):
 
 
 class Views(InMap):
+    def sights(self):
+        """A mapper and its view, which answer the same."""
+        mapper = self.mapper()
+        return mapper, mapper.view()
+
     def test_grid(self):
         """Two columns beside each other, a free one of two voxels below an occupied one, and one
         that is free, one row further."""
         self.world.set([[0.05, 0.05, 0.05], [0.05, 0.05, 0.25], [0.15, 0.15, 0.05]], [-9, 9, -9])
-        grid = self.mapper().view().grid()
-        self.assertEqual(grid.cells.tolist(), [[100, -1], [-1, 0]])
-        self.assertEqual((grid.cells.dtype, grid.origin, grid.resolution), (np.int8, (0, 0), 0.1))
-        grid = self.mapper().view().grid(-1, 0.19)
-        self.assertEqual(grid.cells.tolist(), [[0, -1], [-1, 0]])
-        grid = self.mapper().view().grid(0.2, 0.2)
-        self.assertEqual(grid.cells.tolist(), [[100, -1], [-1, -1]])
-        grid = self.mapper().view().grid(5, math.inf)
-        self.assertEqual(grid.cells.tolist(), [[-1, -1], [-1, -1]])
-        with self.assertRaises(ValueError):
-            self.mapper().view().grid(1, 0)
+        for it in self.sights():
+            grid = it.grid()
+            self.assertEqual(grid.cells.tolist(), [[100, -1], [-1, 0]])
+            self.assertEqual(grid.cells.dtype, np.int8)
+            self.assertEqual((grid.origin, grid.resolution), ((0, 0), 0.1))
+            self.assertEqual(it.grid(-1, 0.19).cells.tolist(), [[0, -1], [-1, 0]])
+            self.assertEqual(it.grid(0.2, 0.2).cells.tolist(), [[100, -1], [-1, -1]])
+            self.assertEqual(it.grid(5, math.inf).cells.tolist(), [[-1, -1], [-1, -1]])
+            with self.assertRaises(ValueError):
+                it.grid(1, 0)
 
     def test_grid_of_blocks_is_that_of_voxels(self):
         rng = np.random.default_rng(2)
@@ -238,7 +242,9 @@ class Views(InMap):
             low = rng.uniform(-2, 2, 3)
             number = int(rng.choice([-400, 850]))
             self.world.edit_box(low, low + rng.uniform(0, 1.5, 3), octofix.Event.SET, number)
-        grid = self.mapper().view().grid(-0.5, 0.7)
+        grid, of_view = (it.grid(-0.5, 0.7) for it in self.sights())
+        self.assertEqual(grid.cells.tolist(), of_view.cells.tolist())
+        self.assertEqual(grid[1:], of_view[1:])
         came = {}
         for kind, cell in (("free", 0), ("occupied", 100)):
             for x, y, z in self.world.voxels(kind).tolist():
@@ -253,17 +259,17 @@ class Views(InMap):
     def test_cubes(self):
         self.world.edit_box((0, 0, 0), (0.19, 0.19, 0.19), octofix.Event.SET, 9)
         self.world.set([[0.25, 0.05, 0.05], [0.35, 0.05, 0.05]], [9, -9])
-        cubes = self.mapper().view().cubes()
-        np.testing.assert_allclose(cubes.centers, [[0.1, 0.1, 0.1], [0.25, 0.05, 0.05]])
-        np.testing.assert_allclose(cubes.sizes, [0.2, 0.1])
-        free = self.mapper().view().cubes("free")
-        np.testing.assert_allclose(free.centers, [[0.35, 0.05, 0.05]])
-        with self.assertRaises(ValueError):
-            self.mapper().view().cubes("unknown")
+        for it in self.sights():
+            cubes = it.cubes()
+            np.testing.assert_allclose(cubes.centers, [[0.1, 0.1, 0.1], [0.25, 0.05, 0.05]])
+            np.testing.assert_allclose(cubes.sizes, [0.2, 0.1])
+            np.testing.assert_allclose(it.cubes("free").centers, [[0.35, 0.05, 0.05]])
+            with self.assertRaises(ValueError):
+                it.cubes("unknown")
 
     def test_nothing(self):
-        view = self.mapper().view()
-        self.assertEqual((view.grid().cells.shape, len(view.cubes().sizes)), ((0, 0), 0))
+        for it in self.sights():
+            self.assertEqual((it.grid().cells.shape, len(it.cubes().sizes)), ((0, 0), 0))
 
     def test_a_view_stays(self):
         mapper = self.mapper()

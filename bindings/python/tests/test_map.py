@@ -151,6 +151,25 @@ class Edits(unittest.TestCase):
         for call in (self.map.leaves, self.map.voxels, self.map.bounds):
             self.assertRaisesRegex(ValueError, "not 'unknown'", call, kind="unknown")
 
+    def test_a_grid(self):
+        self.map.set([[0, 0, 0], [0.1, 0, 0], [0.1, 0, 0.3], [0.2, 0.1, 0]], [9, 9, 10, 10])
+        found = self.map.grid((-0.1, 0, 0), (0.2, 0.1, 0.3))
+        self.assertEqual(found.dtype, np.int8)
+        self.assertEqual(found.tolist(), [[-1, 0, 100, -1], [-1, -1, -1, 100]])
+        below = self.map.grid((-0.1, 0, 0), (0.2, 0.1, 0.25))
+        self.assertEqual(below.tolist(), [[-1, 0, 0, -1], [-1, -1, -1, 100]])
+        self.assertEqual(self.map.grid((0, 0, 0), (0, 0, 0)).tolist(), [[0]])
+        self.assertEqual(self.map.grid((-1, -1, -1), (1, 1, -0.5)).shape, (21, 21))
+        self.assertEqual(self.map.grid((-100, -90, 0), (99, 99, 0)).shape, (1891, 1991))
+
+    def test_grids_that_are_refused(self):
+        with self.assertRaisesRegex(octofix.Refused, "^refused 26 BadBox$"):
+            self.map.grid((0, 0, 0), (-1, 0, 0))
+        with self.assertRaisesRegex(octofix.Refused, "^refused 24 Outside point 2$"):
+            self.map.grid((0, 0, 0), (0, 3276.8, 0))
+        with self.assertRaisesRegex(octofix.Refused, "^refused 38 WideGrid count 67174400$"):
+            self.map.grid((-3276.8, -3276.8, 0), (3276.7, -3174.4, 0))
+
     def test_counts(self):
         self.map.set([[0, 0, 0]], 20)
         self.map.prune()

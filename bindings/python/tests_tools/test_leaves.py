@@ -4,6 +4,7 @@ import unittest
 
 import numpy as np
 
+import octofix
 from octofix.tools import planes
 from octofix.tools.leaves import FREE, OCCUPIED, ORIGIN, UNKNOWN, Leaves, overlay
 from octofix.tools.morton import decode, encode
@@ -26,6 +27,13 @@ def leaves_of(classes):
     found = classes[tuple(keys.T)].astype(np.int8)
     depths = np.full(len(keys), 16)
     return merged(Leaves.sorted(encode(keys + LOW), depths, found, 10**9))
+
+
+def map_of(classes):
+    world = octofix.Map(1)
+    for one, number in ((FREE, -9), (OCCUPIED, 9)):
+        world.set(world.centers(np.argwhere(classes == one) + LOW), number)
+    return world
 
 
 def merged(leaves):
@@ -102,6 +110,8 @@ class AgainstVoxels(unittest.TestCase):
             leaves = leaves_of(classes)
             plane = planes.band(leaves, low, high)
             np.testing.assert_array_equal(plane, classes.max(axis=2).T)
+            with map_of(classes) as world:
+                np.testing.assert_array_equal(planes.band_of(world, low, high), plane)
             is_there = classes == OCCUPIED
             tops = np.where(is_there.any(2), LOW + EDGE - 1 - is_there[..., ::-1].argmax(2), -1)
             came = planes.heights(leaves.of_class(OCCUPIED), low, high)

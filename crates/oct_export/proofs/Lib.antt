@@ -2,6 +2,7 @@ pub mod Columns
 pub mod Pushes
 pub mod Runs
 pub mod Rows
+pub mod GridRows
 pub mod Places
 pub mod Boxes
 pub mod Counts

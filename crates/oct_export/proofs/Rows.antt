@@ -11,7 +11,7 @@ use Rattle.oct_key.specs.Order.{numbers_from}
 use Rattle.oct_odds.specs.declared.event.Class.{Class}
 use Rattle.oct_values.specs.Classes.{Classes}
 use Rattle.oct_export.specs.Bands.{band_class, numbers_to}
-use Rattle.oct_export.specs.Grids.{grey_of, row_of, rows_of, grid_head, pgm_text}
+use Rattle.oct_export.specs.Grids.{grey_of, shown_row, row_of, rows_of, grid_head, pgm_text}
 use Rattle.oct_io.specs.Taken.{IsCutOff}
 use Rattle.oct_export.specs.Pushed.{IsPushed}
 use Rattle.oct_export.proofs.Columns.{numbers_append}
@@ -22,16 +22,17 @@ unfolding numbers_from
 numbers_length z zero = refl
 numbers_length z (suc n) = ap suc (numbers_length (z + 1) n)
 
--- the first n bytes of a row
-unfoldable pub row_front : Classes → Voxel → Voxel → ℕ → ℕ → List ℕ
-row_front c lo hi y n = map (λ x. grey_of (band_class c lo.z hi.z x y)) (numbers_from lo.x n)
+-- the first n columns of a row, as they are written
+unfoldable pub row_front : {A : Type 0} → (Class → A) → Classes → Voxel → Voxel → ℕ → ℕ → List A
+row_front f c lo hi y n = map (λ x. f (band_class c lo.z hi.z x y)) (numbers_from lo.x n)
 
-pub row_none : (c : Classes) (lo hi : Voxel) (y n : ℕ) → n ≡ 0 → row_front c lo hi y n ≡ []
+pub row_none : {A : Type 0} (f : Class → A) (c : Classes) (lo hi : Voxel) (y n : ℕ) → n ≡ 0
+    → row_front f c lo hi y n ≡ []
 unfolding row_front numbers_from
-row_none c lo hi y n is = ap (row_front c lo hi y) is
+row_none f c lo hi y n is = ap (row_front f c lo hi y) is
 
-same_bytes : (f : ℕ → ℕ) (z n g : ℕ) → ((m : ℕ) → z ≤ m → m < z + n → f m ≡ g)
-    → map f (numbers_from z n) ≡ replicate n g
+same_bytes : {A : Type 0} (f : ℕ → A) (z n : ℕ) (g : A)
+    → ((m : ℕ) → z ≤ m → m < z + n → f m ≡ g) → map f (numbers_from z n) ≡ replicate n g
 unfolding numbers_from
 same_bytes f z zero g h = refl
 same_bytes f z (suc n) g h =
@@ -40,42 +41,44 @@ same_bytes f z (suc n) g h =
     (same_bytes f (z + 1) n g (λ m low high. h m (omega (arith, low)) (omega (arith, high))))
 
 -- columns that show the same, after these
-pub row_more : (c : Classes) (lo hi : Voxel) (y x next g : ℕ) (k : Class) → lo.x ≤ x → x < next
-    → g ≡ grey_of k
+pub row_more : {A : Type 0} (f : Class → A) (c : Classes) (lo hi : Voxel) (y x next : ℕ) (g : A)
+    (k : Class) → lo.x ≤ x → x < next → g ≡ f k
     → ((m : ℕ) → x ≤ m → m < next → band_class c lo.z hi.z m y ≡ k)
-    → row_front c lo hi y (x - lo.x) ++ replicate (next - x) g ≡ row_front c lo hi y (next - lo.x)
+    → row_front f c lo hi y (x - lo.x) ++ replicate (next - x) g
+    ≡ row_front f c lo hi y (next - lo.x)
 unfolding row_front
-row_more c lo hi y x next g k low up grey same =
+row_more {A} f c lo hi y x next g k low up grey same =
     let parts : next - lo.x ≡ (x - lo.x) + (next - x) = omega (arith, low, up) in
     let from : lo.x + (x - lo.x) ≡ x = omega (arith, low) in
-    sym (ap (row_front c lo hi y) parts
-    ∙ ap (map (λ x. grey_of (band_class c lo.z hi.z x y)))
+    sym (ap (row_front f c lo hi y) parts
+    ∙ ap (map (λ x. f (band_class c lo.z hi.z x y)))
     (numbers_append lo.x (x - lo.x) (next - x))
-    ∙ map-append (λ x. grey_of (band_class c lo.z hi.z x y)) (numbers_from lo.x (x - lo.x))
+    ∙ map-append (λ x. f (band_class c lo.z hi.z x y)) (numbers_from lo.x (x - lo.x))
     (numbers_from (lo.x + (x - lo.x)) (next - x))
-    ∙ ap (λ (l : List ℕ). row_front c lo hi y (x - lo.x) ++ l)
-    (ap (λ (n : ℕ). map (λ x. grey_of (band_class c lo.z hi.z x y)) (numbers_from n (next - x)))
+    ∙ ap (λ (l : List A). row_front f c lo hi y (x - lo.x) ++ l)
+    (ap (λ (n : ℕ). map (λ x. f (band_class c lo.z hi.z x y)) (numbers_from n (next - x)))
     from
-    ∙ same_bytes (λ x. grey_of (band_class c lo.z hi.z x y)) x (next - x) g
-    (λ m l h. ap grey_of (same m l (omega (arith, h, up))) ∙ sym grey)))
+    ∙ same_bytes (λ x. f (band_class c lo.z hi.z x y)) x (next - x) g
+    (λ m l h. ap f (same m l (omega (arith, h, up))) ∙ sym grey)))
 
 -- the whole row
-pub row_whole : (c : Classes) (lo hi : Voxel) (y n : ℕ) → n ≡ hi.x + 1 - lo.x
-    → row_front c lo hi y n ≡ row_of c lo hi y
-unfolding row_front row_of
-row_whole c lo hi y n is = ap (row_front c lo hi y) is
+pub row_whole : {A : Type 0} (f : Class → A) (c : Classes) (lo hi : Voxel) (y n : ℕ)
+    → n ≡ hi.x + 1 - lo.x → row_front f c lo hi y n ≡ shown_row f c lo hi y
+unfolding row_front shown_row
+row_whole f c lo hi y n is = ap (row_front f c lo hi y) is
 
 -- what is left of it
-pub row_rest : (c : Classes) (lo hi : Voxel) (y n : ℕ) → n ≤ hi.x + 1 - lo.x
-    → (rest : List ℕ) × (row_front c lo hi y n ++ rest ≡ row_of c lo hi y)
+row_rest : {A : Type 0} (f : Class → A) (c : Classes) (lo hi : Voxel) (y n : ℕ)
+    → n ≤ hi.x + 1 - lo.x
+    → (rest : List A) × (row_front f c lo hi y n ++ rest ≡ shown_row f c lo hi y)
 unfolding row_front
-row_rest c lo hi y n few = (
-  map (λ x. grey_of (band_class c lo.z hi.z x y)) (numbers_from (lo.x + n) (hi.x + 1 - lo.x - n)),
-  sym (map-append (λ x. grey_of (band_class c lo.z hi.z x y)) (numbers_from lo.x n)
+row_rest f c lo hi y n few = (
+  map (λ x. f (band_class c lo.z hi.z x y)) (numbers_from (lo.x + n) (hi.x + 1 - lo.x - n)),
+  sym (map-append (λ x. f (band_class c lo.z hi.z x y)) (numbers_from lo.x n)
       (numbers_from (lo.x + n) (hi.x + 1 - lo.x - n)))
-      ∙ ap (map (λ x. grey_of (band_class c lo.z hi.z x y)))
+      ∙ ap (map (λ x. f (band_class c lo.z hi.z x y)))
       (sym (numbers_append lo.x n (hi.x + 1 - lo.x - n)))
-      ∙ row_whole c lo hi y (n + (hi.x + 1 - lo.x - n)) (omega (arith, few)),
+      ∙ row_whole f c lo hi y (n + (hi.x + 1 - lo.x - n)) (omega (arith, few)),
 )
 
 -- a row that ends early in a run
@@ -83,12 +86,12 @@ pub row_cut : (c : Classes) (lo hi : Voxel) (y x next g : ℕ) (k : Class) → l
     → next ≤ hi.x + 1 → g ≡ grey_of k
     → ((m : ℕ) → x ≤ m → m < next → band_class c lo.z hi.z m y ≡ k)
     → (rest : List ℕ)
-    × (row_front c lo hi y (x - lo.x) ++ (replicate (next - x) g ++ rest) ≡ row_of c lo hi y)
+    × (row_front grey_of c lo hi y (x - lo.x) ++ (replicate (next - x) g ++ rest) ≡ row_of c lo hi y)
 row_cut c lo hi y x next g k low up most grey same =
-    let (rest, is) = row_rest c lo hi y (next - lo.x) (omega (arith, low, up, most)) in (
+    let (rest, is) = row_rest grey_of c lo hi y (next - lo.x) (omega (arith, low, up, most)) in (
       rest,
-      sym (append_parts (row_front c lo hi y (x - lo.x)) (replicate (next - x) g) rest)
-          ∙ ap (λ (l : List ℕ). l ++ rest) (row_more c lo hi y x next g k low up grey same) ∙ is,
+      sym (append_parts (row_front grey_of c lo hi y (x - lo.x)) (replicate (next - x) g) rest)
+          ∙ ap (λ (l : List ℕ). l ++ rest) (row_more grey_of c lo hi y x next g k low up grey same) ∙ is,
     )
   where
     append_parts : (a b d : List ℕ) → (a ++ b) ++ d ≡ a ++ (b ++ d)
@@ -97,14 +100,14 @@ row_cut c lo hi y x next g k low up most grey same =
 
 pub row_cut_off : (c : Classes) (lo hi : Voxel) (y x next g : ℕ) (k : Class) (h0 h1 : List ℕ)
     (w0 w1 w2 : Option (List ℕ))
-    → IsPushed (row_front c lo hi y (x - lo.x)) h0 h1 w0 w1
+    → IsPushed (row_front grey_of c lo hi y (x - lo.x)) h0 h1 w0 w1
     → IsCutOff w1 w2 (h1 ++ replicate (next - x) g) → g ≡ grey_of k
     → lo.x ≤ x → x < next → next ≤ hi.x + 1
     → ((m : ℕ) → x ≤ m → m < next → band_class c lo.z hi.z m y ≡ k)
     → IsCutOff w0 w2 (h0 ++ row_of c lo hi y)
 row_cut_off c lo hi y x next g k h0 h1 w0 w1 w2 pushed cut grey low up most same =
     let (rest, is) = row_cut c lo hi y x next g k low up most grey same in
-    second_cut (row_front c lo hi y (x - lo.x))
+    second_cut (row_front grey_of c lo hi y (x - lo.x))
     (replicate (next - x) g) rest (row_of c lo hi y) h0 h1 w0 w1 w2 pushed cut is
 
 -- ---- rows
@@ -154,10 +157,11 @@ rows_cut c lo hi n all few =
 
 -- ---- lengths
 
-row_length : (c : Classes) (lo hi : Voxel) (y : ℕ) → length (row_of c lo hi y) ≡ hi.x + 1 - lo.x
-unfolding row_of
-row_length c lo hi y =
-    length-map (numbers_to lo.x hi.x) (λ x. grey_of (band_class c lo.z hi.z x y))
+pub row_length : {A : Type 0} (f : Class → A) (c : Classes) (lo hi : Voxel) (y : ℕ)
+    → length (shown_row f c lo hi y) ≡ hi.x + 1 - lo.x
+unfolding shown_row
+row_length f c lo hi y =
+    length-map (numbers_to lo.x hi.x) (λ x. f (band_class c lo.z hi.z x y))
     ∙ numbers_length lo.x (hi.x + 1 - lo.x)
 
 pub rows_length : (c : Classes) (lo hi : Voxel) (n : ℕ) → length (rows_of c lo hi n)
@@ -165,7 +169,7 @@ pub rows_length : (c : Classes) (lo hi : Voxel) (n : ℕ) → length (rows_of c 
 rows_length c lo hi zero = ap length (rows_none c lo hi) ∙ omega arith
 rows_length c lo hi (suc n) =
     let before = rows_length c lo hi n in
-    let one = row_length c lo hi (hi.y - n) in
+    let one = row_length grey_of c lo hi (hi.y - n) in
     let next : suc n ≡ n + 1 = omega arith in
     let all : length (rows_of c lo hi (suc n))
     ≡ length (rows_of c lo hi n) + length (row_of c lo hi (hi.y - n))

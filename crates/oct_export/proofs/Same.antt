@@ -17,7 +17,7 @@ use Rattle.oct_values.proofs.Sums.{All-follows, list_all-same}
 use Rattle.oct_export.specs.Bands.{band_class, has_class, numbers_to, shown}
 use Rattle.oct_export.specs.Boxes.{is_full, boxes_of, boxes_below}
 use Rattle.oct_export.specs.BoxTexts.{box_lines, scene_text}
-use Rattle.oct_export.specs.Grids.{grey_of, row_of, rows_of, grid_head, pgm_text}
+use Rattle.oct_export.specs.Grids.{grey_of, shown_row, row_of, rows_of, grid_head, pgm_text}
 use Rattle.oct_export.proofs.Boxes.{first_boxes, boxes_of_full, boxes_of_parts, boxes_of_root}
 
 -- ---- numbers, one after another
@@ -73,7 +73,7 @@ same_band c d lo hi x y same on_x on_y on_z =
 
 same_row : (c d : Classes) (lo hi : Voxel) (y : ℕ) → ((k : Voxel) → IsInMap k → c k ≡ d k)
     → IsInMap hi → y < 65536 → row_of c lo hi y ≡ row_of d lo hi y
-unfolding row_of
+unfolding shown_row
 same_row c d lo hi y same inside on_y =
     let on_x = inside.x in
     map_same (λ x. grey_of (band_class c lo.z hi.z x y))

@@ -1,8 +1,10 @@
-//! Maps as other programs read them: a height band as a grey picture, and occupied space as boxes.
+//! Maps as other programs read them: a height band as a grey picture or as the cells of a grid, and
+//! occupied space as boxes.
 //!
 //! ```text
 //! let grey = band(&tree, x, y, low, high);              // one column, seen along z
 //! let bytes = pgm(&tree, low_corner, high_corner, &mut sink)?;
+//! fill_cells(&tree, low_corner, high_corner, &mut cells);
 //! let boxes = box_count(&tree);
 //! let bytes = vrml(&tree, &mut sink)?;
 //! ```
@@ -14,6 +16,9 @@
 //! - [`pgm`] writes the columns of a box as a picture in the form PGM (`pgm_text`): a byte for each
 //!   column, black where it is occupied, 254 where it is free and 205 where it is unknown, as the
 //!   map server of ROS has them. The first row is that of the highest y, and x ascends in it.
+//! - [`fill_cells`] puts the same columns into the cells of an occupancy grid (`cells_of`): 100, 0
+//!   and -1 of an `OccupancyGrid` of ROS, the row of the lowest y first. [`column_count`] says how
+//!   many these are.
 //! - [`vrml`] writes a scene of VRML97 (`scene_text`) with a box for each block that is occupied
 //!   throughout and is the whole map or lies in one that isn't (`boxes_of`), by ascending Morton
 //!   code of its lowest voxel, with its middle and its edge in metres, to the half nanometre.
@@ -34,9 +39,10 @@
 //! the fixed buffer of a `Gather`, and lines are made in one of their own.
 //!
 //! Any viewer of PGM shows the grid, and any viewer of VRML97 the boxes. The tasks `project` and
-//! `vrml` of the program stand on this crate.
+//! `vrml` of the program stand on this crate, and so does `octofix_grid` of the library.
 #![tactic(auto)]
 
+mod cells;
 mod counting;
 mod grid;
 mod laws;
@@ -46,6 +52,7 @@ mod strip;
 #[cfg(test)]
 mod tests;
 
+pub use cells::{column_count, fill_cells};
 pub use counting::box_count;
 pub use grid::pgm;
 pub use laws::boxes_rise;

@@ -1,21 +1,17 @@
 -- What the tasks over a file write that show its map to other programs.
-use Rattle.std.specs.Prelude.{ℕ, ◌+◌, ◌-◌, ◌*◌, ◌^◌, length, nat_lt, if◌then◌else◌}
+use Rattle.std.specs.Prelude.{ℕ, ◌^◌, length, nat_lt, if◌then◌else◌}
 use Rattle.oct_key.specs.declared.point.Point.{Point}
 use Rattle.oct_key.specs.Boxes.{Window}
 use Rattle.oct_bt.specs.DataClasses.{data_classes}
 use Rattle.oct_bt.specs.File.{FileRead}
 use Rattle.oct_export.specs.Boxes.{boxes_of}
 use Rattle.oct_export.specs.BoxTexts.{scene_text}
-use Rattle.oct_export.specs.Grids.{pgm_text}
+use Rattle.oct_export.specs.Grids.{column_count, pgm_text}
 use Rattle.oct_ending.specs.declared.status.Status.TheVariants.{Done}
 use Rattle.oct_values.specs.Classes.{Classes}
 use Rattle.oct_ending.specs.Answer.{Answer}
 use Rattle.oct_file_tasks.specs.Refusals.{refused, box_between, reply_in}
 use Rattle.oct_file_tasks.specs.declared.refusal.Refusal.TheVariants.{WideGrid, TooManyBoxes}
-
--- how many columns a box has
-abbrev pub column_count : Window → ℕ
-column_count box = (box.hi.x + 1 - box.lo.x) * (box.hi.y + 1 - box.lo.y)
 
 -- the reply that shows a box as a picture, where it has no more than 2^26 columns
 unfoldable pub grid_reply : Classes → Window → Answer

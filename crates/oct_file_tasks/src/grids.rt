@@ -1,12 +1,11 @@
 //! The map of a file as other programs read it: a height band as a grid, and occupied space as
 //! boxes.
-ghost use Rattle.std.specs.Prelude.{◌≡◌, ◌≤◌, ◌^◌, length};
+ghost use Rattle.std.specs.Prelude.{◌≤◌, ◌^◌, length};
 ghost use Rattle.oct_key.specs.Boxes.{IsBox};
 ghost use Rattle.oct_bt.specs.DataClasses.{data_classes};
 ghost use Rattle.oct_bt.specs.NodeData.{IsAccepted};
 ghost use Rattle.oct_ending.specs.Counts.{IsSinkCounted};
-ghost use Rattle.oct_file_tasks.specs.Grids.{column_count, grid_reply, project_reply};
-ghost use Rattle.oct_file_tasks.specs.Grids.{scene_reply};
+ghost use Rattle.oct_file_tasks.specs.Grids.{grid_reply, project_reply, scene_reply};
 ghost use Rattle.oct_ending.specs.Answer.{EndsUnread};
 ghost use Rattle.oct_file_tasks.specs.OverFile.{IsOfReply};
 
@@ -15,7 +14,7 @@ use crate::refusal::{Refusal, box_between};
 use crate::sending::send_refusal;
 use oct_bt::BtFile;
 use oct_ending::{Status, status_written};
-use oct_export::{box_count, pgm, vrml};
+use oct_export::{box_count, column_count, pgm, vrml};
 use oct_io::Sink;
 use oct_key::{Key, Point};
 use std::alloc::Global;
@@ -41,16 +40,6 @@ pub fn project<K: Sink>(alloc: Global, file: &BtFile, lo: Point, hi: Point, sink
         Ok(window) => project_between(alloc, file, window.lo(), window.hi(), sink),
         Err(refusal) => send_refusal(alloc, refusal, sink),
     }
-}
-
-/// How many columns the box of two corners has.
-fn column_count(low: Key, high: Key) -> u64
-    requires order { IsBox low high }
-    ensures { result ≡ column_count (record { lo = low; hi = high }) }
-{
-    let width = u32::from(high.x - low.x) + 1;
-    let height = u32::from(high.y - low.y) + 1;
-    u64::from(width) * u64::from(height)
 }
 
 /// Writes the columns of a file between two corners.

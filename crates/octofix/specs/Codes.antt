@@ -56,6 +56,7 @@ refusal_code refusal.BadResolution = 3
 refusal_code (refusal.BadModel which) = 4
 refusal_code refusal.ZeroQuaternion = 5
 refusal_code refusal.OtherOdds = code.other_odds
+refusal_code (refusal.WideGrid count) = 38
 refusal_code (refusal.Map fault) = map_code fault
 refusal_code (refusal.File fault) = file_code fault
 
@@ -124,6 +125,7 @@ file_details bt.Memory = no_details
 abbrev pub refusal_details : Refusal → Details
 refusal_details (refusal.BadArgument index) = details index 0
 refusal_details (refusal.BadModel which) = details (field_number which) 0
+refusal_details (refusal.WideGrid count) = details count 0
 refusal_details (refusal.Map fault) = map_details fault
 refusal_details (refusal.File fault) = file_details fault
 refusal_details refusal.Closed = no_details

@@ -7,6 +7,7 @@ pub mod Changes
 pub mod Codes
 pub mod Edits
 pub mod Files
+pub mod Grids
 pub mod HandleLends
 pub mod Handles
 pub mod InMap

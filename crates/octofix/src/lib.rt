@@ -29,6 +29,7 @@
 //! - **The map.** A query leaves the map as it was. What a change leaves is the map's own record of
 //!   it (`IsVoxelEdit`, `IsBoxEdit`, `IsMapScan` and the others), where it is done and where it is
 //!   refused. [`edits::octofix_edit_all`] is a chain of single edits (`AreEdits`).
+//! - **Grids.** [`grids::octofix_grid`] writes what the columns of a box show (`cells_between`).
 //! - **Two maps.** What a merge leaves of both is said by their maps before (`AreMerged`), and of
 //!   two handles that aren't one.
 //! - **The handle.** A call on a handle without a map is refused and leaves it so, a second open is
@@ -49,6 +50,7 @@ mod casts;
 mod changes;
 mod edits;
 mod files;
+mod grids;
 mod handle;
 mod limits;
 mod lists;

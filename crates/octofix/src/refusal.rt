@@ -62,6 +62,8 @@ pub enum Refusal {
     ZeroQuaternion,
     /// The log-odds of the two maps aren't the same.
     OtherOdds,
+    /// A grid has more than 2^26 columns.
+    WideGrid { count: u64 },
     /// The map refuses the call.
     Map(MapFault),
     /// The bytes aren't a file of a map.
@@ -123,6 +125,7 @@ impl Refusal {
             Refusal::BadModel { .. } => 4,
             Refusal::ZeroQuaternion => 5,
             Refusal::OtherOdds => OTHER_ODDS,
+            Refusal::WideGrid { .. } => 38,
             Refusal::Map(fault) => map_code(fault),
             Refusal::File(fault) => file_code(fault),
         }
@@ -156,6 +159,7 @@ impl Refusal {
         match self {
             Refusal::BadArgument { index } => Details::one(index),
             Refusal::BadModel { which } => Details::one(field_number(which)),
+            Refusal::WideGrid { count } => Details::one(count),
             Refusal::Map(fault) => map_details(fault),
             Refusal::File(fault) => file_details(fault),
             _ => Details::none(),

@@ -26,6 +26,14 @@ def band(leaves, low, high):
     return plane
 
 
+def band_of(world, low, high):
+    """The same of a map, whose leaves aren't listed for it."""
+    nothing = _plane(low, high, UNKNOWN, np.int8)
+    if low[2] > high[2]:
+        return nothing
+    return np.sign(world.grid(*world.centers([low, high]))) + FREE
+
+
 def heights(leaves, low, high):
     """The highest key on z in each column of the box: (columns on y, columns on x), -1 without."""
     plane = _plane(low, high, -1, np.int64)

@@ -20,7 +20,7 @@ from ..errors import DONE, Unusable
 from ..files import written
 from ..leaves import FREE, OCCUPIED, ORIGIN, UNKNOWN
 from ..lengths import NANO, metres
-from ..maps import read_leaves
+from ..maps import read_map
 from ..pictures import form_of, picture
 from ..pointfiles import points_file
 from ..progress import say
@@ -55,14 +55,15 @@ def run(options):
     beside = Output(os.path.splitext(options.output)[0] + ".yaml")
     refuse_clashes(options, beside)
     image = text_of(os.path.basename(options.output))
-    leaves = read_leaves(options.map)
-    low, high = box_for(leaves, options.area, options.height)
-    plane = planes.band(leaves, low, high)
+    with read_map(options.map) as world:
+        resolution = world.resolution_nm
+        low, high = box_for(world.bounds(), resolution, options.area, options.height)
+        plane = planes.band_of(world, low, high)
     greys = np.array([GREYS[it] for it in (UNKNOWN, FREE, OCCUPIED)], np.uint8)
     contents = {options.output: picture(options.output, greys[plane[::-1]])}
-    contents[beside] = yaml_of(image, low, leaves.resolution).encode()
+    contents[beside] = yaml_of(image, low, resolution).encode()
     if options.frontier:
-        contents[options.frontier] = frontier_file(plane, low, leaves.resolution)
+        contents[options.frontier] = frontier_file(plane, low, resolution)
     with written(*contents) as files:
         for file, content in zip(files, contents.values()):
             file.write(content)
@@ -75,17 +76,16 @@ def _named():
     return (OCCUPIED, "occupied"), (FREE, "free"), (UNKNOWN, "unknown")
 
 
-def box_for(leaves, area, height):
+def box_for(known, resolution, area, height):
     """The keys of the box of an area and a band of heights, of all that is known without them."""
-    known = leaves.box()
     if known is None:
         if not (area and height):
             raise Unusable("nothing is known in the map, so it has no extent")
         known = np.full((2, 3), ORIGIN)
-    low, high = (it.copy() for it in known)
+    low, high = (np.array(it, np.int64) for it in known)
     x_0, y_0, x_1, y_1 = area or (0, 0, 0, 0)
     z_0, z_1 = height or (0, 0)
-    box = box_of((x_0, y_0, z_0, x_1, y_1, z_1), leaves.resolution)
+    box = box_of((x_0, y_0, z_0, x_1, y_1, z_1), resolution)
     for corner, asked in zip((low, high), box):
         corner[:2] = asked[:2] if area else corner[:2]
         corner[2] = asked[2] if height else corner[2]

@@ -119,7 +119,8 @@ def _page_of(options):
 
 def _slice(leaves, options):
     area = options.box and [options.box[it] for it in (0, 1, 3, 4)]
-    plane = planes.band(leaves, *box_for(leaves, area, (options.slice, options.slice)))[::-1]
+    box = box_for(leaves.box(), leaves.resolution, area, (options.slice, options.slice))
+    plane = planes.band(leaves, *box)[::-1]
     if options.text:
         print("\n".join(" ".join(row).rstrip() for row in SIGNS[plane]))
     if options.output:
@@ -128,7 +129,7 @@ def _slice(leaves, options):
 
 def _above(leaves, options):
     occupied = leaves.of_class(OCCUPIED)
-    low, high = box_for(leaves, None, None)
+    low, high = box_for(leaves.box(), leaves.resolution, None, None)
     known, tops = planes.band(leaves, low, high), planes.heights(occupied, low, high)
     image = np.where((known > 0)[..., None], colours.SEEN, colours.BACKGROUND).astype(np.uint8)
     is_there = tops >= 0

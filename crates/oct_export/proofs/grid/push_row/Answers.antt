@@ -1,6 +1,7 @@
 use Rattle.std.proofs.Common.{rules, ◌-◌, ◌∙◌, refl, arith}
 use Rattle.oct_num.proofs.Results.{on_any_err}
 use Rattle.oct_tree.specs.Classes.{classes_in}
+use Rattle.oct_export.specs.Grids.{grey_of}
 use Rattle.oct_export.proofs.Pushes.{pushed_start, pushed_more, pushed_as}
 use Rattle.oct_export.proofs.Rows.{row_front, row_none, row_more, row_cut_off, row_whole}
 use Rattle.oct_export.proofs.grid.push_row.Goals as goal
@@ -10,7 +11,7 @@ loop-x-init g c = record {
   low = search rules;
   high = search rules;
   pushed = pushed_start _ _ _
-      (row_none (classes_in c.args.tree.now) c.args.lo c.args.hi c.args.y _ (omega arith));
+      (row_none grey_of (classes_in c.args.tree.now) c.args.lo c.args.hi c.args.y _ (omega arith));
   faults = refl;
   shortages = refl;
 }
@@ -28,10 +29,10 @@ loop-x-preserved g c = record {
   low = search rules;
   high = search rules;
   pushed = pushed_more
-      (row_front (classes_in c.args.tree.now) c.args.lo c.args.hi c.args.y
+      (row_front grey_of (classes_in c.args.tree.now) c.args.lo c.args.hi c.args.y
       (c.loop-x.x - c.args.lo.x)) _ _ _ _ _ _ _ _ c.loop-x.invariant.pushed
       c.in_ok-push_run.ensures.pushed
-      (row_more (classes_in c.args.tree.now) c.args.lo c.args.hi c.args.y c.loop-x.x _ _
+      (row_more grey_of (classes_in c.args.tree.now) c.args.lo c.args.hi c.args.y c.loop-x.x _ _
       c.strip_at-strip.result.class
       c.loop-x.invariant.low (search rules) c.grey_of.ensures
       (λ m low high. c.strip_at-strip.ensures.class m low (search rules)));
@@ -41,5 +42,5 @@ loop-x-preserved g c = record {
 
 pub returns-clause-pushed : goal.returns-clause-pushed
 returns-clause-pushed g c = pushed_as _ _ _ _ _ _ c.loop-x.invariant.pushed
-    (row_whole (classes_in c.args.tree.now) c.args.lo c.args.hi c.args.y (c.loop-x.x - c.args.lo.x)
+    (row_whole grey_of (classes_in c.args.tree.now) c.args.lo c.args.hi c.args.y (c.loop-x.x - c.args.lo.x)
     (omega arith))

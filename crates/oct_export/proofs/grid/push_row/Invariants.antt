@@ -1,6 +1,7 @@
 use Rattle.std.proofs.Common.{◌≡◌, ◌≤◌, ◌+◌, ◌-◌}
 use Rattle.oct_tree.specs.Classes.{classes_in}
 use Rattle.oct_export.specs.Pushed.{IsPushed}
+use Rattle.oct_export.specs.Grids.{grey_of}
 use Rattle.oct_export.proofs.Rows.{row_front}
 use Rattle.oct_export.proofs.grid.push_row.Given as goal
 
@@ -8,7 +9,7 @@ abbrev pub invariant-loop-x : goal.invariant-loop-x
 invariant-loop-x g l = record {
   low : l.lo.x ≤ l.x;
   high : l.x ≤ l.hi.x + 1;
-  pushed : IsPushed (row_front (classes_in l.tree) l.lo l.hi l.y (l.x - l.lo.x)) l.fn.gather
+  pushed : IsPushed (row_front grey_of (classes_in l.tree) l.lo l.hi l.y (l.x - l.lo.x)) l.fn.gather
       l.gather (g.K.Sink.written l.fn.sink) (g.K.Sink.written l.sink);
   faults : g.K.Sink.faults l.sink ≡ g.K.Sink.faults l.fn.sink;
   shortages : g.K.Sink.shortages l.sink ≡ g.K.Sink.shortages l.fn.sink;
