@@ -173,8 +173,7 @@ row_put c lo hi n w cells row wide few long is front =
     row_fits n w (hi.y + 1 - lo.y) (length cells) few
     (long ∙ ap (λ (m : ℕ). m * (hi.y + 1 - lo.y)) (sym wide)) in
     let row_long : length row ≡ w =
-    ap length is ∙ row_length cell_of c lo hi (lo.y + n) ∙ sym wide in
-    (
+    ap length is ∙ row_length cell_of c lo hi (lo.y + n) ∙ sym wide in (
       put_length (n * w) (n * w + w - n * w) cells row
           (subst (λ (m : ℕ). n * w + m ≤ length cells) (sym size) all) (row_long ∙ sym size)
           ∙ long,

@@ -3,10 +3,10 @@ use Rattle.std.proofs.Common.{◌≡◌, ℕ, ◌+◌, ◌<◌, ◌≤◌, List,
 use Rattle.std.proofs.Common.{None, IfSome, Result, Ok, Err, OnOk, OnErr, IsErr, inr, refl}
 use Rattle.std.proofs.Common.{sym, ◌∙◌, ap, subst, arith}
 use Rattle.std.proofs.lemmas.Bool.{lt-ltb, le-ltb, false≢true}
-use Rattle.oct_ending.specs.Answer.{Answer}
-use Rattle.oct_ending.specs.Stops.{status_written}
-use Rattle.oct_ending.specs.declared.status.Status.{Status}
-use Rattle.oct_ending.specs.declared.status.Status.TheVariants as status
+use Rattle.oct_io.specs.Answer.{Answer}
+use Rattle.oct_io.specs.Stops.{status_written}
+use Rattle.oct_io.specs.declared.status.Status.{Status}
+use Rattle.oct_io.specs.declared.status.Status.TheVariants as status
 use Rattle.oct_io.specs.declared.sink.SinkFault.{SinkFault}
 use Rattle.oct_io.specs.declared.sink.SinkFault.TheVariants as sink
 use Rattle.oct_io.specs.Taken.{HasTaken, IsCutOff}

@@ -4,8 +4,8 @@ use Rattle.oct_bt.specs.File.{FileRead}
 use Rattle.oct_file_tasks.specs.Answers.{answer_to}
 use Rattle.oct_file_tasks.specs.Ending.{EndsOverFile}
 use Rattle.oct_file_tasks.specs.Input.{MayRead}
-use Rattle.oct_ending.specs.Answer.{EndsUnread}
-use Rattle.oct_ending.specs.declared.status.Status.{Status}
+use Rattle.oct_io.specs.Answer.{EndsUnread}
+use Rattle.oct_io.specs.declared.status.Status.{Status}
 use Rattle.oct_file_tasks.proofs.Ends.{answer_short}
 use Rattle.oct_file_tasks.proofs.OverFile.{over_file}
 use Rattle.oct_file_tasks.specs.FileTasks.{file_reply, over_file_answer}

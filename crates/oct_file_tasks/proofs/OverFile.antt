@@ -7,12 +7,12 @@ use Rattle.oct_io.specs.Taken.{IsCutOff}
 use Rattle.oct_io.specs.Told.{appended}
 use Rattle.oct_file_tasks.specs.Ending.{EndsOverFile, Sends}
 use Rattle.oct_file_tasks.specs.Input.{IsReadToEnd}
-use Rattle.oct_ending.specs.Stops.{status_written}
-use Rattle.oct_ending.specs.declared.status.Status.{Status}
-use Rattle.oct_ending.specs.declared.status.Status.TheVariants.{Done, Refused, Usage, BadFile}
-use Rattle.oct_ending.specs.declared.status.Status.TheVariants.{TooLong, ReadFault, WriteFault}
-use Rattle.oct_ending.specs.declared.status.Status.TheVariants.{Memory, StoreFault}
-use Rattle.oct_ending.specs.Answer.{Answer, EndsUnread}
+use Rattle.oct_io.specs.Stops.{status_written}
+use Rattle.oct_io.specs.declared.status.Status.{Status}
+use Rattle.oct_io.specs.declared.status.Status.TheVariants.{Done, Refused, Usage, BadFile}
+use Rattle.oct_io.specs.declared.status.Status.TheVariants.{TooLong, ReadFault, WriteFault}
+use Rattle.oct_io.specs.declared.status.Status.TheVariants.{Memory, StoreFault}
+use Rattle.oct_io.specs.Answer.{Answer, EndsUnread}
 use Rattle.oct_file_tasks.specs.OverFile.{IsSettled}
 
 -- a reply whose text was written, or not whole

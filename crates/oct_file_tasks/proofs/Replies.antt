@@ -14,12 +14,12 @@ use Rattle.oct_export.specs.Grids.{grid_head, pgm_text}
 use Rattle.oct_export.proofs.Same.{same_boxes}
 use Rattle.oct_frontier.specs.Frontier.{frontier_between}
 use Rattle.oct_frontier.proofs.Same.{same_frontier}
-use Rattle.oct_ending.specs.declared.status.Status.TheVariants.{Done}
+use Rattle.oct_io.specs.declared.status.Status.TheVariants.{Done}
 use Rattle.oct_values.specs.Classes.{Classes}
 use Rattle.oct_file_tasks.specs.Frontiers.{voxel_line, listing, list_reply}
 use Rattle.oct_export.specs.Grids.{column_count}
 use Rattle.oct_file_tasks.specs.Grids.{grid_reply, box_count, scene_reply}
-use Rattle.oct_ending.specs.Answer.{Answer}
+use Rattle.oct_io.specs.Answer.{Answer}
 use Rattle.oct_file_tasks.specs.Refusals.{refused}
 use Rattle.oct_file_tasks.specs.declared.refusal.Refusal.TheVariants.{TooManyFrontiers, WideGrid}
 use Rattle.oct_file_tasks.specs.declared.refusal.Refusal.TheVariants.{TooManyBoxes}

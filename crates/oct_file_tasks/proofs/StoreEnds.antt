@@ -2,11 +2,11 @@
 use Rattle.std.proofs.Common.{◌≡◌, ℕ, List, Option, Some, None, IfSome, Result, refl, subst}
 use Rattle.oct_io.specs.Files.{Files}
 use Rattle.oct_file_tasks.proofs.Ends.{cut_none}
-use Rattle.oct_ending.specs.declared.status.Status.{Status}
-use Rattle.oct_ending.specs.declared.status.Status.TheVariants.{Done, Refused, Usage, BadFile}
-use Rattle.oct_ending.specs.declared.status.Status.TheVariants.{TooLong, ReadFault, WriteFault}
-use Rattle.oct_ending.specs.declared.status.Status.TheVariants.{Memory, StoreFault}
-use Rattle.oct_ending.specs.Answer.{Answer, EndsUnread}
+use Rattle.oct_io.specs.declared.status.Status.{Status}
+use Rattle.oct_io.specs.declared.status.Status.TheVariants.{Done, Refused, Usage, BadFile}
+use Rattle.oct_io.specs.declared.status.Status.TheVariants.{TooLong, ReadFault, WriteFault}
+use Rattle.oct_io.specs.declared.status.Status.TheVariants.{Memory, StoreFault}
+use Rattle.oct_io.specs.Answer.{Answer, EndsUnread}
 use Rattle.oct_file_tasks.specs.OverStore.{found_reply, store_reply, EndsByReply, EndsOverStore}
 use Rattle.oct_file_tasks.specs.TwoFiles.{pair_in}
 use Rattle.oct_file_tasks.proofs.PairTexts.{some_reply}

@@ -13,8 +13,8 @@ use Rattle.oct_bt.specs.DataClasses.{data_classes, is_canonical}
 use Rattle.oct_bt.specs.FaultText.{fault_text}
 use Rattle.oct_bt.specs.File.{FileRead, bt_text, reading}
 use Rattle.oct_bt.specs.Records.{record_total}
-use Rattle.oct_ending.specs.Answer.{Answer}
-use Rattle.oct_ending.specs.declared.status.Status.TheVariants.{Done, BadFile, TooLong}
+use Rattle.oct_io.specs.Answer.{Answer}
+use Rattle.oct_io.specs.declared.status.Status.TheVariants.{Done, BadFile, TooLong}
 
 -- the line of a refusal
 abbrev pub refusal_line : BtFault → List ℕ

@@ -1,9 +1,9 @@
 -- How a task over a file may end.
 use Rattle.std.specs.Prelude.{◌≡◌, ◌⊎◌, ◌+◌, ℕ, List, Option, Result, Ok, Err}
-use Rattle.oct_ending.specs.Answer.{Answer, IsAnswered}
-use Rattle.oct_ending.specs.declared.status.Status.{Status}
-use Rattle.oct_ending.specs.declared.status.Status.TheVariants.{Done, Refused, BadFile, TooLong}
-use Rattle.oct_ending.specs.declared.status.Status.TheVariants.{ReadFault, WriteFault, Memory}
+use Rattle.oct_io.specs.Answer.{Answer, IsAnswered}
+use Rattle.oct_io.specs.declared.status.Status.{Status}
+use Rattle.oct_io.specs.declared.status.Status.TheVariants.{Done, Refused, BadFile, TooLong}
+use Rattle.oct_io.specs.declared.status.Status.TheVariants.{ReadFault, WriteFault, Memory}
 use Rattle.oct_io.specs.declared.sink.SinkFault.{SinkFault}
 use Rattle.oct_io.specs.Taken.{HasTaken, IsCutOff}
 use Rattle.oct_io.specs.Told.{appended}

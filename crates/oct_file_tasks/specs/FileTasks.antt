@@ -1,7 +1,7 @@
 -- What a task writes that reads a file.
 use Rattle.std.specs.Prelude.{ℕ, List, ⊤}
 use Rattle.oct_bt.specs.File.{FileRead}
-use Rattle.oct_ending.specs.Answer.{Answer}
+use Rattle.oct_io.specs.Answer.{Answer}
 use Rattle.oct_file_tasks.specs.Answers.{canonical_text, done_with, report, task_answer}
 use Rattle.oct_file_tasks.specs.Frontiers.{frontier_reply}
 use Rattle.oct_file_tasks.specs.Grids.{project_reply, scene_reply}

@@ -6,8 +6,8 @@ use Rattle.oct_key.specs.Voxel.{Voxel}
 use Rattle.oct_bt.specs.DataClasses.{data_classes}
 use Rattle.oct_bt.specs.File.{FileRead}
 use Rattle.oct_frontier.specs.Frontier.{frontier_between}
-use Rattle.oct_ending.specs.declared.status.Status.TheVariants.{Done}
-use Rattle.oct_ending.specs.Answer.{Answer}
+use Rattle.oct_io.specs.declared.status.Status.TheVariants.{Done}
+use Rattle.oct_io.specs.Answer.{Answer}
 use Rattle.oct_file_tasks.specs.Refusals.{refused, box_between, reply_in}
 use Rattle.oct_file_tasks.specs.declared.refusal.Refusal.TheVariants.{TooManyFrontiers}
 

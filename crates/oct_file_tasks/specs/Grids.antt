@@ -7,9 +7,9 @@ use Rattle.oct_bt.specs.File.{FileRead}
 use Rattle.oct_export.specs.Boxes.{boxes_of}
 use Rattle.oct_export.specs.BoxTexts.{scene_text}
 use Rattle.oct_export.specs.Grids.{column_count, pgm_text}
-use Rattle.oct_ending.specs.declared.status.Status.TheVariants.{Done}
+use Rattle.oct_io.specs.declared.status.Status.TheVariants.{Done}
 use Rattle.oct_values.specs.Classes.{Classes}
-use Rattle.oct_ending.specs.Answer.{Answer}
+use Rattle.oct_io.specs.Answer.{Answer}
 use Rattle.oct_file_tasks.specs.Refusals.{refused, box_between, reply_in}
 use Rattle.oct_file_tasks.specs.declared.refusal.Refusal.TheVariants.{WideGrid, TooManyBoxes}
 

@@ -1,8 +1,8 @@
 -- How a task ends whose answer may be a refusal.
 use Rattle.std.specs.Prelude.{◌≡◌, ◌≢◌, ◌⊎◌}
-use Rattle.oct_ending.specs.declared.status.Status.{Status}
-use Rattle.oct_ending.specs.declared.status.Status.TheVariants.{Done, Refused, Usage, BadFile}
-use Rattle.oct_ending.specs.declared.status.Status.TheVariants.{TooLong, ReadFault, StoreFault}
+use Rattle.oct_io.specs.declared.status.Status.{Status}
+use Rattle.oct_io.specs.declared.status.Status.TheVariants.{Done, Refused, Usage, BadFile}
+use Rattle.oct_io.specs.declared.status.Status.TheVariants.{TooLong, ReadFault, StoreFault}
 
 -- a status with which a whole answer about a file is written
 abbrev pub IsSettled : Status → Type 0

@@ -20,10 +20,10 @@ use Rattle.oct_script.specs.Replies.{class_name, reply_text}
 use Rattle.oct_script.specs.declared.reply.Refusal.{Refusal}
 use Rattle.oct_script.specs.declared.reply.Refusal.TheVariants as refusal
 use Rattle.oct_script.specs.declared.reply.Reply.TheVariants as script
-use Rattle.oct_ending.specs.Answer.{Answer, EndsUnread}
-use Rattle.oct_ending.specs.declared.status.Status.{Status}
-use Rattle.oct_ending.specs.declared.status.Status.TheVariants.{Done, Refused}
-use Rattle.oct_ending.specs.declared.status.Status.TheVariants.{StoreFault}
+use Rattle.oct_io.specs.Answer.{Answer, EndsUnread}
+use Rattle.oct_io.specs.declared.status.Status.{Status}
+use Rattle.oct_io.specs.declared.status.Status.TheVariants.{Done, Refused}
+use Rattle.oct_io.specs.declared.status.Status.TheVariants.{StoreFault}
 use Rattle.oct_values.specs.Classes.{classes_of}
 use Rattle.oct_file_tasks.specs.Refusals.{box_between, refused}
 use Rattle.oct_file_tasks.specs.declared.refusal.Refusal as asked

@@ -6,8 +6,8 @@ use Rattle.oct_key.specs.Boxes.{Window, is_box}
 use Rattle.oct_key.specs.Voxel.{Voxel, key_at}
 use Rattle.oct_script.specs.Replies as replies
 use Rattle.oct_script.specs.declared.reply.Refusal.TheVariants as script
-use Rattle.oct_ending.specs.declared.status.Status.TheVariants.{Refused}
-use Rattle.oct_ending.specs.Answer.{Answer}
+use Rattle.oct_io.specs.declared.status.Status.TheVariants.{Refused}
+use Rattle.oct_io.specs.Answer.{Answer}
 use Rattle.oct_file_tasks.specs.declared.refusal.Refusal.{Refusal}
 use Rattle.oct_file_tasks.specs.declared.refusal.Refusal.TheVariants.{Line, TooManyFrontiers}
 use Rattle.oct_file_tasks.specs.declared.refusal.Refusal.TheVariants.{WideGrid, TooManyBoxes}

@@ -3,8 +3,8 @@ ghost use Rattle.std.specs.Prelude.{◌≡◌, ◌≢◌, ◌≤◌, ◌^◌, �
 ghost use Rattle.oct_bt.specs.DataClasses.{is_canonical};
 ghost use Rattle.oct_bt.specs.File.{reading};
 ghost use Rattle.oct_bt.specs.NodeData.{IsAccepted};
-ghost use Rattle.oct_ending.specs.Answer.{EndsUnread};
-ghost use Rattle.oct_ending.specs.Counts.{IsSourceCounted, IsSinkCounted};
+ghost use Rattle.oct_io.specs.Answer.{EndsUnread};
+ghost use Rattle.oct_io.specs.FaultCounts.{IsSourceCounted, IsSinkCounted};
 ghost use Rattle.oct_io.specs.Told.{Rose};
 ghost use Rattle.oct_file_tasks.specs.Answers.{is_canonical_file};
 ghost use Rattle.oct_file_tasks.specs.Ending.{EndsOverFile};
@@ -19,8 +19,7 @@ use crate::no_file::refuse;
 use crate::report::report;
 use crate::sending::send;
 use oct_bt::BtFile;
-use oct_ending::{Status, status_written};
-use oct_io::{Sink, Source};
+use oct_io::{Sink, Source, Status, status_written};
 use oct_key::Point;
 use std::alloc::Global;
 

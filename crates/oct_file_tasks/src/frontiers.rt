@@ -4,9 +4,9 @@ ghost use Rattle.oct_key.specs.Boxes.{IsBox};
 ghost use Rattle.oct_bt.specs.DataClasses.{data_classes};
 ghost use Rattle.oct_bt.specs.NodeData.{IsAccepted};
 ghost use Rattle.oct_frontier.specs.Frontier.{frontier_between};
-ghost use Rattle.oct_ending.specs.Counts.{IsSinkCounted};
+ghost use Rattle.oct_io.specs.FaultCounts.{IsSinkCounted};
 ghost use Rattle.oct_file_tasks.specs.Frontiers.{list_reply, frontier_reply};
-ghost use Rattle.oct_ending.specs.Answer.{EndsUnread};
+ghost use Rattle.oct_io.specs.Answer.{EndsUnread};
 ghost use Rattle.oct_file_tasks.specs.OverFile.{IsOfReply};
 
 use crate::file_tree::tree_of;
@@ -14,9 +14,8 @@ use crate::frontier_text::listing_text;
 use crate::refusal::{Refusal, box_between};
 use crate::sending::{send, send_refusal};
 use oct_bt::BtFile;
-use oct_ending::Status;
 use oct_frontier::{FrontierFault, frontier};
-use oct_io::Sink;
+use oct_io::{Sink, Status};
 use oct_key::{Key, Point};
 use std::alloc::Global;
 

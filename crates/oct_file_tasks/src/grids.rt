@@ -4,18 +4,17 @@ ghost use Rattle.std.specs.Prelude.{◌≤◌, ◌^◌, length};
 ghost use Rattle.oct_key.specs.Boxes.{IsBox};
 ghost use Rattle.oct_bt.specs.DataClasses.{data_classes};
 ghost use Rattle.oct_bt.specs.NodeData.{IsAccepted};
-ghost use Rattle.oct_ending.specs.Counts.{IsSinkCounted};
+ghost use Rattle.oct_io.specs.FaultCounts.{IsSinkCounted};
 ghost use Rattle.oct_file_tasks.specs.Grids.{grid_reply, project_reply, scene_reply};
-ghost use Rattle.oct_ending.specs.Answer.{EndsUnread};
+ghost use Rattle.oct_io.specs.Answer.{EndsUnread};
 ghost use Rattle.oct_file_tasks.specs.OverFile.{IsOfReply};
 
 use crate::file_tree::tree_of;
 use crate::refusal::{Refusal, box_between};
 use crate::sending::send_refusal;
 use oct_bt::BtFile;
-use oct_ending::{Status, status_written};
 use oct_export::{box_count, column_count, pgm, vrml};
-use oct_io::Sink;
+use oct_io::{Sink, Status, status_written};
 use oct_key::{Key, Point};
 use std::alloc::Global;
 

@@ -38,8 +38,8 @@
 //! `oct_tasks` stands on this crate. It stands on `oct_bt` for the file, on `oct_tree`,
 //! `oct_frontier` and `oct_export` for the frontier, the grid and the boxes of one, on `oct_join`
 //! for the merge of two and their table, on `oct_merge` for the rules, on `oct_script` for names of
-//! files and of classes and for the lines of refusals, on `oct_ending` for the statuses, on
-//! `oct_num`, `oct_key` and `oct_odds` for points and models, and on `oct_io` for the world.
+//! files and of classes and for the lines of refusals, on `oct_num`, `oct_key` and `oct_odds` for
+//! points and models, and on `oct_io` for the world and the statuses.
 #![tactic(auto)]
 
 mod canonical;

@@ -2,8 +2,8 @@
 ghost use Rattle.std.specs.Prelude.{◌≡◌, ◌≢◌, ◌⊎◌, ◌↔◌, ◌++◌, ℕ, List, Option, Err, IfOk};
 ghost use Rattle.std.specs.Prelude.{OnOk};
 ghost use Rattle.oct_bt.specs.File.{FileRead};
-ghost use Rattle.oct_ending.specs.Answer.{Answer};
-ghost use Rattle.oct_ending.specs.Counts.{IsSinkCounted};
+ghost use Rattle.oct_io.specs.Answer.{Answer};
+ghost use Rattle.oct_io.specs.FaultCounts.{IsSinkCounted};
 ghost use Rattle.oct_io.specs.Counts.{IsMakingCounted};
 ghost use Rattle.oct_file_tasks.specs.Answers.{refusal_line, task_answer};
 ghost use Rattle.oct_file_tasks.specs.Ending.{EndsOverFile, Sends};
@@ -11,8 +11,7 @@ ghost use Rattle.oct_file_tasks.specs.Input.{MayRead, IsBadFile};
 
 use crate::input::NoFile;
 use oct_bt::{BtFault, push_fault};
-use oct_ending::{Status, status_written};
-use oct_io::{Sink, SinkFault, write_all};
+use oct_io::{Sink, SinkFault, Status, status_written, write_all};
 use oct_num::Memory;
 use std::alloc::Global;
 

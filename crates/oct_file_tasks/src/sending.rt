@@ -1,13 +1,12 @@
 //! Replies on their way to a sink.
 ghost use Rattle.std.specs.Prelude.{◌≡◌, ◌<◌, IfOk, length};
-ghost use Rattle.oct_ending.specs.Counts.{IsSinkCounted};
-ghost use Rattle.oct_ending.specs.Answer.{Answer, EndsUnread};
+ghost use Rattle.oct_io.specs.FaultCounts.{IsSinkCounted};
+ghost use Rattle.oct_io.specs.Answer.{Answer, EndsUnread};
 ghost use Rattle.oct_file_tasks.specs.OverFile.{IsSettled, IsOfReply};
 ghost use Rattle.oct_file_tasks.specs.Refusals.{refused};
 
 use crate::refusal::{Refusal, line_of};
-use oct_ending::{Status, status_written};
-use oct_io::{Sink, write_all};
+use oct_io::{Sink, Status, status_written, write_all};
 use oct_num::Memory;
 use std::alloc::Global;
 

@@ -2,9 +2,8 @@
 ghost use Rattle.std.specs.Prelude.{◌<◌};
 
 use oct_bt::{BtFault, HeaderWord};
-use oct_ending::Status;
 use oct_file_tasks::{FileTask, NoFile, answer_over_file, read_file};
-use oct_io::{CalmSink, CalmSource, FileBytes, KeptList, MemSource};
+use oct_io::{CalmSink, CalmSource, FileBytes, KeptList, MemSource, Status};
 use oct_num::Memory;
 use std::alloc::Global;
 use std::process::Abort;

@@ -7,3 +7,8 @@ pub mod Taken
 pub mod Gathered
 pub mod Failing
 pub mod Counts
+pub mod FaultCounts
+pub mod Stops
+pub mod Answer
+pub mod Whole
+pub mod Shelf

@@ -1,4 +1,4 @@
-//! Bytes in, bytes out, and files by name.
+//! Bytes in, bytes out, files by name, and how a run over them ends.
 //!
 //! A program that turns bytes into bytes is written against three traits: a [`Source`] is read, a
 //! [`Sink`] is written, and a [`Store`] keeps files by name. Each may tell in its contracts what it
@@ -40,6 +40,14 @@
 //! [`CalmSink`] and [`CalmStore`] live in memory, tell all that they hold and never fault; the
 //! proofs about whole programs run on them.
 //!
+//! Everything that the program does ends with a [`Status`]: all was done, something was
+//! refused, or a fault came first. [`status_written`] answers that of a task whose text goes to
+//! a sink, and a [`Stop`] is why a session stops before its script has ended. The definitions
+//! say what holds beside a status, whatever was to be done: what a task writes, and what a run
+//! leaves, files among it (`Answer`); a count of faults rises by one exactly where the status
+//! names the fault (`FaultCounts`); which statuses come with the whole answer (`Whole`); the
+//! status of a stop (`Stops`); a store, as a run uses it (`Shelf`).
+//!
 //! [`FileBytes`] is a list of bytes. The definitions that contracts cite are in `specs/`: `Told`
 //! for the bytes and the counts, `Files` for files by name, `Loaded` for the answers of a load.
 //! Laws of appending are in `proofs/Appending.antt`.
@@ -69,8 +77,10 @@ mod mem_store;
 mod piece;
 mod sink;
 mod source;
+mod status;
 mod std_sink;
 mod std_source;
+mod stop;
 mod store;
 #[cfg(test)]
 mod tests;
@@ -88,6 +98,8 @@ pub use mem_store::MemStore;
 pub use piece::read_piece;
 pub use sink::{Sink, SinkFault, write_all};
 pub use source::{Failed, Source};
+pub use status::{Status, status_written};
 pub use std_sink::StdSink;
 pub use std_source::StdSource;
+pub use stop::Stop;
 pub use store::{LARGEST_FILE, Loaded, Store, StoreFault};

@@ -6,7 +6,7 @@ use Rattle.std.specs.Prelude.{nat_lt}
 use Rattle.std.specs.List.{fold}
 use Rattle.std.proofs.lemmas.Bool.{lt-ltb, le-ltb}
 use Rattle.std.proofs.lemmas.Nat.{mul-le}
-use Rattle.oct_ending.specs.Answer.{Outcome}
+use Rattle.oct_io.specs.Answer.{Outcome}
 use Rattle.oct_gen.specs.Script.{script_of}
 use Rattle.oct_gen.proofs.Lengths.{script_short}
 use Rattle.oct_io.specs.Files.{Files, no_files}

@@ -8,8 +8,8 @@ use Rattle.oct_script.specs.Replies.{text_of, reply_text}
 use Rattle.oct_script.specs.declared.command.Command.{Command}
 use Rattle.oct_script.specs.declared.reply.Refusal.{Refusal}
 use Rattle.oct_script.specs.declared.reply.Reply.{Reply}
-use Rattle.oct_ending.specs.Answer.{Outcome}
-use Rattle.oct_ending.specs.declared.status.Status.TheVariants.{TooLong}
+use Rattle.oct_io.specs.Answer.{Outcome}
+use Rattle.oct_io.specs.declared.status.Status.TheVariants.{TooLong}
 use Rattle.oct_session.specs.History.{State, state_after}
 use Rattle.oct_session.specs.ScanBlock.{end_reply}
 use Rattle.oct_session.specs.Session.{Progress, effect_of, next_command, after_line, progress}

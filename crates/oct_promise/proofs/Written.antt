@@ -1,10 +1,10 @@
 -- That what a session has written is a prefix of its answer, however it ends.
 use Rattle.std.proofs.Common.{ℕ, List, [], Option, sym, append-nil}
-use Rattle.oct_ending.specs.Answer.{Answer, IsAnswered, answer_of}
-use Rattle.oct_ending.specs.declared.status.Status.{Status}
-use Rattle.oct_ending.specs.declared.status.Status.TheVariants.{Done, Refused, Usage, BadFile}
-use Rattle.oct_ending.specs.declared.status.Status.TheVariants.{TooLong, ReadFault, WriteFault}
-use Rattle.oct_ending.specs.declared.status.Status.TheVariants.{Memory, StoreFault}
+use Rattle.oct_io.specs.Answer.{Answer, IsAnswered, answer_of}
+use Rattle.oct_io.specs.declared.status.Status.{Status}
+use Rattle.oct_io.specs.declared.status.Status.TheVariants.{Done, Refused, Usage, BadFile}
+use Rattle.oct_io.specs.declared.status.Status.TheVariants.{TooLong, ReadFault, WriteFault}
+use Rattle.oct_io.specs.declared.status.Status.TheVariants.{Memory, StoreFault}
 use Rattle.oct_io.specs.Files.{Files}
 use Rattle.oct_io.specs.Taken.{IsBegun}
 use Rattle.oct_session.specs.Ending.{MayEnd}

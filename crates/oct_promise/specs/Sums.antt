@@ -1,7 +1,7 @@
 -- What the replies of a session come to, as plain sums over them.
 use Rattle.std.specs.Prelude.{◌≡◌, ◌<◌, ◌≤◌, ◌^◌, ℕ, List, [], ◌∷◌, ◌++◌, Option, Some, None}
 use Rattle.std.specs.Prelude.{sum_by, if◌then◌else◌}
-use Rattle.oct_ending.specs.Answer.{Outcome}
+use Rattle.oct_io.specs.Answer.{Outcome}
 use Rattle.oct_gen.specs.Script.{script_of}
 use Rattle.oct_io.specs.Files.{Files, no_files}
 use Rattle.oct_script.specs.Lines.{Line}

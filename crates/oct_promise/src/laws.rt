@@ -4,7 +4,7 @@ ghost use Rattle.std.specs.Prelude.{◌≡◌, ◌≤◌, ◌^◌, ◌↔◌, �
 ghost use Rattle.std.specs.Prelude.{Option, Some, None, IfSome, Result, Ok};
 ghost use Rattle.oct_bt.specs.DataClasses.{data_classes};
 ghost use Rattle.oct_bt.specs.File.{FileRead, reading};
-ghost use Rattle.oct_ending.specs.declared.status.Status.{Status};
+ghost use Rattle.oct_io.specs.declared.status.Status.{Status};
 ghost use Rattle.oct_io.specs.Files.{Files};
 ghost use Rattle.oct_io.specs.Taken.{IsBegun};
 ghost use Rattle.oct_key.specs.Voxel.{Voxel, IsInMap};

@@ -11,16 +11,16 @@ use Rattle.oct_session.specs.Building as built
 use Rattle.oct_session.specs.Building.{last_state, text_built, build, has_ended, EndsWriting}
 use Rattle.oct_session.specs.Building.{HasBuiltAs, RunsOut}
 use Rattle.oct_session.specs.Ending as script
-use Rattle.oct_ending.specs.Answer.{IsAnswered, answer_of}
+use Rattle.oct_io.specs.Answer.{IsAnswered, answer_of}
 use Rattle.oct_session.specs.Ending.{IsReadToEnd}
-use Rattle.oct_ending.specs.Whole.{IsWhole}
+use Rattle.oct_io.specs.Whole.{IsWhole}
 use Rattle.oct_session.specs.FileCommands.{classes_file}
 use Rattle.oct_session.specs.Leaving as lent
 use Rattle.oct_session.specs.Leaving.{Desk, IsLikeAfter}
 use Rattle.oct_session.specs.Session.{Progress, last_progress, session, ReadsTold}
 use Rattle.oct_session.specs.Setup.{Setup}
-use Rattle.oct_ending.specs.declared.status.Status.{Status}
-use Rattle.oct_ending.specs.declared.status.Status.TheVariants as status
+use Rattle.oct_io.specs.declared.status.Status.{Status}
+use Rattle.oct_io.specs.declared.status.Status.TheVariants as status
 use Rattle.oct_session.proofs.Loading.{same_file}
 
 -- the text of a build whose script has ended

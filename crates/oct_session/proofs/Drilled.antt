@@ -19,18 +19,18 @@ use Rattle.oct_values.specs.Counts.{group_count, node_count}
 use Rattle.oct_values.proofs.Uniform.{same_group_count, same_node_count}
 use Rattle.oct_session.specs.Drill.{drill, drill_setup, drilled, drilled_state, line_of_two}
 use Rattle.oct_session.specs.Drill.{summary, summary_of}
-use Rattle.oct_ending.specs.Answer.{Answer, EndsUnread}
+use Rattle.oct_io.specs.Answer.{Answer, EndsUnread}
 use Rattle.oct_session.specs.History.{State}
 use Rattle.oct_session.specs.Leaving.{StandsFor, Desk, desk, IsKnown}
-use Rattle.oct_ending.specs.Shelf.{Shelf}
+use Rattle.oct_io.specs.Shelf.{Shelf}
 use Rattle.oct_session.specs.Session.{last_progress, status_at_end}
 use Rattle.oct_session.specs.Setup.{Setup}
 use Rattle.oct_session.specs.Standing.{seated, HasServed, IsThrough, Finishes, Ends}
-use Rattle.oct_ending.specs.Stops.{status_of, status_written}
-use Rattle.oct_ending.specs.declared.status.Status.{Status}
-use Rattle.oct_ending.specs.declared.stop.Stop.{Stop}
-use Rattle.oct_ending.specs.declared.stop.Stop.TheVariants.{TooLong, ReadFault, WriteFault}
-use Rattle.oct_ending.specs.declared.stop.Stop.TheVariants.{Memory, StoreFault}
+use Rattle.oct_io.specs.Stops.{status_of, status_written}
+use Rattle.oct_io.specs.declared.status.Status.{Status}
+use Rattle.oct_io.specs.declared.stop.Stop.{Stop}
+use Rattle.oct_io.specs.declared.stop.Stop.TheVariants.{TooLong, ReadFault, WriteFault}
+use Rattle.oct_io.specs.declared.stop.Stop.TheVariants.{Memory, StoreFault}
 use Rattle.oct_session.specs.declared.session.Session.{Session}
 use Rattle.oct_session.specs.Tally.{capped}
 use Rattle.oct_session.specs.declared.tally.Tally.{Tally}

@@ -29,9 +29,9 @@ use Rattle.oct_session.specs.ScanBlock.{opens_block, opened, kind_opened, is_end
 use Rattle.oct_session.specs.ScanBlock.{spoilt_by, spoilt_reply, block_reply, block_action}
 use Rattle.oct_session.specs.ScanSoFar.{begun}
 use Rattle.oct_session.specs.History.{History, State, after_all, state_after}
-use Rattle.oct_ending.specs.Counts.{IsAsked}
+use Rattle.oct_io.specs.FaultCounts.{IsAsked}
 use Rattle.oct_session.specs.Leaving.{StandsFor, StandsForSome, Desk, desk, HasAsked, IsLike}
-use Rattle.oct_ending.specs.Shelf.{shelf}
+use Rattle.oct_io.specs.Shelf.{shelf}
 use Rattle.oct_session.specs.Leaving.{IsLikeAfter, IsKnown}
 use Rattle.oct_session.specs.Session.{Progress, Effect, effect, effect_of_kind, unless_opened}
 use Rattle.oct_session.specs.Session.{effect_opened}

@@ -13,19 +13,19 @@ use Rattle.oct_map.specs.Map.{Map}
 use Rattle.oct_script.specs.Lines.{Line, LineSoFar, unread, ended_lines, rest_of, last_line}
 use Rattle.oct_script.specs.Lines.{all_lines}
 use Rattle.oct_script.proofs.Cuts.{ended_lines-append}
-use Rattle.oct_ending.specs.declared.status.Status.{Status}
-use Rattle.oct_ending.specs.declared.status.Status.TheVariants as status
-use Rattle.oct_ending.specs.declared.stop.Stop.{Stop}
-use Rattle.oct_ending.specs.declared.stop.Stop.TheVariants.{TooLong, ReadFault, WriteFault}
-use Rattle.oct_ending.specs.declared.stop.Stop.TheVariants.{Memory, StoreFault as StoreStop}
+use Rattle.oct_io.specs.declared.status.Status.{Status}
+use Rattle.oct_io.specs.declared.status.Status.TheVariants as status
+use Rattle.oct_io.specs.declared.stop.Stop.{Stop}
+use Rattle.oct_io.specs.declared.stop.Stop.TheVariants.{TooLong, ReadFault, WriteFault}
+use Rattle.oct_io.specs.declared.stop.Stop.TheVariants.{Memory, StoreFault as StoreStop}
 use Rattle.oct_session.specs.declared.session.Session.{Session}
 use Rattle.oct_io.specs.Taken.{HasTaken, IsBegun}
 use Rattle.oct_session.specs.Ending.{HasHaltFault, IsReadToEnd, replies_within}
 use Rattle.oct_session.specs.Ending.{has_quit_within}
-use Rattle.oct_ending.specs.Answer.{Outcome}
-use Rattle.oct_ending.specs.Counts.{IsAsked}
+use Rattle.oct_io.specs.Answer.{Outcome}
+use Rattle.oct_io.specs.FaultCounts.{IsAsked}
 use Rattle.oct_session.specs.Leaving.{StandsFor, Desk, desk, HasAsked, IsLikeAfter}
-use Rattle.oct_ending.specs.Shelf.{Shelf, shelf}
+use Rattle.oct_io.specs.Shelf.{Shelf, shelf}
 use Rattle.oct_session.specs.Leaving.{IsKnown, IsHalted, IsHaltedIn, HasEndedAs}
 use Rattle.oct_session.specs.History.{start_state}
 use Rattle.oct_session.specs.Session.{Progress, start, progress, lines_of, last_progress}
@@ -35,7 +35,7 @@ use Rattle.oct_session.specs.Setup.{Setup}
 use Rattle.oct_session.specs.Tally.{no_replies}
 use Rattle.oct_session.specs.Standing.{seated, Takes, IsHaltedBehind, IsHaltedLast, HasReached}
 use Rattle.oct_session.specs.Standing.{IsAt, Reaches, HaltsAtEnd, HasServed, IsThrough, StopsIn}
-use Rattle.oct_ending.specs.Stops.{status_of, IsHalt}
+use Rattle.oct_io.specs.Stops.{status_of, IsHalt}
 use Rattle.oct_session.proofs.Progresses.{progress_grows, progress_behind_quit, no_quit_before}
 use Rattle.oct_session.proofs.Progresses.{replied_first, known_before, known_bytes, asks_before}
 use Rattle.oct_session.proofs.Progresses.{told_fold}

@@ -16,7 +16,7 @@ use Rattle.oct_script.specs.Lines.{Line, ended_lines}
 use Rattle.oct_script.specs.declared.reply.Reply.{Reply}
 use Rattle.oct_script.specs.Replies.{text_of, is_refusal}
 use Rattle.oct_script.proofs.Cuts.{ended_lines-append}
-use Rattle.oct_ending.specs.declared.status.Status.{Status}
+use Rattle.oct_io.specs.declared.status.Status.{Status}
 use Rattle.oct_session.specs.declared.session.Session.{Session}
 use Rattle.oct_session.specs.Commands.{file_saved}
 use Rattle.oct_io.specs.Taken.{IsBegun}
@@ -31,7 +31,7 @@ use Rattle.oct_session.specs.Tally.{capped, counted as count_reply}
 use Rattle.oct_session.specs.declared.tally.Tally.{Tally}
 use Rattle.oct_session.specs.Standing.{TakesMemory, StandsBeside, HasFailedAt, IsInStep}
 use Rattle.oct_session.specs.Standing.{HasReached, IsShort, IsCutBy}
-use Rattle.oct_ending.specs.Stops.{stop_of_sink, stop_of_store, status_of}
+use Rattle.oct_io.specs.Stops.{stop_of_sink, stop_of_store, status_of}
 use Rattle.oct_session.proofs.Effects.{asked_most}
 use Rattle.oct_session.proofs.Prefixes.{begun_more}
 use Rattle.oct_session.proofs.NonemptyReplies.{text_some}

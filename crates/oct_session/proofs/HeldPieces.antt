@@ -9,7 +9,7 @@ use Rattle.oct_io.proofs.Appending.{appended_twice}
 use Rattle.oct_io.specs.declared.sink.SinkFault.{SinkFault}
 use Rattle.oct_script.specs.Lines.{Line, unread, ended_lines, rest_of, all_lines, last_line}
 use Rattle.oct_script.specs.Lines.{LineSoFar, IsReading, HasEnded, HasJoined, Text, whole}
-use Rattle.oct_ending.specs.declared.stop.Stop.{Stop}
+use Rattle.oct_io.specs.declared.stop.Stop.{Stop}
 use Rattle.oct_session.specs.declared.session.Session.{Session}
 use Rattle.oct_session.specs.Ending.{HasReplied, replies_within}
 use Rattle.oct_session.specs.Leaving.{Desk, IsKnown, IsHalted}
@@ -18,7 +18,7 @@ use Rattle.oct_session.specs.Setup.{Setup}
 use Rattle.oct_session.specs.Standing.{seated, IsHolding, HasHeld, IsHeldAt, TakesHeld, HaltsHeld}
 use Rattle.oct_session.specs.Standing.{IsAt, Adds, Halts, HasReached, Reaches, IsShort, HoldsLine}
 use Rattle.oct_session.specs.Standing.{HaltsLine}
-use Rattle.oct_ending.specs.Stops.{stop_of_sink, status_of}
+use Rattle.oct_io.specs.Stops.{stop_of_sink, status_of}
 use Rattle.oct_session.proofs.Halting.{halted_bytes}
 use Rattle.oct_session.proofs.Holding.{holding_none, holding_whole, held_cut, held_moved}
 use Rattle.oct_session.proofs.Holding.{between_beside}

@@ -16,7 +16,7 @@ use Rattle.oct_io.specs.declared.store.StoreFault.{StoreFault}
 use Rattle.oct_io.specs.declared.store.StoreFault.TheVariants as store_fault
 use Rattle.oct_script.specs.Lines.{Line}
 use Rattle.oct_script.specs.Replies.{text_of}
-use Rattle.oct_ending.specs.declared.stop.Stop.{Stop}
+use Rattle.oct_io.specs.declared.stop.Stop.{Stop}
 use Rattle.oct_session.specs.declared.scan_block.ScanBlock.{ScanBlock}
 use Rattle.oct_session.specs.declared.session.Session.{Session}
 use Rattle.oct_script.specs.declared.command.Command.{Command}
@@ -29,7 +29,7 @@ use Rattle.oct_session.specs.Standing.{seated, IsIdle, IsInStep, IsBetween, IsUn
 use Rattle.oct_session.specs.Standing.{HasHeld, HasMoved}
 use Rattle.oct_session.specs.Standing.{Adds, TakesLine, FailsLine, HoldsLine, HaltsLine}
 use Rattle.oct_session.specs.Standing.{StandsBeside, IsShort}
-use Rattle.oct_ending.specs.Stops.{stop_of_sink, stop_of_store, status_of}
+use Rattle.oct_io.specs.Stops.{stop_of_sink, stop_of_store, status_of}
 use Rattle.oct_session.proofs.Effects.{same_command}
 use Rattle.oct_session.proofs.Halting.{halted_last, halted_untold, left_all}
 use Rattle.oct_session.proofs.Idle.{idle_none, idle_twice, idle_line, like_idle}

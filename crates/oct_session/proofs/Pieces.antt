@@ -9,8 +9,8 @@ use Rattle.oct_io.specs.Told.{Rose, appended}
 use Rattle.oct_io.specs.declared.sink.SinkFault.{SinkFault}
 use Rattle.oct_script.specs.Lines.{Line, LineSoFar, unread, ended_lines, rest_of, all_lines}
 use Rattle.oct_script.specs.Lines.{last_line, line_of, IsReading}
-use Rattle.oct_ending.specs.declared.stop.Stop.{Stop}
-use Rattle.oct_ending.specs.declared.stop.Stop.TheVariants as stop_as
+use Rattle.oct_io.specs.declared.stop.Stop.{Stop}
+use Rattle.oct_io.specs.declared.stop.Stop.TheVariants as stop_as
 use Rattle.oct_session.specs.declared.session.Session.{Session}
 use Rattle.oct_session.specs.Session.{Progress, progress, closed}
 use Rattle.oct_session.specs.Setup.{Setup}
@@ -19,7 +19,7 @@ use Rattle.oct_session.specs.Leaving.{IsHalted}
 use Rattle.oct_session.specs.Standing.{seated, Takes, Halts, IsInStep, HasReached, IsAt}
 use Rattle.oct_session.specs.Standing.{IsHaltedBehind, Reaches, HaltsAtEnd, IsStoppedIn, StopsIn}
 use Rattle.oct_session.specs.Standing.{IsCutBy}
-use Rattle.oct_ending.specs.Stops.{stop_of_sink, status_of, IsHalt}
+use Rattle.oct_io.specs.Stops.{stop_of_sink, status_of, IsHalt}
 use Rattle.oct_session.proofs.Halting.{halted_closed, reached_closed}
 use Rattle.oct_session.proofs.Halting.{replied_between}
 use Rattle.oct_session.proofs.Progresses.{progress_grows, bytes_behind_quit}

@@ -5,17 +5,17 @@ use Rattle.std.proofs.Common.{subst}
 use Rattle.oct_io.specs.Files.{Files}
 use Rattle.oct_io.specs.Told.{Rose}
 use Rattle.oct_map.specs.Map.{Map}
-use Rattle.oct_ending.specs.declared.status.Status.{Status}
-use Rattle.oct_ending.specs.declared.stop.Stop.{Stop}
-use Rattle.oct_ending.specs.declared.stop.Stop.TheVariants.{ReadFault}
+use Rattle.oct_io.specs.declared.status.Status.{Status}
+use Rattle.oct_io.specs.declared.stop.Stop.{Stop}
+use Rattle.oct_io.specs.declared.stop.Stop.TheVariants.{ReadFault}
 use Rattle.oct_session.specs.declared.session.Session.{Session}
-use Rattle.oct_ending.specs.Shelf.{Shelf}
+use Rattle.oct_io.specs.Shelf.{Shelf}
 use Rattle.oct_session.specs.Leaving.{Desk, desk, HasEndedAs}
 use Rattle.oct_session.specs.Session.{closed, status_at_end, ReadsTold}
 use Rattle.oct_session.specs.Setup.{Setup}
 use Rattle.oct_session.specs.Standing.{seated, Takes, StopsIn, Reaches, HaltsAtEnd, Serves}
 use Rattle.oct_session.specs.Standing.{Finishes, Ends}
-use Rattle.oct_ending.specs.Stops.{status_of, IsHalt}
+use Rattle.oct_io.specs.Stops.{status_of, IsHalt}
 use Rattle.oct_session.proofs.Endings.{known_told, IsNew, IsFirst, serving_start, IsRead}
 use Rattle.oct_session.proofs.Endings.{serving_more, ends_read_fault, serving_quit, ends_stop}
 use Rattle.oct_session.proofs.Endings.{through_end, ends_last, ends_through}

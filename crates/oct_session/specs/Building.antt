@@ -9,14 +9,14 @@ use Rattle.oct_session.specs.FileCommands.{classes_file}
 use Rattle.oct_session.specs.History.{State, state_after}
 use Rattle.oct_session.specs.Leaving as lent
 use Rattle.oct_session.specs.Leaving.{Desk, HasAsked, IsLikeAfter}
-use Rattle.oct_ending.specs.Whole.{IsWhole}
+use Rattle.oct_io.specs.Whole.{IsWhole}
 use Rattle.oct_session.specs.Session.{last_progress, session}
 use Rattle.oct_session.specs.Setup.{Setup}
-use Rattle.oct_ending.specs.Answer.{Outcome, IsAnswered, answer_of}
-use Rattle.oct_ending.specs.declared.status.Status.{Status}
-use Rattle.oct_ending.specs.declared.status.Status.TheVariants.{Done, Refused}
-use Rattle.oct_ending.specs.declared.status.Status.TheVariants.{TooLong, WriteFault}
-use Rattle.oct_ending.specs.declared.status.Status.TheVariants.{ReadFault, Memory, StoreFault}
+use Rattle.oct_io.specs.Answer.{Outcome, IsAnswered, answer_of}
+use Rattle.oct_io.specs.declared.status.Status.{Status}
+use Rattle.oct_io.specs.declared.status.Status.TheVariants.{Done, Refused}
+use Rattle.oct_io.specs.declared.status.Status.TheVariants.{TooLong, WriteFault}
+use Rattle.oct_io.specs.declared.status.Status.TheVariants.{ReadFault, Memory, StoreFault}
 
 -- the state after the last line of a script
 abbrev pub last_state : Setup → Option Files → List ℕ → State

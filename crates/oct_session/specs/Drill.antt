@@ -1,7 +1,7 @@
 -- A drill: a session over a script that a number makes, and four lines about it.
 use Rattle.std.specs.Prelude.{ℕ, ◌^◌, ◌++◌, List, codes, decimal, length, nat_lt, Some}
 use Rattle.oct_gen.specs.Script.{script_of}
-use Rattle.oct_ending.specs.Answer.{Answer}
+use Rattle.oct_io.specs.Answer.{Answer}
 use Rattle.oct_io.specs.Files.{no_files}
 use Rattle.oct_odds.specs.Odds.{default_odds}
 use Rattle.oct_values.specs.Counts.{group_count, node_count}

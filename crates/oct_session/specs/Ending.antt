@@ -14,10 +14,10 @@ use Rattle.oct_io.specs.Told.{appended}
 use Rattle.oct_script.specs.Lines.{ended_lines}
 use Rattle.oct_session.specs.Session.{progress, session}
 use Rattle.oct_session.specs.Setup.{Setup}
-use Rattle.oct_ending.specs.Answer.{IsAnswered, answer_of}
-use Rattle.oct_ending.specs.declared.status.Status.{Status}
-use Rattle.oct_ending.specs.declared.status.Status.TheVariants.{Done, Refused, Usage, BadFile}
-use Rattle.oct_ending.specs.declared.status.Status.TheVariants.{TooLong, ReadFault}
+use Rattle.oct_io.specs.Answer.{IsAnswered, answer_of}
+use Rattle.oct_io.specs.declared.status.Status.{Status}
+use Rattle.oct_io.specs.declared.status.Status.TheVariants.{Done, Refused, Usage, BadFile}
+use Rattle.oct_io.specs.declared.status.Status.TheVariants.{TooLong, ReadFault}
 
 -- the replies to the lines that end within these bytes
 abbrev pub replies_within : Setup → Option Files → List ℕ → List ℕ

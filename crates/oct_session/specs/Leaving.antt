@@ -10,19 +10,19 @@ use Rattle.oct_script.specs.Lines.{Line, ended_lines}
 use Rattle.oct_key.specs.Values.{SameValues}
 use Rattle.oct_tree.specs.Shape.{IsPruned}
 use Rattle.oct_session.specs.Commands.{file_saved}
-use Rattle.oct_ending.specs.Counts.{IsAsked}
-use Rattle.oct_ending.specs.Shelf.{Shelf}
+use Rattle.oct_io.specs.FaultCounts.{IsAsked}
+use Rattle.oct_io.specs.Shelf.{Shelf}
 use Rattle.oct_io.specs.Taken.{HasTaken}
 use Rattle.oct_session.specs.History.{History, State, state_after}
 use Rattle.oct_session.specs.ScanBlock.{GainsPoint}
 use Rattle.oct_session.specs.Session.{Progress, next_command, after_line, progress}
 use Rattle.oct_session.specs.Session.{closed, is_too_long, lines_of, last_progress, session}
 use Rattle.oct_session.specs.Ending.{MayEnd}
-use Rattle.oct_ending.specs.Whole.{IsWhole}
+use Rattle.oct_io.specs.Whole.{IsWhole}
 use Rattle.oct_session.specs.Setup.{Setup}
-use Rattle.oct_ending.specs.declared.status.Status.{Status}
-use Rattle.oct_ending.specs.declared.status.Status.TheVariants.{Done, Refused, TooLong, ReadFault}
-use Rattle.oct_ending.specs.declared.status.Status.TheVariants.{WriteFault, Memory, StoreFault}
+use Rattle.oct_io.specs.declared.status.Status.{Status}
+use Rattle.oct_io.specs.declared.status.Status.TheVariants.{Done, Refused, TooLong, ReadFault}
+use Rattle.oct_io.specs.declared.status.Status.TheVariants.{WriteFault, Memory, StoreFault}
 
 -- the map stands for a state: each voxel has its value there, the map's answers read the same
 -- beside the values, it has the same mark, inner values may be out of date exactly where they may

@@ -18,10 +18,10 @@ use Rattle.oct_session.specs.Setup.{Setup}
 use Rattle.oct_session.specs.Tally.{counted, no_replies}
 use Rattle.oct_session.specs.declared.scan_block.ScanBlock.{ScanBlock}
 use Rattle.oct_session.specs.Kinds.{Kind}
-use Rattle.oct_ending.specs.Answer.{Outcome}
-use Rattle.oct_ending.specs.declared.status.Status.{Status}
+use Rattle.oct_io.specs.Answer.{Outcome}
+use Rattle.oct_io.specs.declared.status.Status.{Status}
 use Rattle.oct_session.specs.declared.tally.Tally.{Tally}
-use Rattle.oct_ending.specs.declared.status.Status.TheVariants as status
+use Rattle.oct_io.specs.declared.status.Status.TheVariants as status
 
 -- what a line does: its reply, what it adds to the history, what it saves, and the block that is
 -- open after it

@@ -13,10 +13,10 @@ use Rattle.oct_map.specs.declared.fault.MapFault.{MapFault}
 use Rattle.oct_script.specs.declared.reply.Reply.{Reply}
 use Rattle.oct_script.specs.Lines.{Line, ended_lines, all_lines, IsReading}
 use Rattle.oct_script.specs.Replies.{text_of}
-use Rattle.oct_ending.specs.Shelf.{shelf}
-use Rattle.oct_ending.specs.declared.status.Status.{Status}
-use Rattle.oct_ending.specs.declared.stop.Stop.{Stop}
-use Rattle.oct_ending.specs.declared.stop.Stop.TheVariants.{TooLong, ReadFault}
+use Rattle.oct_io.specs.Shelf.{shelf}
+use Rattle.oct_io.specs.declared.status.Status.{Status}
+use Rattle.oct_io.specs.declared.stop.Stop.{Stop}
+use Rattle.oct_io.specs.declared.stop.Stop.TheVariants.{TooLong, ReadFault}
 use Rattle.oct_session.specs.Tally.{capped}
 use Rattle.oct_session.specs.declared.session.Session.{Session}
 use Rattle.oct_io.specs.Taken.{HasTaken, IsGathered}
@@ -40,7 +40,7 @@ use Rattle.oct_session.specs.declared.kinds.Order.{Order}
 use Rattle.oct_session.specs.declared.kinds.Question.{Question}
 use Rattle.oct_session.specs.ScanBlock.{block_reply, block_action, GainsPoint}
 use Rattle.oct_session.specs.Setup.{Setup}
-use Rattle.oct_ending.specs.Stops.{status_of}
+use Rattle.oct_io.specs.Stops.{status_of}
 use Rattle.oct_session.specs.declared.scan_block.ScanBlock.{ScanBlock}
 
 -- ---- what lies before a session

@@ -3,19 +3,18 @@ ghost use Rattle.std.specs.Prelude.{◌≡◌, ◌≢◌, ◌⊎◌, IfSome, Non
 ghost use Rattle.oct_io.specs.Told.{Rose};
 ghost use Rattle.oct_bt.specs.File.{bt_text};
 ghost use Rattle.oct_tree.specs.Classes.{classes_in};
-ghost use Rattle.oct_ending.specs.Counts.{IsSourceCounted, IsSinkCounted, IsStoreCounted};
+ghost use Rattle.oct_io.specs.FaultCounts.{IsSourceCounted, IsSinkCounted, IsStoreCounted};
 ghost use Rattle.oct_session.specs.Building.{has_ended, EndsWriting, HasBuiltAs, IsUnasked};
-ghost use Rattle.oct_ending.specs.Whole.{IsWhole};
+ghost use Rattle.oct_io.specs.Whole.{IsWhole};
 ghost use Rattle.oct_session.specs.History.{start_state};
 ghost use Rattle.oct_session.specs.Leaving.{StandsFor, StandsForSome, desk};
-ghost use Rattle.oct_ending.specs.Shelf.{shelf};
+ghost use Rattle.oct_io.specs.Shelf.{shelf};
 ghost use Rattle.oct_session.specs.Session.{ReadsTold};
 
 use crate::options::Options;
 use crate::service::serve;
 use oct_bt::write;
-use oct_ending::{Status, status_written};
-use oct_io::{Sink, SinkFault, Source, Store};
+use oct_io::{Sink, SinkFault, Source, Status, Store, status_written};
 use oct_map::OccMap;
 use std::alloc::Global;
 

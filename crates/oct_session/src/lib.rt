@@ -28,7 +28,7 @@
 //! - **Counts.** A count of faults rises by one exactly where the status names its fault, so no
 //!   call that failed is tried again, and nothing is read after `quit` or a fault. The end of a
 //!   script is met once at most, and the store is asked once at most for each line that names a
-//!   file (`specs/Counts.antt` of `oct_ending`).
+//!   file (`specs/FaultCounts.antt` of `oct_io`).
 //! - **Map and files.** Under the same premise, whatever the status, the lent map then stands for
 //!   the history of the lines that count, and the files are those after the same lines
 //!   (`StandsFor` and `Leaves` of `specs/Leaving.antt`). Without it the map stands for some history

@@ -3,7 +3,7 @@ ghost use Rattle.std.specs.Prelude.{◌≡◌, ℕ, None, Ok, Some};
 ghost use Rattle.oct_io.specs.Counts.{IsAskCounted};
 ghost use Rattle.oct_script.specs.Commands.{IsSmallCommand};
 ghost use Rattle.oct_script.specs.Lines.{Line};
-ghost use Rattle.oct_ending.specs.Counts.{IsAsked};
+ghost use Rattle.oct_io.specs.FaultCounts.{IsAsked};
 ghost use Rattle.oct_session.specs.Commands.{asked_of, asks_for, command_on, file_named, is_quit};
 ghost use Rattle.oct_session.specs.Commands.{may_change};
 ghost use Rattle.oct_session.specs.ScanBlock.{is_end, opened, spoilt_by, spoilt_reply};

@@ -2,22 +2,21 @@
 ghost use Rattle.std.specs.Prelude.{◌≡◌, ◌≢◌, ◌+◌, ◌^◌, ◌<◌, ◌≤◌, [], length, take, OnOk, IfOk};
 ghost use Rattle.std.specs.Prelude.{IfErr, IfSome, Err, true, false};
 ghost use Rattle.oct_io.specs.Told.{Rose};
-ghost use Rattle.oct_ending.specs.Counts.{IsSourceCounted, IsSinkCounted, IsStoreCounted};
-ghost use Rattle.oct_ending.specs.Counts.{IsStopCounted};
-ghost use Rattle.oct_ending.specs.Counts.{IsScriptCounted};
+ghost use Rattle.oct_io.specs.FaultCounts.{IsSourceCounted, IsSinkCounted, IsStoreCounted};
+ghost use Rattle.oct_io.specs.FaultCounts.{IsStopCounted};
+ghost use Rattle.oct_io.specs.FaultCounts.{IsScriptCounted};
 ghost use Rattle.oct_session.specs.History.{start_state};
 ghost use Rattle.oct_session.specs.Session.{status_at_end, ReadsTold};
-ghost use Rattle.oct_ending.specs.Whole.{IsWhole};
+ghost use Rattle.oct_io.specs.Whole.{IsWhole};
 ghost use Rattle.oct_session.specs.Leaving.{StandsFor, StandsForSome, desk, HasEndedAs};
-ghost use Rattle.oct_ending.specs.Shelf.{shelf};
+ghost use Rattle.oct_io.specs.Shelf.{shelf};
 ghost use Rattle.oct_session.specs.Standing.{seat, KeepsStanding, Takes, StopsIn, Serves, Finishes};
 ghost use Rattle.oct_session.specs.Standing.{Ends, IsResting, HasRead};
-ghost use Rattle.oct_ending.specs.Stops.{status_of};
+ghost use Rattle.oct_io.specs.Stops.{status_of};
 
 use crate::options::Options;
 use crate::session::Session;
-use oct_ending::{Status, Stop};
-use oct_io::{Sink, Source, Store, read_piece};
+use oct_io::{Sink, Source, Status, Stop, Store, read_piece};
 use oct_map::OccMap;
 use std::alloc::Global;
 

@@ -3,10 +3,9 @@ ghost use Rattle.std.specs.Prelude.{◌<◌, ◌≤◌, ◌^◌};
 ghost use Rattle.oct_session.specs.History.{start_state};
 ghost use Rattle.oct_session.specs.Leaving.{StandsFor};
 
-use oct_ending::Status;
 use oct_io::{
     CalmSink, CalmSource, CalmStore, FileBytes, KeptList, MemSink, MemSource, MemStore, Sink,
-    Source, Store,
+    Source, Status, Store,
 };
 use oct_key::{Point, Res};
 use oct_map::{Limits, OccMap};

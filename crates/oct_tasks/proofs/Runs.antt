@@ -7,9 +7,9 @@ use Rattle.oct_session.specs.Building.{HasBuiltAs}
 use Rattle.oct_session.specs.Leaving.{desk, HasEndedAs}
 use Rattle.oct_session.specs.Session as session
 use Rattle.oct_session.specs.Setup.{Setup}
-use Rattle.oct_ending.specs.Shelf.{Shelf, shelf}
-use Rattle.oct_ending.specs.Counts.{IsAsked}
-use Rattle.oct_ending.specs.declared.status.Status.{Status}
+use Rattle.oct_io.specs.Shelf.{Shelf, shelf}
+use Rattle.oct_io.specs.FaultCounts.{IsAsked}
+use Rattle.oct_io.specs.declared.status.Status.{Status}
 use Rattle.oct_file_tasks.specs.TwoFiles.{loads_of}
 use Rattle.oct_file_tasks.specs.declared.store_task.StoreTask.{StoreTask}
 use Rattle.oct_tasks.specs.Ending.{MayEnd, LeavesStore}

@@ -1,6 +1,6 @@
 -- What a run writes, and how it may end.
 use Rattle.std.specs.Prelude.{◌≡◌, ◌≢◌, ℕ, List, [], Option, Some, None, false, ⊤}
-use Rattle.oct_ending.specs.Answer.{Answer, Outcome, with_files, IsAnswered, EndsUnread}
+use Rattle.oct_io.specs.Answer.{Answer, Outcome, with_files, IsAnswered, EndsUnread}
 use Rattle.oct_gen.specs.Script.{script_of}
 use Rattle.oct_io.specs.Files.{Files}
 use Rattle.oct_io.specs.Told.{Rose}
@@ -9,14 +9,14 @@ use Rattle.oct_session.specs.Building as building
 use Rattle.oct_session.specs.Drill.{drill}
 use Rattle.oct_session.specs.Ending as session_ending
 use Rattle.oct_map.specs.Map.{Map}
-use Rattle.oct_ending.specs.Shelf.{Shelf}
-use Rattle.oct_ending.specs.Counts.{IsSourceCounted, IsSinkCounted, IsStoreCounted, IsAsked}
-use Rattle.oct_ending.specs.Whole.{IsWhole}
+use Rattle.oct_io.specs.Shelf.{Shelf}
+use Rattle.oct_io.specs.FaultCounts.{IsSourceCounted, IsSinkCounted, IsStoreCounted, IsAsked}
+use Rattle.oct_io.specs.Whole.{IsWhole}
 use Rattle.oct_session.specs.Leaving.{desk}
 use Rattle.oct_session.specs.Leaving as session_leaving
 use Rattle.oct_session.specs.Session.{session}
-use Rattle.oct_ending.specs.declared.status.Status.{Status}
-use Rattle.oct_ending.specs.declared.status.Status.TheVariants.{Done, Usage, Memory, StoreFault}
+use Rattle.oct_io.specs.declared.status.Status.{Status}
+use Rattle.oct_io.specs.declared.status.Status.TheVariants.{Done, Usage, Memory, StoreFault}
 use Rattle.oct_tasks.specs.Task.{Task, Session, Build, OverFile, OverStore, Gen, Drill}
 use Rattle.oct_tasks.specs.Needs.{reads, is_script, is_input, names_files, asks_of, takes_memory}
 use Rattle.oct_file_tasks.specs.Ending.{EndsOverFile}

@@ -53,7 +53,7 @@
 //! loop, on `oct_map` for the map that the loop is lent, on `oct_file_tasks` for the tasks over
 //! files, on `oct_gen` for a script that a number makes, on `oct_num`, `oct_key`, `oct_odds` and
 //! `oct_merge` for the numbers and the rules of the command line, on `oct_script` for what a
-//! log-odds and a name are there, on `oct_ending` for the statuses, and on `oct_io` for the world.
+//! log-odds and a name are there, and on `oct_io` for the world and the statuses.
 #![tactic(auto)]
 
 mod program;

@@ -27,15 +27,14 @@
 //!
 //! # Who stands on it
 //!
-//! Nothing: this is the top. It stands on `oct_tasks` for what it does, on `oct_ending` for the
-//! statuses, and on `oct_io` for the world.
+//! Nothing: this is the top. It stands on `oct_tasks` for what it does, and on `oct_io` for
+//! the world and the statuses.
 #![tactic(auto)]
 
 #[cfg(test)]
 mod tests;
 
-use oct_ending::Status;
-use oct_io::{FolderStore, StdSink, StdSource};
+use oct_io::{FolderStore, Status, StdSink, StdSource};
 use oct_tasks::run;
 use std::process::ExitCode;
 use std::{env, io};

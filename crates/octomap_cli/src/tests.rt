@@ -17,8 +17,7 @@ mod scans;
 mod scripts;
 mod snapshots;
 
-use oct_ending::Status;
-use oct_io::{CalmSink, CalmSource, CalmStore, FileBytes, KeptList, Sink, Source, Store};
+use oct_io::{CalmSink, CalmSource, CalmStore, FileBytes, KeptList, Sink, Source, Status, Store};
 use oct_num::Memory;
 use oct_tasks::run;
 use std::alloc::Global;

@@ -1,7 +1,7 @@
 //! Files that are cut off, that say what isn't so, or that are longer than they need be, and what
 //! `inspect` and `convert` answer.
 use super::{expect_answer, expect_answer_by};
-use oct_ending::Status;
+use oct_io::Status;
 use std::alloc::Global;
 use std::process::Abort;
 use std::test::Fail;

@@ -1,6 +1,6 @@
 //! Files that are built by a script.
 use super::expect_answer;
-use oct_ending::Status;
+use oct_io::Status;
 use std::alloc::Global;
 use std::test::Fail;
 

@@ -3,8 +3,7 @@
 ghost use Rattle.std.specs.Prelude.{◌<◌};
 
 use super::{expect_end, only, owned, status_of};
-use oct_ending::Status;
-use oct_io::{FileBytes, MemSink, MemSource, MemStore};
+use oct_io::{FileBytes, MemSink, MemSource, MemStore, Status};
 use oct_num::Memory;
 use std::alloc::Global;
 use std::process::Abort;

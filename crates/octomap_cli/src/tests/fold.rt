@@ -2,7 +2,7 @@
 ghost use Rattle.std.specs.Prelude.{◌<◌};
 
 use super::expect_answer;
-use oct_ending::Status;
+use oct_io::Status;
 use std::alloc::Global;
 use std::test::Fail;
 

@@ -1,6 +1,6 @@
 //! Scripts that a number makes, and drills of them.
 use super::{answer, expect_answer, expect_length};
-use oct_ending::Status;
+use oct_io::Status;
 use std::test::Fail;
 
 /// Words, and the script that they ask for.

@@ -1,6 +1,6 @@
 //! Grids and scenes of files.
 use super::expect_answer;
-use oct_ending::Status;
+use oct_io::Status;
 use std::alloc::Global;
 use std::process::Abort;
 use std::test::Fail;

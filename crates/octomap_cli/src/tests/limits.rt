@@ -2,7 +2,7 @@
 ghost use Rattle.std.specs.Prelude.{◌<◌};
 
 use super::{LimitCase, check_limits, expect_answer_by, session};
-use oct_ending::Status;
+use oct_io::Status;
 use std::alloc::Global;
 use std::process::Abort;
 use std::test::Fail;

@@ -1,6 +1,6 @@
 //! Lists of blocks, changes since a mark, and scans in a box or with log-odds of their own.
 use super::{Case, check};
-use oct_ending::Status;
+use oct_io::Status;
 
 /// Lists of blocks.
 const LISTS: &[Case] = &[

@@ -2,8 +2,7 @@
 ghost use Rattle.std.specs.Prelude.{◌<◌};
 
 use super::{answer_over, expect_answered, only, owned, status_of};
-use oct_ending::Status;
-use oct_io::{CalmStore, FileBytes, MemSink, MemSource, MemStore, Store, StoreFault};
+use oct_io::{CalmStore, FileBytes, MemSink, MemSource, MemStore, Status, Store, StoreFault};
 use std::alloc::Global;
 use std::process::Abort;
 use std::test::Fail;

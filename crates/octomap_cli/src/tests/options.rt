@@ -1,6 +1,6 @@
 //! The words of the command line.
 use super::{expect_answer, owned};
-use oct_ending::Status;
+use oct_io::Status;
 use oct_tasks::{Task, read_words};
 use std::alloc::Global;
 use std::process::Abort;

@@ -1,7 +1,6 @@
 //! Files of several pieces, and how many calls of the sink they take.
 use super::{answer, expect_end, only, status_over};
-use oct_ending::Status;
-use oct_io::{CalmStore, MemSink};
+use oct_io::{CalmStore, MemSink, Status};
 use std::alloc::Global;
 use std::process::Abort;
 use std::test::Fail;

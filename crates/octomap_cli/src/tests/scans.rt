@@ -1,6 +1,6 @@
 //! Scan blocks, and what a scan does to the voxels that its beams meet.
 use super::{Case, check};
-use oct_ending::Status;
+use oct_io::Status;
 
 /// Scans, and what they leave.
 const BEAMS: &[Case] = &[

@@ -1,6 +1,6 @@
 //! Edits, queries, counts and refusals.
 use super::{Case, check, session};
-use oct_ending::Status;
+use oct_io::Status;
 use std::alloc::Global;
 use std::process::Abort;
 use std::test::Fail;

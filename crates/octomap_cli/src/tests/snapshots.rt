@@ -1,7 +1,6 @@
 //! Sessions that write and restore snapshots.
 use super::{Case, answer_over, check, expect_answered};
-use oct_ending::Status;
-use oct_io::{CalmStore, FileBytes, Store};
+use oct_io::{CalmStore, FileBytes, Status, Store};
 use std::alloc::Global;
 use std::process::Abort;
 use std::test::Fail;

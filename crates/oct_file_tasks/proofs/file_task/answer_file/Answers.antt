@@ -1,5 +1,5 @@
 use Rattle.std.proofs.Common.{inl, refl}
-use Rattle.oct_ending.specs.declared.status.Status.TheVariants.{Done}
+use Rattle.oct_io.specs.declared.status.Status.TheVariants.{Done}
 use Rattle.oct_file_tasks.specs.Answers.{canonical_text, done_with, report}
 use Rattle.oct_file_tasks.proofs.Canonicals.{some_report}
 use Rattle.oct_file_tasks.proofs.OverFile.{sent_ends}

@@ -2,7 +2,7 @@ use Rattle.std.proofs.Common.{length, refl, subst}
 use Rattle.oct_bt.specs.DataClasses.{data_classes}
 use Rattle.oct_tree.specs.Classes.{classes_in}
 use Rattle.oct_file_tasks.proofs.Ends.{cut_none}
-use Rattle.oct_ending.specs.declared.status.Status.TheVariants.{Done}
+use Rattle.oct_io.specs.declared.status.Status.TheVariants.{Done}
 use Rattle.oct_frontier.specs.Frontier.{frontier_between, IsRefused}
 use Rattle.oct_frontier.specs.declared.fault.FrontierFault.{FrontierFault}
 use Rattle.oct_file_tasks.specs.Frontiers.{listing}

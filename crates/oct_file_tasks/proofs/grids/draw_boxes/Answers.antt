@@ -4,7 +4,7 @@ use Rattle.oct_export.specs.BoxTexts.{scene_text}
 use Rattle.oct_tree.specs.Classes.{classes_in}
 use Rattle.oct_export.proofs.Same.{same_scene}
 use Rattle.oct_file_tasks.proofs.Ends.{cut_none}
-use Rattle.oct_ending.specs.declared.status.Status.TheVariants.{Done}
+use Rattle.oct_io.specs.declared.status.Status.TheVariants.{Done}
 use Rattle.oct_file_tasks.proofs.OverFile.{reply_ends}
 use Rattle.oct_file_tasks.proofs.Replies.{some_scene, scene_told, scene_refused}
 use Rattle.oct_file_tasks.proofs.grids.draw_boxes.Goals as goal

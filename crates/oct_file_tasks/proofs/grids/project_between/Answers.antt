@@ -5,7 +5,7 @@ use Rattle.oct_tree.specs.Classes.{classes_in}
 use Rattle.oct_export.proofs.Same.{same_grid}
 use Rattle.oct_key.specs.Voxel.{IsInMap}
 use Rattle.oct_file_tasks.proofs.Ends.{cut_none}
-use Rattle.oct_ending.specs.declared.status.Status.TheVariants.{Done}
+use Rattle.oct_io.specs.declared.status.Status.TheVariants.{Done}
 use Rattle.oct_file_tasks.proofs.OverFile.{reply_ends}
 use Rattle.oct_file_tasks.proofs.Replies.{some_grid, grid_told, grid_refused}
 use Rattle.oct_file_tasks.proofs.grids.project_between.Goals as goal

@@ -1,6 +1,6 @@
 use Rattle.std.proofs.Common.{inl, refl}
 use Rattle.oct_file_tasks.specs.OverStore.{merged_text}
-use Rattle.oct_ending.specs.declared.status.Status.TheVariants.{Done}
+use Rattle.oct_io.specs.declared.status.Status.TheVariants.{Done}
 use Rattle.oct_file_tasks.proofs.OverFile.{sent_ends}
 use Rattle.oct_file_tasks.proofs.merging.answer_pair.Goals as goal
 

@@ -1,7 +1,7 @@
 use Rattle.std.proofs.Common.{refl, sym, ap, ◌∙◌}
 use Rattle.oct_file_tasks.specs.OverStore.{table_text}
 use Rattle.oct_file_tasks.specs.Refusals.{box_between}
-use Rattle.oct_ending.specs.declared.status.Status.TheVariants.{Done}
+use Rattle.oct_io.specs.declared.status.Status.TheVariants.{Done}
 use Rattle.oct_file_tasks.proofs.PairTexts.{some_table}
 use Rattle.oct_file_tasks.proofs.merging.answer_table.Goals as goal
 

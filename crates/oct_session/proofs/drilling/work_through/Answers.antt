@@ -1,7 +1,7 @@
 use Rattle.std.proofs.Common.{Some, Err, ap, ◌∙◌}
 use Rattle.oct_io.specs.CalmFiles.{files_of}
 use Rattle.oct_session.specs.Standing.{desk_of}
-use Rattle.oct_ending.specs.Shelf.{shelf}
+use Rattle.oct_io.specs.Shelf.{shelf}
 use Rattle.oct_session.proofs.Built.{zero_stays}
 use Rattle.oct_session.proofs.Drilled.{work_done, only_memory, passed_stop}
 use Rattle.oct_session.proofs.Endings.{new_session, nothing_asked}

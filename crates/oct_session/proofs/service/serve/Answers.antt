@@ -1,5 +1,5 @@
 use Rattle.std.proofs.Common.{[]}
-use Rattle.oct_ending.specs.Shelf.{shelf}
+use Rattle.oct_io.specs.Shelf.{shelf}
 use Rattle.oct_session.specs.Standing.{desk_of}
 use Rattle.oct_session.proofs.Endings.{new_session, nothing_asked}
 use Rattle.oct_session.proofs.Serving.{session_read, session_stopped}

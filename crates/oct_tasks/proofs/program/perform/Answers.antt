@@ -1,6 +1,6 @@
 use Rattle.std.specs.Prelude.{⊤}
 use Rattle.std.proofs.Common.{Option, Some, Bool, ap}
-use Rattle.oct_ending.specs.Shelf.{shelf}
+use Rattle.oct_io.specs.Shelf.{shelf}
 use Rattle.oct_tasks.specs.Meant.{meant_task}
 use Rattle.oct_tasks.specs.Needs.{reads, names_files}
 use Rattle.oct_tasks.specs.Task as meant

@@ -1,10 +1,12 @@
 //! Why a run stops before its end.
 ghost use Rattle.std.specs.Prelude.{◌≡◌};
-ghost use Rattle.oct_ending.specs.Stops.{stop_of_sink, stop_of_store, status_of};
-ghost use Rattle.oct_ending.specs.declared.stop.Stop.TheVariants as stop;
+ghost use Rattle.oct_io.specs.Stops.{stop_of_sink, stop_of_store, status_of};
+ghost use Rattle.oct_io.specs.declared.stop.Stop.TheVariants as stop;
 
+use crate::sink::SinkFault;
+use crate::source::Failed;
 use crate::status::Status;
-use oct_io::{Failed, SinkFault, StoreFault};
+use crate::store::StoreFault;
 use oct_num::Memory;
 use thiserror::Error;
 

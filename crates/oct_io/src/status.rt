@@ -1,8 +1,8 @@
 //! How a run ended.
 ghost use Rattle.std.specs.Prelude.{◌≡◌};
-ghost use Rattle.oct_ending.specs.Stops.{status_written};
+ghost use Rattle.oct_io.specs.Stops.{status_written};
 
-use oct_io::SinkFault;
+use crate::sink::SinkFault;
 use std::fmt;
 
 /// How a run ended. The numbers are those that the program ends with.

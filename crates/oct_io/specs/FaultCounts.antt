@@ -3,10 +3,10 @@
 -- call.
 use Rattle.std.specs.Prelude.{◌≡◌, ◌≢◌, ◌⊎◌, ◌≤◌, ◌+◌, ℕ, Result, Err, OnOk, IsErrOf}
 use Rattle.oct_io.specs.Told.{Rose}
-use Rattle.oct_ending.specs.declared.status.Status.{Status}
-use Rattle.oct_ending.specs.declared.status.Status.TheVariants as status
-use Rattle.oct_ending.specs.declared.stop.Stop.{Stop}
-use Rattle.oct_ending.specs.declared.stop.Stop.TheVariants as stop
+use Rattle.oct_io.specs.declared.status.Status.{Status}
+use Rattle.oct_io.specs.declared.status.Status.TheVariants as status
+use Rattle.oct_io.specs.declared.stop.Stop.{Stop}
+use Rattle.oct_io.specs.declared.stop.Stop.TheVariants as stop
 
 -- ---- beside a status
 
