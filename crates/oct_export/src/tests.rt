@@ -6,7 +6,7 @@ ghost use Rattle.oct_arena.specs.Nodes.{link_of, value_of};
 
 use crate::{band, box_count, pgm, vrml};
 use oct_arena::Node;
-use oct_io::{KeptList, MemSink};
+use oct_io::{FailingSink, KeptList};
 use oct_key::{Key, Res, Window};
 use oct_odds::{Class, Event, OddsModel};
 use oct_tree::{OccTree, Place};
@@ -97,7 +97,7 @@ fn has_grid(alloc: Global, tree: &OccTree, window: Option<Window>, text: &[u8]) 
     let Some(window) = window else {
         return false;
     };
-    let mut sink = MemSink::new(alloc, 100, KeptList::new(alloc));
+    let mut sink = FailingSink::new(alloc, 100, KeptList::new(alloc));
     let length = pgm(tree, window.lo(), window.hi(), &mut sink);
     length == Ok(text.len() as u64) && sink.written() == text
 }
@@ -156,7 +156,7 @@ fn a_grid_shows_a_band_for_each_column(rt: HostRuntime) -> Result<(), Fail> {
 
 /// The scene of a tree, written in pieces of 100 bytes, is this text of this many boxes.
 fn has_scene(alloc: Global, tree: &OccTree, boxes: u64, text: &str) -> bool {
-    let mut sink = MemSink::new(alloc, 100, KeptList::new(alloc));
+    let mut sink = FailingSink::new(alloc, 100, KeptList::new(alloc));
     let length = vrml(tree, &mut sink);
     length == Ok(text.len() as u64) && sink.written() == text.as_bytes() && box_count(tree) == boxes
 }

@@ -2,7 +2,7 @@
 ghost use Rattle.std.specs.Prelude.{◌<◌};
 
 use oct_bt::{BtFault, BtFile, HeaderWord, Reader, fill, push_fault, write};
-use oct_io::{KeptList, MemSink, SinkFault};
+use oct_io::{FailingSink, KeptList, SinkFault};
 use oct_num::Memory;
 use oct_odds::OddsModel;
 use oct_tree::OccTree;
@@ -420,10 +420,10 @@ fn names_each_fault_with_its_number_and_fields(rt: HostRuntime) -> Result<(), Fa
 }
 
 /// A sink of which the write of this number fails.
-fn failing(alloc: Global, number: u64) -> Result<MemSink, Fail> {
+fn failing(alloc: Global, number: u64) -> Result<FailingSink, Fail> {
     let mut fails = KeptList::new(alloc);
     fails.push(number)?;
-    Ok(MemSink::new(alloc, 4096, fails))
+    Ok(FailingSink::new(alloc, 4096, fails))
 }
 
 /// The tree of a file of sixteen records.
@@ -452,7 +452,7 @@ fn fills_a_tree_that_is_known_to_be_tidy(rt: HostRuntime) -> Result<(), Fail> {
 /// bytes after a header of 137.
 fn expect_written(
     rt: &impl Abort,
-    sink: &mut MemSink,
+    sink: &mut FailingSink,
     tree: &OccTree,
     want: Result<u64, SinkFault>,
     data: Option<&[u8]>,

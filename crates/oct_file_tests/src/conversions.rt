@@ -3,7 +3,7 @@ ghost use Rattle.std.specs.Prelude.{◌<◌};
 
 use oct_bt::{BtFault, HeaderWord};
 use oct_file_tasks::{FileTask, NoFile, answer_over_file, read_file};
-use oct_io::{CalmSink, CalmSource, FileBytes, KeptList, MemSource, Status};
+use oct_io::{FailingSource, FileBytes, KeptList, MemorySink, MemorySource, Status};
 use oct_num::Memory;
 use std::alloc::Global;
 use std::process::Abort;
@@ -35,7 +35,7 @@ const CASES: &[Case] = &[
 fn nodes_read(alloc: Global, bytes: &[u8], max_bytes: u64, most: usize) -> Result<u64, NoFile>
     requires { 0 < most }
 {
-    let mut source = CalmSource::new(FileBytes::from_slice(alloc, bytes)?, most);
+    let mut source = MemorySource::new(FileBytes::from_slice(alloc, bytes)?, most);
     let file = read_file(alloc, max_bytes, &mut source)?;
     Ok(file.nodes())
 }
@@ -101,8 +101,8 @@ const TASKS: &[TaskCase] = &[
 ];
 
 /// A source of these bytes in reads of seven.
-fn source_of(alloc: Global, bytes: &[u8]) -> Result<CalmSource, Memory> {
-    Ok(CalmSource::new(FileBytes::from_slice(alloc, bytes)?, 7))
+fn source_of(alloc: Global, bytes: &[u8]) -> Result<MemorySource, Memory> {
+    Ok(MemorySource::new(FileBytes::from_slice(alloc, bytes)?, 7))
 }
 
 /// The most bytes of a file that may be asked for.
@@ -119,7 +119,7 @@ fn expect(
 ) -> Result<(), Memory> {
     assert!(rt; max_bytes <= MOST);
     let mut source = source_of(alloc, bytes)?;
-    let mut sink = CalmSink::new(alloc, 3);
+    let mut sink = MemorySink::new(alloc, 3);
     let ending = answer_over_file(alloc, task, max_bytes, &mut source, &mut sink);
     assert_eq!(rt; (sink.written(), ending), want, "{task:?} of {bytes:?}");
     Ok(())
@@ -158,7 +158,7 @@ fn expect_read_fault(
 ) -> Result<(), Fail> {
     let mut fails = KeptList::new(alloc);
     fails.push(number)?;
-    let mut source = MemSource::new(FileBytes::from_slice(alloc, bytes)?, 1, fails);
+    let mut source = FailingSource::new(FileBytes::from_slice(alloc, bytes)?, 1, fails);
     let got = read_file(alloc, 1, &mut source).err();
     assert_eq!(rt; got, Some(NoFile::ReadFault));
     Ok(())

@@ -1,6 +1,6 @@
 //! Snapshots of small maps, written, read back, cut short and spoilt.
 
-use oct_io::{CalmSink, KeptList, MemSink, Sink, SinkFault};
+use oct_io::{FailingSink, KeptList, MemorySink, Sink, SinkFault};
 use oct_key::{Key, Res, Window};
 use oct_odds::OddsModel;
 use oct_snap::{SnapFault, check, fill, write};
@@ -54,7 +54,7 @@ fn expect_bytes(
     count: u64,
     (from, want): (usize, &[u8]),
 ) {
-    let mut sink = CalmSink::new(alloc, 7);
+    let mut sink = MemorySink::new(alloc, 7);
     expect_write(rt, tree, window, &mut sink, Ok(count));
     assert_eq!(rt; sink.written().get(from..), Some(want));
 }
@@ -87,7 +87,7 @@ fn expect_pieces(
 ) -> Result<(), Fail> {
     let mut fails = KeptList::new(alloc);
     fails.push(number)?;
-    let mut sink = MemSink::new(alloc, 4096, fails);
+    let mut sink = FailingSink::new(alloc, 4096, fails);
     expect_write(rt, tree, None, &mut sink, want.0);
     assert_eq!(rt; sink.written(), want.1);
     Ok(())

@@ -3,7 +3,7 @@
 ghost use Rattle.std.specs.Prelude.{◌≤◌};
 
 use crate::{Generator, gen_script, generate};
-use oct_io::{CalmSink, KeptList, MemSink, Sink, SinkFault, Source};
+use oct_io::{FailingSink, KeptList, MemorySink, Sink, SinkFault, Source};
 use oct_num::Memory;
 use std::alloc::Global;
 use std::process::Abort;
@@ -171,7 +171,7 @@ fn expect_end<K: Sink>(rt: &impl Abort, sink: &mut K, want: Result<(), SinkFault
 #[test]
 fn a_sink_gets_the_same_text(rt: HostRuntime) -> Result<(), Fail> {
     let want = middle_script(rt.alloc())?;
-    let mut sink = CalmSink::new(rt.alloc(), 1000);
+    let mut sink = MemorySink::new(rt.alloc(), 1000);
     expect_end(&rt, &mut sink, Ok(()));
     assert_eq!(rt; sink.written(), want.as_slice());
     Ok(())
@@ -195,7 +195,7 @@ fn expect_prefix(
 ) -> Result<(), Memory> {
     let mut fails = KeptList::new(alloc);
     fails.push(number)?;
-    let mut sink = MemSink::new(alloc, 1, fails);
+    let mut sink = FailingSink::new(alloc, 1, fails);
     expect_end(rt, &mut sink, want.1);
     assert_eq!(rt; Some(sink.written()), text.get(..want.0));
     Ok(())

@@ -6,8 +6,8 @@
 //! blame a fault only where there was one.
 //!
 //! ```text
-//! let mut source = CalmSource::new(FileBytes::from_slice(alloc, b"hit 0 0 0\n")?, 4096);
-//! let mut sink = CalmSink::new(alloc, 4096);
+//! let mut source = MemorySource::new(FileBytes::from_slice(alloc, b"hit 0 0 0\n")?, 4096);
+//! let mut sink = MemorySink::new(alloc, 4096);
 //! let mut buffer = [0; 64];
 //! let count = source.read(&mut buffer)?;                             // 10
 //! write_all(&mut sink, &buffer[..count])?;                           // b"hit 0 0 0\n" is written
@@ -36,9 +36,9 @@
 //! a reader, a writer and the files of the current folder. What the system does is told by no
 //! contract, so of these it is proved that they are safe, count their faults, pass on what a reader
 //! or writer of std tells, and that an error of opening counts as a missing file exactly where it
-//! says so (`unopened`). That a load opens the file and gives its bytes is tested. [`CalmSource`],
-//! [`CalmSink`] and [`CalmStore`] live in memory, tell all that they hold and never fault; the
-//! proofs about whole programs run on them.
+//! says so (`unopened`). That a load opens the file and gives its bytes is tested.
+//! [`MemorySource`], [`MemorySink`] and [`MemoryStore`] live in memory, tell all that they hold and
+//! never fault; the proofs about whole programs run on them.
 //!
 //! Everything that the program does ends with a [`Status`]: all was done, something was
 //! refused, or a fault came first. [`status_written`] answers that of a task whose text goes to
@@ -57,23 +57,23 @@
 //!
 //! # For tests
 //!
-//! [`MemSource`], [`MemSink`] and [`MemStore`] are forms in memory whose calls of some numbers,
-//! counted from 1 on ([`KeptList`]), fail: a test that lets call 1, 2, 3 and so on fail sees what
-//! each fault leaves. `specs/Failing.antt` says which calls these are.
+//! [`FailingSource`], [`FailingSink`] and [`FailingStore`] are forms in memory whose calls of some
+//! numbers, counted from 1 on ([`KeptList`]), fail: a test that lets call 1, 2, 3 and so on fail
+//! sees what each fault leaves. `specs/Failing.antt` says which calls these are.
 
 #![tactic(auto)]
 
 mod calls;
-mod calm_sink;
-mod calm_source;
-mod calm_store;
+mod failing_sink;
+mod failing_source;
+mod failing_store;
 mod file_bytes;
 mod folder_store;
 mod gather;
 mod kept_list;
-mod mem_sink;
-mod mem_source;
-mod mem_store;
+mod memory_sink;
+mod memory_source;
+mod memory_store;
 mod piece;
 mod sink;
 mod source;
@@ -85,16 +85,16 @@ mod store;
 #[cfg(test)]
 mod tests;
 
-pub use calm_sink::CalmSink;
-pub use calm_source::CalmSource;
-pub use calm_store::CalmStore;
+pub use failing_sink::FailingSink;
+pub use failing_source::FailingSource;
+pub use failing_store::FailingStore;
 pub use file_bytes::FileBytes;
 pub use folder_store::FolderStore;
 pub use gather::Gather;
 pub use kept_list::KeptList;
-pub use mem_sink::MemSink;
-pub use mem_source::MemSource;
-pub use mem_store::MemStore;
+pub use memory_sink::MemorySink;
+pub use memory_source::MemorySource;
+pub use memory_store::MemoryStore;
 pub use piece::read_piece;
 pub use sink::{Sink, SinkFault, write_all};
 pub use source::{Failed, Source};

@@ -100,8 +100,8 @@ pub trait Store {
 #[cfg(test)]
 mod tests {
     use super::*;
-    use crate::calm_store::CalmStore;
     use crate::folder_store::FolderStore;
+    use crate::memory_store::MemoryStore;
     use crate::tests::{expect_found, expect_load, expect_missing, expect_save};
     use std::process::Abort;
     use std::rt::Files;
@@ -120,13 +120,13 @@ mod tests {
     }
 
     // Expects that the store has these bytes under the name.
-    fn expect_file(rt: &impl Abort, store: &CalmStore, name: &str, want: Option<&[u8]>) {
+    fn expect_file(rt: &impl Abort, store: &MemoryStore, name: &str, want: Option<&[u8]>) {
         expect_found(rt, store.file(name), want);
     }
 
     #[test]
     fn files_are_kept_by_name(rt: HostRuntime) {
-        let mut store = CalmStore::new(rt.alloc());
+        let mut store = MemoryStore::new(rt.alloc());
         keeps_files(&rt, rt.alloc(), &mut store);
         expect_file(&rt, &store, "one.bt", Some(b"then".as_slice()));
         expect_file(&rt, &store, "three.bt", None);

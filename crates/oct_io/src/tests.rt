@@ -2,8 +2,8 @@
 ghost use Rattle.std.specs.Prelude.{◌<◌, ◌≤◌, None};
 
 use crate::{
-    CalmSink, Failed, FileBytes, Gather, KeptList, Loaded, MemSink, MemSource, MemStore, Sink,
-    SinkFault, Source, Store, StoreFault, write_all,
+    Failed, FailingSink, FailingSource, FailingStore, FileBytes, Gather, KeptList, Loaded,
+    MemorySink, Sink, SinkFault, Source, Store, StoreFault, write_all,
 };
 use arrayvec::ArrayVec;
 use oct_num::Memory;
@@ -179,7 +179,7 @@ fn number(bytes: &mut [u8]) {
 fn all_bytes_come_to_a_sink_that_takes_three_at_a_time(rt: HostRuntime) {
     let mut bytes = [0u8; 5000];
     number(&mut bytes);
-    let mut sink = CalmSink::new(rt.alloc(), 3);
+    let mut sink = MemorySink::new(rt.alloc(), 3);
     let mut gather = Gather::default();
     push_by(&rt, &mut gather, &mut sink, &bytes, 999);
     expect_flush(&rt, &mut gather, &mut sink, Ok(()));
@@ -187,7 +187,7 @@ fn all_bytes_come_to_a_sink_that_takes_three_at_a_time(rt: HostRuntime) {
 }
 
 /// Pushes bytes to a sink whose first two writes fail, and expects that none of them is held.
-fn lose_bytes(rt: &impl Abort, mut sink: MemSink) {
+fn lose_bytes(rt: &impl Abort, mut sink: FailingSink) {
     let mut gather = Gather::new();
     let failed = Err(SinkFault::Failed);
     expect_push(rt, &mut gather, &mut sink, b"lost", Ok(()));
@@ -202,18 +202,18 @@ fn lose_bytes(rt: &impl Abort, mut sink: MemSink) {
 #[test]
 fn no_byte_is_held_after_an_error(rt: HostRuntime) -> Result<(), Fail> {
     let fails = list_of(rt.alloc(), &[1, 2])?;
-    lose_bytes(&rt, MemSink::new(rt.alloc(), 9, fails));
+    lose_bytes(&rt, FailingSink::new(rt.alloc(), 9, fails));
     Ok(())
 }
 
 /// Expects that a read into a buffer of eight bytes is answered so.
-fn expect_read(rt: &impl Abort, source: &mut MemSource, want: Result<usize, Failed>) {
+fn expect_read(rt: &impl Abort, source: &mut FailingSource, want: Result<usize, Failed>) {
     let mut buffer = [0u8; 8];
     assert_eq!(rt; source.read(&mut buffer), want);
 }
 
 /// Reads six bytes, at most four a read, from a source whose first and third reads fail.
-fn read_six(rt: &impl Abort, mut source: MemSource) {
+fn read_six(rt: &impl Abort, mut source: FailingSource) {
     expect_read(rt, &mut source, Err(Failed));
     expect_read(rt, &mut source, Ok(4));
     expect_read(rt, &mut source, Err(Failed));
@@ -225,7 +225,7 @@ fn read_six(rt: &impl Abort, mut source: MemSource) {
 fn reads_fail_by_their_numbers(rt: HostRuntime) -> Result<(), Fail> {
     let fails = list_of(rt.alloc(), &[3, 1])?;
     let bytes = FileBytes::from_slice(rt.alloc(), b"abcdef")?;
-    read_six(&rt, MemSource::new(bytes, 4, fails));
+    read_six(&rt, FailingSource::new(bytes, 4, fails));
     Ok(())
 }
 
@@ -265,12 +265,12 @@ pub(crate) fn expect_no_load<F: Store>(rt: &impl Abort, alloc: Global, store: &m
 }
 
 /// Expects that the store has these bytes under the name.
-fn expect_file(rt: &impl Abort, store: &MemStore, name: &str, want: Option<&[u8]>) {
+fn expect_file(rt: &impl Abort, store: &FailingStore, name: &str, want: Option<&[u8]>) {
     expect_found(rt, store.file(name), want);
 }
 
 /// Saves and loads in a store whose second and third calls fail.
-fn keep_first(rt: &impl Abort, alloc: Global, mut store: MemStore) {
+fn keep_first(rt: &impl Abort, alloc: Global, mut store: FailingStore) {
     expect_save(rt, &mut store, "one.bt", b"first", Ok(()));
     expect_save(rt, &mut store, "one.bt", b"then", Err(StoreFault::Failed));
     expect_no_load(rt, alloc, &mut store, "one.bt");
@@ -282,7 +282,7 @@ fn keep_first(rt: &impl Abort, alloc: Global, mut store: MemStore) {
 #[test]
 fn loads_and_saves_fail_by_their_numbers(rt: HostRuntime) -> Result<(), Fail> {
     let fails = list_of(rt.alloc(), &[2, 3])?;
-    keep_first(&rt, rt.alloc(), MemStore::new(rt.alloc(), fails));
+    keep_first(&rt, rt.alloc(), FailingStore::new(rt.alloc(), fails));
     Ok(())
 }
 

@@ -22,7 +22,7 @@ use crate::tally::Tally;
 use itoa::Buffer;
 use oct_bt::encoded_len;
 use oct_gen::Generator;
-use oct_io::{CalmStore, Sink, SinkFault, Status, Stop, status_written, write_all};
+use oct_io::{MemoryStore, Sink, SinkFault, Status, Stop, status_written, write_all};
 use oct_key::Res;
 use oct_map::{Limits, OccMap};
 use oct_num::Memory;
@@ -141,7 +141,7 @@ fn work_through(
     ensures memory { IfErr result (λ stop. stop ≡ Stop.Memory) }
 {
     let mut session = Session::new(alloc);
-    let mut store = CalmStore::new(alloc);
+    let mut store = MemoryStore::new(alloc);
     let mut script = Generator::new(seed, scans, points);
     read_all(
         options,

@@ -15,7 +15,7 @@ ghost use Rattle.oct_session.specs.Standing.{with_reply, HasDone, HasUsed, Keeps
 
 use crate::commands::refuse;
 use oct_bt::{BtFile, read_classes, write};
-use oct_io::{CalmSink, Loaded, Store, StoreFault};
+use oct_io::{Loaded, MemorySink, Store, StoreFault};
 use oct_map::OccMap;
 use oct_num::Memory;
 use oct_script::{FileVerb, Name, Refusal, Reply, file_refusal};
@@ -26,11 +26,11 @@ use std::alloc::Global;
 const MOST_WRITTEN: usize = 4096;
 
 /// The file of the map's classes, written to memory.
-fn write_classes(alloc: Global, map: &OccMap) -> Result<CalmSink, Memory>
+fn write_classes(alloc: Global, map: &OccMap) -> Result<MemorySink, Memory>
     ensures { IfOk result (λ sink. sink.written
         ≡ bt_text map.now.tree.res (classes_in map.now.tree)) }
 {
-    let mut sink = CalmSink::new(alloc, MOST_WRITTEN);
+    let mut sink = MemorySink::new(alloc, MOST_WRITTEN);
     if write(map.tree(), &mut sink).is_err() {
         return Err(Memory);
     }
@@ -134,11 +134,11 @@ fn load<F: Store>(
 }
 
 /// The snapshot of the map, written to memory.
-fn write_snapshot(alloc: Global, map: &OccMap) -> Result<CalmSink, Memory>
+fn write_snapshot(alloc: Global, map: &OccMap) -> Result<MemorySink, Memory>
     ensures { IfOk result (λ sink. sink.written ≡ snap_text map.now.tree.res map.now.tree.odds
         map.now.update_box (values_of map.now)) }
 {
-    let mut sink = CalmSink::new(alloc, MOST_WRITTEN);
+    let mut sink = MemorySink::new(alloc, MOST_WRITTEN);
     if snap::write(map.tree(), map.window(), &mut sink).is_err() {
         return Err(Memory);
     }

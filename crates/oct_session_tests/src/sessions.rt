@@ -4,8 +4,8 @@ ghost use Rattle.oct_session.specs.History.{start_state};
 ghost use Rattle.oct_session.specs.Leaving.{StandsFor};
 
 use oct_io::{
-    CalmSink, CalmSource, CalmStore, FileBytes, KeptList, MemSink, MemSource, MemStore, Sink,
-    Source, Status, Store,
+    FailingSink, FailingSource, FailingStore, FileBytes, KeptList, MemorySink, MemorySource,
+    MemoryStore, Sink, Source, Status, Store,
 };
 use oct_key::{Point, Res};
 use oct_map::{Limits, OccMap};
@@ -82,15 +82,15 @@ fn ended_alone<S: Source, K: Sink>(
     requires { max_bytes ≤ 2 ^ 40 }
 {
     let options = options(max_bytes)?;
-    let mut store = CalmStore::new(alloc);
+    let mut store = MemoryStore::new(alloc);
     Ok(ended(alloc, &options, source, sink, &mut store))
 }
 
 /// A source of a script in reads of this many bytes.
-fn script(alloc: Global, text: &str, most: usize) -> Result<CalmSource, Memory>
+fn script(alloc: Global, text: &str, most: usize) -> Result<MemorySource, Memory>
     requires { 0 < most }
 {
-    Ok(CalmSource::new(FileBytes::from_slice(alloc, text.as_bytes())?, most))
+    Ok(MemorySource::new(FileBytes::from_slice(alloc, text.as_bytes())?, most))
 }
 
 /// Expects that a session ended so.
@@ -141,7 +141,7 @@ fn expect_end(
     let (beside, is_stale, nodes) = left;
     let text = "hit 0 0 0\nmiss 0.1 0 0 lazy\nget 0 0 0 0\nprune\n";
     let mut source = script(alloc, text, 7)?;
-    let mut sink = CalmSink::new(alloc, 100);
+    let mut sink = MemorySink::new(alloc, 100);
     let (status, mut map) = ended_alone(alloc, max_bytes, &mut source, &mut sink)?;
     expect_status(rt, status, want);
     expect_map(rt, &map, Some(850), beside, is_stale);
@@ -214,7 +214,7 @@ fn expect_replies(
     want: Status,
 ) -> Result<OccMap, Fail> {
     let mut source = script(alloc, text, 7)?;
-    let mut sink = CalmSink::new(alloc, 100);
+    let mut sink = MemorySink::new(alloc, 100);
     let (status, map) = ended_alone(alloc, 1000, &mut source, &mut sink)?;
     expect_answer(rt, text, (status, sink.written()), (want, replies));
     Ok(map)
@@ -249,8 +249,8 @@ fn a_block_has_one_reply(rt: HostRuntime) -> Result<(), Fail> {
 fn the_lent_map_stands_for_the_lines_before_a_fault(rt: HostRuntime) -> Result<(), Fail> {
     let text = b"hit 0 0 0 lazy\nrefresh\nhit 0.1 0 0\nmiss 0 0";
     let bytes = FileBytes::from_slice(rt.alloc(), text)?;
-    let mut source = MemSource::new(bytes, 100, only(rt.alloc(), 2)?);
-    let mut sink = CalmSink::new(rt.alloc(), 100);
+    let mut source = FailingSource::new(bytes, 100, only(rt.alloc(), 2)?);
+    let mut sink = MemorySink::new(rt.alloc(), 100);
     let (status, map) = ended_alone(rt.alloc(), 1000, &mut source, &mut sink)?;
     expect_status(&rt, status, Status::ReadFault);
     expect_map(&rt, &map, Some(850), Some(850), false);

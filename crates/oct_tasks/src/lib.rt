@@ -21,9 +21,9 @@
 //! of scans that a number makes, and `drill` does that script and writes four lines about it.
 //!
 //! ```text
-//! let mut source = CalmSource::new(FileBytes::from_slice(alloc, b"hit 0 0 0\n")?, 4096);
-//! let mut sink = CalmSink::new(alloc, 4096);
-//! let status = run(alloc, &words, &mut source, &mut sink, &mut CalmStore::new(alloc));
+//! let mut source = MemorySource::new(FileBytes::from_slice(alloc, b"hit 0 0 0\n")?, 4096);
+//! let mut sink = MemorySink::new(alloc, 4096);
+//! let status = run(alloc, &words, &mut source, &mut sink, &mut MemoryStore::new(alloc));
 //! ```
 //!
 //! With `session` and `0.1` as its words it has written `ok` and a line feed then, and answered

@@ -12,7 +12,7 @@ use crate::handle::Octofix;
 use crate::refusal::{DONE, MEMORY, Refusal, SMALL_BUFFER};
 use crate::types::Details;
 use oct_bt::{BtFault, read_classes};
-use oct_io::{CalmSink, Sink, SinkFault};
+use oct_io::{MemorySink, Sink, SinkFault};
 use oct_map::{MapFault, OccMap};
 use oct_num::Memory;
 use std::alloc::Global;
@@ -54,10 +54,10 @@ fn snapshot_len(map: &OccMap) -> u64
 }
 
 /// The binary file of a map's classes, in memory.
-fn encode(alloc: Global, map: &OccMap) -> Result<CalmSink, Memory>
+fn encode(alloc: Global, map: &OccMap) -> Result<MemorySink, Memory>
     ensures { IfOk result (λ sink. sink.written ≡ file_of map.now) }
 {
-    let mut sink = CalmSink::new(alloc, MOST_WRITTEN);
+    let mut sink = MemorySink::new(alloc, MOST_WRITTEN);
     if oct_bt::write(map.tree(), &mut sink).is_err() {
         return Err(Memory);
     }
@@ -65,10 +65,10 @@ fn encode(alloc: Global, map: &OccMap) -> Result<CalmSink, Memory>
 }
 
 /// The snapshot of a map, in memory.
-fn encode_snapshot(alloc: Global, map: &OccMap) -> Result<CalmSink, Memory>
+fn encode_snapshot(alloc: Global, map: &OccMap) -> Result<MemorySink, Memory>
     ensures { IfOk result (λ sink. sink.written ≡ snapshot_of map.now) }
 {
-    let mut sink = CalmSink::new(alloc, MOST_WRITTEN);
+    let mut sink = MemorySink::new(alloc, MOST_WRITTEN);
     if oct_snap::write(map.tree(), map.window(), &mut sink).is_err() {
         return Err(Memory);
     }

@@ -17,7 +17,9 @@ mod scans;
 mod scripts;
 mod snapshots;
 
-use oct_io::{CalmSink, CalmSource, CalmStore, FileBytes, KeptList, Sink, Source, Status, Store};
+use oct_io::{
+    FileBytes, KeptList, MemorySink, MemorySource, MemoryStore, Sink, Source, Status, Store,
+};
 use oct_num::Memory;
 use oct_tasks::run;
 use std::alloc::Global;
@@ -69,13 +71,13 @@ fn status_over<K: Sink>(
     words: &[&str],
     input: (&[u8], usize),
     sink: &mut K,
-    store: &mut CalmStore,
+    store: &mut MemoryStore,
 ) -> Result<Status, Fail>
     requires { 0 < input.1 }
 {
     let (input, most_read) = input;
     let texts = owned(alloc, words)?;
-    let mut source = CalmSource::new(FileBytes::from_slice(alloc, input)?, most_read);
+    let mut source = MemorySource::new(FileBytes::from_slice(alloc, input)?, most_read);
     Ok(status_of(alloc, &texts, &mut source, sink, store))
 }
 
@@ -86,12 +88,12 @@ fn answer_over(
     words: &[&str],
     input: (&[u8], usize),
     most_written: usize,
-    store: &mut CalmStore,
+    store: &mut MemoryStore,
 ) -> Result<(Status, Vec<u8>), Fail>
     requires read { 0 < input.1 }
     requires written { 0 < most_written }
 {
-    let mut sink = CalmSink::new(alloc, most_written);
+    let mut sink = MemorySink::new(alloc, most_written);
     let status = status_over(alloc, words, input, &mut sink, store)?;
     Ok((status, Vec::from_slice(alloc, sink.written())?))
 }
@@ -107,7 +109,7 @@ fn answer(
     requires read { 0 < most_read }
     requires written { 0 < most_written }
 {
-    let mut store = CalmStore::new(alloc);
+    let mut store = MemoryStore::new(alloc);
     answer_over(alloc, words, (script, most_read), most_written, &mut store)
 }
 

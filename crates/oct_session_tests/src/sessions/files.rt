@@ -43,14 +43,14 @@ fn expect_session<F: Store>(
     want: (Status, &str),
 ) -> Result<(), Memory> {
     let mut source = script(alloc, text, 100)?;
-    let mut sink = CalmSink::new(alloc, 100);
+    let mut sink = MemorySink::new(alloc, 100);
     let (status, _) = ended(alloc, options, &mut source, &mut sink, store);
     expect_answer(rt, text, (status, sink.written()), want);
     Ok(())
 }
 
 /// Expects that the store has these bytes under the name.
-fn expect_file(rt: &impl Abort, store: &CalmStore, name: &str, want: &[u8]) {
+fn expect_file(rt: &impl Abort, store: &MemoryStore, name: &str, want: &[u8]) {
     assert_eq!(rt; store.file(name), Some(want), "{name}");
 }
 
@@ -119,7 +119,7 @@ fn expect_saved(
     options: &Options,
     (text, replies, nodes, data): (&str, &str, &[u8], &[u8]),
 ) -> Result<(), Memory> {
-    let mut store = CalmStore::new(alloc);
+    let mut store = MemoryStore::new(alloc);
     let done = (Status::Done, replies);
     expect_session(rt, alloc, options, &mut store, text, done)?;
     let wanted = file(alloc, nodes, data)?;
@@ -145,7 +145,7 @@ const NOTHING: &[u8] = &[
 #[test]
 fn a_snapshot_has_the_values(rt: HostRuntime) -> Result<(), Fail> {
     let options = options(1000)?;
-    let mut store = CalmStore::new(rt.alloc());
+    let mut store = MemoryStore::new(rt.alloc());
     let text = "hit 0 0 0\nsnapshot a\nforget 0 0 0\nsnapshot b\n";
     let done = (Status::Done, "ok\nsaved 170\nok\nsaved 38\n");
     expect_session(&rt, rt.alloc(), &options, &mut store, text, done)?;
@@ -179,7 +179,7 @@ fn trusting(res: i64, odds: OddsModel) -> Result<Options, Fail> {
 /// [`NOTHING`], and brings those of [`NOTHING`].
 fn expect_odds_restored(rt: &impl Abort, alloc: Global, odds: OddsModel) -> Result<(), Fail> {
     let options = trusting(100_000_000, odds)?;
-    let mut store = CalmStore::new(alloc);
+    let mut store = MemoryStore::new(alloc);
     store.save("a", NOTHING)?;
     let text = "snapshot b\nrestore a\nsnapshot c\nrestore b\nsnapshot d\n";
     let replies = "saved 38\nrestored groups 0\nsaved 38\nrestored groups 0\nsaved 38\n";
@@ -212,7 +212,7 @@ fn a_load_gives_the_classes_back(rt: HostRuntime) -> Result<(), Fail> {
     let text = "hit 0 0 0\nsave m\nclear\nload m\nget 0 0 0 16\nload n\nload bad\nget 0 0 0 16\n";
     let replies = "ok\nsaved 169\nok\nloaded 17\nknown 3500 occupied\nrefused 33 NoFile\n\
         refused 17 Truncated at 138\nknown 3500 occupied\n";
-    let mut store = CalmStore::new(rt.alloc());
+    let mut store = MemoryStore::new(rt.alloc());
     store.save("bad", file(rt.alloc(), b"16", &[0])?.as_slice())?;
     let refused = (Status::Refused, replies);
     expect_session(&rt, rt.alloc(), &options, &mut store, text, refused)?;
@@ -222,7 +222,7 @@ fn a_load_gives_the_classes_back(rt: HostRuntime) -> Result<(), Fail> {
 #[test]
 fn a_file_of_another_resolution_is_refused(rt: HostRuntime) -> Result<(), Fail> {
     let options = trusting(50_000_000, OddsModel::default())?;
-    let mut store = CalmStore::new(rt.alloc());
+    let mut store = MemoryStore::new(rt.alloc());
     store.save("m", file(rt.alloc(), b"16", CUBE)?.as_slice())?;
     let replies = "refused 35 OtherResolution file 100000000 session 50000000\nunknown\n";
     let refused = (Status::Refused, replies);
@@ -247,7 +247,7 @@ fn expect_store_fault(
     has: (bool, bool),
 ) -> Result<(), Fail> {
     let options = options(1000)?;
-    let mut store = MemStore::new(alloc, only(alloc, number)?);
+    let mut store = FailingStore::new(alloc, only(alloc, number)?);
     let text = "save m\nload n\nsave n\nclear\n";
     expect_session(rt, alloc, &options, &mut store, text, want)?;
     let found = (store.file("m").is_some(), store.file("n").is_some());
@@ -288,8 +288,8 @@ fn expect_write_fault(
     let text = "hit 0 0 0\nsave m\nhit 0.1 0 0\n";
     let options = options(1000)?;
     let mut source = script(alloc, text, 100)?;
-    let mut sink = MemSink::new(alloc, 100, only(alloc, number)?);
-    let mut store = CalmStore::new(alloc);
+    let mut sink = FailingSink::new(alloc, 100, only(alloc, number)?);
+    let mut store = MemoryStore::new(alloc);
     let (status, map) = ended(alloc, &options, &mut source, &mut sink, &mut store);
     expect_answer(rt, text, (status, sink.written()), want);
     assert_eq!(rt; store.file("m").is_some(), has_file, "write {number}");

@@ -35,7 +35,7 @@ fn lines_in(bytes: &[u8]) -> usize {
 /// line whose reply wasn't written whole.
 fn expect_cut(rt: &impl Abort, alloc: Global, number: u64) -> Result<(), Fail> {
     let mut source = script(alloc, CHANGES, 200)?;
-    let mut sink = MemSink::new(alloc, 7, only(alloc, number)?);
+    let mut sink = FailingSink::new(alloc, 7, only(alloc, number)?);
     let (status, map) = ended_alone(alloc, 1000, &mut source, &mut sink)?;
     expect_status(rt, status, Status::WriteFault);
     let whole = lines_in(sink.written());
@@ -60,7 +60,7 @@ fn a_change_waits_for_the_reply_before_it(rt: HostRuntime) -> Result<(), Fail> {
 #[test]
 fn replies_that_are_held_are_written_whole(rt: HostRuntime) -> Result<(), Fail> {
     let mut source = script(rt.alloc(), CHANGES, 200)?;
-    let mut sink = MemSink::new(rt.alloc(), 7, only(rt.alloc(), 16)?);
+    let mut sink = FailingSink::new(rt.alloc(), 7, only(rt.alloc(), 16)?);
     let (status, map) = ended_alone(rt.alloc(), 1000, &mut source, &mut sink)?;
     let refused = (Status::Refused, REPLIES);
     expect_answer(&rt, CHANGES, (status, sink.written()), refused);
@@ -79,7 +79,7 @@ const ANSWERS: &str = "unknown\nend 0\ncast unknown 32768 32768 32768\nrefused 2
 #[test]
 fn lines_that_change_nothing_share_a_write(rt: HostRuntime) -> Result<(), Fail> {
     let mut source = script(rt.alloc(), QUESTIONS, 200)?;
-    let mut sink = MemSink::new(rt.alloc(), 200, only(rt.alloc(), 2)?);
+    let mut sink = FailingSink::new(rt.alloc(), 200, only(rt.alloc(), 2)?);
     let (status, _) = ended_alone(rt.alloc(), 1000, &mut source, &mut sink)?;
     let refused = (Status::Refused, ANSWERS);
     expect_answer(&rt, QUESTIONS, (status, sink.written()), refused);
@@ -103,8 +103,8 @@ fn expect_held(
     number: u64,
     want: (Status, usize),
 ) -> Result<(), Fail> {
-    let mut source = CalmSource::new(queries(alloc)?, 100_000);
-    let mut sink = MemSink::new(alloc, 100_000, only(alloc, number)?);
+    let mut source = MemorySource::new(queries(alloc)?, 100_000);
+    let mut sink = FailingSink::new(alloc, 100_000, only(alloc, number)?);
     let (status, _) = ended_alone(alloc, 20_000, &mut source, &mut sink)?;
     assert_eq!(rt; (status, sink.written().len()), want, "write {number}");
     Ok(())

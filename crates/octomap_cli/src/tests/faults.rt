@@ -3,7 +3,7 @@
 ghost use Rattle.std.specs.Prelude.{◌<◌};
 
 use super::{expect_end, only, owned, status_of};
-use oct_io::{FileBytes, MemSink, MemSource, MemStore, Status};
+use oct_io::{FailingSink, FailingSource, FailingStore, FileBytes, Status};
 use oct_num::Memory;
 use std::alloc::Global;
 use std::process::Abort;
@@ -26,11 +26,11 @@ const WHOLE: Failing = Failing {
 };
 
 /// The source of these bytes, by this many at most, whose read of that number fails.
-fn source_of(alloc: Global, input: &[u8], most: usize, read: u64) -> Result<MemSource, Memory>
+fn source_of(alloc: Global, input: &[u8], most: usize, read: u64) -> Result<FailingSource, Memory>
     requires { 0 < most }
 {
     let bytes = FileBytes::from_slice(alloc, input)?;
-    Ok(MemSource::new(bytes, most, only(alloc, read)?))
+    Ok(FailingSource::new(bytes, most, only(alloc, read)?))
 }
 
 /// The status of the program on its words and this source, and what it leaves in sink and store.
@@ -38,11 +38,11 @@ fn source_of(alloc: Global, input: &[u8], most: usize, read: u64) -> Result<MemS
 fn torn_over(
     alloc: Global,
     words: &[String],
-    source: &mut MemSource,
+    source: &mut FailingSource,
     failing: Failing,
-) -> Result<(Status, MemSink, MemStore), Memory> {
-    let mut sink = MemSink::new(alloc, 1, only(alloc, failing.write)?);
-    let mut store = MemStore::new(alloc, only(alloc, failing.file)?);
+) -> Result<(Status, FailingSink, FailingStore), Memory> {
+    let mut sink = FailingSink::new(alloc, 1, only(alloc, failing.write)?);
+    let mut store = FailingStore::new(alloc, only(alloc, failing.file)?);
     let status = status_of(alloc, words, source, &mut sink, &mut store);
     Ok((status, sink, store))
 }
@@ -54,7 +54,7 @@ fn torn(
     input: &[u8],
     most: usize,
     failing: Failing,
-) -> Result<(Status, MemSink, MemStore), Fail>
+) -> Result<(Status, FailingSink, FailingStore), Fail>
     requires { 0 < most }
 {
     let words = owned(alloc, words)?;
@@ -71,7 +71,7 @@ fn check_torn(
     input: (&[u8], usize),
     failing: Failing,
     want: (Status, &[u8]),
-) -> Result<MemStore, Fail> {
+) -> Result<FailingStore, Fail> {
     let (bytes, most) = input;
     assert!(rt; most > 0);
     let (status, sink, store) = torn(alloc, words, bytes, most, failing)?;
@@ -133,7 +133,7 @@ fn kept(alloc: Global) -> Result<FileBytes, Fail> {
 }
 
 /// Expects the bytes of a file, or that it isn't there.
-fn expect_file(rt: &impl Abort, store: &MemStore, name: &str, want: Option<&[u8]>) {
+fn expect_file(rt: &impl Abort, store: &FailingStore, name: &str, want: Option<&[u8]>) {
     assert_eq!(rt; store.file(name), want);
 }
 
@@ -141,7 +141,7 @@ fn expect_file(rt: &impl Abort, store: &MemStore, name: &str, want: Option<&[u8]
 fn check_files(
     rt: &impl Abort,
     alloc: Global,
-    store: &MemStore,
+    store: &FailingStore,
     has_saved: bool,
     has_kept: bool,
 ) -> Result<(), Fail> {

@@ -2,7 +2,9 @@
 ghost use Rattle.std.specs.Prelude.{◌<◌};
 
 use super::{answer_over, expect_answered, only, owned, status_of};
-use oct_io::{CalmStore, FileBytes, MemSink, MemSource, MemStore, Status, Store, StoreFault};
+use oct_io::{
+    FailingSink, FailingSource, FailingStore, FileBytes, MemoryStore, Status, Store, StoreFault,
+};
 use std::alloc::Global;
 use std::process::Abort;
 use std::test::Fail;
@@ -59,7 +61,7 @@ fn fill<F: Store>(store: &mut F) -> Result<(), StoreFault> {
 }
 
 /// Expects that the store has the files as they were.
-fn expect_files(rt: &impl Abort, store: &CalmStore, words: &[&str]) {
+fn expect_files(rt: &impl Abort, store: &MemoryStore, words: &[&str]) {
     for &(name, bytes) in FILES {
         assert_eq!(rt; store.file(name), Some(bytes), "at {words:?}");
     }
@@ -67,7 +69,7 @@ fn expect_files(rt: &impl Abort, store: &CalmStore, words: &[&str]) {
 
 /// The status of the program on its words, and what it writes. It has an input, which it leaves.
 fn answer(rt: &impl Abort, alloc: Global, words: &[&str]) -> Result<(Status, Vec<u8>), Fail> {
-    let mut store = CalmStore::new(alloc);
+    let mut store = MemoryStore::new(alloc);
     fill(&mut store)?;
     let answered = answer_over(alloc, words, (b"hit 0 0 0\n", 4096), 100, &mut store)?;
     expect_files(rt, &store, words);
@@ -272,9 +274,9 @@ const FIRST_LOAD: u8 = 7;
 /// and the first read of the input would fail.
 fn torn(alloc: Global, words: &[&str], write: u8, call: u8) -> Result<(Status, Vec<u8>), Fail> {
     let texts = owned(alloc, words)?;
-    let mut source = MemSource::new(FileBytes::new(alloc), 1, only(alloc, 1)?);
-    let mut sink = MemSink::new(alloc, 1, only(alloc, u64::from(write))?);
-    let mut store = MemStore::new(alloc, only(alloc, u64::from(call))?);
+    let mut source = FailingSource::new(FileBytes::new(alloc), 1, only(alloc, 1)?);
+    let mut sink = FailingSink::new(alloc, 1, only(alloc, u64::from(write))?);
+    let mut store = FailingStore::new(alloc, only(alloc, u64::from(call))?);
     fill(&mut store)?;
     let status = status_of(alloc, &texts, &mut source, &mut sink, &mut store);
     Ok((status, Vec::from_slice(alloc, sink.written())?))

@@ -1,6 +1,6 @@
 //! Files of several pieces, and how many calls of the sink they take.
 use super::{answer, expect_end, only, status_over};
-use oct_io::{CalmStore, MemSink, Status};
+use oct_io::{FailingSink, MemoryStore, Status};
 use std::alloc::Global;
 use std::process::Abort;
 use std::test::Fail;
@@ -12,9 +12,9 @@ fn failing(
     words: &[&str],
     input: &[u8],
     number: u64,
-) -> Result<(Status, MemSink), Fail> {
-    let mut sink = MemSink::new(alloc, 8192, only(alloc, number)?);
-    let mut store = CalmStore::new(alloc);
+) -> Result<(Status, FailingSink), Fail> {
+    let mut sink = FailingSink::new(alloc, 8192, only(alloc, number)?);
+    let mut store = MemoryStore::new(alloc);
     let status = status_over(alloc, words, (input, 4096), &mut sink, &mut store)?;
     Ok((status, sink))
 }

@@ -1,6 +1,6 @@
 //! Sessions that write and restore snapshots.
 use super::{Case, answer_over, check, expect_answered};
-use oct_io::{CalmStore, FileBytes, Status, Store};
+use oct_io::{FileBytes, MemoryStore, Status, Store};
 use std::alloc::Global;
 use std::process::Abort;
 use std::test::Fail;
@@ -10,7 +10,7 @@ fn expect_over(
     rt: &impl Abort,
     alloc: Global,
     words: &[&str],
-    store: &mut CalmStore,
+    store: &mut MemoryStore,
     script: &[u8],
     want: (Status, &[u8]),
 ) {
@@ -19,7 +19,7 @@ fn expect_over(
 }
 
 /// Expects that the store has these bytes under the name.
-fn expect_file(rt: &impl Abort, store: &CalmStore, name: &str, want: &[u8]) {
+fn expect_file(rt: &impl Abort, store: &MemoryStore, name: &str, want: &[u8]) {
     assert_eq!(rt; store.file(name), Some(want), "{name}");
 }
 
@@ -76,7 +76,7 @@ const SESSION: &[&str] = &["session", "0.1"];
 
 #[test]
 fn the_unknown_world_has_a_snapshot(rt: HostRuntime) {
-    let mut store = CalmStore::new(rt.alloc());
+    let mut store = MemoryStore::new(rt.alloc());
     let script = b"snapshot e\nrestore e\n";
     let want = (Status::Done, b"saved 38\nrestored groups 0\n".as_slice());
     expect_over(&rt, rt.alloc(), SESSION, &mut store, script, want);
@@ -85,7 +85,7 @@ fn the_unknown_world_has_a_snapshot(rt: HostRuntime) {
 
 #[test]
 fn an_older_snapshot_leaves_the_log_odds(rt: HostRuntime) -> Result<(), Fail> {
-    let mut store = CalmStore::new(rt.alloc());
+    let mut store = MemoryStore::new(rt.alloc());
     store.save("a", old_hit(rt.alloc())?.as_slice())?;
     let words = ["session", "0.1", "--hit", "500"];
     let script = b"restore a\nhit 0 0 0\nget 0 0 0 16\nsnapshot b\n";
@@ -103,7 +103,7 @@ fn an_older_snapshot_leaves_the_log_odds(rt: HostRuntime) -> Result<(), Fail> {
 
 #[test]
 fn a_snapshot_brings_its_log_odds(rt: HostRuntime) {
-    let mut store = CalmStore::new(rt.alloc());
+    let mut store = MemoryStore::new(rt.alloc());
     let script = b"hit 0 0 0\nsnapshot a\n";
     let want = (Status::Done, b"ok\nsaved 170\n".as_slice());
     expect_over(&rt, rt.alloc(), SESSION, &mut store, script, want);
@@ -157,7 +157,7 @@ const FAULTS: &[(&[u8], &[u8])] = &[
 fn a_bad_snapshot_is_refused(rt: HostRuntime) -> Result<(), Fail> {
     let script = b"hit 0 0 0\nrestore a\nget 0 0 0 16\n";
     for &(file, replies) in FAULTS {
-        let mut store = CalmStore::new(rt.alloc());
+        let mut store = MemoryStore::new(rt.alloc());
         store.save("a", file)?;
         let want = (Status::Refused, replies);
         expect_over(&rt, rt.alloc(), SESSION, &mut store, script, want);

@@ -1,5 +1,5 @@
 use Rattle.std.proofs.Common.{Some, Err, ap, ◌∙◌}
-use Rattle.oct_io.specs.CalmFiles.{files_of}
+use Rattle.oct_io.specs.MemoryFiles.{files_of}
 use Rattle.oct_session.specs.Standing.{desk_of}
 use Rattle.oct_io.specs.Shelf.{shelf}
 use Rattle.oct_session.proofs.Built.{zero_stays}

@@ -5,20 +5,20 @@ ghost use Rattle.oct_io.specs.Counts.{IsWriteCounted};
 ghost use Rattle.oct_io.specs.Failing.{fails_next, with_call, failed_of};
 
 use crate::calls::Calls;
-use crate::calm_sink::CalmSink;
 use crate::kept_list::KeptList;
+use crate::memory_sink::MemorySink;
 use crate::sink::{Sink, SinkFault};
 use std::alloc::Global;
 
 /// Bytes that are written to memory in pieces of a greatest length, where the writes of some
 /// numbers fail.
 #[derive(Drop)]
-pub struct MemSink {
-    receipt: CalmSink,
+pub struct FailingSink {
+    receipt: MemorySink,
     calls: Calls,
 }
 
-impl MemSink {
+impl FailingSink {
     /// A sink with nothing written to it, of which a write takes `most` bytes at most. The writes
     /// that fail are those whose numbers, from 1 on, are in `fails`.
     pub fn new(alloc: Global, most: usize, fails: KeptList) -> Self
@@ -28,8 +28,8 @@ impl MemSink {
         ensures shortages { result.receipt.shortages ≡ 0 }
         ensures calls { result.calls ≡ record { fails = fails; count = 0 } }
     {
-        MemSink {
-            receipt: CalmSink::new(alloc, most),
+        FailingSink {
+            receipt: MemorySink::new(alloc, most),
             calls: Calls::new(fails),
         }
     }
@@ -42,7 +42,7 @@ impl MemSink {
     }
 }
 
-impl Sink for MemSink {
+impl Sink for FailingSink {
     ghost written = { λ s. Some s.receipt.written };
 
     ghost faults = { λ s. failed_of s.calls };

@@ -7,13 +7,13 @@ use std::marker::Model;
 
 /// Bytes in memory that are read in pieces of a greatest length. No read fails.
 #[derive(Drop)]
-pub struct CalmSource {
+pub struct MemorySource {
     bytes: FileBytes,
     at: usize,
     most: usize,
 }
 
-impl Model for CalmSource {
+impl Model for MemorySource {
     ghost use Rattle.std.specs.Prelude.{◌<◌, ◌≤◌, drop, length};
     ghost use Rattle.oct_io.specs.Held.{Supply};
 
@@ -24,18 +24,18 @@ impl Model for CalmSource {
     ghost invariant = { λ s. (s.at ≤ length s.bytes) × (0 < s.most) };
 }
 
-impl CalmSource {
+impl MemorySource {
     /// A source of these bytes, of which a read moves `most` at most.
     pub fn new(bytes: FileBytes, most: usize) -> Self
         requires { 0 < most }
         ensures left { result.left ≡ bytes }
         ensures most { result.most ≡ most }
     {
-        CalmSource { bytes, at: 0, most }
+        MemorySource { bytes, at: 0, most }
     }
 }
 
-impl Source for CalmSource {
+impl Source for MemorySource {
     ghost left = { λ s. Some s.left };
 
     ghost faults = { λ _. 0 };
@@ -75,7 +75,7 @@ mod tests {
     use std::test::Fail;
 
     // Expects that a read into a buffer of this length moves these bytes.
-    fn expect_read(rt: &impl Abort, source: &mut CalmSource, room: usize, want: &str)
+    fn expect_read(rt: &impl Abort, source: &mut MemorySource, room: usize, want: &str)
         requires { room ≤ 16 }
     {
         let mut buffer = [0u8; 16];
@@ -92,7 +92,7 @@ mod tests {
         want: &[&str],
     ) -> Result<(), Memory> {
         assert!(rt; most > 0 && room <= 16);
-        let mut source = CalmSource::new(FileBytes::from_slice(alloc, b"0123456789")?, most);
+        let mut source = MemorySource::new(FileBytes::from_slice(alloc, b"0123456789")?, most);
         for piece in want {
             expect_read(rt, &mut source, room, piece);
         }

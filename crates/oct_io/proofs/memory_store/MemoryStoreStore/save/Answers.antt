@@ -1,7 +1,7 @@
 use Rattle.std.proofs.Common.{◌≡◌, string_bytes}
 use Rattle.std.proofs.lemmas.Result.{IfOk-at_ok}
 use Rattle.oct_io.proofs.Filing.{files_insert, bytes_insert}
-use Rattle.oct_io.proofs.calm_store.CalmStoreStore.save.Goals as goal
+use Rattle.oct_io.proofs.memory_store.MemoryStoreStore.save.Goals as goal
 
 -- the key is the name and the value is a copy of the bytes
 pub returns-clause-saved : goal.returns-clause-saved

@@ -5,20 +5,20 @@ ghost use Rattle.oct_io.specs.Counts.{IsAskCounted};
 ghost use Rattle.oct_io.specs.Failing.{fails_next, with_call, failed_of};
 
 use crate::calls::Calls;
-use crate::calm_store::CalmStore;
 use crate::kept_list::KeptList;
+use crate::memory_store::MemoryStore;
 use crate::store::{Loaded, Store, StoreFault};
 use std::alloc::Global;
 
 /// Files in memory, where the loads and saves of some numbers fail. They are counted together.
 #[derive(Drop)]
-pub struct MemStore {
-    shelf: CalmStore,
+pub struct FailingStore {
+    shelf: MemoryStore,
     calls: Calls,
 }
 
-impl MemStore {
-    ghost use Rattle.oct_io.specs.CalmFiles.{files_of};
+impl FailingStore {
+    ghost use Rattle.oct_io.specs.MemoryFiles.{files_of};
     ghost use Rattle.oct_io.specs.Files.{no_files};
 
     /// A store with no files. The calls that fail are those whose numbers, from 1 on, are in
@@ -27,8 +27,8 @@ impl MemStore {
         ensures files { files_of result.shelf ≡ no_files }
         ensures calls { result.calls ≡ record { fails = fails; count = 0 } }
     {
-        MemStore {
-            shelf: CalmStore::new(alloc),
+        FailingStore {
+            shelf: MemoryStore::new(alloc),
             calls: Calls::new(fails),
         }
     }
@@ -41,8 +41,8 @@ impl MemStore {
     }
 }
 
-impl Store for MemStore {
-    ghost use Rattle.oct_io.specs.CalmFiles.{files_of};
+impl Store for FailingStore {
+    ghost use Rattle.oct_io.specs.MemoryFiles.{files_of};
     ghost use Rattle.oct_io.specs.Files.{KeepsOthers, with_file};
     ghost use Rattle.oct_io.specs.Loaded.{loaded_of, IsWithinLimit, TakesMemory};
 

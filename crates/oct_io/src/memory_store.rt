@@ -12,21 +12,21 @@ use std::collections::BTreeMap;
 
 /// Files in memory. A load or save gives up only where memory runs out.
 #[derive(Drop)]
-pub struct CalmStore {
+pub struct MemoryStore {
     alloc: Global,
     files: BTreeMap<String, FileBytes>,
     ghost bytes: { AreBytes (λ name. get_by_text files name) } by { Prim.hlevel props },
 }
 
-impl CalmStore {
-    ghost use Rattle.oct_io.specs.CalmFiles.{files_of};
+impl MemoryStore {
+    ghost use Rattle.oct_io.specs.MemoryFiles.{files_of};
     ghost use Rattle.oct_io.specs.Files.{no_files};
 
     /// A store with no files.
     pub fn new(alloc: Global) -> Self
         ensures { files_of result ≡ no_files }
     {
-        CalmStore {
+        MemoryStore {
             alloc,
             files: BTreeMap::new(alloc),
         }
@@ -52,8 +52,8 @@ fn each_fits(bytes: &[u8])
     }
 }
 
-impl Store for CalmStore {
-    ghost use Rattle.oct_io.specs.CalmFiles.{files_of};
+impl Store for MemoryStore {
+    ghost use Rattle.oct_io.specs.MemoryFiles.{files_of};
     ghost use Rattle.oct_io.specs.Files.{KeepsOthers, with_file};
     ghost use Rattle.oct_io.specs.Loaded.{loaded_of, IsWithinLimit, TakesMemory};
 

@@ -11,13 +11,13 @@ use std::marker::Model;
 /// Bytes that are written to memory in pieces of a greatest length. A write gives up only where
 /// memory runs out, which is counted.
 #[derive(Drop)]
-pub struct CalmSink {
+pub struct MemorySink {
     bytes: FileBytes,
     most: usize,
     shortages: u64,
 }
 
-impl Model for CalmSink {
+impl Model for MemorySink {
     ghost use Rattle.std.specs.Prelude.{◌<◌};
     ghost use Rattle.oct_io.specs.Held.{Receipt};
 
@@ -28,7 +28,7 @@ impl Model for CalmSink {
     ghost invariant = { λ s. 0 < s.most };
 }
 
-impl CalmSink {
+impl MemorySink {
     /// A sink with nothing written to it, of which a write takes `most` bytes at most.
     pub fn new(alloc: Global, most: usize) -> Self
         requires { 0 < most }
@@ -36,7 +36,7 @@ impl CalmSink {
         ensures most { result.most ≡ most }
         ensures shortages { result.shortages ≡ 0 }
     {
-        CalmSink {
+        MemorySink {
             bytes: FileBytes::new(alloc),
             most,
             shortages: 0,
@@ -51,7 +51,7 @@ impl CalmSink {
     }
 }
 
-impl Sink for CalmSink {
+impl Sink for MemorySink {
     ghost written = { λ s. Some s.written };
 
     ghost faults = { λ _. 0 };
@@ -87,13 +87,13 @@ mod tests {
     use std::process::Abort;
 
     // Expects that these bytes were written so far.
-    fn expect_written(rt: &impl Abort, sink: &CalmSink, want: &[u8]) {
+    fn expect_written(rt: &impl Abort, sink: &MemorySink, want: &[u8]) {
         expect_bytes(rt, sink.written(), want);
     }
 
     #[test]
     fn a_sink_of_three_bytes_a_write_gets_whole_pieces(rt: HostRuntime) {
-        let mut sink = CalmSink::new(rt.alloc(), 3);
+        let mut sink = MemorySink::new(rt.alloc(), 3);
         expect_write_all(&rt, &mut sink, b"", Ok(()));
         expect_write_all(&rt, &mut sink, b"occupied", Ok(()));
         expect_written(&rt, &sink, b"occupied");

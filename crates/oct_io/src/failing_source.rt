@@ -5,20 +5,20 @@ ghost use Rattle.oct_io.specs.Counts.{IsReadCounted};
 ghost use Rattle.oct_io.specs.Failing.{fails_next, with_call, failed_of};
 
 use crate::calls::Calls;
-use crate::calm_source::CalmSource;
 use crate::file_bytes::FileBytes;
 use crate::kept_list::KeptList;
+use crate::memory_source::MemorySource;
 use crate::source::{Failed, Source};
 
 /// Bytes in memory that are read in pieces of a greatest length, where the reads of some numbers
 /// fail.
 #[derive(Drop)]
-pub struct MemSource {
-    supply: CalmSource,
+pub struct FailingSource {
+    supply: MemorySource,
     calls: Calls,
 }
 
-impl MemSource {
+impl FailingSource {
     /// A source of these bytes, of which a read moves `most` at most. The reads that fail are those
     /// whose numbers, from 1 on, are in `fails`.
     pub fn new(bytes: FileBytes, most: usize, fails: KeptList) -> Self
@@ -27,14 +27,14 @@ impl MemSource {
         ensures most { result.supply.most ≡ most }
         ensures calls { result.calls ≡ record { fails = fails; count = 0 } }
     {
-        MemSource {
-            supply: CalmSource::new(bytes, most),
+        FailingSource {
+            supply: MemorySource::new(bytes, most),
             calls: Calls::new(fails),
         }
     }
 }
 
-impl Source for MemSource {
+impl Source for FailingSource {
     ghost left = { λ s. Some s.supply.left };
 
     ghost faults = { λ s. failed_of s.calls };
