@@ -1,5 +1,6 @@
 pub mod Joined
 pub mod Known
+pub mod Copies
 pub mod Needs
 pub mod Parts
 pub mod Shares

@@ -1,24 +1,26 @@
 -- How many groups a merge may take in a block: itself, and in its children.
-use Rattle.std.proofs.Common.{◌≡◌, ℕ, zero, suc, ◌+◌, ◌-◌, ◌*◌, ◌<◌, ◌≤◌, Bool, true, false, cond}
+use Rattle.std.proofs.Common.{◌≡◌, ℕ, zero, suc, ◌+◌, ◌-◌, ◌<◌, ◌≤◌, Bool, true, false, cond}
 use Rattle.std.proofs.Common.{inl, inr, Some, None, refl, sym, ◌∙◌, ap, subst, arith}
 use Rattle.std.specs.Prelude.{Option, ◌&&◌, ◌↔◌, IsTrue, not, is_some, sum_by, count_by}
 use Rattle.std.proofs.lemmas.Bool.{false≢true}
 use Rattle.oct_key.specs.Voxel.{Voxel, IsInMap}
-use Rattle.oct_key.specs.Block.{Cube, IsBlock, HoldsVoxel, block_of, child_of, lowest_voxel}
+use Rattle.oct_key.specs.Block.{Cube, IsBlock, HoldsVoxel, LiesIn, block_of, child_of, lowest_voxel}
 use Rattle.oct_key.proofs.Blocks.{depth_block_of, depth_child_of, child_in_map, lowest_held}
 use Rattle.oct_key.proofs.Blocks.{lowest_in_map, block_of_holds}
 use Rattle.oct_key.proofs.Held.{held_by_parent, child_depths}
+use Rattle.oct_key.proofs.Nested.{lies_in_depth}
 use Rattle.oct_values.specs.Blocks.{blocks_below}
 use Rattle.oct_values.proofs.Axes.{sum_below, sum_below_none, sum_below_next}
 use Rattle.oct_values.proofs.Eights.{same_eight, none_of_eight}
 use Rattle.oct_values.proofs.Listed.{sum_of_blocks, sum_of_no_blocks}
 use Rattle.oct_arena.specs.declared.node.GroupId.{GroupId}
 use Rattle.oct_arena.specs.declared.node.Node.{Node}
+use Rattle.oct_arena.specs.Entries.{home_at, home_of}
 use Rattle.oct_arena.specs.Nodes.{link_of}
 use Rattle.oct_tree.specs.declared.place.Place.{Place}
 use Rattle.oct_tree.specs.Tree.{IsOver, Tree, IsLinked, reach}
 use Rattle.oct_tree.proofs.Paths.{some_not_none, reach_home, unlinked_step}
-use Rattle.oct_edit.specs.Steps.{IsEntered}
+use Rattle.oct_edit.proofs.Joins.{IsUnfolded}
 use Rattle.oct_edit.proofs.Needs.{sum_below_eight}
 use Rattle.oct_merge.specs.Walk.{is_split, is_needed, need_in, is_common, common_in}
 use Rattle.oct_merge.proofs.Known.{over_step, over_low}
@@ -80,12 +82,6 @@ none_below t f only (suc h) b n d over plain =
     (over_step t b n i (omega (arith, d)) li over)) plain) in
     omega (arith, all, here, rest)
 
-pub need_none : (t o : Tree) (b : Cube) (n : Node) → b.depth ≤ 16 → IsOver o b n → link_of n ≡ None
-    → need_in t o b ≡ 0
-need_none t o b n m over plain =
-    none_below o (is_needed t o) (λ q e. ap (λ a. a && not (is_split t q)) e) (16 - b.depth) b n
-    (omega (arith, m)) over plain
-
 neither : (a : Bool) → (a && false) ≡ false
 neither true = refl
 neither false = refl
@@ -135,24 +131,44 @@ need_alike t w o b ok same =
     (let top = ok.depth in alike_below t w o (16 - b.depth) b ok (omega (arith, top)) same)
 
 -- below a block that is entered, groups are where they were
-pub entered_alike : (t s : Tree) (p : Place) (b : Cube) (id : GroupId) → IsLinked t
-    → IsEntered t s p b id
+pub unfolded_alike : (t s : Tree) (p : Place) (b : Cube) (id : GroupId) → IsLinked t
+    → IsUnfolded t s p b id false
     → (d : ℕ) (k : Voxel) → b.depth < d → d ≤ 16 → IsInMap k
     → is_some (link_of (reach s d k)) ≡ is_some (link_of (reach t d k))
-entered_alike t s p b id l e d k below m v = elim (e.opened d k m v) [
-  | inl same ↦ ap (λ n. is_some (link_of n)) same
-  | inr (none, new) ↦ (let (x, is) = new in
-      let home = reach_home s k e.linked v d x.number (ap link_of is) m in
-      elim (e.homes x.number (block_of d k) home) [
-        | inl old ↦ (let link = l.reached x.number (block_of d k) old k v (block_of_holds d k) in
-            let there : link_of (reach t d k) ≡ Some x.number =
-            subst (λ n. link_of (reach t n k) ≡ Some x.number) (depth_block_of d k) link in
-            absurd (some_not_none there none))
-        | inr (itself, _) ↦ (let deep = depth_block_of d k in
-            let level : (block_of d k).depth ≡ b.depth = ap (λ (c : Cube). c.depth) itself in
-            absurd (omega (arith, deep, level, below)))
-      ])
-]
+unfolded_alike t s p b id l e d k below m v =
+    go (link_of (reach s d k)) (link_of (reach t d k)) refl refl
+  where
+    deep : (block_of d k).depth ≡ d
+    deep = depth_block_of d k
+
+    -- the group of the block in a tree is what the path comes to there
+    found : (u : Tree) (x : ℕ) → IsLinked u → home_at u.groups x ≡ Some (block_of d k)
+        → link_of (reach u d k) ≡ Some x
+    found u x lu home =
+        subst (λ n. link_of (reach u n k) ≡ Some x) deep
+        (lu.reached x (block_of d k) home k v (block_of_holds d k))
+
+    apart : LiesIn b (block_of d k) → ⊥
+    apart lies =
+        (let above = lies_in_depth b (block_of d k) (omega (arith, deep, m)) lies in
+        absurd (omega (arith, above, deep, below)))
+
+    go : (x y : Option ℕ) → link_of (reach s d k) ≡ x → link_of (reach t d k) ≡ y
+        → is_some (link_of (reach s d k)) ≡ is_some (link_of (reach t d k))
+    go None None here there = ap is_some here ∙ sym (ap is_some there)
+    go (Some x) (Some y) here there = ap is_some here ∙ sym (ap is_some there)
+    go (Some x) None here there =
+        let home = reach_home s k e.linked v d x here m in
+        elim (e.homes x (block_of d k) home) [
+          | inl old ↦ absurd (some_not_none (found t x l old) there)
+          | inr (itself, _) ↦ (let level : (block_of d k).depth ≡ b.depth =
+              ap (λ (c : Cube). c.depth) itself in
+              absurd (omega (arith, deep, level, below)))
+        ]
+    go None (Some y) here there =
+        (let home = reach_home t k l v d y there m in
+        let kept = e.local.kept y (block_of d k) apart home in
+        absurd (some_not_none (found s y e.linked (ap home_of kept ∙ home)) here))
 
 -- a block whose node links a group in both trees counts
 pub common_here : (t o : Tree) (b : Cube) (m n : Node) (theirs mine : Bool) → IsOver t b m

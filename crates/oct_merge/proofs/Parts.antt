@@ -25,7 +25,7 @@ use Rattle.oct_tree.specs.Changes.{IsWritten, SetsBlock, IsSameOutside}
 use Rattle.oct_tree.proofs.Paths.{slot_place, slot_block, value_within}
 use Rattle.oct_tree.proofs.Over.{over_value}
 use Rattle.oct_edit.specs.Steps.{Reaches, IsTouched, IsEntered, IsClosed}
-use Rattle.oct_edit.proofs.Joins.{TakesIn}
+use Rattle.oct_edit.proofs.Joins.{IsUnfolded, TakesIn}
 use Rattle.oct_edit.proofs.Closings.{closed_vacant}
 use Rattle.oct_edit.proofs.Leaves.{leaf_touched}
 use Rattle.oct_edit.proofs.UpdateEnds.{covered, known_plain, vacant_under}
@@ -40,7 +40,7 @@ use Rattle.oct_merge.specs.Merged.{merged, merge_event, merge_events}
 use Rattle.oct_merge.specs.Walk.{is_needed, need_in}
 use Rattle.oct_merge.proofs.Joined.{merge_sets, merge_leaves, merged_within, set_value, merge_after}
 use Rattle.oct_merge.proofs.Known.{over_place, over_low, over_known}
-use Rattle.oct_merge.proofs.Needs.{needed_by_nodes, need_of_children, need_alike, entered_alike}
+use Rattle.oct_merge.proofs.Needs.{needed_by_nodes, need_of_children, need_alike, unfolded_alike}
 
 -- what a merge of the second tree into the first does to each voxel
 abbrev pub events_of : Rule → Tree → Tree → Events
@@ -85,7 +85,7 @@ part_low t o p b n l lo e ok over parted = go (link_of (node_in t p)) (link_of n
     go None (Some y) a c = over_low o b n y lo ok over c
 
 -- and where the first has no group there, the second has
-part_needed : (t o : Tree) (p : Place) (b : Cube) (n : Node) → IsLinked t → IsPlace t p
+pub part_needed : (t o : Tree) (p : Place) (b : Cube) (n : Node) → IsLinked t → IsPlace t p
     → block_in t p ≡ Some b → IsBlock b → IsOver o b n
     → (link_of (node_in t p) ≡ None → link_of n ≢ None)
     → link_of (node_in t p) ≡ None → cond {A = ℕ} (is_needed t o b) 1 0 ≡ 1
@@ -123,7 +123,7 @@ part_entered t s o p b id n l ok at in_map over parted e = elim e.spare [
 
 -- no child is merged
 pub merging_start : (t s o : Tree) (p : Place) (b : Cube) (id : GroupId) (rule : Rule)
-    → IsEntered t s p b id → IsMerging t s s o p b rule 0
+    → IsUnfolded t s p b id false → IsMerging t s s o p b rule 0
 merging_start t s o p b id rule e = record {
   done = round_start s p b (events_of rule t o) false e.linked e.place e.block;
   room = omega arith;
@@ -131,7 +131,7 @@ merging_start t s o p b id rule e = record {
 
 -- the slot of a child is a place, of the child's block
 pub merging_place : (t s w o : Tree) (p : Place) (b : Cube) (id : GroupId) (i : ℕ) (rule : Rule)
-    → i < 8 → IsEntered t s p b id
+    → i < 8 → IsUnfolded t s p b id false
     → IsMerging t s w o p b rule i
     → IsPlace w (Slot id i) × (block_in w (Slot id i) ≡ Some (child_of b i))
 merging_place t s w o p b id i rule few e way =
@@ -143,7 +143,7 @@ merging_place t s w o p b id i rule few e way =
 
 -- the log-odds are those of the second tree
 pub merging_odds : (t s w o : Tree) (p : Place) (b : Cube) (id : GroupId) (i : ℕ) (rule : Rule)
-    → IsEntered t s p b id
+    → IsUnfolded t s p b id false
     → IsMerging t s w o p b rule i → t.odds ≡ o.odds → w.odds ≡ o.odds
 merging_odds t s w o p b id i rule e way same =
     way.done.apart.outside.odds ∙ e.local.outside.odds ∙ same
@@ -157,7 +157,7 @@ not_before b i k low few held (_, less) =
 
 pub merging_need : (t s w o : Tree) (p : Place) (b : Cube) (id : GroupId) (i : ℕ) (rule : Rule)
     → IsLinked t → IsBlock b → b.depth ≤ 15 → i < 8
-    → IsEntered t s p b id → IsMerging t s w o p b rule i
+    → IsUnfolded t s p b id false → IsMerging t s w o p b rule i
     → need_in w o (child_of b i) ≡ need_in t o (child_of b i)
 merging_need t s w o p b id i rule l ok low few e way =
     need_alike t w o (child_of b i) (child_in_map b i ok (omega (arith, low))) same
@@ -168,11 +168,11 @@ merging_need t s w o p b id i rule l ok low few e way =
     same d k deep m v held =
         let level = depth_child_of b i in
         ap (λ n. is_some (link_of n)) (way.done.paths k v (not_before b i k low few held) d m)
-        ∙ entered_alike t s p b id l e d k (omega (arith, level, deep)) m v
+        ∙ unfolded_alike t s p b id l e d k (omega (arith, level, deep)) m v
 
 value_kept : (t s w o : Tree) (p : Place) (b : Cube) (id : GroupId) (i : ℕ) (rule : Rule)
     → b.depth ≤ 15 → i < 8
-    → IsEntered t s p b id → IsMerging t s w o p b rule i → (k : Voxel) → IsInMap k
+    → IsUnfolded t s p b id false → IsMerging t s w o p b rule i → (k : Voxel) → IsInMap k
     → HoldsVoxel (child_of b i) k → value_at w k ≡ value_at t k
 value_kept t s w o p b id i rule low few e way k v held =
     value_by_path s w k (way.done.paths k v (not_before b i k low few held) 16 (omega arith))
@@ -183,7 +183,7 @@ pub merging_room : (t s w o : Tree) (p : Place) (b : Cube) (id : GroupId) (i : �
     → IsLinked t → IsBlock b → b.depth ≤ 15 → i < 8
     → need_in t o b ≤ spare t.groups
     → spare t.groups ≤ spare s.groups + cond {A = ℕ} (is_needed t o b) 1 0
-    → IsEntered t s p b id → IsMerging t s w o p b rule i
+    → IsUnfolded t s p b id false → IsMerging t s w o p b rule i
     → need_in w o (child_of b i) ≤ spare w.groups
 merging_room t s w o p b id i rule l ok low few room entered e way =
     let all = need_of_children t o b low in
@@ -196,7 +196,7 @@ merging_room t s w o p b id i rule l ok low few room entered e way =
 -- one child more is merged
 pub merging_step : (t s w x o : Tree) (p : Place) (b : Cube) (id : GroupId) (i : ℕ) (rule : Rule)
     → IsLinked t → IsBlock b → b.depth ≤ 15 → i < 8
-    → IsEntered t s p b id → IsMerging t s w o p b rule i
+    → IsUnfolded t s p b id false → IsMerging t s w o p b rule i
     → IsTouched w x (child_of b i) (events_of rule w o) false
     → spare w.groups ≤ spare x.groups + need_in w o (child_of b i)
     → IsMerging t s x o p b rule (i + 1)
@@ -215,13 +215,13 @@ merging_step t s w x o p b id i rule l ok low few e way touched room =
 
 -- the place is where it was, and links its group
 pub merging_back : (t s w o : Tree) (p : Place) (b : Cube) (id : GroupId) (i : ℕ) (rule : Rule)
-    → IsEntered t s p b id
+    → IsUnfolded t s p b id false
     → IsMerging t s w o p b rule i → link_of (node_in w p) ≡ Some id.number
 merging_back t s w o p b id i rule e way =
     (let (v, link) = e.link in ap link_of (way.done.node ∙ link))
 
 -- a voxel that the second tree knows takes its value
-known_takes : (t o : Tree) (b : Cube) (n : Node) (rule : Rule) → IsWellFormed o → IsBlock b
+pub known_takes : (t o : Tree) (b : Cube) (n : Node) (rule : Rule) → IsWellFormed o → IsBlock b
     → IsOver o b n → (n ≡ Absent → ⊥)
     → TakesIn t (events_of rule t o) b
 known_takes t o b n rule w ok over there =
@@ -229,7 +229,7 @@ known_takes t o b n rule w ok over there =
     let (m, is, _) = merge_sets rule (value_at t k) (value_at o k) some in
     (k, held, (Set m, is, λ h. h))
 
-known_reaches : (t o : Tree) (b : Cube) (n : Node) (rule : Rule) → IsWellFormed o → IsBlock b
+pub known_reaches : (t o : Tree) (b : Cube) (n : Node) (rule : Rule) → IsWellFormed o → IsBlock b
     → IsOver o b n → (n ≡ Absent → ⊥)
     → Reaches (events_of rule t o) b b
 known_reaches t o b n rule w ok over there =

@@ -26,7 +26,9 @@
 //! All three walk from the root down, block by block, with the node over the block in each tree.
 //! Where one tree has a leaf and the other a group, the leaf stands for each child. `merge` passes
 //! over what is absent in the other tree, and over a leaf that the rule keeps, writes a leaf where
-//! neither tree has a group, and closes each group on the way up, once. `merge_need` visits only
+//! neither tree has a group, and closes each group on the way up, once. Where the place is absent,
+//! and the other tree is known to be fresh and pruned, what that one has there is copied with the
+//! values over it, and no group has to be closed. `merge_need` visits only
 //! the groups whose home both trees have, and takes these from all of the other tree. `class_table`
 //! counts a block at once where neither tree has a group, by the lengths that its axes have in
 //! common with the box. None takes memory, and how deep they call themselves is bounded by the

@@ -1,6 +1,6 @@
 //! One walk down two trees, which joins what the second one knows into the first.
-ghost use Rattle.std.specs.Prelude.{◌≡◌, ◌≢◌, ◌+◌, ◌≤◌, ◌↔◌, ◌⊎◌, IsTrue, IsSome, Some, None};
-ghost use Rattle.std.specs.Prelude.{false};
+ghost use Rattle.std.specs.Prelude.{◌≡◌, ◌≢◌, ◌+◌, ◌≤◌, ◌↔◌, ◌⊎◌, IsTrue, IsSome};
+ghost use Rattle.std.specs.Prelude.{ℤ, Some, None, false};
 ghost use Rattle.oct_key.specs.Voxel.{Voxel, IsInMap};
 ghost use Rattle.oct_key.specs.Block.{Cube, IsBlock, HoldsVoxel};
 ghost use Rattle.oct_key.specs.CubeOf.{cube_of};
@@ -8,9 +8,9 @@ ghost use Rattle.oct_odds.specs.Update.{IsWithin};
 ghost use Rattle.oct_values.specs.Events.{Events};
 ghost use Rattle.oct_arena.specs.declared.node.Node.{Node};
 ghost use Rattle.oct_arena.specs.Entries.{live, spare};
-ghost use Rattle.oct_arena.specs.Nodes.{link_of, value_of};
+ghost use Rattle.oct_arena.specs.Nodes.{link_of, stored_in, value_of};
 ghost use Rattle.oct_tree.specs.Tree.{IsOver, IsLinked, IsPlace, node_in, block_in, value_at};
-ghost use Rattle.oct_tree.specs.Shape.{IsWellFormed};
+ghost use Rattle.oct_tree.specs.Shape.{IsFresh, IsPruned, IsWellFormed};
 ghost use Rattle.oct_edit.specs.Edits.{IsEdited, IsEagerEdit, IsTidyAlong};
 ghost use Rattle.oct_edit.specs.Steps.{IsTouched};
 ghost use Rattle.oct_merge.specs.declared.rule.Rule.{Rule};
@@ -101,6 +101,10 @@ fn merge_part(tree: &mut OccTree, p: Place, other: &OccTree, node: Node, block: 
     ensures room { spare tree.old.groups
         ≤ spare tree.new.groups + need_in tree.old other.now (cube_of block) }
 {
+    if can_copy(tree, p, other) {
+        copy_part(tree, p, other, node, block, rule);
+        return;
+    }
     let id = enter(tree, p);
     for i in 0..8 {
         let slot = Place::Slot(id, i);
@@ -115,6 +119,72 @@ fn merge_part(tree: &mut OccTree, p: Place, other: &OccTree, node: Node, block: 
         merge_part(tree, slot, other, child, block.child(i), rule);
     }
     close(tree, p, id, false);
+}
+
+/// Whether what the other tree has under a node can be copied to the place: nothing is known there,
+/// and the other tree is known to be fresh and pruned.
+#[inline(always)]
+fn can_copy(tree: &OccTree, p: Place, other: &OccTree) -> bool
+    requires { IsPlace tree.now p }
+    ensures absent { IsTrue result → node_in tree.now p ≡ Node.Absent }
+    ensures fresh { IsTrue result → IsFresh other.now }
+    ensures pruned { IsTrue result → IsPruned other.now }
+{
+    let known = other.tidiness();
+    if !known.fresh {
+        return false;
+    }
+    if !known.pruned {
+        return false;
+    }
+    is_absent(tree.node(p))
+}
+
+/// Merges into the absent place what the other tree has under the node, which links a group: each
+/// group is copied with the value over it, and none has to be closed.
+fn copy_part(tree: &mut OccTree, p: Place, other: &OccTree, node: Node, block: Block, rule: Rule)
+    requires linked { IsLinked tree.old }
+    requires place { IsPlace tree.old p }
+    requires block { block_in tree.old p ≡ Some (cube_of block) }
+    requires absent { node_in tree.old p ≡ Node.Absent }
+    requires other { IsFresh other.now }
+    requires pruned { IsPruned other.now }
+    requires over { IsOver other.now (cube_of block) node }
+    requires inner { link_of node ≢ None }
+    requires odds { tree.old.odds ≡ other.now.odds }
+    requires room { need_in tree.old other.now (cube_of block) ≤ spare tree.old.groups }
+    ensures touched { IsTouched tree.old tree.new (cube_of block)
+        (merge_events rule (value_at tree.old) (value_at other.now)) false }
+    ensures room { spare tree.old.groups
+        ≤ spare tree.new.groups + need_in tree.old other.now (cube_of block) }
+    ensures stored { stored_in (node_in tree.new p) ≡ stored_in node }
+    ensures inner { link_of (node_in tree.new p) ≢ None }
+{
+    let value = value_in(node);
+    let id = tree.split_to(p, value);
+    for i in 0..8 {
+        let slot = Place::Slot(id, i);
+        let child = other.child_node(node, i);
+        if is_absent(child) {
+            continue;
+        }
+        if is_plain(child) {
+            tree.set_place(slot, child);
+            continue;
+        }
+        copy_part(tree, slot, other, child, block.child(i), rule);
+    }
+}
+
+/// The value that stands in the node, or 0 where there is none.
+fn value_in(node: Node) -> i32
+    ensures { (v : ℤ) → stored_in node ≡ Some v → result ≡ v }
+{
+    match node {
+        Node::Inner(value, _) => value,
+        Node::Leaf(value) => value,
+        Node::Absent => 0,
+    }
 }
 
 /// Whether each voxel of the place's block stays as it is: the other node is absent, or the place

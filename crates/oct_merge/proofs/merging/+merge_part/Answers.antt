@@ -5,10 +5,11 @@ use Rattle.oct_key.specs.Block.{Cube, child_of}
 use Rattle.oct_key.specs.CubeOf.{cube_of}
 use Rattle.oct_key.proofs.Blocks.{block_in_map, child_in_map, depth_child_of}
 use Rattle.oct_arena.specs.Entries.{spare}
-use Rattle.oct_arena.specs.Nodes.{value_of}
+use Rattle.oct_arena.specs.Nodes.{link_of, value_of}
 use Rattle.oct_tree.specs.declared.place.Place.TheVariants.{Slot}
 use Rattle.oct_tree.proofs.Paths.{some_injective}
 use Rattle.oct_edit.specs.Steps.{IsTouched}
+use Rattle.oct_edit.proofs.Joins.{unfolded}
 use Rattle.oct_odds.specs.Update.{IsWithin}
 use Rattle.oct_odds.specs.Odds.{Odds}
 use Rattle.oct_merge.specs.Walk.{need_in}
@@ -18,6 +19,19 @@ use Rattle.oct_merge.proofs.Parts.{part_low, part_room, part_entered, merging_st
 use Rattle.oct_merge.proofs.Parts.{merging_odds, merging_room, merging_step, merging_back}
 use Rattle.oct_merge.proofs.Parts.{merging_end, merging_spared}
 use Rattle.oct_merge.proofs.merging.+merge_part.Goals as goal
+
+pub copy_part-requires-clause-absent : goal.copy_part-requires-clause-absent
+copy_part-requires-clause-absent t c = c.can_copy.ensures.absent c.if-can_copy.true
+
+pub copy_part-requires-clause-other : goal.copy_part-requires-clause-other
+copy_part-requires-clause-other t c = c.can_copy.ensures.fresh c.if-can_copy.true
+
+pub copy_part-requires-clause-pruned : goal.copy_part-requires-clause-pruned
+copy_part-requires-clause-pruned t c = c.can_copy.ensures.pruned c.if-can_copy.true
+
+pub copy_part-requires-clause-inner : goal.copy_part-requires-clause-inner
+copy_part-requires-clause-inner t c =
+    c.requires.parted (ap link_of (c.can_copy.ensures.absent c.if-can_copy.true))
 
 pub enter-id-requires-clause-depth : goal.enter-id-requires-clause-depth
 enter-id-requires-clause-depth t c b e =
@@ -41,7 +55,8 @@ pub loop-i-init : goal.loop-i-init
 loop-i-init t c =
     merging_start c.args.tree.now c.enter-id.new.tree c.args.other.now c.args.p
     (cube_of c.args.block) c.enter-id.result c.args.rule
-    (c.enter-id.ensures (cube_of c.args.block) c.requires.block)
+    (unfolded c.args.tree.now c.enter-id.new.tree c.args.p (cube_of c.args.block)
+    c.enter-id.result false (c.enter-id.ensures (cube_of c.args.block) c.requires.block))
 
 pub child_node-child-requires-clause-live : goal.child_node-child-requires-clause-live
 child_node-child-requires-clause-live t c =
@@ -52,9 +67,12 @@ pub is_done-requires : goal.is_done-requires
 is_done-requires t c =
     let few : c.loop-i.i < 8 = omega arith in
     let entered = c.enter-id.ensures (cube_of c.args.block) c.requires.block in
+    let begun =
+    unfolded c.args.tree.now c.enter-id.new.tree c.args.p (cube_of c.args.block) c.enter-id.result
+    false entered in
     let place =
     merging_place c.args.tree.now c.enter-id.new.tree c.loop-i.tree c.args.other.now c.args.p
-    (cube_of c.args.block) c.enter-id.result c.loop-i.i c.args.rule few entered
+    (cube_of c.args.block) c.enter-id.result c.loop-i.i c.args.rule few begun
     c.loop-i.invariant in
     place.0
 
@@ -67,13 +85,16 @@ loop-i-preserved-then-is_done t c =
     c.requires.over c.requires.parted in
     let few : c.loop-i.i < 8 = omega arith in
     let entered = c.enter-id.ensures (cube_of c.args.block) c.requires.block in
+    let begun =
+    unfolded c.args.tree.now c.enter-id.new.tree c.args.p (cube_of c.args.block) c.enter-id.result
+    false entered in
     let place =
     merging_place c.args.tree.now c.enter-id.new.tree c.loop-i.tree c.args.other.now c.args.p
-    (cube_of c.args.block) c.enter-id.result c.loop-i.i c.args.rule few entered
+    (cube_of c.args.block) c.enter-id.result c.loop-i.i c.args.rule few begun
     c.loop-i.invariant in
     let odds =
     merging_odds c.args.tree.now c.enter-id.new.tree c.loop-i.tree c.args.other.now c.args.p
-    (cube_of c.args.block) c.enter-id.result c.loop-i.i c.args.rule entered
+    (cube_of c.args.block) c.enter-id.result c.loop-i.i c.args.rule begun
     c.loop-i.invariant c.requires.odds in
     let child = child_of (cube_of c.args.block) c.loop-i.i in
     let over =
@@ -85,7 +106,7 @@ loop-i-preserved-then-is_done t c =
     (omega (arith, deep)) in
     merging_step c.args.tree.now c.enter-id.new.tree c.loop-i.tree c.loop-i.tree c.args.other.now
     c.args.p (cube_of c.args.block) c.enter-id.result c.loop-i.i c.args.rule c.requires.linked
-    (block_in_map c.args.block) deep few entered c.loop-i.invariant
+    (block_in_map c.args.block) deep few begun c.loop-i.invariant
     (part_done c.loop-i.tree c.args.other.now (Slot c.enter-id.result c.loop-i.i) child
     c.child_node-child.result c.args.rule c.loop-i.invariant.done.linked c.requires.other.linked
     place.0 place.1 in_map over odds (c.is_done.ensures.done c.if-is_done.true))
@@ -95,9 +116,12 @@ pub are_plain-requires : goal.are_plain-requires
 are_plain-requires t c =
     let few : c.loop-i.i < 8 = omega arith in
     let entered = c.enter-id.ensures (cube_of c.args.block) c.requires.block in
+    let begun =
+    unfolded c.args.tree.now c.enter-id.new.tree c.args.p (cube_of c.args.block) c.enter-id.result
+    false entered in
     let place =
     merging_place c.args.tree.now c.enter-id.new.tree c.loop-i.tree c.args.other.now c.args.p
-    (cube_of c.args.block) c.enter-id.result c.loop-i.i c.args.rule few entered
+    (cube_of c.args.block) c.enter-id.result c.loop-i.i c.args.rule few begun
     c.loop-i.invariant in
     place.0
 
@@ -109,9 +133,12 @@ pub write_leaf-requires-clause-place : goal.write_leaf-requires-clause-place
 write_leaf-requires-clause-place t c =
     let few : c.loop-i.i < 8 = omega arith in
     let entered = c.enter-id.ensures (cube_of c.args.block) c.requires.block in
+    let begun =
+    unfolded c.args.tree.now c.enter-id.new.tree c.args.p (cube_of c.args.block) c.enter-id.result
+    false entered in
     let place =
     merging_place c.args.tree.now c.enter-id.new.tree c.loop-i.tree c.args.other.now c.args.p
-    (cube_of c.args.block) c.enter-id.result c.loop-i.i c.args.rule few entered
+    (cube_of c.args.block) c.enter-id.result c.loop-i.i c.args.rule few begun
     c.loop-i.invariant in
     place.0
 
@@ -132,9 +159,12 @@ write_leaf-requires-clause-within t c =
     c.requires.over c.requires.parted in
     let few : c.loop-i.i < 8 = omega arith in
     let entered = c.enter-id.ensures (cube_of c.args.block) c.requires.block in
+    let begun =
+    unfolded c.args.tree.now c.enter-id.new.tree c.args.p (cube_of c.args.block) c.enter-id.result
+    false entered in
     let odds =
     merging_odds c.args.tree.now c.enter-id.new.tree c.loop-i.tree c.args.other.now c.args.p
-    (cube_of c.args.block) c.enter-id.result c.loop-i.i c.args.rule entered
+    (cube_of c.args.block) c.enter-id.result c.loop-i.i c.args.rule begun
     c.loop-i.invariant c.requires.odds in
     let child = child_of (cube_of c.args.block) c.loop-i.i in
     let over =
@@ -145,7 +175,8 @@ write_leaf-requires-clause-within t c =
     child_in_map (cube_of c.args.block) c.loop-i.i (block_in_map c.args.block)
     (omega (arith, deep)) in
     subst (λ (o : Odds). IsWithin o (value_of c.child_node-child.result)) (sym odds)
-    (part_within c.args.other.now child c.child_node-child.result c.requires.other.linked in_map over
+    (part_within c.args.other.now child c.child_node-child.result c.requires.other.linked in_map
+    over
     (c.are_plain.ensures.0 c.if-are_plain.true).1)
 
 -- a child that is one leaf, or absent, in the first tree, and one leaf in the second
@@ -157,9 +188,12 @@ loop-i-preserved-then-are_plain t c =
     c.requires.over c.requires.parted in
     let few : c.loop-i.i < 8 = omega arith in
     let entered = c.enter-id.ensures (cube_of c.args.block) c.requires.block in
+    let begun =
+    unfolded c.args.tree.now c.enter-id.new.tree c.args.p (cube_of c.args.block) c.enter-id.result
+    false entered in
     let place =
     merging_place c.args.tree.now c.enter-id.new.tree c.loop-i.tree c.args.other.now c.args.p
-    (cube_of c.args.block) c.enter-id.result c.loop-i.i c.args.rule few entered
+    (cube_of c.args.block) c.enter-id.result c.loop-i.i c.args.rule few begun
     c.loop-i.invariant in
     let child = child_of (cube_of c.args.block) c.loop-i.i in
     let over =
@@ -171,9 +205,10 @@ loop-i-preserved-then-are_plain t c =
     (omega (arith, deep)) in
     let plain = c.are_plain.ensures.0 c.if-are_plain.true in
     let same = c.write_leaf.ensures.spare in
-    merging_step c.args.tree.now c.enter-id.new.tree c.loop-i.tree c.write_leaf.new.tree c.args.other.now
+    merging_step c.args.tree.now c.enter-id.new.tree c.loop-i.tree c.write_leaf.new.tree
+    c.args.other.now
     c.args.p (cube_of c.args.block) c.enter-id.result c.loop-i.i c.args.rule c.requires.linked
-    (block_in_map c.args.block) deep few entered c.loop-i.invariant
+    (block_in_map c.args.block) deep few begun c.loop-i.invariant
     (c.write_leaf.ensures.touched child (events_of c.args.rule c.loop-i.tree c.args.other.now)
     in_map place.1
     (part_event c.loop-i.tree c.args.other.now (Slot c.enter-id.result c.loop-i.i) child
@@ -197,21 +232,25 @@ merge_part-requires t c =
     c.requires.over c.requires.parted in
     let few : c.loop-i.i < 8 = omega arith in
     let entered = c.enter-id.ensures (cube_of c.args.block) c.requires.block in
+    let begun =
+    unfolded c.args.tree.now c.enter-id.new.tree c.args.p (cube_of c.args.block) c.enter-id.result
+    false entered in
     let taken =
-    part_entered c.args.tree.now c.enter-id.new.tree c.args.other.now c.args.p (cube_of c.args.block)
+    part_entered c.args.tree.now c.enter-id.new.tree c.args.other.now c.args.p (cube_of
+    c.args.block)
     c.enter-id.result c.args.node c.requires.linked c.requires.place c.requires.block
     (block_in_map c.args.block) c.requires.over c.requires.parted entered in
     let place =
     merging_place c.args.tree.now c.enter-id.new.tree c.loop-i.tree c.args.other.now c.args.p
-    (cube_of c.args.block) c.enter-id.result c.loop-i.i c.args.rule few entered
+    (cube_of c.args.block) c.enter-id.result c.loop-i.i c.args.rule few begun
     c.loop-i.invariant in
     let room =
     merging_room c.args.tree.now c.enter-id.new.tree c.loop-i.tree c.args.other.now c.args.p
     (cube_of c.args.block) c.enter-id.result c.loop-i.i c.args.rule c.requires.linked
-    (block_in_map c.args.block) deep few c.requires.room taken entered c.loop-i.invariant in
+    (block_in_map c.args.block) deep few c.requires.room taken begun c.loop-i.invariant in
     let odds =
     merging_odds c.args.tree.now c.enter-id.new.tree c.loop-i.tree c.args.other.now c.args.p
-    (cube_of c.args.block) c.enter-id.result c.loop-i.i c.args.rule entered
+    (cube_of c.args.block) c.enter-id.result c.loop-i.i c.args.rule begun
     c.loop-i.invariant c.requires.odds in
     let child = c.child.ensures.exact in
     let level : c.child.result.depth ≡ c.args.block.depth + 1 =
@@ -260,10 +299,14 @@ loop-i-preserved t c =
     c.requires.over c.requires.parted in
     let few : c.loop-i.i < 8 = omega arith in
     let entered = c.enter-id.ensures (cube_of c.args.block) c.requires.block in
+    let begun =
+    unfolded c.args.tree.now c.enter-id.new.tree c.args.p (cube_of c.args.block) c.enter-id.result
+    false entered in
     let child = c.child.ensures.exact in
-    merging_step c.args.tree.now c.enter-id.new.tree c.loop-i.tree c.merge_part.new.tree c.args.other.now
+    merging_step c.args.tree.now c.enter-id.new.tree c.loop-i.tree c.merge_part.new.tree
+    c.args.other.now
     c.args.p (cube_of c.args.block) c.enter-id.result c.loop-i.i c.args.rule c.requires.linked
-    (block_in_map c.args.block) deep few entered c.loop-i.invariant
+    (block_in_map c.args.block) deep few begun c.loop-i.invariant
     (subst (λ a. IsTouched c.loop-i.tree c.merge_part.new.tree a
     (events_of c.args.rule c.loop-i.tree c.args.other.now) false)
     child c.merge_part.ensures.touched)
@@ -283,7 +326,9 @@ pub close-requires-clause-inner : goal.close-requires-clause-inner
 close-requires-clause-inner t c =
     merging_back c.args.tree.now c.enter-id.new.tree c.loop-i.tree c.args.other.now c.args.p
     (cube_of c.args.block) c.enter-id.result c.loop-i.i c.args.rule
-    (c.enter-id.ensures (cube_of c.args.block) c.requires.block) c.loop-i.invariant
+    (unfolded c.args.tree.now c.enter-id.new.tree c.args.p (cube_of c.args.block)
+    c.enter-id.result false (c.enter-id.ensures (cube_of c.args.block) c.requires.block))
+    c.loop-i.invariant
 
 pub returns-clause-touched : goal.returns-clause-touched
 returns-clause-touched t c =
@@ -307,7 +352,8 @@ returns-clause-room t c =
     let last : c.loop-i.i ≡ 8 = omega arith in
     let entered = c.enter-id.ensures (cube_of c.args.block) c.requires.block in
     let taken =
-    part_entered c.args.tree.now c.enter-id.new.tree c.args.other.now c.args.p (cube_of c.args.block)
+    part_entered c.args.tree.now c.enter-id.new.tree c.args.other.now c.args.p (cube_of
+    c.args.block)
     c.enter-id.result c.args.node c.requires.linked c.requires.place c.requires.block
     (block_in_map c.args.block) c.requires.over c.requires.parted entered in
     merging_spared c.args.tree.now c.enter-id.new.tree c.loop-i.tree c.close.new.tree
