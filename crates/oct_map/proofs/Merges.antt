@@ -1,7 +1,7 @@
 -- What a merge needs and leaves of a map.
 use Rattle.std.proofs.Common.{◌≡◌, ℕ, ◌+◌, ◌<◌, ◌≤◌, Bool, true, false, Some, None, Ok, Err, inl}
 use Rattle.std.proofs.Common.{inr, refl, sym, subst, ◌∙◌, ap, arith}
-use Rattle.std.specs.Prelude.{Option, ◌&&◌, not, ⊤, Result, nat_lt, int_lt, if◌then◌else◌}
+use Rattle.std.specs.Prelude.{Option, ◌&&◌, not, ⊤, Result, nat_lt, if◌then◌else◌}
 use Rattle.std.specs.Prelude.{IfErr, IsTrue, IsSome, is_some}
 use Rattle.std.proofs.lemmas.Bool.{false≢true, cases_lt, lt-ltb, le-ltb}
 use Rattle.oct_key.specs.Voxel.{Voxel, IsInMap}
@@ -16,9 +16,7 @@ use Rattle.oct_values.proofs.Sums.{All-follows, count_by-same}
 use Rattle.oct_values.proofs.Uniform.{same_uniform, same_group_count}
 use Rattle.oct_values.specs.Events.{Events}
 use Rattle.oct_values.specs.Classes.{Classes}
-use Rattle.oct_odds.specs.Odds.{Odds}
-use Rattle.oct_odds.specs.Update.{Value, class_of}
-use Rattle.oct_odds.specs.declared.event.Class.TheVariants.{Free, Occupied}
+use Rattle.oct_odds.specs.Update.{Value}
 use Rattle.oct_key.specs.Boxes.{Window, IsInBox, box_volume}
 use Rattle.oct_change.specs.Held.{Held}
 use Rattle.oct_change.proofs.Noting.{noted_none}
@@ -30,8 +28,7 @@ use Rattle.oct_tree.proofs.Over.{over_lowest, over_home}
 use Rattle.oct_inner.specs.Changes.{IsShrunk}
 use Rattle.oct_edit.proofs.Wholes.{same_total}
 use Rattle.oct_edit.specs.Edits.{IsEdited}
-use Rattle.oct_query.specs.Extent.{IsExtent, IsLeastBox, is_sought}
-use Rattle.oct_query.specs.declared.sought.Sought.TheVariants.{Known}
+use Rattle.oct_query.specs.Extent.{IsExtent, IsLeastBox}
 use Rattle.oct_query.proofs.Needed.{home_or_uniform, home_varied, pruned_groups}
 use Rattle.oct_merge.specs.Merged.{merge_event}
 use Rattle.oct_merge.specs.declared.rule.Rule.{Rule}
@@ -48,7 +45,7 @@ use Rattle.oct_map.specs.Edits.{fitted_groups, entries_of}
 use Rattle.oct_map.specs.Marks.{classes_in, KeepsMark, SameMark}
 use Rattle.oct_map.specs.Notes.{HasMarked, HasRoomForNotes, IsNotedBehind, IsSameNoted, LacksNotes}
 use Rattle.oct_map.specs.Notes.{NotesFew, marked_by_notes}
-use Rattle.oct_map.specs.Merges.{IsInGiven, IsKnownBox, IsMergeRefused, IsMergeReserved}
+use Rattle.oct_map.specs.Merges.{IsInGiven, IsMergeRefused, IsMergeReserved}
 use Rattle.oct_map.specs.Merges.{IsPrunedAtMost, IsWide, given_events, given_volume}
 use Rattle.oct_map.specs.Merges.{is_parted_by, more_groups, note_answer, union_answer}
 use Rattle.oct_map.proofs.Rooms.{fitted_own, fitted_least}
@@ -270,22 +267,6 @@ one_extent These None None e f = refl
 one_extent These None (Some b) e f = absurd (no_box These b e f)
 one_extent These (Some a) None e f = absurd (no_box These a f e)
 one_extent These (Some a) (Some b) e f = ap Some (one_box These a b e f)
-
--- a known voxel is one that is sought
-known_sought : (o : Odds) (v : Value) → IsSome v → is_sought Known (class_of o v) ≡ true
-known_sought o None known = absurd (false≢true known)
-known_sought o (Some v) known = by_test (int_lt v o.thr)
-  where
-    by_test : (test : Bool) → is_sought Known (if test then Free else Occupied) ≡ true
-    by_test true = refl
-    by_test false = refl
-
--- what a map knows lies in the least box around it
-pub given_covers : (m : Map) (extent : Option Window) → IsKnownBox m extent → (k : Voxel)
-    → IsInMap k → IsSome (values_of m k) → IsInGiven extent k
-given_covers m None is k v known = is k (v, known_sought m.tree.odds (values_of m k) known)
-given_covers m (Some box) is k v known =
-    is.holds k (v, known_sought m.tree.odds (values_of m k) known)
 
 -- nothing is noted where no box is given
 pub marked_none : (now : Classes) (b : Option Held) → HasMarked now (IsInGiven None) 0 b b

@@ -1,7 +1,6 @@
 //! One map merged into another.
-ghost use Rattle.std.specs.Prelude.{◌≡◌, ℕ, ◌+◌, ◌<◌, ◌⊎◌, Bool, Option, false, Err, IsTrue};
-ghost use Rattle.std.specs.Prelude.{IsOk, IsSome};
-ghost use Rattle.std.specs.Prelude.{OnOk, OnErr, IfOk, IfErr, is_some};
+ghost use Rattle.std.specs.Prelude.{◌≡◌, ℕ, ◌+◌, ◌<◌, ◌⊎◌, Bool, Option, false, Err, IsOk};
+ghost use Rattle.std.specs.Prelude.{OnOk, OnErr, IfOk, IfErr, IsSome, IsTrue, is_some};
 ghost use Rattle.oct_key.specs.Boxes.{Window};
 ghost use Rattle.oct_key.specs.Values.{SameValues};
 ghost use Rattle.oct_key.specs.Voxel.{Voxel, IsInMap};
@@ -49,6 +48,8 @@ impl OccMap {
             + more_groups (values_of self.old) (values_of other.old))
             ⊎ ((extent : Option Window) → IsKnownBox other.old extent
             → LacksNotes self.old.mark (given_volume extent))) }
+        ensures narrow { result ≡ Err MapFault.Memory → (extent : Option Window)
+            → IsKnownBox other.old extent → IsOk (note_answer (is_some self.old.mark) extent) }
         ensures merged { OnOk result (SameValues
             (merged_values rule (values_of self.old) (values_of other.old))
             (values_of self.new)) }

@@ -17,6 +17,11 @@ returns-in_err-noted-clause-memory c e =
     (let (count, wide) = of_fault _ _ IsWide c.box_to_note.ensures.wide
     (handed_as _ _ _ _ c.in_err-noted.was c.from_residual.ensures.1 e) in cc)
 
+pub returns-in_err-noted-clause-narrow : goal.returns-in_err-noted-clause-narrow
+returns-in_err-noted-clause-narrow c e extent is =
+    (let (count, wide) = of_fault _ _ IsWide c.box_to_note.ensures.wide
+    (handed_as _ _ _ _ c.in_err-noted.was c.from_residual.ensures.1 e) in cc)
+
 pub returns-in_err-noted-clause-refused : goal.returns-in_err-noted-clause-refused
 returns-in_err-noted-clause-refused c =
     if_err c.from_residual.result (IsMergeRefused c.args.self.now c.args.self.now) (λ fault e.
@@ -78,6 +83,9 @@ returns-clause-memory c e =
             c.prune.ensures.notes notes))
       ],
     )
+
+pub returns-clause-narrow : goal.returns-clause-narrow
+returns-clause-narrow c e extent is = subst IsOk (c.in_ok-noted.ensures.answer extent is) refl
 
 pub returns-clause-refused : goal.returns-clause-refused
 returns-clause-refused c =
