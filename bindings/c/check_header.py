@@ -5,10 +5,10 @@
 
 Fails where a function stands on one side alone, or has other parameters (their order, names, types
 and constness), where a struct has other fields, sizes or offsets, where a code, an event, a rule, a
-kind of change, what bounds are sought of or a cell of a grid stands on one side alone or has another
-number, or where a code has another name in the header than in the sources. What the sources export
-is written as a file in C, which a C compiler has to accept after the header: declarations that must
-be those of the header, and assertions on its structs.
+kind of change, what bounds are sought of or a cell of a grid stands on one side alone or has
+another number, or where a code has another name in the header than in the sources. What the sources
+export is written as a file in C, which a C compiler has to accept after the header: declarations
+that must be those of the header, and assertions on its structs.
 """
 import re
 import subprocess
@@ -24,7 +24,8 @@ CELLS = ROOT / "crates/oct_export/src/cells.rt"
 
 NUMBERS = {"i8": "int8_t", "i16": "int16_t", "u16": "uint16_t", "i32": "int32_t", "u32": "uint32_t",
            "i64": "int64_t", "u64": "uint64_t", "u8": "uint8_t", "usize": "size_t", "bool": "bool"}
-SIZES = {"i8": 1, "i16": 2, "u16": 2, "i32": 4, "u32": 4, "i64": 8, "u64": 8, "u8": 1, "usize": 8, "bool": 1}
+SIZES = {"i8": 1, "i16": 2, "u16": 2, "i32": 4, "u32": 4, "i64": 8, "u64": 8, "u8": 1, "usize": 8,
+         "bool": 1}
 STRUCTS = {"PointNm": "point", "VoxelKey": "key", "VoxelBox": "box", "SegmentNm": "segment",
            "PoseNm": "pose", "LogOdds": "odds", "MapLimits": "limits", "Settings": "settings",
            "PointEdit": "point_edit", "ScanOptions": "scan_options", "Counted": "counted",
@@ -194,8 +195,8 @@ def body_of(text, name):
 
 
 def numbers_of_sources(text):
-    """The numbers of codes, events, rules, kinds of changes, what bounds are sought of and cells, in
-    this order, by the names that the header has."""
+    """The numbers of codes, events, rules, kinds of changes, what bounds are sought of and cells,
+    in this order, by the names that the header has."""
     events = re.findall(r"if event == (\d+) \{\s*return Ok\(Event::(\w+)",
                         body_of(text, "event_of"))
     rules = re.findall(r"if rule == (\d+) \{\s*return Ok\(Rule::(\w+)", body_of(text, "rule_of"))

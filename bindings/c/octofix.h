@@ -439,10 +439,10 @@ uint32_t octofix_leaves_of_in(const octofix_map *map, uint32_t sought, const oct
  * that of high, as OCTOFIX_CELL_OCCUPIED, OCTOFIX_CELL_FREE or OCTOFIX_CELL_UNKNOWN. The columns of
  * the lowest y come first, by ascending x, so that the cell of the keys x and y is
  * cells[(y - y_low) * width + (x - x_low)], where width is x_high - x_low + 1: the order and the
- * numbers of the data of a nav_msgs/OccupancyGrid, whose origin is the lowest corner of the voxel of
- * low. *count is how many columns there are, at most 2^26, and is written on DONE and SMALL_BUFFER,
- * which costs nothing more. Takes no memory, and answers on a stale map too. Costs a step down the
- * tree for each block that a row of columns meets.
+ * numbers of the data of a nav_msgs/OccupancyGrid, whose origin is the lowest corner of the voxel
+ * of low. *count is how many columns there are, at most 2^26, and is written on DONE and
+ * SMALL_BUFFER, which costs nothing more. Takes no memory, and answers on a stale map too. Costs a
+ * step down the tree for each block that a row of columns meets.
  * Refused: CLOSED, OUTSIDE, BAD_BOX, WIDE_GRID, SMALL_BUFFER. */
 uint32_t octofix_grid(const octofix_map *map, const octofix_point *low, const octofix_point *high,
                       int8_t *cells, size_t room, size_t *count, octofix_details *details);

@@ -113,8 +113,8 @@ struct change {
     change_kind kind;
 };
 
-/// What the columns of voxels of a box show, each as one cell: the numbers and the order of the data
-/// of a nav_msgs/OccupancyGrid of ROS.
+/// What the columns of voxels of a box show, each as one cell: the numbers and the order of the
+/// data of a nav_msgs/OccupancyGrid of ROS.
 struct occupancy_grid {
     std::size_t width = 0, height = 0; ///< how many cells there are along x, and along y
     double x = 0, y = 0;               ///< the lowest corner of the first one, in metres

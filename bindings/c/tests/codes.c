@@ -248,7 +248,8 @@ static void try_scans(void) {
     EXPECT(counted.frees, 5);
     /* a range of 0 cuts each beam where it begins, but one that ends there */
     const octofix_scan_options nowhere_far = {0, 0, 0, false};
-    EXPECT_DETAILS(octofix_scan(&map, &ahead, points, 2, &nowhere_far, &counted, &details), 0, 0, 0);
+    EXPECT_DETAILS(octofix_scan(&map, &ahead, points, 2, &nowhere_far, &counted, &details),
+                   0, 0, 0);
     EXPECT(counted.hits, 0);
     EXPECT(counted.frees, 0);
     const octofix_point here = at(0, 0, 0);

@@ -87,7 +87,8 @@ class Refusals(unittest.TestCase):
         self.refuses("refused 6 OriginOutside", there, (FAR, 0, 0), [[0, 0, 0]])
         refused = "refused 7 PointOutside index 1"
         self.refuses(refused, there, (0, 0, 0), [[0, 0, 0], [FAR, 0, 0]])
-        self.refuses("refused 47 BadArgument index 1", there, (-9e6, 0, 0), [[0, 0, 0], [9e6, 0, 0]])
+        refused = "refused 47 BadArgument index 1"
+        self.refuses(refused, there, (-9e6, 0, 0), [[0, 0, 0], [9e6, 0, 0]])
         # 16 voxels in a row lie in one block of each depth to 12, and then in 2, 4 and 8
         self.refuses("refused 23 Full groups 16 need 27", scan, [[1.5, 0, 0]], (0, 0, 0.15))
 

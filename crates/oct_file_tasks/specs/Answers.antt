@@ -1,5 +1,5 @@
--- The answers of tasks over a file, as functions of its bytes, and the texts of those that are never
--- refused.
+-- The answers of tasks over a file, as functions of its bytes, and the texts of those that are
+-- never refused.
 use Rattle.std.specs.Prelude.{◌++◌, ℕ, pos, codes, decimal, List, [], length, nat_lt, count_by}
 use Rattle.std.specs.Prelude.{Bool, true, false, Result, Ok, Err, if◌then◌else◌}
 use Rattle.oct_num.specs.MetresText.{metres_text}

@@ -6,7 +6,8 @@ use Rattle.oct_bt.specs.declared.fault.BtFault.TheVariants as fault
 use Rattle.oct_bt.specs.File.{FileRead, reading}
 use Rattle.oct_bt.specs.Reading.{FileProgress, StandsFor}
 use Rattle.oct_file_tasks.specs.declared.input.NoFile.{NoFile}
-use Rattle.oct_file_tasks.specs.declared.input.NoFile.TheVariants.{BadFile, TooLong, ReadFault, Memory}
+use Rattle.oct_file_tasks.specs.declared.input.NoFile.TheVariants.{BadFile, TooLong, ReadFault}
+use Rattle.oct_file_tasks.specs.declared.input.NoFile.TheVariants.{Memory}
 
 -- the input was read to its end, and has at most this many bytes
 pub record IsReadToEnd (max_bytes : ℕ) (bytes : List ℕ) (left : Option (List ℕ)) : Type 0 where

@@ -1,5 +1,5 @@
-//! Tasks over files: what is asked of the file of classes that a source gives, and what two files of
-//! a store give together.
+//! Tasks over files: what is asked of the file of classes that a source gives, and what two files
+//! of a store give together.
 //!
 //! ```text
 //! match answer_over_file(alloc, FileTask::Convert, 1 << 26, &mut source, &mut sink) {

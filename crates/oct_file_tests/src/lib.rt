@@ -1,6 +1,6 @@
-//! The tests of [`oct_bt`], [`oct_snap`] and [`oct_file_tasks`]: files of classes and snapshots, read
-//! in pieces of any length, written and cut short, the fault of each kind of bad file, the trees
-//! that files are made into, and how each task over one file of classes ends.
+//! The tests of [`oct_bt`], [`oct_snap`] and [`oct_file_tasks`]: files of classes and snapshots,
+//! read in pieces of any length, written and cut short, the fault of each kind of bad file, the
+//! trees that files are made into, and how each task over one file of classes ends.
 //!
 //! They compare the definitions with examples worked out by hand, and show that calls succeed while
 //! there is memory, which no clause can say. They call public functions alone. `rt test` in this

@@ -1,6 +1,7 @@
 -- What a session answers to questions, in the words of blocks, segments and marks.
 use Rattle.std.proofs.Common.{◌≡◌, ℕ, ◌<◌, ◌≤◌, List, [], ◌∷◌, Bool, true, false, cond, nat_lt}
-use Rattle.std.proofs.Common.{◌&&◌, Option, Some, None, IsSome, Result, Ok, Err, inl, inr, refl, sym}
+use Rattle.std.proofs.Common.{◌&&◌, Option, Some, None, IsSome, Result, Ok, Err, inl, inr, refl}
+use Rattle.std.proofs.Common.{sym}
 use Rattle.std.proofs.Common.{ap, subst, ◌∙◌, arith}
 use Rattle.std.specs.Prelude.{All}
 use Rattle.std.proofs.lemmas.Bool.{cases_lt, le-ltb}

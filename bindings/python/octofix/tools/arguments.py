@@ -17,7 +17,7 @@ class Output(str):
 
 
 def classes_output(word):
-    """The name of a .bt file that is written; not that of a snapshot, whose values it would lack."""
+    """The name of a .bt file that is written; not of a snapshot, whose values it would lack."""
     if word.endswith((".snap", ".snapshot")):
         raise argparse.ArgumentTypeError(
             f"{word} is named as a snapshot, and a .bt file, which has classes alone, is written"
