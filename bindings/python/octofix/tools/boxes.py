@@ -12,15 +12,15 @@ def keys_of(points, resolution):
     return nanometres(points) // resolution + ORIGIN
 
 
-def box_of(corners, resolution):
-    """The low and the high key of six numbers in metres: from the voxel of one corner to that of
-    the other, cut at the border of the map."""
+def box_of(corners, resolution, options="--box"):
+    """The low and the high key of six numbers in metres, which these options gave: from the voxel
+    of one corner to that of the other, cut at the border of the map."""
     low, high = keys_of(np.reshape(corners, (2, 3)), resolution)
     if (low > high).any():
-        raise Unusable("the box has a first corner that lies beyond the second (--box)")
+        raise Unusable(f"the box has a first corner that lies beyond the second ({options})")
     low, high = np.maximum(low, 0), np.minimum(high, 2 * ORIGIN - 1)
     if (low > high).any():
-        raise Unusable("the box lies outside the map (--box)")
+        raise Unusable(f"the box lies outside the map ({options})")
     return low, high
 
 

@@ -48,6 +48,8 @@ def _trajectory(options, nearness, skips):
     if options.poses is None:
         if is_by_time:
             raise Unusable("--by-time and --times need --poses")
+        if options.pose_format:
+            raise Unusable("--pose-format needs --poses")
         if options.interpolate and options.frame is None and options.pose_topic is None:
             raise Unusable("--interpolate needs --poses, --pose-topic or --frame")
         return None

@@ -76,8 +76,9 @@ def _named():
     return (OCCUPIED, "occupied"), (FREE, "free"), (UNKNOWN, "unknown")
 
 
-def box_for(known, resolution, area, height):
-    """The keys of the box of an area and a band of heights, of all that is known without them."""
+def box_for(known, resolution, area, height, options="--area, --height"):
+    """The keys of the box of an area and a band of heights, which these options gave, of all that
+    is known without them."""
     if known is None:
         if not (area and height):
             raise Unusable("nothing is known in the map, so it has no extent")
@@ -85,7 +86,7 @@ def box_for(known, resolution, area, height):
     low, high = (np.array(it, np.int64) for it in known)
     x_0, y_0, x_1, y_1 = area or (0, 0, 0, 0)
     z_0, z_1 = height or (0, 0)
-    box = box_of((x_0, y_0, z_0, x_1, y_1, z_1), resolution)
+    box = box_of((x_0, y_0, z_0, x_1, y_1, z_1), resolution, options)
     for corner, asked in zip((low, high), box):
         corner[:2] = asked[:2] if area else corner[:2]
         corner[2] = asked[2] if height else corner[2]

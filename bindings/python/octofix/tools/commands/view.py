@@ -119,7 +119,8 @@ def _page_of(options):
 
 def _slice(leaves, options):
     area = options.box and [options.box[it] for it in (0, 1, 3, 4)]
-    box = box_for(leaves.box(), leaves.resolution, area, (options.slice, options.slice))
+    height = (options.slice, options.slice)
+    box = box_for(leaves.box(), leaves.resolution, area, height, "--box, --slice")
     plane = planes.band(leaves, *box)[::-1]
     if options.text:
         print("\n".join(" ".join(row).rstrip() for row in SIGNS[plane]))
