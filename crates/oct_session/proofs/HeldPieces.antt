@@ -1,10 +1,10 @@
 -- A piece of a script, line by line, with replies that are held.
 use Rattle.std.proofs.Common.{◌≡◌, ℕ, ◌+◌, List, [], ◌∷◌, ◌++◌, take, drop, Option}
 use Rattle.std.proofs.Common.{Result, Ok, Err, OnOk, IfErr, IsErrAnd, Bool, true, false, cond, inl}
-use Rattle.std.proofs.Common.{refl, sym, ap, subst, ◌∙◌, append-nil}
+use Rattle.std.proofs.Common.{refl, sym, ap, subst, ◌∙◌}
 use Rattle.oct_io.specs.Files.{Files}
 use Rattle.oct_io.specs.Taken.{IsCutOff}
-use Rattle.oct_io.specs.Told.{Rose, appended}
+use Rattle.oct_io.specs.Told.{appended}
 use Rattle.oct_io.proofs.Appending.{appended_twice}
 use Rattle.oct_io.specs.declared.sink.SinkFault.{SinkFault}
 use Rattle.oct_script.specs.Lines.{Line, unread, ended_lines, rest_of, all_lines, last_line}
@@ -22,7 +22,7 @@ use Rattle.oct_io.specs.Stops.{stop_of_sink, status_of}
 use Rattle.oct_session.proofs.Halting.{halted_bytes}
 use Rattle.oct_session.proofs.Holding.{holding_none, holding_whole, held_cut, held_moved}
 use Rattle.oct_session.proofs.Holding.{between_beside}
-use Rattle.oct_session.proofs.Pieces.{IsBeside, parts, pieces, reads_next, last_lines, standing}
+use Rattle.oct_session.proofs.Pieces.{IsBeside, parts, reads_next, last_lines, standing}
 use Rattle.oct_session.proofs.Progresses.{known_before, known_bytes}
 
 -- a session that has other bytes of the line that stands
@@ -148,39 +148,8 @@ held_first o files w v d s bytes none at = record {
   line = at.line;
 }
 
--- the same before the first byte of a piece
-pub held_start : (o : Setup) (files : Option Files) (w v : Option (List ℕ)) (d : Desk)
-    (s : Session) (bytes piece : List ℕ) → s.text.items ≡ [] → IsAt o files w v d s bytes
-    → IsHeldAt o files w v d s (bytes ++ take 0 piece)
-held_start o files w v d s bytes piece none at =
-    subst (λ x. IsHeldAt o files w v d s x) (sym (append-nil bytes))
-    (held_first o files w v d s bytes none at)
-
--- a step more through a piece
-pub held_next : {H : Type 0} (o : Setup) (w v u : Option (List ℕ)) (d e : H → Desk) (first : H)
-    (s t : Session) (files : Option Files) (bytes piece rest : List ℕ) (i k : ℕ)
-    → rest ≡ drop i piece → TakesHeld o (seated d v) (seated e u) s t (take k rest)
-    → IsHeldAt o files w v (d first) s (bytes ++ take i piece)
-    → IsHeldAt o files w u (e first) t (bytes ++ take (i + k) piece)
-held_next o w v u d e first s t files bytes piece rest i k is step at =
-    subst (λ x. IsHeldAt o files w u (e first) t x) (sym (pieces bytes piece rest i k is))
-    (step first files w (bytes ++ take i piece) at)
-
--- all that was held is written
-pub held_written : (o : Setup) (files : Option Files) (w v u : Option (List ℕ)) (d : Desk)
-    (s t : Session) (bytes : List ℕ) → IsBeside t s → t.line ≡ s.line
-    → u ≡ appended v s.text.items → IsHeldAt o files w v d s bytes → IsAt o files w u d t bytes
-held_written o files w v u d s t bytes beside same wrote at = record {
-  reached = λ known. let here = at.reached known in record {
-    between = between_beside o d s t (progress o files (ended_lines bytes)) beside here.between;
-    written = holding_whole o files (ended_lines bytes) w v u s.text.items here.holding wrote;
-  };
-  line = λ running. subst (λ x. IsReading x bytes) (sym same)
-      (at.line (sym beside.has_quit ∙ running));
-}
-
 -- what was written before a piece are the replies to the lines before it
-replied_since : (o : Setup) (files : Option Files) (w v u : Option (List ℕ)) (d : Desk)
+pub replied_since : (o : Setup) (files : Option Files) (w v u : Option (List ℕ)) (d : Desk)
     (s : Session) (bytes : List ℕ) → IsKnown (progress o files (ended_lines bytes))
     → IsAt o files w v d s bytes → Adds v u → HasReplied o files bytes w u
 replied_since o files w v u d s bytes known at (more, is) = record {
@@ -188,64 +157,6 @@ replied_since o files w v u d s bytes known at (more, is) = record {
   written = is ∙ ap (λ x. appended x more) (at.reached known).written
       ∙ appended_twice w (replies_within o files bytes) more;
 }
-
--- a halt behind a front of a piece
-pub held_within : {T H : Type 0} (r : Result T Stop) (stop : Stop) (o : Setup)
-    (a v u : Option (List ℕ)) (c d e : H → Desk) (s t : Session) (piece rest : List ℕ)
-    (i x y z : ℕ) → y ≡ x → IsErrAnd r (λ x. x ≡ stop) → rest ≡ drop i piece →
-    ((first : H) (files : Option Files) (w : Option (List ℕ)) (bytes : List ℕ)
-    → IsAt o files w a (c first) s bytes
-    → IsHeldAt o files w v (d first) t (bytes ++ take i piece)) →
-    Adds a u →
-    HaltsHeld o (seated d v) (seated e u) t (λ bytes. ended_lines (bytes ++ rest)) (Rose y z)
-    (status_of stop) →
-    IfErr r (λ stop. Halts o (seated c a) (seated e u) s (λ bytes. ended_lines (bytes ++ piece))
-    (Rose x z) (status_of stop))
-held_within (Ok f) stop o a v u c d e s t piece rest i x y z same is e' goes adds halts = tt
-held_within (Err f) stop o a v u c d e s t piece rest i x y z same is e' goes adds halts =
-    λ first files w bytes at known.
-    let whole : (bytes ++ take i piece) ++ rest ≡ bytes ++ piece =
-    ap (λ x. (bytes ++ take i piece) ++ x) e' ∙ parts bytes piece i in
-    let h = halts first files w (bytes ++ take i piece) (goes first files w bytes at)
-    (subst (λ x. IsKnown (progress o files (ended_lines x))) (sym whole) known) in (
-      subst (λ f. IsHalted o files (ended_lines (bytes ++ piece)) w u (e first) (Rose x z)
-          (status_of f)) (sym is)
-          (subst (λ n. IsHalted o files (ended_lines (bytes ++ piece)) w u (e first) (Rose n z)
-          (status_of stop)) same
-          (subst (λ l. IsHalted o files (ended_lines l) w u (e first) (Rose y z) (status_of stop))
-          whole h)),
-      replied_since o files w a u (c first) s bytes (known_bytes o files bytes piece known) at adds,
-    )
-
--- a halt where what is held is written, behind a front of a piece
-pub held_unwritten : {short : Type 0} {T H : Type 0} (r : Result T Stop) (fault : SinkFault)
-    (o : Setup)
-    (a v u : Option (List ℕ)) (c d : H → Desk) (s t : Session) (piece : List ℕ) (i : ℕ)
-    → IsErrAnd r (λ x. x ≡ stop_of_sink fault) →
-    ((first : H) (files : Option Files) (w : Option (List ℕ)) (bytes : List ℕ)
-    → IsAt o files w a (c first) s bytes
-    → IsHeldAt o files w v (d first) t (bytes ++ take i piece)) →
-    Adds a u → IsCutOff v u t.text.items → IsShort fault short →
-    IfErr r (λ stop. Halts o (seated c a) (seated d u) s (λ bytes. ended_lines (bytes ++ piece))
-    short (status_of stop))
-held_unwritten {short} (Ok x) fault o a v u c d s t piece i is goes adds cut ran = tt
-held_unwritten {short} (Err x) fault o a v u c d s t piece i is goes adds cut ran =
-    λ first files w bytes at known.
-    let front : List ℕ = bytes ++ take i piece in
-    let whole : front ++ drop i piece ≡ bytes ++ piece = parts bytes piece i in
-    let line : IsKnown (progress o files (ended_lines front)) =
-    known_bytes o files front (drop i piece)
-    (subst (λ x. IsKnown (progress o files (ended_lines x))) (sym whole) known) in
-    let h = held_cut o files (ended_lines front) w v u (d first) t fault cut ran
-    ((goes first files w bytes at).reached line) in (
-      subst (λ y. IsHalted o files (ended_lines (bytes ++ piece)) w u (d first) short (status_of y))
-          (sym is)
-          (subst (λ x. IsHalted o files (ended_lines x) w u (d first) short
-          (status_of (stop_of_sink fault))) whole
-          (halted_bytes o files front (drop i piece) w u (d first)
-          (status_of (stop_of_sink fault)) h)),
-      replied_since o files w a u (c first) s bytes (known_bytes o files bytes piece known) at adds,
-    )
 
 -- the last line, which lacks its line feed, answered, and what is held written
 pub held_last : {H : Type 0} (o : Setup) (a v u : Option (List ℕ))

@@ -9,7 +9,7 @@ use Rattle.oct_script.specs.declared.reply.Refusal.{Refusal}
 use Rattle.oct_script.specs.declared.reply.Reply.{Reply}
 use Rattle.oct_session.specs.Commands.{question_action, question_changes, kind_action, kind_work}
 use Rattle.oct_session.specs.Commands.{kind_changes, may_change, reply, action_of, asked_of}
-use Rattle.oct_session.specs.Commands.{saving_by, saving_of, named_in, asks_for}
+use Rattle.oct_session.specs.Commands.{saving_by, saving_of, named_in, asks_for, file_named}
 use Rattle.oct_session.specs.Commands.{accepted, stored}
 use Rattle.oct_session.specs.History.{History, State, state_after}
 use Rattle.oct_session.specs.Kinds.{Kind, kind_of, Nothing, Opens, Adds, Closes, Orders, Names}
@@ -86,6 +86,12 @@ idle_open (Adds p) same = refl
 idle_asked : (c : Result Command Refusal) → may_change c ≡ false → asked_of c ≡ None
 idle_asked (Ok command) same = idle_work (kind_of command) same
 idle_asked (Err refusal) same = refl
+
+-- the store isn't asked for it
+pub idle_unasked : (c d : Result Command Refusal) → c ≡ d → may_change d ≡ false
+    → asks_for (file_named c) ≡ 0
+idle_unasked c d is same = ap (λ x. asks_for (file_named x)) is
+    ∙ ap (λ w. asks_for (named_in w)) (idle_asked d same)
 
 idle_end : (c : Result Command Refusal) → may_change c ≡ false → is_end c ≡ false
 idle_end (Ok command) same = idle_open (kind_of command) same

@@ -2,7 +2,6 @@
 use Rattle.std.proofs.Common.{◌≡◌, ℕ, ◌+◌, ◌≤◌, List, [], ◌∷◌, ◌++◌, length, take, drop, Option}
 use Rattle.std.proofs.Common.{None, Result, Ok, Err, OnOk, IfErr, IsErrAnd, Bool, true, cond}
 use Rattle.std.proofs.Common.{inl, inr, refl, sym, ap, subst, ◌∙◌, append_assoc}
-use Rattle.std.proofs.Math.Seq.{take-add}
 use Rattle.std.proofs.lemmas.List.{take_all, take-append-drop}
 use Rattle.oct_io.specs.Files.{Files}
 use Rattle.oct_io.specs.Told.{Rose, appended}
@@ -24,13 +23,6 @@ use Rattle.oct_session.proofs.Halting.{halted_closed, reached_closed}
 use Rattle.oct_session.proofs.Halting.{replied_between}
 use Rattle.oct_session.proofs.Progresses.{progress_grows, bytes_behind_quit}
 use Rattle.oct_session.proofs.Progresses.{known_bytes}
-
--- some bytes of a piece, and then more of them
-pub pieces : (bytes piece rest : List ℕ) (i n : ℕ) → rest ≡ drop i piece
-    → bytes ++ take (i + n) piece ≡ (bytes ++ take i piece) ++ take n rest
-pieces bytes piece rest i n e =
-    ap (λ x. bytes ++ x) (take-add i n piece ∙ ap (λ x. take i piece ++ take n x) (sym e))
-    ∙ sym (append_assoc bytes (take i piece) (take n rest))
 
 -- a piece cut in two
 pub parts : (bytes piece : List ℕ) (i : ℕ)
@@ -55,13 +47,6 @@ reads_next line bytes is none =
           ∙ ap line_of (sym none);
       unended = ap (λ (x : LineSoFar). x.has_ended) is;
     }
-
--- a piece that was taken whole
-pub at_whole : (o : Setup) (files : Option Files) (w v : Option (List ℕ)) (d : Desk) (s : Session)
-    (bytes piece : List ℕ) (i : ℕ) → length piece ≤ i → IsAt o files w v d s (bytes ++ take i piece)
-    → IsAt o files w v d s (bytes ++ piece)
-at_whole o files w v d s bytes piece i all at =
-    subst (λ x. IsAt o files w v d s (bytes ++ x)) (take_all i piece all) at
 
 -- a piece of which all may be taken
 pub fits_whole : {T E H : Type 0} (r : Result T E) (o : Setup) (v u : Option (List ℕ))

@@ -9,7 +9,8 @@ use Rattle.oct_io.specs.declared.status.Status.{Status}
 use Rattle.oct_io.specs.declared.stop.Stop.{Stop}
 use Rattle.oct_io.specs.declared.stop.Stop.TheVariants.{ReadFault}
 use Rattle.oct_session.specs.declared.session.Session.{Session}
-use Rattle.oct_io.specs.Shelf.{Shelf}
+use Rattle.oct_io.specs.Shelf.{Shelf, shelf}
+use Rattle.oct_io.specs.declared.sink.Sink as sink
 use Rattle.oct_session.specs.Leaving.{Desk, desk, HasEndedAs}
 use Rattle.oct_session.specs.Session.{closed, status_at_end, ReadsTold}
 use Rattle.oct_session.specs.Setup.{Setup}
@@ -113,7 +114,7 @@ stopped_at_end (Err stop) o left after a v u c d e s t taken x y z same few none
     (goes first files bytes w at) known)
 
 -- how a session ends over the files that its store tells, where what it reads of them is told
-abbrev EndsOver : Setup → Option Files → Option (List ℕ) → Option (List ℕ) → Option (List ℕ)
+abbrev pub EndsOver : Setup → Option Files → Option (List ℕ) → Option (List ℕ) → Option (List ℕ)
     → Option (List ℕ) → Desk → Type 0 → Status → Type 0
 EndsOver o files left after v u d short status =
     IfSome left (λ bytes. ReadsTold o files bytes
@@ -146,3 +147,22 @@ session_stopped {short} o files (Some bytes) after v u m k e first s stop status
     subst (λ x. HasEndedAs o files bytes after v u (e first) short x) (sym same)
     (stops first files bytes v (serving_start o files bytes v m (k first) s is new)
     (known_told o files bytes told))
+
+-- the same, of what was lent and has come back
+pub ends_back : {K F : Type 0} (ghosts : sink.Ghosts K) (files : F → Option Files) (calls : F → ℕ)
+    (o : Setup) (told : Option Files) (left after : Option (List ℕ)) (first : F) (old : K)
+    (m n : Map) (s t : F) (x y : K) (status : Status) → m ≡ n → s ≡ t → x ≡ y →
+    EndsOver o told left after (ghosts.written old) (ghosts.written x)
+    (desk m (shelf files calls first s)) (Rose (ghosts.shortages old) (ghosts.shortages x)) status
+    → EndsOver o told left after (ghosts.written old) (ghosts.written y)
+    (desk n (shelf files calls first t)) (Rose (ghosts.shortages old) (ghosts.shortages y)) status
+ends_back ghosts files calls o told left after first old m n s t x y status map store sinks ends =
+    subst (λ a. EndsOver o told left after (ghosts.written old) (ghosts.written y)
+    (desk a (shelf files calls first t)) (Rose (ghosts.shortages old) (ghosts.shortages y)) status)
+    map
+    (subst (λ a. EndsOver o told left after (ghosts.written old) (ghosts.written y)
+    (desk m (shelf files calls first a)) (Rose (ghosts.shortages old) (ghosts.shortages y)) status)
+    store
+    (subst (λ a. EndsOver o told left after (ghosts.written old) (ghosts.written a)
+    (desk m (shelf files calls first s)) (Rose (ghosts.shortages old) (ghosts.shortages a)) status)
+    sinks ends))

@@ -12,5 +12,6 @@ pub mod Parsed
 pub mod Ending
 pub mod Leaving
 pub mod Standing
+pub mod Moments
 pub mod Building
 pub mod Drill

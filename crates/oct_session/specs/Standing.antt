@@ -59,11 +59,6 @@ pub record Seat (F : Type 0) : Type 1 where
 abbrev pub seated : {F : Type 0} → (F → Desk) → Option (List ℕ) → Seat F
 seated desk written = record { desk = desk; written = written }
 
--- the seat of this map, this store and this sink
-abbrev pub seat : {F K : Type 0} → (F → Option Files) → (F → ℕ) → (K → Option (List ℕ)) → Map → F
-    → K → Seat F
-seat files calls written map store sink = seated (desk_of files calls map store) (written sink)
-
 -- ---- what a line does
 
 -- a map that stands for some history stands for some history afterwards

@@ -15,6 +15,7 @@ ghost use Rattle.oct_session.specs.History.{start_state};
 ghost use Rattle.oct_session.specs.Leaving.{StandsFor};
 
 use crate::building::Discard;
+use crate::lent::Lent;
 use crate::options::{MOST_BYTES, Options};
 use crate::service::{done_or_refused, read_all};
 use crate::session::Session;
@@ -143,14 +144,12 @@ fn work_through(
     let mut session = Session::new(alloc);
     let mut store = MemoryStore::new(alloc);
     let mut script = Generator::new(seed, scans, points);
-    read_all(
-        options,
+    let mut lent = Lent {
         map,
-        &mut store,
-        &mut session,
-        &mut script,
-        &mut Discard {},
-    )?;
+        store: &mut store,
+        sink: &mut Discard {},
+    };
+    read_all(options, &mut lent, &mut session, &mut script)?;
     Ok(session.tally)
 }
 

@@ -1,13 +1,10 @@
 //! Replies that are held until they are written: those of one read together, as long as no line
 //! that may change the map, or that names a file, comes between them.
 ghost use Rattle.std.specs.Prelude.{◌≡◌, ◌⊎◌, ◌<◌, [], ◌++◌, length, OnOk, OnErr, IsSome, false};
-ghost use Rattle.oct_io.specs.Counts.{IsWriteCounted};
-ghost use Rattle.oct_io.specs.Taken.{IsCutOff};
-ghost use Rattle.oct_io.specs.Told.{appended};
 ghost use Rattle.oct_script.specs.Replies.{text_of};
 ghost use Rattle.oct_session.specs.Commands.{may_change};
 ghost use Rattle.oct_session.specs.Parsed.{command_in};
-ghost use Rattle.oct_session.specs.Standing.{HasMoved, Adds};
+ghost use Rattle.oct_session.specs.Moments.{Passes};
 
 use crate::lines::Parsed;
 use oct_io::{Sink, SinkFault, write_all};
@@ -36,13 +33,8 @@ pub fn tell(text: &mut Vec<u8>, reply: &Option<Reply>) -> Result<(), Memory>
 
 /// Writes the replies that are held. None is held afterwards, also after an error.
 pub fn flush<K: Sink>(text: &mut Vec<u8>, sink: &mut K) -> Result<(), SinkFault>
-    ensures ok { OnOk result (K.written sink.new ≡ appended (K.written sink.old) text.old.items) }
+    ensures passes { Passes K.Sink sink.old sink.new text.old.items text.new.items result }
     ensures empty { text.new.items ≡ [] }
-    ensures err { OnErr result
-        (IsCutOff (K.written sink.old) (K.written sink.new) text.old.items) }
-    ensures adds { Adds (K.written sink.old) (K.written sink.new) }
-    ensures counts { IsWriteCounted result (K.faults sink.old) (K.faults sink.new)
-        (K.shortages sink.old) (K.shortages sink.new) }
 {
     let written = write_all(sink, text);
     text.clear();
@@ -51,16 +43,10 @@ pub fn flush<K: Sink>(text: &mut Vec<u8>, sink: &mut K) -> Result<(), SinkFault>
 
 /// Writes the replies that are held, before a line that may change the map, or names a file.
 pub fn make_way<K: Sink>(parsed: &Parsed, text: &mut Vec<u8>, sink: &mut K) -> Result<(), SinkFault>
-    ensures moved { OnOk result
-        (HasMoved (K.written sink.old) (K.written sink.new) text.old.items text.new.items) }
+    ensures passes { Passes K.Sink sink.old sink.new text.old.items text.new.items result }
     ensures clear { OnOk result
         ((text.new.items ≡ []) ⊎ (may_change (command_in parsed.now) ≡ false)) }
     ensures kept { may_change (command_in parsed.now) ≡ false → text.new.items ≡ text.old.items }
-    ensures err { OnErr result
-        (IsCutOff (K.written sink.old) (K.written sink.new) text.old.items) }
-    ensures adds { Adds (K.written sink.old) (K.written sink.new) }
-    ensures counts { IsWriteCounted result (K.faults sink.old) (K.faults sink.new)
-        (K.shortages sink.old) (K.shortages sink.new) }
 {
     if !parsed.may_change() {
         return Ok(());
@@ -70,15 +56,9 @@ pub fn make_way<K: Sink>(parsed: &Parsed, text: &mut Vec<u8>, sink: &mut K) -> R
 
 /// Writes the replies that are held, where they are many.
 pub fn hold_few<K: Sink>(text: &mut Vec<u8>, sink: &mut K) -> Result<(), SinkFault>
-    ensures moved { OnOk result
-        (HasMoved (K.written sink.old) (K.written sink.new) text.old.items text.new.items) }
+    ensures passes { Passes K.Sink sink.old sink.new text.old.items text.new.items result }
     ensures few { OnOk result (length text.new.items < MOST_HELD) }
     ensures kept { length text.old.items < MOST_HELD → text.new.items ≡ text.old.items }
-    ensures err { OnErr result
-        (IsCutOff (K.written sink.old) (K.written sink.new) text.old.items) }
-    ensures adds { Adds (K.written sink.old) (K.written sink.new) }
-    ensures counts { IsWriteCounted result (K.faults sink.old) (K.faults sink.new)
-        (K.shortages sink.old) (K.shortages sink.new) }
 {
     if text.len() < MOST_HELD {
         return Ok(());

@@ -50,6 +50,7 @@ mod drilling;
 mod files;
 mod held;
 mod kinds;
+mod lent;
 mod lines;
 mod options;
 mod scan_block;

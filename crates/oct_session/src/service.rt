@@ -1,19 +1,17 @@
 //! The loop of a session: from the bytes of a source to the replies in a sink.
-ghost use Rattle.std.specs.Prelude.{◌≡◌, ◌≢◌, ◌+◌, ◌^◌, ◌<◌, ◌≤◌, [], length, take, OnOk, IfOk};
-ghost use Rattle.std.specs.Prelude.{IfErr, IfSome, Err, true, false};
+ghost use Rattle.std.specs.Prelude.{◌≡◌, ◌≢◌, ◌+◌, ◌^◌, ◌<◌, length, IfOk, IfSome};
 ghost use Rattle.oct_io.specs.Told.{Rose};
 ghost use Rattle.oct_io.specs.FaultCounts.{IsSourceCounted, IsSinkCounted, IsStoreCounted};
-ghost use Rattle.oct_io.specs.FaultCounts.{IsStopCounted};
-ghost use Rattle.oct_io.specs.FaultCounts.{IsScriptCounted};
+ghost use Rattle.oct_io.specs.FaultCounts.{IsScriptCounted, IsStopCounted};
 ghost use Rattle.oct_session.specs.History.{start_state};
 ghost use Rattle.oct_session.specs.Session.{status_at_end, ReadsTold};
 ghost use Rattle.oct_io.specs.Whole.{IsWhole};
 ghost use Rattle.oct_session.specs.Leaving.{StandsFor, StandsForSome, desk, HasEndedAs};
 ghost use Rattle.oct_io.specs.Shelf.{shelf};
-ghost use Rattle.oct_session.specs.Standing.{seat, KeepsStanding, Takes, StopsIn, Serves, Finishes};
-ghost use Rattle.oct_session.specs.Standing.{Ends, IsResting, HasRead};
-ghost use Rattle.oct_io.specs.Stops.{status_of};
+ghost use Rattle.oct_session.specs.Moments.{seen, stop_in, TakesPiece, Turns, Reads, IsWaiting};
+ghost use Rattle.oct_session.specs.Standing.{IsResting, HasRead};
 
+use crate::lent::Lent;
 use crate::options::Options;
 use crate::session::Session;
 use oct_io::{Sink, Source, Status, Stop, Store, read_piece};
@@ -25,40 +23,21 @@ const MOST_READ: usize = 16 * 1024;
 
 /// Takes what a read gave, of which the last byte may be one more than the script may have.
 fn take_piece<K: Sink, F: Store>(
-    options: &Options,
-    map: &mut OccMap,
-    store: &mut F,
+    lent: &mut Lent<'_, K, F>,
     session: &mut Session,
     piece: &[u8],
     room: u64,
-    sink: &mut K,
 ) -> Result<(), Stop>
     requires small { session.old.line_count + length piece.now < 2 ^ 63 }
-    requires empty { session.old.text.items ≡ [] }
-    requires unended { session.old.line.has_ended ≡ false }
-    ensures ok { OnOk result (Takes options.now
-        (seat F.files F.calls K.written map.old store.old sink.old)
-        (seat F.files F.calls K.written map.new store.new sink.new)
-        session.old session.new (take room piece.now)) }
-    ensures fits { OnOk result (session.new.has_quit ≡ false → length piece.now ≤ room) }
-    ensures stops { IfErr result (StopsIn options.now
-        (seat F.files F.calls K.written map.old store.old sink.old)
-        (seat F.files F.calls K.written map.new store.new sink.new)
-        session.old session.new piece.now room
-        (Rose (K.shortages sink.old) (K.shortages sink.new))) }
-    ensures rests { OnOk result
-        (IsResting session.new (session.old.line_count + length piece.now)) }
-    ensures stands { KeepsStanding map.old map.new }
-    ensures counts { IsStopCounted result (K.faults sink.old) (K.faults sink.new)
-        (K.shortages sink.old) (K.shortages sink.new)
-        (F.faults store.old) (F.faults store.new) }
-    ensures only { result ≢ Err Stop.ReadFault }
+    requires rests { IsResting session.old session.old.line_count }
+    ensures { TakesPiece piece.now room (seen K.Sink F.Store lent.old session.old)
+        (seen K.Sink F.Store lent.new session.new) (stop_in result) }
 {
     if piece.len() as u64 <= room {
-        return session.take(options, map, store, piece, sink);
+        return session.take(lent, piece);
     }
     let (front, _) = piece.split_at(room as usize);
-    session.take(options, map, store, front, sink)?;
+    session.take(lent, front)?;
     if session.has_quit {
         Ok(())
     } else {
@@ -70,93 +49,55 @@ fn take_piece<K: Sink, F: Store>(
 /// script has ended.
 fn turn<S: Source, K: Sink, F: Store>(
     options: &Options,
-    map: &mut OccMap,
-    store: &mut F,
+    lent: &mut Lent<'_, K, F>,
     session: &mut Session,
     source: &mut S,
-    sink: &mut K,
     buffer: &mut [u8],
     taken: u64,
 ) -> Result<usize, Stop>
-    requires running { session.old.has_quit ≡ false }
-    requires rests { IsResting session.old taken }
-    requires few { taken ≤ options.now.max_bytes }
+    requires waits { IsWaiting options.now session.old taken }
     requires whole { length buffer.old ≡ MOST_READ }
-    ensures goes { IfOk result (λ n. session.new.has_quit ≡ false
-        → Serves options.now (S.left source.old) (S.left source.new)
-        (seat F.files F.calls K.written map.old store.old sink.old)
-        (seat F.files F.calls K.written map.new store.new sink.new)
-        session.old session.new taken (taken + n)) }
-    ensures quits { OnOk result (session.new.has_quit ≡ true
-        → Finishes options.now (S.left source.old) (S.left source.new)
-        (seat F.files F.calls K.written map.old store.old sink.old)
-        (seat F.files F.calls K.written map.new store.new sink.new)
-        session.old session.new taken) }
-    ensures stops { IfErr result (λ stop. Ends options.now (S.left source.old) (S.left source.new)
-        (seat F.files F.calls K.written map.old store.old sink.old)
-        (seat F.files F.calls K.written map.new store.new sink.new)
-        session.old taken (Rose (K.shortages sink.old) (K.shortages sink.new)) (status_of stop)) }
-    ensures rests { IfOk result (λ n. IsResting session.new (taken + n)) }
+    ensures turns { Turns options.now (S.left source.old) (S.left source.new) taken
+        (seen K.Sink F.Store lent.old session.old) (seen K.Sink F.Store lent.new session.new)
+        result }
     ensures read { IfOk result (λ n. HasRead options.now session.new.has_quit (S.left source.new)
         (S.ends source.old) (S.ends source.new) taken n) }
-    ensures stands { KeepsStanding map.old map.new }
     ensures source_counts { IsScriptCounted result (S.faults source.old) (S.faults source.new)
         (S.ends source.old) (S.ends source.new) }
-    ensures counts { IsStopCounted result (K.faults sink.old) (K.faults sink.new)
-        (K.shortages sink.old) (K.shortages sink.new)
-        (F.faults store.old) (F.faults store.new) }
 {
     let room = options.max_bytes() - taken;
     let count = read_piece(source, buffer, room)?;
     let (piece, _) = buffer.split_at(count);
-    take_piece(options, map, store, session, piece, room, sink)?;
+    take_piece(lent, session, piece, room)?;
     Ok(count)
 }
 
 /// Reads the script to its end or to `quit`, and answers what a read gave before the next one.
 pub(crate) fn read_all<S: Source, K: Sink, F: Store>(
     options: &Options,
-    map: &mut OccMap,
-    store: &mut F,
+    lent: &mut Lent<'_, K, F>,
     session: &mut Session,
     source: &mut S,
-    sink: &mut K,
 ) -> Result<(), Stop>
-    requires running { session.old.has_quit ≡ false }
-    requires rests { IsResting session.old 0 }
-    ensures done { OnOk result (Finishes options.now (S.left source.old) (S.left source.new)
-        (seat F.files F.calls K.written map.old store.old sink.old)
-        (seat F.files F.calls K.written map.new store.new sink.new)
-        session.old session.new 0) }
-    ensures stops { IfErr result (λ stop. Ends options.now (S.left source.old) (S.left source.new)
-        (seat F.files F.calls K.written map.old store.old sink.old)
-        (seat F.files F.calls K.written map.new store.new sink.new)
-        session.old 0 (Rose (K.shortages sink.old) (K.shortages sink.new)) (status_of stop)) }
-    ensures stands { KeepsStanding map.old map.new }
+    requires { IsWaiting options.now session.old 0 }
+    ensures reads { Reads options.now (S.left source.old) (S.left source.new)
+        (seen K.Sink F.Store lent.old session.old) (seen K.Sink F.Store lent.new session.new)
+        (stop_in result) }
     ensures source_counts { IsScriptCounted result (S.faults source.old) (S.faults source.new)
         (S.ends source.old) (S.ends source.new) }
-    ensures counts { IsStopCounted result (K.faults sink.old) (K.faults sink.new)
-        (K.shortages sink.old) (K.shortages sink.new)
-        (F.faults store.old) (F.faults store.new) }
+    ensures counts { IsStopCounted result (K.faults lent.old.sink.now) (K.faults lent.new.sink.now)
+        (K.shortages lent.old.sink.now) (K.shortages lent.new.sink.now)
+        (F.faults lent.old.store.now) (F.faults lent.new.store.now) }
 {
     let mut buffer = [0u8; MOST_READ];
     let mut taken = 0u64;
     'reading: loop {
-        let count = turn(
-            options,
-            map,
-            store,
-            session,
-            source,
-            sink,
-            &mut buffer,
-            taken,
-        )?;
+        let count = turn(options, lent, session, source, &mut buffer, taken)?;
         if session.has_quit {
             return Ok(());
         }
         if count == 0 {
-            return session.end(options, map, store, sink);
+            return session.end(lent);
         }
         taken += count as u64;
     }
@@ -206,7 +147,8 @@ pub fn serve<S: Source, K: Sink, F: Store>(
         → result ≢ Status.Memory → IsWhole result }
 {
     let mut session = Session::new(alloc);
-    match read_all(options, map, store, &mut session, source, sink) {
+    let mut lent = Lent { map, store, sink };
+    match read_all(options, &mut lent, &mut session, source) {
         Ok(()) => done_or_refused(session.refused),
         Err(stop) => Status::from(stop),
     }

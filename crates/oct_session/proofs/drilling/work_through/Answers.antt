@@ -1,5 +1,7 @@
-use Rattle.std.proofs.Common.{Some, Err, ap, ◌∙◌}
+use Rattle.std.proofs.Common.{◌≡◌, Some, Err, ap, subst, rules, ◌∙◌}
 use Rattle.oct_io.specs.MemoryFiles.{files_of}
+use Rattle.oct_session.specs.Drill.{drilled_state}
+use Rattle.oct_session.specs.Leaving.{StandsFor}
 use Rattle.oct_session.specs.Standing.{desk_of}
 use Rattle.oct_io.specs.Shelf.{shelf}
 use Rattle.oct_session.proofs.Built.{zero_stays}
@@ -15,7 +17,8 @@ returns-in_err-read_all-clause-memory c =
     (files_of c.new-store.result)
     c.args.seed c.args.scans c.args.points _ _ c.args.map.now
     (λ first. shelf (λ x. Some (files_of x)) (λ x. 0) first c.new-store.result)
-    (desk_of (λ x. Some (files_of x)) (λ x. 0) c.read_all.new.map c.read_all.new.store)
+    (desk_of (λ x. Some (files_of x)) (λ x. 0) c.read_all.new.lent.map.now
+    c.read_all.new.lent.store.now)
     c.new-store.result
     c.new-session.result
     c.requires.setup (ap Some c.new-script.ensures)
@@ -23,7 +26,7 @@ returns-in_err-read_all-clause-memory c =
     (new_session c.requires.unknown c.new-session.ensures.line c.new-session.ensures.counted
     c.new-session.ensures.block c.new-session.ensures.refused c.new-session.ensures.running
     c.new-session.ensures.tally) c.ranges.seed.fits c.requires.few_scans c.requires.few_points
-    c.in_err-read_all.ensures.stops
+    c.in_err-read_all.ensures.reads.to
     (λ is. zero_stays (c.in_err-read_all.ensures.source_counts.read_fault is))
     (λ is. zero_stays (c.in_err-read_all.ensures.counts.failed is).0)
     (λ is. zero_stays (c.in_err-read_all.ensures.counts.store_failed is).2))
@@ -33,27 +36,31 @@ returns-clause-tally c =
     (work_done c.args.options.now (files_of c.new-store.result) c.args.seed c.args.scans
     c.args.points _ _ c.args.map.now
     (λ first. shelf (λ x. Some (files_of x)) (λ x. 0) first c.new-store.result)
-    (desk_of (λ x. Some (files_of x)) (λ x. 0) c.read_all.new.map c.read_all.new.store)
+    (desk_of (λ x. Some (files_of x)) (λ x. 0) c.read_all.new.lent.map.now
+    c.read_all.new.lent.store.now)
     c.new-store.result
     c.new-session.result c.read_all.new.session
     c.requires.setup c.new-store.ensures (ap Some c.new-script.ensures)
     (nothing_asked (λ x. Some (files_of x)) (λ x. 0) c.new-store.result)
     (new_session c.requires.unknown c.new-session.ensures.line c.new-session.ensures.counted
     c.new-session.ensures.block c.new-session.ensures.refused c.new-session.ensures.running
-    c.new-session.ensures.tally) c.in_ok-read_all.ensures.done).tally
+    c.new-session.ensures.tally) c.in_ok-read_all.ensures.reads.to).tally
     ∙ drill_low c.args.seed c.args.scans c.args.points c.ranges.seed.fits c.requires.few_scans
     c.requires.few_points
 
 pub returns-clause-stands : goal.returns-clause-stands
 returns-clause-stands c =
+    let same : c.read_all.new.lent.map.now ≡ c.map-1.given.0 = search rules in
+    subst (λ m. StandsFor m (drilled_state c.args.seed c.args.scans c.args.points)) same
     (work_done c.args.options.now (files_of c.new-store.result) c.args.seed c.args.scans
     c.args.points _ _ c.args.map.now
     (λ first. shelf (λ x. Some (files_of x)) (λ x. 0) first c.new-store.result)
-    (desk_of (λ x. Some (files_of x)) (λ x. 0) c.read_all.new.map c.read_all.new.store)
+    (desk_of (λ x. Some (files_of x)) (λ x. 0) c.read_all.new.lent.map.now
+    c.read_all.new.lent.store.now)
     c.new-store.result
     c.new-session.result c.read_all.new.session
     c.requires.setup c.new-store.ensures (ap Some c.new-script.ensures)
     (nothing_asked (λ x. Some (files_of x)) (λ x. 0) c.new-store.result)
     (new_session c.requires.unknown c.new-session.ensures.line c.new-session.ensures.counted
     c.new-session.ensures.block c.new-session.ensures.refused c.new-session.ensures.running
-    c.new-session.ensures.tally) c.in_ok-read_all.ensures.done).stands
+    c.new-session.ensures.tally) c.in_ok-read_all.ensures.reads.to).stands

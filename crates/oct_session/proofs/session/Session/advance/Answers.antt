@@ -1,43 +1,67 @@
-use Rattle.std.proofs.Common.{refl, ◌∙◌}
+use Rattle.std.proofs.Common.{refl, arith, ◌∙◌}
 use Rattle.std.proofs.lemmas.Bool.{not-false, not-true}
-use Rattle.oct_session.proofs.HeldPieces.{held_ended, held_halted, held_joined, ended_line}
-use Rattle.oct_session.proofs.HeldPieces.{whole_read}
+use Rattle.oct_session.proofs.HeldPieces.{ended_line, whole_read}
+use Rattle.oct_session.proofs.Moves.{takes_on, takes_line, takes_halt, takes_joined, takes_some}
 use Rattle.oct_session.proofs.session.Session.advance.Goals as goal
 
-pub returns-in_err-respond-clause-err : goal.returns-in_err-respond-clause-err
-returns-in_err-respond-clause-err g c =
-    held_halted _ _ c.args.options.now _ _ _ _ c.args.self.now _ (ended_line c.new-line.result)
-    c.args.piece.now _ c.from_residual.ensures.1 c.requires.running
+pub returns-in_err-respond-clause-does : goal.returns-in_err-respond-clause-does
+returns-in_err-respond-clause-does g c =
+    takes_on c.from_residual.result _ _ _ _ c.from_residual.ensures.1
+    (takes_halt _ _ c.args.self.now (ended_line c.new-line.result) c.args.piece.now _ _
+    c.requires.ready.running
     (whole_read _ _ _ c.new-line.result c.new-line.ensures c.in-Some.ensures.ends)
-    (record { counted = refl; block = refl; refused = refl; has_quit = refl; tally = refl })
-    refl c.in_err-respond.ensures.err
+    (record {
+      beside =
+          record { counted = refl; block = refl; refused = refl; has_quit = refl; tally = refl };
+      text = refl;
+    })
+    c.in_err-respond.ensures.does)
 
-pub returns-in-Some-clause-ok : goal.returns-in-Some-clause-ok
-returns-in-Some-clause-ok g c =
-    held_ended c.args.options.now _ _ _ _ c.args.self.now _ _ (ended_line c.new-line.result) _
-    c.requires.running
+pub returns-in-Some-clause-does : goal.returns-in-Some-clause-does
+returns-in-Some-clause-does g c =
+    takes_line _ _ c.args.self.now (ended_line c.new-line.result) c.args.piece.now _
+    c.requires.ready.running (omega (arith, c.in-Some.ensures.taken)) c.in-Some.ensures.within
     (whole_read _ _ _ c.new-line.result c.new-line.ensures c.in-Some.ensures.ends)
-    (record { counted = refl; block = refl; refused = refl; has_quit = refl; tally = refl })
-    refl c.in_ok-respond.ensures.ok
-    (c.respond.ensures.line ∙ c.in-Some.ensures.unread)
+    (record {
+      beside =
+          record { counted = refl; block = refl; refused = refl; has_quit = refl; tally = refl };
+      text = refl;
+    })
+    (c.respond.ensures.line ∙ c.in-Some.ensures.unread) c.in_ok-respond.ensures.does
 
-pub returns-then-not-fed-clause-ok : goal.returns-then-not-fed-clause-ok
-returns-then-not-fed-clause-ok g c =
-    held_joined c.args.options.now _ _ c.args.self.now _ _ c.requires.running
+pub returns-then-not-fed-clause-does : goal.returns-then-not-fed-clause-does
+returns-then-not-fed-clause-does g c =
+    takes_joined _ _ _ c.requires.ready.running
     (c.feed-fed.ensures.joins (not-true _ c.if-not-fed.true))
-    (record { counted = refl; block = refl; refused = refl; has_quit = refl; tally = refl }) refl
+    (record {
+      beside =
+          record { counted = refl; block = refl; refused = refl; has_quit = refl; tally = refl };
+      text = refl;
+    })
+    (c.feed-fed.ensures.same ∙ not-true _ c.if-not-fed.true)
 
-pub returns-in_err-respond_fed-clause-err : goal.returns-in_err-respond_fed-clause-err
-returns-in_err-respond_fed-clause-err g c =
-    held_halted _ _ c.args.options.now _ _ _ _ c.args.self.now _ _ c.args.piece.now _
-    c.from_residual-in_err-respond_fed.ensures.1 c.requires.running
+pub returns-in_err-respond_fed-clause-does : goal.returns-in_err-respond_fed-clause-does
+returns-in_err-respond_fed-clause-does g c =
+    takes_on c.from_residual-in_err-respond_fed.result _ _ _ _
+    c.from_residual-in_err-respond_fed.ensures.1
+    (takes_halt _ _ _ _ c.args.piece.now _ _ c.requires.ready.running
     (c.feed-fed.ensures.ends (not-false _ c.if-not-fed.false))
-    (record { counted = refl; block = refl; refused = refl; has_quit = refl; tally = refl })
-    refl c.in_err-respond_fed.ensures.err
+    (record {
+      beside =
+          record { counted = refl; block = refl; refused = refl; has_quit = refl; tally = refl };
+      text = refl;
+    })
+    c.in_err-respond_fed.ensures.does)
 
-pub returns-clause-ok : goal.returns-clause-ok
-returns-clause-ok g c =
-    held_ended c.args.options.now _ _ _ _ c.args.self.now _ _ _ _ c.requires.running
+pub returns-clause-does : goal.returns-clause-does
+returns-clause-does g c =
+    takes_line _ _ _ _ c.args.piece.now _ c.requires.ready.running
+    (takes_some _ _ _ c.feed-fed.ensures.taken (not-false _ c.if-not-fed.false))
+    c.feed-fed.ensures.within
     (c.feed-fed.ensures.ends (not-false _ c.if-not-fed.false))
-    (record { counted = refl; block = refl; refused = refl; has_quit = refl; tally = refl })
-    refl c.in_ok-respond_fed.ensures.ok c.in_ok-respond_fed.ensures.line
+    (record {
+      beside =
+          record { counted = refl; block = refl; refused = refl; has_quit = refl; tally = refl };
+      text = refl;
+    })
+    c.respond_fed.ensures.line c.in_ok-respond_fed.ensures.does

@@ -1,29 +1,55 @@
-use Rattle.std.proofs.Common.{◌++◌, ◌||◌, ◌∙◌, Err, ap, refl}
+use Rattle.std.proofs.Common.{[], ◌++◌, ◌||◌, ◌∙◌, Result, Err, ap, refl}
+use Rattle.std.specs.Prelude.{⊤}
+use Rattle.oct_io.proofs.Appending.{appended_nil}
+use Rattle.oct_io.specs.declared.sink.SinkFault.{SinkFault}
+use Rattle.oct_io.specs.declared.sink.SinkFault.TheVariants.{Memory}
 use Rattle.oct_script.specs.Replies.{text_of}
 use Rattle.oct_session.specs.ScanBlock.{end_reply}
 use Rattle.oct_session.proofs.Halting.{closing_told, closing_untold, closing_cut}
+use Rattle.oct_session.proofs.Moves.{closes_on, counts_written, counts_unwritten, all_written}
+use Rattle.oct_session.proofs.Moves.{ran_short}
 use Rattle.oct_session.proofs.session.Session.close.Goals as goal
 
-pub returns-in_err-tell-clause-err : goal.returns-in_err-tell-clause-err
-returns-in_err-tell-clause-err g c =
-    closing_untold _ _ _ c.args.self.now c.end_reply-reply.result c.requires.running
-    (c.end_reply-reply.ensures ∙ ap end_reply c.take.ensures.value) c.in_err-tell.ensures.err
+pub returns-in_err-tell : goal.returns-in_err-tell
+returns-in_err-tell g c =
+    let r : Result ⊤ SinkFault = Err Memory in
+    closes_on g.K.Sink c.from_residual.result _ _ _ _ _ c.from_residual.ensures.1 (record {
+      to = closing_untold _ r _ c.args.self.now c.end_reply-reply.result c.requires.running
+          (c.end_reply-reply.ensures ∙ ap end_reply c.take.ensures.value) c.in_err-tell.ensures.err;
+      adds = ([], appended_nil _);
+      counts = counts_unwritten _ _;
+    })
 
-pub returns-in_err-flush-clause-err : goal.returns-in_err-flush-clause-err
-returns-in_err-flush-clause-err g c =
-    closing_cut _ _ _ _ c.args.self.now c.end_reply-reply.result c.tell.new.text.items _
-    c.from_residual-in_err-flush.ensures.1
-    (λ e. (c.in_err-flush.ensures.counts.memory (ap Err e)).1) c.requires.running
-    (c.end_reply-reply.ensures ∙ ap end_reply c.take.ensures.value)
-    (c.in_ok-tell.ensures.ok ∙ ap (λ x. x ++ text_of c.end_reply-reply.result) c.requires.empty)
-    c.in_err-flush.ensures.err.1 c.in_err-flush.ensures.err.2
+pub returns-in_err-flush : goal.returns-in_err-flush
+returns-in_err-flush g c =
+    let fault : SinkFault = c.in_err-flush.field-0.0 in
+    let r : Result ⊤ SinkFault = Err fault in
+    closes_on g.K.Sink c.from_residual-in_err-flush.result _ _ _ _ _
+    c.from_residual-in_err-flush.ensures.1 (record {
+      to = closing_cut r fault _ _ c.args.self.now c.end_reply-reply.result c.tell.new.text.items _
+          refl (ran_short g.K.Sink _ _ _ _ fault c.in_err-flush.ensures.passes) c.requires.running
+          (c.end_reply-reply.ensures ∙ ap end_reply c.take.ensures.value)
+          (c.in_ok-tell.ensures.ok ∙ ap (λ x. x ++ text_of c.end_reply-reply.result)
+          c.requires.empty)
+          c.in_err-flush.ensures.passes.cut.1 c.in_err-flush.ensures.passes.cut.2;
+      adds = c.in_err-flush.ensures.passes.adds;
+      counts = counts_written _ _ _ _ _ c.in_err-flush.ensures.passes.counts;
+    })
 
-pub returns-clause-ok : goal.returns-clause-ok
-returns-clause-ok g c = λ w p at before.
-    closing_told w _ _ c.args.self.now _ p c.end_reply-reply.result c.tell.new.text.items
-    c.requires.running at before
-    (c.end_reply-reply.ensures ∙ ap end_reply c.take.ensures.value)
-    (c.in_ok-tell.ensures.ok ∙ ap (λ x. x ++ text_of c.end_reply-reply.result) c.requires.empty)
-    c.in_ok-flush.ensures.ok refl c.take.ensures.after (ap (λ b. c.args.self.now.refused || b)
-    c.is_refused.ensures) refl
-    c.count.ensures
+pub returns : goal.returns
+returns g c = record {
+  to = (
+    c.flush.ensures.empty,
+    λ w p at before.
+        closing_told w _ _ c.args.self.now _ p c.end_reply-reply.result c.tell.new.text.items
+        c.requires.running at before
+        (c.end_reply-reply.ensures ∙ ap end_reply c.take.ensures.value)
+        (c.in_ok-tell.ensures.ok ∙ ap (λ x. x ++ text_of c.end_reply-reply.result)
+        c.requires.empty)
+        (all_written _ _ _ _ c.in_ok-flush.ensures.passes.moved c.flush.ensures.empty) refl
+        c.take.ensures.after (ap (λ b. c.args.self.now.refused || b) c.is_refused.ensures) refl
+        c.count.ensures,
+  );
+  adds = c.in_ok-flush.ensures.passes.adds;
+  counts = counts_written _ _ _ _ _ c.in_ok-flush.ensures.passes.counts;
+}

@@ -1,0 +1,342 @@
+-- What a read gave, and reads one after another.
+use Rattle.std.proofs.Common.{◌≡◌, ◌≢◌, ◌^◌, ℕ, ◌+◌, ◌-◌, ◌<◌, ◌≤◌, List, [], ◌++◌, Option, Some}
+use Rattle.std.proofs.Common.{None}
+use Rattle.std.proofs.Common.{refl, sym, ap, subst, ◌∙◌, arith, Result, Ok, Err, OnOk, IfSome}
+use Rattle.std.proofs.Common.{IsErrAnd, length, take, true, false, true≢false}
+use Rattle.std.specs.Prelude.{⊤}
+use Rattle.std.proofs.lemmas.List.{length-take}
+use Rattle.oct_io.specs.FaultCounts.{IsStopCounted}
+use Rattle.oct_io.specs.Stops.{IsHalt, status_of}
+use Rattle.oct_io.specs.Told.{Rose}
+use Rattle.oct_io.specs.declared.stop.Stop.{Stop}
+use Rattle.oct_io.specs.declared.stop.Stop.TheVariants as stop
+use Rattle.oct_session.specs.Moments.{Moment, IsCounted, IsDone, Makes, Take, End, stop_in, seat_at}
+use Rattle.oct_session.specs.Moments.{TakesPiece, Turns, Reads, IsWaiting, HasRoom}
+use Rattle.oct_session.specs.Setup.{Setup}
+use Rattle.oct_session.specs.Standing.{Takes, Halts, IsResting, Serves}
+use Rattle.oct_script.specs.Lines.{ended_lines}
+use Rattle.oct_session.proofs.Endings.{IsRead}
+use Rattle.oct_session.proofs.HeldPieces.{held_first, replied_since}
+use Rattle.oct_session.proofs.Moves.{at_of_held, done_join, done_none}
+use Rattle.oct_session.proofs.Pieces.{fits_whole, at_front, stops_front, stops_whole}
+use Rattle.oct_session.proofs.Progresses.{known_bytes}
+use Rattle.oct_session.proofs.Serving.{stopped_by_source, stopped_in_piece, goes_on, quits_in}
+use Rattle.oct_session.proofs.Serving.{stopped_in_turn, finished_at_end, stopped_at_end}
+
+-- a halt isn't the input's
+halt_read : (why : Stop) → IsHalt why → why ≢ stop.ReadFault
+halt_read stop.TooLong halt = absurd halt
+halt_read stop.ReadFault halt = absurd halt
+halt_read stop.WriteFault halt = λ e. cc
+halt_read stop.Memory halt = λ e. cc
+halt_read stop.StoreFault halt = λ e. cc
+
+-- bytes that are taken with nothing held before and after them
+taken_all : {F : Type 0} (o : Setup) (a b : Moment F) (xs : List ℕ) → a.session.text.items ≡ []
+    → b.session.text.items ≡ [] → Makes (Take xs) a b None
+    → Takes o (seat_at a) (seat_at b) a.session b.session xs
+taken_all o a b xs none empty p = λ first files w bytes at.
+    at_of_held o files w b.written (b.desk first) b.session (bytes ++ xs) empty
+    (p.to.1 o first files w bytes
+    (held_first o files w a.written (a.desk first) a.session bytes none at))
+
+-- a halt in them: the lines before them had been answered
+halted_all : {F : Type 0} (o : Setup) (a b : Moment F) (xs : List ℕ) (why : Stop)
+    → a.session.text.items ≡ [] → Makes (Take xs) a b (Some why)
+    → Halts o (seat_at a) (seat_at b) a.session (λ bytes. ended_lines (bytes ++ xs))
+    (Rose a.shortages b.shortages) (status_of why)
+halted_all o a b xs why none p = λ first files w bytes at known. (
+  p.to.1 o first files w bytes
+      (held_first o files w a.written (a.desk first) a.session bytes none at) known,
+  replied_since o files w a.written b.written (a.desk first) a.session bytes
+      (known_bytes o files bytes xs known) at p.done.adds,
+)
+
+-- the session rests behind them
+rests_behind : {F : Type 0} (a b : Moment F) (xs : List ℕ) (most : ℕ)
+    → a.session.line_count + most < 2 ^ 63 → length xs ≤ most
+    → IsResting a.session a.session.line_count → b.session.text.items ≡ []
+    → Makes (Take xs) a b None → IsResting b.session (a.session.line_count + most)
+rests_behind a b xs most small fits rests empty p =
+    let more : ℕ = 9223372036854775807 - (a.session.line_count + length xs) in
+    let room : HasRoom b.session more = p.to.0.0 more (record {
+      held = omega (arith, ap length rests.empty);
+      few = omega (arith, small, fits);
+    }) in
+    record {
+      empty = empty;
+      unended = p.to.0.1 rests.unended;
+      counted = omega (arith, room.few, small, fits);
+    }
+
+pub piece_on : {F T : Type 0} (r : Result T Stop) (why : Stop) (piece : List ℕ) (room : ℕ)
+    (a b : Moment F) → IsErrAnd r (λ e. e ≡ why) → TakesPiece piece room a b (Some why)
+    → TakesPiece piece room a b (stop_in r)
+piece_on (Ok x) why piece room a b is p = absurd is
+piece_on (Err e) why piece room a b is p =
+    subst (λ x. TakesPiece piece room a b (Some x)) (sym is) p
+
+-- a piece of which all may be taken
+pub piece_whole : {F T : Type 0} (r : Result T Stop) (piece : List ℕ) (room : ℕ) (a b : Moment F)
+    → a.session.line_count + length piece < 2 ^ 63 → length piece ≤ room
+    → IsResting a.session a.session.line_count → OnOk r (b.session.text.items ≡ [])
+    → Makes (Take piece) a b (stop_in r) → TakesPiece piece room a b (stop_in r)
+piece_whole (Ok x) piece room a b small fits rests empty p =
+    let r : Result ⊤ Stop = Ok tt in
+    record {
+      done = p.done;
+      to = (
+        rests_behind a b piece (length piece) small (omega arith) rests empty p,
+        λ running. fits,
+        λ o. fits_whole r o _ _ a.desk b.desk a.session b.session piece room fits
+            (taken_all o a b piece rests.empty empty p),
+      );
+    }
+piece_whole (Err why) piece room a b small fits rests empty p =
+    let r : Result ⊤ Stop = Err why in
+    record {
+      done = p.done;
+      to = (
+        halt_read why p.to.0,
+        λ o. stops_whole _ r o _ _ a.desk b.desk a.session b.session piece room fits p.to.0
+            (halted_all o a b piece why rests.empty p),
+      );
+    }
+
+-- a piece of which the front may be taken, with a `quit` in it
+pub piece_front : {F : Type 0} (piece front : List ℕ) (room : ℕ) (a b : Moment F)
+    → a.session.line_count + length piece < 2 ^ 63 → front ≡ take room piece
+    → IsResting a.session a.session.line_count → b.session.text.items ≡ []
+    → b.session.has_quit ≡ true → Makes (Take front) a b None → TakesPiece piece room a b None
+piece_front piece front room a b small is rests empty quit p = record {
+  done = p.done;
+  to = (
+    rests_behind a b front (length piece) small
+        (omega (arith, ap length is, length-take room piece)) rests empty p,
+    λ running. absurd (true≢false (sym quit ∙ running)),
+    λ o. at_front o _ _ a.desk b.desk a.session b.session piece front room is
+        (taken_all o a b front rests.empty empty p),
+  );
+}
+
+-- or without one
+pub piece_long : {F : Type 0} (piece front : List ℕ) (room : ℕ) (a b : Moment F)
+    → room < length piece → front ≡ take room piece → a.session.text.items ≡ []
+    → b.session.text.items ≡ [] → b.session.has_quit ≡ false → Makes (Take front) a b None
+    → TakesPiece piece room a b (Some stop.TooLong)
+piece_long piece front room a b long is none empty running p = record {
+  done = record {
+    map_name = p.done.map_name;
+    store_name = p.done.store_name;
+    sink_name = p.done.sink_name;
+    adds = p.done.adds;
+    stands = p.done.stands;
+    counted = p.done.counted;
+  };
+  to = (
+    λ e. cc,
+    λ o first files w bytes at. (
+      long,
+      running,
+      at_front o _ _ a.desk b.desk a.session b.session piece front room is
+          (taken_all o a b front none empty p) first files w bytes at,
+    ),
+  );
+}
+
+-- a stop in that front
+pub piece_stop : {F : Type 0} (piece front : List ℕ) (room : ℕ) (why : Stop) (a b : Moment F)
+    → front ≡ take room piece → a.session.text.items ≡ [] → Makes (Take front) a b (Some why)
+    → TakesPiece piece room a b (Some why)
+piece_stop piece front room why a b is none p =
+    let r : Result ⊤ Stop = Err why in
+    record {
+      done = p.done;
+      to = (
+        halt_read why p.to.0,
+        λ o. stops_front r why o _ _ a.desk b.desk a.session b.session piece front room refl is
+            p.to.0 (halted_all o a b front why none p),
+      );
+    }
+
+-- ---- a read
+
+pub turns_on : {F : Type 0} (r : Result ℕ Stop) (why : Stop) (o : Setup)
+    (left after : Option (List ℕ)) (taken : ℕ) (a b : Moment F) → IsErrAnd r (λ e. e ≡ why)
+    → Turns o left after taken a b (Err why) → Turns o left after taken a b r
+turns_on (Ok x) why o left after taken a b is p = absurd is
+turns_on (Err e) why o left after taken a b is p =
+    subst (λ x. Turns o left after taken a b (Err x)) (sym is) p
+
+-- the input failed
+pub turn_unread : {F : Type 0} (o : Setup) (left after : Option (List ℕ)) (taken : ℕ) (a : Moment F)
+    → after ≡ left → IsWaiting o a.session taken
+    → Turns o left after taken a a (Err stop.ReadFault)
+turn_unread o left after taken a same waits =
+    let r : Result ⊤ Stop = Err stop.ReadFault in
+    record {
+      done = record {
+        map_name = refl;
+        store_name = refl;
+        sink_name = refl;
+        adds = (done_none a).adds;
+        stands = λ o some. some;
+        counted = (refl, refl, refl);
+      };
+      to = stopped_by_source _ r o left after _ a.desk a.session taken refl same waits.few
+          waits.running;
+    }
+
+-- what was read is answered
+pub turn_taken : {F : Type 0} (o : Setup) (left after : Option (List ℕ)) (buffer piece : List ℕ)
+    (taken n room : ℕ) (a b : Moment F) → IsWaiting o a.session taken
+    → IsRead o buffer piece left after taken n room → length piece ≡ n
+    → TakesPiece piece room a b None → Turns o left after taken a b (Ok n)
+turn_taken o left after buffer piece taken n room a b waits read len p = record {
+  done = p.done;
+  to = (
+    record {
+      empty = p.to.0.empty;
+      unended = p.to.0.unended;
+      counted = omega (arith, p.to.0.counted, waits.rests.counted, len);
+    },
+    goes_on o buffer piece left after _ _ a.desk b.desk a.session b.session taken n room read
+        p.to.1 (p.to.2 o),
+    quits_in o buffer piece left after _ _ a.desk b.desk a.session b.session taken n room read
+        waits.running (p.to.2 o),
+  );
+}
+
+-- the session was stopped in it
+pub turn_stopped : {F : Type 0} (o : Setup) (left after : Option (List ℕ)) (buffer piece : List ℕ)
+    (taken n room : ℕ) (why : Stop) (a b : Moment F)
+    → IsRead o buffer piece left after taken n room → TakesPiece piece room a b (Some why)
+    → Turns o left after taken a b (Err why)
+turn_stopped o left after buffer piece taken n room why a b read p =
+    let r : Result ⊤ Stop = Err why in
+    record {
+      done = p.done;
+      to = stopped_in_piece _ r why o buffer piece left after _ _ a.desk b.desk a.session b.session
+          taken n room refl read (p.to.1 o);
+    }
+
+-- ---- a script
+
+pub reads_on : {F T : Type 0} (r : Result T Stop) (why : Stop) (o : Setup)
+    (left after : Option (List ℕ)) (a b : Moment F) → IsErrAnd r (λ e. e ≡ why)
+    → Reads o left after a b (Some why) → Reads o left after a b (stop_in r)
+reads_on (Ok x) why o left after a b is p = absurd is
+reads_on (Err e) why o left after a b is p =
+    subst (λ x. Reads o left after a b (Some x)) (sym is) p
+
+-- a read in which the session was stopped, after others
+pub reads_stopped : {F : Type 0} (o : Setup) (left mid after : Option (List ℕ)) (taken : ℕ)
+    (why : Stop) (a b c : Moment F) → IsDone a b None
+    → Serves o left mid (seat_at a) (seat_at b) a.session b.session 0 taken
+    → Turns o mid after taken b c (Err why) → Reads o left after a c (Some why)
+reads_stopped o left mid after taken why a b c done goes p =
+    let r : Result ⊤ Stop = Err why in
+    record {
+      done = done_join a b c (Some why) done p.done;
+      to = stopped_in_turn r why o left mid after _ _ _ a.desk b.desk c.desk a.session b.session
+          taken _ _ _ done.counted.1 refl goes p.to;
+    }
+
+-- a read with a `quit` in it
+pub reads_quit : {F : Type 0} (o : Setup) (left mid after : Option (List ℕ)) (taken n : ℕ)
+    (a b c : Moment F) → IsDone a b None
+    → Serves o left mid (seat_at a) (seat_at b) a.session b.session 0 taken
+    → Turns o mid after taken b c (Ok n) → c.session.has_quit ≡ true → Reads o left after a c None
+reads_quit o left mid after taken n a b c done goes p quit = record {
+  done = done_join a b c None done p.done;
+  to = λ first files bytes w at known.
+      p.to.2 quit first files bytes w (goes first files bytes w at) known;
+}
+
+-- a read that goes on
+pub reads_more : {F : Type 0} (o : Setup) (left mid after : Option (List ℕ)) (taken n : ℕ)
+    (a b c : Moment F) → Serves o left mid (seat_at a) (seat_at b) a.session b.session 0 taken
+    → Turns o mid after taken b c (Ok n) → c.session.has_quit ≡ false
+    → Serves o left after (seat_at a) (seat_at c) a.session c.session 0 (taken + n)
+reads_more o left mid after taken n a b c goes p running = λ first files bytes w at.
+    p.to.1 running first files bytes w (goes first files bytes w at)
+
+-- the end of the input
+pub reads_end : {F : Type 0} (r : Result (Unit {0}) Stop) (o : Setup)
+    (left after : Option (List ℕ)) (taken : ℕ) (a b c : Moment F) → taken ≤ o.max_bytes
+    → IfSome after (λ l. l ≡ []) → IsDone a b None
+    → Serves o left after (seat_at a) (seat_at b) a.session b.session 0 taken
+    → Makes End b c (stop_in r) → Reads o left after a c (stop_in r)
+reads_end (Ok x) o left after taken a b c few none done goes p =
+    let r : Result (Unit {0}) Stop = Ok x in
+    record {
+      done = done_join a b c None done p.done;
+      to = finished_at_end r o left after _ _ _ a.desk b.desk c.desk a.session b.session c.session
+          taken few none goes (p.to.1 o);
+    }
+reads_end (Err why) o left after taken a b c few none done goes p =
+    let r : Result (Unit {0}) Stop = Err why in
+    record {
+      done = done_join a b c (Some why) done p.done;
+      to = stopped_at_end r o left after _ _ _ a.desk b.desk c.desk a.session b.session taken _ _ _
+          done.counted.1 few none goes p.to.0 (p.to.1 o);
+    }
+
+-- counts of faults beside a result
+stop_counted : {F T : Type 0} (r : Result T Stop) (a b : Moment F) → IsCounted a b (stop_in r)
+    → IsStopCounted r a.sink_faults b.sink_faults a.shortages b.shortages a.store_faults
+    b.store_faults
+stop_counted (Ok x) a b p = record {
+  stays = p;
+  failed = λ e. cc;
+  memory = λ e. cc;
+  store_failed = λ e. cc;
+  too_long = λ e. cc;
+  unread = λ e. cc;
+}
+stop_counted (Err stop.TooLong) a b p = record {
+  stays = tt;
+  failed = λ e. cc;
+  memory = λ e. cc;
+  store_failed = λ e. cc;
+  too_long = λ e. p;
+  unread = λ e. cc;
+}
+stop_counted (Err stop.ReadFault) a b p = record {
+  stays = tt;
+  failed = λ e. cc;
+  memory = λ e. cc;
+  store_failed = λ e. cc;
+  too_long = λ e. cc;
+  unread = λ e. p;
+}
+stop_counted (Err stop.WriteFault) a b p = record {
+  stays = tt;
+  failed = λ e. p;
+  memory = λ e. cc;
+  store_failed = λ e. cc;
+  too_long = λ e. cc;
+  unread = λ e. cc;
+}
+stop_counted (Err stop.Memory) a b p = record {
+  stays = tt;
+  failed = λ e. cc;
+  memory = λ e. p;
+  store_failed = λ e. cc;
+  too_long = λ e. cc;
+  unread = λ e. cc;
+}
+stop_counted (Err stop.StoreFault) a b p = record {
+  stays = tt;
+  failed = λ e. cc;
+  memory = λ e. cc;
+  store_failed = λ e. p;
+  too_long = λ e. cc;
+  unread = λ e. cc;
+}
+
+pub reads_counted : {F T : Type 0} (r : Result T Stop) (o : Setup) (left after : Option (List ℕ))
+    (a b : Moment F) → Reads o left after a b (stop_in r)
+    → IsStopCounted r a.sink_faults b.sink_faults a.shortages b.shortages a.store_faults
+    b.store_faults
+reads_counted r o left after a b p = stop_counted r a b p.done.counted

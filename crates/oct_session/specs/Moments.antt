@@ -1,0 +1,275 @@
+-- A session at one moment, and what its calls do from one moment to the next.
+use Rattle.std.specs.Prelude.{◌≡◌, ℕ, ◌+◌, ◌^◌, ◌<◌, ◌≤◌, ◌⊎◌, List, [], ◌++◌, length, take}
+use Rattle.std.specs.Prelude.{is_some}
+use Rattle.std.specs.Prelude.{false, true, ◌≢◌, Option, Some, None, option_map, Result, Ok, Err}
+use Rattle.std.specs.Prelude.{OnOk, OnErr}
+use Rattle.oct_io.specs.Counts.{IsWriteCounted, IsMakingCounted}
+use Rattle.oct_io.specs.Stops.{stop_of_store, status_of, IsHalt}
+use Rattle.oct_io.specs.Taken.{IsCutOff}
+use Rattle.oct_io.specs.Told.{Rose, appended}
+use Rattle.oct_io.specs.declared.sink.Sink as sink
+use Rattle.oct_io.specs.declared.sink.SinkFault.{SinkFault}
+use Rattle.oct_io.specs.declared.stop.Stop.{Stop}
+use Rattle.oct_io.specs.declared.stop.Stop.TheVariants as stop
+use Rattle.oct_io.specs.declared.store.Store as store
+use Rattle.oct_io.specs.declared.store.StoreFault.{StoreFault}
+use Rattle.oct_map.specs.Map.{Map}
+use Rattle.oct_script.specs.Lines.{Line, ended_lines, all_lines}
+use Rattle.oct_session.specs.Commands.{command_on, may_change}
+use Rattle.oct_session.specs.Leaving.{Desk}
+use Rattle.oct_session.specs.Parsed.{command_in, IsSmallLine}
+use Rattle.oct_session.specs.Session.{Progress, closed}
+use Rattle.oct_session.specs.Setup.{Setup}
+use Rattle.oct_session.specs.Standing.{Seat, seated, desk_of, KeepsStanding, Adds, HasMoved}
+use Rattle.oct_session.specs.Standing.{TakesLine, FailsLine, HoldsLine, HaltsLine, TakesHeld}
+use Rattle.oct_session.specs.Standing.{HaltsHeld, Halts, Reaches, HaltsAtEnd, Takes, StopsIn}
+use Rattle.oct_session.specs.Standing.{IsInStep, IsCutBy, IsResting, Serves, Finishes, Ends}
+use Rattle.oct_session.specs.declared.lent.Lent.{Lent}
+use Rattle.oct_session.specs.declared.lines.Parsed.{Parsed}
+use Rattle.oct_session.specs.declared.session.Session.{Session}
+
+-- ---- a moment
+
+-- a session at one moment: where what it is lent lies, what that is and tells, and the session
+pub record Moment (F : Type 0) : Type 1 where
+  pub map_name : ℕ
+  pub store_name : ℕ
+  pub sink_name : ℕ
+  pub map : Map
+  pub desk : F → Desk
+  pub store_faults : ℕ
+  pub written : Option (List ℕ)
+  pub sink_faults : ℕ
+  pub shortages : ℕ
+  pub session : Session
+
+-- the moment of this session, which is lent this
+abbrev pub seen : {K F : Type 0} → sink.Ghosts K → store.Ghosts F → Lent K F → Session → Moment F
+seen K F lent session = record {
+  map_name = lent.map.ghost_name;
+  store_name = lent.store.ghost_name;
+  sink_name = lent.sink.ghost_name;
+  map = lent.map.now;
+  desk = desk_of F.files F.calls lent.map.now lent.store.now;
+  store_faults = F.faults lent.store.now;
+  written = K.written lent.sink.now;
+  sink_faults = K.faults lent.sink.now;
+  shortages = K.shortages lent.sink.now;
+  session = session;
+}
+
+-- what lies before it
+abbrev pub seat_at : {F : Type 0} → Moment F → Seat F
+seat_at m = seated m.desk m.written
+
+-- ---- what holds of every call
+
+-- no count of faults rose but that which the stop names
+abbrev pub IsCounted : {F : Type 0} → Moment F → Moment F → Option Stop → Type 0
+IsCounted a b (Some stop.WriteFault) = Rose a.sink_faults b.sink_faults
+    × (b.shortages ≡ a.shortages) × (b.store_faults ≡ a.store_faults)
+IsCounted a b (Some stop.Memory) = (b.sink_faults ≡ a.sink_faults)
+    × ((b.shortages ≡ a.shortages) ⊎ Rose a.shortages b.shortages)
+    × (b.store_faults ≡ a.store_faults)
+IsCounted a b (Some stop.StoreFault) = (b.sink_faults ≡ a.sink_faults)
+    × (b.shortages ≡ a.shortages) × Rose a.store_faults b.store_faults
+IsCounted a b how = (b.sink_faults ≡ a.sink_faults) × (b.shortages ≡ a.shortages)
+    × (b.store_faults ≡ a.store_faults)
+
+-- what is lent lies where it lay, more was written or nothing, the map stands for some history
+-- still, and the counts of faults tell of this stop, or of none
+pub record IsDone {F : Type 0} (a b : Moment F) (how : Option Stop) : Type 0 where
+  pub map_name : b.map_name ≡ a.map_name
+  pub store_name : b.store_name ≡ a.store_name
+  pub sink_name : b.sink_name ≡ a.sink_name
+  pub adds : Adds a.written b.written
+  pub stands : KeepsStanding a.map b.map
+  pub counted : IsCounted a b how
+
+-- the stop that a call ended with, if one
+abbrev pub stop_in : {T : Type 0} → Result T Stop → Option Stop
+stop_in (Ok done) = None
+stop_in (Err why) = Some why
+
+-- ---- a line
+
+-- the session has room for so many lines more
+pub record HasRoom (session : Session) (lines : ℕ) : Type 0 where
+  pub held : length session.text.items < 4096
+  pub few : session.line_count + lines < 2 ^ 63
+
+-- it then has room for the others of these lines
+abbrev pub KeepsRoom : ℕ → Session → Session → Type 0
+KeepsRoom size s t = (more : ℕ) → HasRoom s (size + more) → HasRoom t more
+
+-- the session goes on, and has room for a line
+pub record IsReady (session : Session) : Type 0 where
+  pub running : session.has_quit ≡ false
+  pub room : HasRoom session 1
+
+-- the session goes on, has room for this line, and this was read of it
+pub record HasParsed (session : Session) (line : Line) (parsed : Parsed) : Type 0 where
+  pub running : session.has_quit ≡ false
+  pub few : session.line_count < 2 ^ 63
+  pub read : command_in parsed
+      ≡ command_on (is_some session.block) (session.line_count + 1) line
+  pub small : IsSmallLine parsed
+
+-- the fault that a call ended with, if one
+abbrev pub fault_in : {T E : Type 0} → Result T E → Option E
+fault_in (Ok done) = None
+fault_in (Err fault) = Some fault
+
+-- a line was done, and its reply is held behind the others, or it failed, and they are as they were
+abbrev pub AnswersTo : {F : Type 0} → Line → Moment F → Moment F → Option StoreFault → Type 0
+AnswersTo line a b None = (b.session.line_count ≡ a.session.line_count + 1)
+    × ((o : Setup) → TakesLine o a.desk b.desk a.session b.session line)
+AnswersTo line a b (Some fault) = (b.session.text.items ≡ a.session.text.items)
+    × ((o : Setup) → FailsLine o a.desk b.desk a.session line fault)
+
+-- a call that answers a line: nothing is written, and the store doesn't fail where nothing may
+-- change
+pub record Answers {F : Type 0} (line : Line) (a b : Moment F) (fault : Option StoreFault) : Type 0
+  where
+    pub done : IsDone a b (option_map stop_of_store fault)
+    pub unwritten : b.written ≡ a.written
+    pub shortages : b.shortages ≡ a.shortages
+    pub unasked : may_change (command_on (is_some a.session.block) (a.session.line_count + 1) line)
+        ≡ false → b.store_faults ≡ a.store_faults
+    pub same : b.session.line ≡ a.session.line
+    pub to : AnswersTo line a b fault
+
+-- ---- a move
+
+-- what a session does with its script: it answers a line; it takes bytes; it answers the last line,
+-- if that lacks its line feed, where the script has ended; and it ends the script there
+pub data Move : Type 0 where
+  Answer : Line → Move
+  Take : List ℕ → Move
+  Rest : Move
+  End : Move
+
+-- what holds of the session alone: it has room for more, or holds nothing
+abbrev pub GoesOn : Move → Session → Session → Type 0
+GoesOn (Answer line) s t = KeepsRoom 1 s t
+GoesOn (Take bytes) s t = KeepsRoom (length bytes) s t
+    × (s.line.has_ended ≡ false → t.line.has_ended ≡ false)
+GoesOn move s t = t.text.items ≡ []
+
+-- wherever the session was, the move was then done
+abbrev pub Goes : {F : Type 0} → Move → Moment F → Moment F → Setup → Type 0
+Goes (Answer line) a b o = HoldsLine o (seat_at a) (seat_at b) a.session b.session line
+Goes (Take bytes) a b o = TakesHeld o (seat_at a) (seat_at b) a.session b.session bytes
+Goes Rest a b o = Reaches o (seat_at a) (seat_at b) a.session b.session (λ p. p)
+Goes End a b o = Reaches o (seat_at a) (seat_at b) a.session b.session closed
+
+-- wherever it was, it was then halted on the move
+abbrev pub Stops : {F : Type 0} → Move → Moment F → Moment F → Setup → Stop → Type 0
+Stops (Answer line) a b o why = HaltsLine o (seat_at a) (seat_at b) a.session line
+    (Rose a.shortages b.shortages) (status_of why)
+Stops (Take bytes) a b o why = HaltsHeld o (seat_at a) (seat_at b) a.session
+    (λ before. ended_lines (before ++ bytes)) (Rose a.shortages b.shortages) (status_of why)
+Stops Rest a b o why = Halts o (seat_at a) (seat_at b) a.session all_lines
+    (Rose a.shortages b.shortages) (status_of why)
+Stops End a b o why = HaltsAtEnd o (seat_at a) (seat_at b) a.session
+    (Rose a.shortages b.shortages) (status_of why)
+
+-- whatever the setup, the move was done, or the session was halted on it
+abbrev pub MovesTo : {F : Type 0} → Move → Moment F → Moment F → Option Stop → Type 0
+MovesTo move a b None = GoesOn move a.session b.session × ((o : Setup) → Goes move a b o)
+MovesTo move a b (Some why) = IsHalt why × ((o : Setup) → Stops move a b o why)
+
+-- a call that makes a move
+pub record Makes {F : Type 0} (move : Move) (a b : Moment F) (how : Option Stop) : Type 0 where
+  pub done : IsDone a b how
+  pub to : MovesTo move a b how
+
+-- the same, of a session that is lent this, and of a result
+abbrev pub Does : {K F T : Type 0} → sink.Ghosts K → store.Ghosts F → Move → Lent K F → Session
+    → Lent K F → Session → Result T Stop → Type 0
+Does K F move d s e t result = Makes move (seen K F d s) (seen K F e t) (stop_in result)
+
+-- what of a piece was taken: so many bytes, or it isn't said
+abbrev pub taken_of : {T : Type 0} → Result ℕ T → List ℕ → List ℕ
+taken_of (Ok n) piece = take n piece
+taken_of (Err why) piece = piece
+
+-- wherever the session stood, the end of the script was answered, or that was cut off
+abbrev pub ClosesTo : Session → Session → Option (List ℕ) → Option (List ℕ) → Type 0
+    → Option SinkFault → Type 0
+ClosesTo s t old new short None = (t.text.items ≡ []) × ((w : Option (List ℕ)) (p : Progress)
+    → IsInStep s p → old ≡ appended w p.text
+    → IsInStep t (closed p) × (new ≡ appended w (closed p).text))
+ClosesTo s t old new short (Some fault) = (w : Option (List ℕ)) (p : Progress) → IsInStep s p
+    → old ≡ appended w p.text → IsCutBy p (closed p) w new short fault
+
+-- a call that closes the script
+pub record Closes {K T : Type 0} (ghosts : sink.Ghosts K) (s : Session) (old : K) (t : Session)
+    (new : K) (result : Result T SinkFault) : Type 0 where
+  pub to : ClosesTo s t (ghosts.written old) (ghosts.written new)
+      (Rose (ghosts.shortages old) (ghosts.shortages new)) (fault_in result)
+  pub adds : Adds (ghosts.written old) (ghosts.written new)
+  pub counts : IsMakingCounted result (ghosts.faults old) (ghosts.faults new)
+      (ghosts.shortages old) (ghosts.shortages new)
+
+-- ---- a read
+
+-- replies that were held were written, or are held still, or their writing was cut off
+pub record Passes {K T : Type 0} (ghosts : sink.Ghosts K) (old new : K) (held rest : List ℕ)
+    (result : Result T SinkFault) : Type 0 where
+  pub moved : OnOk result (HasMoved (ghosts.written old) (ghosts.written new) held rest)
+  pub cut : OnErr result (IsCutOff (ghosts.written old) (ghosts.written new) held)
+  pub adds : Adds (ghosts.written old) (ghosts.written new)
+  pub counts : IsWriteCounted result (ghosts.faults old) (ghosts.faults new)
+      (ghosts.shortages old) (ghosts.shortages new)
+
+-- a piece of which this many bytes may be taken was taken, with no reply left to be written, or the
+-- session was stopped in it
+abbrev pub PieceTo : {F : Type 0} → List ℕ → ℕ → Moment F → Moment F → Option Stop → Type 0
+PieceTo piece room a b None = IsResting b.session (a.session.line_count + length piece)
+    × (b.session.has_quit ≡ false → length piece ≤ room)
+    × ((o : Setup) → Takes o (seat_at a) (seat_at b) a.session b.session (take room piece))
+PieceTo piece room a b (Some why) = (why ≢ stop.ReadFault)
+    × ((o : Setup) → StopsIn o (seat_at a) (seat_at b) a.session b.session piece room
+    (Rose a.shortages b.shortages) why)
+
+pub record TakesPiece {F : Type 0} (piece : List ℕ) (room : ℕ) (a b : Moment F)
+    (how : Option Stop) : Type 0 where
+  pub done : IsDone a b how
+  pub to : PieceTo piece room a b how
+
+-- the session goes on, rests, and so many bytes were taken, within the limit
+pub record IsWaiting (o : Setup) (session : Session) (taken : ℕ) : Type 0 where
+  pub running : session.has_quit ≡ false
+  pub rests : IsResting session taken
+  pub few : taken ≤ o.max_bytes
+
+-- one read: the session goes on, behind the bytes that were read, or it is through, or it has ended
+abbrev pub TurnsTo : {F : Type 0} → Setup → Option (List ℕ) → Option (List ℕ) → ℕ → Moment F
+    → Moment F → Result ℕ Stop → Type 0
+TurnsTo o left after taken a b (Ok n) = IsResting b.session (taken + n)
+    × (b.session.has_quit ≡ false
+    → Serves o left after (seat_at a) (seat_at b) a.session b.session taken (taken + n))
+    × (b.session.has_quit ≡ true
+    → Finishes o left after (seat_at a) (seat_at b) a.session b.session taken)
+TurnsTo o left after taken a b (Err why) =
+    Ends o left after (seat_at a) (seat_at b) a.session taken (Rose a.shortages b.shortages)
+    (status_of why)
+
+pub record Turns {F : Type 0} (o : Setup) (left after : Option (List ℕ)) (taken : ℕ)
+    (a b : Moment F) (result : Result ℕ Stop) : Type 0 where
+  pub done : IsDone a b (stop_in result)
+  pub to : TurnsTo o left after taken a b result
+
+-- a whole script: the session is through, or has ended
+abbrev pub ReadsTo : {F : Type 0} → Setup → Option (List ℕ) → Option (List ℕ) → Moment F
+    → Moment F → Option Stop → Type 0
+ReadsTo o left after a b None = Finishes o left after (seat_at a) (seat_at b) a.session b.session 0
+ReadsTo o left after a b (Some why) =
+    Ends o left after (seat_at a) (seat_at b) a.session 0 (Rose a.shortages b.shortages)
+    (status_of why)
+
+pub record Reads {F : Type 0} (o : Setup) (left after : Option (List ℕ)) (a b : Moment F)
+    (how : Option Stop) : Type 0 where
+  pub done : IsDone a b how
+  pub to : ReadsTo o left after a b how

@@ -1,0 +1,11 @@
+//! What a session is lent.
+use oct_io::{Sink, Store};
+use oct_map::OccMap;
+
+/// What a session is lent: its map, its store and its sink.
+#[derive(Drop)]
+pub struct Lent<'a, K: Sink, F: Store> {
+    pub map: &'a mut OccMap,
+    pub store: &'a mut F,
+    pub sink: &'a mut K,
+}
