@@ -1,7 +1,7 @@
 -- What a line does, and where desk and session then stand.
 use Rattle.std.proofs.Common.{◌≡◌, ℕ, ◌+◌, ◌≤◌, List, [], ◌∷◌, ◌++◌, ◌||◌, Bool, true, false, cond}
 use Rattle.std.proofs.Common.{is_some, IsSome, IsErr, Some, None, refl, Option, Result, Ok, Err}
-use Rattle.std.proofs.Common.{IfErr, OnErr, IsErrAnd, inl, inr, sym, ap, subst, ◌∙◌, arith}
+use Rattle.std.proofs.Common.{IfErr, IsErrAnd, inl, inr, sym, ap, subst, ◌∙◌, arith}
 use Rattle.oct_io.specs.Files.{Files}
 use Rattle.oct_io.specs.declared.store.StoreFault.{StoreFault}
 use Rattle.oct_io.specs.declared.store.StoreFault.TheVariants as store_fault
@@ -74,11 +74,6 @@ pub is_failed : {A E : Type 0} (r : Result A E) (a : Option Reply) → IsErr r
     → IsErr (with_reply r a)
 is_failed (Ok x) a err = cc
 is_failed (Err x) a err = err
-
-pub on_failed : {A E : Type 0} (r : Result A E) (a : Option Reply) (P : Type 0) → OnErr r P
-    → OnErr (with_reply r a) P
-on_failed (Ok x) a P on = on
-on_failed (Err x) a P on = on
 
 -- files among which nothing was saved
 pub same_files : (told files : Option Files) (saving : Option Saving) → told ≡ files → saving ≡ None

@@ -38,8 +38,8 @@ use Rattle.oct_script.specs.declared.command.Edit.{Edit}
 use Rattle.oct_script.specs.declared.reply.Reply.{Reply}
 use Rattle.oct_script.specs.declared.reply.Reply.TheVariants as reply_of
 use Rattle.oct_script.specs.Replies.{is_refusal}
-use Rattle.oct_session.specs.Commands.{order_answer, order_reply, order_action, question_reply}
-use Rattle.oct_session.specs.Commands.{question_action, accepted, edit_reply, value_reply}
+use Rattle.oct_session.specs.Commands.{order_answer, order_reply, order_action}
+use Rattle.oct_session.specs.Commands.{accepted, edit_reply, value_reply}
 use Rattle.oct_session.specs.Commands.{get_reply, cast_reply, list_reply, changes_reply}
 use Rattle.oct_session.specs.declared.kinds.Order.{Order}
 use Rattle.oct_session.specs.declared.kinds.Order.TheVariants as order
@@ -51,6 +51,7 @@ use Rattle.oct_session.specs.Leaving.{StandsFor}
 use Rattle.oct_session.specs.ScanBlock.{is_zero, scan_reply, block_reply, block_action}
 use Rattle.oct_session.specs.ScanSoFar.{ScanSoFar, sighting_so_far}
 use Rattle.oct_session.specs.Standing.{HasAnswered, HasCarriedOut, HasObeyed, HasTold, HasScanned}
+use Rattle.oct_session.specs.Standing.{Tells}
 use Rattle.oct_session.specs.declared.scan_block.ScanBlock.TheVariants.{Scanning}
 use Rattle.oct_session.proofs.Answering.{same_edit, same_get, same_cast, same_scan, same_box}
 use Rattle.oct_session.proofs.Answering.{same_list, same_changed}
@@ -63,10 +64,6 @@ use Rattle.oct_session.proofs.MapHistory.{stands_pruned, stands_boxed, stands_li
 accepted_none : (r : Option Reply) (actions : History) → actions ≡ [] → accepted r actions ≡ []
 accepted_none r actions none =
     elim (is_refusal r) as (λ b. cond b [] actions ≡ []) [ true ↦ refl | false ↦ none ]
-
--- a question was answered
-abbrev Tells : Map → Map → Question → Option Reply → Type 0
-Tells m n q r = HasAnswered (λ s. question_reply s q) (λ s. question_action q) m n r
 
 -- a scan whose points were all read was
 abbrev Scans : Map → Map → ScanSoFar → Option Reply → Type 0
@@ -87,6 +84,10 @@ carried_as r m n o read is done = subst (λ x. HasCarriedOut m n x r) (sym is) d
 pub told_as : {E : Type 0} (r : Result (Option Reply) E) (m n : Map) (q read : Question) → q ≡ read
     → HasTold m n read r → HasTold m n q r
 told_as r m n q read is told = subst (λ x. HasTold m n x r) (sym is) told
+
+pub tells_as : (a : Option Reply) (m n : Map) (q read : Question) → q ≡ read → Tells m n read a
+    → Tells m n q a
+tells_as a m n q read is told = subst (λ x. Tells m n x a) (sym is) told
 
 -- a reply to a refusal of the map is a refusal
 pub refuses : (f : MapFault) (r : Option Reply) → IsSome r → r ≡ fault_reply f → is_refusal r ≡ true
@@ -223,19 +224,22 @@ get_calm : (stale : Bool) (values : Values) (depth : ℕ) (key : Option Voxel)
 get_calm stale values depth None is = cc
 get_calm stale values depth (Some k) is = block_calm stale values depth k is
 
--- a query that the map refused
-pub query_refused : {E : Type 0} (r : Result (Option Reply) E) (m : Map) (p : Point) (depth : ℕ)
-    (f : MapFault) → IfOk r (λ a. a ≡ fault_reply f) → OnErr r (f ≡ fault.Memory) →
-    ◌≡◌ {A = Result Value MapFault} (Err f)
+pub query_calm : (m : Map) (p : Point) (depth : ℕ) (f : MapFault)
+    → ◌≡◌ {A = Result Value MapFault} (Err f)
     (get_answer (ground_of m) m.is_stale (values_of m) p depth)
-    → HasTold m m (question.Get p depth) r
-query_refused (Ok a) m p depth f is memory answer = λ q at. (
+    → f ≡ fault.Memory → ⊥
+query_calm m p depth f answer memory =
+    get_calm m.is_stale (values_of m) depth (key_at m.tree.res p) (sym answer ∙ ap Err memory)
+
+-- a query that the map refused
+pub query_refused : (a : Option Reply) (m : Map) (p : Point) (depth : ℕ) (f : MapFault)
+    → a ≡ fault_reply f → ◌≡◌ {A = Result Value MapFault} (Err f)
+    (get_answer (ground_of m) m.is_stale (values_of m) p depth)
+    → Tells m m (question.Get p depth) a
+query_refused a m p depth f is answer = λ q at. (
   is ∙ ap (get_reply q.base.odds) (answer ∙ same_get m q p depth at),
   stands_kept m q (accepted a []) (accepted_none a [] refl) at,
 )
-query_refused (Err x) m p depth f is memory answer =
-    absurd (get_calm m.is_stale (values_of m) depth (key_at m.tree.res p)
-    (sym answer ∙ ap Err memory))
 
 -- a cast that the map answered
 pub cast_done : (m : Map) (o e : Point) (ignore : Bool) (found : Cast)
@@ -249,25 +253,29 @@ cast_done m o e ignore found answer = λ q at. (
 )
 
 -- a cast doesn't run out of memory
-cast_calm : (key_o key_e : Option Voxel) (found : Cast)
+cast_calm_at : (key_o key_e : Option Voxel) (found : Cast)
     → cast_answer_at key_o key_e found ≡ Err fault.Memory → ⊥
-cast_calm None key_e found is = cc
-cast_calm (Some k) None found is = cc
-cast_calm (Some k) (Some l) found is = cc
+cast_calm_at None key_e found is = cc
+cast_calm_at (Some k) None found is = cc
+cast_calm_at (Some k) (Some l) found is = cc
+
+pub cast_calm : (m : Map) (o e : Point) (ignore : Bool) (f : MapFault)
+    → ◌≡◌ {A = Result Cast MapFault} (Err f) (cast_answer (ground_of m) (values_of m) o e ignore)
+    → f ≡ fault.Memory → ⊥
+cast_calm m o e ignore f answer memory =
+    cast_calm_at (key_at m.tree.res o) (key_at m.tree.res e)
+    (cast_along m.tree.res o e ignore (classes_of m.tree.odds (values_of m)))
+    (sym answer ∙ ap Err memory)
 
 -- a cast that the map refused
-pub cast_refused : {E : Type 0} (r : Result (Option Reply) E) (m : Map) (o e : Point)
-    (ignore : Bool) (f : MapFault) → IfOk r (λ a. a ≡ fault_reply f) → OnErr r (f ≡ fault.Memory) →
+pub cast_refused : (a : Option Reply) (m : Map) (o e : Point) (ignore : Bool) (f : MapFault)
+    → a ≡ fault_reply f →
     ◌≡◌ {A = Result Cast MapFault} (Err f) (cast_answer (ground_of m) (values_of m) o e ignore)
-    → HasTold m m (question.Cast o e ignore) r
-cast_refused (Ok a) m o e ignore f is memory answer = λ q at. (
+    → Tells m m (question.Cast o e ignore) a
+cast_refused a m o e ignore f is answer = λ q at. (
   is ∙ ap cast_reply (answer ∙ same_cast m q o e ignore at),
   stands_kept m q (accepted a []) (accepted_none a [] refl) at,
 )
-cast_refused (Err x) m o e ignore f is memory answer =
-    absurd (cast_calm (key_at m.tree.res o) (key_at m.tree.res e)
-    (cast_along m.tree.res o e ignore (classes_of m.tree.odds (values_of m)))
-    (sym answer ∙ ap Err memory))
 
 -- the counts of the map, which is pruned for them
 pub counts_done : (m n : Map) (counts : Counts) → counts.groups ≡ group_count (values_of m)

@@ -13,5 +13,6 @@ pub mod Ending
 pub mod Leaving
 pub mod Standing
 pub mod Moments
+pub mod MapMemory
 pub mod Building
 pub mod Drill

@@ -97,7 +97,12 @@ abbrev pub HasObeyed : {E : Type 0} → Map → Map → Order → Result (Option
 HasObeyed old new order result =
     HasDone (λ s. order_reply s order) (λ s. order_action order ∷ []) old new result
 
--- a question was answered, or memory ran out
+-- a question was answered
+abbrev pub Tells : Map → Map → Question → Option Reply → Type 0
+Tells old new question answer =
+    HasAnswered (λ s. question_reply s question) (λ s. question_action question) old new answer
+
+-- that, or memory ran out
 abbrev pub HasTold : {E : Type 0} → Map → Map → Question → Result (Option Reply) E → Type 0
 HasTold old new question result =
     HasDone (λ s. question_reply s question) (λ s. question_action question) old new result

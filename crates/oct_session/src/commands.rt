@@ -1,5 +1,5 @@
 //! What commands do to the map, and what they answer.
-ghost use Rattle.std.specs.Prelude.{◌≡◌, OnErr, IfOk, Option, Some, IsSome};
+ghost use Rattle.std.specs.Prelude.{◌≡◌, ◌≢◌, OnErr, IfOk, Option, Some, IsSome, Err};
 ghost use Rattle.oct_odds.specs.Odds.{odds_of};
 ghost use Rattle.oct_odds.specs.Update.{IsSmallEvent};
 ghost use Rattle.oct_map.specs.Map.{Map};
@@ -10,7 +10,9 @@ ghost use Rattle.oct_session.specs.Commands.{map_action, map_reply, value_reply}
 ghost use Rattle.oct_session.specs.Kinds.{kind_of, IsSmallOrder};
 ghost use Rattle.oct_session.specs.Refusals.{refusal_of, fault_reply};
 ghost use Rattle.oct_session.specs.Standing.{with_reply, HasCarriedOut, HasDone, HasObeyed};
-ghost use Rattle.oct_session.specs.Standing.{HasScanned, HasTold};
+ghost use Rattle.oct_session.specs.Standing.{HasScanned, HasTold, Tells};
+ghost use Rattle.oct_session.specs.MapMemory.{OrderTakesMemory, QuestionTakesMemory};
+ghost use Rattle.oct_session.specs.MapMemory.{BlockTakesMemory};
 
 use crate::kinds::{Kind, Order, Question, kind_of};
 use crate::scan_block::{PendingScan, ScanBlock};
@@ -87,11 +89,23 @@ pub fn refuse(fault: MapFault, reply: &mut Option<Reply>) -> Result<(), Memory>
     Ok(())
 }
 
+/// Answers a call that takes no memory and that the map refuses.
+fn turn_down(fault: MapFault, reply: &mut Option<Reply>)
+    requires { fault ≢ MapFault.Memory }
+    ensures { reply.new ≡ fault_reply fault }
+{
+    let Ok(refusal) = refusal_of(fault) else {
+        unreachable!();
+    };
+    *reply = Some(Reply::Refused(refusal));
+}
+
 /// Answers `ok` to what the map has done, or why it refuses.
 #[inline(always)]
 fn say(done: Result<(), MapFault>, reply: &mut Option<Reply>) -> Result<(), Memory>
-    ensures { (old new : Map) (order : Order) → HasCarriedOut old new order done
+    ensures obeyed { (old new : Map) (order : Order) → HasCarriedOut old new order done
         → HasObeyed old new order (with_reply result reply.new) }
+    ensures memory { OnErr result (done ≡ Err MapFault.Memory) }
 {
     match done {
         Ok(()) => {
@@ -105,7 +119,8 @@ fn say(done: Result<(), MapFault>, reply: &mut Option<Reply>) -> Result<(), Memo
 /// Has the map do something, and puts its reply in its place. Without memory nothing was done.
 fn obey(map: &mut OccMap, order: Order, reply: &mut Option<Reply>) -> Result<(), Memory>
     requires { IsSmallOrder order }
-    ensures { HasObeyed map.old map.new order (with_reply result reply.new) }
+    ensures obeyed { HasObeyed map.old map.new order (with_reply result reply.new) }
+    ensures memory { OnErr result (OrderTakesMemory map.old order) }
 {
     match order {
         Order::Edit { p, e, lazy } => {
@@ -149,35 +164,22 @@ fn obey(map: &mut OccMap, order: Order, reply: &mut Option<Reply>) -> Result<(),
 }
 
 /// Asks for the value of the block of that depth around a point, and answers it.
-fn query(map: &OccMap, p: Point, depth: u32, reply: &mut Option<Reply>) -> Result<(), Memory>
-    ensures { HasTold map.now map.now (Question.Get p depth) (with_reply result reply.new) }
+fn query(map: &OccMap, p: Point, depth: u32, reply: &mut Option<Reply>)
+    ensures { Tells map.now map.now (Question.Get p depth) reply.new }
 {
     match map.get(p, depth) {
-        Ok(value) => {
-            *reply = Some(show(&map.tree().odds(), value));
-            Ok(())
-        }
-        Err(fault) => refuse(fault, reply),
+        Ok(value) => *reply = Some(show(&map.tree().odds(), value)),
+        Err(fault) => turn_down(fault, reply),
     }
 }
 
 /// Asks what lies first on the straight way from a point to another one, and answers it.
-fn cast(
-    map: &OccMap,
-    origin: Point,
-    end: Point,
-    ignore_unknown: bool,
-    reply: &mut Option<Reply>,
-) -> Result<(), Memory>
-    ensures { HasTold map.now map.now (Question.Cast origin end ignore_unknown)
-        (with_reply result reply.new) }
+fn cast(map: &OccMap, origin: Point, end: Point, ignore_unknown: bool, reply: &mut Option<Reply>)
+    ensures { Tells map.now map.now (Question.Cast origin end ignore_unknown) reply.new }
 {
     match map.cast(origin, end, ignore_unknown) {
-        Ok(found) => {
-            *reply = Some(Reply::Casted(found));
-            Ok(())
-        }
-        Err(fault) => refuse(fault, reply),
+        Ok(found) => *reply = Some(Reply::Casted(found)),
+        Err(fault) => turn_down(fault, reply),
     }
 }
 
@@ -189,8 +191,9 @@ fn list(
     depth: u32,
     reply: &mut Option<Reply>,
 ) -> Result<(), Memory>
-    ensures { HasTold map.now map.now (Question.List lo hi depth)
+    ensures told { HasTold map.now map.now (Question.List lo hi depth)
         (with_reply result reply.new) }
+    ensures memory { OnErr result (QuestionTakesMemory map.now (Question.List lo hi depth)) }
 {
     match map.list(lo, hi, depth) {
         Ok(blocks) => {
@@ -206,7 +209,8 @@ fn list(
 
 /// Asks what has changed since the mark, and answers it.
 fn changes(map: &OccMap, reply: &mut Option<Reply>) -> Result<(), Memory>
-    ensures { HasTold map.now map.now Question.Changes (with_reply result reply.new) }
+    ensures told { HasTold map.now map.now Question.Changes (with_reply result reply.new) }
+    ensures memory { OnErr result (QuestionTakesMemory map.now Question.Changes) }
 {
     match map.changes() {
         Ok(changes) => {
@@ -218,25 +222,26 @@ fn changes(map: &OccMap, reply: &mut Option<Reply>) -> Result<(), Memory>
 }
 
 /// Counts the groups and nodes that the values need, and answers it.
-fn count(map: &mut OccMap, reply: &mut Option<Reply>) -> Result<(), Memory>
-    ensures { HasTold map.old map.new Question.Counts (with_reply result reply.new) }
+fn count(map: &mut OccMap, reply: &mut Option<Reply>)
+    ensures { Tells map.old map.new Question.Counts reply.new }
 {
     let counts = map.counts();
     *reply = Some(Reply::Counted(counts));
-    Ok(())
 }
 
 /// Asks the map something, and puts its reply in its place. Without memory nothing was done.
 fn ask(map: &mut OccMap, question: Question, reply: &mut Option<Reply>) -> Result<(), Memory>
-    ensures { HasTold map.old map.new question (with_reply result reply.new) }
+    ensures told { HasTold map.old map.new question (with_reply result reply.new) }
+    ensures memory { OnErr result (QuestionTakesMemory map.old question) }
 {
     match question {
+        Question::List { lo, hi, depth } => return list(map, lo, hi, depth, reply),
+        Question::Changes => return changes(map, reply),
         Question::Get { p, depth } => query(map, p, depth, reply),
-        Question::List { lo, hi, depth } => list(map, lo, hi, depth, reply),
         Question::Cast { o, e, ignore } => cast(map, o, e, ignore, reply),
         Question::Counts => count(map, reply),
-        Question::Changes => changes(map, reply),
     }
+    Ok(())
 }
 
 /// Has the map do or answer what a command asks of it outside a block, and puts the reply in its
@@ -259,8 +264,9 @@ pub fn by_map(map: &mut OccMap, command: &Command, reply: &mut Option<Reply>) ->
 
 /// Does a scan whose points have all been read, and answers it.
 fn scan(map: &mut OccMap, pending: PendingScan, reply: &mut Option<Reply>) -> Result<(), Memory>
-    ensures { HasScanned map.old map.new (ScanBlock.Scanning pending)
+    ensures scanned { HasScanned map.old map.new (ScanBlock.Scanning pending)
         (with_reply result reply.new) }
+    ensures memory { OnErr result (BlockTakesMemory map.old (ScanBlock.Scanning pending)) }
 {
     let lazy = pending.is_lazy();
     let Ok(scan) = pending.into_scan() else {
