@@ -83,5 +83,5 @@ for limits in '-1638.375 -4.025' '-3.975 -0.025' '0.025 3.975' '4.025 1638.375';
     boxes=$(awk "BEGIN { print $boxes + ${both#* } }")
 done
 both=$(seconds wide)
-expect 'four boxes against one map, seconds' "$(awk "BEGIN { print $boxes / ${both#* } }")" 1.45
+expect 'four boxes against one map, seconds' "$(awk "BEGIN { print $boxes / ${both#* } }")" 1.35
 exit "$failed"

@@ -22,7 +22,7 @@ whole_way box start end way walk is h =
     subst (λ ks. IsWalkTo box start end way ks) (sym is) (record { is_way = h; same = refl })
 
 -- a voxel that comes before another lies between that and the start
-comes_before : (start end k l : Voxel) → IsSpanned start end k → IsSpanned k end l
+pub comes_before : (start end k l : Voxel) → IsSpanned start end k → IsSpanned k end l
     → IsSpanned start l k
 comes_before start end k l first later = record {
   x = on_axis start.x end.x k.x l.x first.x later.x;

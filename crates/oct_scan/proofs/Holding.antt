@@ -94,19 +94,28 @@ abbrev pub ToCome : ℕ → List Voxel → ℕ → Type 0
 ToCome end ks c = Contains (map morton_of ks) c × (end ≢ c)
 
 -- the bricks, the current one and what is still to come are what there was and the walk
-abbrev pub IsOnWay : ℕ → List Brick → List Voxel → List Brick → Brick → List Voxel → Type 0
+abbrev pub IsOnWay : ℕ → (ℕ → Type 0) → List Voxel → List Brick → Brick → List Voxel → Type 0
 IsOnWay end old walk bs b ks = (c : ℕ)
-    → (IsHeld bs b c ⊎ ToCome end ks c) ↔ (Contains (scanned_codes old) c ⊎ ToCome end walk c)
+    → (IsHeld bs b c ⊎ ToCome end ks c) ↔ (old c ⊎ ToCome end walk c)
 
-pub way_none : (end : ℕ) (old : List Brick) (walk : List Voxel) (b : Brick) → b.scanned ≡ 0
-    → IsOnWay end old walk old b walk
-way_none end old walk b none c = (
-  λ h. elim h [ inl k ↦ inl ((kept_scanned old b none c).1 k) | inr k ↦ inr k ],
+-- the codes of bricks
+abbrev pub codes_in : List Brick → ℕ → Type 0
+codes_in bs c = Contains (scanned_codes bs) c
+
+-- at first there is the current brick, or nothing in it
+pub way_begun : (end : ℕ) (bs : List Brick) (walk : List Voxel) (b : Brick)
+    → IsOnWay end (IsHeld bs b) walk bs b walk
+way_begun end bs walk b c = (λ h. h, λ h. h)
+
+pub way_none : (end : ℕ) (bs : List Brick) (walk : List Voxel) (b : Brick) → b.scanned ≡ 0
+    → IsOnWay end (codes_in bs) walk bs b walk
+way_none end bs walk b none c = (
+  λ h. elim h [ inl k ↦ inl ((kept_scanned bs b none c).1 k) | inr k ↦ inr k ],
   λ h. elim h [ inl k ↦ inl (inl k) | inr k ↦ inr k ],
 )
 
 -- the code of the end is passed over
-pub way_passed : (end : ℕ) (old : List Brick) (walk : List Voxel) (bs : List Brick) (b : Brick)
+pub way_passed : (end : ℕ) (old : ℕ → Type 0) (walk : List Voxel) (bs : List Brick) (b : Brick)
     (ks ks' : List Voxel) (k : Voxel) (code : ℕ) → ks ≡ k ∷ ks' → code ≡ morton_of k → code ≡ end
     → IsOnWay end old walk bs b ks → IsOnWay end old walk bs b ks'
 way_passed end old walk bs b ks ks' k code first is same h c = (
@@ -126,7 +135,7 @@ way_passed end old walk bs b ks ks' k code first is same h c = (
 )
 
 -- another code is marked
-pub way_marked : (end : ℕ) (old : List Brick) (walk : List Voxel) (bs bs' : List Brick)
+pub way_marked : (end : ℕ) (old : ℕ → Type 0) (walk : List Voxel) (bs bs' : List Brick)
     (b b' : Brick) (ks ks' : List Voxel) (k : Voxel) (code : ℕ) → ks ≡ k ∷ ks' → code ≡ morton_of k
     → code ≢ end → ((c : ℕ) → IsHeld bs' b' c ↔ (IsHeld bs b c ⊎ (code ≡ c)))
     → IsOnWay end old walk bs b ks → IsOnWay end old walk bs' b' ks'
@@ -154,10 +163,10 @@ way_marked end old walk bs bs' b b' ks ks' k code first is other marked h c = (
 )
 
 -- at the end of the walk the current brick is added
-pub way_all : (end : ℕ) (old : List Brick) (walk : List Voxel) (bs bs' : List Brick) (b : Brick)
+pub way_all : (end : ℕ) (old : ℕ → Type 0) (walk : List Voxel) (bs bs' : List Brick) (b : Brick)
     (ks : List Voxel) → ks ≡ [] → ((c : ℕ) → Contains (scanned_codes bs') c ↔ IsHeld bs b c)
     → IsOnWay end old walk bs b ks → (c : ℕ)
-    → Contains (scanned_codes bs') c ↔ (Contains (scanned_codes old) c ⊎ ToCome end walk c)
+    → Contains (scanned_codes bs') c ↔ (old c ⊎ ToCome end walk c)
 way_all end old walk bs bs' b ks none pushed h c = (
   λ m. (h c).0 (inl ((pushed c).0 m)),
   λ m. elim ((h c).1 m) [

@@ -24,5 +24,6 @@ pub mod Piling
 pub mod FewBricks
 pub mod Ordered
 pub mod LaterSpans
-pub mod BlockParts
+pub mod CodeBoxes
+pub mod Comings
 pub mod Entries

@@ -1,44 +1,24 @@
 -- One voxel more of a walk of which only what lies in a box is kept.
-use Rattle.std.proofs.Common.{◌≡◌, ◌≢◌, ℕ, ◌⊎◌, ◌↔◌, inl, inr, true, false, Option, Some}
+use Rattle.std.proofs.Common.{◌≡◌, ◌≢◌, ℕ, ◌⊎◌, ◌↔◌, inl, inr, true, Option, Some, None}
 use Rattle.std.proofs.Common.{List, [], ◌∷◌, map, refl, sym, subst, ◌∙◌, ap, arith}
 use Rattle.std.specs.Prelude.{min, max, Result, Ok, Err, OnOk}
 use Rattle.std.specs.List.{Contains}
 use Rattle.std.proofs.lemmas.Bool.{cases_Bool}
-use Rattle.std.proofs.lemmas.List.Elements.{All-contains}
-use Rattle.oct_key.specs.Voxel.{Voxel}
+use Rattle.oct_key.specs.Voxel.{Voxel, IsInMap}
 use Rattle.oct_key.specs.Boxes.{Window, IsBetween, IsInBox, is_in_box}
 use Rattle.oct_key.specs.Morton.{morton_of}
+use Rattle.oct_key.proofs.Interleavings.{morton_injective}
 use Rattle.oct_brick.specs.declared.brick.Brick.{Brick}
 use Rattle.oct_brick.specs.Bricks.{scanned_codes}
-use Rattle.oct_brick.proofs.Lists.{contains_cases, contains_none, pairs_head, pairs_tail}
-use Rattle.oct_scan.specs.Gathered.{GoesTo, IsHeld, IsSpanned, IsWayAdded, kept}
-use Rattle.oct_scan.proofs.Kept.{kept_first, kept_none, kept_without}
-use Rattle.oct_scan.proofs.Holding.{IsOnWay, way_passed, way_marked}
+use Rattle.oct_brick.specs.Masks.{HasCode}
+use Rattle.oct_brick.proofs.Lists.{contains_from_map, contains_none}
+use Rattle.oct_scan.specs.Entry.{HasComeIn, IsWay, StaysOut}
+use Rattle.oct_scan.specs.Gathered.{IsHeld, IsRestAdded, IsSpanned, IsWayAdded, kept}
+use Rattle.oct_scan.proofs.Kept.{kept_all, kept_first, kept_without}
+use Rattle.oct_scan.proofs.Holding.{IsOnWay, codes_in, way_none, way_passed, way_marked}
 
--- what is left of a walk, with a voxel of the box before it, or with one outside
-left_with : (box : Window) (k : Voxel) (ks ks' : List Voxel) → ks ≡ k ∷ ks'
-    → is_in_box box.lo box.hi k ≡ true → kept (Some box) ks ≡ k ∷ kept (Some box) ks'
-left_with box k ks ks' first inside = ap (λ l. kept (Some box) l) first
-    ∙ kept_first box k ks' inside
-
-pub way_outside : (end : ℕ) (old : List Brick) (walk : List Voxel) (bs : List Brick) (b : Brick)
-    (box : Window) (ks ks' : List Voxel) (k : Voxel) → ks ≡ k ∷ ks'
-    → is_in_box box.lo box.hi k ≡ false → IsOnWay end old walk bs b (kept (Some box) ks)
-    → IsOnWay end old walk bs b (kept (Some box) ks')
-way_outside end old walk bs b box ks ks' k first outside h =
-    subst (λ l. IsOnWay end old walk bs b l)
-    (ap (λ l. kept (Some box) l) first ∙ kept_without box k ks' outside) h
-
-pub way_ended : (end : ℕ) (old : List Brick) (walk : List Voxel) (bs : List Brick) (b : Brick)
-    (box : Window) (ks ks' : List Voxel) (k : Voxel) (code : ℕ) → ks ≡ k ∷ ks'
-    → is_in_box box.lo box.hi k ≡ true → code ≡ morton_of k → code ≡ end
-    → IsOnWay end old walk bs b (kept (Some box) ks)
-    → IsOnWay end old walk bs b (kept (Some box) ks')
-way_ended end old walk bs b box ks ks' k code first inside coded same h =
-    way_passed end old walk bs b (kept (Some box) ks) (kept (Some box) ks') k code
-    (left_with box k ks ks' first inside) coded same h
-
-pub way_added : (end : ℕ) (old : List Brick) (walk : List Voxel) (bs bs' : List Brick)
+-- one voxel more of the box
+pub way_added : (end : ℕ) (old : ℕ → Type 0) (walk : List Voxel) (bs bs' : List Brick)
     (b b' : Brick) (box : Window) (ks ks' : List Voxel) (k : Voxel) (code : ℕ) → ks ≡ k ∷ ks'
     → is_in_box box.lo box.hi k ≡ true → code ≡ morton_of k → code ≢ end
     → ((c : ℕ) → IsHeld bs' b' c ↔ (IsHeld bs b c ⊎ (code ≡ c)))
@@ -46,7 +26,27 @@ pub way_added : (end : ℕ) (old : List Brick) (walk : List Voxel) (bs bs' : Lis
     → IsOnWay end old walk bs' b' (kept (Some box) ks')
 way_added end old walk bs bs' b b' box ks ks' k code first inside coded other marked h =
     way_marked end old walk bs bs' b b' (kept (Some box) ks) (kept (Some box) ks') k code
-    (left_with box k ks ks' first inside) coded other marked h
+    (ap (λ l. kept (Some box) l) first ∙ kept_first box k ks' inside) coded other marked h
+
+-- the last voxel of a walk adds none
+pub way_last : (end : Voxel) (old : ℕ → Type 0) (walk : List Voxel) (bs : List Brick) (b : Brick)
+    (box : Window) (ks : List Voxel) → ks ≡ end ∷ []
+    → IsOnWay (morton_of end) old walk bs b (kept (Some box) ks)
+    → IsOnWay (morton_of end) old walk bs b []
+way_last end old walk bs b box ks one h = elim (cases_Bool (is_in_box box.lo box.hi end)) [
+  | inl inside ↦
+      way_passed (morton_of end) old walk bs b (kept (Some box) ks) [] end (morton_of end)
+      (ap (λ l. kept (Some box) l) one ∙ kept_first box end [] inside) refl refl h
+  | inr outside ↦
+      subst (λ l. IsOnWay (morton_of end) old walk bs b l)
+      (ap (λ l. kept (Some box) l) one ∙ kept_without box end [] outside) h
+]
+
+-- where nothing of the rest lies in the box, nothing is left
+pub way_out : (end : ℕ) (old : ℕ → Type 0) (walk : List Voxel) (bs : List Brick) (b : Brick)
+    (box : Window) (ks : List Voxel) → kept (Some box) ks ≡ []
+    → IsOnWay end old walk bs b (kept (Some box) ks) → IsOnWay end old walk bs b []
+way_out end old walk bs b box ks none h = subst (λ l. IsOnWay end old walk bs b l) none h
 
 -- what lies in the box that two voxels of a box span lies in that box
 pub spanned_inside : (box : Window) (a b k : Voxel) → IsInBox box.lo box.hi a
@@ -97,41 +97,85 @@ none_added old ks end none c = (
   ],
 )
 
--- what is left of a walk goes on to its end
-pub goes_on : (end k : Voxel) (ks ks' : List Voxel) → ks ≡ k ∷ ks' → GoesTo end ks → GoesTo end ks'
-goes_on end k ks ks' first h =
-    pairs_tail (λ k l. IsSpanned k end l) k ks' (subst (GoesTo end) first h)
+-- the voxels of the end alone add nothing
+pub outside_added : (box : Window) (old : List Brick) (end : Voxel) (ks : List Voxel)
+    → StaysOut box end ks → AreAdded old old (kept (Some box) ks) (morton_of end)
+outside_added box old end ks out c = (
+  λ h. inl h,
+  λ h. elim h [
+    | inl k ↦ k
+    | inr k ↦ (let (l, there, is) = contains_from_map morton_of (kept (Some box) ks) c k.0 in
+        absurd (k.1 (ap morton_of (sym (out l there)) ∙ is)))
+  ],
+)
 
--- where nothing is left but the end, its code is passed over
-pub way_last : (end : Voxel) (old : List Brick) (walk : List Voxel) (bs : List Brick) (b : Brick)
-    (box : Window) (ks : List Voxel) → ks ≡ end ∷ []
-    → IsOnWay (morton_of end) old walk bs b (kept (Some box) ks)
-    → IsOnWay (morton_of end) old walk bs b []
-way_last end old walk bs b box ks one h = elim (cases_Bool (is_in_box box.lo box.hi end)) [
-  | inl inside ↦
-      way_ended (morton_of end) old walk bs b box ks [] end (morton_of end) one inside refl refl h
-  | inr outside ↦ way_outside (morton_of end) old walk bs b box ks [] end one outside h
-]
+-- what follows from an answer's clause holds of the answer
+pub ok_so : {X E Q R : Type 0} (r : Result X E) → (Q → R) → OnOk r Q → OnOk r R
+ok_so (Ok x) f h = f h
+ok_so (Err e) f h = h
 
--- where what is left lies beyond the box, nothing of it is kept
-pub way_beyond : (end : Voxel) (old : List Brick) (walk : List Voxel) (bs : List Brick) (b : Brick)
-    (box : Window) (ks ks' : List Voxel) (k : Voxel) → ks ≡ k ∷ ks' → GoesTo end ks
-    → ((l : Voxel) → IsSpanned k end l → IsInBox box.lo box.hi l → ⊥)
-    → IsOnWay (morton_of end) old walk bs b (kept (Some box) ks)
-    → IsOnWay (morton_of end) old walk bs b []
-way_beyond end old walk bs b box ks ks' k first onward beyond h =
-    let later = pairs_head (λ k l. IsSpanned k end l) k ks' (subst (GoesTo end) first onward) in
-    let none : kept (Some box) (k ∷ ks') ≡ [] =
-    kept_none box (k ∷ ks') (λ l there. beyond l (elim (contains_cases k l ks' there) [
-      | inl e ↦ subst (IsSpanned k end) e (spans_first k end)
-      | inr m ↦ All-contains (λ l. IsSpanned k end l) ks' l later m
-    ])) in
-    subst (λ l. IsOnWay (morton_of end) old walk bs b l)
-    (ap (λ l. kept (Some box) l) first ∙ none) h
-  where
-    spans_first : (k end : Voxel) → IsSpanned k end k
-    spans_first k end = record {
-      x = (omega arith, omega arith);
-      y = (omega arith, omega arith);
-      z = (omega arith, omega arith);
+-- what is added after a brick with nothing in it is added in all
+pub begun_so : (window : Option Window) (e end : ℕ) (walk walk' : List Voxel) (b : Brick)
+    (old new : List Brick) → e ≡ end → b.scanned ≡ 0 → walk' ≡ walk
+    → IsRestAdded window e walk' b old new → IsWayAdded window end walk old new
+begun_so window e end walk walk' b old new is none same h =
+    let all : AreAdded old new (kept window walk') e = λ c. (
+      λ m. (way_none e old (kept window walk') b none c).0 ((h.scanned c).0 m),
+      λ m. (h.scanned c).1 ((way_none e old (kept window walk') b none c).1 m),
+    ) in
+    record {
+      scanned = subst (λ e. AreAdded old new (kept window walk) e) is
+          (subst (λ l. AreAdded old new (kept window l) e) same all);
+      hits = h.hits;
+      bricks = h.bricks;
+    }
+
+-- what is added of a walk that lies in a box with the rest of it is added in the box
+pub rest_so : (box : Window) (first end : Voxel) (walk : List Voxel) (b : Brick)
+    (old new : List Brick) → IsInBox box.lo box.hi first → IsInBox box.lo box.hi end
+    → IsWay first end walk → IsRestAdded None (morton_of end) walk b old new
+    → IsRestAdded (Some box) (morton_of end) walk b old new
+rest_so box first end walk b old new in_first in_end way h =
+    let same : kept (Some box) walk ≡ walk = kept_all box walk
+    (λ k there. spanned_inside box first end k in_first in_end (way.between k there)) in
+    record {
+      scanned = subst (λ l. (c : ℕ) → Contains (scanned_codes new) c
+          ↔ (IsHeld old b c ⊎ (Contains (map morton_of l) c × (morton_of end ≢ c)))) (sym same)
+          h.scanned;
+      hits = h.hits;
+      bricks = h.bricks;
+    }
+
+-- what is added after the first voxel in a box, and that one, is added in all
+pub entered_so : (box : Window) (end : Voxel) (walk rest : List Voxel) (code : ℕ) (around b : Brick)
+    (old new : List Brick) → IsInMap end → HasComeIn box end walk code rest → around.scanned ≡ 0
+    → ((c : ℕ) → HasCode b.code b.scanned c
+    ↔ (HasCode around.code around.scanned c ⊎ (code ≡ c)))
+    → IsRestAdded (Some box) (morton_of end) rest b old new
+    → IsWayAdded (Some box) (morton_of end) walk old new
+entered_so box end walk rest code around b old new on_map come none marked h =
+    let e : ℕ = morton_of end in
+    let held : (c : ℕ) → IsHeld old b c ↔ (IsHeld old around c ⊎ (code ≡ c)) = λ c. (
+      λ m. elim m [
+        | inl k ↦ inl (inl k)
+        | inr k ↦ elim ((marked c).0 k) [ inl n ↦ inl (inr n) | inr n ↦ inr n ]
+      ],
+      λ m. elim m [
+        | inl k ↦ elim k [ inl n ↦ inl n | inr n ↦ inr ((marked c).1 (inl n)) ]
+        | inr k ↦ inr ((marked c).1 (inr k))
+      ],
+    ) in
+    let other : code ≢ e = λ same. come.other
+    (morton_injective come.first end come.on_map on_map (sym come.coded ∙ same)) in
+    let way : IsOnWay e (codes_in old) (kept (Some box) walk) old b (kept (Some box) rest) =
+    way_marked e (codes_in old) (kept (Some box) walk) old old around b (kept (Some box) walk)
+    (kept (Some box) rest) come.first code come.same come.coded other held
+    (way_none e old (kept (Some box) walk) around none) in
+    record {
+      scanned = λ c. (
+        λ m. (way c).0 ((h.scanned c).0 m),
+        λ m. (h.scanned c).1 ((way c).1 m),
+      );
+      hits = h.hits;
+      bricks = h.bricks;
     }

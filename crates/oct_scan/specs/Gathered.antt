@@ -132,3 +132,13 @@ IsHeld bricks current code =
 pub record IsCurrent (b : Brick) : Type 0 where
   pub code : b.code < 2 ^ 42
   pub unhit : b.hits ≡ 0
+
+-- those of the current brick and the voxels of the walk in the box, but that of the end, were added
+-- to the bricks, and none of them as hit
+pub record IsRestAdded (window : Option Window) (end : ℕ) (walk : List Voxel) (current : Brick)
+    (old new : List Brick) : Type 0 where
+  pub scanned : (code : ℕ) → Contains (scanned_codes new) code ↔
+      (IsHeld old current code
+      ⊎ (Contains (map morton_of (kept window walk)) code × (end ≢ code)))
+  pub hits : (code : ℕ) → Contains (hit_codes new) code ↔ Contains (hit_codes old) code
+  pub bricks : All IsBrick new

@@ -1,7 +1,7 @@
 //! Beams walked into bricks, whole or as far as they lie in a box.
 ghost use Rattle.std.specs.Prelude.{◌≡◌, ℕ, ◌/◌, ◌^◌, ◌<◌, ◌↔◌, ◌⊎◌, []};
 ghost use Rattle.std.specs.Prelude.{◌∷◌, length, map, if◌then◌else◌, All, Contains, IfOk};
-ghost use Rattle.std.specs.Prelude.{OnOk, OnErr, IsSome, IsTrue, Option, Some};
+ghost use Rattle.std.specs.Prelude.{OnOk, OnErr, IfSome, IsNone, IsSome, Option, Some};
 ghost use Rattle.oct_key.specs.Boxes.{IsInBox};
 ghost use Rattle.oct_key.specs.Voxel.{Voxel, IsInMap, key_at};
 ghost use Rattle.oct_key.specs.Morton.{morton_of};
@@ -9,14 +9,14 @@ ghost use Rattle.oct_brick.specs.Bricks.{scanned_codes, hit_codes, IsBrick};
 ghost use Rattle.oct_scan.specs.Order.{AreKeys};
 ghost use Rattle.oct_scan.specs.Gathered.{HoldAllGathered, IsBeamHeld, IsHeld, IsCurrent};
 ghost use Rattle.oct_ray.specs.Met.{met_by};
-ghost use Rattle.oct_scan.specs.Entry.{IsWay};
-ghost use Rattle.oct_scan.specs.Gathered.{is_mute, EndsAt, GoesTo, IsSpanned, IsWayAdded};
+ghost use Rattle.oct_scan.specs.Entry.{HasComeIn, IsWay, StaysOut};
+ghost use Rattle.oct_scan.specs.Gathered.{is_mute, EndsAt, GoesTo, IsRestAdded, IsWayAdded};
 ghost use Rattle.oct_scan.specs.Piled.{AreFew};
 
 use crate::beam::Beam;
+use crate::code_box::CodeBox;
 use crate::entry::{is_passed_by, walk_to_box};
 use crate::order::{LEAST_KEYED, MOST_KEYED, sorted_keys};
-use crate::part::BlockPart;
 use crate::pile::BrickPile;
 use oct_brick::Brick;
 use oct_key::{Key, Point, Res, Window, from_morton, morton};
@@ -188,17 +188,6 @@ fn push_part(
     }
 }
 
-/// Whether a walk comes from one block to the next one at the voxel of a code, and from there to
-/// the end lies beyond a box.
-#[inline(always)]
-fn is_beyond(window: &Window, part: BlockPart, next: BlockPart, code: u64, end: Key) -> bool
-    requires { code < 2 ^ 48 }
-    ensures { IsTrue result → (k : Voxel) → IsInMap k → code ≡ morton_of k
-        → (l : Voxel) → IsSpanned k end l → IsInBox window.now.lo window.now.hi l → ⊥ }
-{
-    next.is_apart && next.code != part.code && is_passed_by(window, from_morton(code), end)
-}
-
 /// Adds the voxels of a walk that lie in a box, but not that of the end.
 fn push_inside(bricks: &mut BrickPile, walk: Walk, end: Key, window: &Window) -> Result<(), Memory>
     requires ends { EndsAt end walk }
@@ -213,7 +202,8 @@ fn push_inside(bricks: &mut BrickPile, walk: Walk, end: Key, window: &Window) ->
     }
 }
 
-/// The same for a walk of either kind. Once what is left of it lies beyond the box, it is left out.
+/// The same for a walk of either kind. Once it has come in, it stays in the box up to an end that
+/// lies there, and else up to where it leaves it, since a box is convex.
 #[inline(never)]
 fn push_within<W: BeamWalk>(
     bricks: &mut BrickPile,
@@ -228,17 +218,67 @@ fn push_within<W: BeamWalk>(
         (IsWayAdded (Some window.now) (morton_of end) (W.to_come walk) bricks.old bricks.new) }
 {
     let mut walk = walk;
-    let mut brick = Brick::around(morton(end));
-    let mut part = BlockPart::of(window, morton(end));
+    let Some(first) = come_in(&mut walk, end, window) else {
+        return Ok(());
+    };
+    let brick = Brick::around(first).with_scanned(first);
+    if window.holds(end) {
+        push_steps(bricks, walk, brick)
+    } else {
+        push_to_exit(bricks, walk, brick, window)
+    }
+}
+
+/// Takes a walk to its first voxel in a box, and answers the code of that; or `None` where no voxel
+/// but that of the end can lie there.
+#[inline(always)]
+fn come_in<W: BeamWalk>(walk: &mut W, end: Key, window: &Window) -> Option<u64>
+    requires ends { EndsAt end (W.to_come walk.old) }
+    requires onward { GoesTo end (W.to_come walk.old) }
+    ensures first { IfSome result (λ code.
+        HasComeIn window.now end (W.to_come walk.old) code (W.to_come walk.new)) }
+    ensures below { IfSome result (λ code. code < 2 ^ 48) }
+    ensures none { IsNone result → StaysOut window.now end (W.to_come walk.old) }
+{
+    let corners = CodeBox::of(window);
+    let mut block = morton(end) >> 9;
     while let Some(code) = walk.next_but_last() {
-        let next = part.around(window, code);
-        if is_beyond(window, part, next, code, end) {
+        if corners.holds(code) {
+            return Some(code);
+        }
+        if code >> 9 != block {
+            block = code >> 9;
+            if is_passed_by(window, from_morton(code), end) {
+                return None;
+            }
+        }
+    }
+    None
+}
+
+/// Adds the current brick and the voxels of a walk that has come into a box, up to where it leaves
+/// it.
+#[inline(always)]
+fn push_to_exit<W: BeamWalk>(
+    bricks: &mut BrickPile,
+    walk: W,
+    brick: Brick,
+    window: &Window,
+) -> Result<(), Memory>
+    requires bricks { All IsBrick bricks.old }
+    requires current { IsCurrent brick }
+    ensures { OnOk result ((first end : Voxel) → IsInBox window.now.lo window.now.hi first
+        → IsInMap end → IsWay first end (W.to_come walk) → IsRestAdded (Some window.now)
+        (morton_of end) (W.to_come walk) brick bricks.old bricks.new) }
+{
+    let corners = CodeBox::of(window);
+    let mut walk = walk;
+    let mut brick = brick;
+    while let Some(code) = walk.next_but_last() {
+        if !corners.holds(code) {
             break;
         }
-        part = next;
-        if part.holds(window, code) {
-            brick = push_code(bricks, brick, code)?;
-        }
+        brick = push_code(bricks, brick, code)?;
     }
     push_some(bricks, brick)?;
     Ok(())
@@ -252,22 +292,23 @@ fn push_way(bricks: &mut BrickPile, walk: Walk, end: u64) -> Result<(), Memory>
     ensures { OnOk result (IsWayAdded None end walk bricks.old bricks.new) }
 {
     match walk.near(end) {
-        Ok(near) => push_steps(bricks, near, end),
-        Err(walk) => push_steps(bricks, walk, end),
+        Ok(near) => push_steps(bricks, near, Brick::around(end)),
+        Err(walk) => push_steps(bricks, walk, Brick::around(end)),
     }
 }
 
-/// Adds the voxels of a walk of either kind but that of the end.
-// Each kind has a function to itself, in which more of its numbers stand in registers.
+/// Adds the current brick and the voxels of a walk of either kind but that of the end.
+// Each kind has a function to itself, in which more of its numbers stand in registers, and the 0 of
+// the hits in none.
 #[inline(never)]
-fn push_steps<W: BeamWalk>(bricks: &mut BrickPile, walk: W, end: u64) -> Result<(), Memory>
-    requires ends { (k : Voxel) × IsInMap k × (morton_of k ≡ end) × EndsAt k (W.to_come walk) }
-    requires end { end < 2 ^ 48 }
+fn push_steps<W: BeamWalk>(bricks: &mut BrickPile, walk: W, brick: Brick) -> Result<(), Memory>
     requires bricks { All IsBrick bricks.old }
-    ensures { OnOk result (IsWayAdded None end (W.to_come walk) bricks.old bricks.new) }
+    requires current { IsCurrent brick }
+    ensures { OnOk result ((end : Voxel) → IsInMap end → EndsAt end (W.to_come walk)
+        → IsRestAdded None (morton_of end) (W.to_come walk) brick bricks.old bricks.new) }
 {
     let mut walk = walk;
-    let mut brick = Brick::around(end);
+    let mut brick = Brick { hits: 0, ..brick };
     while let Some(code) = walk.next_but_last() {
         brick = push_code(bricks, brick, code)?;
     }

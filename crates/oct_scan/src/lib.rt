@@ -35,13 +35,13 @@
 //! exceeds the limit. Then each beam is walked; from 4,096 to 2^19 beams go in the order of the
 //! bricks where they end, so that those that pass the same bricks mostly follow one another. One
 //! that doesn't lie in the box with both ends begins where it comes to the box, by a division for
-//! each axis, has the blocks of 8 voxels a side tested on its way, and is left where the rest of it
-//! lies beyond. Its voxels go into the brick where the beam is, which is added to a pile when the
-//! beam leaves it. The pile remembers in a table where bricks stand. It merges them where those
-//! that the table forgot become many, so that there are never more than twice as many as codes, and
-//! 2^18 (`AreFew`): memory follows the bricks that the beams touch, however often they do. The
-//! bricks are sorted by their codes, and those of one code joined; each adds to the need the blocks
-//! that don't hold the one before it, and its own octets.
+//! each axis, and is walked up to its end from its first voxel there, or up to where it leaves it.
+//! Its voxels go into the brick where the beam is, which is added to a pile when the beam leaves
+//! it. The pile remembers in a table where bricks stand. It merges them where those that the table
+//! forgot become many, so that there are never more than twice as many as codes, and 2^18
+//! (`AreFew`): memory follows the bricks that the beams touch, however often they do. The bricks
+//! are sorted by their codes, and those of one code joined; each adds to the need the blocks that
+//! don't hold the one before it, and its own octets.
 //!
 //! Both calls allocate, and touch nothing but their arguments.
 
@@ -50,13 +50,13 @@
 mod beam;
 mod bricks;
 mod cells;
+mod code_box;
 mod entry;
 mod fault;
 mod judge;
 mod laws;
 mod need;
 mod order;
-mod part;
 mod pile;
 mod scan;
 mod update;

@@ -2,23 +2,19 @@ use Rattle.std.proofs.Common.{◌≡◌, ◌∙◌, List, [], ◌∷◌, refl, s
 use Rattle.oct_key.specs.Voxel.{Voxel}
 use Rattle.oct_key.specs.Morton.{morton_of}
 use Rattle.oct_key.proofs.Interleavings.{morton_injective}
-use Rattle.oct_scan.specs.Gathered.{EndsAt}
+use Rattle.oct_scan.specs.Gathered.{EndsAt, IsHeld}
 use Rattle.oct_scan.proofs.Ends.{end_later, end_left}
-use Rattle.oct_scan.proofs.Holding.{way_none, way_passed, way_marked, way_all, around_below}
+use Rattle.oct_scan.proofs.Holding.{way_begun, way_passed, way_marked, way_all}
 use Rattle.oct_scan.proofs.cells.push_steps.Goals as goal
 
 pub loop-code-init : goal.loop-code-init
 loop-code-init g c = record {
   ends = λ k e. e;
   bricks = c.requires.bricks;
-  current = record {
-    code = around_below c.around-brick.result.code c.args.end
-        c.around-brick.ensures.code c.requires.end;
-    unhit = c.around-brick.ensures.hits;
-  };
+  current = record { code = c.requires.current.code; unhit = refl };
   hits = λ k. (λ h. h, λ h. h);
-  scanned = way_none c.args.end c.args.bricks.now (g.W.BeamWalk.to_come c.args.walk)
-      c.around-brick.result c.around-brick.ensures.scanned;
+  scanned = λ end on_map ends. way_begun (morton_of end) c.args.bricks.now
+      (g.W.BeamWalk.to_come c.args.walk) c.args.brick;
 }
 
 pub loop-code-preserved : goal.loop-code-preserved
@@ -35,32 +31,32 @@ loop-code-preserved g c =
         λ h. (c.loop-code.invariant.hits k).0 ((c.in_ok-brick.ensures.hits k).0 h),
         λ h. (c.in_ok-brick.ensures.hits k).1 ((c.loop-code.invariant.hits k).1 h),
       );
-      scanned =
-          let (end, on_map, coded, ends) = c.requires.ends in
-          let other = (end_later end given.voxel rest c.in-Some.ensures.more
+      scanned = λ end on_map ends.
+          (let other = (end_later end given.voxel rest c.in-Some.ensures.more
           (subst (EndsAt end) given.first (c.loop-code.invariant.ends end ends))).0 in
-          way_marked c.args.end c.args.bricks.now (to_come c.args.walk) c.loop-code.bricks
-          c.push_code.new.bricks c.loop-code.brick c.in_ok-brick.brick (to_come c.loop-code.walk)
-          rest given.voxel c.in-Some.code given.first given.coded
+          way_marked (morton_of end) (IsHeld c.args.bricks.now c.args.brick)
+          (to_come c.args.walk) c.loop-code.bricks c.push_code.new.bricks c.loop-code.brick
+          c.in_ok-brick.brick (to_come c.loop-code.walk) rest given.voxel c.in-Some.code
+          given.first given.coded
           (λ same. other (morton_injective given.voxel end given.on_map on_map
-          (sym given.coded ∙ same ∙ sym coded))) c.in_ok-brick.ensures.scanned
-          c.loop-code.invariant.scanned;
+          (sym given.coded ∙ same)))
+          c.in_ok-brick.ensures.scanned (c.loop-code.invariant.scanned end on_map ends));
     }
 
 pub returns : goal.returns
-returns g c =
+returns g c = λ end on_map ends.
     let to_come = g.W.BeamWalk.to_come in
     let rest : List Voxel = to_come c.loop-code.walk in
-    let (end, on_map, coded, ends) = c.requires.ends in
-    let one : rest ≡ end ∷ [] =
-    end_left end rest c.in_default.ensures.none.1 (c.loop-code.invariant.ends end ends) in
     let i = c.loop-code.invariant in
+    let one : rest ≡ end ∷ [] =
+    end_left end rest c.in_default.ensures.none.1 (i.ends end ends) in
     record {
-      scanned = way_all c.args.end c.args.bricks.now (to_come c.args.walk)
-          c.loop-code.bricks c.push_some.new.bricks c.loop-code.brick [] refl
+      scanned = way_all (morton_of end) (IsHeld c.args.bricks.now c.args.brick)
+          (to_come c.args.walk) c.loop-code.bricks c.push_some.new.bricks c.loop-code.brick [] refl
           c.in_ok-push_some.ensures.scanned
-          (way_passed c.args.end c.args.bricks.now (to_come c.args.walk) c.loop-code.bricks
-          c.loop-code.brick rest [] end (morton_of end) one refl coded i.scanned);
+          (way_passed (morton_of end) (IsHeld c.args.bricks.now c.args.brick)
+          (to_come c.args.walk) c.loop-code.bricks c.loop-code.brick rest [] end (morton_of end)
+          one refl refl (i.scanned end on_map ends));
       hits = λ k. (
         λ h. (i.hits k).0 ((c.in_ok-push_some.ensures.hits k).0 h),
         λ h. (c.in_ok-push_some.ensures.hits k).1 ((i.hits k).1 h),

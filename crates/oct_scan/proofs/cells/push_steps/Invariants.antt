@@ -1,8 +1,9 @@
 use Rattle.std.proofs.Common.{ℕ, ◌↔◌, length, All}
 use Rattle.std.specs.List.{Contains}
-use Rattle.oct_key.specs.Voxel.{Voxel}
+use Rattle.oct_key.specs.Voxel.{Voxel, IsInMap}
+use Rattle.oct_key.specs.Morton.{morton_of}
 use Rattle.oct_brick.specs.Bricks.{IsBrick, hit_codes}
-use Rattle.oct_scan.specs.Gathered.{IsCurrent, EndsAt}
+use Rattle.oct_scan.specs.Gathered.{IsCurrent, IsHeld, EndsAt}
 use Rattle.oct_scan.proofs.Holding.{IsOnWay}
 use Rattle.oct_scan.proofs.cells.push_steps.Given as goal
 
@@ -13,8 +14,9 @@ invariant-loop-code g l = record {
   bricks : All IsBrick l.bricks;
   current : IsCurrent l.brick;
   hits : (c : ℕ) → Contains (hit_codes l.bricks) c ↔ Contains (hit_codes l.initial.bricks) c;
-  scanned : IsOnWay l.end l.initial.bricks (g.W.BeamWalk.to_come l.fn.walk) l.bricks l.brick
-      (g.W.BeamWalk.to_come l.walk);
+  scanned : (end : Voxel) → IsInMap end → EndsAt end (g.W.BeamWalk.to_come l.fn.walk)
+      → IsOnWay (morton_of end) (IsHeld l.initial.bricks l.fn.brick)
+      (g.W.BeamWalk.to_come l.fn.walk) l.bricks l.brick (g.W.BeamWalk.to_come l.walk);
 }
 
 abbrev pub decreases-loop-code : goal.decreases-loop-code
