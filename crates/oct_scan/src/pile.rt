@@ -61,6 +61,9 @@ impl BrickPile {
     }
 
     /// Adds the voxels of a brick.
+    // Its numbers go on one by one, since a processor waits where two were written as two and are
+    // read as one.
+    #[inline(always)]
     pub fn push(&mut self, brick: Brick) -> Result<(), Memory>
         requires bricks { All IsBrick self.old }
         requires brick { IsBrick brick }
@@ -70,6 +73,25 @@ impl BrickPile {
             (Contains (hit_codes self.old) c ⊎ HasCode brick.code brick.hits c)) }
         ensures bricks { OnOk result (All IsBrick self.new) }
     {
+        self.push_masks(brick.code, brick.scanned, brick.hits)
+    }
+
+    /// The same for the numbers of a brick.
+    #[inline(never)]
+    fn push_masks(&mut self, code: u64, scanned: u64, hits: u64) -> Result<(), Memory>
+        requires bricks { All IsBrick self.old }
+        requires brick { IsBrick (record { code = code; scanned = scanned; hits = hits }) }
+        ensures scanned { OnOk result ((c : ℕ) → Contains (scanned_codes self.new) c ↔
+            (Contains (scanned_codes self.old) c ⊎ HasCode code scanned c)) }
+        ensures hits { OnOk result ((c : ℕ) → Contains (hit_codes self.new) c ↔
+            (Contains (hit_codes self.old) c ⊎ HasCode code hits c)) }
+        ensures bricks { OnOk result (All IsBrick self.new) }
+    {
+        let brick = Brick {
+            code,
+            scanned,
+            hits,
+        };
         let at = find(self.places.as_slice(), brick.code);
         if at < self.bricks.len() {
             let known = self.bricks[at];

@@ -3,7 +3,7 @@ use Rattle.std.proofs.lemmas.List.Elements.{All-set}
 use Rattle.oct_brick.specs.Bricks.{IsBrick}
 use Rattle.oct_scan.proofs.FewBricks.{few_joined, merged_more}
 use Rattle.oct_scan.proofs.Piling.{joined_from, pushed_bricks}
-use Rattle.oct_scan.proofs.pile.BrickPile.push.Goals as goal
+use Rattle.oct_scan.proofs.pile.BrickPile.push_masks.Goals as goal
 
 pub invariant_of-self : goal.invariant_of-self
 invariant_of-self c =
@@ -26,29 +26,29 @@ pub returns-then-known-brick-clause-scanned : goal.returns-then-known-brick-clau
 returns-then-known-brick-clause-scanned c =
     let l : c.find-at.result < length c.self.inside.bricks.items = search rules in
     joined_from (λ b. b.scanned) c.args.self.now c.self.inside.bricks.items c.find-at.result
-    c.index-known.result.now c.args.brick c.joined.result c.self.view_is l
+    c.index-known.result.now (record { code = c.args.code; scanned = c.args.scanned; hits = c.args.hits }) c.joined.result c.self.view_is l
     c.index-known.ensures c.joined.ensures.scanned
 
 pub returns-then-known-brick-clause-hits : goal.returns-then-known-brick-clause-hits
 returns-then-known-brick-clause-hits c =
     let l : c.find-at.result < length c.self.inside.bricks.items = search rules in
     joined_from (λ b. b.hits) c.args.self.now c.self.inside.bricks.items c.find-at.result
-    c.index-known.result.now c.args.brick c.joined.result c.self.view_is l
+    c.index-known.result.now (record { code = c.args.code; scanned = c.args.scanned; hits = c.args.hits }) c.joined.result c.self.view_is l
     c.index-known.ensures c.joined.ensures.hits
 
 pub returns-clause-scanned : goal.returns-clause-scanned
 returns-clause-scanned c =
     merged_more (λ b. b.scanned) c.args.self.now c.self.inside.bricks.items
-    c.make_room.new.bricks.items c.push.new.self.items c.args.brick c.self.view_is
+    c.make_room.new.bricks.items c.push.new.self.items (record { code = c.args.code; scanned = c.args.scanned; hits = c.args.hits }) c.self.view_is
     c.in_ok-make_room.ensures.scanned c.in_ok-push.ensures.items
 
 pub returns-clause-hits : goal.returns-clause-hits
 returns-clause-hits c =
     merged_more (λ b. b.hits) c.args.self.now c.self.inside.bricks.items
-    c.make_room.new.bricks.items c.push.new.self.items c.args.brick c.self.view_is
+    c.make_room.new.bricks.items c.push.new.self.items (record { code = c.args.code; scanned = c.args.scanned; hits = c.args.hits }) c.self.view_is
     c.in_ok-make_room.ensures.hits c.in_ok-push.ensures.items
 
 pub returns-clause-bricks : goal.returns-clause-bricks
 returns-clause-bricks c =
     pushed_bricks c.make_room.new.bricks.items c.make_room.new.bricks.items c.push.new.self.items
-    c.args.brick refl c.in_ok-push.ensures.items c.in_ok-make_room.ensures.bricks c.requires.brick
+    (record { code = c.args.code; scanned = c.args.scanned; hits = c.args.hits }) refl c.in_ok-push.ensures.items c.in_ok-make_room.ensures.bricks c.requires.brick
