@@ -42,27 +42,29 @@ pub fn gather(
     ensures some { OnErr result (0 < length beams.now) }
 {
     let mut bricks = BrickPile::new(alloc);
+    let start = res.key_of(origin).unwrap();
     let count = beams.len() as u64;
     if LEAST_KEYED <= count && count <= MOST_KEYED {
         let keys = sorted_keys(alloc, res, beams)?;
-        add_by_keys(&mut bricks, res, origin, beams, &keys, window)?;
+        add_by_keys(&mut bricks, res, origin, start, beams, &keys, window)?;
     } else {
-        add_beams(&mut bricks, res, origin, beams, window)?;
+        add_beams(&mut bricks, res, origin, start, beams, window)?;
     }
     Ok(bricks.into_bricks())
 }
 
-/// Adds what beams change, in the order of their keys: beams that pass the same bricks mostly come
-/// one after another.
+/// Adds what beams from one voxel change, in the order of their keys: beams that pass the same
+/// bricks mostly come one after another.
 fn add_by_keys(
     bricks: &mut BrickPile,
     res: Res,
     origin: Point,
+    start: Key,
     beams: &[Beam],
     keys: &[u64],
     window: &Option<Window>,
 ) -> Result<(), Memory>
-    requires origin { IsSome (key_at res origin) }
+    requires start { key_at res origin ≡ Some start }
     requires ends { All (λ b. IsSome (key_at res b.end)) beams.now }
     requires keys { AreKeys beams.now keys.now }
     requires none { bricks.old ≡ [] }
@@ -75,6 +77,7 @@ fn add_by_keys(
             bricks,
             res,
             origin,
+            start,
             beams[(key % MOST_KEYED) as usize],
             window,
         )?;
@@ -87,10 +90,11 @@ fn add_beams(
     bricks: &mut BrickPile,
     res: Res,
     origin: Point,
+    start: Key,
     beams: &[Beam],
     window: &Option<Window>,
 ) -> Result<(), Memory>
-    requires origin { IsSome (key_at res origin) }
+    requires start { key_at res origin ≡ Some start }
     requires ends { All (λ b. IsSome (key_at res b.end)) beams.now }
     requires none { bricks.old ≡ [] }
     ensures gathered { OnOk result (HoldAllGathered res window.now origin beams.now bricks.new) }
@@ -98,7 +102,7 @@ fn add_beams(
     ensures some { OnErr result (0 < length beams.now) }
 {
     for beam in beams {
-        add_beam(bricks, res, origin, *beam, window)?;
+        add_beam(bricks, res, origin, start, *beam, window)?;
     }
     Ok(())
 }
@@ -108,17 +112,17 @@ fn add_beam(
     bricks: &mut BrickPile,
     res: Res,
     origin: Point,
+    start: Key,
     beam: Beam,
     window: &Option<Window>,
 ) -> Result<(), Memory>
-    requires origin { IsSome (key_at res origin) }
+    requires start { key_at res origin ≡ Some start }
     requires end { IsSome (key_at res beam.end) }
     requires bricks { All IsBrick bricks.old }
     ensures added { OnOk result ((met : ℕ) × IsBeamHeld res window.now origin beam met
         bricks.old bricks.new) }
     ensures bricks { OnOk result (All IsBrick bricks.new) }
 {
-    let start = res.key_of(origin).unwrap();
     let end = res.key_of(beam.end).unwrap();
     push_kept(bricks, res, origin, beam.end, start, end, window)?;
     push_end(bricks, morton(end), is_mute(window, beam, end))?;

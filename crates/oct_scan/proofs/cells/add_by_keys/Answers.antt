@@ -1,5 +1,6 @@
 use Rattle.std.proofs.Common.{false, refl, arith, rules}
-use Rattle.oct_key.specs.Voxel.{IsResolution}
+use Rattle.std.specs.Prelude.{IsSome}
+use Rattle.oct_key.specs.Voxel.{IsResolution, key_at}
 use Rattle.oct_scan.specs.declared.beam.Beam.{Beam}
 use Rattle.oct_scan.proofs.Holding.{all_none}
 use Rattle.oct_scan.proofs.Ordered.{all_keyed, all_moved}
@@ -25,7 +26,8 @@ loop-key-preserved c =
 pub returns-clause-gathered : goal.returns-clause-gathered
 returns-clause-gathered c =
     let range : IsResolution c.args.res = search rules in
+    let some : IsSome (key_at c.args.res c.args.origin) = search rules in
     let d : Beam = record { end = c.args.origin; is_cut = false } in
     all_moved c.args.res c.args.window.now c.args.origin c.args.beams.now c.args.keys.now
-    c.loop-key.key-index d c.loop-key.bricks range c.requires.origin c.requires.ends
+    c.loop-key.key-index d c.loop-key.bricks range some c.requires.ends
     c.requires.keys (omega (arith, c.loop-key-test.false)) (c.loop-key.invariant.held d)
