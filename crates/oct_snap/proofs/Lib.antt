@@ -9,6 +9,7 @@ pub mod Back
 pub mod Fields
 pub mod Whole
 pub mod Writes
+pub mod Lengths
 pub mod Heads
 pub mod Meanings
 pub mod FoundNodes
