@@ -39,6 +39,7 @@ mod loading;
 mod marking;
 mod merging;
 mod restoring;
+mod saving;
 mod surveying;
 
 use crate::done::ScanDone;

@@ -21,7 +21,6 @@ use crate::service::{done_or_refused, read_all};
 use crate::session::Session;
 use crate::tally::Tally;
 use itoa::Buffer;
-use oct_bt::encoded_len;
 use oct_gen::Generator;
 use oct_io::{MemoryStore, Sink, SinkFault, Status, Stop, status_written, write_all};
 use oct_key::Res;
@@ -118,7 +117,7 @@ fn write_summary<K: Sink>(
     ensures sink_counts { IsMakingCounted result (K.faults sink.old) (K.faults sink.new)
         (K.shortages sink.old) (K.shortages sink.new) }
 {
-    let bytes = encoded_len(map.tree());
+    let bytes = map.bt_len();
     let counts = map.counts();
     let text = summary(alloc, scans, tally, counts, bytes)?;
     write_all(sink, &text)

@@ -1,12 +1,9 @@
 //! What a command does that names a file: a save or a snapshot to the store, or a load or a restore
 //! from it.
-ghost use Rattle.std.specs.Prelude.{◌≡◌, ◌≤◌, ◌+◌, IfOk, Ok, Option, Some};
-ghost use Rattle.oct_bt.specs.File.{bt_text, reading};
-ghost use Rattle.oct_tree.specs.Classes.{classes_in};
+ghost use Rattle.std.specs.Prelude.{◌≡◌, ◌≤◌, ◌+◌, Ok, Option, Some};
+ghost use Rattle.oct_bt.specs.File.{reading};
 ghost use Rattle.oct_io.specs.Counts.{IsAskCounted};
-ghost use Rattle.oct_map.specs.Map.{values_of};
 ghost use Rattle.oct_snap.specs.Reading.{read_snapshot};
-ghost use Rattle.oct_snap.specs.Texts.{snap_text};
 ghost use Rattle.oct_session.specs.FileCommands.{load_action, load_reply, reading_action};
 ghost use Rattle.oct_session.specs.FileCommands.{reading_reply};
 ghost use Rattle.oct_session.specs.FileCommands.{restore_action, restore_reply, snapshot_action};
@@ -14,32 +11,15 @@ ghost use Rattle.oct_session.specs.FileCommands.{snapshot_reply};
 ghost use Rattle.oct_session.specs.Standing.{with_reply, HasDone, HasUsed, KeepsStanding};
 
 use crate::commands::refuse;
-use oct_bt::{BtFile, read_classes, write};
-use oct_io::{Loaded, MemorySink, Store, StoreFault};
+use oct_bt::{BtFile, read_classes};
+use oct_io::{Loaded, Store, StoreFault};
 use oct_map::OccMap;
 use oct_num::Memory;
 use oct_script::{FileVerb, Name, Refusal, Reply, file_refusal};
-use oct_snap as snap;
 use std::alloc::Global;
-
-/// The most bytes of a file that are written at once.
-const MOST_WRITTEN: usize = 4096;
-
-/// The file of the map's classes, written to memory.
-fn write_classes(alloc: Global, map: &OccMap) -> Result<MemorySink, Memory>
-    ensures { IfOk result (λ sink. sink.written
-        ≡ bt_text map.now.tree.res (classes_in map.now.tree)) }
-{
-    let mut sink = MemorySink::new(alloc, MOST_WRITTEN);
-    if write(map.tree(), &mut sink).is_err() {
-        return Err(Memory);
-    }
-    Ok(sink)
-}
 
 /// Puts the file of the map's classes under a name of the store, and answers its length.
 fn save<F: Store>(
-    alloc: Global,
     map: &OccMap,
     store: &mut F,
     name: &Name,
@@ -50,8 +30,8 @@ fn save<F: Store>(
     ensures store_counts { IsAskCounted result (F.faults store.old) (F.faults store.new) }
     ensures called { F.calls store.new ≤ F.calls store.old + 1 }
 {
-    let file = write_classes(alloc, map)?;
-    let bytes = file.written();
+    let file = map.to_bt()?;
+    let bytes = file.as_slice();
     store.save(name.as_str(), bytes)?;
     *reply = Some(Reply::Saved(bytes.len() as u64));
     Ok(())
@@ -133,21 +113,8 @@ fn load<F: Store>(
     Ok(())
 }
 
-/// The snapshot of the map, written to memory.
-fn write_snapshot(alloc: Global, map: &OccMap) -> Result<MemorySink, Memory>
-    ensures { IfOk result (λ sink. sink.written ≡ snap_text map.now.tree.res map.now.tree.odds
-        map.now.update_box (values_of map.now)) }
-{
-    let mut sink = MemorySink::new(alloc, MOST_WRITTEN);
-    if snap::write(map.tree(), map.window(), &mut sink).is_err() {
-        return Err(Memory);
-    }
-    Ok(sink)
-}
-
 /// Puts the snapshot of the map under a name of the store, and answers its length.
 fn snapshot<F: Store>(
-    alloc: Global,
     map: &OccMap,
     store: &mut F,
     name: &Name,
@@ -158,10 +125,10 @@ fn snapshot<F: Store>(
     ensures store_counts { IsAskCounted result (F.faults store.old) (F.faults store.new) }
     ensures called { F.calls store.new ≤ F.calls store.old + 1 }
 {
-    let file = write_snapshot(alloc, map)?;
-    let text = file.written();
-    store.save(name.as_str(), text)?;
-    *reply = Some(Reply::Saved(text.len() as u64));
+    let file = map.to_snapshot()?;
+    let bytes = file.as_slice();
+    store.save(name.as_str(), bytes)?;
+    *reply = Some(Reply::Saved(bytes.len() as u64));
     Ok(())
 }
 
@@ -233,9 +200,9 @@ pub fn use_file<F: Store>(
     ensures called { F.calls store.new ≤ F.calls store.old + 1 }
 {
     match verb {
-        FileVerb::Save => save(alloc, map, store, name, reply),
+        FileVerb::Save => save(map, store, name, reply),
         FileVerb::Load => load(alloc, map, store, name, reply),
-        FileVerb::Snapshot => snapshot(alloc, map, store, name, reply),
+        FileVerb::Snapshot => snapshot(map, store, name, reply),
         FileVerb::Restore => restore(alloc, map, store, name, reply),
     }
 }

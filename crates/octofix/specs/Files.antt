@@ -1,25 +1,15 @@
 -- Files of maps, as bytes.
 use Rattle.std.specs.Prelude.{◌≡◌, ℕ, List, [], IfOk, IsSome, ⊤, Option, Result, Ok, Err}
-use Rattle.oct_bt.specs.File.{FileRead, bt_text, reading}
+use Rattle.oct_bt.specs.File.{FileRead, reading}
 use Rattle.oct_bt.specs.Records.{record_total}
 use Rattle.oct_bt.specs.declared.fault.BtFault.{BtFault}
 use Rattle.oct_map.specs.Loads.{load_answer, IsMapLoaded}
-use Rattle.oct_map.specs.Map.{Map, ground_of, values_of}
+use Rattle.oct_map.specs.Map.{Map, ground_of}
 use Rattle.oct_map.specs.Restores.{restore_answer, IsMapRestored}
 use Rattle.oct_snap.specs.Reading.{read_snapshot}
-use Rattle.oct_snap.specs.Texts.{snap_text}
-use Rattle.oct_tree.specs.Classes.{classes_in}
 use Rattle.octofix.specs.Codes.{of_map}
 use Rattle.octofix.specs.declared.refusal.Refusal.{Refusal}
 use Rattle.octofix.specs.declared.refusal.Refusal.TheVariants as refusal
-
--- the binary file of a map's classes
-abbrev pub file_of : Map → List ℕ
-file_of m = bt_text m.tree.res (classes_in m.tree)
-
--- the snapshot of a map's values
-abbrev pub snapshot_of : Map → List ℕ
-snapshot_of m = snap_text m.tree.res m.tree.odds m.update_box (values_of m)
 
 -- the answer to a file that was read, or that wasn't
 abbrev pub load_by : Map → Result FileRead BtFault → Result ⊤ Refusal

@@ -1,79 +1,21 @@
 //! Files of maps and snapshots, as bytes.
-ghost use Rattle.std.specs.Prelude.{◌≡◌, ◌≢◌, ◌≤◌, [], length, IfOk, None, Ok};
+ghost use Rattle.std.specs.Prelude.{◌≡◌, ◌≢◌, ◌≤◌, [], length, Ok};
 ghost use Rattle.std.specs.Prelude.{OnOk, OnErr};
+ghost use Rattle.oct_map.specs.Files.{file_of, snapshot_of};
 ghost use Rattle.octofix.specs.Asked.{IsAnswered, IsReached, asked};
 ghost use Rattle.octofix.specs.Buffers.{HasFit, IsListTold, filled, room_code};
 ghost use Rattle.octofix.specs.Changed.{Left};
 ghost use Rattle.octofix.specs.Files.{IsLoadedFrom, IsRestoredFrom, MayTakeMemory, NeedsGroups};
-ghost use Rattle.octofix.specs.Files.{file_of, loading, restoring, snapshot_of};
+ghost use Rattle.octofix.specs.Files.{loading, restoring};
 
 use crate::answers::{code_of, details_of};
 use crate::handle::Octofix;
 use crate::refusal::{DONE, MEMORY, Refusal, SMALL_BUFFER};
 use crate::types::Details;
 use oct_bt::{BtFault, read_classes};
-use oct_io::{MemorySink, Sink, SinkFault};
 use oct_map::{MapFault, OccMap};
 use oct_num::Memory;
 use std::alloc::Global;
-
-/// The most bytes that are written at once.
-const MOST_WRITTEN: usize = 4096;
-
-/// A sink that keeps nothing, for the lengths of what is written.
-#[derive(Drop)]
-struct NoSink;
-
-impl Sink for NoSink {
-    ghost written = { λ _. None };
-
-    ghost faults = { λ _. 0 };
-
-    ghost shortages = { λ _. 0 };
-
-    fn write(&mut self, piece: &[u8]) -> Result<usize, SinkFault> {
-        Ok(piece.len())
-    }
-}
-
-/// How long the binary file of a map's classes is.
-fn file_len(map: &OccMap) -> u64
-    ensures { result ≡ length (file_of map.now) }
-{
-    oct_bt::encoded_len(map.tree())
-}
-
-/// How long the snapshot of a map is.
-fn snapshot_len(map: &OccMap) -> u64
-    ensures { result ≡ length (snapshot_of map.now) }
-{
-    match oct_snap::write(map.tree(), map.window(), &mut NoSink) {
-        Ok(length) => length,
-        Err(_) => unreachable!(),
-    }
-}
-
-/// The binary file of a map's classes, in memory.
-fn encode(alloc: Global, map: &OccMap) -> Result<MemorySink, Memory>
-    ensures { IfOk result (λ sink. sink.written ≡ file_of map.now) }
-{
-    let mut sink = MemorySink::new(alloc, MOST_WRITTEN);
-    if oct_bt::write(map.tree(), &mut sink).is_err() {
-        return Err(Memory);
-    }
-    Ok(sink)
-}
-
-/// The snapshot of a map, in memory.
-fn encode_snapshot(alloc: Global, map: &OccMap) -> Result<MemorySink, Memory>
-    ensures { IfOk result (λ sink. sink.written ≡ snapshot_of map.now) }
-{
-    let mut sink = MemorySink::new(alloc, MOST_WRITTEN);
-    if oct_snap::write(map.tree(), map.window(), &mut sink).is_err() {
-        return Err(Memory);
-    }
-    Ok(sink)
-}
 
 /// Puts bytes to the front of a buffer, and tells how many there are.
 fn put_bytes(text: &[u8], bytes: &mut [u8], len: &mut usize) -> u32
@@ -90,34 +32,34 @@ fn put_bytes(text: &[u8], bytes: &mut [u8], len: &mut usize) -> u32
 }
 
 /// Puts the binary file of a map's classes to the front of a buffer.
-fn save(alloc: Global, map: &OccMap, bytes: &mut [u8], len: &mut usize) -> u32
+fn save(map: &OccMap, bytes: &mut [u8], len: &mut usize) -> u32
     ensures { IsListTold (Ok (file_of map.now)) (length (file_of map.now) ≤ length bytes.old)
         result bytes.old bytes.new len.old len.new }
 {
-    let total = file_len(map);
+    let total = map.bt_len();
     if (bytes.len() as u64) < total {
         *len = total as usize;
         return SMALL_BUFFER;
     }
-    match encode(alloc, map) {
-        Ok(sink) => put_bytes(sink.written(), bytes, len),
+    match map.to_bt() {
+        Ok(text) => put_bytes(text.as_slice(), bytes, len),
         Err(Memory) => MEMORY,
     }
 }
 
 /// Puts the snapshot of a map to the front of a buffer.
-fn snapshot(alloc: Global, map: &OccMap, bytes: &mut [u8], len: &mut usize) -> u32
+fn snapshot(map: &OccMap, bytes: &mut [u8], len: &mut usize) -> u32
     ensures { IsListTold (Ok (snapshot_of map.now))
         (length (snapshot_of map.now) ≤ length bytes.old)
         result bytes.old bytes.new len.old len.new }
 {
-    let total = snapshot_len(map);
+    let total = map.snapshot_len();
     if (bytes.len() as u64) < total {
         *len = total as usize;
         return SMALL_BUFFER;
     }
-    match encode_snapshot(alloc, map) {
-        Ok(sink) => put_bytes(sink.written(), bytes, len),
+    match map.to_snapshot() {
+        Ok(text) => put_bytes(text.as_slice(), bytes, len),
         Err(Memory) => MEMORY,
     }
 }
@@ -150,19 +92,14 @@ fn restore(map: &mut OccMap, bytes: &[u8]) -> Result<u64, Refusal>
 
 /// Puts the binary file of the map's classes to the front of a buffer, and tells its length.
 #[unsafe(no_mangle)]
-pub extern "C" fn octofix_save(
-    alloc: Global,
-    handle: &mut Octofix,
-    bytes: &mut [u8],
-    len: &mut usize,
-) -> u32
+pub extern "C" fn octofix_save(handle: &mut Octofix, bytes: &mut [u8], len: &mut usize) -> u32
     ensures same { handle.new ≡ handle.old }
     ensures told { IsListTold (asked handle.old.slot.map (λ m. Ok (file_of m)))
         (HasFit (length bytes.old) (asked handle.old.slot.map (λ m. Ok (file_of m))))
         result bytes.old bytes.new len.old len.new }
 {
     match handle.map_mut() {
-        Ok(map) => save(alloc, map, bytes, len),
+        Ok(map) => save(map, bytes, len),
         Err(refusal) => refusal.code(),
     }
 }
@@ -170,19 +107,14 @@ pub extern "C" fn octofix_save(
 /// Puts the snapshot of the map to the front of a buffer, with its log-odds and its box, and tells
 /// its length.
 #[unsafe(no_mangle)]
-pub extern "C" fn octofix_snapshot(
-    alloc: Global,
-    handle: &mut Octofix,
-    bytes: &mut [u8],
-    len: &mut usize,
-) -> u32
+pub extern "C" fn octofix_snapshot(handle: &mut Octofix, bytes: &mut [u8], len: &mut usize) -> u32
     ensures same { handle.new ≡ handle.old }
     ensures told { IsListTold (asked handle.old.slot.map (λ m. Ok (snapshot_of m)))
         (HasFit (length bytes.old) (asked handle.old.slot.map (λ m. Ok (snapshot_of m))))
         result bytes.old bytes.new len.old len.new }
 {
     match handle.map_mut() {
-        Ok(map) => snapshot(alloc, map, bytes, len),
+        Ok(map) => snapshot(map, bytes, len),
         Err(refusal) => refusal.code(),
     }
 }

@@ -120,6 +120,24 @@ fn takes_the_classes_of_a_file(rt: HostRuntime) {
     expect_block(&rt, &map, tenths(2, 0, 0), 0, Ok(None));
 }
 
+/// Expects that the map's file has this many bytes, of which these are the last.
+fn expect_file(rt: &impl Abort, map: &OccMap, want: u64, data: &[u8]) -> Result<(), Memory> {
+    let file = map.to_bt()?;
+    assert_eq!(rt; map.bt_len(), want);
+    assert_eq!(rt; file.len() as u64, want);
+    assert!(rt; file.as_slice().ends_with(data));
+    Ok(())
+}
+
+#[test]
+fn a_map_is_saved_as_it_was_loaded(rt: HostRuntime) -> Result<(), Fail> {
+    let mut map = world(&rt, rt.alloc(), 19);
+    expect_file(&rt, &map, 136, b"size 0\nres 0.1\ndata\n")?;
+    expect_load(&rt, rt.alloc(), &mut map, (ONE_HEADER, ONE_VOXEL), Ok(()));
+    expect_file(&rt, &map, 169, ONE_VOXEL)?;
+    Ok(())
+}
+
 /// The fields of a snapshot of version 1, of voxels of a tenth of a metre.
 const OLD_HEAD: [u8; 16] = [
     0x4F, 0x43, 0x54, 0x53, 0x4E, 0x41, 0x50, 0x31, 0x00, 0x00, 0x00, 0x00, 0x05, 0xF5, 0xE1, 0x00,
@@ -241,6 +259,24 @@ fn takes_log_odds_and_box_of_version_2(rt: HostRuntime) -> Result<(), Fail> {
     let odds = OddsModel::new(500, -300, -1000, 3000, 1)?;
     let mut map = world(&rt, rt.alloc(), 16);
     expect_setups(&rt, &mut map, odds);
+    Ok(())
+}
+
+/// Expects that the map's snapshot is this one.
+fn expect_snapshot(rt: &impl Abort, map: &OccMap, want: &[u8]) -> Result<(), Memory> {
+    let snapshot = map.to_snapshot()?;
+    assert_eq!(rt; map.snapshot_len(), want.len() as u64);
+    assert_eq!(rt; snapshot.as_slice(), want);
+    Ok(())
+}
+
+#[test]
+fn a_snapshot_is_that_which_was_restored(rt: HostRuntime) -> Result<(), Fail> {
+    let mut map = world(&rt, rt.alloc(), 16);
+    expect_restore(&rt, &mut map, NEW_WHOLE, Ok(0));
+    expect_snapshot(&rt, &map, NEW_WHOLE)?;
+    expect_restore(&rt, &mut map, BOXLESS, Ok(0));
+    expect_snapshot(&rt, &map, BOXLESS)?;
     Ok(())
 }
 

@@ -55,7 +55,7 @@ fn expect_values(rt: &impl Abort, map: &mut Octofix, want: i32) {
 fn save_and_load(rt: &impl Abort, alloc: Global, map: &mut Octofix) {
     let mut bytes = [0; 512];
     let mut len = 0;
-    assert_eq!(rt; octofix_save(alloc, map, &mut bytes, &mut len), DONE);
+    assert_eq!(rt; octofix_save(map, &mut bytes, &mut len), DONE);
     let (file, _) = bytes.split_at(len.min(512));
     let mut details = Details::none();
     assert_eq!(rt; octofix_load(alloc, map, file, &mut details), DONE);
@@ -65,7 +65,7 @@ fn save_and_load(rt: &impl Abort, alloc: Global, map: &mut Octofix) {
 fn snapshot_and_restore(rt: &impl Abort, alloc: Global, map: &mut Octofix) {
     let mut bytes = [0; 1024];
     let mut len = 0;
-    assert_eq!(rt; octofix_snapshot(alloc, map, &mut bytes, &mut len), DONE);
+    assert_eq!(rt; octofix_snapshot(map, &mut bytes, &mut len), DONE);
     let (file, _) = bytes.split_at(len.min(1024));
     let mut details = Details::none();
     assert_eq!(rt; octofix_restore(map, file, &mut details), DONE);

@@ -24,6 +24,6 @@ returns-in_err-save-clause-effect g c =
 pub returns-clause-effect : goal.returns-clause-effect
 returns-clause-effect g c =
     save_done (Some (Puts c.args.name.now classes_file)) c.args.map.now _ _ c.as_str.result.now
-    c.args.name.now c.written-bytes.result.now _ classes_file c.as_str.ensures
-    (classes_saved c.args.map.now c.written-bytes.result.now
-    (c.written-bytes.ensures ∙ c.in_ok-file.ensures)) refl c.in_ok-save.ensures.saved
+    c.args.name.now c.as_slice-bytes.result.now _ classes_file c.as_str.ensures
+    (classes_saved c.args.map.now c.as_slice-bytes.result.now
+    (c.as_slice-bytes.ensures.value ∙ c.in_ok-file.ensures.file)) refl c.in_ok-save.ensures.saved

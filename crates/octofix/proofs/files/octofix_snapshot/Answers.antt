@@ -3,7 +3,7 @@ use Rattle.std.specs.Prelude.{Ok}
 use Rattle.octofix.proofs.Tellings.{closed_told}
 use Rattle.octofix.specs.Asked.{asked}
 use Rattle.octofix.specs.Buffers.{HasFit}
-use Rattle.octofix.specs.Files.{snapshot_of}
+use Rattle.oct_map.specs.Files.{snapshot_of}
 use Rattle.octofix.proofs.files.octofix_snapshot.Goals as goal
 
 pub returns-in-Err-clause-told : goal.returns-in-Err-clause-told
