@@ -194,24 +194,17 @@ fn standing(at: PointNm) -> PoseNm
     }
 }
 
-/// Where a point lies from there, in 64 bits.
-fn difference(there: PointNm, to: PointNm) -> PointNm
-    ensures { result ≡ way_from there to }
-{
-    PointNm {
-        x: to.x.wrapping_sub(there.x),
-        y: to.y.wrapping_sub(there.y),
-        z: to.z.wrapping_sub(there.z),
-    }
-}
-
 /// The way to a point from there, at whose end the point is. A sensor that stands there and isn't
 /// turned sees the point so.
 fn way_from(there: PointNm, to: PointNm) -> PointNm
     ensures exact { result ≡ way_from there to }
     ensures ends { EndsThere there to result }
 {
-    difference(there, to)
+    PointNm {
+        x: to.x.wrapping_sub(there.x),
+        y: to.y.wrapping_sub(there.y),
+        z: to.z.wrapping_sub(there.z),
+    }
 }
 
 /// Where points lie from there.
