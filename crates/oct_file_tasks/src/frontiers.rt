@@ -1,6 +1,5 @@
 //! The frontier of a file.
 ghost use Rattle.std.specs.Prelude.{◌≤◌, ◌^◌, length};
-ghost use Rattle.oct_key.specs.Boxes.{IsBox};
 ghost use Rattle.oct_bt.specs.DataClasses.{data_classes};
 ghost use Rattle.oct_bt.specs.NodeData.{IsAccepted};
 ghost use Rattle.oct_frontier.specs.Frontier.{frontier_between};
@@ -16,7 +15,7 @@ use crate::sending::{send, send_refusal};
 use oct_bt::BtFile;
 use oct_frontier::{FrontierFault, frontier};
 use oct_io::{Sink, Status};
-use oct_key::{Key, Point};
+use oct_key::{Point, Window};
 use std::alloc::Global;
 
 /// The most voxels that are listed.
@@ -40,17 +39,17 @@ pub fn list_frontier<K: Sink>(
     ensures ended { IsOfReply result }
 {
     match box_between(file.res(), lo, hi) {
-        Ok(window) => list_between(alloc, file, window.lo(), window.hi(), sink),
+        Ok(window) => list_between(alloc, file, window, sink),
         Err(refusal) => send_refusal(alloc, refusal, sink),
     }
 }
 
-/// Writes the frontier of a file between two corners.
-fn list_between<K: Sink>(alloc: Global, file: &BtFile, low: Key, high: Key, sink: &mut K) -> Status
+/// Writes the frontier of a file in a box.
+fn list_between<K: Sink>(alloc: Global, file: &BtFile, window: Window, sink: &mut K) -> Status
     requires accepted { IsAccepted file.now.nodes file.now.codes }
     requires few { length file.now.codes ≤ 2 ^ 32 }
-    requires order { IsBox low high }
-    ensures ends { EndsUnread (list_reply (frontier_between (data_classes file.now.codes) low high))
+    ensures ends { EndsUnread
+        (list_reply (frontier_between (data_classes file.now.codes) window.lo window.hi))
         (K.written sink.old) (K.written sink.new) result }
     ensures sink_counts { IsSinkCounted result (K.faults sink.old) (K.faults sink.new)
         (K.shortages sink.old) (K.shortages sink.new) }
@@ -59,7 +58,7 @@ fn list_between<K: Sink>(alloc: Global, file: &BtFile, low: Key, high: Key, sink
     let Ok(tree) = tree_of(alloc, file) else {
         return Status::Memory;
     };
-    match frontier(alloc, &tree, low, high, MOST_VOXELS) {
+    match frontier(alloc, &tree, window.lo(), window.hi(), MOST_VOXELS) {
         Ok(keys) => send(listing_text(alloc, keys.as_slice()), Status::Done, sink),
         Err(FrontierFault::TooManyFrontiers) => {
             send_refusal(alloc, Refusal::TooManyFrontiers, sink)

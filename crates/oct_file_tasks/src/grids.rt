@@ -1,7 +1,6 @@
 //! The map of a file as other programs read it: a height band as a grid, and occupied space as
 //! boxes.
 ghost use Rattle.std.specs.Prelude.{◌≤◌, ◌^◌, length};
-ghost use Rattle.oct_key.specs.Boxes.{IsBox};
 ghost use Rattle.oct_bt.specs.DataClasses.{data_classes};
 ghost use Rattle.oct_bt.specs.NodeData.{IsAccepted};
 ghost use Rattle.oct_io.specs.FaultCounts.{IsSinkCounted};
@@ -15,7 +14,7 @@ use crate::sending::send_refusal;
 use oct_bt::BtFile;
 use oct_export::{box_count, column_count, pgm, vrml};
 use oct_io::{Sink, Status, status_written};
-use oct_key::{Key, Point};
+use oct_key::{Point, Window};
 use std::alloc::Global;
 
 /// The most columns of a grid.
@@ -36,29 +35,22 @@ pub fn project<K: Sink>(alloc: Global, file: &BtFile, lo: Point, hi: Point, sink
     ensures ended { IsOfReply result }
 {
     match box_between(file.res(), lo, hi) {
-        Ok(window) => project_between(alloc, file, window.lo(), window.hi(), sink),
+        Ok(window) => project_between(alloc, file, window, sink),
         Err(refusal) => send_refusal(alloc, refusal, sink),
     }
 }
 
-/// Writes the columns of a file between two corners.
-fn project_between<K: Sink>(
-    alloc: Global,
-    file: &BtFile,
-    low: Key,
-    high: Key,
-    sink: &mut K,
-) -> Status
+/// Writes the columns of a file in a box.
+fn project_between<K: Sink>(alloc: Global, file: &BtFile, window: Window, sink: &mut K) -> Status
     requires accepted { IsAccepted file.now.nodes file.now.codes }
     requires few { length file.now.codes ≤ 2 ^ 32 }
-    requires order { IsBox low high }
-    ensures ends { EndsUnread
-        (grid_reply (data_classes file.now.codes) (record { lo = low; hi = high }))
+    ensures ends { EndsUnread (grid_reply (data_classes file.now.codes) window)
         (K.written sink.old) (K.written sink.new) result }
     ensures sink_counts { IsSinkCounted result (K.faults sink.old) (K.faults sink.new)
         (K.shortages sink.old) (K.shortages sink.new) }
     ensures ended { IsOfReply result }
 {
+    let (low, high) = (window.lo(), window.hi());
     let count = column_count(low, high);
     if count > MOST_COLUMNS {
         return send_refusal(alloc, Refusal::WideGrid { count }, sink);

@@ -1,7 +1,6 @@
 //! The tasks `merge` and `table`: two files of the store in, and one map, or a table, out.
 ghost use Rattle.std.specs.Prelude.{◌≡◌, ◌≢◌, ◌≤◌, ◌+◌, IfOk};
 ghost use Rattle.oct_io.specs.Counts.{IsMakingCounted};
-ghost use Rattle.oct_key.specs.Boxes.{IsBox};
 ghost use Rattle.oct_io.specs.Answer.{EndsUnread};
 ghost use Rattle.oct_io.specs.FaultCounts.{IsSinkCounted, IsStoreCounted};
 ghost use Rattle.oct_file_tasks.specs.Ending.{Sends};
@@ -129,7 +128,6 @@ fn write_merged<K: Sink>(
 /// The table of the voxels of a box in two maps.
 fn table_of(alloc: Global, pair: &Pair, window: Window) -> Result<Vec<u8>, Memory>
     requires fit { AreFit pair.now }
-    requires order { IsBox window.lo window.hi }
     ensures { IfOk result (λ text. text.items ≡ table_text pair.now window) }
 {
     let table = tabulate(&pair.first, &pair.second, window.lo(), window.hi());
