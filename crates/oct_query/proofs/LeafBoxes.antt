@@ -1,5 +1,5 @@
 -- Which leaves meet a box.
-use Rattle.std.proofs.Common.{◌≡◌, ℕ, ◌+◌, ◌-◌, ◌*◌, ◌≤◌, ◌↔◌, Bool, true, false}
+use Rattle.std.proofs.Common.{◌≡◌, ◌-◌, ◌≤◌, ◌↔◌, Bool, true, false}
 use Rattle.std.proofs.Common.{List, [], ◌∷◌, Some, None, refl, sym, ◌∙◌, ap, arith}
 use Rattle.std.specs.Prelude.{filter, if◌then◌else◌, int_lt, IsTrue, ℤ, ◌≤ℤ◌}
 use Rattle.std.specs.List.{AllByRecursion}
@@ -7,9 +7,9 @@ use Rattle.std.proofs.lemmas.Bool.{false≢true, false_from_ne_true}
 use Rattle.std.proofs.lemmas.Int.{ints}
 use Rattle.oct_key.specs.Voxel.{Voxel}
 use Rattle.oct_key.specs.Values.{Values}
-use Rattle.oct_key.specs.Block.{Cube, HoldsVoxel, IsBlock, lowest_voxel, root_block, side}
-use Rattle.oct_key.specs.Boxes.{IsBox, MeetsBox}
-use Rattle.oct_key.proofs.Blocks.{lowest_held, root_in_map}
+use Rattle.oct_key.specs.Block.{Cube, HoldsVoxel, IsBlock, lowest_voxel}
+use Rattle.oct_key.specs.Boxes.{LiesInBox, MeetsBox}
+use Rattle.oct_key.proofs.Blocks.{lowest_held}
 use Rattle.oct_key.proofs.Held.{held_in_map}
 use Rattle.oct_odds.specs.Odds.{Odds}
 use Rattle.oct_odds.specs.Update.{Value, class_of}
@@ -23,13 +23,12 @@ use Rattle.oct_tree.specs.Shape.{IsFresh}
 use Rattle.oct_tree.specs.Tree.{Tree, IsLinked, IsPlace, block_in, node_in, value_at}
 use Rattle.oct_tree.specs.declared.place.Place.{Place}
 use Rattle.oct_tree.proofs.Paths.{place_reached}
-use Rattle.oct_query.specs.Extent.{highest_voxel, is_sought}
-use Rattle.oct_query.specs.Leaves.{block_leaves, leaves_met, leaves_of, picked, that_meet}
+use Rattle.oct_query.specs.Extent.{is_sought}
+use Rattle.oct_query.specs.Leaves.{block_leaves, picked, that_meet}
 use Rattle.oct_query.specs.Leaves.{those_sought}
 use Rattle.oct_query.specs.Shown.{Shown}
 use Rattle.oct_query.specs.declared.sought.Sought.{Sought}
 use Rattle.oct_query.specs.declared.sought.Sought.TheVariants.{Known, Occupied}
-use Rattle.oct_query.proofs.Extents.{held_in_box, last_held}
 use Rattle.oct_query.proofs.Over.{answer_over}
 use Rattle.oct_query.proofs.LeafLists.{IsLeafIn, all_mapped, leaves_are}
 
@@ -40,13 +39,6 @@ met_exactly lo hi b true ok told = sym ((met_by_voxels lo hi b ok).1 (told.0 ref
 met_exactly lo hi b false ok told =
     sym (false_from_ne_true (is_met_by lo hi b)
     (λ met. false≢true (told.1 ((met_by_voxels lo hi b ok).0 met))))
-
--- the voxels of a block make a box
-pub box_of_block : (b : Cube) → IsBox (lowest_voxel b) (highest_voxel b)
-box_of_block b = record { x = axis b.x; y = axis b.y; z = axis b.z }
-  where
-    axis : (n : ℕ) → n * side b.depth ≤ (n + 1) * side b.depth - 1
-    axis n = (last_held b.depth n).0
 
 -- ---- filters
 
@@ -89,23 +81,49 @@ pub none_picked : (v : Values) (o : Odds) (s : Sought) (lo hi : Voxel) (b : Cube
     → is_met_by lo hi b ≡ false → picked o s lo hi (block_leaves v b) ≡ []
 none_picked v o s lo hi b ok none = ap (those_sought o s) (none_meet v lo hi b ok none)
 
--- where no voxel of a block is sought, no leaf in it is picked
-pub none_sought : (v : Values) (o : Odds) (s : Sought) (lo hi : Voxel) (b : Cube) → IsBlock b
-    → ((k : Voxel) → HoldsVoxel b k → is_sought s (class_of o (v k)) ≡ false)
-    → picked o s lo hi (block_leaves v b) ≡ []
-none_sought v o s lo hi b ok none =
+-- where a block lies in the box, each leaf in it meets it
+pub all_meet : (v : Values) (lo hi : Voxel) (b : Cube) → IsBlock b → LiesInBox lo hi b
+    → that_meet lo hi (block_leaves v b) ≡ block_leaves v b
+all_meet v lo hi b ok inside =
     let deep = ok.depth in
-    filter_none (λ leaf. is_sought s (class_of o (Some leaf.value)))
-    (that_meet lo hi (block_leaves v b))
-    (all_filtered (λ leaf. is_sought s (class_of o (Some leaf.value)) ≡ false)
-    (λ leaf. is_met_by lo hi leaf.block) (block_leaves v b)
-    (all_mapped (IsLeafIn v b) (λ leaf. is_sought s (class_of o (Some leaf.value)) ≡ false)
+    filter_all (λ leaf. is_met_by lo hi leaf.block) (block_leaves v b)
+    (all_mapped (IsLeafIn v b) (λ leaf. is_met_by lo hi leaf.block ≡ true) (block_leaves v b)
+    (λ leaf is. (let k = lowest_voxel leaf.block in
+    let held = lowest_held leaf.block in
+    (met_by_voxels lo hi leaf.block is.block).1 (k, held, inside k (is.within k held))))
+    (leaves_are v (16 - b.depth) b ok (omega (arith, deep))).each)
+
+-- where no voxel of a block is sought, no leaf in it is
+unsought : (v : Values) (o : Odds) (s : Sought) (b : Cube) → IsBlock b
+    → ((k : Voxel) → HoldsVoxel b k → is_sought s (class_of o (v k)) ≡ false)
+    → AllByRecursion (λ leaf. is_sought s (class_of o (Some leaf.value)) ≡ false)
+    (block_leaves v b)
+unsought v o s b ok none =
+    let deep = ok.depth in
+    all_mapped (IsLeafIn v b) (λ leaf. is_sought s (class_of o (Some leaf.value)) ≡ false)
     (block_leaves v b)
     (λ leaf is. (let k = lowest_voxel leaf.block in
     let held = lowest_held leaf.block in
     ap (λ value. is_sought s (class_of o value)) (sym (is.value k held))
     ∙ none k (is.within k held)))
-    (leaves_are v (16 - b.depth) b ok (omega (arith, deep))).each))
+    (leaves_are v (16 - b.depth) b ok (omega (arith, deep))).each
+
+pub none_sought : (v : Values) (o : Odds) (s : Sought) (b : Cube) → IsBlock b
+    → ((k : Voxel) → HoldsVoxel b k → is_sought s (class_of o (v k)) ≡ false)
+    → those_sought o s (block_leaves v b) ≡ []
+none_sought v o s b ok none =
+    filter_none (λ leaf. is_sought s (class_of o (Some leaf.value))) (block_leaves v b)
+    (unsought v o s b ok none)
+
+-- nor of those that meet a box
+pub none_sought_met : (v : Values) (o : Odds) (s : Sought) (lo hi : Voxel) (b : Cube) → IsBlock b
+    → ((k : Voxel) → HoldsVoxel b k → is_sought s (class_of o (v k)) ≡ false)
+    → picked o s lo hi (block_leaves v b) ≡ []
+none_sought_met v o s lo hi b ok none =
+    filter_none (λ leaf. is_sought s (class_of o (Some leaf.value)))
+    (that_meet lo hi (block_leaves v b))
+    (all_filtered (λ leaf. is_sought s (class_of o (Some leaf.value)) ≡ false)
+    (λ leaf. is_met_by lo hi leaf.block) (block_leaves v b) (unsought v o s b ok none))
 
 still_below : (a b c : ℤ) → a ≤ℤ b → int_lt b c ≡ true → int_lt a c ≡ true
 still_below a b c less below = grind (arith, ints)
@@ -149,22 +167,3 @@ all_known o (leaf ∷ leaves) =
     known : (test : Bool) → is_sought Known (if test then class.Free else class.Occupied) ≡ true
     known true = refl
     known false = refl
-
--- each leaf meets the box of the whole map
-all_meet : (v : Values)
-    → leaves_met v (lowest_voxel root_block) (highest_voxel root_block) ≡ leaves_of v
-all_meet v =
-    filter_all (λ leaf. is_met_by (lowest_voxel root_block) (highest_voxel root_block) leaf.block)
-    (leaves_of v)
-    (all_mapped (IsLeafIn v root_block)
-    (λ leaf. is_met_by (lowest_voxel root_block) (highest_voxel root_block) leaf.block ≡ true)
-    (leaves_of v)
-    (λ leaf is. (let k = lowest_voxel leaf.block in
-    let held = lowest_held leaf.block in
-    (met_by_voxels (lowest_voxel root_block) (highest_voxel root_block) leaf.block is.block).1
-    (k, held, held_in_box root_block k (is.within k held))))
-    (leaves_are v 16 root_block root_in_map refl).each)
-
-pub all_leaves : (v : Values) (lo hi : Voxel) (b : Cube) → b ≡ root_block
-    → lo ≡ lowest_voxel b → hi ≡ highest_voxel b → leaves_met v lo hi ≡ leaves_of v
-all_leaves v lo hi b whole low high = rw (low, high) (rw whole (all_meet v))

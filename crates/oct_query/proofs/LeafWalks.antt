@@ -2,7 +2,7 @@
 use Rattle.std.proofs.Common.{◌≡◌, ℕ, zero, suc, ◌+◌, ◌-◌, ◌<◌, ◌≤◌, true, false, List, [], ◌∷◌}
 use Rattle.std.proofs.Common.{◌++◌, Some, None, inl, inr, refl, sym}
 use Rattle.std.proofs.Common.{subst, ◌∙◌, ap, arith, append_assoc, append-nil}
-use Rattle.std.specs.Prelude.{Result, OnOk, OnErr, ⊤, not}
+use Rattle.std.specs.Prelude.{Result, OnOk, OnErr, ⊤, not, ℤ}
 use Rattle.std.specs.Bool.{Decides}
 use Rattle.std.specs.List.{flat_map}
 use Rattle.std.specs.Option.{option_eq}
@@ -146,18 +146,34 @@ several_of v b c i value next low some li child before here differ uniform =
     false≢true
     (sym (not-true (option_eq int_eq next value) differ) ∙ (tells_same next value).1 same)
 
--- ---- those that are sought and meet a box
+-- ---- those that are chosen
 
-pub meet_next : (v : Values) (o : Odds) (s : Sought) (lo hi : Voxel) (h : ℕ) (b : Cube) (i : ℕ)
-    → picked o s lo hi (first_leaves v h b (i + 1))
-    ≡ picked o s lo hi (first_leaves v h b i) ++ picked o s lo hi (leaves_below v h (child_of b i))
-meet_next v o s lo hi h b i =
-    ap (picked o s lo hi) (leaves_next v h b i)
-    ∙ ap (those_sought o s)
-    (filter-append (λ leaf. is_met_by lo hi leaf.block) (first_leaves v h b i)
-    (leaves_below v h (child_of b i)))
-    ∙ filter-append (λ leaf. is_sought s (class_of o (Some leaf.value)))
-    (that_meet lo hi (first_leaves v h b i)) (that_meet lo hi (leaves_below v h (child_of b i)))
+-- a choice among leaves, one by one: of two lists together it is what it is of each
+pub record IsChoice (Chosen : List Shown → List Shown) : Type 0 where
+  pub none : Chosen [] ≡ []
+  pub both : (xs ys : List Shown) → Chosen (xs ++ ys) ≡ Chosen xs ++ Chosen ys
+
+-- those that are sought are one
+pub sought_choice : (o : Odds) (s : Sought) → IsChoice (those_sought o s)
+sought_choice o s = record {
+  none = refl;
+  both = λ xs ys. filter-append (λ leaf. is_sought s (class_of o (Some leaf.value))) xs ys;
+}
+
+-- and those of them that meet a box
+pub picked_choice : (o : Odds) (s : Sought) (lo hi : Voxel) → IsChoice (picked o s lo hi)
+picked_choice o s lo hi = record {
+  none = refl;
+  both = λ xs ys. ap (those_sought o s) (filter-append (λ leaf. is_met_by lo hi leaf.block) xs ys)
+      ∙ (sought_choice o s).both (that_meet lo hi xs) (that_meet lo hi ys);
+}
+
+chosen_next : (v : Values) (F : List Shown → List Shown) → IsChoice F → (h : ℕ) (b : Cube) (i : ℕ)
+    → F (first_leaves v h b (i + 1))
+    ≡ F (first_leaves v h b i) ++ F (leaves_below v h (child_of b i))
+chosen_next v F choice h b i =
+    ap F (leaves_next v h b i)
+    ∙ choice.both (first_leaves v h b i) (leaves_below v h (child_of b i))
 
 -- a block of one value that meets the box
 pub meets_one : (v : Values) (o : Odds) (s : Sought) (lo hi : Voxel) (b : Cube) (value : Value)
@@ -173,7 +189,7 @@ meets_one v o s lo hi b value ok met all =
     own (Some x) = rw met refl
 
 -- so it is what is pushed
-pub pushed_one : {E : Type 0} (v : Values) (o : Odds) (s : Sought) (lo hi : Voxel) (b : Cube)
+pub pushed_met : {E : Type 0} (v : Values) (o : Odds) (s : Sought) (lo hi : Voxel) (b : Cube)
     (value : Value)
     (old now : List Shown) (r : Result ⊤ E) → IsBlock b → is_met_by lo hi b ≡ true
     → ((k : Voxel) → HoldsVoxel b k → v k ≡ value)
@@ -181,72 +197,102 @@ pub pushed_one : {E : Type 0} (v : Values) (o : Odds) (s : Sought) (lo hi : Voxe
     → OnErr r (those_sought o s (own_leaf b value) ≡ [] → ⊥)
     → OnOk r (now ≡ old ++ picked o s lo hi (block_leaves v b))
     × OnErr r (picked o s lo hi (block_leaves v b) ≡ [] → ⊥)
-pushed_one v o s lo hi b value old now r ok met all listed some =
+pushed_met v o s lo hi b value old now r ok met all listed some =
     rw (meets_one v o s lo hi b value ok met all) (listed, some)
 
+-- the same where all are looked at
+pub pushed_one : {E : Type 0} (v : Values) (o : Odds) (s : Sought) (b : Cube) (value : Value)
+    (old now : List Shown) (r : Result ⊤ E) → IsBlock b
+    → ((k : Voxel) → HoldsVoxel b k → v k ≡ value)
+    → OnOk r (now ≡ old ++ those_sought o s (own_leaf b value))
+    → OnErr r (those_sought o s (own_leaf b value) ≡ [] → ⊥)
+    → OnOk r (now ≡ old ++ those_sought o s (block_leaves v b))
+    × OnErr r (those_sought o s (block_leaves v b) ≡ [] → ⊥)
+pushed_one v o s b value old now r ok all listed some =
+    rw (leaves_of_one v (16 - b.depth) b value ok all) (listed, some)
+
 -- a block of several values
-pub meets_several : (v : Values) (o : Odds) (s : Sought) (lo hi : Voxel) (h : ℕ) (b : Cube)
-    → IsBlock b
+pub chosen_of_several : (v : Values) (F : List Shown → List Shown) (h : ℕ) (b : Cube) → IsBlock b
     → 16 - b.depth ≡ suc h → IsOneValue v b None
-    → picked o s lo hi (block_leaves v b) ≡ picked o s lo hi (first_leaves v h b 8)
-meets_several v o s lo hi h b ok high several =
-    ap (λ (m : ℕ). picked o s lo hi (leaves_below v m b)) high
-    ∙ ap (picked o s lo hi) (leaves_of_parts v h b
+    → F (block_leaves v b) ≡ F (first_leaves v h b 8)
+chosen_of_several v F h b ok high several =
+    ap (λ (m : ℕ). F (leaves_below v m b)) high
+    ∙ ap F (leaves_of_parts v h b
     (false_from_ne_true (is_uniform v b) (λ is. several ((uniform_exactly v b ok).0 is))))
 
 -- no leaves yet
-pub listed_none : (v : Values) (o : Odds) (s : Sought) (lo hi : Voxel) (h : ℕ) (b : Cube)
-    (old : List Shown)
-    → old ≡ old ++ picked o s lo hi (first_leaves v h b 0)
+pub listed_none : (v : Values) (F : List Shown → List Shown) → IsChoice F → (h : ℕ) (b : Cube)
+    (old : List Shown) → old ≡ old ++ F (first_leaves v h b 0)
 unfolding first_leaves
-listed_none v o s lo hi h b old = sym (append-nil old)
+listed_none v F choice h b old = sym (ap (λ l. old ++ l) choice.none ∙ append-nil old)
 
 -- those of a child more
-pub listed_next : (v : Values) (o : Odds) (s : Sought) (lo hi : Voxel) (h m : ℕ) (b c : Cube)
-    (i : ℕ)
-    (old before now : List Shown)
-    → before ≡ old ++ picked o s lo hi (first_leaves v h b i)
-    → now ≡ before ++ picked o s lo hi (leaves_below v m c) → c ≡ child_of b i → m ≡ h
-    → now ≡ old ++ picked o s lo hi (first_leaves v h b (i + 1))
-listed_next v o s lo hi h m b c i old before now was is child level =
-    is ∙ ap (λ (n : ℕ). before ++ picked o s lo hi (leaves_below v n c)) level
-    ∙ ap (λ (d : Cube). before ++ picked o s lo hi (leaves_below v h d)) child
-    ∙ ap (λ l. l ++ picked o s lo hi (leaves_below v h (child_of b i))) was
-    ∙ append_assoc old (picked o s lo hi (first_leaves v h b i))
-    (picked o s lo hi (leaves_below v h (child_of b i)))
-    ∙ ap (λ l. old ++ l) (sym (meet_next v o s lo hi h b i))
+pub listed_next : (v : Values) (F : List Shown → List Shown) → IsChoice F → (h m : ℕ) (b c : Cube)
+    (i : ℕ) (old before now : List Shown)
+    → before ≡ old ++ F (first_leaves v h b i)
+    → now ≡ before ++ F (leaves_below v m c) → c ≡ child_of b i → m ≡ h
+    → now ≡ old ++ F (first_leaves v h b (i + 1))
+listed_next v F choice h m b c i old before now was is child level =
+    is ∙ ap (λ (n : ℕ). before ++ F (leaves_below v n c)) level
+    ∙ ap (λ (d : Cube). before ++ F (leaves_below v h d)) child
+    ∙ ap (λ l. l ++ F (leaves_below v h (child_of b i))) was
+    ∙ append_assoc old (F (first_leaves v h b i)) (F (leaves_below v h (child_of b i)))
+    ∙ ap (λ l. old ++ l) (sym (chosen_next v F choice h b i))
 
 -- an unknown child has none
-pub listed_unknown : (v : Values) (o : Odds) (s : Sought) (lo hi : Voxel) (h : ℕ) (b : Cube) (i : ℕ)
-    (old before : List Shown)
-    → before ≡ old ++ picked o s lo hi (first_leaves v h b i) → IsBlock (child_of b i)
+pub listed_unknown : (v : Values) (F : List Shown → List Shown) → IsChoice F → (h : ℕ) (b : Cube)
+    (i : ℕ) (old before : List Shown)
+    → before ≡ old ++ F (first_leaves v h b i) → IsBlock (child_of b i)
     → ((k : Voxel) → IsInMap k → HoldsVoxel (child_of b i) k → v k ≡ None)
-    → before ≡ old ++ picked o s lo hi (first_leaves v h b (i + 1))
-listed_unknown v o s lo hi h b i old before was ok unknown =
+    → before ≡ old ++ F (first_leaves v h b (i + 1))
+listed_unknown v F choice h b i old before was ok unknown =
     let none : leaves_below v h (child_of b i) ≡ [] =
     leaves_of_one v h (child_of b i) None ok
     (λ k held. unknown k (held_in_map (child_of b i) k ok held) held) in
-    listed_next v o s lo hi h h b (child_of b i) i old before before was
-    (sym (append-nil before) ∙ ap (λ l. before ++ picked o s lo hi l) (sym none)) refl refl
+    listed_next v F choice h h b (child_of b i) i old before before was
+    (sym (ap (λ l. before ++ l) choice.none ∙ append-nil before)
+    ∙ ap (λ l. before ++ F l) (sym none)) refl refl
+
+-- a child whose voxels are all known and have one value is the one leaf in it
+pub listed_leaf : (v : Values) (o : Odds) (s : Sought) (h m : ℕ) (b c : Cube) (i : ℕ) (value : ℤ)
+    (told : ℤ) (old before now : List Shown) → IsBlock c → told ≡ value
+    → ((k : Voxel) → IsInMap k → HoldsVoxel c k → v k ≡ Some value)
+    → before ≡ old ++ those_sought o s (first_leaves v h b i)
+    → now ≡ before ++ those_sought o s (own_leaf c (Some told)) → c ≡ child_of b i → m ≡ h
+    → now ≡ old ++ those_sought o s (first_leaves v h b (i + 1))
+listed_leaf v o s h m b c i value told old before now ok same all was is child level =
+    listed_next v (those_sought o s) (sought_choice o s) h m b c i old before now was
+    (is ∙ ap (λ x. before ++ those_sought o s (own_leaf c (Some x))) same
+    ∙ ap (λ l. before ++ those_sought o s l)
+    (sym (leaves_of_one v m c (Some value) ok (λ k held. all k (held_in_map c k ok held) held))))
+    child level
+
+pub some_leaf : (v : Values) (o : Odds) (s : Sought) (m : ℕ) (c : Cube) (value told : ℤ)
+    → IsBlock c → told ≡ value
+    → ((k : Voxel) → IsInMap k → HoldsVoxel c k → v k ≡ Some value)
+    → (those_sought o s (own_leaf c (Some told)) ≡ [] → ⊥)
+    → those_sought o s (leaves_below v m c) ≡ [] → ⊥
+some_leaf v o s m c value told ok same all some none =
+    some (ap (λ x. those_sought o s (own_leaf c (Some x))) same ∙ ap (those_sought o s)
+    (sym (leaves_of_one v m c (Some value) ok (λ k held. all k (held_in_map c k ok held) held)))
+    ∙ none)
 
 -- where one child has some, the first n children have
-pub some_in_child : (v : Values) (o : Odds) (s : Sought) (lo hi : Voxel) (h m : ℕ) (b c : Cube)
-    (i : ℕ)
-    → c ≡ child_of b i → m ≡ h
-    → (picked o s lo hi (leaves_below v m c) ≡ [] → ⊥) → (n : ℕ) → i < n
-    → picked o s lo hi (first_leaves v h b n) ≡ [] → ⊥
-some_in_child v o s lo hi h m b c i child level some zero less none = omega (arith, less)
-some_in_child v o s lo hi h m b c i child level some (suc n) less none =
+pub some_in_child : (v : Values) (F : List Shown → List Shown) → IsChoice F → (h m : ℕ)
+    (b c : Cube) (i : ℕ) → c ≡ child_of b i → m ≡ h
+    → (F (leaves_below v m c) ≡ [] → ⊥) → (n : ℕ) → i < n
+    → F (first_leaves v h b n) ≡ [] → ⊥
+some_in_child v F choice h m b c i child level some zero less none = omega (arith, less)
+some_in_child v F choice h m b c i child level some (suc n) less none =
     let one : n + 1 ≡ suc n = omega arith in
-    let (before, here) = parts (picked o s lo hi (first_leaves v h b n))
-    (picked o s lo hi (leaves_below v h (child_of b n)))
-    (sym (meet_next v o s lo hi h b n)
-    ∙ ap (λ (k : ℕ). picked o s lo hi (first_leaves v h b k)) one ∙ none) in
+    let (before, here) = parts (F (first_leaves v h b n)) (F (leaves_below v h (child_of b n)))
+    (sym (chosen_next v F choice h b n)
+    ∙ ap (λ (k : ℕ). F (first_leaves v h b k)) one ∙ none) in
     elim (cases_lt i n) [
-      | inl old ↦ some_in_child v o s lo hi h m b c i child level some n old before
+      | inl old ↦ some_in_child v F choice h m b c i child level some n old before
       | inr last ↦ (let e : i ≡ n = omega (arith, less, last) in
-          some (ap (λ (k : ℕ). picked o s lo hi (leaves_below v k c)) level
-          ∙ ap (λ (d : Cube). picked o s lo hi (leaves_below v h d)) (child ∙ ap (child_of b) e)
+          some (ap (λ (k : ℕ). F (leaves_below v k c)) level
+          ∙ ap (λ (d : Cube). F (leaves_below v h d)) (child ∙ ap (child_of b) e)
           ∙ here))
     ]
   where

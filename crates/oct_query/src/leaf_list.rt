@@ -11,8 +11,7 @@ ghost use Rattle.oct_query.specs.Leaves.{leaves_of, own_leaf, picked, those_soug
 ghost use Rattle.oct_query.specs.Extent.{is_sought};
 
 use crate::block_list::BlockList;
-use crate::depths::lowest_voxel;
-use crate::extent::{highest_voxel, is_sought};
+use crate::extent::is_sought;
 use crate::found::Found;
 use crate::sought::Sought;
 use oct_arena::Node;
@@ -63,9 +62,9 @@ pub fn leaves_of(alloc: Global, tree: &OccTree, sought: Sought) -> Result<BlockL
         (those_sought tree.now.odds sought (leaves_of (value_at tree.now)) ≡ [] → ⊥) }
     ensures linked { IsLinked tree.now }
 {
-    let whole = Block::whole_map();
-    let window = Window::of(lowest_voxel(whole), highest_voxel(whole));
-    leaves_of_in(alloc, tree, &window, sought)
+    let mut found = BlockList::new(alloc);
+    push_leaves(tree, Place::Root, Block::whole_map(), sought, &mut found)?;
+    Ok(found)
 }
 
 /// Those of these leaves whose blocks meet the box, likewise.
@@ -82,7 +81,7 @@ pub fn leaves_of_in(
     ensures linked { IsLinked tree.now }
 {
     let mut found = BlockList::new(alloc);
-    push_leaves(
+    push_met(
         tree,
         Place::Root,
         Block::whole_map(),
@@ -95,7 +94,7 @@ pub fn leaves_of_in(
 
 /// Adds the leaves in the place's block that are sought and meet the box, the block itself where
 /// its voxels have one value.
-fn push_leaves(
+fn push_met(
     tree: &OccTree,
     p: Place,
     block: Block,
@@ -116,6 +115,9 @@ fn push_leaves(
     if !window.meets(block) {
         return Ok(());
     }
+    if window.covers(block) {
+        return push_leaves(tree, p, block, sought, found);
+    }
     if holds_none(tree, p, block, sought) {
         return Ok(());
     }
@@ -130,7 +132,46 @@ fn push_leaves(
         if let Node::Absent = tree.node(slot) {
             continue;
         }
-        push_leaves(tree, slot, block.child(i), window, sought, found)?;
+        push_met(tree, slot, block.child(i), window, sought, found)?;
+    }
+    Ok(())
+}
+
+/// Adds the leaves in the place's block that are sought, the block itself where its voxels have one
+/// value. A child that is a leaf is added here, without a call for it.
+fn push_leaves(
+    tree: &OccTree,
+    p: Place,
+    block: Block,
+    sought: Sought,
+    found: &mut BlockList,
+) -> Result<(), Memory>
+    requires place { IsPlace tree.now p }
+    requires block { block_in tree.now p ≡ Some (cube_of block) }
+    ensures listed { OnOk result (found.new ≡ found.old ++ those_sought tree.now.odds sought
+        (block_leaves (value_at tree.now) (cube_of block))) }
+    ensures memory { OnErr result (those_sought tree.now.odds sought
+        (block_leaves (value_at tree.now) (cube_of block)) ≡ [] → ⊥) }
+    ensures linked { IsLinked tree.now }
+{
+    let node = tree.node(p);
+    if holds_none(tree, p, block, sought) {
+        return Ok(());
+    }
+    let Node::Inner(_, id) = node else {
+        return push_block(tree, block, node.value(), sought, found);
+    };
+    if let Some(value) = shared_value(tree, p, block) {
+        return push_block(tree, block, value, sought, found);
+    }
+    for i in 0..8 {
+        match tree.node(Place::Slot(id, i)) {
+            Node::Absent => {}
+            Node::Leaf(value) => push_block(tree, block.child(i), Some(value), sought, found)?,
+            Node::Inner(..) => {
+                push_leaves(tree, Place::Slot(id, i), block.child(i), sought, found)?;
+            }
+        }
     }
     Ok(())
 }

@@ -299,6 +299,10 @@ fn lists_the_leaves_that_meet_a_box(rt: HostRuntime) -> Result<(), Fail> {
     expect_leaves_in(&rt, alloc, &two, at_first, &[upper]);
     expect_leaves_in(&rt, alloc, &two, at_both, &[upper, lower]);
     expect_leaves_in(&rt, alloc, &two, without, &[]);
+    // The first's block alone; the whole map.
+    let first = ((32_768, 32_768, 0), (65_535, 65_535, 32_767));
+    expect_leaves_in(&rt, alloc, &two, first, &[upper]);
+    expect_leaves_in(&rt, alloc, &two, WHOLE, &[upper, lower]);
     // A leaf of the whole map reaches beyond the box, also where it has eight leaf nodes.
     let whole = block_found(&rt, 0, (0, 0, 0), 850);
     expect_leaves_in(&rt, alloc, &unpruned_world(alloc)?, inside, &[whole]);
