@@ -10,6 +10,7 @@ pub mod MetBlocks
 pub mod RowSteps
 pub mod Above
 pub mod LeafWalks
+pub mod LeastParts
 pub mod LeafLists
 pub mod LeafBoxes
 pub mod LeafNodes

@@ -5,6 +5,7 @@
 //! let value = query(&tree, Block::of(key, 15));     // the largest of eight voxels, or None
 //! let value = paths.query(&tree, Block::of(key, 15));     // the same, by paths that are kept
 //! let Counts { groups, nodes } = counts(&tree);
+//! let LeastTree { groups, nodes, leaves } = least_tree(&tree);
 //! for found in list(alloc, &tree, lo, hi, 15, 1_000_000)?.as_slice() { .. }
 //! for leaf in leaves(alloc, &tree)?.as_slice() { .. }
 //! for leaf in leaves_in(alloc, &tree, &window)?.as_slice() { .. }
@@ -21,6 +22,8 @@
 //!   these values has fewer groups than there are blocks of depth 0 to 15 that aren't uniform
 //!   (`group_count`), and exactly the pruned trees have no more ([`groups_are_needed`],
 //!   [`pruned_is_least`]).
+//! - [`least_tree`] answers how many groups, nodes and leaves such a least tree has (`group_count`,
+//!   `node_count`, and the length of `leaves_of`), of a tree that may have more.
 //! - [`list`] answers for all blocks of a depth that meet a box and aren't unknown, by ascending x,
 //!   then y, then z: a function of the voxels' values (`listed_blocks`). A list of more blocks than
 //!   are allowed is refused before one is looked at.
@@ -47,6 +50,7 @@ mod fault;
 mod found;
 mod laws;
 mod leaf_list;
+mod least;
 mod listing;
 mod nodes;
 mod path;
@@ -61,11 +65,12 @@ pub use fault::ListFault;
 pub use found::Found;
 pub use laws::{groups_are_needed, leaves_are_leaf_nodes, pruned_is_least};
 pub use leaf_list::{leaves, leaves_in, leaves_of, leaves_of_in};
+pub use least::least_tree;
 pub use listing::list;
 pub use nodes::counts;
 pub use paths::Paths;
 pub use sought::Sought;
-pub use totals::Counts;
+pub use totals::{Counts, LeastTree};
 
 #[cfg(test)]
 mod tests;

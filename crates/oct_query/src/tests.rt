@@ -356,3 +356,21 @@ fn finds_the_least_box_around_voxels(rt: HostRuntime) -> Result<(), Fail> {
     expect_bounds(&rt, &two, Sought::Free, Some(free));
     Ok(())
 }
+
+/// Expects this many groups, nodes and leaves in the least tree of these values.
+fn expect_least(rt: &impl Abort, tree: OccTree, groups: u64, nodes: u64, leaves: u64) {
+    let least = least_tree(&tree);
+    assert_eq!(rt; least.groups, groups);
+    assert_eq!(rt; least.nodes, nodes);
+    assert_eq!(rt; least.leaves, leaves);
+}
+
+#[test]
+fn counts_the_least_tree(rt: HostRuntime) -> Result<(), Fail> {
+    expect_least(&rt, unknown_world(rt.alloc())?, 0, 0, 0);
+    expect_least(&rt, known_world(rt.alloc())?, 0, 1, 1);
+    // It has a group and nine nodes itself.
+    expect_least(&rt, unpruned_world(rt.alloc())?, 0, 1, 1);
+    expect_least(&rt, two_children(rt.alloc())?, 1, 3, 2);
+    Ok(())
+}

@@ -8,3 +8,14 @@ pub struct Counts {
     /// Nodes that aren't absent, the root among them.
     pub nodes: u64,
 }
+
+/// How large the least tree of a map's values is.
+#[derive(Clone, Copy, Debug, PartialEq, Eq)]
+pub struct LeastTree {
+    /// Groups of eight nodes.
+    pub groups: u64,
+    /// Nodes that aren't absent, the root among them.
+    pub nodes: u64,
+    /// Leaves: the greatest blocks whose voxels are known and have one value.
+    pub leaves: u64,
+}
