@@ -1,5 +1,7 @@
-//! What a map holds as a whole: its leaves, how far it reaches, its limits and its memory.
-ghost use Rattle.std.specs.Prelude.{◌≡◌, ◌-◌, ◌^◌, min, [], Ok, Err, IsOk, IfOk};
+//! What a map holds as a whole: its leaves, how many they are, how far it reaches, its limits and
+//! its memory.
+ghost use Rattle.std.specs.Prelude.{◌≡◌, ◌-◌, ◌^◌, min, [], Ok, Err, IsOk, IfOk, length};
+ghost use Rattle.oct_values.specs.Counts.{group_count, node_count};
 ghost use Rattle.oct_query.specs.Extent.{IsExtent, IsFound};
 ghost use Rattle.oct_query.specs.Leaves.{IsLeafList, leaves_of, those_sought};
 ghost use Rattle.oct_map.specs.declared.fault.MapFault.{MapFault};
@@ -14,7 +16,9 @@ use crate::limits::Limits;
 use oct_arena::Group;
 use oct_change::Note;
 use oct_key::{Point, Window};
-use oct_query::{BlockList, Sought, bounds, leaves, leaves_of, leaves_of_in};
+use oct_query::{
+    BlockList, LeastTree, Sought, bounds, least_tree, leaves, leaves_of, leaves_of_in,
+};
 use std::mem::size_of;
 
 /// The bytes of a group.
@@ -101,6 +105,18 @@ impl OccMap {
         ensures map { IsMap self.now }
     {
         bounds(&self.tree, sought)
+    }
+
+    /// How many groups, nodes and leaves the least tree of the map's values has: those that
+    /// [`counts`](OccMap::counts) finds, but the map isn't pruned. A stale map answers as well.
+    /// Takes no memory.
+    pub fn least_tree(&self) -> LeastTree
+        ensures groups { result.groups ≡ group_count (values_of self.now) }
+        ensures nodes { result.nodes ≡ node_count (values_of self.now) }
+        ensures leaves { result.leaves ≡ length (leaves_of (values_of self.now)) }
+        ensures map { IsMap self.now }
+    {
+        least_tree(&self.tree)
     }
 
     /// How large the map may grow, and how much a scan may meet.
