@@ -1,9 +1,12 @@
 """Files that are written: where they go, what stays as it was, and what would be lost."""
 
 import errno
+import io
 import os
 import resource
 import stat
+import subprocess
+import sys
 import threading
 from unittest import mock
 
@@ -11,6 +14,7 @@ import numpy as np
 from running import InFolder, save_map
 
 from octofix import _files
+from octofix.tools.command import main
 from octofix.tools.yamltext import text_of
 
 try:
@@ -272,3 +276,38 @@ class Names(InFolder):
             file.flush()
             _files.write(f"/dev/fd/{file.fileno()}", b"after")
         self.assertEqual(content_of("file"), b"before after")
+
+
+class FewBytes(io.RawIOBase):
+    """A place that takes few bytes at once."""
+
+    def __init__(self):
+        self.taken = b""
+
+    def writable(self):
+        return True
+
+    def write(self, data):
+        part = bytes(data[:99])
+        self.taken += part
+        return len(part)
+
+
+class StandardOutput(Maps):
+    def test_without_a_buffer(self):
+        """As with PYTHONUNBUFFERED: what takes a part of the bytes is given the rest."""
+        for words in (["crop", "wanted.bt", "--box", *"000999", "-o", "-"], ["info", "wanted.bt"]):
+            place = FewBytes()
+            with mock.patch("sys.stdout", io.TextIOWrapper(place, write_through=True)):
+                self.assertEqual(main(words), 0)
+            self.assertEqual(place.taken, self.done(*words).output)
+            self.assertGreater(len(place.taken), 99)
+
+    def test_texts_without_room(self):
+        """What --help and --version write is output, too."""
+        for words in (["--version"], ["map", "--help"]):
+            call = [sys.executable, "-m", "octofix", *words]
+            with open("/dev/full", "wb") as full:
+                ran = subprocess.run(call, stdout=full, stderr=subprocess.PIPE)
+            said = b"octofix: the output: No space left on device\n"
+            self.assertEqual((ran.returncode, ran.stderr), (1, said))

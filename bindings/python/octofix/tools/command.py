@@ -3,6 +3,7 @@
 import argparse
 import contextlib
 import importlib
+import io
 import os
 import sys
 
@@ -56,17 +57,17 @@ def main(words=None):
 
 
 def _run(words):
-    if sys.stdout is None:
-        # (it is closed, and what is written to this is a fault)
-        sys.stdout = open(os.devnull)
+    # (where it is closed, what is written to this is a fault)
+    sys.stdout = open(os.devnull) if sys.stdout is None else _buffered(sys.stdout)
     with INTERRUPTS.held("the start"):
         # (this imports numpy and loads the library)
         from octofix import Refused
 
         from .clashes import refuse_clashes
 
-        options = parser().parse_args(words)
+        top = parser()
     try:
+        options = _parsed(top, words)
         INTERRUPTS.take()
         refuse_clashes(options)
         status = options.run(options)
@@ -89,6 +90,25 @@ def _run(words):
             _give_output_up()
         say(f"{error.filename or 'the output'}: {error.strerror or error}")
         return UNUSABLE
+
+
+def _buffered(stream):
+    """The stream; with a buffer where it has none, as PYTHONUNBUFFERED makes it: without one a disk
+    that is nearly full gets a part of what is written, and nothing is said."""
+    raw = getattr(stream, "buffer", None)
+    if not isinstance(raw, io.RawIOBase):
+        return stream
+    how = {"encoding": stream.encoding, "errors": stream.errors, "line_buffering": True}
+    return io.TextIOWrapper(io.BufferedWriter(raw), **how)
+
+
+def _parsed(top, words):
+    """The options; SystemExit where the words are wrong, or ask for a text, which is written."""
+    try:
+        return top.parse_args(words)
+    except SystemExit:
+        sys.stdout.flush()
+        raise
 
 
 def _give_output_up():
