@@ -139,7 +139,18 @@ class Files(InFolder):
 
     def test_no_file(self):
         self.refused("none: No such file or directory", "map", "--res", 1, "none", "-o", "a.bt")
-        self.refused(".: Is a directory", "map", "--res", 1, ".", "-o", "a.bt")
+        said = "a/: Is a directory (its files are a/*)"
+        os.mkdir("a")
+        with open("poses", "w") as file:
+            file.write("0 0 0 0 0 0 0 1\n" * 3)
+        self.refused(said, "map", "--res", 1, "--poses", "poses", "a/", "-o", "a.bt")
+
+    def test_no_file_among_others(self):
+        """It is told before the others are read."""
+        words = ["map", "--res", 1, "-", "none", "-o", "a.bt"]
+        self.refused("none: No such file or directory", *words, given=b"no cloud")
+        ran = self.done(*words, "--on-error", "skip", given=b"1 2 3\n", status=3)
+        self.assertIn("skipped: none: No such file or directory", ran.said)
 
     def test_forms_by_name(self):
         with open("a.bin", "wb") as file:
@@ -253,6 +264,14 @@ class Words(InFolder):
              "tum"),
             ("--interpolate needs --poses, --pose-topic or --frame", "map", "--res", 1, "-", "-o",
              "c", "--interpolate"),
+            ("--topic is for ROS bags, and no cloud is one", "map", "--res", 1, "-", "-o", "c",
+             "--topic", "/points"),
+            ("--frame is for ROS bags, and no cloud is one", "map", "--res", 1, "a.bt", "-o", "c",
+             "--frame", "map"),
+            ("--pose-topic and --frame exclude each other", "map", "--res", 1, "-", "-o", "c",
+             "--format", "bag", "--pose-topic", "/odom", "--frame", "map"),
+            ("--tolerance needs --by-time, --times, --interpolate, --pose-topic or --frame", "map",
+             "--res", 1, "-", "-o", "c", "--tolerance", 1),
             ("the quaternion is 0, which is no direction", "map", "--res", 1, "-", "-o", "c",
              "--sensor", 0, 0, 0, 0, 0, 0, 0),
             ("only one of -o, --snapshot and --script can be the output", "map", "--res", 1, "-",

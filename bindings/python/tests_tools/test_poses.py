@@ -86,6 +86,18 @@ class Order(InFolder):
         said = "poses: it has 3 poses for 2 clouds (--by-time takes poses by their times)"
         self.refused(said, "map", "--res", 1, *self.words[:-1], "-o", "a.bt")
 
+    def test_times_that_fall(self):
+        """Poses in turn are in the order of their times, or that is meant."""
+        with open("poses", "w") as file:
+            file.writelines(f"{it} {it} 0 0 0 0 0 1\n" for it in (0, 0, 2, 1))
+        words = ["--poses", "poses", "0.npy", "2.npy", "10.npy"]
+        said = "poses: poses go to clouds in turn, and pose 4 is earlier than pose 3 "
+        said += "(--by-time goes by times, --order given doesn't)"
+        self.refused(said, "map", "--res", 1, *words, "--order", "natural", "-o", "a.bt")
+        script = self.script(*words, "10.npy", "--order", "given")
+        starts = [f"scan {it} 0 0" for it in (0, 0, 2, 1)]
+        self.assertEqual([it[:10] for it in script.split("\n") if "scan" in it], starts)
+
     def test_same_order(self):
         for names in (["a2", "a10", "b1"], ["1.25", "1.5", "1.75"], ["01", "1", "2"]):
             self.assertEqual(in_order(names, None, True), names)

@@ -129,7 +129,7 @@ def _add_poses(group):
     group.add_argument(
         "--order", choices=["given", "natural"],
         help="poses go to the clouds as they are given, or by the numbers in their names; needed "
-        "where these differ",
+        "where these differ, or times of poses in turn don't rise",
     )  # fmt: skip
     group.add_argument(
         "--pose", nargs=7, type=finite, metavar=("X", "Y", "Z", "QW", "QX", "QY", "QZ"),
@@ -142,7 +142,7 @@ def _add_poses(group):
         "--times", type=Input, metavar="FILE", help="by these times, a line for each cloud"
     )
     group.add_argument(
-        "--tolerance", type=positive, default=0.05, metavar="S", help="seconds to a pose (0.05)"
+        "--tolerance", type=positive, metavar="S", help="seconds to a pose (0.05)"
     )
     group.add_argument(
         "--interpolate", action="store_true", help="a pose between the two around the time"

@@ -1,19 +1,29 @@
 """The scans that the words of a command line ask for."""
 
+import errno
+import os
+
 from .clouds import Reading
 from .clouds.bags import Topics
+from .clouds.reading import is_bag
 from .errors import Unusable
 from .ordering import in_order
 from .poses import IDENTITY, Pose
 from .scans import Choice, Frames, Scans
 from .skips import Skips
-from .trajectory import ByTime, InTurn, Nearness, Same
+from .trajectory import TOLERANCE, ByTime, InTurn, Nearness, Same
+
+OF_BAGS = ("topic", "pose_topic", "frame")
+BY_TIME = ("by_time", "times", "interpolate", "pose_topic", "frame")
 
 
 def scans_of(options):
     """The Scans of options that `arguments.add_scans` made."""
     skips = Skips(options.on_error == "skip")
-    nearness = Nearness(options.tolerance, options.interpolate)
+    if not skips.is_skipping:
+        _expect_files(options.clouds)
+    _expect_use(options)
+    nearness = Nearness(options.tolerance or TOLERANCE, options.interpolate)
     topics = Topics(options.topic, options.pose_topic, options.frame, nearness)
     allows_empty = getattr(options, "allow_empty", False)
     reading = Reading(options.format, options.columns, topics, allows_empty)
@@ -28,6 +38,28 @@ def scans_of(options):
     is_by_count = isinstance(trajectory, InTurn) or options.times is not None
     scans.names = in_order(scans.names, options.order, is_by_count)
     return scans
+
+
+def _expect_files(names):
+    """Unusable where a cloud isn't there, or is a folder, before all that is done for others."""
+    for name in names:
+        if os.path.isdir(name):
+            files = os.path.join(name, "*")
+            raise Unusable(f"{os.strerror(errno.EISDIR)} (its files are {files})", name)
+        if name != "-" and not os.path.exists(name):
+            raise Unusable(os.strerror(errno.ENOENT), name)
+
+
+def _expect_use(options):
+    """Unusable where an option about poses has none to be about."""
+    asked = [f"--{it.replace('_', '-')}" for it in OF_BAGS if getattr(options, it) is not None]
+    if asked and not any(is_bag(it, options.format) for it in options.clouds):
+        raise Unusable(f"{asked[0]} is for ROS bags, and no cloud is one")
+    if options.pose_topic is not None and options.frame is not None:
+        raise Unusable("--pose-topic and --frame exclude each other")
+    if options.tolerance is not None and not any(getattr(options, it) for it in BY_TIME):
+        needed = "--by-time, --times, --interpolate, --pose-topic or --frame"
+        raise Unusable(f"--tolerance needs {needed}")
 
 
 def _frames(options):
@@ -54,6 +86,7 @@ def _trajectory(options, nearness, skips):
             raise Unusable("--interpolate needs --poses, --pose-topic or --frame")
         return None
     if not (is_by_time or options.interpolate):
-        return InTurn(options.poses, skips, options.pose_format)
+        is_sure = options.order == "given"
+        return InTurn(options.poses, skips, options.pose_format, is_sure=is_sure)
     chosen = {"times": options.times, "form": options.pose_format}
     return ByTime(options.poses, skips, nearness, **chosen)

@@ -12,6 +12,10 @@ from .kinds import text_of
 from .poses import Pose, numbers_of, read_poses, seconds
 
 
+# How far a time may be from a pose, in seconds.
+TOLERANCE = 0.05
+
+
 class Same:
     """One pose for all clouds."""
 
@@ -28,9 +32,20 @@ class Same:
 class InTurn:
     """A pose for each cloud, in the same order."""
 
-    def __init__(self, name, skips, form=None):
-        self.name = name
-        self.poses = [pose for _, pose in read_poses(name, skips, form)]
+    def __init__(self, name, skips, form=None, *, is_sure=False):
+        """is_sure: the order of the poses is meant, whatever their times say."""
+        found, self.name = read_poses(name, skips, form), name
+        if not is_sure:
+            self._expect_order([time for time, _ in found])
+        self.poses = [pose for _, pose in found]
+
+    def _expect_order(self, times):
+        timed = [(time, number) for number, time in enumerate(times, 1) if time is not None]
+        for (before, one), (time, other) in zip(timed, timed[1:]):
+            if time < before:
+                said = f"poses go to clouds in turn, and pose {other} is earlier than pose {one}"
+                said += " (--by-time goes by times, --order given doesn't)"
+                raise Unusable(said, self.name)
 
     def check(self, clouds):
         """Stops where there are more or fewer poses than clouds."""
@@ -51,7 +66,7 @@ class Nearness:
     """Which pose is near enough to a time: the nearest one within so many seconds, or the one
     between the two around it, both within them."""
 
-    tolerance: float = 0.05
+    tolerance: float = TOLERANCE
     is_between: bool = False
 
 

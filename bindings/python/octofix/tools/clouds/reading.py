@@ -1,5 +1,6 @@
 """Which reader takes a file."""
 
+import contextlib
 import os
 import re
 from dataclasses import dataclass, field
@@ -56,6 +57,17 @@ def form_of(name, content):
     found = next((form for sign, form in SIGNS if re.match(sign, content[:65536])), None)
     by_name = (form for ending, form in ENDINGS if re.search(ending, name.lower()))
     return found or next(by_name, "text")
+
+
+def is_bag(name, form=None):
+    """Whether a file is a ROS bag, by the form that is asked, its name or its first bytes."""
+    if form is not None or name.lower().endswith(".bag"):
+        return form in (None, "bag")
+    if not os.path.isfile(name):
+        return False
+    with contextlib.suppress(OSError), open(name, "rb") as file:
+        return file.read(len(ROS_BAG)) == ROS_BAG
+    return False
 
 
 def clouds_in(name, reading):
