@@ -13,7 +13,7 @@ from unittest import mock
 import numpy as np
 from running import InFolder, save_map
 
-from octofix import _files
+from octofix import Map, _files
 from octofix.tools.command import main
 from octofix.tools.yamltext import text_of
 
@@ -146,11 +146,18 @@ class Written(Maps):
         self.assertEqual(content_of("b.bt"), b"old")
 
     def test_no_room_for_points(self):
-        """The place where points wait for their header is named, as it is the one that is full."""
-        with mock.patch("tempfile.SpooledTemporaryFile.write", side_effect=OSError(28, "full")):
-            with mock.patch("tempfile.gettempdir", return_value="/small"):
-                words = "points", "wanted.bt", "-o", "a.xyz"
-                self.refused("/small: full", *words)
+        """Of a whole map that is free there are 2^48; none is written."""
+        with Map(1) as world:
+            world.edit_box((-32768,) * 3, (32767,) * 3, 1, -400)
+            world.save("free.bt")
+        words = "points", "free.bt", "--what", "free"
+        for name, size in (("a.ply", 12), ("a.npy", 24), ("a.xyz", 6)):
+            ran = self.done(*words, "-o", name, status=1)
+            said = f"octofix: {name}: {2**48} points take {size * 2**48} bytes or more, and there"
+            self.assertTrue(ran.said.startswith(said), ran.said)
+            self.assertIn("(--depth and --box take fewer)", ran.said)
+        self.done(*words, "--depth", 4, "-o", "a.npy")
+        self.assertEqual(np.load("a.npy").shape, (2**12, 3))
 
 
 class Clashes(Maps):

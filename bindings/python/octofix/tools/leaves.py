@@ -124,6 +124,10 @@ class Leaves:
         depths, classes = np.repeat(self.depths + 1, 8), np.repeat(self.classes, 8)
         return Leaves(codes, depths, classes, self.resolution)
 
+    def count_blocks(self, depth=VOXELS):
+        """How many blocks of this depth there are. No block may be deeper."""
+        return int((self.volumes() >> 3 * (VOXELS - depth)).sum())
+
     def blocks(self, depth=VOXELS, chunk=CHUNK):
         """Arrays of codes and classes of all blocks of this depth, at most `chunk` at a time. No
         block may be deeper."""

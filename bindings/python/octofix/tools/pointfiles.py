@@ -1,17 +1,16 @@
 """Files of points, written piece by piece, however many there are."""
 
+import io
+import os
 import shutil
-import tempfile
 
 import numpy as np
-
-from octofix import _files
 
 from .errors import Unusable
 from .files import written
 
-KEPT_IN_MEMORY = 1 << 24
-FORMS = ("ply", "pcd", "xyz", "csv", "npy")
+# The fewest bytes that a number takes in each form.
+FORMS = {"ply": 4, "pcd": 4, "xyz": 2, "csv": 2, "npy": 8}
 
 
 def form_of(name, asked):
@@ -22,23 +21,26 @@ def form_of(name, asked):
     return form
 
 
-def write_points(name, form, columns, pieces):
-    """Writes pieces (n, len(columns)) as numbers of 32 bits (PLY, PCD) or 64 bits (.npy), or text.
-
-    The body goes to a file of its own first, since a header says how many points follow. Answers
-    how many."""
-    with tempfile.SpooledTemporaryFile(KEPT_IN_MEMORY) as body:
-        count = 0
+def write_points(name, form, columns, count, pieces):
+    """Writes pieces (n, len(columns)), which have so many rows together, as numbers of 32 bits
+    (PLY, PCD) or 64 bits (.npy), or text."""
+    _expect_room(name, count, count * len(columns) * FORMS[form])
+    with written(name) as (file,):
+        file.write(_header(form, columns, count))
         for piece in pieces:
-            # (where that has no room, TMPDIR may name another folder)
-            with _files.named(tempfile.gettempdir()):
-                body.write(_body(form, piece))
-            count += len(piece)
-        body.seek(0)
-        with written(name) as (file,):
-            file.write(_header(form, columns, count))
-            shutil.copyfileobj(body, file)
-    return count
+            file.write(_body(form, piece))
+
+
+def _expect_room(name, count, size):
+    """Unusable where a file has no room for so many bytes, before all room is filled."""
+    is_file = os.path.isfile(name) or not os.path.exists(name)
+    folder = os.path.dirname(os.path.realpath(name))
+    if name == "-" or not is_file or not os.path.isdir(folder):
+        return
+    room = shutil.disk_usage(folder).free
+    if size > room:
+        said = f"{count} points take {size} bytes or more, and there is room for {room}"
+        raise Unusable(f"{said} (--depth and --box take fewer)", name)
 
 
 def points_file(form, columns, piece):
@@ -73,8 +75,7 @@ def _header(form, columns, count):
 
 
 def _npy_header(shape):
-    with tempfile.SpooledTemporaryFile(KEPT_IN_MEMORY) as file:
-        form = {"descr": "<f8", "fortran_order": False, "shape": shape}
-        np.lib.format.write_array_header_1_0(file, form)
-        file.seek(0)
-        return file.read()
+    file = io.BytesIO()
+    form = {"descr": "<f8", "fortran_order": False, "shape": shape}
+    np.lib.format.write_array_header_1_0(file, form)
+    return file.getvalue()

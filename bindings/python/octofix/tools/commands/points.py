@@ -41,13 +41,14 @@ def run(options):
     if options.what == "frontier" and options.depth != VOXELS:
         raise Unusable("a frontier is of voxels, and takes no --depth")
     columns = ["x", "y", "z"] + ["size", "class"] * (options.what == "leaves")
-    count = write_points(options.output, form, columns, pieces(options))
+    count, found = pieces(options)
+    write_points(options.output, form, columns, count, found)
     say(f"{count} points ({options.what}) written to {options.output}")
     return DONE
 
 
 def pieces(options):
-    """Arrays of rows of points."""
+    """How many points there are, and arrays of rows of them."""
     # (A greater block is occupied where a voxel in it is, whatever else is known there.)
     kind = "occupied" if options.what == "occupied" else "known"
     leaves = read_leaves(options.map, kind).coarse(options.depth)
@@ -57,13 +58,14 @@ def pieces(options):
         if box:
             keys = decode(codes)
             codes = codes[((keys >= box[0]) & (keys <= box[1])).all(axis=1)]
-        return [leaves.centers(codes)]
+        return len(codes), [leaves.centers(codes)]
     if options.what == "leaves":
-        return [_leaf_rows(leaves.within(*box, options.depth) if box else leaves)]
+        leaves = leaves.within(*box, options.depth) if box else leaves
+        return len(leaves), [_leaf_rows(leaves)]
     leaves = leaves.of_class(CLASSES[options.what])
     leaves = leaves.within(*box, options.depth) if box else leaves
-    blocks = leaves.blocks(options.depth)
-    return (leaves.centers(codes, options.depth) for codes, _ in blocks)
+    found = (leaves.centers(codes, options.depth) for codes, _ in leaves.blocks(options.depth))
+    return leaves.count_blocks(options.depth), found
 
 
 def _leaf_rows(leaves):
