@@ -199,6 +199,23 @@ class View(InFolder):
         column = picture("a.png")[:, 50]
         self.assertLess((column == 255).all(axis=1).sum(), 2)
 
+    def test_a_narrow_map(self):
+        """A row of 100 voxels gets no picture of so many pixels as its width has, each way."""
+        with Map(1) as world:
+            world.edit_box((0, 0, 0), (0, 99, 0), 1, 9)
+            world.save("a.bt")
+        tools = "octofix.tools"
+        with mock.patch(f"{tools}.commands.view.MOST_PIXELS", 1 << 14):
+            self.done("view", "a.bt", "-o", "a.png")
+        self.assertEqual(picture("a.png").shape, (1200, 12, 3))
+        with mock.patch(f"{tools}.oblique.MOST_PIXELS", 1 << 14):
+            self.done("view", "a.bt", "--oblique", "--around", 180, "--width", 16, "-o", "a.png")
+            wide = picture("a.png").shape
+            self.done("view", "a.bt", "--oblique", "--around", 90, "--width", 800, "-o", "a.png")
+        rows, columns, _ = picture("a.png").shape
+        self.assertEqual(wide[1], 16)
+        self.assertAlmostEqual(rows * columns, 1 << 14, delta=1 << 12)
+
     def test_too_many_voxels(self):
         """Blocks of 2 x 2 x 2 voxels are shown as two voxels on each axis are."""
         for name, edge in (("a.bt", 0.5), ("b.bt", 1)):

@@ -6,6 +6,9 @@ from .errors import Unusable
 from .files import write
 from .optional import needed
 
+# Above about this a picture is made with fewer pixels than its width asks for.
+MOST_PIXELS = 1 << 26
+
 
 def form_of(name):
     ending = name.rsplit(".", 1)[-1].lower()

@@ -16,6 +16,7 @@ import os
 import pathlib
 import tempfile
 import webbrowser
+from math import isqrt
 
 import numpy as np
 
@@ -28,7 +29,7 @@ from ..leaves import OCCUPIED, VOXELS, values_of_parts
 from ..maps import read_leaves, read_leaves_and_values
 from ..morton import decode
 from ..page import MOST_LEAVES, fewer, page
-from ..pictures import write_picture
+from ..pictures import MOST_PIXELS, write_picture
 from ..progress import say
 from .grid import box_for
 
@@ -141,8 +142,9 @@ def _above(leaves, options):
 
 
 def _write(options, cells):
-    """A picture of cells, each of as many pixels as the width has room for."""
-    times = max(options.width // cells.shape[1], 1)
+    """A picture of cells, each of as many pixels as the width and the most pixels have room for."""
+    rows, columns, _ = cells.shape
+    times = max(min(options.width // columns, isqrt(MOST_PIXELS // (rows * columns))), 1)
     write_picture(options.output, np.repeat(np.repeat(cells, times, axis=0), times, axis=1))
 
 
