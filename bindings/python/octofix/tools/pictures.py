@@ -22,11 +22,9 @@ def write_picture(name, pixels):
 
 
 def picture(name, pixels):
-    """The file of uint8 pixels, (rows, columns) of greys or (rows, columns, 3), the top row
-    first, in the form of the name."""
+    """The file of uint8 pixels, (rows, columns) of greys, or for a PNG (rows, columns, 3), the top
+    row first, in the form of the name."""
     if form_of(name) == "pgm":
-        if pixels.ndim != 2:
-            raise Unusable("a picture in colours is a PNG", name)
         return f"P5\n{pixels.shape[1]} {pixels.shape[0]}\n255\n".encode() + pixels.tobytes()
     file = io.BytesIO()
     needed("PIL.Image", "a PNG").fromarray(pixels).save(file, "PNG")

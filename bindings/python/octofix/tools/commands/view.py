@@ -72,6 +72,8 @@ def run(options):
     if options.open or options.output and options.output.lower().endswith(PAGES):
         _page(options)
         return DONE
+    if options.output and not options.output.lower().endswith(".png"):
+        raise Unusable("a page's name ends in .html, that of a picture in .png", options.output)
     leaves = read_leaves(options.map)
     if options.slice is not None:
         _slice(leaves, options)
