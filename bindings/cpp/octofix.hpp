@@ -161,10 +161,10 @@ template <class T> class view {
 namespace detail {
 
 /// Throws what a code is, but for 0.
-inline void check(std::uint32_t code, const details &named = {}) {
+inline void check(std::uint32_t code, const details &named = {}, bool is_of_array = false) {
     if (code == OCTOFIX_DONE) return;
     if (code == OCTOFIX_MEMORY) throw std::bad_alloc();
-    throw refused(code, named);
+    throw refused(code, named, is_of_array);
 }
 
 /// Where elements begin, and some place where there are none: the calls of C take no null pointer.
@@ -726,7 +726,7 @@ class map {
         details named{};
         detail::check(call(&handle_, &sensor, detail::start(points), points.size(), &options, &seen,
                            &named),
-                      named);
+                      named, !points.empty());
         return seen;
     }
     /// The blocks that a query lists of a box.

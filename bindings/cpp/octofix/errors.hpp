@@ -51,10 +51,12 @@ inline const char *field_of(std::uint32_t code, std::uint64_t number) {
     }
 }
 
-/// The text of a refusal, as `refused 7 PointOutside index 3` or `refused 14 BadField res`.
-inline std::string text_of(std::uint32_t code, const details &named) {
+/// The text of a refusal, as `refused 7 PointOutside index 3` or `refused 14 BadField res`. The
+/// index of a bad argument is said of a call that takes an array.
+inline std::string text_of(std::uint32_t code, const details &named, bool is_of_array) {
     std::string text = "refused " + std::to_string(code) + ' ' + name_of(code);
     if (const char *field = field_of(code, named.first)) return text + ' ' + field;
+    if (code == OCTOFIX_BAD_ARGUMENT && !is_of_array) return text;
     const auto append = [&](const char *name, std::uint64_t number) {
         if (name) text += std::string(" ") + name + ' ' + std::to_string(number);
     };
@@ -79,8 +81,10 @@ inline const char *hint_of(std::uint32_t code) {
 /// What a map refuses: a code of octofix.h, its name, and what it names.
 class refused : public std::runtime_error {
   public:
-    explicit refused(std::uint32_t code, const octofix::details &named = {})
-        : std::runtime_error(detail::text_of(code, named)), code_(code), details_(named) {}
+    explicit refused(std::uint32_t code, const octofix::details &named = {},
+                     bool is_of_array = false)
+        : std::runtime_error(detail::text_of(code, named, is_of_array)), code_(code),
+          details_(named) {}
     std::uint32_t code() const { return code_; }
     const char *name() const { return detail::name_of(code_); }
     const octofix::details &details() const { return details_; }
@@ -96,7 +100,7 @@ class refused : public std::runtime_error {
 class edits_refused : public refused {
   public:
     edits_refused(std::uint32_t code, const octofix::details &named, std::size_t done)
-        : refused(code, named), done_(done) {}
+        : refused(code, named, true), done_(done) {}
     std::size_t done() const { return done_; }
 
   private:

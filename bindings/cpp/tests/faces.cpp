@@ -163,10 +163,36 @@ void try_far_points() {
                 const bool is_near = z == -1 || z == 1;
                 EXPECT(error.code() == OCTOFIX_BAD_ARGUMENT);
                 EXPECT(error.details().first == (is_near ? 1u : 0u));
+                EXPECT(std::string(error.what()) ==
+                       "refused 47 BadArgument index " + std::to_string(error.details().first));
             }
         }
     }
     EXPECT(world.leaves().empty());
+}
+
+/// What is said of a refused call, or nothing.
+template <class Call> std::string refusal_of(Call call) {
+    try {
+        call();
+    } catch (const octofix::refused &error) {
+        return error.what();
+    }
+    return "";
+}
+
+/// An index is named where there is an array.
+void try_bad_arguments(octofix::map &world) {
+    octofix::map other(0.1);
+    const octofix::point at = metres(1, 1, 1);
+    const octofix::edit good = {at, octofix::event::set, 5};
+    const octofix::edit bad = {at, octofix::event::set, 1000001};
+    const std::string said = "refused 47 BadArgument";
+    EXPECT(refusal_of([&] { world.set(at, bad.number); }) == said);
+    EXPECT(refusal_of([&] { world.edit_box(at, at, bad.what, bad.number); }) == said);
+    EXPECT(refusal_of([&] { world.merge(other, octofix::rule(9)); }) == said);
+    EXPECT(refusal_of([&] { world.edit_all(std::array{good, bad}); }) == said + " index 1");
+    world.forget(at);
 }
 
 void try_refusals() {
@@ -191,6 +217,7 @@ void try_refusals() {
            "refused 13 MissingField data");
     EXPECT(std::string(octofix::refused(OCTOFIX_BAD_FIELD, {1, 0}).what()) ==
            "refused 14 BadField res");
+    try_bad_arguments(world);
     EXPECT(code_of([&] { return world.get(far); }) == OCTOFIX_OUTSIDE);
     EXPECT(code_of([&] { return world.leaves(near, metres(0, 0, 0)); }) == OCTOFIX_BAD_BOX);
     EXPECT(code_of([&] { return world.list(near, far); }) == OCTOFIX_OUTSIDE);
