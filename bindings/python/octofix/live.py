@@ -34,9 +34,10 @@ from .tools.lengths import NANO
 from .tools.poses import Pose
 from .tools.trajectory import between
 
+_Key = npt.NDArray[np.int64]
+
 _FARTHEST = 1e7  # metres; a point that is as far is no measurement
 _KINDS = {"occupied": OCCUPIED, "free": FREE}
-_CELLS = np.array([-1, 0, 100], np.int8)  # of unknown, free and occupied
 
 
 def pose(position: npt.ArrayLike, quaternion: npt.ArrayLike = (1, 0, 0, 0)) -> Pose:
@@ -168,8 +169,10 @@ class View:
 
         ValueError where `low` isn't at most `high`, or there are more than 2^26 squares.
         """
-        plane_of = partial(planes.band, self.leaves)
-        return _grid(plane_of, self.leaves.box(), (low, high), self.leaves.resolution)
+        return _grid(self._cells, self.leaves.box(), (low, high), self.leaves.resolution)
+
+    def _cells(self, low: _Key, high: _Key) -> npt.NDArray[np.int8]:
+        return planes.CELLS[planes.band(self.leaves, low, high)]
 
     def cubes(self, kind: str = "occupied") -> Cubes:
         """The greatest blocks that are "occupied" or "free" throughout and have one value, in
@@ -271,8 +274,8 @@ class Mapper:
 
     def grid(self, low: float = -math.inf, high: float = math.inf) -> Grid:
         """The grid of what the map has now, as `View.grid`, without a list of all that is known."""
-        plane_of = partial(planes.band_of, self.world)
-        return _grid(plane_of, self.world.bounds(), (low, high), self.world.resolution_nm)
+        cells_of = partial(planes.cells_of, self.world)
+        return _grid(cells_of, self.world.bounds(), (low, high), self.world.resolution_nm)
 
     def cubes(self, kind: str = "occupied") -> Cubes:
         """The cubes of what the map has now, as `View.cubes`. The occupied ones are found without a
@@ -348,13 +351,13 @@ class Mapper:
 
 
 def _grid(
-    plane_of: Callable[..., npt.NDArray[np.int8]],
+    cells_of: Callable[[_Key, _Key], npt.NDArray[np.int8]],
     box: Any,
     heights: tuple[float, float],
     resolution: int,
 ) -> Grid:
-    """The grid between two heights of a box of keys, or of none: `plane_of` has the classes of
-    columns."""
+    """The grid between two heights of a box of keys, or of none: `cells_of` has the cells from one
+    key to another."""
     low, high = heights
     edge = float(resolution / NANO)
     if not low <= high:
@@ -365,11 +368,11 @@ def _grid(
     floor, top = (_layer(it, resolution) for it in heights)
     first[2], last[2] = max(first[2], floor), min(last[2], top)
     try:
-        plane = plane_of(first, last)
+        cells = cells_of(first, last)
     except Unusable as why:
         raise ValueError(str(why)) from None
     x, y = ((first[:2] - ORIGIN) * resolution / NANO).tolist()
-    return Grid(_CELLS[plane], (x, y), edge)
+    return Grid(cells, (x, y), edge)
 
 
 def _layer(height: float, resolution: int) -> int:

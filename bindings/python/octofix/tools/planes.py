@@ -6,6 +6,8 @@ from .errors import Unusable
 from .leaves import FREE, UNKNOWN
 
 MOST_COLUMNS = 1 << 26
+# What an OccupancyGrid of ROS has for each class.
+CELLS = np.array([-1, 0, 100], np.int8)
 STEP = 1 << 20
 
 
@@ -26,12 +28,15 @@ def band(leaves, low, high):
     return plane
 
 
+def cells_of(world, low, high):
+    """The same of a map, whose leaves aren't listed for it, as the numbers of CELLS."""
+    nothing = _plane(low, high, CELLS[UNKNOWN], np.int8)
+    return nothing if low[2] > high[2] else world.grid(*world.centers([low, high]))
+
+
 def band_of(world, low, high):
-    """The same of a map, whose leaves aren't listed for it."""
-    nothing = _plane(low, high, UNKNOWN, np.int8)
-    if low[2] > high[2]:
-        return nothing
-    return np.sign(world.grid(*world.centers([low, high]))) + FREE
+    """The same as classes."""
+    return np.sign(cells_of(world, low, high)) + FREE
 
 
 def heights(leaves, low, high):
