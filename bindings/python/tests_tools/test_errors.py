@@ -245,6 +245,21 @@ class Words(InFolder):
             said = f"argument {option}: 9e-10 isn't from 10^-9 to below 10,000 km\n"
             self.assertTrue(ran.said.endswith(said), ran.said)
 
+    def test_words_that_are_no_numbers(self):
+        """What is wanted is said, and not what the program calls it."""
+        for option, word, said in (
+            ("--res", "5cm", "'5cm' is no number of metres"),
+            ("--hit", "0.85", "'0.85' is no whole number, of thousandths of log-odds"),
+            ("--every", "1.5", "'1.5' is no whole number"),
+            ("--tolerance", "short", "'short' is no number"),
+            ("--region", "1", "'1' isn't K/N, as 1/4 of four regions"),
+            ("--region", "1/x", "'x' is no whole number"),
+            ("--turn", "kitti", "camera, or four numbers as 0.5,-0.5,0.5,-0.5"),
+            ("--turn", "1,2,3,w", "'w' is no number"),
+        ):
+            ran = self.done("map", "--res", 1, "-", "-o", "c.bt", option, word, status=2)
+            self.assertTrue(ran.said.endswith(f"argument {option}: {said}\n"), ran.said)
+
     def test_classes_under_the_name_of_a_snapshot(self):
         said = "is named as a snapshot, and a .bt file, which has classes alone, is written"
         box = ["--box", 0, 0, 0, 1, 1, 1]

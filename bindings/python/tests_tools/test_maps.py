@@ -61,6 +61,9 @@ class Edited(InFolder):
         kept = {at: it for at, it in self.voxels().items() if at[0] > 0 and at[2] < 3}
         save_map("wanted.bt", 0.5, kept)
         self.agrees("crop", "a.bt", "--box", 0.5, -7, 0, 9, 9, 1.4)
+        ran = self.done("crop", "a.bt", "--box", 50, 50, 50, 60, 60, 60, "-o", "none.bt")
+        said = "octofix: nothing is known there: the map that is written is empty\n"
+        self.assertEqual(ran.said, said)
 
     def test_shift(self):
         moved = {(x - 3, y + 1, z): it for (x, y, z), it in self.voxels().items()}

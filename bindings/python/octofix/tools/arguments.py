@@ -25,8 +25,16 @@ def classes_output(word):
     return Output(word)
 
 
+def _read(kind, word, what):
+    """What a word spells, of a kind of numbers."""
+    try:
+        return kind(word)
+    except ValueError:
+        raise argparse.ArgumentTypeError(f"{word!r} is no {what}") from None
+
+
 def positive(word):
-    number = float(word)
+    number = _read(float, word, "number")
     if not 0 < number < 1e7:
         raise argparse.ArgumentTypeError(f"{word} isn't above 0 and below 10^7")
     return number
@@ -34,33 +42,40 @@ def positive(word):
 
 def length(word):
     """Metres; a part of a nanometre is no length."""
-    number = float(word)
+    number = _read(float, word, "number of metres")
     if not 1e-9 <= number < 1e7:
         raise argparse.ArgumentTypeError(f"{word} isn't from 10^-9 to below 10,000 km")
     return number
 
 
 def finite(word):
-    number = float(word)
+    number = _read(float, word, "number")
     if not abs(number) < 1e7:
         raise argparse.ArgumentTypeError(f"{word} is no number below 10,000 km")
     return number
+
+
+def thousandths(word):
+    return _read(int, word, "whole number, of thousandths of log-odds")
 
 
 def whole(low, high):
     """A type of whole numbers from low to high."""
 
     def number(word):
-        if not low <= int(word) <= high:
+        found = _read(int, word, "whole number")
+        if not low <= found <= high:
             raise argparse.ArgumentTypeError(f"{word} isn't from {low} to {high}")
-        return int(word)
+        return found
 
     return number
 
 
 def region(word):
     """The number of a region, from 1, and of how many."""
-    number, _, count = word.partition("/")
+    number, parting, count = word.partition("/")
+    if not parting:
+        raise argparse.ArgumentTypeError(f"{word!r} isn't K/N, as 1/4 of four regions")
     found = whole(1, 1 << 12)(count)
     return whole(1, found)(number), found
 
@@ -76,9 +91,10 @@ def turn(word):
     """The Pose of axes: those of a camera, or turned by a quaternion."""
     if word == "camera":
         return CAMERA
-    numbers = [float(it) for it in word.split(",")]
-    if len(numbers) != 4:
+    words = word.split(",")
+    if len(words) != 4:
         raise argparse.ArgumentTypeError("camera, or four numbers as 0.5,-0.5,0.5,-0.5")
+    numbers = [_read(float, it, "number") for it in words]
     try:
         return Pose.of((0, 0, 0), numbers)
     except Unusable as why:

@@ -10,6 +10,7 @@ from .files import write
 from .leaves import OCCUPIED
 from .lengths import NANO
 from .maps import MOST_GROUPS
+from .progress import say
 
 
 def write_leaves(name, leaves, steps=(0, 0, 0)):
@@ -22,3 +23,5 @@ def write_leaves(name, leaves, steps=(0, 0, 0)):
         except Refused as refused:
             raise Unusable(f"the map can't be made: {refused}") from None
         write(name, world.to_bt())
+    if not len(leaves):
+        say("nothing is known there: the map that is written is empty")

@@ -16,7 +16,7 @@ import os
 
 from octofix import Map, Refused
 
-from ..arguments import Output, add_scans, classes_output, length, region, whole
+from ..arguments import Output, add_scans, classes_output, length, region, thousandths, whole
 from ..clashes import refuse_clouds
 from ..errors import DONE, INTERRUPTED, SKIPPED, Unusable
 from ..files import WRITING, written
@@ -57,7 +57,7 @@ def arguments(parser):
     )
     for name, number in ODDS.items():
         parser.add_argument(
-            f"--{name}", type=int, default=number, metavar="N",
+            f"--{name}", type=thousandths, default=number, metavar="N",
             help=f"thousandths of log-odds ({number})",
         )  # fmt: skip
     parser.add_argument(
