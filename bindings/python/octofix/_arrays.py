@@ -26,7 +26,7 @@ _PART = 1 << 13  # rows that are converted at once, so that they stay in the cac
 Nanometres = npt.NDArray[np.int64]
 
 
-def _unmasked(values: npt.ArrayLike, what: str) -> npt.ArrayLike:
+def unmasked(values: npt.ArrayLike, what: str) -> npt.ArrayLike:
     """The same values; numbers behind a mask are none, and are refused."""
     parts = values if isinstance(values, (list, tuple)) else (values,)
     if any(isinstance(it, np.ma.MaskedArray) and np.ma.is_masked(it) for it in parts):
@@ -48,7 +48,7 @@ def _columns(rows: npt.NDArray[Any], what: str) -> npt.NDArray[np.float64]:
 def _rows_of_three(values: npt.ArrayLike, what: str) -> npt.NDArray[np.float64]:
     """Numbers as an (n, 3) array; three of them are one row. Of an array with fields they are x, y
     and z."""
-    given = np.asarray(_unmasked(values, what))
+    given = np.asarray(unmasked(values, what))
     if given.dtype.names is not None:
         given = _columns(given, what)
     if given.dtype.kind in "cmM":  # (numpy makes doubles of these, too)
@@ -90,7 +90,7 @@ def _scaled(
 
 def quaternion(values: npt.ArrayLike) -> list[float]:
     """The four numbers (w, x, y, z), scaled so that the greatest is 1, or four zeros."""
-    four = np.asarray(_unmasked(values, "quaternion"), np.float64)
+    four = np.asarray(unmasked(values, "quaternion"), np.float64)
     if four.shape != (4,) or not np.isfinite(four).all():
         raise ValueError("a quaternion is four finite numbers (w, x, y, z)")
     w, x, y, z = four / (np.abs(four).max() or 1)
@@ -149,7 +149,7 @@ def integer_32(value: int) -> int:
 
 def _whole_numbers(values: npt.ArrayLike, what: str) -> npt.NDArray[Any]:
     """Whole numbers, one or an array."""
-    numbers = np.asarray(_unmasked(values, what))
+    numbers = np.asarray(unmasked(values, what))
     if numbers.dtype.kind not in "iu":
         raise TypeError(f"{what} has to be whole numbers of at most 64 bits")
     return numbers

@@ -23,6 +23,7 @@ from typing import Any, Callable, NamedTuple, Protocol
 import numpy as np
 import numpy.typing as npt
 
+from . import _arrays
 from ._errors import BadPoints, Refused
 from ._files import PathLike
 from ._map import Map
@@ -219,10 +220,14 @@ class Mapper:
         most_waiting: int = 16,
         is_tracked: bool = False,
     ) -> None:
+        if range is not None:
+            _arrays.length(range, "range")
         self.world = world
         self.poses: PoseSource = Trajectory() if poses is None else poses
         self._range, self._patience, self._most_waiting = range, patience, most_waiting
         self._box = np.array([low, high], float).reshape(2, 3)
+        if not (self._box[0] <= self._box[1]).all():
+            raise ValueError("the box has a low corner that isn't at most the high one")
         self._is_bounded = bool(np.isfinite(self._box).any())
         self._lock = threading.Lock()
         self._waiting: list[_Waiting] = []
@@ -245,13 +250,16 @@ class Mapper:
         """Adds the cloud that a sensor saw at a time: (n, 3) in metres in its own frame, or an
         organised cloud (rows, columns, 3). Points that aren't finite are no measurements.
 
-        ValueError where it has another shape, or the time isn't finite. What the map refuses isn't
-        raised, but counted; memory that runs out is, and that cloud is lost.
+        ValueError where it has another shape, masked values, or numbers that aren't real, or the
+        time isn't finite. What the map refuses isn't raised, but counted; memory that runs out is,
+        and that cloud is lost.
         """
         _check_time(time)
-        rows = np.array(points)  # (a copy, since it may wait)
+        rows = np.array(_arrays.unmasked(points, "a cloud"))  # (a copy, since it may wait)
         if rows.ndim not in (2, 3) or rows.shape[-1] != 3:
             raise ValueError(f"a cloud is an (n, 3) array, not of shape {rows.shape}")
+        if rows.dtype.kind not in "fiu":
+            raise ValueError(f"a cloud has real numbers, and not {rows.dtype}")
         with self._lock:
             for it in self._waiting:
                 it.later = max(it.later, time)

@@ -156,6 +156,10 @@ class Clouds(InMap):
         for shape in ((3,), (2, 4), (0,), (2, 2, 2)):
             with self.assertRaises(ValueError):
                 mapper.add_cloud(0, np.zeros(shape))
+        for numbers in ([["a", "b", "c"]], [[1, 2, 3j]], [[True, False, True]], [[1, None, 2]],
+                        np.ma.masked_equal([[1, 0, 3]], 0)):
+            with self.assertRaises(ValueError):
+                mapper.add_cloud(0, numbers)
         for time in (math.nan, math.inf):
             with self.assertRaises(ValueError):
                 mapper.add_cloud(time, [[1, 0, 0]])
@@ -166,6 +170,12 @@ class Clouds(InMap):
             with self.assertRaises(ValueError):
                 mapper.add_pose(0, place, turn)
         self.assertEqual(mapper.tally(), live.Tally())
+
+    def test_what_no_mapper_can_do(self):
+        for wrong in ({"range": -1}, {"range": math.nan}, {"low": (0, 0, 1), "high": (9, 9, 0)},
+                      {"high": (1, math.nan, 1)}):
+            with self.assertRaises(ValueError):
+                self.mapper(**wrong)
 
     def test_a_buffer_that_is_used_again(self):
         mapper = self.mapper()
