@@ -37,6 +37,18 @@ class Compare(InFolder):
         table = json.loads(self.done("compare", "a.bt", "b.bt", "--json", *box).output)["table"]
         self.assertEqual(table["free"], {"unknown": 1, "free": 0, "occupied": 1})
 
+    def test_too_many_for_distances(self):
+        """An eighth of the map is occupied, which a box makes few enough."""
+        with Map(0.5) as world:
+            world.edit_box((0, 0, 0), (16383.9, 16383.9, 16383.9), 1, 9)
+            world.save("a.bt")
+        found = json.loads(self.done("compare", "a.bt", "a.bt", "--json").output)
+        self.assertEqual(found["iou"]["occupied"], 1)
+        said = f"they are told of {1 << 25} occupied voxels or fewer (--box)"
+        self.assertEqual(found["distances"], said)
+        box = ["--box", 0, 0, 0, 1, 1, 1]
+        self.assertNotIn(said.encode(), self.done("compare", "a.bt", "a.bt", *box).output)
+
 
 class Edited(InFolder):
     """crop, shift, coarsen: the file of the same voxels, made one by one."""

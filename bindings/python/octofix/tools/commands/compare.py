@@ -22,6 +22,8 @@ from ..morton import decode
 from ..optional import wanted
 
 HELP = "classes of two maps side by side"
+# Of which distances are looked for, which takes memory for each.
+MOST_VOXELS = 1 << 25
 
 
 def arguments(parser):
@@ -57,7 +59,9 @@ def facts(first, second):
     found = {"table": {name: dict(zip(NAMES, row)) for name, row in zip(NAMES, table.tolist())}}
     del found["table"]["unknown"]["unknown"]
     found["iou"] = {NAMES[it]: _overlap(table, it) for it in (OCCUPIED, FREE)}
-    if wanted("scipy.spatial") is None:
+    if max(it.count(OCCUPIED) for it in (first, second)) > MOST_VOXELS:
+        found["distances"] = f"they are told of {MOST_VOXELS} occupied voxels or fewer (--box)"
+    elif wanted("scipy.spatial") is None:
         found["distances"] = "they need the Python library scipy (in Debian python3-scipy)"
     else:
         pairs = {"first_to_second": (first, second), "second_to_first": (second, first)}
