@@ -264,6 +264,17 @@ class Grids(InFolder):
                 self.assertEqual(found["image"], name)
                 self.assertEqual((found["resolution"], found["origin"]), (0.5, [0, 0, 0]))
 
+    def test_a_yaml_of_something_else(self):
+        """It has a name that nobody gave, so it is lost in no run."""
+        put_file("robot.yaml", b"wheels: 4\n")
+        said = "robot.yaml: it stands there, and is no YAML of a map (another -o)"
+        self.refused(said, "grid", "a.bt", "-o", "robot.pgm")
+        self.assertEqual(content_of("robot.yaml"), b"wheels: 4\n")
+        for stands in (b"\n", b"# of ROS\nimage: old.pgm\n"):
+            put_file("floor.yaml", stands)
+            self.done("grid", "a.bt", "-o", "floor.pgm")
+            self.assertIn(b"image: floor.pgm\n", content_of("floor.yaml"))
+
     def test_both_or_none(self):
         bad = os.fsdecode(b"bad\xff.pgm")
         os.mkdir("floor.yaml")

@@ -9,6 +9,7 @@ free cells of the picture that have an unknown one beside them.
 """
 
 import os
+import re
 
 import numpy as np
 
@@ -17,7 +18,7 @@ from ..arguments import Output, add_map, add_output, finite
 from ..boxes import box_of
 from ..clashes import refuse_clashes
 from ..errors import DONE, Unusable
-from ..files import written
+from ..files import read_bytes, written
 from ..leaves import FREE, OCCUPIED, ORIGIN, UNKNOWN
 from ..lengths import NANO, metres
 from ..maps import read_map
@@ -54,6 +55,7 @@ def run(options):
     form_of(options.output)
     beside = Output(os.path.splitext(options.output)[0] + ".yaml")
     refuse_clashes(options, beside)
+    _refuse_other_yaml(beside)
     image = text_of(os.path.basename(options.output))
     with read_map(options.map) as world:
         resolution = world.resolution_nm
@@ -70,6 +72,12 @@ def run(options):
     counted = ", ".join(f"{(plane == it).sum()} {name}" for it, name in _named())
     say(f"{plane.shape[1]} x {plane.shape[0]} cells: {counted}")
     return DONE
+
+
+def _refuse_other_yaml(name):
+    """Refuses to write over a YAML that is of no picture, as nobody has named it."""
+    if os.path.isfile(name) and not re.search(rb"(?m)^image:|\A\s*\Z", read_bytes(name)):
+        raise Unusable("it stands there, and is no YAML of a map (another -o)", name)
 
 
 def _named():
