@@ -2,6 +2,7 @@
 
 import gzip
 import io
+import json
 import os
 from unittest import mock
 
@@ -244,6 +245,29 @@ class Words(InFolder):
             ran = self.done("map", "--res", 1, "-", "-o", "c.bt", option, "9e-10", status=2)
             said = f"argument {option}: 9e-10 isn't from 10^-9 to below 10,000 km\n"
             self.assertTrue(ran.said.endswith(said), ran.said)
+
+    def test_numbers_below_zero(self):
+        """Those that Python prints are numbers, too, and no options."""
+        for number in ("-0.5", "-.5", "-5e-1", "-50.0E-2"):
+            self.done("shift", "a.bt", "--by", number, "-1e0", 0, "-o", "c.bt")
+            found = json.loads(self.done("info", "c.bt", "--json").output)
+            self.assertEqual(found["known_from"], [-0.5, -1, 0])
+        words = ["--turn", "-5e-1,0.5,-0.5,0.5", "--pose", "-1e-17", 0, 0, 1, 0, 0, "-0"]
+        self.done("map", "--res", 1, *words, "-", "-o", "c.bt", given=b"1 2 3\n")
+
+    def test_an_option_twice(self):
+        words = ["map", "--res", 1, "-o", "c.bt", "-", "-o", "d.bt", "--res", 2]
+        ran = self.done(*words, given=b"1 2 3\n")
+        said = [f"octofix: {it} stands more than once, and the last one counts"
+                for it in ("-o", "--res")]  # fmt: skip
+        self.assertEqual(ran.said.splitlines()[:2], said)
+        self.assertEqual(self.done(*words, "--quiet", given=b"1 2 3\n").said, "")
+        self.assertFalse(os.path.exists("c.bt"))
+
+    def test_files_apart(self):
+        ran = self.done("map", "a.xyz", "--res", 1, "b.xyz", "-o", "c.bt", status=2)
+        said = "unrecognized arguments: b.xyz (files stand one after another)\n"
+        self.assertTrue(ran.said.endswith(said), ran.said)
 
     def test_words_that_are_no_numbers(self):
         """What is wanted is said, and not what the program calls it."""

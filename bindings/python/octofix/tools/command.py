@@ -5,6 +5,7 @@ import contextlib
 import importlib
 import io
 import os
+import re
 import sys
 
 from .errors import CLOSED_PIPE, INTERRUPTED, MISSING_LIBRARY, UNUSABLE, Unusable
@@ -20,6 +21,15 @@ was refused; 2 usage; 3 done, but something was skipped; 4 a Python library isn'
 by Ctrl-C, SIGTERM or SIGHUP; 141 nobody reads the output any more"""
 
 
+class LastOne(argparse.Action):
+    """Stores a value, as argparse does, and notes in `repeated` an option that had another one."""
+
+    def __call__(self, parser, namespace, values, option_string=None):
+        if option_string and getattr(namespace, self.dest) is not self.default:
+            namespace.repeated = [*namespace.repeated, option_string]
+        setattr(namespace, self.dest, values)
+
+
 def parser():
     from octofix import __version__
 
@@ -32,8 +42,11 @@ def parser():
             name, help=module.HELP, description=module.__doc__, epilog=STATUSES,
             formatter_class=argparse.RawDescriptionHelpFormatter,
         )  # fmt: skip
+        each.register("action", None, LastOne)
+        # (else only -1 and -0.1 are numbers, and -1e-3 is an option)
+        each._negative_number_matcher = re.compile(r"-\.?[0-9]")
         module.arguments(each)
-        each.set_defaults(run=module.run)
+        each.set_defaults(run=module.run, repeated=[])
     return top
 
 
@@ -69,6 +82,8 @@ def _run(words):
     try:
         options = _parsed(top, words)
         INTERRUPTS.take()
+        for it in () if getattr(options, "quiet", False) else options.repeated:
+            say(f"{it} stands more than once, and the last one counts")
         refuse_clashes(options)
         status = options.run(options)
         sys.stdout.flush()
@@ -105,7 +120,11 @@ def _buffered(stream):
 def _parsed(top, words):
     """The options; SystemExit where the words are wrong, or ask for a text, which is written."""
     try:
-        return top.parse_args(words)
+        options, rest = top.parse_known_args(words)
+        if rest:
+            hint = "" if rest[0].startswith("-") else " (files stand one after another)"
+            top.error(f"unrecognized arguments: {' '.join(rest)}{hint}")
+        return options
     except SystemExit:
         sys.stdout.flush()
         raise
