@@ -88,7 +88,8 @@ class Jobs(InFolder):
         save_drive(np.random.default_rng(1))
         words = ["map", "--res", 0.2, "--jobs", 2, *CLOUDS, "-o", "a.bt"]
         said = "04.npy: its point 0 lies outside the map "
-        self.refused(said + "(--range cuts beams, a larger --res has more space)", *words)
+        self.refused(said + "(points are in metres; --range cuts beams, a larger "
+                     "--res has more space)", *words)
 
     def test_a_region_that_is_full(self):
         """The other one may have done the scan, so that it can't be left out."""

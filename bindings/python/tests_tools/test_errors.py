@@ -210,10 +210,11 @@ class Files(InFolder):
     def test_scans(self):
         words = ["map", "--res", "0.1", "-o", "a.bt", "-"]
         said = "-: its point 1 lies outside the map "
-        said += "(--range cuts beams, a larger --res has more space)"
+        said += "(points are in metres; --range cuts beams, a larger --res has more space)"
         self.refused(said, *words, given=b"1 0 0\n4000 0 0\n")
         pose = ["--pose", 4000, 0, 0, 1, 0, 0, 0]
-        self.refused("-: the sensor stands outside the map", *words, *pose, given=b"1 0 0\n")
+        said = "-: the sensor stands outside the map (places are in metres)"
+        self.refused(said, *words, *pose, given=b"1 0 0\n")
 
     def test_maps(self):
         with open("bad.bt", "wb") as file:

@@ -310,6 +310,10 @@ class Damaged(Inputs):
             self.write("bad.bag", bad)
             ran = self.done("map", "--res", 1, "bad.bag", "-o", "a.bt", status=1)
             self.assertRegex(ran.said, r"^octofix: bad.bag: [^\n]+\n$")
+        self.write("bad.bag", content[:3000])
+        ran = self.done("map", "--res", 1, "bad.bag", "-o", "a.bt", status=1)
+        said = "octofix: bad.bag: its record has no end; 'rosbag reindex' makes one\n"
+        self.assertEqual(ran.said, said)
         self.is_refused(": a ROS bag is read of a file, and not of the input", b"", "--format",
                         "bag", name="-")  # fmt: skip
 

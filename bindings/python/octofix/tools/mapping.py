@@ -13,8 +13,9 @@ from .leaves import OCCUPIED
 
 FULL = 23
 HELP = {
-    6: "the sensor stands outside the map",
-    7: "its point {index} lies outside the map (--range cuts beams, a larger --res has more space)",
+    6: "the sensor stands outside the map (places are in metres)",
+    7: "its point {index} lies outside the map (points are in metres; --range cuts beams, a larger "
+    "--res has more space)",
     8: "a beam meets {cells} voxels (--range, --max-cells)",
     FULL: "the map is full (--max-groups allows more, a larger --res or a --range takes less)",
 }

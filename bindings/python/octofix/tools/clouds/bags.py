@@ -48,7 +48,7 @@ def _clouds_in(name, topics):
     if name == "-":
         raise Unusable("a ROS bag is read of a file, and not of the input")
     # (of damaged bytes rosbag and genpy raise whatever they come across)
-    with failing_as("a ROS bag"), rosbag.Bag(name) as bag:
+    with failing_as("a ROS bag"), _opened(rosbag, name) as bag:
         topic, notes = _topic_of(bag, topics.clouds)
         where = _where(bag, topics)
         for _, message, _ in bag.read_messages(topics=[topic]):
@@ -57,6 +57,13 @@ def _clouds_in(name, topics):
             points = points_in(message)
             yield Cloud(f"{name} {topic} {stamp:.6f}", points, pose, stamp, notes, gap)
             notes = ()
+
+
+def _opened(rosbag, name):
+    try:
+        return rosbag.Bag(name)
+    except rosbag.ROSBagUnindexedException:
+        raise Unusable("its record has no end; 'rosbag reindex' makes one") from None
 
 
 def _topic_of(bag, asked):
@@ -120,7 +127,7 @@ class _Stamped:
 
     def pose_of(self, frame, time):
         pose = self.track.at(time)
-        return pose, None if pose else f"no pose on {self.topic} is near enough"
+        return pose, None if pose else f"no pose on {self.topic} is near enough (--tolerance)"
 
 
 def _pose_in(message):
@@ -157,6 +164,6 @@ class _Frames:
             seen.add(frame)
             step = self.tracks[frame].at(time)
             if step is None:
-                return None, f"tf says nothing of {frame} near the time"
+                return None, f"tf says nothing of {frame} near the time (--tolerance)"
             pose, frame = step.carrying(pose), self.parents[frame]
         return pose, None
