@@ -214,6 +214,15 @@ class Kinds(Inputs):
         ):  # fmt: skip
             self.is_refused(f": it is {said}", content)
 
+    def test_ends_of_lines(self):
+        """Of CR alone; x, y, z and numbers in one line would be a heading without a point."""
+        said = r": its lines end with CR alone, and LF or CR LF is read (tr '\r' '\n')"
+        ply = (DATA / "corner_ascii.ply").read_bytes()
+        for content in (b"x y z\r1 2 3\r", b"1 2 3\r4 5 6\r", ply.replace(b"\n", b"\r")):
+            self.is_refused(said, content)
+        self.write("a.xyz", "x y z\r\n1 2 3\r\n")
+        self.assertIn("\np 1 2 3\n", self.script("a.xyz"))
+
     def test_other_bytes(self):
         said = ": it is no text, and its first bytes are of no kind that is read"
         self.is_refused(said, b"1 2 3\n\x01\x02")

@@ -24,6 +24,7 @@ UNREAD = [
     (rb"\xff\xfe|\xfe\xff", UTF_16),
     (rb"[^\0]\0([^\0]\0){7}|\0[^\0](\0[^\0]){7}", UTF_16),
 ]  # fmt: skip
+CR_ALONE = rb"[^\r\n]*\r+[^\r\n]"
 
 
 def refuse_unread(content):
@@ -33,6 +34,8 @@ def refuse_unread(content):
             raise Unusable(f"it is {kind}")
     if re.search(rb"[\0-\x08\x0e-\x1a\x7f]", content[:FRONT]):
         raise Unusable("it is no text, and its first bytes are of no kind that is read")
+    if re.match(CR_ALONE, content):
+        raise Unusable("its lines end with CR alone, and LF or CR LF is read (tr '\\r' '\\n')")
 
 
 def refuse_empty(content):
