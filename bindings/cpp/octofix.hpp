@@ -669,9 +669,9 @@ class map {
     }
 
     // Files. Those of paths throw std::filesystem::filesystem_error where they can't be read or
-    // written. A file that stands, also behind a link, is replaced only when the new one is whole,
-    // which takes its mode and, where that may be set, its owner. What is no regular file, as a
-    // device or a pipe, is written to as it is.
+    // written. A file that stands, also behind a link, is replaced only where it may be written to,
+    // and when the new one is whole, which takes its mode and, where that may be set, its owner.
+    // What is no regular file, as a device or a pipe, is written to as it is.
 
     [[nodiscard]] bytes save() const { return listed<std::uint8_t>(&octofix_save); }
     void load(view<std::uint8_t> file) {

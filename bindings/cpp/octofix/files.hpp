@@ -116,13 +116,15 @@ inline void replace_file(const std::filesystem::path &place, const struct stat *
     }
 }
 
-/// Writes a file. One that stands, also behind a link, is replaced only when the new one is whole,
-/// which takes its mode and, where that may be set, its owner. What is no regular file, as a device
-/// or a pipe, is written to as it is.
+/// Writes a file. One that stands, also behind a link, is replaced only where it may be written to,
+/// and when the new one is whole, which takes its mode and, where that may be set, its owner. What is
+/// no regular file, as a device or a pipe, is written to as it is.
 inline void write_file(const std::filesystem::path &path, const bytes &content) {
     struct stat old, found;
     const bool stands = ::stat(path.c_str(), &old) == 0;
     if (!stands && errno != ENOENT) fail("can't be written", path);
+    if (stands && ::faccessat(AT_FDCWD, path.c_str(), W_OK, AT_EACCESS) != 0)
+        fail("can't be written", path);
     const std::filesystem::path place = behind_links(path);
     const bool is_found = stands && ::stat(place.c_str(), &found) == 0 &&
                           found.st_dev == old.st_dev && found.st_ino == old.st_ino;

@@ -141,6 +141,23 @@ void try_failing_writes(const fs::path &folder) {
     EXPECT(count_of(folder) == 2);
 }
 
+/// A file that may not be written to stays, though others may be put in its folder.
+void try_protected(const fs::path &folder) {
+    const octofix::map world = some_map();
+    const fs::path file = "kept.bt", above = fs::current_path();
+    world.save_to(folder / file);
+    fs::permissions(folder / file, fs::perms(0444));
+    fs::permissions(folder, fs::perms(0777));
+    const bool is_root = ::geteuid() == 0;
+    fs::current_path(folder);
+    EXPECT(!is_root || ::seteuid(65534) == 0);
+    EXPECT(error_of(file, [&] { world.snapshot_to(file); }) == EACCES);
+    world.save_to("new.bt");
+    EXPECT(!is_root || ::seteuid(0) == 0);
+    fs::current_path(above);
+    EXPECT(octofix::detail::read_file(folder / file) == world.save() && count_of(folder) == 2);
+}
+
 void try_maps_of_files(const fs::path &folder) {
     for (const double res : {0.1, 0.05, 0.3333}) {
         const octofix::map world = some_map(res);
@@ -175,6 +192,7 @@ int main(int, char **words) {
     try_links(in("links"));
     try_pipes_and_devices(in("pipes"));
     try_failing_writes(in("failing"));
+    try_protected(in("protected"));
     try_maps_of_files(in("maps"));
     std::printf("files: %d failed\n", failed);
     return failed != 0;
