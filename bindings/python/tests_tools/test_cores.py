@@ -1,5 +1,6 @@
 """Maps by several threads, and by regions that are joined: the same map as one thread makes."""
 
+import os
 import re
 import threading
 import unittest
@@ -11,6 +12,7 @@ from running import DATA, InFolder, save_map
 from octofix import Map
 from octofix.tools import crew, mapping
 from octofix.tools.command import parser
+from octofix.tools.interrupts import INTERRUPTS
 from octofix.tools.lengths import nanometres
 from octofix.tools.regions import (
     HIGHEST,
@@ -258,6 +260,17 @@ class Merge(InFolder):
         words = ["map", "--res", 0.1, "--max-groups", 20, "--on-error", "skip", "a.npy"]
         said = f"a.npy: the map is full {FULL}"
         self.refused(said, *words, "--region", "2/2", "--snapshot", "a.snap")
+
+    def test_a_region_that_is_stopped(self):
+        """By Ctrl-C after the first scan: others may have the second one, so nothing is written."""
+        words = ["map", "--res", 1, "a.xyz", "b.xyz", "--region", "1/2", "--snapshot", "a.snap"]
+        for name in ("a.xyz", "b.xyz"):
+            with open(name, "w") as file:
+                file.write("1 2 3\n")
+        with mock.patch.object(INTERRUPTS, "take", side_effect=[None, KeyboardInterrupt]):
+            said = "stopped by Ctrl-C: nothing is written, as other regions may have more scans"
+            self.refused(said, *words, status=130)
+        self.assertFalse(os.path.exists("a.snap"))
 
     def test_rules(self):
         """Both know the first voxel, and each one another voxel."""

@@ -91,6 +91,8 @@ def run(options):
         files = dict(zip(kinds, opened))
         mapper = _mapper_of(options, Script(files["script"]) if options.script else None)
         is_stopped = _fill(mapper, scans, options)
+        if is_stopped and options.region:
+            raise KeyboardInterrupt(": nothing is written, as other regions may have more scans")
         _expect_points(mapper, scans, is_stopped, options.allow_empty)
         INTERRUPTS.finish(WRITING, _write, mapper, files)
     if not options.quiet:
