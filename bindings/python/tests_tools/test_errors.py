@@ -9,6 +9,8 @@ from unittest import mock
 import numpy as np
 from running import DATA, InFolder, save_map
 
+from octofix.tools.command import NO_THREAD
+
 PCD = (DATA / "corner.pcd").read_text()
 BINARY_PCD = (DATA / "corner_binary.pcd").read_bytes()
 PACKED_PCD = (DATA / "corner_normals.pcd").read_bytes()
@@ -357,6 +359,15 @@ class Words(InFolder):
             with self.subTest(said):
                 self.refused(said, *words)
         self.assertEqual(sorted(os.listdir()), ["a.bt", "b.bt", "empty.bt"])
+
+    def test_no_thread(self):
+        """Where memory, or the number of processes, has a bound."""
+        said = "no thread can be started: memory or the number of processes is bounded"
+        for jobs in (1, 2):
+            with mock.patch("threading.Thread.start", side_effect=RuntimeError(NO_THREAD)):
+                self.refused(said, "map", "--res", 1, "-", "--jobs", jobs, "-o", "c.bt",
+                             given=b"1 2 3\n")  # fmt: skip
+        self.assertFalse(os.path.exists("c.bt"))
 
     def test_missing_libraries(self):
         """What is optional, with the name of Debian's package."""

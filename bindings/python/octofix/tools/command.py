@@ -16,6 +16,8 @@ COMMANDS = (
     "map", "merge", "info", "points", "grid", "view", "compare", "crop", "shift", "coarsen",
     "check", "example",
 )  # fmt: skip
+# What Python says of that.
+NO_THREAD = "can't start new thread"
 STATUSES = """statuses: 0 done; 1 an input can't be used, an output can't be written, or something
 was refused; 2 usage; 3 done, but something was skipped; 4 a Python library isn't there; 130 stopped
 by Ctrl-C, SIGTERM or SIGHUP; 141 nobody reads the output any more"""
@@ -96,6 +98,11 @@ def _run(words):
         return UNUSABLE
     except MemoryError as why:
         say(str(why) or "memory ran out")
+        return UNUSABLE
+    except RuntimeError as why:
+        if str(why) != NO_THREAD:
+            raise
+        say("no thread can be started: memory or the number of processes is bounded")
         return UNUSABLE
     except BrokenPipeError:
         _give_output_up()
