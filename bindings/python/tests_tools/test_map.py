@@ -50,6 +50,15 @@ class Outputs(InFolder):
             self.assertEqual(world.get([[2.05, 0, 0], [1.95, 0, 0]]).tolist(), [90, -30])
             self.assertEqual(tuple(world.odds), (100, -30, -50, 90, -40))
 
+    def test_points_at_the_sensor(self):
+        """What some drivers have where nothing was seen is mapped, and told."""
+        words = ["map", "--res", 1, "--pose", 5, 0, 0, 1, 0, 0, 0, "-", "-o", "a.bt"]
+        said = "; 2 points make the sensor's own voxel occupied (--min-range leaves them out)\n"
+        given = b"0 0 0\n1 0 0\n0 0 0\n"
+        self.assertTrue(self.done(*words, given=given).said.endswith(said))
+        said = self.done(*words, "--min-range", "0.1", given=given).said
+        self.assertTrue(said.endswith("left out 2 points by --every, --min-range and --voxel\n"))
+
     def test_closing_line(self):
         said = self.done("map", "--res", "0.1", "-", "-o", "a.bt", given=b"2 0 0\n1 0 0\n").said
         rates = r"[0-9,.]+ scans/s, [0-9,]+ points/s"

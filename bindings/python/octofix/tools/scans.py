@@ -48,11 +48,13 @@ class Frames:
 
 @dataclass
 class Left:
-    """How many points were left out: not finite, too far away, and by choice."""
+    """How many points were left out: not finite, too far away, and by choice; and how many weren't
+    that lie where the sensor stands, as some drivers have it where nothing was seen."""
 
     endless: int = 0
     far: int = 0
     chosen: int = 0
+    at_sensor: int = 0
 
     def text(self):
         said = [f"{self.endless} points that aren't finite"] if self.endless else []
@@ -192,6 +194,7 @@ class Scans:
             is_chosen = np.linalg.norm(beams / NANO, axis=1) >= self.choice.nearest
             self.left.chosen += len(beams) - int(is_chosen.sum())
             beams = beams[is_chosen]
+        self.left.at_sensor += len(beams) - int(beams.any(axis=1).sum())
         return beams
 
 

@@ -197,4 +197,7 @@ def _left_out(scans):
         counted.append(f"{scans.gaps} gaps without a pose")
     if scans.left.text():
         counted.append(f"left out {scans.left.text()}")
+    if scans.left.at_sensor:
+        said = "points make the sensor's own voxel occupied (--min-range leaves them out)"
+        counted.append(f"{scans.left.at_sensor} {said}")
     return counted
