@@ -117,8 +117,8 @@ inline void replace_file(const std::filesystem::path &place, const struct stat *
 }
 
 /// Writes a file. One that stands, also behind a link, is replaced only where it may be written to,
-/// and when the new one is whole, which takes its mode and, where that may be set, its owner. What is
-/// no regular file, as a device or a pipe, is written to as it is.
+/// and when the new one is whole, which takes its mode and, where that may be set, its owner. What
+/// is no regular file, as a device or a pipe, is written to as it is.
 inline void write_file(const std::filesystem::path &path, const bytes &content) {
     struct stat old, found;
     const bool stands = ::stat(path.c_str(), &old) == 0;

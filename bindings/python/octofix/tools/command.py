@@ -78,16 +78,9 @@ def _run(words):
         # (this imports numpy and loads the library)
         from octofix import Refused
 
-        from .clashes import refuse_clashes
-
         top = parser()
     try:
-        options = _parsed(top, words)
-        INTERRUPTS.take()
-        for it in () if getattr(options, "quiet", False) else options.repeated:
-            say(f"{it} stands more than once, and the last one counts")
-        refuse_clashes(options)
-        status = options.run(options)
+        status = _work(_parsed(top, words))
         sys.stdout.flush()
         return status
     except Unusable as why:
@@ -112,6 +105,18 @@ def _run(words):
             _give_output_up()
         say(f"{error.filename or 'the output'}: {error.strerror or error}")
         return UNUSABLE
+
+
+def _work(options):
+    """Does what the options ask for, and answers the exit status."""
+    from .clashes import refuse_clashes
+
+    INTERRUPTS.take()
+    if not getattr(options, "quiet", False):
+        for it in options.repeated:
+            say(f"{it} stands more than once, and the last one counts")
+    refuse_clashes(options)
+    return options.run(options)
 
 
 def _buffered(stream):
