@@ -10,6 +10,7 @@ USE = re.compile(r"^ *(?:ghost )?use ([\w.]+?)(?:\.\{(.*)\}| as (\w+));?$")
 RUST_USE = re.compile(r"^use (\w+)((?:::\w+)*)::(?:\{([^}]*)\}|(\w+));", re.M)
 HEAD = re.compile(r"^( *)(?:pub )?(?:abbrev|unfoldable|(record|data)) (?:pub )?(\S+)")
 RUST_HEAD = r"^( *)(?:pub(?:\(\w+\))? )?(?:struct|enum|const|type) {}\b"
+DECLARED_HEAD = RUST_HEAD.replace("type", "type|trait")
 LABEL = re.compile(r"^ +(?:pub )?(\w+) :", re.M)
 
 
@@ -170,13 +171,13 @@ def found(module, name, scope):
 
 
 def declared(crate, parts, name):
-    """A type of the code, by the module in which its declaration stands."""
+    """A type or a trait of the code, by the module in which its declaration stands."""
     inside = parts[-1].startswith("The") and parts.pop()
     wanted = name if inside == "TheConstants" else parts.pop()
     path = CRATES / crate / "src" / ("/".join(parts or ["lib"]) + ".rt")
     if not path.is_file():
         raise Unresolved(f"{path.relative_to(CRATES)}: no such file, for {wanted}")
-    item = rust_item(scope_of(path), wanted)
+    item = rust_item(scope_of(path), wanted, DECLARED_HEAD)
     if inside == "TheVariants" and not re.search(rf"\b{name}\b", "\n".join(item.lines)):
         raise Unresolved(f"{path.relative_to(CRATES)}: {wanted} has no {name}")
     return item
@@ -188,9 +189,9 @@ def type_of_crate(crate, name):
         yield from scope_of(path).own_type(name)
 
 
-def rust_item(scope, name):
+def rust_item(scope, name, head=RUST_HEAD):
     if name not in scope.items:
-        scope.items[name] = read_rust(scope, RUST_HEAD.format(name), name, "}")
+        scope.items[name] = read_rust(scope, head.format(name), name, "}")
     return scope.items[name]
 
 
