@@ -29,8 +29,9 @@ SIZES = {"i8": 1, "i16": 2, "u16": 2, "i32": 4, "u32": 4, "i64": 8, "u64": 8, "u
 STRUCTS = {"PointNm": "point", "VoxelKey": "key", "VoxelBox": "box", "SegmentNm": "segment",
            "PoseNm": "pose", "LogOdds": "odds", "MapLimits": "limits", "Settings": "settings",
            "PointEdit": "point_edit", "ScanOptions": "scan_options", "Counted": "counted",
-           "TreeCounts": "counts", "KnownBlock": "block", "PointAnswer": "answer",
-           "CastStop": "stop", "ChangedVoxel": "change", "Details": "details"}
+           "TreeCounts": "counts", "LeastTree": "least_tree", "KnownBlock": "block",
+           "PointAnswer": "answer", "CastStop": "stop", "ChangedVoxel": "change",
+           "Details": "details"}
 # A text that stays, as it lies in memory.
 TEXT, TEXT_FIELDS = "&[u8]", [("at", "*const u8"), ("length", "usize")]
 # A handle that a call may change, and one that it can't.

@@ -139,6 +139,7 @@ typedef struct octofix_scan_options {
 
 typedef struct octofix_counted { uint64_t hits, frees; } octofix_counted;     /* voxels */
 typedef struct octofix_counts { uint64_t groups, nodes; } octofix_counts;
+typedef struct octofix_least_tree { uint64_t groups, nodes, leaves; } octofix_least_tree;
 
 /* A block of a depth, by its numbers among the blocks of this depth, and its value. */
 typedef struct octofix_block { uint16_t depth, x, y, z; int32_t value; } octofix_block;
@@ -373,6 +374,11 @@ uint32_t octofix_merge(octofix_map *map, octofix_map *other, uint32_t rule,
 uint32_t octofix_counts_of(octofix_map *map, octofix_counts *counts);
 
 /* -- queries */
+
+/* The groups, nodes and leaves of the least tree that has the map's values, where the code is 0:
+ * the numbers of octofix_counts_of, and how many blocks octofix_leaves lists. The map stays as it
+ * is, pruned or not. Answers on a stale map too. Costs a walk, and no memory. Refused: CLOSED. */
+uint32_t octofix_least_tree_of(const octofix_map *map, octofix_least_tree *least);
 
 /* The value of the block of this depth that holds the point; depth 16 asks for the voxel. *value is
  * written where the code is 0. Otherwise: CLOSED, OUTSIDE, BAD_DEPTH, STALE, UNKNOWN. */

@@ -56,6 +56,7 @@ using limits = octofix_limits;
 using settings = octofix_settings;
 using counted = octofix_counted;
 using counts = octofix_counts;
+using least_tree = octofix_least_tree;
 using block = octofix_block;
 using answer = octofix_answer;
 using stop = octofix_stop; ///< its code: OCTOFIX_DONE (occupied), OCTOFIX_UNKNOWN or OCTOFIX_CLEAR
@@ -540,6 +541,13 @@ class map {
 
     // Queries.
 
+    /// The groups, nodes and leaves of the least tree of the map's values. The map stays as it is,
+    /// and no list is made.
+    [[nodiscard]] octofix::least_tree least_tree() const {
+        octofix::least_tree least{};
+        detail::check(octofix_least_tree_of(&handle_, &least));
+        return least;
+    }
     /// The value of the block of this depth that holds the point; none where nothing is known.
     [[nodiscard]] std::optional<std::int32_t> get(const point &at, std::uint32_t depth = 16) const {
         const answer there = answer_at(at, depth);

@@ -102,9 +102,9 @@ class OcTree : public OcTreeGrid {
 
     // -- sizes
 
-    std::size_t size() const { return leaves()->size(); }
+    std::size_t size() const { return least_tree().nodes; }
     std::size_t calcNumNodes() const { return size(); }
-    std::size_t getNumLeafNodes() const { return leaves()->leaf_count(); }
+    std::size_t getNumLeafNodes() const { return least_tree().leaves; }
     std::size_t memoryUsage() const { return sizeof(*this) + map_.memory(); }
     std::size_t memoryUsageNode() const { return 8; }
     unsigned long long memoryFullGrid() const {
@@ -472,6 +472,7 @@ class OcTree : public OcTreeGrid {
 
     void edited() {
         leaves_.reset();
+        least_.reset();
         are_values_new_ = false;
         are_changes_new_ = false;
     }
@@ -609,12 +610,19 @@ class OcTree : public OcTreeGrid {
     /// The same, while the lock is held.
     const std::shared_ptr<const OcTreeLeaves> &new_leaves() const {
         const auto list = [&](auto... out) { return octofix_leaves(map_.handle(), out...); };
-        if (!leaves_) {
-            const auto all = shared_leaves({most_leaves(), list});
-            all->count();
-            leaves_ = all;
-        }
+        if (!leaves_) leaves_ = shared_leaves({most_leaves(), list});
         return leaves_;
+    }
+    /// The least tree of the values, counted without a list of its leaves; of voxels alone, where
+    /// leaves are shown as these.
+    octofix::least_tree least_tree() const {
+        const std::lock_guard<std::mutex> lock(copies_);
+        if (!least_) {
+            octofix::least_tree least = map_.least_tree();
+            if (is_expanded_) new_leaves()->count_parts(least);
+            least_ = least;
+        }
+        return *least_;
     }
     /// How many leaves there may be: one takes more than eight bytes of most maps.
     std::size_t most_leaves() const { return map_.memory() / 8 + 1; }
@@ -723,6 +731,7 @@ class OcTree : public OcTreeGrid {
 
     mutable std::mutex copies_; // guards what follows
     mutable std::shared_ptr<const OcTreeLeaves> leaves_; // of the map as it is, or none
+    mutable std::optional<octofix::least_tree> least_;   // likewise
     mutable std::shared_ptr<OcTreeValues> values_;
     mutable KeyBoolMap changed_;
     mutable bool are_values_new_ = false, are_changes_new_ = false;

@@ -93,6 +93,7 @@ static void try_closed_handle(void) {
     octofix_map map = {0};
     octofix_settings settings;
     octofix_counts counts;
+    octofix_least_tree least;
     octofix_counted counted;
     octofix_box box;
     octofix_answer answer;
@@ -125,6 +126,7 @@ static void try_closed_handle(void) {
     EXPECT_DETAILS(octofix_merge(&other, &map, 3, &details), 40, 0, 0);
     octofix_close(&other);
     EXPECT(octofix_counts_of(&map, &counts), 40);
+    EXPECT(octofix_least_tree_of(&map, &least), 40);
     EXPECT(octofix_get(&map, &p, 99, &value), 40);
     EXPECT(octofix_get_all(&map, &p, 1, 99, &answer, 0), 40);
     EXPECT_DETAILS(octofix_cast(&map, &p, &p, true, keys, &details), 40, 0, 0);
@@ -777,6 +779,7 @@ static void try_the_rest(void) {
     const octofix_point p = at(50, 50, 50);
     octofix_settings settings;
     octofix_counts counts;
+    octofix_least_tree least;
     uint64_t held = 0, more = 0;
     EXPECT(octofix_memory(&map, &held), 0);
     EXPECT(held < 4096, true);
@@ -799,6 +802,10 @@ static void try_the_rest(void) {
     EXPECT(octofix_counts_of(&map, &counts), 0);
     EXPECT(counts.groups, 16);
     EXPECT(counts.nodes, 17);
+    EXPECT(octofix_least_tree_of(&map, &least), 0);
+    EXPECT(least.groups, 16);
+    EXPECT(least.nodes, 17);
+    EXPECT(least.leaves, 1);
     int32_t value = 0;
     EXPECT(octofix_max_likelihood(&map), 0);
     EXPECT(octofix_get(&map, &p, 16, &value), 0);

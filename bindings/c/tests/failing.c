@@ -103,6 +103,10 @@ static uint32_t counts(octofix_map *map) {
     octofix_counts least;
     return octofix_counts_of(map, &least);
 }
+static uint32_t count_least(octofix_map *map) {
+    octofix_least_tree least;
+    return octofix_least_tree_of(map, &least);
+}
 static uint32_t leaves(octofix_map *map) {
     size_t count;
     return octofix_leaves(map, blocks, ROOM, &count);
@@ -138,7 +142,7 @@ static uint32_t take_snapshot(octofix_map *map) {
 static uint32_t (*const calls[])(octofix_map *) = {
     scan,   edit,           edit_box, edit_all,  load, restore, clear,        refresh, prune,
     counts, max_likelihood, leaves,   leaves_in, list, save,    list_changes, track,
-    take_snapshot, merge,   leaves_of, scan_in_map};
+    take_snapshot, merge,   leaves_of, scan_in_map, count_least};
 
 /* A map that is scanned, and tracked where that is wanted. */
 static octofix_map scanned(bool is_tracked) {

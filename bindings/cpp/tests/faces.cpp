@@ -397,6 +397,10 @@ void try_blocks() {
                                            static_cast<octofix::key_type>(32768 + i / 16)),
                         true, true);
     EXPECT(tree.search(key, 14)->getLogOdds() == 0.847f); // also while inner values are old
+    EXPECT(tree.size() == 15 && tree.getNumLeafNodes() == 1); // of the least tree: one leaf of 64
+    tree.expand();
+    EXPECT(tree.size() == 15 + 8 + 64 && tree.getNumLeafNodes() == 64);
+    tree.prune();
     tree.updateInnerOccupancy();
     EXPECT(tree.getNumLeafNodes() == 1 && tree.begin_leafs().getDepth() == 14);
     tree.begin_leafs()->setLogOdds(-0.5f);
@@ -484,6 +488,8 @@ void try_merges() {
     EXPECT(code_of([&] { world.merge(coarse); }) == OCTOFIX_CLOSED);
     EXPECT(code_of([&] { coarse.merge(coarse); }) == OCTOFIX_CLOSED);
     EXPECT(world.leaves().size() == 1);
+    const octofix::least_tree least = world.least_tree();
+    EXPECT(least.groups == 16 && least.nodes == 17 && least.leaves == 1);
 }
 
 void try_threads() {
@@ -502,7 +508,7 @@ void try_threads() {
         for (auto it = shared.begin_leafs(), end = shared.end_leafs(); it != end; ++it) ++*sum;
         for (int i = 0; i < 2000; i++)
             *sum += shared.search(1.5, 0.001 * i, 0.1, 12 + i % 5) != nullptr;
-        *sum += shared.size();
+        *sum += shared.size() + shared.getNumLeafNodes() + world.least_tree().nodes;
     };
     std::size_t alone = 0, sums[4] = {0, 0, 0, 0};
     std::vector<std::thread> threads;

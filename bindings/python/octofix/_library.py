@@ -71,6 +71,10 @@ class Counts(ctypes.Structure):
     _fields_ = [("groups", c_uint64), ("nodes", c_uint64)]
 
 
+class LeastTree(ctypes.Structure):
+    _fields_ = [("groups", c_uint64), ("nodes", c_uint64), ("leaves", c_uint64)]
+
+
 class Details(ctypes.Structure):
     _fields_ = [("first", c_uint64), ("second", c_uint64)]
 
@@ -113,6 +117,7 @@ CALLS: dict[str, list[Any]] = {
     "max_likelihood": [_HANDLE],
     "merge": [_HANDLE, _HANDLE, c_uint32, _DETAILS],
     "counts_of": [_HANDLE, POINTER(Counts)],
+    "least_tree_of": [_HANDLE, POINTER(LeastTree)],
     "get_all": [_HANDLE, *_ROWS, c_uint32, *_ROWS],
     "cast_all": [_HANDLE, *_ROWS, c_bool, *_ROWS],
     "list": [_HANDLE, *_TWO_POINTS, c_uint32, *_COUNTED_ROWS, _DETAILS],

@@ -20,7 +20,8 @@ from ._errors import (
 from ._library import Call, at_once, done, rows_of
 from ._lock import ReadersWriterLock, writing_all
 from ._results import (
-    UNKNOWN, Box, Casts, CastKind, Changes, Counted, Counts, Event, Limits, Odds, Rule, VoxelClass,
+    UNKNOWN, Box, Casts, CastKind, Changes, Counted, Counts, Event, LeastTree, Limits, Odds, Rule,
+    VoxelClass,
 )
 
 _Map = TypeVar("_Map", bound="Map")
@@ -376,6 +377,12 @@ class Map:
         return Counts(counts.groups, counts.nodes)
 
     # -- questions
+
+    def least_tree(self) -> LeastTree:
+        """Counts the least tree of the map's values. The map stays as it is, and none is listed."""
+        least = _library.LeastTree()
+        self._ask("least_tree_of", least)
+        return LeastTree(least.groups, least.nodes, least.leaves)
 
     def get(self, points: npt.ArrayLike, depth: int = 16) -> npt.NDArray[np.int32]:
         """The values at `points`, (n, 3), int32 (n,), and `UNKNOWN` where nothing is known.

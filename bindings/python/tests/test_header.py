@@ -33,6 +33,7 @@ STRUCTS = {
     "scan_options": _library.ScanOptions,
     "counted": _library.Counted,
     "counts": _library.Counts,
+    "least_tree": _library.LeastTree,
     "details": _library.Details,
     "text": _loading.Text,
 }

@@ -176,6 +176,19 @@ class Edits(unittest.TestCase):
         self.assertEqual(self.map.counts(), octofix.Counts(groups=16, nodes=17))
         self.assertGreater(self.map.memory, 0)
 
+    def test_least_tree(self):
+        self.assertEqual(self.map.least_tree(), (0, 0, 0))
+        corner = 0.1 * np.array([[x, y, z] for x in (0, 1) for y in (0, 1) for z in (0, 1)])
+        self.map.set(corner + 0.05, 20, lazy=True)
+        held = self.map.memory
+        # One leaf over a block of eight voxels, which lazy edits leave in parts.
+        self.assertEqual(self.map.least_tree(), octofix.LeastTree(groups=15, nodes=16, leaves=1))
+        self.map.set([[0.05, 0.05, 0.05]], 30, lazy=True)
+        self.assertEqual(self.map.least_tree(), octofix.LeastTree(groups=16, nodes=24, leaves=8))
+        self.assertEqual(self.map.memory, held)
+        self.assertEqual(self.map.least_tree()[:2], self.map.counts())
+        self.assertEqual(self.map.least_tree().leaves, len(self.map.leaves()))
+
     def test_settings(self):
         self.assertEqual(self.map.odds, octofix.Odds(100, -50, -1000, 2000, 10))
         self.assertEqual(self.map.limits, octofix.Limits(2**24, 2**26))

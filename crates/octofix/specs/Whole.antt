@@ -1,5 +1,5 @@
 -- What calls for the map as a whole make of it.
-use Rattle.std.specs.Prelude.{◌≡◌, ◌≤◌, false, [], Some, None}
+use Rattle.std.specs.Prelude.{◌≡◌, ◌≤◌, false, [], Some, None, length}
 use Rattle.oct_arena.specs.declared.node.Node.TheVariants.{Absent}
 use Rattle.oct_arena.specs.Entries.{live}
 use Rattle.oct_inner.specs.Changes.{IsSameButInner, IsShrunk}
@@ -8,9 +8,11 @@ use Rattle.oct_map.specs.Edits.{entries_of}
 use Rattle.oct_map.specs.Map.{Map, IsMap, ground_of, values_of}
 use Rattle.oct_map.specs.Marks.{KeepsMark}
 use Rattle.oct_odds.specs.declared.event.Event.TheVariants.{Likely}
+use Rattle.oct_query.specs.Leaves.{leaves_of}
 use Rattle.oct_tree.specs.Shape.{IsFresh, IsPruned}
 use Rattle.oct_values.specs.Counts.{group_count, node_count}
 use Rattle.oct_values.specs.Events.{updated}
+use Rattle.octofix.specs.declared.types.LeastTree.{LeastTree}
 use Rattle.octofix.specs.declared.types.TreeCounts.{TreeCounts}
 
 -- the inner values are those of the voxels
@@ -66,3 +68,11 @@ cleared m = record m {
 -- the least groups and nodes of a map's values
 abbrev pub counts_in : Map → TreeCounts
 counts_in m = record { groups = group_count (values_of m); nodes = node_count (values_of m) }
+
+-- the groups, nodes and leaves of the least tree of a map's values
+abbrev pub least_in : Map → LeastTree
+least_in m = record {
+  groups = group_count (values_of m);
+  nodes = node_count (values_of m);
+  leaves = length (leaves_of (values_of m));
+}

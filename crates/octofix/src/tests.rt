@@ -8,10 +8,10 @@ use crate::queries::octofix_get;
 use crate::refusal::{CLOSED, DONE, NONE, OPEN};
 use crate::scans::octofix_scan;
 use crate::types::{
-    Counted, Details, LogOdds, MapLimits, PointEdit, PointNm, PoseNm, ScanOptions, Settings,
-    TreeCounts, VoxelBox, VoxelKey,
+    Counted, Details, LeastTree, LogOdds, MapLimits, PointEdit, PointNm, PoseNm, ScanOptions,
+    Settings, TreeCounts, VoxelBox, VoxelKey,
 };
-use crate::whole::octofix_counts_of;
+use crate::whole::{octofix_counts_of, octofix_least_tree_of};
 use std::alloc::Global;
 use std::process::Abort;
 use std::test::Fail;
@@ -48,6 +48,19 @@ fn opened(rt: &impl Abort, alloc: Global) -> Octofix {
     map
 }
 
+/// Expects this many groups, nodes and leaves in the least tree of the values.
+fn expect_least(rt: &impl Abort, map: &mut Octofix, groups: u64, nodes: u64, leaves: u64) {
+    let mut least = LeastTree {
+        groups: 0,
+        nodes: 0,
+        leaves: 0,
+    };
+    assert_eq!(rt; octofix_least_tree_of(map, &mut least), DONE);
+    assert_eq!(rt; least.groups, groups);
+    assert_eq!(rt; least.nodes, nodes);
+    assert_eq!(rt; least.leaves, leaves);
+}
+
 #[test]
 fn a_map_is_opened_once_and_closed_once(rt: HostRuntime) -> Result<(), Fail> {
     let alloc = rt.alloc();
@@ -78,6 +91,7 @@ fn a_voxel_is_edited_and_asked(rt: HostRuntime) -> Result<(), Fail> {
     assert_eq!(rt; octofix_counts_of(&mut map, &mut counts), DONE);
     assert_eq!(rt; counts.groups, 16);
     assert_eq!(rt; counts.nodes, 17);
+    expect_least(&rt, &mut map, 16, 17, 1);
     octofix_close(alloc, &mut map);
     map.end();
     Ok(())

@@ -115,6 +115,15 @@ pub struct TreeCounts {
     pub nodes: u64,
 }
 
+/// How many groups, nodes and leaves the least tree of a map's values has.
+#[repr(C)]
+#[derive(Clone, Copy)]
+pub struct LeastTree {
+    pub groups: u64,
+    pub nodes: u64,
+    pub leaves: u64,
+}
+
 /// A block that is known, and its value. Its numbers count blocks of its depth.
 #[repr(C)]
 #[derive(Clone, Copy)]

@@ -4,12 +4,12 @@ ghost use Rattle.octofix.specs.Asked.{asked};
 ghost use Rattle.octofix.specs.Changed.{Left, changed, open_code};
 ghost use Rattle.octofix.specs.Codes.{answer_value};
 ghost use Rattle.octofix.specs.Whole.{IsPrunedBy, IsRefreshed, IsSurest, IsTrimmed, cleared};
-ghost use Rattle.octofix.specs.Whole.{counts_in};
+ghost use Rattle.octofix.specs.Whole.{counts_in, least_in};
 
 use crate::answers::{code_of, tell};
 use crate::handle::Octofix;
 use crate::refusal::Refusal;
-use crate::types::TreeCounts;
+use crate::types::{LeastTree, TreeCounts};
 
 /// Renews the inner values of the map of a handle.
 fn refresh(handle: &mut Octofix) -> Result<(), Refusal>
@@ -105,4 +105,30 @@ pub extern "C" fn octofix_counts_of(handle: &mut Octofix, counts: &mut TreeCount
 {
     let answer = self::counts(handle);
     tell(&answer, counts)
+}
+
+/// Counts the least tree of the values of the map of a handle.
+fn least(handle: &mut Octofix) -> Result<LeastTree, Refusal>
+    ensures answer { result ≡ asked handle.old.slot.map (λ m. Ok (least_in m)) }
+    ensures same { handle.new ≡ handle.old }
+{
+    let least = handle.map_mut()?.least_tree();
+    Ok(LeastTree {
+        groups: least.groups,
+        nodes: least.nodes,
+        leaves: least.leaves,
+    })
+}
+
+/// Tells how many groups, nodes and leaves the least tree of the map's values has. The map stays as
+/// it is.
+#[unsafe(no_mangle)]
+pub extern "C" fn octofix_least_tree_of(handle: &mut Octofix, least: &mut LeastTree) -> u32
+    ensures same { handle.new ≡ handle.old }
+    ensures code { result ≡ open_code handle.old.slot.map }
+    ensures least { least.new
+        ≡ answer_value least.old (asked handle.old.slot.map (λ m. Ok (least_in m))) }
+{
+    let answer = self::least(handle);
+    tell(&answer, least)
 }
