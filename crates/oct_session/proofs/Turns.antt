@@ -17,7 +17,8 @@ use Rattle.oct_session.specs.Standing.{Takes, Halts, IsResting, Serves}
 use Rattle.oct_script.specs.Lines.{ended_lines}
 use Rattle.oct_session.proofs.Endings.{IsRead}
 use Rattle.oct_session.proofs.HeldPieces.{held_first, replied_since}
-use Rattle.oct_session.proofs.Moves.{at_of_held, done_join, done_none}
+use Rattle.oct_session.proofs.Moves.{done_join, done_none}
+use Rattle.oct_session.proofs.PieceMoves.{at_of_held}
 use Rattle.oct_session.proofs.Pieces.{fits_whole, at_front, stops_front, stops_whole}
 use Rattle.oct_session.proofs.Progresses.{known_bytes}
 use Rattle.oct_session.proofs.Serving.{stopped_by_source, stopped_in_piece, goes_on, quits_in}

@@ -1,7 +1,8 @@
 use Rattle.std.proofs.Common.{refl, arith, ◌∙◌}
 use Rattle.std.proofs.lemmas.Bool.{not-false, not-true}
 use Rattle.oct_session.proofs.HeldPieces.{ended_line, whole_read}
-use Rattle.oct_session.proofs.Moves.{takes_on, takes_line, takes_halt, takes_joined, takes_some}
+use Rattle.oct_session.proofs.Moves.{takes_on}
+use Rattle.oct_session.proofs.PieceMoves.{takes_line, takes_halt, takes_joined, takes_some}
 use Rattle.oct_session.proofs.session.Session.advance.Goals as goal
 
 pub returns-in_err-respond-clause-does : goal.returns-in_err-respond-clause-does

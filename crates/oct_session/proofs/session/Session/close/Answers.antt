@@ -6,7 +6,8 @@ use Rattle.oct_io.specs.declared.sink.SinkFault.TheVariants.{Memory}
 use Rattle.oct_script.specs.Replies.{text_of}
 use Rattle.oct_session.specs.ScanBlock.{end_reply}
 use Rattle.oct_session.proofs.Halting.{closing_told, closing_untold, closing_cut}
-use Rattle.oct_session.proofs.Moves.{closes_on, counts_written, counts_unwritten, all_written}
+use Rattle.oct_session.proofs.Moves.{all_written}
+use Rattle.oct_session.proofs.PieceMoves.{closes_on, counts_written, counts_unwritten}
 use Rattle.oct_session.proofs.Moves.{ran_short}
 use Rattle.oct_session.proofs.session.Session.close.Goals as goal
 

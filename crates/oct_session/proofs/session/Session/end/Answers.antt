@@ -1,5 +1,6 @@
 use Rattle.oct_session.specs.Moments.{seen}
-use Rattle.oct_session.proofs.Moves.{makes_on, ends_quit, ends_closed, ends_unclosed, ends_rest}
+use Rattle.oct_session.proofs.Moves.{makes_on}
+use Rattle.oct_session.proofs.PieceMoves.{ends_quit, ends_closed, ends_unclosed, ends_rest}
 use Rattle.oct_session.proofs.session.Session.end.Goals as goal
 
 pub returns-then-self : goal.returns-then-self

@@ -1,7 +1,8 @@
 use Rattle.std.proofs.Common.{refl}
 use Rattle.oct_session.specs.Moments.{seen}
-use Rattle.oct_session.proofs.Moves.{makes_on, rests_none, rests_answered, rests_halt}
-use Rattle.oct_session.proofs.Moves.{line_unflushed}
+use Rattle.oct_session.proofs.Moves.{makes_on}
+use Rattle.oct_session.proofs.PieceMoves.{rests_none, rests_answered, rests_halt}
+use Rattle.oct_session.proofs.PieceMoves.{line_unflushed}
 use Rattle.oct_session.proofs.session.Session.respond_last.Goals as goal
 
 pub returns-then-not-has_rest : goal.returns-then-not-has_rest

@@ -2,9 +2,10 @@ use Rattle.std.proofs.Common.{arith, refl}
 use Rattle.oct_session.proofs.session.Session.take.Goals.{then-loop-taken-test+else-not-self}
 use Rattle.oct_session.proofs.session.Session.take.Goals.{else-loop-taken-test}
 use Rattle.oct_session.specs.Moments.{seen}
-use Rattle.oct_session.proofs.Moves.{makes_on, takes_none, takes_ready, takes_next, takes_within}
-use Rattle.oct_session.proofs.Moves.{takes_flushed, takes_unflushed, takes_part, takes_quit}
-use Rattle.oct_session.proofs.Moves.{takes_whole}
+use Rattle.oct_session.proofs.Moves.{makes_on}
+use Rattle.oct_session.proofs.PieceMoves.{takes_none, takes_ready, takes_next, takes_within}
+use Rattle.oct_session.proofs.PieceMoves.{takes_flushed, takes_unflushed, takes_part, takes_quit}
+use Rattle.oct_session.proofs.PieceMoves.{takes_whole}
 use Rattle.oct_session.proofs.session.Session.take.Goals as goal
 
 pub loop-taken-init : goal.loop-taken-init
