@@ -7,7 +7,8 @@ use Rattle.oct_values.specs.Blocks.{blocks_below}
 use Rattle.oct_values.specs.Counts.{is_uniform}
 use Rattle.oct_query.specs.Leaves.{IsOneValue, block_leaves}
 
--- of a block and the blocks in it, of this number of depths from its own on, how many aren't uniform
+-- of a block and the blocks in it, of this number of depths from its own on, how many aren't
+-- uniform
 abbrev pub varied_below : Values → ℕ → Cube → ℕ
 varied_below values depths b = count_by (λ c. not (is_uniform values c)) (blocks_below depths b)
 

@@ -38,9 +38,9 @@
 //! Walks go down from the root, and not into a block that doesn't meet the box, nor, where occupied
 //! voxels are sought in a tree that is known to be fresh, into one whose node tells that it holds
 //! none; in a block that lies in the box whole the box isn't asked any more, and a leaf there costs
-//! no call. A list keeps the way to its last block (`Path`). Of a block with children `leaves` first
-//! looks whether all of its voxels have one value, as far as the first two that differ: in a pruned
-//! tree that is after at most eight nodes for each depth below. Lists alone take memory.
+//! no call. A list keeps the way to its last block (`Path`). Of a block with children `leaves`
+//! first looks whether all of its voxels have one value, as far as the first two that differ: in a
+//! pruned tree that is after at most eight nodes for each depth below. Lists alone take memory.
 #![tactic(auto)]
 
 mod block_list;
