@@ -138,6 +138,7 @@ CALLS: dict[str, list[Any]] = {
 
 FUNCTIONS = {name: function(name, types) for name, types in CALLS.items()}
 _WITH_DETAILS = frozenset(name for name, types in CALLS.items() if types[-1] is _DETAILS)
+_NO_DETAILS = Details()  # those of the other calls, which stay zeros
 
 # What does calls, and answers what they do.
 Way = Callable[..., "list[Any]"]
@@ -147,9 +148,11 @@ class Call:
     """A call of the library that is to be done: `run` does it, as a function of C alone."""
 
     def __init__(self, name: str, *arguments: Any) -> None:
-        self._details = Details()
-        last = (self._details,) if name in _WITH_DETAILS else ()
-        self.run = partial(FUNCTIONS[name], *arguments, *last)
+        self._details = _NO_DETAILS
+        if name in _WITH_DETAILS:
+            self._details = Details()
+            arguments = *arguments, self._details
+        self.run = partial(FUNCTIONS[name], *arguments)
 
     def answer(self, code: int) -> int:
         """The code that it was answered, where that is no error."""
