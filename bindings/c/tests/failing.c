@@ -103,10 +103,6 @@ static uint32_t counts(octofix_map *map) {
     octofix_counts least;
     return octofix_counts_of(map, &least);
 }
-static uint32_t count_least(octofix_map *map) {
-    octofix_least_tree least;
-    return octofix_least_tree_of(map, &least);
-}
 static uint32_t leaves(octofix_map *map) {
     size_t count;
     return octofix_leaves(map, blocks, ROOM, &count);
@@ -142,7 +138,7 @@ static uint32_t take_snapshot(octofix_map *map) {
 static uint32_t (*const calls[])(octofix_map *) = {
     scan,   edit,           edit_box, edit_all,  load, restore, clear,        refresh, prune,
     counts, max_likelihood, leaves,   leaves_in, list, save,    list_changes, track,
-    take_snapshot, merge,   leaves_of, scan_in_map, count_least};
+    take_snapshot, merge,   leaves_of, scan_in_map};
 
 /* A map that is scanned, and tracked where that is wanted. */
 static octofix_map scanned(bool is_tracked) {
@@ -227,6 +223,7 @@ static void ask_without_memory(void) {
     octofix_stop stop;
     octofix_key key;
     octofix_box box;
+    octofix_least_tree least;
     uint64_t held;
     int32_t value;
     size_t count;
@@ -237,6 +234,7 @@ static void ask_without_memory(void) {
     EXPECT(octofix_cast(&map, &ahead.at, &points[0], false, &key, &details), 0);
     EXPECT(octofix_cast_all(&map, &way, 1, true, &stop, 1), 0);
     EXPECT(octofix_bounds(&map, OCTOFIX_OCCUPIED_VOXELS, &box), 0);
+    EXPECT(octofix_least_tree_of(&map, &least), 0);
     EXPECT(octofix_ray(RES, &way.origin, &way.end, keys, ROOM, &count, &details), 0);
     EXPECT(octofix_settings_of(&map, &settings), 0);
     EXPECT(octofix_memory(&map, &held), 0);
