@@ -3,7 +3,7 @@
 use oct_io::{FailingSink, KeptList, MemorySink, Sink, SinkFault};
 use oct_key::{Key, Res, Window};
 use oct_odds::OddsModel;
-use oct_snap::{SnapFault, check, encoded_len, fill, write};
+use oct_snap::{SnapFault, check, fill, write};
 use oct_tree::OccTree;
 use std::alloc::{AllocError, Global};
 use std::process::Abort;
@@ -54,7 +54,6 @@ fn expect_bytes(
     count: u64,
     (from, want): (usize, &[u8]),
 ) {
-    assert_eq!(rt; encoded_len(tree, window), count);
     let mut sink = MemorySink::new(alloc, 7);
     expect_write(rt, tree, window, &mut sink, Ok(count));
     assert_eq!(rt; sink.written().get(from..), Some(want));
