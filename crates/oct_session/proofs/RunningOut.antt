@@ -1,8 +1,12 @@
--- When what the map is ordered or asked runs out of memory.
+-- When what the map is ordered or asked runs out of memory, or what it is to take in.
 use Rattle.std.specs.Prelude.{⊤, List}
-use Rattle.std.proofs.Common.{◌≡◌, ℕ, [], ◌∷◌, IsSome, Result, Ok, Err, IsOk, OnErr, refl, ap, sym}
-use Rattle.std.proofs.Common.{subst, ◌∙◌, false}
+use Rattle.std.proofs.Common.{◌≡◌, ℕ, [], ◌∷◌, ◌⊎◌, inl, inr, zero, suc, IsSome, Result, Ok}
+use Rattle.std.proofs.Common.{Err, IsOk, OnErr, refl, ap, sym, subst, ◌∙◌, false, arith}
 use Rattle.std.proofs.lemmas.Result.{on_err_weaker}
+use Rattle.oct_bt.specs.File.{FileRead, reading}
+use Rattle.oct_bt.specs.declared.fault.BtFault.{BtFault}
+use Rattle.oct_bt.specs.declared.fault.BtFault.TheVariants as bt_fault
+use Rattle.oct_bt.proofs.Fronts.{nothing_read}
 use Rattle.oct_key.specs.declared.point.Point.{Point}
 use Rattle.oct_scan.specs.Beam.{Sighting}
 use Rattle.oct_scan.specs.Outcome.{TakesMemory}
@@ -14,8 +18,9 @@ use Rattle.oct_map.specs.declared.fault.MapFault.{MapFault}
 use Rattle.oct_map.specs.declared.fault.MapFault.TheVariants as fault
 use Rattle.oct_query.specs.Shown.{Shown}
 use Rattle.oct_session.specs.Commands.{edit_reply}
+use Rattle.oct_session.specs.Kinds.{Kind}
 use Rattle.oct_session.specs.MapMemory.{OrderTakesMemory, QuestionTakesMemory, BlockTakesMemory}
-use Rattle.oct_session.specs.MapMemory.{HasBlocks}
+use Rattle.oct_session.specs.MapMemory.{HasBlocks, HasGroups, KindTakesMemory}
 use Rattle.oct_session.specs.ScanBlock.{is_zero}
 use Rattle.oct_session.specs.ScanSoFar.{ScanSoFar, sighting_so_far}
 use Rattle.oct_session.specs.declared.kinds.Order.{Order}
@@ -70,3 +75,25 @@ scan_runs_out r m scan s f turns saw short takes = on_err_weaker r (λ x. (
   turns,
   subst (λ y. TakesMemory m.tree.res y m.max_cells) saw (takes x),
 )) short
+
+-- a command runs out that what does it is read as, where that does
+pub kind_runs_out : {A E : Type 0} (r : Result A E) (m : Map) (k read : Kind) → read ≡ k
+    → OnErr r (KindTakesMemory m read) → OnErr r (KindTakesMemory m k)
+kind_runs_out r m k read is short = on_err_weaker r (subst (KindTakesMemory m) is) short
+
+-- a file was read of some bytes
+pub read_of_some : (file : FileRead) (bytes : List ℕ) →
+    (◌≡◌ {A = Result FileRead BtFault} (Ok file) (reading bytes))
+    ⊎ (◌≡◌ {A = Result FileRead BtFault} (Ok file) (Err bt_fault.Memory))
+    → bytes ≡ [] → ⊥
+read_of_some file bytes (inl is) none = differ (is ∙ ap reading none ∙ nothing_read)
+  where
+    differ : ◌≡◌ {A = Result FileRead BtFault} (Ok file) (Err bt_fault.NotOctomap) → ⊥
+    differ e = cc
+read_of_some file bytes (inr memory) none = cc
+
+-- a snapshot that is accepted, and not as one of no groups, has a group
+pub has_groups : (r : Result ℕ MapFault) → IsOk r → (r ≡ Ok 0 → ⊥) → HasGroups r
+has_groups (Ok zero) ok some = absurd (some refl)
+has_groups (Ok (suc n)) ok some = omega arith
+has_groups (Err f) ok some = cc

@@ -12,7 +12,7 @@ ghost use Rattle.oct_session.specs.Refusals.{refusal_of, fault_reply};
 ghost use Rattle.oct_session.specs.Standing.{with_reply, HasCarriedOut, HasDone, HasObeyed};
 ghost use Rattle.oct_session.specs.Standing.{HasScanned, HasTold, Tells};
 ghost use Rattle.oct_session.specs.MapMemory.{OrderTakesMemory, QuestionTakesMemory};
-ghost use Rattle.oct_session.specs.MapMemory.{BlockTakesMemory};
+ghost use Rattle.oct_session.specs.MapMemory.{KindTakesMemory, BlockTakesMemory};
 
 use crate::kinds::{Kind, Order, Question, kind_of};
 use crate::scan_block::{PendingScan, ScanBlock};
@@ -249,8 +249,9 @@ fn ask(map: &mut OccMap, question: Question, reply: &mut Option<Reply>) -> Resul
 #[inline(never)]
 pub fn by_map(map: &mut OccMap, command: &Command, reply: &mut Option<Reply>) -> Result<(), Memory>
     requires { IsSmallCommand command.now }
-    ensures { HasDone (λ s. map_reply s (kind_of command.now))
+    ensures done { HasDone (λ s. map_reply s (kind_of command.now))
         (λ s. map_action (kind_of command.now)) map.old map.new (with_reply result reply.new) }
+    ensures memory { OnErr result (KindTakesMemory map.old (kind_of command.now)) }
 {
     match kind_of(command) {
         Kind::Orders(order) => obey(map, order, reply),
@@ -288,7 +289,8 @@ fn scan(map: &mut OccMap, pending: PendingScan, reply: &mut Option<Reply>) -> Re
 /// Does what a block says that its `end` has closed, and puts its one reply in its place. Without
 /// memory nothing was done.
 pub fn finish(map: &mut OccMap, block: ScanBlock, reply: &mut Option<Reply>) -> Result<(), Memory>
-    ensures { HasScanned map.old map.new block (with_reply result reply.new) }
+    ensures scanned { HasScanned map.old map.new block (with_reply result reply.new) }
+    ensures memory { OnErr result (BlockTakesMemory map.old block) }
 {
     match block {
         ScanBlock::Spoilt(refusal) => {

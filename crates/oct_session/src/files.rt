@@ -1,6 +1,6 @@
 //! What a command does that names a file: a save or a snapshot to the store, or a load or a restore
 //! from it.
-ghost use Rattle.std.specs.Prelude.{◌≡◌, ◌≤◌, ◌+◌, Ok, Option, Some};
+ghost use Rattle.std.specs.Prelude.{◌≡◌, ◌≤◌, ◌+◌, [], Ok, OnErr, Option, Some};
 ghost use Rattle.oct_bt.specs.File.{reading};
 ghost use Rattle.oct_io.specs.Counts.{IsAskCounted};
 ghost use Rattle.oct_snap.specs.Reading.{read_snapshot};
@@ -8,6 +8,8 @@ ghost use Rattle.oct_session.specs.FileCommands.{load_action, load_reply, readin
 ghost use Rattle.oct_session.specs.FileCommands.{reading_reply};
 ghost use Rattle.oct_session.specs.FileCommands.{restore_action, restore_reply, snapshot_action};
 ghost use Rattle.oct_session.specs.FileCommands.{snapshot_reply};
+ghost use Rattle.oct_session.specs.MapMemory.{ReadingTakesMemory, LoadTakesMemory};
+ghost use Rattle.oct_session.specs.MapMemory.{SnapshotTakesMemory, RestoreTakesMemory};
 ghost use Rattle.oct_session.specs.Standing.{with_reply, HasDone, HasUsed, KeepsStanding};
 
 use crate::commands::refuse;
@@ -39,8 +41,9 @@ fn save<F: Store>(
 
 /// Puts the classes of a file in place of the map, and answers its number of nodes.
 fn replace(map: &mut OccMap, file: &BtFile, reply: &mut Option<Reply>) -> Result<(), Memory>
-    ensures { HasDone (λ s. reading_reply s.base (Ok file.now))
+    ensures done { HasDone (λ s. reading_reply s.base (Ok file.now))
         (λ s. reading_action (Ok file.now)) map.old map.new (with_reply result reply.new) }
+    ensures memory { OnErr result (ReadingTakesMemory map.old file.now) }
 {
     match map.load(file) {
         Ok(()) => {
@@ -58,8 +61,9 @@ fn load_bytes(
     bytes: &[u8],
     reply: &mut Option<Reply>,
 ) -> Result<(), Memory>
-    ensures { HasDone (λ s. reading_reply s.base (reading bytes.now))
+    ensures done { HasDone (λ s. reading_reply s.base (reading bytes.now))
         (λ s. reading_action (reading bytes.now)) map.old map.new (with_reply result reply.new) }
+    ensures memory { OnErr result (bytes.now ≡ [] → ⊥) }
 {
     match read_classes(alloc, bytes) {
         Ok(file) => replace(map, &file, reply),
@@ -78,8 +82,9 @@ fn take_in(
     loaded: Loaded,
     reply: &mut Option<Reply>,
 ) -> Result<(), Memory>
-    ensures { HasDone (λ s. load_reply s.base (Some loaded)) (λ s. load_action (Some loaded))
+    ensures done { HasDone (λ s. load_reply s.base (Some loaded)) (λ s. load_action (Some loaded))
         map.old map.new (with_reply result reply.new) }
+    ensures memory { OnErr result (LoadTakesMemory loaded) }
 {
     match loaded {
         Loaded::Bytes(bytes) => load_bytes(alloc, map, bytes.as_slice(), reply),
@@ -134,9 +139,10 @@ fn snapshot<F: Store>(
 
 /// Makes the map that of the snapshot of these bytes, and answers it.
 fn restore_bytes(map: &mut OccMap, bytes: &[u8], reply: &mut Option<Reply>) -> Result<(), Memory>
-    ensures { HasDone (λ s. snapshot_reply s.base (read_snapshot s.base.odds bytes.now))
+    ensures done { HasDone (λ s. snapshot_reply s.base (read_snapshot s.base.odds bytes.now))
         (λ s. snapshot_action (read_snapshot s.base.odds bytes.now)) map.old map.new
         (with_reply result reply.new) }
+    ensures memory { OnErr result (SnapshotTakesMemory map.old bytes.now) }
 {
     match map.restore(bytes) {
         Ok(groups) => {
@@ -149,8 +155,9 @@ fn restore_bytes(map: &mut OccMap, bytes: &[u8], reply: &mut Option<Reply>) -> R
 
 /// Restores what a store has under a name, and answers it.
 fn take_back(map: &mut OccMap, loaded: Loaded, reply: &mut Option<Reply>) -> Result<(), Memory>
-    ensures { HasDone (λ s. restore_reply s.base (Some loaded))
+    ensures done { HasDone (λ s. restore_reply s.base (Some loaded))
         (λ s. restore_action s.base (Some loaded)) map.old map.new (with_reply result reply.new) }
+    ensures memory { OnErr result (RestoreTakesMemory map.old loaded) }
 {
     match loaded {
         Loaded::Bytes(bytes) => restore_bytes(map, bytes.as_slice(), reply),

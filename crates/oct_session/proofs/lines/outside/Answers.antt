@@ -15,12 +15,12 @@ returns-in_err-by_map-clause-effect g c = λ line.
     (part_failed (with_reply c.from_residual.result c.by_map.new.reply) c.args.map.now
     c.by_map.new.map _ c.args.number (kind_of c.args.command.now) c.args.block.now
     (failed_for _ c.by_map.new.reply store_fault.Memory c.from_residual.ensures.1)
-    c.in_err-by_map.ensures)
+    c.in_err-by_map.ensures.done)
 
 pub returns-in_err-by_map-clause-stands : goal.returns-in_err-by_map-clause-stands
 returns-in_err-by_map-clause-stands g c =
     some_part (with_reply c.by_map.result c.by_map.new.reply) c.args.map.now c.by_map.new.map
-    (kind_of c.args.command.now) c.by_map.ensures
+    (kind_of c.args.command.now) c.by_map.ensures.done
 
 pub returns-in-Nothing-clause-effect : goal.returns-in-Nothing-clause-effect
 returns-in-Nothing-clause-effect g c = λ line.
@@ -29,12 +29,12 @@ returns-in-Nothing-clause-effect g c = λ line.
     (part_done c.args.map.now c.by_map.new.map _ c.args.number (kind_of c.args.command.now)
     c.args.block.now c.by_map.new.reply
     (sym (ap rest_seen c.in-Nothing.is) ∙ c.rest_of.ensures.exact) c.requires.closed
-    c.in_ok-by_map.ensures)
+    c.in_ok-by_map.ensures.done)
 
 pub returns-in-Nothing-clause-stands : goal.returns-in-Nothing-clause-stands
 returns-in-Nothing-clause-stands g c =
     some_part (with_reply c.by_map.result c.by_map.new.reply) c.args.map.now c.by_map.new.map
-    (kind_of c.args.command.now) c.by_map.ensures
+    (kind_of c.args.command.now) c.by_map.ensures.done
 
 pub open_scan-requires : goal.open_scan-requires
 open_scan-requires g c = subst IsSmallKind (ap rest_seen c.in-Opens.is) c.rest_of.ensures.small
@@ -48,12 +48,12 @@ returns-in-Opens-clause-effect g c = λ line.
     (head_opened c.args.map.now c.by_map.new.map _ c.args.number c.in-Opens.head.now
     c.open_scan.new.block c.by_map.new.reply c.open_scan.ensures
     (part_as c.args.map.now c.by_map.new.map (Opens c.in-Opens.head.now)
-    (kind_of c.args.command.now) c.by_map.new.reply (sym is) c.in_ok-by_map.ensures))
+    (kind_of c.args.command.now) c.by_map.new.reply (sym is) c.in_ok-by_map.ensures.done))
 
 pub returns-in-Opens-clause-stands : goal.returns-in-Opens-clause-stands
 returns-in-Opens-clause-stands g c =
     some_part (with_reply c.by_map.result c.by_map.new.reply) c.args.map.now c.by_map.new.map
-    (kind_of c.args.command.now) c.by_map.ensures
+    (kind_of c.args.command.now) c.by_map.ensures.done
 
 pub returns-in-Names-clause-effect : goal.returns-in-Names-clause-effect
 returns-in-Names-clause-effect g c = λ line.
@@ -66,13 +66,13 @@ returns-in-Names-clause-effect g c = λ line.
     c.use_file.new.map _ _ c.args.number c.in-Names.verb c.in-Names.name.now c.args.block.now
     c.by_map.new.reply c.requires.closed
     (part_as c.args.map.now c.by_map.new.map (Names c.in-Names.verb c.in-Names.name.now)
-    (kind_of c.args.command.now) c.by_map.new.reply (sym is) c.in_ok-by_map.ensures)
+    (kind_of c.args.command.now) c.by_map.new.reply (sym is) c.in_ok-by_map.ensures.done)
     c.use_file.ensures.effect)
 
 pub returns-in-Names-clause-stands : goal.returns-in-Names-clause-stands
 returns-in-Names-clause-stands g c =
     let kept = some_part (with_reply c.by_map.result c.by_map.new.reply) c.args.map.now
-    c.by_map.new.map (kind_of c.args.command.now) c.by_map.ensures in
+    c.by_map.new.map (kind_of c.args.command.now) c.by_map.ensures.done in
     λ o some. c.use_file.ensures.stands o (kept o some)
 
 pub returns-in-Names-clause-asked : goal.returns-in-Names-clause-asked
