@@ -36,12 +36,12 @@
 //!
 //! How it works: `service` reads pieces of at most 16 KiB and hands each to `session`, which has
 //! `oct_script` find the lines in them. `lines` reads a line and says what it does, inside a block
-//! and outside; `kinds` tells the commands apart, once, by what does them; `block` keeps the scan
-//! that is being read; `commands` has the map do what it's ordered and answer what it's asked;
+//! and outside; `kinds` tells the commands apart, once, by what does them; `scan_block` keeps the
+//! scan that is being read; `commands` has the map do what it's ordered and answer what it's asked;
 //! `files` does what a verb says with a file. `held` keeps the replies that aren't written yet.
 //! `building` writes the file of a script's map in place of the replies, and `drilling` four lines
-//! about the session over a script that `oct_gen` makes. `oct_tasks` and `oct_promise` stand
-//! on this crate.
+//! about the session over a script that `oct_gen` makes. `oct_tasks` and `oct_promise` stand on
+//! this crate.
 #![tactic(auto)]
 
 mod building;
