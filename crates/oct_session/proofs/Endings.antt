@@ -1,6 +1,6 @@
 -- How a session ends.
 use Rattle.std.proofs.Common.{◌≡◌, ℕ, ◌+◌, ◌-◌, ◌<◌, ◌≤◌, List, [], ◌++◌, length, take, drop, Bool}
-use Rattle.std.proofs.Common.{true, false, cond, Option, Some, None, IfSome, inl, inr, refl, sym}
+use Rattle.std.proofs.Common.{true, false, cond, Option, Some, IfSome, inl, inr, refl, sym}
 use Rattle.std.proofs.Common.{ap, subst, ◌∙◌, arith, append_assoc, append-nil, length-append}
 use Rattle.std.proofs.Common.{length-drop}
 use Rattle.std.proofs.Math.Seq.{take-add, take-append-add}
@@ -10,7 +10,7 @@ use Rattle.oct_io.specs.Files.{Files}
 use Rattle.oct_io.specs.Told.{appended, dropped}
 use Rattle.oct_io.proofs.Appending.{appended_nil}
 use Rattle.oct_map.specs.Map.{Map}
-use Rattle.oct_script.specs.Lines.{Line, LineSoFar, unread, ended_lines, rest_of, last_line}
+use Rattle.oct_script.specs.Lines.{Line, LineSoFar, ended_lines, rest_of, last_line}
 use Rattle.oct_script.specs.Lines.{all_lines}
 use Rattle.oct_script.proofs.Cuts.{ended_lines-append}
 use Rattle.oct_io.specs.declared.status.Status.{Status}
@@ -32,8 +32,8 @@ use Rattle.oct_session.specs.Session.{Progress, start, progress, lines_of, last_
 use Rattle.oct_session.specs.Session.{session, finished, overlong, closed, is_too_long}
 use Rattle.oct_session.specs.Session.{status_at_end, ReadsTold}
 use Rattle.oct_session.specs.Setup.{Setup}
-use Rattle.oct_session.specs.Tally.{no_replies}
-use Rattle.oct_session.specs.Standing.{seated, Takes, IsHaltedBehind, IsHaltedLast, HasReached}
+use Rattle.oct_session.specs.Standing.{seated, Takes, IsFresh, IsHaltedBehind, IsHaltedLast}
+use Rattle.oct_session.specs.Standing.{HasReached}
 use Rattle.oct_session.specs.Standing.{IsAt, Reaches, HaltsAtEnd, HasServed, IsThrough, StopsIn}
 use Rattle.oct_io.specs.Stops.{status_of, IsHalt}
 use Rattle.oct_session.proofs.Progresses.{progress_grows, progress_behind_quit, no_quit_before}
@@ -291,28 +291,7 @@ halted_ends o files bytes left w u d stop only halted input =
 -- map and session as they begin
 pub record IsNew (o : Setup) (m : Map) (s : Session) : Type 0 where
   pub stands : StandsFor m (start_state o)
-  pub line : s.line ≡ unread
-  pub counted : s.line_count ≡ 0
-  pub block : s.block ≡ None
-  pub refused : s.refused ≡ false
-  pub running : s.has_quit ≡ false
-  pub tally : s.tally ≡ no_replies
-
--- a new session with the map that it is lent
-pub new_session : {o : Setup} {m : Map} {s : Session} → StandsFor m (start_state o)
-    → s.line ≡ unread
-    → s.line_count ≡ 0 → s.block ≡ None → s.refused ≡ false → s.has_quit ≡ false
-    → s.tally ≡ no_replies → IsNew o m s
-new_session stands line counted block refused running tally =
-    record {
-      stands = stands;
-      line = line;
-      counted = counted;
-      block = block;
-      refused = refused;
-      running = running;
-      tally = tally;
-    }
+  pub fresh : IsFresh s
 
 -- a store of these files, of which nothing was asked yet
 pub record IsFirst (files : Option Files) (k : Shelf) : Type 0 where
@@ -336,19 +315,19 @@ serving_start o files bytes w m k s first new = record {
         like = record { stands = new.stands; told = first.told };
         asked = first.asked;
         step = record {
-          counted = new.counted;
-          block = new.block;
-          refused = new.refused;
-          has_quit = new.running;
-          tally = new.tally;
+          counted = new.fresh.counted;
+          block = new.fresh.block;
+          refused = new.fresh.refused;
+          has_quit = new.fresh.running;
+          tally = new.fresh.tally;
         };
       };
       written = appended_nil w;
     };
     line = λ goes_on. record {
-      line = ap (λ (x : LineSoFar). x.line) new.line;
+      line = ap (λ (x : LineSoFar). x.line) new.fresh.line;
       unended = ap
-          (λ (x : LineSoFar). x.has_ended) new.line;
+          (λ (x : LineSoFar). x.has_ended) new.fresh.line;
     };
   };
 }

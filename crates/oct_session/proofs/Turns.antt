@@ -13,8 +13,9 @@ use Rattle.oct_io.specs.declared.stop.Stop.TheVariants as stop
 use Rattle.oct_session.specs.Moments.{Moment, IsCounted, IsDone, Makes, Take, End, stop_in, seat_at}
 use Rattle.oct_session.specs.Moments.{TakesPiece, Turns, Reads, IsWaiting, HasRoom}
 use Rattle.oct_session.specs.Setup.{Setup}
-use Rattle.oct_session.specs.Standing.{Takes, Halts, IsResting, Serves}
-use Rattle.oct_script.specs.Lines.{ended_lines}
+use Rattle.oct_session.specs.Standing.{Takes, Halts, IsFresh, IsResting, Serves}
+use Rattle.oct_session.specs.declared.session.Session.{Session}
+use Rattle.oct_script.specs.Lines.{LineSoFar, ended_lines}
 use Rattle.oct_session.proofs.Endings.{IsRead}
 use Rattle.oct_session.proofs.HeldPieces.{held_first, replied_since}
 use Rattle.oct_session.proofs.Moves.{done_join, done_none}
@@ -161,6 +162,18 @@ piece_stop piece front room why a b is none p =
     }
 
 -- ---- a read
+
+-- a new session waits for the first one
+pub waits_first : (o : Setup) (s : Session) → IsFresh s → IsWaiting o s 0
+waits_first o s fresh = record {
+  running = fresh.running;
+  rests = record {
+    empty = fresh.empty;
+    unended = ap (λ (l : LineSoFar). l.has_ended) fresh.line;
+    counted = omega (arith, fresh.counted);
+  };
+  few = omega arith;
+}
 
 pub turns_on : {F : Type 0} (r : Result ℕ Stop) (why : Stop) (o : Setup)
     (left after : Option (List ℕ)) (taken : ℕ) (a b : Moment F) → IsErrAnd r (λ e. e ≡ why)

@@ -11,13 +11,13 @@ use Rattle.oct_map.specs.Answers.{IsAnswerOrMemory}
 use Rattle.oct_map.specs.Map.{Map}
 use Rattle.oct_map.specs.declared.fault.MapFault.{MapFault}
 use Rattle.oct_script.specs.declared.reply.Reply.{Reply}
-use Rattle.oct_script.specs.Lines.{Line, ended_lines, all_lines, IsReading}
+use Rattle.oct_script.specs.Lines.{Line, ended_lines, all_lines, unread, IsReading}
 use Rattle.oct_script.specs.Replies.{text_of}
 use Rattle.oct_io.specs.Shelf.{shelf}
 use Rattle.oct_io.specs.declared.status.Status.{Status}
 use Rattle.oct_io.specs.declared.stop.Stop.{Stop}
 use Rattle.oct_io.specs.declared.stop.Stop.TheVariants.{TooLong, ReadFault}
-use Rattle.oct_session.specs.Tally.{capped}
+use Rattle.oct_session.specs.Tally.{capped, no_replies}
 use Rattle.oct_session.specs.declared.session.Session.{Session}
 use Rattle.oct_io.specs.Taken.{HasTaken, IsGathered}
 use Rattle.oct_session.specs.Ending.{HasReplied, IsReadToEnd}
@@ -296,6 +296,16 @@ HaltsHeld {F} o a b s lines short status = (first : F) (files : Option Files)
     (w : Option (List ℕ)) (bytes : List ℕ)
     → IsHeldAt o files w a.written (a.desk first) s bytes → IsKnown (progress o files (lines bytes))
     → IsHalted o files (lines bytes) w b.written (b.desk first) short status
+
+-- the session stands before its first line: no byte was read, no block is open, and there is no reply
+pub record IsFresh (session : Session) : Type 0 where
+  pub line : session.line ≡ unread
+  pub block : session.block ≡ None
+  pub counted : session.line_count ≡ 0
+  pub refused : session.refused ≡ false
+  pub tally : session.tally ≡ no_replies
+  pub empty : session.text.items ≡ []
+  pub running : session.has_quit ≡ false
 
 -- the session rests between two pieces of its script: it holds no reply, the line that stands
 -- hasn't ended, and at most this many lines were taken in

@@ -1,11 +1,11 @@
 //! A session between two bytes of its script, and what its lines do to it.
-ghost use Rattle.std.specs.Prelude.{◌≡◌, ◌<◌, ◌≤◌, [], length, OnOk, IfOk, None, false};
+ghost use Rattle.std.specs.Prelude.{◌≡◌, ◌<◌, ◌≤◌, [], length, OnOk, IfOk, false};
 ghost use Rattle.oct_script.specs.Lines.{unread};
 ghost use Rattle.oct_script.specs.Replies.{is_refusal};
 ghost use Rattle.oct_session.specs.Moments.{seen, HasParsed, Answers, fault_in, IsReady, HasRoom};
 ghost use Rattle.oct_session.specs.Moments.{Does, Answer, Take, Rest, End, taken_of, Closes};
 ghost use Rattle.oct_session.specs.ScanBlock.{end_reply};
-ghost use Rattle.oct_session.specs.Tally.{no_replies};
+ghost use Rattle.oct_session.specs.Standing.{IsFresh};
 
 use crate::held::{flush, hold_few, make_way, tell};
 use crate::lent::Lent;
@@ -58,13 +58,7 @@ fn end_reply(block: Option<ScanBlock>) -> Option<Reply>
 impl Session {
     /// The session before its first line.
     pub fn new(alloc: Global) -> Self
-        ensures line { result.line ≡ unread }
-        ensures block { result.block ≡ None }
-        ensures counted { result.line_count ≡ 0 }
-        ensures refused { result.refused ≡ false }
-        ensures tally { result.tally ≡ no_replies }
-        ensures empty { result.text.items ≡ [] }
-        ensures running { result.has_quit ≡ false }
+        ensures { IsFresh result }
     {
         Session {
             alloc,

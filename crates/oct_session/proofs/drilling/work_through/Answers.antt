@@ -6,8 +6,9 @@ use Rattle.oct_session.specs.Standing.{desk_of}
 use Rattle.oct_io.specs.Shelf.{shelf}
 use Rattle.oct_session.proofs.Built.{zero_stays}
 use Rattle.oct_session.proofs.Drilled.{work_done, only_memory, passed_stop}
-use Rattle.oct_session.proofs.Endings.{new_session, nothing_asked}
+use Rattle.oct_session.proofs.Endings.{nothing_asked}
 use Rattle.oct_session.proofs.FewCounted.{drill_low}
+use Rattle.oct_session.proofs.Turns.{waits_first}
 use Rattle.oct_session.proofs.drilling.work_through.Goals as goal
 
 pub returns-in_err-read_all-clause-memory : goal.returns-in_err-read_all-clause-memory
@@ -23,9 +24,7 @@ returns-in_err-read_all-clause-memory c =
     c.new-session.result
     c.requires.setup (ap Some c.new-script.ensures)
     (nothing_asked (λ x. Some (files_of x)) (λ x. 0) c.new-store.result)
-    (new_session c.requires.unknown c.new-session.ensures.line c.new-session.ensures.counted
-    c.new-session.ensures.block c.new-session.ensures.refused c.new-session.ensures.running
-    c.new-session.ensures.tally) c.ranges.seed.fits c.requires.few_scans c.requires.few_points
+    (record { stands = c.requires.unknown; fresh = c.new-session.ensures }) c.ranges.seed.fits c.requires.few_scans c.requires.few_points
     c.in_err-read_all.ensures.reads.to
     (λ is. zero_stays (c.in_err-read_all.ensures.source_counts.read_fault is))
     (λ is. zero_stays (c.in_err-read_all.ensures.counts.failed is).0)
@@ -42,9 +41,7 @@ returns-clause-tally c =
     c.new-session.result c.read_all.new.session
     c.requires.setup c.new-store.ensures (ap Some c.new-script.ensures)
     (nothing_asked (λ x. Some (files_of x)) (λ x. 0) c.new-store.result)
-    (new_session c.requires.unknown c.new-session.ensures.line c.new-session.ensures.counted
-    c.new-session.ensures.block c.new-session.ensures.refused c.new-session.ensures.running
-    c.new-session.ensures.tally) c.in_ok-read_all.ensures.reads.to).tally
+    (record { stands = c.requires.unknown; fresh = c.new-session.ensures }) c.in_ok-read_all.ensures.reads.to).tally
     ∙ drill_low c.args.seed c.args.scans c.args.points c.ranges.seed.fits c.requires.few_scans
     c.requires.few_points
 
@@ -61,6 +58,7 @@ returns-clause-stands c =
     c.new-session.result c.read_all.new.session
     c.requires.setup c.new-store.ensures (ap Some c.new-script.ensures)
     (nothing_asked (λ x. Some (files_of x)) (λ x. 0) c.new-store.result)
-    (new_session c.requires.unknown c.new-session.ensures.line c.new-session.ensures.counted
-    c.new-session.ensures.block c.new-session.ensures.refused c.new-session.ensures.running
-    c.new-session.ensures.tally) c.in_ok-read_all.ensures.reads.to).stands
+    (record { stands = c.requires.unknown; fresh = c.new-session.ensures }) c.in_ok-read_all.ensures.reads.to).stands
+
+pub read_all-requires : goal.read_all-requires
+read_all-requires c = waits_first _ _ c.new-session.ensures

@@ -2,8 +2,9 @@ use Rattle.std.proofs.Common.{◌≡◌, [], subst, rules}
 use Rattle.oct_io.specs.Shelf.{shelf}
 use Rattle.oct_session.specs.Leaving.{StandsForSome}
 use Rattle.oct_session.specs.Standing.{desk_of}
-use Rattle.oct_session.proofs.Endings.{new_session, nothing_asked}
+use Rattle.oct_session.proofs.Endings.{nothing_asked}
 use Rattle.oct_session.proofs.Serving.{ends_back, session_read, session_stopped}
+use Rattle.oct_session.proofs.Turns.{waits_first}
 use Rattle.oct_session.proofs.service.serve.Goals as goal
 
 pub returns-in-Ok-clause-ends : goal.returns-in-Ok-clause-ends
@@ -17,9 +18,7 @@ returns-in-Ok-clause-ends g c =
     (desk_of g.F.Store.files g.F.Store.calls c.read_all.new.lent.map.now
     c.read_all.new.lent.store.now)
     c.args.store.now _ _ _ (nothing_asked g.F.Store.files g.F.Store.calls c.args.store.now)
-    (new_session c.requires c.new-session.ensures.line c.new-session.ensures.counted
-    c.new-session.ensures.block c.new-session.ensures.refused c.new-session.ensures.running
-    c.new-session.ensures.tally)
+    (record { stands = c.requires; fresh = c.new-session.ensures })
     c.done_or_refused.ensures c.in-Ok.ensures.reads.to)
 
 pub returns-clause-ends : goal.returns-clause-ends
@@ -33,9 +32,7 @@ returns-clause-ends g c =
     (desk_of g.F.Store.files g.F.Store.calls c.read_all.new.lent.map.now
     c.read_all.new.lent.store.now)
     c.args.store.now _ _ _ (nothing_asked g.F.Store.files g.F.Store.calls c.args.store.now)
-    (new_session c.requires c.new-session.ensures.line c.new-session.ensures.counted
-    c.new-session.ensures.block c.new-session.ensures.refused c.new-session.ensures.running
-    c.new-session.ensures.tally)
+    (record { stands = c.requires; fresh = c.new-session.ensures })
     c.from.ensures c.in-Err.ensures.reads.to)
 
 pub returns-in-Ok-clause-stands : goal.returns-in-Ok-clause-stands
@@ -49,3 +46,6 @@ returns-clause-stands g c =
     let same : c.read_all.new.lent.map.now ≡ c.map-1.given.0 = search rules in
     subst (λ m. StandsForSome c.args.options.now m) same
     (c.read_all.ensures.reads.done.stands c.args.options.now ([], c.requires))
+
+pub read_all-requires : goal.read_all-requires
+read_all-requires g c = waits_first _ _ c.new-session.ensures
