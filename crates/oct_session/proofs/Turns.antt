@@ -2,7 +2,7 @@
 use Rattle.std.proofs.Common.{◌≡◌, ◌≢◌, ◌^◌, ℕ, ◌+◌, ◌-◌, ◌<◌, ◌≤◌, List, [], ◌++◌, Option, Some}
 use Rattle.std.proofs.Common.{None}
 use Rattle.std.proofs.Common.{refl, sym, ap, subst, ◌∙◌, arith, Result, Ok, Err, OnOk, IfSome}
-use Rattle.std.proofs.Common.{IsErrAnd, length, take, true, false, true≢false}
+use Rattle.std.proofs.Common.{IsErrAnd, length, take, drop, true, false, true≢false}
 use Rattle.std.specs.Prelude.{⊤}
 use Rattle.std.proofs.lemmas.List.{length-take}
 use Rattle.oct_io.specs.FaultCounts.{IsStopCounted}
@@ -11,9 +11,9 @@ use Rattle.oct_io.specs.Told.{Rose}
 use Rattle.oct_io.specs.declared.stop.Stop.{Stop}
 use Rattle.oct_io.specs.declared.stop.Stop.TheVariants as stop
 use Rattle.oct_session.specs.Moments.{Moment, IsCounted, IsDone, Makes, Take, End, stop_in, seat_at}
-use Rattle.oct_session.specs.Moments.{TakesPiece, Turns, Reads, IsWaiting, HasRoom}
+use Rattle.oct_session.specs.Moments.{TakesPiece, Reads, IsWaiting, HasRoom}
 use Rattle.oct_session.specs.Setup.{Setup}
-use Rattle.oct_session.specs.Standing.{Takes, Halts, IsFresh, IsResting, Serves}
+use Rattle.oct_session.specs.Standing.{Takes, Halts, IsFresh, IsResting, Serves, Finishes, Ends}
 use Rattle.oct_session.specs.declared.session.Session.{Session}
 use Rattle.oct_script.specs.Lines.{LineSoFar, ended_lines}
 use Rattle.oct_session.proofs.Endings.{IsRead}
@@ -175,12 +175,22 @@ waits_first o s fresh = record {
   few = omega arith;
 }
 
-pub turns_on : {F : Type 0} (r : Result ℕ Stop) (why : Stop) (o : Setup)
-    (left after : Option (List ℕ)) (taken : ℕ) (a b : Moment F) → IsErrAnd r (λ e. e ≡ why)
-    → Turns o left after taken a b (Err why) → Turns o left after taken a b r
-turns_on (Ok x) why o left after taken a b is p = absurd is
-turns_on (Err e) why o left after taken a b is p =
-    subst (λ x. Turns o left after taken a b (Err x)) (sym is) p
+-- one read: the session goes on, behind the bytes that were read, or it is through, or it has ended
+abbrev pub TurnsTo : {F : Type 0} → Setup → Option (List ℕ) → Option (List ℕ) → ℕ → Moment F
+    → Moment F → Result ℕ Stop → Type 0
+TurnsTo o left after taken a b (Ok n) = IsResting b.session (taken + n)
+    × (b.session.has_quit ≡ false
+    → Serves o left after (seat_at a) (seat_at b) a.session b.session taken (taken + n))
+    × (b.session.has_quit ≡ true
+    → Finishes o left after (seat_at a) (seat_at b) a.session b.session taken)
+TurnsTo o left after taken a b (Err why) =
+    Ends o left after (seat_at a) (seat_at b) a.session taken (Rose a.shortages b.shortages)
+    (status_of why)
+
+pub record Turns {F : Type 0} (o : Setup) (left after : Option (List ℕ)) (taken : ℕ)
+    (a b : Moment F) (result : Result ℕ Stop) : Type 0 where
+  pub done : IsDone a b (stop_in result)
+  pub to : TurnsTo o left after taken a b result
 
 -- the input failed
 pub turn_unread : {F : Type 0} (o : Setup) (left after : Option (List ℕ)) (taken : ℕ) (a : Moment F)
@@ -204,15 +214,15 @@ turn_unread o left after taken a same waits =
 -- what was read is answered
 pub turn_taken : {F : Type 0} (o : Setup) (left after : Option (List ℕ)) (buffer piece : List ℕ)
     (taken n room : ℕ) (a b : Moment F) → IsWaiting o a.session taken
-    → IsRead o buffer piece left after taken n room → length piece ≡ n
-    → TakesPiece piece room a b None → Turns o left after taken a b (Ok n)
-turn_taken o left after buffer piece taken n room a b waits read len p = record {
+    → IsRead o buffer piece left after taken n room → TakesPiece piece room a b None
+    → Turns o left after taken a b (Ok n)
+turn_taken o left after buffer piece taken n room a b waits read p = record {
   done = p.done;
   to = (
     record {
       empty = p.to.0.empty;
       unended = p.to.0.unended;
-      counted = omega (arith, p.to.0.counted, waits.rests.counted, len);
+      counted = omega (arith, p.to.0.counted, waits.rests.counted, read.len);
     },
     goes_on o buffer piece left after _ _ a.desk b.desk a.session b.session taken n room read
         p.to.1 (p.to.2 o),
@@ -233,6 +243,22 @@ turn_stopped o left after buffer piece taken n room why a b read p =
       to = stopped_in_piece _ r why o buffer piece left after _ _ a.desk b.desk a.session b.session
           taken n room refl read (p.to.1 o);
     }
+
+-- all that were read are within the limit, where so many may be taken
+pub turn_fits : (o : Setup) (left after : Option (List ℕ)) (buffer piece : List ℕ)
+    (taken n room : ℕ) → IsRead o buffer piece left after taken n room → length piece ≤ room
+    → taken + n ≤ o.max_bytes
+turn_fits o left after buffer piece taken n room read fits =
+    omega (arith, read.few, read.size, read.len)
+
+-- nothing is left where nothing was read
+pub turn_end : (o : Setup) (left after : Option (List ℕ)) (buffer piece : List ℕ)
+    (taken n room : ℕ) → IsRead o buffer piece left after taken n room → n ≡ 0
+    → IfSome left (λ l. l ≡ []) → IfSome after (λ l. l ≡ [])
+turn_end o None after buffer piece taken n room read end none =
+    subst (λ l. IfSome l (λ l. l ≡ [])) (sym read.moved) tt
+turn_end o (Some l) after buffer piece taken n room read end none =
+    subst (λ l. IfSome l (λ l. l ≡ [])) (sym read.moved) (ap (λ k. drop k l) end ∙ none)
 
 -- ---- a script
 

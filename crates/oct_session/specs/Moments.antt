@@ -1,7 +1,7 @@
 -- A session at one moment, and what its calls do from one moment to the next.
 use Rattle.std.specs.Prelude.{◌≡◌, ℕ, ◌+◌, ◌^◌, ◌<◌, ◌≤◌, ◌⊎◌, List, [], ◌++◌, length, take}
 use Rattle.std.specs.Prelude.{is_some}
-use Rattle.std.specs.Prelude.{false, true, ◌≢◌, Option, Some, None, option_map, Result, Ok, Err}
+use Rattle.std.specs.Prelude.{false, ◌≢◌, Option, Some, None, option_map, Result, Ok, Err}
 use Rattle.std.specs.Prelude.{OnOk, OnErr}
 use Rattle.oct_io.specs.Counts.{IsWriteCounted, IsMakingCounted}
 use Rattle.oct_io.specs.Stops.{stop_of_store, status_of, IsHalt}
@@ -23,7 +23,7 @@ use Rattle.oct_session.specs.Setup.{Setup}
 use Rattle.oct_session.specs.Standing.{Seat, seated, desk_of, KeepsStanding, Adds, HasMoved}
 use Rattle.oct_session.specs.Standing.{TakesLine, FailsLine, HoldsLine, HaltsLine, TakesHeld}
 use Rattle.oct_session.specs.Standing.{HaltsHeld, Halts, Reaches, HaltsAtEnd, Takes, StopsIn}
-use Rattle.oct_session.specs.Standing.{IsInStep, IsCutBy, IsResting, Serves, Finishes, Ends}
+use Rattle.oct_session.specs.Standing.{IsInStep, IsCutBy, IsResting, Finishes, Ends}
 use Rattle.oct_session.specs.declared.lent.Lent.{Lent}
 use Rattle.oct_session.specs.declared.lines.Parsed.{Parsed}
 use Rattle.oct_session.specs.declared.session.Session.{Session}
@@ -243,23 +243,6 @@ pub record IsWaiting (o : Setup) (session : Session) (taken : ℕ) : Type 0 wher
   pub running : session.has_quit ≡ false
   pub rests : IsResting session taken
   pub few : taken ≤ o.max_bytes
-
--- one read: the session goes on, behind the bytes that were read, or it is through, or it has ended
-abbrev pub TurnsTo : {F : Type 0} → Setup → Option (List ℕ) → Option (List ℕ) → ℕ → Moment F
-    → Moment F → Result ℕ Stop → Type 0
-TurnsTo o left after taken a b (Ok n) = IsResting b.session (taken + n)
-    × (b.session.has_quit ≡ false
-    → Serves o left after (seat_at a) (seat_at b) a.session b.session taken (taken + n))
-    × (b.session.has_quit ≡ true
-    → Finishes o left after (seat_at a) (seat_at b) a.session b.session taken)
-TurnsTo o left after taken a b (Err why) =
-    Ends o left after (seat_at a) (seat_at b) a.session taken (Rose a.shortages b.shortages)
-    (status_of why)
-
-pub record Turns {F : Type 0} (o : Setup) (left after : Option (List ℕ)) (taken : ℕ)
-    (a b : Moment F) (result : Result ℕ Stop) : Type 0 where
-  pub done : IsDone a b (stop_in result)
-  pub to : TurnsTo o left after taken a b result
 
 -- a whole script: the session is through, or has ended
 abbrev pub ReadsTo : {F : Type 0} → Setup → Option (List ℕ) → Option (List ℕ) → Moment F

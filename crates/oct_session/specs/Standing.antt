@@ -1,6 +1,6 @@
 -- The desk and the session at work: what they hold for the bytes that were taken.
 use Rattle.std.specs.Prelude.{◌≡◌, ℕ, ◌<◌, ◌⊎◌, List, [], ◌∷◌, ◌++◌, length, take, Option, None}
-use Rattle.std.specs.Prelude.{Some, ⊤, IsSome, Result, Ok, Err, false, ◌+◌, ◌^◌, ◌≤◌, IfSome, Bool}
+use Rattle.std.specs.Prelude.{Some, ⊤, IsSome, Result, Ok, Err, false, ◌≤◌}
 use Rattle.oct_io.specs.Files.{Files}
 use Rattle.oct_io.specs.Told.{appended}
 use Rattle.oct_io.specs.declared.sink.SinkFault.{SinkFault}
@@ -313,15 +313,6 @@ pub record IsResting (session : Session) (lines : ℕ) : Type 0 where
   pub empty : session.text.items ≡ []
   pub unended : session.line.has_ended ≡ false
   pub counted : session.line_count ≤ lines
-
--- a read gave this many bytes: none only where nothing is left of the input, whose end it met then
--- alone; all that were read are within the limit, unless a `quit` came
-pub record HasRead (o : Setup) (has_quit : Bool) (after : Option (List ℕ))
-    (ends ends_after taken n : ℕ) : Type 0 where
-  pub end : n ≡ 0 → IfSome after (λ left. left ≡ [])
-  pub fits : has_quit ≡ false → taken + n ≤ o.max_bytes
-  pub small : taken + n ≤ 2 ^ 41
-  pub before : 0 < n → ends_after ≡ ends
 
 -- the session was given these bytes: the lines that end within them are answered, and, unless it
 -- has ended, the rest is kept

@@ -1,5 +1,5 @@
 //! The loop of a session: from the bytes of a source to the replies in a sink.
-ghost use Rattle.std.specs.Prelude.{◌≡◌, ◌≢◌, ◌+◌, ◌^◌, ◌<◌, length, IfOk, IfSome};
+ghost use Rattle.std.specs.Prelude.{◌≡◌, ◌≢◌, ◌+◌, ◌^◌, ◌<◌, length, IfSome};
 ghost use Rattle.oct_io.specs.Told.{Rose};
 ghost use Rattle.oct_io.specs.FaultCounts.{IsSourceCounted, IsSinkCounted, IsStoreCounted};
 ghost use Rattle.oct_io.specs.FaultCounts.{IsScriptCounted, IsStopCounted};
@@ -8,8 +8,8 @@ ghost use Rattle.oct_session.specs.Session.{status_at_end, ReadsTold};
 ghost use Rattle.oct_io.specs.Whole.{IsWhole};
 ghost use Rattle.oct_session.specs.Leaving.{StandsFor, StandsForSome, desk, HasEndedAs};
 ghost use Rattle.oct_io.specs.Shelf.{shelf};
-ghost use Rattle.oct_session.specs.Moments.{seen, stop_in, TakesPiece, Turns, Reads, IsWaiting};
-ghost use Rattle.oct_session.specs.Standing.{IsResting, HasRead};
+ghost use Rattle.oct_session.specs.Moments.{seen, stop_in, TakesPiece, Reads, IsWaiting};
+ghost use Rattle.oct_session.specs.Standing.{IsResting};
 
 use crate::lent::Lent;
 use crate::options::Options;
@@ -45,33 +45,6 @@ fn take_piece<K: Sink, F: Store>(
     }
 }
 
-/// Reads one piece and answers its lines. Returns how many bytes were read; 0 means that the
-/// script has ended.
-fn turn<S: Source, K: Sink, F: Store>(
-    options: &Options,
-    lent: &mut Lent<'_, K, F>,
-    session: &mut Session,
-    source: &mut S,
-    buffer: &mut [u8],
-    taken: u64,
-) -> Result<usize, Stop>
-    requires waits { IsWaiting options.now session.old taken }
-    requires whole { length buffer.old ≡ MOST_READ }
-    ensures turns { Turns options.now (S.left source.old) (S.left source.new) taken
-        (seen K.Sink F.Store lent.old session.old) (seen K.Sink F.Store lent.new session.new)
-        result }
-    ensures read { IfOk result (λ n. HasRead options.now session.new.has_quit (S.left source.new)
-        (S.ends source.old) (S.ends source.new) taken n) }
-    ensures source_counts { IsScriptCounted result (S.faults source.old) (S.faults source.new)
-        (S.ends source.old) (S.ends source.new) }
-{
-    let room = options.max_bytes() - taken;
-    let count = read_piece(source, buffer, room)?;
-    let (piece, _) = buffer.split_at(count);
-    take_piece(lent, session, piece, room)?;
-    Ok(count)
-}
-
 /// Reads the script to its end or to `quit`, and answers what a read gave before the next one.
 pub(crate) fn read_all<S: Source, K: Sink, F: Store>(
     options: &Options,
@@ -92,7 +65,10 @@ pub(crate) fn read_all<S: Source, K: Sink, F: Store>(
     let mut buffer = [0u8; MOST_READ];
     let mut taken = 0u64;
     'reading: loop {
-        let count = turn(options, lent, session, source, &mut buffer, taken)?;
+        let room = options.max_bytes() - taken;
+        let count = read_piece(source, &mut buffer, room)?;
+        let (piece, _) = buffer.split_at(count);
+        take_piece(lent, session, piece, room)?;
         if session.has_quit {
             return Ok(());
         }
